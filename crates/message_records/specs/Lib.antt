@@ -1,0 +1,6 @@
+pub mod Ranges
+pub mod Outcomes
+pub mod Records
+pub mod Spelling
+pub mod Reading
+pub mod Laws

@@ -1,0 +1,123 @@
+-- What reading a record gives: its value, or its first faulty field from the left.
+use Rattle.std.specs.Prelude.{ℕ, zero, suc, ◌+◌, ◌-◌, ◌*◌, ℤ, pos, negsuc, nat_le, ◌==◌, ◌&&◌, List, [], ◌∷◌, slice_range, Option, Some, None, Result, Ok, Err, if◌then◌else◌, codes, replicate, option_and_then}
+use Rattle.std.specs.Option.{ok_or}
+use Rattle.std.specs.Str.{bytes_eq}
+use Rattle.message_records.specs.declared.records.Outcome.{Outcome}
+use Rattle.message_records.specs.declared.records.Outcome.TheVariants.{Posted, NoTeller, WrongBranch, NoAccount, OverLimit, ReusedNumber, Full, Malformed}
+use Rattle.message_records.specs.declared.faults.Bad.{Bad}
+use Rattle.message_records.specs.declared.faults.Bad.TheVariants as bad
+use Rattle.message_records.specs.declared.faults.BadReply.{BadReply}
+use Rattle.message_records.specs.declared.faults.BadReply.TheVariants as bad_reply
+use Rattle.message_records.specs.Ranges.{whole_within}
+use Rattle.message_records.specs.Outcomes.{name_of}
+use Rattle.message_records.specs.Records.{RequestFields, ReplyFields}
+use Rattle.message_records.specs.Spelling.{filled}
+
+-- what comes next, unless a field was faulty
+infixl 10 ◌>>=◌
+abbrev pub ◌>>=◌ : {A B E : Type 0} → Result A E → (A → Result B E) → Result B E
+(Ok x) >>= f = f x
+(Err e) >>= f = Err e
+
+-- ---- numbers and amounts
+
+-- the number that digits write behind those of a front, none where a byte is no digit
+abbrev pub number_after : ℕ → List ℕ → Option ℕ
+number_after n [] = Some n
+number_after n (c ∷ cs) = if (nat_le 48 c && nat_le c 57) then number_after (n * 10 + (c - 48)) cs else None
+
+-- the number that digits write
+abbrev pub number_of : List ℕ → Option ℕ
+number_of cs = number_after 0 cs
+
+abbrev pub not_below_zero : ℕ → Option ℤ
+not_below_zero n = Some (pos n)
+
+-- zero is never written with a minus
+abbrev pub below_zero : ℕ → Option ℤ
+below_zero zero = None
+below_zero (suc n) = Some (negsuc n)
+
+-- the amount that a sign and digits write
+abbrev pub signed_of : List ℕ → Option ℤ
+signed_of [] = None
+signed_of (sign ∷ cs) =
+  if sign == 43 then option_and_then not_below_zero (number_of cs) else if sign == 45 then option_and_then below_zero (number_of cs) else None
+
+-- ---- fields
+
+-- a number from 1 on
+abbrev pub number_at : {E : Type 0} → ℕ → E → List ℕ → Result ℕ E
+number_at most fault cs = ok_or (option_and_then (whole_within 1 most) (number_of cs)) fault
+
+-- these bytes and no others
+abbrev pub text_at : {E : Type 0} → List ℕ → E → List ℕ → Result (List ℕ) E
+text_at text fault cs = if bytes_eq cs text then Ok text else Err fault
+
+-- the five fields of a request, in 47 bytes
+unfoldable pub fields_of : List ℕ → Result RequestFields Bad
+fields_of bytes = do
+  account ← number_at 999_999_999_999 bad.Account (slice_range bytes 0 12)
+  teller ← number_at 99_999_999 bad.Teller (slice_range bytes 12 20)
+  branch ← number_at 999_999 bad.Branch (slice_range bytes 20 26)
+  number ← number_at 9_999_999_999 bad.Number (slice_range bytes 26 36)
+  delta ← ok_or (signed_of (slice_range bytes 36 47)) bad.Delta
+  Ok (record { account = account; teller = teller; branch = branch; number = number; delta = delta })
+
+unfoldable pub request_of : List ℕ → Result RequestFields Bad
+request_of bytes = do
+  tag ← text_at (codes "DC01") bad.Tag (slice_range bytes 0 4)
+  fields ← fields_of (slice_range bytes 4 51)
+  filler ← text_at (replicate 49 32) bad.Filler (slice_range bytes 51 100)
+  Ok fields
+
+-- ---- replies
+
+-- the outcome that has this code
+abbrev pub outcome_with : ℕ → Option Outcome
+outcome_with code =
+  if code == 0 then Some Posted else if code == 11 then Some NoTeller else if code == 12 then Some WrongBranch
+  else if code == 13 then Some NoAccount else if code == 14 then Some OverLimit else if code == 15 then Some ReusedNumber
+  else if code == 16 then Some Full else if code == 90 then Some Malformed else None
+
+-- a field of a request is a field of its reply
+abbrev pub in_reply : Bad → BadReply
+in_reply bad.Tag = bad_reply.Tag
+in_reply bad.Account = bad_reply.Account
+in_reply bad.Teller = bad_reply.Teller
+in_reply bad.Branch = bad_reply.Branch
+in_reply bad.Number = bad_reply.Number
+in_reply bad.Delta = bad_reply.Delta
+in_reply bad.Filler = bad_reply.Filler
+
+abbrev pub shown_in_reply : Result RequestFields Bad → Result (Option RequestFields) BadReply
+shown_in_reply (Ok r) = Ok (Some r)
+shown_in_reply (Err fault) = Err (in_reply fault)
+
+-- zeros in the place of each field
+unfoldable pub no_fields_of : List ℕ → Result (Option RequestFields) BadReply
+no_fields_of bytes = do
+  account ← text_at (replicate 12 48) bad_reply.Account (slice_range bytes 0 12)
+  teller ← text_at (replicate 8 48) bad_reply.Teller (slice_range bytes 12 20)
+  branch ← text_at (replicate 6 48) bad_reply.Branch (slice_range bytes 20 26)
+  number ← text_at (replicate 10 48) bad_reply.Number (slice_range bytes 26 36)
+  delta ← text_at (43 ∷ replicate 10 48) bad_reply.Delta (slice_range bytes 36 47)
+  Ok None
+
+abbrev pub shown_request_of : Outcome → List ℕ → Result (Option RequestFields) BadReply
+shown_request_of Malformed bytes = no_fields_of bytes
+shown_request_of _ bytes = shown_in_reply (fields_of bytes)
+
+abbrev pub balance_of : Outcome → List ℕ → Result (Option ℤ) BadReply
+balance_of Posted bytes = ok_or (signed_of bytes) bad_reply.Balance >>= λ z. Ok (Some z)
+balance_of _ bytes = text_at (43 ∷ replicate 12 48) bad_reply.Balance bytes >>= λ zeros. Ok None
+
+unfoldable pub reply_of : List ℕ → Result ReplyFields BadReply
+reply_of bytes = do
+  tag ← text_at (codes "DR01") bad_reply.Tag (slice_range bytes 0 4)
+  outcome ← ok_or (option_and_then outcome_with (number_of (slice_range bytes 4 6))) bad_reply.Outcome
+  request ← shown_request_of outcome (slice_range bytes 6 53)
+  balance ← balance_of outcome (slice_range bytes 53 66)
+  name ← text_at (filled 16 (name_of outcome)) bad_reply.Name (slice_range bytes 66 82)
+  filler ← text_at (replicate 118 32) bad_reply.Filler (slice_range bytes 82 200)
+  Ok (record { outcome = outcome; request = request; balance = balance })

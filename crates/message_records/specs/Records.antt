@@ -1,0 +1,54 @@
+-- What a request and a reply hold (TPC-A, contents of the messages).
+use Rattle.std.specs.Prelude.{ℕ, ℤ, ◌≡◌, ◌≤◌, nat_le, nat_abs, Bool, true, false, is_some, not, ◌&&◌, Option, Some, None, IfSome, if◌then◌else◌}
+use Rattle.message_records.specs.declared.records.Outcome.{Outcome}
+use Rattle.message_records.specs.Outcomes.{has_request, has_balance}
+
+pub record RequestFields : Type 0 where
+  pub account : ℕ
+  pub teller : ℕ
+  pub branch : ℕ
+  -- the teller's own number for the request
+  pub number : ℕ
+  -- what is to be added, in cents
+  pub delta : ℤ
+
+-- each field is in its range
+pub record IsRequest (r : RequestFields) : Type 0 where
+  pub account_above : 1 ≤ r.account
+  pub account : r.account ≤ 999_999_999_999
+  pub teller_above : 1 ≤ r.teller
+  pub teller : r.teller ≤ 99_999_999
+  pub branch_above : 1 ≤ r.branch
+  pub branch : r.branch ≤ 999_999
+  pub number_above : 1 ≤ r.number
+  pub number : r.number ≤ 9_999_999_999
+  pub delta : nat_abs r.delta ≤ 9_999_999_999
+
+-- the request of these fields, where the amount is within its limit
+abbrev pub request_from : ℕ → ℕ → ℕ → ℕ → ℤ → Option RequestFields
+request_from account teller branch number delta =
+  if nat_le (nat_abs delta) 9_999_999_999 then Some (record { account = account; teller = teller; branch = branch; number = number; delta = delta }) else None
+
+pub record ReplyFields : Type 0 where
+  pub outcome : Outcome
+  pub request : Option RequestFields
+  -- the account's new balance, in cents
+  pub balance : Option ℤ
+
+-- it shows a request and a balance just where its outcome has them, each in its range
+pub record IsReply (r : ReplyFields) : Type 0 where
+  pub shows_request : is_some r.request ≡ has_request r.outcome
+  pub request : IfSome r.request IsRequest
+  pub shows_balance : is_some r.balance ≡ has_balance r.outcome
+  pub balance : IfSome r.balance (λ z. nat_abs z ≤ 999_999_999_999)
+
+-- two tests with one answer
+abbrev pub agree : Bool → Bool → Bool
+agree true b = b
+agree false b = not b
+
+-- the reply of these parts, where they belong together
+abbrev pub reply_from : Outcome → Option RequestFields → Option ℤ → Option ReplyFields
+reply_from outcome request balance =
+  if (agree (is_some request) (has_request outcome) && agree (is_some balance) (has_balance outcome))
+  then Some (record { outcome = outcome; request = request; balance = balance }) else None

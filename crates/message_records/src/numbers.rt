@@ -1,0 +1,118 @@
+//! Whole numbers and amounts that are kept in their ranges.
+ghost use Rattle.std.specs.Prelude.{◌≡◌, ◌≤◌, ◌≤ℤ◌, pos, neg_ℤ, nat_abs};
+ghost use Rattle.message_records.specs.Ranges.{whole_within, cents_within};
+
+use std::fmt;
+use std::marker::Model;
+
+/// A whole number from `LEAST` to `MOST`.
+#[derive(Clone, Copy, Debug, PartialEq, Eq, PartialOrd, Ord)]
+pub struct Whole<const LEAST: u64, const MOST: u64> {
+    value: u64,
+}
+
+/// The number of an account: 1..=999,999,999,999.
+pub type Account = Whole<1, 999_999_999_999>;
+
+/// The number of a teller: 1..=99,999,999.
+pub type Teller = Whole<1, 99_999_999>;
+
+/// The number of a branch: 1..=999,999.
+pub type Branch = Whole<1, 999_999>;
+
+/// A teller's own number for a request: 1..=9,999,999,999.
+pub type Number = Whole<1, 9_999_999_999>;
+
+/// A count of whole seconds since 1970-01-01T00:00:00Z: 0..=253,402,300,799, to the end of the year 9999.
+pub type Moment = Whole<0, 253_402_300_799>;
+
+impl<const LEAST: u64, const MOST: u64> Model for Whole<LEAST, MOST> {
+    ghost use Rattle.std.specs.Prelude.{ℕ, ◌≤◌};
+
+    ghost Value = { ℕ };
+
+    ghost view = { λ n. n.value };
+
+    ghost invariant = { λ n. (LEAST ≤ n.value) × (n.value ≤ MOST) };
+
+    ghost inverse = { λ n. record { value = n } };
+}
+
+impl<const LEAST: u64, const MOST: u64> Whole<LEAST, MOST> {
+    /// The number, none where it is out of the range.
+    pub fn new(value: u64) -> Option<Self>
+        ensures { result ≡ whole_within LEAST MOST value }
+    {
+        if LEAST <= value && value <= MOST {
+            Some(Whole { value })
+        } else {
+            None
+        }
+    }
+
+    pub fn get(self) -> u64
+        ensures value { result ≡ self.entry }
+        ensures least { LEAST ≤ result }
+        ensures most { result ≤ MOST }
+    {
+        self.value
+    }
+}
+
+/// The number in decimal digits.
+impl<const LEAST: u64, const MOST: u64> fmt::Display for Whole<LEAST, MOST> {
+    fn fmt<W: fmt::Write>(&self, f: &mut fmt::Formatter<W>) -> fmt::Result {
+        let value = self.value;
+        write!(f, "{value}")
+    }
+}
+
+/// An amount of money in cents, within 999,999,999,999 of zero (TPC-B 1.2: ten digits at least, and a sign).
+#[derive(Clone, Copy, Debug, PartialEq, Eq, PartialOrd, Ord)]
+pub struct Cents {
+    value: i64,
+}
+
+impl Model for Cents {
+    ghost use Rattle.std.specs.Prelude.{ℤ, pos, neg_ℤ, ◌≤ℤ◌};
+
+    ghost Value = { ℤ };
+
+    ghost view = { λ a. a.value };
+
+    ghost invariant = { λ a. (neg_ℤ (pos 999_999_999_999) ≤ℤ a.value) × (a.value ≤ℤ pos 999_999_999_999) };
+
+    ghost inverse = { λ z. record { value = z } };
+}
+
+impl Cents {
+    /// The greatest amount, and the least with the other sign.
+    pub const LIMIT: i64 = 999_999_999_999;
+
+    /// The amount, none where it is further from zero than the limit.
+    pub fn new(value: i64) -> Option<Self>
+        ensures { result ≡ cents_within 999_999_999_999 value }
+    {
+        if -Self::LIMIT <= value && value <= Self::LIMIT {
+            Some(Cents { value })
+        } else {
+            None
+        }
+    }
+
+    pub fn get(self) -> i64
+        ensures value { result ≡ self }
+        ensures least { neg_ℤ (pos 999_999_999_999) ≤ℤ result }
+        ensures most { result ≤ℤ pos 999_999_999_999 }
+    {
+        self.value
+    }
+}
+
+/// The amount in cents, with a minus where it is below zero.
+impl fmt::Display for Cents {
+    fn fmt<W: fmt::Write>(&self, f: &mut fmt::Formatter<W>) -> fmt::Result {
+        let value = self.value;
+        write!(f, "{value}")
+    }
+}

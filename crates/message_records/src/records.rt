@@ -1,0 +1,217 @@
+//! A request, what becomes of it, and the reply to it.
+ghost use Rattle.std.specs.Prelude.{◌≡◌, ◌≤◌, nat_abs};
+ghost use Rattle.message_records.specs.Records.{request_from};
+
+use crate::numbers::{Account, Branch, Cents, Number, Teller};
+use std::fmt;
+use std::marker::Model;
+
+/// A teller's request: what is to be added to an account, under the teller's own number (TPC-B 1.2).
+#[derive(Clone, Copy, Debug, PartialEq, Eq)]
+pub struct Request {
+    account: Account,
+    teller: Teller,
+    branch: Branch,
+    number: Number,
+    delta: Cents,
+}
+
+impl Model for Request {
+    ghost use Rattle.std.specs.Prelude.{◌≤◌, nat_abs};
+    ghost use Rattle.message_records.specs.Records.{RequestFields};
+
+    ghost Value = { RequestFields };
+
+    ghost view = { λ a. record { account = a.account; teller = a.teller; branch = a.branch; number = a.number; delta = a.delta } };
+
+    ghost invariant = { λ a. nat_abs a.delta ≤ 9_999_999_999 };
+
+    ghost inverse = { λ r. record { account = r.account; teller = r.teller; branch = r.branch; number = r.number; delta = r.delta } };
+}
+
+impl Request {
+    /// The greatest amount of a request, and the least with the other sign.
+    pub const DELTA_LIMIT: i64 = 9_999_999_999;
+
+    /// The request, none where the amount is further from zero than its limit.
+    pub fn new(
+        account: Account,
+        teller: Teller,
+        branch: Branch,
+        number: Number,
+        delta: Cents,
+    ) -> Option<Self>
+        ensures { result ≡ request_from account teller branch number delta }
+    {
+        let amount = delta.get();
+        if -Self::DELTA_LIMIT <= amount && amount <= Self::DELTA_LIMIT {
+            Some(Request {
+                account,
+                teller,
+                branch,
+                number,
+                delta,
+            })
+        } else {
+            None
+        }
+    }
+
+    pub fn account(&self) -> Account
+        ensures { result ≡ self.now.account }
+    {
+        self.account
+    }
+
+    pub fn teller(&self) -> Teller
+        ensures { result ≡ self.now.teller }
+    {
+        self.teller
+    }
+
+    pub fn branch(&self) -> Branch
+        ensures { result ≡ self.now.branch }
+    {
+        self.branch
+    }
+
+    pub fn number(&self) -> Number
+        ensures { result ≡ self.now.number }
+    {
+        self.number
+    }
+
+    pub fn delta(&self) -> Cents
+        ensures value { result ≡ self.now.delta }
+        ensures limit { nat_abs result ≤ 9_999_999_999 }
+    {
+        self.delta
+    }
+}
+
+/// What becomes of a request.
+#[derive(Clone, Copy, Debug, PartialEq, Eq)]
+pub enum Outcome {
+    /// It is posted.
+    Posted,
+    /// The teller isn't open.
+    NoTeller,
+    /// The branch isn't the teller's.
+    WrongBranch,
+    /// The account isn't open.
+    NoAccount,
+    /// A balance would leave its limit.
+    OverLimit,
+    /// The teller gave the number to another request.
+    ReusedNumber,
+    /// The bank has decided as many requests as it may.
+    Full,
+    /// The bytes are no request.
+    Malformed,
+}
+
+impl Outcome {
+    ghost use Rattle.message_records.specs.Outcomes.{code_of, name_of};
+
+    /// The code in the reply: two digits.
+    pub fn code(self) -> u8
+        ensures value { result ≡ code_of self }
+        ensures most { result ≤ 99 }
+    {
+        match self {
+            Outcome::Posted => 0,
+            Outcome::NoTeller => 11,
+            Outcome::WrongBranch => 12,
+            Outcome::NoAccount => 13,
+            Outcome::OverLimit => 14,
+            Outcome::ReusedNumber => 15,
+            Outcome::Full => 16,
+            Outcome::Malformed => 90,
+        }
+    }
+
+    /// The name in the reply.
+    pub fn name(self) -> &'static str
+        ensures { result.now ≡ name_of self }
+    {
+        match self {
+            Outcome::Posted => "POSTED",
+            Outcome::NoTeller => "NO TELLER",
+            Outcome::WrongBranch => "WRONG BRANCH",
+            Outcome::NoAccount => "NO ACCOUNT",
+            Outcome::OverLimit => "OVER LIMIT",
+            Outcome::ReusedNumber => "REUSED NUMBER",
+            Outcome::Full => "FULL",
+            Outcome::Malformed => "MALFORMED",
+        }
+    }
+}
+
+impl fmt::Display for Outcome {
+    fn fmt<W: fmt::Write>(&self, f: &mut fmt::Formatter<W>) -> fmt::Result {
+        let name = self.name();
+        write!(f, "{name}")
+    }
+}
+
+/// The reply to what came in: it shows the request, unless the bytes were none, and the account's new balance
+/// where the request was posted.
+#[derive(Clone, Copy, Debug, PartialEq, Eq)]
+pub struct Reply {
+    outcome: Outcome,
+    request: Option<Request>,
+    balance: Option<Cents>,
+}
+
+impl Model for Reply {
+    ghost use Rattle.std.specs.Prelude.{◌≡◌, is_some};
+    ghost use Rattle.message_records.specs.Outcomes.{has_request, has_balance};
+    ghost use Rattle.message_records.specs.Records.{ReplyFields};
+
+    ghost Value = { ReplyFields };
+
+    ghost view = { λ a. record { outcome = a.outcome; request = a.request; balance = a.balance } };
+
+    ghost invariant = { λ a. (is_some a.request ≡ has_request a.outcome) × (is_some a.balance ≡ has_balance a.outcome) };
+
+    ghost inverse = { λ r. record { outcome = r.outcome; request = r.request; balance = r.balance } };
+}
+
+impl Reply {
+    ghost use Rattle.message_records.specs.Records.{reply_from};
+
+    /// The reply of these parts, none where they don't belong together.
+    pub fn new(outcome: Outcome, request: Option<Request>, balance: Option<Cents>) -> Option<Self>
+        ensures { result ≡ reply_from outcome request balance }
+    {
+        let has_request = outcome != Outcome::Malformed;
+        let has_balance = outcome == Outcome::Posted;
+        if request.is_some() == has_request && balance.is_some() == has_balance {
+            Some(Reply {
+                outcome,
+                request,
+                balance,
+            })
+        } else {
+            None
+        }
+    }
+
+    pub fn outcome(&self) -> Outcome
+        ensures { result ≡ self.now.outcome }
+    {
+        self.outcome
+    }
+
+    pub fn request(&self) -> Option<Request>
+        ensures { result ≡ self.now.request }
+    {
+        self.request
+    }
+
+    pub fn balance(&self) -> Option<Cents>
+        ensures { result ≡ self.now.balance }
+    {
+        self.balance
+    }
+}
