@@ -1,0 +1,40 @@
+-- The commands of a bank, and which branches, tellers and accounts they open.
+-- A log is the list of the commands so far, the newest first: what came before a command is the list behind it.
+use Rattle.std.specs.Prelude.{ℕ, ◌+◌, ◌-◌, ◌/◌, ◌%◌, List, [], ◌∷◌, Option, Some, None, Bool, true, false, is_some, ◌==◌, ◌&&◌, nat_le, if◌then◌else◌}
+use Rattle.std.specs.Option.{option_or}
+
+pub data Command : Type 0 where
+  -- a branch, and how many accounts it is to have
+  Open : ℕ → ℕ → Command
+  -- the moment, and the bytes of a record
+  Post : ℕ → List ℕ → Command
+
+-- how many accounts a branch was first opened with, none where it isn't open
+abbrev pub opened : List Command → ℕ → Option ℕ
+opened [] b = None
+opened (Open branch count ∷ log) b = option_or (opened log b) (if branch == b then Some count else None)
+opened (Post moment bytes ∷ log) b = opened log b
+
+-- ten tellers to a branch, numbered through (TPC-B 4.2)
+abbrev pub branch_of_teller : ℕ → ℕ
+branch_of_teller t = (t - 1) / 10 + 1
+
+-- a hundred thousand numbers of accounts to a branch (TPC-B 4.2)
+abbrev pub branch_of_account : ℕ → ℕ
+branch_of_account a = (a - 1) / 100_000 + 1
+
+-- the place of an account among those of its branch, from 1 on
+abbrev pub place_of_account : ℕ → ℕ
+place_of_account a = (a - 1) % 100_000 + 1
+
+-- a teller is open if its branch is
+abbrev pub is_teller_open : (ℕ → Option ℕ) → ℕ → Bool
+is_teller_open opened t = nat_le 1 t && is_some (opened (branch_of_teller t))
+
+abbrev pub is_within : ℕ → Option ℕ → Bool
+is_within place None = false
+is_within place (Some count) = nat_le place count
+
+-- an account is open if its place is within the count of its branch
+abbrev pub is_account_open : (ℕ → Option ℕ) → ℕ → Bool
+is_account_open opened a = nat_le 1 a && is_within (place_of_account a) (opened (branch_of_account a))

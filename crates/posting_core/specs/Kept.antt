@@ -1,0 +1,31 @@
+-- What is kept of a decided request, under its teller and number.
+use Rattle.std.specs.Prelude.{ℕ, ℤ, pos, Option, Some, None, Bool, true, false, ◌&&◌, ◌||◌, if◌then◌else◌}
+use Rattle.std.specs.Ordering.{int_eq}
+use Rattle.message_records.specs.declared.records.Outcome.{Outcome}
+use Rattle.message_records.specs.declared.records.Outcome.TheVariants.{Posted, NoTeller, WrongBranch, NoAccount, OverLimit, ReusedNumber, Full, Malformed}
+use Rattle.message_records.specs.Outcomes.{has_balance}
+
+pub record KeptFields : Type 0 where
+  pub account : ℕ
+  pub branch : ℕ
+  pub delta : ℤ
+  pub outcome : Outcome
+  -- the balance of the reply, zero where it shows none
+  pub balance : ℤ
+
+-- the outcomes that are kept
+abbrev pub is_kept : Outcome → Bool
+is_kept Posted = true
+is_kept WrongBranch = true
+is_kept NoAccount = true
+is_kept OverLimit = true
+is_kept _ = false
+
+-- only a posting has a balance
+abbrev pub is_kept_with : Outcome → ℤ → Bool
+is_kept_with outcome balance = is_kept outcome && (has_balance outcome || int_eq balance (pos 0))
+
+-- the kept request of these fields, where they belong together
+abbrev pub kept_from : ℕ → ℕ → ℤ → Outcome → ℤ → Option KeptFields
+kept_from account branch delta outcome balance =
+  if is_kept_with outcome balance then Some (record { account = account; branch = branch; delta = delta; outcome = outcome; balance = balance }) else None

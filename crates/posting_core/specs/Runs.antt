@@ -1,0 +1,20 @@
+-- Commands one after another.
+use Rattle.std.specs.Prelude.{◌≡◌, ℕ, List, [], ◌∷◌, map}
+use Rattle.message_records.specs.Spelling.{reply_spelling}
+use Rattle.posting_core.specs.Commands.{Command, Open, Post}
+use Rattle.posting_core.specs.Entries.{reply}
+
+-- the log with these commands behind it, the first of them first
+abbrev pub behind : List Command → List Command → List Command
+behind log [] = log
+behind log (c ∷ cs) = behind (c ∷ log) cs
+
+-- records that are posted at one moment
+abbrev pub posts : ℕ → List (List ℕ) → List Command
+posts moment records = map (Post moment) records
+
+-- the replies to what is posted, in order
+abbrev pub replies_to : List Command → List Command → List (List ℕ)
+replies_to log [] = []
+replies_to log (Open branch count ∷ cs) = replies_to (Open branch count ∷ log) cs
+replies_to log (Post moment bytes ∷ cs) = reply_spelling (reply log bytes) ∷ replies_to (Post moment bytes ∷ log) cs

@@ -1,0 +1,14 @@
+//! What a posting is: judging requests, the counter that takes them, and a bank in memory.
+#![tactic(auto)]
+
+mod cases;
+mod counter;
+mod facts;
+mod fault;
+mod rows;
+
+pub use cases::{TELLERS_PER_BRANCH, branch_of_teller, judge, reply_to};
+pub use counter::{Counter, Opening};
+pub use facts::{Found, Kept, MAX_DECIDED, Verdict};
+pub use fault::{Fault, Rule};
+pub use rows::{AccountRow, BranchRow, HistoryRow, MetaRow, Ordinal, RequestRow, TellerRow};

@@ -1,0 +1,56 @@
+//! The rows of a bank's tables.
+use crate::facts::Kept;
+use message_records::{Account, Branch, Cents, Moment, Number, Teller, Whole};
+
+/// How many requests were decided with and before one: 1..=1,000,000,000,000.
+pub type Ordinal = Whole<1, 1_000_000_000_000>;
+
+/// What is known of the bank as a whole. There is one such row, with the id 1.
+#[derive(Clone, Copy, Debug, PartialEq, Eq)]
+pub struct MetaRow {
+    pub id: u64,
+    /// Of the form of the tables.
+    pub version: u64,
+    /// How many requests are decided.
+    pub decided: u64,
+}
+
+#[derive(Clone, Copy, Debug, PartialEq, Eq)]
+pub struct BranchRow {
+    pub branch: Branch,
+    /// How many accounts it has.
+    pub accounts: u32,
+    pub balance: Cents,
+}
+
+#[derive(Clone, Copy, Debug, PartialEq, Eq)]
+pub struct TellerRow {
+    pub teller: Teller,
+    pub balance: Cents,
+}
+
+#[derive(Clone, Copy, Debug, PartialEq, Eq)]
+pub struct AccountRow {
+    pub account: Account,
+    pub balance: Cents,
+}
+
+/// A posting (TPC-B 1.2), under the ordinal of its request.
+#[derive(Clone, Copy, Debug, PartialEq, Eq)]
+pub struct HistoryRow {
+    pub ordinal: Ordinal,
+    pub account: Account,
+    pub teller: Teller,
+    pub branch: Branch,
+    pub delta: Cents,
+    pub moment: Moment,
+}
+
+/// A decided request.
+#[derive(Clone, Copy, Debug, PartialEq, Eq)]
+pub struct RequestRow {
+    pub ordinal: Ordinal,
+    pub teller: Teller,
+    pub number: Number,
+    pub kept: Kept,
+}
