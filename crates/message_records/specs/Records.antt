@@ -27,7 +27,7 @@ pub record IsRequest (r : RequestFields) : Type 0 where
 -- the request of these fields, where the amount is within its limit
 abbrev pub request_from : ℕ → ℕ → ℕ → ℕ → ℤ → Option RequestFields
 request_from account teller branch number delta =
-  if nat_le (nat_abs delta) 9_999_999_999 then Some (record { account = account; teller = teller; branch = branch; number = number; delta = delta }) else None
+    if nat_le (nat_abs delta) 9_999_999_999 then Some (record { account = account; teller = teller; branch = branch; number = number; delta = delta }) else None
 
 pub record ReplyFields : Type 0 where
   pub outcome : Outcome
@@ -50,5 +50,5 @@ agree false b = not b
 -- the reply of these parts, where they belong together
 abbrev pub reply_from : Outcome → Option RequestFields → Option ℤ → Option ReplyFields
 reply_from outcome request balance =
-  if (agree (is_some request) (has_request outcome) && agree (is_some balance) (has_balance outcome))
-  then Some (record { outcome = outcome; request = request; balance = balance }) else None
+    if (agree (is_some request) (has_request outcome) && agree (is_some balance) (has_balance outcome))
+    then Some (record { outcome = outcome; request = request; balance = balance }) else None

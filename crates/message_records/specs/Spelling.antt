@@ -30,5 +30,5 @@ filled n text = text ++ replicate (n - length text) 32
 
 unfoldable pub reply_spelling : ReplyFields → List ℕ
 reply_spelling r =
-  codes "DR01" ++ (digits 2 (code_of r.outcome) ++ (fields_spelling (unwrap_or r.request no_fields)
+    codes "DR01" ++ (digits 2 (code_of r.outcome) ++ (fields_spelling (unwrap_or r.request no_fields)
     ++ (signed 12 (unwrap_or r.balance (pos 0)) ++ (filled 16 (name_of r.outcome) ++ replicate 118 32))))

@@ -1,10 +1,17 @@
 //! The records that come in and go out, 100 and 200 bytes of ASCII, and the types of their fields.
 #![tactic(auto)]
 
+mod draft;
 mod faults;
+mod laws;
 mod numbers;
+mod reading;
 mod records;
+mod writing;
 
 pub use faults::{Bad, BadReply};
+pub use laws::one_spelling;
 pub use numbers::{Account, Branch, Cents, Moment, Number, Teller, Whole};
+pub use reading::{decode_reply, decode_request};
 pub use records::{Outcome, Reply, Request};
+pub use writing::{encode_reply, encode_request};

@@ -178,6 +178,8 @@ impl Model for Reply {
 }
 
 impl Reply {
+    ghost use Rattle.std.specs.Prelude.{is_some};
+    ghost use Rattle.message_records.specs.Outcomes.{has_request, has_balance};
     ghost use Rattle.message_records.specs.Records.{reply_from};
 
     /// The reply of these parts, none where they don't belong together.
@@ -213,5 +215,15 @@ impl Reply {
         ensures { result ≡ self.now.balance }
     {
         self.balance
+    }
+
+    /// The request and the balance, each there just where the outcome has it.
+    pub(crate) fn shown(&self) -> (Option<Request>, Option<Cents>)
+        ensures request { result.0 ≡ self.now.request }
+        ensures shows_request { is_some self.now.request ≡ has_request self.now.outcome }
+        ensures balance { result.1 ≡ self.now.balance }
+        ensures shows_balance { is_some self.now.balance ≡ has_balance self.now.outcome }
+    {
+        (self.request, self.balance)
     }
 }

@@ -15,11 +15,11 @@ opened [] b = None
 opened (Open branch count ∷ log) b = option_or (opened log b) (if branch == b then Some count else None)
 opened (Post moment bytes ∷ log) b = opened log b
 
--- ten tellers to a branch, numbered through (TPC-B 4.2)
+-- ten tellers to a branch, numbered through (the scaling of TPC-B)
 abbrev pub branch_of_teller : ℕ → ℕ
 branch_of_teller t = (t - 1) / 10 + 1
 
--- a hundred thousand numbers of accounts to a branch (TPC-B 4.2)
+-- a hundred thousand numbers of accounts to a branch (the scaling of TPC-B)
 abbrev pub branch_of_account : ℕ → ℕ
 branch_of_account a = (a - 1) / 100_000 + 1
 

@@ -4,5 +4,10 @@ pub mod Kept
 pub mod Cases
 pub mod Entries
 pub mod Tables
+pub mod Rows
+pub mod LookUps
+pub mod Steps
 pub mod Runs
+pub mod Laws
 pub mod Counter
+pub mod Plain

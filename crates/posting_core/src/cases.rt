@@ -6,7 +6,7 @@ ghost use Rattle.posting_core.specs.Cases.{case_of, plus_within, IsProper, reply
 use crate::facts::{Found, MAX_DECIDED, Verdict};
 use message_records::{Cents, Outcome, Reply, Request, Teller};
 
-/// Every branch has ten tellers (TPC-B 4.2).
+/// Every branch has ten tellers (the scaling of TPC-B).
 pub const TELLERS_PER_BRANCH: u64 = 10;
 
 /// The number of the branch that a teller's number gives.

@@ -5,10 +5,13 @@ mod cases;
 mod counter;
 mod facts;
 mod fault;
+mod plain_bank;
 mod rows;
+mod walking;
 
 pub use cases::{TELLERS_PER_BRANCH, branch_of_teller, judge, reply_to};
 pub use counter::{Counter, Opening};
 pub use facts::{Found, Kept, MAX_DECIDED, Verdict};
 pub use fault::{Fault, Rule};
+pub use plain_bank::{ACCOUNTS_PER_BRANCH, PlainBank};
 pub use rows::{AccountRow, BranchRow, HistoryRow, MetaRow, Ordinal, RequestRow, TellerRow};

@@ -1,0 +1,216 @@
+//! Reads the bytes of a request and of a reply.
+ghost use Rattle.std.specs.Prelude.{◌≡◌, ◌≤◌, ◌<◌, ◌^◌, ◌-◌, length, is_some, is_ok, IsNone, IfSome, IfOk, IfErr, Ok, nat_abs, option_and_then};
+ghost use Rattle.std.specs.Str.{bytes_eq};
+ghost use Rattle.message_records.specs.Ranges.{whole_within};
+ghost use Rattle.message_records.specs.Outcomes.{has_request, has_balance};
+ghost use Rattle.message_records.specs.Records.{RequestFields, IsRequest, ReplyFields, IsReply};
+ghost use Rattle.message_records.specs.Spelling.{request_spelling, filled, reply_spelling};
+ghost use Rattle.message_records.specs.Reading.{number_of, signed_of, fields_of, request_of, outcome_with, no_fields_of, shown_request_of, balance_of, reply_of};
+
+use crate::faults::{Bad, BadReply};
+use crate::numbers::{Cents, Whole};
+use crate::records::{Outcome, Reply, Request};
+
+const REQUEST_TAG: &[u8; 4] = b"DC01";
+
+const REQUEST_FILLER: [u8; 49] = [b' '; 49];
+
+const REPLY_TAG: &[u8; 4] = b"DR01";
+
+const REPLY_FILLER: [u8; 118] = [b' '; 118];
+
+const SPACES: [u8; 16] = [b' '; 16];
+
+/// The request that the bytes spell, or the first faulty field.
+pub fn decode_request(bytes: &[u8; 100]) -> Result<Request, Bad>
+    // What is read is spelled so.
+    ensures found { IfOk result (λ r. IsRequest r × (bytes.now ≡ request_spelling r)) }
+    // What is spelled so is read.
+    ensures only { (r : RequestFields) → IsRequest r → bytes.now ≡ request_spelling r → result ≡ Ok r }
+    // Which field is the first faulty one.
+    ensures exact { result ≡ request_of bytes.now }
+{
+    read_request(bytes)
+}
+
+#[tactic(auto, unfolding(crate::specs::Reading::request_of))]
+fn read_request(bytes: &[u8; 100]) -> Result<Request, Bad>
+    ensures { result ≡ request_of bytes.now }
+{
+    if bytes[..4] != REQUEST_TAG[..] {
+        return Err(Bad::Tag);
+    }
+    let request = read_fields(&bytes[4..51])?;
+    if bytes[51..] != REQUEST_FILLER[..] {
+        return Err(Bad::Filler);
+    }
+    Ok(request)
+}
+
+/// The reply that the bytes spell, or the first faulty field.
+pub fn decode_reply(bytes: &[u8; 200]) -> Result<Reply, BadReply>
+    // What is read is spelled so.
+    ensures found { IfOk result (λ r. IsReply r × (bytes.now ≡ reply_spelling r)) }
+    // What is spelled so is read.
+    ensures only { (r : ReplyFields) → IsReply r → bytes.now ≡ reply_spelling r → result ≡ Ok r }
+    // Which field is the first faulty one.
+    ensures exact { result ≡ reply_of bytes.now }
+{
+    read_reply(bytes)
+}
+
+#[tactic(auto, using(crate::proofs::Composed::name_short), unfolding(crate::specs::Reading::reply_of))]
+fn read_reply(bytes: &[u8; 200]) -> Result<Reply, BadReply>
+    ensures { result ≡ reply_of bytes.now }
+{
+    if bytes[..4] != REPLY_TAG[..] {
+        return Err(BadReply::Tag);
+    }
+    let outcome = read_outcome(&bytes[4..6]).ok_or(BadReply::Outcome)?;
+    let request = read_shown(outcome, &bytes[6..53])?;
+    let balance = read_balance(outcome, &bytes[53..66])?;
+    if !is_filled(&bytes[66..82], outcome.name().as_bytes()) {
+        return Err(BadReply::Name);
+    }
+    if bytes[82..] != REPLY_FILLER[..] {
+        return Err(BadReply::Filler);
+    }
+    Reply::new(outcome, request, balance).ok_or(BadReply::Outcome)
+}
+
+fn read_outcome(digits: &[u8]) -> Option<Outcome>
+    requires { length digits.now ≤ 12 }
+    ensures { result ≡ option_and_then outcome_with (number_of digits.now) }
+{
+    match read_digits(digits)? {
+        0 => Some(Outcome::Posted),
+        11 => Some(Outcome::NoTeller),
+        12 => Some(Outcome::WrongBranch),
+        13 => Some(Outcome::NoAccount),
+        14 => Some(Outcome::OverLimit),
+        15 => Some(Outcome::ReusedNumber),
+        16 => Some(Outcome::Full),
+        90 => Some(Outcome::Malformed),
+        _ => None,
+    }
+}
+
+// The request that a reply with this outcome shows.
+fn read_shown(outcome: Outcome, bytes: &[u8]) -> Result<Option<Request>, BadReply>
+    requires { length bytes.now ≡ 47 }
+    ensures value { result ≡ shown_request_of outcome bytes.now }
+    ensures shown { IfOk result (λ r. is_some r ≡ has_request outcome) }
+{
+    match outcome {
+        Outcome::Malformed => read_no_fields(bytes),
+        _ => {
+            let request = read_fields(bytes)?;
+            Ok(Some(request))
+        }
+    }
+}
+
+// Zeros in the place of each field.
+#[tactic(auto, unfolding(crate::specs::Reading::no_fields_of))]
+fn read_no_fields(bytes: &[u8]) -> Result<Option<Request>, BadReply>
+    requires { length bytes.now ≡ 47 }
+    ensures value { result ≡ no_fields_of bytes.now }
+    ensures shown { IfOk result (λ r. IsNone r) }
+{
+    expect_text(&bytes[..12], b"000000000000", BadReply::Account)?;
+    expect_text(&bytes[12..20], b"00000000", BadReply::Teller)?;
+    expect_text(&bytes[20..26], b"000000", BadReply::Branch)?;
+    expect_text(&bytes[26..36], b"0000000000", BadReply::Number)?;
+    expect_text(&bytes[36..47], b"+0000000000", BadReply::Delta)?;
+    Ok(None)
+}
+
+// The balance that a reply with this outcome has.
+fn read_balance(outcome: Outcome, bytes: &[u8]) -> Result<Option<Cents>, BadReply>
+    requires { length bytes.now ≡ 13 }
+    ensures value { result ≡ balance_of outcome bytes.now }
+    ensures shown { IfOk result (λ z. is_some z ≡ has_balance outcome) }
+{
+    match outcome {
+        Outcome::Posted => {
+            let balance = read_amount(bytes).ok_or(BadReply::Balance)?;
+            Ok(Some(balance))
+        }
+        _ => {
+            expect_text(bytes, b"+000000000000", BadReply::Balance)?;
+            Ok(None)
+        }
+    }
+}
+
+// These bytes and no others.
+fn expect_text(bytes: &[u8], text: &[u8], fault: BadReply) -> Result<(), BadReply>
+    ensures same { is_ok result ≡ bytes_eq bytes.now text.now }
+    ensures fault { IfErr result (λ e. e ≡ fault) }
+{
+    if *bytes == *text { Ok(()) } else { Err(fault) }
+}
+
+// Whether the bytes are the text, filled with spaces on the right.
+fn is_filled(bytes: &[u8], text: &[u8]) -> bool
+    requires bytes { length bytes.now ≡ 16 }
+    requires text { length text.now ≤ 16 }
+    ensures { result ≡ bytes_eq bytes.now (filled 16 text.now) }
+{
+    let end = text.len();
+    bytes[..end] == text[..] && bytes[end..] == SPACES[end..]
+}
+
+// The five fields that a request and a reply have in common.
+#[tactic(auto, unfolding(crate::specs::Reading::fields_of))]
+fn read_fields(bytes: &[u8]) -> Result<Request, Bad>
+    requires { length bytes.now ≡ 47 }
+    ensures { result ≡ fields_of bytes.now }
+{
+    let account = read_number(&bytes[..12]).ok_or(Bad::Account)?;
+    let teller = read_number(&bytes[12..20]).ok_or(Bad::Teller)?;
+    let branch = read_number(&bytes[20..26]).ok_or(Bad::Branch)?;
+    let number = read_number(&bytes[26..36]).ok_or(Bad::Number)?;
+    let delta = read_amount(&bytes[36..47]).ok_or(Bad::Delta)?;
+    Request::new(account, teller, branch, number, delta).ok_or(Bad::Delta)
+}
+
+// A number from 1 on.
+fn read_number<const MOST: u64>(digits: &[u8]) -> Option<Whole<1, MOST>>
+    requires { length digits.now ≤ 12 }
+    ensures { result ≡ option_and_then (whole_within 1 MOST) (number_of digits.now) }
+{
+    Whole::new(read_digits(digits)?)
+}
+
+// The number that up to twelve digits write.
+fn read_digits(digits: &[u8]) -> Option<u64>
+    requires { length digits.now ≤ 12 }
+    ensures value { result ≡ number_of digits.now }
+    ensures below { IfSome result (λ n. n < 10 ^ length digits.now) }
+    ensures most { IfSome result (λ n. n ≤ 999_999_999_999) }
+{
+    let mut number = 0;
+    for digit in digits {
+        if !digit.is_ascii_digit() {
+            return None;
+        }
+        number = number * 10 + u64::from(digit - b'0');
+    }
+    Some(number)
+}
+
+// The amount that a sign and up to twelve digits write. Zero has one sign.
+fn read_amount(bytes: &[u8]) -> Option<Cents>
+    requires { length bytes.now ≤ 13 }
+    ensures value { result ≡ signed_of bytes.now }
+    ensures limit { IfSome result (λ z. nat_abs z < 10 ^ (length bytes.now - 1)) }
+{
+    let (sign, digits) = bytes.split_first()?;
+    let amount = read_digits(digits)? as i64;
+    match sign {
+        b'+' => Cents::new(amount),
+        b'-' if amount != 0 => Cents::new(-amount),
+        _ => None,
+    }
+}

@@ -1,0 +1,85 @@
+//! Writes the bytes of a request and of a reply.
+ghost use Rattle.std.specs.Prelude.{◌≡◌, ◌≤◌, ◌+◌, ◌++◌, pos, length, IfSome, Ok, nat_abs, unwrap_or};
+ghost use Rattle.message_records.specs.Records.{IsRequest};
+ghost use Rattle.message_records.specs.Spelling.{signed, no_fields, fields_spelling, request_spelling, reply_spelling};
+ghost use Rattle.message_records.specs.Reading.{request_of, reply_of};
+
+use crate::draft::Draft;
+use crate::numbers::Cents;
+use crate::records::{Reply, Request};
+
+const REQUEST_TAG: &[u8; 4] = b"DC01";
+
+const REPLY_TAG: &[u8; 4] = b"DR01";
+
+// Zeros in the place of each field of a request.
+const NO_FIELDS: &[u8; 47] = b"000000000000000000000000000000000000+0000000000";
+
+/// The bytes of the request.
+pub fn encode_request(request: &Request) -> [u8; 100]
+    ensures spelling { result ≡ request_spelling request.now }
+    // They are read as this request.
+    ensures read_again { request_of result ≡ Ok request.now }
+{
+    let mut draft = Draft::new();
+    draft.put_text(REQUEST_TAG);
+    put_fields(&mut draft, request);
+    draft.finish()
+}
+
+/// The bytes of the reply.
+pub fn encode_reply(reply: &Reply) -> [u8; 200]
+    ensures spelling { result ≡ reply_spelling reply.now }
+    // They are read as this reply.
+    ensures read_again { reply_of result ≡ Ok reply.now }
+{
+    let (request, balance) = reply.shown();
+    let outcome = reply.outcome();
+    let mut draft = Draft::new();
+    draft.put_text(REPLY_TAG);
+    draft.put_number(2, u64::from(outcome.code()));
+    put_shown(&mut draft, request);
+    put_balance(&mut draft, balance);
+    draft.put_text(outcome.name().as_bytes());
+    draft.finish()
+}
+
+// The five fields that a request and a reply have in common.
+fn put_fields<const SIZE: usize>(draft: &mut Draft<SIZE>, request: &Request)
+    requires { length draft.old + 47 ≤ SIZE }
+    ensures value { draft.new ≡ draft.old ++ fields_spelling request.now }
+    ensures len { length draft.new ≡ length draft.old + 47 }
+    ensures in_range { IsRequest request.now }
+{
+    draft.put_number(12, request.account().get());
+    draft.put_number(8, request.teller().get());
+    draft.put_number(6, request.branch().get());
+    draft.put_number(10, request.number().get());
+    draft.put_amount(10, request.delta().get());
+}
+
+// The fields of the request, zeros where there is none.
+fn put_shown<const SIZE: usize>(draft: &mut Draft<SIZE>, request: Option<Request>)
+    requires { length draft.old + 47 ≤ SIZE }
+    ensures value { draft.new ≡ draft.old ++ fields_spelling (unwrap_or request no_fields) }
+    ensures len { length draft.new ≡ length draft.old + 47 }
+    ensures in_range { IfSome request IsRequest }
+{
+    match request {
+        Some(request) => put_fields(draft, &request),
+        None => draft.put_text(NO_FIELDS),
+    }
+}
+
+// The balance, zero where there is none.
+fn put_balance<const SIZE: usize>(draft: &mut Draft<SIZE>, balance: Option<Cents>)
+    requires { length draft.old + 13 ≤ SIZE }
+    ensures value { draft.new ≡ draft.old ++ signed 12 (unwrap_or balance (pos 0)) }
+    ensures len { length draft.new ≡ length draft.old + 13 }
+    ensures in_range { IfSome balance (λ z. nat_abs z ≤ 999_999_999_999) }
+{
+    match balance {
+        Some(balance) => draft.put_amount(12, balance.get()),
+        None => draft.put_amount(12, 0),
+    }
+}

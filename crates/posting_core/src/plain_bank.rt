@@ -1,0 +1,257 @@
+//! A bank in memory.
+ghost use Rattle.std.specs.Prelude.{◌≡◌, ◌≤◌, ◌<◌, ◌+◌, ◌-◌, ◌*◌, [], ◌∷◌, ◌++◌, pos, length, vec_len, vec_capacity, IsTrue};
+ghost use Rattle.message_records.specs.Spelling.{reply_spelling};
+ghost use Rattle.message_records.specs.Reading.{request_of};
+ghost use Rattle.posting_core.specs.Kept.{is_kept_with};
+ghost use Rattle.posting_core.specs.Entries.{Entry};
+ghost use Rattle.posting_core.specs.Tables.{request_row_of, history_row_of, teller_row_of, account_row_of};
+ghost use Rattle.posting_core.specs.Rows.{rows_from};
+
+use crate::cases::{TELLERS_PER_BRANCH, branch_of_teller, judge, reply_to};
+use crate::counter::{Counter, Opening};
+use crate::facts::{Found, Kept, Verdict};
+use crate::fault::Fault;
+use crate::rows::{AccountRow, BranchRow, HistoryRow, Ordinal, RequestRow, TellerRow};
+use crate::walking::{balance_at, count_at, kept_at, put, set_balance_at};
+use message_records::{
+    Account, Branch, Cents, Moment, Outcome, Reply, Request, Teller, decode_request, encode_reply,
+};
+use std::alloc::Global;
+
+/// How many numbers of accounts a branch has (the scaling of TPC-B).
+pub const ACCOUNTS_PER_BRANCH: u64 = 100_000;
+
+fn zero() -> Cents
+    ensures { result ≡ pos 0 }
+{
+    Cents::new(0).unwrap()
+}
+
+// Keeps a decided request behind the others, for which there is room.
+fn keep(requests: &mut Vec<RequestRow>, request: &Request, outcome: Outcome, balance: Cents)
+    requires room { vec_len requests.old < vec_capacity requests.old }
+    requires few { vec_len requests.old < 1_000_000_000_000 }
+    requires kept { IsTrue (is_kept_with outcome balance) }
+    ensures items { requests.new.items ≡ requests.old.items
+        ++ request_row_of (length requests.old.items + 1) (record { moment = 0; request = request.now; outcome = outcome; balance = balance }) ∷ [] }
+    ensures len { vec_len requests.new ≡ vec_len requests.old + 1 }
+    ensures capacity { vec_capacity requests.old ≤ vec_capacity requests.new }
+{
+    let kept = Kept::new(
+        request.account(),
+        request.branch(),
+        request.delta(),
+        outcome,
+        balance,
+    );
+    let row = RequestRow {
+        ordinal: Ordinal::new(requests.len() as u64 + 1).unwrap(),
+        teller: request.teller(),
+        number: request.number(),
+        kept: kept.unwrap(),
+    };
+    put(requests, row);
+}
+
+// Records a posting behind the others, for which there is room.
+fn record_posting(
+    history: &mut Vec<HistoryRow>,
+    ordinal: Ordinal,
+    moment: Moment,
+    request: &Request,
+    balance: Cents,
+)
+    requires room { vec_len history.old < vec_capacity history.old }
+    ensures items { history.new.items ≡ history.old.items
+        ++ history_row_of ordinal (record { moment = moment; request = request.now; outcome = Outcome.Posted; balance = balance }) ∷ [] }
+    ensures len { vec_len history.new ≡ vec_len history.old + 1 }
+    ensures capacity { vec_capacity history.old ≤ vec_capacity history.new }
+{
+    let row = HistoryRow {
+        ordinal,
+        account: request.account(),
+        teller: request.teller(),
+        branch: request.branch(),
+        delta: request.delta(),
+        moment,
+    };
+    put(history, row);
+}
+
+// Puts tellers with no balance behind the others, for which there is room.
+fn put_tellers(rows: &mut Vec<TellerRow>, first: u64, count: u64)
+    requires room { vec_len rows.old + count ≤ vec_capacity rows.old }
+    requires above { 1 ≤ first }
+    requires below { first + count ≤ 100_000_000 }
+    ensures { rows.new.items ≡ rows.old.items ++ rows_from (λ n. teller_row_of n (pos 0)) first count }
+{
+    for place in 0..count {
+        let row = TellerRow {
+            teller: Teller::new(first + place).unwrap(),
+            balance: zero(),
+        };
+        put(rows, row);
+    }
+}
+
+// Puts accounts with no balance behind the others, for which there is room.
+fn put_accounts(rows: &mut Vec<AccountRow>, first: u64, count: u64)
+    requires room { vec_len rows.old + count ≤ vec_capacity rows.old }
+    requires above { 1 ≤ first }
+    requires below { first + count ≤ 1_000_000_000_000 }
+    ensures { rows.new.items ≡ rows.old.items ++ rows_from (λ n. account_row_of n (pos 0)) first count }
+{
+    for place in 0..count {
+        let row = AccountRow {
+            account: Account::new(first + place).unwrap(),
+            balance: zero(),
+        };
+        put(rows, row);
+    }
+}
+
+/// A bank in memory, which finds its rows by walking. It is never down, and refuses a call only for want of memory,
+/// before it changed anything.
+#[derive(Drop)]
+pub struct PlainBank {
+    alloc: Global,
+    branches: Vec<BranchRow>,
+    tellers: Vec<TellerRow>,
+    accounts: Vec<AccountRow>,
+    history: Vec<HistoryRow>,
+    requests: Vec<RequestRow>,
+    ghost few: { length requests.items ≤ 1_000_000_000_000 },
+}
+
+impl PlainBank {
+    ghost use Rattle.posting_core.specs.Cases.{IsProper};
+    ghost use Rattle.posting_core.specs.Tables.{Shows};
+    ghost use Rattle.posting_core.specs.LookUps.{found_in};
+    ghost use Rattle.posting_core.specs.Plain.{plain_tables, tables_after, tables_with, tables_opened, reply_in_tables};
+
+    /// A bank with no branch. It takes no memory.
+    pub fn new(alloc: Global) -> Self
+        ensures { Shows (plain_tables result) [] }
+    {
+        PlainBank {
+            alloc,
+            branches: Vec::new(alloc),
+            tellers: Vec::new(alloc),
+            accounts: Vec::new(alloc),
+            history: Vec::new(alloc),
+            requests: Vec::new(alloc),
+        }
+    }
+
+    // All that is looked up for a request.
+    fn look_up(&self, request: &Request) -> Found
+        ensures value { result ≡ found_in (plain_tables self.now) request.now }
+        ensures few { result.decided ≤ 1_000_000_000_000 }
+    {
+        let teller = balance_at(&self.tellers, request.teller().get());
+        let branch = balance_at(&self.branches, branch_of_teller(request.teller()));
+        Found {
+            teller: match (teller, branch) {
+                (Some(teller), Some(branch)) => Some((teller, branch)),
+                _ => None,
+            },
+            kept: kept_at(&self.requests, request.teller(), request.number()),
+            decided: self.requests.len() as u64,
+            account: balance_at(&self.accounts, request.account().get()),
+        }
+    }
+
+    // Changes the rows as the verdict says, for which there is room.
+    fn apply(&mut self, moment: Moment, request: &Request, verdict: &Verdict)
+        requires proper { IsProper (found_in (plain_tables self.old) request.now) verdict.now }
+        requires requests { vec_len self.old.requests < vec_capacity self.old.requests }
+        requires history { vec_len self.old.history < vec_capacity self.old.history }
+        ensures tables { plain_tables self.new ≡ tables_after (plain_tables self.old) moment request.now verdict.now }
+    {
+        match verdict {
+            Verdict::Unkept(_) | Verdict::Again(_) => {}
+            Verdict::Refused(outcome) => keep(&mut self.requests, request, *outcome, zero()),
+            Verdict::Posted {
+                account,
+                teller,
+                branch,
+            } => {
+                let home = branch_of_teller(request.teller());
+                let ordinal = Ordinal::new(self.requests.len() as u64 + 1).unwrap();
+                set_balance_at(&mut self.accounts, request.account().get(), *account);
+                set_balance_at(&mut self.tellers, request.teller().get(), *teller);
+                set_balance_at(&mut self.branches, home, *branch);
+                record_posting(&mut self.history, ordinal, moment, request, *account);
+                keep(&mut self.requests, request, Outcome::Posted, *account);
+            }
+        }
+    }
+
+    // Submits a record, for which there is room.
+    fn answer(&mut self, moment: Moment, bytes: &[u8; 100]) -> [u8; 200]
+        requires requests { vec_len self.old.requests < vec_capacity self.old.requests }
+        requires history { vec_len self.old.history < vec_capacity self.old.history }
+        ensures reply { result ≡ reply_spelling (reply_in_tables (plain_tables self.old) (request_of bytes.now)) }
+        ensures tables { plain_tables self.new ≡ tables_with (plain_tables self.old) moment (request_of bytes.now) }
+    {
+        let Ok(request) = decode_request(bytes) else {
+            return encode_reply(&Reply::new(Outcome::Malformed, None, None).unwrap());
+        };
+        let found = self.look_up(&request);
+        let verdict = judge(&found, &request);
+        self.apply(moment, &request, &verdict);
+        encode_reply(&reply_to(&found, &request, &verdict))
+    }
+
+    // Adds a branch, for whose rows there is room.
+    fn add_branch(&mut self, branch: Branch, count: u32)
+        requires branch { branch ≤ 9999 }
+        requires few { count ≤ 100_000 }
+        requires branches { vec_len self.old.branches < vec_capacity self.old.branches }
+        requires tellers { vec_len self.old.tellers + 10 ≤ vec_capacity self.old.tellers }
+        requires accounts { vec_len self.old.accounts + count ≤ vec_capacity self.old.accounts }
+        ensures tables { plain_tables self.new ≡ tables_opened (plain_tables self.old) branch count }
+        ensures above { 1 ≤ branch }
+    {
+        let before = branch.get() - 1;
+        let row = BranchRow {
+            branch,
+            accounts: count,
+            balance: zero(),
+        };
+        put(&mut self.branches, row);
+        put_tellers(&mut self.tellers, TELLERS_PER_BRANCH * before + 1, TELLERS_PER_BRANCH);
+        put_accounts(&mut self.accounts, ACCOUNTS_PER_BRANCH * before + 1, u64::from(count));
+    }
+}
+
+impl Counter for PlainBank {
+    ghost use Rattle.posting_core.specs.Plain.{plain_seen};
+
+    ghost seen = { plain_seen };
+
+    fn submit(&mut self, moment: Moment, bytes: &[u8; 100]) -> Result<[u8; 200], Fault> {
+        self.history.reserve(1)?;
+        self.requests.reserve(1)?;
+        Ok(self.answer(moment, bytes))
+    }
+
+    fn open_branch(&mut self, branch: Branch, count: u32) -> Result<Opening, Fault> {
+        if let Some(accounts) = count_at(&self.branches, branch) {
+            return Ok(if accounts == count {
+                Opening::Already
+            } else {
+                Opening::Differs
+            });
+        }
+        self.branches.reserve(1)?;
+        self.tellers.reserve(10)?;
+        self.accounts.reserve(count as usize)?;
+        self.add_branch(branch, count);
+        Ok(Opening::Opened)
+    }
+
+    fn balance(&mut self, account: Account) -> Result<Option<Cents>, Fault> {
+        Ok(balance_at(&self.accounts, account.get()))
+    }
+}

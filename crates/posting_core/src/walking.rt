@@ -1,0 +1,148 @@
+//! Rows in vectors, which are found by walking.
+ghost use Rattle.std.specs.Prelude.{◌≡◌, ◌<◌, ◌≤◌, ◌+◌, ◌++◌, ◌∷◌, [], ℕ, ℤ, vec_len, vec_capacity};
+ghost use Rattle.std.specs.Option.{option_map};
+ghost use Rattle.posting_core.specs.Tables.{row_at, branch_key};
+ghost use Rattle.posting_core.specs.LookUps.{kept_in, count_of_branch};
+ghost use Rattle.posting_core.specs.Rows.{changed};
+
+use crate::facts::Kept;
+use crate::rows::{AccountRow, BranchRow, RequestRow, TellerRow};
+use message_records::{Branch, Cents, Number, Teller};
+
+/// A row that keeps a balance under a number.
+pub(crate) trait BalanceRow {
+    ghost key: { Self → ℕ };
+
+    ghost balance_in: { Self → ℤ };
+
+    ghost with_balance: { ℤ → Self → Self };
+
+    fn number(&self) -> u64
+        ensures { result ≡ key self.now };
+
+    fn balance(&self) -> Cents
+        ensures { result ≡ balance_in self.now };
+
+    fn set_balance(&mut self, balance: Cents)
+        ensures { self.new ≡ with_balance balance self.old };
+}
+
+impl BalanceRow for BranchRow {
+    ghost use Rattle.posting_core.specs.Tables.{branch_key};
+    ghost use Rattle.posting_core.specs.LookUps.{balance_of_branch};
+    ghost use Rattle.posting_core.specs.Steps.{with_branch_balance};
+
+    ghost key = { branch_key };
+
+    ghost balance_in = { balance_of_branch };
+
+    ghost with_balance = { with_branch_balance };
+
+    fn number(&self) -> u64 {
+        self.branch.get()
+    }
+
+    fn balance(&self) -> Cents {
+        self.balance
+    }
+
+    fn set_balance(&mut self, balance: Cents) {
+        self.balance = balance;
+    }
+}
+
+impl BalanceRow for TellerRow {
+    ghost use Rattle.posting_core.specs.Tables.{teller_key};
+    ghost use Rattle.posting_core.specs.LookUps.{balance_of_teller};
+    ghost use Rattle.posting_core.specs.Steps.{with_teller_balance};
+
+    ghost key = { teller_key };
+
+    ghost balance_in = { balance_of_teller };
+
+    ghost with_balance = { with_teller_balance };
+
+    fn number(&self) -> u64 {
+        self.teller.get()
+    }
+
+    fn balance(&self) -> Cents {
+        self.balance
+    }
+
+    fn set_balance(&mut self, balance: Cents) {
+        self.balance = balance;
+    }
+}
+
+impl BalanceRow for AccountRow {
+    ghost use Rattle.posting_core.specs.Tables.{account_key};
+    ghost use Rattle.posting_core.specs.LookUps.{balance_of_account};
+    ghost use Rattle.posting_core.specs.Steps.{with_account_balance};
+
+    ghost key = { account_key };
+
+    ghost balance_in = { balance_of_account };
+
+    ghost with_balance = { with_account_balance };
+
+    fn number(&self) -> u64 {
+        self.account.get()
+    }
+
+    fn balance(&self) -> Cents {
+        self.balance
+    }
+
+    fn set_balance(&mut self, balance: Cents) {
+        self.balance = balance;
+    }
+}
+
+/// The balance of the row under a number.
+pub(crate) fn balance_at<R: BalanceRow>(rows: &[R], number: u64) -> Option<Cents>
+    ensures { result ≡ option_map R.balance_in (row_at R.key rows.now number) }
+{
+    rows.iter()
+        .find(|row| row.number() == number)
+        .map(|row| row.balance())
+}
+
+/// Gives the row under a number another balance.
+pub(crate) fn set_balance_at<R: BalanceRow>(rows: &mut [R], number: u64, balance: Cents)
+    ensures { rows.new ≡ changed R.key number (R.with_balance balance) rows.old }
+{
+    for row in rows.iter_mut() {
+        if number == row.number() {
+            row.set_balance(balance);
+        }
+    }
+}
+
+/// How many accounts a branch is open with.
+pub(crate) fn count_at(rows: &[BranchRow], branch: Branch) -> Option<u32>
+    ensures { result ≡ option_map count_of_branch (row_at branch_key rows.now branch) }
+{
+    rows.iter()
+        .find(|row| row.branch == branch)
+        .map(|row| row.accounts)
+}
+
+/// The request that is kept under a teller and a number.
+pub(crate) fn kept_at(rows: &[RequestRow], teller: Teller, number: Number) -> Option<Kept>
+    ensures { result ≡ kept_in rows.now teller number }
+{
+    rows.iter()
+        .find(|row| row.teller == teller && row.number == number)
+        .map(|row| row.kept)
+}
+
+/// Puts a row behind the others, for which there is room.
+pub(crate) fn put<T: Drop>(rows: &mut Vec<T>, row: T)
+    requires { vec_len rows.old < vec_capacity rows.old }
+    ensures items { rows.new.items ≡ rows.old.items ++ row ∷ [] }
+    ensures len { vec_len rows.new ≡ vec_len rows.old + 1 }
+    ensures capacity { vec_capacity rows.old ≤ vec_capacity rows.new }
+{
+    let _ = rows.push(row);
+}
