@@ -6,3 +6,7 @@ pub mod Looked
 pub mod Stepped
 pub mod Opened
 pub mod InMemory
+pub mod Totals
+pub mod Limits
+pub mod Consistent
+pub mod Alike

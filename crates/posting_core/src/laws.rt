@@ -1,0 +1,27 @@
+//! Laws of the bank, for every log of commands. Each is a function that does nothing: its contract is the law.
+ghost use Rattle.posting_core.specs.Laws.{NoneShares, BalancesStayWithin, TablesAreConsistent, EqualTablesAnswerAlike};
+
+/// No two decided requests share teller and number, so that each request is posted once.
+pub fn each_request_once()
+    ensures { NoneShares }
+{
+}
+
+/// Every balance of an account, a teller and a branch stays within its limit.
+pub fn balances_stay_within()
+    ensures { BalancesStayWithin }
+{
+}
+
+/// The consistency condition (TPC-B clause 2): accounts, tellers, branches and the deltas of history have one sum, each
+/// branch has the sum of its tellers, and history has just the posted requests.
+pub fn tables_are_consistent()
+    ensures { TablesAreConsistent }
+{
+}
+
+/// What a bank answers depends on its tables alone.
+pub fn equal_tables_answer_alike()
+    ensures { EqualTablesAnswerAlike }
+{
+}
