@@ -10,3 +10,4 @@ pub mod Totals
 pub mod Limits
 pub mod Consistent
 pub mod Alike
+pub mod AsStated

@@ -8,6 +8,7 @@ pub mod Rows
 pub mod LookUps
 pub mod Steps
 pub mod Runs
+pub mod Stated
 pub mod Laws
 pub mod Counter
 pub mod Plain

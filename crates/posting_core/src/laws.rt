@@ -1,5 +1,13 @@
 //! Laws of the bank, for every log of commands. Each is a function that does nothing: its contract is the law.
+ghost use Rattle.posting_core.specs.Stated.{DecidedAsStated, RepliedAsStated};
 ghost use Rattle.posting_core.specs.Laws.{NoneShares, BalancesStayWithin, TablesAreConsistent, EqualTablesAnswerAlike};
+
+/// Which records are decided, which of them are posted, and what is replied, said case by case.
+pub fn cases_are_as_stated()
+    ensures decided { DecidedAsStated }
+    ensures replied { RepliedAsStated }
+{
+}
 
 /// No two decided requests share teller and number, so that each request is posted once.
 pub fn each_request_once()

@@ -15,7 +15,7 @@ pub use counter::{Counter, Opening};
 pub use facts::{Found, Kept, MAX_DECIDED, Verdict};
 pub use fault::{Fault, Rule};
 pub use laws::{
-    balances_stay_within, each_request_once, equal_tables_answer_alike, tables_are_consistent,
+    balances_stay_within, cases_are_as_stated, each_request_once, equal_tables_answer_alike, tables_are_consistent,
 };
 pub use plain_bank::{ACCOUNTS_PER_BRANCH, PlainBank};
 pub use rows::{AccountRow, BranchRow, HistoryRow, MetaRow, Ordinal, RequestRow, TellerRow};
