@@ -17,7 +17,8 @@ signed_again k (pos n) cs e lt = ap signed_of e ∙ ap (option_and_then not_belo
 signed_again k (negsuc n) cs e lt = ap signed_of e ∙ ap (option_and_then below_zero) (number_of-digits k (suc n) lt)
 
 -- a step that gave a value had one to begin with
-pub and_then_some : {A B : Type 0} (f : A → Option B) (o : Option A) (y : B) → option_and_then f o ≡ Some y → (x : A) × (o ≡ Some x) × (f x ≡ Some y)
+pub and_then_some : {A B : Type 0} (f : A → Option B) (o : Option A) (y : B) → option_and_then f o ≡ Some y
+    → (x : A) × (o ≡ Some x) × (f x ≡ Some y)
 and_then_some f None y e = absurd cc
 and_then_some f (Some x) y e = (x, refl, e)
 

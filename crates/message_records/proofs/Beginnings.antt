@@ -1,16 +1,16 @@
 -- No spelling begins another: all are equally long, and each is read as one value.
-use Rattle.std.proofs.Common.{◌≡◌, ℕ, ◌+◌, List, [], ◌∷◌, ◌++◌, length, replicate, Result, Ok, refl, sym, ap, ◌∙◌, append-nil, arith}
-use Rattle.std.specs.Prelude.{pos, codes, unwrap_or}
+use Rattle.std.proofs.Common.{◌≡◌, ℕ, List, [], ◌∷◌, ◌++◌, length, Result, Ok, refl, sym, ap, ◌∙◌, append-nil, arith}
+use Rattle.std.specs.Prelude.{pos, unwrap_or}
 use Rattle.std.proofs.lemmas.List.{length-append}
-use Rattle.message_records.specs.Outcomes.{code_of, name_of}
+use Rattle.message_records.specs.Outcomes.{code_of}
 use Rattle.message_records.specs.Records.{RequestFields, IsRequest, ReplyFields, IsReply}
-use Rattle.message_records.specs.Spelling.{digits, signed, fields_spelling, no_fields, filled, request_spelling, reply_spelling}
+use Rattle.message_records.specs.Spelling.{no_fields, request_spelling, reply_spelling}
 use Rattle.message_records.specs.Reading.{request_of, reply_of}
 use Rattle.message_records.proofs.Digits.{length-digits}
 use Rattle.message_records.proofs.Amounts.{length-signed}
 use Rattle.message_records.proofs.Fields.{length-fields}
 use Rattle.message_records.proofs.Requests.{request_again}
-use Rattle.message_records.proofs.Replies.{length-name, reply_again}
+use Rattle.message_records.proofs.SpelledReplies.{length-name, reply_again}
 
 -- a list of no elements
 nothing : (xs : List ℕ) → length xs ≡ 0 → xs ≡ []
@@ -30,10 +30,12 @@ one_value read x y xs ys rest ex ey same e =
     let both : Ok x ≡ Ok y = sym ex ∙ ap read one ∙ ey in
     (cc, none)
 
+-- every request is 100 bytes
 pub length-request : (r : RequestFields) → length (request_spelling r) ≡ 100
 unfolding request_spelling
 length-request r = omega (arith, length-append {A = ℕ}, length-fields r)
 
+-- every reply is 200 bytes
 pub length-reply : (r : ReplyFields) → length (reply_spelling r) ≡ 200
 unfolding reply_spelling
 length-reply r =
@@ -46,6 +48,7 @@ length-reply r =
       length-name r.outcome,
     )
 
+-- no spelling of a request begins another
 pub no_request_begins : (r s : RequestFields) (rest : List ℕ) → IsRequest r → IsRequest s → request_spelling r ++ rest ≡ request_spelling s
     → (r ≡ s) × (rest ≡ [])
 no_request_begins r s rest hr hs e =
@@ -53,6 +56,7 @@ no_request_begins r s rest hr hs e =
     (request_again r (request_spelling r) hr refl) (request_again s (request_spelling s) hs refl)
     (length-request r ∙ sym (length-request s)) e
 
+-- no spelling of a reply begins another
 pub no_reply_begins : (r s : ReplyFields) (rest : List ℕ) → IsReply r → IsReply s → reply_spelling r ++ rest ≡ reply_spelling s
     → (r ≡ s) × (rest ≡ [])
 no_reply_begins r s rest hr hs e =

@@ -9,6 +9,7 @@ use Rattle.message_records.specs.Spelling.{digits, signed, fields_spelling, no_f
 
 -- ---- the five fields
 
+-- five fields, each put behind the one before, are the fields of the request
 pub fields_put : (r : RequestFields) (a t b n : ℕ) (z : ℤ) (d0 d1 d2 d3 d4 d5 : List ℕ)
     → a ≡ r.account → t ≡ r.teller → b ≡ r.branch → n ≡ r.number → z ≡ r.delta
     → d1 ≡ d0 ++ digits 12 a → d2 ≡ d1 ++ digits 8 t → d3 ≡ d2 ++ digits 6 b → d4 ≡ d3 ++ digits 10 n → d5 ≡ d4 ++ signed 10 z
@@ -24,6 +25,7 @@ no_fields_spelled = refl
 
 -- ---- the request
 
+-- tag and fields, filled with spaces, are the request
 pub request_put : (r : RequestFields) (d0 d1 d2 out : List ℕ) → d0 ≡ [] → d1 ≡ d0 ++ codes "DC01" → d2 ≡ d1 ++ fields_spelling r
     → length d2 ≡ 51 → out ≡ d2 ++ replicate (100 - length d2) 32 → out ≡ request_spelling r
 unfolding request_spelling
@@ -44,6 +46,7 @@ spaces-add (suc m) n =
     let same : suc (m + n) ≡ suc m + n = omega arith in
     ap (λ (t : List ℕ). 32 ∷ t) (spaces-add m n) ∙ ap (λ (k : ℕ). spaces k) same
 
+-- a name is at most 16 bytes
 pub name_short : (o : Outcome) → length (name_of o) ≤ 16
 name_short Posted = lit≤ tt
 name_short NoTeller = lit≤ tt
@@ -62,6 +65,7 @@ name_filled name n e le =
     ∙ ap (λ (t : List ℕ). name ++ t) (sym (spaces-add (16 - length name) 118))
     ∙ sym (append_assoc name (spaces (16 - length name)) (spaces 118))
 
+-- the fields, each put behind the one before and filled with spaces, are the reply
 pub reply_put : (r : ReplyFields) (code : ℕ) (name d0 d1 d2 d3 d4 d5 out : List ℕ) → code ≡ code_of r.outcome → name ≡ name_of r.outcome
     → d0 ≡ [] → d1 ≡ d0 ++ codes "DR01" → d2 ≡ d1 ++ digits 2 code → d3 ≡ d2 ++ fields_spelling (unwrap_or r.request no_fields)
     → d4 ≡ d3 ++ signed 12 (unwrap_or r.balance (pos 0)) → d5 ≡ d4 ++ name
@@ -73,7 +77,8 @@ reply_put r code name d0 d1 d2 d3 d4 d5 out ec en e0 e1 e2 e3 e4 e5 len e =
     let balance = signed 12 (unwrap_or r.balance (pos 0)) in
     let short : length name ≤ 16 = rw en (name_short r.outcome) in
     let front : d5 ≡ (((tag ++ digits 2 code) ++ fields) ++ balance) ++ name = rw (e5, e4, e3, e2, e1, e0) refl in
-    let grouped : (a b c d f g : List ℕ) → ((((a ++ b) ++ c) ++ d) ++ f) ++ g ≡ a ++ (b ++ (c ++ (d ++ (f ++ g)))) = λ a b c d f g. simp append_assoc in
+    let grouped : (a b c d f g : List ℕ) → ((((a ++ b) ++ c) ++ d) ++ f) ++ g ≡ a ++ (b ++ (c ++ (d ++ (f ++ g)))) =
+    λ a b c d f g. simp append_assoc in
     e ∙ ap (λ (t : List ℕ). t ++ spaces (200 - length d5)) front
     ∙ grouped tag (digits 2 code) fields balance name (spaces (200 - length d5))
     ∙ ap (λ (t : List ℕ). tag ++ (digits 2 code ++ (fields ++ (balance ++ t)))) (name_filled name (length d5) len short)

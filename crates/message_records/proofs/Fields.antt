@@ -1,6 +1,6 @@
 -- The five fields that a request and a reply have in common: spelled and read.
-use Rattle.std.proofs.Common.{◌≡◌, ℕ, suc, ◌+◌, ◌^◌, ◌<◌, ◌≤◌, true, ◌&&◌, leb, List, [], ◌++◌, length, take, drop, Some, None, Ok, refl, ap, subst, ◌∙◌, arith, inl, inr}
-use Rattle.std.specs.Prelude.{ℤ, nat_abs, option_and_then}
+use Rattle.std.proofs.Common.{◌≡◌, ℕ, ◌^◌, ◌<◌, ◌≤◌, true, ◌&&◌, leb, List, ◌++◌, length, take, drop, Some, None, Ok, refl, ap, subst, ◌∙◌, arith, inl, inr}
+use Rattle.std.specs.Prelude.{option_and_then}
 use Rattle.std.specs.Option.{ok_or}
 use Rattle.std.proofs.lemmas.Bool.Decides.{nat_tests}
 use Rattle.std.proofs.lemmas.List.{length-append}
@@ -30,10 +30,14 @@ within_takes most n x e =
       | inr f ↦ absurd (let h = f.1 in cc)
     ]
 
-number_again : {E : Type 0} (most k n : ℕ) (fault : E) (cs : List ℕ) → cs ≡ digits k n → n < 10 ^ k → 1 ≤ n → n ≤ most → number_at most fault cs ≡ Ok n
+-- a number in its range is read from its digits
+number_again : {E : Type 0} (most k n : ℕ) (fault : E) (cs : List ℕ) → cs ≡ digits k n → n < 10 ^ k → 1 ≤ n → n ≤ most
+    → number_at most fault cs ≡ Ok n
 number_again most k n fault cs e lt least le = rw (e, number_of-digits k n lt, within_again most n least le) refl
 
-number_at-takes : {E : Type 0} (most k n : ℕ) (fault : E) (cs : List ℕ) → length cs ≡ k → number_at most fault cs ≡ Ok n → (cs ≡ digits k n) × (1 ≤ n) × (n ≤ most)
+-- a number that is read is in its range, and the bytes spell it
+number_at-takes : {E : Type 0} (most k n : ℕ) (fault : E) (cs : List ℕ) → length cs ≡ k → number_at most fault cs ≡ Ok n
+    → (cs ≡ digits k n) × (1 ≤ n) × (n ≤ most)
 number_at-takes most k n fault cs len e =
     let some = ok_or_some (option_and_then (whole_within 1 most) (number_of cs)) fault n e in
     let read = and_then_some (whole_within 1 most) (number_of cs) n some in
@@ -42,10 +46,16 @@ number_at-takes most k n fault cs len e =
 
 -- ---- the five fields
 
+-- the five fields are 47 bytes
 pub length-fields : (r : RequestFields) → length (fields_spelling r) ≡ 47
 unfolding fields_spelling
 length-fields r =
-    omega (arith, length-append {A = ℕ}, length-digits 12 r.account, length-digits 8 r.teller, length-digits 6 r.branch, length-digits 10 r.number, length-signed 10 r.delta)
+    let account = length-digits 12 r.account in
+    let teller = length-digits 8 r.teller in
+    let branch = length-digits 6 r.branch in
+    let number = length-digits 10 r.number in
+    let delta = length-signed 10 r.delta in
+    omega (arith, length-append {A = ℕ})
 
 -- what is spelled is read
 pub fields_again : (r : RequestFields) (bytes : List ℕ) → IsRequest r → bytes ≡ fields_spelling r → fields_of bytes ≡ Ok r
@@ -58,17 +68,23 @@ fields_again r bytes h e =
     let teller = field_next 12 8 bytes (digits 8 r.teller) from_branch account.1 (length-digits 8 r.teller) in
     let branch = field_next 20 6 bytes (digits 6 r.branch) from_number teller.1 (length-digits 6 r.branch) in
     let number = field_next 26 10 bytes (digits 10 r.number) (signed 10 r.delta) branch.1 (length-digits 10 r.number) in
-    let delta : take 11 (drop 36 bytes) ≡ signed 10 r.delta = last_field 36 11 bytes (signed 10 r.delta) number.1 (length-signed 10 r.delta) in
+    let delta : take 11 (drop 36 bytes) ≡ signed 10 r.delta =
+    last_field 36 11 bytes (signed 10 r.delta) number.1 (length-signed 10 r.delta) in
     rw (
-      number_again 999_999_999_999 12 r.account bad.Account (take 12 (drop 0 bytes)) account.0 (omega (arith, h.account)) h.account_above h.account,
-      number_again 99_999_999 8 r.teller bad.Teller (take 8 (drop 12 bytes)) teller.0 (omega (arith, h.teller)) h.teller_above h.teller,
-      number_again 999_999 6 r.branch bad.Branch (take 6 (drop 20 bytes)) branch.0 (omega (arith, h.branch)) h.branch_above h.branch,
-      number_again 9_999_999_999 10 r.number bad.Number (take 10 (drop 26 bytes)) number.0 (omega (arith, h.number)) h.number_above h.number,
+      number_again 999_999_999_999 12 r.account bad.Account (take 12 (drop 0 bytes)) account.0
+          (omega (arith, h.account)) h.account_above h.account,
+      number_again 99_999_999 8 r.teller bad.Teller (take 8 (drop 12 bytes)) teller.0
+          (omega (arith, h.teller)) h.teller_above h.teller,
+      number_again 999_999 6 r.branch bad.Branch (take 6 (drop 20 bytes)) branch.0
+          (omega (arith, h.branch)) h.branch_above h.branch,
+      number_again 9_999_999_999 10 r.number bad.Number (take 10 (drop 26 bytes)) number.0
+          (omega (arith, h.number)) h.number_above h.number,
       signed_again 10 r.delta (take 11 (drop 36 bytes)) delta (omega (arith, h.delta)),
     ) refl
 
 -- what is read is spelled so, and in range
-pub fields_take : (r : RequestFields) (bytes : List ℕ) → length bytes ≡ 47 → fields_of bytes ≡ Ok r → (bytes ≡ fields_spelling r) × IsRequest r
+pub fields_take : (r : RequestFields) (bytes : List ℕ) → length bytes ≡ 47 → fields_of bytes ≡ Ok r
+    → (bytes ≡ fields_spelling r) × IsRequest r
 unfolding fields_spelling fields_of
 fields_take r bytes len e =
     let account = step_takes (number_at 999_999_999_999 bad.Account (take 12 (drop 0 bytes))) _ r e in
@@ -76,12 +92,18 @@ fields_take r bytes len e =
     let branch = step_takes (number_at 999_999 bad.Branch (take 6 (drop 20 bytes))) _ r teller.2 in
     let number = step_takes (number_at 9_999_999_999 bad.Number (take 10 (drop 26 bytes))) _ r branch.2 in
     let delta = step_takes (ok_or (signed_of (take 11 (drop 36 bytes))) bad.Delta) _ r number.2 in
-    let a = number_at-takes 999_999_999_999 12 account.0 bad.Account (take 12 (drop 0 bytes)) (field_length 0 12 bytes (omega arith)) account.1 in
-    let t = number_at-takes 99_999_999 8 teller.0 bad.Teller (take 8 (drop 12 bytes)) (field_length 12 8 bytes (omega arith)) teller.1 in
-    let b = number_at-takes 999_999 6 branch.0 bad.Branch (take 6 (drop 20 bytes)) (field_length 20 6 bytes (omega arith)) branch.1 in
-    let n = number_at-takes 9_999_999_999 10 number.0 bad.Number (take 10 (drop 26 bytes)) (field_length 26 10 bytes (omega arith)) number.1 in
-    let d = signed_takes 10 delta.0 (take 11 (drop 36 bytes)) (field_length 36 11 bytes (omega arith)) (ok_or_some (signed_of (take 11 (drop 36 bytes))) bad.Delta delta.0 delta.1) in
-    let r-is : record { account = account.0; teller = teller.0; branch = branch.0; number = number.0; delta = delta.0 } ≡ r = let h = delta.2 in cc in
+    let a = number_at-takes 999_999_999_999 12 account.0 bad.Account (take 12 (drop 0 bytes))
+    (field_length 0 12 bytes (omega arith)) account.1 in
+    let t = number_at-takes 99_999_999 8 teller.0 bad.Teller (take 8 (drop 12 bytes))
+    (field_length 12 8 bytes (omega arith)) teller.1 in
+    let b = number_at-takes 999_999 6 branch.0 bad.Branch (take 6 (drop 20 bytes))
+    (field_length 20 6 bytes (omega arith)) branch.1 in
+    let n = number_at-takes 9_999_999_999 10 number.0 bad.Number (take 10 (drop 26 bytes))
+    (field_length 26 10 bytes (omega arith)) number.1 in
+    let d = signed_takes 10 delta.0 (take 11 (drop 36 bytes)) (field_length 36 11 bytes (omega arith))
+    (ok_or_some (signed_of (take 11 (drop 36 bytes))) bad.Delta delta.0 delta.1) in
+    let r-is : record { account = account.0; teller = teller.0; branch = branch.0; number = number.0; delta = delta.0 } ≡ r =
+    let h = delta.2 in cc in
     let from_delta : drop 36 bytes ≡ signed 10 delta.0 = last_joined 36 11 bytes (signed 10 delta.0) len d.0 in
     let from_number = field_joined 26 10 bytes (digits 10 number.0) _ n.0 from_delta in
     let from_branch = field_joined 20 6 bytes (digits 6 branch.0) _ b.0 from_number in
@@ -89,5 +111,15 @@ fields_take r bytes len e =
     let from_account = field_joined 0 12 bytes (digits 12 account.0) _ a.0 from_teller in
     subst (λ (y : RequestFields). (bytes ≡ fields_spelling y) × IsRequest y) r-is (
       from_account,
-      record { account_above = a.1; account = a.2; teller_above = t.1; teller = t.2; branch_above = b.1; branch = b.2; number_above = n.1; number = n.2; delta = omega (arith, d.1) },
+      record {
+        account_above = a.1;
+        account = a.2;
+        teller_above = t.1;
+        teller = t.2;
+        branch_above = b.1;
+        branch = b.2;
+        number_above = n.1;
+        number = n.2;
+        delta = omega (arith, d.1);
+      },
     )

@@ -1,5 +1,5 @@
 -- A text that is filled with spaces: the text, and spaces behind it.
-use Rattle.std.proofs.Common.{◌≡◌, ℕ, ◌-◌, ◌≤◌, Bool, true, false, List, ◌++◌, length, take, drop, replicate, refl, sym, ap, ◌∙◌, arith}
+use Rattle.std.proofs.Common.{◌≡◌, ℕ, ◌-◌, true, false, List, ◌++◌, length, take, drop, replicate, refl, sym, ap, ◌∙◌, arith}
 use Rattle.std.specs.Str.{bytes_eq}
 use Rattle.std.proofs.lemmas.Bool.Decides.{same_from_decides}
 use Rattle.std.proofs.lemmas.Slice.Eq.{bytes_eq-Decides}
@@ -17,7 +17,8 @@ spaces_are n =
 
 -- where the text stands in front, the bytes are filled just where spaces stand behind it
 pub filled_where_spaces : (bytes text : List ℕ) → bytes_eq (take (length text) bytes) text ≡ true
-    → bytes_eq (take (length bytes - length text) (drop (length text) bytes)) (take (16 - length text) (drop (length text) (replicate 16 32)))
+    → bytes_eq (take (length bytes - length text) (drop (length text) bytes))
+    (take (16 - length text) (drop (length text) (replicate 16 32)))
     ≡ bytes_eq bytes (filled 16 text)
 filled_where_spaces bytes text front =
     let n = length text in

@@ -1,12 +1,13 @@
+-- Lemmas on the spellings, from digits up to whole records, and worked examples.
 mod Examples
 pub mod Digits
 pub mod Amounts
 pub mod Pieces
 pub mod Fields
-pub mod Requests
-pub mod Written
-pub mod Composed
-pub mod Replies
 pub mod Filled
+pub mod Requests
+pub mod SpelledReplies
 pub mod ReadReplies
 pub mod Beginnings
+pub mod Written
+pub mod Composed

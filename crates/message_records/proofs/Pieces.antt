@@ -27,6 +27,7 @@ field_joined i n bytes field rest f r =
 pub last_field : (i n : ℕ) (bytes field : List ℕ) → drop i bytes ≡ field → length field ≡ n → take n (drop i bytes) ≡ field
 last_field i n bytes field e len = ap (take n) e ∙ take_all n field (omega (arith, len))
 
+-- the last field is what stands here
 pub last_joined : (i n : ℕ) (bytes field : List ℕ) → length bytes ≡ i + n → take n (drop i bytes) ≡ field → drop i bytes ≡ field
 last_joined i n bytes field len f = sym (take_all n (drop i bytes) (omega (arith, length-drop i bytes, len))) ∙ f
 
@@ -36,11 +37,13 @@ field_length i n bytes le = omega (arith, length-take n (drop i bytes), length-d
 
 -- ---- fixed texts
 
+-- the text is read
 pub text_again : {E : Type 0} (text : List ℕ) (fault : E) (cs : List ℕ) → cs ≡ text → text_at text fault cs ≡ Ok text
 text_again {E} text fault cs e =
     let here : Result (List ℕ) E = Ok text in
     ap (λ b. cond b here (Err fault)) ((bytes_eq-Decides cs text).1 e)
 
+-- what is read is the text
 pub text_takes : {E : Type 0} (text : List ℕ) (fault : E) (cs t : List ℕ) → text_at text fault cs ≡ Ok t → cs ≡ text
 text_takes {E} text fault cs t e =
     let here : Result (List ℕ) E = Ok text in
@@ -56,6 +59,16 @@ pub step_takes : {A B E : Type 0} (r : Result A E) (f : A → Result B E) (y : B
 step_takes (Ok x) f y e = (x, refl, e)
 step_takes (Err fault) f y e = absurd cc
 
+-- without a fault there was a value
 pub ok_or_some : {A E : Type 0} (o : Option A) (fault : E) (x : A) → ok_or o fault ≡ Ok x → o ≡ Some x
 ok_or_some None fault x e = absurd cc
 ok_or_some (Some y) fault x e = let same : y ≡ x = cc in ap Some same
+
+-- a text that was there, and the next step behind it
+pub text_step : {B E : Type 0} (text : List ℕ) (fault : E) (cs : List ℕ) (f : List ℕ → Result B E) (y : B)
+    → (text_at text fault cs >>= f) ≡ Ok y → (cs ≡ text) × (f text ≡ Ok y)
+text_step {B} {E} text fault cs f y e =
+    let first = step_takes (text_at text fault cs) f y e in
+    let same = text_takes text fault cs first.0 first.1 in
+    let value : first.0 ≡ text = let h = first.1 in let k = text_again text fault cs same in cc in
+    (same, ap f (sym value) ∙ first.2)

@@ -1,5 +1,5 @@
 -- A reply that is read is spelled so.
-use Rattle.std.proofs.Common.{◌≡◌, ℕ, ◌+◌, ◌^◌, ◌≤◌, true, false, cond, eqb, List, ◌∷◌, ◌++◌, length, take, drop, replicate, Option, Some, None, Result, Ok, Err, refl, sym, ap, subst, ◌∙◌, arith, inl, inr}
+use Rattle.std.proofs.Common.{◌≡◌, ℕ, ◌≤◌, true, false, cond, eqb, List, ◌∷◌, ◌++◌, length, take, drop, replicate, Option, Some, None, Result, Ok, Err, refl, sym, ap, subst, ◌∙◌, arith, inl, inr}
 use Rattle.std.specs.Prelude.{ℤ, pos, nat_abs, codes, is_some, IfSome, IfOk, unwrap_or, option_and_then}
 use Rattle.std.specs.Option.{ok_or}
 use Rattle.std.proofs.lemmas.Bool.{eqb-true}
@@ -14,9 +14,9 @@ use Rattle.message_records.specs.Spelling.{digits, signed, fields_spelling, no_f
 use Rattle.message_records.specs.Reading.{◌>>=◌, number_of, signed_of, text_at, fields_of, outcome_with, shown_in_reply, no_fields_of, shown_request_of, balance_of, reply_of}
 use Rattle.message_records.proofs.Digits.{chosen, number_takes}
 use Rattle.message_records.proofs.Amounts.{signed_takes, and_then_some}
-use Rattle.message_records.proofs.Pieces.{field_joined, last_joined, field_length, text_takes, step_takes, ok_or_some}
+use Rattle.message_records.proofs.Pieces.{field_joined, last_joined, field_length, text_step, step_takes, ok_or_some}
 use Rattle.message_records.proofs.Fields.{fields_take}
-use Rattle.message_records.proofs.Replies.{zero_balance}
+use Rattle.message_records.proofs.SpelledReplies.{zero_balance}
 
 -- ---- outcomes
 
@@ -40,7 +40,8 @@ outcome_with-takes n o e =
     coded n 16 Full o _ e6 refl (λ e7.
     coded n 90 Malformed o None e7 refl (λ e8. absurd cc))))))))
 
-outcome_takes : (o : Outcome) (cs : List ℕ) → length cs ≡ 2 → option_and_then outcome_with (number_of cs) ≡ Some o → cs ≡ digits 2 (code_of o)
+outcome_takes : (o : Outcome) (cs : List ℕ) → length cs ≡ 2 → option_and_then outcome_with (number_of cs) ≡ Some o
+    → cs ≡ digits 2 (code_of o)
 outcome_takes o cs len e =
     let read = and_then_some outcome_with (number_of cs) o e in
     (number_takes 2 read.0 cs len read.1).0 ∙ ap (λ (n : ℕ). digits 2 n) (outcome_with-takes read.0 o read.2)
@@ -52,27 +53,30 @@ record IsShown (o : Outcome) (q : Option RequestFields) (bytes : List ℕ) : Typ
   shows : is_some q ≡ has_request o
   in_range : IfSome q IsRequest
 
-zeros_spelled : fields_spelling no_fields ≡ replicate 12 48 ++ (replicate 8 48 ++ (replicate 6 48 ++ (replicate 10 48 ++ (43 ∷ replicate 10 48))))
+zeros_spelled : fields_spelling no_fields
+    ≡ replicate 12 48 ++ (replicate 8 48 ++ (replicate 6 48 ++ (replicate 10 48 ++ (43 ∷ replicate 10 48))))
 unfolding fields_spelling digits
 zeros_spelled = refl
 
-no_fields_take : (q : Option RequestFields) (bytes : List ℕ) → length bytes ≡ 47 → no_fields_of bytes ≡ Ok q → (None ≡ q) × (bytes ≡ fields_spelling no_fields)
+no_fields_take : (q : Option RequestFields) (bytes : List ℕ) → length bytes ≡ 47 → no_fields_of bytes ≡ Ok q
+    → (None ≡ q) × (bytes ≡ fields_spelling no_fields)
 unfolding no_fields_of
 no_fields_take q bytes len e =
-    let account = step_takes (text_at (replicate 12 48) bad_reply.Account (take 12 (drop 0 bytes))) _ q e in
-    let teller = step_takes (text_at (replicate 8 48) bad_reply.Teller (take 8 (drop 12 bytes))) _ q account.2 in
-    let branch = step_takes (text_at (replicate 6 48) bad_reply.Branch (take 6 (drop 20 bytes))) _ q teller.2 in
-    let number = step_takes (text_at (replicate 10 48) bad_reply.Number (take 10 (drop 26 bytes))) _ q branch.2 in
-    let delta = step_takes (text_at (43 ∷ replicate 10 48) bad_reply.Delta (take 11 (drop 36 bytes))) _ q number.2 in
-    let none : None ≡ q = let h = delta.2 in cc in
-    let from_delta = last_joined 36 11 bytes (43 ∷ replicate 10 48) len (text_takes (43 ∷ replicate 10 48) bad_reply.Delta (take 11 (drop 36 bytes)) delta.0 delta.1) in
-    let from_number = field_joined 26 10 bytes (replicate 10 48) _ (text_takes (replicate 10 48) bad_reply.Number (take 10 (drop 26 bytes)) number.0 number.1) from_delta in
-    let from_branch = field_joined 20 6 bytes (replicate 6 48) _ (text_takes (replicate 6 48) bad_reply.Branch (take 6 (drop 20 bytes)) branch.0 branch.1) from_number in
-    let from_teller = field_joined 12 8 bytes (replicate 8 48) _ (text_takes (replicate 8 48) bad_reply.Teller (take 8 (drop 12 bytes)) teller.0 teller.1) from_branch in
-    let from_account = field_joined 0 12 bytes (replicate 12 48) _ (text_takes (replicate 12 48) bad_reply.Account (take 12 (drop 0 bytes)) account.0 account.1) from_teller in
+    let account = text_step (replicate 12 48) bad_reply.Account (take 12 (drop 0 bytes)) _ q e in
+    let teller = text_step (replicate 8 48) bad_reply.Teller (take 8 (drop 12 bytes)) _ q account.1 in
+    let branch = text_step (replicate 6 48) bad_reply.Branch (take 6 (drop 20 bytes)) _ q teller.1 in
+    let number = text_step (replicate 10 48) bad_reply.Number (take 10 (drop 26 bytes)) _ q branch.1 in
+    let delta = text_step (43 ∷ replicate 10 48) bad_reply.Delta (take 11 (drop 36 bytes)) _ q number.1 in
+    let none : None ≡ q = let h = delta.1 in cc in
+    let from_delta = last_joined 36 11 bytes (43 ∷ replicate 10 48) len delta.0 in
+    let from_number = field_joined 26 10 bytes (replicate 10 48) _ number.0 from_delta in
+    let from_branch = field_joined 20 6 bytes (replicate 6 48) _ branch.0 from_number in
+    let from_teller = field_joined 12 8 bytes (replicate 8 48) _ teller.0 from_branch in
+    let from_account = field_joined 0 12 bytes (replicate 12 48) _ account.0 from_teller in
     (none, from_account ∙ sym zeros_spelled)
 
-shown_in_reply-takes : (x : Result RequestFields Bad) (q : Option RequestFields) → shown_in_reply x ≡ Ok q → (r : RequestFields) × (x ≡ Ok r) × (Some r ≡ q)
+shown_in_reply-takes : (x : Result RequestFields Bad) (q : Option RequestFields) → shown_in_reply x ≡ Ok q
+    → (r : RequestFields) × (x ≡ Ok r) × (Some r ≡ q)
 shown_in_reply-takes (Ok r) q e = (r, refl, cc)
 shown_in_reply-takes (Err fault) q e = absurd cc
 
@@ -84,7 +88,8 @@ request_shown o q bytes has len e =
     subst (λ (y : Option RequestFields). IsShown o y bytes) read.2
     (record { spelled = taken.0; shows = has; in_range = taken.1 })
 
-shown_takes : (o : Outcome) (q : Option RequestFields) (bytes : List ℕ) → length bytes ≡ 47 → shown_request_of o bytes ≡ Ok q → IsShown o q bytes
+shown_takes : (o : Outcome) (q : Option RequestFields) (bytes : List ℕ) → length bytes ≡ 47
+    → shown_request_of o bytes ≡ Ok q → IsShown o q bytes
 shown_takes Malformed q bytes len e =
     let taken = no_fields_take q bytes len e in
     subst (λ (y : Option RequestFields). IsShown Malformed y bytes) taken.0
@@ -107,11 +112,10 @@ record IsBalance (o : Outcome) (q : Option ℤ) (bytes : List ℕ) : Type 0 wher
 no_balance : (o : Outcome) (q : Option ℤ) (bytes : List ℕ) → false ≡ has_balance o
     → (text_at (43 ∷ replicate 12 48) bad_reply.Balance bytes >>= λ zeros. Ok None) ≡ Ok q → IsBalance o q bytes
 no_balance o q bytes has e =
-    let read = step_takes (text_at (43 ∷ replicate 12 48) bad_reply.Balance bytes) _ q e in
-    let none : None ≡ q = let h = read.2 in cc in
-    let zero = text_takes (43 ∷ replicate 12 48) bad_reply.Balance bytes read.0 read.1 in
+    let zero = text_step (43 ∷ replicate 12 48) bad_reply.Balance bytes _ q e in
+    let none : None ≡ q = let h = zero.1 in cc in
     subst (λ (y : Option ℤ). IsBalance o y bytes) none
-    (record { spelled = zero ∙ sym zero_balance; shows = has; in_range = tt })
+    (record { spelled = zero.0 ∙ sym zero_balance; shows = has; in_range = tt })
 
 balance_takes : (o : Outcome) (q : Option ℤ) (bytes : List ℕ) → length bytes ≡ 13 → balance_of o bytes ≡ Ok q → IsBalance o q bytes
 balance_takes Posted q bytes len e =
@@ -128,32 +132,36 @@ balance_takes ReusedNumber q bytes len e = no_balance ReusedNumber q bytes refl 
 balance_takes Full q bytes len e = no_balance Full q bytes refl e
 balance_takes Malformed q bytes len e = no_balance Malformed q bytes refl e
 
--- ---- what is read is spelled so
+-- ---- the reply
 
-pub reply_takes : (r : ReplyFields) (bytes : List ℕ) → length bytes ≡ 200 → reply_of bytes ≡ Ok r → (bytes ≡ reply_spelling r) × IsReply r
+-- what is read is spelled so, and its parts belong together
+pub reply_takes : (r : ReplyFields) (bytes : List ℕ) → length bytes ≡ 200 → reply_of bytes ≡ Ok r
+    → (bytes ≡ reply_spelling r) × IsReply r
 unfolding reply_spelling reply_of
 reply_takes r bytes len e =
-    let tag = step_takes (text_at (codes "DR01") bad_reply.Tag (take 4 (drop 0 bytes))) _ r e in
-    let outcome = step_takes (ok_or (option_and_then outcome_with (number_of (take 2 (drop 4 bytes)))) bad_reply.Outcome) _ r tag.2 in
+    let tag = text_step (codes "DR01") bad_reply.Tag (take 4 (drop 0 bytes)) _ r e in
+    let code = option_and_then outcome_with (number_of (take 2 (drop 4 bytes))) in
+    let outcome = step_takes (ok_or code bad_reply.Outcome) _ r tag.1 in
     let request = step_takes (shown_request_of outcome.0 (take 47 (drop 6 bytes))) _ r outcome.2 in
     let balance = step_takes (balance_of outcome.0 (take 13 (drop 53 bytes))) _ r request.2 in
-    let name = step_takes (text_at (filled 16 (name_of outcome.0)) bad_reply.Name (take 16 (drop 66 bytes))) _ r balance.2 in
-    let filler = step_takes (text_at (replicate 118 32) bad_reply.Filler (take 118 (drop 82 bytes))) _ r name.2 in
-    let r-is : record { outcome = outcome.0; request = request.0; balance = balance.0 } ≡ r = let h = filler.2 in cc in
+    let name = text_step (filled 16 (name_of outcome.0)) bad_reply.Name (take 16 (drop 66 bytes)) _ r balance.2 in
+    let filler = text_step (replicate 118 32) bad_reply.Filler (take 118 (drop 82 bytes)) _ r name.1 in
+    let r-is : record { outcome = outcome.0; request = request.0; balance = balance.0 } ≡ r = let h = filler.1 in cc in
     let o = outcome_takes outcome.0 (take 2 (drop 4 bytes)) (field_length 4 2 bytes (omega arith))
-    (ok_or_some (option_and_then outcome_with (number_of (take 2 (drop 4 bytes)))) bad_reply.Outcome outcome.0 outcome.1) in
+    (ok_or_some code bad_reply.Outcome outcome.0 outcome.1) in
     let q = shown_takes outcome.0 request.0 (take 47 (drop 6 bytes)) (field_length 6 47 bytes (omega arith)) request.1 in
     let b = balance_takes outcome.0 balance.0 (take 13 (drop 53 bytes)) (field_length 53 13 bytes (omega arith)) balance.1 in
-    let from_filler = last_joined 82 118 bytes (replicate 118 32) len (text_takes (replicate 118 32) bad_reply.Filler (take 118 (drop 82 bytes)) filler.0 filler.1) in
-    let from_name = field_joined 66 16 bytes (filled 16 (name_of outcome.0)) _
-    (text_takes (filled 16 (name_of outcome.0)) bad_reply.Name (take 16 (drop 66 bytes)) name.0 name.1) from_filler in
+    let from_filler = last_joined 82 118 bytes (replicate 118 32) len filler.0 in
+    let from_name = field_joined 66 16 bytes (filled 16 (name_of outcome.0)) _ name.0 from_filler in
     let from_balance = field_joined 53 13 bytes (signed 12 (unwrap_or balance.0 (pos 0))) _ b.spelled from_name in
     let from_request = field_joined 6 47 bytes (fields_spelling (unwrap_or request.0 no_fields)) _ q.spelled from_balance in
     let from_outcome = field_joined 4 2 bytes (digits 2 (code_of outcome.0)) _ o from_request in
-    let from_tag = field_joined 0 4 bytes (codes "DR01") _ (text_takes (codes "DR01") bad_reply.Tag (take 4 (drop 0 bytes)) tag.0 tag.1) from_outcome in
+    let from_tag = field_joined 0 4 bytes (codes "DR01") _ tag.0 from_outcome in
     subst (λ (y : ReplyFields). (bytes ≡ reply_spelling y) × IsReply y) r-is
     (from_tag, record { shows_request = q.shows; request = q.in_range; shows_balance = b.shows; balance = b.in_range })
 
-pub reply_found : (bytes : List ℕ) (read : Result ReplyFields BadReply) → length bytes ≡ 200 → read ≡ reply_of bytes → IfOk read (λ r. IsReply r × (bytes ≡ reply_spelling r))
+-- the same, of what a call returned
+pub reply_found : (bytes : List ℕ) (read : Result ReplyFields BadReply) → length bytes ≡ 200 → read ≡ reply_of bytes
+    → IfOk read (λ r. IsReply r × (bytes ≡ reply_spelling r))
 reply_found bytes (Ok r) len e = let taken = reply_takes r bytes len (sym e) in (taken.1, taken.0)
 reply_found bytes (Err fault) len e = tt

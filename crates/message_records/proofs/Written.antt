@@ -1,5 +1,5 @@
 -- Writing digits from the last one, and fields from the first one.
-use Rattle.std.proofs.Common.{◌≡◌, ℕ, zero, suc, ◌+◌, ◌-◌, ◌/◌, ◌%◌, ◌<◌, ◌≤◌, List, [], ◌∷◌, ◌++◌, length, take, drop, set, replicate, sym, ap, ◌∙◌, append_assoc, arith}
+use Rattle.std.proofs.Common.{◌≡◌, ℕ, suc, ◌+◌, ◌-◌, ◌/◌, ◌%◌, ◌<◌, ◌≤◌, List, [], ◌∷◌, ◌++◌, length, take, drop, set, replicate, sym, ap, ◌∙◌, append_assoc, arith}
 use borrow.Rule.Slice.PartMut.{put_mid}
 use Rattle.std.proofs.lemmas.Slice.{take-put_mid, drop-put_mid}
 use Rattle.std.proofs.lemmas.List.{length-append, length-take, length-drop, take-append-drop, drop-drop, drop-set, drop-replicate}
@@ -43,8 +43,8 @@ pub written_length : (size w : ℕ) (bytes old : List ℕ) → length bytes ≡ 
 written_length size w bytes old len le e = omega (arith, ap (λ (t : List ℕ). length t) (sym e), length-take w bytes)
 
 -- what is written, and spaces behind it
-pub draft_done : (size w : ℕ) (bytes text : List ℕ) → length bytes ≡ size → w ≤ size → take w bytes ≡ text → drop w bytes ≡ replicate (size - w) 32
-    → bytes ≡ text ++ replicate (size - length text) 32
+pub draft_done : (size w : ℕ) (bytes text : List ℕ) → length bytes ≡ size → w ≤ size → take w bytes ≡ text
+    → drop w bytes ≡ replicate (size - w) 32 → bytes ≡ text ++ replicate (size - length text) 32
 draft_done size w bytes text len le e rest =
     sym (take-append-drop w bytes)
     ∙ ap (λ (t : List ℕ). t ++ drop w bytes) e
@@ -61,8 +61,14 @@ pub length_placed : (w n : ℕ) (bytes field : List ℕ) → w + n ≤ length by
     → length (put_mid w (w + n - w) bytes field) ≡ length bytes
 length_placed w n bytes field le len =
     let whole = put_mid w (w + n - w) bytes field in
-    let rest : drop (w + n) whole ≡ drop (w + n) bytes = drop-put_mid w (w + n - w) bytes field (w + n) (omega arith) (omega arith) (omega arith) in
-    let parts : length whole ≡ length (take (w + n) whole ++ drop (w + n) whole) = ap (λ (t : List ℕ). length t) (sym (take-append-drop (w + n) whole)) in
-    let front : length (take (w + n) whole) ≡ length (take w bytes ++ field) = ap (λ (t : List ℕ). length t) (field_front w n bytes field (omega arith) len) in
-    let back : length (drop (w + n) whole) ≡ length (drop (w + n) bytes) = ap (λ (t : List ℕ). length t) rest in
-    omega (arith, parts, front, back, length-append (take (w + n) whole) (drop (w + n) whole), length-append (take w bytes) field, length-take w bytes, length-drop (w + n) bytes)
+    let rest : drop (w + n) whole ≡ drop (w + n) bytes =
+    drop-put_mid w (w + n - w) bytes field (w + n) (omega arith) (omega arith) (omega arith) in
+    let parts : length whole ≡ length (take (w + n) whole ++ drop (w + n) whole) =
+    ap (λ (t : List ℕ). length t) (sym (take-append-drop (w + n) whole)) in
+    let front : length (take (w + n) whole) ≡ length (take w bytes ++ field) =
+    ap (λ (t : List ℕ). length t) (field_front w n bytes field (omega arith) len) in
+    let back : length (drop (w + n) whole) ≡ length (drop (w + n) bytes) =
+    ap (λ (t : List ℕ). length t) rest in
+    let both = length-append (take (w + n) whole) (drop (w + n) whole) in
+    let head = length-append (take w bytes) field in
+    omega (arith, parts, front, back, both, head, length-take w bytes, length-drop (w + n) bytes)

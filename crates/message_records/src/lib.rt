@@ -15,3 +15,6 @@ pub use numbers::{Account, Branch, Cents, Moment, Number, Teller, Whole};
 pub use reading::{decode_reply, decode_request};
 pub use records::{Outcome, Reply, Request};
 pub use writing::{encode_reply, encode_request};
+
+#[cfg(test)]
+mod tests;

@@ -61,6 +61,11 @@ impl<const LEAST: u64, const MOST: u64> Whole<LEAST, MOST> {
 
 /// The number in decimal digits.
 impl<const LEAST: u64, const MOST: u64> fmt::Display for Whole<LEAST, MOST> {
+    ghost use Rattle.std.specs.Prelude.{Some};
+    ghost use Rattle.std.specs.Fmt.{decimal};
+
+    ghost output = { λ n. Some (decimal n) };
+
     fn fmt<W: fmt::Write>(&self, f: &mut fmt::Formatter<W>) -> fmt::Result {
         let value = self.value;
         write!(f, "{value}")
@@ -111,6 +116,11 @@ impl Cents {
 
 /// The amount in cents, with a minus where it is below zero.
 impl fmt::Display for Cents {
+    ghost use Rattle.std.specs.Prelude.{Some};
+    ghost use Rattle.std.specs.Fmt.{signed_decimal};
+
+    ghost output = { λ z. Some (signed_decimal z) };
+
     fn fmt<W: fmt::Write>(&self, f: &mut fmt::Formatter<W>) -> fmt::Result {
         let value = self.value;
         write!(f, "{value}")

@@ -11,11 +11,13 @@ use crate::faults::{Bad, BadReply};
 use crate::numbers::{Cents, Whole};
 use crate::records::{Outcome, Reply, Request};
 
-const REQUEST_TAG: &[u8; 4] = b"DC01";
+/// The first bytes of a request.
+pub(crate) const REQUEST_TAG: &[u8; 4] = b"DC01";
 
 const REQUEST_FILLER: [u8; 49] = [b' '; 49];
 
-const REPLY_TAG: &[u8; 4] = b"DR01";
+/// The first bytes of a reply.
+pub(crate) const REPLY_TAG: &[u8; 4] = b"DR01";
 
 const REPLY_FILLER: [u8; 118] = [b' '; 118];
 
@@ -33,6 +35,7 @@ pub fn decode_request(bytes: &[u8; 100]) -> Result<Request, Bad>
     read_request(bytes)
 }
 
+// Field by field from the left, up to the first faulty one.
 #[tactic(auto, unfolding(crate::specs::Reading::request_of))]
 fn read_request(bytes: &[u8; 100]) -> Result<Request, Bad>
     ensures { result ≡ request_of bytes.now }
@@ -59,6 +62,7 @@ pub fn decode_reply(bytes: &[u8; 200]) -> Result<Reply, BadReply>
     read_reply(bytes)
 }
 
+// Field by field from the left, up to the first faulty one.
 #[tactic(auto, using(crate::proofs::Composed::name_short), unfolding(crate::specs::Reading::reply_of))]
 fn read_reply(bytes: &[u8; 200]) -> Result<Reply, BadReply>
     ensures { result ≡ reply_of bytes.now }
@@ -75,9 +79,11 @@ fn read_reply(bytes: &[u8; 200]) -> Result<Reply, BadReply>
     if bytes[82..] != REPLY_FILLER[..] {
         return Err(BadReply::Filler);
     }
+    // What the outcome asked for belongs to it.
     Reply::new(outcome, request, balance).ok_or(BadReply::Outcome)
 }
 
+// The outcome that has the code.
 fn read_outcome(digits: &[u8]) -> Option<Outcome>
     requires { length digits.now ≤ 12 }
     ensures { result ≡ option_and_then outcome_with (number_of digits.now) }
@@ -172,6 +178,7 @@ fn read_fields(bytes: &[u8]) -> Result<Request, Bad>
     let branch = read_number(&bytes[20..26]).ok_or(Bad::Branch)?;
     let number = read_number(&bytes[26..36]).ok_or(Bad::Number)?;
     let delta = read_amount(&bytes[36..47]).ok_or(Bad::Delta)?;
+    // Ten digits are within the limit.
     Request::new(account, teller, branch, number, delta).ok_or(Bad::Delta)
 }
 

@@ -147,7 +147,13 @@ impl Outcome {
     }
 }
 
+/// The outcome's name.
 impl fmt::Display for Outcome {
+    ghost use Rattle.std.specs.Prelude.{Some};
+    ghost use Rattle.message_records.specs.Outcomes.{name_of};
+
+    ghost output = { λ o. Some (name_of o) };
+
     fn fmt<W: fmt::Write>(&self, f: &mut fmt::Formatter<W>) -> fmt::Result {
         let name = self.name();
         write!(f, "{name}")

@@ -6,11 +6,8 @@ ghost use Rattle.message_records.specs.Reading.{request_of, reply_of};
 
 use crate::draft::Draft;
 use crate::numbers::Cents;
+use crate::reading::{REPLY_TAG, REQUEST_TAG};
 use crate::records::{Reply, Request};
-
-const REQUEST_TAG: &[u8; 4] = b"DC01";
-
-const REPLY_TAG: &[u8; 4] = b"DR01";
 
 // Zeros in the place of each field of a request.
 const NO_FIELDS: &[u8; 47] = b"000000000000000000000000000000000000+0000000000";

@@ -26,7 +26,7 @@ answer_alike t one two [] s u valid = refl
 answer_alike t one two (Post m bytes ∷ cs) s u valid =
     ap (λ (out : List ℕ). out ∷ replies_to (Post m bytes ∷ one) cs) (ap reply_spelling (sym (reply_is t one bytes s) ∙ reply_is t two bytes u))
     ∙ ap (λ (rest : List (List ℕ)). reply_spelling (reply two bytes) ∷ rest)
-      (answer_alike (tables_with t m (request_of bytes)) (Post m bytes ∷ one) (Post m bytes ∷ two) cs (record_shown t one m bytes s) (record_shown t two m bytes u) valid.1)
+    (answer_alike (tables_with t m (request_of bytes)) (Post m bytes ∷ one) (Post m bytes ∷ two) cs (record_shown t one m bytes s) (record_shown t two m bytes u) valid.1)
 answer_alike t one two (Open b count ∷ cs) s u valid =
     let after = both_opened t one two b count valid.0 s u in
     answer_alike after.0 (Open b count ∷ one) (Open b count ∷ two) cs after.1 after.2 valid.1

@@ -101,10 +101,12 @@ module _ (before : List Command) (r : RequestFields) where
       ≡ Posted (account_balance (decided before) r.account +ℤ r.delta) (teller_balance (decided before) r.teller +ℤ r.delta) (branch_balance (decided before) (branch_of_teller r.teller) +ℤ r.delta)
   posting p =
       let branch : IsWithin (branch_balance (decided before) (branch_of_teller r.teller) +ℤ r.delta) =
-        subst (λ (b : ℕ). IsWithin (branch_balance (decided before) b +ℤ r.delta)) p.branch p.branch_limit in
-      rw (within (account_balance (decided before) r.account +ℤ r.delta) p.account_limit,
-          within (teller_balance (decided before) r.teller +ℤ r.delta) p.teller_limit,
-          within (branch_balance (decided before) (branch_of_teller r.teller) +ℤ r.delta) branch) refl
+      subst (λ (b : ℕ). IsWithin (branch_balance (decided before) b +ℤ r.delta)) p.branch p.branch_limit in
+      rw (
+        within (account_balance (decided before) r.account +ℤ r.delta) p.account_limit,
+        within (teller_balance (decided before) r.teller +ℤ r.delta) p.teller_limit,
+        within (branch_balance (decided before) (branch_of_teller r.teller) +ℤ r.delta) branch,
+      ) refl
 
   -- one of the three leaves its limit
   over_limit : r.branch ≡ branch_of_teller r.teller → is_account_open (λ b. opened before b) r.account ≡ true → (IsPosted before r → ⊥) → sums ≡ Refused outcome.OverLimit
@@ -115,13 +117,18 @@ module _ (before : List Command) (r : RequestFields) where
       elim (by_limit a) [
         | inr f ↦ rw (over a f) refl
         | inl x ↦ elim (by_limit t) [
-            | inr f ↦ rw (within a x, over t f) refl
-            | inl y ↦ elim (by_limit b) [
-                | inr f ↦ rw (within a x, within t y, over b f) refl
-                | inl z ↦ absurd (h (record { branch = its; account = open_a; account_limit = x; teller_limit = y;
-                    branch_limit = subst (λ (n : ℕ). IsWithin (branch_balance (decided before) n +ℤ r.delta)) (sym its) z }))
-              ]
+          | inr f ↦ rw (within a x, over t f) refl
+          | inl y ↦ elim (by_limit b) [
+            | inr f ↦ rw (within a x, within t y, over b f) refl
+            | inl z ↦ absurd (h (record {
+              branch = its;
+              account = open_a;
+              account_limit = x;
+              teller_limit = y;
+              branch_limit = subst (λ (n : ℕ). IsWithin (branch_balance (decided before) n +ℤ r.delta)) (sym its) z;
+            }))
           ]
+        ]
       ]
 
   -- a decided request is posted, or it is refused and kept
@@ -148,8 +155,9 @@ replied before bytes = record {
   wrong_branch = λ r d ne. reply_is before bytes r (Refused outcome.WrongBranch) d.names.read (decided_verdict before r bytes d ∙ wrong_branch before r d.room ne);
   no_account = λ r d its closed. reply_is before bytes r (Refused outcome.NoAccount) d.names.read (decided_verdict before r bytes d ∙ no_account before r d.room its closed);
   over_limit = λ r d its open_a h. reply_is before bytes r (Refused outcome.OverLimit) d.names.read
-    (decided_verdict before r bytes d ∙ has_sums before r d.room its open_a ∙ over_limit before r its open_a h);
-  posted = λ r d p. reply_is before bytes r _ d.names.read (posted_verdict before r bytes d p) }
+      (decided_verdict before r bytes d ∙ has_sums before r d.room its open_a ∙ over_limit before r its open_a h);
+  posted = λ r d p. reply_is before bytes r _ d.names.read (posted_verdict before r bytes d p);
+}
 
 -- ---- what is decided
 
@@ -162,7 +170,11 @@ entries_are before moment bytes r v read e =
 unposted : (before : List Command) (moment : ℕ) (bytes : List ℕ) (r : RequestFields) (e : Entry) → is_posted e ≡ false → e.moment ≡ moment → e.request ≡ r
     → (IsPosted before r → ⊥) → decided (Post moment bytes ∷ before) ≡ e ∷ decided before → AddsEntry before moment bytes r e
 unposted before moment bytes r e f em er h adds = record {
-  adds = adds; at_moment = em; of_request = er; posted = (λ p. absurd (let g = sym f ∙ p in cc), λ p. absurd (h p)) }
+  adds = adds;
+  at_moment = em;
+  of_request = er;
+  posted = (λ p. absurd (let g = sym f ∙ p in cc), λ p. absurd (h p));
+}
 
 refused : (before : List Command) (moment : ℕ) (bytes : List ℕ) (r : RequestFields) (o : Outcome) → request_of bytes ≡ Ok r → verdict before r ≡ Refused o → has_balance o ≡ false
     → (IsPosted before r → ⊥) → (e : Entry) × AddsEntry before moment bytes r e
@@ -170,25 +182,26 @@ refused before moment bytes r o read e f h =
     (refused_entry moment r o, unposted before moment bytes r (refused_entry moment r o) f refl refl h (entries_are before moment bytes r (Refused o) read e))
 
 posted : (before : List Command) (moment : ℕ) (bytes : List ℕ) (r : RequestFields) → IsDecided before bytes r → IsPosted before r → (e : Entry) × AddsEntry before moment bytes r e
-posted before moment bytes r d p =
-    (posted_entry moment r (account_balance (decided before) r.account +ℤ r.delta),
-     record { adds = entries_are before moment bytes r _ d.names.read (posted_verdict before r bytes d p); at_moment = refl; of_request = refl; posted = (λ e. p, λ q. refl) })
+posted before moment bytes r d p = (
+  posted_entry moment r (account_balance (decided before) r.account +ℤ r.delta),
+  record { adds = entries_are before moment bytes r _ d.names.read (posted_verdict before r bytes d p); at_moment = refl; of_request = refl; posted = (λ e. p, λ q. refl) },
+)
 
 -- where the branch is the teller's and the account is open, the three sums decide
 by_sums : (before : List Command) (moment : ℕ) (bytes : List ℕ) (r : RequestFields) → IsDecided before bytes r → r.branch ≡ branch_of_teller r.teller
     → is_account_open (λ b. opened before b) r.account ≡ true → (e : Entry) × AddsEntry before moment bytes r e
 by_sums before moment bytes r d its open_a =
     let none = λ (h : IsPosted before r → ⊥). refused before moment bytes r outcome.OverLimit d.names.read
-      (decided_verdict before r bytes d ∙ has_sums before r d.room its open_a ∙ over_limit before r its open_a h) refl h in
+    (decided_verdict before r bytes d ∙ has_sums before r d.room its open_a ∙ over_limit before r its open_a h) refl h in
     elim (by_limit (account_balance (decided before) r.account +ℤ r.delta)) [
       | inr f ↦ none (λ p. f p.account_limit)
       | inl x ↦ elim (by_limit (teller_balance (decided before) r.teller +ℤ r.delta)) [
-          | inr f ↦ none (λ p. f p.teller_limit)
-          | inl y ↦ elim (by_limit (branch_balance (decided before) r.branch +ℤ r.delta)) [
-              | inr f ↦ none (λ p. f p.branch_limit)
-              | inl z ↦ posted before moment bytes r d (record { branch = its; account = open_a; account_limit = x; teller_limit = y; branch_limit = z })
-            ]
+        | inr f ↦ none (λ p. f p.teller_limit)
+        | inl y ↦ elim (by_limit (branch_balance (decided before) r.branch +ℤ r.delta)) [
+          | inr f ↦ none (λ p. f p.branch_limit)
+          | inl z ↦ posted before moment bytes r d (record { branch = its; account = open_a; account_limit = x; teller_limit = y; branch_limit = z })
         ]
+      ]
     ]
 
 -- a decided request adds its entry
@@ -221,6 +234,7 @@ adds_none before moment bytes h = by_read (request_of bytes) refl
           | inl t ↦ entries_are before moment bytes r (Unkept outcome.Full) read (new before r open_t e ∙ full before r (leb-true _ _ t))
           | inr f ↦ absurd (h r (record { names = record { read = read; teller = open_t }; new = e; room = leb-false _ _ f }))
         ]
+
     by_read : (read : Result RequestFields Bad) → request_of bytes ≡ read → decided (Post moment bytes ∷ before) ≡ decided before
     by_read (Err fault) e = ap (λ (x : Result RequestFields Bad). with_record moment x (λ b. opened before b) (decided before)) e
     by_read (Ok r) e =

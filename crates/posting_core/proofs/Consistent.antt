@@ -61,8 +61,8 @@ one_sum : {R : Type 0} (key : R → ℕ) (balance : R → ℤ) (name : RequestFi
     → total (map balance (filter (λ r. test (key r)) rows)) ≡ posted_sum (λ r. test (name r)) es
 one_sum key balance name test rows es keys each have =
     values_are balance (λ r. sum_where (λ k. eqb k (key r)) (posted_under name es)) (λ r. test (key r)) rows
-      (all_follow (λ r. balance r ≡ posted_sum (λ x. eqb (name x) (key r)) es) (λ r. balance r ≡ sum_where (λ k. eqb k (key r)) (posted_under name es)) rows
-        (λ r e. e ∙ sym (sum_under name (λ k. eqb k (key r)) es)) each)
+    (all_follow (λ r. balance r ≡ posted_sum (λ x. eqb (name x) (key r)) es) (λ r. balance r ≡ sum_where (λ k. eqb k (key r)) (posted_under name es)) rows
+    (λ r e. e ∙ sym (sum_under name (λ k. eqb k (key r)) es)) each)
     ∙ spread key test rows (posted_under name es) keys have ∙ sum_under name test es
 
 some_if : {R : Type 0} (b : Bool) (r x : R) → cond b (Some r) None ≡ Some x → x ≡ r
@@ -72,14 +72,14 @@ some_if false r x e = absurd cc
 teller_has : (t : Tables) (opened : ℕ → Option ℕ) (es : List Entry) → HasRows t opened es → AllByRecursion (λ r. balance_of_teller r ≡ posted_sum (λ x. eqb x.teller (teller_key r)) es) t.tellers
 teller_has t opened es s =
     all_follow (λ r. row_at teller_key t.tellers (teller_key r) ≡ Some r) (λ r. balance_of_teller r ≡ teller_balance es (teller_key r)) t.tellers
-      (λ r e. ap balance_of_teller (some_if (is_teller_open opened r.teller) (teller_row_of r.teller (teller_balance es r.teller)) r (sym (s.tellers r.teller) ∙ e)))
-      (each_under_its_key teller_key t.tellers s.teller_keys)
+    (λ r e. ap balance_of_teller (some_if (is_teller_open opened r.teller) (teller_row_of r.teller (teller_balance es r.teller)) r (sym (s.tellers r.teller) ∙ e)))
+    (each_under_its_key teller_key t.tellers s.teller_keys)
 
 account_has : (t : Tables) (opened : ℕ → Option ℕ) (es : List Entry) → HasRows t opened es → AllByRecursion (λ r. balance_of_account r ≡ posted_sum (λ x. eqb x.account (account_key r)) es) t.accounts
 account_has t opened es s =
     all_follow (λ r. row_at account_key t.accounts (account_key r) ≡ Some r) (λ r. balance_of_account r ≡ account_balance es (account_key r)) t.accounts
-      (λ r e. ap balance_of_account (some_if (is_account_open opened r.account) (account_row_of r.account (account_balance es r.account)) r (sym (s.accounts r.account) ∙ e)))
-      (each_under_its_key account_key t.accounts s.account_keys)
+    (λ r e. ap balance_of_account (some_if (is_account_open opened r.account) (account_row_of r.account (account_balance es r.account)) r (sym (s.accounts r.account) ∙ e)))
+    (each_under_its_key account_key t.accounts s.account_keys)
 
 branch_balance_is : (o : Option ℕ) (b : ℕ) (z : ℤ) (r : BranchRow) → option_map (branch_row_of b z) o ≡ Some r → balance_of_branch r ≡ z
 branch_balance_is (Some count) b z r e = let is : branch_row_of b z count ≡ r = cc in sym (ap balance_of_branch is)
@@ -88,8 +88,8 @@ branch_balance_is None b z r e = absurd cc
 branch_has : (t : Tables) (opened : ℕ → Option ℕ) (es : List Entry) → HasRows t opened es → AllByRecursion (λ r. balance_of_branch r ≡ posted_sum (λ x. eqb x.branch (branch_key r)) es) t.branches
 branch_has t opened es s =
     all_follow (λ r. row_at branch_key t.branches (branch_key r) ≡ Some r) (λ r. balance_of_branch r ≡ branch_balance es (branch_key r)) t.branches
-      (λ r e. branch_balance_is (opened r.branch) r.branch (branch_balance es r.branch) r (sym (s.branches r.branch) ∙ e))
-      (each_under_its_key branch_key t.branches s.branch_keys)
+    (λ r e. branch_balance_is (opened r.branch) r.branch (branch_balance es r.branch) r (sym (s.branches r.branch) ∙ e))
+    (each_under_its_key branch_key t.branches s.branch_keys)
 
 -- ---- what was posted to has a row
 
@@ -123,7 +123,7 @@ branches_have t opened all (e ∷ es) s h =
     elim (by_test (is_posted e)) [
       | inl p ↦
           let home : is_some (opened e.request.branch) ≡ true =
-            ap (λ (b : ℕ). is_some (opened b)) (h.0.branch p) ∙ (both (leb 1 e.request.teller) (is_some (opened (branch_of_teller e.request.teller))) (h.0.teller p)).1 in
+          ap (λ (b : ℕ). is_some (opened b)) (h.0.branch p) ∙ (both (leb 1 e.request.teller) (is_some (opened (branch_of_teller e.request.teller))) (h.0.teller p)).1 in
           rw p (ap is_some (s.branches e.request.branch) ∙ mapped_is (branch_row_of e.request.branch (branch_balance all e.request.branch)) (opened e.request.branch) home, branches_have t opened all es s h.1)
       | inr f ↦ rw f (branches_have t opened all es s h.1)
     ]
@@ -147,20 +147,20 @@ row_has_delta [] o r e = absurd cc
 row_has_delta (d ∷ es) o r e =
     elim (by_test (is_posted d)) [
       | inl p ↦ elim (by_test (eqb (length es + 1) o)) [
-          | inl t ↦
-              let is : history_row_of o d ≡ r = (let h = rw (p, t) at e in cc) in
-              let last : length es < o = (let k = eqb-true _ _ t in omega arith) in
-              rw (p, t, nothing_past es o last) (sym (ap delta_of is) ∙ sym (+ℤ_idl d.request.delta))
-          | inr f ↦ rw (p, f) (row_has_delta es o r (let h = rw (p, f) at e in h))
-        ]
+        | inl t ↦
+            let is : history_row_of o d ≡ r = (let h = rw (p, t) at e in cc) in
+            let last : length es < o = (let k = eqb-true _ _ t in omega arith) in
+            rw (p, t, nothing_past es o last) (sym (ap delta_of is) ∙ sym (+ℤ_idl d.request.delta))
+        | inr f ↦ rw (p, f) (row_has_delta es o r (let h = rw (p, f) at e in h))
+      ]
       | inr f ↦ rw f (row_has_delta es o r (let h = rw f at e in h))
     ]
 
 history_has : (t : Tables) (opened : ℕ → Option ℕ) (es : List Entry) → HasRows t opened es → AllByRecursion (λ r. delta_of r ≡ sum_where (λ k. eqb k (history_key r)) (posted_at es)) t.history
 history_has t opened es s =
     all_follow (λ r. row_at history_key t.history (history_key r) ≡ Some r) (λ r. delta_of r ≡ sum_where (λ k. eqb k (history_key r)) (posted_at es)) t.history
-      (λ r e. row_has_delta es r.ordinal r (sym (s.history r.ordinal) ∙ e))
-      (each_under_its_key history_key t.history s.history_keys)
+    (λ r e. row_has_delta es r.ordinal r (sym (s.history r.ordinal) ∙ e))
+    (each_under_its_key history_key t.history s.history_keys)
 
 -- each posting has a row, also behind further requests
 posted_has_row : (es : List Entry) (e : Entry) → is_posted e ≡ true → is_some (history_row (e ∷ es) (length es + 1)) ≡ true
@@ -198,9 +198,9 @@ rows_match (e ∷ es) o =
             | inr f ↦ rw (t, f, past.1) (λ p. absurd (let g = sym f ∙ p in cc))
           ]
       | inr other ↦ elim (by_test (is_posted e)) [
-          | inl p ↦ rw (p, other) (rows_match es o)
-          | inr f ↦ rw (f, other) (rows_match es o)
-        ]
+        | inl p ↦ rw (p, other) (rows_match es o)
+        | inr f ↦ rw (f, other) (rows_match es o)
+      ]
     ]
 
 -- ---- the condition
@@ -222,26 +222,27 @@ consistent t log shows =
     let open_ = λ (b : ℕ). opened log b in
     let named = all_name_open log in
     let accounts : total (map balance_of_account t.accounts) ≡ all_posted es =
-      ap (λ rows. total (map balance_of_account rows)) (sym (filter_all t.accounts))
-      ∙ one_sum account_key balance_of_account (λ r. r.account) (λ k. true) t.accounts es s.account_keys (account_has t open_ es s) (accounts_have t open_ es es s named) in
+    ap (λ rows. total (map balance_of_account rows)) (sym (filter_all t.accounts))
+    ∙ one_sum account_key balance_of_account (λ r. r.account) (λ k. true) t.accounts es s.account_keys (account_has t open_ es s) (accounts_have t open_ es es s named) in
     let tellers : total (map balance_of_teller t.tellers) ≡ all_posted es =
-      ap (λ rows. total (map balance_of_teller rows)) (sym (filter_all t.tellers))
-      ∙ one_sum teller_key balance_of_teller (λ r. r.teller) (λ k. true) t.tellers es s.teller_keys (teller_has t open_ es s) (tellers_have t open_ es es s named) in
+    ap (λ rows. total (map balance_of_teller rows)) (sym (filter_all t.tellers))
+    ∙ one_sum teller_key balance_of_teller (λ r. r.teller) (λ k. true) t.tellers es s.teller_keys (teller_has t open_ es s) (tellers_have t open_ es es s named) in
     let branches : total (map balance_of_branch t.branches) ≡ all_posted es =
-      ap (λ rows. total (map balance_of_branch rows)) (sym (filter_all t.branches))
-      ∙ one_sum branch_key balance_of_branch (λ r. r.branch) (λ k. true) t.branches es s.branch_keys (branch_has t open_ es s) (branches_have t open_ es es s named) in
+    ap (λ rows. total (map balance_of_branch rows)) (sym (filter_all t.branches))
+    ∙ one_sum branch_key balance_of_branch (λ r. r.branch) (λ k. true) t.branches es s.branch_keys (branch_has t open_ es s) (branches_have t open_ es es s named) in
     let history : total (map delta_of t.history) ≡ all_posted es =
-      ap (λ rows. total (map delta_of rows)) (sym (filter_all t.history))
-      ∙ values_are delta_of (λ r. sum_where (λ k. eqb k (history_key r)) (posted_at es)) (λ r. true) t.history (history_has t open_ es s)
-      ∙ spread history_key (λ k. true) t.history (posted_at es) s.history_keys
-        (have_at es (λ o. is_some (row_at history_key t.history o)) (λ o h. ap is_some (s.history o) ∙ h))
-      ∙ sum_at es in
+    ap (λ rows. total (map delta_of rows)) (sym (filter_all t.history))
+    ∙ values_are delta_of (λ r. sum_where (λ k. eqb k (history_key r)) (posted_at es)) (λ r. true) t.history (history_has t open_ es s)
+    ∙ spread history_key (λ k. true) t.history (posted_at es) s.history_keys
+    (have_at es (λ o. is_some (row_at history_key t.history o)) (λ o h. ap is_some (s.history o) ∙ h))
+    ∙ sum_at es in
     record {
       tellers = tellers ∙ sym accounts;
       branches = branches ∙ sym accounts;
       each_branch = all_follow (λ r. balance_of_branch r ≡ branch_balance es r.branch) (λ r. total (map balance_of_teller (tellers_of r.branch t.tellers)) ≡ r.balance) t.branches
-        (λ r e. one_sum teller_key balance_of_teller (λ x. x.teller) (λ k. eqb (branch_of_teller k) r.branch) t.tellers es s.teller_keys (teller_has t open_ es s) (tellers_have t open_ es es s named)
+          (λ r e. one_sum teller_key balance_of_teller (λ x. x.teller) (λ k. eqb (branch_of_teller k) r.branch) t.tellers es s.teller_keys (teller_has t open_ es s) (tellers_have t open_ es es s named)
           ∙ same_branch open_ es r.branch named ∙ sym e)
-        (branch_has t open_ es s);
+          (branch_has t open_ es s);
       matched = λ o. rw (s.requests o, s.history o) (rows_match es o);
-      history = history ∙ sym accounts }
+      history = history ∙ sym accounts;
+    }

@@ -64,7 +64,8 @@ step_is t opened es m r (Refused o) s =
       tellers = refl;
       accounts = refl;
       history = refl;
-      requests = rw count (request_added t opened es (refused_entry m r o) s) }
+      requests = rw count (request_added t opened es (refused_entry m r o) s);
+    }
 step_is t opened es m r (Posted a te b) s =
     let count = decided_shown t opened es s in
     record {
@@ -73,7 +74,8 @@ step_is t opened es m r (Posted a te b) s =
       tellers = changes_row teller_key r.teller (with_teller_balance te) t.tellers (λ _. refl) s.teller_keys;
       accounts = changes_row account_key r.account (with_account_balance a) t.accounts (λ _. refl) s.account_keys;
       history = rw count (posting_added t opened es (posted_entry m r a) s);
-      requests = rw count (request_added t opened es (posted_entry m r a) s) }
+      requests = rw count (request_added t opened es (posted_entry m r a) s);
+    }
 
 -- the tables after a record show the log with it
 pub record_shown : (t : Tables) (log : List Command) (m : ℕ) (bytes : List ℕ) → Shows t log → Shows (tables_with t m (request_of bytes)) (Post m bytes ∷ log)
@@ -101,11 +103,12 @@ opened_shown t log b count none hb hc s =
       meta = refl;
       branches = adds_row branch_key t.branches (branch_row_of b (pos 0) count) s.rows.branch_keys (s.rows.branches b ∙ ap (option_map (branch_row_of b (branch_balance (decided log) b))) closed);
       tellers = adds_rows teller_key (λ n. teller_row_of n (pos 0)) t.tellers (first_teller b) 10 (λ _. refl) s.rows.teller_keys
-        (λ n i. s.rows.tellers n ∙ ap (λ (o : Bool). cond o (Some (teller_row_of n (teller_balance (decided log) n))) None) (closed_teller (λ x. opened log x) b n closed hb i));
+          (λ n i. s.rows.tellers n ∙ ap (λ (o : Bool). cond o (Some (teller_row_of n (teller_balance (decided log) n))) None) (closed_teller (λ x. opened log x) b n closed hb i));
       accounts = adds_rows account_key (λ n. account_row_of n (pos 0)) t.accounts (first_account b) count (λ _. refl) s.rows.account_keys
-        (λ n i. s.rows.accounts n ∙ ap (λ (o : Bool). cond o (Some (account_row_of n (account_balance (decided log) n))) None) (closed_account (λ x. opened log x) b n count closed hb hc i));
+          (λ n i. s.rows.accounts n ∙ ap (λ (o : Bool). cond o (Some (account_row_of n (account_balance (decided log) n))) None) (closed_account (λ x. opened log x) b n count closed hb hc i));
       history = refl;
-      requests = refl })
+      requests = refl;
+    })
 
 -- tables with an open branch show the log with a further opening of it
 pub reopened_shown : (t : Tables) (log : List Command) (b count n : ℕ) → count_in t b ≡ Some n → Shows t log → Shows t (Open b count ∷ log)
@@ -122,18 +125,21 @@ and_false true = refl
 and_false false = refl
 
 pub empty_shown : Shows (record { meta = meta_row_of 0 ∷ []; branches = []; tellers = []; accounts = []; history = []; requests = [] }) []
-empty_shown = record { rows = record {
-  meta = refl;
-  branches = λ b. refl;
-  tellers = λ n. rw (and_false (leb 1 n)) refl;
-  accounts = λ n. rw (and_false (leb 1 n)) refl;
-  history = λ o. refl;
-  requests = λ o. refl;
-  branch_keys = none_distinct;
-  teller_keys = none_distinct;
-  account_keys = none_distinct;
-  history_keys = none_distinct;
-  request_keys = none_distinct } }
+empty_shown = record {
+  rows = record {
+    meta = refl;
+    branches = λ b. refl;
+    tellers = λ n. rw (and_false (leb 1 n)) refl;
+    accounts = λ n. rw (and_false (leb 1 n)) refl;
+    history = λ o. refl;
+    requests = λ o. refl;
+    branch_keys = none_distinct;
+    teller_keys = none_distinct;
+    account_keys = none_distinct;
+    history_keys = none_distinct;
+    request_keys = none_distinct;
+  };
+}
 
 pub empty_from : (bs : List BranchRow) (ts : List TellerRow) (xs : List AccountRow) (hs : List HistoryRow) (rs : List RequestRow) → bs ≡ [] → ts ≡ [] → xs ≡ [] → hs ≡ [] → rs ≡ []
     → Shows (record { meta = meta_row_of (length rs) ∷ []; branches = bs; tellers = ts; accounts = xs; history = hs; requests = rs }) []

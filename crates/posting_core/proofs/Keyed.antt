@@ -47,7 +47,8 @@ keys-changed key k change same (r ∷ rows) =
 pub changes_row : {R : Type 0} (key : R → ℕ) (k : ℕ) (change : R → R) (rows : List R) → ((r : R) → key (change r) ≡ key r) → HasKeys key rows → ChangesRow key k change rows (changed key k change rows)
 changes_row key k change rows same h = record {
   rows = row_at-changed key k change same rows;
-  keys = subst (λ (ks : List ℕ). IsDistinct nat_eq ks) (sym (keys-changed key k change same rows)) h }
+  keys = subst (λ (ks : List ℕ). IsDistinct nat_eq ks) (sym (keys-changed key k change same rows)) h;
+}
 
 -- ---- one row is added behind the others
 
@@ -68,8 +69,9 @@ or_put false None x none = refl
 pub adds_row : {R : Type 0} (key : R → ℕ) (rows : List R) (x : R) → HasKeys key rows → row_at key rows (key x) ≡ None → AddsRow key x rows (rows ++ x ∷ [])
 adds_row key rows x h none = record {
   rows = λ n. find-append (λ r. eqb (key r) n) rows (x ∷ [])
-    ∙ or_put (eqb (key x) n) (row_at key rows n) x (λ t. ap (row_at key rows) (sym (eqb-true (key x) n t)) ∙ none);
-  keys = subst (λ (ks : List ℕ). IsDistinct nat_eq ks) (sym (map-append key rows (x ∷ []))) (IsDistinct-push nat_eq_equiv (map key rows) (key x) h (no_key key rows (key x) none)) }
+      ∙ or_put (eqb (key x) n) (row_at key rows n) x (λ t. ap (row_at key rows) (sym (eqb-true (key x) n t)) ∙ none);
+  keys = subst (λ (ks : List ℕ). IsDistinct nat_eq ks) (sym (map-append key rows (x ∷ []))) (IsDistinct-push nat_eq_equiv (map key rows) (key x) h (no_key key rows (key x) none));
+}
 
 -- ---- rows with numbers in a row are added behind the others
 
@@ -94,9 +96,9 @@ one_row_more row first count n rest =
     elim (by_test (eqb (first + count) n)) [
       | inl t ↦ rw (t, from_last first count n t) (ap (λ (k : ℕ). Some (row k)) (eqb-true _ _ t))
       | inr f ↦ elim (by_test (is_from first count n)) [
-          | inl t ↦ rw (f, t, from_more first count n t) refl
-          | inr g ↦ rw (f, g, from_other first count n g f) refl
-        ]
+        | inl t ↦ rw (f, t, from_more first count n t) refl
+        | inr g ↦ rw (f, g, from_other first count n g f) refl
+      ]
     ]
 
 -- each row has its number for its key, and none of the numbers had a row
@@ -104,23 +106,25 @@ pub adds_rows : {R : Type 0} (key : R → ℕ) (row : ℕ → R) (rows : List R)
     → ((n : ℕ) → is_from first count n ≡ true → row_at key rows n ≡ None) → AddsRows key row first count rows (rows ++ rows_from row first count)
 adds_rows key row rows first zero own h none = record {
   rows = λ n. ap (λ rs. row_at key rs n) (append-nil rows) ∙ ap (λ (b : Bool). cond b (Some (row n)) (row_at key rows n)) (sym (from_none first n));
-  keys = subst (λ rs. HasKeys key rs) (sym (append-nil rows)) h }
+  keys = subst (λ rs. HasKeys key rs) (sym (append-nil rows)) h;
+}
 adds_rows {R} key row rows first (suc count) own h none =
     let before : AddsRows key row first count rows (rows ++ rows_from row first count) = adds_rows key row rows first count own h (λ n i. none n (from_more first count n i)) in
     let free : row_at key (rows ++ rows_from row first count) (key (row (first + count))) ≡ None =
-      ap (λ (k : ℕ). row_at key (rows ++ rows_from row first count) k) (own (first + count)) ∙ before.rows (first + count)
-      ∙ ap (λ (b : Bool). cond b (Some (row (first + count))) (row_at key rows (first + count))) (not_yet first count)
-      ∙ none (first + count) (from_last first count (first + count) (eq-eqb _ _ refl)) in
+    ap (λ (k : ℕ). row_at key (rows ++ rows_from row first count) k) (own (first + count)) ∙ before.rows (first + count)
+    ∙ ap (λ (b : Bool). cond b (Some (row (first + count))) (row_at key rows (first + count))) (not_yet first count)
+    ∙ none (first + count) (from_last first count (first + count) (eq-eqb _ _ refl)) in
     let last : AddsRow key (row (first + count)) (rows ++ rows_from row first count) ((rows ++ rows_from row first count) ++ row (first + count) ∷ []) =
-      adds_row key (rows ++ rows_from row first count) (row (first + count)) before.keys free in
+    adds_row key (rows ++ rows_from row first count) (row (first + count)) before.keys free in
     let same : (rows ++ rows_from row first count) ++ row (first + count) ∷ [] ≡ rows ++ (rows_from row first count ++ row (first + count) ∷ []) =
-      append_assoc rows (rows_from row first count) (row (first + count) ∷ []) in
+    append_assoc rows (rows_from row first count) (row (first + count) ∷ []) in
     record {
       rows = λ n. ap (λ (rs : List R). row_at key rs n) (sym same) ∙ last.rows n
-        ∙ ap (λ (k : ℕ). cond (eqb k n) (Some (row (first + count))) (row_at key (rows ++ rows_from row first count) n)) (own (first + count))
-        ∙ ap (cond (eqb (first + count) n) (Some (row (first + count)))) (before.rows n)
-        ∙ one_row_more row first count n (row_at key rows n);
-      keys = subst (λ (rs : List R). HasKeys key rs) same last.keys }
+          ∙ ap (λ (k : ℕ). cond (eqb k n) (Some (row (first + count))) (row_at key (rows ++ rows_from row first count) n)) (own (first + count))
+          ∙ ap (cond (eqb (first + count) n) (Some (row (first + count)))) (before.rows n)
+          ∙ one_row_more row first count n (row_at key rows n);
+      keys = subst (λ (rs : List R). HasKeys key rs) same last.keys;
+    }
 
 -- ---- a walk that changes the rows under a key
 
@@ -181,7 +185,7 @@ none_passes key test (r ∷ rows) k x e h =
     elim (by_test (test r)) [
       | inl t ↦ absurd (let g = rw t at e in cc)
       | inr f ↦ elim (by_test (eqb (key r) k)) [
-          | inl t ↦ let is : r ≡ x = (let g = rw t at h in cc) in subst (λ y. test y ≡ false) is f
-          | inr g ↦ none_passes key test rows k x (let u = rw f at e in u) (let u = rw g at h in u)
-        ]
+        | inl t ↦ let is : r ≡ x = (let g = rw t at h in cc) in subst (λ y. test y ≡ false) is f
+        | inr g ↦ none_passes key test rows k x (let u = rw f at e in u) (let u = rw g at h in u)
+      ]
     ]

@@ -11,3 +11,4 @@ pub mod Limits
 pub mod Consistent
 pub mod Alike
 pub mod AsStated
+pub mod Transferred

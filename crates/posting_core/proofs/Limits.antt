@@ -37,14 +37,16 @@ within_verdict opened es m r (Again x) h all = all
 within_verdict opened es m r (Refused o) h all = record {
   accounts = λ n. keeps_within (is_posted (refused_entry m r o)) (eqb r.account n) (account_balance es n) r.delta (all.accounts n) (λ p. absurd (let f = h.unposted in cc));
   tellers = λ n. keeps_within (is_posted (refused_entry m r o)) (eqb r.teller n) (teller_balance es n) r.delta (all.tellers n) (λ p. absurd (let f = h.unposted in cc));
-  branches = λ n. keeps_within (is_posted (refused_entry m r o)) (eqb r.branch n) (branch_balance es n) r.delta (all.branches n) (λ p. absurd (let f = h.unposted in cc)) }
+  branches = λ n. keeps_within (is_posted (refused_entry m r o)) (eqb r.branch n) (branch_balance es n) r.delta (all.branches n) (λ p. absurd (let f = h.unposted in cc));
+}
 within_verdict opened es m r (Posted a t b) h all = record {
   accounts = λ n. keeps_within true (eqb r.account n) (account_balance es n) r.delta (all.accounts n)
-    (λ p e. subst (λ (k : ℕ). IsWithin (account_balance es k +ℤ r.delta)) (eqb-true _ _ e) (sum_within _ _ a h.account_is));
+      (λ p e. subst (λ (k : ℕ). IsWithin (account_balance es k +ℤ r.delta)) (eqb-true _ _ e) (sum_within _ _ a h.account_is));
   tellers = λ n. keeps_within true (eqb r.teller n) (teller_balance es n) r.delta (all.tellers n)
-    (λ p e. subst (λ (k : ℕ). IsWithin (teller_balance es k +ℤ r.delta)) (eqb-true _ _ e) (sum_within _ _ t h.teller_is));
+      (λ p e. subst (λ (k : ℕ). IsWithin (teller_balance es k +ℤ r.delta)) (eqb-true _ _ e) (sum_within _ _ t h.teller_is));
   branches = λ n. keeps_within true (eqb r.branch n) (branch_balance es n) r.delta (all.branches n)
-    (λ p e. subst (λ (k : ℕ). IsWithin (branch_balance es k +ℤ r.delta)) (sym h.its_branch ∙ eqb-true _ _ e) (sum_within _ _ b h.branch_is)) }
+      (λ p e. subst (λ (k : ℕ). IsWithin (branch_balance es k +ℤ r.delta)) (sym h.its_branch ∙ eqb-true _ _ e) (sum_within _ _ b h.branch_is));
+}
 
 within_record : (opened : ℕ → Option ℕ) (es : List Entry) (m : ℕ) (read : Result RequestFields Bad) → AllWithin es → AllWithin (with_record m read opened es)
 within_record opened es m (Ok r) all = within_verdict opened es m r (case_of (facts opened es r) r) (verdict_is opened es r) all

@@ -17,7 +17,7 @@ use Rattle.posting_core.proofs.Requests.{AreNew, are_new, kept_shown}
 -- an open teller has its branch's row
 both_rows : (low : Bool) (o : Option ℕ) (t b : ℕ) (x y : ℤ)
     → both_of (option_map balance_of_teller (cond (low && is_some o) (Some (teller_row_of t x)) None)) (option_map balance_of_branch (option_map (branch_row_of b y) o))
-      ≡ cond (low && is_some o) (Some (x, y)) None
+    ≡ cond (low && is_some o) (Some (x, y)) None
 both_rows true (Some n) t b x y = refl
 both_rows true None t b x y = refl
 both_rows false (Some n) t b x y = refl
@@ -53,7 +53,7 @@ decided_shown t opened es s = ap (λ (rows : List MetaRow). decided_in rows) s.m
 pub found_shown : (t : Tables) (opened : ℕ → Option ℕ) (es : List Entry) (r : RequestFields) → AreNew es → HasRows t opened es → found_in t r ≡ facts opened es r
 found_shown t opened es r new s =
     made _ _ _ _ _ _ _ _ (teller_balances_shown t opened es r.teller s) (kept_shown t.requests es s.request_keys s.requests new r.teller r.number)
-      (decided_shown t opened es s) (account_balance_shown t opened es r.account s)
+    (decided_shown t opened es s) (account_balance_shown t opened es r.account s)
   where
     made : (a a' : Option (ℤ × ℤ)) (k k' : Option KeptFields) (n n' : ℕ) (b b' : Option ℤ) → a ≡ a' → k ≡ k' → n ≡ n' → b ≡ b'
         → (let f : Found = record { teller = a; kept = k; decided = n; account = b } in f) ≡ record { teller = a'; kept = k'; decided = n'; account = b' }

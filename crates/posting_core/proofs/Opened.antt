@@ -59,20 +59,26 @@ account_stays opened b count a h =
 
 all_stay : (opened : ℕ → Option ℕ) (b count : ℕ) (es : List Entry) → AllNameOpen opened es → AllNameOpen (λ x. with_branch opened b count x) es
 all_stay opened b count [] h = tt
-all_stay opened b count (e ∷ es) h =
-    (record {
-      teller = λ p. teller_stays opened b count e.request.teller (h.0.teller p);
-      account = λ p. account_stays opened b count e.request.account (h.0.account p);
-      branch = h.0.branch }, all_stay opened b count es h.1)
+all_stay opened b count (e ∷ es) h = (
+  record {
+    teller = λ p. teller_stays opened b count e.request.teller (h.0.teller p);
+    account = λ p. account_stays opened b count e.request.account (h.0.account p);
+    branch = h.0.branch;
+  },
+  all_stay opened b count es h.1,
+)
 
 all_verdict : (opened : ℕ → Option ℕ) (es : List Entry) (m : ℕ) (r : RequestFields) (v : Verdict) → IsVerdict opened es r v → AllNameOpen opened es → AllNameOpen opened (with_verdict m r v es)
 all_verdict opened es m r (Unkept o) h all = all
 all_verdict opened es m r (Again x) h all = all
-all_verdict opened es m r (Refused o) h all =
-    (record {
-      teller = λ p. absurd (let f = h.unposted in cc);
-      account = λ p. absurd (let f = h.unposted in cc);
-      branch = λ p. absurd (let f = h.unposted in cc) }, all)
+all_verdict opened es m r (Refused o) h all = (
+  record {
+    teller = λ p. absurd (let f = h.unposted in cc);
+    account = λ p. absurd (let f = h.unposted in cc);
+    branch = λ p. absurd (let f = h.unposted in cc);
+  },
+  all,
+)
 all_verdict opened es m r (Posted a t b) h all = (record { teller = λ p. h.teller_open; account = λ p. h.account_open; branch = λ p. h.its_branch }, all)
 
 all_record : (opened : ℕ → Option ℕ) (es : List Entry) (m : ℕ) (read : Result RequestFields Bad) → AllNameOpen opened es → AllNameOpen opened (with_record m read opened es)
@@ -117,10 +123,12 @@ branch_none opened es n all closed = sum_none (λ r. eqb r.branch n) es (each es
   where
     each : (ds : List Entry) → AllNameOpen opened ds → AllByRecursion (λ e. is_posted e ≡ true → eqb e.request.branch n ≡ false) ds
     each [] h = tt
-    each (e ∷ ds) h =
-      (λ p. apart (λ x. is_some (opened x)) e.request.branch n
-        (ap (λ (x : ℕ). is_some (opened x)) (h.0.branch p) ∙ (both (leb 1 e.request.teller) (is_some (opened (branch_of_teller e.request.teller))) (h.0.teller p)).1)
-        (ap is_some closed), each ds h.1)
+    each (e ∷ ds) h = (
+      λ p. apart (λ x. is_some (opened x)) e.request.branch n
+          (ap (λ (x : ℕ). is_some (opened x)) (h.0.branch p) ∙ (both (leb 1 e.request.teller) (is_some (opened (branch_of_teller e.request.teller))) (h.0.teller p)).1)
+          (ap is_some closed),
+      each ds h.1,
+    )
 
 -- ---- the tellers and the accounts of a branch are numbers in a row
 
@@ -135,38 +143,38 @@ and_true p q e f = rw (e, f) refl
 pub tellers_in_a_row : (b n : ℕ) → 1 ≤ b → (leb 1 n && eqb b (branch_of_teller n)) ≡ is_from (first_teller b) 10 n
 tellers_in_a_row b n hb =
     same_tests (leb 1 n && eqb b (branch_of_teller n)) (is_from (first_teller b) 10 n)
-      (λ e. let two = both (leb 1 n) (eqb b (branch_of_teller n)) e in
-        let hn : 1 ≤ n = leb-true _ _ two.0 in
-        let h : b ≡ (n - 1) / 10 + 1 = eqb-true _ _ two.1 in
-        let low : first_teller b ≤ n = omega arith in
-        let high : n < first_teller b + 10 = omega arith in
-        and_true (leb (first_teller b) n) (ltb n (first_teller b + 10)) (le-leb _ _ low) (lt-ltb _ _ high))
-      (λ e. let two = both (leb (first_teller b) n) (ltb n (first_teller b + 10)) e in
-        let low : 10 * (b - 1) + 1 ≤ n = leb-true _ _ two.0 in
-        let high : n < 10 * (b - 1) + 1 + 10 = ltb-true _ _ two.1 in
-        let hn : 1 ≤ n = omega arith in
-        let h : b ≡ branch_of_teller n = omega arith in
-        and_true (leb 1 n) (eqb b (branch_of_teller n)) (le-leb _ _ hn) (eq-eqb _ _ h))
+    (λ e. let two = both (leb 1 n) (eqb b (branch_of_teller n)) e in
+    let hn : 1 ≤ n = leb-true _ _ two.0 in
+    let h : b ≡ (n - 1) / 10 + 1 = eqb-true _ _ two.1 in
+    let low : first_teller b ≤ n = omega arith in
+    let high : n < first_teller b + 10 = omega arith in
+    and_true (leb (first_teller b) n) (ltb n (first_teller b + 10)) (le-leb _ _ low) (lt-ltb _ _ high))
+    (λ e. let two = both (leb (first_teller b) n) (ltb n (first_teller b + 10)) e in
+    let low : 10 * (b - 1) + 1 ≤ n = leb-true _ _ two.0 in
+    let high : n < 10 * (b - 1) + 1 + 10 = ltb-true _ _ two.1 in
+    let hn : 1 ≤ n = omega arith in
+    let h : b ≡ branch_of_teller n = omega arith in
+    and_true (leb 1 n) (eqb b (branch_of_teller n)) (le-leb _ _ hn) (eq-eqb _ _ h))
 
 accounts_in_a_row : (b n count : ℕ) → 1 ≤ b → count ≤ 100_000 → (leb 1 n && (eqb b (branch_of_account n) && leb (place_of_account n) count)) ≡ is_from (first_account b) count n
 accounts_in_a_row b n count hb hc =
     same_tests (leb 1 n && (eqb b (branch_of_account n) && leb (place_of_account n) count)) (is_from (first_account b) count n)
-      (λ e. let one = both (leb 1 n) (eqb b (branch_of_account n) && leb (place_of_account n) count) e in
-        let two = both (eqb b (branch_of_account n)) (leb (place_of_account n) count) one.1 in
-        let hn : 1 ≤ n = leb-true _ _ one.0 in
-        let h : b ≡ (n - 1) / 100_000 + 1 = eqb-true _ _ two.0 in
-        let p : (n - 1) % 100_000 + 1 ≤ count = leb-true _ _ two.1 in
-        let low : first_account b ≤ n = omega arith in
-        let high : n < first_account b + count = omega arith in
-        and_true (leb (first_account b) n) (ltb n (first_account b + count)) (le-leb _ _ low) (lt-ltb _ _ high))
-      (λ e. let two = both (leb (first_account b) n) (ltb n (first_account b + count)) e in
-        let low : 100_000 * (b - 1) + 1 ≤ n = leb-true _ _ two.0 in
-        let high : n < 100_000 * (b - 1) + 1 + count = ltb-true _ _ two.1 in
-        let hn : 1 ≤ n = omega arith in
-        let h : b ≡ branch_of_account n = omega arith in
-        let p : place_of_account n ≤ count = omega arith in
-        and_true (leb 1 n) (eqb b (branch_of_account n) && leb (place_of_account n) count) (le-leb _ _ hn)
-          (and_true (eqb b (branch_of_account n)) (leb (place_of_account n) count) (eq-eqb _ _ h) (le-leb _ _ p)))
+    (λ e. let one = both (leb 1 n) (eqb b (branch_of_account n) && leb (place_of_account n) count) e in
+    let two = both (eqb b (branch_of_account n)) (leb (place_of_account n) count) one.1 in
+    let hn : 1 ≤ n = leb-true _ _ one.0 in
+    let h : b ≡ (n - 1) / 100_000 + 1 = eqb-true _ _ two.0 in
+    let p : (n - 1) % 100_000 + 1 ≤ count = leb-true _ _ two.1 in
+    let low : first_account b ≤ n = omega arith in
+    let high : n < first_account b + count = omega arith in
+    and_true (leb (first_account b) n) (ltb n (first_account b + count)) (le-leb _ _ low) (lt-ltb _ _ high))
+    (λ e. let two = both (leb (first_account b) n) (ltb n (first_account b + count)) e in
+    let low : 100_000 * (b - 1) + 1 ≤ n = leb-true _ _ two.0 in
+    let high : n < 100_000 * (b - 1) + 1 + count = ltb-true _ _ two.1 in
+    let hn : 1 ≤ n = omega arith in
+    let h : b ≡ branch_of_account n = omega arith in
+    let p : place_of_account n ≤ count = omega arith in
+    and_true (leb 1 n) (eqb b (branch_of_account n) && leb (place_of_account n) count) (le-leb _ _ hn)
+    (and_true (eqb b (branch_of_account n)) (leb (place_of_account n) count) (eq-eqb _ _ h) (le-leb _ _ p)))
 
 -- ---- the rows with a branch more
 
@@ -222,14 +230,14 @@ branch_added : (old new : Tables) (opened : ℕ → Option ℕ) (es : List Entry
 branch_added old new opened es b count all closed hb hc s step = record {
   meta = step.meta ∙ s.meta;
   branches = λ n. step.branches.rows n ∙ ap (cond (eqb b n) (Some (branch_row_of b (pos 0) count))) (s.branches n)
-    ∙ branch_put (opened n) (eqb b n) b n count (branch_balance es n) (eqb-true b n) (λ t. ap opened (sym (eqb-true b n t)) ∙ closed) (branch_none opened es n all);
+      ∙ branch_put (opened n) (eqb b n) b n count (branch_balance es n) (eqb-true b n) (λ t. ap opened (sym (eqb-true b n t)) ∙ closed) (branch_none opened es n all);
   tellers = λ n. step.tellers.rows n ∙ ap (cond (is_from (first_teller b) 10 n) (Some (teller_row_of n (pos 0)))) (s.tellers n)
-    ∙ row_put teller_row_of (is_teller_open opened n) (is_teller_open (λ x. with_branch opened b count x) n) (is_from (first_teller b) 10 n) n (teller_balance es n)
+      ∙ row_put teller_row_of (is_teller_open opened n) (is_teller_open (λ x. with_branch opened b count x) n) (is_from (first_teller b) 10 n) n (teller_balance es n)
       (closed_teller opened b n closed hb) (teller_stays opened b count n)
       (λ f. now_open (leb 1 n) (opened (branch_of_teller n)) (eqb b (branch_of_teller n)) count f ∙ tellers_in_a_row b n hb)
       (teller_none opened es n all);
   accounts = λ n. step.accounts.rows n ∙ ap (cond (is_from (first_account b) count n) (Some (account_row_of n (pos 0)))) (s.accounts n)
-    ∙ row_put account_row_of (is_account_open opened n) (is_account_open (λ x. with_branch opened b count x) n) (is_from (first_account b) count n) n (account_balance es n)
+      ∙ row_put account_row_of (is_account_open opened n) (is_account_open (λ x. with_branch opened b count x) n) (is_from (first_account b) count n) n (account_balance es n)
       (closed_account opened b n count closed hb hc) (account_stays opened b count n)
       (λ f. now_within (leb 1 n) (place_of_account n) (opened (branch_of_account n)) (eqb b (branch_of_account n)) count (either_none opened b (branch_of_account n) closed) f ∙ accounts_in_a_row b n count hb hc)
       (account_none opened es n all);
@@ -239,7 +247,8 @@ branch_added old new opened es b count all closed hb hc s step = record {
   teller_keys = step.tellers.keys;
   account_keys = step.accounts.keys;
   history_keys = rw step.history s.history_keys;
-  request_keys = rw step.requests s.request_keys }
+  request_keys = rw step.requests s.request_keys;
+}
 
 -- a branch that wasn't open is added
 pub opening_shown : (old new : Tables) (log : List Command) (b count : ℕ) → opened log b ≡ None → 1 ≤ b → count ≤ 100_000 → Shows old log → OpensBranch old new b count → Shows new (Open b count ∷ log)

@@ -67,8 +67,10 @@ none_shared d [] h = tt
 none_shared d (e ∷ es) h =
     elim (by_test (has_pair d.request.teller d.request.number e)) [
       | inl p ↦ absurd (let g = rw p at h in cc)
-      | inr f ↦ (λ t n. let p : has_pair d.request.teller d.request.number e ≡ true = rw (t, n) (pair_same e.request.teller e.request.number) in (let g = sym p ∙ f in cc),
-          none_shared d es (let g = rw f at h in g))
+      | inr f ↦ (
+        λ t n. let p : has_pair d.request.teller d.request.number e ≡ true = rw (t, n) (pair_same e.request.teller e.request.number) in (let g = sym p ∙ f in cc),
+        none_shared d es (let g = rw f at h in g),
+      )
     ]
 
 pub none_shares : (es : List Entry) → AreNew es → AllPairs Differ es
@@ -102,7 +104,8 @@ kept_has_row (e ∷ es) t n k h =
             stands = rw (eq-eqb (length es + 1) (length es + 1) refl) refl;
             teller = eqb-true _ _ two.0;
             number = eqb-true _ _ two.1;
-            kept = let g = rw p at h in cc }
+            kept = let g = rw p at h in cc;
+          }
       | inr f ↦ let rest = kept_has_row es t n k (let g = rw f at h in g) in
           record {
             ordinal = rest.ordinal;
@@ -111,7 +114,8 @@ kept_has_row (e ∷ es) t n k h =
             stands = rw (low_ordinal (length es) rest.ordinal rest.within) rest.stands;
             teller = rest.teller;
             number = rest.number;
-            kept = rest.kept }
+            kept = rest.kept;
+          }
     ]
 
 -- a row of a request has what is kept under its teller and number
@@ -147,6 +151,7 @@ kept_shown rows es keys shown new t n = by_found (find (λ r. (eqb r.teller t) &
         let row = kept_has_row es t n k e in
         let failed = none_passes request_key (λ r. (eqb r.teller t) && (eqb r.number n)) rows row.ordinal row.row none (shown row.ordinal ∙ row.stands) in
         absurd (let g = sym (row_has_pair row.row t n row.teller row.number) ∙ failed in cc)
+
     by_found : (o : Option RequestRow) → find (λ r. (eqb r.teller t) && (eqb r.number n)) rows ≡ o → option_map kept_of_row o ≡ kept es t n
     by_found None e = by_none (kept es t n) refl e ∙ refl
     by_found (Some row) e =

@@ -104,18 +104,19 @@ refusal_shown old new opened es m r o s h step =
     record {
       meta = step.meta ∙ ap (λ (n : ℕ). meta_row_of n ∷ []) (one_more (length es));
       branches = λ b. ap (λ (rows : List BranchRow). row_at branch_key rows b) step.branches ∙ s.branches b
-        ∙ ap (λ (z : ℤ). option_map (branch_row_of b z) (opened b)) (unposted_sum (λ q. eqb q.branch b) es e h.unposted);
+          ∙ ap (λ (z : ℤ). option_map (branch_row_of b z) (opened b)) (unposted_sum (λ q. eqb q.branch b) es e h.unposted);
       tellers = λ t. ap (λ (rows : List TellerRow). row_at teller_key rows t) step.tellers ∙ s.tellers t
-        ∙ ap (λ (z : ℤ). cond (is_teller_open opened t) (Some (teller_row_of t z)) None) (unposted_sum (λ q. eqb q.teller t) es e h.unposted);
+          ∙ ap (λ (z : ℤ). cond (is_teller_open opened t) (Some (teller_row_of t z)) None) (unposted_sum (λ q. eqb q.teller t) es e h.unposted);
       accounts = λ a. ap (λ (rows : List AccountRow). row_at account_key rows a) step.accounts ∙ s.accounts a
-        ∙ ap (λ (z : ℤ). cond (is_account_open opened a) (Some (account_row_of a z)) None) (unposted_sum (λ q. eqb q.account a) es e h.unposted);
+          ∙ ap (λ (z : ℤ). cond (is_account_open opened a) (Some (account_row_of a z)) None) (unposted_sum (λ q. eqb q.account a) es e h.unposted);
       history = λ k. ap (λ (rows : List HistoryRow). row_at history_key rows k) step.history ∙ s.history k ∙ unposted_history es e h.unposted k;
       requests = requests_added old.requests new.requests es e step.requests s.requests;
       branch_keys = subst (λ (rows : List BranchRow). HasKeys branch_key rows) (sym step.branches) s.branch_keys;
       teller_keys = subst (λ (rows : List TellerRow). HasKeys teller_key rows) (sym step.tellers) s.teller_keys;
       account_keys = subst (λ (rows : List AccountRow). HasKeys account_key rows) (sym step.accounts) s.account_keys;
       history_keys = subst (λ (rows : List HistoryRow). HasKeys history_key rows) (sym step.history) s.history_keys;
-      request_keys = step.requests.keys }
+      request_keys = step.requests.keys;
+    }
 
 posting_shown : (old new : Tables) (opened : ℕ → Option ℕ) (es : List Entry) (m : ℕ) (r : RequestFields) (a t b : ℤ)
     → HasRows old opened es → IsPosting opened es r a t b → KeepsPosting old new (length es + 1) (posted_entry m r a) t b → HasRows new opened (posted_entry m r a ∷ es)
@@ -125,19 +126,20 @@ posting_shown old new opened es m r a t b s h step =
     record {
       meta = step.meta ∙ ap (λ (n : ℕ). meta_row_of n ∷ []) (one_more (length es));
       branches = λ n. step.branches.rows n ∙ ap (option_map (λ row. cond (eqb home n) (with_branch_balance b row) row)) (s.branches n)
-        ∙ branch_changed (opened n) (eqb home n) n b (branch_balance es n) r.delta (λ q. h.branch_is.sum ∙ ap (λ (x : ℕ). branch_balance es x +ℤ r.delta) (eqb-true _ _ q))
-        ∙ ap (λ (x : ℕ). option_map (branch_row_of n (cond (eqb x n) (branch_balance es n +ℤ r.delta) (branch_balance es n))) (opened n)) (sym h.its_branch);
+          ∙ branch_changed (opened n) (eqb home n) n b (branch_balance es n) r.delta (λ q. h.branch_is.sum ∙ ap (λ (x : ℕ). branch_balance es x +ℤ r.delta) (eqb-true _ _ q))
+          ∙ ap (λ (x : ℕ). option_map (branch_row_of n (cond (eqb x n) (branch_balance es n +ℤ r.delta) (branch_balance es n))) (opened n)) (sym h.its_branch);
       tellers = λ n. step.tellers.rows n ∙ ap (option_map (λ row. cond (eqb r.teller n) (with_teller_balance t row) row)) (s.tellers n)
-        ∙ teller_changed (is_teller_open opened n) (eqb r.teller n) n t (teller_balance es n) r.delta (λ q. h.teller_is.sum ∙ ap (λ (x : ℕ). teller_balance es x +ℤ r.delta) (eqb-true _ _ q));
+          ∙ teller_changed (is_teller_open opened n) (eqb r.teller n) n t (teller_balance es n) r.delta (λ q. h.teller_is.sum ∙ ap (λ (x : ℕ). teller_balance es x +ℤ r.delta) (eqb-true _ _ q));
       accounts = λ n. step.accounts.rows n ∙ ap (option_map (λ row. cond (eqb r.account n) (with_account_balance a row) row)) (s.accounts n)
-        ∙ account_changed (is_account_open opened n) (eqb r.account n) n a (account_balance es n) r.delta (λ q. h.account_is.sum ∙ ap (λ (x : ℕ). account_balance es x +ℤ r.delta) (eqb-true _ _ q));
+          ∙ account_changed (is_account_open opened n) (eqb r.account n) n a (account_balance es n) r.delta (λ q. h.account_is.sum ∙ ap (λ (x : ℕ). account_balance es x +ℤ r.delta) (eqb-true _ _ q));
       history = history_added old.history new.history es e refl step.history s.history;
       requests = requests_added old.requests new.requests es e step.requests s.requests;
       branch_keys = step.branches.keys;
       teller_keys = step.tellers.keys;
       account_keys = step.accounts.keys;
       history_keys = step.history.keys;
-      request_keys = step.requests.keys }
+      request_keys = step.requests.keys;
+    }
 
 verdict_shown : (old new : Tables) (opened : ℕ → Option ℕ) (es : List Entry) (m : ℕ) (r : RequestFields) (v : Verdict)
     → HasRows old opened es → IsVerdict opened es r v → IsStep old new (length es + 1) m r v → HasRows new opened (with_verdict m r v es)
@@ -156,8 +158,8 @@ post_shown old new log m bytes r read s step =
     let found : found_in old r ≡ facts (λ b. opened log b) es r = found_shown old (λ b. opened log b) es r (are_new log) s.rows in
     let v = case_of (facts (λ b. opened log b) es r) r in
     let after : HasRows new (λ b. opened log b) (with_verdict m r v es) =
-      verdict_shown old new (λ b. opened log b) es m r v s.rows (verdict_is (λ b. opened log b) es r)
-        (subst (λ (f : Found). IsStep old new (length es + 1) m r (case_of f r)) found step) in
+    verdict_shown old new (λ b. opened log b) es m r v s.rows (verdict_is (λ b. opened log b) es r)
+    (subst (λ (f : Found). IsStep old new (length es + 1) m r (case_of f r)) found step) in
     record { rows = subst (λ (x : Result RequestFields Bad). HasRows new (λ b. opened log b) (with_record m x (λ b. opened log b) es)) (sym read) after }
 
 -- bytes that are no request change nothing

@@ -31,14 +31,14 @@ total_elsewhere key value test (r ∷ rows) k d none =
 -- a key that one row has adds to that one, where it passes the test
 total_at : {R : Type 0} (key : R → ℕ) (value : R → ℤ) (test : ℕ → Bool) (rows : List R) (k : ℕ) (d : ℤ) → HasKeys key rows → is_some (row_at key rows k) ≡ true
     → total (map (λ r. cond (eqb k (key r)) (value r +ℤ d) (value r)) (filter (λ r. test (key r)) rows))
-      ≡ cond (test k) (total (map value (filter (λ r. test (key r)) rows)) +ℤ d) (total (map value (filter (λ r. test (key r)) rows)))
+    ≡ cond (test k) (total (map value (filter (λ r. test (key r)) rows)) +ℤ d) (total (map value (filter (λ r. test (key r)) rows)))
 total_at key value test [] k d keys some = absurd cc
 total_at key value test (r ∷ rows) k d keys some =
     elim (by_test (eqb (key r) k)) [
       | inl hit ↦
           let is : key r ≡ k = eqb-true (key r) k hit in
           let none : AllByRecursion (λ j. nat_eq k j ≡ false) (map key rows) =
-            subst (λ (n : ℕ). AllByRecursion (λ j. nat_eq n j ≡ false) (map key rows)) is (IsDistinct-head nat_eq (key r) (map key rows) keys) in
+          subst (λ (n : ℕ). AllByRecursion (λ j. nat_eq n j ≡ false) (map key rows)) is (IsDistinct-head nat_eq (key r) (map key rows) keys) in
           let rest = total_elsewhere key value test rows k d none in
           let same : eqb k (key r) ≡ true = eq-eqb k (key r) (sym is) in
           elim (by_test (test k)) [
@@ -57,9 +57,11 @@ total_at key value test (r ∷ rows) k d keys some =
   where
     add_last : (v d rest : ℤ) → (v +ℤ d) +ℤ rest ≡ (v +ℤ rest) +ℤ d
     add_last v d rest = +ℤ_assoc v d rest ∙ ap (λ (z : ℤ). v +ℤ z) (+ℤ_comm d rest) ∙ sym (+ℤ_assoc v rest d)
+
     over_cond : (b : Bool) (v d rest : ℤ) → v +ℤ cond b (rest +ℤ d) rest ≡ cond b ((v +ℤ rest) +ℤ d) (v +ℤ rest)
     over_cond true v d rest = sym (+ℤ_assoc v rest d)
     over_cond false v d rest = refl
+
     flip : (a b : ℕ) → eqb a b ≡ false → eqb b a ≡ false
     flip a b h = elim (by_test (eqb b a)) [ inl t ↦ absurd (let e : a ≡ b = sym (eqb-true b a t) in let g : eqb a b ≡ true = eq-eqb a b e in cc) | inr f ↦ f ]
 
@@ -98,9 +100,10 @@ all_behind key r rows (x ∷ more) apart h = (rw apart.0 h.0, all_behind key r r
 
 pub each_under_its_key : {R : Type 0} (key : R → ℕ) (rows : List R) → HasKeys key rows → AllByRecursion (λ r. row_at key rows (key r) ≡ Some r) rows
 each_under_its_key key [] keys = tt
-each_under_its_key key (r ∷ rows) keys =
-    (rw (eq-eqb (key r) (key r) refl) refl,
-     all_behind key r rows rows (IsDistinct-head nat_eq (key r) (map key rows) keys) (each_under_its_key key rows (IsDistinct-tail nat_eq (key r) (map key rows) keys)))
+each_under_its_key key (r ∷ rows) keys = (
+  rw (eq-eqb (key r) (key r) refl) refl,
+  all_behind key r rows rows (IsDistinct-head nat_eq (key r) (map key rows) keys) (each_under_its_key key rows (IsDistinct-tail nat_eq (key r) (map key rows) keys)),
+)
 
 pub all_follow : {R : Type 0} (P Q : R → Type 0) (rows : List R) → ((r : R) → P r → Q r) → AllByRecursion P rows → AllByRecursion Q rows
 all_follow P Q [] f h = tt

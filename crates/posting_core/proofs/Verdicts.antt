@@ -95,19 +95,19 @@ verdict_is opened es r =
     let f = facts opened es r in
     let P = λ (v : Verdict). IsVerdict opened es r v in
     by_teller P f.teller f r tt (λ z tellers.
-      by_known P f.kept f r z.0 z.1 tt (λ a. tt) (λ new.
-        by_new P f r z.0 z.1 tt (λ room. record { new = new; room = room; unposted = refl }) (λ room its.
-          by_account P f.account z.0 z.1 r.delta (record { new = new; room = room; unposted = refl }) (λ a accounts.
-            by_posting P (plus_within a r.delta) (plus_within z.0 r.delta) (plus_within z.1 r.delta) (record { new = new; room = room; unposted = refl }) (λ x y w ex ey ew.
-              let open_t = when (is_teller_open opened r.teller) (teller_balance es r.teller, branch_balance es (branch_of_teller r.teller)) z tellers in
-              let open_a = when (is_account_open opened r.account) (account_balance es r.account) a accounts in
-              record {
-                new = new;
-                room = room;
-                teller_open = open_t.0;
-                its_branch = its;
-                account_open = open_a.0;
-                account_is = rw open_a.1 (plus_is a r.delta x ex);
-                teller_is = let e : teller_balance es r.teller ≡ z.0 = ap (λ (v : ℤ × ℤ). v.0) open_t.1 in rw e (plus_is z.0 r.delta y ey);
-                branch_is = let e : branch_balance es (branch_of_teller r.teller) ≡ z.1 = ap (λ (v : ℤ × ℤ). v.1) open_t.1 in rw e (plus_is z.1 r.delta w ew);
-              })))))
+    by_known P f.kept f r z.0 z.1 tt (λ a. tt) (λ new.
+    by_new P f r z.0 z.1 tt (λ room. record { new = new; room = room; unposted = refl }) (λ room its.
+    by_account P f.account z.0 z.1 r.delta (record { new = new; room = room; unposted = refl }) (λ a accounts.
+    by_posting P (plus_within a r.delta) (plus_within z.0 r.delta) (plus_within z.1 r.delta) (record { new = new; room = room; unposted = refl }) (λ x y w ex ey ew.
+    let open_t = when (is_teller_open opened r.teller) (teller_balance es r.teller, branch_balance es (branch_of_teller r.teller)) z tellers in
+    let open_a = when (is_account_open opened r.account) (account_balance es r.account) a accounts in
+    record {
+      new = new;
+      room = room;
+      teller_open = open_t.0;
+      its_branch = its;
+      account_open = open_a.0;
+      account_is = rw open_a.1 (plus_is a r.delta x ex);
+      teller_is = let e : teller_balance es r.teller ≡ z.0 = ap (λ (v : ℤ × ℤ). v.0) open_t.1 in rw e (plus_is z.0 r.delta y ey);
+      branch_is = let e : branch_balance es (branch_of_teller r.teller) ≡ z.1 = ap (λ (v : ℤ × ℤ). v.1) open_t.1 in rw e (plus_is z.1 r.delta w ew);
+    })))))

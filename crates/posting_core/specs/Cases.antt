@@ -37,9 +37,9 @@ account_case (Some account) teller branch delta = posting_of (plus_within accoun
 
 abbrev pub new_case : Found → RequestFields → ℤ → ℤ → Verdict
 new_case f r teller branch =
-  if nat_le 1_000_000_000_000 f.decided then Unkept outcome.Full
-  else if r.branch == branch_of_teller r.teller then account_case f.account teller branch r.delta
-  else Refused outcome.WrongBranch
+    if nat_le 1_000_000_000_000 f.decided then Unkept outcome.Full
+    else if r.branch == branch_of_teller r.teller then account_case f.account teller branch r.delta
+    else Refused outcome.WrongBranch
 
 abbrev pub known_case : Option KeptFields → Found → RequestFields → ℤ → ℤ → Verdict
 known_case None f r teller branch = new_case f r teller branch

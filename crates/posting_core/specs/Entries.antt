@@ -53,7 +53,8 @@ facts opened es r = record {
   teller = if is_teller_open opened r.teller then Some (teller_balance es r.teller, branch_balance es (branch_of_teller r.teller)) else None;
   kept = kept es r.teller r.number;
   decided = length es;
-  account = if is_account_open opened r.account then Some (account_balance es r.account) else None }
+  account = if is_account_open opened r.account then Some (account_balance es r.account) else None;
+}
 
 abbrev pub refused_entry : ℕ → RequestFields → Outcome → Entry
 refused_entry moment r outcome = record { moment = moment; request = r; outcome = outcome; balance = pos 0 }

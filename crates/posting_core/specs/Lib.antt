@@ -12,3 +12,4 @@ pub mod Stated
 pub mod Laws
 pub mod Counter
 pub mod Plain
+pub mod Once

@@ -45,7 +45,7 @@ both_of _ _ = None
 -- the balances of a teller and of the branch that its number gives
 abbrev pub teller_balances_in : Tables → ℕ → Option (ℤ × ℤ)
 teller_balances_in t n =
-  both_of (option_map balance_of_teller (row_at teller_key t.tellers n)) (option_map balance_of_branch (row_at branch_key t.branches (branch_of_teller n)))
+    both_of (option_map balance_of_teller (row_at teller_key t.tellers n)) (option_map balance_of_branch (row_at branch_key t.branches (branch_of_teller n)))
 
 abbrev pub kept_of_row : RequestRow → KeptFields
 kept_of_row r = r.kept
@@ -60,4 +60,5 @@ found_in t r = record {
   teller = teller_balances_in t r.teller;
   kept = kept_in t.requests r.teller r.number;
   decided = decided_in t.meta;
-  account = account_balance_in t r.account }
+  account = account_balance_in t r.account;
+}

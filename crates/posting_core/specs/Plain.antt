@@ -22,7 +22,8 @@ plain_tables bank = record {
   tellers = bank.tellers.items;
   accounts = bank.accounts.items;
   history = bank.history.items;
-  requests = bank.requests.items }
+  requests = bank.requests.items;
+}
 
 -- it is never down, and what a stop leaves are its rows
 abbrev pub plain_seen : PlainBank → Seen
@@ -33,7 +34,8 @@ plain_seen bank = record { tables = plain_tables bank; is_down = ⊥; left = λ 
 abbrev pub tables_kept : Tables → Entry → Tables
 tables_kept t e = let ordinal = decided_in t.meta + 1 in record t {
   meta = meta_row_of ordinal ∷ [];
-  requests = t.requests ++ request_row_of ordinal e ∷ [] }
+  requests = t.requests ++ request_row_of ordinal e ∷ [];
+}
 
 abbrev pub tables_posted : Tables → Entry → ℤ → ℤ → Tables
 tables_posted t e teller branch = let ordinal = decided_in t.meta + 1 in record {
@@ -42,7 +44,8 @@ tables_posted t e teller branch = let ordinal = decided_in t.meta + 1 in record 
   tellers = changed teller_key e.request.teller (with_teller_balance teller) t.tellers;
   accounts = changed account_key e.request.account (with_account_balance e.balance) t.accounts;
   history = t.history ++ history_row_of ordinal e ∷ [];
-  requests = t.requests ++ request_row_of ordinal e ∷ [] }
+  requests = t.requests ++ request_row_of ordinal e ∷ [];
+}
 
 abbrev pub tables_after : Tables → ℕ → RequestFields → Verdict → Tables
 tables_after t moment r (Unkept outcome) = t
@@ -68,4 +71,5 @@ tables_opened t b count = record {
   tellers = t.tellers ++ rows_from (λ n. teller_row_of n (pos 0)) (first_teller b) 10;
   accounts = t.accounts ++ rows_from (λ n. account_row_of n (pos 0)) (first_account b) count;
   history = t.history;
-  requests = t.requests }
+  requests = t.requests;
+}

@@ -61,18 +61,18 @@ pub record RepliesAsStated (before : List Command) (bytes : List ℕ) : Type 0 w
   pub malformed : (fault : Bad) → request_of bytes ≡ Err fault → reply before bytes ≡ malformed_reply
   pub no_teller : (r : RequestFields) → request_of bytes ≡ Ok r → is_teller_open (λ b. opened before b) r.teller ≡ false → reply before bytes ≡ refusal outcome.NoTeller r
   pub again : (r : RequestFields) (k : KeptFields) → Names before bytes r → kept (decided before) r.teller r.number ≡ Some k → HasContent k r
-    → reply before bytes ≡ record { outcome = k.outcome; request = Some r; balance = balance_shown k.outcome k.balance }
+      → reply before bytes ≡ record { outcome = k.outcome; request = Some r; balance = balance_shown k.outcome k.balance }
   pub reused_number : (r : RequestFields) (k : KeptFields) → Names before bytes r → kept (decided before) r.teller r.number ≡ Some k → (HasContent k r → ⊥)
-    → reply before bytes ≡ refusal outcome.ReusedNumber r
+      → reply before bytes ≡ refusal outcome.ReusedNumber r
   pub full : (r : RequestFields) → Names before bytes r → kept (decided before) r.teller r.number ≡ None → 1_000_000_000_000 ≤ length (decided before)
-    → reply before bytes ≡ refusal outcome.Full r
+      → reply before bytes ≡ refusal outcome.Full r
   pub wrong_branch : (r : RequestFields) → IsDecided before bytes r → r.branch ≢ branch_of_teller r.teller → reply before bytes ≡ refusal outcome.WrongBranch r
   pub no_account : (r : RequestFields) → IsDecided before bytes r → r.branch ≡ branch_of_teller r.teller → is_account_open (λ b. opened before b) r.account ≡ false
-    → reply before bytes ≡ refusal outcome.NoAccount r
+      → reply before bytes ≡ refusal outcome.NoAccount r
   pub over_limit : (r : RequestFields) → IsDecided before bytes r → r.branch ≡ branch_of_teller r.teller → is_account_open (λ b. opened before b) r.account ≡ true
-    → (IsPosted before r → ⊥) → reply before bytes ≡ refusal outcome.OverLimit r
+      → (IsPosted before r → ⊥) → reply before bytes ≡ refusal outcome.OverLimit r
   pub posted : (r : RequestFields) → IsDecided before bytes r → IsPosted before r
-    → reply before bytes ≡ record { outcome = outcome.Posted; request = Some r; balance = Some (account_balance (decided before) r.account +ℤ r.delta) }
+      → reply before bytes ≡ record { outcome = outcome.Posted; request = Some r; balance = Some (account_balance (decided before) r.account +ℤ r.delta) }
 
 -- of every record behind every log
 abbrev pub DecidedAsStated : Type 0

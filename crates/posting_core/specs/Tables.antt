@@ -77,7 +77,13 @@ request_row (e ∷ es) o = if length es + 1 == o then Some (request_row_of o e) 
 -- a posting stands in the history under the same ordinal (TPC-B 1.2)
 abbrev pub history_row_of : ℕ → Entry → HistoryRow
 history_row_of ordinal e = record {
-  ordinal = ordinal; account = e.request.account; teller = e.request.teller; branch = e.request.branch; delta = e.request.delta; moment = e.moment }
+  ordinal = ordinal;
+  account = e.request.account;
+  teller = e.request.teller;
+  branch = e.request.branch;
+  delta = e.request.delta;
+  moment = e.moment;
+}
 
 abbrev pub history_row : List Entry → ℕ → Option HistoryRow
 history_row [] o = None

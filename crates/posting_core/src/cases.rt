@@ -50,7 +50,11 @@ pub fn judge(found: &Found, request: &Request) -> Verdict
         return Verdict::Refused(Outcome::NoAccount);
     };
     let delta = request.delta();
-    match (plus(account, delta), plus(teller, delta), plus(branch, delta)) {
+    match (
+        plus(account, delta),
+        plus(teller, delta),
+        plus(branch, delta),
+    ) {
         (Some(account), Some(teller), Some(branch)) => Verdict::Posted {
             account,
             teller,

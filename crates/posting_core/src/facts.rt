@@ -50,10 +50,7 @@ impl Kept {
         let belongs = match outcome {
             Outcome::Posted => true,
             Outcome::WrongBranch | Outcome::NoAccount | Outcome::OverLimit => balance.get() == 0,
-            Outcome::NoTeller
-            | Outcome::ReusedNumber
-            | Outcome::Full
-            | Outcome::Malformed => false,
+            Outcome::NoTeller | Outcome::ReusedNumber | Outcome::Full | Outcome::Malformed => false,
         };
         if belongs {
             Some(Kept {

@@ -6,30 +6,25 @@ ghost use Rattle.posting_core.specs.Laws.{NoneShares, BalancesStayWithin, Tables
 pub fn cases_are_as_stated()
     ensures decided { DecidedAsStated }
     ensures replied { RepliedAsStated }
-{
-}
+{}
 
 /// No two decided requests share teller and number, so that each request is posted once.
 pub fn each_request_once()
     ensures { NoneShares }
-{
-}
+{}
 
 /// Every balance of an account, a teller and a branch stays within its limit.
 pub fn balances_stay_within()
     ensures { BalancesStayWithin }
-{
-}
+{}
 
 /// The consistency condition (TPC-B clause 2): accounts, tellers, branches and the deltas of history have one sum, each
 /// branch has the sum of its tellers, and history has just the posted requests.
 pub fn tables_are_consistent()
     ensures { TablesAreConsistent }
-{
-}
+{}
 
 /// What a bank answers depends on its tables alone.
 pub fn equal_tables_answer_alike()
     ensures { EqualTablesAnswerAlike }
-{
-}
+{}

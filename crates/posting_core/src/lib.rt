@@ -6,8 +6,10 @@ mod counter;
 mod facts;
 mod fault;
 mod laws;
+mod once;
 mod plain_bank;
 mod rows;
+mod transfer;
 mod walking;
 
 pub use cases::{TELLERS_PER_BRANCH, branch_of_teller, judge, reply_to};
@@ -15,7 +17,9 @@ pub use counter::{Counter, Opening};
 pub use facts::{Found, Kept, MAX_DECIDED, Verdict};
 pub use fault::{Fault, Rule};
 pub use laws::{
-    balances_stay_within, cases_are_as_stated, each_request_once, equal_tables_answer_alike, tables_are_consistent,
+    balances_stay_within, cases_are_as_stated, each_request_once, equal_tables_answer_alike,
+    tables_are_consistent,
 };
+pub use once::{OnceFault, answer_once};
 pub use plain_bank::{ACCOUNTS_PER_BRANCH, PlainBank};
 pub use rows::{AccountRow, BranchRow, HistoryRow, MetaRow, Ordinal, RequestRow, TellerRow};

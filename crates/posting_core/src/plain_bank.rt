@@ -220,8 +220,16 @@ impl PlainBank {
             balance: zero(),
         };
         put(&mut self.branches, row);
-        put_tellers(&mut self.tellers, TELLERS_PER_BRANCH * before + 1, TELLERS_PER_BRANCH);
-        put_accounts(&mut self.accounts, ACCOUNTS_PER_BRANCH * before + 1, u64::from(count));
+        put_tellers(
+            &mut self.tellers,
+            TELLERS_PER_BRANCH * before + 1,
+            TELLERS_PER_BRANCH,
+        );
+        put_accounts(
+            &mut self.accounts,
+            ACCOUNTS_PER_BRANCH * before + 1,
+            u64::from(count),
+        );
     }
 }
 
@@ -255,3 +263,6 @@ impl Counter for PlainBank {
         Ok(balance_at(&self.accounts, account.get()))
     }
 }
+
+#[cfg(test)]
+mod tests;

@@ -1,3 +1,4 @@
+-- Writing digits from the last one.
 use Rattle.std.proofs.Common.{◌≡◌, ◌++◌, drop, length}
 use Rattle.message_records.specs.Spelling.{digits}
 use Rattle.message_records.proofs.draft.put_digits.Given as goal

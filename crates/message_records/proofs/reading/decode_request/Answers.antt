@@ -1,3 +1,4 @@
+-- What is read is spelled so, and what is spelled so is read.
 use Rattle.std.proofs.Common.{rules, ◌∙◌}
 use Rattle.message_records.proofs.Requests.{request_again, request_found}
 use Rattle.message_records.proofs.reading.decode_request.Goals as goal

@@ -1,3 +1,4 @@
+-- Up to twelve digits fit.
 use Rattle.std.proofs.Common.{arith}
 use Rattle.message_records.proofs.Digits.{most_of_twelve}
 use Rattle.message_records.proofs.reading.read_digits.Goals as goal

@@ -1,3 +1,4 @@
+-- The draft is the spelling, which is read again.
 use Rattle.std.proofs.Common.{◌≡◌, length, arith}
 use Rattle.message_records.proofs.Composed.{request_put}
 use Rattle.message_records.proofs.Requests.{request_again}

@@ -1,4 +1,5 @@
-use Rattle.std.proofs.Common.{◌≡◌, ◌++◌, List, ℕ, ap, sym, ◌∙◌}
+-- Zeros are the fields of no request.
+use Rattle.std.proofs.Common.{◌++◌, List, ℕ, ap, sym, ◌∙◌}
 use Rattle.std.specs.Prelude.{Option, unwrap_or}
 use Rattle.message_records.specs.Records.{RequestFields}
 use Rattle.message_records.specs.Spelling.{no_fields, fields_spelling}

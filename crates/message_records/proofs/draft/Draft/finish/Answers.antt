@@ -1,4 +1,5 @@
-use Rattle.std.proofs.Common.{◌≡◌, length, rules}
+-- What is written, and spaces behind it.
+use Rattle.std.proofs.Common.{◌≡◌, length}
 use Rattle.message_records.proofs.Written.{draft_done}
 use Rattle.message_records.proofs.draft.Draft.finish.Goals as goal
 

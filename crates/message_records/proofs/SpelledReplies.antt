@@ -1,14 +1,13 @@
 -- A reply that is spelled is read.
-use Rattle.std.proofs.Common.{◌≡◌, ℕ, ◌+◌, ◌^◌, ◌<◌, ◌≤◌, List, ◌∷◌, ◌++◌, length, take, drop, replicate, Option, Some, None, Ok, refl, ap, ◌∙◌, lit<, arith}
+use Rattle.std.proofs.Common.{◌≡◌, ℕ, ◌^◌, ◌<◌, ◌≤◌, List, ◌∷◌, ◌++◌, length, take, drop, replicate, Option, Some, None, Ok, refl, ap, ◌∙◌, lit<, arith}
 use Rattle.std.specs.Prelude.{ℤ, pos, nat_abs, codes, is_some, IfSome, unwrap_or, option_and_then}
-use Rattle.std.specs.Option.{ok_or}
 use Rattle.message_records.specs.declared.faults.BadReply.TheVariants as bad_reply
 use Rattle.message_records.specs.declared.records.Outcome.{Outcome}
 use Rattle.message_records.specs.declared.records.Outcome.TheVariants.{Posted, NoTeller, WrongBranch, NoAccount, OverLimit, ReusedNumber, Full, Malformed}
 use Rattle.message_records.specs.Outcomes.{code_of, name_of, has_request, has_balance}
 use Rattle.message_records.specs.Records.{RequestFields, IsRequest, ReplyFields, IsReply}
 use Rattle.message_records.specs.Spelling.{digits, signed, fields_spelling, no_fields, filled, reply_spelling}
-use Rattle.message_records.specs.Reading.{number_of, signed_of, outcome_with, shown_in_reply, no_fields_of, shown_request_of, balance_of, reply_of}
+use Rattle.message_records.specs.Reading.{number_of, outcome_with, shown_in_reply, no_fields_of, shown_request_of, balance_of, reply_of}
 use Rattle.message_records.proofs.Digits.{length-digits, number_of-digits}
 use Rattle.message_records.proofs.Amounts.{length-signed, signed_again}
 use Rattle.message_records.proofs.Pieces.{field_next, last_field, text_again}
@@ -16,6 +15,7 @@ use Rattle.message_records.proofs.Fields.{length-fields, fields_again}
 
 -- ---- outcomes
 
+-- a code has two digits
 pub code_below : (o : Outcome) → code_of o < 10 ^ 2
 code_below Posted = lit< tt
 code_below NoTeller = lit< tt
@@ -36,6 +36,7 @@ outcome_with-code ReusedNumber = refl
 outcome_with-code Full = refl
 outcome_with-code Malformed = refl
 
+-- a filled name is 16 bytes
 pub length-name : (o : Outcome) → length (filled 16 (name_of o)) ≡ 16
 length-name Posted = refl
 length-name NoTeller = refl
@@ -46,6 +47,7 @@ length-name ReusedNumber = refl
 length-name Full = refl
 length-name Malformed = refl
 
+-- the outcome is read from its two digits
 outcome_again : (o : Outcome) (cs : List ℕ) → cs ≡ digits 2 (code_of o) → option_and_then outcome_with (number_of cs) ≡ Some o
 outcome_again o cs e = rw (e, number_of-digits 2 (code_of o) (code_below o)) (outcome_with-code o)
 
@@ -75,8 +77,9 @@ balance_again Posted (Some z) bytes s h e = rw (signed_again 12 z bytes e (omega
 balance_again _ (Some z) bytes s h e = absurd cc
 balance_again _ None bytes s h e = rw (text_again (43 ∷ replicate 12 48) bad_reply.Balance bytes (e ∙ zero_balance)) refl
 
--- ---- what is spelled is read
+-- ---- the reply
 
+-- what is spelled is read
 pub reply_again : (r : ReplyFields) (bytes : List ℕ) → IsReply r → bytes ≡ reply_spelling r → reply_of bytes ≡ Ok r
 unfolding reply_spelling reply_of
 reply_again r bytes h e =

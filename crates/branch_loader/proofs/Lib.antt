@@ -1,0 +1,4 @@
+pub mod Openings
+pub mod Remain
+pub mod Rows
+pub mod Stated

@@ -1,0 +1,66 @@
+use Rattle.std.proofs.Common.{◌≡◌, ◌+◌, ◌∙◌, true, length, arith, sym, rules, ap}
+use Rattle.std.specs.Result.{is_ok}
+use Rattle.csv.specs.Records.{fields_of}
+use Rattle.branch_loader.specs.Plans.{plan_of_records, row_of_fields}
+use Rattle.branch_loader.specs.Records.{HasLeft}
+use Rattle.branch_loader.proofs.Rows.{fields-more, no-rows, plan-short}
+use Rattle.branch_loader.proofs.Stated.{plan-empty, plan-no_header, rows_by-done, tells-fault, took-fault, took-header, took-row}
+use Rattle.std.proofs.lemmas.List.{length_push}
+use Rattle.std.proofs.lemmas.Result.{err_from_is_err_and}
+use Rattle.branch_loader.proofs.read.read_rows.Goals as goal
+
+pub returns-then-not-branch : goal.returns-then-not-branch
+returns-then-not-branch g c all left =
+    let none = rw c.if-not-branch.true at (c.in_ok-next_record.ensures.takes all left) in
+    rw none plan-empty
+
+pub returns-then-not-is_header : goal.returns-then-not-is_header
+returns-then-not-is_header g c all left =
+    let (rest, first, after) = rw c.if-not-branch.false at (c.in_ok-next_record.ensures.takes all left) in
+    rw first (plan-no_header (fields_of c.next_record.new.fields) rest (sym c.is_header.ensures ∙ c.if-not-is_header.true))
+
+pub rows-init : goal.rows-init
+rows-init g c = record {
+  plain = c.in_ok-next_record.ensures.plain;
+  plan = rw c.new-rows.ensures.items no-rows;
+  states = λ all left. took-header c.in_ok-next_record.field-0 (fields_of c.next_record.new.fields) all c.new-rows.result.items
+      (c.in_ok-next_record.ensures.takes all left) c.if-not-branch.false (sym c.is_header.ensures ∙ c.if-not-is_header.false) c.new-rows.ensures.items;
+}
+
+pub row_of_fields-requires : goal.row_of_fields-requires
+row_of_fields-requires g c = rw c.as_slice.ensures.value (let short = plan-short c.rows.rows.items c.rows.invariant.plan in omega arith)
+
+pub rows-smaller : goal.rows-smaller
+rows-smaller g c =
+    let short = plan-short c.rows.rows.items c.rows.invariant.plan in
+    let good : is_ok c.push.result ≡ true = search rules in
+    let more : length c.push.new.self.items ≡ length c.rows.rows.items + 1 = ap length (rw good at c.push.ensures.items) ∙ length_push c.rows.rows.items c.in_ok-row.row in
+    omega arith
+
+pub returns-in_err-row : goal.returns-in_err-row
+returns-in_err-row g c all left =
+    let inv = c.rows.invariant.states all left in
+    let fault = took-fault (HasLeft g.R.Read.remaining c.next_record-in-rows.new.reader) c.in_ok-next_record-2.field-0 (fields_of c.next_record-in-rows.new.fields) inv.0 c.rows.rows.items c.in_err-row.field-0.0 (plan_of_records all)
+    (c.in_ok-next_record-2.ensures.takes inv.0 inv.1) c.if-branch.true inv.2 (sym (rw c.as_slice.ensures.value at c.in_err-row.ensures)) in
+    let p = err_from_is_err_and c.from_residual-in_err-row.result c.from_residual-in_err-row.ensures.1 in
+    rw (p.1, p.2) (tells-fault (plan_of_records all) c.in_err-row.field-0.0 fault)
+
+pub rows-preserved : goal.rows-preserved
+rows-preserved g c =
+    let good : is_ok c.push.result ≡ true = search rules in
+    let items = rw good at c.push.ensures.items in
+    let row = sym (rw c.as_slice.ensures.value at c.in_ok-row.ensures) in
+    record {
+      plain = c.in_ok-next_record-2.ensures.plain;
+      plan = rw items (fields-more c.rows.rows.items (fields_of c.next_record-in-rows.new.fields) c.in_ok-row.row c.rows.invariant.plan row);
+      states = λ all left.
+          let inv = c.rows.invariant.states all left in
+          took-row c.in_ok-next_record-2.field-0 (fields_of c.next_record-in-rows.new.fields) inv.0 c.rows.rows.items c.push.new.self.items c.in_ok-row.row (plan_of_records all)
+          (c.in_ok-next_record-2.ensures.takes inv.0 inv.1) c.if-branch.true inv.2 row items;
+    }
+
+pub returns : goal.returns
+returns g c all left =
+    let (rest, there, states) = c.rows.invariant.states all left in
+    let none = rw c.if-branch.false at (c.in_ok-next_record-2.ensures.takes rest there) in
+    rw c.new.ensures (states ∙ rw none (rows_by-done row_of_fields c.rows.rows.items))

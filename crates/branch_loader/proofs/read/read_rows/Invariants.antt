@@ -1,0 +1,15 @@
+use Rattle.std.proofs.Common.{◌≡◌, ◌-◌, ℕ, List, length}
+use Rattle.branch_loader.specs.Plans.{IsPlan, plan_of_records, row_of_fields, rows_by}
+use Rattle.branch_loader.specs.Records.{HasLeft, IsPlain}
+use Rattle.branch_loader.proofs.read.read_rows.Given as goal
+
+abbrev pub invariant-rows : goal.invariant-rows
+invariant-rows g l = record {
+  plain : IsPlain l.records;
+  plan : IsPlan l.rows.items;
+  states : (all : List (List (List ℕ))) → HasLeft g.R.Read.remaining l.fn.records all → (rest : List (List (List ℕ)))
+      × HasLeft g.R.Read.remaining l.records rest × (plan_of_records all ≡ rows_by row_of_fields l.rows.items rest);
+}
+
+abbrev pub decreases-rows : goal.decreases-rows
+decreases-rows g l = 10001 - length l.rows.items

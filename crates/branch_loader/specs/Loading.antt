@@ -1,0 +1,52 @@
+-- What loading a plan into a counter does.
+use Rattle.std.specs.Prelude.{◌≡◌, ℕ, ◌+◌, ◌<◌, List, [], ◌∷◌, Bool, true, false, count_by, length, take, drop}
+use Rattle.posting_core.specs.Commands.{Command, Open}
+use Rattle.posting_core.specs.Counter.{Seen, StandsAt, LeavesOnly, ShowsBeginning, Takes, Refuses, opening_behind}
+use Rattle.posting_core.specs.declared.counter.Opening.{Opening}
+use Rattle.posting_core.specs.declared.counter.Opening.TheVariants.{Opened, Already, Differs}
+use Rattle.posting_core.specs.declared.fault.Fault.{Fault}
+use Rattle.branch_loader.specs.declared.loading.Loaded.{Loaded}
+
+-- the answers to a plan's openings, each behind the log and the openings before it
+unfoldable pub answers : List Command → List (ℕ × ℕ) → List Opening
+answers log [] = []
+answers log (p ∷ rows) = opening_behind log p.0 p.1 ∷ answers (Open p.0 p.1 ∷ log) rows
+
+abbrev pub is_opened : Opening → Bool
+is_opened Opened = true
+is_opened _ = false
+
+abbrev pub is_already : Opening → Bool
+is_already Already = true
+is_already _ = false
+
+abbrev pub is_differs : Opening → Bool
+is_differs Differs = true
+is_differs _ = false
+
+-- how many answers there are of each kind
+abbrev pub counted : List Opening → Loaded
+counted given = record { opened = count_by is_opened given; already = count_by is_already given; differs = count_by is_differs given }
+
+-- the counts with one answer more
+abbrev pub with_answer : Loaded → Opening → Loaded
+with_answer loaded Opened = record loaded { opened = loaded.opened + 1 }
+with_answer loaded Already = record loaded { already = loaded.already + 1 }
+with_answer loaded Differs = record loaded { differs = loaded.differs + 1 }
+
+-- how many answers there are in all
+abbrev pub total : Loaded → ℕ
+total loaded = loaded.opened + loaded.already + loaded.differs
+
+-- wherever the counter stood at a log, a stop may leave the log and then a beginning of the commands, so many of them at least
+abbrev pub LeavesBeginning : Seen → Seen → List Command → ℕ → Type 0
+LeavesBeginning old new commands least = new.honest → (log : List Command) → StandsAt old log → LeavesOnly new (ShowsBeginning log commands least)
+
+-- the counter answered so many of the commands, stood there, and refused the next one
+pub record IsRefusedAfter {C : Type 0} (seen : C → Seen) (old new : C) (commands : List Command) (fault : Fault) (answered : ℕ) : Type 0 where
+  pub within : answered < length commands
+  pub stood : C
+  pub first : answered ≡ 0 → stood ≡ old
+  pub taken : Takes (seen old) (seen stood) (take answered commands)
+  pub refused : Refuses fault (seen stood) (seen new) (take 1 (drop answered commands))
+  pub left : LeavesBeginning (seen old) (seen new) commands answered

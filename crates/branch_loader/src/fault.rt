@@ -1,0 +1,37 @@
+//! Why a source or a list is no plan.
+use std::fmt;
+
+/// Why a plan was refused: the first fault of its source. Rows count from 1 after the header.
+#[derive(Clone, Copy, Debug, PartialEq, Eq)]
+pub enum PlanFault {
+    /// The first record isn't the header, or there is none.
+    Header,
+    /// The row hasn't two fields.
+    Columns(u64),
+    /// The row's branch isn't 1 to 9 digits with a value of 1..=9999.
+    Branch(u64),
+    /// The row's count of accounts isn't 1 to 9 digits with a value of 1..=100,000.
+    Accounts(u64),
+    /// An earlier row names the row's branch.
+    Twice(u64),
+    /// The source failed.
+    Csv,
+    /// Memory was refused.
+    Memory,
+}
+
+impl fmt::Display for PlanFault {
+    fn fmt<W: fmt::Write>(&self, f: &mut fmt::Formatter<W>) -> fmt::Result {
+        match self {
+            PlanFault::Header => write!(f, "plan header"),
+            PlanFault::Columns(row) => write!(f, "plan row {row} columns"),
+            PlanFault::Branch(row) => write!(f, "plan row {row} branch"),
+            PlanFault::Accounts(row) => write!(f, "plan row {row} accounts"),
+            PlanFault::Twice(row) => write!(f, "plan row {row} twice"),
+            PlanFault::Csv => write!(f, "plan unreadable"),
+            PlanFault::Memory => write!(f, "no memory"),
+        }
+    }
+}
+
+impl std::error::Error for PlanFault {}

@@ -1,0 +1,15 @@
+//! The plan of the branches that a bank is to have, read from CSV, and the loading of a plan into a counter.
+#![tactic(auto)]
+
+mod fault;
+mod loading;
+mod plan;
+mod read;
+
+pub use fault::PlanFault;
+pub use loading::{Loaded, load};
+pub use plan::Plan;
+pub use read::read_plan;
+
+#[cfg(test)]
+mod tests;

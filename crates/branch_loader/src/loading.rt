@@ -1,0 +1,72 @@
+//! Loading a plan into a counter.
+ghost use Rattle.std.specs.Prelude.{◌≡◌, ◌≢◌, ◌+◌, ◌<◌, ◌↔◌, ℕ, List, [], length, IfOk, IfErr, OnOk};
+ghost use Rattle.std.specs.Result.{IsErrOf};
+ghost use Rattle.posting_core.specs.Commands.{Command};
+ghost use Rattle.posting_core.specs.Counter.{Seen, Takes};
+ghost use Rattle.posting_core.specs.Tables.{Tables, Shows};
+ghost use Rattle.branch_loader.specs.Plans.{openings};
+
+use crate::plan::Plan;
+use posting_core::{Counter, Fault, Opening};
+
+/// How many openings of a plan got each answer.
+#[derive(Clone, Copy, Debug, PartialEq, Eq)]
+pub struct Loaded {
+    /// The branch is open from now on.
+    pub opened: u32,
+    /// It was open with this count of accounts.
+    pub already: u32,
+    /// It was open with another count, which stays.
+    pub differs: u32,
+}
+
+ghost use Rattle.branch_loader.specs.Loading.{IsRefusedAfter, LeavesBeginning, answers, counted, total, with_answer};
+
+// The counts with one answer more.
+fn with_answer(loaded: Loaded, opening: Opening) -> Loaded
+    requires { total loaded < 10_000 }
+    ensures { result ≡ with_answer loaded opening }
+{
+    match opening {
+        Opening::Opened => Loaded {
+            opened: loaded.opened + 1,
+            ..loaded
+        },
+        Opening::Already => Loaded {
+            already: loaded.already + 1,
+            ..loaded
+        },
+        Opening::Differs => Loaded {
+            differs: loaded.differs + 1,
+            ..loaded
+        },
+    }
+}
+
+/// Opens the plan's branches in its order, and counts the answers. After a fault the branches before it are open.
+pub fn load<C: Counter>(plan: &Plan, counter: &mut C) -> Result<Loaded, Fault>
+    ensures counts { IfOk result (λ loaded. (C.seen counter.new).honest → (log : List Command) → Shows (C.seen counter.old).tables log
+        → loaded ≡ counted (answers log plan.now)) }
+    ensures all { IfOk result (λ loaded. total loaded ≡ length plan.now) }
+    ensures done { OnOk result (Takes (C.seen counter.old) (C.seen counter.new) (openings plan.now)) }
+    ensures stop { OnOk result (LeavesBeginning (C.seen counter.old) (C.seen counter.new) (openings plan.now) (length plan.now)) }
+    ensures up { OnOk result ((C.seen counter.new).is_down → (C.seen counter.old).is_down) }
+
+    // A fault tells how many openings were answered before it.
+    ensures fault { IfErr result (λ fault. (answered : ℕ) × IsRefusedAfter C.seen counter.old counter.new (openings plan.now) fault answered) }
+    ensures down { IsErrOf result Fault.Down ↔ ((C.seen counter.old).is_down × (plan.now ≢ [])) }
+
+    ensures honest { (C.seen counter.new).honest → (C.seen counter.old).honest }
+{
+    let mut loaded = Loaded {
+        opened: 0,
+        already: 0,
+        differs: 0,
+    };
+    for row in plan.rows() {
+        let (branch, count) = *row;
+        let opening = counter.open_branch(branch, count)?;
+        loaded = with_answer(loaded, opening);
+    }
+    Ok(loaded)
+}

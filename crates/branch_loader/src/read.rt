@@ -1,0 +1,144 @@
+//! Reading a plan from CSV.
+ghost use Rattle.std.specs.Prelude.{◌≡◌, ◌<◌, ◌≤◌, ◌⊎◌, ℕ, List, length, option_map, IfOk, IfErr, IfSome, OnOk};
+ghost use Rattle.csv.specs.Records.{fields_of};
+ghost use Rattle.message_records.specs.Reading.{number_of};
+ghost use Rattle.branch_loader.specs.Plans.{Tells, is_header, number_within, plan_of, plan_of_records, row_of_fields, two_of};
+ghost use Rattle.branch_loader.specs.Records.{HasLeft, IsPlain, Takes};
+
+use crate::fault::PlanFault;
+use crate::plan::{MOST_ACCOUNTS, MOST_BRANCH, Plan, row_of};
+use csv::{ByteRecord, ErrorKind, Reader, ReaderBuilder};
+use message_records::Branch;
+use std::alloc::Global;
+use std::io::Read;
+
+// The number that at most 9 digits write.
+fn number_of(field: &[u8]) -> Option<u32>
+    requires { length field.now ≤ 9 }
+    ensures { result ≡ number_of field.now }
+{
+    let mut value = 0u32;
+    for digit in field {
+        if !digit.is_ascii_digit() {
+            return None;
+        }
+        value = value * 10 + u32::from(*digit - b'0');
+    }
+    Some(value)
+}
+
+// The number from 1 to `most` that a field of 1 to 9 digits writes.
+fn number_within(field: &[u8], most: u32) -> Option<u32>
+    ensures { result ≡ number_within most field.now }
+{
+    if field.is_empty() || field.len() > 9 {
+        return None;
+    }
+    let value = number_of(field)?;
+    if value >= 1 && value <= most {
+        Some(value)
+    } else {
+        None
+    }
+}
+
+// The branch that a field writes.
+fn branch_of(field: &[u8]) -> Option<Branch>
+    ensures { result ≡ number_within 9999 field.now }
+{
+    Branch::new(u64::from(number_within(field, MOST_BRANCH)?))
+}
+
+// The two fields of a record of two.
+fn two_of(fields: &ByteRecord) -> Option<(&[u8], &[u8])>
+    ensures { option_map (λ p. (p.0.now, p.1.now)) result ≡ two_of (fields_of fields.now) }
+{
+    if fields.len() != 2 {
+        return None;
+    }
+    Some((fields.get(0)?, fields.get(1)?))
+}
+
+// Whether a record is the header.
+fn is_header(fields: &ByteRecord) -> bool
+    ensures { result ≡ is_header (fields_of fields.now) }
+{
+    match two_of(fields) {
+        Some((branch, accounts)) => {
+            branch == b"branch".as_slice() && accounts == b"accounts".as_slice()
+        }
+        None => false,
+    }
+}
+
+// The row that a record states behind the rows before it.
+fn row_of_fields(before: &[(Branch, u32)], fields: &ByteRecord) -> Result<(Branch, u32), PlanFault>
+    requires { length before.now < 100_000 }
+    ensures { result ≡ row_of_fields before.now (fields_of fields.now) }
+{
+    match two_of(fields) {
+        Some((branch, accounts)) => row_of(
+            before,
+            branch_of(branch),
+            number_within(accounts, MOST_ACCOUNTS),
+        ),
+        None => Err(PlanFault::Columns(before.len() as u64 + 1)),
+    }
+}
+
+// Takes the next record, if there is one. Of csv's errors only these two can come here.
+fn next_record<R: Read>(reader: &mut Reader<R>, fields: &mut ByteRecord) -> Result<bool, PlanFault>
+    requires { IsPlain reader.old }
+    ensures plain { OnOk result (IsPlain reader.new) }
+    ensures takes { IfOk result (λ found. (rows : List (List (List ℕ))) → HasLeft R.remaining reader.old rows
+        → Takes found (fields_of fields.new) rows (HasLeft R.remaining reader.new)) }
+    ensures fault { IfErr result (λ fault. (fault ≡ PlanFault.Csv) ⊎ (fault ≡ PlanFault.Memory)) }
+{
+    match reader.read_byte_record(fields) {
+        Ok(found) => Ok(found),
+        Err(error) => match error.into_kind() {
+            ErrorKind::Io(_) => Err(PlanFault::Csv),
+            ErrorKind::OutOfMemory => Err(PlanFault::Memory),
+            _ => unreachable!(),
+        },
+    }
+}
+
+// The plan that the records of a reader state.
+fn read_rows<R: Read>(
+    alloc: Global,
+    records: &mut Reader<R>,
+    fields: &mut ByteRecord,
+) -> Result<Plan, PlanFault>
+    requires { IsPlain records.old }
+    ensures { (all : List (List (List ℕ))) → HasLeft R.remaining records.old all → Tells (plan_of_records all) result }
+{
+    if !next_record(records, fields)? {
+        return Err(PlanFault::Header);
+    }
+    if !is_header(fields) {
+        return Err(PlanFault::Header);
+    }
+    let mut rows = Vec::new(alloc);
+    'rows: while next_record(records, fields)? {
+        let row = row_of_fields(rows.as_slice(), fields)?;
+        rows.push(row).map_err(|_| PlanFault::Memory)?;
+    }
+    Ok(Plan::new(rows))
+}
+
+/// Reads a plan to the end of the source, or to its first fault: the header `branch,accounts`, after a byte order
+/// mark or without one, and a record of a branch and its count of accounts for each branch. `Csv` comes where the
+/// source failed, `Memory` where memory was refused.
+pub fn read_plan<R: Read + Drop>(alloc: Global, reader: R) -> Result<Plan, PlanFault>
+    ensures { IfSome (R.remaining reader) (λ text. Tells (plan_of text) result) }
+{
+    let mut records = ReaderBuilder::new()
+        .has_headers(false)
+        .flexible(true)
+        .from_reader(alloc, reader);
+    let mut fields = ByteRecord::new(alloc);
+    let plan = read_rows(alloc, &mut records, &mut fields);
+    drop(records);
+    plan
+}

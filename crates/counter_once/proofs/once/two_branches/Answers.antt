@@ -1,0 +1,11 @@
+use Rattle.std.proofs.Common.{◌≡◌, [], rules}
+use Rattle.posting_core.specs.Plain.{plain_tables}
+use Rattle.counter_once.proofs.Answered.{numbered}
+use Rattle.counter_once.proofs.once.two_branches.Goals as goal
+
+pub returns : goal.returns
+returns c =
+    let one : c.unwrap.result ≡ 1 = search rules in
+    let two : c.unwrap-2.result ≡ 2 = search rules in
+    numbered (plain_tables c.open_branch-2.new.self) c.unwrap.result c.unwrap-2.result one two
+    (c.in_ok-open_branch-2.ensures.done.shows tt _ (c.in_ok-open_branch.ensures.done.shows tt [] c.new-bank.ensures))

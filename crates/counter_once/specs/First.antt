@@ -1,0 +1,44 @@
+-- What answering the first record of a new bank reads and writes.
+use Rattle.std.specs.Prelude.{◌≡◌, ◌<◌, ℕ, List, [], ◌∷◌, length, take, Option}
+use Rattle.std.specs.Io.KnownBytes.{Keeps, Appends, Consumes, IsAtEnd}
+use Rattle.message_records.specs.Spelling.{reply_spelling}
+use Rattle.posting_core.specs.declared.once.OnceFault.{OnceFault}
+use Rattle.posting_core.specs.declared.once.OnceFault.TheVariants.{Short, Read, Write, Bank}
+use Rattle.posting_core.specs.Commands.{Command, Open}
+use Rattle.posting_core.specs.Entries.{reply}
+
+-- branch 1 is opened with three accounts, and then branch 2 with two
+abbrev pub two_branches : List Command
+two_branches = Open 2 2 ∷ Open 1 3 ∷ []
+
+-- The reader's known bytes before and after are r and r', the writer's w and w'.
+
+-- 100 bytes are read, and the reply to them is written
+pub record IsAnswered (r r' w w' : Option (List ℕ)) : Type 0 where
+  pub bytes : List ℕ
+  pub whole : length bytes ≡ 100
+  pub read : Consumes r r' bytes
+  pub written : Appends w w' (reply_spelling (reply two_branches bytes))
+
+-- the input ends before, and nothing is written
+pub record EndsShort (r r' w w' : Option (List ℕ)) : Type 0 where
+  pub bytes : List ℕ
+  pub few : length bytes < 100
+  pub read : Consumes r r' bytes
+  pub ended : IsAtEnd r'
+  pub written : Keeps w w'
+
+-- 100 bytes are read, and a beginning of the reply is written
+pub record IsCutOff (r r' w w' : Option (List ℕ)) : Type 0 where
+  pub bytes : List ℕ
+  pub whole : length bytes ≡ 100
+  pub read : Consumes r r' bytes
+  pub count : ℕ
+  pub written : Appends w w' (take count (reply_spelling (reply two_branches bytes)))
+
+-- what each fault leaves
+abbrev pub Leaves : OnceFault → Option (List ℕ) → Option (List ℕ) → Option (List ℕ) → Option (List ℕ) → Type 0
+Leaves Short r r' w w' = EndsShort r r' w w'
+Leaves Read r r' w w' = Keeps w w'
+Leaves Write r r' w w' = IsCutOff r r' w w'
+Leaves (Bank fault) r r' w w' = Keeps w w'

@@ -1,0 +1,40 @@
+//! The first record of a new bank.
+ghost use Rattle.std.specs.Prelude.{OnOk, IfErr, IfOk};
+ghost use Rattle.posting_core.specs.Tables.{Shows};
+ghost use Rattle.posting_core.specs.Plain.{plain_tables};
+ghost use Rattle.counter_once.specs.First.{two_branches, IsAnswered, Leaves};
+
+use message_records::{Branch, Moment};
+use posting_core::{Counter, Fault, OnceFault, PlainBank, answer_once};
+use std::alloc::Global;
+use std::io::{Read, Write};
+
+/// The moment of the record, in seconds since 1970-01-01T00:00:00Z.
+const MOMENT: u64 = 1000;
+
+// A bank in memory with three accounts in branch 1 and two in branch 2.
+fn two_branches(alloc: Global) -> Result<PlainBank, Fault>
+    ensures { IfOk result (λ bank. Shows (plain_tables bank) two_branches) }
+{
+    let mut bank = PlainBank::new(alloc);
+    bank.open_branch(Branch::new(1).unwrap(), 3)?;
+    bank.open_branch(Branch::new(2).unwrap(), 2)?;
+    Ok(bank)
+}
+
+/// Answers the first record of a new bank: branch 1 has three accounts and branch 2 has two. It reads 100 bytes, and
+/// leaves what follows unread.
+pub fn answer_first<R: Read, W: Write>(
+    alloc: Global,
+    reader: &mut R,
+    writer: &mut W,
+) -> Result<(), OnceFault>
+    ensures ok { OnOk result (IsAnswered (R.remaining reader.old) (R.remaining reader.new) (W.contents writer.old) (W.contents writer.new)) }
+    ensures fault { IfErr result (λ fault. Leaves fault (R.remaining reader.old) (R.remaining reader.new) (W.contents writer.old) (W.contents writer.new)) }
+{
+    let mut bank = match two_branches(alloc) {
+        Ok(bank) => bank,
+        Err(fault) => return Err(OnceFault::Bank(fault)),
+    };
+    answer_once(reader, writer, Moment::new(MOMENT).unwrap(), &mut bank)
+}

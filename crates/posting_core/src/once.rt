@@ -1,0 +1,65 @@
+//! One record from a reader, and its reply to a writer.
+ghost use Rattle.std.specs.Prelude.{OnOk, IfErr};
+ghost use Rattle.posting_core.specs.Once.{IsAnswered, Leaves};
+
+use crate::counter::Counter;
+use crate::fault::Fault;
+use crate::transfer::{read_full, write_out};
+use message_records::Moment;
+use std::fmt;
+use std::io::{Read, Write};
+
+/// Why a record wasn't answered, or not wholly.
+#[derive(Clone, Copy, Debug, PartialEq, Eq)]
+pub enum OnceFault {
+    /// The input ended within the record. Nothing was submitted.
+    Short,
+    /// The reader failed. Nothing was submitted.
+    Read,
+    /// The writer failed, or took no byte. The record was submitted.
+    Write,
+    /// The counter refused the record.
+    Bank(Fault),
+}
+
+impl fmt::Display for OnceFault {
+    fn fmt<W: fmt::Write>(&self, f: &mut fmt::Formatter<W>) -> fmt::Result {
+        match self {
+            OnceFault::Short => write!(f, "the input ends within a record"),
+            OnceFault::Read => write!(f, "read failed"),
+            OnceFault::Write => write!(f, "write failed"),
+            OnceFault::Bank(fault) => write!(f, "{fault}"),
+        }
+    }
+}
+
+impl std::error::Error for OnceFault {}
+
+/// Reads a record of 100 bytes, submits it, and writes the reply. What follows in the input is left unread.
+pub fn answer_once<R: Read, W: Write, C: Counter>(
+    reader: &mut R,
+    writer: &mut W,
+    moment: Moment,
+    bank: &mut C,
+) -> Result<(), OnceFault>
+    ensures ok { OnOk result (IsAnswered (R.remaining reader.old) (R.remaining reader.new) (W.contents writer.old) (W.contents writer.new)
+        (C.seen bank.old) (C.seen bank.new) moment) }
+    ensures fault { IfErr result (λ fault. Leaves fault (R.remaining reader.old) (R.remaining reader.new) (W.contents writer.old) (W.contents writer.new)
+        (C.seen bank.old) (C.seen bank.new) moment) }
+    ensures honest { (C.seen bank.new).honest → (C.seen bank.old).honest }
+{
+    let mut record = [0u8; 100];
+    match read_full(reader, &mut record) {
+        Ok(100) => {}
+        Ok(_) => return Err(OnceFault::Short),
+        Err(_) => return Err(OnceFault::Read),
+    }
+    let reply = match bank.submit(moment, &record) {
+        Ok(reply) => reply,
+        Err(fault) => return Err(OnceFault::Bank(fault)),
+    };
+    match write_out(writer, &reply) {
+        Ok(()) => Ok(()),
+        Err(_) => Err(OnceFault::Write),
+    }
+}

@@ -1,0 +1,80 @@
+//! Bytes from a reader and to a writer, with what is known of both.
+ghost use Rattle.std.specs.Prelude.{◌≡◌, ◌≤◌, ◌<◌, ◌+◌, ◌++◌, ℕ, List, IfOk, OnOk, OnErr, length, take};
+ghost use Rattle.std.specs.Io.KnownBytes.{Keeps, Appends, Consumes, IsAtEnd};
+
+use std::io;
+use std::io::{ErrorKind, Read, Write};
+
+/// The reader failed.
+#[derive(Clone, Copy, Debug, PartialEq, Eq)]
+pub(crate) struct ReadFailed;
+
+/// The writer failed, or took no byte.
+#[derive(Clone, Copy, Debug, PartialEq, Eq)]
+pub(crate) struct WriteFailed;
+
+// One read into what is left of a buffer.
+fn fill<R: Read>(reader: &mut R, buffer: &mut [u8], filled: usize) -> io::Result<usize>
+    requires { filled < length buffer.old }
+    ensures fits { IfOk result (λ n. filled + n ≤ length buffer.new) }
+    ensures ok { IfOk result (λ n. (bytes : List ℕ) × (take (filled + n) buffer.new ≡ take filled buffer.old ++ bytes)
+        × Consumes (R.remaining reader.old) (R.remaining reader.new) bytes) }
+    ensures end { IfOk result (λ n. n ≡ 0 → IsAtEnd (R.remaining reader.new)) }
+    ensures err { OnErr result (Keeps (R.remaining reader.old) (R.remaining reader.new) × (take filled buffer.new ≡ take filled buffer.old)) }
+{
+    reader.read(&mut buffer[filled..])
+}
+
+/// Reads until the buffer is full or the input ends, and answers how many bytes were read. An interrupted read is made
+/// again. A reader that was asked 2^64 - 1 times counts as failed.
+pub(crate) fn read_full<R: Read>(reader: &mut R, buffer: &mut [u8]) -> Result<usize, ReadFailed>
+    ensures within { IfOk result (λ n. n ≤ length buffer.new) }
+    ensures bytes { IfOk result (λ n. Consumes (R.remaining reader.old) (R.remaining reader.new) (take n buffer.new)) }
+    ensures end { IfOk result (λ n. n < length buffer.new → IsAtEnd (R.remaining reader.new)) }
+{
+    let mut filled = 0;
+    'reads: for _ in 0..u64::MAX {
+        if filled == buffer.len() {
+            return Ok(filled);
+        }
+        match fill(reader, buffer, filled) {
+            Ok(0) => return Ok(filled),
+            Ok(n) => filled += n,
+            Err(e) if e.kind() == ErrorKind::Interrupted => {}
+            Err(_) => return Err(ReadFailed),
+        }
+    }
+    Err(ReadFailed)
+}
+
+/// Writes the bytes and flushes, up to a write that fails or takes none. An interrupted write is made again.
+pub(crate) fn write_out<W: Write>(writer: &mut W, bytes: &[u8]) -> Result<(), WriteFailed>
+    ensures { (n : ℕ) × (n ≤ length bytes.now) × Appends (W.contents writer.old) (W.contents writer.new) (take n bytes.now)
+        × OnOk result (n ≡ length bytes.now) }
+{
+    write_each(writer, bytes)?;
+    match writer.flush() {
+        Ok(()) => Ok(()),
+        Err(_) => Err(WriteFailed),
+    }
+}
+
+// Writes the bytes, up to a write that fails or takes none.
+fn write_each<W: Write>(writer: &mut W, bytes: &[u8]) -> Result<(), WriteFailed>
+    ensures { (n : ℕ) × (n ≤ length bytes.now) × Appends (W.contents writer.old) (W.contents writer.new) (take n bytes.now)
+        × OnOk result (n ≡ length bytes.now) }
+{
+    let mut done = 0;
+    'writes: for _ in 0..u64::MAX {
+        if done == bytes.len() {
+            return Ok(());
+        }
+        match writer.write(&bytes[done..]) {
+            Ok(0) => return Err(WriteFailed),
+            Ok(n) => done += n,
+            Err(e) if e.kind() == ErrorKind::Interrupted => {}
+            Err(_) => return Err(WriteFailed),
+        }
+    }
+    Err(WriteFailed)
+}
