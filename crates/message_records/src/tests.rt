@@ -14,6 +14,73 @@ const POSTED: &[u8; 72] =
 const MALFORMED: &[u8; 75] =
     b"DR0190000000000000000000000000000000000000+0000000000+000000000000MALFORMED";
 
+// Faults field by field; the filler's stands in the test.
+const FAULTY_REQUESTS: [(&[u8; 51], Bad); 6] = [
+    (
+        b"DC02000000000001000000010000010000000001+0000000500",
+        Bad::Tag,
+    ),
+    (
+        b"DC01000000000000000000010000010000000001+0000000500",
+        Bad::Account,
+    ),
+    (
+        b"DC01000000000001000A00010000010000000001+0000000500",
+        Bad::Teller,
+    ),
+    (
+        b"DC01000000000001000000010000000000000001+0000000500",
+        Bad::Branch,
+    ),
+    (
+        b"DC010000000000010000000100000100000 0001+0000000500",
+        Bad::Number,
+    ),
+    (
+        b"DC01000000000001000000010000010000000001-0000000000",
+        Bad::Delta,
+    ),
+];
+
+const FAULTY_REPLIES: [(&[u8], BadReply); 9] = [
+    (
+        b"DR0200000000000001000000010000010000000001+0000000500+000000000500POSTED",
+        BadReply::Tag,
+    ),
+    (
+        b"DR0117000000000001000000010000010000000001+0000000500+000000000000POSTED",
+        BadReply::Outcome,
+    ),
+    (
+        b"DR0100000000000000000000010000010000000001+0000000500+000000000500POSTED",
+        BadReply::Account,
+    ),
+    (
+        b"DR0190000000000000000000010000000000000000+0000000000+000000000000MALFORMED",
+        BadReply::Teller,
+    ),
+    (
+        b"DR010000000000000100000001000A010000000001+0000000500+000000000500POSTED",
+        BadReply::Branch,
+    ),
+    (
+        b"DR0100000000000001000000010000010000000000+0000000500+000000000500POSTED",
+        BadReply::Number,
+    ),
+    (
+        b"DR0190000000000000000000000000000000000000-0000000000+000000000000MALFORMED",
+        BadReply::Delta,
+    ),
+    (
+        b"DR0115000000000001000000010000010000000001+0000000500+000000000001REUSED NUMBER",
+        BadReply::Balance,
+    ),
+    (
+        b"DR0113000000000001000000010000010000000001+0000000500+000000000000NO TELLER",
+        BadReply::Name,
+    ),
+];
+
 // A record that begins so, and goes on with spaces.
 fn record_of<const SIZE: usize>(rt: &impl Abort, front: &[u8]) -> [u8; SIZE] {
     assert!(rt; front.len() <= SIZE);
@@ -61,33 +128,7 @@ fn replies(rt: HostRuntime) -> Result<(), Fail> {
 
 #[test]
 fn faulty_requests(rt: HostRuntime) {
-    let table = [
-        (
-            b"DC02000000000001000000010000010000000001+0000000500",
-            Bad::Tag,
-        ),
-        (
-            b"DC01000000000000000000010000010000000001+0000000500",
-            Bad::Account,
-        ),
-        (
-            b"DC01000000000001000A00010000010000000001+0000000500",
-            Bad::Teller,
-        ),
-        (
-            b"DC01000000000001000000010000000000000001+0000000500",
-            Bad::Branch,
-        ),
-        (
-            b"DC010000000000010000000100000100000 0001+0000000500",
-            Bad::Number,
-        ),
-        (
-            b"DC01000000000001000000010000010000000001-0000000000",
-            Bad::Delta,
-        ),
-    ];
-    for (front, fault) in table {
+    for (front, fault) in FAULTY_REQUESTS {
         assert_eq!(rt;
             decode_request(&record_of(&rt, front)),
             Err(fault),
@@ -101,45 +142,7 @@ fn faulty_requests(rt: HostRuntime) {
 
 #[test]
 fn faulty_replies(rt: HostRuntime) {
-    let table: [(&[u8], BadReply); 9] = [
-        (
-            b"DR0200000000000001000000010000010000000001+0000000500+000000000500POSTED",
-            BadReply::Tag,
-        ),
-        (
-            b"DR0117000000000001000000010000010000000001+0000000500+000000000000POSTED",
-            BadReply::Outcome,
-        ),
-        (
-            b"DR0100000000000000000000010000010000000001+0000000500+000000000500POSTED",
-            BadReply::Account,
-        ),
-        (
-            b"DR0190000000000000000000010000000000000000+0000000000+000000000000MALFORMED",
-            BadReply::Teller,
-        ),
-        (
-            b"DR010000000000000100000001000A010000000001+0000000500+000000000500POSTED",
-            BadReply::Branch,
-        ),
-        (
-            b"DR0100000000000001000000010000010000000000+0000000500+000000000500POSTED",
-            BadReply::Number,
-        ),
-        (
-            b"DR0190000000000000000000000000000000000000-0000000000+000000000000MALFORMED",
-            BadReply::Delta,
-        ),
-        (
-            b"DR0115000000000001000000010000010000000001+0000000500+000000000001REUSED NUMBER",
-            BadReply::Balance,
-        ),
-        (
-            b"DR0113000000000001000000010000010000000001+0000000500+000000000000NO TELLER",
-            BadReply::Name,
-        ),
-    ];
-    for (front, fault) in table {
+    for (front, fault) in FAULTY_REPLIES {
         assert_eq!(rt;
             decode_reply(&record_of(&rt, front)),
             Err(fault),
@@ -152,7 +155,7 @@ fn faulty_replies(rt: HostRuntime) {
 }
 
 #[test]
-fn ends_of_the_ranges(rt: HostRuntime) -> Result<(), Fail> {
+fn ends_of_numbers(rt: HostRuntime) {
     for (value, inside) in [
         (0, false),
         (1, true),
@@ -183,6 +186,10 @@ fn ends_of_the_ranges(rt: HostRuntime) -> Result<(), Fail> {
     for (value, inside) in [(0, true), (253_402_300_799, true), (253_402_300_800, false)] {
         assert_eq!(rt; Moment::new(value).is_some(), inside, "moment {value}");
     }
+}
+
+#[test]
+fn ends_of_amounts(rt: HostRuntime) -> Result<(), Fail> {
     for (value, inside) in [(999_999_999_999, true), (1_000_000_000_000, false)] {
         assert_eq!(rt; Cents::new(value).is_some(), inside, "{value} cents");
         assert_eq!(rt; Cents::new(-value).is_some(), inside, "-{value} cents");
