@@ -1,27 +1,23 @@
 -- How a counter stands after some openings of a plan.
-use Rattle.std.proofs.Common.{◌≡◌, ◌≤◌, ◌<◌, ◌+◌, ◌∷◌, ◌++◌, ◌∙◌, ℕ, zero, suc, List, [], Option, Some, None, Bool, length, take, drop, get_or, arith, refl, sym, ap, subst, add-zero, zero-add}
+use Rattle.std.proofs.Common.{◌≡◌, ◌≤◌, ◌<◌, ◌+◌, ◌∷◌, ◌++◌, ◌∙◌, ℕ, zero, suc, List, [], Option, Some, None, Bool, length, take, take_all, drop, get_or, arith, refl, sym, ap, subst, add-zero, zero-add}
 use Rattle.std.specs.Prelude.{IsSomeAnd, count_by, cond, sum_by}
 use Rattle.std.proofs.Math.Seq.{take-append-add, take-append_seam, take-length}
 use Rattle.std.proofs.lemmas.List.{drop-map, drop_more, length-append, length-map, length-take-le, map-append, take-append-drop, take-map}
 use Rattle.std.proofs.lemmas.List.Sums.{sum_by-append}
 use Rattle.posting_core.specs.Commands.{Command, Open}
-use Rattle.posting_core.specs.Counter.{Seen, ShowsBeginning, Takes, Refuses, opening_behind}
+use Rattle.posting_core.specs.Counter.{Seen, ShowsLog, ShowsBeginning, Takes, Refuses, opening_behind}
 use Rattle.posting_core.specs.Runs.{behind}
 use Rattle.posting_core.specs.Tables.{Tables, Shows}
+use Rattle.posting_core.proofs.Sequence.{behind-append}
 use Rattle.posting_core.specs.declared.counter.Opening.{Opening}
 use Rattle.posting_core.specs.declared.counter.Opening.TheVariants.{Opened, Already, Differs}
 use Rattle.posting_core.specs.declared.fault.Fault.{Fault}
 use Rattle.posting_core.specs.declared.fault.Fault.TheVariants.{Memory, Store, Down, Damaged}
-use Rattle.branch_loader.specs.Plans.{openings}
+use Rattle.branch_loader.specs.Plans.{openings, Rows, Row}
 use Rattle.branch_loader.specs.Loading.{IsRefusedAfter, LeavesBeginning, answers, counted, total, with_answer, is_opened, is_already, is_differs}
 use Rattle.branch_loader.specs.declared.loading.Loaded.{Loaded}
 
 -- ---- commands behind commands
-
--- what is behind two lists is what is behind one after the other
-pub behind-append : (log xs ys : List Command) → behind log (xs ++ ys) ≡ behind (behind log xs) ys
-behind-append log [] ys = refl
-behind-append log (x ∷ xs) ys = behind-append (x ∷ log) xs ys
 
 -- two calls take what they take together
 pub Takes-append : (a b c : Seen) (xs ys : List Command) → Takes a b xs → Takes b c ys → (c.honest → b.honest) → Takes a c (xs ++ ys)
@@ -32,25 +28,29 @@ Takes-append a b c xs ys p q honest = record {
 
 -- ---- answers
 
-answers-push : (log : List Command) (rows : List (ℕ × ℕ)) (p : ℕ × ℕ)
+answers-push : (log : List Command) (rows : Rows) (p : Row)
     → answers log (rows ++ p ∷ []) ≡ answers log rows ++ opening_behind (behind log (openings rows)) p.0 p.1 ∷ []
 unfolding answers
 answers-push log [] p = refl
 answers-push log (q ∷ rows) p =
     ap (λ (given : List Opening). opening_behind log q.0 q.1 ∷ given) (answers-push (Open q.0 q.1 ∷ log) rows p)
 
-count_by-push : (test : Opening → Bool) (given : List Opening) (o : Opening) → count_by test (given ++ o ∷ []) ≡ count_by test given + cond (test o) 1 0
+count_by-push : (test : Opening → Bool) (given : List Opening) (o : Opening)
+    → count_by test (given ++ o ∷ []) ≡ count_by test given + cond (test o) 1 0
 count_by-push test given o =
-    sum_by-append (λ (a : Opening). cond (test a) 1 0) given (o ∷ []) ∙ ap (λ (n : ℕ). sum_by (λ (a : Opening). cond (test a) 1 0) given + n) (zero-add (cond (test o) 1 0))
+    sum_by-append (λ (a : Opening). cond (test a) 1 0) given (o ∷ [])
+    ∙ ap (λ (n : ℕ). sum_by (λ (a : Opening). cond (test a) 1 0) given + n) (zero-add (cond (test o) 1 0))
 
 -- the counts that differ by 1, 0 and 0
-counts : (a b c x y z : ℕ) → a ≡ x → b ≡ y → c ≡ z → (let one : Loaded = record { opened = a; already = b; differs = c } in one) ≡ record { opened = x; already = y; differs = z }
+counts : (a b c x y z : ℕ) → a ≡ x → b ≡ y → c ≡ z
+    → (let one : Loaded = record { opened = a; already = b; differs = c } in one) ≡ record { opened = x; already = y; differs = z }
 counts a b c x y z p q r = cc
 
 counted-push : (given : List Opening) (o : Opening) → counted (given ++ o ∷ []) ≡ with_answer (counted given) o
 counted-push given Opened =
     counts _ _ _ _ _ _ (count_by-push is_opened given Opened)
-    (count_by-push is_already given Opened ∙ add-zero (count_by is_already given)) (count_by-push is_differs given Opened ∙ add-zero (count_by is_differs given))
+    (count_by-push is_already given Opened ∙ add-zero (count_by is_already given))
+    (count_by-push is_differs given Opened ∙ add-zero (count_by is_differs given))
 counted-push given Already =
     counts _ _ _ _ _ _ (count_by-push is_opened given Already ∙ add-zero (count_by is_opened given))
     (count_by-push is_already given Already) (count_by-push is_differs given Already ∙ add-zero (count_by is_differs given))
@@ -72,11 +72,13 @@ more_of (Some t) f h = f t h
 -- after the commands were taken a stop leaves them all
 pub left-all : (old new : Seen) (commands : List Command) → Takes old new commands → LeavesBeginning old new commands (length commands)
 left-all old new commands taken h log stood x left =
-    more_of x (λ t shown. record { count = length commands; holds = omega arith; within = omega arith; shows = rw (take-length commands) shown })
+    more_of x
+    (λ t shown. record { count = length commands; holds = omega arith; within = omega arith; shows = rw (take-length commands) shown })
     ((taken.stands h log stood).stop x left)
 
 -- a beginning of one command more
-one_more : (log xs rest : List Command) (c : Command) (t : Tables) → ShowsBeginning (behind log xs) (c ∷ []) 0 t → ShowsBeginning log (xs ++ c ∷ rest) (length xs) t
+one_more : (log xs rest : List Command) (c : Command) (t : Tables) → ShowsBeginning (behind log xs) (c ∷ []) 0 t
+    → ShowsBeginning log (xs ++ c ∷ rest) (length xs) t
 one_more log xs rest c t b = record {
   count = length xs + b.count;
   holds = omega arith;
@@ -110,15 +112,16 @@ left-refused (Damaged rule) old now new xs c rest taken refused honest h log sto
 -- ---- the counter after some rows
 
 -- how a counter stands after the openings of some rows, whose answers were counted
-pub record IsBehind {C : Type 0} (seen : C → Seen) (old now : C) (rows : List (ℕ × ℕ)) (loaded : Loaded) : Type 0 where
+pub record IsBehind {C : Type 0} (seen : C → Seen) (old now : C) (rows : Rows) (loaded : Loaded) : Type 0 where
   pub taken : Takes (seen old) (seen now) (openings rows)
   pub first : length rows ≡ 0 → now ≡ old
   pub begun : 0 < length rows → (seen old).is_down → ⊥
   pub up : (seen now).is_down → (seen old).is_down
   pub honest : (seen now).honest → (seen old).honest
-  pub counts : (seen now).honest → (log : List Command) → Shows (seen old).tables log → loaded ≡ counted (answers log rows)
+  pub counts : (seen now).honest → (log : List Command) → ShowsLog (seen old) log → loaded ≡ counted (answers log rows)
   pub sum : total loaded ≡ length rows
 
+-- before the first
 pub behind-none : {C : Type 0} (seen : C → Seen) (c : C) → IsBehind seen c c [] (record { opened = 0; already = 0; differs = 0 })
 unfolding answers
 behind-none seen c = record {
@@ -132,46 +135,53 @@ behind-none seen c = record {
 }
 
 -- a counter that isn't down now wasn't down before
-was_down : {C : Type 0} (seen : C → Seen) (old now : C) (rows : List (ℕ × ℕ)) → (length rows ≡ 0 → now ≡ old)
+was_down : {C : Type 0} (seen : C → Seen) (old now : C) (rows : Rows) → (length rows ≡ 0 → now ≡ old)
     → (0 < length rows → (seen old).is_down → ⊥) → ((seen now).is_down → ⊥) → (seen old).is_down → ⊥
 was_down seen old now [] first begun is_up down = is_up (rw (first refl) down)
 was_down seen old now (p ∷ rows) first begun is_up down = begun (omega arith) down
 
 -- after one more
-pub behind-more : {C : Type 0} (seen : C → Seen) (old now new : C) (rows : List (ℕ × ℕ)) (p : ℕ × ℕ) (loaded : Loaded) (opening : Opening)
+pub behind-more : {C : Type 0} (seen : C → Seen) (old now new : C) (rows : Rows) (p : Row) (loaded : Loaded) (opening : Opening)
     → IsBehind seen old now rows loaded
     → Takes (seen now) (seen new) (Open p.0 p.1 ∷ [])
-    → ((seen new).honest → (log : List Command) → Shows (seen now).tables log → opening ≡ opening_behind log p.0 p.1)
+    → ((seen new).honest → (log : List Command) → ShowsLog (seen now) log → opening ≡ opening_behind log p.0 p.1)
     → ((seen now).is_down → ⊥) → ((seen new).is_down → ⊥) → ((seen new).honest → (seen now).honest)
     → IsBehind seen old new (rows ++ p ∷ []) (with_answer loaded opening)
 behind-more seen old now new rows p loaded opening b takes answer was_up is_up honest = record {
-  taken = rw (map-append (λ (q : ℕ × ℕ). Open q.0 q.1) rows (p ∷ [])) (Takes-append (seen old) (seen now) (seen new) (openings rows) (Open p.0 p.1 ∷ []) b.taken takes honest);
+  taken = rw (map-append (λ (q : Row). Open q.0 q.1) rows (p ∷ []))
+      (Takes-append (seen old) (seen now) (seen new) (openings rows) (Open p.0 p.1 ∷ []) b.taken takes honest);
   first = λ e. absurd (omega (arith, length-append rows (p ∷ [])));
   begun = λ h down. was_down seen old now rows b.first b.begun was_up down;
   up = λ down. absurd (is_up down);
   honest = λ h. b.honest (honest h);
   counts = λ h log shown.
-      let given : opening ≡ opening_behind (behind log (openings rows)) p.0 p.1 = answer h (behind log (openings rows)) (b.taken.shows (honest h) log shown) in
+      let given : opening ≡ opening_behind (behind log (openings rows)) p.0 p.1 =
+      answer h (behind log (openings rows)) (b.taken.shows (honest h) log shown) in
       let before : loaded ≡ counted (answers log rows) = b.counts (honest h) log shown in
       ap (λ (l : Loaded). with_answer l opening) before ∙ ap (λ (o : Opening). with_answer (counted (answers log rows)) o) given
-      ∙ sym (counted-push (answers log rows) (opening_behind (behind log (openings rows)) p.0 p.1)) ∙ ap counted (sym (answers-push log rows p));
+      ∙ sym (counted-push (answers log rows) (opening_behind (behind log (openings rows)) p.0 p.1))
+      ∙ ap counted (sym (answers-push log rows p));
   sum = with_answer-total loaded opening ∙ ap (λ (n : ℕ). n + 1) b.sum ∙ sym (length-append rows (p ∷ []));
 }
 
 -- the next opening refused
-pub behind-refused : {C : Type 0} (seen : C → Seen) (old now new : C) (rows : List (ℕ × ℕ)) (i : ℕ) (p : ℕ × ℕ) (loaded : Loaded) (fault : Fault)
+pub behind-refused : {C : Type 0} (seen : C → Seen) (old now new : C) (rows : Rows) (i : ℕ) (p : Row) (loaded : Loaded) (fault : Fault)
     → IsBehind seen old now (take i rows) loaded → i < length rows → p ≡ get_or rows i p
     → Refuses fault (seen now) (seen new) (Open p.0 p.1 ∷ []) → ((seen new).honest → (seen now).honest)
     → IsRefusedAfter seen old new (openings rows) fault i
 behind-refused seen old now new rows i p loaded fault b within read refused honest =
     let front : length (take i rows) ≡ i = length-take-le i rows (omega arith) in
     let rest : drop i rows ≡ p ∷ drop (i + 1) rows = drop_more rows i p within ∙ rw (← read) refl in
-    let taken : take i (openings rows) ≡ openings (take i rows) = take-map (λ (q : ℕ × ℕ). Open q.0 q.1) i rows in
-    let dropped : drop i (openings rows) ≡ Open p.0 p.1 ∷ openings (drop (i + 1) rows) = drop-map (λ (q : ℕ × ℕ). Open q.0 q.1) i rows ∙ rw rest refl in
+    let taken : take i (openings rows) ≡ openings (take i rows) = take-map (λ (q : Row). Open q.0 q.1) i rows in
+    let dropped : drop i (openings rows) ≡ Open p.0 p.1 ∷ openings (drop (i + 1) rows) =
+    drop-map (λ (q : Row). Open q.0 q.1) i rows ∙ rw rest refl in
     let whole : openings rows ≡ openings (take i rows) ++ Open p.0 p.1 ∷ openings (drop (i + 1) rows) =
     sym (take-append-drop i (openings rows)) ∙ rw (taken, dropped) refl in
     let count : length (openings (take i rows)) ≡ i = rw length-map front in
-    let left = left-refused fault (seen old) (seen now) (seen new) (openings (take i rows)) (Open p.0 p.1) (openings (drop (i + 1) rows)) b.taken refused honest in
+    let behind_all = openings (take i rows) ++ Open p.0 p.1 ∷ openings (drop (i + 1) rows) in
+    let left =
+    left-refused fault (seen old) (seen now) (seen new) (openings (take i rows)) (Open p.0 p.1) (openings (drop (i + 1) rows)) b.taken
+    refused honest in
     record {
       within = rw length-map within;
       stood = now;
@@ -179,5 +189,14 @@ behind-refused seen old now new rows i p loaded fault b within read refused hone
       taken = rw taken b.taken;
       refused = rw dropped refused;
       left = subst (λ (cs : List Command). LeavesBeginning (seen old) (seen new) cs i) (sym whole)
-          (subst (λ (n : ℕ). LeavesBeginning (seen old) (seen new) (openings (take i rows) ++ Open p.0 p.1 ∷ openings (drop (i + 1) rows)) n) count left);
+          (subst (λ (n : ℕ). LeavesBeginning (seen old) (seen new) behind_all n) count left);
     }
+
+-- at the end of the rows it leaves them all
+pub left-end : {C : Type 0} (seen : C → Seen) (old now : C) (rows plan : List (ℕ × ℕ)) (i : ℕ) (loaded : Loaded) → IsBehind seen old now (take i rows) loaded → length rows ≤ i → rows ≡ plan
+    → LeavesBeginning (seen old) (seen now) (openings plan) (length plan)
+left-end seen old now rows plan i loaded b all is =
+    let whole : take i rows ≡ plan = take_all i rows all ∙ is in
+    let taken : Takes (seen old) (seen now) (openings plan) = subst (λ (rs : List (ℕ × ℕ)). Takes (seen old) (seen now) (openings rs)) whole b.taken in
+    let count : length (openings plan) ≡ length plan = rw length-map refl in
+    subst (λ (n : ℕ). LeavesBeginning (seen old) (seen now) (openings plan) n) count (left-all (seen old) (seen now) (openings plan) taken)

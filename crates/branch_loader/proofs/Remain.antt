@@ -7,7 +7,7 @@ use Rattle.csv.specs.declared.parser.Action.{Action}
 use Rattle.csv.specs.declared.parser.State.{State}
 use Rattle.csv.specs.declared.parser.State.TheVariants as st
 use Rattle.csv.specs.declared.reader.Reader.{Reader}
-use Rattle.branch_loader.specs.Records.{HasLeft, Takes, records_at}
+use Rattle.branch_loader.specs.Records.{HasLeft, Takes, records_at, Records, Fields}
 
 -- a record's end leaves the machine between two records
 IsBetween : State × Action → Type 0
@@ -56,11 +56,13 @@ record Shorter (s : State) (xs : List ℕ) (p : Read) : Type 0 where
   fewer : length p.2 ≤ length xs
   shorter : ends_at_end s ≡ false → length p.2 < length xs
 
-at_end : (b : Bool) (r p : Read) → ends_at_end r.1 ≡ false → r.2 ≡ [] → (if b then Some r else None) ≡ Some p → (b ≡ true) × (ends_at_end p.1 ≡ false) × (p.2 ≡ [])
+at_end : (b : Bool) (r p : Read) → ends_at_end r.1 ≡ false → r.2 ≡ [] → (if b then Some r else None) ≡ Some p
+    → (b ≡ true) × (ends_at_end p.1 ≡ false) × (p.2 ≡ [])
 at_end true r p between none e = (refl, cc, cc)
 at_end false r p between none e = cc e
 
-next-shorter : (s : State) (fields : List (List ℕ)) (field xs : List ℕ) (p : Read) → next_record default_config s fields field xs ≡ Some p → Shorter s xs p
+next-shorter : (s : State) (fields : Fields) (field xs : List ℕ) (p : Read) → next_record default_config s fields field xs ≡ Some p
+    → Shorter s xs p
 unfolding next_record IsBetween
 next-shorter s fields field [] p e =
     let h = at_end (ends_at_end s) (fields ++ (field ∷ []), st.StartRecord, []) p refl refl e in
@@ -68,7 +70,11 @@ next-shorter s fields field [] p e =
 next-shorter s fields field (c ∷ rest) p e =
     by (is_end (step default_config s c).1) refl (next-shorter (step default_config s c).0 _ _ rest p)
   where
-    by : (b : Bool) → is_end (step default_config s c).1 ≡ b → (next_record default_config (step default_config s c).0 (fields_after (step default_config s c).1 fields field) (field_after (step default_config s c).1 c field) rest ≡ Some p → Shorter (step default_config s c).0 rest p) → Shorter s (c ∷ rest) p
+    by : (b : Bool) → is_end (step default_config s c).1 ≡ b
+        → (next_record default_config (step default_config s c).0
+        (fields_after (step default_config s c).1 fields field) (field_after (step default_config s c).1 c field) rest ≡ Some p
+        → Shorter (step default_config s c).0 rest p)
+        → Shorter s (c ∷ rest) p
     by true is more =
         let ended = rw is at e in
         let state : p.1 ≡ (step default_config s c).0 = cc ended in
@@ -80,20 +86,22 @@ next-shorter s fields field (c ∷ rest) p e =
         record { between = q.between; fewer = omega arith; shorter = λ n. omega arith }
 
 -- enough fuel is enough
-fuel : (n m : ℕ) (s : State) (xs : List ℕ) → ends_at_end s ≡ false → length xs < n → length xs < m → records_from default_config n s xs ≡ records_from default_config m s xs
+fuel : (n m : ℕ) (s : State) (xs : List ℕ) → ends_at_end s ≡ false → length xs < n → length xs < m
+    → records_from default_config n s xs ≡ records_from default_config m s xs
 unfolding records_from
 fuel zero m s xs b h k = absurd (omega arith)
 fuel (suc n) zero s xs b h k = absurd (omega arith)
 fuel (suc n) (suc m) s xs b h k = by (fuel n m) (next_record default_config s [] [] xs) refl
   where
-    by : ((s : State) (xs : List ℕ) → ends_at_end s ≡ false → length xs < n → length xs < m → records_from default_config n s xs ≡ records_from default_config m s xs)
+    by : ((s : State) (xs : List ℕ) → ends_at_end s ≡ false → length xs < n → length xs < m
+        → records_from default_config n s xs ≡ records_from default_config m s xs)
         → (o : Option Read) → next_record default_config s [] [] xs ≡ o
         → records_next (records_from default_config n) o ≡ records_next (records_from default_config m) o
     by less None e = refl
     by less (Some p) e =
         let q = next-shorter s [] [] xs p e in
         let lt = q.shorter b in
-        ap (λ (rows : List (List (List ℕ))). p.0 ∷ rows) (less p.1 p.2 q.between (omega arith) (omega arith))
+        ap (λ (rows : Records). p.0 ∷ rows) (less p.1 p.2 q.between (omega arith) (omega arith))
 
 -- the first record and those after it
 pub records-some : (s : State) (xs : List ℕ) (p : Read) → ends_at_end s ≡ false → next_record default_config s [] [] xs ≡ Some p
@@ -102,31 +110,35 @@ unfolding records_from
 records-some s xs p b e =
     let q = next-shorter s [] [] xs p e in
     let lt = q.shorter b in
-    (rw (add-one (length xs), e) (ap (λ (rows : List (List (List ℕ))). p.0 ∷ rows) (fuel (length xs) (length p.2 + 1) p.1 p.2 q.between (omega arith) (omega arith))), q.between)
+    let rest = fuel (length xs) (length p.2 + 1) p.1 p.2 q.between (omega arith) (omega arith) in
+    (rw (add-one (length xs), e) (ap (λ (rows : Records). p.0 ∷ rows) rest), q.between)
 
+-- where there is no record
 pub records-none : (s : State) (xs : List ℕ) → next_record default_config s [] [] xs ≡ None → records_at s xs ≡ []
 unfolding records_from
 records-none s xs e = rw (add-one (length xs), e) refl
 
 -- the records that are left after a read
-abbrev LeftAfter : State → Option (List ℕ) → List (List (List ℕ)) → Type 0
+abbrev LeftAfter : State → Option (List ℕ) → Records → Type 0
 LeftAfter s known rest = (ends_at_end s ≡ false) × (option_map (records_at s) known ≡ Some rest)
 
-go : (s s2 : State) (src after : Option (List ℕ)) (found : Bool) (fields : List (List ℕ)) (rows : List (List (List ℕ)))
+go : (s s2 : State) (src after : Option (List ℕ)) (found : Bool) (fields : Fields) (rows : Records)
     → ends_at_end s ≡ false → option_map (records_at s) src ≡ Some rows → ReadsNext default_config s src after found fields s2
     → Takes found fields rows (LeftAfter s2 after)
 go s s2 None after found fields rows b l r = cc l
 go s s2 (Some y) None found fields rows b l r = absurd r
 go s s2 (Some y) (Some z) found fields rows b l r = by (next_record default_config s [] [] y) refl r
   where
-    by : (o : Option Read) → next_record default_config s [] [] y ≡ o → NextIs o found fields s2 z → Takes found fields rows (LeftAfter s2 (Some z))
+    by : (o : Option Read) → next_record default_config s [] [] y ≡ o → NextIs o found fields s2 z
+        → Takes found fields rows (LeftAfter s2 (Some z))
     by None e n = let none = records-none s y e in rw n (let same : records_at s y ≡ rows = cc l in sym same ∙ none)
     by (Some p) e n =
         let some = records-some s y p b e in
         let same : records_at s y ≡ rows = cc l in
         rw (n.0, n.1, n.2, n.3) (records_at p.1 p.2, sym same ∙ some.0, (some.1, refl))
 
-pub takes : {R : Type 0} (rem : R → Option (List ℕ)) (a b : Reader R) (found : Bool) (fields : List (List ℕ)) (rows : List (List (List ℕ)))
+-- what a read of a record does to those that are left
+pub takes : {R : Type 0} (rem : R → Option (List ℕ)) (a b : Reader R) (found : Bool) (fields : Fields) (rows : Records)
     → a.config ≡ default_config → HasLeft rem a rows → ReadRecord rem a b found fields → Takes found fields rows (HasLeft rem b)
 takes rem a b found fields rows config left r =
     by found (go a.state b.state (source_of rem a) (pending_of (rem b.rdr) b) found fields rows left.between left.left (rw config at r.0))
@@ -136,7 +148,8 @@ takes rem a b found fields rows config left r =
     by true t = (t.0, t.1, record { between = t.2.0; left = rw r.1 t.2.1 })
 
 -- a new reader has all records of the text left
-pub start : {R : Type 0} (rem : R → Option (List ℕ)) (r : Reader R) (known : Option (List ℕ)) → source_of rem r ≡ option_map strip_bom known → r.state ≡ st.StartRecord
+pub start : {R : Type 0} (rem : R → Option (List ℕ)) (r : Reader R) (known : Option (List ℕ)) → source_of rem r ≡ option_map strip_bom known
+    → r.state ≡ st.StartRecord
     → IfSome known (λ text. HasLeft rem r (records default_config (strip_bom text)))
 start rem r None source state = tt
 start rem r (Some text) source state = record { between = rw state refl; left = rw (source, state) refl }

@@ -10,14 +10,15 @@ use Rattle.std.proofs.lemmas.Map.Keys.{IsDistinct-push}
 use Rattle.std.proofs.lemmas.Map.Steps.{length-le_from_distinct_below}
 use Rattle.message_records.specs.Ranges.{whole_within}
 use Rattle.message_records.specs.Reading.{number_of}
-use Rattle.branch_loader.specs.Plans.{IsPlan, IsRow, most_accounts, most_branch, names, number_within, row_of, row_of_fields, row_of_pair, row_of_two, two_of}
+use Rattle.branch_loader.specs.Plans.{IsPlan, IsRow, most_accounts, most_branch, names, number_within, row_of, row_of_fields, row_of_pair, row_of_two, two_of, Rows, Row}
 use Rattle.branch_loader.specs.declared.fault.PlanFault.TheVariants.{Twice}
+use Rattle.branch_loader.specs.Records.{Fields}
 
 -- the branches of rows
-abbrev branches : List (ℕ × ℕ) → List ℕ
+abbrev branches : Rows → List ℕ
 branches rows = map (λ p. p.0) rows
 
-names-branches : (branch : ℕ) (rows : List (ℕ × ℕ)) → names branch rows ≡ list_any (nat_eq branch) (branches rows)
+names-branches : (branch : ℕ) (rows : Rows) → names branch rows ≡ list_any (nat_eq branch) (branches rows)
 names-branches branch [] = refl
 names-branches branch (p ∷ rows) = ap (λ (b : Bool). nat_eq branch p.0 || b) (names-branches branch rows)
 
@@ -39,23 +40,25 @@ unfolding IsDistinct
 no-rows = record { in_range = λ k d h. absurd (omega arith); distinct = tt }
 
 -- a row more
-plan-more : (rows : List (ℕ × ℕ)) (branch accounts : Option ℕ) (p : ℕ × ℕ) → Within most_branch branch → Within most_accounts accounts
+plan-more : (rows : Rows) (branch accounts : Option ℕ) (p : Row) → Within most_branch branch → Within most_accounts accounts
     → IsPlan rows → row_of rows branch accounts ≡ Ok p → IsPlan (rows ++ p ∷ [])
 plan-more rows None accounts p b a plan e = cc e
 plan-more rows (Some branch) None p b a plan e = cc e
 plan-more rows (Some branch) (Some accounts) p b a plan e = by (names branch rows) refl e
   where
-    by : (t : Bool) → names branch rows ≡ t → (if t then Err (Twice (length rows + 1)) else Ok (branch, accounts)) ≡ Ok p → IsPlan (rows ++ p ∷ [])
+    by : (t : Bool) → names branch rows ≡ t → (if t then Err (Twice (length rows + 1)) else Ok (branch, accounts)) ≡ Ok p
+        → IsPlan (rows ++ p ∷ [])
     by true n h = cc h
     by false n h =
         let one : p ≡ (branch, accounts) = cc h in
         rw one (record {
           in_range = All-push IsRow rows (branch, accounts) plan.in_range (b.0, b.1, a.0, a.1);
-          distinct = rw (map-append (λ (p : ℕ × ℕ). p.0) rows ((branch, accounts) ∷ [])) (IsDistinct-push nat_eq_equiv (branches rows) branch plan.distinct (sym (names-branches branch rows) ∙ n));
+          distinct = rw (map-append (λ (p : Row). p.0) rows ((branch, accounts) ∷ []))
+              (IsDistinct-push nat_eq_equiv (branches rows) branch plan.distinct (sym (names-branches branch rows) ∙ n));
         })
 
 -- a branch that rows name is below 10,000
-below : (rows : List (ℕ × ℕ)) → All IsRow rows → (q : ℕ) → names q rows ≡ true → q < 10000
+below : (rows : Rows) → All IsRow rows → (q : ℕ) → names q rows ≡ true → q < 10000
 below [] all q h = cc h
 below (p ∷ rows) all q h = by (nat_eq q p.0) refl h (below rows (λ k d l. all (suc k) d (omega arith)) q)
   where
@@ -64,9 +67,10 @@ below (p ∷ rows) all q h = by (nat_eq q p.0) refl h (below rows (λ k d l. all
     by false e n more = more n
 
 -- a plan is short
-pub plan-short : (rows : List (ℕ × ℕ)) → IsPlan rows → length rows ≤ 10000
+pub plan-short : (rows : Rows) → IsPlan rows → length rows ≤ 10000
 plan-short rows plan =
-    rw length-map at (length-le_from_distinct_below (branches rows) 10000 plan.distinct (λ q h. below rows plan.in_range q (names-branches q rows ∙ h)))
+    rw length-map at (length-le_from_distinct_below (branches rows) 10000 plan.distinct
+    (λ q h. below rows plan.in_range q (names-branches q rows ∙ h)))
 
 -- what a field writes is in range
 number_within-within : (most : ℕ) (field : List ℕ) → Within most (number_within most field)
@@ -78,7 +82,7 @@ number_within-within most field = by (nat_le 1 (length field) && nat_le (length 
     by false written = tt
 
 -- a record that states a row makes the plan longer
-pub fields-more : (rows : List (ℕ × ℕ)) (fields : List (List ℕ)) (p : ℕ × ℕ) → IsPlan rows → row_of_fields rows fields ≡ Ok p → IsPlan (rows ++ p ∷ [])
+pub fields-more : (rows : Rows) (fields : Fields) (p : Row) → IsPlan rows → row_of_fields rows fields ≡ Ok p → IsPlan (rows ++ p ∷ [])
 fields-more rows fields p plan e = by (two_of fields) e
   where
     by : (o : Option (List ℕ × List ℕ)) → row_of_two rows o ≡ Ok p → IsPlan (rows ++ p ∷ [])
@@ -88,12 +92,13 @@ fields-more rows fields p plan e = by (two_of fields) e
         (number_within-within most_branch q.0) (number_within-within most_accounts q.1) plan h
 
 -- so does a pair of a list, which is taken as it is
-pub pair-more : (rows : List (ℕ × ℕ)) (q p : ℕ × ℕ) → IsPlan rows → row_of_pair rows q ≡ Ok p → IsPlan (rows ++ p ∷ [])
+pub pair-more : (rows : Rows) (q p : Row) → IsPlan rows → row_of_pair rows q ≡ Ok p → IsPlan (rows ++ p ∷ [])
 pair-more rows q p plan h =
     plan-more rows (whole_within 1 most_branch q.0) (whole_within 1 most_accounts q.1) p
     (whole_within-within most_branch q.0) (whole_within-within most_accounts q.1) plan h
 
-pub pair-same : (rows : List (ℕ × ℕ)) (q p : ℕ × ℕ) → row_of_pair rows q ≡ Ok p → p ≡ q
+-- the row that a pair states is the pair
+pub pair-same : (rows : Rows) (q p : Row) → row_of_pair rows q ≡ Ok p → p ≡ q
 pair-same rows q p h = by (nat_le 1 q.0 && nat_le q.0 most_branch) (nat_le 1 q.1 && nat_le q.1 most_accounts) h
   where
     last : (t : Bool) → (if t then Err (Twice (length rows + 1)) else Ok q) ≡ Ok p → p ≡ q

@@ -2,15 +2,15 @@
 use Rattle.std.proofs.Common.{◌≡◌, ◌≤◌, ◌<◌, ◌+◌, ◌∷◌, ◌++◌, ◌∙◌, ℕ, List, [], Option, Some, None, Bool, true, false, Result, Ok, Err, length, refl, take, drop, get_or}
 use Rattle.std.specs.Prelude.{IfSome}
 use Rattle.std.proofs.lemmas.List.{at_drop_more, drop_all, take_all, take_more}
-use Rattle.branch_loader.specs.Plans.{IsPlan, Tells, is_header, plan_of_list, plan_of_records, row_of_fields, row_of_pair, rows_by}
-use Rattle.branch_loader.specs.Records.{Takes}
+use Rattle.branch_loader.specs.Plans.{IsPlan, Tells, is_header, plan_of_list, plan_of_records, row_of_fields, row_of_pair, rows_by, Rows, Row}
+use Rattle.branch_loader.specs.Records.{Takes, Records, Fields}
 use Rattle.branch_loader.specs.declared.fault.PlanFault.{PlanFault}
 use Rattle.branch_loader.specs.declared.fault.PlanFault.TheVariants.{Header, Columns, Accounts, Twice, Csv, Memory}
 use Rattle.branch_loader.specs.declared.fault.PlanFault.TheVariants as Fault
 use Rattle.branch_loader.proofs.Rows.{pair-more, pair-same}
 
 -- an answer that tells a fault
-pub tells-fault : (stated : Result (List (ℕ × ℕ)) PlanFault) (f : PlanFault) → stated ≡ Err f → Tells stated (Err f)
+pub tells-fault : (stated : Result Rows PlanFault) (f : PlanFault) → stated ≡ Err f → Tells stated (Err f)
 tells-fault stated Header e = e
 tells-fault stated (Columns n) e = e
 tells-fault stated (Fault.Branch n) e = e
@@ -19,33 +19,36 @@ tells-fault stated (Twice n) e = e
 tells-fault stated Csv e = tt
 tells-fault stated Memory e = tt
 
--- the rows go on by one
-pub rows_by-ok : {A : Type 0} (row : List (ℕ × ℕ) → A → Result (ℕ × ℕ) PlanFault) (before : List (ℕ × ℕ)) (x : A) (rest : List A) (p : ℕ × ℕ)
+-- the rows go on by one where the next thing states a row
+pub rows_by-ok : {A : Type 0} (row : Rows → A → Result Row PlanFault) (before : Rows) (x : A) (rest : List A) (p : Row)
     → row before x ≡ Ok p → rows_by row before (x ∷ rest) ≡ rows_by row (before ++ p ∷ []) rest
 unfolding rows_by
 rows_by-ok row before x rest p e = rw (e, rows_by) refl
 
-pub rows_by-err : {A : Type 0} (row : List (ℕ × ℕ) → A → Result (ℕ × ℕ) PlanFault) (before : List (ℕ × ℕ)) (x : A) (rest : List A) (f : PlanFault)
+-- and end where it states a fault
+pub rows_by-err : {A : Type 0} (row : Rows → A → Result Row PlanFault) (before : Rows) (x : A) (rest : List A) (f : PlanFault)
     → row before x ≡ Err f → rows_by row before (x ∷ rest) ≡ Err f
 unfolding rows_by
 rows_by-err row before x rest f e = rw (e, rows_by) refl
 
--- a text with no record, or whose first record is no header
+-- a text with no record
 pub plan-empty : plan_of_records [] ≡ Err Header
 unfolding plan_of_records
 plan-empty = refl
 
-pub plan-no_header : (fields : List (List ℕ)) (rest : List (List (List ℕ))) → is_header fields ≡ false → plan_of_records (fields ∷ rest) ≡ Err Header
+-- a text whose first record is no header
+pub plan-no_header : (fields : Fields) (rest : Records) → is_header fields ≡ false → plan_of_records (fields ∷ rest) ≡ Err Header
 unfolding plan_of_records
 plan-no_header fields rest e = rw e refl
 
 -- a header, and the rows behind it
-pub plan-header : (fields : List (List ℕ)) (rest : List (List (List ℕ))) → is_header fields ≡ true → plan_of_records (fields ∷ rest) ≡ rows_by row_of_fields [] rest
+pub plan-header : (fields : Fields) (rest : Records) → is_header fields ≡ true
+    → plan_of_records (fields ∷ rest) ≡ rows_by row_of_fields [] rest
 unfolding plan_of_records
 plan-header fields rest e = rw e refl
 
 -- where no thing is left the rows are the plan
-pub rows_by-done : {A : Type 0} (row : List (ℕ × ℕ) → A → Result (ℕ × ℕ) PlanFault) (before : List (ℕ × ℕ)) → rows_by row before [] ≡ Ok before
+pub rows_by-done : {A : Type 0} (row : Rows → A → Result Row PlanFault) (before : Rows) → rows_by row before [] ≡ Ok before
 unfolding rows_by
 rows_by-done row before = refl
 
@@ -55,47 +58,53 @@ if_some None f h = tt
 if_some (Some x) f h = f x h
 
 -- what a read of the header leaves
-pub took-header : {A : List (List (List ℕ)) → Type 0} (found : Bool) (fields : List (List ℕ)) (all : List (List (List ℕ))) (rows : List (ℕ × ℕ))
+pub took-header : {A : Records → Type 0} (found : Bool) (fields : Fields) (all : Records) (rows : Rows)
     → Takes found fields all A → found ≡ true → is_header fields ≡ true → rows ≡ []
-    → (rest : List (List (List ℕ))) × A rest × (plan_of_records all ≡ rows_by row_of_fields rows rest)
+    → (rest : Records) × A rest × (plan_of_records all ≡ rows_by row_of_fields rows rest)
 took-header false fields all rows t f h n = cc f
 took-header true fields all rows t f h n = (t.0, t.2, rw (t.1, n) (plan-header fields t.0 h))
 
 -- what a read of another record leaves, where it states a row
-pub took-row : {A : List (List (List ℕ)) → Type 0} (found : Bool) (fields : List (List ℕ)) (rest : List (List (List ℕ))) (rows new : List (ℕ × ℕ)) (p : ℕ × ℕ)
-    (stated : Result (List (ℕ × ℕ)) PlanFault)
-    → Takes found fields rest A → found ≡ true → stated ≡ rows_by row_of_fields rows rest → row_of_fields rows fields ≡ Ok p → new ≡ rows ++ p ∷ []
-    → (more : List (List (List ℕ))) × A more × (stated ≡ rows_by row_of_fields new more)
+pub took-row : {A : Records → Type 0} (found : Bool) (fields : Fields) (rest : Records) (rows new : Rows) (p : Row)
+    (stated : Result Rows PlanFault)
+    → Takes found fields rest A → found ≡ true → stated ≡ rows_by row_of_fields rows rest → row_of_fields rows fields ≡ Ok p
+    → new ≡ rows ++ p ∷ []
+    → (more : Records) × A more × (stated ≡ rows_by row_of_fields new more)
 took-row false fields rest rows new p stated t f s r n = cc f
 took-row true fields rest rows new p stated t f s r n = (t.0, t.2, s ∙ rw (t.1, n) (rows_by-ok row_of_fields rows fields t.0 p r))
 
 -- and where it states a fault
-pub took-fault : (A : List (List (List ℕ)) → Type 0) (found : Bool) (fields : List (List ℕ)) (rest : List (List (List ℕ))) (rows : List (ℕ × ℕ)) (fault : PlanFault)
-    (stated : Result (List (ℕ × ℕ)) PlanFault)
-    → Takes found fields rest A → found ≡ true → stated ≡ rows_by row_of_fields rows rest → row_of_fields rows fields ≡ Err fault → stated ≡ Err fault
+pub took-fault : (A : Records → Type 0) (found : Bool) (fields : Fields) (rest : Records) (rows : Rows) (fault : PlanFault)
+    (stated : Result Rows PlanFault)
+    → Takes found fields rest A → found ≡ true → stated ≡ rows_by row_of_fields rows rest → row_of_fields rows fields ≡ Err fault
+    → stated ≡ Err fault
 took-fault A false fields rest rows fault stated t f s r = cc f
 took-fault A true fields rest rows fault stated t f s r = s ∙ rw t.1 (rows_by-err row_of_fields rows fields t.0 fault r)
 
--- a row of a list
-pub listed-more : (list : List (ℕ × ℕ)) (i : ℕ) (x q : ℕ × ℕ) → i < length list → x ≡ get_or list i x → row_of_pair (take i list) x ≡ Ok q
+-- a pair of a list that states a row
+pub listed-more : (list : Rows) (i : ℕ) (x q : Row) → i < length list → x ≡ get_or list i x → row_of_pair (take i list) x ≡ Ok q
     → plan_of_list list ≡ rows_by row_of_pair (take i list) (drop i list) → IsPlan (take i list)
     → IsPlan (take (i + 1) list) × (plan_of_list list ≡ rows_by row_of_pair (take (i + 1) list) (drop (i + 1) list))
 listed-more list i x q within read row states plan =
     let same = pair-same (take i list) x q row in
     let row_x = rw same at row in
     let taken : take (i + 1) list ≡ take i list ++ x ∷ [] = take_more list i x within ∙ rw (← read) refl in
-    let rest : drop i list ≡ x ∷ drop (i + 1) list = at_drop_more (λ (l : List (ℕ × ℕ)). l) list i x within ∙ rw (← read) refl in (
+    let rest : drop i list ≡ x ∷ drop (i + 1) list = at_drop_more (λ (l : Rows). l) list i x within ∙ rw (← read) refl in (
       rw taken (pair-more (take i list) x x plan row_x),
       states ∙ rw (rest, taken) (rows_by-ok row_of_pair (take i list) x (drop (i + 1) list) x row_x),
     )
 
-pub listed-fault : (list : List (ℕ × ℕ)) (i : ℕ) (x : ℕ × ℕ) (f : PlanFault) → i < length list → x ≡ get_or list i x → row_of_pair (take i list) x ≡ Err f
+-- one that states a fault
+pub listed-fault : (list : Rows) (i : ℕ) (x : Row) (f : PlanFault) → i < length list → x ≡ get_or list i x
+    → row_of_pair (take i list) x ≡ Err f
     → plan_of_list list ≡ rows_by row_of_pair (take i list) (drop i list) → plan_of_list list ≡ Err f
 listed-fault list i x f within read row states =
-    let rest : drop i list ≡ x ∷ drop (i + 1) list = at_drop_more (λ (l : List (ℕ × ℕ)). l) list i x within ∙ rw (← read) refl in
+    let rest : drop i list ≡ x ∷ drop (i + 1) list = at_drop_more (λ (l : Rows). l) list i x within ∙ rw (← read) refl in
     states ∙ rw rest (rows_by-err row_of_pair (take i list) x (drop (i + 1) list) f row)
 
-pub listed-all : (list : List (ℕ × ℕ)) (i : ℕ) → length list ≤ i → plan_of_list list ≡ rows_by row_of_pair (take i list) (drop i list) → IsPlan (take i list)
+-- a list whose pairs all state rows
+pub listed-all : (list : Rows) (i : ℕ) → length list ≤ i → plan_of_list list ≡ rows_by row_of_pair (take i list) (drop i list)
+    → IsPlan (take i list)
     → (plan_of_list list ≡ Ok list) × IsPlan list
 listed-all list i past states plan =
     let all : take i list ≡ list = take_all i list past in

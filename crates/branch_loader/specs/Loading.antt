@@ -6,20 +6,24 @@ use Rattle.posting_core.specs.declared.counter.Opening.{Opening}
 use Rattle.posting_core.specs.declared.counter.Opening.TheVariants.{Opened, Already, Differs}
 use Rattle.posting_core.specs.declared.fault.Fault.{Fault}
 use Rattle.branch_loader.specs.declared.loading.Loaded.{Loaded}
+use Rattle.branch_loader.specs.Plans.{Rows}
 
 -- the answers to a plan's openings, each behind the log and the openings before it
-unfoldable pub answers : List Command → List (ℕ × ℕ) → List Opening
+unfoldable pub answers : List Command → Rows → List Opening
 answers log [] = []
 answers log (p ∷ rows) = opening_behind log p.0 p.1 ∷ answers (Open p.0 p.1 ∷ log) rows
 
+-- the branch was opened now
 abbrev pub is_opened : Opening → Bool
 is_opened Opened = true
 is_opened _ = false
 
+-- it was open with this count
 abbrev pub is_already : Opening → Bool
 is_already Already = true
 is_already _ = false
 
+-- it was open with another count
 abbrev pub is_differs : Opening → Bool
 is_differs Differs = true
 is_differs _ = false
@@ -40,13 +44,17 @@ total loaded = loaded.opened + loaded.already + loaded.differs
 
 -- wherever the counter stood at a log, a stop may leave the log and then a beginning of the commands, so many of them at least
 abbrev pub LeavesBeginning : Seen → Seen → List Command → ℕ → Type 0
-LeavesBeginning old new commands least = new.honest → (log : List Command) → StandsAt old log → LeavesOnly new (ShowsBeginning log commands least)
+LeavesBeginning old new commands least =
+    new.honest → (log : List Command) → StandsAt old log → LeavesOnly new (ShowsBeginning log commands least)
 
 -- the counter answered so many of the commands, stood there, and refused the next one
-pub record IsRefusedAfter {C : Type 0} (seen : C → Seen) (old new : C) (commands : List Command) (fault : Fault) (answered : ℕ) : Type 0 where
+pub record IsRefusedAfter {C : Type 0} (seen : C → Seen) (old new : C) (commands : List Command) (fault : Fault)
+    (answered : ℕ) : Type 0 where
   pub within : answered < length commands
+  -- the counter after what it answered
   pub stood : C
   pub first : answered ≡ 0 → stood ≡ old
   pub taken : Takes (seen old) (seen stood) (take answered commands)
   pub refused : Refuses fault (seen stood) (seen new) (take 1 (drop answered commands))
+  -- a stop may leave no less than what was answered
   pub left : LeavesBeginning (seen old) (seen new) commands answered

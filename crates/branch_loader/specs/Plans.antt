@@ -7,53 +7,67 @@ use Rattle.message_records.specs.Reading.{number_of}
 use Rattle.posting_core.specs.Commands.{Command, Open}
 use Rattle.branch_loader.specs.declared.fault.PlanFault.{PlanFault}
 use Rattle.branch_loader.specs.declared.fault.PlanFault.TheVariants.{Header, Columns, Branch, Accounts, Twice, Csv, Memory}
+use Rattle.branch_loader.specs.Records.{Records, Fields}
+
+-- a branch, and how many accounts it is to have
+abbrev pub Row : Type 0
+Row = ℕ × ℕ
+
+-- a plan: rows in its order
+abbrev pub Rows : Type 0
+Rows = List Row
 
 -- ---- one row
 
+-- the greatest number of a branch
 abbrev pub most_branch : ℕ
 most_branch = 9999
 
+-- the greatest count of accounts of a branch
 abbrev pub most_accounts : ℕ
 most_accounts = 100_000
 
 -- the number from 1 on that a field of 1 to 9 digits writes
 abbrev pub number_within : ℕ → List ℕ → Option ℕ
-number_within most field = if nat_le 1 (length field) && nat_le (length field) 9 then option_and_then (whole_within 1 most) (number_of field) else None
+number_within most field =
+    if nat_le 1 (length field) && nat_le (length field) 9
+    then option_and_then (whole_within 1 most) (number_of field)
+    else None
 
 -- one of the rows names the branch
-abbrev pub names : ℕ → List (ℕ × ℕ) → Bool
+abbrev pub names : ℕ → Rows → Bool
 names branch rows = list_any (λ p. nat_eq branch p.0) rows
 
 -- the row of a branch and a count behind the rows before it
-abbrev pub row_of : List (ℕ × ℕ) → Option ℕ → Option ℕ → Result (ℕ × ℕ) PlanFault
+abbrev pub row_of : Rows → Option ℕ → Option ℕ → Result Row PlanFault
 row_of before None accounts = Err (Branch (length before + 1))
 row_of before (Some branch) None = Err (Accounts (length before + 1))
 row_of before (Some branch) (Some accounts) = if names branch before then Err (Twice (length before + 1)) else Ok (branch, accounts)
 
 -- the row that a pair of a list states
-abbrev pub row_of_pair : List (ℕ × ℕ) → ℕ × ℕ → Result (ℕ × ℕ) PlanFault
+abbrev pub row_of_pair : Rows → Row → Result Row PlanFault
 row_of_pair before p = row_of before (whole_within 1 most_branch p.0) (whole_within 1 most_accounts p.1)
 
 -- the two fields of a record of two
-abbrev pub two_of : List (List ℕ) → Option (List ℕ × List ℕ)
+abbrev pub two_of : Fields → Option (List ℕ × List ℕ)
 two_of [] = None
 two_of (one ∷ []) = None
 two_of (one ∷ two ∷ []) = Some (one, two)
 two_of (one ∷ two ∷ three ∷ more) = None
 
 -- the row that two fields state, where there are two
-abbrev pub row_of_two : List (ℕ × ℕ) → Option (List ℕ × List ℕ) → Result (ℕ × ℕ) PlanFault
+abbrev pub row_of_two : Rows → Option (List ℕ × List ℕ) → Result Row PlanFault
 row_of_two before None = Err (Columns (length before + 1))
 row_of_two before (Some p) = row_of before (number_within most_branch p.0) (number_within most_accounts p.1)
 
 -- the row that a record states
-abbrev pub row_of_fields : List (ℕ × ℕ) → List (List ℕ) → Result (ℕ × ℕ) PlanFault
+abbrev pub row_of_fields : Rows → Fields → Result Row PlanFault
 row_of_fields before fields = row_of_two before (two_of fields)
 
 -- ---- the plan
 
 -- the rows before, and those that come behind them one by one, or the first fault
-unfoldable pub rows_by : {A : Type 0} → (List (ℕ × ℕ) → A → Result (ℕ × ℕ) PlanFault) → List (ℕ × ℕ) → List A → Result (List (ℕ × ℕ)) PlanFault
+unfoldable pub rows_by : {A : Type 0} → (Rows → A → Result Row PlanFault) → Rows → List A → Result Rows PlanFault
 rows_by row before [] = Ok before
 rows_by row before (x ∷ rest) = elim (row before x) [ Ok p ↦ rows_by row (before ++ p ∷ []) rest | Err fault ↦ Err fault ]
 
@@ -63,39 +77,39 @@ are_header None = false
 are_header (Some p) = bytes_eq p.0 (codes "branch") && bytes_eq p.1 (codes "accounts")
 
 -- the record is the header
-abbrev pub is_header : List (List ℕ) → Bool
+abbrev pub is_header : Fields → Bool
 is_header fields = are_header (two_of fields)
 
 -- the plan that records state, the header first
-unfoldable pub plan_of_records : List (List (List ℕ)) → Result (List (ℕ × ℕ)) PlanFault
+unfoldable pub plan_of_records : Records → Result Rows PlanFault
 plan_of_records [] = Err Header
 plan_of_records (first ∷ rest) = if is_header first then rows_by row_of_fields [] rest else Err Header
 
--- the plan that a text states: csv's records of it, a byte order mark dropped (RFC 4180)
-abbrev pub plan_of : List ℕ → Result (List (ℕ × ℕ)) PlanFault
+-- the plan that a text states: csv's records of it, a byte order mark dropped
+abbrev pub plan_of : List ℕ → Result Rows PlanFault
 plan_of text = plan_of_records (records default_config (strip_bom text))
 
 -- the plan that a list states
-abbrev pub plan_of_list : List (ℕ × ℕ) → Result (List (ℕ × ℕ)) PlanFault
+abbrev pub plan_of_list : Rows → Result Rows PlanFault
 plan_of_list list = rows_by row_of_pair [] list
 
 -- ---- what is known of a plan
 
 -- branch and count are in range
-abbrev pub IsRow : ℕ × ℕ → Type 0
+abbrev pub IsRow : Row → Type 0
 IsRow p = (1 ≤ p.0) × (p.0 ≤ most_branch) × (1 ≤ p.1) × (p.1 ≤ most_accounts)
 
 -- each row is in range, and each branch is named once
-pub record IsPlan (rows : List (ℕ × ℕ)) : Type 0 where
+pub record IsPlan (rows : Rows) : Type 0 where
   pub in_range : All IsRow rows
   pub distinct : IsDistinct nat_eq (map (λ p. p.0) rows)
 
 -- the openings of a plan, in its order
-abbrev pub openings : List (ℕ × ℕ) → List Command
+abbrev pub openings : Rows → List Command
 openings rows = map (λ p. Open p.0 p.1) rows
 
 -- the answer is what is stated, unless the source or memory failed
-abbrev pub Tells : Result (List (ℕ × ℕ)) PlanFault → Result (List (ℕ × ℕ)) PlanFault → Type 0
+abbrev pub Tells : Result Rows PlanFault → Result Rows PlanFault → Type 0
 Tells stated (Err Csv) = ⊤
 Tells stated (Err Memory) = ⊤
 Tells stated answer = stated ≡ answer

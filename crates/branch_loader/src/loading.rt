@@ -2,8 +2,7 @@
 ghost use Rattle.std.specs.Prelude.{◌≡◌, ◌≢◌, ◌+◌, ◌<◌, ◌↔◌, ℕ, List, [], length, IfOk, IfErr, OnOk};
 ghost use Rattle.std.specs.Result.{IsErrOf};
 ghost use Rattle.posting_core.specs.Commands.{Command};
-ghost use Rattle.posting_core.specs.Counter.{Seen, Takes};
-ghost use Rattle.posting_core.specs.Tables.{Tables, Shows};
+ghost use Rattle.posting_core.specs.Counter.{Seen, ShowsLog, Takes};
 ghost use Rattle.branch_loader.specs.Plans.{openings};
 
 use crate::plan::Plan;
@@ -45,7 +44,7 @@ fn with_answer(loaded: Loaded, opening: Opening) -> Loaded
 
 /// Opens the plan's branches in its order, and counts the answers. After a fault the branches before it are open.
 pub fn load<C: Counter>(plan: &Plan, counter: &mut C) -> Result<Loaded, Fault>
-    ensures counts { IfOk result (λ loaded. (C.seen counter.new).honest → (log : List Command) → Shows (C.seen counter.old).tables log
+    ensures counts { IfOk result (λ loaded. (C.seen counter.new).honest → (log : List Command) → ShowsLog (C.seen counter.old) log
         → loaded ≡ counted (answers log plan.now)) }
     ensures all { IfOk result (λ loaded. total loaded ≡ length plan.now) }
     ensures done { OnOk result (Takes (C.seen counter.old) (C.seen counter.new) (openings plan.now)) }
@@ -53,7 +52,8 @@ pub fn load<C: Counter>(plan: &Plan, counter: &mut C) -> Result<Loaded, Fault>
     ensures up { OnOk result ((C.seen counter.new).is_down → (C.seen counter.old).is_down) }
 
     // A fault tells how many openings were answered before it.
-    ensures fault { IfErr result (λ fault. (answered : ℕ) × IsRefusedAfter C.seen counter.old counter.new (openings plan.now) fault answered) }
+    ensures fault { IfErr result (λ fault. (answered : ℕ)
+        × IsRefusedAfter C.seen counter.old counter.new (openings plan.now) fault answered) }
     ensures down { IsErrOf result Fault.Down ↔ ((C.seen counter.old).is_down × (plan.now ≢ [])) }
 
     ensures honest { (C.seen counter.new).honest → (C.seen counter.old).honest }

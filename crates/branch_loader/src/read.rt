@@ -3,7 +3,7 @@ ghost use Rattle.std.specs.Prelude.{◌≡◌, ◌<◌, ◌≤◌, ◌⊎◌, �
 ghost use Rattle.csv.specs.Records.{fields_of};
 ghost use Rattle.message_records.specs.Reading.{number_of};
 ghost use Rattle.branch_loader.specs.Plans.{Tells, is_header, number_within, plan_of, plan_of_records, row_of_fields, two_of};
-ghost use Rattle.branch_loader.specs.Records.{HasLeft, IsPlain, Takes};
+ghost use Rattle.branch_loader.specs.Records.{HasLeft, IsPlain, Takes, Records};
 
 use crate::fault::PlanFault;
 use crate::plan::{MOST_ACCOUNTS, MOST_BRANCH, Plan, row_of};
@@ -90,7 +90,7 @@ fn row_of_fields(before: &[(Branch, u32)], fields: &ByteRecord) -> Result<(Branc
 fn next_record<R: Read>(reader: &mut Reader<R>, fields: &mut ByteRecord) -> Result<bool, PlanFault>
     requires { IsPlain reader.old }
     ensures plain { OnOk result (IsPlain reader.new) }
-    ensures takes { IfOk result (λ found. (rows : List (List (List ℕ))) → HasLeft R.remaining reader.old rows
+    ensures takes { IfOk result (λ found. (rows : Records) → HasLeft R.remaining reader.old rows
         → Takes found (fields_of fields.new) rows (HasLeft R.remaining reader.new)) }
     ensures fault { IfErr result (λ fault. (fault ≡ PlanFault.Csv) ⊎ (fault ≡ PlanFault.Memory)) }
 {
@@ -111,7 +111,7 @@ fn read_rows<R: Read>(
     fields: &mut ByteRecord,
 ) -> Result<Plan, PlanFault>
     requires { IsPlain records.old }
-    ensures { (all : List (List (List ℕ))) → HasLeft R.remaining records.old all → Tells (plan_of_records all) result }
+    ensures { (all : Records) → HasLeft R.remaining records.old all → Tells (plan_of_records all) result }
 {
     if !next_record(records, fields)? {
         return Err(PlanFault::Header);

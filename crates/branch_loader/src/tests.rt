@@ -1,6 +1,7 @@
 //! Sources and lists, and the plan or the fault that each gives.
-use crate::{Plan, PlanFault, read_plan};
-use message_records::Branch;
+use crate::{Loaded, Plan, PlanFault, load, read_plan};
+use message_records::{Account, Branch};
+use posting_core::{Counter, PlainBank};
 use std::alloc::{AllocError, Global};
 use std::io;
 use std::io::Read;
@@ -133,6 +134,37 @@ fn a_failing_source(rt: HostRuntime) -> Result<(), Fail> {
     for i in 0..whole.len() + 1 {
         let source = Failing { text: &whole[..i] };
         assert_eq!(rt; rows_in(rt.alloc(), source)?, Err(PlanFault::Csv));
+    }
+    Ok(())
+}
+
+// The counts of the answers, as `opened`, `already` and `differs`.
+fn counts(opened: u32, already: u32, differs: u32) -> Loaded {
+    Loaded {
+        opened,
+        already,
+        differs,
+    }
+}
+
+#[test]
+fn a_plan_loaded_twice(rt: HostRuntime) -> Result<(), Fail> {
+    let cases: [(&[u8], Loaded); 4] = [
+        (b"branch,accounts\n", counts(0, 0, 0)),
+        (b"branch,accounts\n1,3\n2,2\n", counts(2, 0, 0)),
+        (b"branch,accounts\n1,3\n2,2\n", counts(0, 2, 0)),
+        (b"branch,accounts\n1,3\n2,5\n", counts(0, 1, 1)),
+    ];
+    let mut bank = PlainBank::new(rt.alloc());
+    for (source, want) in cases {
+        let Ok(plan) = answer_to(rt.alloc(), source)? else {
+            return Err("a plan".into());
+        };
+        assert_eq!(rt; load(&plan, &mut bank)?, want);
+    }
+    for (account, is_open) in [(3, true), (4, false), (100_002, true), (100_003, false)] {
+        let account = Account::new(account).ok_or("an account")?;
+        assert_eq!(rt; bank.balance(account)?.is_some(), is_open);
     }
     Ok(())
 }

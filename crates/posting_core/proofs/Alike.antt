@@ -1,15 +1,13 @@
 -- Logs with equal tables give equal replies to whatever follows.
-use Rattle.std.proofs.Common.{◌≡◌, ℕ, ◌≤◌, List, [], ◌∷◌, Option, Some, None, refl, sym, ap, ◌∙◌}
-use Rattle.std.specs.List.{AllByRecursion}
+use Rattle.std.proofs.Common.{◌≡◌, ℕ, List, [], ◌∷◌, Option, Some, None, refl, sym, ap, ◌∙◌}
 use Rattle.message_records.specs.Spelling.{reply_spelling}
 use Rattle.message_records.specs.Reading.{request_of}
-use Rattle.posting_core.specs.Commands.{Command, Open, Post}
+use Rattle.posting_core.specs.Commands.{Command, Open, Post, IsCommand, AreCommands}
 use Rattle.posting_core.specs.Entries.{reply}
 use Rattle.posting_core.specs.Tables.{Tables, Shows}
 use Rattle.posting_core.specs.LookUps.{count_in}
 use Rattle.posting_core.specs.Runs.{replies_to}
 use Rattle.posting_core.specs.Plain.{tables_with, tables_opened}
-use Rattle.posting_core.specs.Laws.{IsCommand}
 use Rattle.posting_core.proofs.InMemory.{record_shown, reply_is, opened_shown, reopened_shown}
 
 -- after an opening both logs have equal tables again
@@ -21,7 +19,7 @@ both_opened t one two b count valid s u = by_count (count_in t b) refl
     by_count None e = (tables_opened t b count, opened_shown t one b count e valid.0 valid.3 s, opened_shown t two b count e valid.0 valid.3 u)
     by_count (Some n) e = (t, reopened_shown t one b count n e s, reopened_shown t two b count n e u)
 
-pub answer_alike : (t : Tables) (one two cs : List Command) → Shows t one → Shows t two → AllByRecursion IsCommand cs → replies_to one cs ≡ replies_to two cs
+pub answer_alike : (t : Tables) (one two cs : List Command) → Shows t one → Shows t two → AreCommands cs → replies_to one cs ≡ replies_to two cs
 answer_alike t one two [] s u valid = refl
 answer_alike t one two (Post m bytes ∷ cs) s u valid =
     ap (λ (out : List ℕ). out ∷ replies_to (Post m bytes ∷ one) cs) (ap reply_spelling (sym (reply_is t one bytes s) ∙ reply_is t two bytes u))

@@ -1,6 +1,6 @@
 -- The table of cases gives what is stated case by case.
-use Rattle.std.proofs.Common.{◌≡◌, ◌≢◌, ℕ, ◌+◌, ◌<◌, ◌≤◌, Bool, true, false, cond, eqb, leb, List, ◌∷◌, length, Option, Some, None, Result, Ok, Err, refl, sym, ap, subst, ◌∙◌, arith, inl, inr}
-use Rattle.std.specs.Prelude.{ℤ, ◌+ℤ◌, nat_abs, ◌⊎◌, ◌↔◌, ◌&&◌}
+use Rattle.std.proofs.Common.{◌≡◌, ◌≢◌, ℕ, ◌<◌, ◌≤◌, Bool, true, false, cond, eqb, leb, List, ◌∷◌, length, Option, Some, None, Result, Ok, Err, refl, sym, ap, subst, ◌∙◌, arith, inl, inr}
+use Rattle.std.specs.Prelude.{ℤ, ◌+ℤ◌, nat_abs, ◌⊎◌, ◌&&◌}
 use Rattle.std.specs.Ordering.{int_eq}
 use Rattle.std.proofs.lemmas.Bool.{eqb-true, eq-eqb, leb-true, leb-false, le-leb}
 use Rattle.std.proofs.lemmas.Bool.Decides.{nat_tests, Decides-int_eq}
@@ -9,16 +9,15 @@ use Rattle.message_records.specs.declared.records.Outcome.TheVariants as outcome
 use Rattle.message_records.specs.Outcomes.{has_balance}
 use Rattle.message_records.specs.declared.faults.Bad.{Bad}
 use Rattle.message_records.specs.Ranges.{cents_within}
-use Rattle.message_records.specs.Records.{RequestFields, ReplyFields}
+use Rattle.message_records.specs.Records.{RequestFields}
 use Rattle.message_records.specs.Reading.{request_of}
-use Rattle.posting_core.specs.declared.facts.Found.{Found}
 use Rattle.posting_core.specs.declared.facts.Verdict.{Verdict}
 use Rattle.posting_core.specs.declared.facts.Verdict.TheVariants.{Unkept, Again, Refused, Posted}
-use Rattle.posting_core.specs.Commands.{Command, Open, Post, opened, branch_of_teller, is_teller_open, is_account_open}
+use Rattle.posting_core.specs.Commands.{Command, Post, opened, branch_of_teller, is_teller_open, is_account_open}
 use Rattle.posting_core.specs.Kept.{KeptFields}
-use Rattle.posting_core.specs.Cases.{case_of, teller_case, known_case, new_case, account_case, posting_of, plus_within, is_same, kept_reply, reply_in}
+use Rattle.posting_core.specs.Cases.{case_of, new_case, posting_of, plus_within, is_same, kept_reply, reply_in}
 use Rattle.posting_core.specs.Entries.{Entry, is_posted, facts, kept, account_balance, teller_balance, branch_balance, with_verdict, with_record, decided, reply_to, reply, refused_entry, posted_entry}
-use Rattle.posting_core.specs.Stated.{Names, IsDecided, IsWithin, IsPosted, AddsEntry, DecidesAsStated, HasContent, RepliesAsStated, refusal}
+use Rattle.posting_core.specs.Stated.{IsDecided, IsWithin, IsPosted, AddsEntry, DecidesAsStated, HasContent, RepliesAsStated}
 use Rattle.posting_core.proofs.Keyed.{by_test}
 
 -- ---- tests, and what they mean

@@ -1,6 +1,6 @@
 -- The tables of a log are consistent: one sum, each branch the sum of its tellers, and a row of history for each posting.
-use Rattle.std.proofs.Common.{◌≡◌, ℕ, zero, suc, ◌+◌, ◌<◌, ◌≤◌, Bool, true, false, cond, eqb, leb, List, [], ◌∷◌, length, map, Option, Some, None, refl, sym, ap, subst, ◌∙◌, arith, inl, inr}
-use Rattle.std.specs.Prelude.{ℤ, pos, ◌+ℤ◌, ◌&&◌, filter, is_some}
+use Rattle.std.proofs.Common.{◌≡◌, ℕ, ◌+◌, ◌<◌, Bool, true, false, cond, eqb, leb, List, [], ◌∷◌, length, map, Option, Some, None, refl, sym, ap, ◌∙◌, arith, inl, inr}
+use Rattle.std.specs.Prelude.{ℤ, pos, ◌+ℤ◌, filter, is_some}
 use Rattle.std.specs.List.{AllByRecursion}
 use Rattle.std.specs.Option.{option_map}
 use Rattle.std.proofs.Math.IntN.{+ℤ_idl}
@@ -8,13 +8,10 @@ use Rattle.std.proofs.lemmas.Bool.{eqb-true, eq-eqb}
 use Rattle.std.proofs.lemmas.Bool.Decides.{nat_tests}
 use Rattle.message_records.specs.Records.{RequestFields}
 use Rattle.posting_core.specs.declared.rows.BranchRow.{BranchRow}
-use Rattle.posting_core.specs.declared.rows.TellerRow.{TellerRow}
-use Rattle.posting_core.specs.declared.rows.AccountRow.{AccountRow}
 use Rattle.posting_core.specs.declared.rows.HistoryRow.{HistoryRow}
-use Rattle.posting_core.specs.declared.rows.RequestRow.{RequestRow}
 use Rattle.posting_core.specs.Commands.{Command, opened, branch_of_teller, is_teller_open, is_account_open}
 use Rattle.posting_core.specs.Entries.{Entry, is_posted, posted_sum, account_balance, teller_balance, branch_balance, decided}
-use Rattle.posting_core.specs.Tables.{Tables, HasRows, Shows, HasKeys, row_at, branch_key, teller_key, account_key, history_key, request_key, branch_row, branch_row_of, teller_row, teller_row_of, account_row, account_row_of, history_row, history_row_of, request_row, request_row_of}
+use Rattle.posting_core.specs.Tables.{Tables, HasRows, Shows, HasKeys, row_at, branch_key, teller_key, account_key, history_key, branch_row_of, teller_row_of, account_row_of, history_row, history_row_of, request_row}
 use Rattle.posting_core.specs.LookUps.{balance_of_branch, balance_of_teller, balance_of_account}
 use Rattle.posting_core.specs.Laws.{total, delta_of, tellers_of, Match, IsConsistent}
 use Rattle.posting_core.proofs.Keyed.{by_test}

@@ -1,11 +1,10 @@
 -- The worked examples, computed from the definitions to the byte.
-use Rattle.std.specs.Prelude.{◌≡◌, ℕ, List, [], ◌∷◌, ◌++◌, pos, negsuc, Some, None, refl, codes, replicate}
+use Rattle.std.specs.Prelude.{◌≡◌, ℕ, List, [], ◌∷◌, ◌++◌, pos, negsuc, refl, codes, replicate}
 use Rattle.message_records.specs.Spelling.{digits, fields_spelling, reply_spelling}
 use Rattle.message_records.specs.Reading.{fields_of, request_of}
-use Rattle.message_records.specs.declared.records.Outcome.TheVariants.{Posted, NoTeller, WrongBranch, NoAccount, OverLimit, ReusedNumber, Full, Malformed}
-use Rattle.posting_core.specs.Commands.{Command, Open, Post, opened}
+use Rattle.posting_core.specs.Commands.{Command, Open, Post}
 use Rattle.posting_core.specs.Cases.{case_of}
-use Rattle.posting_core.specs.Entries.{decided, reply, account_balance, teller_balance, branch_balance}
+use Rattle.posting_core.specs.Entries.{decided, reply, teller_balance, branch_balance}
 
 -- branch 1 with three accounts, and branch 2 with two
 bank : List Command

@@ -1,10 +1,10 @@
 -- The rows of a bank in memory show a log, and what a call does to them shows the log with its command.
-use Rattle.std.proofs.Common.{◌≡◌, ℕ, zero, suc, ◌+◌, ◌≤◌, Bool, true, false, cond, leb, List, [], ◌∷◌, ◌++◌, length, Option, Some, None, Result, Ok, Err, refl, sym, ap, subst, ◌∙◌, arith}
-use Rattle.std.specs.Prelude.{ℤ, pos, nat_eq, ◌&&◌, IsSomeAnd}
+use Rattle.std.proofs.Common.{◌≡◌, ℕ, suc, ◌+◌, ◌≤◌, Bool, true, false, cond, leb, List, [], ◌∷◌, ◌++◌, length, Option, Some, None, Result, Ok, Err, refl, sym, ap, subst, ◌∙◌, arith}
+use Rattle.std.specs.Prelude.{pos, nat_eq, ◌&&◌, IsSomeAnd}
 use Rattle.std.specs.List.{IsDistinct}
 use Rattle.std.specs.Option.{option_map}
 use Rattle.message_records.specs.declared.faults.Bad.{Bad}
-use Rattle.message_records.specs.Records.{RequestFields, ReplyFields}
+use Rattle.message_records.specs.Records.{RequestFields}
 use Rattle.message_records.specs.Reading.{request_of}
 use Rattle.message_records.specs.Spelling.{reply_spelling}
 use Rattle.posting_core.specs.declared.facts.Verdict.{Verdict}
@@ -15,16 +15,17 @@ use Rattle.posting_core.specs.declared.rows.TellerRow.{TellerRow}
 use Rattle.posting_core.specs.declared.rows.AccountRow.{AccountRow}
 use Rattle.posting_core.specs.declared.rows.HistoryRow.{HistoryRow}
 use Rattle.posting_core.specs.declared.rows.RequestRow.{RequestRow}
-use Rattle.posting_core.specs.Commands.{Command, Open, Post, opened, is_teller_open, is_account_open, branch_of_teller}
+use Rattle.posting_core.specs.Commands.{Command, Open, Post, IsCommand, AreCommands, opened, branch_of_teller}
 use Rattle.posting_core.specs.Cases.{case_of}
-use Rattle.posting_core.specs.Entries.{Entry, refused_entry, posted_entry, malformed_reply, reply_to, account_balance, teller_balance, branch_balance, decided, reply}
-use Rattle.posting_core.specs.Tables.{Tables, HasRows, HasKeys, Shows, row_at, branch_key, teller_key, account_key, history_key, request_key, branch_row_of, teller_row_of, account_row_of, history_row_of, request_row_of}
-use Rattle.posting_core.specs.Rows.{changed, rows_from}
-use Rattle.posting_core.specs.LookUps.{decided_in, found_in, count_in}
-use Rattle.posting_core.specs.Steps.{AddsRow, IsStep, KeepsRefusal, KeepsPosting, OpensBranch, meta_row_of, with_branch_balance, with_teller_balance, with_account_balance, first_teller, first_account}
+use Rattle.posting_core.specs.Entries.{Entry, refused_entry, posted_entry, reply_to, account_balance, teller_balance, branch_balance, decided, reply}
+use Rattle.posting_core.specs.Tables.{Tables, HasRows, Shows, row_at, branch_key, teller_key, account_key, history_key, request_key, branch_row_of, teller_row_of, account_row_of, history_row_of, request_row_of}
+use Rattle.posting_core.specs.LookUps.{found_in, count_in}
+use Rattle.posting_core.specs.Steps.{AddsRow, IsStep, meta_row_of, with_branch_balance, with_teller_balance, with_account_balance, first_teller, first_account}
 use Rattle.posting_core.specs.Runs.{behind}
-use Rattle.posting_core.specs.Counter.{Seen, StandsAt, Takes}
-use Rattle.posting_core.specs.Plain.{tables_after, tables_with, tables_opened, reply_in_tables}
+use Rattle.posting_core.specs.Counter.{ShowsLog, StandsAt, Takes}
+use Rattle.posting_core.specs.declared.plain_bank.PlainBank.{PlainBank}
+use Rattle.posting_core.specs.Plain.{plain_tables, plain_seen, tables_after, tables_with, tables_opened, reply_in_tables}
+use Rattle.posting_core.proofs.Sequence.{commands_behind}
 use Rattle.posting_core.proofs.Keyed.{changes_row, adds_row, adds_rows}
 use Rattle.posting_core.proofs.Looked.{decided_shown, count_shown}
 use Rattle.posting_core.proofs.Stepped.{request_row_past, history_row_past, post_shown, malformed_shown, reply_shown}
@@ -177,11 +178,23 @@ pub opened_from : (t t' new : Tables) (log : List Command) (b count : ℕ) → n
 opened_from t t' new log b count e same none hb hc s =
     subst (λ (u : Tables). Shows u (Open b count ∷ log)) (sym (e ∙ ap (λ (u : Tables). tables_opened u b count) same)) (opened_shown t log b count none hb hc s)
 
--- ---- a counter whose rows are all that a stop leaves
+-- ---- what the bank shows, whose rows are all that a stop leaves
 
-stands_alone : (seen : Seen) (log : List Command) → (seen.is_down → ⊥) → ((x : Option Tables) → seen.left x → x ≡ Some seen.tables) → Shows seen.tables log → StandsAt seen log
-stands_alone seen log up only s = record { shows = s; up = up; stop = λ x e. subst (λ y. IsSomeAnd y (λ u. Shows u log)) (sym (only x e)) s }
+pub plain_shows : (bank : PlainBank) (log : List Command) → ShowsLog (plain_seen bank) log → Shows (plain_tables bank) log
+plain_shows bank log s = subst (λ (t : Tables). Shows t log) s.are s.shows
 
-pub takes_alone : (old new : Seen) (cs : List Command) → (new.is_down → ⊥) → ((x : Option Tables) → new.left x → x ≡ Some new.tables)
-    → ((log : List Command) → Shows old.tables log → Shows new.tables (behind log cs)) → Takes old new cs
-takes_alone old new cs up only s = record { shows = λ h. s; stands = λ h log st. stands_alone new (behind log cs) up only (s log st.shows) }
+pub shows_plain : (bank : PlainBank) (log : List Command) → AreCommands log → Shows (plain_tables bank) log → ShowsLog (plain_seen bank) log
+shows_plain bank log commands s = record { commands = commands; tables = plain_tables bank; are = refl; shows = s }
+
+stands_plain : (bank : PlainBank) (log : List Command) → AreCommands log → Shows (plain_tables bank) log → StandsAt (plain_seen bank) log
+stands_plain bank log commands s = record {
+  shows = shows_plain bank log commands s;
+  up = λ h. h;
+  stop = λ x e. subst (λ y. IsSomeAnd y (λ u. Shows u log)) (sym e) s }
+
+-- commands that its rows took
+pub takes_plain : (old new : PlainBank) (cs : List Command) → AreCommands cs
+    → ((log : List Command) → Shows (plain_tables old) log → Shows (plain_tables new) (behind log cs)) → Takes (plain_seen old) (plain_seen new) cs
+takes_plain old new cs valid s = record {
+  shows = λ h log l. shows_plain new (behind log cs) (commands_behind log cs l.commands valid) (s log (plain_shows old log l));
+  stands = λ h log st. stands_plain new (behind log cs) (commands_behind log cs st.shows.commands valid) (s log (plain_shows old log st.shows)) }

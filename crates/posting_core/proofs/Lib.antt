@@ -12,3 +12,10 @@ pub mod Consistent
 pub mod Alike
 pub mod AsStated
 pub mod Transferred
+pub mod Sequence
+pub mod Settled
+pub mod Resends
+pub mod Timeless
+pub mod Batched
+pub mod Streaming
+pub mod Output

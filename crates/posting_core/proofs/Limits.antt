@@ -1,17 +1,16 @@
 -- Every balance stays within the limit.
-use Rattle.std.proofs.Common.{◌≡◌, ℕ, ◌≤◌, Bool, true, false, cond, eqb, List, [], ◌∷◌, Result, Ok, Err, refl, sym, ap, subst, ◌∙◌, arith, inl, inr, lit≤}
-use Rattle.std.specs.Prelude.{ℤ, pos, ◌+ℤ◌, nat_abs, ◌&&◌, Option}
+use Rattle.std.proofs.Common.{◌≡◌, ℕ, ◌≤◌, Bool, true, false, cond, eqb, List, [], ◌∷◌, Result, Ok, Err, refl, sym, subst, ◌∙◌, lit≤}
+use Rattle.std.specs.Prelude.{ℤ, ◌+ℤ◌, nat_abs, ◌&&◌, Option}
 use Rattle.std.proofs.lemmas.Bool.{eqb-true}
 use Rattle.message_records.specs.declared.faults.Bad.{Bad}
 use Rattle.message_records.specs.Records.{RequestFields}
 use Rattle.message_records.specs.Reading.{request_of}
 use Rattle.posting_core.specs.declared.facts.Verdict.{Verdict}
 use Rattle.posting_core.specs.declared.facts.Verdict.TheVariants.{Unkept, Again, Refused, Posted}
-use Rattle.posting_core.specs.Commands.{Command, Open, Post, opened, branch_of_teller}
+use Rattle.posting_core.specs.Commands.{Command, Open, Post, opened}
 use Rattle.posting_core.specs.Cases.{case_of}
-use Rattle.posting_core.specs.Entries.{Entry, is_posted, facts, posted_sum, account_balance, teller_balance, branch_balance, posted_entry, refused_entry, with_verdict, with_record, decided}
+use Rattle.posting_core.specs.Entries.{Entry, is_posted, facts, account_balance, teller_balance, branch_balance, refused_entry, with_verdict, with_record, decided}
 use Rattle.posting_core.specs.Laws.{StaysWithin}
-use Rattle.posting_core.proofs.Keyed.{by_test}
 use Rattle.posting_core.proofs.Verdicts.{IsSum, IsVerdict, verdict_is}
 
 abbrev IsWithin : ℤ → Type 0

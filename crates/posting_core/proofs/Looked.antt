@@ -1,18 +1,16 @@
 -- What is looked up in the tables of a log is what stands there by the definitions.
-use Rattle.std.proofs.Common.{◌≡◌, ℕ, Bool, true, false, cond, leb, List, length, Option, Some, None, refl, sym, ap, ◌∙◌}
+use Rattle.std.proofs.Common.{◌≡◌, ℕ, Bool, true, false, cond, leb, List, length, Option, Some, None, refl, ap, ◌∙◌}
 use Rattle.std.specs.Prelude.{ℤ, is_some, ◌&&◌}
 use Rattle.std.specs.Option.{option_map}
 use Rattle.message_records.specs.Records.{RequestFields}
 use Rattle.posting_core.specs.declared.facts.Found.{Found}
-use Rattle.posting_core.specs.declared.rows.TellerRow.{TellerRow}
-use Rattle.posting_core.specs.declared.rows.AccountRow.{AccountRow}
 use Rattle.posting_core.specs.declared.rows.MetaRow.{MetaRow}
 use Rattle.posting_core.specs.Commands.{Command, opened, branch_of_teller, is_teller_open, is_account_open}
 use Rattle.posting_core.specs.Kept.{KeptFields}
-use Rattle.posting_core.specs.Entries.{Entry, facts, kept, teller_balance, branch_balance, account_balance, decided, balance_behind}
-use Rattle.posting_core.specs.Tables.{Tables, HasRows, Shows, row_at, branch_key, teller_key, account_key, branch_row, branch_row_of, teller_row, teller_row_of, account_row, account_row_of, meta_rows}
+use Rattle.posting_core.specs.Entries.{Entry, facts, teller_balance, branch_balance, account_balance, decided, balance_behind}
+use Rattle.posting_core.specs.Tables.{Tables, HasRows, Shows, row_at, branch_key, branch_row_of, teller_row, teller_row_of, account_row_of}
 use Rattle.posting_core.specs.LookUps.{found_in, both_of, teller_balances_in, account_balance_in, count_in, count_of_branch, balance_of_branch, balance_of_teller, balance_of_account, decided_in}
-use Rattle.posting_core.proofs.Requests.{AreNew, are_new, kept_shown}
+use Rattle.posting_core.proofs.Requests.{AreNew, kept_shown}
 
 -- an open teller has its branch's row
 both_rows : (low : Bool) (o : Option ℕ) (t b : ℕ) (x y : ℤ)

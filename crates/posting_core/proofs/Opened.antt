@@ -1,7 +1,7 @@
 -- Tables of a log to which a branch is added are the tables of the log with the opening.
-use Rattle.std.proofs.Common.{◌≡◌, ℕ, zero, suc, ◌+◌, ◌-◌, ◌*◌, ◌/◌, ◌%◌, ◌<◌, ◌≤◌, Bool, true, false, cond, eqb, leb, ltb, List, [], ◌∷◌, length, Option, Some, None, Result, Ok, Err, refl, sym, ap, subst, ◌∙◌, arith, inl, inr}
+use Rattle.std.proofs.Common.{◌≡◌, ℕ, ◌+◌, ◌-◌, ◌*◌, ◌/◌, ◌%◌, ◌<◌, ◌≤◌, Bool, true, false, cond, eqb, leb, ltb, List, [], ◌∷◌, Option, Some, None, Result, Ok, Err, refl, sym, ap, subst, ◌∙◌, arith, inl, inr}
 use mathlib.Core.Path.{fun_ext}
-use Rattle.std.specs.Prelude.{ℤ, pos, ◌+ℤ◌, ◌⊎◌, is_some, ◌&&◌}
+use Rattle.std.specs.Prelude.{ℤ, pos, ◌⊎◌, is_some, ◌&&◌}
 use Rattle.std.specs.List.{AllByRecursion}
 use Rattle.std.specs.Option.{option_map, option_or}
 use Rattle.std.proofs.lemmas.Bool.{eqb-true, eq-eqb, leb-true, ltb-true, le-leb, lt-ltb}
@@ -10,14 +10,11 @@ use Rattle.message_records.specs.Records.{RequestFields}
 use Rattle.message_records.specs.Reading.{request_of}
 use Rattle.posting_core.specs.declared.facts.Verdict.{Verdict}
 use Rattle.posting_core.specs.declared.facts.Verdict.TheVariants.{Unkept, Again, Refused, Posted}
-use Rattle.posting_core.specs.declared.rows.BranchRow.{BranchRow}
-use Rattle.posting_core.specs.declared.rows.TellerRow.{TellerRow}
-use Rattle.posting_core.specs.declared.rows.AccountRow.{AccountRow}
 use Rattle.posting_core.specs.Commands.{Command, Open, Post, opened, branch_of_teller, branch_of_account, place_of_account, is_within, is_teller_open, is_account_open}
 use Rattle.posting_core.specs.Cases.{case_of}
 use Rattle.posting_core.specs.Entries.{Entry, is_posted, facts, posted_sum, teller_balance, branch_balance, account_balance, with_verdict, with_record, decided}
-use Rattle.posting_core.specs.Tables.{Tables, HasRows, Shows, row_at, branch_key, teller_key, account_key, branch_row, branch_row_of, teller_row_of, account_row_of}
-use Rattle.posting_core.specs.Steps.{AddsRow, AddsRows, OpensBranch, is_from, first_teller, first_account}
+use Rattle.posting_core.specs.Tables.{Tables, HasRows, Shows, branch_row_of, teller_row_of, account_row_of}
+use Rattle.posting_core.specs.Steps.{OpensBranch, is_from, first_teller, first_account}
 use Rattle.posting_core.proofs.Keyed.{by_test}
 use Rattle.posting_core.proofs.Verdicts.{IsVerdict, verdict_is}
 

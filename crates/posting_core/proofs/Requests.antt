@@ -1,6 +1,6 @@
 -- Decided requests: no two share teller and number, so that a look-up of rows by both finds the kept request.
-use Rattle.std.proofs.Common.{◌≡◌, ℕ, suc, ◌+◌, ◌<◌, ◌≤◌, Bool, true, false, cond, eqb, List, [], ◌∷◌, length, get_or, Option, Some, None, Result, Ok, Err, refl, sym, ap, subst, ◌∙◌, arith, inl, inr}
-use Rattle.std.specs.Prelude.{◌⊎◌, ◌&&◌, ◌==◌, AllPairs}
+use Rattle.std.proofs.Common.{◌≡◌, ℕ, ◌+◌, ◌≤◌, Bool, true, false, eqb, List, [], ◌∷◌, length, Option, Some, None, Result, Ok, Err, refl, sym, subst, ◌∙◌, arith, inl, inr}
+use Rattle.std.specs.Prelude.{◌&&◌, AllPairs}
 use Rattle.std.specs.List.{find, AllByRecursion}
 use Rattle.std.specs.Option.{option_map}
 use Rattle.std.proofs.lemmas.Bool.{eqb-true, eq-eqb}
@@ -16,7 +16,7 @@ use Rattle.posting_core.specs.declared.rows.RequestRow.{RequestRow}
 use Rattle.posting_core.specs.Commands.{Command, Open, Post, opened}
 use Rattle.posting_core.specs.Kept.{KeptFields}
 use Rattle.posting_core.specs.Cases.{case_of}
-use Rattle.posting_core.specs.Entries.{Entry, kept, kept_fields, facts, with_verdict, with_record, decided}
+use Rattle.posting_core.specs.Entries.{Entry, kept, facts, with_verdict, with_record, decided}
 use Rattle.posting_core.specs.Tables.{row_at, HasKeys, request_key, request_row, request_row_of}
 use Rattle.posting_core.specs.LookUps.{kept_in, kept_of_row}
 use Rattle.posting_core.specs.Laws.{Differ}

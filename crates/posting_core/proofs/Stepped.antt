@@ -1,13 +1,12 @@
 -- Tables of a log that a verdict changes are the tables of the log with the record.
-use Rattle.std.proofs.Common.{◌≡◌, ℕ, zero, suc, ◌+◌, ◌<◌, ◌≤◌, Bool, true, false, cond, eqb, List, [], ◌∷◌, length, Option, Some, None, Result, Ok, Err, refl, sym, ap, subst, ◌∙◌, arith, inl, inr}
-use Rattle.std.specs.Prelude.{ℤ, pos, ◌+ℤ◌, ◌⊎◌, ◌&&◌}
+use Rattle.std.proofs.Common.{◌≡◌, ℕ, suc, ◌+◌, ◌<◌, ◌≤◌, Bool, true, false, cond, eqb, List, [], ◌∷◌, length, Option, Some, None, Result, Ok, Err, refl, sym, ap, subst, ◌∙◌, arith}
+use Rattle.std.specs.Prelude.{ℤ, ◌+ℤ◌, ◌&&◌}
 use Rattle.std.specs.Option.{option_map}
 use Rattle.std.proofs.lemmas.Bool.{eqb-true}
 use Rattle.std.proofs.lemmas.Bool.Decides.{nat_tests}
 use Rattle.message_records.specs.declared.records.Outcome.{Outcome}
 use Rattle.message_records.specs.declared.faults.Bad.{Bad}
-use Rattle.message_records.specs.Outcomes.{has_balance}
-use Rattle.message_records.specs.Records.{RequestFields, ReplyFields}
+use Rattle.message_records.specs.Records.{RequestFields}
 use Rattle.message_records.specs.Reading.{request_of}
 use Rattle.posting_core.specs.declared.facts.Found.{Found}
 use Rattle.posting_core.specs.declared.facts.Verdict.{Verdict}
@@ -15,18 +14,16 @@ use Rattle.posting_core.specs.declared.facts.Verdict.TheVariants.{Unkept, Again,
 use Rattle.posting_core.specs.declared.rows.BranchRow.{BranchRow}
 use Rattle.posting_core.specs.declared.rows.TellerRow.{TellerRow}
 use Rattle.posting_core.specs.declared.rows.AccountRow.{AccountRow}
-use Rattle.posting_core.specs.declared.rows.MetaRow.{MetaRow}
 use Rattle.posting_core.specs.declared.rows.HistoryRow.{HistoryRow}
 use Rattle.posting_core.specs.declared.rows.RequestRow.{RequestRow}
 use Rattle.posting_core.specs.Commands.{Command, Post, opened, branch_of_teller, is_teller_open, is_account_open}
 use Rattle.posting_core.specs.Cases.{case_of, reply_in}
 use Rattle.posting_core.specs.Entries.{Entry, is_posted, facts, posted_sum, teller_balance, branch_balance, account_balance, refused_entry, posted_entry, with_verdict, with_record, reply_to, decided, reply}
-use Rattle.posting_core.specs.Tables.{Tables, HasRows, HasKeys, Shows, row_at, branch_key, teller_key, account_key, history_key, request_key, branch_row, branch_row_of, teller_row, teller_row_of, account_row, account_row_of, history_row, history_row_of, request_row, request_row_of}
+use Rattle.posting_core.specs.Tables.{Tables, HasRows, HasKeys, Shows, row_at, branch_key, teller_key, account_key, history_key, request_key, branch_row_of, teller_row_of, account_row_of, history_row, history_row_of, request_row, request_row_of}
 use Rattle.posting_core.specs.LookUps.{found_in}
-use Rattle.posting_core.specs.Steps.{ChangesRow, AddsRow, KeepsRefusal, KeepsPosting, IsStep, with_branch_balance, with_teller_balance, with_account_balance, meta_row_of}
-use Rattle.posting_core.proofs.Keyed.{by_test}
-use Rattle.posting_core.proofs.Verdicts.{IsSum, IsVerdict, IsPosting, IsRefusal, verdict_is}
-use Rattle.posting_core.proofs.Requests.{AreNew, are_new}
+use Rattle.posting_core.specs.Steps.{AddsRow, KeepsRefusal, KeepsPosting, IsStep, with_branch_balance, with_teller_balance, with_account_balance, meta_row_of}
+use Rattle.posting_core.proofs.Verdicts.{IsVerdict, IsPosting, IsRefusal, verdict_is}
+use Rattle.posting_core.proofs.Requests.{are_new}
 use Rattle.posting_core.proofs.Looked.{found_shown}
 
 -- ---- rows under ordinals

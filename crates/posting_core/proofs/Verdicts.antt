@@ -1,6 +1,6 @@
 -- What a verdict says of what was known.
-use Rattle.std.proofs.Common.{◌≡◌, ℕ, ◌+◌, ◌<◌, ◌≤◌, Bool, true, false, cond, eqb, leb, List, length, Option, Some, None, refl, sym, ap, ◌∙◌, arith, inl, inr}
-use Rattle.std.specs.Prelude.{ℤ, ◌+ℤ◌, nat_abs, ◌⊎◌}
+use Rattle.std.proofs.Common.{◌≡◌, ℕ, ◌<◌, ◌≤◌, Bool, true, false, cond, eqb, leb, List, length, Option, Some, None, refl, sym, ap, inl, inr}
+use Rattle.std.specs.Prelude.{ℤ, ◌+ℤ◌, nat_abs}
 use Rattle.std.proofs.lemmas.Bool.{eqb-true, leb-true, leb-false}
 use Rattle.message_records.specs.declared.records.Outcome.{Outcome}
 use Rattle.message_records.specs.declared.records.Outcome.TheVariants as outcome
@@ -58,13 +58,13 @@ when false x y e = absurd cc
 
 -- the cases one after another, for whatever is to be shown of the verdict
 module _ (P : Verdict → Type 0) where
-  by_posting : (a t b : Option ℤ) → P (Refused outcome.OverLimit) → ((x y z : ℤ) → a ≡ Some x → t ≡ Some y → b ≡ Some z → P (Posted x y z)) → P (posting_of a t b)
+  pub by_posting : (a t b : Option ℤ) → P (Refused outcome.OverLimit) → ((x y z : ℤ) → a ≡ Some x → t ≡ Some y → b ≡ Some z → P (Posted x y z)) → P (posting_of a t b)
   by_posting (Some x) (Some y) (Some z) other given = given x y z refl refl refl
   by_posting None t b other given = other
   by_posting (Some x) None b other given = other
   by_posting (Some x) (Some y) None other given = other
 
-  by_account : (o : Option ℤ) (t b d : ℤ) → P (Refused outcome.NoAccount) → ((a : ℤ) → o ≡ Some a → P (posting_of (plus_within a d) (plus_within t d) (plus_within b d))) → P (account_case o t b d)
+  pub by_account : (o : Option ℤ) (t b d : ℤ) → P (Refused outcome.NoAccount) → ((a : ℤ) → o ≡ Some a → P (posting_of (plus_within a d) (plus_within t d) (plus_within b d))) → P (account_case o t b d)
   by_account None t b d other given = other
   by_account (Some a) t b d other given = given a refl
 

@@ -1,5 +1,5 @@
 -- What becomes of a request, by what is known where it comes in: the first case that applies.
-use Rattle.std.specs.Prelude.{ℕ, ℤ, ◌+ℤ◌, Option, Some, None, Bool, true, false, ◌==◌, ◌&&◌, nat_le, ◌<◌, IsTrue, if◌then◌else◌}
+use Rattle.std.specs.Prelude.{ℤ, ◌+ℤ◌, Option, Some, None, Bool, true, false, ◌==◌, ◌&&◌, nat_le, ◌<◌, IsTrue, if◌then◌else◌}
 use Rattle.std.specs.Ordering.{int_eq}
 use Rattle.message_records.specs.declared.records.Outcome.{Outcome}
 use Rattle.message_records.specs.declared.records.Outcome.TheVariants as outcome

@@ -1,6 +1,7 @@
 -- The commands of a bank, and which branches, tellers and accounts they open.
 -- A log is the list of the commands so far, the newest first: what came before a command is the list behind it.
-use Rattle.std.specs.Prelude.{ℕ, ◌+◌, ◌-◌, ◌/◌, ◌%◌, List, [], ◌∷◌, Option, Some, None, Bool, true, false, is_some, ◌==◌, ◌&&◌, nat_le, if◌then◌else◌}
+use Rattle.std.specs.Prelude.{◌≡◌, ◌≤◌, ℕ, ◌+◌, ◌-◌, ◌/◌, ◌%◌, length, List, [], ◌∷◌, Option, Some, None, Bool, false, is_some, ◌==◌, ◌&&◌, nat_le, if◌then◌else◌}
+use Rattle.std.specs.List.{AllByRecursion}
 use Rattle.std.specs.Option.{option_or}
 
 pub data Command : Type 0 where
@@ -8,6 +9,14 @@ pub data Command : Type 0 where
   Open : ℕ → ℕ → Command
   -- the moment, and the bytes of a record
   Post : ℕ → List ℕ → Command
+
+-- a branch of 1..=9999 with 1..=100,000 accounts; a moment within the year 9999, and 100 bytes
+abbrev pub IsCommand : Command → Type 0
+IsCommand (Open branch count) = (1 ≤ branch) × (branch ≤ 9999) × (1 ≤ count) × (count ≤ 100_000)
+IsCommand (Post moment bytes) = (moment ≤ 253_402_300_799) × (length bytes ≡ 100)
+
+abbrev pub AreCommands : List Command → Type 0
+AreCommands log = AllByRecursion IsCommand log
 
 -- how many accounts a branch was first opened with, none where it isn't open
 abbrev pub opened : List Command → ℕ → Option ℕ

@@ -1,17 +1,17 @@
 -- What a counter shows, what a stop may leave of it, and what a call does to both.
-use Rattle.std.specs.Prelude.{◌≡◌, ℕ, ◌≤◌, List, [], ◌∷◌, length, take, Option, Some, None, IsSomeAnd, ◌==◌, if◌then◌else◌}
+use Rattle.std.specs.Prelude.{◌≡◌, ℕ, ◌≤◌, List, length, take, Option, Some, None, IsSomeAnd, ◌==◌, if◌then◌else◌}
 use Rattle.posting_core.specs.declared.fault.Fault.{Fault}
 use Rattle.posting_core.specs.declared.fault.Fault.TheVariants.{Memory, Store, Down, Damaged}
 use Rattle.posting_core.specs.declared.counter.Opening.{Opening}
 use Rattle.posting_core.specs.declared.counter.Opening.TheVariants.{Opened, Already, Differs}
-use Rattle.posting_core.specs.Commands.{Command, opened}
+use Rattle.posting_core.specs.Commands.{Command, AreCommands, opened}
 use Rattle.posting_core.specs.Tables.{Tables, Shows}
 use Rattle.posting_core.specs.Runs.{behind}
 
 -- what is known of a counter at one moment
 pub record Seen : Type 1 where
-  -- its tables
-  pub tables : Tables
+  -- these are its tables; where it keeps no bank, there are none
+  pub tables : Tables → Type 0
   -- it failed earlier, and answers nothing more
   pub is_down : Type 0
   -- what a stop at this moment may leave: the tables of a bank, or none where it is no bank
@@ -19,13 +19,20 @@ pub record Seen : Type 1 where
   -- nobody else wrote what it keeps, and what it keeps is what was written
   pub honest : Type 0
 
+-- its tables are those of a log of commands
+pub record ShowsLog (seen : Seen) (log : List Command) : Type 0 where
+  pub commands : AreCommands log
+  pub tables : Tables
+  pub are : seen.tables tables
+  pub shows : Shows tables log
+
 -- everything that a stop may leave is a bank of which P holds
 abbrev pub LeavesOnly : Seen → (Tables → Type 0) → Type 0
 LeavesOnly seen P = (x : Option Tables) → seen.left x → IsSomeAnd x P
 
 -- it shows the log, and so does everything that a stop may leave
 pub record StandsAt (seen : Seen) (log : List Command) : Type 0 where
-  pub shows : Shows seen.tables log
+  pub shows : ShowsLog seen log
   pub up : seen.is_down → ⊥
   pub stop : LeavesOnly seen (λ t. Shows t log)
 
@@ -38,14 +45,18 @@ pub record ShowsBeginning (log commands : List Command) (least : ℕ) (tables : 
 
 -- ---- what a call that was given some commands did
 
+-- whatever log was shown, it is shown with the commands behind it
+abbrev pub ShowMore : Seen → Seen → List Command → Type 0
+ShowMore old new commands = (log : List Command) → ShowsLog old log → ShowsLog new (behind log commands)
+
 -- it took them all
 pub record Takes (old new : Seen) (commands : List Command) : Type 0 where
-  pub shows : new.honest → (log : List Command) → Shows old.tables log → Shows new.tables (behind log commands)
+  pub shows : new.honest → ShowMore old new commands
   pub stands : new.honest → (log : List Command) → StandsAt old log → StandsAt new (behind log commands)
 
 -- it changed nothing
 pub record IsUnchanged (old new : Seen) : Type 0 where
-  pub tables : new.tables ≡ old.tables
+  pub tables : (t : Tables) → old.tables t → new.tables t
   pub down : new.is_down → old.is_down
   pub left : (x : Option Tables) → new.left x → old.left x
 
@@ -58,14 +69,14 @@ pub record IsCutShort (old new : Seen) (commands : List Command) : Type 0 where
 pub record WasDown (old new : Seen) : Type 0 where
   pub before : old.is_down
   pub after : new.is_down
-  pub tables : new.honest → new.tables ≡ old.tables
+  pub tables : new.honest → (t : Tables) → old.tables t → new.tables t
   pub left : (x : Option Tables) → new.left x → old.left x
 
 -- it met rows that no log leads to, and changed none of them
 pub record IsDamaged (old new : Seen) : Type 0 where
-  pub never_shown : new.honest → (log : List Command) → Shows old.tables log → ⊥
+  pub never_shown : new.honest → (log : List Command) → ShowsLog old log → ⊥
   pub down : new.is_down
-  pub tables : new.honest → new.tables ≡ old.tables
+  pub tables : new.honest → (t : Tables) → old.tables t → new.tables t
 
 -- what each refusal says
 abbrev pub Refuses : Fault → Seen → Seen → List Command → Type 0

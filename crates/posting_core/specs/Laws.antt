@@ -1,13 +1,11 @@
 -- What holds of every log: the consistency condition (TPC-B clause 2) and what else a banker relies on.
-use Rattle.std.specs.Prelude.{◌≡◌, ◌≤◌, ℕ, ◌+◌, ℤ, pos, ◌+ℤ◌, nat_abs, List, [], ◌∷◌, map, filter, Option, Some, None, Bool, true, ◌==◌, AllPairs}
+use Rattle.std.specs.Prelude.{◌≡◌, ◌≤◌, ℕ, ℤ, pos, ◌+ℤ◌, nat_abs, List, [], ◌∷◌, map, filter, Option, Some, None, true, ◌==◌, AllPairs}
 use Rattle.std.specs.List.{AllByRecursion}
-use Rattle.message_records.specs.declared.records.Outcome.{Outcome}
 use Rattle.message_records.specs.Outcomes.{has_balance}
-use Rattle.posting_core.specs.declared.rows.BranchRow.{BranchRow}
 use Rattle.posting_core.specs.declared.rows.TellerRow.{TellerRow}
 use Rattle.posting_core.specs.declared.rows.HistoryRow.{HistoryRow}
 use Rattle.posting_core.specs.declared.rows.RequestRow.{RequestRow}
-use Rattle.posting_core.specs.Commands.{Command, Open, Post, branch_of_teller}
+use Rattle.posting_core.specs.Commands.{Command, AreCommands, branch_of_teller}
 use Rattle.posting_core.specs.Entries.{Entry, decided, account_balance, teller_balance, branch_balance}
 use Rattle.posting_core.specs.Tables.{Tables, Shows, row_at, history_key, request_key}
 use Rattle.posting_core.specs.LookUps.{balance_of_branch, balance_of_teller, balance_of_account}
@@ -69,11 +67,6 @@ TablesAreConsistent = (t : Tables) (log : List Command) → Shows t log → IsCo
 
 -- ---- the tables say all that matters of a log
 
--- a branch and a count that a bank takes
-abbrev pub IsCommand : Command → Type 0
-IsCommand (Open branch count) = (1 ≤ branch) × (branch ≤ 9999) × (1 ≤ count) × (count ≤ 100_000)
-IsCommand (Post moment bytes) = Unit {0}
-
 -- logs with equal tables give equal replies to whatever follows
 abbrev pub EqualTablesAnswerAlike : Type 0
-EqualTablesAnswerAlike = (t : Tables) (one two cs : List Command) → Shows t one → Shows t two → AllByRecursion IsCommand cs → replies_to one cs ≡ replies_to two cs
+EqualTablesAnswerAlike = (t : Tables) (one two cs : List Command) → Shows t one → Shows t two → AreCommands cs → replies_to one cs ≡ replies_to two cs

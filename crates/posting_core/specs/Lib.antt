@@ -13,3 +13,7 @@ pub mod Laws
 pub mod Counter
 pub mod Plain
 pub mod Once
+pub mod Resends
+pub mod Clock
+pub mod Batches
+pub mod Stream

@@ -1,5 +1,5 @@
 -- What a counter looks up in its tables, by keys alone: the order of the rows doesn't matter.
-use Rattle.std.specs.Prelude.{ℕ, ℤ, List, [], ◌∷◌, Option, Some, None, ◌==◌, ◌&&◌, if◌then◌else◌}
+use Rattle.std.specs.Prelude.{ℕ, ℤ, List, [], ◌∷◌, Option, Some, None, ◌==◌, ◌&&◌}
 use Rattle.std.specs.List.{find}
 use Rattle.std.specs.Option.{option_map}
 use Rattle.message_records.specs.Records.{RequestFields}

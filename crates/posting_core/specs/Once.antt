@@ -7,8 +7,7 @@ use Rattle.posting_core.specs.declared.once.OnceFault.{OnceFault}
 use Rattle.posting_core.specs.declared.once.OnceFault.TheVariants.{Short, Read, Write, Bank}
 use Rattle.posting_core.specs.Commands.{Command, Post}
 use Rattle.posting_core.specs.Entries.{reply}
-use Rattle.posting_core.specs.Tables.{Shows}
-use Rattle.posting_core.specs.Counter.{Seen, Takes, IsUnchanged, Refuses}
+use Rattle.posting_core.specs.Counter.{Seen, ShowsLog, Takes, IsUnchanged, Refuses}
 
 -- The reader's known bytes before and after are r and r', the writer's w and w', and the counter is seen as c and c'.
 
@@ -18,7 +17,7 @@ pub record IsAnswered (r r' w w' : Option (List ℕ)) (c c' : Seen) (moment : �
   pub whole : length bytes ≡ 100
   pub read : Consumes r r' bytes
   pub takes : Takes c c' (Post moment bytes ∷ [])
-  pub written : c'.honest → (log : List Command) → Shows c.tables log → Appends w w' (reply_spelling (reply log bytes))
+  pub written : c'.honest → (log : List Command) → ShowsLog c log → Appends w w' (reply_spelling (reply log bytes))
 
 -- the input ended within a record: nothing was submitted, and nothing written
 pub record EndsShort (r r' w w' : Option (List ℕ)) (c c' : Seen) : Type 0 where
@@ -41,7 +40,7 @@ pub record IsCutOff (r r' w w' : Option (List ℕ)) (c c' : Seen) (moment : ℕ)
   pub read : Consumes r r' bytes
   pub takes : Takes c c' (Post moment bytes ∷ [])
   pub count : ℕ
-  pub written : c'.honest → (log : List Command) → Shows c.tables log → Appends w w' (take count (reply_spelling (reply log bytes)))
+  pub written : c'.honest → (log : List Command) → ShowsLog c log → Appends w w' (take count (reply_spelling (reply log bytes)))
 
 -- the counter refused the record, and nothing was written
 pub record IsRefused (fault : Fault) (r r' w w' : Option (List ℕ)) (c c' : Seen) (moment : ℕ) : Type 0 where

@@ -1,5 +1,5 @@
 -- A bank in memory: its rows stand in the order in which they came.
-use Rattle.std.specs.Prelude.{◌≡◌, ℕ, zero, suc, ◌+◌, ℤ, pos, List, [], ◌∷◌, ◌++◌, length, map, Option, Some, None, Result, Ok, Err, ◌==◌, if◌then◌else◌}
+use Rattle.std.specs.Prelude.{◌≡◌, ℕ, ◌+◌, ℤ, pos, [], ◌∷◌, ◌++◌, length, Some, Result, Ok, Err}
 use Rattle.message_records.specs.declared.faults.Bad.{Bad}
 use Rattle.message_records.specs.Records.{RequestFields, ReplyFields}
 use Rattle.posting_core.specs.declared.facts.Verdict.{Verdict}
@@ -27,7 +27,7 @@ plain_tables bank = record {
 
 -- it is never down, and what a stop leaves are its rows
 abbrev pub plain_seen : PlainBank → Seen
-plain_seen bank = record { tables = plain_tables bank; is_down = ⊥; left = λ x. x ≡ Some (plain_tables bank); honest = Unit {0} }
+plain_seen bank = record { tables = λ t. t ≡ plain_tables bank; is_down = ⊥; left = λ x. x ≡ Some (plain_tables bank); honest = Unit {0} }
 
 -- ---- what a record does to the rows
 

@@ -1,11 +1,11 @@
 -- What becomes of a record, said case by case in the words of the profile, of what stands before it.
-use Rattle.std.specs.Prelude.{◌≡◌, ◌≢◌, ◌≤◌, ◌<◌, ◌⊎◌, ◌↔◌, ℕ, ℤ, ◌+ℤ◌, nat_abs, List, ◌∷◌, length, Option, Some, None, Ok, Err, true, false}
+use Rattle.std.specs.Prelude.{◌≡◌, ◌≢◌, ◌≤◌, ◌<◌, ◌↔◌, ℕ, ℤ, ◌+ℤ◌, nat_abs, List, ◌∷◌, length, Some, None, Ok, Err, true, false}
 use Rattle.message_records.specs.declared.records.Outcome.{Outcome}
 use Rattle.message_records.specs.declared.records.Outcome.TheVariants as outcome
 use Rattle.message_records.specs.declared.faults.Bad.{Bad}
 use Rattle.message_records.specs.Records.{RequestFields, ReplyFields}
 use Rattle.message_records.specs.Reading.{request_of}
-use Rattle.posting_core.specs.Commands.{Command, Open, Post, opened, branch_of_teller, is_teller_open, is_account_open}
+use Rattle.posting_core.specs.Commands.{Command, Post, opened, branch_of_teller, is_teller_open, is_account_open}
 use Rattle.posting_core.specs.Kept.{KeptFields}
 use Rattle.posting_core.specs.Cases.{balance_shown}
 use Rattle.posting_core.specs.Entries.{Entry, is_posted, kept, account_balance, teller_balance, branch_balance, decided, malformed_reply, reply}

@@ -1,5 +1,5 @@
 -- The six tables of a bank, and the rows that a log leads to.
-use Rattle.std.specs.Prelude.{◌≡◌, ℕ, suc, ◌+◌, ℤ, pos, List, [], ◌∷◌, length, map, Option, Some, None, Bool, true, false, ◌==◌, ◌&&◌, if◌then◌else◌, nat_eq}
+use Rattle.std.specs.Prelude.{◌≡◌, ℕ, ◌+◌, ℤ, List, [], ◌∷◌, length, map, Option, Some, None, ◌==◌, ◌&&◌, if◌then◌else◌, nat_eq}
 use Rattle.std.specs.List.{find, IsDistinct}
 use Rattle.std.specs.Option.{option_map}
 use Rattle.posting_core.specs.declared.rows.MetaRow.{MetaRow}

@@ -1,11 +1,12 @@
 //! A counter that takes requests, whatever keeps its tables.
-ghost use Rattle.std.specs.Prelude.{◌≡◌, ◌≤◌, ℕ, List, [], ◌∷◌, IfOk, OnOk, IfErr};
+ghost use Rattle.std.specs.Prelude.{◌≡◌, ◌≤◌, ℕ, List, [], ◌∷◌, length, IfOk, OnOk, IfErr};
 ghost use Rattle.std.specs.Result.{IsErrOf};
 ghost use Rattle.message_records.specs.Spelling.{reply_spelling};
 ghost use Rattle.posting_core.specs.Commands.{Command, Open, Post};
 ghost use Rattle.posting_core.specs.Entries.{reply, balance_behind};
-ghost use Rattle.posting_core.specs.Tables.{Tables, Shows};
-ghost use Rattle.posting_core.specs.Counter.{Seen, Takes, Refuses, opening_behind};
+ghost use Rattle.posting_core.specs.Tables.{Tables};
+ghost use Rattle.posting_core.specs.Counter.{Seen, ShowsLog, Takes, Refuses, opening_behind};
+ghost use Rattle.posting_core.specs.Runs.{posts, replies_to};
 
 use crate::fault::Fault;
 use message_records::{Account, Branch, Cents, Moment};
@@ -29,11 +30,25 @@ pub trait Counter {
 
     /// Submits the 100 bytes of a record, and answers the 200 bytes of the reply.
     fn submit(&mut self, moment: Moment, bytes: &[u8; 100]) -> Result<[u8; 200], Fault>
-        ensures reply { IfOk result (λ out. (seen self.new).honest → (log : List Command) → Shows (seen self.old).tables log →
+        ensures reply { IfOk result (λ out. (seen self.new).honest → (log : List Command) → ShowsLog (seen self.old) log →
             out ≡ reply_spelling (reply log bytes.now)) }
         ensures done { OnOk result (Takes (seen self.old) (seen self.new) (Post moment bytes.now ∷ [])) }
         ensures up { OnOk result ((seen self.new).is_down → ⊥) }
         ensures fault { IfErr result (λ fault. Refuses fault (seen self.old) (seen self.new) (Post moment bytes.now ∷ [])) }
+        ensures down { (seen self.old).is_down → IsErrOf result Fault.Down }
+        ensures honest { (seen self.new).honest → (seen self.old).honest };
+
+    /// Submits 1 to 64 records of 100 bytes at one moment, and answers the replies of 200 bytes in order, as if each
+    /// record were submitted after the one before it. After a fault no reply is handed out.
+    fn submit_all(&mut self, moment: Moment, records: &[[u8; 100]]) -> Result<Vec<[u8; 200]>, Fault>
+        requires some { 1 ≤ length records.now }
+        requires few { length records.now ≤ 64 }
+        ensures count { IfOk result (λ replies. length replies.items ≡ length records.now) }
+        ensures replies { IfOk result (λ replies. (seen self.new).honest → (log : List Command) → ShowsLog (seen self.old) log →
+            replies.items ≡ replies_to log (posts moment records.now)) }
+        ensures done { OnOk result (Takes (seen self.old) (seen self.new) (posts moment records.now)) }
+        ensures up { OnOk result ((seen self.new).is_down → ⊥) }
+        ensures fault { IfErr result (λ fault. Refuses fault (seen self.old) (seen self.new) (posts moment records.now)) }
         ensures down { (seen self.old).is_down → IsErrOf result Fault.Down }
         ensures honest { (seen self.new).honest → (seen self.old).honest };
 
@@ -42,7 +57,7 @@ pub trait Counter {
         requires branch { branch ≤ 9999 }
         requires some { 1 ≤ count }
         requires few { count ≤ 100_000 }
-        ensures answer { IfOk result (λ opening. (seen self.new).honest → (log : List Command) → Shows (seen self.old).tables log →
+        ensures answer { IfOk result (λ opening. (seen self.new).honest → (log : List Command) → ShowsLog (seen self.old) log →
             opening ≡ opening_behind log branch count) }
         ensures done { OnOk result (Takes (seen self.old) (seen self.new) (Open branch count ∷ [])) }
         ensures up { OnOk result ((seen self.new).is_down → ⊥) }
@@ -52,10 +67,10 @@ pub trait Counter {
 
     /// The balance of an account, none where it isn't open. It changes nothing.
     fn balance(&mut self, account: Account) -> Result<Option<Cents>, Fault>
-        ensures value { IfOk result (λ balance. (seen self.new).honest → (log : List Command) → Shows (seen self.old).tables log →
+        ensures value { IfOk result (λ balance. (seen self.new).honest → (log : List Command) → ShowsLog (seen self.old) log →
             balance ≡ balance_behind log account) }
         ensures done { OnOk result (Takes (seen self.old) (seen self.new) []) }
-        ensures tables { OnOk result ((seen self.new).honest → (seen self.new).tables ≡ (seen self.old).tables) }
+        ensures tables { OnOk result ((seen self.new).honest → (t : Tables) → (seen self.old).tables t → (seen self.new).tables t) }
         ensures up { OnOk result ((seen self.new).is_down → ⊥) }
         ensures fault { IfErr result (λ fault. Refuses fault (seen self.old) (seen self.new) []) }
         ensures down { (seen self.old).is_down → IsErrOf result Fault.Down }

@@ -1,6 +1,7 @@
 //! Laws of the bank, for every log of commands. Each is a function that does nothing: its contract is the law.
 ghost use Rattle.posting_core.specs.Stated.{DecidedAsStated, RepliedAsStated};
 ghost use Rattle.posting_core.specs.Laws.{NoneShares, BalancesStayWithin, TablesAreConsistent, EqualTablesAnswerAlike};
+ghost use Rattle.posting_core.specs.Resends.{RepliesAgain, RepliesInPlace, AddsOnce, KeepsCommands};
 
 /// Which records are decided, which of them are posted, and what is replied, said case by case.
 pub fn cases_are_as_stated()
@@ -27,4 +28,13 @@ pub fn tables_are_consistent()
 /// What a bank answers depends on its tables alone.
 pub fn equal_tables_answer_alike()
     ensures { EqualTablesAnswerAlike }
+{}
+
+/// A record that comes again gets the reply that it got, and adds no row, as long as no branch is opened in between. So a
+/// resend may come in any order, in part, any number of times, and mixed with new records.
+pub fn resends_get_their_replies()
+    ensures replies { RepliesAgain }
+    ensures in_place { RepliesInPlace }
+    ensures tables { AddsOnce }
+    ensures commands { KeepsCommands }
 {}

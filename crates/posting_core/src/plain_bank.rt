@@ -1,5 +1,5 @@
 //! A bank in memory.
-ghost use Rattle.std.specs.Prelude.{◌≡◌, ◌≤◌, ◌<◌, ◌+◌, ◌-◌, ◌*◌, [], ◌∷◌, ◌++◌, pos, length, vec_len, vec_capacity, IsTrue};
+ghost use Rattle.std.specs.Prelude.{◌≡◌, ◌≤◌, ◌<◌, ◌+◌, ◌-◌, ◌*◌, [], ◌∷◌, ◌++◌, List, pos, length, vec_len, vec_capacity, IsTrue};
 ghost use Rattle.message_records.specs.Spelling.{reply_spelling};
 ghost use Rattle.message_records.specs.Reading.{request_of};
 ghost use Rattle.posting_core.specs.Kept.{is_kept_with};
@@ -127,6 +127,8 @@ impl PlainBank {
     ghost use Rattle.posting_core.specs.Cases.{IsProper};
     ghost use Rattle.posting_core.specs.Tables.{Shows};
     ghost use Rattle.posting_core.specs.LookUps.{found_in};
+    ghost use Rattle.posting_core.specs.Commands.{Command, AreCommands};
+    ghost use Rattle.posting_core.specs.Runs.{behind, posts, replies_to};
     ghost use Rattle.posting_core.specs.Plain.{plain_tables, tables_after, tables_with, tables_opened, reply_in_tables};
 
     /// A bank with no branch. It takes no memory.
@@ -166,6 +168,8 @@ impl PlainBank {
         requires proper { IsProper (found_in (plain_tables self.old) request.now) verdict.now }
         requires requests { vec_len self.old.requests < vec_capacity self.old.requests }
         requires history { vec_len self.old.history < vec_capacity self.old.history }
+        ensures requests { (vec_len self.new.requests ≤ vec_len self.old.requests + 1) × (vec_capacity self.old.requests ≤ vec_capacity self.new.requests) }
+        ensures history { (vec_len self.new.history ≤ vec_len self.old.history + 1) × (vec_capacity self.old.history ≤ vec_capacity self.new.history) }
         ensures tables { plain_tables self.new ≡ tables_after (plain_tables self.old) moment request.now verdict.now }
     {
         match verdict {
@@ -191,6 +195,8 @@ impl PlainBank {
     fn answer(&mut self, moment: Moment, bytes: &[u8; 100]) -> [u8; 200]
         requires requests { vec_len self.old.requests < vec_capacity self.old.requests }
         requires history { vec_len self.old.history < vec_capacity self.old.history }
+        ensures requests { (vec_len self.new.requests ≤ vec_len self.old.requests + 1) × (vec_capacity self.old.requests ≤ vec_capacity self.new.requests) }
+        ensures history { (vec_len self.new.history ≤ vec_len self.old.history + 1) × (vec_capacity self.old.history ≤ vec_capacity self.new.history) }
         ensures reply { result ≡ reply_spelling (reply_in_tables (plain_tables self.old) (request_of bytes.now)) }
         ensures tables { plain_tables self.new ≡ tables_with (plain_tables self.old) moment (request_of bytes.now) }
     {
@@ -201,6 +207,25 @@ impl PlainBank {
         let verdict = judge(&found, &request);
         self.apply(moment, &request, &verdict);
         encode_reply(&reply_to(&found, &request, &verdict))
+    }
+
+    // Submits records in order, for which there is room, and puts the replies behind the others.
+    fn answer_all(&mut self, moment: Moment, records: &[[u8; 100]], replies: &mut Vec<[u8; 200]>)
+        requires requests { vec_len self.old.requests + length records.now ≤ vec_capacity self.old.requests }
+        requires history { vec_len self.old.history + length records.now ≤ vec_capacity self.old.history }
+        requires replies { vec_len replies.old + length records.now ≤ vec_capacity replies.old }
+        ensures count { length replies.new.items ≡ length replies.old.items + length records.now }
+        ensures commands { AreCommands (posts moment records.now) }
+        ensures shows { (log : List Command) → Shows (plain_tables self.old) log → Shows (plain_tables self.new) (behind log (posts moment records.now)) }
+        ensures replies { (log : List Command) → Shows (plain_tables self.old) log →
+            replies.new.items ≡ replies.old.items ++ replies_to log (posts moment records.now) }
+    {
+        // A moment is in its range.
+        let _seconds = moment.get();
+        for bytes in records {
+            let reply = self.answer(moment, bytes);
+            put(replies, reply);
+        }
     }
 
     // Adds a branch, for whose rows there is room.
@@ -239,12 +264,29 @@ impl Counter for PlainBank {
     ghost seen = { plain_seen };
 
     fn submit(&mut self, moment: Moment, bytes: &[u8; 100]) -> Result<[u8; 200], Fault> {
+        // A moment is in its range.
+        let _seconds = moment.get();
         self.history.reserve(1)?;
         self.requests.reserve(1)?;
         Ok(self.answer(moment, bytes))
     }
 
+    fn submit_all(
+        &mut self,
+        moment: Moment,
+        records: &[[u8; 100]],
+    ) -> Result<Vec<[u8; 200]>, Fault> {
+        let mut replies = Vec::new(self.alloc);
+        replies.reserve(records.len())?;
+        self.history.reserve(records.len())?;
+        self.requests.reserve(records.len())?;
+        self.answer_all(moment, records, &mut replies);
+        Ok(replies)
+    }
+
     fn open_branch(&mut self, branch: Branch, count: u32) -> Result<Opening, Fault> {
+        // A branch is in its range.
+        let _number = branch.get();
         if let Some(accounts) = count_at(&self.branches, branch) {
             return Ok(if accounts == count {
                 Opening::Already

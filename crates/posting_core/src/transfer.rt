@@ -13,8 +13,8 @@ pub(crate) struct ReadFailed;
 #[derive(Clone, Copy, Debug, PartialEq, Eq)]
 pub(crate) struct WriteFailed;
 
-// One read into what is left of a buffer.
-fn fill<R: Read>(reader: &mut R, buffer: &mut [u8], filled: usize) -> io::Result<usize>
+/// One read into what is left of a buffer.
+pub(crate) fn fill<R: Read>(reader: &mut R, buffer: &mut [u8], filled: usize) -> io::Result<usize>
     requires { filled < length buffer.old }
     ensures fits { IfOk result (λ n. filled + n ≤ length buffer.new) }
     ensures ok { IfOk result (λ n. (bytes : List ℕ) × (take (filled + n) buffer.new ≡ take filled buffer.old ++ bytes)

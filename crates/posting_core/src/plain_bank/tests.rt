@@ -5,7 +5,7 @@ use crate::counter::{Counter, Opening};
 use crate::facts::{Found, Verdict};
 use crate::laws::{
     balances_stay_within, cases_are_as_stated, each_request_once, equal_tables_answer_alike,
-    tables_are_consistent,
+    resends_get_their_replies, tables_are_consistent,
 };
 use message_records::{
     Account, Bad, Branch, Cents, Moment, Number, Outcome, Request, Teller, decode_reply,
@@ -221,4 +221,5 @@ fn laws() {
     balances_stay_within();
     tables_are_consistent();
     equal_tables_answer_alike();
+    resends_get_their_replies();
 }

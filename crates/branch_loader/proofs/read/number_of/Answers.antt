@@ -19,7 +19,8 @@ more : (n : ℕ) (field : List ℕ) (i : ℕ) → i < length field → is_ascii_
 more n field i within digit = at_drop_more (number_after n) field i 0 within ∙ rw digit
 
 -- another byte
-other : (n : ℕ) (field : List ℕ) (i : ℕ) → i < length field → is_ascii_digit (get_or field i 0) ≡ false → number_after n (drop i field) ≡ None
+other : (n : ℕ) (field : List ℕ) (i : ℕ) → i < length field → is_ascii_digit (get_or field i 0) ≡ false
+    → number_after n (drop i field) ≡ None
 other n field i within digit = at_drop_more (number_after n) field i 0 within ∙ rw digit
 
 -- no digit more
@@ -27,7 +28,9 @@ done : (n : ℕ) (field : List ℕ) (i : ℕ) → length field ≤ i → number_
 done n field i past = at_drop_all (number_after n) field i past
 
 pub overflow_mul-value : goal.overflow_mul-value
-overflow_mul-value c = let small = room c.loop-digit.value c.loop-digit.digit-index c.loop-digit.invariant.small (omega arith) in omega arith
+overflow_mul-value c =
+    let small = room c.loop-digit.value c.loop-digit.digit-index c.loop-digit.invariant.small (omega arith) in
+    omega arith
 
 pub overflow_add-value : goal.overflow_add-value
 overflow_add-value c = let small = room c.loop-digit.value c.loop-digit.digit-index c.loop-digit.invariant.small (omega arith) in

@@ -4,5 +4,6 @@ use Rattle.branch_loader.proofs.read.read_plan.Goals as goal
 
 pub returns : goal.returns
 returns g c =
-    let begins = start g.R.Read.remaining c.from_reader-records.result (g.R.Read.remaining c.args.reader) c.from_reader-records.ensures.source c.from_reader-records.ensures.state in
+    let begins = start g.R.Read.remaining c.from_reader-records.result (g.R.Read.remaining c.args.reader)
+    c.from_reader-records.ensures.source c.from_reader-records.ensures.state in
     if_some (g.R.Read.remaining c.args.reader) (λ text left. c.read_rows-plan.ensures _ left) begins

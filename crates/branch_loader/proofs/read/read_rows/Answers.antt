@@ -24,7 +24,8 @@ rows-init g c = record {
   plain = c.in_ok-next_record.ensures.plain;
   plan = rw c.new-rows.ensures.items no-rows;
   states = λ all left. took-header c.in_ok-next_record.field-0 (fields_of c.next_record.new.fields) all c.new-rows.result.items
-      (c.in_ok-next_record.ensures.takes all left) c.if-not-branch.false (sym c.is_header.ensures ∙ c.if-not-is_header.false) c.new-rows.ensures.items;
+      (c.in_ok-next_record.ensures.takes all left) c.if-not-branch.false (sym c.is_header.ensures ∙ c.if-not-is_header.false)
+      c.new-rows.ensures.items;
 }
 
 pub row_of_fields-requires : goal.row_of_fields-requires
@@ -34,13 +35,15 @@ pub rows-smaller : goal.rows-smaller
 rows-smaller g c =
     let short = plan-short c.rows.rows.items c.rows.invariant.plan in
     let good : is_ok c.push.result ≡ true = search rules in
-    let more : length c.push.new.self.items ≡ length c.rows.rows.items + 1 = ap length (rw good at c.push.ensures.items) ∙ length_push c.rows.rows.items c.in_ok-row.row in
+    let more : length c.push.new.self.items ≡ length c.rows.rows.items + 1 =
+    ap length (rw good at c.push.ensures.items) ∙ length_push c.rows.rows.items c.in_ok-row.row in
     omega arith
 
 pub returns-in_err-row : goal.returns-in_err-row
 returns-in_err-row g c all left =
     let inv = c.rows.invariant.states all left in
-    let fault = took-fault (HasLeft g.R.Read.remaining c.next_record-in-rows.new.reader) c.in_ok-next_record-2.field-0 (fields_of c.next_record-in-rows.new.fields) inv.0 c.rows.rows.items c.in_err-row.field-0.0 (plan_of_records all)
+    let fault = took-fault (HasLeft g.R.Read.remaining c.next_record-in-rows.new.reader) c.in_ok-next_record-2.field-0
+    (fields_of c.next_record-in-rows.new.fields) inv.0 c.rows.rows.items c.in_err-row.field-0.0 (plan_of_records all)
     (c.in_ok-next_record-2.ensures.takes inv.0 inv.1) c.if-branch.true inv.2 (sym (rw c.as_slice.ensures.value at c.in_err-row.ensures)) in
     let p = err_from_is_err_and c.from_residual-in_err-row.result c.from_residual-in_err-row.ensures.1 in
     rw (p.1, p.2) (tells-fault (plan_of_records all) c.in_err-row.field-0.0 fault)
@@ -52,10 +55,12 @@ rows-preserved g c =
     let row = sym (rw c.as_slice.ensures.value at c.in_ok-row.ensures) in
     record {
       plain = c.in_ok-next_record-2.ensures.plain;
-      plan = rw items (fields-more c.rows.rows.items (fields_of c.next_record-in-rows.new.fields) c.in_ok-row.row c.rows.invariant.plan row);
+      plan = rw items
+          (fields-more c.rows.rows.items (fields_of c.next_record-in-rows.new.fields) c.in_ok-row.row c.rows.invariant.plan row);
       states = λ all left.
           let inv = c.rows.invariant.states all left in
-          took-row c.in_ok-next_record-2.field-0 (fields_of c.next_record-in-rows.new.fields) inv.0 c.rows.rows.items c.push.new.self.items c.in_ok-row.row (plan_of_records all)
+          took-row c.in_ok-next_record-2.field-0 (fields_of c.next_record-in-rows.new.fields) inv.0 c.rows.rows.items c.push.new.self.items
+          c.in_ok-row.row (plan_of_records all)
           (c.in_ok-next_record-2.ensures.takes inv.0 inv.1) c.if-branch.true inv.2 row items;
     }
 

@@ -1,13 +1,13 @@
-use Rattle.std.proofs.Common.{◌≡◌, ◌-◌, ℕ, List, length}
+use Rattle.std.proofs.Common.{◌≡◌, ◌-◌, length}
 use Rattle.branch_loader.specs.Plans.{IsPlan, plan_of_records, row_of_fields, rows_by}
-use Rattle.branch_loader.specs.Records.{HasLeft, IsPlain}
+use Rattle.branch_loader.specs.Records.{HasLeft, IsPlain, Records}
 use Rattle.branch_loader.proofs.read.read_rows.Given as goal
 
 abbrev pub invariant-rows : goal.invariant-rows
 invariant-rows g l = record {
   plain : IsPlain l.records;
   plan : IsPlan l.rows.items;
-  states : (all : List (List (List ℕ))) → HasLeft g.R.Read.remaining l.fn.records all → (rest : List (List (List ℕ)))
+  states : (all : Records) → HasLeft g.R.Read.remaining l.fn.records all → (rest : Records)
       × HasLeft g.R.Read.remaining l.records rest × (plan_of_records all ≡ rows_by row_of_fields l.rows.items rest);
 }
 

@@ -1,4 +1,4 @@
-use Rattle.std.proofs.Common.{◌≤◌, ◌+◌, length, drop, take, sym, subst, ℕ, ◌∙◌, arith}
+use Rattle.std.proofs.Common.{take, sym, subst, ℕ, arith}
 use Rattle.std.specs.Io.KnownBytes.{Appends}
 use Rattle.std.proofs.KnownBytes.{Appends-kept}
 use Rattle.std.proofs.lemmas.List.{length-take, length-drop}

@@ -1,16 +1,17 @@
-use Rattle.std.proofs.Common.{◌≡◌, List, [], ◌∷◌, sym, ap, ◌∙◌}
+use Rattle.std.proofs.Common.{List, [], ◌∷◌, sym, ap, ◌∙◌}
 use Rattle.std.specs.Option.{option_map}
 use Rattle.posting_core.specs.declared.rows.BranchRow.{BranchRow}
 use Rattle.posting_core.specs.Commands.{Open}
 use Rattle.posting_core.specs.Tables.{row_at, branch_key}
 use Rattle.posting_core.specs.LookUps.{count_of_branch}
-use Rattle.posting_core.specs.Plain.{plain_tables, plain_seen}
-use Rattle.posting_core.proofs.InMemory.{opened_from, branches_as_before, takes_alone}
+use Rattle.posting_core.specs.Plain.{plain_tables}
+use Rattle.posting_core.proofs.InMemory.{opened_from, branches_as_before, takes_plain}
 use Rattle.posting_core.proofs.plain_bank.PlainBankCounter.open_branch.Goals as goal
 
 pub returns-clause-done : goal.returns-clause-done
 returns-clause-done c =
-    takes_alone (plain_seen c.args.self.now) (plain_seen c.add_branch.new.self) (Open c.args.branch c.args.count ∷ []) (λ x. x) (λ x e. e) (λ log s.
+    takes_plain c.args.self.now c.add_branch.new.self (Open c.args.branch c.args.count ∷ [])
+    ((c.add_branch.ensures.above, c.requires.branch, c.requires.some, c.requires.few), tt) (λ log s.
     opened_from (plain_tables c.args.self.now) _ (plain_tables c.add_branch.new.self) log c.args.branch c.args.count c.add_branch.ensures.tables
     (branches_as_before (plain_tables c.args.self.now) _ _ _ c.reserve.ensures.items c.reserve-2.ensures.items c.reserve-3.ensures.items)
     (ap (λ (rows : List BranchRow). option_map count_of_branch (row_at branch_key rows c.args.branch)) (sym c.deref.ensures.value) ∙ sym c.count_at.ensures ∙ c.in_default.is)

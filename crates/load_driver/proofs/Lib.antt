@@ -1,0 +1,3 @@
+pub mod Remote
+pub mod Totals
+pub mod Steps

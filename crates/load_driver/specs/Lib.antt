@@ -1,0 +1,5 @@
+pub mod Draw
+pub mod Words
+pub mod Requests
+pub mod OfPlan
+pub mod Counts

@@ -1,0 +1,61 @@
+//! Which account a request names.
+ghost use Rattle.std.specs.Prelude.{◌≡◌, ◌≢◌, ◌<◌, ◌≤◌, ◌*◌, ◌^◌, ◌-◌, Contains, get_or, length};
+ghost use Rattle.branch_loader.specs.Plans.{IsPlan};
+ghost use Rattle.load_driver.specs.Draw.{draw};
+ghost use Rattle.load_driver.specs.Requests.{account_by, count_of, first_account, is_home, remote_accounts};
+ghost use Rattle.load_driver.specs.OfPlan.{IsAccountFor};
+
+use crate::draws::draw;
+use message_records::Branch;
+
+// The first account of a branch.
+fn first_account(branch: Branch) -> u64
+    ensures value { result ≡ first_account branch }
+    ensures small { result < 2 ^ 40 }
+{
+    100_000 * (branch.get() - 1) + 1
+}
+
+// How many accounts the rows have.
+fn count_of(rows: &[(Branch, u32)]) -> u64
+    requires { length rows.now ≤ 10_000 }
+    ensures { result ≡ count_of rows.now }
+{
+    rows.iter().map(|row| u64::from(row.1)).sum()
+}
+
+// The account at this place among those of the other branches, without a list of them.
+fn remote_account(rows: &[(Branch, u32)], branch: Branch, place: u64) -> u64
+    ensures { result ≡ get_or (remote_accounts branch rows.now) place 0 }
+{
+    let mut left = place;
+    for row in rows {
+        let (other, accounts) = *row;
+        let accounts = u64::from(accounts);
+        if other.get() != branch.get() {
+            if left < accounts {
+                return first_account(other) + left;
+            }
+            left -= accounts;
+        }
+    }
+    0
+}
+
+// The account by the words for X and for the account itself.
+pub(crate) fn account_by(rows: &[(Branch, u32)], home: (Branch, u32), choice: u64, pick: u64) -> u64
+    requires plan { IsPlan rows.now }
+    requires home { Contains rows.now home }
+    ensures value { result ≡ account_by rows.now home choice pick }
+    ensures of_plan { IsAccountFor rows.now home (is_home rows.now (draw choice 100)) result }
+{
+    let (branch, accounts) = home;
+    let accounts = u64::from(accounts);
+    let x = draw(choice, 100);
+    if x < 85 || rows.len() == 1 {
+        first_account(branch) + draw(pick, accounts)
+    } else {
+        let place = draw(pick, count_of(rows) - accounts);
+        remote_account(rows, branch, place)
+    }
+}

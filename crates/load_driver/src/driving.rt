@@ -1,0 +1,161 @@
+//! The driver.
+ghost use Rattle.std.specs.Prelude.{◌≡◌, ◌<◌, ◌≤◌, ◌+◌, ◌*◌, ◌↔◌, pos, ◌-ℤ◌, ◌≤ℤ◌, neg_ℤ, nat_abs, [], length, get_or, map, IfOk, IfSome, IsErrOf, Ok, Err, Some, None};
+ghost use Rattle.message_records.specs.Spelling.{request_spelling};
+ghost use Rattle.message_records.specs.Reading.{request_of};
+ghost use Rattle.branch_loader.specs.Plans.{IsPlan};
+ghost use Rattle.load_driver.specs.Draw.{draw};
+ghost use Rattle.load_driver.specs.Requests.{CountsOthers, IsAscending, amount_by, is_home, most_records, request_at, request_by, x_at};
+ghost use Rattle.load_driver.specs.OfPlan.{IsOfPlan};
+ghost use Rattle.load_driver.specs.Counts.{Driving, IsReady};
+
+use crate::accounts::account_by;
+use crate::draws::{Words, draw, take_words, words_of};
+use branch_loader::Plan;
+use message_records::{Account, Branch, Cents, Number, Request, Teller, encode_request};
+use rand_pcg::Lcg128Xsl64;
+use std::alloc::{AllocError, Global};
+use std::fmt;
+use std::marker::Model;
+
+/// Why there is no driver.
+#[derive(Clone, Copy, Debug, PartialEq, Eq)]
+pub enum DriverFault {
+    /// The plan has no branch.
+    Empty,
+    /// Memory was refused.
+    Memory,
+}
+
+impl fmt::Display for DriverFault {
+    fn fmt<W: fmt::Write>(&self, f: &mut fmt::Formatter<W>) -> fmt::Result {
+        match self {
+            DriverFault::Empty => write!(f, "no branches"),
+            DriverFault::Memory => write!(f, "no memory"),
+        }
+    }
+}
+
+impl std::error::Error for DriverFault {}
+
+const MOST_RECORDS: u64 = 9_999_999_999;
+
+// The rows of a plan, ascending.
+fn ascending(alloc: Global, rows: &[(Branch, u32)]) -> Result<Vec<(Branch, u32)>, AllocError>
+    requires { IsPlan rows.now }
+    ensures plan { IfOk result (λ v. IsPlan v.items) }
+    ensures ascending { IfOk result (λ v. IsAscending rows.now v.items) }
+{
+    let mut rows = rows.to_vec(alloc)?;
+    rows.sort_unstable_by_key(|row| row.0.get());
+    Ok(rows)
+}
+
+// The amount that a word draws.
+fn amount_by(word: u64) -> Cents
+    ensures value { result ≡ amount_by word }
+    ensures small { nat_abs result ≤ 999_999 }
+{
+    Cents::new(draw(word, 1_999_999) as i64 - 999_999).unwrap()
+}
+
+// The request of the teller at a place, by the record's words and by its number.
+fn request_by(rows: &[(Branch, u32)], place: u64, words: Words, number: u64) -> Request
+    requires plan { IsPlan rows.now }
+    requires place { place < 10 * length rows.now }
+    requires first { 1 ≤ number }
+    requires last { number ≤ most_records }
+    ensures value { result ≡ request_by rows.now place words.choice words.account words.amount number }
+    ensures of_plan { IsOfPlan rows.now (is_home rows.now (draw words.choice 100)) result }
+{
+    let home = rows[(place / 10) as usize];
+    let (branch, _) = home;
+    let account = Account::new(account_by(rows, home, words.choice, words.account)).unwrap();
+    let teller = Teller::new(10 * (branch.get() - 1) + 1 + place % 10).unwrap();
+    let number = Number::new(number).unwrap();
+    Request::new(account, teller, branch, number, amount_by(words.amount)).unwrap()
+}
+
+/// A driver: it draws the requests of a plan, one after the other, from the words of a seed.
+#[derive(Drop)]
+pub struct Driver {
+    // the plan's rows, ascending
+    rows: Vec<(Branch, u32)>,
+    // how many requests each teller has made, in the order of the tellers
+    counts: Vec<u64>,
+    words: Lcg128Xsl64,
+    seed: u64,
+    given: u64,
+}
+
+impl Model for Driver {
+    ghost Value = { Driving };
+
+    ghost view = { λ d. record { rows = d.rows.items; seed = d.seed; given = d.given } };
+
+    ghost invariant = { λ d. IsReady d.rows.items d.seed d.given d.words d.counts.items };
+}
+
+impl Driver {
+    /// The driver of a plan and a seed. It makes room for the branches and for the count of each teller.
+    pub fn new(alloc: Global, plan: &Plan, seed: u64) -> Result<Driver, DriverFault>
+        ensures empty { (result ≡ Err DriverFault.Empty) ↔ (plan.now ≡ []) }
+        ensures rows { IfOk result (λ driver. IsAscending plan.now driver.rows) }
+        ensures others { IfOk result (λ driver. CountsOthers driver.rows) }
+        ensures seed { IfOk result (λ driver. driver.seed ≡ seed) }
+        ensures given { IfOk result (λ driver. driver.given ≡ 0) }
+    {
+        if plan.rows().is_empty() {
+            return Err(DriverFault::Empty);
+        }
+        let Ok(rows) = ascending(alloc, plan.rows()) else {
+            return Err(DriverFault::Memory);
+        };
+        let Ok(counts) = vec![in alloc; 0u64; 10 * rows.len()] else {
+            return Err(DriverFault::Memory);
+        };
+        Ok(Driver {
+            rows,
+            counts,
+            words: words_of(seed),
+            seed,
+            given: 0,
+        })
+    }
+
+    // Draws the next request.
+    fn draw_next(&mut self) -> Request
+        requires { self.old.given < most_records }
+        ensures value { result ≡ request_at self.old.rows self.old.seed self.old.given }
+        ensures of_plan { IsOfPlan self.old.rows (is_home self.old.rows (x_at self.old.seed self.old.given)) result }
+        ensures goes_on { self.new ≡ record self.old { given = self.old.given + 1 } }
+    {
+        let words = take_words(&mut self.words);
+        let place = draw(words.teller, 10 * self.rows.len() as u64);
+        let number = self.counts[place as usize] + 1;
+        self.counts[place as usize] = number;
+        self.given += 1;
+        request_by(self.rows.as_slice(), place, words, number)
+    }
+
+    /// The 100 bytes of the next request, none after the first 9,999,999,999. It takes no memory.
+    pub fn next(&mut self) -> Option<[u8; 100]>
+        ensures bytes { self.old.given < most_records →
+            result ≡ Some (request_spelling (request_at self.old.rows self.old.seed self.old.given)) }
+        ensures of_plan { self.old.given < most_records →
+            IsOfPlan self.old.rows (is_home self.old.rows (x_at self.old.seed self.old.given))
+            (request_at self.old.rows self.old.seed self.old.given) }
+        ensures goes_on { self.old.given < most_records → self.new ≡ record self.old { given = self.old.given + 1 } }
+
+        // The bytes are read as the request again.
+        ensures read_again { IfSome result (λ bytes. request_of bytes ≡ Ok (request_at self.old.rows self.old.seed self.old.given)) }
+
+        ensures ended { most_records ≤ self.old.given → result ≡ None }
+        ensures stays { most_records ≤ self.old.given → self.new ≡ self.old }
+    {
+        if self.given == MOST_RECORDS {
+            return None;
+        }
+        let request = self.draw_next();
+        Some(encode_request(&request))
+    }
+}

@@ -1,0 +1,143 @@
+-- A stream of records: what is read, what is written, what the bank shows, and what a stop may leave.
+use Rattle.std.specs.Prelude.{◌≡◌, ℕ, zero, suc, ◌-◌, ◌≤◌, ◌<◌, ◌/◌, List, [], ◌∷◌, ◌++◌, length, take, ⊤, Option, Result, Ok, Err}
+use Rattle.std.specs.List.{AllByRecursion}
+use Rattle.std.specs.Simd.{first_chunks}
+use Rattle.std.specs.Io.KnownBytes.{Appends, Consumes, IsAtEnd}
+use Rattle.posting_core.specs.declared.fault.Fault.{Fault}
+use Rattle.posting_core.specs.declared.fault.Fault.TheVariants.{Memory}
+use Rattle.posting_core.specs.declared.stream.StreamFault.{StreamFault}
+use Rattle.posting_core.specs.declared.stream.StreamFault.TheVariants.{Truncated, Read, Write, Bank}
+use Rattle.posting_core.specs.Commands.{Command, Open, Post}
+use Rattle.posting_core.specs.Counter.{Seen, ShowsLog, LeavesOnly, StandsAt, ShowsBeginning}
+use Rattle.posting_core.specs.Runs.{behind, posts, replies_to, ArePosts}
+use Rattle.posting_core.specs.Clock.{AreReadings}
+use Rattle.posting_core.specs.Batches.{Batch, IsRecord, joined, moments_of, records_of, posts_of}
+use Rattle.posting_core.specs.Resends.{Skips}
+
+-- The reader's known bytes before and after are r and r', the writer's w and w', the clock's known readings k and k', and
+-- the bank is seen as c and c'.
+
+-- ---- batch by batch
+
+-- the input ended with a record, and so many were answered
+pub record EndsWhole (r' : Option (List ℕ)) (taken refused : List Batch) (rest : List ℕ) (count : ℕ) : Type 0 where
+  pub ended : IsAtEnd r'
+  pub no_rest : rest ≡ []
+  pub all_taken : refused ≡ []
+  pub count_is : count ≡ length (records_of taken)
+
+-- the input ended so many bytes into a record, and those before it were answered
+pub record EndsInRecord (r' : Option (List ℕ)) (refused : List Batch) (rest : List ℕ) (n : ℕ) : Type 0 where
+  pub ended : IsAtEnd r'
+  pub some : 1 ≤ n
+  pub rest_is : length rest ≡ n
+  pub all_taken : refused ≡ []
+
+-- how it ended
+abbrev pub Ends : Result ℕ StreamFault → Option (List ℕ) → List Batch → List Batch → List ℕ → Type 0
+Ends (Ok count) r' taken refused rest = EndsWhole r' taken refused rest count
+Ends (Err (Truncated n)) r' taken refused rest = EndsInRecord r' refused rest n
+Ends (Err Read) r' taken refused rest = refused ≡ []
+Ends (Err Write) r' taken refused rest = refused ≡ []
+Ends (Err (Bank fault)) r' taken refused rest = length refused ≡ 1
+
+-- what was written of the replies to what the bank took: a beginning where the writer failed, and all of them elsewhere
+abbrev pub IsWritten : Result ℕ StreamFault → List ℕ → List ℕ → Type 0
+IsWritten (Err Write) written replies = written ≡ take (length written) replies
+IsWritten _ written replies = written ≡ replies
+
+abbrev pub IfUp : Fault → Type 0 → Type 0
+IfUp Memory P = P
+IfUp _ P = ⊤
+
+-- wherever the bank isn't down
+abbrev pub UnlessDown : Result ℕ StreamFault → Type 0 → Type 0
+UnlessDown (Err (Bank fault)) P = IfUp fault P
+UnlessDown _ P = P
+
+-- what a call did, whatever its result
+pub record Streamed (r r' w w' k k' : Option (List ℕ)) (c c' : Seen) (result : Result ℕ StreamFault) : Type 0 where
+  -- the batches that the bank took, the one that it refused, and what was read behind them
+  pub taken : List Batch
+  pub refused : List Batch
+  pub rest : List ℕ
+  -- this was read and written, and the clock was read once for each batch
+  pub read : Consumes r r' (joined (records_of (taken ++ refused)) ++ rest)
+  pub whole : AllByRecursion IsRecord (records_of (taken ++ refused))
+  pub few : length rest < 100
+  pub clock : AreReadings k k' (moments_of (taken ++ refused))
+  pub written : List ℕ
+  pub wrote : Appends w w' written
+  pub ends : Ends result r' taken refused rest
+  -- the replies are those to what the bank took, and that is what it shows
+  pub honest : c'.honest → c.honest
+  pub replies : c'.honest → (log : List Command) → ShowsLog c log → IsWritten result written (joined (replies_to log (posts_of taken)))
+  pub shows : c'.honest → (log : List Command) → ShowsLog c log → UnlessDown result (ShowsLog c' (behind log (posts_of taken)))
+  pub stands : c'.honest → (log : List Command) → StandsAt c log → UnlessDown result (StandsAt c' (behind log (posts_of taken)))
+  -- a stop leaves all that it took
+  pub stop : c'.honest → (log : List Command) → StandsAt c log
+      → LeavesOnly c' (ShowsBeginning log (posts_of (taken ++ refused)) (length (posts_of taken)))
+
+-- ---- what is written is a function of what is read, however it was cut
+
+-- the whole records at the front of bytes
+abbrev pub whole_records : List ℕ → List (List ℕ)
+whole_records bytes = first_chunks 100 (length bytes / 100) bytes
+
+-- the replies to them behind a log; no reply depends on a moment
+abbrev pub replies_text : List Command → List ℕ → List ℕ
+replies_text log bytes = joined (replies_to log (posts 0 (whole_records bytes)))
+
+-- all of the text was written, or a beginning of it where the writer failed or the bank refused a batch
+abbrev pub Writes : Result ℕ StreamFault → Option (List ℕ) → Option (List ℕ) → List ℕ → Type 0
+Writes (Err Write) w w' text = (n : ℕ) × Appends w w' (take n text)
+Writes (Err (Bank fault)) w w' text = (n : ℕ) × Appends w w' (take n text)
+Writes _ w w' text = Appends w w' text
+
+pub record Outputs (r r' w w' : Option (List ℕ)) (c c' : Seen) (result : Result ℕ StreamFault) : Type 0 where
+  pub bytes : List ℕ
+  pub read : Consumes r r' bytes
+  pub writes : c'.honest → (log : List Command) → ShowsLog c log → Writes result w w' (replies_text log bytes)
+
+-- ---- what a stop leaves
+
+-- the records that are posted
+abbrev pub posted_records : List Command → List (List ℕ)
+posted_records [] = []
+posted_records (Open branch count ∷ cs) = posted_records cs
+posted_records (Post moment bytes ∷ cs) = bytes ∷ posted_records cs
+
+-- how many replies, written one after another, had a byte accepted when so many bytes were
+abbrev pub acknowledged : List (List ℕ) → ℕ → ℕ
+acknowledged [] n = 0
+acknowledged (reply ∷ replies) zero = 0
+acknowledged (reply ∷ replies) (suc n) = suc (acknowledged replies (suc n - length reply))
+
+-- everything that a stop may leave shows the log and a beginning of what was read, which holds all that was acknowledged
+pub record Survives (r r' w w' : Option (List ℕ)) (c c' : Seen) : Type 0 where
+  pub bytes : List ℕ
+  pub read : Consumes r r' bytes
+  pub written : List ℕ
+  pub wrote : Appends w w' written
+  pub commands : List Command
+  pub posts : ArePosts commands
+  pub records : posted_records commands ≡ whole_records bytes
+  pub stop : c'.honest → (log : List Command) → StandsAt c log
+      → LeavesOnly c' (ShowsBeginning log commands (acknowledged (replies_to log commands) (length written)))
+
+-- ---- records that come again
+
+-- wherever the bank took all that was read
+abbrev pub IfTaken : Result ℕ StreamFault → Type 0 → Type 0
+IfTaken (Err (Bank fault)) P = ⊤
+IfTaken _ P = P
+
+-- where a bank showed posts p and took all that was read, it shows p and then what was read less the records that stand in p
+pub record Resends (r r' : Option (List ℕ)) (c c' : Seen) (result : Result ℕ StreamFault) : Type 0 where
+  pub bytes : List ℕ
+  pub read : Consumes r r' bytes
+  pub commands : List Command
+  pub posts : ArePosts commands
+  pub records : posted_records commands ≡ whole_records bytes
+  pub tables : c'.honest → (log p added : List Command) → ArePosts p → Skips p commands added → ShowsLog c (behind log p)
+      → IfTaken result (ShowsLog c' (behind (behind log p) added))

@@ -1,0 +1,56 @@
+//! What tells the time.
+ghost use Rattle.std.specs.Prelude.{◌≡◌, ℕ, List, Option, None};
+ghost use Rattle.posting_core.specs.Clock.{IsReading};
+
+use message_records::Moment;
+use std::marker::Model;
+
+/// What tells the moment that a record is submitted at.
+pub trait Clock {
+    /// The readings to come, where they are known.
+    ghost readings: { Self → Option (List ℕ) } = { λ _. None };
+
+    /// The moment that it is.
+    fn now(&mut self) -> Moment
+        ensures { IsReading (readings self.old) (readings self.new) result };
+}
+
+/// A clock that tells stored moments, and the moment 0 after the last of them.
+#[derive(Drop)]
+pub struct StoredClock {
+    moments: Vec<Moment>,
+    // How many of them were told.
+    told: usize,
+}
+
+impl Model for StoredClock {
+    ghost use Rattle.std.specs.Prelude.{ℕ, List, drop};
+
+    // The moments to come.
+    ghost Value = { List ℕ };
+
+    ghost view = { λ clock. drop clock.told clock.moments.items };
+}
+
+impl StoredClock {
+    /// A clock that tells these moments in order.
+    pub fn new(moments: Vec<Moment>) -> Self
+        ensures { result ≡ moments.items }
+    {
+        StoredClock { moments, told: 0 }
+    }
+}
+
+impl Clock for StoredClock {
+    ghost use Rattle.std.specs.Prelude.{Some};
+
+    ghost readings = { λ clock. Some clock };
+
+    fn now(&mut self) -> Moment {
+        let Some(&moment) = self.moments.get(self.told) else {
+            return Moment::new(0).unwrap();
+        };
+        self.told += 1;
+        moment
+    }
+}

@@ -1,0 +1,136 @@
+//! A stream of records in, and a stream of replies out.
+ghost use Rattle.std.specs.Prelude.{◌≡◌, ℕ, ◌-◌, ◌≤◌, MatchResult, length, take, drop};
+ghost use Rattle.posting_core.specs.Clock.{IsReading};
+ghost use Rattle.posting_core.specs.Runs.{posts};
+ghost use Rattle.posting_core.specs.Batches.{IsAnswered, BreaksOff};
+ghost use Rattle.posting_core.specs.Stream.{Streamed, Outputs, Survives, Resends};
+
+use crate::clock::Clock;
+use crate::counter::Counter;
+use crate::fault::Fault;
+use crate::transfer::{fill, write_out};
+use std::fmt;
+use std::io::{ErrorKind, Read, Write};
+
+// The length of a record, and of the buffer: 64 records.
+const RECORD: usize = 100;
+
+const BUFFER: usize = 6400;
+
+/// How many replies were written.
+pub type Count = u128;
+
+/// Why a stream ended before its input did, or within a record.
+#[derive(Clone, Copy, Debug, PartialEq, Eq)]
+pub enum StreamFault {
+    /// The input ended so many bytes, 1..=99, into a record. The records before it were answered.
+    Truncated(u8),
+    /// The reader failed. The whole records that were read before were answered.
+    Read,
+    /// The writer failed, or took no byte. What was read was submitted.
+    Write,
+    /// The bank refused a batch, to which nothing was replied.
+    Bank(Fault),
+}
+
+impl fmt::Display for StreamFault {
+    fn fmt<W: fmt::Write>(&self, f: &mut fmt::Formatter<W>) -> fmt::Result {
+        match self {
+            StreamFault::Truncated(n) => write!(f, "the input ends {n} bytes into a record"),
+            StreamFault::Read => write!(f, "read failed"),
+            StreamFault::Write => write!(f, "write failed"),
+            StreamFault::Bank(fault) => write!(f, "{fault}"),
+        }
+    }
+}
+
+impl std::error::Error for StreamFault {}
+
+// Moves what lies between to the front.
+fn move_to_front(buffer: &mut [u8; BUFFER], from: usize, to: usize)
+    requires order { from ≤ to }
+    requires within { to ≤ 6400 }
+    ensures { take (to - from) buffer.new ≡ take (to - from) (drop from buffer.old) }
+{
+    buffer.copy_within(from..to, 0);
+}
+
+// Submits a batch under one reading of the clock, and writes the replies.
+fn answer_batch<W: Write, K: Clock, C: Counter>(
+    records: &[[u8; RECORD]],
+    writer: &mut W,
+    clock: &mut K,
+    bank: &mut C,
+) -> Result<(), StreamFault>
+    requires some { 1 ≤ length records.now }
+    requires few { length records.now ≤ 64 }
+    ensures answers { (moment : ℕ) × IsReading (K.readings clock.old) (K.readings clock.new) moment
+        × MatchResult result
+        (λ _. IsAnswered (W.contents writer.old) (W.contents writer.new) (C.seen bank.old) (C.seen bank.new) (posts moment records.now))
+        (λ fault. BreaksOff fault (W.contents writer.old) (W.contents writer.new) (C.seen bank.old) (C.seen bank.new) (posts moment records.now)) }
+    ensures honest { (C.seen bank.new).honest → (C.seen bank.old).honest }
+{
+    let moment = clock.now();
+    let replies = match bank.submit_all(moment, records) {
+        Ok(replies) => replies,
+        Err(fault) => return Err(StreamFault::Bank(fault)),
+    };
+    match write_out(writer, replies.as_flattened()) {
+        Ok(()) => Ok(()),
+        Err(_) => Err(StreamFault::Write),
+    }
+}
+
+// The loop of `post_stream`, whose promises follow from what this says.
+fn answer_stream<R: Read, W: Write, K: Clock, C: Counter>(
+    reader: &mut R,
+    writer: &mut W,
+    clock: &mut K,
+    bank: &mut C,
+) -> Result<Count, StreamFault>
+    ensures { Streamed (R.remaining reader.old) (R.remaining reader.new) (W.contents writer.old) (W.contents writer.new)
+        (K.readings clock.old) (K.readings clock.new) (C.seen bank.old) (C.seen bank.new) result }
+{
+    let mut buffer = [0u8; BUFFER];
+    let mut filled = 0;
+    let mut count = 0;
+    'reads: for _ in 0..u64::MAX {
+        match fill(reader, &mut buffer, filled) {
+            Ok(0) if filled == 0 => return Ok(count),
+            Ok(0) => return Err(StreamFault::Truncated(filled as u8)),
+            Ok(n) => filled += n,
+            Err(e) if e.kind() == ErrorKind::Interrupted => {}
+            Err(_) => return Err(StreamFault::Read),
+        }
+        if filled >= RECORD {
+            let (records, rest) = buffer[..filled].as_chunks::<RECORD>();
+            let left = rest.len();
+            answer_batch(records, writer, clock, bank)?;
+            count += records.len() as Count;
+            move_to_front(&mut buffer, filled - left, filled);
+            filled = left;
+        }
+    }
+    Err(StreamFault::Read)
+}
+
+/// Answers a stream of records of 100 bytes to the end of its input, and tells how many it answered. As soon as whole
+/// records were read, all of them are submitted under one reading of the clock, and their replies are written in order
+/// and flushed. An interrupted read or write is made again, and a reader that was asked 2^64 - 1 times counts as failed.
+/// Only the bank takes memory.
+pub fn post_stream<R: Read, W: Write, K: Clock, C: Counter>(
+    reader: &mut R,
+    writer: &mut W,
+    clock: &mut K,
+    bank: &mut C,
+) -> Result<Count, StreamFault>
+    ensures stream { Streamed (R.remaining reader.old) (R.remaining reader.new) (W.contents writer.old) (W.contents writer.new)
+        (K.readings clock.old) (K.readings clock.new) (C.seen bank.old) (C.seen bank.new) result }
+    ensures output { Outputs (R.remaining reader.old) (R.remaining reader.new) (W.contents writer.old) (W.contents writer.new)
+        (C.seen bank.old) (C.seen bank.new) result }
+    ensures stop { Survives (R.remaining reader.old) (R.remaining reader.new) (W.contents writer.old) (W.contents writer.new)
+        (C.seen bank.old) (C.seen bank.new) }
+    ensures resend { Resends (R.remaining reader.old) (R.remaining reader.new) (C.seen bank.old) (C.seen bank.new) result }
+{
+    answer_stream(reader, writer, clock, bank)
+}

@@ -1,0 +1,94 @@
+-- SELECT over one table, under any schema that has it.
+use Rattle.std.proofs.Common.{◌≡◌, ℕ, suc, List, [], ◌∷◌, map, Ok, None, Option, true, false}
+use Rattle.sqlite_value.specs.declared.keys.Collation.{Collation}
+use Rattle.sqlite_value.specs.declared.keys.Key.{Key}
+use Rattle.sqlite_schema.specs.declared.program.Program.{Program}
+use Rattle.sqlite_schema.specs.declared.program.Table.{Table as Let}
+use Rattle.sqlite_schema.specs.declared.command.Command.TheVariants.{Select}
+use Rattle.sqlite.specs.Term.{Term}
+use Rattle.sqlite.specs.Schema.{Schema}
+use Rattle.sqlite.specs.Table.{Table}
+use Rattle.sqlite_ast.specs.declared.Expr.{Expr}
+use Rattle.sqlite_ast.specs.declared.Select as written_select
+use Rattle.sqlite_ast.specs.declared.Select.{out-Select}
+use Rattle.sqlite_ast.specs.declared.Core.{Core, out-Core}
+use Rattle.sqlite_ast.specs.declared.Shown.{Shown}
+use Rattle.sqlite_ast.specs.declared.Sort.{Sort}
+use Rattle.sqlite_ast.specs.declared.Origin.TheVariants as origin
+use Rattle.sqlite_ast.specs.declared.Source.{Source as From, out-Source}
+use Rattle.sqlite_draft.specs.declared.query.Draft.{Draft}
+use Rattle.sqlite_draft.specs.declared.join.Step.TheVariants.{Inner}
+use Rattle.sqlite_resolve.specs.declared.scope.Output.{Output}
+use Rattle.sqlite_resolve.specs.declared.state.Carried.{Carried}
+use Rattle.sqlite_resolve.specs.Lowering.{nothing, take_slot}
+use Rattle.sqlite_resolve.specs.Scope.{Name}
+use Rattle.sqlite_resolve.specs.Terms.{number}
+use Rattle.sqlite_resolve.specs.Body.{table_in, bound, bounds, outputs, shared, joins, join, inner_join, tests, result, matching, body}
+use Rattle.sqlite_resolve.specs.Order.{sorts, keys}
+use Rattle.sqlite_resolve.specs.Select.{parts, having, assembled, ungrouped, named, paging, constant_or}
+use Rattle.sqlite_resolve.specs.Expr.{lower}
+use Rattle.sqlite_resolve.specs.Program.{viewing, single, source, sources, alone, whole, with, level, query_to, query, program}
+use Rattle.sqlite_resolve.specs.Compile.{read}
+use Rattle.sql_meanings.specs.Queries.{no_limit}
+use Rattle.sql_meanings.proofs.Columns.{bound_to, over_one}
+use Rattle.sql_meanings.proofs.Expressions.{st}
+use Rattle.sql_meanings.proofs.Statements.{HasTable}
+
+module _ (schema : Schema) (name : Name) (p : ℕ) (table : Table) (has : HasTable schema name p table) where
+  -- FROM names the table
+  pub bounds_are : (source : From) (budget : ℕ) (l : Carried)
+      → out-Source source ≡ record { is_left = false; origin = origin.Table name; alias = None; on = None; using = [] }
+      → bounds schema (source ∷ []) (st 1 budget l) ≡ Ok (bound_to name p ∷ [], st 2 budget l)
+  unfolding bounds bound table_in take_slot
+  bounds_are source budget l is = rw (is, has.named)
+
+  -- and reads it whole
+  pub joins_are : (source : From) (shown : List Output) (budget : ℕ) (l : Carried)
+      → out-Source source ≡ record { is_left = false; origin = origin.Table name; alias = None; on = None; using = [] }
+      → joins lower (over_one schema name p shown false) (bound_to name p ∷ []) (source ∷ []) (st 2 budget l)
+      ≡ Ok (record { steps = Inner table.tree ∷ []; filter = [] }, st 2 budget l)
+  unfolding joins join shared inner_join tests
+  joins_are source shown budget l is = rw (is, has.listed)
+
+  -- a SELECT by its parts
+  pub parts_are : (core : Core) (source : From) (shown : List Shown) (filter : Option Expr) (order : List Sort) (os : List Output)
+      (terms : List Term) (by : List (Term × Key)) (b1 b2 b3 : ℕ) (l1 l2 l3 : Carried)
+      → out-Core core ≡ record { distinct = false; shown = shown; from = source ∷ []; filter = filter; group = []; having = None }
+      → out-Source source ≡ record { is_left = false; origin = origin.Table name; alias = None; on = None; using = [] }
+      → outputs lower (over_one schema name p [] true) (bound_to name p ∷ []) shown (st 2 100000 nothing) ≡ Ok (os, st 2 b1 l1)
+      → tests lower (over_one schema name p os false) [] filter (st 2 b1 l1) ≡ Ok (terms, st 2 b2 l2)
+      → sorts lower (over_one schema name p os false) os order (st 2 b2 l2) ≡ Ok (by, st 2 b3 l3)
+      → (page : Term × Term) → named schema core order page ≡ Ok (
+        ungrouped (Inner table.tree ∷ []) terms os false by page.0 page.1,
+        map (λ o. o.name) os,
+        map (λ o. o.carried.collation) os,
+      )
+  unfolding named parts body result matching keys having tests assembled
+  parts_are core source shown filter order os terms by b1 b2 b3 l1 l2 l3 is from one two three page =
+      rw (is, bounds_are source 100000 nothing from, one, joins_are source os b1 l1 from, two, three)
+
+-- a SELECT of one part, whose tables are all stored
+module _ (schema : Schema) where
+  viewing_is : (core : Core) (order : List Sort) (page : Term × Term) (n : ℕ) (shown : Draft × List Name × List (Option Collation))
+      (lets : List Let) → named schema core order page ≡ Ok shown
+      → viewing (query_to 15) schema core order page (suc n) schema lets ≡ Ok ((shown, schema), lets)
+  unfolding viewing
+  viewing_is core order page n shown lets is = rw is
+
+  -- a SELECT of one part
+  pub query_is : (s : written_select.Select) (core : Core) (source : From) (from : Name) (order : List Sort) (shown : Draft × List Name
+      × List (Option Collation))
+      → out-Select s ≡ record { with = []; first = core; others = []; order = order; limit = None; offset = None }
+      → (out-Core core).from ≡ source ∷ [] → (out-Source source).origin ≡ origin.Table from
+      → named schema core order (no_limit, number 0) ≡ Ok shown
+      → query schema s ≡ Ok (shown, [])
+  unfolding query query_to level with whole paging constant_or alone single source sources
+  query_is s core source from order shown is one origin made =
+      rw (is, one, origin, viewing_is core order (no_limit, number 0) 63 shown [] made)
+
+  -- the statement of a query
+  pub read_is : (s : written_select.Select) (shown : Draft × List Name × List (Option Collation)) (q : Program)
+      → query schema s ≡ Ok (shown, []) → program schema [] shown.0 ≡ Ok q
+      → read schema s ≡ Ok (Select q shown.1)
+  unfolding read
+  read_is s shown q one two = rw (one, two)

@@ -1,0 +1,151 @@
+-- What a query of one table with ORDER BY its key answers.
+use Rattle.std.proofs.Common.{
+  ◌≡◌,
+  ◌&&◌,
+  ℕ,
+  ℤ,
+  pos,
+  List,
+  [],
+  ◌∷◌,
+  take,
+  map,
+  filter,
+  find,
+  cond,
+  Bool,
+  true,
+  false,
+  Some,
+  refl,
+  ap,
+  subst,
+  ◌∙◌,
+  Less,
+  int_cmp,
+  IsPermutation,
+}
+use Rattle.std.specs.List.{AllByRecursion, flat_map, list_all}
+use Rattle.std.specs.Ordering.{is_gt}
+use Rattle.sqlite.specs.declared.types.Value.{Value}
+use Rattle.sqlite.specs.declared.types.Value.TheVariants.{Int}
+use Rattle.sqlite.specs.Order.{Row, value_cmp}
+use Rattle.sqlite_value.proofs.OrderLemmas.{value_cmp-Int}
+use Rattle.sqlite.specs.Collation.TheVariants.{Binary}
+use Rattle.sqlite_sql.specs.Ops.{is_true, from_truth, binary}
+use Rattle.sqlite_sql.specs.declared.ops.BinaryOp.TheVariants.{Compare}
+use Rattle.sqlite_sql.specs.declared.ops.CompareOp.TheVariants.{Gt}
+use Rattle.sqlite.specs.Tree.{Trees, IsAscending}
+use Rattle.sqlite.specs.Term.{Term, Env, eval, eval_all, holds, lit, col}
+use Rattle.sqlite.specs.Query.{Query, Join, IsAnswerAs, matches_as, page, inner, end, output, output_cmp, Output}
+use Rattle.sqlite_sql.proofs.QueryLemmas.{output_cmp_total}
+use Rattle.sqlite_trees.proofs.ListLemmas.{map-map}
+use Rattle.sql_meanings.specs.Entries.{Entry, IsTree, Rise, is_above, listed, stored}
+use Rattle.sql_meanings.specs.Queries.{no_limit, ascending, above, key_above, query}
+use Rattle.sql_meanings.proofs.EntryLists.{Above}
+use Rattle.sql_meanings.proofs.TestedAnswers.{passing}
+use Rattle.sql_meanings.proofs.RisingOrder.{sorted_is}
+
+module _ (from : Join) (tests project : List Term) (most : Term) (f : Entry → Env) (keyed : (e : Entry)
+    → eval (col 1 0) (f e) ≡ Int e.key) where
+  abbrev q : Query
+  q = query from tests project ascending most
+
+  first_below : (a b : Entry) → int_cmp a.key b.key ≡ Less → output_cmp q (output q (f a)) (output q (f b)) ≡ Less
+  first_below a b low = let e : value_cmp (Int a.key) (Int b.key) ≡ Less = value_cmp-Int a.key b.key ∙ low in rw (keyed a, keyed b, e)
+
+  rise_outputs : (es : List Entry) → Rise es → IsAscending (λ a b. output_cmp q a b ≡ Less) (map (λ e. output q (f e)) es)
+  rise_outputs [] up = up
+  rise_outputs (e ∷ es) up = (all_below es up.0, rise_outputs es up.1)
+    where
+      all_below : (xs : List Entry) → Above e xs → AllByRecursion (λ b. output_cmp q (output q (f e)) b ≡ Less)
+          (map (λ x. output q (f x)) xs)
+      all_below = elim [ [] ↦ λ h. h | x ∷ (xs → more) ↦ λ h. (first_below e x h.0, more h.1) ]
+
+  -- the rows are those of the entries that match, in their order, cut by the limit
+  pub ordered_answer : (lost : Value) (db : Trees) (params : Row) (rows : List Row) (es : List Entry) → Rise es
+      → matches_as lost db tests from (params ∷ []) ≡ map f es
+      → IsAnswerAs lost q db params rows → rows ≡ page q params (map (λ e. eval_all project (f e)) es)
+  ordered_answer lost db params rows es rise matched a =
+      let staged : a.staged ≡ map f es = a.grouped ∙ matched in
+      let kept : a.kept ≡ map (λ e. output q (f e)) es = a.distinct ∙ ap (map (output q)) staged ∙ map-map (output q) f es in
+      let ordered : a.ordered ≡ map (λ e. output q (f e)) es =
+      sorted_is (output_cmp q) (output_cmp_total q) (map (λ e. output q (f e)) es) a.ordered (rise_outputs es rise) a.sorted
+      (subst (λ l. IsPermutation l a.ordered) kept a.same) in
+      a.shown ∙ ap (λ (l : List Output). page q params (map (λ (o : Output). o.1) l)) ordered
+      ∙ ap (page q params) (map-map (λ (o : Output). o.1) (λ e. output q (f e)) es)
+
+-- ---- those that pass a test
+
+above_filter : (e : Entry) (p : Entry → Bool) (es : List Entry) → Above e es → Above e (filter p es)
+above_filter e p [] above = above
+above_filter e p (x ∷ xs) above = go (p x) (above_filter e p xs above.1)
+  where
+    go : (b : Bool) → Above e (filter p xs) → Above e (cond b (x ∷ filter p xs) (filter p xs))
+    go true more = (above.0, more)
+    go false more = more
+
+-- the rows that pass rise too
+pub rise_filter : (p : Entry → Bool) (es : List Entry) → Rise es → Rise (filter p es)
+rise_filter p [] up = up
+rise_filter p (e ∷ es) up = go (p e) (rise_filter p es up.1)
+  where
+    go : (b : Bool) → Rise (filter p es) → Rise (cond b (e ∷ filter p es) (filter p es))
+    go true more = (above_filter e p es up.0, more)
+    go false more = more
+
+-- ---- one table
+
+-- all rows, by rising keys
+pub whole_table : (lost : Value) {width : ℕ} (t : ℕ) (project : List Term) (db : Trees) (params : Row) (rows : List Row)
+    (es : List Entry) → IsTree width (db t) es
+    → IsAnswerAs lost (query (inner t end) [] project ascending no_limit) db params rows
+    → rows ≡ map (λ e. eval_all project (params ∷ stored e ∷ [])) es
+whole_table lost t project db params rows es tree =
+    ordered_answer (inner t end) [] project no_limit (λ e. params ∷ stored e ∷ []) (λ e. refl) lost db params rows es tree.rise
+    (ap (flat_map (λ r. matches_as lost db [] end (params ∷ r ∷ []))) tree.are ∙ all_met es)
+  where
+    all_met : (es : List Entry) → flat_map (λ r. matches_as lost db [] end (params ∷ r ∷ [])) (map stored es)
+        ≡ map (λ e. params ∷ stored e ∷ []) es
+    all_met [] = refl
+    all_met (e ∷ es) = ap (λ l. (params ∷ stored e ∷ []) ∷ l) (all_met es)
+
+truth_back : (b : Bool) → is_true (from_truth (Some b)) ≡ b
+truth_back true = refl
+truth_back false = refl
+
+int_above : (a b : ℤ) → is_true (binary (Compare Gt Binary) (Int a) (Int b)) ≡ is_gt (int_cmp a b)
+unfolding binary
+int_above a b = truth_back _ ∙ ap is_gt (value_cmp-Int a b)
+
+and_true : (b : Bool) → (b && true) ≡ b
+and_true true = refl
+and_true false = refl
+
+passes_above : (k : ℤ) (e : Entry) → list_all (holds ((Int k ∷ []) ∷ stored e ∷ [])) key_above ≡ is_above k e
+passes_above k e = rw (int_above e.key k) (and_true (is_above k e))
+
+first_of : {X Y : Type 0} (g : X → Y) (p : X → Bool) (xs : List X) → take 1 (map g (filter p xs)) ≡ map g (listed (find p xs))
+first_of g p [] = refl
+first_of g p (x ∷ xs) = go (p x) (first_of g p xs)
+  where
+    go : (b : Bool) → take 1 (map g (filter p xs)) ≡ map g (listed (find p xs))
+        → take 1 (map g (cond b (x ∷ filter p xs) (filter p xs))) ≡ map g (listed (cond b (Some x) (find p xs)))
+    go true more = refl
+    go false more = more
+
+-- the row with the least key above the parameter
+pub next_answer : (lost : Value) {width : ℕ} (t : ℕ) (project : List Term) (db : Trees) (k : ℤ) (rows : List Row) (es : List Entry)
+    → IsTree width (db t) es
+    → IsAnswerAs lost (query (inner t end) key_above project ascending (lit (Int (pos 1)))) db (Int k ∷ []) rows
+    → rows ≡ map (λ e. eval_all project ((Int k ∷ []) ∷ stored e ∷ [])) (listed (find (is_above k) es))
+next_answer lost t project db k rows es tree a =
+    let params : Row = Int k ∷ [] in
+    let f : Entry → Env = λ e. params ∷ stored e ∷ [] in
+    let kept = filter (is_above k) es in
+    let matched : matches_as lost db key_above (inner t end) (params ∷ []) ≡ map f kept =
+    ap (flat_map (λ r. matches_as lost db key_above end (params ∷ r ∷ []))) tree.are
+    ∙ passing params key_above (is_above k) (passes_above k) lost db es in
+    ordered_answer (inner t end) key_above project (lit (Int (pos 1))) f (λ e. refl) lost db params rows kept
+    (rise_filter (is_above k) es tree.rise) matched a
+    ∙ first_of (λ e. eval_all project (f e)) (is_above k) es

@@ -1,0 +1,181 @@
+-- Where two columns behind the key are UNIQUE together, one row at most has two given numbers there.
+use Rattle.std.proofs.Common.{
+  ◌≡◌,
+  ◌⊎◌,
+  inl,
+  inr,
+  ℕ,
+  ℤ,
+  List,
+  [],
+  ◌∷◌,
+  map,
+  filter,
+  find,
+  Some,
+  refl,
+  sym,
+  ap,
+  subst,
+  ◌∙◌,
+  Bool,
+  cond,
+  slice_get,
+  get_or,
+  ◌&&◌,
+  ◌||◌,
+  true,
+  false,
+  arith,
+  true≢false,
+  int_cmp,
+  Less,
+}
+use Rattle.std.specs.List.{list_any, list_all}
+use Rattle.std.specs.Ordering.{int_eq, is_eq, is_ne}
+use Rattle.std.specs.List.Sorted.{IsPermutation}
+use Rattle.std.proofs.lemmas.Int.{ints}
+use Rattle.sqlite.specs.declared.types.Value.{Value}
+use Rattle.sqlite.specs.declared.types.Value.TheVariants.{Int}
+use Rattle.sqlite_value.proofs.OrderLemmas.{value_cmp-Int}
+use Rattle.sqlite_value.specs.Keys.{plain, first_key}
+use Rattle.sqlite.specs.Collation.TheVariants.{Binary}
+use Rattle.sqlite_sql.specs.Ops.{is_true, from_truth, binary}
+use Rattle.sqlite_sql.specs.declared.ops.BinaryOp.TheVariants.{Compare}
+use Rattle.sqlite_sql.specs.declared.ops.CompareOp.TheVariants.{Ne}
+use Rattle.sqlite_schema.specs.Rules.{clashes, agree, differ}
+use Rattle.sqlite.specs.Order.{Row}
+use Rattle.sqlite.specs.Query.{IsAnswerAs, inner, end}
+use Rattle.sqlite.specs.Tree.{Trees}
+use Rattle.sqlite.specs.Table.{Table}
+use Rattle.sqlite.specs.Schema.{Schema}
+use Rattle.sqlite.specs.Term.{Term, eval_all, holds}
+use Rattle.sqlite_catalog.specs.Listing.{IsSound}
+use Rattle.sqlite_rules.specs.Lists.{Has}
+use Rattle.sqlite_catalog.proofs.AlterLemmas.{keys_are_unique}
+use Rattle.sql_meanings.specs.Entries.{Entry, IsTree, Rise, begins_with, has_two, listed, stored}
+use Rattle.sql_meanings.specs.Queries.{no_limit, query, two_are}
+use Rattle.sql_meanings.proofs.EntryLists.{Above, int_equals}
+use Rattle.sql_meanings.proofs.KeyedAnswers.{small_permutation}
+use Rattle.sql_meanings.proofs.TestedAnswers.{looked_up}
+
+-- the test on the two columns
+first_two_test : (one two key : ℤ) (t n : ℤ) (more : List ℤ)
+    → list_all (holds ((Int one ∷ Int two ∷ []) ∷ stored (record { key = key; values = t ∷ n ∷ more }) ∷ [])) (two_are 2 3)
+    ≡ (int_eq t one && (int_eq n two && true))
+first_two_test one two key t n more = rw (int_equals t one, int_equals n two)
+
+and_true : (a b : Bool) → (a && (b && true)) ≡ (a && b)
+and_true true true = refl
+and_true true false = refl
+and_true false b = refl
+
+and_false : (a : Bool) → (a && false) ≡ false
+and_false true = refl
+and_false false = refl
+
+passes_is : (one two key : ℤ) (values : List ℤ) → list_all
+    (holds ((Int one ∷ Int two ∷ []) ∷ stored (record { key = key; values = values }) ∷ [])) (two_are 2 3) ≡ begins_with one two values
+unfolding binary
+passes_is one two key [] = refl
+passes_is one two key (t ∷ []) = and_false _
+passes_is one two key (t ∷ n ∷ more) = first_two_test one two key t n more ∙ and_true (int_eq t one) (int_eq n two)
+
+-- ---- UNIQUE
+
+truth_back : (b : Bool) → is_true (from_truth (Some b)) ≡ b
+truth_back true = refl
+truth_back false = refl
+
+int_differs : (a b : ℤ) → is_true (binary (Compare Ne Binary) (Int a) (Int b)) ≡ is_ne (int_cmp a b)
+unfolding binary
+int_differs a b = truth_back _ ∙ ap is_ne (value_cmp-Int a b)
+
+none_any : {X : Type 0} (p : X → Bool) (xs : List X) (x : X) → list_any p xs ≡ false → Has xs x → p x ≡ false
+none_any p [] x h k = absurd k
+none_any p (y ∷ xs) x h k = go (p y) refl h k (none_any p xs x)
+  where
+    go : (b : Bool) → p y ≡ b → (b || list_any p xs) ≡ false → (x ≡ y) ⊎ Has xs x → (list_any p xs ≡ false → Has xs x → p x ≡ false)
+        → p x ≡ false
+    go true apart h k more = absurd (true≢false h)
+    go false apart h (inl e) more = ap p e ∙ apart
+    go false apart h (inr k) more = more h k
+
+has_stored : (es : List Entry) (e : Entry) → Has es e → Has (map stored es) (stored e)
+has_stored [] e h = absurd h
+has_stored (x ∷ es) e (inl same) = inl (ap stored same)
+has_stored (x ∷ es) e (inr h) = inr (has_stored es e h)
+
+same_two : (a b k : ℤ) → is_eq (int_cmp a k) ≡ true → is_eq (int_cmp b k) ≡ true → is_eq (int_cmp a b) ≡ true
+same_two a b k p q = grind (arith, ints)
+
+and_both : (a b : Bool) → (a && b) ≡ true → (a ≡ true) × (b ≡ true)
+and_both true b h = (refl, h)
+and_both false b h = absurd (cc)
+
+-- no two rows have the same two numbers there
+abbrev pub Clear : List Entry → Type 0
+Clear es = (e : Entry) → Has es e → clashes plain (2 ∷ 3 ∷ []) (map stored es) (stored e) ≡ false
+
+two_clash : (one two a b : ℤ) (xs ys : List ℤ) → int_cmp a b ≡ Less → begins_with one two xs ≡ true → begins_with one two ys ≡ true
+    → (agree plain (2 ∷ 3 ∷ []) (stored (record { key = a; values = xs })) (2 ∷ 3 ∷ [])
+    (stored (record { key = b; values = ys })) && differ (Int a) (Int b)) ≡ true
+unfolding first_key
+two_clash one two a b [] ys low p q = absurd (cc)
+two_clash one two a b (t ∷ []) ys low p q = absurd (cc)
+two_clash one two a b (t ∷ n ∷ more) [] low p q = absurd (cc)
+two_clash one two a b (t ∷ n ∷ more) (u ∷ []) low p q = absurd (cc)
+two_clash one two a b (t ∷ n ∷ more) (u ∷ m ∷ rest) low p q =
+    let first = and_both (int_eq t one) (int_eq n two) p in
+    let second = and_both (int_eq u one) (int_eq m two) q in
+    rw (int_equals t u, int_equals n m, int_differs a b, same_two t u one first.0 second.0, same_two n m two first.1 second.1, low) refl
+
+not_both : (all : List Entry) (one two : ℤ) (e x : Entry) → Clear all → Has all e → Has all x → int_cmp e.key x.key ≡ Less
+    → has_two one two e ≡ true → has_two one two x ≡ true → ⊥
+not_both all one two e x clear he hx low p q =
+    let none = none_any _ (map stored all) (stored e) (clear x hx) (has_stored all e he) in
+    true≢false (sym (two_clash one two e.key x.key e.values x.values low p q) ∙ none)
+
+none_above : (all : List Entry) (one two : ℤ) (e : Entry) → Clear all → Has all e → has_two one two e ≡ true → (es : List Entry)
+    → ((x : Entry) → Has es x → Has all x) → Above e es → filter (has_two one two) es ≡ []
+none_above all one two e clear he p [] within above = refl
+none_above all one two e clear he p (x ∷ es) within above =
+    go (has_two one two x) refl (none_above all one two e clear he p es (λ y h. within y (inr h)) above.1)
+  where
+    go : (b : Bool) → has_two one two x ≡ b → filter (has_two one two) es ≡ []
+        → cond b (x ∷ filter (has_two one two) es) (filter (has_two one two) es) ≡ []
+    go true here more = absurd (not_both all one two e x clear he (within x (inl refl)) above.0 p here)
+    go false apart more = more
+
+one_row : (all : List Entry) (one two : ℤ) → Clear all → (es : List Entry) → ((x : Entry) → Has es x → Has all x) → Rise es
+    → filter (has_two one two) es ≡ listed (find (has_two one two) es)
+one_row all one two clear [] within rise = refl
+one_row all one two clear (e ∷ es) within rise = go (has_two one two e) refl
+    (one_row all one two clear es (λ y h. within y (inr h)) rise.1)
+  where
+    go : (b : Bool) → has_two one two e ≡ b → filter (has_two one two) es ≡ listed (find (has_two one two) es)
+        → cond b (e ∷ filter (has_two one two) es) (filter (has_two one two) es) ≡ listed (cond b (Some e) (find (has_two one two) es))
+    go true here more = ap (λ l. e ∷ l) (none_above all one two e clear (within e (inl refl)) here es (λ y h. within y (inr h)) rise.0)
+    go false apart more = more
+
+-- the rows of such a table in a sound database are clear of each other
+pub clear : (schema : Schema) (db : Trees) (t : Table) (es : List Entry) → IsSound schema db → Has schema.tables t
+    → slice_get t.uniques 0 ≡ Some (2 ∷ 3 ∷ [])
+    → get_or t.orders 0 plain ≡ plain → db t.tree ≡ map stored es → Clear es
+clear schema db t es sound listed unique order are e h =
+    let there : Has (db t.tree) (stored e) = subst (λ rs. Has rs (stored e)) (sym are) (has_stored es e h) in
+    subst (λ rs. clashes plain (2 ∷ 3 ∷ []) rs (stored e) ≡ false) are
+    (subst (λ how. clashes how (2 ∷ 3 ∷ []) (db t.tree) (stored e) ≡ false) order
+    (keys_are_unique schema db t 0 (2 ∷ 3 ∷ []) (stored e) sound listed unique there))
+
+-- a query of the two columns shows the one row that has the two numbers, if any
+pub two_answer : (lost : Value) {width : ℕ} (t : ℕ) (project : List Term) (db : Trees) (one two : ℤ) (rows : List Row) (es : List Entry)
+    → IsTree width (db t) es → Clear es
+    → IsAnswerAs lost (query (inner t end) (two_are 2 3) project [] no_limit) db (Int one ∷ Int two ∷ []) rows
+    → rows ≡ map (λ e. eval_all project ((Int one ∷ Int two ∷ []) ∷ stored e ∷ [])) (listed (find (has_two one two) es))
+two_answer lost t project db one two rows es tree apart a =
+    let show : Entry → Row = λ e. eval_all project ((Int one ∷ Int two ∷ []) ∷ stored e ∷ []) in
+    let perm = looked_up (Int one ∷ Int two ∷ []) (two_are 2 3) (has_two one two)
+    (λ e. passes_is one two e.key e.values) lost t project db rows es tree.are a in
+    let single = one_row es one two apart es (λ x h. h) tree.rise in
+    small_permutation show (find (has_two one two) es) rows (subst (λ l. IsPermutation (map show l) rows) single perm)

@@ -1,0 +1,67 @@
+-- Rows of whole numbers under rising keys.
+use Rattle.std.specs.Prelude.{◌≡◌, ◌&&◌, ℕ, ℤ, Bool, false, List, [], ◌∷◌, length, map, Option, Some, None, cond}
+use Rattle.std.specs.Ordering.{int_cmp, int_eq, is_gt, match_ordering}
+use Rattle.std.specs.declared.cmp.Ordering.TheVariants.{Less}
+use Rattle.std.specs.List.{AllByRecursion}
+use Rattle.sqlite.specs.declared.types.Value.TheVariants.{Null, Int}
+use Rattle.sqlite.specs.Order.{Row}
+use Rattle.sqlite.specs.Tree.{IsAscending}
+
+-- a row: its key and its other numbers, in the order of the columns
+pub record Entry : Type 0 where
+  pub key : ℤ
+  pub values : List ℤ
+
+-- the numbers as a file holds them
+abbrev pub numbers : List ℤ → Row
+numbers = map (λ n. Int n)
+
+-- the row as a file holds it: the key's own column is empty, since the key stands before the columns
+abbrev pub stored : Entry → Row
+stored e = Int e.key ∷ Null ∷ numbers e.values
+
+-- the row has this key
+abbrev pub has_key : ℤ → Entry → Bool
+has_key k e = int_eq e.key k
+
+-- the row's key is above this one
+abbrev pub is_above : ℤ → Entry → Bool
+is_above k e = is_gt (int_cmp e.key k)
+
+-- the rows with this one in its place, and in place of the one that has its key
+abbrev pub put : Entry → List Entry → List Entry
+put new [] = new ∷ []
+put new (e ∷ es) = match_ordering (int_cmp e.key new.key) (e ∷ put new es) (new ∷ es) (new ∷ e ∷ es)
+
+-- the change is made at this key
+abbrev pub at_key : (Entry → Entry) → ℤ → Entry → Entry
+at_key change k e = cond (has_key k e) (change e) e
+
+-- the rows with the one under the key changed
+abbrev pub changed : (Entry → Entry) → ℤ → List Entry → List Entry
+changed change k = map (at_key change k)
+
+-- each key is above the keys before it
+abbrev pub Rise : List Entry → Type 0
+Rise = IsAscending (λ a b. int_cmp a.key b.key ≡ Less)
+
+-- the rows of a tree are these, by rising keys, each with so many numbers behind its key
+pub record IsTree (width : ℕ) (rows : List Row) (entries : List Entry) : Type 0 where
+  pub are : rows ≡ map stored entries
+  pub rise : Rise entries
+  pub wide : AllByRecursion (λ e. length e.values ≡ width) entries
+
+-- the one that was found, if any, as a list
+abbrev pub listed : {X : Type 0} → Option X → List X
+listed None = []
+listed (Some x) = x ∷ []
+
+-- the first two numbers behind the key are these
+abbrev pub begins_with : ℤ → ℤ → List ℤ → Bool
+begins_with one two [] = false
+begins_with one two (a ∷ []) = false
+begins_with one two (a ∷ b ∷ more) = int_eq a one && int_eq b two
+
+-- the row has these two numbers behind its key
+abbrev pub has_two : ℤ → ℤ → Entry → Bool
+has_two one two e = begins_with one two e.values

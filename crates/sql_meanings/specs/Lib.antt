@@ -1,0 +1,7 @@
+-- What SQL texts mean, and what they leave in tables of whole numbers.
+pub mod Entries
+pub mod Making
+pub mod Outcomes
+pub mod Plain
+pub mod Queries
+pub mod Tables
