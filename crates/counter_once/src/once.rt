@@ -1,5 +1,6 @@
 //! The first record of a new bank.
-ghost use Rattle.std.specs.Prelude.{OnOk, IfErr, IfOk};
+ghost use Rattle.std.specs.Prelude.{◌≡◌, OnOk, IfErr, IfOk};
+ghost use Rattle.posting_core.specs.declared.fault.Fault.TheVariants.{Memory};
 ghost use Rattle.posting_core.specs.Tables.{Shows};
 ghost use Rattle.posting_core.specs.Plain.{plain_tables};
 ghost use Rattle.counter_once.specs.First.{two_branches, IsAnswered, Leaves};
@@ -14,7 +15,8 @@ const MOMENT: u64 = 1000;
 
 // A bank in memory with three accounts in branch 1 and two in branch 2.
 fn two_branches(alloc: Global) -> Result<PlainBank, Fault>
-    ensures { IfOk result (λ bank. Shows (plain_tables bank) two_branches) }
+    ensures shows { IfOk result (λ bank. Shows (plain_tables bank) two_branches) }
+    ensures memory { IfErr result (λ fault. fault ≡ Memory) }
 {
     let mut bank = PlainBank::new(alloc);
     bank.open_branch(Branch::new(1).unwrap(), 3)?;

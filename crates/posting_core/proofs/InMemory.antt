@@ -15,7 +15,7 @@ use Rattle.posting_core.specs.declared.rows.TellerRow.{TellerRow}
 use Rattle.posting_core.specs.declared.rows.AccountRow.{AccountRow}
 use Rattle.posting_core.specs.declared.rows.HistoryRow.{HistoryRow}
 use Rattle.posting_core.specs.declared.rows.RequestRow.{RequestRow}
-use Rattle.posting_core.specs.Commands.{Command, Open, Post, IsCommand, AreCommands, opened, branch_of_teller}
+use Rattle.posting_core.specs.Commands.{Command, Open, Post, AreCommands, opened, branch_of_teller}
 use Rattle.posting_core.specs.Cases.{case_of}
 use Rattle.posting_core.specs.Entries.{Entry, refused_entry, posted_entry, reply_to, account_balance, teller_balance, branch_balance, decided, reply}
 use Rattle.posting_core.specs.Tables.{Tables, HasRows, Shows, row_at, branch_key, teller_key, account_key, history_key, request_key, branch_row_of, teller_row_of, account_row_of, history_row_of, request_row_of}
@@ -34,12 +34,12 @@ use Rattle.posting_core.proofs.Opened.{opening_shown, already_open_shown, closed
 -- ---- a record
 
 -- the next ordinal has no request and no posting
-next_is_free : (t : Tables) (opened : ℕ → Option ℕ) (es : List Entry) → HasRows t opened es → row_at request_key t.requests (length es + 1) ≡ None
+pub next_is_free : (t : Tables) (opened : ℕ → Option ℕ) (es : List Entry) → HasRows t opened es → row_at request_key t.requests (length es + 1) ≡ None
 next_is_free t opened es s =
     let e : length es + 1 ≡ suc (length es) = omega arith in
     ap (λ (o : ℕ). row_at request_key t.requests o) e ∙ s.requests (suc (length es)) ∙ request_row_past es (length es) (omega arith)
 
-next_has_no_posting : (t : Tables) (opened : ℕ → Option ℕ) (es : List Entry) → HasRows t opened es → row_at history_key t.history (length es + 1) ≡ None
+pub next_has_no_posting : (t : Tables) (opened : ℕ → Option ℕ) (es : List Entry) → HasRows t opened es → row_at history_key t.history (length es + 1) ≡ None
 next_has_no_posting t opened es s =
     let e : length es + 1 ≡ suc (length es) = omega arith in
     ap (λ (o : ℕ). row_at history_key t.history o) e ∙ s.history (suc (length es)) ∙ history_row_past es (length es) (omega arith)
@@ -190,11 +190,13 @@ stands_plain : (bank : PlainBank) (log : List Command) → AreCommands log → S
 stands_plain bank log commands s = record {
   shows = shows_plain bank log commands s;
   up = λ h. h;
-  stop = λ x e. subst (λ y. IsSomeAnd y (λ u. Shows u log)) (sym e) s }
+  stop = λ x e. subst (λ y. IsSomeAnd y (λ u. Shows u log)) (sym e) s;
+}
 
 -- commands that its rows took
 pub takes_plain : (old new : PlainBank) (cs : List Command) → AreCommands cs
     → ((log : List Command) → Shows (plain_tables old) log → Shows (plain_tables new) (behind log cs)) → Takes (plain_seen old) (plain_seen new) cs
 takes_plain old new cs valid s = record {
   shows = λ h log l. shows_plain new (behind log cs) (commands_behind log cs l.commands valid) (s log (plain_shows old log l));
-  stands = λ h log st. stands_plain new (behind log cs) (commands_behind log cs st.shows.commands valid) (s log (plain_shows old log st.shows)) }
+  stands = λ h log st. stands_plain new (behind log cs) (commands_behind log cs st.shows.commands valid) (s log (plain_shows old log st.shows));
+}

@@ -19,3 +19,5 @@ pub mod Timeless
 pub mod Batched
 pub mod Streaming
 pub mod Output
+pub mod SoundEntries
+pub mod Undamaged

@@ -36,7 +36,8 @@ stays : (o p : Option ℕ) → is_some o ≡ true → option_or o p ≡ o
 stays (Some n) p h = refl
 stays None p h = absurd cc
 
-some_within : (place : ℕ) (o : Option ℕ) → is_within place o ≡ true → is_some o ≡ true
+-- a branch that has an account's place is open
+pub some_within : (place : ℕ) (o : Option ℕ) → is_within place o ≡ true → is_some o ≡ true
 some_within place (Some n) h = refl
 some_within place None h = absurd cc
 

@@ -8,7 +8,7 @@ use Rattle.std.proofs.lemmas.List.Concat.{flat_map-append}
 use Rattle.posting_core.specs.declared.stream.StreamFault.{StreamFault}
 use Rattle.posting_core.specs.declared.stream.StreamFault.TheVariants.{Truncated, Read, Write, Bank}
 use Rattle.posting_core.specs.Commands.{Command}
-use Rattle.posting_core.specs.Tables.{Tables, Shows}
+use Rattle.posting_core.specs.Tables.{Tables}
 use Rattle.posting_core.specs.Counter.{Seen, ShowsLog, ShowsBeginning}
 use Rattle.posting_core.specs.Runs.{behind, posts, replies_to, ArePosts}
 use Rattle.posting_core.specs.Resends.{Skips}

@@ -52,7 +52,7 @@ plus_is x d y e =
     ]
 
 -- a value that is there where a test passes
-when : {A : Type 0} (b : Bool) (x y : A) → cond b (Some x) None ≡ Some y → (b ≡ true) × (x ≡ y)
+pub when : {A : Type 0} (b : Bool) (x y : A) → cond b (Some x) None ≡ Some y → (b ≡ true) × (x ≡ y)
 when true x y e = (refl, cc)
 when false x y e = absurd cc
 
@@ -68,7 +68,7 @@ module _ (P : Verdict → Type 0) where
   by_account None t b d other given = other
   by_account (Some a) t b d other given = given a refl
 
-  by_new : (f : Found) (r : RequestFields) (t b : ℤ) → P (Unkept outcome.Full) → (f.decided < 1_000_000_000_000 → P (Refused outcome.WrongBranch))
+  pub by_new : (f : Found) (r : RequestFields) (t b : ℤ) → P (Unkept outcome.Full) → (f.decided < 1_000_000_000_000 → P (Refused outcome.WrongBranch))
       → (f.decided < 1_000_000_000_000 → r.branch ≡ branch_of_teller r.teller → P (account_case f.account t b r.delta)) → P (new_case f r t b)
   by_new f r t b full wrong right =
       elim (by_test (leb 1_000_000_000_000 f.decided)) [
@@ -80,11 +80,11 @@ module _ (P : Verdict → Type 0) where
             ])
       ]
 
-  by_known : (k : Option KeptFields) (f : Found) (r : RequestFields) (t b : ℤ) → P (Unkept outcome.ReusedNumber) → ((a : ReplyFields) → P (Again a)) → (k ≡ None → P (new_case f r t b)) → P (known_case k f r t b)
+  pub by_known : (k : Option KeptFields) (f : Found) (r : RequestFields) (t b : ℤ) → P (Unkept outcome.ReusedNumber) → ((a : ReplyFields) → P (Again a)) → (k ≡ None → P (new_case f r t b)) → P (known_case k f r t b)
   by_known None f r t b reused again new = new refl
   by_known (Some k) f r t b reused again new = elim (by_test (is_same k r)) [ inl h ↦ rw h (again _) | inr h ↦ rw h reused ]
 
-  by_teller : (o : Option (ℤ × ℤ)) (f : Found) (r : RequestFields) → P (Unkept outcome.NoTeller) → ((z : ℤ × ℤ) → o ≡ Some z → P (known_case f.kept f r z.0 z.1)) → P (teller_case o f r)
+  pub by_teller : (o : Option (ℤ × ℤ)) (f : Found) (r : RequestFields) → P (Unkept outcome.NoTeller) → ((z : ℤ × ℤ) → o ≡ Some z → P (known_case f.kept f r z.0 z.1)) → P (teller_case o f r)
   by_teller None f r closed some = closed
   by_teller (Some z) f r closed some = some z refl
 

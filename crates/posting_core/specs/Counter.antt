@@ -1,5 +1,5 @@
 -- What a counter shows, what a stop may leave of it, and what a call does to both.
-use Rattle.std.specs.Prelude.{◌≡◌, ℕ, ◌≤◌, List, length, take, Option, Some, None, IsSomeAnd, ◌==◌, if◌then◌else◌}
+use Rattle.std.specs.Prelude.{ℕ, ◌≤◌, List, length, take, Option, Some, None, IsSomeAnd, ◌==◌, if◌then◌else◌}
 use Rattle.posting_core.specs.declared.fault.Fault.{Fault}
 use Rattle.posting_core.specs.declared.fault.Fault.TheVariants.{Memory, Store, Down, Damaged}
 use Rattle.posting_core.specs.declared.counter.Opening.{Opening}

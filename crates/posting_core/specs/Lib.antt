@@ -10,6 +10,7 @@ pub mod Steps
 pub mod Runs
 pub mod Stated
 pub mod Laws
+pub mod Damage
 pub mod Counter
 pub mod Plain
 pub mod Once

@@ -42,11 +42,14 @@ impl StoredClock {
 }
 
 impl Clock for StoredClock {
-    ghost use Rattle.std.specs.Prelude.{Some};
+    ghost use Rattle.std.specs.Prelude.{Some, []};
 
     ghost readings = { λ clock. Some clock };
 
-    fn now(&mut self) -> Moment {
+    fn now(&mut self) -> Moment
+        ensures reading { IsReading (Some self.old) (Some self.new) result }
+        ensures after { self.old ≡ [] → result ≡ 0 }
+    {
         let Some(&moment) = self.moments.get(self.told) else {
             return Moment::new(0).unwrap();
         };

@@ -1,6 +1,7 @@
 //! Laws of the bank, for every log of commands. Each is a function that does nothing: its contract is the law.
 ghost use Rattle.posting_core.specs.Stated.{DecidedAsStated, RepliedAsStated};
 ghost use Rattle.posting_core.specs.Laws.{NoneShares, BalancesStayWithin, TablesAreConsistent, EqualTablesAnswerAlike};
+ghost use Rattle.posting_core.specs.Damage.{TablesAreUndamaged};
 ghost use Rattle.posting_core.specs.Resends.{RepliesAgain, RepliesInPlace, AddsOnce, KeepsCommands};
 
 /// Which records are decided, which of them are posted, and what is replied, said case by case.
@@ -23,6 +24,11 @@ pub fn balances_stay_within()
 /// branch has the sum of its tellers, and history has just the posted requests.
 pub fn tables_are_consistent()
     ensures { TablesAreConsistent }
+{}
+
+/// No log of commands leads to damaged tables.
+pub fn tables_are_undamaged()
+    ensures { TablesAreUndamaged }
 {}
 
 /// What a bank answers depends on its tables alone.

@@ -21,7 +21,7 @@ pub use facts::{Found, Kept, MAX_DECIDED, Verdict};
 pub use fault::{Fault, Rule};
 pub use laws::{
     balances_stay_within, cases_are_as_stated, each_request_once, equal_tables_answer_alike,
-    resends_get_their_replies, tables_are_consistent,
+    resends_get_their_replies, tables_are_consistent, tables_are_undamaged,
 };
 pub use once::{OnceFault, answer_once};
 pub use plain_bank::{ACCOUNTS_PER_BRANCH, PlainBank};

@@ -23,6 +23,11 @@ pub enum OnceFault {
 }
 
 impl fmt::Display for OnceFault {
+    ghost use Rattle.std.specs.Prelude.{Some};
+    ghost use Rattle.posting_core.specs.Rules.{once_text};
+
+    ghost output = { λ fault. Some (once_text fault) };
+
     fn fmt<W: fmt::Write>(&self, f: &mut fmt::Formatter<W>) -> fmt::Result {
         match self {
             OnceFault::Short => write!(f, "the input ends within a record"),

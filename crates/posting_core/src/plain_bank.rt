@@ -259,7 +259,11 @@ impl PlainBank {
 }
 
 impl Counter for PlainBank {
-    ghost use Rattle.posting_core.specs.Plain.{plain_seen};
+    ghost use Rattle.std.specs.Prelude.{IsOk, IfOk};
+    ghost use Rattle.posting_core.specs.Commands.{Command};
+    ghost use Rattle.posting_core.specs.Entries.{balance_behind};
+    ghost use Rattle.posting_core.specs.Tables.{Shows};
+    ghost use Rattle.posting_core.specs.Plain.{plain_seen, plain_tables};
 
     ghost seen = { plain_seen };
 
@@ -301,7 +305,12 @@ impl Counter for PlainBank {
         Ok(Opening::Opened)
     }
 
-    fn balance(&mut self, account: Account) -> Result<Option<Cents>, Fault> {
+    // It takes no memory, and always answers.
+    fn balance(&mut self, account: Account) -> Result<Option<Cents>, Fault>
+        ensures ok { IsOk result }
+        ensures value { IfOk result (λ balance. (log : List Command) → Shows (plain_tables self.old) log → balance ≡ balance_behind log account) }
+        ensures stays { plain_tables self.new ≡ plain_tables self.old }
+    {
         Ok(balance_at(&self.accounts, account.get()))
     }
 }

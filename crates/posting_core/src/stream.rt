@@ -34,6 +34,11 @@ pub enum StreamFault {
 }
 
 impl fmt::Display for StreamFault {
+    ghost use Rattle.std.specs.Prelude.{Some};
+    ghost use Rattle.posting_core.specs.Rules.{stream_text};
+
+    ghost output = { λ fault. Some (stream_text fault) };
+
     fn fmt<W: fmt::Write>(&self, f: &mut fmt::Formatter<W>) -> fmt::Result {
         match self {
             StreamFault::Truncated(n) => write!(f, "the input ends {n} bytes into a record"),
@@ -134,3 +139,6 @@ pub fn post_stream<R: Read, W: Write, K: Clock, C: Counter>(
 {
     answer_stream(reader, writer, clock, bank)
 }
+
+#[cfg(test)]
+mod tests;

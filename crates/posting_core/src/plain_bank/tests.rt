@@ -124,6 +124,18 @@ fn one_run(rt: HostRuntime) -> Result<(), Fail> {
 }
 
 #[test]
+fn one_record_twice_in_a_batch(rt: HostRuntime) -> Result<(), Fail> {
+    let mut bank = fresh(&rt)?;
+    let moment = Moment::new(1000).ok_or("moment")?;
+    let record = padded(&rt, FIRST);
+    let replies = bank.submit_all(moment, &[record, record])?;
+    let reply = padded::<200>(&rt, RUN[0].1.as_bytes());
+    assert_eq!(rt; replies.as_slice(), [reply, reply].as_slice());
+    assert_eq!(rt; bank.history.len(), 1);
+    Ok(())
+}
+
+#[test]
 fn a_teller_opened_later(rt: HostRuntime) -> Result<(), Fail> {
     let mut bank = fresh(&rt)?;
     let record = request(1, 21, 3, 1, 5)?;

@@ -1,12 +1,12 @@
 use Rattle.std.proofs.Common.{refl, subst, sym}
 use Rattle.posting_core.specs.Tables.{Tables, Shows}
 use Rattle.posting_core.specs.Plain.{plain_tables}
-use Rattle.posting_core.specs.Runs.{behind, posts}
-use Rattle.posting_core.proofs.InMemory.{requests_as_before, plain_shows, takes_plain}
+use Rattle.posting_core.specs.Runs.{posts}
+use Rattle.posting_core.proofs.InMemory.{requests_as_before, takes_plain}
 use Rattle.posting_core.proofs.plain_bank.PlainBankCounter.submit_all.Goals as goal
 
 pub returns-clause-done : goal.returns-clause-done
 returns-clause-done c =
     let same = requests_as_before (plain_tables c.args.self.now) _ _ refl c.reserve-2.ensures.items c.reserve-3.ensures.items in
     takes_plain c.args.self.now c.answer_all.new.self (posts c.args.moment c.args.records.now) c.answer_all.ensures.commands
-      (λ log s. c.answer_all.ensures.shows log (subst (λ (t : Tables). Shows t log) (sym same) s))
+    (λ log s. c.answer_all.ensures.shows log (subst (λ (t : Tables). Shows t log) (sym same) s))

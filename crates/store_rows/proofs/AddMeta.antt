@@ -1,0 +1,44 @@
+-- The first row of meta is put in.
+use Rattle.std.proofs.Common.{ℕ, pos, List, [], ◌∷◌, codes, lit≤, refl, Ok, Err, Result}
+use Rattle.sqlite.specs.Schema.{Schema}
+use Rattle.sqlite.specs.Order.{Row}
+use Rattle.sqlite.specs.Command.TheVariants.{Insert}
+use Rattle.sqlite.specs.Source.TheVariants.{Values}
+use Rattle.sqlite.specs.State.{State, ExecutesInside}
+use Rattle.sqlite.specs.Term.{Term, col, lit}
+use Rattle.sqlite.specs.declared.error.Error.{Error}
+use Rattle.sqlite.specs.declared.types.Value.TheVariants.{Null, Int}
+use Rattle.sqlite_tied.specs.Compute.{everything}
+use Rattle.sql_meanings.specs.Tables.{placed_at}
+use Rattle.sql_meanings.proofs.Means.{Means, means}
+use Rattle.sql_meanings.proofs.PutRows.{PutsAs, puts_row}
+use Rattle.sql_meanings.proofs.Statements.{HasTable, inserts}
+use Rattle.store_rows.specs.SixTables.{meta}
+use Rattle.store_rows.specs.Texts.{add_meta}
+use Rattle.store_rows.specs.View.{Shows, meta_entry}
+use Rattle.store_rows.proofs.Numbered.{meta_numbered}
+use Rattle.store_rows.proofs.OneTableWritten.{meta_written}
+use Rattle.store_rows.specs.Creation.{StartsBank, no_rows}
+
+abbrev terms : List Term
+terms = col 0 0 ∷ lit Null ∷ col 0 1 ∷ col 0 2 ∷ []
+
+-- the values that are handed in
+abbrev pub params : Row
+params = Int (pos 1) ∷ Int (pos 1) ∷ Int (pos 0) ∷ []
+
+module _ (schema : Schema) (p tree : ℕ) (has : HasTable schema (codes "meta") p (placed_at meta tree)) where
+  meant : Means schema add_meta 3 (Insert p (Values terms 4))
+  unfolding everything
+  meant = means schema add_meta 3 _ _ (inserts schema _ p _ has add_meta _ _ _ _ refl refl refl refl refl) refl (lit≤ tt) refl refl refl
+
+puts : PutsAs meta add_meta params (meta_entry (record { id = 1; version = 1; decided = 0 }))
+puts = record { terms = terms; width = 4; means = meant; gives = λ tree. refl; wide = refl }
+
+-- the new bank is there, and every table but meta is as it was
+pub starts : (old new : State) (r : Result ℕ Error) → Shows old.now no_rows → ExecutesInside 0 add_meta params old new r
+    → StartsBank old new r
+starts old new (Ok count) made h =
+    let done = puts_row old new meta meta_numbered made.sound [] made.meta add_meta params _ puts count h.0 in
+    (meta_written old new no_rows made _ done.0, done.2)
+starts old new (Err e) made h = tt

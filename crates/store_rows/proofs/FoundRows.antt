@@ -1,0 +1,33 @@
+-- What was read of a row, and what is told of it.
+use Rattle.std.proofs.Common.{◌≡◌, ℤ, inl, inr, Option, Some, None, option_map, Result, Ok, Err, refl, ap}
+use Rattle.sqlite.specs.Order.{Row, column}
+use Rattle.sqlite.specs.State.{State, IsUnchanged}
+use Rattle.posting_core.specs.declared.fault.Rule.{Rule}
+use Rattle.posting_core.specs.declared.fault.Rule.TheVariants.{Balance}
+use Rattle.store_rows.specs.declared.faults.TableFault.{TableFault}
+use Rattle.store_rows.specs.declared.faults.TableFault.TheVariants.{Sqlite, Damaged}
+use Rattle.store_rows.specs.Columns.{balance_shown}
+use Rattle.store_rows.specs.Outcomes.{Finds, IsNoBalance, ReadsCents, ReadsRow}
+
+the_row : {a b : Row} → Some a ≡ Some b → b ≡ a
+the_row e = cc
+
+module _ {X : Type 0} (old new : State) (shown : X → Row) (Breaks : X → Rule → Type 0) (row : Row) where
+  -- a value that was read is what was looked for
+  pub found_ok : (wanted : Option X) (x : X) → (option_map shown wanted ≡ Some row) × IsUnchanged old new
+      → ReadsRow shown Breaks row (Ok x) → Finds old new wanted Breaks (Ok (Some x))
+  found_ok None x told read = absurd (let e = told.0 in cc)
+  found_ok (Some y) x told read = (ap Some (read y (the_row told.0)), told.1)
+
+  -- a value that could not be read breaks a rule, or memory was refused
+  pub found_err : (wanted : Option X) (fault : TableFault) → (option_map shown wanted ≡ Some row) × IsUnchanged old new
+      → ReadsRow shown Breaks row (Err fault) → Finds old new wanted Breaks (Err fault)
+  found_err None fault told read = absurd (let e = told.0 in cc)
+  found_err (Some y) (Sqlite e) told read = inr (inl (read y (the_row told.0)), told.1)
+  found_err (Some y) (Damaged broken) told read = ((y, refl, read y (the_row told.0)), told.1)
+
+-- the balance of a row of one balance
+pub reads_balance : (row : Row) (r : Result ℤ TableFault) → ReadsCents Balance (column row 0) r → ReadsRow balance_shown IsNoBalance row r
+reads_balance row (Ok z) read = λ y is. read y (ap (λ x. column x 0) is)
+reads_balance row (Err (Sqlite e)) read = λ y is. read y (ap (λ x. column x 0) is)
+reads_balance row (Err (Damaged broken)) read = λ y is. (read.0, read.1 y (ap (λ x. column x 0) is))

@@ -1,0 +1,202 @@
+-- The look-up of a request by its teller and number, of which UNIQUE leaves one at most.
+use Rattle.std.proofs.Common.{◌≡◌, ◌&&◌, ◌==◌, ℕ, ℤ, pos, true, false, List, [], ◌∷◌, codes, lit≤, refl, subst, option_map, Ok, Result, ◌∙◌}
+use Rattle.sqlite.specs.Order.{Row}
+use Rattle.sqlite.specs.Schema.{Schema}
+use Rattle.sqlite.specs.Command.TheVariants.{Select}
+use Rattle.sqlite.specs.Listing.{understood}
+use Rattle.sqlite.specs.State.{State, QueriesRowInside}
+use Rattle.sqlite.specs.Term.{Term, col, eval_all}
+use Rattle.sqlite.specs.declared.error.Error.{Error}
+use Rattle.sqlite.specs.declared.types.Value.TheVariants.{Int}
+use Rattle.sqlite_tied.specs.Compute.{everything}
+use Rattle.sqlite_draft.specs.declared.join.Step.TheVariants.{Inner}
+use Rattle.sqlite_resolve.specs.declared.scope.Output.{Output}
+use Rattle.sqlite_resolve.specs.Program as program
+use Rattle.sqlite_resolve.specs.Select.{ungrouped}
+use Rattle.sqlite_resolve.specs.Terms.{number}
+use Rattle.sqlite_typing.specs.Types.{accepts_program}
+use Rattle.posting_core.specs.Tables.{Tables, request_key}
+use Rattle.posting_core.specs.declared.rows.RequestRow.{RequestRow}
+use Rattle.sql_meanings.specs.Entries.{has_two, stored}
+use Rattle.sql_meanings.specs.Outcomes.{OnlyShows, TellsRow}
+use Rattle.sql_meanings.specs.Plain.{key_column, number_column}
+use Rattle.sql_meanings.specs.Queries.{by_two, two_are, no_limit}
+use Rattle.sql_meanings.specs.Tables.{placed_at}
+use Rattle.sql_meanings.proofs.ByKey.{Tests, number_at}
+use Rattle.sql_meanings.proofs.Means.{Means, means}
+use Rattle.sql_meanings.proofs.OnlyShowing.{only_understood}
+use Rattle.sql_meanings.proofs.ReadRows.{reads_two}
+use Rattle.sql_meanings.proofs.ReadTables.{ReadsAs}
+use Rattle.sql_meanings.proofs.Selects.{select_by_two}
+use Rattle.sql_meanings.proofs.ShownColumns.{output_of}
+use Rattle.sql_meanings.proofs.Statements.{HasTable}
+use Rattle.store_rows.specs.Columns.{request_shown, request_in}
+use Rattle.store_rows.specs.SixTables.{request}
+use Rattle.store_rows.specs.Texts.{get_request}
+use Rattle.store_rows.specs.View.{Shows, request_entry}
+use Rattle.store_rows.proofs.RowLists.{same_number, shown_by, shown_itself}
+
+by_tid : (tree : ℕ) → Tests (placed_at request tree) (codes "tid") 2
+unfolding everything
+by_tid tree = record { place = 1; column = number_column (codes "tid"); named = refl; there = refl; is_at = refl; by_bytes = refl }
+
+by_number : (tree : ℕ) → Tests (placed_at request tree) (codes "number") 3
+unfolding everything
+by_number tree = record { place = 2; column = number_column (codes "number"); named = refl; there = refl; is_at = refl; by_bytes = refl }
+
+abbrev outputs : ℕ → List Output
+outputs tree = output_of (placed_at request tree) 0 (key_column (codes "ordinal")) ∷ output_of (placed_at request tree) 1 (number_column (codes "tid")) ∷ output_of (placed_at request tree) 2 (number_column (codes "number")) ∷ output_of (placed_at request tree) 3 (number_column (codes "aid")) ∷ output_of (placed_at request tree) 4 (number_column (codes "bid")) ∷ output_of (placed_at request tree) 5 (number_column (codes "delta")) ∷ output_of (placed_at request tree) 6 (number_column (codes "outcome")) ∷ output_of (placed_at request tree) 7 (number_column (codes "balance")) ∷ []
+
+abbrev project : List Term
+project = col 1 0 ∷ col 1 2 ∷ col 1 3 ∷ col 1 4 ∷ col 1 5 ∷ col 1 6 ∷ col 1 7 ∷ col 1 8 ∷ []
+
+module _ (schema : Schema) (p tree : ℕ) (has : HasTable schema (codes "request") p (placed_at request tree)) where
+  typed : program.program schema [] (ungrouped (Inner tree ∷ []) (two_are 2 3) (outputs tree) false [] no_limit (number 0))
+      ≡ Ok (record { lets = []; body = by_two 2 3 tree project })
+  unfolding program.program ungrouped
+  typed = rw (has.low, has.found)
+
+  meant : Means schema get_request 2 (Select (record { lets = []; body = by_two 2 3 tree project }) (codes "ordinal" ∷ codes "tid" ∷ codes "number" ∷ codes "aid" ∷ codes "bid" ∷ codes "delta" ∷ codes "outcome" ∷ codes "balance" ∷ []))
+  unfolding everything
+  meant =
+      means schema get_request 2 _ _ (select_by_two schema (codes "request") p (placed_at request tree) has get_request _ _ _ _ _ _ _ _ _ _ _ _ (codes "tid") (codes "number") 2 1 3 2
+      (by_tid tree) (by_number tree) (outputs tree) _
+      refl refl refl refl refl refl refl refl refl refl refl refl refl (
+        record { e = _; wanted = _; text = _; place = 0; column = _; written = refl; is = refl; named = refl; there = refl; out = refl },
+        (
+          record {
+            e = _;
+            wanted = _;
+            text = _;
+            place = 1;
+            column = _;
+            written = refl;
+            is = refl;
+            named = refl;
+            there = refl;
+            out =
+                refl;
+          },
+          (
+            record {
+              e = _;
+              wanted = _;
+              text = _;
+              place = 2;
+              column = _;
+              written = refl;
+              is = refl;
+              named = refl;
+              there = refl;
+              out =
+                  refl;
+            },
+            (
+              record {
+                e = _;
+                wanted = _;
+                text = _;
+                place = 3;
+                column = _;
+                written = refl;
+                is = refl;
+                named = refl;
+                there = refl;
+                out =
+                    refl;
+              },
+              (
+                record {
+                  e = _;
+                  wanted = _;
+                  text = _;
+                  place = 4;
+                  column = _;
+                  written = refl;
+                  is = refl;
+                  named = refl;
+                  there = refl;
+                  out =
+                      refl;
+                },
+                (
+                  record {
+                    e = _;
+                    wanted = _;
+                    text = _;
+                    place = 5;
+                    column = _;
+                    written = refl;
+                    is = refl;
+                    named = refl;
+                    there = refl;
+                    out = refl;
+                  },
+                  (
+                    record {
+                      e = _;
+                      wanted = _;
+                      text = _;
+                      place = 6;
+                      column = _;
+                      written = refl;
+                      is = refl;
+                      named = refl;
+                      there = refl;
+                      out = refl;
+                    },
+                    (
+                      record {
+                        e = _;
+                        wanted = _;
+                        text = _;
+                        place = 7;
+                        column = _;
+                        written = refl;
+                        is = refl;
+                        named = refl;
+                        there = refl;
+                        out = refl;
+                      },
+                      tt,
+                    ),
+                  ),
+                ),
+              ),
+            ),
+          ),
+        ),
+      )
+      (refl, (refl, (refl, (refl, (refl, (refl, (refl, (refl, tt))))))))
+      (number_at schema p (placed_at request tree) has.listed (codes "request") (outputs tree) false 1 (number_column (codes "tid")) refl refl)
+      (number_at schema p (placed_at request tree) has.listed (codes "request") (outputs tree) false 2 (number_column (codes "number")) refl refl)
+      refl refl refl refl refl refl refl
+      typed) refl (lit≤ tt) refl refl refl
+
+  accepts : (a b : ℤ) → accepts_program schema [] (by_two 2 3 tree project) (Int a ∷ Int b ∷ []) ≡ true
+  unfolding everything
+  accepts a b = rw (has.low, has.found)
+
+reads : (a b : ℤ) → ReadsAs request get_request (Int a ∷ Int b ∷ []) (λ t. by_two 2 3 t project)
+reads a b = record { names = codes "ordinal" ∷ codes "tid" ∷ codes "number" ∷ codes "aid" ∷ codes "bid" ∷ codes "delta" ∷ codes "outcome" ∷ codes "balance" ∷ []; means = meant; accepts = λ schema p tree has. accepts schema p tree has a b; unfolded = λ _. refl; ungrouped = λ _. refl }
+
+has_both : (a b : ℕ) (r : RequestRow) → has_two (pos a) (pos b) (request_entry r) ≡ ((r.teller == a) && (r.number == b))
+has_both a b r = rw (same_number r.teller a, same_number r.number b) refl
+
+-- it tells the request of the teller under the number
+pub tells : (old new : State) (t : Tables) (a b : ℕ) (r : Result Row Error) → Shows old.now t
+    → QueriesRowInside get_request (Int (pos a) ∷ Int (pos b) ∷ []) old new r
+    → TellsRow old new (option_map request_shown (request_in t a b)) r
+tells old new t a b r shows h =
+    subst (λ o. TellsRow old new o r)
+    (shown_by request_key request_entry (λ _. refl) (λ e. eval_all project ((Int (pos a) ∷ Int (pos b) ∷ []) ∷ stored e ∷ []))
+    request_shown (λ x. x) (λ _. refl)
+    (has_two (pos a) (pos b)) (λ x. (x.teller == a) && (x.number == b)) (has_both a b) t.requests
+    ∙ shown_itself request_shown (request_in t a b))
+    (reads_two old new request refl shows.sound _ shows.requests get_request project (pos a) (pos b) refl refl
+    (reads (pos a) (pos b)) r h)
+
+-- under any schema it only shows rows
+pub only : (schema : Schema) → OnlyShows get_request 2 (understood schema get_request)
+unfolding everything
+only schema = only_understood get_request 2 _ _ refl refl refl (lit≤ tt) refl schema

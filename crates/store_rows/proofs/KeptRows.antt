@@ -1,0 +1,76 @@
+-- What a row keeps of a request.
+use Rattle.std.proofs.Common.{◌≡◌, ◌==◌, ℕ, ℤ, pos, Bool, true, false, cond, Some, None, Ok, refl, sym, ap, subst, ◌∙◌}
+use Rattle.std.specs.Option.{ok_or}
+use Rattle.sqlite.specs.Order.{Row, column}
+use Rattle.message_records.specs.Outcomes.{code_of}
+use Rattle.message_records.specs.declared.records.Outcome.{Outcome}
+use Rattle.message_records.specs.declared.records.Outcome.TheVariants.{
+  Posted,
+  NoTeller,
+  WrongBranch,
+  NoAccount,
+  OverLimit,
+  ReusedNumber,
+  Full,
+  Malformed,
+}
+use Rattle.posting_core.specs.Kept.{KeptFields, is_kept_with, kept_from}
+use Rattle.posting_core.specs.declared.fault.Rule.TheVariants.{Request}
+use Rattle.posting_core.specs.declared.rows.RequestRow.{RequestRow}
+use Rattle.store_rows.specs.declared.faults.TableFault.TheVariants.{Damaged}
+use Rattle.store_rows.specs.Columns.{request_shown}
+use Rattle.store_rows.specs.Outcomes.{ReadsCents, ReadsKept, ReadsOutcome, ReadsWhole}
+
+-- the outcome that a code stands for
+abbrev pub decode : ℕ → Outcome
+decode n = cond (n == 0) Posted (cond (n == 11) NoTeller
+    (cond (n == 12) WrongBranch (cond (n == 13) NoAccount
+    (cond (n == 14) OverLimit (cond (n == 15) ReusedNumber (cond (n == 16) Full Malformed))))))
+
+-- the outcome of a code
+pub decoded : (o : Outcome) → decode (code_of o) ≡ o
+decoded Posted = refl
+decoded NoTeller = refl
+decoded WrongBranch = refl
+decoded NoAccount = refl
+decoded OverLimit = refl
+decoded ReusedNumber = refl
+decoded Full = refl
+decoded Malformed = refl
+
+-- two outcomes with one code are one
+pub same_outcome : (a b : Outcome) → code_of a ≡ code_of b → a ≡ b
+same_outcome a b same = sym (decoded a) ∙ ap decode same ∙ decoded b
+
+same_number : (a b : ℕ) → ◌≡◌ {A = ℤ} (pos a) (pos b) → a ≡ b
+same_number a b h = cc
+
+module _ (row : Row) (account branch : ℕ) (delta : ℤ) (outcome : Outcome) (balance : ℤ)
+    (one : ReadsWhole 1 999_999_999_999 Request (column row 3) (Ok account))
+    (two : ReadsWhole 1 999_999 Request (column row 4) (Ok branch)) (three : ReadsCents Request (column row 5) (Ok delta))
+    (four : ReadsOutcome (column row 6) (Ok outcome)) (five : ReadsCents Request (column row 7) (Ok balance)) where
+  abbrev fields : KeptFields
+  fields = record { account = account; branch = branch; delta = delta; outcome = outcome; balance = balance }
+
+  same_fields : (r : RequestRow) → row ≡ request_shown r → fields ≡ r.kept
+  same_fields r is =
+      let a : account ≡ r.kept.account = sym (same_number _ _ (one (pos r.kept.account) (ap (λ x. column x 3) is))) in
+      let b : branch ≡ r.kept.branch = sym (same_number _ _ (two (pos r.kept.branch) (ap (λ x. column x 4) is))) in
+      let d : delta ≡ r.kept.delta = three r.kept.delta (ap (λ x. column x 5) is) in
+      let o : outcome ≡ r.kept.outcome = same_outcome _ _
+      (sym (same_number _ _ (four (pos (code_of r.kept.outcome)) (ap (λ x. column x 6) is)))) in
+      let z : balance ≡ r.kept.balance = five r.kept.balance (ap (λ x. column x 7) is) in
+      rw (a, b, d, o, z) refl
+
+  -- what belongs together is what is kept, and what doesn't can't be kept
+  pub keeps : ReadsKept row (ok_or (kept_from account branch delta outcome balance) (Damaged Request))
+  keeps = go (is_kept_with outcome balance) refl
+    where
+      go : (b : Bool) → is_kept_with outcome balance ≡ b → ReadsKept row (ok_or (cond b (Some fields) None) (Damaged Request))
+      go true is = λ r shown. same_fields r shown
+      go false is = λ r shown. (
+        refl,
+        λ kept. absurd (let e : is_kept_with r.kept.outcome r.kept.balance ≡ false =
+            subst (λ (k : KeptFields). is_kept_with k.outcome k.balance ≡ false) (same_fields r shown) is in
+            let t : is_kept_with r.kept.outcome r.kept.balance ≡ true = kept.outcome in cc),
+      )

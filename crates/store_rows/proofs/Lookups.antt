@@ -1,0 +1,30 @@
+-- Small facts about what was looked up.
+use Rattle.std.proofs.Common.{◌≡◌, ℕ, zero, suc, ◌<◌, ℤ, Bool, true, false, cond, nat_eq, [], ◌∷◌, length, refl, arith}
+use Rattle.std.proofs.Common.{◌≤◌, ap, ◌∙◌, w64, to_z, of_z, pos, ◌≤ℤ◌, FitsSigned}
+use Rattle.std.specs.Prelude.{neg_ℤ}
+use Rattle.std.proofs.lemmas.Int.{ints, to_z_pos, to_z-of_z}
+use Rattle.sqlite.specs.Order.{Row, column}
+use Rattle.sqlite.specs.declared.types.Value.TheVariants.{Int}
+
+-- a column with a number is one of the row's
+pub column_within : (row : Row) (at : ℕ) (n : ℤ) → column row at ≡ Int n → at < length row
+column_within [] zero n h = absurd cc
+column_within [] (suc at) n h = absurd cc
+column_within (v ∷ row) zero n h = omega arith
+column_within (v ∷ row) (suc at) n h = let more = column_within row at n h in omega arith
+
+-- one row was met or none
+pub one_written : (count : ℕ) (b : Bool) → count ≡ cond b 1 0 → nat_eq count 1 ≡ b
+one_written count true h = rw h refl
+one_written count false h = rw h refl
+
+-- a number of at most twelve digits is the same as an `i64`
+pub as_integer : (n k : ℕ) → n ≡ k → n ≤ 1_000_000_000_000 → to_z w64 n ≡ pos k
+as_integer n k same low = to_z_pos w64 n (omega arith) ∙ ap pos same
+
+fits : (z : ℤ) → neg_ℤ (pos 999_999_999_999) ≤ℤ z → z ≤ℤ pos 999_999_999_999 → FitsSigned w64 z
+fits z least most = omega (arith, ints)
+
+-- so is an amount
+pub as_amount : (z y : ℤ) → z ≡ y → neg_ℤ (pos 999_999_999_999) ≤ℤ z → z ≤ℤ pos 999_999_999_999 → to_z w64 (of_z w64 z) ≡ y
+as_amount z y same least most = to_z-of_z w64 z (fits z least most) ∙ same

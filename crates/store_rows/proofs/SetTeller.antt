@@ -1,0 +1,75 @@
+-- A teller's balance is written.
+use Rattle.std.proofs.Common.{◌≡◌, ℕ, ℤ, pos, false, cond, nat_eq, is_some, List, [], ◌∷◌, codes, lit≤, refl, ap, subst, ◌∙◌, Ok}
+use Rattle.sqlite.specs.Schema.{Schema}
+use Rattle.sqlite.specs.Command.TheVariants.{Update}
+use Rattle.sqlite.specs.State.{State, ExecutesInside}
+use Rattle.sqlite.specs.Term.{Term, col, lit}
+use Rattle.sqlite.specs.declared.types.Value.TheVariants.{Null, Int}
+use Rattle.sqlite_tied.specs.Compute.{everything}
+use Rattle.sqlite_draft.specs.declared.query.Draft.{Draft}
+use Rattle.sqlite_draft.specs.declared.join.Step.TheVariants.{Inner}
+use Rattle.sqlite_draft.specs.Query.{query_of}
+use Rattle.sqlite_resolve.specs.Program as program
+use Rattle.sqlite_resolve.specs.Write as write
+use Rattle.posting_core.specs.Tables.{Tables, row_at, teller_key}
+use Rattle.sql_meanings.specs.Entries.{Entry}
+use Rattle.sql_meanings.specs.Plain.{key_column}
+use Rattle.sql_meanings.specs.Queries.{by_key, key_is}
+use Rattle.sql_meanings.specs.Tables.{placed_at}
+use Rattle.sql_meanings.proofs.ByKey.{Tests, key_at, update_by_key}
+use Rattle.sql_meanings.proofs.Means.{Means, means}
+use Rattle.sql_meanings.proofs.SetRows.{ChangesAs, sets_row}
+use Rattle.sql_meanings.proofs.Statements.{HasTable}
+use Rattle.sql_meanings.proofs.TableWrites.{Leaves, spares_standing}
+use Rattle.store_rows.specs.Changes.{with_teller_balance}
+use Rattle.store_rows.specs.SixTables.{teller}
+use Rattle.store_rows.specs.Texts.{set_teller}
+use Rattle.store_rows.specs.View.{Shows, teller_entry}
+use Rattle.store_rows.specs.Outcomes.{Writes}
+use Rattle.store_rows.proofs.RowLists.{changed_rows, taken_row_key}
+use Rattle.store_rows.proofs.OneTableWritten.{tellers_written}
+use Rattle.store_rows.proofs.Lookups.{one_written}
+use Rattle.store_rows.proofs.Numbered.{teller_numbered}
+
+by_id : (tree : ℕ) → Tests (placed_at teller tree) (codes "tid") 0
+unfolding everything
+by_id tree = record { place = 0; column = key_column (codes "tid"); named = refl; there = refl; is_at = refl; by_bytes = refl }
+
+abbrev project : List Term
+project = col 1 0 ∷ col 1 0 ∷ lit Null ∷ col 0 1 ∷ []
+
+abbrev draft : ℕ → Draft
+draft tree = write.simple (Inner tree ∷ []) key_is project
+
+module _ (schema : Schema) (p tree : ℕ) (has : HasTable schema (codes "teller") p (placed_at teller tree)) where
+  typed : program.program schema [] (draft tree) ≡ Ok (record { lets = []; body = query_of (draft tree) })
+  unfolding program.program
+  typed = rw (has.low, has.found)
+
+  meant : Means schema set_teller 2 (Update p (record { lets = []; body = by_key tree project }))
+  unfolding everything
+  meant =
+      means schema set_teller 2 _ _ (update_by_key schema (codes "teller") p _ has set_teller _ _ _ _ _ _ _ _ _ _ _ _ (by_id tree) _
+      refl refl refl refl refl refl refl refl refl (key_at schema (codes "teller") p [] false) typed) refl (lit≤ tt) refl refl refl
+
+-- the one number behind the key is written
+abbrev set_first : ℤ → Entry → Entry
+set_first v e = record e { values = v ∷ [] }
+
+changes : (k v : ℤ) → ChangesAs teller set_teller k (Int v ∷ []) (set_first v)
+changes k v = record { project = project; means = meant; projects = λ e wide. refl; keeps_key = λ e. refl; keeps_width = λ e wide. refl }
+
+-- the row has the number, and each other row and table is as it was
+pub tells : (old new : State) (t : Tables) (k : ℕ) (v : ℤ) (count : ℕ) → Shows old.now t
+    → ExecutesInside 0 set_teller (Int (pos k) ∷ Int v ∷ []) old new (Ok count)
+    → Writes old new teller (is_some (row_at teller_key t.tellers k)) (with_teller_balance k v t) (Ok (nat_eq count 1))
+unfolding with_teller_balance
+tells old new t k v count shows h =
+    let done = sets_row old new teller teller_numbered shows.sound _ shows.tellers set_teller (pos k) (Int v ∷ []) (set_first v)
+    (changes (pos k) v) count h.0 in
+    let rows = changed_rows teller_key teller_entry (λ _. refl) (λ r. record r { balance = v }) (set_first v) (λ _. refl) k t.tellers in (
+      one_written count _ (done.1 ∙ ap (λ b. cond b 1 0) (taken_row_key teller_key teller_entry (λ _. refl) k t.tellers)),
+      tellers_written old new t shows _ (subst (Leaves old new teller) rows done.0),
+      (h.1, done.0.marks),
+      spares_standing old new teller _ done.0,
+    )

@@ -1,0 +1,152 @@
+-- Trees show one bank at most, and who opens on them finds it.
+use mathlib.Core.HLevel.{Σ_prop_path}
+use Rattle.std.proofs.Common.{◌≡◌, ℕ, ℤ, pos, nat_abs, List, [], ◌∷◌, map, refl, sym, ap, subst, ◌∙◌}
+use Rattle.std.specs.Prelude.{slice_index_or}
+use Rattle.sqlite.specs.Order.{Row}
+use Rattle.sqlite.specs.declared.types.Value.{Value}
+use Rattle.sqlite.specs.declared.types.Value.TheVariants.{Null, Int, Real, Text, Blob}
+use Rattle.sqlite.specs.Schema.{Schema}
+use Rattle.sqlite.specs.Table.{Table}
+use Rattle.sqlite.specs.Tree.{Trees}
+use Rattle.sqlite.specs.Effect.{Database, IsDatabase}
+use Rattle.posting_core.specs.Tables.{Tables}
+use Rattle.posting_core.specs.declared.rows.MetaRow.{MetaRow}
+use Rattle.posting_core.specs.declared.rows.BranchRow.{BranchRow}
+use Rattle.posting_core.specs.declared.rows.TellerRow.{TellerRow}
+use Rattle.posting_core.specs.declared.rows.AccountRow.{AccountRow}
+use Rattle.posting_core.specs.declared.rows.HistoryRow.{HistoryRow}
+use Rattle.posting_core.specs.declared.rows.RequestRow.{RequestRow}
+use Rattle.sql_meanings.specs.Entries.{Entry, stored}
+use Rattle.sql_meanings.specs.Tables.{Holds}
+use Rattle.sql_meanings.proofs.Trees.{Holds-prop, same_schema}
+use Rattle.store_rows.specs.View.{Shows, ShowsTrees, meta_entry, branch_entry, teller_entry, account_entry, history_entry, request_entry}
+use Rattle.store_rows.proofs.KeptRows.{decode, decoded}
+
+-- what can be told back is told once
+module _ {X Y : Type 0} (f : X → Y) (back : Y → X) (same : (x : X) → back (f x) ≡ x) where
+  told_once : (x y : X) → f x ≡ f y → x ≡ y
+  told_once x y e = sym (same x) ∙ ap back e ∙ same y
+
+  all_back : (xs : List X) → map back (map f xs) ≡ xs
+  all_back [] = refl
+  all_back (x ∷ xs) = ap (λ y. y ∷ map back (map f xs)) (same x) ∙ ap (λ l. x ∷ l) (all_back xs)
+
+  -- so are lists
+  lists_once : (xs ys : List X) → map f xs ≡ map f ys → xs ≡ ys
+  lists_once xs ys e = sym (all_back xs) ∙ ap (map back) e ∙ all_back ys
+
+-- ---- rows and entries
+
+number_in : Value → ℤ
+number_in (Int n) = n
+number_in Null = pos 0
+number_in (Real x) = pos 0
+number_in (Text t) = pos 0
+number_in (Blob b) = pos 0
+
+entry_in : Row → Entry
+entry_in [] = record { key = pos 0; values = [] }
+entry_in (v ∷ []) = record { key = number_in v; values = [] }
+entry_in (v ∷ w ∷ row) = record { key = number_in v; values = map number_in row }
+
+numbers_back : (values : List ℤ) → map number_in (map (λ n. Int n) values) ≡ values
+unfolding number_in
+numbers_back [] = refl
+numbers_back (v ∷ values) = ap (λ l. v ∷ l) (numbers_back values)
+
+entry_back : (e : Entry) → entry_in (stored e) ≡ e
+unfolding entry_in number_in
+entry_back e = ap (λ vs. let it : Entry = record { key = e.key; values = vs } in it) (numbers_back e.values)
+
+abbrev at : Entry → ℕ → ℕ
+at e i = nat_abs (slice_index_or e.values i (pos 0))
+
+abbrev amount : Entry → ℕ → ℤ
+amount e i = slice_index_or e.values i (pos 0)
+
+abbrev meta_in : Entry → MetaRow
+meta_in e = record { id = nat_abs e.key; version = at e 0; decided = at e 1 }
+
+abbrev branch_in : Entry → BranchRow
+branch_in e = record { branch = nat_abs e.key; accounts = at e 0; balance = amount e 1 }
+
+abbrev teller_in : Entry → TellerRow
+teller_in e = record { teller = nat_abs e.key; balance = amount e 0 }
+
+abbrev account_in : Entry → AccountRow
+account_in e = record { account = nat_abs e.key; balance = amount e 0 }
+
+abbrev history_in : Entry → HistoryRow
+history_in e = record { ordinal = nat_abs e.key; account = at e 0; teller = at e 1; branch = at e 2; delta = amount e 3; moment = at e 4 }
+
+abbrev request_in : Entry → RequestRow
+request_in e = record {
+  ordinal = nat_abs e.key;
+  teller = at e 0;
+  number = at e 1;
+  kept = record { account = at e 2; branch = at e 3; delta = amount e 4; outcome = decode (at e 5); balance = amount e 6 };
+}
+
+request_back : (r : RequestRow) → request_in (request_entry r) ≡ r
+request_back r = ap (λ o. let it : RequestRow = record r {
+  kept = record {
+    account = r.kept.account;
+    branch = r.kept.branch;
+    delta =
+        r.kept.delta;
+    outcome = o;
+    balance = r.kept.balance;
+  };
+} in it) (decoded r.kept.outcome)
+
+-- ---- one bank
+
+module _ {R : Type 0} (entry : R → Entry) (back : Entry → R) (same : (r : R) → back (entry r) ≡ r) where
+  one_table : (db : Database) (table : Table) (xs ys : List R) → Holds db table (map entry xs) → Holds db table (map entry ys) → xs ≡ ys
+  one_table db table xs ys p q =
+      lists_once entry back same xs ys (lists_once stored entry_in entry_back (map entry xs) (map entry ys) (sym p.rows.are ∙ q.rows.are))
+
+one_database : (db : Database) (a b : Tables) → Shows db a → Shows db b → a ≡ b
+one_database db a b p q =
+    let meta : a.meta ≡ b.meta = one_table meta_entry meta_in (λ _. refl) db _ a.meta b.meta p.meta q.meta in
+    let branches : a.branches ≡ b.branches = one_table branch_entry branch_in
+    (λ _. refl) db _ a.branches b.branches p.branches q.branches in
+    let tellers : a.tellers ≡ b.tellers = one_table teller_entry teller_in (λ _. refl) db _ a.tellers b.tellers p.tellers q.tellers in
+    let accounts : a.accounts ≡ b.accounts = one_table account_entry account_in
+    (λ _. refl) db _ a.accounts b.accounts p.accounts q.accounts in
+    let history : a.history ≡ b.history = one_table history_entry history_in (λ _. refl) db _ a.history b.history p.history q.history in
+    let requests : a.requests ≡ b.requests = one_table request_entry request_in request_back db _ a.requests b.requests p.requests
+    q.requests in
+    ap (λ x. let t : Tables = record a { meta = x } in t) meta
+    ∙ ap (λ x. let t : Tables = record a { meta = b.meta; branches = x } in t) branches
+    ∙ ap (λ x. let t : Tables = record a { meta = b.meta; branches = b.branches; tellers = x } in t) tellers
+    ∙ ap (λ x. let t : Tables = record b { accounts = x; history = a.history; requests = a.requests } in t) accounts
+    ∙ ap (λ x. let t : Tables = record b { history = x; requests = a.requests } in t) history
+    ∙ ap (λ x. let t : Tables = record b { requests = x } in t) requests
+
+-- what a connection shows its trees show
+pub to_trees : (db : Database) (t : Tables) → Shows db t → ShowsTrees db.trees t
+to_trees db t shows = (db.schema, shows)
+
+moved : (db : Database) (t : Tables) (sound : ∥ IsDatabase db ∥₁) (left : ShowsTrees db.trees t) → Shows db t
+moved db t sound left = subst (λ s. Shows (record { schema = s; trees = db.trees }) t) (same_schema db left.0 sound left.1.sound) left.1
+
+-- a sound database over trees that show a bank shows that bank
+pub of_trees : (db : Database) (t : Tables) → IsDatabase db → ShowsTrees db.trees t → Shows db t
+of_trees db t sound left = moved db t ∣ sound ∣₁ left
+
+-- trees show one bank at most
+pub one_bank : (trees : Trees) (a b : Tables) → ShowsTrees trees a → ShowsTrees trees b → a ≡ b
+one_bank trees a b p q =
+    let db : Database = record { schema = p.0; trees = trees } in
+    one_database db a b p.1 (moved db b p.1.sound q)
+
+-- the view is a proposition
+pub Shows-prop : (db : Database) (t : Tables) → IsProp (Shows db t)
+Shows-prop db t = hlevel Holds-prop
+
+-- so is what trees show
+pub ShowsTrees-prop : (trees : Trees) (t : Tables) → IsProp (ShowsTrees trees t)
+ShowsTrees-prop trees t p q =
+    let db : Database = record { schema = q.0; trees = trees } in
+    Σ_prop_path (λ (s : Schema). Shows-prop (record { schema = s; trees = trees }) t) (same_schema db p.0 q.1.sound p.1.sound)

@@ -1,0 +1,19 @@
+-- What the look-up tells.
+use Rattle.std.proofs.Common.{arith}
+use Rattle.sqlite.specs.Held.{state}
+use Rattle.sql_meanings.proofs.OnlyShowing.{kept_reading}
+use Rattle.store_rows.proofs.GetAccount.{only, tells}
+use Rattle.store_rows.proofs.Lookups.{as_integer}
+use Rattle.store_rows.proofs.accounts.balance_row.Goals as goal
+
+pub returns-clause-told : goal.returns-clause-told
+returns-clause-told g c clean t shows =
+    tells (state g.S.Store c.args.tx.now.conn.now) (state g.S.Store c.query_row.new.self.conn.now) t c.args.account c.query_row.result
+    shows
+    (rw (c.params-to_sql.ensures, as_integer c.get-key.result c.args.account c.get-key.ensures.value (omega arith)) at
+    (c.query_row.ensures.row clean))
+
+pub returns-clause-kept : goal.returns-clause-kept
+returns-clause-kept g c clean =
+    kept_reading (state g.S.Store c.args.tx.now.conn.now) (state g.S.Store c.query_row.new.self.conn.now) _ _ c.query_row.result
+    (only c.args.tx.now.conn.now.schema) (c.query_row.ensures.row clean)

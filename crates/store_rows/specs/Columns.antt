@@ -1,0 +1,66 @@
+-- What the reading statements show of a row, and what they look for.
+use Rattle.std.specs.Prelude.{◌&&◌, ◌==◌, ℕ, ℤ, pos, [], ◌∷◌, Option, find, nat_lt, option_map}
+use Rattle.sqlite.specs.Order.{Row}
+use Rattle.sqlite.specs.declared.types.Value.TheVariants.{Int}
+use Rattle.message_records.specs.Outcomes.{code_of}
+use Rattle.posting_core.specs.Tables.{Tables, row_at, teller_key, account_key}
+use Rattle.posting_core.specs.declared.rows.MetaRow.{MetaRow}
+use Rattle.posting_core.specs.declared.rows.BranchRow.{BranchRow}
+use Rattle.posting_core.specs.declared.rows.TellerRow.{TellerRow}
+use Rattle.posting_core.specs.declared.rows.AccountRow.{AccountRow}
+use Rattle.posting_core.specs.declared.rows.RequestRow.{RequestRow}
+use Rattle.store_rows.specs.declared.metas.StoredMeta.{StoredMeta}
+use Rattle.store_rows.specs.Changes.{meta_key}
+
+-- version, decided
+abbrev pub meta_shown : StoredMeta → Row
+meta_shown m = Int m.version ∷ Int m.decided ∷ []
+
+-- balance
+abbrev pub balance_shown : ℤ → Row
+balance_shown z = Int z ∷ []
+
+-- bid, accounts, balance
+abbrev pub branch_shown : BranchRow → Row
+branch_shown r = Int (pos r.branch) ∷ Int (pos r.accounts) ∷ Int r.balance ∷ []
+
+-- ordinal, tid, number, aid, bid, delta, outcome, balance
+abbrev pub request_shown : RequestRow → Row
+request_shown r =
+    Int (pos r.ordinal) ∷ Int (pos r.teller) ∷ Int (pos r.number) ∷ Int (pos r.kept.account) ∷ Int
+    (pos r.kept.branch) ∷ Int r.kept.delta ∷
+    Int (pos (code_of r.kept.outcome)) ∷ Int r.kept.balance ∷ []
+
+-- ---- what is looked for
+
+-- the numbers of the row of meta
+abbrev pub meta_numbers : MetaRow → StoredMeta
+meta_numbers r = record { version = pos r.version; decided = pos r.decided }
+
+-- what meta holds of the bank
+abbrev pub meta_in : Tables → Option StoredMeta
+meta_in t = option_map meta_numbers (row_at meta_key t.meta 1)
+
+-- a teller's balance
+abbrev pub teller_balance_of : TellerRow → ℤ
+teller_balance_of r = r.balance
+
+-- the balance of a teller
+abbrev pub teller_balance_in : Tables → ℕ → Option ℤ
+teller_balance_in t teller = option_map teller_balance_of (row_at teller_key t.tellers teller)
+
+-- an account's balance
+abbrev pub account_balance_of : AccountRow → ℤ
+account_balance_of r = r.balance
+
+-- the balance of an account
+abbrev pub account_balance_in : Tables → ℕ → Option ℤ
+account_balance_in t account = option_map account_balance_of (row_at account_key t.accounts account)
+
+-- the branch with the least number above one
+abbrev pub branch_above : Tables → ℕ → Option BranchRow
+branch_above t after = find (λ r. nat_lt after r.branch) t.branches
+
+-- the request of a teller under its number
+abbrev pub request_in : Tables → ℕ → ℕ → Option RequestRow
+request_in t teller number = find (λ r. (r.teller == teller) && (r.number == number)) t.requests

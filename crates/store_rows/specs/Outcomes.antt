@@ -1,0 +1,111 @@
+-- What a call on the tables of a bank tells, and what it leaves.
+use Rattle.std.specs.Prelude.{◌≡◌, ◌≢◌, ◌⊎◌, IsTrue, ℕ, ℤ, pos, Bool, true, false, Option, Some, None, Result, Ok, Err}
+use Rattle.sqlite.specs.State.{State, IsUnchanged}
+use Rattle.sqlite.specs.Order.{Row}
+use Rattle.sqlite.specs.declared.types.Value.{Value}
+use Rattle.sqlite.specs.declared.types.Value.TheVariants.{Int}
+use Rattle.sqlite.specs.declared.error.Error.{Error}
+use Rattle.sqlite.specs.declared.error.Error.TheVariants.{SqliteFailure}
+use Rattle.sqlite.specs.declared.error.ErrorCode.TheVariants.{OutOfMemory}
+use Rattle.message_records.specs.Ranges.{cents_within, whole_within}
+use Rattle.message_records.specs.Outcomes.{code_of}
+use Rattle.message_records.specs.declared.records.Outcome.{Outcome}
+use Rattle.posting_core.specs.Kept.{KeptFields, is_kept_with}
+use Rattle.posting_core.specs.Tables.{Tables}
+use Rattle.posting_core.specs.declared.rows.BranchRow.{BranchRow}
+use Rattle.posting_core.specs.declared.rows.RequestRow.{RequestRow}
+use Rattle.posting_core.specs.declared.fault.Rule.{Rule}
+use Rattle.posting_core.specs.declared.fault.Rule.TheVariants as rule
+use Rattle.sqlite.specs.Table.{Table}
+use Rattle.sql_meanings.specs.Making.{SparesStanding, SparesTables}
+use Rattle.sql_meanings.specs.Outcomes.{IsStoreError, GoesOn, WriteFails}
+use Rattle.store_rows.specs.declared.faults.TableFault.{TableFault}
+use Rattle.store_rows.specs.declared.faults.TableFault.TheVariants.{Sqlite, Damaged}
+use Rattle.store_rows.specs.Columns.{request_shown}
+use Rattle.store_rows.specs.View.{Shows}
+
+-- The answer is what was looked for and nothing has changed; or the store failed; or what is there breaks a rule in this way, and nothing
+-- has changed.
+abbrev pub Finds : {X : Type 0} → State → State → Option X → (X → Rule → Type 0) → Result (Option X) TableFault → Type 0
+Finds old new wanted Breaks (Ok found) = (found ≡ wanted) × IsUnchanged old new
+Finds old new wanted Breaks (Err (Sqlite e)) = IsStoreError old new e
+Finds {X} old new wanted Breaks (Err (Damaged broken)) = ((x : X) × (wanted ≡ Some x) × Breaks x broken) × IsUnchanged old new
+
+-- whatever the rows: a read leaves everything as it was, or the transaction is rolled back
+abbrev pub Looks : {X E : Type 0} → State → State → Result X E → Type 0
+Looks old new (Ok x) = IsUnchanged old new
+Looks old new (Err e) = WriteFails old new
+
+-- the balance is outside the limits
+abbrev pub IsNoBalance : ℤ → Rule → Type 0
+IsNoBalance z broken = (broken ≡ rule.Balance) × (cents_within 999_999_999_999 z ≡ None)
+
+-- the number is outside the numbers of branches, the count is no count, or the balance is outside the limits
+abbrev pub IsNoBranch : BranchRow → Rule → Type 0
+IsNoBranch r broken =
+    ((broken ≡ rule.Value) × ((whole_within 1 999_999 r.branch ≡ None) ⊎ (whole_within 0 4_294_967_295 r.accounts ≡ None)))
+    ⊎ ((broken ≡ rule.Balance) × (cents_within 999_999_999_999 r.balance ≡ None))
+
+-- the request is one that can be kept
+pub record CanBeKept (k : KeptFields) : Type 0 where
+  pub account : whole_within 1 999_999_999_999 k.account ≡ Some k.account
+  pub branch : whole_within 1 999_999 k.branch ≡ Some k.branch
+  pub delta : cents_within 999_999_999_999 k.delta ≡ Some k.delta
+  pub balance : cents_within 999_999_999_999 k.balance ≡ Some k.balance
+  pub outcome : IsTrue (is_kept_with k.outcome k.balance)
+
+-- the ordinal is no ordinal, or what is kept is no request that can be kept
+abbrev pub IsNoRequest : RequestRow → Rule → Type 0
+IsNoRequest r broken =
+    ((broken ≡ rule.Value) × (whole_within 1 1_000_000_000_000 r.ordinal ≡ None))
+    ⊎ ((broken ≡ rule.Request)
+    × ((whole_within 1 99_999_999 r.teller ≡ None) ⊎ ((whole_within 1 9_999_999_999 r.number ≡ None) ⊎ (¬ CanBeKept r.kept))))
+
+-- no rule is broken so
+abbrev pub Never : {X : Type 0} → X → Rule → Type 0
+Never x broken = ⊥
+
+-- the answer tells whether the row is there; the tables are these now, and every table but this one that stands alone is as it was
+abbrev pub Writes : State → State → Table → Bool → Tables → Result Bool Error → Type 0
+Writes old new table there after (Ok answer) = (answer ≡ there) × Shows new.now after × GoesOn old new
+    × SparesStanding old.now new.now table.name
+Writes old new table there after (Err e) = WriteFails old new
+
+-- the row is put in, where its key is free, and every table but this one is as it was; a taken key is told, and nothing has changed
+abbrev pub Adds : State → State → Table → Bool → Tables → Result (Unit {0}) TableFault → Type 0
+Adds old new table taken after (Ok done) = (taken ≡ false) × Shows new.now after × GoesOn old new
+    × SparesTables old.now new.now table.name
+Adds old new table taken after (Err (Sqlite e)) = WriteFails old new
+Adds old new table taken after (Err (Damaged broken)) = (broken ≡ rule.Key) × (taken ≡ true) × IsUnchanged old new
+
+-- ---- a stored number, as its type
+
+-- the number that the value is, or it is outside, or memory was refused
+abbrev pub ReadsWhole : ℕ → ℕ → Rule → Value → Result ℕ TableFault → Type 0
+ReadsWhole least most broken v (Ok n) = (z : ℤ) → v ≡ Int z → z ≡ pos n
+ReadsWhole least most broken v (Err (Sqlite e)) = (z : ℤ) → v ≡ Int z → e ≡ SqliteFailure OutOfMemory
+ReadsWhole least most broken v (Err (Damaged rule)) = (rule ≡ broken) × ((n : ℕ) → v ≡ Int (pos n) → whole_within least most n ≡ None)
+
+-- the amount that the value is, or it is outside the limits, or memory was refused
+abbrev pub ReadsCents : Rule → Value → Result ℤ TableFault → Type 0
+ReadsCents broken v (Ok n) = (z : ℤ) → v ≡ Int z → n ≡ z
+ReadsCents broken v (Err (Sqlite e)) = (z : ℤ) → v ≡ Int z → e ≡ SqliteFailure OutOfMemory
+ReadsCents broken v (Err (Damaged rule)) = (rule ≡ broken) × ((z : ℤ) → v ≡ Int z → cents_within 999_999_999_999 z ≡ None)
+
+-- the outcome whose code the value is, or it is no code, or memory was refused
+abbrev pub ReadsOutcome : Value → Result Outcome TableFault → Type 0
+ReadsOutcome v (Ok o) = (z : ℤ) → v ≡ Int z → z ≡ pos (code_of o)
+ReadsOutcome v (Err (Sqlite e)) = (z : ℤ) → v ≡ Int z → e ≡ SqliteFailure OutOfMemory
+ReadsOutcome v (Err (Damaged broken)) = (broken ≡ rule.Request) × ((o : Outcome) → v ≢ Int (pos (code_of o)))
+
+-- what a row shows, or it breaks a rule in this way, or memory was refused
+abbrev pub ReadsRow : {X : Type 0} → (X → Row) → (X → Rule → Type 0) → Row → Result X TableFault → Type 0
+ReadsRow {X} shown Breaks row (Ok x) = (y : X) → row ≡ shown y → x ≡ y
+ReadsRow {X} shown Breaks row (Err (Sqlite e)) = (y : X) → row ≡ shown y → e ≡ SqliteFailure OutOfMemory
+ReadsRow {X} shown Breaks row (Err (Damaged broken)) = (y : X) → row ≡ shown y → Breaks y broken
+
+-- what a row keeps of a request, or it is no request that can be kept, or memory was refused
+abbrev pub ReadsKept : Row → Result KeptFields TableFault → Type 0
+ReadsKept row (Ok k) = (r : RequestRow) → row ≡ request_shown r → k ≡ r.kept
+ReadsKept row (Err (Sqlite e)) = (r : RequestRow) → row ≡ request_shown r → e ≡ SqliteFailure OutOfMemory
+ReadsKept row (Err (Damaged broken)) = (r : RequestRow) → row ≡ request_shown r → (broken ≡ rule.Request) × ¬ CanBeKept r.kept

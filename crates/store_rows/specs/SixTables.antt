@@ -1,0 +1,52 @@
+-- The six tables of a bank, as `sqlite` understands them.
+use Rattle.std.specs.Prelude.{[], ◌∷◌, codes, pos}
+use Rattle.sqlite.specs.Table.{Table}
+use Rattle.sqlite.specs.Schema.{Schema}
+use Rattle.sqlite.specs.Collation.TheVariants.{Binary}
+use Rattle.sqlite.specs.Term.{lit, col, op2}
+use Rattle.sqlite.specs.declared.types.Value.TheVariants.{Int}
+use Rattle.sqlite_sql.specs.declared.ops.BinaryOp.TheVariants.{Compare}
+use Rattle.sqlite_sql.specs.declared.ops.CompareOp.TheVariants.{Eq}
+use Rattle.sqlite_value.specs.Keys.{plain}
+use Rattle.sql_meanings.specs.Plain.{plain_table}
+use Rattle.sql_meanings.specs.Tables.{Defines}
+
+-- one row, since its key must be 1
+abbrev pub meta : Table
+meta = record (plain_table (codes "meta") (codes "id") (codes "version" ∷ codes "decided" ∷ [])) {
+  checks = op2 (Compare Eq Binary) (col 1 0) (lit (Int (pos 1))) ∷ [];
+}
+
+-- the branches, by number
+abbrev pub branch : Table
+branch = plain_table (codes "branch") (codes "bid") (codes "accounts" ∷ codes "balance" ∷ [])
+
+-- the tellers, by number
+abbrev pub teller : Table
+teller = plain_table (codes "teller") (codes "tid") (codes "balance" ∷ [])
+
+-- the accounts, by number
+abbrev pub account : Table
+account = plain_table (codes "account") (codes "aid") (codes "balance" ∷ [])
+
+-- the postings, by the ordinal of their request
+abbrev pub history : Table
+history = plain_table (codes "history") (codes "ordinal") (codes "aid" ∷ codes "tid" ∷ codes "bid" ∷ codes "delta" ∷ codes "moment" ∷ [])
+
+-- no two rows have the same teller and number
+abbrev pub request : Table
+request = record (plain_table (codes "request") (codes "ordinal")
+    (codes "tid" ∷ codes "number" ∷ codes "aid" ∷ codes "bid" ∷ codes "delta" ∷ codes "outcome" ∷ codes "balance" ∷ [])) {
+      uniques = (2 ∷ 3 ∷ []) ∷ [];
+      orders = plain ∷ [];
+    }
+
+-- the schema defines the six tables, whatever else it has
+pub record DefinesAll (schema : Schema) : Type 0 where
+  pub meta : Defines schema meta
+  pub branches : Defines schema branch
+  pub tellers : Defines schema teller
+  pub accounts : Defines schema account
+  -- the postings, by the ordinal of their request
+  pub history : Defines schema history
+  pub requests : Defines schema request

@@ -1,0 +1,62 @@
+-- The one view of a database as the tables of a bank.
+use Rattle.std.specs.Prelude.{pos, [], ◌∷◌, map}
+use Rattle.sqlite.specs.Schema.{Schema}
+use Rattle.sqlite.specs.Tree.{Trees}
+use Rattle.sqlite.specs.Effect.{Database, IsDatabase}
+use Rattle.message_records.specs.Outcomes.{code_of}
+use Rattle.posting_core.specs.Tables.{Tables}
+use Rattle.posting_core.specs.declared.rows.MetaRow.{MetaRow}
+use Rattle.posting_core.specs.declared.rows.BranchRow.{BranchRow}
+use Rattle.posting_core.specs.declared.rows.TellerRow.{TellerRow}
+use Rattle.posting_core.specs.declared.rows.AccountRow.{AccountRow}
+use Rattle.posting_core.specs.declared.rows.HistoryRow.{HistoryRow}
+use Rattle.posting_core.specs.declared.rows.RequestRow.{RequestRow}
+use Rattle.sql_meanings.specs.Entries.{Entry}
+use Rattle.sql_meanings.specs.Tables.{Holds}
+use Rattle.store_rows.specs.SixTables as six
+
+-- ---- how a file holds the rows: the key, and the other columns in their order
+
+-- a row of `meta`
+abbrev pub meta_entry : MetaRow → Entry
+meta_entry r = record { key = pos r.id; values = pos r.version ∷ pos r.decided ∷ [] }
+
+-- a row of `branch`
+abbrev pub branch_entry : BranchRow → Entry
+branch_entry r = record { key = pos r.branch; values = pos r.accounts ∷ r.balance ∷ [] }
+
+-- a row of `teller`
+abbrev pub teller_entry : TellerRow → Entry
+teller_entry r = record { key = pos r.teller; values = r.balance ∷ [] }
+
+-- a row of `account`
+abbrev pub account_entry : AccountRow → Entry
+account_entry r = record { key = pos r.account; values = r.balance ∷ [] }
+
+-- a row of `history`
+abbrev pub history_entry : HistoryRow → Entry
+history_entry r = record { key = pos r.ordinal; values = pos r.account ∷ pos r.teller ∷ pos r.branch ∷ r.delta ∷ pos r.moment ∷ [] }
+
+-- an outcome is held as its code
+abbrev pub request_entry : RequestRow → Entry
+request_entry r = record {
+  key = pos r.ordinal;
+  values = pos r.teller ∷ pos r.number ∷ pos r.kept.account ∷ pos r.kept.branch ∷ r.kept.delta ∷ pos
+      (code_of r.kept.outcome) ∷ r.kept.balance ∷ [];
+}
+
+-- ---- the view
+
+-- a sound database defines the six tables and holds these rows by rising keys, whatever else it has
+pub record Shows (db : Database) (t : Tables) : Type 0 where
+  pub sound : ∥ IsDatabase db ∥₁
+  pub meta : Holds db six.meta (map meta_entry t.meta)
+  pub branches : Holds db six.branch (map branch_entry t.branches)
+  pub tellers : Holds db six.teller (map teller_entry t.tellers)
+  pub accounts : Holds db six.account (map account_entry t.accounts)
+  pub history : Holds db six.history (map history_entry t.history)
+  pub requests : Holds db six.request (map request_entry t.requests)
+
+-- the same of bare trees, which tell their schema: this is what a stop may leave
+abbrev pub ShowsTrees : Trees → Tables → Type 0
+ShowsTrees trees t = (schema : Schema) × Shows (record { schema = schema; trees = trees }) t

@@ -1,0 +1,60 @@
+//! Stored numbers as the types that they stand for.
+ghost use Rattle.sqlite.specs.Order.{column};
+ghost use Rattle.store_rows.specs.Outcomes.{ReadsCents, ReadsOutcome, ReadsWhole};
+
+use crate::faults::TableFault;
+use message_records::{Cents, Outcome, Whole};
+use posting_core::Rule;
+use sqlite::Row;
+
+// The whole number in a column, or the rule that it breaks outside the range.
+pub(crate) fn whole_at<const LEAST: u64, const MOST: u64>(
+    row: &Row,
+    at: usize,
+    rule: Rule,
+) -> Result<Whole<LEAST, MOST>, TableFault>
+    ensures { ReadsWhole LEAST MOST rule (column row.now at) result }
+{
+    let value: i64 = row.get(at)?;
+    if value < 0 {
+        return Err(TableFault::Damaged(rule));
+    }
+    Whole::new(value as u64).ok_or(TableFault::Damaged(rule))
+}
+
+// The count in a column, or the rule that it breaks outside the range.
+pub(crate) fn count_at(row: &Row, at: usize, rule: Rule) -> Result<u32, TableFault>
+    ensures { ReadsWhole 0 4_294_967_295 rule (column row.now at) result }
+{
+    let value: i64 = row.get(at)?;
+    if value < 0 || value > 4_294_967_295 {
+        return Err(TableFault::Damaged(rule));
+    }
+    Ok(value as u32)
+}
+
+// The amount in a column, or the rule that it breaks outside the limits.
+pub(crate) fn cents_at(row: &Row, at: usize, rule: Rule) -> Result<Cents, TableFault>
+    ensures { ReadsCents rule (column row.now at) result }
+{
+    let value: i64 = row.get(at)?;
+    Cents::new(value).ok_or(TableFault::Damaged(rule))
+}
+
+// The outcome whose code is in a column.
+pub(crate) fn outcome_at(row: &Row, at: usize) -> Result<Outcome, TableFault>
+    ensures { ReadsOutcome (column row.now at) result }
+{
+    let value: i64 = row.get(at)?;
+    match value {
+        0 => Ok(Outcome::Posted),
+        11 => Ok(Outcome::NoTeller),
+        12 => Ok(Outcome::WrongBranch),
+        13 => Ok(Outcome::NoAccount),
+        14 => Ok(Outcome::OverLimit),
+        15 => Ok(Outcome::ReusedNumber),
+        16 => Ok(Outcome::Full),
+        90 => Ok(Outcome::Malformed),
+        _ => Err(TableFault::Damaged(Rule::Request)),
+    }
+}

@@ -1,0 +1,19 @@
+//! What the trees of a store show.
+ghost use Rattle.std.specs.Prelude.{◌≡◌, IsTrue};
+ghost use Rattle.sqlite.specs.Tree.{Trees};
+ghost use Rattle.sqlite.specs.Held.{state};
+ghost use Rattle.posting_core.specs.Tables.{Tables};
+ghost use Rattle.store_rows.specs.View.{Shows, ShowsTrees};
+
+use sqlite::{Alter, Connection};
+
+/// A connection shows what its trees show, and trees show one bank at most: so who opens what a stop left finds it.
+pub fn trees_law<S: Alter>(conn: &Connection<S>)
+    ensures leaves { (tables : Tables) → Shows (state S.Store conn.now).now tables
+        → ShowsTrees (state S.Store conn.now).now.trees tables }
+    ensures finds { IsTrue (state S.Store conn.now).is_open → (tables : Tables)
+        → ShowsTrees (state S.Store conn.now).now.trees tables → Shows (state S.Store conn.now).now tables }
+    ensures once { (trees : Trees) → (a b : Tables) → ShowsTrees trees a → ShowsTrees trees b → a ≡ b }
+{
+    let _schema = conn.schema();
+}

@@ -1,0 +1,32 @@
+//! The six tables of a bank in `sqlite`, one statement a function, whatever else the file holds.
+#![tactic(auto)]
+
+mod accounts;
+mod branches;
+mod columns;
+mod commits;
+mod creation;
+mod faults;
+mod history;
+mod laws;
+mod metas;
+mod probes;
+mod requests;
+mod tellers;
+
+pub use accounts::{account_balance, add_account, set_account_balance};
+pub use branches::{add_branch, find_branch, next_branch, set_branch_balance};
+pub use commits::commit;
+pub use creation::{VERSION, create, create_tables};
+pub use faults::TableFault;
+pub use history::add_history;
+pub use laws::trees_law;
+pub use metas::{StoredMeta, read_meta, set_decided};
+pub use probes::{
+    probe_accounts, probe_branches, probe_history, probe_meta, probe_requests, probe_tellers,
+};
+pub use requests::{add_request, find_request};
+pub use tellers::{add_teller, set_teller_balance, teller_balance};
+
+#[cfg(test)]
+mod tests;

@@ -1,0 +1,96 @@
+//! A probe for each table: a reading statement that names all its columns, told as accepted or refused.
+ghost use Rattle.std.specs.Prelude.{◌≡◌, false};
+ghost use Rattle.sqlite.specs.State.{HasCleanDisk, Survives};
+ghost use Rattle.sqlite.specs.Listing.{understood};
+ghost use Rattle.sqlite.specs.Held.{state};
+ghost use Rattle.sql_meanings.specs.Outcomes.{is_refusal as refuses_text, OnlyShows, TellsProbe, TellsUnderstood};
+ghost use Rattle.store_rows.specs.SixTables.{meta, branch, teller, account, history, request};
+
+use sqlite::{Alter, Connection, Error};
+
+// Whether the error says that a text isn't understood.
+fn is_refusal(e: &Error) -> bool
+    ensures { result ≡ refuses_text e.now }
+{
+    matches!(e, Error::SqlInputError(_))
+}
+
+// Whether the text is a statement under the schema.
+fn is_understood<S: Alter>(conn: &mut Connection<S>, text: &str) -> Result<bool, Error>
+    ensures told { HasCleanDisk (state S.Store conn.new) → OnlyShows text.now 0 (understood conn.old.schema text.now)
+        → TellsUnderstood (state S.Store conn.old) (state S.Store conn.new) text.now result }
+    ensures mode { conn.old.in_transaction ≡ false → conn.new.in_transaction ≡ false }
+    ensures survives { Survives (state S.Store conn.old) (state S.Store conn.new) (λ _. ⊥) }
+{
+    match conn.prepare(text) {
+        Ok(_) => Ok(true),
+        Err(e) if is_refusal(&e) => Ok(false),
+        Err(e) => Err(e),
+    }
+}
+
+/// Whether the table of the bank can be read; every other error is told.
+pub fn probe_meta<S: Alter>(conn: &mut Connection<S>) -> Result<bool, Error>
+    ensures told { HasCleanDisk (state S.Store conn.new)
+        → TellsProbe (state S.Store conn.old) (state S.Store conn.new) meta result }
+    ensures mode { conn.old.in_transaction ≡ false → conn.new.in_transaction ≡ false }
+    ensures survives { Survives (state S.Store conn.old) (state S.Store conn.new) (λ _. ⊥) }
+{
+    is_understood(conn, "SELECT id, version, decided FROM meta")
+}
+
+/// Whether the table of branches can be read; every other error is told.
+pub fn probe_branches<S: Alter>(conn: &mut Connection<S>) -> Result<bool, Error>
+    ensures told { HasCleanDisk (state S.Store conn.new)
+        → TellsProbe (state S.Store conn.old) (state S.Store conn.new) branch result }
+    ensures mode { conn.old.in_transaction ≡ false → conn.new.in_transaction ≡ false }
+    ensures survives { Survives (state S.Store conn.old) (state S.Store conn.new) (λ _. ⊥) }
+{
+    is_understood(conn, "SELECT bid, accounts, balance FROM branch")
+}
+
+/// Whether the table of tellers can be read; every other error is told.
+pub fn probe_tellers<S: Alter>(conn: &mut Connection<S>) -> Result<bool, Error>
+    ensures told { HasCleanDisk (state S.Store conn.new)
+        → TellsProbe (state S.Store conn.old) (state S.Store conn.new) teller result }
+    ensures mode { conn.old.in_transaction ≡ false → conn.new.in_transaction ≡ false }
+    ensures survives { Survives (state S.Store conn.old) (state S.Store conn.new) (λ _. ⊥) }
+{
+    is_understood(conn, "SELECT tid, balance FROM teller")
+}
+
+/// Whether the table of accounts can be read; every other error is told.
+pub fn probe_accounts<S: Alter>(conn: &mut Connection<S>) -> Result<bool, Error>
+    ensures told { HasCleanDisk (state S.Store conn.new)
+        → TellsProbe (state S.Store conn.old) (state S.Store conn.new) account result }
+    ensures mode { conn.old.in_transaction ≡ false → conn.new.in_transaction ≡ false }
+    ensures survives { Survives (state S.Store conn.old) (state S.Store conn.new) (λ _. ⊥) }
+{
+    is_understood(conn, "SELECT aid, balance FROM account")
+}
+
+/// Whether the table of postings can be read; every other error is told.
+pub fn probe_history<S: Alter>(conn: &mut Connection<S>) -> Result<bool, Error>
+    ensures told { HasCleanDisk (state S.Store conn.new)
+        → TellsProbe (state S.Store conn.old) (state S.Store conn.new) history result }
+    ensures mode { conn.old.in_transaction ≡ false → conn.new.in_transaction ≡ false }
+    ensures survives { Survives (state S.Store conn.old) (state S.Store conn.new) (λ _. ⊥) }
+{
+    is_understood(
+        conn,
+        "SELECT ordinal, aid, tid, bid, delta, moment FROM history",
+    )
+}
+
+/// Whether the table of decided requests can be read; every other error is told.
+pub fn probe_requests<S: Alter>(conn: &mut Connection<S>) -> Result<bool, Error>
+    ensures told { HasCleanDisk (state S.Store conn.new)
+        → TellsProbe (state S.Store conn.old) (state S.Store conn.new) request result }
+    ensures mode { conn.old.in_transaction ≡ false → conn.new.in_transaction ≡ false }
+    ensures survives { Survives (state S.Store conn.old) (state S.Store conn.new) (λ _. ⊥) }
+{
+    is_understood(
+        conn,
+        "SELECT ordinal, tid, number, aid, bid, delta, outcome, balance FROM request",
+    )
+}
