@@ -12,7 +12,7 @@ for crate in message_records posting_core sql_meanings store_rows; do
         cp -r "$here/crates/$crate/$part" "$work/crates/$crate/$part"
     done
 done
-cp "$here/tools/write_tables/main.rt" "$work/crates/write_tables/src/main.rt"
+cp "$here/tools/write_tables.rt.in" "$work/crates/write_tables/src/main.rt"
 grep -E '^(message_records|posting_core|sql_meanings|store_rows):' "$here/crates.txt" >"$work/crates.txt"
 echo "write_tables: message_records posting_core store_rows sqlite" >>"$work/crates.txt"
 git -C "$work" init -q
