@@ -1,15 +1,17 @@
 //! What was written is made to last.
-ghost use Rattle.std.specs.Prelude.{◌≡◌, OnOk, OnErr, false};
+ghost use Rattle.std.specs.Prelude.{◌≡◌, IfErr, OnOk, OnErr, false};
 ghost use Rattle.sqlite.specs.Tree.{Trees};
 ghost use Rattle.sqlite.specs.State.{HasCleanDisk, Survives};
 ghost use Rattle.sqlite.specs.Held.{state};
+ghost use Rattle.sqlite.specs.Steps.{FailsToCommit};
 ghost use Rattle.posting_core.specs.Tables.{Tables};
 ghost use Rattle.sql_meanings.specs.Outcomes.{WriteFails};
 ghost use Rattle.store_rows.specs.View.{Shows, ShowsTrees};
 
 use sqlite::{Alter, Error, Transaction};
 
-/// Commits a transaction. Alone among these calls it adds to what a stop may leave, also where it fails.
+/// Commits a transaction. Alone among these calls it adds to what a stop may leave, also where it fails. It fails where
+/// the store does, or where an earlier failure has ended the transaction.
 pub fn commit<S: Alter>(tx: Transaction<'_, S>) -> Result<(), Error>
     ensures ended { tx.exit.0.now.in_transaction ≡ false }
     ensures ok { HasCleanDisk (state S.Store tx.exit.0.now) → (tables : Tables)
@@ -20,6 +22,7 @@ pub fn commit<S: Alter>(tx: Transaction<'_, S>) -> Result<(), Error>
         → OnOk result ((left : Trees) → (state S.Store tx.exit.0.now).may_leave left → ShowsTrees left tables) }
     ensures err { HasCleanDisk (state S.Store tx.exit.0.now)
         → OnErr result (WriteFails (state S.Store tx.entry.conn.now) (state S.Store tx.exit.0.now)) }
+    ensures cause { HasCleanDisk (state S.Store tx.exit.0.now) → IfErr result (FailsToCommit (state S.Store tx.entry.conn.now) (state S.Store tx.exit.0.now)) }
     ensures survives { Survives (state S.Store tx.entry.conn.now) (state S.Store tx.exit.0.now) (λ left. (tables : Tables)
         → Shows (state S.Store tx.entry.conn.now).now tables → ShowsTrees left tables) }
 {
