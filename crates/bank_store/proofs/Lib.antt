@@ -1,0 +1,8 @@
+-- What the proofs of the calls share.
+pub mod Adding
+pub mod Moved
+pub mod RowChanges
+pub mod SoundRows
+pub mod Stepping
+pub mod Told
+pub mod Transacted

@@ -1,0 +1,144 @@
+-- The rows of undamaged tables are sound: nothing that is read of them is told to be damaged.
+use Rattle.std.proofs.Common.{◌≡◌, ◌⊎◌, ℕ, suc, ◌≤◌, Bool, true, false, leb, List, [], ◌∷◌, Option, Some, None, refl, sym, subst, arith, inl, inr}
+use Rattle.std.specs.Prelude.{ℤ, nat_abs, nat_eq, is_some, ◌&&◌}
+use Rattle.std.specs.List.{find, Contains}
+use Rattle.std.proofs.lemmas.Bool.{eqb-true}
+use Rattle.std.proofs.lemmas.Bool.Decides.{nat_tests}
+use Rattle.message_records.specs.Ranges.{whole_within, cents_within}
+use Rattle.message_records.specs.Records.{request_from}
+use Rattle.posting_core.specs.declared.rows.BranchRow.{BranchRow}
+use Rattle.posting_core.specs.declared.rows.RequestRow.{RequestRow}
+use Rattle.posting_core.specs.declared.rows.TellerRow.{TellerRow}
+use Rattle.posting_core.specs.declared.rows.AccountRow.{AccountRow}
+use Rattle.posting_core.specs.declared.fault.Rule.{Rule}
+use Rattle.posting_core.specs.Damage.{IsUndamaged, IsSoundBranch, IsSoundTeller, IsSoundAccount, IsSoundRequest}
+use Rattle.posting_core.specs.Tables.{Tables, row_at, branch_key, teller_key, account_key}
+use Rattle.posting_core.proofs.Keyed.{by_test, found_passes}
+use Rattle.store_rows.specs.Columns.{teller_balance_in, account_balance_in, request_in}
+use Rattle.store_rows.specs.Outcomes.{IsNoBalance, IsNoBranch, IsNoRequest, CanBeKept}
+
+-- there is a value or there is none
+pub by_option : {X : Type 0} (o : Option X) → (o ≡ None) ⊎ ((x : X) × (o ≡ Some x))
+by_option None = inl refl
+by_option (Some x) = inr (x, refl)
+
+-- ---- rows that are found
+
+-- what a test finds is one of the rows
+pub found_within : {X : Type 0} (test : X → Bool) (xs : List X) (x : X) → find test xs ≡ Some x → Contains xs x
+found_within test [] x e = absurd cc
+found_within test (y ∷ ys) x e =
+    elim (by_test (test y)) [
+      | inl t ↦ let is : y ≡ x = (let g = rw t at e in cc) in (0, omega arith, is)
+      | inr f ↦
+          let rest = found_within test ys x (let g = rw f at e in g) in
+          let lt = rest.1 in
+          (suc rest.0, omega arith, rest.2)
+    ]
+
+key_of_found : {R : Type 0} (key : R → ℕ) (rows : List R) (n : ℕ) (r : R) → row_at key rows n ≡ Some r → key r ≡ n
+key_of_found key rows n r e = eqb-true (key r) n (found_passes (λ x. nat_eq (key x) n) rows r e)
+
+-- ---- numbers and amounts in their ranges
+
+within_range : (least most n : ℕ) → least ≤ n → n ≤ most → whole_within least most n ≡ Some n
+within_range least most n low high = let test : (leb least n && leb n most) ≡ true = grind (arith, nat_tests) in rw test refl
+
+pub not_outside : (least most n : ℕ) → least ≤ n → n ≤ most → whole_within least most n ≡ None → ⊥
+not_outside least most n low high e = let within = within_range least most n low high in cc
+
+pub cents_inside : (limit : ℕ) (z : ℤ) → nat_abs z ≤ limit → cents_within limit z ≡ Some z
+cents_inside limit z le = let test : leb (nat_abs z) limit ≡ true = grind (arith, nat_tests) in rw test refl
+
+pub not_beyond : (limit : ℕ) (z : ℤ) → nat_abs z ≤ limit → cents_within limit z ≡ None → ⊥
+not_beyond limit z le e = let inside = cents_inside limit z le in cc
+
+-- ---- branches
+
+pub branch_is : (t : Tables) (n : ℕ) (r : BranchRow) → IsUndamaged t → row_at branch_key t.branches n ≡ Some r → (r.branch ≡ n) × IsSoundBranch r
+branch_is t n r sound e =
+    (key_of_found branch_key t.branches n r e, sound.each_branch r (found_within (λ x. nat_eq x.branch n) t.branches r e))
+
+-- no branch has a number outside those of branches
+pub no_branch_beyond : (t : Tables) (n : ℕ) → IsUndamaged t → whole_within 1 999_999 n ≡ None → None ≡ row_at branch_key t.branches n
+no_branch_beyond t n sound e =
+    elim (by_option (row_at branch_key t.branches n)) [
+      | inl none ↦ sym none
+      | inr some ↦ absurd (let is = branch_is t n some.0 sound some.1 in
+          let same = is.0 in
+          let low = is.1.some in
+          let high = is.1.most in
+          not_outside 1 999_999 n (rw (← same) low) (let le : some.0.branch ≤ 999_999 = omega arith in rw (← same) le) e)
+    ]
+
+pub branch_unbroken : (t : Tables) (n : ℕ) (r : BranchRow) (broken : Rule) → IsUndamaged t → row_at branch_key t.branches n ≡ Some r → IsNoBranch r broken → ⊥
+branch_unbroken t n r broken sound e breaks =
+    let is = (branch_is t n r sound e).1 in
+    let low = is.some in
+    let high = is.most in
+    let many = is.many in
+    elim breaks [
+      | inl value ↦ elim value.1 [
+        | inl number ↦ not_outside 1 999_999 r.branch low (omega arith) number
+        | inr count ↦ not_outside 0 4_294_967_295 r.accounts (omega arith) (omega arith) count
+      ]
+      | inr amount ↦ not_beyond 999_999_999_999 r.balance is.balance amount.1
+    ]
+
+-- ---- balances
+
+teller_sound : (t : Tables) (n : ℕ) (r : TellerRow) → IsUndamaged t → row_at teller_key t.tellers n ≡ Some r → IsSoundTeller r
+teller_sound t n r sound e = sound.each_teller r (found_within (λ x. nat_eq x.teller n) t.tellers r e)
+
+pub teller_unbroken : (t : Tables) (n : ℕ) (z : ℤ) (broken : Rule) → IsUndamaged t → teller_balance_in t n ≡ Some z → IsNoBalance z broken → ⊥
+teller_unbroken t n z broken sound e breaks =
+    elim (by_option (row_at teller_key t.tellers n)) [
+      | inl none ↦ let h = rw none at e in cc
+      | inr some ↦
+          let is : some.0.balance ≡ z = (let h = rw some.1 at e in cc) in
+          not_beyond 999_999_999_999 z (subst (λ b. nat_abs b ≤ 999_999_999_999) is (teller_sound t n some.0 sound some.1).balance) breaks.1
+    ]
+
+account_sound : (t : Tables) (n : ℕ) (r : AccountRow) → IsUndamaged t → row_at account_key t.accounts n ≡ Some r → IsSoundAccount r
+account_sound t n r sound e = sound.each_account r (found_within (λ x. nat_eq x.account n) t.accounts r e)
+
+pub account_unbroken : (t : Tables) (n : ℕ) (z : ℤ) (broken : Rule) → IsUndamaged t → account_balance_in t n ≡ Some z → IsNoBalance z broken → ⊥
+account_unbroken t n z broken sound e breaks =
+    elim (by_option (row_at account_key t.accounts n)) [
+      | inl none ↦ let h = rw none at e in cc
+      | inr some ↦
+          let is : some.0.balance ≡ z = (let h = rw some.1 at e in cc) in
+          not_beyond 999_999_999_999 z (subst (λ b. nat_abs b ≤ 999_999_999_999) is (account_sound t n some.0 sound some.1).balance) breaks.1
+    ]
+
+-- ---- kept requests
+
+pub request_is : (t : Tables) (teller number : ℕ) (r : RequestRow) → IsUndamaged t → request_in t teller number ≡ Some r → IsSoundRequest r
+request_is t teller number r sound e = sound.each_request r (found_within _ t.requests r e)
+
+can_be_kept : (r : RequestRow) → IsSoundRequest r → CanBeKept r.kept
+can_be_kept r is = record {
+  account = within_range 1 999_999_999_999 r.kept.account is.account_above is.account;
+  branch = within_range 1 999_999 r.kept.branch is.branch_above is.branch;
+  delta = cents_inside 999_999_999_999 r.kept.delta (let le = is.delta in omega arith);
+  balance = cents_inside 999_999_999_999 r.kept.balance is.balance;
+  outcome = is.kept;
+}
+
+pub request_unbroken : (t : Tables) (teller number : ℕ) (r : RequestRow) (broken : Rule) → IsUndamaged t → request_in t teller number ≡ Some r → IsNoRequest r broken → ⊥
+request_unbroken t teller number r broken sound e breaks =
+    let is = request_is t teller number r sound e in
+    elim breaks [
+      | inl value ↦ not_outside 1 1_000_000_000_000 r.ordinal is.ordinal_above is.ordinal value.1
+      | inr request ↦ elim request.1 [
+        | inl who ↦ not_outside 1 99_999_999 r.teller is.teller_above is.teller who
+        | inr rest ↦ elim rest [
+          | inl which ↦ not_outside 1 9_999_999_999 r.number is.number_above is.number which
+          | inr kept ↦ kept (can_be_kept r is)
+        ]
+      ]
+    ]
+
+-- the fields of a kept request are those of a request
+pub is_a_request : (a t b n : ℕ) (z : ℤ) → nat_abs z ≤ 9_999_999_999 → is_some (request_from a t b n z) ≡ false → ⊥
+is_a_request a t b n z le e = let test : leb (nat_abs z) 9_999_999_999 ≡ true = grind (arith, nat_tests) in let h = rw test at e in cc

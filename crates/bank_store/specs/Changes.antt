@@ -1,0 +1,73 @@
+-- The tables as the statements of one call leave them.
+use Rattle.std.specs.Prelude.{◌≡◌, ℕ, zero, suc, ◌+◌, ℤ, pos, List, Option, Some, None, IsSome}
+use Rattle.message_records.specs.Spelling.{reply_spelling}
+use Rattle.message_records.specs.Records.{RequestFields}
+use Rattle.posting_core.specs.declared.rows.BranchRow.{BranchRow}
+use Rattle.posting_core.specs.declared.facts.Verdict.{Verdict}
+use Rattle.posting_core.specs.declared.facts.Verdict.TheVariants.{Unkept, Again, Refused, Posted}
+use Rattle.posting_core.specs.Commands.{branch_of_teller}
+use Rattle.posting_core.specs.Entries.{Entry, refused_entry, posted_entry}
+use Rattle.posting_core.specs.Cases.{case_of, reply_in}
+use Rattle.posting_core.specs.LookUps.{decided_in, found_in}
+use Rattle.posting_core.specs.Tables.{Tables, row_at, branch_key, teller_key, account_key, branch_row_of, teller_row_of, account_row_of, request_row_of, history_row_of}
+use Rattle.posting_core.specs.Steps.{first_teller, first_account}
+use Rattle.store_rows.specs.Changes.{with_decided, with_request, with_history, with_branch, with_teller, with_account, with_branch_balance, with_teller_balance, with_account_balance}
+
+-- a decided request is kept under its ordinal, and counted
+abbrev pub tables_kept : Tables → ℕ → Entry → Tables
+tables_kept t ordinal e = with_decided ordinal (with_request (request_row_of ordinal e) t)
+
+-- the three balances of a posting are written, and its row of history (TPC-B 1.2)
+abbrev pub tables_moved : Tables → ℕ → Entry → ℤ → ℤ → Tables
+tables_moved t ordinal e teller branch =
+    with_history (history_row_of ordinal e)
+    (with_branch_balance (branch_of_teller e.request.teller) branch
+    (with_teller_balance e.request.teller teller (with_account_balance e.request.account e.balance t)))
+
+-- both
+abbrev pub tables_posted : Tables → ℕ → Entry → ℤ → ℤ → Tables
+tables_posted t ordinal e teller branch = tables_kept (tables_moved t ordinal e teller branch) ordinal e
+
+-- what a verdict on a request leaves
+abbrev pub tables_after : Tables → ℕ → RequestFields → Verdict → Tables
+tables_after t moment r (Unkept outcome) = t
+tables_after t moment r (Again reply) = t
+tables_after t moment r (Refused outcome) = tables_kept t (decided_in t.meta + 1) (refused_entry moment r outcome)
+tables_after t moment r (Posted account teller branch) = tables_posted t (decided_in t.meta + 1) (posted_entry moment r account) teller branch
+
+-- what a request leaves
+abbrev pub tables_with : Tables → ℕ → RequestFields → Tables
+tables_with t moment r = tables_after t moment r (case_of (found_in t r) r)
+
+-- the bytes of the reply to a request
+abbrev pub reply_bytes : Tables → RequestFields → List ℕ
+reply_bytes t r = reply_spelling (reply_in (case_of (found_in t r) r) r)
+
+-- the rows that a posting changes are there
+pub record HasRowsOf (t : Tables) (r : RequestFields) : Type 0 where
+  pub account : IsSome (row_at account_key t.accounts r.account)
+  pub teller : IsSome (row_at teller_key t.tellers r.teller)
+  pub branch : IsSome (row_at branch_key t.branches r.branch)
+  pub its_branch : r.branch ≡ branch_of_teller r.teller
+
+-- so many tellers more, with nothing on them
+abbrev pub with_tellers : ℕ → ℕ → Tables → Tables
+with_tellers first zero t = t
+with_tellers first (suc count) t = with_teller (teller_row_of (first + count) (pos 0)) (with_tellers first count t)
+
+-- so many accounts more, with nothing on them
+abbrev pub with_accounts : ℕ → ℕ → Tables → Tables
+with_accounts first zero t = t
+with_accounts first (suc count) t = with_account (account_row_of (first + count) (pos 0)) (with_accounts first count t)
+
+-- a branch more, with its ten tellers and its accounts
+abbrev pub tables_opened : Tables → ℕ → ℕ → Tables
+tables_opened t b count = with_accounts (first_account b) count (with_tellers (first_teller b) 10 (with_branch (branch_row_of b (pos 0) count) t))
+
+-- what an opening leaves, by the row that is there
+abbrev pub opened_where : Option BranchRow → Tables → ℕ → ℕ → Tables
+opened_where None t b count = tables_opened t b count
+opened_where (Some row) t b count = t
+
+abbrev pub tables_with_branch : Tables → ℕ → ℕ → Tables
+tables_with_branch t b count = opened_where (row_at branch_key t.branches b) t b count

@@ -1,0 +1,12 @@
+-- Tables in which every call finds what it looks for.
+use Rattle.posting_core.specs.Damage.{IsUndamaged}
+use Rattle.posting_core.specs.Tables.{Tables, HasKeys, branch_key, teller_key, account_key, history_key, request_key}
+
+-- nothing is damaged, and no two rows of a table have one key
+pub record AreSound (t : Tables) : Type 0 where
+  pub undamaged : IsUndamaged t
+  pub branches : HasKeys branch_key t.branches
+  pub tellers : HasKeys teller_key t.tellers
+  pub accounts : HasKeys account_key t.accounts
+  pub history : HasKeys history_key t.history
+  pub requests : HasKeys request_key t.requests

@@ -1,0 +1,8 @@
+//! A bank in a SQLite file: each request and each opening is one transaction.
+#![tactic(auto)]
+
+mod applying;
+mod look_ups;
+mod opening;
+mod posting;
+mod transactions;

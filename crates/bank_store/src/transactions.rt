@@ -1,0 +1,84 @@
+//! Each call is one transaction. A commit writes nothing where nothing was changed.
+ghost use Rattle.std.specs.Prelude.{◌≡◌, ◌≤◌, false};
+ghost use Rattle.sqlite.specs.State.{HasCleanDisk, Survives};
+ghost use Rattle.sqlite.specs.Held.{state};
+ghost use Rattle.posting_core.specs.Counter.{opening_for};
+ghost use Rattle.posting_core.specs.LookUps.{account_balance_in, count_in};
+ghost use Rattle.posting_core.specs.Tables.{Tables};
+ghost use Rattle.store_rows.specs.View.{Shows, ShowsTrees};
+ghost use Rattle.bank_store.specs.Changes.{reply_bytes, tables_with, tables_with_branch};
+ghost use Rattle.bank_store.specs.Doing.{Completes, Undoes};
+ghost use Rattle.bank_store.specs.Sound.{AreSound};
+
+use crate::look_ups::open_balance;
+use crate::opening::open_inside;
+use crate::posting::answer;
+use message_records::{Account, Branch, Cents, Moment, Request};
+use posting_core::Opening;
+use sqlite::{Alter, Connection};
+use store_rows::{TableFault, commit};
+
+/// Answers a request.
+pub(crate) fn post<S: Alter>(
+    conn: &mut Connection<S>,
+    moment: Moment,
+    request: &Request,
+) -> Result<[u8; 200], TableFault>
+    requires { conn.old.in_transaction ≡ false }
+    ensures told { HasCleanDisk (state S.Store conn.new) → (tables : Tables)
+        → Shows (state S.Store conn.old).now tables → AreSound tables
+        → Completes (state S.Store conn.new) (tables_with tables moment request.now) (reply_bytes tables request.now) result }
+    ensures undone { HasCleanDisk (state S.Store conn.new) → Undoes (state S.Store conn.old) (state S.Store conn.new) result }
+    ensures stop { Survives (state S.Store conn.old) (state S.Store conn.new) (λ left. (tables : Tables)
+        → Shows (state S.Store conn.old).now tables → AreSound tables → ShowsTrees left (tables_with tables moment request.now)) }
+    ensures mode { conn.new.in_transaction ≡ false }
+{
+    let mut tx = conn.transaction();
+    let reply = answer(&mut tx, moment, request)?;
+    commit(tx)?;
+    Ok(reply)
+}
+
+/// Opens a branch, unless it is open.
+pub(crate) fn open_branch<S: Alter>(
+    conn: &mut Connection<S>,
+    branch: Branch,
+    count: u32,
+) -> Result<Opening, TableFault>
+    requires mode { conn.old.in_transaction ≡ false }
+    requires branch { branch ≤ 9999 }
+    requires few { count ≤ 100_000 }
+    ensures told { HasCleanDisk (state S.Store conn.new) → (tables : Tables)
+        → Shows (state S.Store conn.old).now tables → AreSound tables
+        → Completes (state S.Store conn.new) (tables_with_branch tables branch count)
+        (opening_for (count_in tables branch) count) result }
+    ensures undone { HasCleanDisk (state S.Store conn.new) → Undoes (state S.Store conn.old) (state S.Store conn.new) result }
+    ensures stop { Survives (state S.Store conn.old) (state S.Store conn.new) (λ left. (tables : Tables)
+        → Shows (state S.Store conn.old).now tables → AreSound tables → ShowsTrees left (tables_with_branch tables branch count)) }
+    ensures mode { conn.new.in_transaction ≡ false }
+{
+    let mut tx = conn.transaction();
+    let opening = open_inside(&mut tx, branch, count)?;
+    commit(tx)?;
+    Ok(opening)
+}
+
+/// Looks up the balance of an account, none where it isn't open.
+pub(crate) fn read_balance<S: Alter>(
+    conn: &mut Connection<S>,
+    account: Account,
+) -> Result<Option<Cents>, TableFault>
+    requires { conn.old.in_transaction ≡ false }
+    ensures told { HasCleanDisk (state S.Store conn.new) → (tables : Tables)
+        → Shows (state S.Store conn.old).now tables → AreSound tables
+        → Completes (state S.Store conn.new) tables (account_balance_in tables account) result }
+    ensures undone { HasCleanDisk (state S.Store conn.new) → Undoes (state S.Store conn.old) (state S.Store conn.new) result }
+    ensures stop { Survives (state S.Store conn.old) (state S.Store conn.new) (λ left. (tables : Tables)
+        → Shows (state S.Store conn.old).now tables → AreSound tables → ShowsTrees left tables) }
+    ensures mode { conn.new.in_transaction ≡ false }
+{
+    let mut tx = conn.transaction();
+    let balance = open_balance(&mut tx, account)?;
+    commit(tx)?;
+    Ok(balance)
+}
