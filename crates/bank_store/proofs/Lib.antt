@@ -1,5 +1,7 @@
 -- What the proofs of the calls share.
 pub mod Adding
+pub mod Calls
+pub mod Countered
 pub mod Moved
 pub mod RowChanges
 pub mod SoundRows

@@ -51,5 +51,5 @@ Completes new after wanted (Err (Damaged rule)) = ⊥
 
 -- what was met is told to be damaged: as long as the store is open, everything is as it was
 abbrev pub Undoes : {X : Type 0} → State → State → Result X TableFault → Type 0
-Undoes old new (Err (Damaged rule)) = IsTrue new.is_open → IsTrue old.is_open × (new.now ≡ old.committed)
+Undoes old new (Err (Damaged rule)) = IsTrue new.is_open → IsTrue old.is_open × (new.now ≡ old.now)
 Undoes old new _ = ⊤

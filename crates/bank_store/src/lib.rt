@@ -2,7 +2,10 @@
 #![tactic(auto)]
 
 mod applying;
+mod bank;
 mod look_ups;
 mod opening;
 mod posting;
 mod transactions;
+
+pub use bank::Bank;

@@ -1,5 +1,5 @@
 //! Each call is one transaction. A commit writes nothing where nothing was changed.
-ghost use Rattle.std.specs.Prelude.{◌≡◌, ◌≤◌, false};
+ghost use Rattle.std.specs.Prelude.{◌≡◌, ◌≤◌, IsTrue, true, false};
 ghost use Rattle.sqlite.specs.State.{HasCleanDisk, Survives};
 ghost use Rattle.sqlite.specs.Held.{state};
 ghost use Rattle.posting_core.specs.Counter.{opening_for};
@@ -15,8 +15,19 @@ use crate::opening::open_inside;
 use crate::posting::answer;
 use message_records::{Account, Branch, Cents, Moment, Request};
 use posting_core::Opening;
-use sqlite::{Alter, Connection};
+use sqlite::{Alter, Connection, Transaction};
 use store_rows::{TableFault, commit};
+
+// Begins a transaction on what the last commit left.
+fn begin<S: Alter>(conn: &mut Connection<S>) -> Transaction<'_, S>
+    requires { conn.old.in_transaction ≡ false }
+    ensures same_reference { result.conn.ghost_name ≡ conn.entry.ghost_name }
+    ensures begun { result.conn.now ≡ record conn.old { in_transaction = true } }
+    ensures settled { IsTrue (state S.Store conn.old).is_open → (state S.Store conn.old).now ≡ (state S.Store conn.old).committed }
+{
+    let _outside = conn.is_autocommit();
+    conn.transaction()
+}
 
 /// Answers a request.
 pub(crate) fn post<S: Alter>(
@@ -33,7 +44,7 @@ pub(crate) fn post<S: Alter>(
         → Shows (state S.Store conn.old).now tables → AreSound tables → ShowsTrees left (tables_with tables moment request.now)) }
     ensures mode { conn.new.in_transaction ≡ false }
 {
-    let mut tx = conn.transaction();
+    let mut tx = begin(conn);
     let reply = answer(&mut tx, moment, request)?;
     commit(tx)?;
     Ok(reply)
@@ -57,7 +68,7 @@ pub(crate) fn open_branch<S: Alter>(
         → Shows (state S.Store conn.old).now tables → AreSound tables → ShowsTrees left (tables_with_branch tables branch count)) }
     ensures mode { conn.new.in_transaction ≡ false }
 {
-    let mut tx = conn.transaction();
+    let mut tx = begin(conn);
     let opening = open_inside(&mut tx, branch, count)?;
     commit(tx)?;
     Ok(opening)
@@ -77,7 +88,7 @@ pub(crate) fn read_balance<S: Alter>(
         → Shows (state S.Store conn.old).now tables → AreSound tables → ShowsTrees left tables) }
     ensures mode { conn.new.in_transaction ≡ false }
 {
-    let mut tx = conn.transaction();
+    let mut tx = begin(conn);
     let balance = open_balance(&mut tx, account)?;
     commit(tx)?;
     Ok(balance)

@@ -13,7 +13,7 @@ returns-in_err-commit-clause-stop g c =
     let old = c.args.conn.now in
     let after : Tables → Tables = λ t. tables_with_branch t c.args.branch c.args.count in
     subst (λ h. Survives (state g.S.Store old) (state g.S.Store h) (Leaves (state g.S.Store old) after)) same
-    (committed_left g.S.Store old c.transaction-tx.result.conn.now c.open_inside.new.tx.conn.now c.commit.new.tx.0 after c.transaction-tx.ensures.begun
+    (committed_left g.S.Store old c.begin-tx.result.conn.now c.open_inside.new.tx.conn.now c.commit.new.tx.0 after c.begin-tx.ensures.begun
     (λ clean live t shows sound. (c.in_ok-opening.ensures.told clean live t shows sound).1)
     c.open_inside.ensures.survives c.commit.ensures.survives)
 
@@ -23,6 +23,6 @@ returns-clause-stop g c =
     let old = c.args.conn.now in
     let after : Tables → Tables = λ t. tables_with_branch t c.args.branch c.args.count in
     subst (λ h. Survives (state g.S.Store old) (state g.S.Store h) (Leaves (state g.S.Store old) after)) same
-    (committed_left g.S.Store old c.transaction-tx.result.conn.now c.open_inside.new.tx.conn.now c.commit.new.tx.0 after c.transaction-tx.ensures.begun
+    (committed_left g.S.Store old c.begin-tx.result.conn.now c.open_inside.new.tx.conn.now c.commit.new.tx.0 after c.begin-tx.ensures.begun
     (λ clean live t shows sound. (c.in_ok-opening.ensures.told clean live t shows sound).1)
     c.open_inside.ensures.survives c.commit.ensures.survives)

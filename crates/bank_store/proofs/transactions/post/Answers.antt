@@ -13,7 +13,7 @@ returns-in_err-commit-clause-stop g c =
     let old = c.args.conn.now in
     let after : Tables → Tables = λ t. tables_with t c.args.moment c.args.request.now in
     subst (λ h. Survives (state g.S.Store old) (state g.S.Store h) (Leaves (state g.S.Store old) after)) same
-    (committed_left g.S.Store old c.transaction-tx.result.conn.now c.answer.new.tx.conn.now c.commit.new.tx.0 after c.transaction-tx.ensures.begun
+    (committed_left g.S.Store old c.begin-tx.result.conn.now c.answer.new.tx.conn.now c.commit.new.tx.0 after c.begin-tx.ensures.begun
     (λ clean live t shows sound. (c.in_ok-reply.ensures.told clean live t shows sound).1)
     c.answer.ensures.survives c.commit.ensures.survives)
 
@@ -23,6 +23,6 @@ returns-clause-stop g c =
     let old = c.args.conn.now in
     let after : Tables → Tables = λ t. tables_with t c.args.moment c.args.request.now in
     subst (λ h. Survives (state g.S.Store old) (state g.S.Store h) (Leaves (state g.S.Store old) after)) same
-    (committed_left g.S.Store old c.transaction-tx.result.conn.now c.answer.new.tx.conn.now c.commit.new.tx.0 after c.transaction-tx.ensures.begun
+    (committed_left g.S.Store old c.begin-tx.result.conn.now c.answer.new.tx.conn.now c.commit.new.tx.0 after c.begin-tx.ensures.begun
     (λ clean live t shows sound. (c.in_ok-reply.ensures.told clean live t shows sound).1)
     c.answer.ensures.survives c.commit.ensures.survives)

@@ -1,0 +1,57 @@
+-- What a request, an opening and a look-up do to the tables is what the commands lead to.
+use Rattle.std.proofs.Common.{◌≡◌, ℕ, ◌+◌, ◌≤◌, List, [], ◌∷◌, length, Option, Some, None, Ok, refl, sym, ap, subst, ◌∙◌}
+use Rattle.std.specs.Option.{option_map}
+use Rattle.message_records.specs.Records.{RequestFields}
+use Rattle.message_records.specs.Reading.{request_of}
+use Rattle.message_records.specs.Spelling.{reply_spelling}
+use Rattle.posting_core.specs.declared.counter.Opening.{Opening}
+use Rattle.posting_core.specs.declared.rows.BranchRow.{BranchRow}
+use Rattle.posting_core.specs.Commands.{Command, Open, Post, AreCommands, opened}
+use Rattle.posting_core.specs.Cases.{case_of}
+use Rattle.posting_core.specs.Counter.{opening_for, opening_behind}
+use Rattle.posting_core.specs.Entries.{decided, reply}
+use Rattle.posting_core.specs.LookUps.{found_in, decided_in, count_in, count_of_branch}
+use Rattle.posting_core.specs.Steps.{IsStep}
+use Rattle.posting_core.specs.Tables.{Tables, row_at, branch_key}
+use Rattle.posting_core.specs.Tables.{Shows as Show}
+use Rattle.posting_core.proofs.Looked.{count_shown, decided_shown}
+use Rattle.posting_core.proofs.Opened.{opening_shown, already_open_shown}
+use Rattle.posting_core.proofs.Stepped.{post_shown, reply_shown}
+use Rattle.bank_store.specs.Changes.{tables_with, reply_bytes, opened_where, tables_with_branch}
+use Rattle.bank_store.specs.Sound.{AreSound}
+use Rattle.bank_store.proofs.Countered.{IsChange}
+use Rattle.bank_store.proofs.Stepping.{sound_tables, step_is, opens_is}
+
+-- ---- a request
+
+pub posts : (m : ℕ) (bytes : List ℕ) (r : RequestFields) → request_of bytes ≡ Ok r → IsChange (λ t. tables_with t m r) (Post m bytes ∷ [])
+posts m bytes r read t log are shows =
+    let v = case_of (found_in t r) r in
+    let step = step_is t m r v (sound_tables t log are shows) in
+    post_shown t (tables_with t m r) log m bytes r read shows
+    (subst (λ n. IsStep t (tables_with t m r) (n + 1) m r v) (decided_shown t (λ b. opened log b) (decided log) shows.rows) step)
+
+pub replies : (t : Tables) (log : List Command) (bytes : List ℕ) (r : RequestFields) → request_of bytes ≡ Ok r → Show t log
+    → reply_bytes t r ≡ reply_spelling (reply log bytes)
+replies t log bytes r read shows = ap reply_spelling (reply_shown t log bytes r read shows)
+
+-- ---- an opening
+
+pub opens : (b count : ℕ) → 1 ≤ b → count ≤ 100_000 → IsChange (λ t. tables_with_branch t b count) (Open b count ∷ [])
+opens b count above few t log are shows = by_row (row_at branch_key t.branches b) refl
+  where
+    counted : count_in t b ≡ opened log b
+    counted = count_shown t (λ x. opened log x) (decided log) b shows.rows
+
+    by_row : (o : Option BranchRow) → row_at branch_key t.branches b ≡ o → Show (opened_where o t b count) (Open b count ∷ log)
+    by_row None e = opening_shown t _ log b count (sym counted ∙ ap (option_map count_of_branch) e) above few shows
+        (opens_is t b count (sound_tables t log are shows) above few e)
+    by_row (Some row) e = already_open_shown t log b count row.accounts (sym counted ∙ ap (option_map count_of_branch) e) shows
+
+pub answers : (t : Tables) (log : List Command) (b count : ℕ) → Show t log → opening_for (count_in t b) count ≡ opening_behind log b count
+answers t log b count shows = ap (λ o. opening_for o count) (count_shown t (λ x. opened log x) (decided log) b shows.rows)
+
+-- ---- a look-up
+
+pub stays : IsChange (λ t. t) []
+stays t log are shows = shows

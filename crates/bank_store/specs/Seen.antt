@@ -1,0 +1,38 @@
+-- What a bank in a file shows, and what a stop may leave of it.
+use Rattle.std.specs.Prelude.{Option, Some, None, IsSome}
+use Rattle.sqlite.specs.Tree.{Trees}
+use Rattle.sqlite.specs.State.{State, HasCleanDisk}
+use Rattle.sqlite.specs.Held.{state}
+use Rattle.sqlite_trees.specs.declared.store.Store.{Ghosts}
+use Rattle.sqlite.specs.declared.error.Error.{Error}
+use Rattle.posting_core.specs.Counter.{Seen}
+use Rattle.posting_core.specs.Tables.{Tables}
+use Rattle.store_rows.specs.View.{Shows, ShowsTrees}
+use Rattle.store_rows.specs.declared.faults.TableFault.{TableFault}
+use Rattle.store_rows.specs.declared.faults.TableFault.TheVariants.{Sqlite, Damaged}
+use Rattle.bank_store.specs.declared.bank.Bank.{Bank}
+
+-- the trees are those of a bank with these tables, or of no bank
+abbrev pub AreOf : Trees → Option Tables → Type 0
+AreOf trees (Some t) = ShowsTrees trees t
+AreOf trees None = (t : Tables) → ShowsTrees trees t → ⊥
+
+-- what a stop at this moment may leave
+abbrev pub left_in : State → Option Tables → Type 0
+left_in s x = (trees : Trees) × s.may_leave trees × AreOf trees x
+
+-- its tables are those that its database shows
+abbrev pub seen_in : State → Type 0 → Seen
+seen_in s is_down = record { tables = λ t. Shows s.now t; is_down = is_down; left = left_in s; honest = HasCleanDisk s }
+
+abbrev pub bank_seen : {S : Type 0} (g : Ghosts S) → Bank S g → Seen
+bank_seen g bank = seen_in (state g bank.conn) (IsSome bank.fault)
+
+-- the error of `sqlite` that brought the bank down
+abbrev pub error_in : Option TableFault → Option Error
+error_in None = None
+error_in (Some (Sqlite e)) = Some e
+error_in (Some (Damaged rule)) = None
+
+abbrev pub cause_of : {S : Type 0} {g : Ghosts S} → Bank S g → Option Error
+cause_of bank = error_in bank.fault

@@ -1,0 +1,91 @@
+//! A bank in a file, or in whatever store.
+ghost use Rattle.posting_core.specs.declared.fault.Fault.TheVariants as fault;
+ghost use Rattle.std.specs.Prelude.{◌≡◌, ◌≢◌, ◌≤◌, [], ◌∷◌, List, length, Err, IfOk, OnOk, IfErr, false};
+ghost use Rattle.std.specs.Result.{IsErrOf};
+ghost use Rattle.sqlite.specs.State.{Survives};
+ghost use Rattle.sqlite.specs.Held.{state};
+ghost use Rattle.message_records.specs.Spelling.{reply_spelling};
+ghost use Rattle.posting_core.specs.Commands.{Command, Open, Post};
+ghost use Rattle.posting_core.specs.Counter.{ShowsLog, Takes, Refuses, opening_behind};
+ghost use Rattle.posting_core.specs.Entries.{reply, balance_behind};
+ghost use Rattle.posting_core.specs.Runs.{posts, replies_to};
+ghost use Rattle.posting_core.specs.Tables.{Tables};
+
+use crate::transactions::{open_branch, post, read_balance};
+use message_records::{
+    Account, Branch, Cents, Moment, Outcome, Reply, decode_request, encode_reply,
+};
+use posting_core::{Counter, Fault, Opening};
+use sqlite::{Alter, Connection, Error};
+use store_rows::{TableFault, probe_meta};
+
+/// A bank over a connection. Each request and each opening is one transaction, and a fault brings the bank down.
+pub struct Bank<S: Alter> {
+    pub(crate) conn: Connection<S>,
+    // What brought it down.
+    pub(crate) fault: Option<TableFault>,
+    ghost idle: { conn.in_transaction ≡ false },
+}
+
+impl<S: Alter> Bank<S> {
+    ghost use Rattle.bank_store.specs.Seen.{bank_seen, cause_of};
+    ghost use Rattle.bank_store.specs.Down.{GoesDown};
+
+    /// The error of `sqlite` that brought the bank down, if one did.
+    pub fn cause(&self) -> Option<Error>
+        ensures { result ≡ cause_of self.now }
+    {
+        match self.fault {
+            Some(TableFault::Sqlite(e)) => Some(e),
+            _ => None,
+        }
+    }
+
+    // A fault brings the bank down. Before rows are told to be damaged, the store is asked for a table, so that it is
+    // known to be open, and to have undone the call.
+    fn go_down(&mut self, fault: TableFault) -> Fault
+        ensures down { GoesDown (state S.Store self.old.conn) (state S.Store self.new.conn) fault self.new.fault result }
+        ensures survives { Survives (state S.Store self.old.conn) (state S.Store self.new.conn) (λ _. ⊥) }
+    {
+        let TableFault::Damaged(rule) = fault else {
+            self.fault = Some(fault);
+            return Fault::Store;
+        };
+        match probe_meta(&mut self.conn) {
+            Ok(_) => {
+                self.fault = Some(fault);
+                Fault::Damaged(rule)
+            }
+            Err(e) => {
+                self.fault = Some(TableFault::Sqlite(e));
+                Fault::Store
+            }
+        }
+    }
+
+    // Submits a record. It takes no memory of its own.
+    fn post_record(&mut self, moment: Moment, bytes: &[u8; 100]) -> Result<[u8; 200], Fault>
+        ensures reply { IfOk result (λ out. (bank_seen S.Store self.new).honest → (log : List Command) → ShowsLog (bank_seen S.Store self.old) log →
+            out ≡ reply_spelling (reply log bytes.now)) }
+        ensures done { OnOk result (Takes (bank_seen S.Store self.old) (bank_seen S.Store self.new) (Post moment bytes.now ∷ [])) }
+        ensures up { OnOk result ((bank_seen S.Store self.new).is_down → ⊥) }
+        ensures fault { IfErr result (λ fault. Refuses fault (bank_seen S.Store self.old) (bank_seen S.Store self.new) (Post moment bytes.now ∷ [])) }
+        ensures frugal { result ≢ Err fault.Memory }
+        ensures down { (bank_seen S.Store self.old).is_down → IsErrOf result Fault.Down }
+        ensures honest { (bank_seen S.Store self.new).honest → (bank_seen S.Store self.old).honest }
+    {
+        // A moment is in its range.
+        let _seconds = moment.get();
+        if self.fault.is_some() {
+            return Err(Fault::Down);
+        }
+        let Ok(request) = decode_request(bytes) else {
+            let reply = Reply::new(Outcome::Malformed, None, None);
+            return Ok(encode_reply(&reply.unwrap()));
+        };
+        match post(&mut self.conn, moment, &request) {
+            Ok(reply) => Ok(reply),
+            Err(fault) => Err(self.go_down(fault)),
+        }
+    }
+}
