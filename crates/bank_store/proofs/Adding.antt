@@ -1,5 +1,5 @@
 -- Rows that are added one after another in one transaction.
-use Rattle.std.proofs.Common.{◌≡◌, ℕ, suc, ◌+◌, false, Ok, Err, refl, sym, ◌∙◌, arith, inl, inr}
+use Rattle.std.proofs.Common.{◌≡◌, ℕ, suc, ◌+◌, false, Ok, Err, refl, sym, ◌∙◌, arith, inl, inr, subst}
 use Rattle.std.specs.Prelude.{IsTrue, Bool}
 use Rattle.sqlite.specs.Table.{Table}
 use Rattle.sqlite.specs.State.{State, Survives, HasCleanDisk, KeepsCommit}
@@ -72,3 +72,40 @@ adding_err mid new end table taken after whole e free adds =
 -- one number more
 pub one_more : (n : ℕ) → n + 1 ≡ suc n
 one_more n = omega arith
+
+-- a part more, of a transaction whose parts go on
+pub adding_then : (old mid new : State) (so_far more : Tables → Tables) (Free : Tables → Type 0) → Adding old mid so_far Free → Survives mid new (λ _. ⊥)
+    → (HasCleanDisk new → IsTrue mid.in_transaction → GoesOn mid new)
+    → (HasCleanDisk new → IsTrue mid.in_transaction → (t : Tables) → Free t → Shows mid.now (so_far t) → Shows new.now (more t)) → Adding old new more Free
+adding_then old mid new so_far more Free adding survives kept told =
+    let before : HasCleanDisk new → HasCleanDisk mid = λ clean. omega (arith, survives.clean) in
+    record {
+      survives = survives_both old mid new adding.survives survives;
+      kept = λ clean live.
+          let on = adding.kept (before clean) live in
+          let then = kept clean (still_in old mid on live) in
+          record {
+            opened = λ h. on.opened (then.opened h);
+            committed = then.committed ∙ on.committed;
+            mode = then.mode ∙ on.mode;
+          };
+      told = λ clean live t shows free.
+          let on = adding.kept (before clean) live in
+          told clean (still_in old mid on live) t free (adding.told (before clean) live t shows free);
+    }
+
+-- the same, told in other words
+pub adding_as : (old new : State) (so_far told : Tables → Tables) (Free : Tables → Type 0) → ((t : Tables) → so_far t ≡ told t) → Adding old new so_far Free
+    → Adding old new told Free
+adding_as old new so_far told Free same adding = record {
+  survives = adding.survives;
+  kept = adding.kept;
+  told = λ clean live t shows free. subst (λ (u : Tables). Shows new.now u) (same t) (adding.told clean live t shows free);
+}
+
+-- an error of a part, where the parts before it went on
+pub keeps_then : (old mid new : State) → GoesOn old mid → KeepsCommit mid new → KeepsCommit old new
+keeps_then old mid new on keeps = record {
+  was_open = λ h. on.opened (keeps.was_open h);
+  committed = λ h. keeps.committed h ∙ on.committed;
+}

@@ -3,6 +3,7 @@ pub mod Adding
 pub mod Calls
 pub mod Countered
 pub mod Moved
+pub mod Records
 pub mod RowChanges
 pub mod SoundRows
 pub mod Stepping

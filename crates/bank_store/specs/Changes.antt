@@ -1,7 +1,9 @@
 -- The tables as the statements of one call leave them.
-use Rattle.std.specs.Prelude.{◌≡◌, ℕ, zero, suc, ◌+◌, ℤ, pos, List, Option, Some, None, IsSome}
+use Rattle.std.specs.Prelude.{◌≡◌, ℕ, zero, suc, ◌+◌, ℤ, pos, List, [], ◌∷◌, Option, Some, None, Result, Ok, Err, IsSome}
 use Rattle.message_records.specs.Spelling.{reply_spelling}
+use Rattle.message_records.specs.declared.faults.Bad.{Bad}
 use Rattle.message_records.specs.Records.{RequestFields}
+use Rattle.message_records.specs.Reading.{request_of}
 use Rattle.posting_core.specs.declared.rows.BranchRow.{BranchRow}
 use Rattle.posting_core.specs.declared.facts.Verdict.{Verdict}
 use Rattle.posting_core.specs.declared.facts.Verdict.TheVariants.{Unkept, Again, Refused, Posted}
@@ -38,6 +40,19 @@ tables_after t moment r (Posted account teller branch) = tables_posted t (decide
 -- what a request leaves
 abbrev pub tables_with : Tables → ℕ → RequestFields → Tables
 tables_with t moment r = tables_after t moment r (case_of (found_in t r) r)
+
+-- what a record leaves, which may be no request
+abbrev pub tables_read : Tables → ℕ → Result RequestFields Bad → Tables
+tables_read t moment (Err fault) = t
+tables_read t moment (Ok r) = tables_with t moment r
+
+abbrev pub tables_past : Tables → ℕ → List ℕ → Tables
+tables_past t moment bytes = tables_read t moment (request_of bytes)
+
+-- what records leave, one after another
+abbrev pub tables_past_all : Tables → ℕ → List (List ℕ) → Tables
+tables_past_all t moment [] = t
+tables_past_all t moment (bytes ∷ records) = tables_past_all (tables_past t moment bytes) moment records
 
 -- the bytes of the reply to a request
 abbrev pub reply_bytes : Tables → RequestFields → List ℕ

@@ -23,6 +23,11 @@ abbrev pub Keeps : {X : Type 0} → State → State → Result X TableFault → 
 Keeps old new (Ok x) = GoesOn old new
 Keeps old new (Err fault) = KeepsCommit old new
 
+-- whatever the rows: after Ok everything is as it was, and at an error nothing is committed
+abbrev pub Looks : {X : Type 0} → State → State → Result X TableFault → Type 0
+Looks old new (Ok x) = Stays old new
+Looks old new (Err fault) = KeepsCommit old new
+
 -- on sound tables: the answer is what was looked for, and nothing has changed; they are never told to be damaged
 abbrev pub LooksUp : {X : Type 0} → State → State → X → Result X TableFault → Type 0
 LooksUp old new wanted (Ok found) = (found ≡ wanted) × Stays old new

@@ -1,6 +1,8 @@
 -- Tables in which every call finds what it looks for.
+use Rattle.std.specs.Prelude.{List}
+use Rattle.posting_core.specs.Commands.{Command, AreCommands}
 use Rattle.posting_core.specs.Damage.{IsUndamaged}
-use Rattle.posting_core.specs.Tables.{Tables, HasKeys, branch_key, teller_key, account_key, history_key, request_key}
+use Rattle.posting_core.specs.Tables.{Tables, Shows, HasKeys, branch_key, teller_key, account_key, history_key, request_key}
 
 -- nothing is damaged, and no two rows of a table have one key
 pub record AreSound (t : Tables) : Type 0 where
@@ -10,3 +12,7 @@ pub record AreSound (t : Tables) : Type 0 where
   pub accounts : HasKeys account_key t.accounts
   pub history : HasKeys history_key t.history
   pub requests : HasKeys request_key t.requests
+
+-- the tables are those of some log of the bank's commands
+abbrev pub AreOfALog : Tables → Type 0
+AreOfALog t = (log : List Command) × AreCommands log × Shows t log

@@ -1,6 +1,6 @@
 //! A bank in a file, or in whatever store.
 ghost use Rattle.posting_core.specs.declared.fault.Fault.TheVariants as fault;
-ghost use Rattle.std.specs.Prelude.{◌≡◌, ◌≢◌, ◌≤◌, [], ◌∷◌, List, length, Err, IfOk, OnOk, IfErr, false};
+ghost use Rattle.std.specs.Prelude.{◌≡◌, ◌≢◌, ◌≤◌, [], ◌∷◌, List, length, Err, IfOk, OnOk, IfErr, None, false};
 ghost use Rattle.std.specs.Result.{IsErrOf};
 ghost use Rattle.sqlite.specs.State.{Survives};
 ghost use Rattle.sqlite.specs.Held.{state};
@@ -11,25 +11,52 @@ ghost use Rattle.posting_core.specs.Entries.{reply, balance_behind};
 ghost use Rattle.posting_core.specs.Runs.{posts, replies_to};
 ghost use Rattle.posting_core.specs.Tables.{Tables};
 
-use crate::transactions::{open_branch, post, read_balance};
+use crate::transactions::{open_branch, post, post_all, read_balance};
 use message_records::{
     Account, Branch, Cents, Moment, Outcome, Reply, decode_request, encode_reply,
 };
 use posting_core::{Counter, Fault, Opening};
 use sqlite::{Alter, Connection, Error};
+use std::alloc::Global;
 use store_rows::{TableFault, probe_meta};
 
 /// A bank over a connection. Each request and each opening is one transaction, and a fault brings the bank down.
 pub struct Bank<S: Alter> {
-    pub(crate) conn: Connection<S>,
+    alloc: Global,
+    conn: Connection<S>,
     // What brought it down.
-    pub(crate) fault: Option<TableFault>,
+    fault: Option<TableFault>,
     ghost idle: { conn.in_transaction ≡ false },
 }
 
 impl<S: Alter> Bank<S> {
     ghost use Rattle.bank_store.specs.Seen.{bank_seen, cause_of};
     ghost use Rattle.bank_store.specs.Down.{GoesDown};
+
+    // The bank that a connection holds.
+    pub(crate) fn over(alloc: Global, conn: Connection<S>) -> Self
+        requires { conn.in_transaction ≡ false }
+        ensures conn { result.conn ≡ conn }
+        ensures up { result.fault ≡ None }
+    {
+        Bank {
+            alloc,
+            conn,
+            fault: None,
+        }
+    }
+
+    /// Gives the connection back. That of a bank which is down is only to be closed.
+    pub fn release(self) -> Connection<S>
+        ensures { result ≡ self.conn }
+    {
+        let Bank {
+            alloc: _,
+            conn,
+            fault: _,
+        } = self;
+        conn
+    }
 
     /// The error of `sqlite` that brought the bank down, if one did.
     pub fn cause(&self) -> Option<Error>
@@ -85,6 +112,57 @@ impl<S: Alter> Bank<S> {
         };
         match post(&mut self.conn, moment, &request) {
             Ok(reply) => Ok(reply),
+            Err(fault) => Err(self.go_down(fault)),
+        }
+    }
+}
+
+impl<S: Alter + Drop> Counter for Bank<S> {
+    ghost use Rattle.bank_store.specs.Seen.{bank_seen};
+
+    ghost seen = { λ bank. bank_seen S.Store bank };
+
+    fn submit(&mut self, moment: Moment, bytes: &[u8; 100]) -> Result<[u8; 200], Fault> {
+        self.post_record(moment, bytes)
+    }
+
+    // Room is made for the replies before the store is asked for anything.
+    fn submit_all(
+        &mut self,
+        moment: Moment,
+        records: &[[u8; 100]],
+    ) -> Result<Vec<[u8; 200]>, Fault> {
+        // A moment is in its range.
+        let _seconds = moment.get();
+        if self.fault.is_some() {
+            return Err(Fault::Down);
+        }
+        let mut replies = Vec::new(self.alloc);
+        replies.reserve(records.len())?;
+        match post_all(&mut self.conn, moment, records, &mut replies) {
+            Ok(()) => Ok(replies),
+            Err(fault) => Err(self.go_down(fault)),
+        }
+    }
+
+    fn open_branch(&mut self, branch: Branch, count: u32) -> Result<Opening, Fault> {
+        // A branch is in its range.
+        let _number = branch.get();
+        if self.fault.is_some() {
+            return Err(Fault::Down);
+        }
+        match open_branch(&mut self.conn, branch, count) {
+            Ok(opening) => Ok(opening),
+            Err(fault) => Err(self.go_down(fault)),
+        }
+    }
+
+    fn balance(&mut self, account: Account) -> Result<Option<Cents>, Fault> {
+        if self.fault.is_some() {
+            return Err(Fault::Down);
+        }
+        match read_balance(&mut self.conn, account) {
+            Ok(balance) => Ok(balance),
             Err(fault) => Err(self.go_down(fault)),
         }
     }

@@ -7,7 +7,7 @@ ghost use Rattle.posting_core.specs.Damage.{IsUndamaged};
 ghost use Rattle.posting_core.specs.LookUps.{teller_balances_in, account_balance_in, kept_in, decided_in, found_in};
 ghost use Rattle.posting_core.specs.Tables.{Tables, row_at, branch_key};
 ghost use Rattle.store_rows.specs.View.{Shows};
-ghost use Rattle.bank_store.specs.Doing.{Keeps, LooksUp};
+ghost use Rattle.bank_store.specs.Doing.{Looks, LooksUp};
 
 use message_records::{Account, Branch, Cents, Request, Teller};
 use posting_core::{
@@ -48,7 +48,7 @@ pub(crate) fn branch_at<S: Alter>(
         → Shows (state S.Store tx.old.conn.now).now tables → IsUndamaged tables
         → LooksUp (state S.Store tx.old.conn.now) (state S.Store tx.new.conn.now) (row_at branch_key tables.branches number) result }
     ensures kept { HasCleanDisk (state S.Store tx.new.conn.now)
-        → Keeps (state S.Store tx.old.conn.now) (state S.Store tx.new.conn.now) result }
+        → Looks (state S.Store tx.old.conn.now) (state S.Store tx.new.conn.now) result }
     ensures survives { Survives (state S.Store tx.old.conn.now) (state S.Store tx.new.conn.now) (λ _. ⊥) }
 {
     let Some(branch) = Branch::new(number) else {
@@ -73,7 +73,7 @@ fn teller_balances<S: Alter>(
         → Shows (state S.Store tx.old.conn.now).now tables → IsUndamaged tables
         → LooksUp (state S.Store tx.old.conn.now) (state S.Store tx.new.conn.now) (teller_balances_in tables teller) result }
     ensures kept { HasCleanDisk (state S.Store tx.new.conn.now)
-        → Keeps (state S.Store tx.old.conn.now) (state S.Store tx.new.conn.now) result }
+        → Looks (state S.Store tx.old.conn.now) (state S.Store tx.new.conn.now) result }
     ensures survives { Survives (state S.Store tx.old.conn.now) (state S.Store tx.new.conn.now) (λ _. ⊥) }
 {
     let balance = teller_balance(tx, teller)?;
@@ -95,7 +95,7 @@ pub(crate) fn open_balance<S: Alter>(
         → Shows (state S.Store tx.old.conn.now).now tables → IsUndamaged tables
         → LooksUp (state S.Store tx.old.conn.now) (state S.Store tx.new.conn.now) (account_balance_in tables account) result }
     ensures kept { HasCleanDisk (state S.Store tx.new.conn.now)
-        → Keeps (state S.Store tx.old.conn.now) (state S.Store tx.new.conn.now) result }
+        → Looks (state S.Store tx.old.conn.now) (state S.Store tx.new.conn.now) result }
     ensures survives { Survives (state S.Store tx.old.conn.now) (state S.Store tx.new.conn.now) (λ _. ⊥) }
 {
     let balance = account_balance(tx, account)?;
@@ -121,7 +121,7 @@ fn kept_request<S: Alter>(
         → LooksUp (state S.Store tx.old.conn.now) (state S.Store tx.new.conn.now)
         (kept_in tables.requests request.now.teller request.now.number) result }
     ensures kept { HasCleanDisk (state S.Store tx.new.conn.now)
-        → Keeps (state S.Store tx.old.conn.now) (state S.Store tx.new.conn.now) result }
+        → Looks (state S.Store tx.old.conn.now) (state S.Store tx.new.conn.now) result }
     ensures survives { Survives (state S.Store tx.old.conn.now) (state S.Store tx.new.conn.now) (λ _. ⊥) }
 {
     let Some(row) = find_request(tx, request.teller(), request.number())? else {
@@ -149,7 +149,7 @@ fn decided<S: Alter>(tx: &mut Transaction<'_, S>) -> Result<u64, TableFault>
         → Shows (state S.Store tx.old.conn.now).now tables → IsUndamaged tables
         → LooksUp (state S.Store tx.old.conn.now) (state S.Store tx.new.conn.now) (decided_in tables.meta) result }
     ensures kept { HasCleanDisk (state S.Store tx.new.conn.now)
-        → Keeps (state S.Store tx.old.conn.now) (state S.Store tx.new.conn.now) result }
+        → Looks (state S.Store tx.old.conn.now) (state S.Store tx.new.conn.now) result }
     ensures survives { Survives (state S.Store tx.old.conn.now) (state S.Store tx.new.conn.now) (λ _. ⊥) }
 {
     let Some(meta) = read_meta(tx)? else {
@@ -172,7 +172,7 @@ pub(crate) fn look_up<S: Alter>(
         → Shows (state S.Store tx.old.conn.now).now tables → IsUndamaged tables
         → LooksUp (state S.Store tx.old.conn.now) (state S.Store tx.new.conn.now) (found_in tables request.now) result }
     ensures kept { HasCleanDisk (state S.Store tx.new.conn.now)
-        → Keeps (state S.Store tx.old.conn.now) (state S.Store tx.new.conn.now) result }
+        → Looks (state S.Store tx.old.conn.now) (state S.Store tx.new.conn.now) result }
     ensures survives { Survives (state S.Store tx.old.conn.now) (state S.Store tx.new.conn.now) (λ _. ⊥) }
 {
     Ok(Found {

@@ -1,11 +1,11 @@
 -- What a record comes to.
-use Rattle.std.proofs.Common.{◌≡◌, ◌≤◌, [], ◌∷◌, length, List, ℕ, Ok, Err, rules, arith, sym, subst, ◌∙◌}
+use Rattle.std.proofs.Common.{◌≡◌, [], ◌∷◌, List, ℕ, Ok, rules, arith, ◌∙◌}
 use Rattle.std.specs.Prelude.{IsSome}
 use Rattle.sqlite.specs.Held.{state}
 use Rattle.message_records.specs.Reading.{request_of}
-use Rattle.posting_core.specs.Commands.{Command, Post, AreCommands}
-use Rattle.posting_core.specs.Tables.{Tables}
+use Rattle.posting_core.specs.Commands.{Post, AreCommands}
 use Rattle.bank_store.specs.Changes.{tables_with, reply_bytes}
+use Rattle.bank_store.specs.Sound.{AreSound}
 use Rattle.bank_store.proofs.Calls.{posts, replies}
 use Rattle.bank_store.proofs.Countered.{takes, refuses}
 use Rattle.bank_store.proofs.Stepping.{sound_tables}
@@ -27,7 +27,7 @@ returns-in-Ok-post-clause-done g c =
     let old = state g.S.Store c.args.self.now.conn in
     let new = state g.S.Store c.post.new.conn in
     let Down = IsSome c.args.self.now.fault in
-    takes old new (Post m bytes ∷ []) (λ t. tables_with t m r) (posts m bytes r read) Down Down are (search rules)
+    takes AreSound sound_tables old new (Post m bytes ∷ []) (λ t. tables_with t m r) (posts m bytes r read) Down Down are (search rules)
     (λ clean t shows sound. let told = c.in-Ok-post.ensures.told clean t shows sound in (told.1, told.2))
 
 pub returns-in-Err-clause-fault : goal.returns-in-Err-clause-fault
@@ -39,6 +39,6 @@ returns-in-Err-clause-fault g c =
     let old = state g.S.Store c.args.self.now.conn in
     let mid = state g.S.Store c.post.new.conn in
     let new = state g.S.Store c.go_down.new.self.conn in
-    refuses {X = List ℕ} old mid new (Post m bytes ∷ []) (λ t. tables_with t m r) (λ t. reply_bytes t r) (posts m bytes r read) (IsSome c.args.self.now.fault)
+    refuses {X = List ℕ} AreSound sound_tables old mid new (Post m bytes ∷ []) (λ t. tables_with t m r) (λ t. reply_bytes t r) (posts m bytes r read) (IsSome c.args.self.now.fault)
     c.in-Err.fault c.go_down.new.self.fault c.go_down.result c.in-Err.ensures.told c.in-Err.ensures.undone c.in-Err.ensures.stop
     c.go_down.ensures.down c.go_down.ensures.survives

@@ -1,0 +1,63 @@
+//! Why a connection isn't taken for a bank.
+ghost use Rattle.std.specs.Prelude.{◌≡◌};
+
+use posting_core::Rule;
+use sqlite::{Alter, Connection, Error, ErrorCode};
+use std::fmt;
+
+/// Why a bank isn't made in a file, or isn't found there.
+#[derive(Clone, Copy, Debug, PartialEq, Eq)]
+pub enum OpenFault {
+    /// A call of `sqlite` failed: for memory, the disk, a size or a limit of steps.
+    Store,
+    /// No bank can be made: a table of the bank is there, or can't be made.
+    NotBlank,
+    /// No table of the bank is there.
+    Blank,
+    /// Some tables of the bank are there, and some aren't.
+    Foreign,
+    /// The tables are those of another version.
+    Version(i64),
+    /// The row of the bank is missing or out of its range (`Rule::Meta`), or has a value of another type (`Rule::Value`).
+    Damaged(Rule),
+}
+
+impl fmt::Display for OpenFault {
+    fn fmt<W: fmt::Write>(&self, f: &mut fmt::Formatter<W>) -> fmt::Result {
+        match self {
+            OpenFault::Store => write!(f, "store fault"),
+            OpenFault::NotBlank => write!(f, "already a bank"),
+            OpenFault::Blank => write!(f, "no bank"),
+            OpenFault::Foreign => write!(f, "foreign tables"),
+            OpenFault::Version(version) => write!(f, "version {version}"),
+            OpenFault::Damaged(rule) => {
+                let number = rule.number();
+                write!(f, "damaged rule {number}")
+            }
+        }
+    }
+}
+
+impl std::error::Error for OpenFault {}
+
+/// The connection that wasn't taken, and why.
+pub struct Refused<S: Alter> {
+    pub fault: OpenFault,
+    pub conn: Connection<S>,
+}
+
+/// Whether the error is the store's own, and says nothing of what the file holds.
+pub(crate) fn is_of_the_store(e: &Error) -> bool {
+    matches!(
+        e,
+        Error::SqliteFailure(
+            ErrorCode::OutOfMemory
+                | ErrorCode::SystemIoFailure
+                | ErrorCode::DatabaseCorrupt
+                | ErrorCode::DiskFull
+                | ErrorCode::TooBig
+                | ErrorCode::Closed
+                | ErrorCode::OperationInterrupted
+        )
+    )
+}
