@@ -21,9 +21,9 @@ pub committed_left : {S : Type 0} (g : Ghosts S) (Sound : Tables → Type 0) (ol
     → Survives (state g old) (state g new) (Leaves Sound (state g old) after)
 committed_left {S} g Sound old begun mid new after is =
     subst (λ (h : Held S). (HasCleanDisk (state g mid) → IsTrue h.in_transaction → (t : Tables) → Shows (state g h).now t → Sound t → Shows (state g mid).now (after t))
-        → Survives (state g h) (state g mid) (λ _. ⊥)
-        → Survives (state g mid) (state g new) (λ left. (t : Tables) → Shows (state g mid).now t → ShowsTrees left t)
-        → Survives (state g old) (state g new) (Leaves Sound (state g old) after)) (sym is)
+    → Survives (state g h) (state g mid) (λ _. ⊥)
+    → Survives (state g mid) (state g new) (λ left. (t : Tables) → Shows (state g mid).now t → ShowsTrees left t)
+    → Survives (state g old) (state g new) (Leaves Sound (state g old) after)) (sym is)
     (λ told inside commit. survives_begin g old (state g new) (Leaves Sound (state g old) after)
     (survives_then (state g (record old { in_transaction = true })) (state g mid) (state g new) (λ _. ⊥)
     (λ left. (t : Tables) → Shows (state g mid).now t → ShowsTrees left t) (Leaves Sound (state g old) after)

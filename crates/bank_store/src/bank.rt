@@ -1,6 +1,6 @@
 //! A bank in a file, or in whatever store.
 ghost use Rattle.posting_core.specs.declared.fault.Fault.TheVariants as fault;
-ghost use Rattle.std.specs.Prelude.{◌≡◌, ◌≢◌, ◌≤◌, [], ◌∷◌, List, length, Err, IfOk, OnOk, IfErr, None, false};
+ghost use Rattle.std.specs.Prelude.{◌≡◌, ◌≢◌, ◌≤◌, [], ◌∷◌, List, length, Err, IfOk, OnOk, IfErr, IsSome, None, false};
 ghost use Rattle.std.specs.Result.{IsErrOf};
 ghost use Rattle.sqlite.specs.State.{Survives};
 ghost use Rattle.sqlite.specs.Held.{state};
@@ -98,6 +98,7 @@ impl<S: Alter> Bank<S> {
         ensures up { OnOk result ((bank_seen S.Store self.new).is_down → ⊥) }
         ensures fault { IfErr result (λ fault. Refuses fault (bank_seen S.Store self.old) (bank_seen S.Store self.new) (Post moment bytes.now ∷ [])) }
         ensures frugal { result ≢ Err fault.Memory }
+        ensures cause { result ≡ Err fault.Store → IsSome (cause_of self.new) }
         ensures down { (bank_seen S.Store self.old).is_down → IsErrOf result Fault.Down }
         ensures honest { (bank_seen S.Store self.new).honest → (bank_seen S.Store self.old).honest }
     {
@@ -118,20 +119,38 @@ impl<S: Alter> Bank<S> {
 }
 
 impl<S: Alter + Drop> Counter for Bank<S> {
-    ghost use Rattle.bank_store.specs.Seen.{bank_seen};
+    ghost use Rattle.bank_store.specs.Seen.{bank_seen, cause_of};
 
     ghost seen = { λ bank. bank_seen S.Store bank };
 
-    fn submit(&mut self, moment: Moment, bytes: &[u8; 100]) -> Result<[u8; 200], Fault> {
+    fn submit(&mut self, moment: Moment, bytes: &[u8; 100]) -> Result<[u8; 200], Fault>
+        ensures reply { IfOk result (λ out. (bank_seen S.Store self.new).honest → (log : List Command) → ShowsLog (bank_seen S.Store self.old) log →
+            out ≡ reply_spelling (reply log bytes.now)) }
+        ensures done { OnOk result (Takes (bank_seen S.Store self.old) (bank_seen S.Store self.new) (Post moment bytes.now ∷ [])) }
+        ensures up { OnOk result ((bank_seen S.Store self.new).is_down → ⊥) }
+        ensures fault { IfErr result (λ fault. Refuses fault (bank_seen S.Store self.old) (bank_seen S.Store self.new) (Post moment bytes.now ∷ [])) }
+        ensures frugal { result ≢ Err fault.Memory }
+        ensures cause { result ≡ Err fault.Store → IsSome (cause_of self.new) }
+        ensures down { (bank_seen S.Store self.old).is_down → IsErrOf result Fault.Down }
+        ensures honest { (bank_seen S.Store self.new).honest → (bank_seen S.Store self.old).honest }
+    {
         self.post_record(moment, bytes)
     }
 
     // Room is made for the replies before the store is asked for anything.
-    fn submit_all(
-        &mut self,
-        moment: Moment,
-        records: &[[u8; 100]],
-    ) -> Result<Vec<[u8; 200]>, Fault> {
+    fn submit_all(&mut self, moment: Moment, records: &[[u8; 100]]) -> Result<Vec<[u8; 200]>, Fault>
+        requires some { 1 ≤ length records.now }
+        requires few { length records.now ≤ 64 }
+        ensures count { IfOk result (λ replies. length replies.items ≡ length records.now) }
+        ensures replies { IfOk result (λ replies. (bank_seen S.Store self.new).honest → (log : List Command) → ShowsLog (bank_seen S.Store self.old) log →
+            replies.items ≡ replies_to log (posts moment records.now)) }
+        ensures done { OnOk result (Takes (bank_seen S.Store self.old) (bank_seen S.Store self.new) (posts moment records.now)) }
+        ensures up { OnOk result ((bank_seen S.Store self.new).is_down → ⊥) }
+        ensures fault { IfErr result (λ fault. Refuses fault (bank_seen S.Store self.old) (bank_seen S.Store self.new) (posts moment records.now)) }
+        ensures cause { result ≡ Err fault.Store → IsSome (cause_of self.new) }
+        ensures down { (bank_seen S.Store self.old).is_down → IsErrOf result Fault.Down }
+        ensures honest { (bank_seen S.Store self.new).honest → (bank_seen S.Store self.old).honest }
+    {
         // A moment is in its range.
         let _seconds = moment.get();
         if self.fault.is_some() {
@@ -145,7 +164,20 @@ impl<S: Alter + Drop> Counter for Bank<S> {
         }
     }
 
-    fn open_branch(&mut self, branch: Branch, count: u32) -> Result<Opening, Fault> {
+    fn open_branch(&mut self, branch: Branch, count: u32) -> Result<Opening, Fault>
+        requires branch { branch ≤ 9999 }
+        requires some { 1 ≤ count }
+        requires few { count ≤ 100_000 }
+        ensures answer { IfOk result (λ opening. (bank_seen S.Store self.new).honest → (log : List Command) → ShowsLog (bank_seen S.Store self.old) log →
+            opening ≡ opening_behind log branch count) }
+        ensures done { OnOk result (Takes (bank_seen S.Store self.old) (bank_seen S.Store self.new) (Open branch count ∷ [])) }
+        ensures up { OnOk result ((bank_seen S.Store self.new).is_down → ⊥) }
+        ensures fault { IfErr result (λ fault. Refuses fault (bank_seen S.Store self.old) (bank_seen S.Store self.new) (Open branch count ∷ [])) }
+        ensures frugal { result ≢ Err fault.Memory }
+        ensures cause { result ≡ Err fault.Store → IsSome (cause_of self.new) }
+        ensures down { (bank_seen S.Store self.old).is_down → IsErrOf result Fault.Down }
+        ensures honest { (bank_seen S.Store self.new).honest → (bank_seen S.Store self.old).honest }
+    {
         // A branch is in its range.
         let _number = branch.get();
         if self.fault.is_some() {
@@ -157,7 +189,18 @@ impl<S: Alter + Drop> Counter for Bank<S> {
         }
     }
 
-    fn balance(&mut self, account: Account) -> Result<Option<Cents>, Fault> {
+    fn balance(&mut self, account: Account) -> Result<Option<Cents>, Fault>
+        ensures value { IfOk result (λ balance. (bank_seen S.Store self.new).honest → (log : List Command) → ShowsLog (bank_seen S.Store self.old) log →
+            balance ≡ balance_behind log account) }
+        ensures done { OnOk result (Takes (bank_seen S.Store self.old) (bank_seen S.Store self.new) []) }
+        ensures tables { OnOk result ((bank_seen S.Store self.new).honest → (t : Tables) → (bank_seen S.Store self.old).tables t → (bank_seen S.Store self.new).tables t) }
+        ensures up { OnOk result ((bank_seen S.Store self.new).is_down → ⊥) }
+        ensures fault { IfErr result (λ fault. Refuses fault (bank_seen S.Store self.old) (bank_seen S.Store self.new) []) }
+        ensures frugal { result ≢ Err fault.Memory }
+        ensures cause { result ≡ Err fault.Store → IsSome (cause_of self.new) }
+        ensures down { (bank_seen S.Store self.old).is_down → IsErrOf result Fault.Down }
+        ensures honest { (bank_seen S.Store self.new).honest → (bank_seen S.Store self.old).honest }
+    {
         if self.fault.is_some() {
             return Err(Fault::Down);
         }
