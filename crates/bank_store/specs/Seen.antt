@@ -2,7 +2,7 @@
 use Rattle.std.specs.Prelude.{Option, Some, None, IsSome}
 use Rattle.sqlite.specs.Tree.{Trees}
 use Rattle.sqlite.specs.State.{State, HasCleanDisk}
-use Rattle.sqlite.specs.Held.{state}
+use Rattle.sqlite.specs.Held.{Held, state}
 use Rattle.sqlite_trees.specs.declared.store.Store.{Ghosts}
 use Rattle.sqlite.specs.declared.error.Error.{Error}
 use Rattle.posting_core.specs.Counter.{Seen}
@@ -24,6 +24,10 @@ left_in s x = (trees : Trees) × s.may_leave trees × AreOf trees x
 -- its tables are those that its database shows
 abbrev pub seen_in : State → Type 0 → Seen
 seen_in s is_down = record { tables = λ t. Shows s.now t; is_down = is_down; left = left_in s; honest = HasCleanDisk s }
+
+-- the connection that the bank holds
+abbrev pub connection_of : {S : Type 0} {g : Ghosts S} → Bank S g → Held S
+connection_of bank = bank.conn
 
 abbrev pub bank_seen : {S : Type 0} (g : Ghosts S) → Bank S g → Seen
 bank_seen g bank = seen_in (state g bank.conn) (IsSome bank.fault)

@@ -21,6 +21,7 @@ use std::alloc::Global;
 use store_rows::{TableFault, probe_meta};
 
 /// A bank over a connection. Each request and each opening is one transaction, and a fault brings the bank down.
+#[derive(Drop)]
 pub struct Bank<S: Alter> {
     alloc: Global,
     conn: Connection<S>,
@@ -30,7 +31,7 @@ pub struct Bank<S: Alter> {
 }
 
 impl<S: Alter> Bank<S> {
-    ghost use Rattle.bank_store.specs.Seen.{bank_seen, cause_of};
+    ghost use Rattle.bank_store.specs.Seen.{cause_of, connection_of};
     ghost use Rattle.bank_store.specs.Down.{GoesDown};
 
     // The bank that a connection holds.
@@ -48,7 +49,8 @@ impl<S: Alter> Bank<S> {
 
     /// Gives the connection back. That of a bank which is down is only to be closed.
     pub fn release(self) -> Connection<S>
-        ensures { result ≡ self.conn }
+        ensures same { result ≡ connection_of self }
+        ensures mode { result.in_transaction ≡ false }
     {
         let Bank {
             alloc: _,
@@ -89,9 +91,14 @@ impl<S: Alter> Bank<S> {
             }
         }
     }
+}
 
-    // Submits a record. It takes no memory of its own.
-    fn post_record(&mut self, moment: Moment, bytes: &[u8; 100]) -> Result<[u8; 200], Fault>
+impl<S: Alter + Drop> Counter for Bank<S> {
+    ghost use Rattle.bank_store.specs.Seen.{bank_seen, cause_of};
+
+    ghost seen = { λ bank. bank_seen S.Store bank };
+
+    fn submit(&mut self, moment: Moment, bytes: &[u8; 100]) -> Result<[u8; 200], Fault>
         ensures reply { IfOk result (λ out. (bank_seen S.Store self.new).honest → (log : List Command) → ShowsLog (bank_seen S.Store self.old) log →
             out ≡ reply_spelling (reply log bytes.now)) }
         ensures done { OnOk result (Takes (bank_seen S.Store self.old) (bank_seen S.Store self.new) (Post moment bytes.now ∷ [])) }
@@ -115,26 +122,6 @@ impl<S: Alter> Bank<S> {
             Ok(reply) => Ok(reply),
             Err(fault) => Err(self.go_down(fault)),
         }
-    }
-}
-
-impl<S: Alter + Drop> Counter for Bank<S> {
-    ghost use Rattle.bank_store.specs.Seen.{bank_seen, cause_of};
-
-    ghost seen = { λ bank. bank_seen S.Store bank };
-
-    fn submit(&mut self, moment: Moment, bytes: &[u8; 100]) -> Result<[u8; 200], Fault>
-        ensures reply { IfOk result (λ out. (bank_seen S.Store self.new).honest → (log : List Command) → ShowsLog (bank_seen S.Store self.old) log →
-            out ≡ reply_spelling (reply log bytes.now)) }
-        ensures done { OnOk result (Takes (bank_seen S.Store self.old) (bank_seen S.Store self.new) (Post moment bytes.now ∷ [])) }
-        ensures up { OnOk result ((bank_seen S.Store self.new).is_down → ⊥) }
-        ensures fault { IfErr result (λ fault. Refuses fault (bank_seen S.Store self.old) (bank_seen S.Store self.new) (Post moment bytes.now ∷ [])) }
-        ensures frugal { result ≢ Err fault.Memory }
-        ensures cause { result ≡ Err fault.Store → IsSome (cause_of self.new) }
-        ensures down { (bank_seen S.Store self.old).is_down → IsErrOf result Fault.Down }
-        ensures honest { (bank_seen S.Store self.new).honest → (bank_seen S.Store self.old).honest }
-    {
-        self.post_record(moment, bytes)
     }
 
     // Room is made for the replies before the store is asked for anything.

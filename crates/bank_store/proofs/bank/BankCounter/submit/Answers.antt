@@ -9,7 +9,7 @@ use Rattle.bank_store.specs.Sound.{AreSound}
 use Rattle.bank_store.proofs.Calls.{posts, replies}
 use Rattle.bank_store.proofs.Countered.{takes, refuses}
 use Rattle.bank_store.proofs.Stepping.{sound_tables}
-use Rattle.bank_store.proofs.bank.Bank.post_record.Goals as goal
+use Rattle.bank_store.proofs.bank.BankCounter.submit.Goals as goal
 
 pub returns-in-Ok-post-clause-reply : goal.returns-in-Ok-post-clause-reply
 returns-in-Ok-post-clause-reply g c clean log s =
