@@ -30,4 +30,4 @@ module _ {X : Type 0} (old new : State) (shown : X → Row) (Breaks : X → Rule
 pub reads_balance : (row : Row) (r : Result ℤ TableFault) → ReadsCents Balance (column row 0) r → ReadsRow balance_shown IsNoBalance row r
 reads_balance row (Ok z) read = λ y is. read y (ap (λ x. column x 0) is)
 reads_balance row (Err (Sqlite e)) read = λ y is. read y (ap (λ x. column x 0) is)
-reads_balance row (Err (Damaged broken)) read = λ y is. (read.0, read.1 y (ap (λ x. column x 0) is))
+reads_balance row (Err (Damaged broken)) read = λ y is. read y (ap (λ x. column x 0) is)

@@ -1,5 +1,5 @@
 -- What a row keeps of a request.
-use Rattle.std.proofs.Common.{◌≡◌, ◌==◌, ℕ, ℤ, pos, Bool, true, false, cond, Some, None, Ok, refl, sym, ap, subst, ◌∙◌}
+use Rattle.std.proofs.Common.{◌≡◌, ◌==◌, ℕ, ℤ, pos, Bool, true, false, cond, Some, None, Ok, Err, refl, sym, ap, subst, ◌∙◌}
 use Rattle.std.specs.Option.{ok_or}
 use Rattle.sqlite.specs.Order.{Row, column}
 use Rattle.message_records.specs.Outcomes.{code_of}
@@ -17,7 +17,8 @@ use Rattle.message_records.specs.declared.records.Outcome.TheVariants.{
 use Rattle.posting_core.specs.Kept.{KeptFields, is_kept_with, kept_from}
 use Rattle.posting_core.specs.declared.fault.Rule.TheVariants.{Request}
 use Rattle.posting_core.specs.declared.rows.RequestRow.{RequestRow}
-use Rattle.store_rows.specs.declared.faults.TableFault.TheVariants.{Damaged}
+use Rattle.store_rows.specs.declared.faults.TableFault.{TableFault}
+use Rattle.store_rows.specs.declared.faults.TableFault.TheVariants.{Sqlite, Damaged}
 use Rattle.store_rows.specs.Columns.{request_shown}
 use Rattle.store_rows.specs.Outcomes.{ReadsCents, ReadsKept, ReadsOutcome, ReadsWhole}
 
@@ -74,3 +75,15 @@ module _ (row : Row) (account branch : ℕ) (delta : ℤ) (outcome : Outcome) (b
             subst (λ (k : KeptFields). is_kept_with k.outcome k.balance ≡ false) (same_fields r shown) is in
             let t : is_kept_with r.kept.outcome r.kept.balance ≡ true = kept.outcome in cc),
       )
+
+-- ---- an amount that couldn't be read
+
+pub no_delta : (row : Row) (e : TableFault) → ReadsCents Request (column row 5) (Err e) → ReadsKept row (Err e)
+no_delta row (Sqlite e) read = λ r is. read r.kept.delta (ap (λ x. column x 5) is)
+no_delta row (Damaged broken) read = λ r is.
+    let it = read r.kept.delta (ap (λ x. column x 5) is) in (it.0, λ can. let none = it.1 in let some = can.delta in cc)
+
+pub no_balance : (row : Row) (e : TableFault) → ReadsCents Request (column row 7) (Err e) → ReadsKept row (Err e)
+no_balance row (Sqlite e) read = λ r is. read r.kept.balance (ap (λ x. column x 7) is)
+no_balance row (Damaged broken) read = λ r is.
+    let it = read r.kept.balance (ap (λ x. column x 7) is) in (it.0, λ can. let none = it.1 in let some = can.balance in cc)

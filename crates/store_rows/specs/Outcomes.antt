@@ -80,23 +80,29 @@ Adds old new table taken after (Err (Damaged broken)) = (broken ≡ rule.Key) ×
 
 -- ---- a stored number, as its type
 
+-- the integer that the value is, or it is of another type, or memory was refused
+abbrev pub ReadsInteger : Value → Result ℤ TableFault → Type 0
+ReadsInteger v (Ok n) = (z : ℤ) → v ≡ Int z → n ≡ z
+ReadsInteger v (Err (Sqlite e)) = (z : ℤ) → v ≡ Int z → e ≡ SqliteFailure OutOfMemory
+ReadsInteger v (Err (Damaged broken)) = (z : ℤ) → v ≡ Int z → ⊥
+
 -- the number that the value is, or it is outside, or memory was refused
 abbrev pub ReadsWhole : ℕ → ℕ → Rule → Value → Result ℕ TableFault → Type 0
 ReadsWhole least most broken v (Ok n) = (z : ℤ) → v ≡ Int z → z ≡ pos n
 ReadsWhole least most broken v (Err (Sqlite e)) = (z : ℤ) → v ≡ Int z → e ≡ SqliteFailure OutOfMemory
-ReadsWhole least most broken v (Err (Damaged rule)) = (rule ≡ broken) × ((n : ℕ) → v ≡ Int (pos n) → whole_within least most n ≡ None)
+ReadsWhole least most broken v (Err (Damaged rule)) = (z : ℤ) → v ≡ Int z → (rule ≡ broken) × ((n : ℕ) → z ≡ pos n → whole_within least most n ≡ None)
 
 -- the amount that the value is, or it is outside the limits, or memory was refused
 abbrev pub ReadsCents : Rule → Value → Result ℤ TableFault → Type 0
 ReadsCents broken v (Ok n) = (z : ℤ) → v ≡ Int z → n ≡ z
 ReadsCents broken v (Err (Sqlite e)) = (z : ℤ) → v ≡ Int z → e ≡ SqliteFailure OutOfMemory
-ReadsCents broken v (Err (Damaged rule)) = (rule ≡ broken) × ((z : ℤ) → v ≡ Int z → cents_within 999_999_999_999 z ≡ None)
+ReadsCents broken v (Err (Damaged rule)) = (z : ℤ) → v ≡ Int z → (rule ≡ broken) × (cents_within 999_999_999_999 z ≡ None)
 
 -- the outcome whose code the value is, or it is no code, or memory was refused
 abbrev pub ReadsOutcome : Value → Result Outcome TableFault → Type 0
 ReadsOutcome v (Ok o) = (z : ℤ) → v ≡ Int z → z ≡ pos (code_of o)
 ReadsOutcome v (Err (Sqlite e)) = (z : ℤ) → v ≡ Int z → e ≡ SqliteFailure OutOfMemory
-ReadsOutcome v (Err (Damaged broken)) = (broken ≡ rule.Request) × ((o : Outcome) → v ≢ Int (pos (code_of o)))
+ReadsOutcome v (Err (Damaged broken)) = (z : ℤ) → v ≡ Int z → (broken ≡ rule.Request) × ((o : Outcome) → z ≢ pos (code_of o))
 
 -- what a row shows, or it breaks a rule in this way, or memory was refused
 abbrev pub ReadsRow : {X : Type 0} → (X → Row) → (X → Rule → Type 0) → Row → Result X TableFault → Type 0

@@ -1,11 +1,22 @@
 //! Stored numbers as the types that they stand for.
 ghost use Rattle.sqlite.specs.Order.{column};
-ghost use Rattle.store_rows.specs.Outcomes.{ReadsCents, ReadsOutcome, ReadsWhole};
+ghost use Rattle.store_rows.specs.Outcomes.{ReadsCents, ReadsInteger, ReadsOutcome, ReadsWhole};
 
 use crate::faults::TableFault;
 use message_records::{Cents, Outcome, Whole};
 use posting_core::Rule;
-use sqlite::Row;
+use sqlite::{Error, Row};
+
+// The integer in a column. A value of another type is damage.
+pub(crate) fn integer_at(row: &Row, at: usize) -> Result<i64, TableFault>
+    ensures { ReadsInteger (column row.now at) result }
+{
+    match row.get(at) {
+        Ok(value) => Ok(value),
+        Err(Error::InvalidColumnType(..)) => Err(TableFault::Damaged(Rule::Value)),
+        Err(e) => Err(TableFault::Sqlite(e)),
+    }
+}
 
 // The whole number in a column, or the rule that it breaks outside the range.
 pub(crate) fn whole_at<const LEAST: u64, const MOST: u64>(
@@ -15,7 +26,7 @@ pub(crate) fn whole_at<const LEAST: u64, const MOST: u64>(
 ) -> Result<Whole<LEAST, MOST>, TableFault>
     ensures { ReadsWhole LEAST MOST rule (column row.now at) result }
 {
-    let value: i64 = row.get(at)?;
+    let value = integer_at(row, at)?;
     if value < 0 {
         return Err(TableFault::Damaged(rule));
     }
@@ -26,7 +37,7 @@ pub(crate) fn whole_at<const LEAST: u64, const MOST: u64>(
 pub(crate) fn count_at(row: &Row, at: usize, rule: Rule) -> Result<u32, TableFault>
     ensures { ReadsWhole 0 4_294_967_295 rule (column row.now at) result }
 {
-    let value: i64 = row.get(at)?;
+    let value = integer_at(row, at)?;
     if value < 0 || value > 4_294_967_295 {
         return Err(TableFault::Damaged(rule));
     }
@@ -37,7 +48,7 @@ pub(crate) fn count_at(row: &Row, at: usize, rule: Rule) -> Result<u32, TableFau
 pub(crate) fn cents_at(row: &Row, at: usize, rule: Rule) -> Result<Cents, TableFault>
     ensures { ReadsCents rule (column row.now at) result }
 {
-    let value: i64 = row.get(at)?;
+    let value = integer_at(row, at)?;
     Cents::new(value).ok_or(TableFault::Damaged(rule))
 }
 
@@ -45,7 +56,7 @@ pub(crate) fn cents_at(row: &Row, at: usize, rule: Rule) -> Result<Cents, TableF
 pub(crate) fn outcome_at(row: &Row, at: usize) -> Result<Outcome, TableFault>
     ensures { ReadsOutcome (column row.now at) result }
 {
-    let value: i64 = row.get(at)?;
+    let value = integer_at(row, at)?;
     match value {
         0 => Ok(Outcome::Posted),
         11 => Ok(Outcome::NoTeller),

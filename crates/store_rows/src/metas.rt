@@ -10,6 +10,7 @@ ghost use Rattle.store_rows.specs.Outcomes.{Finds, Looks, Never, ReadsRow, Write
 ghost use Rattle.store_rows.specs.SixTables.{meta as table};
 ghost use Rattle.store_rows.specs.View.{Shows};
 
+use crate::columns::integer_at;
 use crate::faults::TableFault;
 use sqlite::{Alter, Error, Row, Transaction, params};
 
@@ -27,8 +28,8 @@ fn meta_from(row: &Row) -> Result<StoredMeta, TableFault>
     ensures { ReadsRow meta_shown Never row.now result }
 {
     Ok(StoredMeta {
-        version: row.get(0)?,
-        decided: row.get(1)?,
+        version: integer_at(row, 0)?,
+        decided: integer_at(row, 1)?,
     })
 }
 
