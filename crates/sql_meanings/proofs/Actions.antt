@@ -1,33 +1,5 @@
 -- Whatever refers to a table with no foreign key of its own, an edit leaves in it what the edit says.
-use Rattle.std.proofs.Common.{
-  ◌≡◌,
-  ◌≢◌,
-  ℕ,
-  suc,
-  zero,
-  ◌+◌,
-  ◌==◌,
-  List,
-  [],
-  ◌∷◌,
-  ◌++◌,
-  length,
-  Ok,
-  Result,
-  Some,
-  None,
-  Option,
-  refl,
-  nat_lt,
-  ◌&&◌,
-  ap,
-  sym,
-  subst,
-  ◌∙◌,
-  inl,
-  inr,
-  ◌⊎◌,
-}
+use Rattle.std.proofs.Common.{◌≡◌, ◌≢◌, ℕ, suc, zero, ◌+◌, ◌==◌, List, [], ◌∷◌, length, Ok, Result, Some, None, Option, refl, nat_lt, ◌&&◌, ap, sym, subst, ◌∙◌, inl, inr, ◌⊎◌}
 use Rattle.std.specs.Prelude.{ℤ}
 use Rattle.std.specs.List.{filter_map, flat_map, cons_option, list_any}
 use Rattle.std.proofs.lemmas.Bool.{cases_Bool}

@@ -53,6 +53,7 @@ use Rattle.sqlite_resolve.specs.Compile.{
   with_command,
 }
 use Rattle.sqlite.specs.Listing.{understood, misses_table}
+use Rattle.sql_meanings.specs.Making.{IsCreation}
 
 -- it is made, or refused as a name that is taken
 abbrev pub Outcome : {A : Type 0} → A → Checked A → Type 0
@@ -105,16 +106,12 @@ told schema text c (inr (e, is, inr (inr k))) = inr (e, told_by schema text e is
 
 -- under the schema the text makes a table, or is refused
 abbrev pub Makes : Schema → List ℕ → Type 0
-Makes schema text = (c : Compiled) × Outcome c (understood schema text) × (c.command ≡ MakeTable) × (c.returning ≡ None)
-    × (c.formats ≡ []) × (Rattle.std.specs.Prelude.slice_range text c.start c.end ≡ text)
+Makes schema text = (c : Compiled) × Outcome c (understood schema text) × IsCreation text c
 
 -- a CREATE TABLE that is understood is one, and its text is the whole
-pub known : (text : List ℕ) (schema : Schema) (c : Compiled) → Makes schema text → understood schema text ≡ Ok c
-    → (c.command ≡ MakeTable) × (c.returning ≡ None) × (c.formats ≡ []) × (Rattle.std.specs.Prelude.slice_range text c.start c.end ≡ text)
-known text schema c (d, inl made, command, bare, timeless, whole) is = let same : d ≡ c = same_compiled (sym made ∙ is) in
-    subst (λ (c : Compiled). (c.command ≡ MakeTable) × (c.returning ≡ None) × (c.formats ≡ [])
-    × (Rattle.std.specs.Prelude.slice_range text c.start c.end ≡ text)) same (command, bare, timeless, whole)
+pub known : (text : List ℕ) (schema : Schema) (c : Compiled) → Makes schema text → understood schema text ≡ Ok c → IsCreation text c
+known text schema c (d, inl made, creation) is = let same : d ≡ c = same_compiled (sym made ∙ is) in subst (IsCreation text) same creation
   where
     same_compiled : {a b : Compiled} → ◌≡◌ {A = Checked Compiled} (Ok a) (Ok b) → a ≡ b
     same_compiled e = cc
-known text schema c (d, inr refused, command, bare, timeless, whole) is = absurd (let e = sym is ∙ refused.1 in cc)
+known text schema c (d, inr refused, creation) is = absurd (let e = sym is ∙ refused.1 in cc)

@@ -13,7 +13,10 @@ use Rattle.std.proofs.Common.{
   true,
   false,
   not,
+  None,
   Some,
+  inl,
+  inr,
   refl,
   ap,
   ◌∙◌,
@@ -26,6 +29,7 @@ use Rattle.std.proofs.Common.{
 }
 use Rattle.std.specs.Ordering.{is_eq, int_eq, match_ordering}
 use Rattle.std.proofs.lemmas.Int.{ints}
+use Rattle.std.proofs.lemmas.Bool.{cases_Bool}
 use Rattle.std.specs.List.{AllByRecursion}
 use Rattle.sqlite.specs.declared.types.Value.TheVariants.{Null, Int}
 use Rattle.sqlite.specs.Tree.{has_rowid, put_row, without_rowid}
@@ -91,6 +95,14 @@ same_test k (x ∷ xs) = rw (rowid_is k x, same_test k xs)
 -- to take a rowid out is to take the row out
 pub without_stored : (k : ℤ) (es : List Entry) → without_rowid k (map stored es) ≡ map stored (without k es)
 without_stored k es = filter-map (λ r. not (has_rowid k r)) stored es ∙ ap (map stored) (same_test k es)
+
+-- no entry with the key is left then
+pub none_without : (k : ℤ) (es : List Entry) → find (has_key k) (without k es) ≡ None
+none_without k [] = refl
+none_without k (x ∷ xs) = elim (cases_Bool (has_key k x)) [
+  | inl here ↦ rw here (none_without k xs)
+  | inr away ↦ rw away (rw away (none_without k xs))
+]
 
 -- ---- rising keys
 

@@ -1,28 +1,5 @@
 -- A new row is put into a table.
-use Rattle.std.proofs.Common.{
-  ◌≡◌,
-  ℕ,
-  ◌/◌,
-  List,
-  [],
-  ◌∷◌,
-  map,
-  find,
-  length,
-  is_some,
-  Ok,
-  Err,
-  refl,
-  sym,
-  ap,
-  subst,
-  ◌∙◌,
-  Bool,
-  not,
-  ◌&&◌,
-  true,
-  false,
-}
+use Rattle.std.proofs.Common.{◌≡◌, ℕ, ◌/◌, List, [], ◌∷◌, map, find, length, is_some, Ok, refl, sym, ap, subst, ◌∙◌, Bool, not, ◌&&◌, true, false}
 use Rattle.sqlite.specs.Order.{Row}
 use Rattle.sqlite.specs.Schema.{Schema}
 use Rattle.sqlite.specs.Tree.{Trees, put_row}
@@ -35,7 +12,7 @@ use Rattle.sqlite.specs.Source.TheVariants.{Values}
 use Rattle.sqlite.specs.Command.TheVariants.{Insert}
 use Rattle.sqlite.specs.Effect.{IsDatabase, value_rows}
 use Rattle.sqlite.specs.Rows.{stamped}
-use Rattle.sqlite.specs.State.{State, IsUnchanged, Executes, ExecutesInside}
+use Rattle.sqlite.specs.State.{State, Executes}
 use Rattle.sql_meanings.specs.Entries.{Entry, has_key, listed, put, stored}
 use Rattle.sql_meanings.specs.Tables.{Holds, placed_at, tree_of, width_of}
 use Rattle.sql_meanings.proofs.Statements.{HasTable}
@@ -47,16 +24,19 @@ use Rattle.sql_meanings.proofs.Steps.{standing}
 use Rattle.sql_meanings.proofs.Writing.{Wrote, inserts, uncounted}
 use Rattle.sqlite_schema.specs.declared.schema.Keys.TheVariants.{Enforced}
 use Rattle.sqlite_rules.specs.Lists.{Has}
+use Rattle.sqlite_schema.specs.Rules.{passes_checks}
+use Rattle.sqlite_typing.specs.Types.{accepts_terms}
 use Rattle.sqlite_rules.proofs.ListLemmas.{all_has}
 use Rattle.sql_meanings.specs.Making.{SparesTables}
-use Rattle.sql_meanings.proofs.TakenKeys.{key_taken, put_in_applies, taken_by_error}
+use Rattle.sql_meanings.proofs.PuttingIn.{put_in_applies}
 use Rattle.sql_meanings.proofs.TableWrites.{IsOfNumbers, Leaves, steps_by}
 
 not_then : (b c : Bool) → (not b && c) ≡ true → b ≡ false
 not_then true c h = absurd cc
 not_then false c h = refl
 
-not_both : (b : Bool) → (not b && true) ≡ false → b ≡ true
+-- a test that fails with another that holds fails itself
+pub not_both : (b : Bool) → (not b && true) ≡ false → b ≡ true
 not_both true h = refl
 not_both false h = absurd cc
 
@@ -68,6 +48,8 @@ pub record PutsAs (table : Table) (text : List ℕ) (params : Row) (new : Entry)
       → Means schema text (length params) (Insert p (Values terms width))
   pub gives : (tree : ℕ) → value_rows (stamped (placed_at table tree) params) width (length terms / width) terms ≡ stored new ∷ []
   pub wide : length new.values ≡ width_of table
+  pub accepts : (tree : ℕ) → accepts_terms terms (stamped (placed_at table tree) params) ≡ true
+  pub passes : passes_checks table (stored new) ≡ true
 
 module _ (old new : State) (t : Table) (is : IsOfNumbers (uncounted t)) (sound : ∥ IsDatabase old.now ∥₁) (es : List Entry)
     (holds : Holds old.now (uncounted t) es)
@@ -84,12 +66,14 @@ module _ (old new : State) (t : Table) (is : IsOfNumbers (uncounted t)) (sound :
   abbrev put_by : List Row → Edit
   put_by rows = edit_of db (placed_at table tree) [] Chosen 0 rows
 
-  put_is : edited db (put_by (stored e ∷ [])) ≡ map stored (put e es)
+  -- the row is put in its place
+  pub put_is : edited db (put_by (stored e ∷ [])) ≡ map stored (put e es)
   put_is =
       ap (λ row. put_all (db tree) (numbered Chosen (db tree) (row ∷ []))) (cast_stored table is.key is.names e is.columns)
       ∙ ap (put_row (stored e)) holds.rows.are ∙ put_stored e es
 
-  fresh_is : are_fresh (left_by db (put_by (stored e ∷ []))) (put_by (stored e ∷ [])).news
+  -- where its key is free
+  pub fresh_is : are_fresh (left_by db (put_by (stored e ∷ []))) (put_by (stored e ∷ [])).news
       ≡ (not (is_some (find (has_key e.key) es)) && true)
   fresh_is =
       ap (λ row. are_fresh (db tree) (numbered Chosen (db tree) (row ∷ []))) (cast_stored table is.key is.names e is.columns)
@@ -123,12 +107,3 @@ module _ (old new : State) (t : Table) (is : IsOfNumbers (uncounted t)) (sound :
         free,
         spares count wrote,
       )
-
-  -- the error that names the primary key comes only where the key was taken, and leaves everything
-  pub taken_row : ExecutesInside 0 text params old new (Err key_taken) → (is_some (find (has_key e.key) es) ≡ true) × IsUnchanged old new
-  taken_row h =
-      let at = standing old.now table is.free sound holds.defined in
-      let it = taken_by_error old new text params at.place (placed_at t tree) at.has.listed puts.terms puts.width
-      (puts.means old.now.schema at.place tree at.has) h in
-      let taken = subst (λ rows. are_fresh (left_by db (put_by rows)) (put_by rows).news ≡ false) (puts.gives tree) it.0 in
-      (not_both _ (sym fresh_is ∙ taken), it.1)

@@ -33,6 +33,8 @@ use Rattle.sqlite.specs.Table.{Table}
 use Rattle.sqlite.specs.Term.{Term, eval_all}
 use Rattle.sqlite.specs.Edit.{Edit, edit_of, edited}
 use Rattle.sqlite_rules.specs.Calls.{ids_of}
+use Rattle.sqlite_schema.specs.Rules.{passes_checks}
+use Rattle.sqlite_typing.specs.Types.{accepts_program}
 use Rattle.sqlite.specs.Rowids.TheVariants.{Given}
 use Rattle.sqlite.specs.Command.TheVariants.{Update}
 use Rattle.sqlite.specs.Effect.{IsDatabase}
@@ -60,6 +62,9 @@ pub record ChangesAs (table : Table) (text : List ℕ) (k : ℤ) (more : Row) (c
       → eval_all project ((Int k ∷ more) ∷ stored e ∷ []) ≡ Int e.key ∷ stored (change e)
   pub keeps_key : (e : Entry) → (change e).key ≡ e.key
   pub keeps_width : (e : Entry) → length e.values ≡ width_of table → length (change e).values ≡ width_of table
+  pub accepts : (schema : Schema) (p tree : ℕ) → HasTable schema table.name p (placed_at table tree)
+      → accepts_program schema [] (by_key tree project) (Int k ∷ more) ≡ true
+  pub passes : (e : Entry) → length e.values ≡ width_of table → e.key ≡ k → passes_checks table (stored (change e)) ≡ true
 
 module _ (old new : State) (table : Table) (is : IsOfNumbers table) (sound : ∥ IsDatabase old.now ∥₁) (es : List Entry)
     (holds : Holds old.now table es)
@@ -77,7 +82,7 @@ module _ (old new : State) (table : Table) (is : IsOfNumbers table) (sound : ∥
   set_by rows = edit_of db (placed_at table tree) (ids_of rows) Given 1 rows
 
   -- what the write leaves of the rows, and how many it met
-  record Set (rows : List Row) (after : List Entry) (count : ℕ) (there : Bool) : Type 0 where
+  pub record Set (rows : List Row) (after : List Entry) (count : ℕ) (there : Bool) : Type 0 where
     pub stands : IsTree (width_of table) rows after
     pub met : count ≡ cond there 1 0
 
@@ -98,7 +103,8 @@ module _ (old new : State) (table : Table) (is : IsOfNumbers table) (sound : ∥
       ∙ ap (map stored) (put_without (change e) es holds.rows.rise)
       ∙ ap (map stored) (put_changed change changes.keeps_key k es e holds.rows.rise found)
 
-  set_rows : (rows : List Row) (o : Option Entry) → find (has_key k) es ≡ o → rows ≡ map shown (listed o)
+  -- the row under the key is changed, if there is one
+  pub set_rows : (rows : List Row) (o : Option Entry) → find (has_key k) es ≡ o → rows ≡ map shown (listed o)
       → Set (edited db (set_by rows)) (changed change k es) (length (set_by rows).news) (is_some o)
   set_rows rows None found are =
       subst (λ rs. Set (edited db (set_by rs)) (changed change k es) (length (set_by rs).news) false) (sym are)

@@ -1,5 +1,5 @@
 -- What a write of one table leaves.
-use Rattle.std.proofs.Common.{◌≡◌, ℕ, List, [], ◌∷◌, map, sym, ap, subst, ◌∙◌}
+use Rattle.std.proofs.Common.{◌≡◌, ◌≤◌, ℕ, Some, List, [], ◌∷◌, map, sym, ap, subst, ◌∙◌}
 use Rattle.sqlite.specs.Order.{Row}
 use Rattle.sqlite.specs.Table.{Table}
 use Rattle.sqlite.specs.Edit.{Edit, edited}
@@ -20,9 +20,12 @@ pub record Leaves (old new : State) (table : Table) (es : List Entry) : Type 0 w
   pub sound : IsDatabase new.now
   pub marks : new.marks ≡ old.marks
 
--- a table of a key and whole numbers, with no foreign key of its own and no AUTOINCREMENT
+-- a table of a key and at most 1999 whole numbers, with no foreign key of its own and no AUTOINCREMENT
 pub record IsOfNumbers (table : Table) : Type 0 where
   pub free : table.references ≡ []
+  pub keyed : table.key ≡ Some 0
+  pub uncomputed : table.computed ≡ []
+  pub narrow : width_of table ≤ 1999
   pub key : List ℕ
   pub names : List (List ℕ)
   pub columns : table.columns ≡ key_column key ∷ map number_column names

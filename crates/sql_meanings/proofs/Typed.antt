@@ -55,7 +55,8 @@ and_both : (a b : Bool) → (a && b) ≡ true → (a ≡ true) × (b ≡ true)
 and_both true b h = (refl, h)
 and_both false b h = absurd (cc)
 
-drop_head : (n : ℕ) (row : Row) (v : Value) (vs : Row) → drop n row ≡ v ∷ vs → (column row n ≡ v) × (drop (suc n) row ≡ vs)
+-- the first of what is left
+pub drop_head : (n : ℕ) (row : Row) (v : Value) (vs : Row) → drop n row ≡ v ∷ vs → (column row n ≡ v) × (drop (suc n) row ≡ vs)
 drop_head zero [] v vs h = absurd (cc)
 drop_head zero (x ∷ row) v vs h = let e : x ≡ v = cc in let f : row ≡ vs = cc in (e, f)
 drop_head (suc n) [] v vs h = absurd (cc)

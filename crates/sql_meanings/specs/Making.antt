@@ -1,13 +1,23 @@
 -- How a table comes to be, and what stands on beside it.
-use Rattle.std.specs.Prelude.{◌≡◌, ◌≢◌, List, ℕ, [], Ok, None, slice_range}
+use Rattle.std.specs.Prelude.{◌≡◌, ◌≢◌, ◌⊎◌, ◌+◌, ◌*◌, ◌^◌, ◌<◌, ◌≤◌, ◌==◌, IsTrue, IsUtf8, List, ℕ, [], true, codes, length, Ok, Err, None, slice_range}
 use Rattle.sqlite.specs.Schema.{Schema}
 use Rattle.sqlite.specs.Table.{Table}
 use Rattle.sqlite.specs.Command.TheVariants.{CreateTable}
-use Rattle.sqlite.specs.Change.{next_tree}
+use Rattle.sqlite.specs.Change.{automatics, created, is_used, next_tree}
+use Rattle.sqlite.specs.Does.{lacks_sequence, sequence_text}
 use Rattle.sqlite.specs.Effect.{Database}
+use Rattle.sqlite.specs.declared.error.Error.{Error}
+use Rattle.sqlite.specs.declared.error.Error.TheVariants.{SqliteFailure, SqlInputError}
+use Rattle.sqlite.specs.declared.error.ErrorCode.TheVariants.{NameTaken, SchemaTooBig}
+use Rattle.sqlite.specs.declared.types.Value.TheVariants.{Text}
 use Rattle.sqlite.specs.Listing.{understood}
 use Rattle.sqlite.specs.Compile.{table_defined_by}
 use Rattle.sqlite_resolve.specs.declared.compiled.Compiled.{Compiled}
+use Rattle.sqlite_resolve.specs.declared.error.CompileError.{CompileError}
+use Rattle.sqlite_catalog.specs.Calls.{IsBadName}
+use Rattle.sqlite_catalog.specs.Listing.{is_fit, is_formed}
+use Rattle.sqlite_schema.specs.declared.schema.Index.{Index}
+use Rattle.sqlite_schema.specs.Rules.{table_reals}
 use Rattle.sqlite_rules.specs.Lists.{Has}
 use Rattle.sql_meanings.specs.Tables.{placed_at, tree_of}
 
@@ -29,12 +39,46 @@ pub record Adds (old after : Database) (t : Table) : Type 0 where
   pub stands : Stands after.schema (placed_at t (next_tree old.schema))
   pub empty : after.trees (next_tree old.schema) ≡ []
 
+-- a table of no REAL column, short enough that any schema takes it that has its names free and room for it
+pub record IsMakeable (text : List ℕ) (t : Table) : Type 0 where
+  pub defined : table_defined_by text ≡ Ok t
+  pub utf8 : IsUtf8 text
+  pub allowed : ¬ IsBadName t.name (length t.uniques == 0)
+  pub integral : table_reals t ≡ 0
+  pub formed : is_formed t ≡ true
+  pub fit : is_fit (Text (codes "table")) (Text t.name) (Text t.name) (Text text) ≡ true
+  pub short : 2 * length t.name + length text + 200 < 10 ^ 9
+
+-- it is this one command, whole, with no parameters, which returns nothing and reads no time
+pub record IsCreation (text : List ℕ) (c : Compiled) : Type 0 where
+  pub command : c.command ≡ CreateTable
+  pub bare : c.returning ≡ None
+  pub timeless : c.formats ≡ []
+  pub text_is : slice_range text c.start c.end ≡ text
+  pub whole : length text ≤ c.tail
+  pub nameless : c.names ≡ []
+
 -- the text is a CREATE TABLE of this table, under any schema that takes it
 pub record CreatesOnly (text : List ℕ) (t : Table) : Type 0 where
-  pub defined : table_defined_by text ≡ Ok t
+  pub makeable : IsMakeable text t
   pub free : t.references ≡ []
-  pub command : (schema : Schema) (c : Compiled) → understood schema text ≡ Ok c
-      → (c.command ≡ CreateTable) × (c.returning ≡ None) × (c.formats ≡ []) × (slice_range text c.start c.end ≡ text)
+  pub command : (schema : Schema) (c : Compiled) → understood schema text ≡ Ok c → IsCreation text c
+
+-- a new table is refused: a name of its own is taken, or the file has no room for its trees
+abbrev pub RefusesNew : Schema → Table → Error → Type 0
+RefusesNew schema t e =
+    ((e ≡ SqliteFailure NameTaken)
+    × ((is_used schema t.name ≡ true) ⊎ ((i : Index) × Has (automatics t 0 0 t.uniques) i × (is_used schema i.name ≡ true))))
+    ⊎ ((e ≡ SqliteFailure SchemaTooBig) × (65536 ≤ next_tree schema + length t.uniques))
+
+-- A CREATE TABLE is refused: under the schema the text isn't understood, as where an index has the name; or the table is refused, or the
+-- one that counts for AUTOINCREMENT, where a table needs it and there is none.
+abbrev pub NotMade : Schema → List ℕ → Table → Error → Type 0
+NotMade schema text t e =
+    ((fault : CompileError) × (understood schema text ≡ Err fault) × (e ≡ SqlInputError fault))
+    ⊎ (RefusesNew schema t e
+    ⊎ (IsTrue (lacks_sequence (created schema t)) × (counts : Table) × (table_defined_by sequence_text ≡ Ok counts)
+    × RefusesNew (created schema t) counts e))
 
 -- every table that was there is there, with its rows
 abbrev pub KeepsTables : Database → Database → Type 0

@@ -1,20 +1,28 @@
 -- What a statement inside a transaction tells, and what it leaves.
-use Rattle.std.specs.Prelude.{◌≡◌, ◌≢◌, ◌⊎◌, ◌≤◌, IsSome, ℕ, List, [], length, Bool, true, false, Option, Some, None, Result, Ok, Err, ⊤}
+use Rattle.std.specs.Prelude.{◌≡◌, ◌≢◌, ◌⊎◌, ◌≤◌, ◌<◌, IsSome, IsTrue, ℕ, List, [], length, map, Bool, true, false, Option, Some, None, Result, Ok, Err, ⊤}
+use Rattle.std.specs.List.{list_any}
 use Rattle.sqlite.specs.Order.{Row}
 use Rattle.sqlite.specs.Table.{Table}
 use Rattle.sqlite.specs.Schema.{Schema}
-use Rattle.sqlite.specs.Effect.{IsDatabase}
+use Rattle.sqlite.specs.Tree.{Trees}
+use Rattle.sqlite.specs.Effect.{IsDatabase, edit_error}
 use Rattle.sqlite.specs.Listing.{understood}
-use Rattle.sqlite_schema.specs.Names.{table_named, view_named}
+use Rattle.sqlite_trees.specs.declared.error.StoreError.{StoreError}
+use Rattle.sqlite_schema.specs.Names.{same_name, table_named, view_named}
+use Rattle.sqlite_schema.specs.declared.schema.Index.{Index}
+use Rattle.sqlite_schema.specs.declared.schema.Constraint.TheVariants.{PrimaryKey, Unique}
+use Rattle.sqlite_rules.specs.Lists.{Has}
+use Rattle.sqlite_rules.specs.declared.error.Refusal.{Refusal}
 use Rattle.sqlite_resolve.specs.declared.compiled.Compiled.{Compiled}
 use Rattle.sqlite_resolve.specs.declared.error.CompileError.{CompileError}
-use Rattle.sqlite.specs.State.{State, Fails, IsUnchanged, IsRolledBack, KeepsCommit}
+use Rattle.sqlite.specs.State.{State, Fails, IsUnchanged, IsRolledBack, KeepsCommit, KeepsCounts, HasCause, store_error}
 use Rattle.sqlite.specs.State.{Shows as StateShows}
 use Rattle.sqlite.specs.declared.error.Error.{Error}
 use Rattle.sqlite.specs.declared.error.Error.TheVariants.{SqliteFailure, SqlInputError, QueryReturnedNoRows}
-use Rattle.sqlite.specs.declared.error.ErrorCode.TheVariants.{OutOfMemory, OperationInterrupted}
-use Rattle.sql_meanings.specs.Making.{Adds}
-use Rattle.sql_meanings.specs.Tables.{Defines}
+use Rattle.sqlite.specs.declared.error.ErrorCode.TheVariants.{OutOfMemory, OperationInterrupted, ConstraintViolation}
+use Rattle.sql_meanings.specs.Entries.{Entry, stored}
+use Rattle.sql_meanings.specs.Making.{Adds, NotMade}
+use Rattle.sql_meanings.specs.Tables.{Defines, tree_of}
 
 -- why a plain read may fail: the store failed and the transaction is rolled back, or the limit on steps was met and nothing has changed
 abbrev pub ReadFails : State → State → Error → Type 0
@@ -29,6 +37,53 @@ IsStoreError old new e =
 -- the transaction goes on, and only what it shows now may differ
 abbrev pub GoesOn : State → State → Type 0
 GoesOn old new = StateShows old new new.now old.committed true × (new.marks ≡ old.marks)
+
+-- ---- why a write fails
+
+-- the error is one of the store, and what it names has happened
+abbrev pub NamesCause : State → State → Type 0 → Error → Type 0
+NamesCause old new TooBig e = (cause : StoreError) × (e ≡ store_error cause) × HasCause old new TooBig cause
+
+-- the error says that a key is taken
+abbrev pub is_taken_key : Error → Bool
+is_taken_key (SqliteFailure (ConstraintViolation PrimaryKey)) = true
+is_taken_key _ = false
+
+-- the limit on steps was met
+abbrev pub IsInterrupted : State → Error → Type 0
+IsInterrupted old e = (e ≡ SqliteFailure OperationInterrupted) × IsSome old.step_limit
+
+-- an index of the table has more columns than can be stored
+abbrev pub HasWideIndex : Schema → Table → Type 0
+HasWideIndex schema table = (i : Index) × Has schema.indexes i × (i.table ≡ tree_of schema table.name) × (2000 < length i.columns)
+
+-- a foreign key of the schema names this table as its parent
+abbrev pub is_parent : Schema → Table → Bool
+is_parent schema table = list_any (λ t. list_any (λ ref. same_name table.name ref.parent) t.references) schema.tables
+
+-- no sound database with this schema has these rows in the table
+abbrev pub Forbids : Schema → Table → List Entry → Type 0
+Forbids schema table entries =
+    (trees : Trees) → IsDatabase (record { schema = schema; trees = trees }) → trees (tree_of schema table.name) ≢ map stored entries
+
+-- Why a row can't be put in: the store failed, and the transaction is rolled back; or the limit on steps was met, or a UNIQUE of the
+-- schema allows no such rows, and nothing has changed.
+abbrev pub PutFails : State → State → Table → Type 0 → Error → Type 0
+PutFails old new table NoSuchRows e =
+    Fails old new (HasWideIndex old.now.schema table) e
+    ⊎ ((IsInterrupted old e ⊎ ((e ≡ SqliteFailure (ConstraintViolation Unique)) × NoSuchRows)) × IsUnchanged old new)
+
+-- Why a row can't be changed: the same; or another table has a foreign key to this one, and what that sets off failed or broke a rule.
+abbrev pub SetFails : State → State → Table → Type 0 → Error → Type 0
+SetFails old new table NoSuchRows e =
+    PutFails old new table NoSuchRows e
+    ⊎ (IsTrue (is_parent old.now.schema table) × (Fails old new ⊤ e ⊎ (((why : Refusal) × (e ≡ edit_error why)) × IsUnchanged old new)))
+
+-- no transaction goes on, and a connection that is open shows what was last committed
+abbrev pub IsUndone : State → State → Type 0
+IsUndone old new =
+    (IsTrue new.is_open → IsTrue old.is_open × (new.now ≡ old.committed) × (new.committed ≡ old.committed))
+    × (new.in_transaction ≡ false) × (new.marks ≡ [])
 
 -- nothing has changed, or the transaction is rolled back
 abbrev pub WriteFails : State → State → Type 0
@@ -54,10 +109,14 @@ abbrev pub WritesKept : {X E : Type 0} → State → State → Result X E → Ty
 WritesKept old new (Ok x) = StateShows old new new.now old.committed true
 WritesKept old new (Err e) = KeepsCommit old new
 
--- the table was made, in a sound database
-abbrev pub MakesTold : State → State → Table → Result ℕ Error → Type 0
-MakesTold old new t (Ok count) = Adds old.now new.now t × IsDatabase new.now
-MakesTold old new t (Err e) = ⊤
+-- why a table can't be made: the store failed, and the transaction is rolled back; or it is refused, and nothing has changed
+abbrev pub MakeFails : State → State → List ℕ → Table → Error → Type 0
+MakeFails old new text t e = Fails old new ⊥ e ⊎ (NotMade old.now.schema text t e × IsUnchanged old new)
+
+-- the table was made, in a sound database, and no row is counted; or why it can't be made
+abbrev pub MakesTold : State → State → List ℕ → Table → Result ℕ Error → Type 0
+MakesTold old new text t (Ok count) = Adds old.now new.now t × IsDatabase new.now × KeepsCounts old new × (new.marks ≡ old.marks)
+MakesTold old new text t (Err e) = MakeFails old new text t e
 
 -- a table or a view has this name
 abbrev pub IsThere : Schema → List ℕ → Type 0

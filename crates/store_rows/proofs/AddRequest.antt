@@ -1,30 +1,31 @@
 -- A decided request is added.
-use Rattle.std.proofs.Common.{◌≡◌, ℕ, pos, is_some, List, [], ◌∷◌, find, map, codes, lit≤, refl, sym, subst, ◌∙◌, Ok, Err}
+use Rattle.std.proofs.Common.{◌≡◌, ℕ, pos, is_some, List, [], ◌∷◌, find, map, codes, lit≤, refl, sym, subst, ◌∙◌, ◌≤◌, Ok, Err, Result}
 use Rattle.sqlite.specs.Schema.{Schema}
 use Rattle.sqlite.specs.Order.{Row}
 use Rattle.sqlite.specs.Command.TheVariants.{Insert}
 use Rattle.sqlite.specs.Source.TheVariants.{Values}
 use Rattle.sqlite.specs.State.{State, ExecutesInside}
+use Rattle.sqlite.specs.declared.error.Error.{Error}
 use Rattle.sqlite.specs.Term.{Term, col, lit}
 use Rattle.sqlite.specs.declared.types.Value.TheVariants.{Null, Int}
 use Rattle.sqlite_tied.specs.Compute.{everything}
 use Rattle.message_records.specs.Outcomes.{code_of}
 use Rattle.posting_core.specs.Tables.{Tables, row_at, request_key}
 use Rattle.posting_core.specs.declared.rows.RequestRow.{RequestRow}
-use Rattle.posting_core.specs.declared.fault.Rule.TheVariants.{Key}
 use Rattle.sql_meanings.specs.Entries.{has_key}
 use Rattle.sql_meanings.specs.Tables.{placed_at}
 use Rattle.sql_meanings.proofs.Means.{Means, means}
-use Rattle.sql_meanings.proofs.PutRows.{PutsAs, puts_row, taken_row}
+use Rattle.sql_meanings.proofs.PutRows.{PutsAs, puts_row}
+use Rattle.sql_meanings.proofs.PutFailures.{refuses_insert}
 use Rattle.sql_meanings.proofs.Statements.{HasTable, inserts}
 use Rattle.sql_meanings.proofs.TableWrites.{Leaves}
-use Rattle.sql_meanings.proofs.TakenKeys.{key_taken}
-use Rattle.store_rows.specs.declared.faults.TableFault.TheVariants.{Damaged}
 use Rattle.store_rows.specs.Changes.{with_request}
 use Rattle.store_rows.specs.Outcomes.{Adds}
+use Rattle.store_rows.specs.Faults.{added}
 use Rattle.store_rows.specs.SixTables.{request}
 use Rattle.store_rows.specs.Texts.{add_request}
 use Rattle.store_rows.specs.View.{Shows, request_entry}
+use Rattle.store_rows.proofs.Failing.{adds_err, forbidden_put, key_fits}
 use Rattle.store_rows.proofs.Numbered.{request_numbered}
 use Rattle.store_rows.proofs.OneTableWritten.{requests_written}
 use Rattle.store_rows.proofs.RowLists.{put_rows, taken_row_key}
@@ -45,27 +46,25 @@ module _ (schema : Schema) (p tree : ℕ) (has : HasTable schema (codes "request
       (lit≤ tt) refl refl refl
 
 puts : (r : RequestRow) → PutsAs request add_request (params r) (request_entry r)
-puts r = record { terms = terms; width = 9; means = meant; gives = λ tree. refl; wide = refl }
+puts r = record { terms = terms; width = 9; means = meant; gives = λ tree. refl; wide = refl; accepts = λ tree. refl; passes = refl }
 
-module _ (old new : State) (t : Tables) (r : RequestRow) (shows : Shows old.now t) where
+module _ (old new : State) (t : Tables) (r : RequestRow) (shows : Shows old.now t) (low : r.ordinal ≤ 1_000_000_000_000) where
   taken_is : is_some (find (has_key (pos r.ordinal)) (map request_entry t.requests)) ≡ is_some (row_at request_key t.requests r.ordinal)
   taken_is = taken_row_key request_key request_entry (λ _. refl) r.ordinal t.requests
 
-  -- the row is there now, and each other row and table is as it was
-  pub tells : (count : ℕ) → ExecutesInside 0 add_request (params r) old new (Ok count)
-      → Adds old new request (is_some (row_at request_key t.requests r.ordinal)) (with_request r t) (Ok tt)
+  -- the row is there now, and each other row and table is as it was; or the key was taken; or why it isn't there
+  pub tells : (answer : Result ℕ Error) → ExecutesInside 0 add_request (params r) old new answer
+      → Adds old new request (is_some (row_at request_key t.requests r.ordinal)) (with_request r t) (added answer)
   unfolding with_request
-  tells count h =
+  tells (Ok count) h =
       let done = puts_row old new request request_numbered shows.sound _ shows.requests add_request (params r) (request_entry r)
       (puts r) count h.0 in
       let free = sym taken_is ∙ done.1 in
       let rows = put_rows request_key request_entry (λ _. refl) r t.requests free in
       (free, requests_written old new t shows _ (subst (Leaves old new request) rows done.0), (h.1, done.0.marks), done.2)
-
-  -- the key was taken
-  pub tells_taken : ExecutesInside 0 add_request (params r) old new (Err key_taken)
-      → Adds old new request (is_some (row_at request_key t.requests r.ordinal)) (with_request r t) (Err (Damaged Key))
-  tells_taken h =
-      let it = taken_row old new request request_numbered shows.sound _ shows.requests add_request (params r) (request_entry r)
-      (puts r) h in
-      (refl, sym taken_is ∙ it.0, it.1)
+  tells (Err e) h =
+      adds_err old new request _ _ _ _ e taken_is
+      (forbidden_put request_key request_entry (λ _. refl) old.now.schema (with_request r t) request r t.requests shows.requests.rows.rise
+      (λ db after. after.requests))
+      (refuses_insert old new request request_numbered shows.sound _ shows.requests add_request (params r) (request_entry r) (puts r)
+      (key_fits r.ordinal low) e h)

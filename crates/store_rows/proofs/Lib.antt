@@ -6,6 +6,8 @@ pub mod AddMeta
 pub mod AddRequest
 pub mod AddTeller
 pub mod CreateTexts
+pub mod CreationSteps
+pub mod Failing
 pub mod FoundRows
 pub mod GetAccount
 pub mod GetBranch

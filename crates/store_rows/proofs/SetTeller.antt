@@ -1,11 +1,13 @@
 -- A teller's balance is written.
-use Rattle.std.proofs.Common.{◌≡◌, ℕ, ℤ, pos, false, cond, nat_eq, is_some, List, [], ◌∷◌, codes, lit≤, refl, ap, subst, ◌∙◌, Ok}
+use Rattle.std.proofs.Common.{◌≡◌, ℕ, ℤ, pos, true, false, cond, nat_eq, is_some, List, [], ◌∷◌, codes, lit≤, refl, ap, subst, ◌∙◌, ◌≤◌, Ok, Err}
 use Rattle.sqlite.specs.Schema.{Schema}
 use Rattle.sqlite.specs.Command.TheVariants.{Update}
 use Rattle.sqlite.specs.State.{State, ExecutesInside}
+use Rattle.sqlite.specs.declared.error.Error.{Error}
 use Rattle.sqlite.specs.Term.{Term, col, lit}
 use Rattle.sqlite.specs.declared.types.Value.TheVariants.{Null, Int}
 use Rattle.sqlite_tied.specs.Compute.{everything}
+use Rattle.sqlite_typing.specs.Types.{accepts_program}
 use Rattle.sqlite_draft.specs.declared.query.Draft.{Draft}
 use Rattle.sqlite_draft.specs.declared.join.Step.TheVariants.{Inner}
 use Rattle.sqlite_draft.specs.Query.{query_of}
@@ -18,6 +20,9 @@ use Rattle.sql_meanings.specs.Queries.{by_key, key_is}
 use Rattle.sql_meanings.specs.Tables.{placed_at}
 use Rattle.sql_meanings.proofs.ByKey.{Tests, key_at, update_by_key}
 use Rattle.sql_meanings.proofs.Means.{Means, means}
+use Rattle.sql_meanings.specs.Outcomes.{Forbids}
+use Rattle.sql_meanings.proofs.Failures.{set_fails_as}
+use Rattle.sql_meanings.proofs.SetFailures.{refuses_update}
 use Rattle.sql_meanings.proofs.SetRows.{ChangesAs, sets_row}
 use Rattle.sql_meanings.proofs.Statements.{HasTable}
 use Rattle.sql_meanings.proofs.TableWrites.{Leaves, spares_standing}
@@ -25,7 +30,8 @@ use Rattle.store_rows.specs.Changes.{with_teller_balance}
 use Rattle.store_rows.specs.SixTables.{teller}
 use Rattle.store_rows.specs.Texts.{set_teller}
 use Rattle.store_rows.specs.View.{Shows, teller_entry}
-use Rattle.store_rows.specs.Outcomes.{Writes}
+use Rattle.store_rows.specs.Outcomes.{IsForbidden, Writes}
+use Rattle.store_rows.proofs.Failing.{forbidden, key_fits}
 use Rattle.store_rows.proofs.RowLists.{changed_rows, taken_row_key}
 use Rattle.store_rows.proofs.OneTableWritten.{tellers_written}
 use Rattle.store_rows.proofs.Lookups.{one_written}
@@ -52,12 +58,16 @@ module _ (schema : Schema) (p tree : ℕ) (has : HasTable schema (codes "teller"
       means schema set_teller 2 _ _ (update_by_key schema (codes "teller") p _ has set_teller _ _ _ _ _ _ _ _ _ _ _ _ (by_id tree) _
       refl refl refl refl refl refl refl refl refl (key_at schema (codes "teller") p [] false) typed) refl (lit≤ tt) refl refl refl
 
+  accepts : (k v : ℤ) → accepts_program schema [] (by_key tree project) (Int k ∷ Int v ∷ []) ≡ true
+  unfolding everything
+  accepts k v = rw (has.low, has.found)
+
 -- the one number behind the key is written
 abbrev set_first : ℤ → Entry → Entry
 set_first v e = record e { values = v ∷ [] }
 
 changes : (k v : ℤ) → ChangesAs teller set_teller k (Int v ∷ []) (set_first v)
-changes k v = record { project = project; means = meant; projects = λ e wide. refl; keeps_key = λ e. refl; keeps_width = λ e wide. refl }
+changes k v = record { project = project; means = meant; projects = λ e wide. refl; keeps_key = λ e. refl; keeps_width = λ e wide. refl; accepts = λ schema p tree has. accepts schema p tree has k v; passes = λ e wide key. refl }
 
 -- the row has the number, and each other row and table is as it was
 pub tells : (old new : State) (t : Tables) (k : ℕ) (v : ℤ) (count : ℕ) → Shows old.now t
@@ -73,3 +83,15 @@ tells old new t k v count shows h =
       (h.1, done.0.marks),
       spares_standing old new teller _ done.0,
     )
+
+-- why it can't be written
+pub fails : (old new : State) (t : Tables) (k : ℕ) (v : ℤ) (e : Error) → k ≤ 1_000_000_000_000 → Shows old.now t
+    → ExecutesInside 0 set_teller (Int (pos k) ∷ Int v ∷ []) old new (Err e)
+    → Writes old new teller (is_some (row_at teller_key t.tellers k)) (with_teller_balance k v t) (Err e)
+unfolding with_teller_balance
+fails old new t k v e low shows h =
+    let rows = changed_rows teller_key teller_entry (λ _. refl) (λ r. record r { balance = v }) (set_first v) (λ _. refl) k t.tellers in
+    set_fails_as old new teller _ e (IsForbidden old.now.schema (with_teller_balance k v t))
+    (λ none. forbidden old.now.schema (with_teller_balance k v t) teller _ (λ db after. after.tellers) (subst (Forbids old.now.schema teller) rows none))
+    (refuses_update old new teller teller_numbered shows.sound _ shows.tellers set_teller
+    (pos k) (Int v ∷ []) (set_first v) (changes (pos k) v) (key_fits k low) e h)

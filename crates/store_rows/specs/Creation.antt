@@ -1,15 +1,22 @@
 -- The six tables come to be, beside whatever the file has.
-use Rattle.std.specs.Prelude.{◌≢◌, [], ◌∷◌, codes, Result, Ok, Err, ⊤, ℕ}
+use Rattle.std.specs.Prelude.{◌≡◌, ◌≢◌, ◌⊎◌, List, [], ◌∷◌, codes, Result, Ok, Err, ℕ}
 use Rattle.sqlite.specs.Schema.{Schema}
 use Rattle.sqlite.specs.Table.{Table}
 use Rattle.sqlite.specs.Tree.{Trees}
 use Rattle.sqlite.specs.Effect.{Database}
-use Rattle.sqlite.specs.State.{State}
+use Rattle.sqlite.specs.State.{State, Fails, KeepsCounts}
 use Rattle.sqlite.specs.declared.error.Error.{Error}
+use Rattle.sqlite.specs.declared.error.Error.TheVariants.{SqliteFailure}
+use Rattle.sqlite.specs.declared.error.ErrorCode.TheVariants.{ConstraintViolation}
+use Rattle.sqlite_schema.specs.declared.schema.Constraint.TheVariants.{Unique}
 use Rattle.sqlite_rules.specs.Lists.{Has}
 use Rattle.posting_core.specs.Tables.{Tables}
-use Rattle.sql_meanings.specs.Making.{KeepsTables, SparesTables}
+use Rattle.sql_meanings.specs.Making.{KeepsTables, NotMade, SparesTables}
+use Rattle.sql_meanings.specs.Outcomes.{GoesOn, HasWideIndex, IsInterrupted, IsUndone, NamesCause, PutFails}
 use Rattle.sql_meanings.specs.Tables.{tree_of}
+use Rattle.store_rows.specs.Outcomes.{IsForbidden}
+use Rattle.store_rows.specs.SixTables as six
+use Rattle.store_rows.specs.Texts as text
 use Rattle.store_rows.specs.View.{Shows}
 
 -- no rows at all
@@ -26,21 +33,50 @@ pub record IsMade (old new : Database) : Type 0 where
   pub keeps : KeepsTables old new
   pub apart : (t : Table) → Has old.schema.tables t → t.tree ≢ tree_of new.schema (codes "meta")
 
--- all six were made
-abbrev pub MakesAll : State → State → Result (Unit {0}) Error → Type 0
-MakesAll old new (Ok done) = IsMade old.now new.now
-MakesAll old new (Err e) = ⊤
+-- the six texts, each with its table
+abbrev pub six_texts : List (List ℕ × Table)
+six_texts =
+    (text.make_meta, six.meta) ∷ (text.make_branch, six.branch) ∷ (text.make_teller, six.teller) ∷ (text.make_account, six.account)
+    ∷ (text.make_history, six.history) ∷ (text.make_request, six.request) ∷ []
 
--- the first row is there, and every table but meta is as it was
+-- under the schema one of the six tables can't be made
+abbrev pub RefusesOne : Schema → Error → Type 0
+RefusesOne schema e = (it : List ℕ × Table) × Has six_texts it × NotMade schema it.0 it.1 e
+
+-- All six were made. Or the store failed, and the transaction is rolled back; or one is refused under the schema that stands now, beside
+-- what was there.
+abbrev pub MakesAll : State → State → Result (Unit {0}) Error → Type 0
+MakesAll old new (Ok done) = IsMade old.now new.now × GoesOn old new × KeepsCounts old new
+MakesAll old new (Err e) =
+    Fails old new ⊥ e ⊎ (RefusesOne new.now.schema e × KeepsTables old.now new.now × GoesOn old new × KeepsCounts old new)
+
+-- the first row is there, and every table but meta is as it was; or why the row can't be put in
 abbrev pub StartsBank : State → State → Result ℕ Error → Type 0
 StartsBank old new (Ok count) =
     Shows new.now new_tables × SparesTables old.now new.now (codes "meta")
-StartsBank old new (Err e) = ⊤
+StartsBank old new (Err e) = PutFails old new six.meta (IsForbidden old.now.schema new_tables) e
 
--- the tables of a new bank are there, and every table that was there is there, with its rows
+-- once the six are made, an index of meta has more columns than can be stored
+abbrev pub MakesWide : Database → Type 0
+MakesWide old = (made : Database) × IsMade old made × HasWideIndex made.schema six.meta
+
+-- A statement is refused in this database: one of the six tables, where only tables were made so far; or the first row, since the limit on
+-- steps was met, or since a UNIQUE of the schema allows no such row.
+abbrev pub RefusedIn : State → Database → Error → Type 0
+RefusedIn old db e =
+    (RefusesOne db.schema e × KeepsTables old.now db)
+    ⊎ ((IsInterrupted old e ⊎ ((e ≡ SqliteFailure (ConstraintViolation Unique)) × IsForbidden db.schema new_tables)) × IsMade old.now db)
+
+-- The tables of a new bank are there, and every table that was there is there, with its rows. Or the store failed, and the transaction is
+-- rolled back; or a statement is refused in the database that stands now.
 abbrev pub CreatesBank : State → State → Result (Unit {0}) Error → Type 0
 CreatesBank old new (Ok done) = Shows new.now new_tables × KeepsTables old.now new.now
-CreatesBank old new (Err e) = ⊤
+CreatesBank old new (Err e) =
+    Fails old new (MakesWide old.now) e ⊎ (RefusedIn old new.now e × GoesOn old new × KeepsCounts old new)
+
+-- why there is no new bank: the store failed, or a statement was refused in a database on the way; and all is undone
+abbrev pub CreationFails : State → State → Error → Type 0
+CreationFails old new e = (NamesCause old new (MakesWide old.now) e ⊎ ((db : Database) × RefusedIn old db e)) × IsUndone old new
 
 -- the same of bare trees
 abbrev pub HasNewBank : Database → Trees → Type 0

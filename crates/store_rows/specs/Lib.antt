@@ -2,6 +2,7 @@
 pub mod Changes
 pub mod Columns
 pub mod Creation
+pub mod Faults
 pub mod Outcomes
 pub mod SixTables
 pub mod Texts

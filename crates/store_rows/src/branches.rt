@@ -11,10 +11,10 @@ ghost use Rattle.store_rows.specs.SixTables.{branch as table};
 ghost use Rattle.store_rows.specs.View.{Shows};
 
 use crate::columns::{cents_at, count_at, whole_at};
-use crate::faults::TableFault;
+use crate::faults::{TableFault, added};
 use message_records::{Branch, Cents};
 use posting_core::{BranchRow, Rule};
-use sqlite::{Alter, Constraint, Error, ErrorCode, Row, Transaction, params};
+use sqlite::{Alter, Error, Row, Transaction, params};
 
 // The branch that a row shows.
 fn branch_from(row: &Row) -> Result<BranchRow, TableFault>
@@ -142,14 +142,9 @@ pub fn add_branch<S: Alter>(tx: &mut Transaction<'_, S>, row: BranchRow) -> Resu
     let key = row.branch.get() as i64;
     let accounts = i64::from(row.accounts);
     let balance = row.balance.get();
-    match tx.execute(
+    let answer = tx.execute(
         "INSERT INTO branch (bid, accounts, balance) VALUES (?1, ?2, ?3)",
         params![key, accounts, balance],
-    ) {
-        Ok(_) => Ok(()),
-        Err(Error::SqliteFailure(ErrorCode::ConstraintViolation(Constraint::PrimaryKey))) => {
-            Err(TableFault::Damaged(Rule::Key))
-        }
-        Err(e) => Err(TableFault::Sqlite(e)),
-    }
+    );
+    added(answer)
 }

@@ -1,12 +1,12 @@
 //! The six tables come to be, in one transaction, beside whatever the file has.
-ghost use Rattle.std.specs.Prelude.{◌≡◌, IsTrue, OnOk, OnErr, false};
+ghost use Rattle.std.specs.Prelude.{◌≡◌, IsTrue, IfErr, OnOk, OnErr, false};
 ghost use Rattle.sqlite.specs.Table.{Table};
 ghost use Rattle.sqlite.specs.State.{HasCleanDisk, Survives};
 ghost use Rattle.sqlite.specs.Held.{state};
 ghost use Rattle.sql_meanings.specs.Making.{CreatesOnly, KeepsTables};
 ghost use Rattle.sql_meanings.specs.Outcomes.{WriteKept, WritesKept, MakesTold};
 ghost use Rattle.store_rows.specs.View.{Shows};
-ghost use Rattle.store_rows.specs.Creation.{no_rows, new_tables, MakesAll, StartsBank, CreatesBank, HasNewBank};
+ghost use Rattle.store_rows.specs.Creation.{no_rows, new_tables, MakesAll, StartsBank, CreatesBank, CreationFails, HasNewBank};
 
 use sqlite::{Alter, Connection, Error, Transaction, params};
 
@@ -18,7 +18,7 @@ fn make_table<S: Alter>(tx: &mut Transaction<'_, S>, text: &str) -> Result<usize
     ensures same_reference { tx.new.conn.ghost_name ≡ tx.old.conn.ghost_name }
     ensures told { HasCleanDisk (state S.Store tx.new.conn.now) → IsTrue tx.old.conn.now.in_transaction → (table : Table)
         → CreatesOnly text.now table
-        → MakesTold (state S.Store tx.old.conn.now) (state S.Store tx.new.conn.now) table result }
+        → MakesTold (state S.Store tx.old.conn.now) (state S.Store tx.new.conn.now) text.now table result }
     ensures kept { HasCleanDisk (state S.Store tx.new.conn.now) → IsTrue tx.old.conn.now.in_transaction
         → WriteKept (state S.Store tx.old.conn.now) (state S.Store tx.new.conn.now) result }
     ensures survives { Survives (state S.Store tx.old.conn.now) (state S.Store tx.new.conn.now) (λ _. ⊥) }
@@ -99,6 +99,8 @@ pub fn create<S: Alter>(conn: &mut Connection<S>) -> Result<(), Error>
         × KeepsTables (state S.Store conn.old).now (state S.Store conn.new).now) }
     ensures err { HasCleanDisk (state S.Store conn.new) → IsTrue (state S.Store conn.new).is_open
         → OnErr result ((state S.Store conn.new).committed ≡ (state S.Store conn.old).committed) }
+    ensures cause { HasCleanDisk (state S.Store conn.new)
+        → IfErr result (CreationFails (state S.Store conn.old) (state S.Store conn.new)) }
     ensures stop { Survives (state S.Store conn.old) (state S.Store conn.new) (HasNewBank (state S.Store conn.old).now) }
     ensures mode { conn.new.in_transaction ≡ false }
 {

@@ -1,9 +1,11 @@
 //! Why a call on the tables fails.
 ghost use Rattle.std.specs.Prelude.{◌≡◌};
+ghost use Rattle.sql_meanings.specs.Outcomes.{is_taken_key as says_taken};
+ghost use Rattle.store_rows.specs.Faults.{added as told_as};
 ghost use Rattle.store_rows.specs.declared.faults.TableFault.TheVariants.{Sqlite};
 
 use posting_core::Rule;
-use sqlite::Error;
+use sqlite::{Constraint, Error, ErrorCode};
 use std::fmt;
 
 /// Why a call on the tables fails.
@@ -24,6 +26,11 @@ impl From<Error> for TableFault {
 }
 
 impl fmt::Display for TableFault {
+    ghost use Rattle.store_rows.specs.Faults.{fault_text};
+
+    // What `sqlite` prints of its own errors is not stated there, and so not here.
+    ghost output = { fault_text };
+
     fn fmt<W: fmt::Write>(&self, f: &mut fmt::Formatter<W>) -> fmt::Result {
         match self {
             TableFault::Sqlite(e) => write!(f, "sqlite: {e}"),
@@ -36,3 +43,24 @@ impl fmt::Display for TableFault {
 }
 
 impl std::error::Error for TableFault {}
+
+// Whether the error says that a key is taken.
+fn is_taken_key(e: &Error) -> bool
+    ensures { result ≡ says_taken e.now }
+{
+    matches!(
+        e,
+        Error::SqliteFailure(ErrorCode::ConstraintViolation(Constraint::PrimaryKey))
+    )
+}
+
+// What the answer of an INSERT tells.
+pub(crate) fn added(answer: Result<usize, Error>) -> Result<(), TableFault>
+    ensures { result ≡ told_as answer }
+{
+    match answer {
+        Ok(_) => Ok(()),
+        Err(e) if is_taken_key(&e) => Err(TableFault::Damaged(Rule::Key)),
+        Err(e) => Err(TableFault::Sqlite(e)),
+    }
+}

@@ -9,9 +9,9 @@ ghost use Rattle.store_rows.specs.Outcomes.{Adds};
 ghost use Rattle.store_rows.specs.SixTables.{history as table};
 ghost use Rattle.store_rows.specs.View.{Shows};
 
-use crate::faults::TableFault;
-use posting_core::{HistoryRow, Rule};
-use sqlite::{Alter, Constraint, Error, ErrorCode, Transaction, params};
+use crate::faults::{TableFault, added};
+use posting_core::HistoryRow;
+use sqlite::{Alter, Transaction, params};
 
 /// Adds a posting. `Damaged(Rule::Key)` is an ordinal that is taken.
 pub fn add_history<S: Alter>(tx: &mut Transaction<'_, S>, row: HistoryRow) -> Result<(), TableFault>
@@ -30,14 +30,9 @@ pub fn add_history<S: Alter>(tx: &mut Transaction<'_, S>, row: HistoryRow) -> Re
     let branch = row.branch.get() as i64;
     let delta = row.delta.get();
     let moment = row.moment.get() as i64;
-    match tx.execute(
+    let answer = tx.execute(
         "INSERT INTO history (ordinal, aid, tid, bid, delta, moment) VALUES (?1, ?2, ?3, ?4, ?5, ?6)",
         params![key, account, teller, branch, delta, moment],
-    ) {
-        Ok(_) => Ok(()),
-        Err(Error::SqliteFailure(ErrorCode::ConstraintViolation(Constraint::PrimaryKey))) => {
-            Err(TableFault::Damaged(Rule::Key))
-        }
-        Err(e) => Err(TableFault::Sqlite(e)),
-    }
+    );
+    added(answer)
 }

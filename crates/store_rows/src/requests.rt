@@ -11,10 +11,10 @@ ghost use Rattle.store_rows.specs.SixTables.{request as table};
 ghost use Rattle.store_rows.specs.View.{Shows};
 
 use crate::columns::{cents_at, outcome_at, whole_at};
-use crate::faults::TableFault;
+use crate::faults::{TableFault, added};
 use message_records::{Number, Teller};
 use posting_core::{Kept, RequestRow, Rule};
-use sqlite::{Alter, Constraint, Error, ErrorCode, Row, Transaction, params};
+use sqlite::{Alter, Error, Row, Transaction, params};
 
 // What a row keeps of a request.
 fn kept_from(row: &Row) -> Result<Kept, TableFault>
@@ -104,16 +104,11 @@ pub fn add_request<S: Alter>(tx: &mut Transaction<'_, S>, row: RequestRow) -> Re
     let delta = row.kept.delta().get();
     let outcome = i64::from(row.kept.outcome().code());
     let balance = row.kept.balance().get();
-    match tx.execute(
+    let answer = tx.execute(
         "INSERT INTO request (ordinal, tid, number, aid, bid, delta, outcome, balance) VALUES (?1, ?2, ?3, ?4, ?5, ?6, ?7, ?8)",
         params![
             key, teller, number, account, branch, delta, outcome, balance
         ],
-    ) {
-        Ok(_) => Ok(()),
-        Err(Error::SqliteFailure(ErrorCode::ConstraintViolation(Constraint::PrimaryKey))) => {
-            Err(TableFault::Damaged(Rule::Key))
-        }
-        Err(e) => Err(TableFault::Sqlite(e)),
-    }
+    );
+    added(answer)
 }

@@ -11,10 +11,10 @@ ghost use Rattle.store_rows.specs.SixTables.{teller as table};
 ghost use Rattle.store_rows.specs.View.{Shows};
 
 use crate::columns::cents_at;
-use crate::faults::TableFault;
+use crate::faults::{TableFault, added};
 use message_records::{Cents, Teller};
 use posting_core::{Rule, TellerRow};
-use sqlite::{Alter, Constraint, Error, ErrorCode, Row, Transaction, params};
+use sqlite::{Alter, Error, Row, Transaction, params};
 
 // The row of a teller's balance.
 fn balance_row<S: Alter>(tx: &mut Transaction<'_, S>, teller: Teller) -> Result<Row, Error>
@@ -89,14 +89,9 @@ pub fn add_teller<S: Alter>(tx: &mut Transaction<'_, S>, row: TellerRow) -> Resu
 {
     let key = row.teller.get() as i64;
     let balance = row.balance.get();
-    match tx.execute(
+    let answer = tx.execute(
         "INSERT INTO teller (tid, balance) VALUES (?1, ?2)",
         params![key, balance],
-    ) {
-        Ok(_) => Ok(()),
-        Err(Error::SqliteFailure(ErrorCode::ConstraintViolation(Constraint::PrimaryKey))) => {
-            Err(TableFault::Damaged(Rule::Key))
-        }
-        Err(e) => Err(TableFault::Sqlite(e)),
-    }
+    );
+    added(answer)
 }

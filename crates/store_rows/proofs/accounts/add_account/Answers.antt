@@ -1,13 +1,16 @@
 -- What the new row leaves.
 use Rattle.std.proofs.Common.{arith}
 use Rattle.sqlite.specs.Held.{state}
-use Rattle.store_rows.proofs.AddAccount.{tells, tells_taken}
+use Rattle.store_rows.proofs.AddAccount.{tells}
+use Rattle.store_rows.proofs.Failing.{kept_added}
 use Rattle.store_rows.proofs.Lookups.{as_amount, as_integer}
 use Rattle.store_rows.proofs.accounts.add_account.Goals as goal
 
-pub returns-in-Ok-clause-told : goal.returns-in-Ok-clause-told
-returns-in-Ok-clause-told g c clean live t shows =
-    tells (state g.S.Store c.args.tx.now.conn.now) (state g.S.Store c.execute.new.self.conn.now) t c.args.row shows _
+pub returns-clause-told : goal.returns-clause-told
+returns-clause-told g c clean live t shows =
+    rw c.added.ensures
+    (tells (state g.S.Store c.args.tx.now.conn.now) (state g.S.Store c.execute-answer.new.self.conn.now) t c.args.row shows (omega arith)
+    c.execute-answer.result
     (rw (
       c.params-to_sql.ensures,
       c.params-to_sql-2.ensures,
@@ -15,18 +18,10 @@ returns-in-Ok-clause-told g c clean live t shows =
       as_amount c.get-balance.result c.args.row.balance c.get-balance.ensures.value c.get-balance.ensures.least
           c.get-balance.ensures.most,
     )
-    at (rw c.in-Ok.is at (c.execute.ensures.runs clean live)))
+    at (c.execute-answer.ensures.runs clean live)))
 
-pub returns-in-Err-SqliteFailure-ConstraintViolation-PrimaryKey-clause-told :
-    goal.returns-in-Err-SqliteFailure-ConstraintViolation-PrimaryKey-clause-told
-returns-in-Err-SqliteFailure-ConstraintViolation-PrimaryKey-clause-told g c clean live t shows =
-    let h = c.in-Err-SqliteFailure-ConstraintViolation-PrimaryKey in
-    tells_taken (state g.S.Store c.args.tx.now.conn.now) (state g.S.Store c.execute.new.self.conn.now) t c.args.row shows
-    (rw (
-      c.params-to_sql.ensures,
-      c.params-to_sql-2.ensures,
-      as_integer c.get-key.result c.args.row.account c.get-key.ensures.value (omega arith),
-      as_amount c.get-balance.result c.args.row.balance c.get-balance.ensures.value c.get-balance.ensures.least
-          c.get-balance.ensures.most,
-    )
-    at (rw h.field-0-0-0-is at (rw h.field-0-0-is at (rw h.field-0-is at (rw h.is at (c.execute.ensures.runs clean live))))))
+pub returns-clause-kept : goal.returns-clause-kept
+returns-clause-kept g c clean live =
+    rw c.added.ensures
+    (kept_added (state g.S.Store c.args.tx.now.conn.now) (state g.S.Store c.execute-answer.new.self.conn.now) _ _ c.execute-answer.result
+    (c.execute-answer.ensures.runs clean live))

@@ -1,0 +1,257 @@
+-- Why a row can't be put in.
+use Rattle.std.proofs.Common.{
+  ◌≡◌,
+  ◌⊎◌,
+  inl,
+  inr,
+  ℕ,
+  ◌/◌,
+  List,
+  [],
+  ◌∷◌,
+  map,
+  find,
+  length,
+  true,
+  false,
+  None,
+  Some,
+  Option,
+  is_some,
+  Ok,
+  Err,
+  fold,
+  refl,
+  sym,
+  ap,
+  subst,
+  ◌∙◌,
+}
+use Rattle.std.specs.List.{AllByRecursion}
+use Rattle.std.proofs.Math.Logic.{∥∥₁_elim}
+use Rattle.sqlite.specs.Order.{Row}
+use Rattle.sqlite.specs.Schema.{Schema}
+use Rattle.sqlite.specs.Tree.{Trees}
+use Rattle.sqlite.specs.Table.{Table}
+use Rattle.sqlite.specs.Edit.{Edit, edit_of, edited}
+use Rattle.sqlite.specs.Source.TheVariants.{Values}
+use Rattle.sqlite.specs.Command.{Command}
+use Rattle.sqlite.specs.Command.TheVariants.{Insert}
+use Rattle.sqlite.specs.Does.{Does, Concludes, Returns, Tested}
+use Rattle.sqlite.specs.Effect.{IsDatabase, value_rows}
+use Rattle.sqlite.specs.Rows.{
+  Part,
+  Gives,
+  Sourced,
+  Edited,
+  Task,
+  Then,
+  Counter,
+  Counts,
+  Inserts,
+  Written,
+  count_of,
+  higher,
+  last_id,
+  stamped,
+}
+use Rattle.sqlite.specs.State.{State, ExecutesInside, IsUnchanged, mode_of, text_of}
+use Rattle.sqlite.specs.declared.error.Error.{Error}
+use Rattle.sqlite.specs.declared.error.Error.TheVariants.{SqliteFailure}
+use Rattle.sqlite.specs.declared.error.ErrorCode.TheVariants as code
+use Rattle.sqlite.specs.Rowids.TheVariants.{Chosen}
+use Rattle.sqlite_resolve.specs.declared.compiled.Compiled.{Compiled}
+use Rattle.sqlite_schema.specs.declared.command.Source.TheVariants as from
+use Rattle.sqlite_sql.specs.Ops.{fits_i64}
+use Rattle.sqlite_schema.specs.declared.schema.Constraint.TheVariants.{ForeignKey, Unique}
+use Rattle.sqlite_schema.specs.declared.schema.Among.TheVariants.{All}
+use Rattle.sqlite_schema.specs.declared.schema.Keys.TheVariants.{Enforced}
+use Rattle.sqlite_schema.specs.Rules.{Refers}
+use Rattle.sqlite_rules.specs.Edit.{are_fresh, left_by, numbered as with_rowids}
+use Rattle.sqlite_rules.specs.Lists.{Has}
+use Rattle.sqlite_rules.proofs.ListLemmas.{all_has}
+use Rattle.sqlite_rules.proofs.TableLemmas.{put_all_keeps}
+use Rattle.sql_meanings.specs.Entries.{Entry, has_key, put, stored}
+use Rattle.sql_meanings.specs.Outcomes.{Forbids, HasWideIndex, IsInterrupted, PutFails}
+use Rattle.sql_meanings.specs.Tables.{Holds, placed_at, tree_of}
+use Rattle.sql_meanings.proofs.Casting.{cast_stored}
+use Rattle.sql_meanings.proofs.Means.{Means, no_refusal}
+use Rattle.sql_meanings.proofs.PutRows.{PutsAs, fresh_is, not_both, put_is}
+use Rattle.sql_meanings.proofs.Referring.{asks_none, refers_after}
+use Rattle.sql_meanings.proofs.Refusals.{EditStops, IsFit, edit_stops, forbids}
+use Rattle.sql_meanings.proofs.Steps.{Standing, standing}
+use Rattle.sql_meanings.proofs.Stopping.{Stops, fails_for, stops}
+use Rattle.sql_meanings.proofs.TableWrites.{IsOfNumbers}
+use Rattle.sql_meanings.proofs.PuttingIn.{key_taken, never, none_in, put_in_applies, stopped}
+use Rattle.sql_meanings.proofs.Writing.{same_value, uncounted, went}
+
+module _ (old new : State) (t : Table) (is : IsOfNumbers (uncounted t)) (sound : ∥ IsDatabase old.now ∥₁) (es : List Entry)
+    (holds : Holds old.now (uncounted t) es)
+    (text : List ℕ) (params : Row) (e : Entry) (puts : PutsAs (uncounted t) text params e) (low : fits_i64 e.key ≡ true) where
+  abbrev table : Table
+  table = uncounted t
+
+  abbrev db : Trees
+  db = old.now.trees
+
+  abbrev schema : Schema
+  schema = old.now.schema
+
+  abbrev tree : ℕ
+  tree = tree_of old.now.schema t.name
+
+  abbrev here : Table
+  here = placed_at table tree
+
+  abbrev put_by : List Row → Edit
+  put_by rows = edit_of db here [] Chosen 0 rows
+
+  at : Standing schema table
+  at = standing old.now table is.free sound holds.defined
+
+  numbered : IsOfNumbers here
+  numbered = record {
+    free = is.free;
+    keyed = is.keyed;
+    uncomputed = is.uncomputed;
+    narrow = is.narrow;
+    key = is.key;
+    names = is.names;
+    columns = is.columns;
+  }
+
+  -- ---- what is put in
+
+  -- the rows that the statement is given
+  abbrev source : List Row
+  source = value_rows (stamped here params) puts.width (length puts.terms / puts.width) puts.terms
+
+  -- the edit by them
+  record Given (rows : List Row) : Type 0 where
+    pub news : (put_by rows).news ≡ map stored (e ∷ [])
+    pub after : edited db (put_by rows) ≡ map stored (put e es)
+    pub taken : are_fresh (left_by db (put_by rows)) (put_by rows).news ≡ false → is_some (find (has_key e.key) es) ≡ true
+
+  given : (rows : List Row) → rows ≡ source → Given rows
+  given rows are = subst Given (sym (are ∙ puts.gives tree)) (record {
+    news = ap (λ row. with_rowids Chosen (db tree) (row ∷ [])) (cast_stored here is.key is.names e is.columns);
+    after = put_is old new t is sound es holds text params e puts;
+    taken = λ h. not_both _ (sym (fresh_is old new t is sound es holds text params e puts) ∙ h);
+  })
+
+  fits : AllByRecursion (IsFit here) (e ∷ [])
+  fits = (record { wide = puts.wide; low = low; checked = puts.passes }, tt)
+
+  -- ---- how each part may stop
+
+  -- why the statement stops: the row can't be stored, or the error that it tells
+  abbrev PutStops : Option Error → Type 0
+  PutStops None = HasWideIndex schema table
+  PutStops (Some error) =
+      IsInterrupted old error
+      ⊎ (((error ≡ key_taken) × (is_some (find (has_key e.key) es) ≡ true))
+      ⊎ ((error ≡ SqliteFailure (code.ConstraintViolation Unique)) × Forbids schema table (put e es)))
+
+  sourced : (stop : Option Error) → Sourced old.step_limit old.now (stamped here params) (from.Values puts.terms puts.width) (Err stop)
+      → PutStops stop
+  sourced None h = absurd h
+  sourced (Some error) (inl mismatch) = absurd (let right = puts.accepts tree in let wrong = mismatch.1 in cc)
+  sourced (Some error) (inr limit) = inl limit
+
+  edit_is : (rows : List Row) (it : Given rows) (stop : Option Error) → Edited schema Enforced db (put_by rows) (Err stop) → PutStops stop
+  edit_is rows it stop h = go stop (edit_stops schema db (put_by rows) numbered (e ∷ []) it.news fits ⊥
+      (inl (none_in schema Enforced tree (put_by rows).news schema.tables)) (asks_none schema (put_by rows) is.free refl) refl stop h)
+    where
+      go : (stop : Option Error) → EditStops schema db (put_by rows) numbered (e ∷ []) it.news fits ⊥
+          (inl (none_in schema Enforced tree (put_by rows).news schema.tables)) (asks_none schema (put_by rows) is.free refl) refl stop
+          → PutStops stop
+      go None (inl wide) = wide
+      go None (inr none) = absurd none
+      go (Some error) (inl taken) = inr (inl (taken.0, it.taken taken.1))
+      go (Some error) (inr (inl unique)) = inr (inr (unique.0, forbids schema db table _ _ sound it.after unique.1))
+      go (Some error) (inr (inr none)) = absurd none.0
+
+  abbrev task : Task
+  task = record { limit = old.step_limit; keys = Enforced; schema = schema; table = here; params = params }
+
+  abbrev last : List Row → Option Row → Trees → Part Written
+  last rows counter mid = Then (Counts task mid counter (fold higher (count_of counter) (put_by rows).news))
+      (λ next. Gives (record { trees = next; rows = (put_by rows).news; last = last_id (put_by rows).news }))
+
+  inserts_stop : (stop : Option Error) → Inserts task (from.Values puts.terms puts.width) db (Err stop) → PutStops stop
+  inserts_stop stop h = elim (stopped (Sourced old.step_limit old.now (stamped here params) (from.Values puts.terms puts.width))
+      (λ rows. Then (Counter task db) (λ counter. Then (Edited schema Enforced db (put_by rows)) (last rows counter))) stop h) [
+        | inl values ↦ sourced stop values
+        | inr some ↦ elim (stopped (Counter task db) (λ counter. Then (Edited schema Enforced db (put_by some.0)) (last some.0 counter))
+            stop some.2) [
+              | inl none ↦ absurd (never none)
+              | inr more ↦ elim (stopped (Edited schema Enforced db (put_by some.0)) (last some.0 more.0) stop more.2) [
+                | inl edit ↦ edit_is some.0 (given some.0 some.1.1) stop edit
+                | inr done ↦ elim done.2 [ inl none ↦ absurd (never none.1) | inr end ↦ absurd (never end.2) ]
+              ]
+            ]
+      ]
+
+  -- a row more breaks no foreign key
+  kept : (w : Written) → Inserts task (from.Values puts.terms puts.width) db (Ok w) → Refers All schema db → Refers All schema w.trees
+  kept w h refers =
+      let some = went h in
+      let written = went (went some.2).2 in
+      let counted = went written.2 in
+      let edit = put_by some.0 in
+      let trees : w.trees ≡ written.0 = ap (λ (it : Written). it.trees) (same_value counted.2) ∙ same_value counted.1 in
+      let applies = put_in_applies schema Enforced db written.0 edit refl written.1 in
+      let others = λ (u : Table) (listed : Has schema.tables u). all_has _ schema.tables u applies.tables listed in
+      let grows = λ (r : Row) (there : Has (db tree) r). subst (λ rows. Has rows r) (sym applies.rows)
+      (put_all_keeps edit.news (db tree) r applies.fresh there) in
+      subst (Refers All schema) (sym trees) (refers_after schema here at.stands db written.0 others (inr grows) refers)
+
+  concludes_stop : (w : Written) → Inserts task (from.Values puts.terms puts.width) db (Ok w) → (stop : Option Error)
+      → Concludes task (mode_of old) None w (Err stop) → PutStops stop
+  concludes_stop w done stop h = elim (stopped (Tested (mode_of old) (λ among. Refers among schema w.trees))
+      (λ in_doubt. Then (Returns task w None) (λ rows.
+      Gives (record { rows = Some (length w.rows); last = w.last; shown = rows; in_doubt = in_doubt }, record { schema = schema; trees = w.trees })))
+      stop h) [
+        | inl tested ↦ absurd (∥∥₁_elim sound (λ x y. absurd x) (λ it. tested.0 (kept w done (it.obeys.rules ForeignKey))))
+        | inr on ↦ elim on.2 [ inl none ↦ absurd (never none.1) | inr end ↦ absurd (never end.2) ]
+      ]
+
+  put_stops : (sql : List ℕ) (stop : Option Error)
+      → Does old.step_limit (mode_of old) params old.now sql None (Insert at.place (Values puts.terms puts.width)) (Err stop) → PutStops stop
+  put_stops sql stop h = elim (stopped (Inserts task (from.Values puts.terms puts.width) db) (Concludes task (mode_of old) None) stop
+      (rw at.has.listed at h)) [
+        | inl first ↦ inserts_stop stop first
+        | inr rest ↦ concludes_stop rest.0 rest.1 stop rest.2
+      ]
+
+  -- ---- the whole
+
+  abbrev command : Command
+  command = Insert at.place (Values puts.terms puts.width)
+
+  means : Means schema text (length params) command
+  means = puts.means schema at.place tree at.has
+
+  -- the key is taken, or why else the row can't be put in
+  abbrev pub Refuses : Error → Type 0
+  Refuses error =
+      ((error ≡ key_taken) × (is_some (find (has_key e.key) es) ≡ true) × IsUnchanged old new)
+      ⊎ PutFails old new table (Forbids schema table (put e es)) error
+
+  told : (sql : List ℕ) (error : Error) → Stops old new sql command params error → Refuses error
+  told sql error (inl (does, same)) = elim (put_stops sql (Some error) does) [
+    | inl limit ↦ inr (inr (inl limit, same))
+    | inr (inl taken) ↦ inl (taken.0, taken.1, same)
+    | inr (inr unique) ↦ inr (inr (inr unique, same))
+  ]
+  told sql error (inr fails) = inr (inl (fails_for old new error _ (HasWideIndex schema table) (put_stops sql None) fails))
+
+  -- why it can't
+  pub refuses_insert : (error : Error) → ExecutesInside 0 text params old new (Err error) → Refuses error
+  refuses_insert error h = elim (stops old new text params command refl error
+      (λ c is. let same : means.found ≡ c = same_value (sym means.is ∙ is) in
+      subst (λ (c : Compiled). (c.command ≡ command) × (c.returning ≡ None) × (c.formats ≡ [])) same (means.meant, means.bare, means.timeless)) h) [
+        | inl none ↦ absurd (no_refusal text params command old error means none.0)
+        | inr (inl fails) ↦ inr (inl (fails_for old new error ⊥ (HasWideIndex schema table) (λ x. absurd x) fails))
+        | inr (inr (c, is, how)) ↦ told (text_of text c) error how
+      ]

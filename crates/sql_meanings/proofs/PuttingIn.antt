@@ -1,0 +1,101 @@
+-- Rows that are only put in set nothing off; and in which of its parts a statement stops.
+use Rattle.std.proofs.Common.{
+  ◌≡◌,
+  ◌⊎◌,
+  inl,
+  inr,
+  ℕ,
+  zero,
+  suc,
+  ◌==◌,
+  List,
+  [],
+  ◌∷◌,
+  length,
+  length-append,
+  Bool,
+  true,
+  false,
+  ◌&&◌,
+  Some,
+  None,
+  Option,
+  Ok,
+  Err,
+  Result,
+  refl,
+  sym,
+  ap,
+  subst,
+  arith,
+}
+use Rattle.std.specs.List.{flat_map, filter_map}
+use Rattle.sqlite.specs.Order.{Row}
+use Rattle.sqlite.specs.Table.{Table}
+use Rattle.sqlite.specs.Schema.{Schema}
+use Rattle.sqlite.specs.Tree.{Trees}
+use Rattle.sqlite.specs.Edit.{Edit, Applies}
+use Rattle.sqlite.specs.Rows.{Part, Then}
+use Rattle.sqlite.specs.declared.error.Error.{Error}
+use Rattle.sqlite.specs.declared.error.Error.TheVariants.{SqliteFailure}
+use Rattle.sqlite.specs.declared.error.ErrorCode.TheVariants as code
+use Rattle.sqlite.proofs.Callers.{one_step}
+use Rattle.sqlite_schema.specs.declared.schema.Keys.{Keys}
+use Rattle.sqlite_schema.specs.declared.schema.Constraint.TheVariants.{PrimaryKey}
+use Rattle.sqlite_schema.specs.declared.schema.Reference.{Reference}
+use Rattle.sqlite_schema.specs.Rules.{ParentKey, parent_key}
+use Rattle.sqlite_rules.specs.declared.action.Deed.{Deed}
+use Rattle.sqlite_rules.specs.declared.error.Refusal.{Refusal}
+use Rattle.sqlite_rules.specs.Action.{work_by, work_for, deed_for, Leads, Writes}
+
+-- the error that names the primary key
+abbrev pub key_taken : Error
+key_taken = SqliteFailure (code.ConstraintViolation PrimaryKey)
+
+-- with nothing set off nothing is refused
+pub no_end : (schema : Schema) (keys : Keys) (n : ℕ) (db : Trees) (why : Option Refusal) → ¬ Leads schema keys n db [] (Err why)
+no_end schema keys zero db why h = let e = h.1 in cc
+no_end schema keys (suc n) db why h = absurd (omega (arith, ap length h.2, length-append h.0 (h.1 ∷ [])))
+
+-- rows that are only put in set nothing off, whatever refers to the table
+and_false : (b : Bool) → (b && false) ≡ false
+and_false true = refl
+and_false false = refl
+
+no_work : (depth tree : ℕ) (child : Table) (ref : Reference) (deed : Option Deed) (key : Option ParentKey)
+    → work_by depth tree [] child ref deed key ≡ None
+no_work depth tree child ref None key = refl
+no_work depth tree child ref (Some deed) None = refl
+no_work depth tree child ref (Some deed) (Some key) = rw (and_false (key.0 == tree))
+
+none_for : (schema : Schema) (keys : Keys) (tree : ℕ) (news : List Row) (child : Table) (refs : List Reference)
+    → filter_map (work_for schema keys 0 tree [] news child) refs ≡ []
+none_for schema keys tree news child [] = refl
+none_for schema keys tree news child (ref ∷ refs) =
+    rw (no_work 0 tree child ref (deed_for keys (length news == 0) ref) (parent_key schema.tables ref))
+    (none_for schema keys tree news child refs)
+
+-- nothing is set off by them
+pub none_in : (schema : Schema) (keys : Keys) (tree : ℕ) (news : List Row) (tables : List Table)
+    → flat_map (λ child. filter_map (work_for schema keys 0 tree [] news child) child.references) tables ≡ []
+none_in schema keys tree news [] = refl
+none_in schema keys tree news (t ∷ tables) = rw (none_for schema keys tree news t t.references) (none_in schema keys tree news tables)
+
+-- rows that are only put in are one step
+pub put_in_applies : (schema : Schema) (keys : Keys) (db next : Trees) (edit : Edit) → edit.gone ≡ []
+    → Writes schema keys db edit (Ok next) → Applies schema keys db edit next
+put_in_applies schema keys db next edit gone writes =
+    one_step schema keys db next edit (rw (gone, none_in schema keys edit.table.tree edit.news schema.tables) refl) writes
+
+-- a statement that stops stops in one of its parts
+pub stopped : {A B : Type 0} (First : Part A) (Next : A → Part B) (e : Option Error) → Then First Next (Err e)
+    → First (Err e) ⊎ ((a : A) × First (Ok a) × Next a (Err e))
+stopped {A} {B} First Next e (inl h) = inl (subst (λ x. First (Err x)) (sym (same_error h.2)) h.1)
+  where
+    same_error : {x y : Option Error} → ◌≡◌ {A = Result B (Option Error)} (Err x) (Err y) → x ≡ y
+    same_error e = cc
+stopped First Next e (inr h) = inr h
+
+-- a part that gives a value doesn't stop
+pub never : {B : Type 0} {e : Option Error} {b : B} → ¬ ◌≡◌ {A = Result B (Option Error)} (Err e) (Ok b)
+never h = cc

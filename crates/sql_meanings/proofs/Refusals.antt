@@ -1,0 +1,175 @@
+-- Why a write of rows of whole numbers is refused, or can't be stored.
+use Rattle.std.proofs.Common.{◌≡◌, ◌⊎◌, inl, inr, ℕ, ◌==◌, List, [], ◌∷◌, map, length, Bool, true, false, Some, None, Option, option_map, Err, refl, sym, ap, subst, ◌∙◌, arith}
+use Rattle.std.specs.List.{AllByRecursion, list_all}
+use Rattle.std.proofs.lemmas.List.{length-map}
+use Rattle.std.proofs.lemmas.Bool.{cases_Bool, cases_lt}
+use Rattle.std.proofs.Math.Logic.{∥∥₁_elim}
+use Rattle.sqlite.specs.Order.{Row}
+use Rattle.sqlite.specs.Schema.{Schema}
+use Rattle.sqlite.specs.Table.{Table}
+use Rattle.sqlite.specs.Tree.{Trees}
+use Rattle.sqlite.specs.Edit.{Edit, IsRefused, edited}
+use Rattle.sqlite.specs.Effect.{IsDatabase, edit_error}
+use Rattle.sqlite.specs.Rows.{Edited}
+use Rattle.sqlite.specs.declared.error.Error.{Error}
+use Rattle.sqlite.specs.declared.error.Error.TheVariants.{SqliteFailure}
+use Rattle.sqlite.specs.declared.error.ErrorCode.TheVariants as code
+use Rattle.sqlite_sql.specs.Ops.{fits_i64}
+use Rattle.sqlite_sql.specs.Catalog.{entry_of}
+use Rattle.sqlite_trees.specs.Tree.{rowid, with_tree}
+use Rattle.sqlite_trees.specs.View.{IsStorable, IsStorableRow}
+use Rattle.sqlite_schema.specs.Rules.{Keeps, index_reals, passes, passes_checks, table_reals}
+use Rattle.sqlite_schema.specs.declared.schema.Constraint.TheVariants.{Datatype, NotNull, Check, PrimaryKey, Unique, ForeignKey}
+use Rattle.sqlite_schema.specs.declared.schema.Keys.TheVariants.{Enforced}
+use Rattle.sqlite_rules.specs.declared.error.Refusal.{Refusal}
+use Rattle.sqlite_rules.specs.declared.error.Refusal.TheVariants.{Violates, Mismatch, NoRowid, BadReference, TooDeep}
+use Rattle.sqlite_rules.specs.Lists.{Has}
+use Rattle.sqlite_rules.specs.Action.{Writes, works}
+use Rattle.sqlite_rules.specs.Edit.{IsOversized, are_fresh, have_rowids, id_in, is_referred, left_by, taken_by}
+use Rattle.sqlite_rules.proofs.RuleLemmas.{keeps_at, keeps_from}
+use Rattle.sql_meanings.specs.Entries.{Entry, stored}
+use Rattle.sql_meanings.specs.Outcomes.{Forbids, HasWideIndex}
+use Rattle.sql_meanings.specs.Tables.{tree_of, width_of}
+use Rattle.sql_meanings.specs.Plain.{key_column, number_column}
+use Rattle.sql_meanings.proofs.NumberRows.{entry_fits, entry_present, entry_typed, none_indexed, none_real, row_fits}
+use Rattle.sql_meanings.proofs.TableWrites.{IsOfNumbers}
+use Rattle.sql_meanings.proofs.PuttingIn.{key_taken, no_end}
+
+-- the row has as many numbers as the table, its key is one that a file can hold, and it passes the CHECKs
+pub record IsFit (table : Table) (x : Entry) : Type 0 where
+  pub wide : length x.values ≡ width_of table
+  pub low : fits_i64 x.key ≡ true
+  pub checked : passes_checks table (stored x) ≡ true
+
+-- the new rows keep each rule that stands for a row alone
+record Regular (schema : Schema) (db : Trees) (edit : Edit) : Type 0 where
+  pub typed : list_all (passes Datatype schema db edit.table) edit.news ≡ true
+  pub present : list_all (passes NotNull schema db edit.table) edit.news ≡ true
+  pub checked : list_all (passes Check schema db edit.table) edit.news ≡ true
+  pub keyed : have_rowids edit.news ≡ true
+  pub low : list_all (λ r. fits_i64 (id_in (rowid r))) edit.news ≡ true
+
+all_stored : (table : Table) (p : Row → Bool) → ((x : Entry) → IsFit table x → p (stored x) ≡ true) → (xs : List Entry)
+    → AllByRecursion (IsFit table) xs → list_all p (map stored xs) ≡ true
+all_stored table p each [] fits = refl
+all_stored table p each (x ∷ xs) fits = rw (each x fits.0) (all_stored table p each xs fits.1)
+
+names_wide : (key : List ℕ) (names : List (List ℕ)) (table : Table) (n : ℕ) → table.columns ≡ key_column key ∷ map number_column names
+    → n ≡ width_of table → n ≡ length names
+names_wide key names table n is wide =
+    let long : length table.columns ≡ length (key_column key ∷ map number_column names) = ap length is in
+    let same : length (map number_column names) ≡ length names = length-map names number_column in omega arith
+
+module _ (schema : Schema) (db : Trees) (edit : Edit) (is : IsOfNumbers edit.table) (xs : List Entry) (news : edit.news ≡ map stored xs)
+    (fits : AllByRecursion (IsFit edit.table) xs) where
+  regular : Regular schema db edit
+  regular = record {
+    typed = ap (list_all (passes Datatype schema db edit.table)) news ∙ all_stored edit.table (passes Datatype schema db edit.table)
+        (λ x h. rw (is.keyed, is.columns, is.uncomputed, entry_typed is.key is.names x (names_wide is.key is.names edit.table _ is.columns h.wide)) refl) xs fits;
+    present = ap (list_all (passes NotNull schema db edit.table)) news ∙ all_stored edit.table (passes NotNull schema db edit.table)
+        (λ x h. rw (is.keyed, is.columns) (entry_present is.key is.names x (names_wide is.key is.names edit.table _ is.columns h.wide))) xs fits;
+    checked = ap (list_all (passes Check schema db edit.table)) news ∙ all_stored edit.table (passes Check schema db edit.table) (λ x h. h.checked) xs fits;
+    keyed = ap have_rowids news ∙ all_stored edit.table _ (λ x h. refl) xs fits;
+    low = ap (list_all (λ r. fits_i64 (id_in (rowid r)))) news ∙ all_stored edit.table _ (λ x h. h.low) xs fits;
+  }
+
+  -- the three rules that such rows may break
+  refused : (why : Refusal) → IsRefused schema Enforced db edit why
+      → ((why ≡ Violates PrimaryKey) × (are_fresh (left_by db edit) edit.news ≡ false))
+      ⊎ (((why ≡ Violates Unique) × ¬ Keeps Unique schema (with_tree db edit.table.tree (edited db edit)))
+      ⊎ ((why ≡ BadReference) × (is_referred schema Enforced edit ≡ false)))
+  refused (Violates Datatype) h = absurd (let e = regular.typed in cc)
+  refused (Violates NotNull) h = absurd (let e = regular.present in cc)
+  refused (Violates Check) h = absurd (let e = regular.checked in cc)
+  refused (Violates PrimaryKey) h = inl (refl, h)
+  refused (Violates Unique) h = inr (inl (refl, h))
+  refused (Violates ForeignKey) h = absurd h
+  refused Mismatch h = absurd (let e = regular.keyed in cc)
+  refused NoRowid h = absurd (let e = regular.low in cc)
+  refused BadReference h = inr (inr (refl, h))
+  refused TooDeep h = absurd h
+
+  one_stored : (ys : List Entry) → AllByRecursion (IsFit edit.table) ys → (row : Row) → Has (map stored ys) row
+      → (x : Entry) × (row ≡ stored x) × IsFit edit.table x
+  one_stored [] all row h = absurd h
+  one_stored (y ∷ ys) all row (inl e) = (y, e, all.0)
+  one_stored (y ∷ ys) all row (inr h) = one_stored ys all.1 row h
+
+  -- only an index can be too wide for such a row
+  oversized : tree_of schema edit.table.name ≡ edit.table.tree → (row : Row) → Has edit.news row → IsOversized schema edit.table row
+      → HasWideIndex schema edit.table
+  oversized at row there h =
+      let x = one_stored xs fits row (subst (λ rows. Has rows row) news there) in
+      let none = none_real edit.table is.key is.names is.columns in
+      elim h [
+        | inl big ↦ absurd (big (subst (IsStorableRow (table_reals edit.table)) (sym x.1) (subst (λ n. IsStorableRow n (stored x.0)) (sym none)
+            (row_fits x.0 (let wide = x.2.wide in let narrow = is.narrow in omega arith)))))
+        | inr (i, listed, of, big) ↦ elim (cases_lt 2000 (length i.columns)) [
+          | inl wide ↦ (i, listed, of ∙ sym at, wide)
+          | inr few ↦ absurd (big (subst (IsStorable (index_reals (table_reals edit.table) i.columns)) (ap (entry_of i.columns) (sym x.1))
+              (subst (λ n. IsStorable n (entry_of i.columns (stored x.0)))
+              (sym (ap (λ n. index_reals n i.columns) none ∙ none_indexed i.columns)) (entry_fits x.0 i.columns few))))
+        ]
+      ]
+
+  -- ---- how the edit may stop
+
+  module _ (Acts : Type 0) (acts : (works schema Enforced 0 edit.table.tree (taken_by db edit) edit.news ≡ []) ⊎ Acts)
+      (asks : is_referred schema Enforced edit ≡ false → Acts) (at : tree_of schema edit.table.name ≡ edit.table.tree) where
+    -- why the edit stops: it can't be stored, or the error of a rule
+    abbrev pub EditStops : Option Error → Type 0
+    EditStops None = HasWideIndex schema edit.table ⊎ Acts
+    EditStops (Some e) =
+        ((e ≡ key_taken) × (are_fresh (left_by db edit) edit.news ≡ false))
+        ⊎ (((e ≡ SqliteFailure (code.ConstraintViolation Unique)) × ¬ Keeps Unique schema (with_tree db edit.table.tree (edited db edit)))
+        ⊎ (Acts × (why : Refusal) × (e ≡ edit_error why)))
+
+    by_refusal : (why : Refusal) → IsRefused schema Enforced db edit why → EditStops (Some (edit_error why))
+    by_refusal why h = elim (refused why h) [
+      | inl taken ↦ inl (ap edit_error taken.0, taken.1)
+      | inr (inl unique) ↦ inr (inl (ap edit_error unique.0, unique.1))
+      | inr (inr bad) ↦ inr (inr (asks bad.1, why, refl))
+    ]
+
+    -- each way
+    pub edit_stops : (stop : Option Error) → Edited schema Enforced db edit (Err stop) → EditStops stop
+    edit_stops stop (why, writes, is_error) = subst EditStops (sym is_error) (go why writes)
+      where
+        acted : Acts → (why : Option Refusal) → EditStops (option_map edit_error why)
+        acted a None = inr a
+        acted a (Some why) = inr (inr (a, why, refl))
+
+        go : (why : Option Refusal) → Writes schema Enforced db edit (Err why) → EditStops (option_map edit_error why)
+        go None (inl refusal) = absurd (let e = refusal.2 in cc)
+        go (Some why) (inl refusal) =
+            let same : refusal.0 ≡ why = let e = refusal.2 in cc in
+            by_refusal why (subst (IsRefused schema Enforced db edit) same refusal.1)
+        go None (inr (inl big)) = inl (oversized at big.0 big.1 big.2)
+        go (Some why) (inr (inl big)) = absurd (let e = big.3 in cc)
+        go why (inr (inr went)) = elim acts [
+          | inl none ↦ absurd (no_end schema Enforced went.2.0 went.0 why (rw none at went.2.1))
+          | inr a ↦ acted a why
+        ]
+
+-- ---- what a UNIQUE forbids
+
+held_at : (schema : Schema) (one two : Trees) (t : Table) (row : Row) → Has schema.tables t → two t.tree ≡ one t.tree
+    → Has (two t.tree) row → Keeps Unique schema one → passes Unique schema two t row ≡ true
+held_at schema one two t row listed same there keeps =
+    rw same (keeps_at Unique schema one t row keeps listed (subst (λ rows. Has rows row) same there))
+
+same_tree : (m n : ℕ) → (m == n) ≡ true → n ≡ m
+same_tree m n h = grind arith
+
+-- where the rows would break a UNIQUE no sound database has them
+pub forbids : (schema : Schema) (db : Trees) (table : Table) (entries : List Entry) (rows : List Row)
+    → ∥ IsDatabase (record { schema = schema; trees = db }) ∥₁ → rows ≡ map stored entries
+    → ¬ Keeps Unique schema (with_tree db (tree_of schema table.name) rows) → Forbids schema table entries
+forbids schema db table entries rows sound are broken trees other same =
+    ∥∥₁_elim sound (λ x y. absurd x) (λ it. broken (keeps_from Unique schema (with_tree db (tree_of schema table.name) rows) (λ t row listed there.
+    elim (cases_Bool (t.tree == tree_of schema table.name)) [
+      | inl here ↦ held_at schema trees (with_tree db (tree_of schema table.name) rows) t row listed
+          (rw here (are ∙ sym same ∙ ap trees (same_tree t.tree (tree_of schema table.name) here))) there (other.obeys.rules Unique)
+      | inr away ↦ held_at schema db (with_tree db (tree_of schema table.name) rows) t row listed (rw away refl) there
+          (it.obeys.rules Unique)
+    ])))

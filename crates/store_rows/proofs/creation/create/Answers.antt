@@ -1,0 +1,41 @@
+-- Why there is no new bank.
+use Rattle.std.proofs.Common.{◌≡◌, ◌≤◌, Err, true, ap, subst, rules, arith}
+use Rattle.std.specs.Prelude.{IfErr}
+use Rattle.sqlite.specs.Held.{state}
+use Rattle.sqlite.specs.State.{HasCleanDisk}
+use Rattle.sqlite.specs.State.{Shows as StateShows}
+use Rattle.store_rows.specs.Creation.{CreatesBank, CreationFails}
+use Rattle.store_rows.proofs.CreationSteps.{fails_committed, fails_created}
+use Rattle.store_rows.proofs.creation.create.Goals as goal
+
+pub returns-in_err-create_tables-clause-cause : goal.returns-in_err-create_tables-clause-cause
+returns-in_err-create_tables-clause-cause g c =
+    let e = c.in_err-create_tables in
+    let begun = c.transaction-tx.ensures.begun in
+    let live : c.transaction-tx.result.conn.now.in_transaction ≡ true = ap (λ h. h.in_transaction) begun in
+    let same : c.from_residual.result ≡ Err e.field-0.0 = search rules in
+    let it : HasCleanDisk (state g.S.Store c.drop-tx.new.self.0)
+    → IfErr c.from_residual.result (CreationFails (state g.S.Store c.args.conn.now) (state g.S.Store c.drop-tx.new.self.0)) =
+    λ clean. let clean0 : HasCleanDisk (state g.S.Store c.create_tables.new.tx.conn.now) = omega (arith, c.drop-tx.ensures.survives.clean) in
+    let told = subst (λ h. CreatesBank (state g.S.Store h) (state g.S.Store c.create_tables.new.tx.conn.now) (Err e.field-0.0)) begun
+    (e.ensures.told clean0 live) in
+    rw same (fails_created (state g.S.Store c.args.conn.now) (state g.S.Store c.create_tables.new.tx.conn.now) (state g.S.Store c.drop-tx.new.self.0)
+    e.field-0.0 told c.drop-tx.ensures.survives.counts (c.drop-tx.ensures.undone clean)) in
+    search (rules, it)
+
+pub returns-in_err-commit-clause-cause : goal.returns-in_err-commit-clause-cause
+returns-in_err-commit-clause-cause g c =
+    let e = c.in_err-commit in
+    let begun = c.transaction-tx.ensures.begun in
+    let live : c.transaction-tx.result.conn.now.in_transaction ≡ true = ap (λ h. h.in_transaction) begun in
+    let same : c.from_residual-in_err-commit.result ≡ Err e.field-0.0 = search rules in
+    let made = c.in_ok-create_tables.ensures in
+    let it : HasCleanDisk (state g.S.Store c.commit.new.self.0)
+    → IfErr c.from_residual-in_err-commit.result (CreationFails (state g.S.Store c.args.conn.now) (state g.S.Store c.commit.new.self.0)) =
+    λ clean. let clean0 : HasCleanDisk (state g.S.Store c.create_tables.new.tx.conn.now) = omega (arith, e.ensures.survives.clean) in
+    let shows = subst (λ h. StateShows (state g.S.Store h) (state g.S.Store c.create_tables.new.tx.conn.now)
+    (state g.S.Store c.create_tables.new.tx.conn.now).now (state g.S.Store h).committed true) begun (made.kept clean0 live) in
+    let more = subst (λ h. (state g.S.Store h).faults ≤ (state g.S.Store c.create_tables.new.tx.conn.now).faults) begun made.survives.counts in
+    rw same (fails_committed (state g.S.Store c.args.conn.now) (state g.S.Store c.create_tables.new.tx.conn.now) (state g.S.Store c.commit.new.self.0)
+    e.field-0.0 shows more (e.ensures.err clean)) in
+    search (rules, it)
