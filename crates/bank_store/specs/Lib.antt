@@ -2,5 +2,6 @@
 pub mod Changes
 pub mod Doing
 pub mod Down
+pub mod Opening
 pub mod Seen
 pub mod Sound

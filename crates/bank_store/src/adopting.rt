@@ -1,31 +1,64 @@
 //! A bank that is in a file is taken up.
-ghost use Rattle.std.specs.Prelude.{◌≡◌, false};
+ghost use Rattle.std.specs.Prelude.{◌≡◌, ◌≢◌, List, IfOk, IfErr, false};
+ghost use Rattle.sqlite.specs.State.{HasCleanDisk, Survives};
+ghost use Rattle.sqlite.specs.Held.{state};
+ghost use Rattle.posting_core.specs.Commands.{Command};
+ghost use Rattle.posting_core.specs.Counter.{ShowsLog, StandsAt, LeavesOnly};
+ghost use Rattle.posting_core.specs.Tables.{Tables};
+ghost use Rattle.posting_core.specs.Tables.{Shows as Show};
+ghost use Rattle.store_rows.specs.Columns.{meta_in};
+ghost use Rattle.store_rows.specs.View.{Shows};
+ghost use Rattle.bank_store.specs.Opening.{conn_seen, state_in, ChecksMeta, TellsMeta, Reads, IsUndone, IsUnread, IsFound, Looks, Misses, IsAsBefore};
+ghost use Rattle.bank_store.specs.Seen.{bank_seen, connection_of};
 
 use crate::bank::Bank;
-use crate::probing::{TABLES, tables_there};
-use crate::refused::{OpenFault, Refused};
+use crate::probing::{Presence, tables_there};
+use crate::refused::{OpenFault, Refused, unread};
 use crate::transactions::begin;
 use posting_core::{MAX_DECIDED, Rule};
-use sqlite::{Alter, Connection, Error};
+use sqlite::{Alter, Connection};
 use std::alloc::Global;
-use store_rows::{StoredMeta, TableFault, VERSION, commit, read_meta};
+use store_rows::{StoredMeta, VERSION, probe_meta, read_meta};
 
-// What the row of the bank holds, none where there is no such row.
-fn stored_meta<S: Alter>(conn: &mut Connection<S>) -> Result<Option<StoredMeta>, TableFault>
+// What the row of the bank holds, none where there is no such row. Nothing is written, so the transaction is dropped.
+fn stored_meta<S: Alter>(conn: &mut Connection<S>) -> Result<Option<StoredMeta>, OpenFault>
     requires { conn.old.in_transaction ≡ false }
+    ensures told { HasCleanDisk (state S.Store conn.new) → (tables : Tables)
+        → Shows (state S.Store conn.old).now tables → TellsMeta (meta_in tables) result }
+    ensures undone { HasCleanDisk (state S.Store conn.new) → IsUndone (state S.Store conn.old) (state S.Store conn.new) }
+    ensures fault { IfErr result IsUnread }
     ensures mode { conn.new.in_transaction ≡ false }
+    ensures survives { Survives (state S.Store conn.old) (state S.Store conn.new) (λ _. ⊥) }
 {
     let mut tx = begin(conn);
-    let meta = read_meta(&mut tx)?;
-    commit(tx)?;
-    Ok(meta)
+    match read_meta(&mut tx) {
+        Ok(meta) => Ok(meta),
+        Err(fault) => Err(unread(&fault)),
+    }
+}
+
+// The same. The store is asked for a table again, so that it is known to be open, and to have undone the transaction.
+fn settled_meta<S: Alter>(conn: &mut Connection<S>) -> Result<Option<StoredMeta>, OpenFault>
+    requires { conn.old.in_transaction ≡ false }
+    ensures told { HasCleanDisk (state S.Store conn.new) → (tables : Tables)
+        → Shows (state S.Store conn.old).now tables → TellsMeta (meta_in tables) result }
+    ensures same { HasCleanDisk (state S.Store conn.new) → Reads (state S.Store conn.old) (state S.Store conn.new) result }
+    ensures fault { IfErr result IsUnread }
+    ensures mode { conn.new.in_transaction ≡ false }
+    ensures survives { Survives (state S.Store conn.old) (state S.Store conn.new) (λ _. ⊥) }
+{
+    let _outside = conn.is_autocommit();
+    let meta = stored_meta(conn);
+    match probe_meta(conn) {
+        Ok(_) => meta,
+        Err(_) => Err(OpenFault::Store),
+    }
 }
 
 // What the row of the bank says against it.
-fn check_meta(meta: Option<StoredMeta>) -> Result<(), OpenFault> {
-    let Some(meta) = meta else {
-        return Err(OpenFault::Damaged(Rule::Meta));
-    };
+fn check_meta(meta: &StoredMeta) -> Result<(), OpenFault>
+    ensures { ChecksMeta (Some meta.now) result }
+{
     if meta.version != VERSION {
         return Err(OpenFault::Version(meta.version));
     }
@@ -35,25 +68,44 @@ fn check_meta(meta: Option<StoredMeta>) -> Result<(), OpenFault> {
     Ok(())
 }
 
-// Looks for the six tables and for our version. It changes nothing.
-fn find_bank<S: Alter>(conn: &mut Connection<S>) -> Result<(), OpenFault> {
+// Looks for the six tables and for our version.
+fn find_bank<S: Alter>(conn: &mut Connection<S>) -> Result<(), OpenFault>
+    requires { conn.old.in_transaction ≡ false }
+    ensures told { HasCleanDisk (state S.Store conn.new) → Looks (state S.Store conn.old) (state S.Store conn.new) result }
+    ensures mode { conn.new.in_transaction ≡ false }
+    ensures survives { Survives (state S.Store conn.old) (state S.Store conn.new) (λ _. ⊥) }
+{
     match tables_there(conn)? {
-        0 => return Err(OpenFault::Blank),
-        TABLES => {}
-        _ => return Err(OpenFault::Foreign),
-    }
-    match stored_meta(conn) {
-        Ok(meta) => check_meta(meta),
-        Err(TableFault::Sqlite(Error::InvalidColumnType(..))) => {
-            Err(OpenFault::Damaged(Rule::Value))
-        }
-        Err(TableFault::Damaged(rule)) => Err(OpenFault::Damaged(rule)),
-        Err(TableFault::Sqlite(_)) => Err(OpenFault::Store),
+        Presence::Absent => Err(OpenFault::Blank),
+        Presence::Partial => Err(OpenFault::Foreign),
+        Presence::Whole => match settled_meta(conn)? {
+            None => Err(OpenFault::Damaged(Rule::Meta)),
+            Some(meta) => check_meta(&meta),
+        },
     }
 }
 
 /// Takes up the bank that a connection finds. It changes no table, and clears nothing.
-pub fn adopt<S: Alter>(alloc: Global, mut conn: Connection<S>) -> Result<Bank<S>, Refused<S>> {
+pub fn adopt<S: Alter>(alloc: Global, mut conn: Connection<S>) -> Result<Bank<S>, Refused<S>>
+    requires { conn.in_transaction ≡ false }
+    ensures found { IfOk result (λ bank. HasCleanDisk (state S.Store (connection_of bank)) → IsFound (state S.Store conn) (state S.Store (connection_of bank))) }
+    ensures shows { IfOk result (λ bank. (bank_seen S.Store bank).honest → (log : List Command)
+        → ShowsLog (conn_seen S.Store conn) log → ShowsLog (bank_seen S.Store bank) log) }
+    ensures stands { IfOk result (λ bank. (bank_seen S.Store bank).honest → (log : List Command)
+        → StandsAt (conn_seen S.Store conn) log → StandsAt (bank_seen S.Store bank) log) }
+    ensures up { IfOk result (λ bank. (bank_seen S.Store bank).is_down → ⊥) }
+    ensures missed { IfErr result (λ refused. HasCleanDisk (state S.Store refused.conn) → Misses (state S.Store conn) refused.fault) }
+    ensures same { IfErr result (λ refused. HasCleanDisk (state S.Store refused.conn) → refused.fault ≢ OpenFault.Store
+        → IsAsBefore (state S.Store conn) (state S.Store refused.conn)) }
+    ensures undone { IfErr result (λ refused. HasCleanDisk (state S.Store refused.conn)
+        → IsUndone (state S.Store conn) (state S.Store refused.conn)) }
+    ensures known { IfErr result (λ refused. HasCleanDisk (state S.Store refused.conn) → (log : List Command)
+        → ShowsLog (conn_seen S.Store conn) log → refused.fault ≡ OpenFault.Store) }
+    ensures stop { IfErr result (λ refused. HasCleanDisk (state S.Store refused.conn) → (log : List Command)
+        → StandsAt (conn_seen S.Store conn) log → LeavesOnly (conn_seen S.Store refused.conn) (λ tables. Show tables log)) }
+    ensures idle { IfErr result (λ refused. refused.conn.in_transaction ≡ false) }
+    ensures survives { Survives (state S.Store conn) (state_in S.Store result) (λ _. ⊥) }
+{
     match find_bank(&mut conn) {
         Ok(()) => Ok(Bank::over(alloc, conn)),
         Err(fault) => Err(Refused { fault, conn }),

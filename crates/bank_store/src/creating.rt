@@ -1,25 +1,79 @@
 //! A new bank in a file.
+ghost use Rattle.std.specs.Prelude.{◌≡◌, [], IfOk, IfErr, OnOk, OnErr, false};
+ghost use Rattle.sqlite.specs.State.{HasCleanDisk, Survives};
+ghost use Rattle.sqlite.specs.Held.{state};
+ghost use Rattle.posting_core.specs.Counter.{StandsAt};
+ghost use Rattle.posting_core.specs.Tables.{Tables};
+ghost use Rattle.sql_meanings.specs.Making.{KeepsTables};
+ghost use Rattle.store_rows.specs.Creation.{HasNewBank};
+ghost use Rattle.store_rows.specs.View.{Shows};
+ghost use Rattle.bank_store.specs.Opening.{state_in, six_tables, IsPresent, IsMade, IsUndone, IsUnmade};
+ghost use Rattle.bank_store.specs.Seen.{bank_seen, connection_of};
+ghost use Rattle.bank_store.specs.declared.probing.Presence.TheVariants.{Absent};
+
 use crate::bank::Bank;
-use crate::probing::tables_there;
-use crate::refused::{OpenFault, Refused, is_of_the_store};
+use crate::probing::{Presence, tables_there};
+use crate::refused::{OpenFault, Refused, unmade};
+use crate::transactions::begin;
 use sqlite::{Alter, Connection};
 use std::alloc::Global;
+use store_rows::create_tables;
 
-// Makes the six tables and the first row of meta, where none of the tables is there.
-fn make_tables<S: Alter>(conn: &mut Connection<S>) -> Result<(), OpenFault> {
-    if tables_there(conn)? > 0 {
-        return Err(OpenFault::NotBlank);
+// Makes the six tables and the first row of meta, in one transaction.
+fn make_tables<S: Alter>(conn: &mut Connection<S>) -> Result<(), OpenFault>
+    requires { conn.old.in_transaction ≡ false }
+    ensures made { HasCleanDisk (state S.Store conn.new) → OnOk result (IsMade (state S.Store conn.old) (state S.Store conn.new)) }
+    ensures undone { HasCleanDisk (state S.Store conn.new)
+        → OnErr result (IsUndone (state S.Store conn.old) (state S.Store conn.new)) }
+    ensures fault { IfErr result IsUnmade }
+    ensures stop { Survives (state S.Store conn.old) (state S.Store conn.new) (HasNewBank (state S.Store conn.old).now) }
+    ensures mode { conn.new.in_transaction ≡ false }
+{
+    let mut tx = begin(conn);
+    match create_tables(&mut tx) {
+        Ok(()) => {}
+        Err(e) => return Err(unmade(&e)),
     }
-    match store_rows::create(conn) {
+    match tx.commit() {
         Ok(()) => Ok(()),
-        Err(e) if is_of_the_store(&e) => Err(OpenFault::Store),
-        Err(_) => Err(OpenFault::NotBlank),
+        Err(_) => Err(OpenFault::Store),
+    }
+}
+
+// The same, where none of the tables is there.
+fn make_bank<S: Alter>(conn: &mut Connection<S>) -> Result<(), OpenFault>
+    requires { conn.old.in_transaction ≡ false }
+    ensures blank { HasCleanDisk (state S.Store conn.new) → OnOk result (IsPresent (state S.Store conn.old).now six_tables Absent) }
+    ensures made { HasCleanDisk (state S.Store conn.new) → OnOk result (IsMade (state S.Store conn.old) (state S.Store conn.new)) }
+    ensures undone { HasCleanDisk (state S.Store conn.new)
+        → OnErr result (IsUndone (state S.Store conn.old) (state S.Store conn.new)) }
+    ensures fault { IfErr result IsUnmade }
+    ensures stop { Survives (state S.Store conn.old) (state S.Store conn.new) (HasNewBank (state S.Store conn.old).now) }
+    ensures mode { conn.new.in_transaction ≡ false }
+{
+    match tables_there(conn)? {
+        Presence::Absent => make_tables(conn),
+        _ => Err(OpenFault::NotBlank),
     }
 }
 
 /// Makes a bank with no branch in one transaction, beside whatever else the file holds.
-pub fn create<S: Alter>(alloc: Global, mut conn: Connection<S>) -> Result<Bank<S>, Refused<S>> {
-    match make_tables(&mut conn) {
+pub fn create<S: Alter>(alloc: Global, mut conn: Connection<S>) -> Result<Bank<S>, Refused<S>>
+    requires { conn.in_transaction ≡ false }
+    ensures stands { IfOk result (λ bank. (bank_seen S.Store bank).honest → StandsAt (bank_seen S.Store bank) []) }
+    ensures keeps { IfOk result (λ bank. HasCleanDisk (state S.Store (connection_of bank))
+        → KeepsTables (state S.Store conn).now (state S.Store (connection_of bank)).now) }
+    ensures blank { IfOk result (λ bank. HasCleanDisk (state S.Store (connection_of bank))
+        → IsPresent (state S.Store conn).now six_tables Absent) }
+    ensures new { IfOk result (λ bank. HasCleanDisk (state S.Store (connection_of bank)) → (tables : Tables)
+        → Shows (state S.Store conn).now tables → ⊥) }
+    ensures undone { IfErr result (λ refused. HasCleanDisk (state S.Store refused.conn)
+        → IsUndone (state S.Store conn) (state S.Store refused.conn)) }
+    ensures fault { IfErr result (λ refused. IsUnmade refused.fault) }
+    ensures idle { IfErr result (λ refused. refused.conn.in_transaction ≡ false) }
+    ensures stop { Survives (state S.Store conn) (state_in S.Store result) (HasNewBank (state S.Store conn).now) }
+{
+    match make_bank(&mut conn) {
         Ok(()) => Ok(Bank::over(alloc, conn)),
         Err(fault) => Err(Refused { fault, conn }),
     }

@@ -1,30 +1,88 @@
 //! Which of the six tables are there.
+ghost use Rattle.std.specs.Prelude.{◌≡◌, ◌∷◌, [], IfErr, false};
+ghost use Rattle.sqlite.specs.State.{HasCleanDisk, Survives};
+ghost use Rattle.sqlite.specs.Held.{state};
+ghost use Rattle.store_rows.specs.SixTables.{meta, branch, teller, account, history, request};
+ghost use Rattle.bank_store.specs.Opening.{six_tables, joined, presence_of, TellsPresence};
+
 use crate::refused::OpenFault;
 use sqlite::{Alter, Connection, Error};
 use store_rows::{
     probe_accounts, probe_branches, probe_history, probe_meta, probe_requests, probe_tellers,
 };
 
-/// How many tables a bank has.
-pub(crate) const TABLES: u32 = 6;
-
-fn first_three<S: Alter>(conn: &mut Connection<S>) -> Result<u32, Error> {
-    let meta = probe_meta(conn)?;
-    let branches = probe_branches(conn)?;
-    let tellers = probe_tellers(conn)?;
-    Ok(u32::from(meta) + u32::from(branches) + u32::from(tellers))
+/// How many of some tables are there.
+#[derive(Clone, Copy, Debug, PartialEq, Eq)]
+pub(crate) enum Presence {
+    Absent,
+    Partial,
+    Whole,
 }
 
-fn last_three<S: Alter>(conn: &mut Connection<S>) -> Result<u32, Error> {
-    let accounts = probe_accounts(conn)?;
-    let history = probe_history(conn)?;
-    let requests = probe_requests(conn)?;
-    Ok(u32::from(accounts) + u32::from(history) + u32::from(requests))
+impl Presence {
+    fn of(is_there: bool) -> Presence
+        ensures { result ≡ presence_of is_there }
+    {
+        if is_there {
+            Presence::Whole
+        } else {
+            Presence::Absent
+        }
+    }
+
+    fn and(self, other: Presence) -> Presence
+        ensures { result ≡ joined self other }
+    {
+        match (self, other) {
+            (Presence::Absent, Presence::Absent) => Presence::Absent,
+            (Presence::Whole, Presence::Whole) => Presence::Whole,
+            _ => Presence::Partial,
+        }
+    }
 }
 
-/// How many of the six probes are accepted.
-pub(crate) fn tables_there<S: Alter>(conn: &mut Connection<S>) -> Result<u32, OpenFault> {
-    let one = first_three(conn).map_err(|_| OpenFault::Store)?;
-    let two = last_three(conn).map_err(|_| OpenFault::Store)?;
-    Ok(one + two)
+fn first_three<S: Alter>(conn: &mut Connection<S>) -> Result<Presence, Error>
+    requires { conn.old.in_transaction ≡ false }
+    ensures told { HasCleanDisk (state S.Store conn.new)
+        → TellsPresence (state S.Store conn.old) (state S.Store conn.new) (meta ∷ branch ∷ teller ∷ []) result }
+    ensures mode { conn.new.in_transaction ≡ false }
+    ensures survives { Survives (state S.Store conn.old) (state S.Store conn.new) (λ _. ⊥) }
+{
+    let _outside = conn.is_autocommit();
+    let meta = Presence::of(probe_meta(conn)?);
+    let branches = Presence::of(probe_branches(conn)?);
+    let tellers = Presence::of(probe_tellers(conn)?);
+    Ok(meta.and(branches).and(tellers))
+}
+
+fn last_three<S: Alter>(conn: &mut Connection<S>) -> Result<Presence, Error>
+    requires { conn.old.in_transaction ≡ false }
+    ensures told { HasCleanDisk (state S.Store conn.new)
+        → TellsPresence (state S.Store conn.old) (state S.Store conn.new) (account ∷ history ∷ request ∷ []) result }
+    ensures mode { conn.new.in_transaction ≡ false }
+    ensures survives { Survives (state S.Store conn.old) (state S.Store conn.new) (λ _. ⊥) }
+{
+    let _outside = conn.is_autocommit();
+    let accounts = Presence::of(probe_accounts(conn)?);
+    let history = Presence::of(probe_history(conn)?);
+    let requests = Presence::of(probe_requests(conn)?);
+    Ok(accounts.and(history).and(requests))
+}
+
+/// How many of the six tables are there.
+pub(crate) fn tables_there<S: Alter>(conn: &mut Connection<S>) -> Result<Presence, OpenFault>
+    requires { conn.old.in_transaction ≡ false }
+    ensures told { HasCleanDisk (state S.Store conn.new)
+        → TellsPresence (state S.Store conn.old) (state S.Store conn.new) six_tables result }
+    ensures fault { IfErr result (λ fault. fault ≡ OpenFault.Store) }
+    ensures mode { conn.new.in_transaction ≡ false }
+    ensures survives { Survives (state S.Store conn.old) (state S.Store conn.new) (λ _. ⊥) }
+{
+    let Ok(one) = first_three(conn) else {
+        return Err(OpenFault::Store);
+    };
+    let Ok(two) = last_three(conn) else {
+        return Err(OpenFault::Store);
+    };
+    Ok(one.and(two))
 }

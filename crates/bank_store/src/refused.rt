@@ -1,9 +1,11 @@
 //! Why a connection isn't taken for a bank.
 ghost use Rattle.std.specs.Prelude.{◌≡◌};
+ghost use Rattle.bank_store.specs.Opening.{of_the_store, unmade_by, unread_by, IsUnmade, IsUnread};
 
 use posting_core::Rule;
 use sqlite::{Alter, Connection, Error, ErrorCode};
 use std::fmt;
+use store_rows::TableFault;
 
 /// Why a bank isn't made in a file, or isn't found there.
 #[derive(Clone, Copy, Debug, PartialEq, Eq)]
@@ -23,6 +25,11 @@ pub enum OpenFault {
 }
 
 impl fmt::Display for OpenFault {
+    ghost use Rattle.std.specs.Prelude.{Some};
+    ghost use Rattle.bank_store.specs.Opening.{open_text};
+
+    ghost output = { λ fault. Some (open_text fault) };
+
     fn fmt<W: fmt::Write>(&self, f: &mut fmt::Formatter<W>) -> fmt::Result {
         match self {
             OpenFault::Store => write!(f, "store fault"),
@@ -46,8 +53,10 @@ pub struct Refused<S: Alter> {
     pub conn: Connection<S>,
 }
 
-/// Whether the error is the store's own, and says nothing of what the file holds.
-pub(crate) fn is_of_the_store(e: &Error) -> bool {
+// Whether the error is the store's own, and says nothing of what the file holds.
+fn is_of_the_store(e: &Error) -> bool
+    ensures { result ≡ of_the_store e.now }
+{
     matches!(
         e,
         Error::SqliteFailure(
@@ -60,4 +69,27 @@ pub(crate) fn is_of_the_store(e: &Error) -> bool {
                 | ErrorCode::OperationInterrupted
         )
     )
+}
+
+/// What an error says that came while the tables were made.
+pub(crate) fn unmade(e: &Error) -> OpenFault
+    ensures told { result ≡ unmade_by e.now }
+    ensures fault { IsUnmade result }
+{
+    if is_of_the_store(e) {
+        OpenFault::Store
+    } else {
+        OpenFault::NotBlank
+    }
+}
+
+/// What an error says that came while the row of the bank was read.
+pub(crate) fn unread(e: &TableFault) -> OpenFault
+    ensures told { result ≡ unread_by e.now }
+    ensures fault { IsUnread result }
+{
+    match e {
+        TableFault::Damaged(_) => OpenFault::Damaged(Rule::Value),
+        TableFault::Sqlite(_) => OpenFault::Store,
+    }
 }

@@ -1,0 +1,133 @@
+-- What is found of a bank, and that nothing is missed where a log is shown.
+use Rattle.std.proofs.Common.{◌≡◌, ◌≢◌, ◌≤◌, ◌<◌, ℕ, ℤ, pos, List, [], ◌∷◌, Option, Some, None, Ok, Err, Result, refl, sym, ap, subst, ◌∙◌, inl, inr, arith}
+use Rattle.std.specs.Prelude.{IsTrue, ◌⊎◌, ◌<ℤ◌, option_map}
+use Rattle.std.proofs.lemmas.Int.{ints}
+use Rattle.sqlite.specs.Table.{Table}
+use Rattle.sqlite.specs.Effect.{Database}
+use Rattle.sqlite.specs.State.{State}
+use Rattle.sqlite_rules.specs.Lists.{Has}
+use Rattle.posting_core.specs.Commands.{Command, AreCommands}
+use Rattle.posting_core.specs.Damage.{IsUndamaged}
+use Rattle.posting_core.specs.Steps.{meta_row_of}
+use Rattle.posting_core.specs.Tables.{Tables, row_at}
+use Rattle.posting_core.specs.Tables.{Shows as Show}
+use Rattle.posting_core.specs.declared.fault.Rule.TheVariants.{Meta, Teller, Account, Balance, Request, Value, Key}
+use Rattle.posting_core.specs.declared.rows.MetaRow.{MetaRow}
+use Rattle.posting_core.proofs.Undamaged.{undamaged}
+use Rattle.sql_meanings.specs.Tables.{Defines}
+use Rattle.store_rows.specs.Changes.{meta_key}
+use Rattle.store_rows.specs.Columns.{meta_in, meta_numbers}
+use Rattle.store_rows.specs.SixTables as six
+use Rattle.store_rows.specs.View.{Shows}
+use Rattle.store_rows.specs.declared.metas.StoredMeta.{StoredMeta}
+use Rattle.bank_store.specs.Opening.{six_tables, Lacks, OneOf, IsPresent, IsAsBefore, IsOurs, IsOfVersion, IsNoCount, ChecksMeta, TellsMeta, IsUnread, Reads, MetaIs, IsFound, Misses, Looks}
+use Rattle.bank_store.specs.declared.probing.Presence.TheVariants.{Absent, Whole}
+use Rattle.bank_store.specs.declared.refused.OpenFault.{OpenFault}
+use Rattle.bank_store.specs.declared.refused.OpenFault.TheVariants.{Store, NotBlank, Blank, Foreign, Version, Damaged}
+use Rattle.bank_store.proofs.Probed.{as_before}
+
+-- the row wasn't read
+module _ (old mid new : State) (tables : IsPresent old.now six_tables Whole) (first : IsAsBefore old mid) where
+  abbrev MissedAt : OpenFault → Type 0
+  MissedAt fault =
+      ((t : Tables) → Shows mid.now t → TellsMeta (meta_in t) (Err fault)) → Reads {X = Option StoredMeta} mid new (Err fault) → Looks old new (Err fault)
+
+  at_store : MissedAt Store
+  at_store tells reads = (tt, λ still. as_before old mid new first (reads still))
+
+  at_value : MissedAt (Damaged Value)
+  at_value tells same =
+      ((tables, λ t shows. tells t (subst (λ (db : Database). Shows db t) (sym first.now_is) shows)), as_before old mid new first same)
+
+  pub missed : (fault : OpenFault) → IsUnread fault → MissedAt fault
+  missed fault (inl is) = subst MissedAt (sym is) at_store
+  missed fault (inr is) = subst MissedAt (sym is) at_value
+
+-- what was read of the row, and what was said against it
+module _ (old mid new : State) (stored : Option StoredMeta) (tables : IsPresent old.now six_tables Whole) (first : IsAsBefore old mid)
+    (read : (t : Tables) → Shows mid.now t → stored ≡ meta_in t) (then : IsAsBefore mid new) where
+  row_is : (P : Option StoredMeta → Type 0) → P stored → MetaIs old P
+  row_is P holds t shows = subst P (read t (subst (λ (db : Database). Shows db t) (sym first.now_is) shows)) holds
+
+  same : IsAsBefore old new
+  same = as_before old mid new first then
+
+  pub looked : (r : Result (Unit {0}) OpenFault) → ChecksMeta stored r → Looks old new r
+  looked (Ok done) checks = record { tables = tables; meta = row_is IsOurs checks; same = same }
+  looked (Err Store) checks = absurd checks
+  looked (Err NotBlank) checks = absurd checks
+  looked (Err Blank) checks = absurd checks
+  looked (Err Foreign) checks = absurd checks
+  looked (Err (Version n)) checks = ((tables, row_is (IsOfVersion n) checks), same)
+  looked (Err (Damaged Meta)) checks = ((tables, row_is IsNoCount checks), same)
+  looked (Err (Damaged Teller)) checks = absurd checks
+  looked (Err (Damaged Account)) checks = absurd checks
+  looked (Err (Damaged Balance)) checks = absurd checks
+  looked (Err (Damaged Request)) checks = absurd checks
+  looked (Err (Damaged Value)) checks = absurd checks
+  looked (Err (Damaged Key)) checks = absurd checks
+
+-- ---- where a log is shown
+
+-- a database that shows tables lacks none of the six
+lacks_none : (db : Database) (t : Tables) → Shows db t → (table : Table) → Has six_tables table → Lacks db table → ⊥
+lacks_none db t shows table has lacks = lacks shows.sound (defined has)
+  where
+    is : (known : Table) → table ≡ known → Defines db.schema known → Defines db.schema table
+    is known same defines = subst (Defines db.schema) (sym same) defines
+
+    defined : Has six_tables table → Defines db.schema table
+    defined (inl same) = is six.meta same shows.meta.defined
+    defined (inr (inl same)) = is six.branch same shows.branches.defined
+    defined (inr (inr (inl same))) = is six.teller same shows.tellers.defined
+    defined (inr (inr (inr (inl same)))) = is six.account same shows.accounts.defined
+    defined (inr (inr (inr (inr (inl same))))) = is six.history same shows.history.defined
+    defined (inr (inr (inr (inr (inr (inl same)))))) = is six.request same shows.requests.defined
+    defined (inr (inr (inr (inr (inr (inr none)))))) = absurd none
+
+-- where none of the six is, no tables are shown
+pub no_bank : (db : Database) (t : Tables) → IsPresent db six_tables Absent → Shows db t → ⊥
+no_bank db t absent shows = lacks_none db t shows six.meta (inl refl) absent.0
+
+-- what meta holds of a log
+holds : (t : Tables) → IsUndamaged t → IsOurs (meta_in t)
+holds t sound = (
+  sound.meta.0,
+  ap (λ (rows : List MetaRow). option_map meta_numbers (row_at meta_key rows 1)) sound.meta.1,
+  sound.meta.2,
+)
+
+abbrev version_in : Option StoredMeta → ℤ
+version_in None = pos 0
+version_in (Some m) = m.version
+
+abbrev decided_in : Option StoredMeta → ℤ
+decided_in None = pos 0
+decided_in (Some m) = m.decided
+
+not_other : (stored : Option StoredMeta) (n : ℤ) → IsOurs stored → IsOfVersion n stored → ⊥
+not_other stored n ours other = other.2 (sym (ap version_in other.1) ∙ ap version_in ours.1)
+
+not_outside : (z : ℤ) (n most : ℕ) → z ≡ pos n → n ≤ most → (z <ℤ pos 0) ⊎ (pos most <ℤ z) → ⊥
+not_outside z n most is le (inl below) = let h = rw is at below in omega (arith, ints)
+not_outside z n most is le (inr above) = let h = rw is at above in omega (arith, ints)
+
+not_missing : (stored : Option StoredMeta) → IsOurs stored → IsNoCount stored → ⊥
+not_missing stored ours (inl none) = let both = sym none ∙ ours.1 in cc
+not_missing stored ours (inr outside) =
+    not_outside outside.1 ours.0 1_000_000_000_000 (sym (ap decided_in outside.2) ∙ ap decided_in ours.1) ours.2 outside.3
+
+-- a bank that shows a log is missed only where the store failed
+pub known : (old : State) (fault : OpenFault) (t : Tables) (log : List Command) → Misses old fault → Shows old.now t → AreCommands log → Show t log → fault ≡ Store
+known old Store t log misses shows are log_shown = refl
+known old NotBlank t log misses shows are log_shown = absurd misses
+known old Blank t log misses shows are log_shown = absurd (no_bank old.now t misses shows)
+known old Foreign t log misses shows are log_shown = absurd (lacks_none old.now t shows misses.1.0 misses.1.1 misses.1.2)
+known old (Version n) t log misses shows are log_shown = absurd (not_other (meta_in t) n (holds t (undamaged t log are log_shown)) (misses.1 t shows))
+known old (Damaged Meta) t log misses shows are log_shown = absurd (not_missing (meta_in t) (holds t (undamaged t log are log_shown)) (misses.1 t shows))
+known old (Damaged Teller) t log misses shows are log_shown = absurd misses
+known old (Damaged Account) t log misses shows are log_shown = absurd misses
+known old (Damaged Balance) t log misses shows are log_shown = absurd misses
+known old (Damaged Request) t log misses shows are log_shown = absurd misses
+known old (Damaged Value) t log misses shows are log_shown = absurd (misses.1 t shows)
+known old (Damaged Key) t log misses shows are log_shown = absurd misses

@@ -1,0 +1,37 @@
+-- What the row of the bank tells, and what stands after it was read.
+use Rattle.std.proofs.Common.{◌≡◌, ◌⊎◌, Option, Some, None, Ok, Err, Result, refl, sym, ap, subst, ◌∙◌, inl, inr}
+use Rattle.std.specs.Prelude.{IsTrue, IsSome}
+use Rattle.sqlite.specs.State.{State, Fails, IsRolledBack, IsUnchanged, store_error}
+use Rattle.sqlite.specs.declared.error.Error.{Error}
+use Rattle.sqlite.specs.declared.error.Error.TheVariants.{SqliteFailure}
+use Rattle.sqlite.specs.declared.error.ErrorCode.TheVariants.{OutOfMemory, OperationInterrupted}
+use Rattle.sqlite_trees.specs.declared.error.StoreError.{StoreError}
+use Rattle.sqlite_trees.specs.declared.error.StoreError.TheVariants as cause
+use Rattle.sql_meanings.specs.Outcomes.{IsStoreError}
+use Rattle.store_rows.specs.Outcomes.{Finds, Never}
+use Rattle.store_rows.specs.declared.faults.TableFault.{TableFault}
+use Rattle.store_rows.specs.declared.faults.TableFault.TheVariants.{Sqlite, Damaged}
+use Rattle.store_rows.specs.declared.metas.StoredMeta.{StoredMeta}
+use Rattle.bank_store.specs.declared.refused.OpenFault.{OpenFault}
+use Rattle.bank_store.specs.declared.refused.OpenFault.TheVariants.{Store}
+use Rattle.bank_store.specs.Opening.{unread_by, TellsMeta, IsAsBefore, IsUndone, Reads}
+use Rattle.bank_store.proofs.Probed.{as_before}
+
+by_cause : (c : StoreError) → unread_by (Sqlite (store_error c)) ≡ Store
+by_cause cause.OutOfMemory = refl
+by_cause cause.Io = refl
+by_cause cause.Corrupt = refl
+by_cause cause.Full = refl
+by_cause cause.Broken = refl
+by_cause cause.Unstorable = refl
+
+-- an error of the store says nothing of the row
+by_store : (old new : State) (e : Error) → IsStoreError old new e → unread_by (Sqlite e) ≡ Store
+by_store old new e (inl fails) = ap (λ (x : Error). unread_by (Sqlite x)) fails.1 ∙ by_cause fails.0
+by_store old new e (inr (inl memory, same)) = ap (λ (x : Error). unread_by (Sqlite x)) memory
+by_store old new e (inr (inr limit, same)) = ap (λ (x : Error). unread_by (Sqlite x)) limit.0
+
+-- an error at a row that can be read is the store's
+pub read_err : (old new : State) (wanted : Option StoredMeta) (e : TableFault) → Finds old new wanted Never (Err e) → TellsMeta wanted (Err (unread_by e))
+read_err old new wanted (Sqlite e) finds = subst (λ (f : OpenFault). TellsMeta wanted (Err f)) (sym (by_store old new e finds)) tt
+read_err old new wanted (Damaged rule) finds = absurd finds.0.2

@@ -1,0 +1,205 @@
+-- What a connection is seen as before a bank is made in it or found there, and what either call tells.
+use Rattle.std.specs.Prelude.{◌≡◌, ◌≢◌, ◌⊎◌, ◌≤◌, ◌<ℤ◌, if◌then◌else◌, IsTrue, ℕ, ℤ, pos, Bool, true, false, List, [], ◌∷◌, ◌++◌, codes, Option, Some, None, Result, Ok, Err, ⊤}
+use Rattle.std.specs.Fmt.{decimal, signed_decimal}
+use Rattle.std.specs.List.{AllByRecursion}
+use Rattle.sqlite.specs.Table.{Table}
+use Rattle.sqlite.specs.Tree.{Trees}
+use Rattle.sqlite.specs.Effect.{Database, IsDatabase}
+use Rattle.sqlite.specs.State.{State}
+use Rattle.sqlite.specs.State.{Shows as StateShows}
+use Rattle.sqlite.specs.Held.{Held, state}
+use Rattle.sqlite.specs.declared.error.Error.{Error}
+use Rattle.sqlite.specs.declared.error.Error.TheVariants.{SqliteFailure}
+use Rattle.sqlite.specs.declared.error.ErrorCode.TheVariants as code
+use Rattle.sqlite_trees.specs.declared.store.Store.{Ghosts}
+use Rattle.sqlite_rules.specs.Lists.{Has}
+use Rattle.posting_core.specs.Counter.{Seen}
+use Rattle.posting_core.specs.Rules.{number_of_rule}
+use Rattle.posting_core.specs.Tables.{Tables}
+use Rattle.posting_core.specs.declared.fault.Rule.{Rule}
+use Rattle.posting_core.specs.declared.fault.Rule.TheVariants.{Meta, Teller, Account, Balance, Request, Value, Key}
+use Rattle.sql_meanings.specs.Making.{KeepsTables}
+use Rattle.sql_meanings.specs.Outcomes.{IsThere}
+use Rattle.sql_meanings.specs.Tables.{Defines}
+use Rattle.store_rows.specs.Columns.{meta_in}
+use Rattle.store_rows.specs.Creation.{new_tables}
+use Rattle.store_rows.specs.SixTables as six
+use Rattle.store_rows.specs.View.{Shows, ShowsTrees}
+use Rattle.store_rows.specs.declared.metas.StoredMeta.{StoredMeta}
+use Rattle.store_rows.specs.declared.faults.TableFault.{TableFault}
+use Rattle.store_rows.specs.declared.faults.TableFault.TheVariants.{Sqlite, Damaged as Broken}
+use Rattle.bank_store.specs.Seen.{seen_in}
+use Rattle.bank_store.specs.declared.bank.Bank.{Bank}
+use Rattle.bank_store.specs.declared.probing.Presence.{Presence}
+use Rattle.bank_store.specs.declared.probing.Presence.TheVariants.{Absent, Partial, Whole}
+use Rattle.bank_store.specs.declared.refused.OpenFault.{OpenFault}
+use Rattle.bank_store.specs.declared.refused.OpenFault.TheVariants.{Store, NotBlank, Blank, Foreign, Version, Damaged}
+use Rattle.bank_store.specs.declared.refused.Refused.{Refused}
+
+-- a connection that no bank holds is never down
+abbrev pub conn_seen : {S : Type 0} (g : Ghosts S) → Held S → Seen
+conn_seen g conn = seen_in (state g conn) ⊥
+
+-- what the connection shows that an answer holds
+abbrev pub state_in : {S : Type 0} (g : Ghosts S) → Result (Bank S g) (Refused S) → State
+state_in g (Ok bank) = state g bank.conn
+state_in g (Err refused) = state g refused.conn
+
+-- the store was open and is, and everything is as it was
+abbrev pub IsAsBefore : State → State → Type 0
+IsAsBefore old new = StateShows old new old.now old.committed old.in_transaction
+
+-- as long as the store is open, everything is as it was
+abbrev pub IsUndone : State → State → Type 0
+IsUndone old new = IsTrue new.is_open → IsAsBefore old new
+
+-- ---- the six tables
+
+abbrev pub six_tables : List Table
+six_tables = six.meta ∷ six.branch ∷ six.teller ∷ six.account ∷ six.history ∷ six.request ∷ []
+
+-- a table or a view has the name of this table
+abbrev pub HasName : Database → Table → Type 0
+HasName db table = IsThere db.schema table.name
+
+-- a sound database doesn't define this table
+abbrev pub Lacks : Database → Table → Type 0
+Lacks db table = ∥ IsDatabase db ∥₁ → ¬ Defines db.schema table
+
+-- one of the tables is so
+abbrev pub OneOf : List Table → (Table → Type 0) → Type 0
+OneOf tables P = (table : Table) × Has tables table × P table
+
+-- how many of these tables are there
+abbrev pub IsPresent : Database → List Table → Presence → Type 0
+IsPresent db tables Absent = AllByRecursion (Lacks db) tables
+IsPresent db tables Partial = OneOf tables (HasName db) × OneOf tables (Lacks db)
+IsPresent db tables Whole = AllByRecursion (HasName db) tables
+
+-- one table is there, or it isn't
+abbrev pub presence_of : Bool → Presence
+presence_of true = Whole
+presence_of false = Absent
+
+-- how many there are of all, by how many there are of each part
+abbrev pub joined : Presence → Presence → Presence
+joined Absent Absent = Absent
+joined Absent Partial = Partial
+joined Absent Whole = Partial
+joined Partial _ = Partial
+joined Whole Absent = Partial
+joined Whole Partial = Partial
+joined Whole Whole = Whole
+
+-- how many there are, and everything is as it was; or the store failed
+abbrev pub TellsPresence : {E : Type 0} → State → State → List Table → Result Presence E → Type 0
+TellsPresence old new tables (Ok presence) = IsPresent old.now tables presence × IsAsBefore old new
+TellsPresence old new tables (Err e) = IsUndone old new
+
+-- ---- the row of the bank
+
+-- it has our version, and a count within its range
+abbrev pub IsOurs : Option StoredMeta → Type 0
+IsOurs stored = (decided : ℕ) × (stored ≡ Some (record { version = pos 1; decided = pos decided })) × (decided ≤ 1_000_000_000_000)
+
+-- it has this version, which isn't ours
+abbrev pub IsOfVersion : ℤ → Option StoredMeta → Type 0
+IsOfVersion version stored = (decided : ℤ) × (stored ≡ Some (record { version = version; decided = decided })) × (version ≢ pos 1)
+
+-- it is missing, or its count is outside its range
+abbrev pub IsNoCount : Option StoredMeta → Type 0
+IsNoCount stored =
+    (stored ≡ None)
+    ⊎ ((version decided : ℤ) × (stored ≡ Some (record { version = version; decided = decided })) × ((decided <ℤ pos 0) ⊎ (pos 1_000_000_000_000 <ℤ decided)))
+
+-- what is said against the row
+abbrev pub ChecksMeta : Option StoredMeta → Result (Unit {0}) OpenFault → Type 0
+ChecksMeta stored (Ok done) = IsOurs stored
+ChecksMeta stored (Err (Version n)) = IsOfVersion n stored
+ChecksMeta stored (Err (Damaged Meta)) = IsNoCount stored
+ChecksMeta stored (Err _) = ⊥
+
+-- the row is this one, or the store failed
+abbrev pub TellsMeta : Option StoredMeta → Result (Option StoredMeta) OpenFault → Type 0
+TellsMeta wanted (Ok found) = found ≡ wanted
+TellsMeta wanted (Err Store) = ⊤
+TellsMeta wanted (Err _) = ⊥
+
+-- what an error says that came while the row was read
+abbrev pub unread_by : TableFault → OpenFault
+unread_by (Broken rule) = Damaged Value
+unread_by (Sqlite e) = Store
+
+-- why the row isn't told
+abbrev pub IsUnread : OpenFault → Type 0
+IsUnread fault = (fault ≡ Store) ⊎ (fault ≡ Damaged Value)
+
+-- everything is as it was; where the store failed, as long as it is open
+abbrev pub Reads : {X : Type 0} → State → State → Result X OpenFault → Type 0
+Reads old new (Err Store) = IsUndone old new
+Reads old new _ = IsAsBefore old new
+
+-- ---- a bank is found
+
+-- in every bank that the database shows, the row is so
+abbrev pub MetaIs : State → (Option StoredMeta → Type 0) → Type 0
+MetaIs s P = (t : Tables) → Shows s.now t → P (meta_in t)
+
+-- the six tables are there, with a row of our version, and everything is as it was
+pub record IsFound (old new : State) : Type 0 where
+  pub tables : IsPresent old.now six_tables Whole
+  pub meta : MetaIs old IsOurs
+  pub same : IsAsBefore old new
+
+-- why no bank is found, and everything is as it was
+abbrev pub Misses : State → OpenFault → Type 0
+Misses old Store = ⊤
+Misses old NotBlank = ⊥
+Misses old Blank = IsPresent old.now six_tables Absent
+Misses old Foreign = IsPresent old.now six_tables Partial
+Misses old (Version n) = IsPresent old.now six_tables Whole × MetaIs old (IsOfVersion n)
+Misses old (Damaged Meta) = IsPresent old.now six_tables Whole × MetaIs old IsNoCount
+Misses old (Damaged Value) = IsPresent old.now six_tables Whole × MetaIs old (λ _. ⊥)
+Misses old (Damaged _) = ⊥
+
+-- a bank is found, or why it isn't
+abbrev pub Looks : State → State → Result (Unit {0}) OpenFault → Type 0
+Looks old new (Ok done) = IsFound old new
+Looks old new (Err fault) = Misses old fault × Reads {X = Unit {0}} old new (Err fault)
+
+-- ---- a bank is made
+
+-- there was no table of a bank; now there is a bank with nothing in it, which every stop leaves, beside the tables that were there
+pub record IsMade (old new : State) : Type 0 where
+  pub shows : Shows new.now new_tables
+  pub left : (left : Trees) → new.may_leave left → ShowsTrees left new_tables
+  pub keeps : KeepsTables old.now new.now
+
+-- the error is the store's own
+abbrev pub of_the_store : Error → Bool
+of_the_store (SqliteFailure code.OutOfMemory) = true
+of_the_store (SqliteFailure code.SystemIoFailure) = true
+of_the_store (SqliteFailure code.DatabaseCorrupt) = true
+of_the_store (SqliteFailure code.DiskFull) = true
+of_the_store (SqliteFailure code.TooBig) = true
+of_the_store (SqliteFailure code.Closed) = true
+of_the_store (SqliteFailure code.OperationInterrupted) = true
+of_the_store _ = false
+
+-- what an error says that came while the tables were made
+abbrev pub unmade_by : Error → OpenFault
+unmade_by e = if of_the_store e then Store else NotBlank
+
+-- why a bank isn't made
+abbrev pub IsUnmade : OpenFault → Type 0
+IsUnmade fault = (fault ≡ Store) ⊎ (fault ≡ NotBlank)
+
+-- ---- the texts
+
+abbrev pub open_text : OpenFault → List ℕ
+open_text Store = codes "store fault"
+open_text NotBlank = codes "already a bank"
+open_text Blank = codes "no bank"
+open_text Foreign = codes "foreign tables"
+open_text (Version n) = codes "version " ++ signed_decimal n
+open_text (Damaged rule) = codes "damaged rule " ++ decimal (number_of_rule rule)
