@@ -1,16 +1,15 @@
 -- What a request, an opening and a look-up do to the tables is what the commands lead to.
-use Rattle.std.proofs.Common.{◌≡◌, ℕ, ◌+◌, ◌≤◌, List, [], ◌∷◌, length, Option, Some, None, Ok, refl, sym, ap, subst, ◌∙◌}
+use Rattle.std.proofs.Common.{◌≡◌, ℕ, ◌+◌, ◌≤◌, List, [], ◌∷◌, Option, Some, None, Ok, refl, sym, ap, subst, ◌∙◌}
 use Rattle.std.specs.Option.{option_map}
 use Rattle.message_records.specs.Records.{RequestFields}
 use Rattle.message_records.specs.Reading.{request_of}
 use Rattle.message_records.specs.Spelling.{reply_spelling}
-use Rattle.posting_core.specs.declared.counter.Opening.{Opening}
 use Rattle.posting_core.specs.declared.rows.BranchRow.{BranchRow}
-use Rattle.posting_core.specs.Commands.{Command, Open, Post, AreCommands, opened}
+use Rattle.posting_core.specs.Commands.{Command, Open, Post, opened}
 use Rattle.posting_core.specs.Cases.{case_of}
 use Rattle.posting_core.specs.Counter.{opening_for, opening_behind}
 use Rattle.posting_core.specs.Entries.{decided, reply}
-use Rattle.posting_core.specs.LookUps.{found_in, decided_in, count_in, count_of_branch}
+use Rattle.posting_core.specs.LookUps.{found_in, count_in, count_of_branch}
 use Rattle.posting_core.specs.Steps.{IsStep}
 use Rattle.posting_core.specs.Tables.{Tables, row_at, branch_key}
 use Rattle.posting_core.specs.Tables.{Shows as Show}
@@ -18,7 +17,6 @@ use Rattle.posting_core.proofs.Looked.{count_shown, decided_shown}
 use Rattle.posting_core.proofs.Opened.{opening_shown, already_open_shown}
 use Rattle.posting_core.proofs.Stepped.{post_shown, reply_shown}
 use Rattle.bank_store.specs.Changes.{tables_with, reply_bytes, opened_where, tables_with_branch}
-use Rattle.bank_store.specs.Sound.{AreSound}
 use Rattle.bank_store.proofs.Countered.{IsChange}
 use Rattle.bank_store.proofs.Stepping.{sound_tables, step_is, opens_is}
 

@@ -1,6 +1,6 @@
 -- A transaction on a connection, as a call of a counter.
-use Rattle.std.proofs.Common.{◌≡◌, ◌⊎◌, ℕ, ◌≤◌, List, [], ◌∷◌, length, take, Option, Some, None, Ok, Err, Result, refl, sym, ap, subst, ◌∙◌, arith, inl, inr}
-use Rattle.std.specs.Prelude.{IsTrue, IsSome, IsSomeAnd}
+use Rattle.std.proofs.Common.{◌≡◌, List, length, Option, Some, None, Err, refl, sym, subst, ◌∙◌, arith, inl, inr}
+use Rattle.std.specs.Prelude.{IsSome, IsSomeAnd}
 use Rattle.std.proofs.Math.Seq.{take-length}
 use Rattle.sqlite.specs.Tree.{Trees}
 use Rattle.sqlite.specs.Effect.{Database}
@@ -9,7 +9,7 @@ use Rattle.sqlite.proofs.StateLemmas.{survives_then}
 use Rattle.posting_core.specs.declared.fault.Fault.{Fault}
 use Rattle.posting_core.specs.declared.fault.Fault.TheVariants as told
 use Rattle.posting_core.specs.Commands.{Command, AreCommands}
-use Rattle.posting_core.specs.Counter.{ShowsLog, LeavesOnly, StandsAt, ShowsBeginning, Takes, IsCutShort, IsDamaged, Refuses}
+use Rattle.posting_core.specs.Counter.{ShowsLog, ShowsBeginning, Takes, IsCutShort, IsDamaged, Refuses}
 use Rattle.posting_core.specs.Runs.{behind}
 use Rattle.posting_core.specs.Tables.{Tables}
 use Rattle.posting_core.specs.Tables.{Shows as Show}
@@ -19,8 +19,8 @@ use Rattle.store_rows.proofs.ShownOnce.{one_bank}
 use Rattle.store_rows.specs.declared.faults.TableFault.{TableFault}
 use Rattle.store_rows.specs.declared.faults.TableFault.TheVariants.{Sqlite, Damaged}
 use Rattle.bank_store.specs.Doing.{Completes, Undoes}
-use Rattle.bank_store.specs.Down.{GoesDown, HasFailed}
-use Rattle.bank_store.specs.Seen.{AreOf, left_in, seen_in}
+use Rattle.bank_store.specs.Down.{GoesDown}
+use Rattle.bank_store.specs.Seen.{AreOf, seen_in}
 
 -- trees of a bank are found as that bank
 found_as : (trees : Trees) (after : Tables) (P : Tables → Type 0) → ShowsTrees trees after → P after → (x : Option Tables) → AreOf trees x → IsSomeAnd x P

@@ -1,6 +1,6 @@
 -- What is found of a bank, and that nothing is missed where a log is shown.
-use Rattle.std.proofs.Common.{◌≡◌, ◌≢◌, ◌≤◌, ◌<◌, ℕ, ℤ, pos, List, [], ◌∷◌, Option, Some, None, Ok, Err, Result, refl, sym, ap, subst, ◌∙◌, inl, inr, arith}
-use Rattle.std.specs.Prelude.{IsTrue, ◌⊎◌, ◌<ℤ◌, option_map}
+use Rattle.std.proofs.Common.{◌≡◌, ◌≤◌, ℕ, ℤ, pos, List, Option, Some, None, Ok, Err, Result, refl, sym, ap, subst, ◌∙◌, inl, inr, arith}
+use Rattle.std.specs.Prelude.{◌⊎◌, ◌<ℤ◌, option_map}
 use Rattle.std.proofs.lemmas.Int.{ints}
 use Rattle.sqlite.specs.Table.{Table}
 use Rattle.sqlite.specs.Effect.{Database}
@@ -8,7 +8,6 @@ use Rattle.sqlite.specs.State.{State}
 use Rattle.sqlite_rules.specs.Lists.{Has}
 use Rattle.posting_core.specs.Commands.{Command, AreCommands}
 use Rattle.posting_core.specs.Damage.{IsUndamaged}
-use Rattle.posting_core.specs.Steps.{meta_row_of}
 use Rattle.posting_core.specs.Tables.{Tables, row_at}
 use Rattle.posting_core.specs.Tables.{Shows as Show}
 use Rattle.posting_core.specs.declared.fault.Rule.TheVariants.{Meta, Teller, Account, Balance, Request, Value, Key}
@@ -20,7 +19,7 @@ use Rattle.store_rows.specs.Columns.{meta_in, meta_numbers}
 use Rattle.store_rows.specs.SixTables as six
 use Rattle.store_rows.specs.View.{Shows}
 use Rattle.store_rows.specs.declared.metas.StoredMeta.{StoredMeta}
-use Rattle.bank_store.specs.Opening.{six_tables, Lacks, OneOf, IsPresent, IsAsBefore, IsOurs, IsOfVersion, IsNoCount, ChecksMeta, TellsMeta, IsUnread, Reads, MetaIs, IsFound, Misses, Looks}
+use Rattle.bank_store.specs.Opening.{six_tables, Lacks, IsPresent, IsAsBefore, IsOurs, IsOfVersion, IsNoCount, ChecksMeta, TellsMeta, IsUnread, IsReadOnly, MetaIs, Misses, SeeksBank}
 use Rattle.bank_store.specs.declared.probing.Presence.TheVariants.{Absent, Whole}
 use Rattle.bank_store.specs.declared.refused.OpenFault.{OpenFault}
 use Rattle.bank_store.specs.declared.refused.OpenFault.TheVariants.{Store, NotBlank, Blank, Foreign, Version, Damaged}
@@ -30,7 +29,7 @@ use Rattle.bank_store.proofs.Probed.{as_before}
 module _ (old mid new : State) (tables : IsPresent old.now six_tables Whole) (first : IsAsBefore old mid) where
   abbrev MissedAt : OpenFault → Type 0
   MissedAt fault =
-      ((t : Tables) → Shows mid.now t → TellsMeta (meta_in t) (Err fault)) → Reads {X = Option StoredMeta} mid new (Err fault) → Looks old new (Err fault)
+      ((t : Tables) → Shows mid.now t → TellsMeta (meta_in t) (Err fault)) → IsReadOnly {X = Option StoredMeta} mid new (Err fault) → SeeksBank old new (Err fault)
 
   at_store : MissedAt Store
   at_store tells reads = (tt, λ still. as_before old mid new first (reads still))
@@ -52,7 +51,7 @@ module _ (old mid new : State) (stored : Option StoredMeta) (tables : IsPresent 
   same : IsAsBefore old new
   same = as_before old mid new first then
 
-  pub looked : (r : Result (Unit {0}) OpenFault) → ChecksMeta stored r → Looks old new r
+  pub looked : (r : Result (Unit {0}) OpenFault) → ChecksMeta stored r → SeeksBank old new r
   looked (Ok done) checks = record { tables = tables; meta = row_is IsOurs checks; same = same }
   looked (Err Store) checks = absurd checks
   looked (Err NotBlank) checks = absurd checks

@@ -11,5 +11,6 @@ pub mod RowChanges
 pub mod SoundRows
 pub mod Starting
 pub mod Stepping
+pub mod Taken
 pub mod Told
 pub mod Transacted

@@ -1,10 +1,7 @@
 -- What the row of the bank tells, and what stands after it was read.
-use Rattle.std.proofs.Common.{◌≡◌, ◌⊎◌, Option, Some, None, Ok, Err, Result, refl, sym, ap, subst, ◌∙◌, inl, inr}
-use Rattle.std.specs.Prelude.{IsTrue, IsSome}
-use Rattle.sqlite.specs.State.{State, Fails, IsRolledBack, IsUnchanged, store_error}
+use Rattle.std.proofs.Common.{◌≡◌, Option, Err, refl, sym, ap, subst, ◌∙◌, inl, inr}
+use Rattle.sqlite.specs.State.{State, store_error}
 use Rattle.sqlite.specs.declared.error.Error.{Error}
-use Rattle.sqlite.specs.declared.error.Error.TheVariants.{SqliteFailure}
-use Rattle.sqlite.specs.declared.error.ErrorCode.TheVariants.{OutOfMemory, OperationInterrupted}
 use Rattle.sqlite_trees.specs.declared.error.StoreError.{StoreError}
 use Rattle.sqlite_trees.specs.declared.error.StoreError.TheVariants as cause
 use Rattle.sql_meanings.specs.Outcomes.{IsStoreError}
@@ -14,8 +11,7 @@ use Rattle.store_rows.specs.declared.faults.TableFault.TheVariants.{Sqlite, Dama
 use Rattle.store_rows.specs.declared.metas.StoredMeta.{StoredMeta}
 use Rattle.bank_store.specs.declared.refused.OpenFault.{OpenFault}
 use Rattle.bank_store.specs.declared.refused.OpenFault.TheVariants.{Store}
-use Rattle.bank_store.specs.Opening.{unread_by, TellsMeta, IsAsBefore, IsUndone, Reads}
-use Rattle.bank_store.proofs.Probed.{as_before}
+use Rattle.bank_store.specs.Opening.{unread_by, TellsMeta}
 
 by_cause : (c : StoreError) → unread_by (Sqlite (store_error c)) ≡ Store
 by_cause cause.OutOfMemory = refl

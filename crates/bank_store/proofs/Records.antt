@@ -1,5 +1,5 @@
 -- Records one after another: the tables that they lead to are those of the log with them behind it.
-use Rattle.std.proofs.Common.{◌≡◌, ℕ, suc, ◌+◌, ◌<◌, ◌≤◌, List, [], ◌∷◌, ◌++◌, length, take, get_or, Ok, Err, Result, refl, sym, ap, subst, ◌∙◌, arith}
+use Rattle.std.proofs.Common.{◌≡◌, ℕ, suc, ◌+◌, ◌<◌, ◌≤◌, List, [], ◌∷◌, ◌++◌, length, take, get_or, Ok, Err, Result, refl, ap, ◌∙◌, arith}
 use Rattle.std.proofs.lemmas.List.{take_more}
 use Rattle.message_records.specs.declared.faults.Bad.{Bad}
 use Rattle.message_records.specs.Records.{RequestFields}
@@ -8,7 +8,6 @@ use Rattle.posting_core.specs.Commands.{Command, Post, AreCommands}
 use Rattle.posting_core.specs.Runs.{behind, posts}
 use Rattle.posting_core.specs.Tables.{Tables}
 use Rattle.posting_core.specs.Tables.{Shows as Show}
-use Rattle.posting_core.proofs.Sequence.{commands_behind}
 use Rattle.posting_core.proofs.Stepped.{malformed_shown}
 use Rattle.bank_store.specs.Changes.{tables_read, tables_past, tables_past_all}
 use Rattle.bank_store.proofs.Calls.{posts as posts_shown}

@@ -1,18 +1,17 @@
 -- A new bank stands at the empty log.
-use Rattle.std.proofs.Common.{◌≡◌, List, [], ◌∷◌, Option, Some, None, refl, sym, subst}
+use Rattle.std.proofs.Common.{[], Option, Some, None, subst}
 use Rattle.std.specs.Prelude.{IsSomeAnd}
 use Rattle.sqlite.specs.Tree.{Trees}
 use Rattle.sqlite.specs.State.{State}
-use Rattle.posting_core.specs.Commands.{Command, AreCommands}
-use Rattle.posting_core.specs.Counter.{ShowsLog, StandsAt}
+use Rattle.posting_core.specs.Counter.{StandsAt}
 use Rattle.posting_core.specs.Tables.{Tables}
 use Rattle.posting_core.specs.Tables.{Shows as Show}
 use Rattle.posting_core.proofs.InMemory.{empty_shown}
 use Rattle.store_rows.specs.Creation.{new_tables}
-use Rattle.store_rows.specs.View.{Shows, ShowsTrees}
+use Rattle.store_rows.specs.View.{ShowsTrees}
 use Rattle.store_rows.proofs.ShownOnce.{one_bank}
 use Rattle.bank_store.specs.Opening.{IsMade}
-use Rattle.bank_store.specs.Seen.{AreOf, left_in, seen_in}
+use Rattle.bank_store.specs.Seen.{AreOf, seen_in}
 
 found_empty : (trees : Trees) → ShowsTrees trees new_tables → (x : Option Tables) → AreOf trees x → IsSomeAnd x (λ t. Show t [])
 found_empty trees shows (Some t) are = subst (λ (it : Tables). Show it []) (one_bank trees new_tables t shows are) empty_shown

@@ -1,5 +1,5 @@
 -- How a bank goes down.
-use Rattle.std.specs.Prelude.{◌≡◌, ◌⊎◌, Option, Some, IsSome}
+use Rattle.std.specs.Prelude.{◌≡◌, ◌⊎◌, Option, Some}
 use Rattle.sqlite.specs.State.{State, HasCleanDisk, IsUnchanged}
 use Rattle.sqlite.specs.declared.error.Error.{Error}
 use Rattle.posting_core.specs.declared.fault.Fault.{Fault}

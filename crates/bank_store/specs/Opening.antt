@@ -16,13 +16,12 @@ use Rattle.sqlite_rules.specs.Lists.{Has}
 use Rattle.posting_core.specs.Counter.{Seen}
 use Rattle.posting_core.specs.Rules.{number_of_rule}
 use Rattle.posting_core.specs.Tables.{Tables}
-use Rattle.posting_core.specs.declared.fault.Rule.{Rule}
-use Rattle.posting_core.specs.declared.fault.Rule.TheVariants.{Meta, Teller, Account, Balance, Request, Value, Key}
+use Rattle.posting_core.specs.declared.fault.Rule.TheVariants.{Meta, Value}
 use Rattle.sql_meanings.specs.Making.{KeepsTables}
 use Rattle.sql_meanings.specs.Outcomes.{IsThere}
 use Rattle.sql_meanings.specs.Tables.{Defines}
 use Rattle.store_rows.specs.Columns.{meta_in}
-use Rattle.store_rows.specs.Creation.{new_tables}
+use Rattle.store_rows.specs.Creation.{RefusedIn, new_tables}
 use Rattle.store_rows.specs.SixTables as six
 use Rattle.store_rows.specs.View.{Shows, ShowsTrees}
 use Rattle.store_rows.specs.declared.metas.StoredMeta.{StoredMeta}
@@ -40,7 +39,7 @@ use Rattle.bank_store.specs.declared.refused.Refused.{Refused}
 abbrev pub conn_seen : {S : Type 0} (g : Ghosts S) → Held S → Seen
 conn_seen g conn = seen_in (state g conn) ⊥
 
--- what the connection shows that an answer holds
+-- what the connection shows that is given back, in a bank or alone
 abbrev pub state_in : {S : Type 0} (g : Ghosts S) → Result (Bank S g) (Refused S) → State
 state_in g (Ok bank) = state g bank.conn
 state_in g (Err refused) = state g refused.conn
@@ -135,9 +134,9 @@ abbrev pub IsUnread : OpenFault → Type 0
 IsUnread fault = (fault ≡ Store) ⊎ (fault ≡ Damaged Value)
 
 -- everything is as it was; where the store failed, as long as it is open
-abbrev pub Reads : {X : Type 0} → State → State → Result X OpenFault → Type 0
-Reads old new (Err Store) = IsUndone old new
-Reads old new _ = IsAsBefore old new
+abbrev pub IsReadOnly : {X : Type 0} → State → State → Result X OpenFault → Type 0
+IsReadOnly old new (Err Store) = IsUndone old new
+IsReadOnly old new _ = IsAsBefore old new
 
 -- ---- a bank is found
 
@@ -163,13 +162,13 @@ Misses old (Damaged Value) = IsPresent old.now six_tables Whole × MetaIs old (�
 Misses old (Damaged _) = ⊥
 
 -- a bank is found, or why it isn't
-abbrev pub Looks : State → State → Result (Unit {0}) OpenFault → Type 0
-Looks old new (Ok done) = IsFound old new
-Looks old new (Err fault) = Misses old fault × Reads {X = Unit {0}} old new (Err fault)
+abbrev pub SeeksBank : State → State → Result (Unit {0}) OpenFault → Type 0
+SeeksBank old new (Ok done) = IsFound old new
+SeeksBank old new (Err fault) = Misses old fault × IsReadOnly {X = Unit {0}} old new (Err fault)
 
 -- ---- a bank is made
 
--- there was no table of a bank; now there is a bank with nothing in it, which every stop leaves, beside the tables that were there
+-- a bank with nothing in it is there, whatever a stop leaves, and every table that was there is there, with its rows
 pub record IsMade (old new : State) : Type 0 where
   pub shows : Shows new.now new_tables
   pub left : (left : Trees) → new.may_leave left → ShowsTrees left new_tables
@@ -189,6 +188,14 @@ of_the_store _ = false
 -- what an error says that came while the tables were made
 abbrev pub unmade_by : Error → OpenFault
 unmade_by e = if of_the_store e then Store else NotBlank
+
+-- a statement that makes the bank is refused in a database on the way, by an error that isn't the store's own
+abbrev pub IsRefused : State → Type 0
+IsRefused old = (e : Error) × (db : Database) × (of_the_store e ≡ false) × RefusedIn old db e
+
+-- why there is something already: one of the tables is there, or the bank can't be made
+abbrev pub IsTaken : State → Type 0
+IsTaken old = OneOf six_tables (HasName old.now) ⊎ IsRefused old
 
 -- why a bank isn't made
 abbrev pub IsUnmade : OpenFault → Type 0

@@ -8,7 +8,7 @@ ghost use Rattle.posting_core.specs.Tables.{Tables};
 ghost use Rattle.posting_core.specs.Tables.{Shows as Show};
 ghost use Rattle.store_rows.specs.Columns.{meta_in};
 ghost use Rattle.store_rows.specs.View.{Shows};
-ghost use Rattle.bank_store.specs.Opening.{conn_seen, state_in, ChecksMeta, TellsMeta, Reads, IsUndone, IsUnread, IsFound, Looks, Misses, IsAsBefore};
+ghost use Rattle.bank_store.specs.Opening.{conn_seen, state_in, ChecksMeta, TellsMeta, IsReadOnly, IsUndone, IsUnread, IsFound, SeeksBank, Misses, IsAsBefore};
 ghost use Rattle.bank_store.specs.Seen.{bank_seen, connection_of};
 
 use crate::bank::Bank;
@@ -42,7 +42,7 @@ fn settled_meta<S: Alter>(conn: &mut Connection<S>) -> Result<Option<StoredMeta>
     requires { conn.old.in_transaction ≡ false }
     ensures told { HasCleanDisk (state S.Store conn.new) → (tables : Tables)
         → Shows (state S.Store conn.old).now tables → TellsMeta (meta_in tables) result }
-    ensures same { HasCleanDisk (state S.Store conn.new) → Reads (state S.Store conn.old) (state S.Store conn.new) result }
+    ensures same { HasCleanDisk (state S.Store conn.new) → IsReadOnly (state S.Store conn.old) (state S.Store conn.new) result }
     ensures fault { IfErr result IsUnread }
     ensures mode { conn.new.in_transaction ≡ false }
     ensures survives { Survives (state S.Store conn.old) (state S.Store conn.new) (λ _. ⊥) }
@@ -71,7 +71,7 @@ fn check_meta(meta: &StoredMeta) -> Result<(), OpenFault>
 // Looks for the six tables and for our version.
 fn find_bank<S: Alter>(conn: &mut Connection<S>) -> Result<(), OpenFault>
     requires { conn.old.in_transaction ≡ false }
-    ensures told { HasCleanDisk (state S.Store conn.new) → Looks (state S.Store conn.old) (state S.Store conn.new) result }
+    ensures told { HasCleanDisk (state S.Store conn.new) → SeeksBank (state S.Store conn.old) (state S.Store conn.new) result }
     ensures mode { conn.new.in_transaction ≡ false }
     ensures survives { Survives (state S.Store conn.old) (state S.Store conn.new) (λ _. ⊥) }
 {

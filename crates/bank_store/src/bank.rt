@@ -6,7 +6,7 @@ ghost use Rattle.sqlite.specs.State.{Survives};
 ghost use Rattle.sqlite.specs.Held.{state};
 ghost use Rattle.message_records.specs.Spelling.{reply_spelling};
 ghost use Rattle.posting_core.specs.Commands.{Command, Open, Post};
-ghost use Rattle.posting_core.specs.Counter.{ShowsLog, Takes, Refuses, opening_behind};
+ghost use Rattle.posting_core.specs.Counter.{ShowsLog, StandsAt, Takes, Refuses, opening_behind};
 ghost use Rattle.posting_core.specs.Entries.{reply, balance_behind};
 ghost use Rattle.posting_core.specs.Runs.{posts, replies_to};
 ghost use Rattle.posting_core.specs.Tables.{Tables};
@@ -31,7 +31,8 @@ pub struct Bank<S: Alter> {
 }
 
 impl<S: Alter> Bank<S> {
-    ghost use Rattle.bank_store.specs.Seen.{cause_of, connection_of};
+    ghost use Rattle.bank_store.specs.Seen.{bank_seen, cause_of, connection_of};
+    ghost use Rattle.bank_store.specs.Opening.{conn_seen};
     ghost use Rattle.bank_store.specs.Down.{GoesDown};
 
     // The bank that a connection holds.
@@ -50,7 +51,8 @@ impl<S: Alter> Bank<S> {
     /// Gives the connection back. That of a bank which is down is only to be closed.
     pub fn release(self) -> Connection<S>
         ensures same { result ≡ connection_of self }
-        ensures mode { result.in_transaction ≡ false }
+        ensures idle { result.in_transaction ≡ false }
+        ensures stands { (log : List Command) → StandsAt (bank_seen S.Store self) log → StandsAt (conn_seen S.Store result) log }
     {
         let Bank {
             alloc: _,

@@ -7,7 +7,7 @@ ghost use Rattle.posting_core.specs.Tables.{Tables};
 ghost use Rattle.sql_meanings.specs.Making.{KeepsTables};
 ghost use Rattle.store_rows.specs.Creation.{HasNewBank};
 ghost use Rattle.store_rows.specs.View.{Shows};
-ghost use Rattle.bank_store.specs.Opening.{state_in, six_tables, IsPresent, IsMade, IsUndone, IsUnmade};
+ghost use Rattle.bank_store.specs.Opening.{state_in, six_tables, IsPresent, IsMade, IsUndone, IsUnmade, IsRefused, IsTaken};
 ghost use Rattle.bank_store.specs.Seen.{bank_seen, connection_of};
 ghost use Rattle.bank_store.specs.declared.probing.Presence.TheVariants.{Absent};
 
@@ -26,6 +26,8 @@ fn make_tables<S: Alter>(conn: &mut Connection<S>) -> Result<(), OpenFault>
     ensures undone { HasCleanDisk (state S.Store conn.new)
         → OnErr result (IsUndone (state S.Store conn.old) (state S.Store conn.new)) }
     ensures fault { IfErr result IsUnmade }
+    ensures refused { HasCleanDisk (state S.Store conn.new)
+        → IfErr result (λ fault. fault ≡ OpenFault.NotBlank → IsRefused (state S.Store conn.old)) }
     ensures stop { Survives (state S.Store conn.old) (state S.Store conn.new) (HasNewBank (state S.Store conn.old).now) }
     ensures mode { conn.new.in_transaction ≡ false }
 {
@@ -48,6 +50,8 @@ fn make_bank<S: Alter>(conn: &mut Connection<S>) -> Result<(), OpenFault>
     ensures undone { HasCleanDisk (state S.Store conn.new)
         → OnErr result (IsUndone (state S.Store conn.old) (state S.Store conn.new)) }
     ensures fault { IfErr result IsUnmade }
+    ensures refused { HasCleanDisk (state S.Store conn.new)
+        → IfErr result (λ fault. fault ≡ OpenFault.NotBlank → IsTaken (state S.Store conn.old)) }
     ensures stop { Survives (state S.Store conn.old) (state S.Store conn.new) (HasNewBank (state S.Store conn.old).now) }
     ensures mode { conn.new.in_transaction ≡ false }
 {
@@ -70,6 +74,8 @@ pub fn create<S: Alter>(alloc: Global, mut conn: Connection<S>) -> Result<Bank<S
     ensures undone { IfErr result (λ refused. HasCleanDisk (state S.Store refused.conn)
         → IsUndone (state S.Store conn) (state S.Store refused.conn)) }
     ensures fault { IfErr result (λ refused. IsUnmade refused.fault) }
+    ensures refused { IfErr result (λ refused. HasCleanDisk (state S.Store refused.conn)
+        → refused.fault ≡ OpenFault.NotBlank → IsTaken (state S.Store conn)) }
     ensures idle { IfErr result (λ refused. refused.conn.in_transaction ≡ false) }
     ensures stop { Survives (state S.Store conn) (state_in S.Store result) (HasNewBank (state S.Store conn).now) }
 {

@@ -16,3 +16,6 @@ pub use adopting::adopt;
 pub use bank::Bank;
 pub use creating::create;
 pub use refused::{OpenFault, Refused};
+
+#[cfg(test)]
+mod tests;

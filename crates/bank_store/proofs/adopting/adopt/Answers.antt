@@ -1,5 +1,4 @@
 -- A bank that shows a log is missed only where the store failed.
-use Rattle.std.proofs.Common.{rules}
 use Rattle.sqlite.specs.Held.{state}
 use Rattle.bank_store.proofs.Finding.{known}
 use Rattle.bank_store.proofs.adopting.adopt.Goals as goal

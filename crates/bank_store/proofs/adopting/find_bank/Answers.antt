@@ -2,7 +2,7 @@
 use Rattle.std.proofs.Common.{◌≡◌, Some, Err, Result, rules, arith, sym, ◌∙◌, subst}
 use Rattle.sqlite.specs.State.{HasCleanDisk}
 use Rattle.sqlite.specs.Held.{state}
-use Rattle.bank_store.specs.Opening.{six_tables, IsPresent, IsAsBefore, Looks}
+use Rattle.bank_store.specs.Opening.{six_tables, IsPresent, IsAsBefore, SeeksBank}
 use Rattle.bank_store.specs.declared.probing.Presence.{Presence}
 use Rattle.bank_store.specs.declared.refused.OpenFault.{OpenFault}
 use Rattle.bank_store.proofs.Finding.{looked, missed}
@@ -17,7 +17,7 @@ returns-in_err-settled_meta-in-Whole-clause-told g c clean =
     let midway : HasCleanDisk mid = omega (arith, e.ensures.survives.clean) in
     let there = subst (λ (p : Presence). IsPresent old.now six_tables p × IsAsBefore old mid) c.in-Whole.is (c.in_ok-tables_there.ensures.told midway) in
     let is : c.from_residual-in_err-settled_meta-in-Whole.result ≡ Err e.field-0.0 = search rules in
-    subst (λ (r : Result (Unit {0}) OpenFault). Looks old new r) (sym is)
+    subst (λ (r : Result (Unit {0}) OpenFault). SeeksBank old new r) (sym is)
     (missed old mid new there.0 there.1 e.field-0.0 e.ensures.fault (e.ensures.told clean) (e.ensures.same clean))
 
 pub returns-in-Some-clause-told : goal.returns-in-Some-clause-told

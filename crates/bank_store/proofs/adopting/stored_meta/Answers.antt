@@ -1,7 +1,7 @@
 -- What the row of the bank tells.
 use Rattle.std.proofs.Common.{◌≡◌, Err, rules, arith, sym, subst}
 use Rattle.sqlite.specs.State.{HasCleanDisk}
-use Rattle.sqlite.specs.Held.{Held, state}
+use Rattle.sqlite.specs.Held.{state}
 use Rattle.store_rows.specs.Columns.{meta_in}
 use Rattle.store_rows.specs.View.{Shows}
 use Rattle.bank_store.specs.declared.refused.OpenFault.{OpenFault}

@@ -1,5 +1,5 @@
 -- The new bank stands at the empty log, and no bank was there.
-use Rattle.std.proofs.Common.{◌≡◌, [], Option, None, rules, arith, sym, subst}
+use Rattle.std.proofs.Common.{sym, subst}
 use Rattle.std.specs.Prelude.{IsSome}
 use Rattle.sqlite.specs.State.{HasCleanDisk}
 use Rattle.sqlite.specs.Held.{state}

@@ -1,5 +1,5 @@
 -- What the three probes tell together.
-use Rattle.std.proofs.Common.{◌≡◌, [], ◌∷◌, rules, arith, sym, subst}
+use Rattle.std.proofs.Common.{◌≡◌, [], ◌∷◌, rules, arith, subst}
 use Rattle.sqlite.specs.State.{HasCleanDisk}
 use Rattle.sqlite.specs.Held.{state}
 use Rattle.store_rows.specs.SixTables.{account, history, request}

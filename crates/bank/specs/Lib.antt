@@ -1,0 +1,5 @@
+pub mod Words
+pub mod Statuses
+pub mod Faults
+pub mod Lines
+pub mod Running

@@ -1,0 +1,36 @@
+//! A bank for the counter: its file is made, its branches are opened from a plan, and records are
+//! posted to it from standard input.
+#![tactic(auto)]
+
+mod clock;
+mod commands;
+mod fault;
+mod files;
+mod printing;
+mod running;
+mod status;
+#[cfg(test)]
+mod tests;
+mod words;
+
+use clock::SystemClock;
+use running::{run, words_of};
+use sqlite::Unknown;
+use std::process::ExitCode;
+
+fn main(rt: HostRuntime) -> ExitCode {
+    let mut faults = rt.stderr();
+    let status = match words_of(&rt) {
+        Ok(words) => run(
+            &rt,
+            Unknown,
+            words.as_slice(),
+            &mut rt.stdin(),
+            &mut rt.stdout(),
+            &mut faults,
+            &mut SystemClock::new(&rt),
+        ),
+        Err(error) => printing::tell_no_words(&error, &mut faults),
+    };
+    ExitCode::from(status)
+}

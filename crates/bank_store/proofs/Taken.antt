@@ -1,0 +1,60 @@
+-- Why no bank can be made.
+use Rattle.std.proofs.Common.{◌≡◌, true, Ok, Err, Result, refl, ap, subst, ◌∙◌, inl, inr}
+use Rattle.std.specs.Prelude.{IfErr, IsSome}
+use Rattle.sqlite.specs.Effect.{Database}
+use Rattle.sqlite.specs.State.{State, store_error}
+use Rattle.sqlite.specs.declared.error.Error.{Error}
+use Rattle.sqlite_trees.specs.declared.error.StoreError.{StoreError}
+use Rattle.sqlite_trees.specs.declared.error.StoreError.TheVariants.{OutOfMemory, Io, Corrupt, Full, Broken, Unstorable}
+use Rattle.posting_core.proofs.Keyed.{by_test}
+use Rattle.sql_meanings.specs.Making.{KeepsTables}
+use Rattle.store_rows.specs.Creation.{CreatesBank, IsMade}
+use Rattle.store_rows.specs.SixTables as six
+use Rattle.bank_store.specs.Opening.{of_the_store, unmade_by, six_tables, HasName, OneOf, IsPresent, IsRefused}
+use Rattle.bank_store.specs.declared.probing.Presence.{Presence}
+use Rattle.bank_store.specs.declared.probing.Presence.TheVariants.{Absent, Partial, Whole}
+use Rattle.bank_store.specs.declared.refused.OpenFault.{OpenFault}
+use Rattle.bank_store.specs.declared.refused.OpenFault.TheVariants.{NotBlank}
+
+-- what the store names is its own
+own_error : (cause : StoreError) → of_the_store (store_error cause) ≡ true
+own_error OutOfMemory = refl
+own_error Io = refl
+own_error Corrupt = refl
+own_error Full = refl
+own_error Broken = refl
+own_error Unstorable = refl
+
+pub refused_because : (old new : State) (e : Error) (fault : OpenFault) → fault ≡ unmade_by e → CreatesBank old new (Err e) → fault ≡ NotBlank → IsRefused old
+refused_because old new e fault is (inl fails) taken =
+    absurd (let own : of_the_store e ≡ true = ap of_the_store fails.1 ∙ own_error fails.0 in let h = rw own at is in cc)
+refused_because old new e fault is (inr refused) taken =
+    elim (by_test (of_the_store e)) [
+      | inl own ↦ absurd (let h = rw own at is in cc)
+      | inr other ↦ (e, new.now, other, refused.0)
+    ]
+
+-- what is refused where nothing was changed is refused before
+pub refused_before : (old mid : State) → mid.now ≡ old.now → mid.step_limit ≡ old.step_limit → IsRefused mid → IsRefused old
+refused_before old mid now limit (e, db, other, inl one) = (e, db, other, inl (one.0, subst (λ (it : Database). KeepsTables it db) now one.1))
+refused_before old mid now limit (e, db, other, inr first) = (
+  e,
+  db,
+  other,
+  inr (
+    elim first.0 [
+      | inl met ↦ inl (met.0, subst (λ o. IsSome o) limit met.1)
+      | inr none ↦ inr none
+    ],
+    subst (λ (it : Database). IsMade it db) now first.1,
+  ),
+)
+
+pub if_err : {X E : Type 0} (P Q : E → Type 0) → ((e : E) → P e → Q e) → (r : Result X E) → IfErr r P → IfErr r Q
+if_err P Q f (Ok x) h = tt
+if_err P Q f (Err e) h = f e h
+
+pub some_there : (db : Database) (p : Presence) → (p ≡ Absent → ⊥) → IsPresent db six_tables p → OneOf six_tables (HasName db)
+some_there db Absent not_so here = absurd (not_so refl)
+some_there db Partial not_so here = here.0
+some_there db Whole not_so here = (six.meta, inl refl, here.0)
