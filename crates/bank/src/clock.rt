@@ -1,7 +1,6 @@
 //! The program's clock.
 ghost use Rattle.std.specs.Prelude.{◌≡◌, ◌/◌, MatchResult, min};
 ghost use Rattle.std.specs.Time.{system_time_nanos};
-ghost use Rattle.posting_core.specs.Clock.{IsReading};
 
 use message_records::Moment;
 use posting_core::Clock;

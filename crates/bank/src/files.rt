@@ -2,7 +2,7 @@
 ghost use Rattle.std.specs.Prelude.{◌≡◌, IfOk, OnErr, IsErrOf, false};
 
 use crate::fault::CommandFault;
-use bank_store::{Bank, Refused, adopt, create};
+use bank_store::{Bank, OpenFault, Refused, adopt, create};
 use branch_loader::{Plan, PlanFault, read_plan};
 use sqlite::{Connection, FileFrom, FileStore, Start};
 use std::fs;
@@ -56,7 +56,7 @@ fn connect<S: Start>(
 }
 
 // Why the connection was refused. It is dropped.
-fn fault_of<S: Start>(refused: Refused<FileStore<FileFrom<S>>>) -> bank_store::OpenFault
+fn fault_of<S: Start>(refused: Refused<FileStore<FileFrom<S>>>) -> OpenFault
     ensures { result ≡ refused.fault }
 {
     let Refused { fault, conn } = refused;
