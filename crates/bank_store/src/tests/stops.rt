@@ -67,10 +67,7 @@ fn worked_image(rt: &(impl Abort + Alloc<A = Global>)) -> Result<Image, Fail> {
         return Err("files that open".into());
     };
     let conn = bank_of(rt, conn, &[(1, 3), (2, 2)])?;
-    let Ok(files) = conn.close_files() else {
-        return Err("files that close".into());
-    };
-    written(rt.alloc(), &files)
+    written(rt.alloc(), &conn.into_store().close())
 }
 
 // The call in which the machine stops.
