@@ -23,10 +23,13 @@ awk -v records="$records" 'BEGIN {
     srand(7)
     for (i = 0; i < records; i++) {
         teller = i % 20 + 1
-        account = i % 5 < 3 ? i % 5 + 1 : 100001 + i % 5 - 3
+        branch = (teller > 10) ? 2 : 1
+        place = i % 5
+        account = (place < 3) ? place + 1 : 100001 + place - 3
         amount = int(rand() * 20000) - 10000
-        printf "DC01%012d%08d%06d%010d%s%010d%49s", account, teller, teller > 10 ? 2 : 1, int(i / 20) + 1,
-            amount < 0 ? "-" : "+", amount < 0 ? -amount : amount, ""
+        sign = (amount < 0) ? "-" : "+"
+        if (amount < 0) amount = -amount
+        printf("DC01%012d%08d%06d%010d%s%010d%49s", account, teller, branch, int(i / 20) + 1, sign, amount, "")
     }
 }' >records
 
