@@ -1,16 +1,19 @@
 -- Why no bank can be made.
 use Rattle.std.proofs.Common.{◌≡◌, true, Ok, Err, Result, refl, ap, subst, ◌∙◌, inl, inr}
 use Rattle.std.specs.Prelude.{IfErr, IsSome}
+use Rattle.sqlite.specs.Table.{Table}
 use Rattle.sqlite.specs.Effect.{Database}
 use Rattle.sqlite.specs.State.{State, store_error}
 use Rattle.sqlite.specs.declared.error.Error.{Error}
 use Rattle.sqlite_trees.specs.declared.error.StoreError.{StoreError}
 use Rattle.sqlite_trees.specs.declared.error.StoreError.TheVariants.{OutOfMemory, Io, Corrupt, Full, Broken, Unstorable}
+use Rattle.sqlite_schema.specs.Names.{table_named, view_named}
 use Rattle.posting_core.proofs.Keyed.{by_test}
 use Rattle.sql_meanings.specs.Making.{KeepsTables}
-use Rattle.store_rows.specs.Creation.{CreatesBank, IsMade}
+use Rattle.store_rows.specs.Creation.{CreatesBank, IsEmpty, IsMade, RefusesNext}
 use Rattle.store_rows.specs.SixTables as six
-use Rattle.bank_store.specs.Opening.{of_the_store, unmade_by, six_tables, HasName, OneOf, IsPresent, IsRefused}
+use Rattle.store_rows.proofs.EmptyFile.{refused_on_nothing}
+use Rattle.bank_store.specs.Opening.{of_the_store, unmade_by, six_tables, HasName, OneOf, IsPresent, IsRefused, IsTaken}
 use Rattle.bank_store.specs.declared.probing.Presence.{Presence}
 use Rattle.bank_store.specs.declared.probing.Presence.TheVariants.{Absent, Partial, Whole}
 use Rattle.bank_store.specs.declared.refused.OpenFault.{OpenFault}
@@ -36,7 +39,8 @@ refused_because old new e fault is (inr refused) taken =
 
 -- what is refused where nothing was changed is refused before
 pub refused_before : (old mid : State) → mid.now ≡ old.now → mid.step_limit ≡ old.step_limit → IsRefused mid → IsRefused old
-refused_before old mid now limit (e, db, other, inl one) = (e, db, other, inl (one.0, subst (λ (it : Database). KeepsTables it db) now one.1))
+refused_before old mid now limit (e, db, other, inl one) = (e, db, other, inl (subst (λ (it : Database). RefusesNext it.schema db.schema e
+    × KeepsTables it db) now one))
 refused_before old mid now limit (e, db, other, inr first) = (
   e,
   db,
@@ -58,3 +62,15 @@ pub some_there : (db : Database) (p : Presence) → (p ≡ Absent → ⊥) → I
 some_there db Absent not_so here = absurd (not_so refl)
 some_there db Partial not_so here = here.0
 some_there db Whole not_so here = (six.meta, inl refl, here.0)
+
+none_named : (db : Database) (table : Table) → IsEmpty db → HasName db table → ⊥
+none_named db table empty (inl there) = there (ap (λ s. table_named s table.name) empty)
+none_named db table empty (inr there) = there (ap (λ s. view_named s table.name) empty)
+
+-- an empty file has nothing that stands in the way
+pub not_taken : (old : State) → IsEmpty old.now → IsTaken old → ⊥
+not_taken old empty (inl (table, listed, there)) = none_named old.now table empty there
+not_taken old empty (inr (e, db, other, refused)) =
+    let limit = refused_on_nothing old db e empty refused in
+    let own = ap of_the_store limit.0 in
+    cc

@@ -5,7 +5,7 @@ ghost use Rattle.sqlite.specs.Held.{state};
 ghost use Rattle.posting_core.specs.Counter.{StandsAt};
 ghost use Rattle.posting_core.specs.Tables.{Tables};
 ghost use Rattle.sql_meanings.specs.Making.{KeepsTables};
-ghost use Rattle.store_rows.specs.Creation.{HasNewBank};
+ghost use Rattle.store_rows.specs.Creation.{HasNewBank, IsEmpty};
 ghost use Rattle.store_rows.specs.View.{Shows};
 ghost use Rattle.bank_store.specs.Opening.{state_in, six_tables, IsPresent, IsMade, IsUndone, IsUnmade, IsRefused, IsTaken};
 ghost use Rattle.bank_store.specs.Seen.{bank_seen, connection_of};
@@ -76,6 +76,8 @@ pub fn create<S: Alter>(alloc: Global, mut conn: Connection<S>) -> Result<Bank<S
     ensures fault { IfErr result (λ refused. IsUnmade refused.fault) }
     ensures refused { IfErr result (λ refused. HasCleanDisk (state S.Store refused.conn)
         → refused.fault ≡ OpenFault.NotBlank → IsTaken (state S.Store conn)) }
+    ensures empty { IfErr result (λ refused. HasCleanDisk (state S.Store refused.conn)
+        → IsEmpty (state S.Store conn).now → refused.fault ≡ OpenFault.Store) }
     ensures idle { IfErr result (λ refused. refused.conn.in_transaction ≡ false) }
     ensures stop { Survives (state S.Store conn) (state_in S.Store result) (HasNewBank (state S.Store conn).now) }
 {

@@ -1,6 +1,6 @@
 -- Why a write of rows of whole numbers is refused, or can't be stored.
-use Rattle.std.proofs.Common.{◌≡◌, ◌⊎◌, inl, inr, ℕ, ◌==◌, List, [], ◌∷◌, map, length, Bool, true, false, Some, None, Option, option_map, Err, refl, sym, ap, subst, ◌∙◌, arith}
-use Rattle.std.specs.List.{AllByRecursion, list_all}
+use Rattle.std.proofs.Common.{◌≡◌, ◌⊎◌, inl, inr, ℕ, ◌==◌, ◌&&◌, not, List, [], ◌∷◌, map, length, Bool, true, false, Some, None, Option, option_map, Err, refl, sym, ap, subst, ◌∙◌, arith}
+use Rattle.std.specs.List.{AllByRecursion, list_all, list_any}
 use Rattle.std.proofs.lemmas.List.{length-map}
 use Rattle.std.proofs.lemmas.Bool.{cases_Bool, cases_lt}
 use Rattle.std.proofs.Math.Logic.{∥∥₁_elim}
@@ -18,7 +18,8 @@ use Rattle.sqlite_sql.specs.Ops.{fits_i64}
 use Rattle.sqlite_sql.specs.Catalog.{entry_of}
 use Rattle.sqlite_trees.specs.Tree.{rowid, with_tree}
 use Rattle.sqlite_trees.specs.View.{IsStorable, IsStorableRow}
-use Rattle.sqlite_schema.specs.Rules.{Keeps, index_reals, passes, passes_checks, table_reals}
+use Rattle.sqlite_schema.specs.Rules.{Keeps, clashes, guards, index_reals, passes, passes_checks, table_reals}
+use Rattle.sqlite_schema.specs.declared.schema.Index.{Index}
 use Rattle.sqlite_schema.specs.declared.schema.Constraint.TheVariants.{Datatype, NotNull, Check, PrimaryKey, Unique, ForeignKey}
 use Rattle.sqlite_schema.specs.declared.schema.Keys.TheVariants.{Enforced}
 use Rattle.sqlite_rules.specs.declared.error.Refusal.{Refusal}
@@ -28,7 +29,7 @@ use Rattle.sqlite_rules.specs.Action.{Writes, works}
 use Rattle.sqlite_rules.specs.Edit.{IsOversized, are_fresh, have_rowids, id_in, is_referred, left_by, taken_by}
 use Rattle.sqlite_rules.proofs.RuleLemmas.{keeps_at, keeps_from}
 use Rattle.sql_meanings.specs.Entries.{Entry, stored}
-use Rattle.sql_meanings.specs.Outcomes.{Forbids, HasWideIndex}
+use Rattle.sql_meanings.specs.Outcomes.{Forbids, HasWideIndex, has_unique}
 use Rattle.sql_meanings.specs.Tables.{tree_of, width_of}
 use Rattle.sql_meanings.specs.Plain.{key_column, number_column}
 use Rattle.sql_meanings.proofs.NumberRows.{entry_fits, entry_present, entry_typed, none_indexed, none_real, row_fits}
@@ -161,15 +162,45 @@ held_at schema one two t row listed same there keeps =
 same_tree : (m n : ℕ) → (m == n) ≡ true → n ≡ m
 same_tree m n h = grind arith
 
+all_pass : {A : Type 0} (p q : A → Bool) → ((x : A) → p x ≡ false → q x ≡ true) → (xs : List A) → list_any p xs ≡ false
+    → list_all q xs ≡ true
+all_pass p q each [] none = refl
+all_pass p q each (x ∷ xs) none = elim (cases_Bool (p x)) [
+  | inl passed ↦ absurd (let bad = rw passed at none in cc)
+  | inr not_passed ↦ rw (each x not_passed) (all_pass p q each xs (rw not_passed at none))
+]
+
+unclashed : (b c : Bool) → b ≡ false → not (b && c) ≡ true
+unclashed b c h = rw h refl
+
+-- a table without a UNIQUE breaks none, whatever its rows
+breaks_none : (schema : Schema) (db : Trees) (tree : ℕ) (rows : List Row)
+    → list_any (λ (i : Index). i.is_unique && (i.table == tree)) schema.indexes ≡ false
+    → Keeps Unique schema db → Keeps Unique schema (with_tree db tree rows)
+breaks_none schema db tree rows none keeps = keeps_from Unique schema (with_tree db tree rows) (λ t row listed there.
+    elim (cases_Bool (t.tree == tree)) [
+      | inl here ↦ all_pass (λ (i : Index). i.is_unique && (i.table == tree))
+          (λ (i : Index). not (guards i t && clashes i.order i.columns (with_tree db tree rows t.tree) row))
+          (λ i free. unclashed (guards i t) _ (subst (λ n. (i.is_unique && (i.table == n)) ≡ false) (same_tree t.tree tree here) free))
+          schema.indexes none
+      | inr away ↦ held_at schema db (with_tree db tree rows) t row listed (rw away refl) there keeps
+    ])
+
 -- where the rows would break a UNIQUE no sound database has them
 pub forbids : (schema : Schema) (db : Trees) (table : Table) (entries : List Entry) (rows : List Row)
     → ∥ IsDatabase (record { schema = schema; trees = db }) ∥₁ → rows ≡ map stored entries
     → ¬ Keeps Unique schema (with_tree db (tree_of schema table.name) rows) → Forbids schema table entries
-forbids schema db table entries rows sound are broken trees other same =
-    ∥∥₁_elim sound (λ x y. absurd x) (λ it. broken (keeps_from Unique schema (with_tree db (tree_of schema table.name) rows) (λ t row listed there.
+forbids schema db table entries rows sound are broken = (
+  elim (cases_Bool (has_unique schema table)) [
+    | inl there ↦ there
+    | inr none ↦ absurd (∥∥₁_elim sound (λ x y. absurd x)
+        (λ it. broken (breaks_none schema db (tree_of schema table.name) rows none (it.obeys.rules Unique))))
+  ],
+  λ trees other same. ∥∥₁_elim sound (λ x y. absurd x) (λ it. broken (keeps_from Unique schema (with_tree db (tree_of schema table.name) rows) (λ t row listed there.
     elim (cases_Bool (t.tree == tree_of schema table.name)) [
       | inl here ↦ held_at schema trees (with_tree db (tree_of schema table.name) rows) t row listed
           (rw here (are ∙ sym same ∙ ap trees (same_tree t.tree (tree_of schema table.name) here))) there (other.obeys.rules Unique)
       | inr away ↦ held_at schema db (with_tree db (tree_of schema table.name) rows) t row listed (rw away refl) there
           (it.obeys.rules Unique)
-    ])))
+    ]))),
+)

@@ -13,6 +13,7 @@ use Rattle.std.proofs.Common.{
   List,
   [],
   ◌∷◌,
+  ◌++◌,
   find,
   slice_get,
   Bool,
@@ -31,12 +32,12 @@ use Rattle.std.proofs.Common.{
   nat_le,
   arith,
 }
-use Rattle.std.specs.List.{position_from}
+use Rattle.std.specs.List.{list_any, position_from}
 use Rattle.sqlite.specs.Table.{Table}
 use Rattle.sqlite.specs.Schema.{Schema}
 use Rattle.sqlite.specs.Tree.{Trees}
 use Rattle.sqlite.specs.Effect.{Database}
-use Rattle.sqlite.specs.Does.{Tally, Does, MakesTable, MakesSequence, no_rows, sequence_text}
+use Rattle.sqlite.specs.Does.{Tally, Does, MakesTable, MakesSequence, lacks_sequence, no_rows, sequence_text}
 use Rattle.sqlite.specs.Rows.{Then, Gives}
 use Rattle.sqlite.proofs.Callers.{through}
 use Rattle.sqlite_catalog.specs.Calls.{CreatesTable}
@@ -54,7 +55,7 @@ use Rattle.sqlite_catalog.proofs.StepLemmas.{table_below, same_itself}
 use Rattle.sql_meanings.proofs.Statements.{HasTable}
 use Rattle.sql_meanings.specs.Making.{Stands}
 use Rattle.sql_meanings.proofs.Growing.{low_tree, sequenced}
-use Rattle.sql_meanings.specs.Making.{Adds, Keeps}
+use Rattle.sql_meanings.specs.Making.{Adds, Keeps, counts_rows}
 
 -- a table stands on as another is made
 pub stands_after : (schema : Schema) (new table : Table) → Stands schema table → Stands (created schema new) table
@@ -176,6 +177,24 @@ keeps_sequence old after h = elim (sequenced old after h) [
 ok_same : {B E : Type 0} {a b : B} → ◌≡◌ {A = Result B E} (Ok a) (Ok b) → a ≡ b
 ok_same e = cc
 
+any_appended : {A : Type 0} (p : A → Bool) (xs : List A) (x : A) → list_any p xs ≡ false → p x ≡ false → list_any p (xs ++ x ∷ []) ≡ false
+any_appended p [] x none last = rw last refl
+any_appended p (y ∷ xs) x none last = elim (test_cases (p y)) [
+  | inl passed ↦ absurd (let bad = rw passed at none in cc)
+  | inr not_passed ↦ rw not_passed (any_appended p xs x (rw not_passed at none) last)
+]
+
+-- a table more that doesn't count its rows
+pub counts_created : (schema : Schema) (t : Table) → t.is_counted ≡ false → counts_rows schema ≡ false → counts_rows (created schema t) ≡ false
+counts_created schema t last none = any_appended (λ (u : Table). u.is_counted) schema.tables (record t { tree = next_tree schema }) none last
+
+-- where no table counts its rows, none is made that counts for it
+none_counted : (old after : Database) → MakesSequence old (Ok after) → counts_rows old.schema ≡ false → old ≡ after
+none_counted old after h none =
+    let has : lacks_sequence old.schema ≡ false = rw none refl in
+    let same = rw has at h in
+    cc
+
 -- CREATE TABLE of a table with no foreign key, done
 pub adds : (limit : Option ℕ) (mode : Mode) (params : Row) (old after : Database) (text : List ℕ) (tally : Tally) (t : Table)
     → table_defined_by text ≡ Ok t → t.references ≡ []
@@ -196,4 +215,7 @@ adds limit mode params old after text tally t defined free h =
       keeps = then_keeps old mid after (keeps_made old mid text made) second;
       stands = second.stands new there;
       empty = second.rows new there.listed ∙ made.empty;
+      alone = λ none.
+          let grown : mid.schema ≡ created old.schema t = made.is ∙ ap (created old.schema) is in
+          ap (λ (db : Database). db.schema) (sym (none_counted mid all.0 both.2 (ap counts_rows grown ∙ none) ∙ last)) ∙ grown;
     }

@@ -1,5 +1,6 @@
 -- How a table comes to be, and what stands on beside it.
-use Rattle.std.specs.Prelude.{◌≡◌, ◌≢◌, ◌⊎◌, ◌+◌, ◌*◌, ◌^◌, ◌<◌, ◌≤◌, ◌==◌, IsTrue, IsUtf8, List, ℕ, [], true, codes, length, Ok, Err, None, slice_range}
+use Rattle.std.specs.Prelude.{◌≡◌, ◌≢◌, ◌⊎◌, ◌+◌, ◌*◌, ◌^◌, ◌<◌, ◌≤◌, ◌==◌, IsTrue, IsUtf8, List, ℕ, [], Bool, true, false, codes, length, Ok, Err, None, slice_range}
+use Rattle.std.specs.List.{list_any}
 use Rattle.sqlite.specs.Schema.{Schema}
 use Rattle.sqlite.specs.Table.{Table}
 use Rattle.sqlite.specs.Command.TheVariants.{CreateTable}
@@ -33,11 +34,16 @@ pub record Keeps (old after : Database) : Type 0 where
   pub has : (t : Table) → Has old.schema.tables t → Has after.schema.tables t
   pub rows : (t : Table) → Has old.schema.tables t → after.trees t.tree ≡ old.trees t.tree
 
--- the table is new and empty, and what stood stands on
+-- a table of the schema counts its rows, by AUTOINCREMENT
+abbrev pub counts_rows : Schema → Bool
+counts_rows schema = list_any (λ t. t.is_counted) schema.tables
+
+-- the table is new and empty, and what stood stands on; where no table counts its rows, nothing else is new
 pub record Adds (old after : Database) (t : Table) : Type 0 where
   pub keeps : Keeps old after
   pub stands : Stands after.schema (placed_at t (next_tree old.schema))
   pub empty : after.trees (next_tree old.schema) ≡ []
+  pub alone : counts_rows (created old.schema t) ≡ false → after.schema ≡ created old.schema t
 
 -- a table of no REAL column, short enough that any schema takes it that has its names free and room for it
 pub record IsMakeable (text : List ℕ) (t : Table) : Type 0 where

@@ -1,5 +1,5 @@
 -- What a statement inside a transaction tells, and what it leaves.
-use Rattle.std.specs.Prelude.{◌≡◌, ◌≢◌, ◌⊎◌, ◌≤◌, ◌<◌, IsSome, IsTrue, ℕ, List, [], length, map, Bool, true, false, Option, Some, None, Result, Ok, Err, ⊤}
+use Rattle.std.specs.Prelude.{◌≡◌, ◌≢◌, ◌⊎◌, ◌≤◌, ◌<◌, ◌==◌, ◌&&◌, IsSome, IsTrue, ℕ, List, [], length, map, Bool, true, false, Option, Some, None, Result, Ok, Err, ⊤}
 use Rattle.std.specs.List.{list_any}
 use Rattle.sqlite.specs.Order.{Row}
 use Rattle.sqlite.specs.Table.{Table}
@@ -61,10 +61,14 @@ HasWideIndex schema table = (i : Index) × Has schema.indexes i × (i.table ≡ 
 abbrev pub is_parent : Schema → Table → Bool
 is_parent schema table = list_any (λ t. list_any (λ ref. same_name table.name ref.parent) t.references) schema.tables
 
--- no sound database with this schema has these rows in the table
+-- a UNIQUE of the schema is on the table
+abbrev pub has_unique : Schema → Table → Bool
+has_unique schema table = list_any (λ i. i.is_unique && (i.table == tree_of schema table.name)) schema.indexes
+
+-- a UNIQUE is on the table, and no sound database with this schema has these rows in it
 abbrev pub Forbids : Schema → Table → List Entry → Type 0
-Forbids schema table entries =
-    (trees : Trees) → IsDatabase (record { schema = schema; trees = trees }) → trees (tree_of schema table.name) ≢ map stored entries
+Forbids schema table entries = IsTrue (has_unique schema table)
+    × ((trees : Trees) → IsDatabase (record { schema = schema; trees = trees }) → trees (tree_of schema table.name) ≢ map stored entries)
 
 -- Why a row can't be put in: the store failed, and the transaction is rolled back; or the limit on steps was met, or a UNIQUE of the
 -- schema allows no such rows, and nothing has changed.

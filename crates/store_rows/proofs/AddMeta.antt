@@ -52,6 +52,6 @@ starts old new (Ok count) made h =
 starts old new (Err e) made h =
     elim (refuses_insert old new meta meta_numbered made.sound [] made.meta add_meta params first_row puts (key_fits 1 (lit≤ tt)) e h) [
       | inl taken ↦ absurd (let none = taken.1 in cc)
-      | inr fails ↦ put_fails_as old new meta _ e (IsForbidden old.now.schema new_tables)
+      | inr fails ↦ put_fails_as old new meta _ e (IsForbidden old.now.schema meta new_tables)
           (forbidden old.now.schema new_tables meta (first_row ∷ []) (λ db shows. shows.meta)) fails
     ]

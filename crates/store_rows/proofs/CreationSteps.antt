@@ -1,39 +1,65 @@
 -- How the creation of a bank goes on from statement to statement, and how it fails.
-use Rattle.std.proofs.Common.{◌≡◌, inl, inr, ℕ, ◌≤◌, List, Ok, Err, IsTrue, refl, sym, ap, subst, ◌∙◌, arith, true}
+use Rattle.std.proofs.Common.{◌≡◌, inl, inr, ℕ, suc, ◌≤◌, List, slice_get, Some, Ok, Err, IsTrue, refl, sym, ap, subst, ◌∙◌, arith, true, false}
+use Rattle.sqlite.specs.Schema.{Schema}
 use Rattle.sqlite.specs.Table.{Table}
+use Rattle.sqlite.specs.Change.{created}
 use Rattle.sqlite.specs.Effect.{Database}
 use Rattle.sqlite.specs.State.{State, IsRolledBack, IsUnchanged, KeepsCommit, KeepsCounts}
 use Rattle.sqlite.specs.Steps.{FailsToCommit}
 use Rattle.sqlite.specs.State.{Shows as StateShows}
 use Rattle.sqlite.specs.declared.error.Error.{Error}
 use Rattle.sqlite_rules.specs.Lists.{Has}
-use Rattle.sql_meanings.specs.Making.{Keeps, NotMade}
+use Rattle.sql_meanings.specs.Making.{Keeps, NotMade, counts_rows}
 use Rattle.sql_meanings.specs.Outcomes.{GoesOn, MakeFails, MakesTold}
 use Rattle.sql_meanings.proofs.Afterwards.{fails_since, names_on, names_since, undone_since, undone_twice}
 use Rattle.sql_meanings.proofs.Makings.{kept}
-use Rattle.sql_meanings.proofs.Standing.{then_keeps}
-use Rattle.store_rows.specs.Creation.{CreatesBank, CreationFails, MakesAll, MakesWide, six_texts}
+use Rattle.sql_meanings.proofs.Standing.{counts_created, then_keeps}
+use Rattle.store_rows.specs.Creation.{CreatesBank, CreationFails, MakesAll, MakesWide, six_texts, with_first}
 
--- only tables were made so far
-pub record Reached (old mid : State) : Type 0 where
+-- the first so many tables were made so far
+pub record Reached (old mid : State) (made : ℕ) : Type 0 where
   pub shows : StateShows old mid mid.now old.committed true
   pub marks : mid.marks ≡ old.marks
   pub counts : KeepsCounts old mid
   pub keeps : Keeps old.now mid.now
   pub faults : old.faults ≤ mid.faults
+  pub alone : counts_rows old.now.schema ≡ false → (counts_rows mid.now.schema ≡ false) × (mid.now.schema ≡ with_first made old.now.schema)
+
+-- the new schema, where no table counts its rows
+grown : (old new : Schema) (t : Table) → t.is_counted ≡ false → (counts_rows (created old t) ≡ false → new ≡ created old t) → counts_rows old ≡ false
+    → (counts_rows new ≡ false) × (new ≡ created old t)
+grown old new t uncounted alone none =
+    let more = counts_created old t uncounted none in
+    let is = alone more in
+    (ap counts_rows is ∙ more, is)
 
 -- the first table
-pub first_made : (old new : State) (text : List ℕ) (t : Table) → MakesTold old new text t (Ok 0)
-    → StateShows old new new.now old.committed true → old.faults ≤ new.faults → Reached old new
-first_made old new text t told shows more =
-    record { shows = shows; marks = told.3; counts = told.2; keeps = told.0.keeps; faults = more }
+pub first_made : (old new : State) (text : List ℕ) (t : Table) → t.is_counted ≡ false
+    → ((s : Schema) → with_first 1 s ≡ created s t) → MakesTold old new text t (Ok 0)
+    → StateShows old new new.now old.committed true → old.faults ≤ new.faults → Reached old new 1
+first_made old new text t uncounted one told shows more = record {
+  shows = shows;
+  marks = told.3;
+  counts = told.2;
+  keeps = told.0.keeps;
+  faults = more;
+  alone = λ none.
+      let it = grown old.now.schema new.now.schema t uncounted told.0.alone none in
+      (it.0, it.1 ∙ sym (one old.now.schema));
+}
 
 module _ (old new : State) (live : IsTrue old.in_transaction) where
   -- a table is refused before any was made
-  pub first_fails : (it : List ℕ × Table) → Has six_texts it → (e : Error) → MakeFails old new it.0 it.1 e → MakesAll old new (Err e)
+  pub first_fails : (it : List ℕ × Table) → slice_get six_texts 0 ≡ Some it → (e : Error) → MakeFails old new it.0 it.1 e → MakesAll old new (Err e)
   first_fails it has e (inl store) = inl store
   first_fails it has e (inr (refused, same)) = inr (
-    (it, has, subst (λ (d : Database). NotMade d.schema it.0 it.1 e) (sym same.0.now_is) refused),
+    record {
+      made = 0;
+      next = it;
+      is_next = has;
+      alone = λ none. ap (λ (d : Database). d.schema) same.0.now_is;
+      refused = subst (λ (d : Database). NotMade d.schema it.0 it.1 e) (sym same.0.now_is) refused;
+    },
     λ t listed. (subst (λ (d : Database). Has d.schema.tables t) (sym same.0.now_is) listed, ap (λ (d : Database). d.trees t.tree) same.0.now_is),
     (
       record {
@@ -48,11 +74,12 @@ module _ (old new : State) (live : IsTrue old.in_transaction) where
     same.1,
   )
 
-module _ (old mid new : State) (reached : Reached old mid) where
+module _ (old mid new : State) (made : ℕ) (reached : Reached old mid made) where
   -- one table more
-  pub one_more : (text : List ℕ) (t : Table) → MakesTold mid new text t (Ok 0)
-      → StateShows mid new new.now mid.committed true → mid.faults ≤ new.faults → Reached old new
-  one_more text t told shows more = record {
+  pub one_more : (text : List ℕ) (t : Table) → t.is_counted ≡ false
+      → ((s : Schema) → with_first (suc made) s ≡ created (with_first made s) t) → MakesTold mid new text t (Ok 0)
+      → StateShows mid new new.now mid.committed true → mid.faults ≤ new.faults → Reached old new (suc made)
+  one_more text t uncounted one told shows more = record {
     shows = record {
       was_open = reached.shows.was_open;
       is_open = shows.is_open;
@@ -67,6 +94,10 @@ module _ (old mid new : State) (reached : Reached old mid) where
     };
     keeps = then_keeps old.now mid.now new.now reached.keeps told.0.keeps;
     faults = let before = reached.faults in omega arith;
+    alone = λ none.
+        let before = reached.alone none in
+        let it = grown mid.now.schema new.now.schema t uncounted told.0.alone before.0 in
+        (it.0, it.1 ∙ ap (λ s. created s t) before.1 ∙ sym (one old.now.schema));
   }
 
   -- the state after a refusal shows what was made before it
@@ -86,13 +117,19 @@ module _ (old mid new : State) (reached : Reached old mid) where
   )
 
   -- a table is refused after others were made
-  pub then_fails : (it : List ℕ × Table) → Has six_texts it → (e : Error) → MakeFails mid new it.0 it.1 e → MakesAll old new (Err e)
+  pub then_fails : (it : List ℕ × Table) → slice_get six_texts made ≡ Some it → (e : Error) → MakeFails mid new it.0 it.1 e → MakesAll old new (Err e)
   then_fails it has e (inl store) =
       inl (fails_since old mid new ⊥ ⊥ (λ x. x) e true reached.shows reached.counts reached.faults store)
   then_fails it has e (inr (refused, same)) =
       let after = still same in
       inr (
-        (it, has, subst (λ (d : Database). NotMade d.schema it.0 it.1 e) (sym same.0.now_is) refused),
+        record {
+          made = made;
+          next = it;
+          is_next = has;
+          alone = λ none. ap (λ (d : Database). d.schema) same.0.now_is ∙ (reached.alone none).1;
+          refused = subst (λ (d : Database). NotMade d.schema it.0 it.1 e) (sym same.0.now_is) refused;
+        },
         λ t listed. (
           subst (λ (d : Database). Has d.schema.tables t) (sym same.0.now_is) (reached.keeps.has t listed),
           ap (λ (d : Database). d.trees t.tree) same.0.now_is ∙ reached.keeps.rows t listed,

@@ -34,9 +34,9 @@ key_fits k low = grind arith
 
 -- where a table can't have its rows no file shows the tables
 pub forbidden : (schema : Schema) (t : Tables) (table : Table) (entries : List Entry) → ((db : Database) → Shows db t → Holds db table entries)
-    → Forbids schema table entries → IsForbidden schema t
-forbidden schema t table entries held none trees shows =
-    ∥∥₁_elim shows.sound (λ x y. absurd x) (λ it. none trees it (held _ shows).rows.are)
+    → Forbids schema table entries → IsForbidden schema table t
+forbidden schema t table entries held none =
+    (none.0, λ trees shows. ∥∥₁_elim shows.sound (λ x y. absurd x) (λ it. none.1 trees it (held _ shows).rows.are))
 
 not_above : (a b c : ℕ) → nat_lt a b ≡ false → int_cmp (pos b) (pos a) ≡ Less → int_cmp (pos a) (pos c) ≡ Less → (c == b) ≡ true → ⊥
 not_above a b c high less more same = grind (arith, ints)
@@ -85,9 +85,9 @@ module _ {R : Type 0} (key : R → ℕ) (entry : R → Entry) (keyed : (r : R) �
   -- where the table can't have the row more no file shows the tables with it
   pub forbidden_put : (schema : Schema) (after : Tables) (table : Table) (new : R) (rows : List R) → Rise (map entry rows)
       → ((db : Database) → Shows db after → Holds db table (map entry (row_put key new rows)))
-      → Forbids schema table (put (entry new) (map entry rows)) → IsForbidden schema after
+      → Forbids schema table (put (entry new) (map entry rows)) → IsForbidden schema table after
   forbidden_put schema after table new rows rise held none = elim (cases_Bool (is_some (row_at key rows (key new)))) [
-    | inl taken ↦ λ trees shows. taken_falls new rows taken rise (held _ shows).rows.rise
+    | inl taken ↦ (none.0, λ trees shows. taken_falls new rows taken rise (held _ shows).rows.rise)
     | inr free ↦ forbidden schema after table (map entry (row_put key new rows)) held
         (subst (Forbids schema table) (put_rows key entry keyed new rows free) none)
   ]
@@ -96,13 +96,13 @@ module _ {R : Type 0} (key : R → ℕ) (entry : R → Entry) (keyed : (r : R) �
 
 -- a key was taken, or why else the row wasn't put in
 pub adds_err : (old new : State) (table : Table) (there taken : Bool) (P : Type 0) (after : Tables) (e : Error) → there ≡ taken
-    → (P → IsForbidden old.now.schema after)
+    → (P → IsForbidden old.now.schema table after)
     → ((e ≡ key_taken) × (there ≡ true) × IsUnchanged old new) ⊎ PutFails old new table P e
     → Adds old new table taken after (added (Err e))
 adds_err old new table there taken P after e same then (inl (is, found, kept)) =
     subst (λ x. Adds old new table taken after (added (Err x))) (sym is) (refl, sym same ∙ found, kept)
 adds_err old new table there taken P after e same then (inr fails) =
-    rw (other_error old new table P e fails) (put_fails_as old new table P e (IsForbidden old.now.schema after) then fails)
+    rw (other_error old new table P e fails) (put_fails_as old new table P e (IsForbidden old.now.schema table after) then fails)
 
 -- whatever the rows, what an INSERT leaves
 pub kept_added : (old new : State) (text : List ℕ) (params : Row) (answer : Result ℕ Error) → ExecutesInside 0 text params old new answer

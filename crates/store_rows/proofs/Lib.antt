@@ -7,6 +7,7 @@ pub mod AddRequest
 pub mod AddTeller
 pub mod CreateTexts
 pub mod CreationSteps
+pub mod EmptyFile
 pub mod Failing
 pub mod FoundRows
 pub mod GetAccount

@@ -93,7 +93,7 @@ unfolding with_account_balance
 fails old new t k v e low shows h =
     let rows = changed_rows account_key account_entry (λ _. refl) (λ r. record r { balance = v }) (set_first v)
     (λ _. refl) k t.accounts in
-    set_fails_as old new account _ e (IsForbidden old.now.schema (with_account_balance k v t))
+    set_fails_as old new account _ e (IsForbidden old.now.schema account (with_account_balance k v t))
     (λ none. forbidden old.now.schema (with_account_balance k v t) account _ (λ db after. after.accounts) (subst (Forbids old.now.schema account) rows none))
     (refuses_update old new account account_numbered shows.sound _ shows.accounts set_account
     (pos k) (Int v ∷ []) (set_first v) (changes (pos k) v) (key_fits k low) e h)

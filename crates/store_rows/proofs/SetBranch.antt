@@ -120,7 +120,7 @@ unfolding with_branch_balance
 fails old new t k v e low shows h =
     let rows = changed_rows branch_key branch_entry (λ _. refl) (λ r. record r { balance = v }) (set_second v)
     (λ _. refl) k t.branches in
-    set_fails_as old new branch _ e (IsForbidden old.now.schema (with_branch_balance k v t))
+    set_fails_as old new branch _ e (IsForbidden old.now.schema branch (with_branch_balance k v t))
     (λ none. forbidden old.now.schema (with_branch_balance k v t) branch _ (λ db after. after.branches) (subst (Forbids old.now.schema branch) rows none))
     (refuses_update old new branch branch_numbered shows.sound _ shows.branches set_branch
     (pos k) (Int v ∷ []) (set_second v) (changes (pos k) v) (key_fits k low) e h)

@@ -118,7 +118,7 @@ pub fails : (old new : State) (t : Tables) (v : ℕ) (e : Error) → Shows old.n
 unfolding with_decided
 fails old new t v e shows h =
     let rows = changed_rows meta_key meta_entry (λ _. refl) (λ r. record r { decided = v }) (set_second (pos v)) (λ _. refl) 1 t.meta in
-    set_fails_as old new meta _ e (IsForbidden old.now.schema (with_decided v t))
+    set_fails_as old new meta _ e (IsForbidden old.now.schema meta (with_decided v t))
     (λ none. forbidden old.now.schema (with_decided v t) meta _ (λ db after. after.meta) (subst (Forbids old.now.schema meta) rows none))
     (refuses_update old new meta meta_numbered shows.sound _ shows.meta set_meta
     (pos 1) (Int (pos v) ∷ []) (set_second (pos v)) (changes (pos v)) (key_fits 1 (lit≤ tt)) e h)

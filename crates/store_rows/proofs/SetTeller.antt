@@ -91,7 +91,7 @@ pub fails : (old new : State) (t : Tables) (k : ℕ) (v : ℤ) (e : Error) → k
 unfolding with_teller_balance
 fails old new t k v e low shows h =
     let rows = changed_rows teller_key teller_entry (λ _. refl) (λ r. record r { balance = v }) (set_first v) (λ _. refl) k t.tellers in
-    set_fails_as old new teller _ e (IsForbidden old.now.schema (with_teller_balance k v t))
+    set_fails_as old new teller _ e (IsForbidden old.now.schema teller (with_teller_balance k v t))
     (λ none. forbidden old.now.schema (with_teller_balance k v t) teller _ (λ db after. after.tellers) (subst (Forbids old.now.schema teller) rows none))
     (refuses_update old new teller teller_numbered shows.sound _ shows.tellers set_teller
     (pos k) (Int v ∷ []) (set_first v) (changes (pos k) v) (key_fits k low) e h)

@@ -1,8 +1,9 @@
 -- The six tables come to be, beside whatever the file has.
-use Rattle.std.specs.Prelude.{◌≡◌, ◌≢◌, ◌⊎◌, List, [], ◌∷◌, codes, Result, Ok, Err, ℕ}
+use Rattle.std.specs.Prelude.{◌≡◌, ◌≢◌, ◌⊎◌, List, [], ◌∷◌, codes, fold, take, slice_get, false, Some, Result, Ok, Err, ℕ}
 use Rattle.sqlite.specs.Schema.{Schema}
 use Rattle.sqlite.specs.Table.{Table}
 use Rattle.sqlite.specs.Tree.{Trees}
+use Rattle.sqlite.specs.Change.{created}
 use Rattle.sqlite.specs.Effect.{Database}
 use Rattle.sqlite.specs.State.{State, Fails, KeepsCounts}
 use Rattle.sqlite.specs.declared.error.Error.{Error}
@@ -11,7 +12,7 @@ use Rattle.sqlite.specs.declared.error.ErrorCode.TheVariants.{ConstraintViolatio
 use Rattle.sqlite_schema.specs.declared.schema.Constraint.TheVariants.{Unique}
 use Rattle.sqlite_rules.specs.Lists.{Has}
 use Rattle.posting_core.specs.Tables.{Tables}
-use Rattle.sql_meanings.specs.Making.{KeepsTables, NotMade, SparesTables}
+use Rattle.sql_meanings.specs.Making.{KeepsTables, NotMade, SparesTables, counts_rows}
 use Rattle.sql_meanings.specs.Outcomes.{GoesOn, HasWideIndex, IsInterrupted, IsUndone, NamesCause, PutFails}
 use Rattle.sql_meanings.specs.Tables.{tree_of}
 use Rattle.store_rows.specs.Outcomes.{IsForbidden}
@@ -27,45 +28,55 @@ no_rows = record { meta = []; branches = []; tellers = []; accounts = []; histor
 abbrev pub new_tables : Tables
 new_tables = record no_rows { meta = record { id = 1; version = 1; decided = 0 } ∷ [] }
 
--- the six tables are there and empty, and every table that was there is there, with its rows
-pub record IsMade (old new : Database) : Type 0 where
-  pub shows : Shows new no_rows
-  pub keeps : KeepsTables old new
-  pub apart : (t : Table) → Has old.schema.tables t → t.tree ≢ tree_of new.schema (codes "meta")
-
 -- the six texts, each with its table
 abbrev pub six_texts : List (List ℕ × Table)
 six_texts =
     (text.make_meta, six.meta) ∷ (text.make_branch, six.branch) ∷ (text.make_teller, six.teller) ∷ (text.make_account, six.account)
     ∷ (text.make_history, six.history) ∷ (text.make_request, six.request) ∷ []
 
--- under the schema one of the six tables can't be made
-abbrev pub RefusesOne : Schema → Error → Type 0
-RefusesOne schema e = (it : List ℕ × Table) × Has six_texts it × NotMade schema it.0 it.1 e
+-- the schema once the first so many are made, and nothing else
+abbrev pub with_first : ℕ → Schema → Schema
+with_first n schema = fold (λ s it. created s it.1) schema (take n six_texts)
 
--- All six were made. Or the store failed, and the transaction is rolled back; or one is refused under the schema that stands now, beside
--- what was there.
+-- The six tables are there and empty, and every table that was there is there, with its rows. Where no table counts its rows, nothing else
+-- is new.
+pub record IsMade (old new : Database) : Type 0 where
+  pub shows : Shows new no_rows
+  pub keeps : KeepsTables old new
+  pub alone : counts_rows old.schema ≡ false → new.schema ≡ with_first 6 old.schema
+  pub apart : (t : Table) → Has old.schema.tables t → t.tree ≢ tree_of new.schema (codes "meta")
+
+-- The first so many of the six are made and the next is refused, under the schema that stands now. Where no table counts its rows, that is
+-- what the tables made of the first.
+pub record RefusesNext (old now : Schema) (e : Error) : Type 0 where
+  pub made : ℕ
+  pub next : List ℕ × Table
+  pub is_next : slice_get six_texts made ≡ Some next
+  pub alone : counts_rows old ≡ false → now ≡ with_first made old
+  pub refused : NotMade now next.0 next.1 e
+
+-- All six were made. Or the store failed, and the transaction is rolled back; or one is refused, beside what was there and those before it.
 abbrev pub MakesAll : State → State → Result (Unit {0}) Error → Type 0
 MakesAll old new (Ok done) = IsMade old.now new.now × GoesOn old new × KeepsCounts old new
 MakesAll old new (Err e) =
-    Fails old new ⊥ e ⊎ (RefusesOne new.now.schema e × KeepsTables old.now new.now × GoesOn old new × KeepsCounts old new)
+    Fails old new ⊥ e ⊎ (RefusesNext old.now.schema new.now.schema e × KeepsTables old.now new.now × GoesOn old new × KeepsCounts old new)
 
 -- the first row is there, and every table but meta is as it was; or why the row can't be put in
 abbrev pub StartsBank : State → State → Result ℕ Error → Type 0
 StartsBank old new (Ok count) =
     Shows new.now new_tables × SparesTables old.now new.now (codes "meta")
-StartsBank old new (Err e) = PutFails old new six.meta (IsForbidden old.now.schema new_tables) e
+StartsBank old new (Err e) = PutFails old new six.meta (IsForbidden old.now.schema six.meta new_tables) e
 
 -- once the six are made, an index of meta has more columns than can be stored
 abbrev pub MakesWide : Database → Type 0
 MakesWide old = (made : Database) × IsMade old made × HasWideIndex made.schema six.meta
 
--- A statement is refused in this database: one of the six tables, where only tables were made so far; or the first row, since the limit on
--- steps was met, or since a UNIQUE of the schema allows no such row.
+-- A statement is refused in this database: one of the six tables, where only those before it were made; or the first row, since the limit
+-- on steps was met, or since a UNIQUE of the file's own allows no such row.
 abbrev pub RefusedIn : State → Database → Error → Type 0
 RefusedIn old db e =
-    (RefusesOne db.schema e × KeepsTables old.now db)
-    ⊎ ((IsInterrupted old e ⊎ ((e ≡ SqliteFailure (ConstraintViolation Unique)) × IsForbidden db.schema new_tables)) × IsMade old.now db)
+    (RefusesNext old.now.schema db.schema e × KeepsTables old.now db)
+    ⊎ ((IsInterrupted old e ⊎ ((e ≡ SqliteFailure (ConstraintViolation Unique)) × IsForbidden db.schema six.meta new_tables)) × IsMade old.now db)
 
 -- The tables of a new bank are there, and every table that was there is there, with its rows. Or the store failed, and the transaction is
 -- rolled back; or a statement is refused in the database that stands now.
@@ -78,7 +89,11 @@ CreatesBank old new (Err e) =
 abbrev pub CreationFails : State → State → Error → Type 0
 CreationFails old new e = (NamesCause old new (MakesWide old.now) e ⊎ ((db : Database) × RefusedIn old db e)) × IsUndone old new
 
--- the same of bare trees
+-- the file has nothing
+abbrev pub IsEmpty : Database → Type 0
+IsEmpty db = db.schema ≡ record { tables = []; indexes = []; views = [] }
+
+-- the tables of a new bank, of bare trees
 abbrev pub HasNewBank : Database → Trees → Type 0
 HasNewBank old trees = (schema : Schema) × Shows (record { schema = schema; trees = trees }) new_tables
     × KeepsTables old (record { schema = schema; trees = trees })

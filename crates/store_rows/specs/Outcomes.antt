@@ -20,7 +20,7 @@ use Rattle.sqlite.specs.Schema.{Schema}
 use Rattle.sqlite.specs.Table.{Table}
 use Rattle.sqlite.specs.Tree.{Trees}
 use Rattle.sql_meanings.specs.Making.{SparesStanding, SparesTables}
-use Rattle.sql_meanings.specs.Outcomes.{IsStoreError, GoesOn, PutFails, SetFails, WriteFails}
+use Rattle.sql_meanings.specs.Outcomes.{IsStoreError, GoesOn, PutFails, SetFails, WriteFails, has_unique}
 use Rattle.store_rows.specs.declared.faults.TableFault.{TableFault}
 use Rattle.store_rows.specs.declared.faults.TableFault.TheVariants.{Sqlite, Damaged}
 use Rattle.store_rows.specs.Columns.{request_shown}
@@ -67,21 +67,21 @@ IsNoRequest r broken =
 abbrev pub Never : {X : Type 0} → X → Rule → Type 0
 Never x broken = ⊥
 
--- no sound file with this schema shows these tables
-abbrev pub IsForbidden : Schema → Tables → Type 0
-IsForbidden schema t = (trees : Trees) → ¬ Shows (record { schema = schema; trees = trees }) t
+-- a UNIQUE of the schema is on the table, and no sound file with this schema shows these tables
+abbrev pub IsForbidden : Schema → Table → Tables → Type 0
+IsForbidden schema table t = IsTrue (has_unique schema table) × ((trees : Trees) → ¬ Shows (record { schema = schema; trees = trees }) t)
 
 -- the answer tells whether the row is there; the tables are these now, and every table but this one that stands alone is as it was
 abbrev pub Writes : State → State → Table → Bool → Tables → Result Bool Error → Type 0
 Writes old new table there after (Ok answer) = (answer ≡ there) × Shows new.now after × GoesOn old new
     × SparesStanding old.now new.now table.name
-Writes old new table there after (Err e) = SetFails old new table (IsForbidden old.now.schema after) e
+Writes old new table there after (Err e) = SetFails old new table (IsForbidden old.now.schema table after) e
 
 -- the row is put in, where its key is free, and every table but this one is as it was; a taken key is told, and nothing has changed
 abbrev pub Adds : State → State → Table → Bool → Tables → Result (Unit {0}) TableFault → Type 0
 Adds old new table taken after (Ok done) = (taken ≡ false) × Shows new.now after × GoesOn old new
     × SparesTables old.now new.now table.name
-Adds old new table taken after (Err (Sqlite e)) = PutFails old new table (IsForbidden old.now.schema after) e
+Adds old new table taken after (Err (Sqlite e)) = PutFails old new table (IsForbidden old.now.schema table after) e
 Adds old new table taken after (Err (Damaged broken)) = (broken ≡ rule.Key) × (taken ≡ true) × IsUnchanged old new
 
 -- ---- a stored number, as its type
