@@ -39,8 +39,13 @@ refused_because old new e fault is (inr refused) taken =
 
 -- what is refused where nothing was changed is refused before
 pub refused_before : (old mid : State) → mid.now ≡ old.now → mid.step_limit ≡ old.step_limit → IsRefused mid → IsRefused old
-refused_before old mid now limit (e, db, other, inl one) = (e, db, other, inl (subst (λ (it : Database). RefusesNext it.schema db.schema e
-    × KeepsTables it db) now one))
+refused_before old mid now limit (e, db, other, inl one) = (
+  e,
+  db,
+  other,
+  inl (subst (λ (it : Database). RefusesNext it.schema db.schema e
+      × KeepsTables it db) now one),
+)
 refused_before old mid now limit (e, db, other, inr first) = (
   e,
   db,

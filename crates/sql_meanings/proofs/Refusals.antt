@@ -197,10 +197,10 @@ forbids schema db table entries rows sound are broken = (
         (λ it. broken (breaks_none schema db (tree_of schema table.name) rows none (it.obeys.rules Unique))))
   ],
   λ trees other same. ∥∥₁_elim sound (λ x y. absurd x) (λ it. broken (keeps_from Unique schema (with_tree db (tree_of schema table.name) rows) (λ t row listed there.
-    elim (cases_Bool (t.tree == tree_of schema table.name)) [
-      | inl here ↦ held_at schema trees (with_tree db (tree_of schema table.name) rows) t row listed
-          (rw here (are ∙ sym same ∙ ap trees (same_tree t.tree (tree_of schema table.name) here))) there (other.obeys.rules Unique)
-      | inr away ↦ held_at schema db (with_tree db (tree_of schema table.name) rows) t row listed (rw away refl) there
-          (it.obeys.rules Unique)
-    ]))),
+      elim (cases_Bool (t.tree == tree_of schema table.name)) [
+        | inl here ↦ held_at schema trees (with_tree db (tree_of schema table.name) rows) t row listed
+            (rw here (are ∙ sym same ∙ ap trees (same_tree t.tree (tree_of schema table.name) here))) there (other.obeys.rules Unique)
+        | inr away ↦ held_at schema db (with_tree db (tree_of schema table.name) rows) t row listed (rw away refl) there
+            (it.obeys.rules Unique)
+      ]))),
 )
