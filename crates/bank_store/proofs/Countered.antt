@@ -1,6 +1,6 @@
 -- A transaction on a connection, as a call of a counter.
 use Rattle.std.proofs.Common.{◌≡◌, List, length, Option, Some, None, Err, refl, sym, subst, ◌∙◌, arith, inl, inr}
-use Rattle.std.specs.Prelude.{IsSome, IsSomeAnd}
+use Rattle.std.specs.Prelude.{IsSome}
 use Rattle.std.proofs.Math.Seq.{take-length}
 use Rattle.sqlite.specs.Tree.{Trees}
 use Rattle.sqlite.specs.Effect.{Database}
@@ -15,21 +15,11 @@ use Rattle.posting_core.specs.Tables.{Tables}
 use Rattle.posting_core.specs.Tables.{Shows as Show}
 use Rattle.posting_core.proofs.Sequence.{commands_behind}
 use Rattle.store_rows.specs.View.{Shows, ShowsTrees}
-use Rattle.store_rows.proofs.ShownOnce.{one_bank}
 use Rattle.store_rows.specs.declared.faults.TableFault.{TableFault}
 use Rattle.store_rows.specs.declared.faults.TableFault.TheVariants.{Sqlite, Damaged}
 use Rattle.bank_store.specs.Doing.{Completes, Undoes}
 use Rattle.bank_store.specs.Down.{GoesDown}
-use Rattle.bank_store.specs.Seen.{AreOf, seen_in}
-
--- trees of a bank are found as that bank
-found_as : (trees : Trees) (after : Tables) (P : Tables → Type 0) → ShowsTrees trees after → P after → (x : Option Tables) → AreOf trees x → IsSomeAnd x P
-found_as trees after P shows holds (Some t) are = subst P (one_bank trees after t shows are) holds
-found_as trees after P shows holds None are = absurd (are after shows)
-
-weaker : (P Q : Tables → Type 0) → ((t : Tables) → P t → Q t) → (x : Option Tables) → IsSomeAnd x P → IsSomeAnd x Q
-weaker P Q f (Some t) h = f t h
-weaker P Q f None h = h
+use Rattle.bank_store.specs.Seen.{seen_in}
 
 -- what the commands lead to is a beginning of them, and so is what was there
 all_of_them : (t : Tables) (log cs : List Command) → Show t (behind log cs) → ShowsBeginning log cs 0 t
@@ -76,7 +66,7 @@ module _ (Sound : Tables → Type 0) (holds : HoldsOfLogs Sound) (old new : Stat
         record {
           shows = shows_more are done D E clean log s;
           up = up;
-          stop = λ x found. found_as found.0 (after s.tables) (λ t. Show t (behind log cs)) (left found.0 found.1) (is s.tables log s.commands s.shows) x found.2;
+          stop = λ trees may. (after s.tables, left trees may, is s.tables log s.commands s.shows);
         };
   }
 
@@ -84,13 +74,15 @@ module _ (Sound : Tables → Type 0) (holds : HoldsOfLogs Sound) (old new : Stat
       → IsCutShort (seen_in old D) (seen_in new E) cs
   cut_short D E down survives = record {
     down = down;
-    stop = λ clean log at x found.
+    stop = λ clean log at trees may.
         let s = at.shows in
-        elim (survives.crash clean found.0 found.1) [
-          | inl before ↦ weaker (λ t. Show t log) (ShowsBeginning log cs 0) (λ t shows. none_of_them t log cs shows) x (at.stop x (found.0, before, found.2))
-          | inr made ↦
-              found_as found.0 (after s.tables) (ShowsBeginning log cs 0) (made s.tables s.are (holds s.tables log s.commands s.shows))
-              (all_of_them (after s.tables) log cs (is s.tables log s.commands s.shows)) x found.2
+        elim (survives.crash clean trees may) [
+          | inl before ↦ (let it = at.stop trees before in (it.0, it.1, none_of_them it.0 log cs it.2))
+          | inr made ↦ (
+            after s.tables,
+            made s.tables s.are (holds s.tables log s.commands s.shows),
+            all_of_them (after s.tables) log cs (is s.tables log s.commands s.shows),
+          )
         ];
   }
 

@@ -6,24 +6,21 @@ use Rattle.sqlite.specs.Held.{Held, state}
 use Rattle.sqlite_trees.specs.declared.store.Store.{Ghosts}
 use Rattle.sqlite.specs.declared.error.Error.{Error}
 use Rattle.posting_core.specs.Counter.{Seen}
-use Rattle.posting_core.specs.Tables.{Tables}
 use Rattle.store_rows.specs.View.{Shows, ShowsTrees}
 use Rattle.store_rows.specs.declared.faults.TableFault.{TableFault}
 use Rattle.store_rows.specs.declared.faults.TableFault.TheVariants.{Sqlite, Damaged}
 use Rattle.bank_store.specs.declared.bank.Bank.{Bank}
 
--- the trees are those of a bank with these tables, or of no bank
-abbrev pub AreOf : Trees → Option Tables → Type 0
-AreOf trees (Some t) = ShowsTrees trees t
-AreOf trees None = (t : Tables) → ShowsTrees trees t → ⊥
-
--- what a stop at this moment may leave
-abbrev pub left_in : State → Option Tables → Type 0
-left_in s x = (trees : Trees) × s.may_leave trees × AreOf trees x
-
--- its tables are those that its database shows
+-- its tables are those that its database shows, and what a stop leaves are the trees of its files
 abbrev pub seen_in : State → Type 0 → Seen
-seen_in s is_down = record { tables = λ t. Shows s.now t; is_down = is_down; left = left_in s; honest = HasCleanDisk s }
+seen_in s is_down = record {
+  tables = λ t. Shows s.now t;
+  is_down = is_down;
+  Remains = Trees;
+  left = s.may_leave;
+  found = ShowsTrees;
+  honest = HasCleanDisk s;
+}
 
 -- the connection that the bank holds
 abbrev pub connection_of : {S : Type 0} {g : Ghosts S} → Bank S g → Held S

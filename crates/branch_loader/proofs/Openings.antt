@@ -1,6 +1,6 @@
 -- How a counter stands after some openings of a plan.
 use Rattle.std.proofs.Common.{◌≡◌, ◌≤◌, ◌<◌, ◌+◌, ◌∷◌, ◌++◌, ◌∙◌, ℕ, zero, suc, List, [], Option, Some, None, Bool, length, take, take_all, drop, get_or, arith, refl, sym, ap, subst, add-zero, zero-add}
-use Rattle.std.specs.Prelude.{IsSomeAnd, count_by, cond, sum_by}
+use Rattle.std.specs.Prelude.{count_by, cond, sum_by}
 use Rattle.std.proofs.Math.Seq.{take-append-add, take-append_seam, take-length}
 use Rattle.std.proofs.lemmas.List.{drop-map, drop_more, length-append, length-map, length-take-le, map-append, take-append-drop, take-map}
 use Rattle.std.proofs.lemmas.List.Sums.{sum_by-append}
@@ -8,6 +8,7 @@ use Rattle.posting_core.specs.Commands.{Command, Open}
 use Rattle.posting_core.specs.Counter.{Seen, ShowsLog, ShowsBeginning, Takes, Refuses, opening_behind}
 use Rattle.posting_core.specs.Runs.{behind}
 use Rattle.posting_core.specs.Tables.{Tables, Shows}
+use Rattle.posting_core.proofs.Remaining.{leaves_still, leaves_weaker}
 use Rattle.posting_core.proofs.Sequence.{behind-append}
 use Rattle.posting_core.specs.declared.counter.Opening.{Opening}
 use Rattle.posting_core.specs.declared.counter.Opening.TheVariants.{Opened, Already, Differs}
@@ -65,16 +66,12 @@ with_answer-total loaded Differs = omega arith
 
 -- ---- what a stop may leave
 
-more_of : {P Q : Tables → Type 0} (x : Option Tables) → ((t : Tables) → P t → Q t) → IsSomeAnd x P → IsSomeAnd x Q
-more_of None f h = h
-more_of (Some t) f h = f t h
-
 -- after the commands were taken a stop leaves them all
 pub left-all : (old new : Seen) (commands : List Command) → Takes old new commands → LeavesBeginning old new commands (length commands)
-left-all old new commands taken h log stood x left =
-    more_of x
+left-all old new commands taken h log stood =
+    leaves_weaker new (λ t. Shows t (behind log commands)) (ShowsBeginning log commands (length commands))
     (λ t shown. record { count = length commands; holds = omega arith; within = omega arith; shows = rw (take-length commands) shown })
-    ((taken.stands h log stood).stop x left)
+    (taken.stands h log stood).stop
 
 -- a beginning of one command more
 one_more : (log xs rest : List Command) (c : Command) (t : Tables) → ShowsBeginning (behind log xs) (c ∷ []) 0 t
@@ -94,19 +91,20 @@ one_more log xs rest c t b = record {
 -- where the next command was refused it leaves them, or them and that command
 pub left-refused : (fault : Fault) (old now new : Seen) (xs : List Command) (c : Command) (rest : List Command)
     → Takes old now xs → Refuses fault now new (c ∷ []) → (new.honest → now.honest) → LeavesBeginning old new (xs ++ c ∷ rest) (length xs)
-left-refused Memory old now new xs c rest taken refused honest h log stood x left =
-    more_of x (λ t shown. record {
+left-refused Memory old now new xs c rest taken refused honest h log stood =
+    leaves_weaker new (λ t. Shows t (behind log xs)) (ShowsBeginning log (xs ++ c ∷ rest) (length xs)) (λ t shown. record {
       count = length xs;
       holds = omega arith;
       within = omega (arith, length-append xs (c ∷ rest));
       shows = rw (take-append_seam xs (c ∷ rest)) shown;
     })
-    ((taken.stands (honest h) log stood).stop x (refused.left x left))
-left-refused Store old now new xs c rest taken refused honest h log stood x left =
-    more_of x (one_more log xs rest c) (refused.stop h (behind log xs) (taken.stands (honest h) log stood) x left)
-left-refused Down old now new xs c rest taken refused honest h log stood x left =
+    (leaves_still now new (λ t. Shows t (behind log xs)) refused.left (taken.stands (honest h) log stood).stop)
+left-refused Store old now new xs c rest taken refused honest h log stood =
+    leaves_weaker new (ShowsBeginning (behind log xs) (c ∷ []) 0) (ShowsBeginning log (xs ++ c ∷ rest) (length xs)) (one_more log xs rest c)
+    (refused.stop h (behind log xs) (taken.stands (honest h) log stood))
+left-refused Down old now new xs c rest taken refused honest h log stood =
     absurd ((taken.stands (honest h) log stood).up refused.before)
-left-refused (Damaged rule) old now new xs c rest taken refused honest h log stood x left =
+left-refused (Damaged rule) old now new xs c rest taken refused honest h log stood =
     absurd (refused.never_shown h (behind log xs) (taken.stands (honest h) log stood).shows)
 
 -- ---- the counter after some rows

@@ -190,7 +190,7 @@ stands_plain : (bank : PlainBank) (log : List Command) → AreCommands log → S
 stands_plain bank log commands s = record {
   shows = shows_plain bank log commands s;
   up = λ h. h;
-  stop = λ x e. subst (λ y. IsSomeAnd y (λ u. Shows u log)) (sym e) s;
+  stop = λ remains is. (remains, refl, subst (λ t. Shows t log) (sym is) s);
 }
 
 -- commands that its rows took

@@ -13,6 +13,7 @@ pub mod Alike
 pub mod AsStated
 pub mod Transferred
 pub mod Sequence
+pub mod Remaining
 pub mod Settled
 pub mod Resends
 pub mod Timeless

@@ -18,7 +18,7 @@ use Rattle.posting_core.proofs.Sequence.{replies_to-append, one_reply_each}
 use Rattle.posting_core.proofs.Resends.{shows_log_left_out}
 use Rattle.posting_core.proofs.Timeless.{timeless}
 use Rattle.posting_core.proofs.Batched.{joined-append, all_posts, posted_is, whole_records_are}
-use Rattle.posting_core.proofs.Streaming.{weaker}
+use Rattle.posting_core.proofs.Remaining.{leaves_weaker}
 
 -- ---- the text
 
@@ -131,7 +131,7 @@ at_least log cs n k t le b = record { count = b.count; holds = omega (arith, b.h
 
 pub survives_of : {r r' w w' k k' : Option (List ℕ)} {c c' : Seen} (result : Result ℕ StreamFault) → Streamed r r' w w' k k' c c' result
     → Survives r r' w w' c c'
-survives_of result s =
+survives_of {c' = c'} result s =
     let bs = s.taken ++ s.refused in
     record {
       bytes = joined (records_of bs) ++ s.rest;
@@ -141,11 +141,11 @@ survives_of result s =
       commands = posts_of bs;
       posts = all_posts bs;
       records = posted_is bs ∙ sym (whole_records_are (records_of bs) s.rest s.whole s.few);
-      stop = λ h log stood x left. weaker _ _ x
+      stop = λ h log stood. leaves_weaker c' _ _
           (λ t b.
           let few = acknowledged_taken log s.taken s.refused (length s.written) (written_few result s log h stood.shows) in
           at_least log (posts_of bs) (length (posts_of s.taken)) _ t few b)
-          (s.stop h log stood x left);
+          (s.stop h log stood);
     }
 
 -- ---- records that come again

@@ -1,6 +1,6 @@
 -- A stream of records, step by step: a read, a batch, and each way to end.
 use Rattle.std.proofs.Common.{◌≡◌, ℕ, ◌+◌, ◌<◌, ◌≤◌, List, [], ◌∷◌, ◌++◌, length, take, Option, Some, None, Result, Ok, Err, refl, sym, ap, subst, ◌∙◌, append_assoc, append-nil, arith}
-use Rattle.std.specs.Prelude.{IsSomeAnd, IfOk}
+use Rattle.std.specs.Prelude.{IfOk}
 use Rattle.std.specs.List.{AllByRecursion}
 use Rattle.std.specs.Io.KnownBytes.{Keeps, Appends, Consumes, IsAtEnd}
 use Rattle.std.proofs.KnownBytes.{Appends-trans, Appends-kept, Appends-nil, Consumes-trans, Consumes-nil, Consumes-kept}
@@ -17,6 +17,7 @@ use Rattle.posting_core.specs.Runs.{behind, posts, replies_to}
 use Rattle.posting_core.specs.Clock.{after_one, IsNext, IsReading, AreReadings}
 use Rattle.posting_core.specs.Batches.{Batch, IsRecord, joined, moment_of, moments_of, records_of, posts_in, posts_of, IsAnswered, BreaksOff}
 use Rattle.posting_core.specs.Stream.{Ends, IsWritten, IfUp, UnlessDown, Streamed}
+use Rattle.posting_core.proofs.Remaining.{leaves_still, leaves_weaker}
 use Rattle.posting_core.proofs.Sequence.{behind-append}
 use Rattle.posting_core.proofs.Batched.{joined_one_more, records_one_more, posts_of_one_more, replies_of_one_more}
 
@@ -157,20 +158,16 @@ going_batch {r = r} {r' = r'} {w = w} {w' = w'} {w'' = w''} {k = k} {k' = k'} {k
 
 -- ---- ends where all that was read was taken
 
-pub weaker : (P Q : Tables → Type 0) (x : Option Tables) → ((t : Tables) → P t → Q t) → IsSomeAnd x P → IsSomeAnd x Q
-weaker P Q (Some t) f h = f t h
-weaker P Q None f h = h
-
 -- a stop leaves all that was taken
 stop_all : (c : Seen) (log cs ds : List Command) → cs ≡ ds → StandsAt c (behind log ds) → LeavesOnly c (ShowsBeginning log cs (length ds))
-stop_all c log cs ds e s = λ x left. weaker (λ t. Shows t (behind log ds)) (ShowsBeginning log cs (length ds)) x
+stop_all c log cs ds e s = leaves_weaker c (λ t. Shows t (behind log ds)) (ShowsBeginning log cs (length ds))
     (λ t shown. record {
       count = length ds;
       holds = omega arith;
       within = omega (arith, ap length e);
       shows = subst (λ (l : List Command). Shows t (behind log l)) (sym (ap (take (length ds)) e ∙ take_all (length ds) ds (omega arith))) shown;
     })
-    (s.stop x left)
+    s.stop
 
 -- whatever the result says of what was written, it says it here
 pub record FitsAll (result : Result ℕ StreamFault) : Type 1 where
@@ -224,7 +221,7 @@ end_unread rest g few = end_of (Err Read) g (record { written = λ t s e. e; up 
 -- what a stop leaves where the last commands were refused
 stop_part : (c : Seen) (log cs ds es : List Command) → es ≡ cs ++ ds → LeavesOnly c (ShowsBeginning (behind log cs) ds 0)
     → LeavesOnly c (ShowsBeginning log es (length cs))
-stop_part c log cs ds es e stop = λ x left. weaker (ShowsBeginning (behind log cs) ds 0) (ShowsBeginning log es (length cs)) x
+stop_part c log cs ds es e stop = leaves_weaker c (ShowsBeginning (behind log cs) ds 0) (ShowsBeginning log es (length cs))
     (λ t b.
     let begins : take (length cs + b.count) es ≡ cs ++ take b.count ds = ap (take (length cs + b.count)) e ∙ take-append-add cs ds b.count in
     record {
@@ -233,13 +230,13 @@ stop_part c log cs ds es e stop = λ x left. weaker (ShowsBeginning (behind log 
       within = omega (arith, b.within, length-append cs ds, ap length e);
       shows = subst (λ (l : List Command). Shows t l) (sym (ap (behind log) begins ∙ behind-append log cs (take b.count ds))) b.shows;
     })
-    (stop x left)
+    stop
 
 -- refused commands leave a beginning of them
 refused_stop : (fault : Fault) (c c' : Seen) (log cs : List Command) → Refuses fault c c' cs → c'.honest → StandsAt c log → LeavesOnly c' (ShowsBeginning log cs 0)
-refused_stop Memory c c' log cs u h s = λ x left. weaker (λ t. Shows t log) (ShowsBeginning log cs 0) x
+refused_stop Memory c c' log cs u h s = leaves_weaker c' (λ t. Shows t log) (ShowsBeginning log cs 0)
     (λ t shown. record { count = 0; holds = omega arith; within = omega arith; shows = shown })
-    (s.stop x (u.left x left))
+    (leaves_still c c' (λ t. Shows t log) u.left s.stop)
 refused_stop Store c c' log cs u h s = u.stop h log s
 refused_stop Down c c' log cs u h s = absurd (s.up u.before)
 refused_stop (Damaged rule) c c' log cs u h s = absurd (u.never_shown h log s.shows)
@@ -258,7 +255,7 @@ refused_stands : (fault : Fault) (c c' : Seen) (log cs : List Command) → Refus
 refused_stands Memory c c' log cs u s = record {
   shows = unchanged_shows c c' log u s.shows;
   up = λ d. s.up (u.down d);
-  stop = λ x left. s.stop x (u.left x left);
+  stop = leaves_still c c' (λ t. Shows t log) u.left s.stop;
 }
 refused_stands Store c c' log cs u s = tt
 refused_stands Down c c' log cs u s = tt

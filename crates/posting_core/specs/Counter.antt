@@ -1,5 +1,5 @@
 -- What a counter shows, what a stop may leave of it, and what a call does to both.
-use Rattle.std.specs.Prelude.{ℕ, ◌≤◌, List, length, take, Option, Some, None, IsSomeAnd, ◌==◌, if◌then◌else◌}
+use Rattle.std.specs.Prelude.{ℕ, ◌≤◌, List, length, take, Option, Some, None, ◌==◌, if◌then◌else◌}
 use Rattle.posting_core.specs.declared.fault.Fault.{Fault}
 use Rattle.posting_core.specs.declared.fault.Fault.TheVariants.{Memory, Store, Down, Damaged}
 use Rattle.posting_core.specs.declared.counter.Opening.{Opening}
@@ -14,8 +14,12 @@ pub record Seen : Type 1 where
   pub tables : Tables → Type 0
   -- it failed earlier, and answers nothing more
   pub is_down : Type 0
-  -- what a stop at this moment may leave: the tables of a bank, or none where it is no bank
-  pub left : Option Tables → Type 0
+  -- what is found where it was stopped, such as a file
+  pub Remains : Type 0
+  -- a stop at this moment may leave this
+  pub left : Remains → Type 0
+  -- this is a bank, with these tables
+  pub found : Remains → Tables → Type 0
   -- nobody else wrote what it keeps, and what it keeps is what was written
   pub honest : Type 0
 
@@ -26,9 +30,14 @@ pub record ShowsLog (seen : Seen) (log : List Command) : Type 0 where
   pub are : seen.tables tables
   pub shows : Shows tables log
 
--- everything that a stop may leave is a bank of which P holds
+-- everything that a stop may leave is a bank, of whose tables P holds
 abbrev pub LeavesOnly : Seen → (Tables → Type 0) → Type 0
-LeavesOnly seen P = (x : Option Tables) → seen.left x → IsSomeAnd x P
+LeavesOnly seen P = (remains : seen.Remains) → seen.left remains → (t : Tables) × seen.found remains t × P t
+
+-- whatever a stop may leave now is the bank that it could leave before
+abbrev pub LeavesNoMore : Seen → Seen → Type 0
+LeavesNoMore old new = (remains : new.Remains) → new.left remains
+    → (before : old.Remains) × old.left before × ((t : Tables) → old.found before t → new.found remains t)
 
 -- it shows the log, and so does everything that a stop may leave
 pub record StandsAt (seen : Seen) (log : List Command) : Type 0 where
@@ -58,7 +67,7 @@ pub record Takes (old new : Seen) (commands : List Command) : Type 0 where
 pub record IsUnchanged (old new : Seen) : Type 0 where
   pub tables : (t : Tables) → old.tables t → new.tables t
   pub down : new.is_down → old.is_down
-  pub left : (x : Option Tables) → new.left x → old.left x
+  pub left : LeavesNoMore old new
 
 -- the store failed in it: a stop may leave any beginning of the commands
 pub record IsCutShort (old new : Seen) (commands : List Command) : Type 0 where
@@ -70,7 +79,7 @@ pub record WasDown (old new : Seen) : Type 0 where
   pub before : old.is_down
   pub after : new.is_down
   pub tables : new.honest → (t : Tables) → old.tables t → new.tables t
-  pub left : (x : Option Tables) → new.left x → old.left x
+  pub left : LeavesNoMore old new
 
 -- it met rows that no log leads to, and changed none of them
 pub record IsDamaged (old new : Seen) : Type 0 where

@@ -27,7 +27,14 @@ plain_tables bank = record {
 
 -- it is never down, and what a stop leaves are its rows
 abbrev pub plain_seen : PlainBank → Seen
-plain_seen bank = record { tables = λ t. t ≡ plain_tables bank; is_down = ⊥; left = λ x. x ≡ Some (plain_tables bank); honest = Unit {0} }
+plain_seen bank = record {
+  tables = λ t. t ≡ plain_tables bank;
+  is_down = ⊥;
+  Remains = Tables;
+  left = λ t. t ≡ plain_tables bank;
+  found = λ remains t. t ≡ remains;
+  honest = Unit {0};
+}
 
 -- ---- what a record does to the rows
 

@@ -137,10 +137,10 @@ struct FailingBank {
 }
 
 impl Counter for FailingBank {
-    ghost use Rattle.std.specs.Prelude.{◌≡◌, Some, true};
-    ghost use Rattle.posting_core.specs.Plain.{plain_tables};
+    ghost use Rattle.std.specs.Prelude.{◌≡◌, true};
+    ghost use Rattle.posting_core.specs.Plain.{plain_seen};
 
-    ghost seen = { λ b. record { tables = λ t. t ≡ plain_tables b.bank; is_down = b.down ≡ true; left = λ x. x ≡ Some (plain_tables b.bank); honest = Unit {0} } };
+    ghost seen = { λ b. record (plain_seen b.bank) { is_down = b.down ≡ true } };
 
     fn submit(&mut self, moment: Moment, bytes: &[u8; 100]) -> Result<[u8; 200], Fault> {
         if self.down {
