@@ -1,31 +1,30 @@
 #!/bin/sh
-# Writes the six tables of a bank to a file, and asks the C library of SQLite whether the file is sound and what it
-# holds. It needs `rt` and `sqlite3` on the path, and stands outside the gate.
+# Makes a bank in a file with the built program, and asks the C library of SQLite whether the file is sound, what it holds,
+# and whether the sums agree. It needs the built program and `sqlite3` on the path, and stands outside the gate.
 set -eu
 here=$(cd "$(dirname "$0")/.." && pwd)
+bank=$here/crates/bank/out/bank
+test -x "$bank" || { echo "check_file: build the program first: (cd crates/bank && rt run -- --help)" >&2; exit 2; }
 work=$(mktemp -d)
 trap 'rm -rf "$work"' EXIT
-mkdir -p "$work/crates/write_tables/src"
-for crate in message_records posting_core sql_meanings store_rows; do
-    mkdir "$work/crates/$crate"
-    for part in specs src proofs; do
-        cp -r "$here/crates/$crate/$part" "$work/crates/$crate/$part"
-    done
-done
-cp "$here/tools/write_tables.rt.in" "$work/crates/write_tables/src/main.rt"
-grep -E '^(message_records|posting_core|sql_meanings|store_rows):' "$here/crates.txt" >"$work/crates.txt"
-echo "write_tables: message_records posting_core store_rows sqlite" >>"$work/crates.txt"
-git -C "$work" init -q
-cd "$work/crates/write_tables"
-rt run
-file=$(find "$work" -name tables.db | head -n 1)
-test -n "$file"
-sqlite3 "$file" "PRAGMA integrity_check" \
+file=$work/bank.db
+"$bank" init "$file"
+sqlite3 "$file" "CREATE TABLE note (id INTEGER PRIMARY KEY, title TEXT); INSERT INTO note (title) VALUES ('a user wrote this')"
+"$bank" load "$file" "$here/examples/plan.csv"
+"$bank" post "$file" <"$here/examples/records" >"$work/replies"
+"$bank" post "$file" <"$here/examples/records" | cmp - "$work/replies"
+sqlite3 -header "$file" \
+    "PRAGMA integrity_check" \
     "SELECT name FROM sqlite_schema WHERE type = 'table' ORDER BY name" \
-    "SELECT version, decided FROM meta" \
-    "SELECT count(*), sum(balance) FROM teller" \
-    "SELECT count(*), sum(balance) FROM account" \
-    "SELECT bid, accounts, balance FROM branch" \
+    "SELECT * FROM meta" \
+    "SELECT * FROM branch" \
+    "SELECT count(*) AS tellers, sum(balance) AS sum FROM teller" \
+    "SELECT count(*) AS accounts, sum(balance) AS sum FROM account" \
     "SELECT * FROM history" \
     "SELECT * FROM request" \
     "SELECT title FROM note"
+# No branch differs from its tellers, and the three sums are one.
+sqlite3 "$file" \
+    "SELECT 'branch ' || bid || ' differs' FROM branch WHERE balance <> (SELECT sum(balance) FROM teller WHERE (tid - 1) / 10 + 1 = bid)" \
+    "SELECT CASE WHEN (SELECT sum(balance) FROM account) = (SELECT sum(balance) FROM teller)
+        AND (SELECT sum(balance) FROM account) = (SELECT sum(delta) FROM history) THEN 'one sum' ELSE 'sums differ' END"

@@ -64,7 +64,7 @@ none_passes p (y ∷ xs) x none h passed = elim (cases_Bool (p y)) [
   ]
 ]
 
--- so it isn't refused
+-- a table that the schema takes isn't refused
 not_refused : (schema : Schema) (sql : List ℕ) (t : Table) → Takes schema sql t → (e : Error) → NotMade schema sql t e → ⊥
 not_refused schema sql t takes e (inl (fault, is, tells)) = let bad = ap is_ok is in let good = takes.understood in cc
 not_refused schema sql t takes e (inr (inl (inl (tells, inl used)))) = let good = takes.free in cc

@@ -34,7 +34,7 @@ six_texts =
     (text.make_meta, six.meta) ∷ (text.make_branch, six.branch) ∷ (text.make_teller, six.teller) ∷ (text.make_account, six.account)
     ∷ (text.make_history, six.history) ∷ (text.make_request, six.request) ∷ []
 
--- the schema once the first so many are made, and nothing else
+-- the schema with the first so many of them more, and nothing else
 abbrev pub with_first : ℕ → Schema → Schema
 with_first n schema = fold (λ s it. created s it.1) schema (take n six_texts)
 
@@ -46,8 +46,8 @@ pub record IsMade (old new : Database) : Type 0 where
   pub alone : counts_rows old.schema ≡ false → new.schema ≡ with_first 6 old.schema
   pub apart : (t : Table) → Has old.schema.tables t → t.tree ≢ tree_of new.schema (codes "meta")
 
--- The first so many of the six are made and the next is refused, under the schema that stands now. Where no table counts its rows, that is
--- what the tables made of the first.
+-- The first so many of the six are made, and the next is refused under the schema that stands now. Where no table counts its rows, that
+-- schema has those tables more, and nothing else.
 pub record RefusesNext (old now : Schema) (e : Error) : Type 0 where
   pub made : ℕ
   pub next : List ℕ × Table
@@ -89,7 +89,7 @@ CreatesBank old new (Err e) =
 abbrev pub CreationFails : State → State → Error → Type 0
 CreationFails old new e = (NamesCause old new (MakesWide old.now) e ⊎ ((db : Database) × RefusedIn old db e)) × IsUndone old new
 
--- the file has nothing
+-- no table, no index and no view is there
 abbrev pub IsEmpty : Database → Type 0
 IsEmpty db = db.schema ≡ record { tables = []; indexes = []; views = [] }
 
