@@ -14,7 +14,6 @@ sqlite3 "$file" "CREATE TABLE note (id INTEGER PRIMARY KEY, title TEXT); INSERT 
 "$bank" post "$file" <"$here/examples/records" >"$work/replies"
 "$bank" post "$file" <"$here/examples/records" | cmp - "$work/replies"
 sqlite3 -header "$file" \
-    "PRAGMA integrity_check" \
     "SELECT name FROM sqlite_schema WHERE type = 'table' ORDER BY name" \
     "SELECT * FROM meta" \
     "SELECT * FROM branch" \
@@ -23,8 +22,12 @@ sqlite3 -header "$file" \
     "SELECT * FROM history" \
     "SELECT * FROM request" \
     "SELECT title FROM note"
-# No branch differs from its tellers, and the three sums are one.
-sqlite3 "$file" \
+# The file is sound, no branch differs from its tellers, and the three sums are one.
+verdict=$(sqlite3 "$file" \
+    "PRAGMA integrity_check" \
     "SELECT 'branch ' || bid || ' differs' FROM branch WHERE balance <> (SELECT sum(balance) FROM teller WHERE (tid - 1) / 10 + 1 = bid)" \
     "SELECT CASE WHEN (SELECT sum(balance) FROM account) = (SELECT sum(balance) FROM teller)
-        AND (SELECT sum(balance) FROM account) = (SELECT sum(delta) FROM history) THEN 'one sum' ELSE 'sums differ' END"
+        AND (SELECT sum(balance) FROM account) = (SELECT sum(delta) FROM history) THEN 'one sum' ELSE 'sums differ' END")
+test "$verdict" = "ok
+one sum" || { echo "check_file: $verdict" >&2; exit 1; }
+echo "check_file: sound, and of one sum"
