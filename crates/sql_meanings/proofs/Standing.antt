@@ -13,7 +13,6 @@ use Rattle.std.proofs.Common.{
   List,
   [],
   ◌∷◌,
-  ◌++◌,
   find,
   slice_get,
   Bool,
@@ -32,7 +31,8 @@ use Rattle.std.proofs.Common.{
   nat_le,
   arith,
 }
-use Rattle.std.specs.List.{list_any, position_from}
+use Rattle.std.specs.List.{position_from}
+use Rattle.std.proofs.lemmas.List.Folds.{list_any-append}
 use Rattle.sqlite.specs.Table.{Table}
 use Rattle.sqlite.specs.Schema.{Schema}
 use Rattle.sqlite.specs.Tree.{Trees}
@@ -177,16 +177,10 @@ keeps_sequence old after h = elim (sequenced old after h) [
 ok_same : {B E : Type 0} {a b : B} → ◌≡◌ {A = Result B E} (Ok a) (Ok b) → a ≡ b
 ok_same e = cc
 
-any_appended : {A : Type 0} (p : A → Bool) (xs : List A) (x : A) → list_any p xs ≡ false → p x ≡ false → list_any p (xs ++ x ∷ []) ≡ false
-any_appended p [] x none last = rw last refl
-any_appended p (y ∷ xs) x none last = elim (test_cases (p y)) [
-  | inl passed ↦ absurd (let bad = rw passed at none in cc)
-  | inr not_passed ↦ rw not_passed (any_appended p xs x (rw not_passed at none) last)
-]
-
 -- a table more that doesn't count its rows
 pub counts_created : (schema : Schema) (t : Table) → t.is_counted ≡ false → counts_rows schema ≡ false → counts_rows (created schema t) ≡ false
-counts_created schema t last none = any_appended (λ (u : Table). u.is_counted) schema.tables (record t { tree = next_tree schema }) none last
+counts_created schema t last none =
+    list_any-append (λ (u : Table). u.is_counted) schema.tables (record t { tree = next_tree schema } ∷ []) ∙ rw (none, last) refl
 
 -- where no table counts its rows, none is made that counts for it
 none_counted : (old after : Database) → MakesSequence old (Ok after) → counts_rows old.schema ≡ false → old ≡ after
