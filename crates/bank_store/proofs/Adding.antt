@@ -4,7 +4,7 @@ use Rattle.std.specs.Prelude.{IsTrue, Bool}
 use Rattle.sqlite.specs.Table.{Table}
 use Rattle.sqlite.specs.State.{State, Survives, HasCleanDisk, KeepsCommit}
 use Rattle.sqlite.proofs.StateLemmas.{survives_then}
-use Rattle.posting_core.specs.Tables.{Tables}
+use Rattle.posting_rules.specs.Tables.{Tables}
 use Rattle.sql_meanings.specs.Outcomes.{WriteKept}
 use Rattle.store_rows.specs.View.{Shows}
 use Rattle.store_rows.specs.Outcomes.{Adds}

@@ -4,18 +4,18 @@ use Rattle.std.specs.Option.{option_map}
 use Rattle.message_records.specs.Records.{RequestFields}
 use Rattle.message_records.specs.Reading.{request_of}
 use Rattle.message_records.specs.Spelling.{reply_spelling}
-use Rattle.posting_core.specs.declared.rows.BranchRow.{BranchRow}
-use Rattle.posting_core.specs.Commands.{Command, Open, Post, opened}
-use Rattle.posting_core.specs.Cases.{case_of}
-use Rattle.posting_core.specs.Counter.{opening_for, opening_behind}
-use Rattle.posting_core.specs.Entries.{decided, reply}
-use Rattle.posting_core.specs.LookUps.{found_in, count_in, count_of_branch}
-use Rattle.posting_core.specs.Steps.{IsStep}
-use Rattle.posting_core.specs.Tables.{Tables, row_at, branch_key}
-use Rattle.posting_core.specs.Tables.{Shows as Show}
-use Rattle.posting_core.proofs.Looked.{count_shown, decided_shown}
-use Rattle.posting_core.proofs.Opened.{opening_shown, already_open_shown}
-use Rattle.posting_core.proofs.Stepped.{post_shown, reply_shown}
+use Rattle.posting_rules.specs.declared.rows.BranchRow.{BranchRow}
+use Rattle.posting_rules.specs.Commands.{Command, Open, Post, opened}
+use Rattle.posting_rules.specs.Cases.{case_of}
+use Rattle.posting_rules.specs.Counter.{opening_for, opening_behind}
+use Rattle.posting_rules.specs.Entries.{decided, reply}
+use Rattle.posting_rules.specs.LookUps.{found_in, count_in, count_of_branch}
+use Rattle.posting_rules.specs.Steps.{IsStep}
+use Rattle.posting_rules.specs.Tables.{Tables, row_at, branch_key}
+use Rattle.posting_rules.specs.Tables.{Shows as Show}
+use Rattle.posting_rules.proofs.Looked.{count_shown, decided_shown}
+use Rattle.posting_rules.proofs.Opened.{opening_shown, already_open_shown}
+use Rattle.posting_rules.proofs.Stepped.{post_shown, reply_shown}
 use Rattle.bank_store.specs.Changes.{tables_with, reply_bytes, opened_where, tables_with_branch}
 use Rattle.bank_store.proofs.Countered.{IsChange}
 use Rattle.bank_store.proofs.Stepping.{sound_tables, step_is, opens_is}

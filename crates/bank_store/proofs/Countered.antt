@@ -6,14 +6,14 @@ use Rattle.sqlite.specs.Tree.{Trees}
 use Rattle.sqlite.specs.Effect.{Database}
 use Rattle.sqlite.specs.State.{State, HasCleanDisk, Survives}
 use Rattle.sqlite.proofs.StateLemmas.{survives_then}
-use Rattle.posting_core.specs.declared.fault.Fault.{Fault}
-use Rattle.posting_core.specs.declared.fault.Fault.TheVariants as told
-use Rattle.posting_core.specs.Commands.{Command, AreCommands}
-use Rattle.posting_core.specs.Counter.{ShowsLog, ShowsBeginning, Takes, IsCutShort, IsDamaged, Refuses}
-use Rattle.posting_core.specs.Runs.{behind}
-use Rattle.posting_core.specs.Tables.{Tables}
-use Rattle.posting_core.specs.Tables.{Shows as Show}
-use Rattle.posting_core.proofs.Sequence.{commands_behind}
+use Rattle.posting_rules.specs.declared.fault.Fault.{Fault}
+use Rattle.posting_rules.specs.declared.fault.Fault.TheVariants as told
+use Rattle.posting_rules.specs.Commands.{Command, AreCommands}
+use Rattle.posting_rules.specs.Counter.{ShowsLog, ShowsBeginning, Takes, IsCutShort, IsDamaged, Refuses}
+use Rattle.posting_rules.specs.Runs.{behind}
+use Rattle.posting_rules.specs.Tables.{Tables}
+use Rattle.posting_rules.specs.Tables.{Shows as Show}
+use Rattle.posting_rules.proofs.Sequence.{commands_behind}
 use Rattle.store_rows.specs.View.{Shows, ShowsTrees}
 use Rattle.store_rows.specs.declared.faults.TableFault.{TableFault}
 use Rattle.store_rows.specs.declared.faults.TableFault.TheVariants.{Sqlite, Damaged}

@@ -4,11 +4,11 @@ use Rattle.std.specs.Prelude.{ℤ, IsSome, IsTrue, Bool}
 use Rattle.sqlite.specs.State.{State}
 use Rattle.sqlite.specs.Table.{Table}
 use Rattle.message_records.specs.Records.{RequestFields}
-use Rattle.posting_core.specs.declared.rows.HistoryRow.{HistoryRow}
-use Rattle.posting_core.specs.declared.rows.RequestRow.{RequestRow}
-use Rattle.posting_core.specs.Commands.{branch_of_teller}
-use Rattle.posting_core.specs.Entries.{posted_entry}
-use Rattle.posting_core.specs.Tables.{Tables, row_at, branch_key, teller_key, account_key, history_key, history_row_of}
+use Rattle.posting_rules.specs.declared.rows.HistoryRow.{HistoryRow}
+use Rattle.posting_rules.specs.declared.rows.RequestRow.{RequestRow}
+use Rattle.posting_rules.specs.Commands.{branch_of_teller}
+use Rattle.posting_rules.specs.Entries.{posted_entry}
+use Rattle.posting_rules.specs.Tables.{Tables, row_at, branch_key, teller_key, account_key, history_key, history_row_of}
 use Rattle.store_rows.specs.Changes.{meta_key, with_request, with_history, with_account_balance, with_teller_balance, with_branch_balance}
 use Rattle.store_rows.specs.Outcomes.{Adds}
 use Rattle.store_rows.specs.declared.faults.TableFault.{TableFault}

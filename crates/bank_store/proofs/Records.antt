@@ -4,11 +4,11 @@ use Rattle.std.proofs.lemmas.List.{take_more}
 use Rattle.message_records.specs.declared.faults.Bad.{Bad}
 use Rattle.message_records.specs.Records.{RequestFields}
 use Rattle.message_records.specs.Reading.{request_of}
-use Rattle.posting_core.specs.Commands.{Command, Post, AreCommands}
-use Rattle.posting_core.specs.Runs.{behind, posts}
-use Rattle.posting_core.specs.Tables.{Tables}
-use Rattle.posting_core.specs.Tables.{Shows as Show}
-use Rattle.posting_core.proofs.Stepped.{malformed_shown}
+use Rattle.posting_rules.specs.Commands.{Command, Post, AreCommands}
+use Rattle.posting_rules.specs.Runs.{behind, posts}
+use Rattle.posting_rules.specs.Tables.{Tables}
+use Rattle.posting_rules.specs.Tables.{Shows as Show}
+use Rattle.posting_rules.proofs.Stepped.{malformed_shown}
 use Rattle.bank_store.specs.Changes.{tables_read, tables_past, tables_past_all}
 use Rattle.bank_store.proofs.Calls.{posts as posts_shown}
 use Rattle.bank_store.proofs.Countered.{IsChange}

@@ -6,9 +6,9 @@ use Rattle.std.specs.Option.{option_map}
 use Rattle.std.proofs.lemmas.Bool.{eqb-true}
 use Rattle.std.proofs.lemmas.Bool.Decides.{nat_tests}
 use Rattle.std.proofs.lemmas.Map.Keys.{IsDistinct-cons, IsDistinct-head, IsDistinct-tail}
-use Rattle.posting_core.specs.Tables.{row_at, HasKeys}
-use Rattle.posting_core.specs.Steps.{ChangesRow, AddsRow, AddsRows, is_from}
-use Rattle.posting_core.proofs.Keyed.{by_test}
+use Rattle.posting_rules.specs.Tables.{row_at, HasKeys}
+use Rattle.posting_rules.specs.Steps.{ChangesRow, AddsRow, AddsRows, is_from}
+use Rattle.posting_rules.proofs.Keyed.{by_test}
 use Rattle.store_rows.specs.Changes.{row_changed, row_put}
 
 -- ---- tests on two numbers

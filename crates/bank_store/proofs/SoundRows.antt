@@ -6,14 +6,14 @@ use Rattle.std.proofs.lemmas.Bool.{eqb-true}
 use Rattle.std.proofs.lemmas.Bool.Decides.{nat_tests}
 use Rattle.message_records.specs.Ranges.{whole_within, cents_within}
 use Rattle.message_records.specs.Records.{request_from}
-use Rattle.posting_core.specs.declared.rows.BranchRow.{BranchRow}
-use Rattle.posting_core.specs.declared.rows.RequestRow.{RequestRow}
-use Rattle.posting_core.specs.declared.rows.TellerRow.{TellerRow}
-use Rattle.posting_core.specs.declared.rows.AccountRow.{AccountRow}
-use Rattle.posting_core.specs.declared.fault.Rule.{Rule}
-use Rattle.posting_core.specs.Damage.{IsUndamaged, IsSoundBranch, IsSoundTeller, IsSoundAccount, IsSoundRequest}
-use Rattle.posting_core.specs.Tables.{Tables, row_at, branch_key, teller_key, account_key}
-use Rattle.posting_core.proofs.Keyed.{by_test, found_passes}
+use Rattle.posting_rules.specs.declared.rows.BranchRow.{BranchRow}
+use Rattle.posting_rules.specs.declared.rows.RequestRow.{RequestRow}
+use Rattle.posting_rules.specs.declared.rows.TellerRow.{TellerRow}
+use Rattle.posting_rules.specs.declared.rows.AccountRow.{AccountRow}
+use Rattle.posting_rules.specs.declared.fault.Rule.{Rule}
+use Rattle.posting_rules.specs.Damage.{IsUndamaged, IsSoundBranch, IsSoundTeller, IsSoundAccount, IsSoundRequest}
+use Rattle.posting_rules.specs.Tables.{Tables, row_at, branch_key, teller_key, account_key}
+use Rattle.posting_rules.proofs.Keyed.{by_test, found_passes}
 use Rattle.store_rows.specs.Columns.{teller_balance_in, account_balance_in, request_in}
 use Rattle.store_rows.specs.Outcomes.{IsNoBalance, IsNoBranch, IsNoRequest, CanBeKept}
 

@@ -3,22 +3,22 @@ use Rattle.std.proofs.Common.{◌≡◌, ℕ, zero, suc, ◌+◌, ◌<◌, ◌�
 use Rattle.std.specs.Prelude.{ℤ, pos, is_some, IsSome}
 use Rattle.std.specs.Option.{option_map}
 use Rattle.message_records.specs.Records.{RequestFields}
-use Rattle.posting_core.specs.declared.facts.Verdict.{Verdict}
-use Rattle.posting_core.specs.declared.facts.Verdict.TheVariants.{Unkept, Again, Refused, Posted}
-use Rattle.posting_core.specs.declared.rows.MetaRow.{MetaRow}
-use Rattle.posting_core.specs.declared.rows.BranchRow.{BranchRow}
-use Rattle.posting_core.specs.declared.rows.TellerRow.{TellerRow}
-use Rattle.posting_core.specs.declared.rows.AccountRow.{AccountRow}
-use Rattle.posting_core.specs.declared.rows.RequestRow.{RequestRow}
-use Rattle.posting_core.specs.Commands.{Command, AreCommands, branch_of_teller, branch_of_account, place_of_account, is_within}
-use Rattle.posting_core.specs.Cases.{case_of, plus_within}
-use Rattle.posting_core.specs.Entries.{Entry, refused_entry, posted_entry}
-use Rattle.posting_core.specs.Tables.{Tables, Shows, HasKeys, row_at, branch_key, teller_key, account_key, history_key, request_key, branch_row_of, teller_row_of, account_row_of, request_row_of, history_row_of}
-use Rattle.posting_core.specs.LookUps.{decided_in, count_in, count_of_branch, both_of, balance_of_branch, balance_of_teller, balance_of_account, found_in}
-use Rattle.posting_core.specs.Steps.{AddsRow, AddsRows, KeepsRefusal, KeepsPosting, IsStep, OpensBranch, meta_row_of, first_teller, first_account}
-use Rattle.posting_core.specs.Steps as steps
-use Rattle.posting_core.proofs.Undamaged.{undamaged}
-use Rattle.posting_core.proofs.Verdicts.{by_posting, by_account, by_new, by_known, by_teller}
+use Rattle.posting_rules.specs.declared.facts.Verdict.{Verdict}
+use Rattle.posting_rules.specs.declared.facts.Verdict.TheVariants.{Unkept, Again, Refused, Posted}
+use Rattle.posting_rules.specs.declared.rows.MetaRow.{MetaRow}
+use Rattle.posting_rules.specs.declared.rows.BranchRow.{BranchRow}
+use Rattle.posting_rules.specs.declared.rows.TellerRow.{TellerRow}
+use Rattle.posting_rules.specs.declared.rows.AccountRow.{AccountRow}
+use Rattle.posting_rules.specs.declared.rows.RequestRow.{RequestRow}
+use Rattle.posting_rules.specs.Commands.{Command, AreCommands, branch_of_teller, branch_of_account, place_of_account, is_within}
+use Rattle.posting_rules.specs.Cases.{case_of, plus_within}
+use Rattle.posting_rules.specs.Entries.{Entry, refused_entry, posted_entry}
+use Rattle.posting_rules.specs.Tables.{Tables, Shows, HasKeys, row_at, branch_key, teller_key, account_key, history_key, request_key, branch_row_of, teller_row_of, account_row_of, request_row_of, history_row_of}
+use Rattle.posting_rules.specs.LookUps.{decided_in, count_in, count_of_branch, both_of, balance_of_branch, balance_of_teller, balance_of_account, found_in}
+use Rattle.posting_rules.specs.Steps.{AddsRow, AddsRows, KeepsRefusal, KeepsPosting, IsStep, OpensBranch, meta_row_of, first_teller, first_account}
+use Rattle.posting_rules.specs.Steps as steps
+use Rattle.posting_rules.proofs.Undamaged.{undamaged}
+use Rattle.posting_rules.proofs.Verdicts.{by_posting, by_account, by_new, by_known, by_teller}
 use Rattle.store_rows.specs.Changes.{meta_key, row_changed, row_put, with_decided, with_branch_balance, with_teller_balance, with_account_balance, with_branch, with_teller, with_account, with_history, with_request}
 use Rattle.bank_store.specs.Sound.{AreSound}
 use Rattle.bank_store.specs.Changes.{tables_kept, tables_moved, tables_posted, tables_after, with_tellers, with_accounts, tables_opened, HasRowsOf}

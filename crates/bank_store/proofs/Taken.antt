@@ -8,7 +8,7 @@ use Rattle.sqlite.specs.declared.error.Error.{Error}
 use Rattle.sqlite_trees.specs.declared.error.StoreError.{StoreError}
 use Rattle.sqlite_trees.specs.declared.error.StoreError.TheVariants.{OutOfMemory, Io, Corrupt, Full, Broken, Unstorable}
 use Rattle.sqlite_schema.specs.Names.{table_named, view_named}
-use Rattle.posting_core.proofs.Keyed.{by_test}
+use Rattle.posting_rules.proofs.Keyed.{by_test}
 use Rattle.sql_meanings.specs.Making.{KeepsTables}
 use Rattle.store_rows.specs.Creation.{CreatesBank, IsEmpty, IsMade, RefusesNext}
 use Rattle.store_rows.specs.SixTables as six

@@ -1,8 +1,8 @@
 -- What an error of a part tells of the whole.
 use Rattle.std.proofs.Common.{◌≡◌, Option, Some, Err}
 use Rattle.sqlite.specs.State.{State}
-use Rattle.posting_core.specs.declared.fault.Rule.{Rule}
-use Rattle.posting_core.specs.Tables.{Tables}
+use Rattle.posting_rules.specs.declared.fault.Rule.{Rule}
+use Rattle.posting_rules.specs.Tables.{Tables}
 use Rattle.store_rows.specs.Outcomes.{Finds}
 use Rattle.store_rows.specs.declared.faults.TableFault.{TableFault}
 use Rattle.store_rows.specs.declared.faults.TableFault.TheVariants.{Sqlite, Damaged}

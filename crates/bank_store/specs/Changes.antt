@@ -4,15 +4,15 @@ use Rattle.message_records.specs.Spelling.{reply_spelling}
 use Rattle.message_records.specs.declared.faults.Bad.{Bad}
 use Rattle.message_records.specs.Records.{RequestFields}
 use Rattle.message_records.specs.Reading.{request_of}
-use Rattle.posting_core.specs.declared.rows.BranchRow.{BranchRow}
-use Rattle.posting_core.specs.declared.facts.Verdict.{Verdict}
-use Rattle.posting_core.specs.declared.facts.Verdict.TheVariants.{Unkept, Again, Refused, Posted}
-use Rattle.posting_core.specs.Commands.{branch_of_teller}
-use Rattle.posting_core.specs.Entries.{Entry, refused_entry, posted_entry}
-use Rattle.posting_core.specs.Cases.{case_of, reply_in}
-use Rattle.posting_core.specs.LookUps.{decided_in, found_in}
-use Rattle.posting_core.specs.Tables.{Tables, row_at, branch_key, teller_key, account_key, branch_row_of, teller_row_of, account_row_of, request_row_of, history_row_of}
-use Rattle.posting_core.specs.Steps.{first_teller, first_account}
+use Rattle.posting_rules.specs.declared.rows.BranchRow.{BranchRow}
+use Rattle.posting_rules.specs.declared.facts.Verdict.{Verdict}
+use Rattle.posting_rules.specs.declared.facts.Verdict.TheVariants.{Unkept, Again, Refused, Posted}
+use Rattle.posting_rules.specs.Commands.{branch_of_teller}
+use Rattle.posting_rules.specs.Entries.{Entry, refused_entry, posted_entry}
+use Rattle.posting_rules.specs.Cases.{case_of, reply_in}
+use Rattle.posting_rules.specs.LookUps.{decided_in, found_in}
+use Rattle.posting_rules.specs.Tables.{Tables, row_at, branch_key, teller_key, account_key, branch_row_of, teller_row_of, account_row_of, request_row_of, history_row_of}
+use Rattle.posting_rules.specs.Steps.{first_teller, first_account}
 use Rattle.store_rows.specs.Changes.{with_decided, with_request, with_history, with_branch, with_teller, with_account, with_branch_balance, with_teller_balance, with_account_balance}
 
 -- a decided request is kept under its ordinal, and counted

@@ -13,10 +13,10 @@ use Rattle.sqlite.specs.declared.error.Error.TheVariants.{SqliteFailure}
 use Rattle.sqlite.specs.declared.error.ErrorCode.TheVariants as code
 use Rattle.sqlite_trees.specs.declared.store.Store.{Ghosts}
 use Rattle.sqlite_rules.specs.Lists.{Has}
-use Rattle.posting_core.specs.Counter.{Seen}
-use Rattle.posting_core.specs.Rules.{number_of_rule}
-use Rattle.posting_core.specs.Tables.{Tables}
-use Rattle.posting_core.specs.declared.fault.Rule.TheVariants.{Meta, Value}
+use Rattle.posting_rules.specs.Counter.{Seen}
+use Rattle.posting_rules.specs.Rules.{number_of_rule}
+use Rattle.posting_rules.specs.Tables.{Tables}
+use Rattle.posting_rules.specs.declared.fault.Rule.TheVariants.{Meta, Value}
 use Rattle.sql_meanings.specs.Making.{KeepsTables}
 use Rattle.sql_meanings.specs.Outcomes.{IsThere}
 use Rattle.sql_meanings.specs.Tables.{Defines}

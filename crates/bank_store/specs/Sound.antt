@@ -1,8 +1,8 @@
 -- Tables in which every call finds what it looks for.
 use Rattle.std.specs.Prelude.{List}
-use Rattle.posting_core.specs.Commands.{Command, AreCommands}
-use Rattle.posting_core.specs.Damage.{IsUndamaged}
-use Rattle.posting_core.specs.Tables.{Tables, Shows, HasKeys, branch_key, teller_key, account_key, history_key, request_key}
+use Rattle.posting_rules.specs.Commands.{Command, AreCommands}
+use Rattle.posting_rules.specs.Damage.{IsUndamaged}
+use Rattle.posting_rules.specs.Tables.{Tables, Shows, HasKeys, branch_key, teller_key, account_key, history_key, request_key}
 
 -- nothing is damaged, and no two rows of a table have one key
 pub record AreSound (t : Tables) : Type 0 where

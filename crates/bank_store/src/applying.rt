@@ -2,11 +2,11 @@
 ghost use Rattle.std.specs.Prelude.{◌≡◌, ◌+◌, IsTrue, IsSome, None, Ok, Err, if◌then◌else◌};
 ghost use Rattle.sqlite.specs.State.{HasCleanDisk, Survives};
 ghost use Rattle.sqlite.specs.Held.{state};
-ghost use Rattle.posting_core.specs.Cases.{case_of, IsProper};
-ghost use Rattle.posting_core.specs.Entries.{posted_entry};
-ghost use Rattle.posting_core.specs.Kept.{is_kept_with};
-ghost use Rattle.posting_core.specs.LookUps.{found_in};
-ghost use Rattle.posting_core.specs.Tables.{Tables, row_at, branch_key, teller_key, account_key, history_key, request_key};
+ghost use Rattle.posting_rules.specs.Cases.{case_of, IsProper};
+ghost use Rattle.posting_rules.specs.Entries.{posted_entry};
+ghost use Rattle.posting_rules.specs.Kept.{is_kept_with};
+ghost use Rattle.posting_rules.specs.LookUps.{found_in};
+ghost use Rattle.posting_rules.specs.Tables.{Tables, row_at, branch_key, teller_key, account_key, history_key, request_key};
 ghost use Rattle.store_rows.specs.Changes.{meta_key, with_decided, with_account_balance, with_teller_balance, with_branch_balance};
 ghost use Rattle.store_rows.specs.View.{Shows};
 ghost use Rattle.store_rows.specs.declared.faults.TableFault.TheVariants as fault;
@@ -15,7 +15,7 @@ ghost use Rattle.bank_store.specs.Doing.{Keeps, LeadsTo};
 ghost use Rattle.bank_store.specs.Sound.{AreSound};
 
 use message_records::{Account, Branch, Cents, Moment, Outcome, Request, Teller};
-use posting_core::{Found, HistoryRow, Kept, Ordinal, RequestRow, Rule, Verdict};
+use posting_rules::{Found, HistoryRow, Kept, Ordinal, RequestRow, Rule, Verdict};
 use sqlite::{Alter, Transaction};
 use store_rows::{
     TableFault, add_history, add_request, set_account_balance, set_branch_balance, set_decided,

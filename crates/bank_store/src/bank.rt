@@ -1,21 +1,21 @@
 //! A bank in a file, or in whatever store.
-ghost use Rattle.posting_core.specs.declared.fault.Fault.TheVariants as fault;
+ghost use Rattle.posting_rules.specs.declared.fault.Fault.TheVariants as fault;
 ghost use Rattle.std.specs.Prelude.{◌≡◌, ◌≢◌, ◌≤◌, [], ◌∷◌, List, length, Err, IfOk, OnOk, IfErr, IsSome, None, false};
 ghost use Rattle.std.specs.Result.{IsErrOf};
 ghost use Rattle.sqlite.specs.State.{Survives};
 ghost use Rattle.sqlite.specs.Held.{state};
 ghost use Rattle.message_records.specs.Spelling.{reply_spelling};
-ghost use Rattle.posting_core.specs.Commands.{Command, Open, Post};
-ghost use Rattle.posting_core.specs.Counter.{ShowsLog, StandsAt, Takes, Refuses, opening_behind};
-ghost use Rattle.posting_core.specs.Entries.{reply, balance_behind};
-ghost use Rattle.posting_core.specs.Runs.{posts, replies_to};
-ghost use Rattle.posting_core.specs.Tables.{Tables};
+ghost use Rattle.posting_rules.specs.Commands.{Command, Open, Post};
+ghost use Rattle.posting_rules.specs.Counter.{ShowsLog, StandsAt, Takes, Refuses, opening_behind};
+ghost use Rattle.posting_rules.specs.Entries.{reply, balance_behind};
+ghost use Rattle.posting_rules.specs.Runs.{posts, replies_to};
+ghost use Rattle.posting_rules.specs.Tables.{Tables};
 
 use crate::transactions::{open_branch, post, post_all, read_balance};
 use message_records::{
     Account, Branch, Cents, Moment, Outcome, Reply, decode_request, encode_reply,
 };
-use posting_core::{Counter, Fault, Opening};
+use posting_rules::{Counter, Fault, Opening};
 use sqlite::{Alter, Connection, Error};
 use std::alloc::Global;
 use store_rows::{TableFault, probe_meta};

@@ -2,8 +2,8 @@
 ghost use Rattle.std.specs.Prelude.{◌≡◌, [], IfOk, IfErr, OnOk, OnErr, false};
 ghost use Rattle.sqlite.specs.State.{HasCleanDisk, Survives};
 ghost use Rattle.sqlite.specs.Held.{state};
-ghost use Rattle.posting_core.specs.Counter.{StandsAt};
-ghost use Rattle.posting_core.specs.Tables.{Tables};
+ghost use Rattle.posting_rules.specs.Counter.{StandsAt};
+ghost use Rattle.posting_rules.specs.Tables.{Tables};
 ghost use Rattle.sql_meanings.specs.Making.{KeepsTables};
 ghost use Rattle.store_rows.specs.Creation.{HasNewBank, IsEmpty};
 ghost use Rattle.store_rows.specs.View.{Shows};

@@ -2,15 +2,15 @@
 ghost use Rattle.std.specs.Prelude.{◌≡◌, ◌≤◌, OnOk, IfOk};
 ghost use Rattle.sqlite.specs.State.{HasCleanDisk, Survives};
 ghost use Rattle.sqlite.specs.Held.{state};
-ghost use Rattle.posting_core.specs.Commands.{branch_of_account, place_of_account};
-ghost use Rattle.posting_core.specs.Damage.{IsUndamaged};
-ghost use Rattle.posting_core.specs.LookUps.{teller_balances_in, account_balance_in, kept_in, decided_in, found_in};
-ghost use Rattle.posting_core.specs.Tables.{Tables, row_at, branch_key};
+ghost use Rattle.posting_rules.specs.Commands.{branch_of_account, place_of_account};
+ghost use Rattle.posting_rules.specs.Damage.{IsUndamaged};
+ghost use Rattle.posting_rules.specs.LookUps.{teller_balances_in, account_balance_in, kept_in, decided_in, found_in};
+ghost use Rattle.posting_rules.specs.Tables.{Tables, row_at, branch_key};
 ghost use Rattle.store_rows.specs.View.{Shows};
 ghost use Rattle.bank_store.specs.Doing.{Looks, LooksUp};
 
 use message_records::{Account, Branch, Cents, Request, Teller};
-use posting_core::{
+use posting_rules::{
     ACCOUNTS_PER_BRANCH, BranchRow, Found, Kept, MAX_DECIDED, Rule, branch_of_teller,
 };
 use sqlite::{Alter, Transaction};

@@ -2,9 +2,9 @@
 ghost use Rattle.std.specs.Prelude.{◌≡◌, ◌≤◌, ◌<◌, ◌+◌, ℕ, IsTrue, None};
 ghost use Rattle.sqlite.specs.State.{HasCleanDisk, Survives};
 ghost use Rattle.sqlite.specs.Held.{state};
-ghost use Rattle.posting_core.specs.Counter.{opening_for};
-ghost use Rattle.posting_core.specs.LookUps.{count_in};
-ghost use Rattle.posting_core.specs.Tables.{Tables, row_at, branch_key, teller_key, account_key};
+ghost use Rattle.posting_rules.specs.Counter.{opening_for};
+ghost use Rattle.posting_rules.specs.LookUps.{count_in};
+ghost use Rattle.posting_rules.specs.Tables.{Tables, row_at, branch_key, teller_key, account_key};
 ghost use Rattle.store_rows.specs.View.{Shows};
 ghost use Rattle.bank_store.specs.Changes.{with_tellers, with_accounts, tables_opened, tables_with_branch};
 ghost use Rattle.bank_store.specs.Doing.{Keeps, LeadsTo, Answers};
@@ -12,7 +12,7 @@ ghost use Rattle.bank_store.specs.Sound.{AreSound};
 
 use crate::look_ups::branch_at;
 use message_records::{Account, Branch, Cents, Teller};
-use posting_core::{
+use posting_rules::{
     ACCOUNTS_PER_BRANCH, AccountRow, BranchRow, Opening, TELLERS_PER_BRANCH, TellerRow,
 };
 use sqlite::{Alter, Transaction};

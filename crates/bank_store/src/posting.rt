@@ -3,11 +3,11 @@ ghost use Rattle.std.specs.Prelude.{◌≡◌, ◌≤◌, ◌<◌, ◌+◌, ◌+
 ghost use Rattle.sqlite.specs.State.{HasCleanDisk, Survives};
 ghost use Rattle.sqlite.specs.Held.{state};
 ghost use Rattle.message_records.specs.Spelling.{reply_spelling};
-ghost use Rattle.posting_core.specs.Commands.{Command, AreCommands};
-ghost use Rattle.posting_core.specs.Entries.{reply};
-ghost use Rattle.posting_core.specs.Runs.{posts, replies_to};
-ghost use Rattle.posting_core.specs.Tables.{Tables};
-ghost use Rattle.posting_core.specs.Tables.{Shows as Show};
+ghost use Rattle.posting_rules.specs.Commands.{Command, AreCommands};
+ghost use Rattle.posting_rules.specs.Entries.{reply};
+ghost use Rattle.posting_rules.specs.Runs.{posts, replies_to};
+ghost use Rattle.posting_rules.specs.Tables.{Tables};
+ghost use Rattle.posting_rules.specs.Tables.{Shows as Show};
 ghost use Rattle.store_rows.specs.View.{Shows};
 ghost use Rattle.bank_store.specs.Changes.{tables_with, tables_past, tables_past_all, reply_bytes};
 ghost use Rattle.bank_store.specs.Doing.{Keeps, LeadsTo, Answers};
@@ -16,7 +16,7 @@ ghost use Rattle.bank_store.specs.Sound.{AreSound};
 use crate::applying::apply;
 use crate::look_ups::look_up;
 use message_records::{Moment, Outcome, Reply, Request, decode_request, encode_reply};
-use posting_core::{judge, reply_to};
+use posting_rules::{judge, reply_to};
 use sqlite::{Alter, Transaction};
 use store_rows::TableFault;
 

@@ -2,7 +2,7 @@
 ghost use Rattle.std.specs.Prelude.{◌≡◌};
 ghost use Rattle.bank_store.specs.Opening.{of_the_store, unmade_by, unread_by, IsUnmade, IsUnread};
 
-use posting_core::Rule;
+use posting_rules::Rule;
 use sqlite::{Alter, Connection, Error, ErrorCode};
 use std::fmt;
 use store_rows::TableFault;

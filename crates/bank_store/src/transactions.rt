@@ -2,12 +2,12 @@
 ghost use Rattle.std.specs.Prelude.{◌≡◌, ◌≤◌, ◌+◌, ◌++◌, List, length, vec_len, vec_capacity, IsTrue, OnOk, true, false};
 ghost use Rattle.sqlite.specs.State.{HasCleanDisk, Survives};
 ghost use Rattle.sqlite.specs.Held.{state};
-ghost use Rattle.posting_core.specs.Counter.{opening_for};
-ghost use Rattle.posting_core.specs.LookUps.{account_balance_in, count_in};
-ghost use Rattle.posting_core.specs.Commands.{Command, AreCommands};
-ghost use Rattle.posting_core.specs.Runs.{posts, replies_to};
-ghost use Rattle.posting_core.specs.Tables.{Tables};
-ghost use Rattle.posting_core.specs.Tables.{Shows as Show};
+ghost use Rattle.posting_rules.specs.Counter.{opening_for};
+ghost use Rattle.posting_rules.specs.LookUps.{account_balance_in, count_in};
+ghost use Rattle.posting_rules.specs.Commands.{Command, AreCommands};
+ghost use Rattle.posting_rules.specs.Runs.{posts, replies_to};
+ghost use Rattle.posting_rules.specs.Tables.{Tables};
+ghost use Rattle.posting_rules.specs.Tables.{Shows as Show};
 ghost use Rattle.store_rows.specs.View.{Shows, ShowsTrees};
 ghost use Rattle.bank_store.specs.Changes.{reply_bytes, tables_with, tables_past_all, tables_with_branch};
 ghost use Rattle.bank_store.specs.Doing.{Completes, Undoes};
@@ -17,7 +17,7 @@ use crate::look_ups::open_balance;
 use crate::opening::open_inside;
 use crate::posting::{answer, answer_all};
 use message_records::{Account, Branch, Cents, Moment, Request};
-use posting_core::Opening;
+use posting_rules::Opening;
 use sqlite::{Alter, Connection, Transaction};
 use store_rows::{TableFault, commit};
 

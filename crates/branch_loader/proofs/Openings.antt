@@ -4,16 +4,16 @@ use Rattle.std.specs.Prelude.{count_by, cond, sum_by}
 use Rattle.std.proofs.Math.Seq.{take-append-add, take-append_seam, take-length}
 use Rattle.std.proofs.lemmas.List.{drop-map, drop_more, length-append, length-map, length-take-le, map-append, take-append-drop, take-map}
 use Rattle.std.proofs.lemmas.List.Sums.{sum_by-append}
-use Rattle.posting_core.specs.Commands.{Command, Open}
-use Rattle.posting_core.specs.Counter.{Seen, ShowsLog, ShowsBeginning, Takes, Refuses, opening_behind}
-use Rattle.posting_core.specs.Runs.{behind}
-use Rattle.posting_core.specs.Tables.{Tables, Shows}
-use Rattle.posting_core.proofs.Remaining.{leaves_still, leaves_weaker}
-use Rattle.posting_core.proofs.Sequence.{behind-append}
-use Rattle.posting_core.specs.declared.counter.Opening.{Opening}
-use Rattle.posting_core.specs.declared.counter.Opening.TheVariants.{Opened, Already, Differs}
-use Rattle.posting_core.specs.declared.fault.Fault.{Fault}
-use Rattle.posting_core.specs.declared.fault.Fault.TheVariants.{Memory, Store, Down, Damaged}
+use Rattle.posting_rules.specs.Commands.{Command, Open}
+use Rattle.posting_rules.specs.Counter.{Seen, ShowsLog, ShowsBeginning, Takes, Refuses, opening_behind}
+use Rattle.posting_rules.specs.Runs.{behind}
+use Rattle.posting_rules.specs.Tables.{Tables, Shows}
+use Rattle.posting_rules.proofs.Remaining.{leaves_still, leaves_weaker}
+use Rattle.posting_rules.proofs.Sequence.{behind-append}
+use Rattle.posting_rules.specs.declared.counter.Opening.{Opening}
+use Rattle.posting_rules.specs.declared.counter.Opening.TheVariants.{Opened, Already, Differs}
+use Rattle.posting_rules.specs.declared.fault.Fault.{Fault}
+use Rattle.posting_rules.specs.declared.fault.Fault.TheVariants.{Memory, Store, Down, Damaged}
 use Rattle.branch_loader.specs.Plans.{openings, Rows, Row}
 use Rattle.branch_loader.specs.Loading.{IsRefusedAfter, LeavesBeginning, answers, counted, total, with_answer, is_opened, is_already, is_differs}
 use Rattle.branch_loader.specs.declared.loading.Loaded.{Loaded}

@@ -4,7 +4,7 @@ use Rattle.std.specs.List.{IsDistinct, list_any}
 use Rattle.csv.specs.Reading.{default_config, records, strip_bom}
 use Rattle.message_records.specs.Ranges.{whole_within}
 use Rattle.message_records.specs.Reading.{number_of}
-use Rattle.posting_core.specs.Commands.{Command, Open}
+use Rattle.posting_rules.specs.Commands.{Command, Open}
 use Rattle.branch_loader.specs.declared.fault.PlanFault.{PlanFault}
 use Rattle.branch_loader.specs.declared.fault.PlanFault.TheVariants.{Header, Columns, Branch, Accounts, Twice, Csv, Memory}
 use Rattle.branch_loader.specs.Records.{Records, Fields}

@@ -1,8 +1,8 @@
 //! Loading a plan into a counter.
 ghost use Rattle.std.specs.Prelude.{◌≡◌, ◌≢◌, ◌+◌, ◌<◌, ◌↔◌, ℕ, List, [], length, IfOk, IfErr, OnOk};
 ghost use Rattle.std.specs.Result.{IsErrOf};
-ghost use Rattle.posting_core.specs.Commands.{Command};
-ghost use Rattle.posting_core.specs.Counter.{Seen, ShowsLog, Takes};
+ghost use Rattle.posting_rules.specs.Commands.{Command};
+ghost use Rattle.posting_rules.specs.Counter.{Seen, ShowsLog, Takes};
 ghost use Rattle.branch_loader.specs.Plans.{openings};
 
 use crate::plan::Plan;

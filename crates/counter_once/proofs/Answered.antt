@@ -3,9 +3,9 @@ use Rattle.std.proofs.Common.{◌≡◌, ℕ, List, [], ◌∷◌, Option, Resul
 use Rattle.std.specs.Prelude.{OnOk, IfErr}
 use Rattle.posting_core.specs.declared.once.OnceFault.{OnceFault}
 use Rattle.posting_core.specs.declared.once.OnceFault.TheVariants.{Short, Read, Write, Bank}
-use Rattle.posting_core.specs.Commands.{Command, Open, AreCommands}
-use Rattle.posting_core.specs.Tables.{Tables, Shows}
-use Rattle.posting_core.specs.Counter.{Seen, ShowsLog}
+use Rattle.posting_rules.specs.Commands.{Command, Open, AreCommands}
+use Rattle.posting_rules.specs.Tables.{Tables, Shows}
+use Rattle.posting_rules.specs.Counter.{Seen, ShowsLog}
 use Rattle.posting_core.specs.Once as once
 use Rattle.counter_once.specs.First.{two_branches, IsAnswered, Leaves}
 

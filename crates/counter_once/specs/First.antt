@@ -4,8 +4,8 @@ use Rattle.std.specs.Io.KnownBytes.{Keeps, Appends, Consumes, IsAtEnd}
 use Rattle.message_records.specs.Spelling.{reply_spelling}
 use Rattle.posting_core.specs.declared.once.OnceFault.{OnceFault}
 use Rattle.posting_core.specs.declared.once.OnceFault.TheVariants.{Short, Read, Write, Bank}
-use Rattle.posting_core.specs.Commands.{Command, Open}
-use Rattle.posting_core.specs.Entries.{reply}
+use Rattle.posting_rules.specs.Commands.{Command, Open}
+use Rattle.posting_rules.specs.Entries.{reply}
 
 -- branch 1 is opened with three accounts, and then branch 2 with two
 abbrev pub two_branches : List Command

@@ -1,7 +1,7 @@
 //! The first record of a new bank.
 ghost use Rattle.std.specs.Prelude.{◌≡◌, OnOk, IfErr, IfOk};
-ghost use Rattle.posting_core.specs.declared.fault.Fault.TheVariants.{Memory};
-ghost use Rattle.posting_core.specs.Tables.{Shows};
+ghost use Rattle.posting_rules.specs.declared.fault.Fault.TheVariants.{Memory};
+ghost use Rattle.posting_rules.specs.Tables.{Shows};
 ghost use Rattle.posting_core.specs.Plain.{plain_tables};
 ghost use Rattle.counter_once.specs.First.{two_branches, IsAnswered, Leaves};
 

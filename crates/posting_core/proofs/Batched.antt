@@ -6,11 +6,11 @@ use Rattle.std.specs.Simd.{first_chunks}
 use Rattle.std.proofs.Math.Nat.{suc-mul}
 use Rattle.std.proofs.lemmas.List.{take_at, drop_at, length-take-le, drop-take, drop-drop, length-append, length-drop, take-append-drop}
 use Rattle.std.proofs.lemmas.List.Concat.{flat_map-append}
-use Rattle.posting_core.specs.Commands.{Command}
-use Rattle.posting_core.specs.Runs.{behind, posts, replies_to, ArePosts}
+use Rattle.posting_rules.specs.Commands.{Command}
+use Rattle.posting_rules.specs.Runs.{behind, posts, replies_to, ArePosts}
 use Rattle.posting_core.specs.Batches.{Batch, IsRecord, joined, records_in, posts_in, records_of, posts_of}
 use Rattle.posting_core.specs.Stream.{whole_records, posted_records}
-use Rattle.posting_core.proofs.Sequence.{replies_to-append}
+use Rattle.posting_rules.proofs.Sequence.{replies_to-append}
 
 -- ---- one batch more
 

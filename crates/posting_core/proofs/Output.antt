@@ -7,18 +7,18 @@ use Rattle.std.proofs.lemmas.List.{length-append, length-take}
 use Rattle.std.proofs.lemmas.List.Concat.{flat_map-append}
 use Rattle.posting_core.specs.declared.stream.StreamFault.{StreamFault}
 use Rattle.posting_core.specs.declared.stream.StreamFault.TheVariants.{Truncated, Read, Write, Bank}
-use Rattle.posting_core.specs.Commands.{Command}
-use Rattle.posting_core.specs.Tables.{Tables}
-use Rattle.posting_core.specs.Counter.{Seen, ShowsLog, ShowsBeginning}
-use Rattle.posting_core.specs.Runs.{behind, posts, replies_to, ArePosts}
-use Rattle.posting_core.specs.Resends.{Skips}
+use Rattle.posting_rules.specs.Commands.{Command}
+use Rattle.posting_rules.specs.Tables.{Tables}
+use Rattle.posting_rules.specs.Counter.{Seen, ShowsLog, ShowsBeginning}
+use Rattle.posting_rules.specs.Runs.{behind, posts, replies_to, ArePosts}
+use Rattle.posting_rules.specs.Resends.{Skips}
 use Rattle.posting_core.specs.Batches.{Batch, IsRecord, joined, records_of, posts_in, posts_of}
 use Rattle.posting_core.specs.Stream.{replies_text, acknowledged, IfTaken, Streamed, Outputs, Survives, Resends}
-use Rattle.posting_core.proofs.Sequence.{replies_to-append, one_reply_each}
-use Rattle.posting_core.proofs.Resends.{shows_log_left_out}
+use Rattle.posting_rules.proofs.Sequence.{replies_to-append, one_reply_each}
+use Rattle.posting_rules.proofs.Resends.{shows_log_left_out}
 use Rattle.posting_core.proofs.Timeless.{timeless}
 use Rattle.posting_core.proofs.Batched.{joined-append, all_posts, posted_is, whole_records_are}
-use Rattle.posting_core.proofs.Remaining.{leaves_weaker}
+use Rattle.posting_rules.proofs.Remaining.{leaves_weaker}
 
 -- ---- the text
 

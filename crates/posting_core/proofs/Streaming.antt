@@ -1,24 +1,24 @@
 -- A stream of records, step by step: a read, a batch, and each way to end.
-use Rattle.std.proofs.Common.{◌≡◌, ℕ, ◌+◌, ◌<◌, ◌≤◌, List, [], ◌∷◌, ◌++◌, length, take, Option, Some, None, Result, Ok, Err, refl, sym, ap, subst, ◌∙◌, append_assoc, append-nil, arith}
+use Rattle.std.proofs.Common.{◌≡◌, ℕ, ◌+◌, ◌<◌, ◌≤◌, List, [], ◌∷◌, ◌++◌, length, take, Option, Result, Ok, Err, refl, sym, ap, subst, ◌∙◌, append_assoc, append-nil, arith}
 use Rattle.std.specs.Prelude.{IfOk}
 use Rattle.std.specs.List.{AllByRecursion}
 use Rattle.std.specs.Io.KnownBytes.{Keeps, Appends, Consumes, IsAtEnd}
 use Rattle.std.proofs.KnownBytes.{Appends-trans, Appends-kept, Appends-nil, Consumes-trans, Consumes-nil, Consumes-kept}
 use Rattle.std.proofs.Math.Seq.{take-append-add}
 use Rattle.std.proofs.lemmas.List.{length-append, length-take-le, take_all, map-append}
-use Rattle.posting_core.specs.declared.fault.Fault.{Fault}
-use Rattle.posting_core.specs.declared.fault.Fault.TheVariants.{Memory, Store, Down, Damaged}
+use Rattle.posting_rules.specs.declared.fault.Fault.{Fault}
+use Rattle.posting_rules.specs.declared.fault.Fault.TheVariants.{Memory, Store, Down, Damaged}
 use Rattle.posting_core.specs.declared.stream.StreamFault.{StreamFault}
 use Rattle.posting_core.specs.declared.stream.StreamFault.TheVariants.{Truncated, Read, Write, Bank}
-use Rattle.posting_core.specs.Commands.{Command}
-use Rattle.posting_core.specs.Tables.{Tables, Shows}
-use Rattle.posting_core.specs.Counter.{Seen, ShowsLog, LeavesOnly, StandsAt, ShowsBeginning, Takes, Refuses, IsUnchanged}
-use Rattle.posting_core.specs.Runs.{behind, posts, replies_to}
+use Rattle.posting_rules.specs.Commands.{Command}
+use Rattle.posting_rules.specs.Tables.{Shows}
+use Rattle.posting_rules.specs.Counter.{Seen, ShowsLog, LeavesOnly, StandsAt, ShowsBeginning, Takes, Refuses, IsUnchanged}
+use Rattle.posting_rules.specs.Runs.{behind, posts, replies_to}
 use Rattle.posting_core.specs.Clock.{after_one, IsNext, IsReading, AreReadings}
 use Rattle.posting_core.specs.Batches.{Batch, IsRecord, joined, moment_of, moments_of, records_of, posts_in, posts_of, IsAnswered, BreaksOff}
 use Rattle.posting_core.specs.Stream.{Ends, IsWritten, IfUp, UnlessDown, Streamed}
-use Rattle.posting_core.proofs.Remaining.{leaves_still, leaves_weaker}
-use Rattle.posting_core.proofs.Sequence.{behind-append}
+use Rattle.posting_rules.proofs.Remaining.{leaves_still, leaves_weaker}
+use Rattle.posting_rules.proofs.Sequence.{behind-append}
 use Rattle.posting_core.proofs.Batched.{joined_one_more, records_one_more, posts_of_one_more, replies_of_one_more}
 
 -- ---- where the loop stands

@@ -6,16 +6,16 @@ use Rattle.message_records.specs.declared.faults.Bad.{Bad}
 use Rattle.message_records.specs.Records.{RequestFields, ReplyFields}
 use Rattle.message_records.specs.Reading.{request_of}
 use Rattle.message_records.specs.Spelling.{reply_spelling}
-use Rattle.posting_core.specs.declared.facts.Found.{Found}
-use Rattle.posting_core.specs.declared.facts.Verdict.{Verdict}
-use Rattle.posting_core.specs.declared.facts.Verdict.TheVariants.{Unkept, Again, Refused, Posted}
-use Rattle.posting_core.specs.Kept.{KeptFields}
-use Rattle.posting_core.specs.Commands.{Command, Post, opened, branch_of_teller, is_teller_open, is_account_open}
-use Rattle.posting_core.specs.Cases.{case_of}
-use Rattle.posting_core.specs.Entries.{Entry, is_posted, facts, kept, kept_fields, posted_sum, with_verdict, with_record, decided, reply_to, reply}
-use Rattle.posting_core.specs.Runs.{behind, posts, replies_to}
+use Rattle.posting_rules.specs.declared.facts.Found.{Found}
+use Rattle.posting_rules.specs.declared.facts.Verdict.{Verdict}
+use Rattle.posting_rules.specs.declared.facts.Verdict.TheVariants.{Unkept, Again, Refused, Posted}
+use Rattle.posting_rules.specs.Kept.{KeptFields}
+use Rattle.posting_rules.specs.Commands.{Command, Post, opened, branch_of_teller, is_teller_open, is_account_open}
+use Rattle.posting_rules.specs.Cases.{case_of}
+use Rattle.posting_rules.specs.Entries.{Entry, is_posted, facts, kept, kept_fields, posted_sum, with_verdict, with_record, decided, reply_to, reply}
+use Rattle.posting_rules.specs.Runs.{behind, posts, replies_to}
 use Rattle.posting_core.specs.Batches.{Batch, posts_in, posts_of, records_of}
-use Rattle.posting_core.proofs.Sequence.{replies_to-append}
+use Rattle.posting_rules.proofs.Sequence.{replies_to-append}
 
 -- ---- entries without their moments
 

@@ -2,12 +2,12 @@
 use Rattle.std.specs.Prelude.{◌≡◌, ℕ, List, length, map, take, Option}
 use Rattle.std.specs.List.{flat_map}
 use Rattle.std.specs.Io.KnownBytes.{Keeps, Appends}
-use Rattle.posting_core.specs.declared.fault.Fault.{Fault}
+use Rattle.posting_rules.specs.declared.fault.Fault.{Fault}
 use Rattle.posting_core.specs.declared.stream.StreamFault.{StreamFault}
 use Rattle.posting_core.specs.declared.stream.StreamFault.TheVariants.{Truncated, Read, Write, Bank}
-use Rattle.posting_core.specs.Commands.{Command}
-use Rattle.posting_core.specs.Counter.{Seen, ShowsLog, Takes, Refuses}
-use Rattle.posting_core.specs.Runs.{posts, replies_to}
+use Rattle.posting_rules.specs.Commands.{Command}
+use Rattle.posting_rules.specs.Counter.{Seen, ShowsLog, Takes, Refuses}
+use Rattle.posting_rules.specs.Runs.{posts, replies_to}
 
 -- texts one after another
 abbrev pub joined : List (List ℕ) → List ℕ

@@ -3,16 +3,16 @@ use Rattle.std.specs.Prelude.{◌≡◌, ℕ, zero, suc, ◌-◌, ◌≤◌, ◌
 use Rattle.std.specs.List.{AllByRecursion}
 use Rattle.std.specs.Simd.{first_chunks}
 use Rattle.std.specs.Io.KnownBytes.{Appends, Consumes, IsAtEnd}
-use Rattle.posting_core.specs.declared.fault.Fault.{Fault}
-use Rattle.posting_core.specs.declared.fault.Fault.TheVariants.{Memory}
+use Rattle.posting_rules.specs.declared.fault.Fault.{Fault}
+use Rattle.posting_rules.specs.declared.fault.Fault.TheVariants.{Memory}
 use Rattle.posting_core.specs.declared.stream.StreamFault.{StreamFault}
 use Rattle.posting_core.specs.declared.stream.StreamFault.TheVariants.{Truncated, Read, Write, Bank}
-use Rattle.posting_core.specs.Commands.{Command, Open, Post}
-use Rattle.posting_core.specs.Counter.{Seen, ShowsLog, LeavesOnly, StandsAt, ShowsBeginning}
-use Rattle.posting_core.specs.Runs.{behind, posts, replies_to, ArePosts}
+use Rattle.posting_rules.specs.Commands.{Command, Open, Post}
+use Rattle.posting_rules.specs.Counter.{Seen, ShowsLog, LeavesOnly, StandsAt, ShowsBeginning}
+use Rattle.posting_rules.specs.Runs.{behind, posts, replies_to, ArePosts}
 use Rattle.posting_core.specs.Clock.{AreReadings}
 use Rattle.posting_core.specs.Batches.{Batch, IsRecord, joined, moments_of, records_of, posts_of}
-use Rattle.posting_core.specs.Resends.{Skips}
+use Rattle.posting_rules.specs.Resends.{Skips}
 
 -- The reader's known bytes before and after are r and r', the writer's w and w', the clock's known readings k and k', and
 -- the bank is seen as c and c'.

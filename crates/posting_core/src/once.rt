@@ -2,10 +2,9 @@
 ghost use Rattle.std.specs.Prelude.{OnOk, IfErr};
 ghost use Rattle.posting_core.specs.Once.{IsAnswered, Leaves};
 
-use crate::counter::Counter;
-use crate::fault::Fault;
 use crate::transfer::{read_full, write_out};
 use message_records::Moment;
+use posting_rules::{Counter, Fault};
 use std::fmt;
 use std::io::{Read, Write};
 
@@ -24,7 +23,7 @@ pub enum OnceFault {
 
 impl fmt::Display for OnceFault {
     ghost use Rattle.std.specs.Prelude.{Some};
-    ghost use Rattle.posting_core.specs.Rules.{once_text};
+    ghost use Rattle.posting_core.specs.Faults.{once_text};
 
     ghost output = { λ fault. Some (once_text fault) };
 

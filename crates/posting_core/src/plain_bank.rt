@@ -2,24 +2,20 @@
 ghost use Rattle.std.specs.Prelude.{◌≡◌, ◌≤◌, ◌<◌, ◌+◌, ◌-◌, ◌*◌, [], ◌∷◌, ◌++◌, List, pos, length, vec_len, vec_capacity, IsTrue};
 ghost use Rattle.message_records.specs.Spelling.{reply_spelling};
 ghost use Rattle.message_records.specs.Reading.{request_of};
-ghost use Rattle.posting_core.specs.Kept.{is_kept_with};
-ghost use Rattle.posting_core.specs.Entries.{Entry};
-ghost use Rattle.posting_core.specs.Tables.{request_row_of, history_row_of, teller_row_of, account_row_of};
-ghost use Rattle.posting_core.specs.Rows.{rows_from};
+ghost use Rattle.posting_rules.specs.Kept.{is_kept_with};
+ghost use Rattle.posting_rules.specs.Entries.{Entry};
+ghost use Rattle.posting_rules.specs.Tables.{request_row_of, history_row_of, teller_row_of, account_row_of};
+ghost use Rattle.posting_rules.specs.Rows.{rows_from};
 
-use crate::cases::{TELLERS_PER_BRANCH, branch_of_teller, judge, reply_to};
-use crate::counter::{Counter, Opening};
-use crate::facts::{Found, Kept, Verdict};
-use crate::fault::Fault;
-use crate::rows::{AccountRow, BranchRow, HistoryRow, Ordinal, RequestRow, TellerRow};
 use crate::walking::{balance_at, count_at, kept_at, put, set_balance_at};
 use message_records::{
     Account, Branch, Cents, Moment, Outcome, Reply, Request, Teller, decode_request, encode_reply,
 };
+use posting_rules::{
+    ACCOUNTS_PER_BRANCH, AccountRow, BranchRow, Counter, Fault, Found, HistoryRow, Kept, Opening,
+    Ordinal, RequestRow, TELLERS_PER_BRANCH, TellerRow, Verdict, branch_of_teller, judge, reply_to,
+};
 use std::alloc::Global;
-
-/// How many numbers of accounts a branch has (the scaling of TPC-B).
-pub const ACCOUNTS_PER_BRANCH: u64 = 100_000;
 
 fn zero() -> Cents
     ensures { result ≡ pos 0 }
@@ -124,12 +120,13 @@ pub struct PlainBank {
 }
 
 impl PlainBank {
-    ghost use Rattle.posting_core.specs.Cases.{IsProper};
-    ghost use Rattle.posting_core.specs.Tables.{Shows};
-    ghost use Rattle.posting_core.specs.LookUps.{found_in};
-    ghost use Rattle.posting_core.specs.Commands.{Command, AreCommands};
-    ghost use Rattle.posting_core.specs.Runs.{behind, posts, replies_to};
-    ghost use Rattle.posting_core.specs.Plain.{plain_tables, tables_after, tables_with, tables_opened, reply_in_tables};
+    ghost use Rattle.posting_rules.specs.Cases.{IsProper};
+    ghost use Rattle.posting_rules.specs.Tables.{Shows};
+    ghost use Rattle.posting_rules.specs.LookUps.{found_in};
+    ghost use Rattle.posting_rules.specs.Commands.{Command, AreCommands};
+    ghost use Rattle.posting_rules.specs.Runs.{behind, posts, replies_to};
+    ghost use Rattle.posting_rules.specs.Appended.{tables_after, tables_with, tables_opened, reply_in_tables};
+    ghost use Rattle.posting_core.specs.Plain.{plain_tables};
 
     /// A bank with no branch. It takes no memory.
     pub fn new(alloc: Global) -> Self
@@ -260,9 +257,9 @@ impl PlainBank {
 
 impl Counter for PlainBank {
     ghost use Rattle.std.specs.Prelude.{IsOk, IfOk};
-    ghost use Rattle.posting_core.specs.Commands.{Command};
-    ghost use Rattle.posting_core.specs.Entries.{balance_behind};
-    ghost use Rattle.posting_core.specs.Tables.{Shows};
+    ghost use Rattle.posting_rules.specs.Commands.{Command};
+    ghost use Rattle.posting_rules.specs.Entries.{balance_behind};
+    ghost use Rattle.posting_rules.specs.Tables.{Shows};
     ghost use Rattle.posting_core.specs.Plain.{plain_seen, plain_tables};
 
     ghost seen = { plain_seen };

@@ -1,14 +1,13 @@
 //! A stream of records in, and a stream of replies out.
 ghost use Rattle.std.specs.Prelude.{◌≡◌, ℕ, ◌-◌, ◌≤◌, MatchResult, length, take, drop};
 ghost use Rattle.posting_core.specs.Clock.{IsReading};
-ghost use Rattle.posting_core.specs.Runs.{posts};
+ghost use Rattle.posting_rules.specs.Runs.{posts};
 ghost use Rattle.posting_core.specs.Batches.{IsAnswered, BreaksOff};
 ghost use Rattle.posting_core.specs.Stream.{Streamed, Outputs, Survives, Resends};
 
 use crate::clock::Clock;
-use crate::counter::Counter;
-use crate::fault::Fault;
 use crate::transfer::{fill, write_out};
+use posting_rules::{Counter, Fault};
 use std::fmt;
 use std::io::{ErrorKind, Read, Write};
 
@@ -35,7 +34,7 @@ pub enum StreamFault {
 
 impl fmt::Display for StreamFault {
     ghost use Rattle.std.specs.Prelude.{Some};
-    ghost use Rattle.posting_core.specs.Rules.{stream_text};
+    ghost use Rattle.posting_core.specs.Faults.{stream_text};
 
     ghost output = { λ fault. Some (stream_text fault) };
 

@@ -1,13 +1,12 @@
 //! Rows in vectors, which are found by walking.
 ghost use Rattle.std.specs.Prelude.{◌≡◌, ◌<◌, ◌≤◌, ◌+◌, ◌++◌, ◌∷◌, [], ℕ, ℤ, vec_len, vec_capacity};
 ghost use Rattle.std.specs.Option.{option_map};
-ghost use Rattle.posting_core.specs.Tables.{row_at, branch_key};
-ghost use Rattle.posting_core.specs.LookUps.{kept_in, count_of_branch};
-ghost use Rattle.posting_core.specs.Rows.{changed};
+ghost use Rattle.posting_rules.specs.Tables.{row_at, branch_key};
+ghost use Rattle.posting_rules.specs.LookUps.{kept_in, count_of_branch};
+ghost use Rattle.posting_rules.specs.Rows.{changed};
 
-use crate::facts::Kept;
-use crate::rows::{AccountRow, BranchRow, RequestRow, TellerRow};
 use message_records::{Branch, Cents, Number, Teller};
+use posting_rules::{AccountRow, BranchRow, Kept, RequestRow, TellerRow};
 
 /// A row that keeps a balance under a number.
 pub(crate) trait BalanceRow {
@@ -28,9 +27,9 @@ pub(crate) trait BalanceRow {
 }
 
 impl BalanceRow for BranchRow {
-    ghost use Rattle.posting_core.specs.Tables.{branch_key};
-    ghost use Rattle.posting_core.specs.LookUps.{balance_of_branch};
-    ghost use Rattle.posting_core.specs.Steps.{with_branch_balance};
+    ghost use Rattle.posting_rules.specs.Tables.{branch_key};
+    ghost use Rattle.posting_rules.specs.LookUps.{balance_of_branch};
+    ghost use Rattle.posting_rules.specs.Steps.{with_branch_balance};
 
     ghost key = { branch_key };
 
@@ -52,9 +51,9 @@ impl BalanceRow for BranchRow {
 }
 
 impl BalanceRow for TellerRow {
-    ghost use Rattle.posting_core.specs.Tables.{teller_key};
-    ghost use Rattle.posting_core.specs.LookUps.{balance_of_teller};
-    ghost use Rattle.posting_core.specs.Steps.{with_teller_balance};
+    ghost use Rattle.posting_rules.specs.Tables.{teller_key};
+    ghost use Rattle.posting_rules.specs.LookUps.{balance_of_teller};
+    ghost use Rattle.posting_rules.specs.Steps.{with_teller_balance};
 
     ghost key = { teller_key };
 
@@ -76,9 +75,9 @@ impl BalanceRow for TellerRow {
 }
 
 impl BalanceRow for AccountRow {
-    ghost use Rattle.posting_core.specs.Tables.{account_key};
-    ghost use Rattle.posting_core.specs.LookUps.{balance_of_account};
-    ghost use Rattle.posting_core.specs.Steps.{with_account_balance};
+    ghost use Rattle.posting_rules.specs.Tables.{account_key};
+    ghost use Rattle.posting_rules.specs.LookUps.{balance_of_account};
+    ghost use Rattle.posting_rules.specs.Steps.{with_account_balance};
 
     ghost key = { account_key };
 

@@ -9,8 +9,8 @@ use Rattle.sqlite.specs.declared.error.Error.{Error}
 use Rattle.sqlite.specs.Term.{Term, col, lit}
 use Rattle.sqlite.specs.declared.types.Value.TheVariants.{Null, Int}
 use Rattle.sqlite_tied.specs.Compute.{everything}
-use Rattle.posting_core.specs.Tables.{Tables, row_at, history_key}
-use Rattle.posting_core.specs.declared.rows.HistoryRow.{HistoryRow}
+use Rattle.posting_rules.specs.Tables.{Tables, row_at, history_key}
+use Rattle.posting_rules.specs.declared.rows.HistoryRow.{HistoryRow}
 use Rattle.sql_meanings.specs.Entries.{has_key}
 use Rattle.sql_meanings.specs.Tables.{placed_at}
 use Rattle.sql_meanings.proofs.Means.{Means, means}

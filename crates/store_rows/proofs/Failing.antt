@@ -11,7 +11,7 @@ use Rattle.sqlite.specs.Order.{Row}
 use Rattle.sqlite.specs.State.{State, ExecutesInside, IsUnchanged}
 use Rattle.sqlite.specs.declared.error.Error.{Error}
 use Rattle.sqlite_sql.specs.Ops.{fits_i64}
-use Rattle.posting_core.specs.Tables.{Tables, row_at}
+use Rattle.posting_rules.specs.Tables.{Tables, row_at}
 use Rattle.sql_meanings.specs.Entries.{Entry, Rise, put}
 use Rattle.sql_meanings.specs.Outcomes.{Forbids, PutFails, WriteKept, is_taken_key}
 use Rattle.sql_meanings.specs.Tables.{Holds}
@@ -19,7 +19,7 @@ use Rattle.sql_meanings.proofs.Changes.{found_all, found_passes}
 use Rattle.sql_meanings.proofs.Failures.{other_error, put_fails_as}
 use Rattle.sql_meanings.proofs.Makings.{kept_inside}
 use Rattle.sql_meanings.proofs.PuttingIn.{key_taken}
-use Rattle.posting_core.specs.declared.fault.Rule.TheVariants.{Key}
+use Rattle.posting_rules.specs.declared.fault.Rule.TheVariants.{Key}
 use Rattle.store_rows.specs.declared.faults.TableFault.{TableFault}
 use Rattle.store_rows.specs.declared.faults.TableFault.TheVariants.{Sqlite, Damaged}
 use Rattle.store_rows.specs.Changes.{row_put}

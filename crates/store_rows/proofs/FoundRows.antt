@@ -2,8 +2,8 @@
 use Rattle.std.proofs.Common.{◌≡◌, ℤ, inl, inr, Option, Some, None, option_map, Result, Ok, Err, refl, ap}
 use Rattle.sqlite.specs.Order.{Row, column}
 use Rattle.sqlite.specs.State.{State, IsUnchanged}
-use Rattle.posting_core.specs.declared.fault.Rule.{Rule}
-use Rattle.posting_core.specs.declared.fault.Rule.TheVariants.{Balance}
+use Rattle.posting_rules.specs.declared.fault.Rule.{Rule}
+use Rattle.posting_rules.specs.declared.fault.Rule.TheVariants.{Balance}
 use Rattle.store_rows.specs.declared.faults.TableFault.{TableFault}
 use Rattle.store_rows.specs.declared.faults.TableFault.TheVariants.{Sqlite, Damaged}
 use Rattle.store_rows.specs.Columns.{balance_shown}

@@ -15,7 +15,7 @@ use Rattle.sqlite_resolve.specs.Program as program
 use Rattle.sqlite_resolve.specs.Select.{ungrouped}
 use Rattle.sqlite_resolve.specs.Terms.{number}
 use Rattle.sqlite_typing.specs.Types.{accepts_program}
-use Rattle.posting_core.specs.Tables.{Tables, row_at, account_key}
+use Rattle.posting_rules.specs.Tables.{Tables, row_at, account_key}
 use Rattle.sql_meanings.specs.Entries.{stored}
 use Rattle.sql_meanings.specs.Outcomes.{OnlyShows, TellsRow}
 use Rattle.sql_meanings.specs.Plain.{key_column, number_column}

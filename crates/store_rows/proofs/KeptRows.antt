@@ -14,9 +14,9 @@ use Rattle.message_records.specs.declared.records.Outcome.TheVariants.{
   Full,
   Malformed,
 }
-use Rattle.posting_core.specs.Kept.{KeptFields, is_kept_with, kept_from}
-use Rattle.posting_core.specs.declared.fault.Rule.TheVariants.{Request}
-use Rattle.posting_core.specs.declared.rows.RequestRow.{RequestRow}
+use Rattle.posting_rules.specs.Kept.{KeptFields, is_kept_with, kept_from}
+use Rattle.posting_rules.specs.declared.fault.Rule.TheVariants.{Request}
+use Rattle.posting_rules.specs.declared.rows.RequestRow.{RequestRow}
 use Rattle.store_rows.specs.declared.faults.TableFault.{TableFault}
 use Rattle.store_rows.specs.declared.faults.TableFault.TheVariants.{Sqlite, Damaged}
 use Rattle.store_rows.specs.Columns.{request_shown}

@@ -3,7 +3,7 @@ use Rattle.std.proofs.Common.{◌≡◌, ◌==◌, ℕ, pos, List, [], ◌∷◌
 use Rattle.std.proofs.lemmas.Int.{ints}
 use Rattle.std.specs.Ordering.{int_eq, is_gt, match_ordering}
 use Rattle.sqlite.specs.Order.{Row}
-use Rattle.posting_core.specs.Tables.{row_at}
+use Rattle.posting_rules.specs.Tables.{row_at}
 use Rattle.sql_meanings.specs.Entries.{Entry, changed, has_key, is_above, put}
 use Rattle.store_rows.specs.Changes.{row_changed, row_put}
 

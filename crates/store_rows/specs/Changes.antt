@@ -1,12 +1,12 @@
 -- What the statements do to the tables of a bank.
 use Rattle.std.specs.Prelude.{ℕ, ℤ, List, [], ◌∷◌, map, ◌==◌, nat_lt, if◌then◌else◌}
-use Rattle.posting_core.specs.Tables.{Tables, branch_key, teller_key, account_key, history_key, request_key}
-use Rattle.posting_core.specs.declared.rows.MetaRow.{MetaRow}
-use Rattle.posting_core.specs.declared.rows.BranchRow.{BranchRow}
-use Rattle.posting_core.specs.declared.rows.TellerRow.{TellerRow}
-use Rattle.posting_core.specs.declared.rows.AccountRow.{AccountRow}
-use Rattle.posting_core.specs.declared.rows.HistoryRow.{HistoryRow}
-use Rattle.posting_core.specs.declared.rows.RequestRow.{RequestRow}
+use Rattle.posting_rules.specs.Tables.{Tables, branch_key, teller_key, account_key, history_key, request_key}
+use Rattle.posting_rules.specs.declared.rows.MetaRow.{MetaRow}
+use Rattle.posting_rules.specs.declared.rows.BranchRow.{BranchRow}
+use Rattle.posting_rules.specs.declared.rows.TellerRow.{TellerRow}
+use Rattle.posting_rules.specs.declared.rows.AccountRow.{AccountRow}
+use Rattle.posting_rules.specs.declared.rows.HistoryRow.{HistoryRow}
+use Rattle.posting_rules.specs.declared.rows.RequestRow.{RequestRow}
 
 -- the id of the row of meta
 abbrev pub meta_key : MetaRow → ℕ

@@ -3,12 +3,12 @@ use Rattle.std.specs.Prelude.{◌&&◌, ◌==◌, ℕ, ℤ, pos, [], ◌∷◌, 
 use Rattle.sqlite.specs.Order.{Row}
 use Rattle.sqlite.specs.declared.types.Value.TheVariants.{Int}
 use Rattle.message_records.specs.Outcomes.{code_of}
-use Rattle.posting_core.specs.Tables.{Tables, row_at, teller_key, account_key}
-use Rattle.posting_core.specs.declared.rows.MetaRow.{MetaRow}
-use Rattle.posting_core.specs.declared.rows.BranchRow.{BranchRow}
-use Rattle.posting_core.specs.declared.rows.TellerRow.{TellerRow}
-use Rattle.posting_core.specs.declared.rows.AccountRow.{AccountRow}
-use Rattle.posting_core.specs.declared.rows.RequestRow.{RequestRow}
+use Rattle.posting_rules.specs.Tables.{Tables, row_at, teller_key, account_key}
+use Rattle.posting_rules.specs.declared.rows.MetaRow.{MetaRow}
+use Rattle.posting_rules.specs.declared.rows.BranchRow.{BranchRow}
+use Rattle.posting_rules.specs.declared.rows.TellerRow.{TellerRow}
+use Rattle.posting_rules.specs.declared.rows.AccountRow.{AccountRow}
+use Rattle.posting_rules.specs.declared.rows.RequestRow.{RequestRow}
 use Rattle.store_rows.specs.declared.metas.StoredMeta.{StoredMeta}
 use Rattle.store_rows.specs.Changes.{meta_key}
 

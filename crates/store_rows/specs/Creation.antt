@@ -11,7 +11,7 @@ use Rattle.sqlite.specs.declared.error.Error.TheVariants.{SqliteFailure}
 use Rattle.sqlite.specs.declared.error.ErrorCode.TheVariants.{ConstraintViolation}
 use Rattle.sqlite_schema.specs.declared.schema.Constraint.TheVariants.{Unique}
 use Rattle.sqlite_rules.specs.Lists.{Has}
-use Rattle.posting_core.specs.Tables.{Tables}
+use Rattle.posting_rules.specs.Tables.{Tables}
 use Rattle.sql_meanings.specs.Making.{KeepsTables, NotMade, SparesTables, counts_rows}
 use Rattle.sql_meanings.specs.Outcomes.{GoesOn, HasWideIndex, IsInterrupted, IsUndone, NamesCause, PutFails}
 use Rattle.sql_meanings.specs.Tables.{tree_of}

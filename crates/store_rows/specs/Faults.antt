@@ -2,8 +2,8 @@
 use Rattle.std.specs.Prelude.{if◌then◌else◌, ◌++◌, ℕ, List, codes, Option, Some, None, Result, Ok, Err}
 use Rattle.std.specs.Fmt.{decimal}
 use Rattle.sqlite.specs.declared.error.Error.{Error}
-use Rattle.posting_core.specs.Rules.{number_of_rule}
-use Rattle.posting_core.specs.declared.fault.Rule.TheVariants.{Key}
+use Rattle.posting_rules.specs.Rules.{number_of_rule}
+use Rattle.posting_rules.specs.declared.fault.Rule.TheVariants.{Key}
 use Rattle.sql_meanings.specs.Outcomes.{is_taken_key}
 use Rattle.store_rows.specs.declared.faults.TableFault.{TableFault}
 use Rattle.store_rows.specs.declared.faults.TableFault.TheVariants.{Sqlite, Damaged}

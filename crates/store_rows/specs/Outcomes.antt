@@ -10,12 +10,12 @@ use Rattle.sqlite.specs.declared.error.ErrorCode.TheVariants.{OutOfMemory}
 use Rattle.message_records.specs.Ranges.{cents_within, whole_within}
 use Rattle.message_records.specs.Outcomes.{code_of}
 use Rattle.message_records.specs.declared.records.Outcome.{Outcome}
-use Rattle.posting_core.specs.Kept.{KeptFields, is_kept_with}
-use Rattle.posting_core.specs.Tables.{Tables}
-use Rattle.posting_core.specs.declared.rows.BranchRow.{BranchRow}
-use Rattle.posting_core.specs.declared.rows.RequestRow.{RequestRow}
-use Rattle.posting_core.specs.declared.fault.Rule.{Rule}
-use Rattle.posting_core.specs.declared.fault.Rule.TheVariants as rule
+use Rattle.posting_rules.specs.Kept.{KeptFields, is_kept_with}
+use Rattle.posting_rules.specs.Tables.{Tables}
+use Rattle.posting_rules.specs.declared.rows.BranchRow.{BranchRow}
+use Rattle.posting_rules.specs.declared.rows.RequestRow.{RequestRow}
+use Rattle.posting_rules.specs.declared.fault.Rule.{Rule}
+use Rattle.posting_rules.specs.declared.fault.Rule.TheVariants as rule
 use Rattle.sqlite.specs.Schema.{Schema}
 use Rattle.sqlite.specs.Table.{Table}
 use Rattle.sqlite.specs.Tree.{Trees}

@@ -4,13 +4,13 @@ use Rattle.sqlite.specs.Schema.{Schema}
 use Rattle.sqlite.specs.Tree.{Trees}
 use Rattle.sqlite.specs.Effect.{Database, IsDatabase}
 use Rattle.message_records.specs.Outcomes.{code_of}
-use Rattle.posting_core.specs.Tables.{Tables}
-use Rattle.posting_core.specs.declared.rows.MetaRow.{MetaRow}
-use Rattle.posting_core.specs.declared.rows.BranchRow.{BranchRow}
-use Rattle.posting_core.specs.declared.rows.TellerRow.{TellerRow}
-use Rattle.posting_core.specs.declared.rows.AccountRow.{AccountRow}
-use Rattle.posting_core.specs.declared.rows.HistoryRow.{HistoryRow}
-use Rattle.posting_core.specs.declared.rows.RequestRow.{RequestRow}
+use Rattle.posting_rules.specs.Tables.{Tables}
+use Rattle.posting_rules.specs.declared.rows.MetaRow.{MetaRow}
+use Rattle.posting_rules.specs.declared.rows.BranchRow.{BranchRow}
+use Rattle.posting_rules.specs.declared.rows.TellerRow.{TellerRow}
+use Rattle.posting_rules.specs.declared.rows.AccountRow.{AccountRow}
+use Rattle.posting_rules.specs.declared.rows.HistoryRow.{HistoryRow}
+use Rattle.posting_rules.specs.declared.rows.RequestRow.{RequestRow}
 use Rattle.sql_meanings.specs.Entries.{Entry}
 use Rattle.sql_meanings.specs.Tables.{Holds}
 use Rattle.store_rows.specs.SixTables as six

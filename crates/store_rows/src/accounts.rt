@@ -2,7 +2,7 @@
 ghost use Rattle.std.specs.Prelude.{◌≡◌, IsTrue, option_map, is_some};
 ghost use Rattle.sqlite.specs.State.{HasCleanDisk, Survives};
 ghost use Rattle.sqlite.specs.Held.{state};
-ghost use Rattle.posting_core.specs.Tables.{Tables, row_at, account_key};
+ghost use Rattle.posting_rules.specs.Tables.{Tables, row_at, account_key};
 ghost use Rattle.sql_meanings.specs.Outcomes.{TellsRow, ReadKept, WriteKept};
 ghost use Rattle.store_rows.specs.Columns.{balance_shown, account_balance_in};
 ghost use Rattle.store_rows.specs.Changes.{with_account, with_account_balance};
@@ -13,7 +13,7 @@ ghost use Rattle.store_rows.specs.View.{Shows};
 use crate::columns::cents_at;
 use crate::faults::{TableFault, added};
 use message_records::{Account, Cents};
-use posting_core::{AccountRow, Rule};
+use posting_rules::{AccountRow, Rule};
 use sqlite::{Alter, Error, Row, Transaction, params};
 
 // The row of an account's balance.

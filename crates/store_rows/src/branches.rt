@@ -2,7 +2,7 @@
 ghost use Rattle.std.specs.Prelude.{◌≡◌, IsTrue, option_map, is_some};
 ghost use Rattle.sqlite.specs.State.{HasCleanDisk, Survives};
 ghost use Rattle.sqlite.specs.Held.{state};
-ghost use Rattle.posting_core.specs.Tables.{Tables, row_at, branch_key};
+ghost use Rattle.posting_rules.specs.Tables.{Tables, row_at, branch_key};
 ghost use Rattle.sql_meanings.specs.Outcomes.{TellsRow, ReadKept, WriteKept};
 ghost use Rattle.store_rows.specs.Columns.{branch_shown, branch_above};
 ghost use Rattle.store_rows.specs.Changes.{with_branch, with_branch_balance};
@@ -13,7 +13,7 @@ ghost use Rattle.store_rows.specs.View.{Shows};
 use crate::columns::{cents_at, count_at, whole_at};
 use crate::faults::{TableFault, added};
 use message_records::{Branch, Cents};
-use posting_core::{BranchRow, Rule};
+use posting_rules::{BranchRow, Rule};
 use sqlite::{Alter, Error, Row, Transaction, params};
 
 // The branch that a row shows.

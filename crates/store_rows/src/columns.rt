@@ -4,7 +4,7 @@ ghost use Rattle.store_rows.specs.Outcomes.{ReadsCents, ReadsInteger, ReadsOutco
 
 use crate::faults::TableFault;
 use message_records::{Cents, Outcome, Whole};
-use posting_core::Rule;
+use posting_rules::Rule;
 use sqlite::{Error, Row};
 
 // The integer in a column. A value of another type is damage.

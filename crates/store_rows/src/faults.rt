@@ -4,7 +4,7 @@ ghost use Rattle.sql_meanings.specs.Outcomes.{is_taken_key as says_taken};
 ghost use Rattle.store_rows.specs.Faults.{added as told_as};
 ghost use Rattle.store_rows.specs.declared.faults.TableFault.TheVariants.{Sqlite};
 
-use posting_core::Rule;
+use posting_rules::Rule;
 use sqlite::{Constraint, Error, ErrorCode};
 use std::fmt;
 

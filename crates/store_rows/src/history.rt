@@ -2,7 +2,7 @@
 ghost use Rattle.std.specs.Prelude.{◌≡◌, IsTrue, is_some};
 ghost use Rattle.sqlite.specs.State.{HasCleanDisk, Survives};
 ghost use Rattle.sqlite.specs.Held.{state};
-ghost use Rattle.posting_core.specs.Tables.{Tables, row_at, history_key};
+ghost use Rattle.posting_rules.specs.Tables.{Tables, row_at, history_key};
 ghost use Rattle.sql_meanings.specs.Outcomes.{WriteKept};
 ghost use Rattle.store_rows.specs.Changes.{with_history};
 ghost use Rattle.store_rows.specs.Outcomes.{Adds};
@@ -10,7 +10,7 @@ ghost use Rattle.store_rows.specs.SixTables.{history as table};
 ghost use Rattle.store_rows.specs.View.{Shows};
 
 use crate::faults::{TableFault, added};
-use posting_core::HistoryRow;
+use posting_rules::HistoryRow;
 use sqlite::{Alter, Transaction, params};
 
 /// Adds a posting. `Damaged(Rule::Key)` is an ordinal that is taken.

@@ -2,7 +2,7 @@
 ghost use Rattle.std.specs.Prelude.{◌≡◌, ◌≤◌, IsTrue, option_map, is_some};
 ghost use Rattle.sqlite.specs.State.{HasCleanDisk, Survives};
 ghost use Rattle.sqlite.specs.Held.{state};
-ghost use Rattle.posting_core.specs.Tables.{Tables, row_at};
+ghost use Rattle.posting_rules.specs.Tables.{Tables, row_at};
 ghost use Rattle.sql_meanings.specs.Outcomes.{TellsRow, ReadKept, WriteKept};
 ghost use Rattle.store_rows.specs.Columns.{meta_in, meta_shown};
 ghost use Rattle.store_rows.specs.Changes.{meta_key, with_decided};

@@ -2,7 +2,7 @@
 ghost use Rattle.std.specs.Prelude.{◌≡◌, IsTrue, option_map, is_some};
 ghost use Rattle.sqlite.specs.State.{HasCleanDisk, Survives};
 ghost use Rattle.sqlite.specs.Held.{state};
-ghost use Rattle.posting_core.specs.Tables.{Tables, row_at, request_key};
+ghost use Rattle.posting_rules.specs.Tables.{Tables, row_at, request_key};
 ghost use Rattle.sql_meanings.specs.Outcomes.{TellsRow, ReadKept, WriteKept};
 ghost use Rattle.store_rows.specs.Columns.{request_in, request_shown};
 ghost use Rattle.store_rows.specs.Changes.{with_request};
@@ -13,7 +13,7 @@ ghost use Rattle.store_rows.specs.View.{Shows};
 use crate::columns::{cents_at, outcome_at, whole_at};
 use crate::faults::{TableFault, added};
 use message_records::{Number, Teller};
-use posting_core::{Kept, RequestRow, Rule};
+use posting_rules::{Kept, RequestRow, Rule};
 use sqlite::{Alter, Error, Row, Transaction, params};
 
 // What a row keeps of a request.

@@ -1,15 +1,12 @@
 //! The worked examples that a bank in memory can run, each value from outside.
 use super::PlainBank;
-use crate::cases::judge;
-use crate::counter::{Counter, Opening};
-use crate::facts::{Found, Verdict};
-use crate::laws::{
-    balances_stay_within, cases_are_as_stated, each_request_once, equal_tables_answer_alike,
-    resends_get_their_replies, tables_are_consistent,
-};
 use message_records::{
     Account, Bad, Branch, Cents, Moment, Number, Outcome, Request, Teller, decode_reply,
     decode_request, encode_request,
+};
+use posting_rules::{
+    Counter, Found, Opening, Verdict, balances_stay_within, cases_are_as_stated, each_request_once,
+    equal_tables_answer_alike, judge, resends_get_their_replies, tables_are_consistent,
 };
 use std::alloc::{Alloc, Global};
 use std::process::Abort;

@@ -1,10 +1,9 @@
 //! Streams over ends and a bank that fail, at every byte.
 use super::{Count, StreamFault, post_stream};
 use crate::clock::{Clock, StoredClock};
-use crate::counter::{Counter, Opening};
-use crate::fault::Fault;
 use crate::plain_bank::PlainBank;
 use message_records::{Account, Branch, Cents, Moment};
+use posting_rules::{Counter, Fault, Opening};
 use std::alloc::{Alloc, Global};
 use std::io;
 use std::io::{ErrorKind, Read, Write};

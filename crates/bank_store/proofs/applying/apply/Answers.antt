@@ -2,13 +2,13 @@
 use Rattle.std.proofs.Common.{◌≡◌, ◌+◌, None, Err, rules, arith, sym, subst, ap, ◌∙◌}
 use Rattle.sqlite.specs.State.{HasCleanDisk}
 use Rattle.sqlite.specs.Held.{state}
-use Rattle.posting_core.specs.declared.facts.Found.{Found}
-use Rattle.posting_core.specs.declared.facts.Verdict.{Verdict}
-use Rattle.posting_core.specs.declared.facts.Verdict.TheVariants.{Posted}
-use Rattle.posting_core.specs.Cases.{case_of}
-use Rattle.posting_core.specs.Entries.{posted_entry}
-use Rattle.posting_core.specs.LookUps.{found_in, decided_in}
-use Rattle.posting_core.specs.Tables.{row_at, history_key, request_key}
+use Rattle.posting_rules.specs.declared.facts.Found.{Found}
+use Rattle.posting_rules.specs.declared.facts.Verdict.{Verdict}
+use Rattle.posting_rules.specs.declared.facts.Verdict.TheVariants.{Posted}
+use Rattle.posting_rules.specs.Cases.{case_of}
+use Rattle.posting_rules.specs.Entries.{posted_entry}
+use Rattle.posting_rules.specs.LookUps.{found_in, decided_in}
+use Rattle.posting_rules.specs.Tables.{row_at, history_key, request_key}
 use Rattle.bank_store.specs.Changes.{tables_kept, tables_moved, tables_after}
 use Rattle.bank_store.specs.Doing.{LeadsTo}
 use Rattle.bank_store.proofs.Moved.{err_leads, still_in}

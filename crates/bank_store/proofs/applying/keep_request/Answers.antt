@@ -2,9 +2,9 @@
 use Rattle.std.proofs.Common.{◌≡◌, rules, arith, subst}
 use Rattle.sqlite.specs.State.{HasCleanDisk}
 use Rattle.sqlite.specs.Held.{state}
-use Rattle.posting_core.specs.declared.rows.RequestRow.{RequestRow}
-use Rattle.posting_core.specs.Entries.{Entry}
-use Rattle.posting_core.specs.Tables.{request_row_of}
+use Rattle.posting_rules.specs.declared.rows.RequestRow.{RequestRow}
+use Rattle.posting_rules.specs.Entries.{Entry}
+use Rattle.posting_rules.specs.Tables.{request_row_of}
 use Rattle.store_rows.specs.Changes.{with_decided, with_request}
 use Rattle.bank_store.specs.Doing.{LeadsTo}
 use Rattle.bank_store.proofs.Moved.{meta_beside}

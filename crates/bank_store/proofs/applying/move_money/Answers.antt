@@ -3,9 +3,9 @@ use Rattle.std.proofs.Common.{◌≡◌, Err, rules, arith, subst, ap}
 use Rattle.std.specs.Prelude.{is_some}
 use Rattle.sqlite.specs.State.{HasCleanDisk}
 use Rattle.sqlite.specs.Held.{state}
-use Rattle.posting_core.specs.declared.rows.HistoryRow.{HistoryRow}
-use Rattle.posting_core.specs.Entries.{posted_entry}
-use Rattle.posting_core.specs.Tables.{Tables, row_at, history_key, history_row_of}
+use Rattle.posting_rules.specs.declared.rows.HistoryRow.{HistoryRow}
+use Rattle.posting_rules.specs.Entries.{posted_entry}
+use Rattle.posting_rules.specs.Tables.{Tables, row_at, history_key, history_row_of}
 use Rattle.store_rows.specs.Changes.{with_history, with_account_balance, with_teller_balance, with_branch_balance}
 use Rattle.store_rows.specs.SixTables.{history as table}
 use Rattle.bank_store.specs.Changes.{tables_moved}

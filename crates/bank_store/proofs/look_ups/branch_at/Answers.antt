@@ -1,7 +1,7 @@
 -- What the row of a branch tells.
 use Rattle.std.proofs.Common.{◌≡◌, Err, Some, rules, sym, ◌∙◌, inl, inr, arith}
 use Rattle.sqlite.specs.Held.{state}
-use Rattle.posting_core.specs.Tables.{row_at, branch_key}
+use Rattle.posting_rules.specs.Tables.{row_at, branch_key}
 use Rattle.store_rows.specs.Outcomes.{IsNoBranch}
 use Rattle.bank_store.proofs.SoundRows.{no_branch_beyond, branch_is, branch_unbroken}
 use Rattle.bank_store.proofs.Told.{err_found}

@@ -2,7 +2,7 @@
 use Rattle.std.proofs.Common.{◌≡◌, ◌≤◌, Err, Some, rules, sym, ap, subst, ◌∙◌}
 use Rattle.std.specs.Prelude.{nat_abs, is_some}
 use Rattle.sqlite.specs.Held.{state}
-use Rattle.posting_core.specs.LookUps.{kept_in}
+use Rattle.posting_rules.specs.LookUps.{kept_in}
 use Rattle.store_rows.specs.Columns.{request_in}
 use Rattle.store_rows.specs.Outcomes.{IsNoRequest}
 use Rattle.bank_store.proofs.SoundRows.{is_a_request, request_is, request_unbroken}

@@ -1,7 +1,7 @@
 -- What the balance of a teller tells.
 use Rattle.std.proofs.Common.{◌≡◌, Err, rules}
 use Rattle.sqlite.specs.Held.{state}
-use Rattle.posting_core.specs.LookUps.{teller_balances_in}
+use Rattle.posting_rules.specs.LookUps.{teller_balances_in}
 use Rattle.store_rows.specs.Columns.{teller_balance_in}
 use Rattle.store_rows.specs.Outcomes.{IsNoBalance}
 use Rattle.bank_store.proofs.SoundRows.{teller_unbroken}

@@ -2,8 +2,8 @@
 use Rattle.std.proofs.Common.{◌≡◌, ◌+◌, ◌<◌, ℕ, None, rules, sym, subst}
 use Rattle.std.specs.Prelude.{is_some, pos}
 use Rattle.sqlite.specs.Held.{state}
-use Rattle.posting_core.specs.declared.rows.TellerRow.{TellerRow}
-use Rattle.posting_core.specs.Tables.{Tables, row_at, teller_key, teller_row_of}
+use Rattle.posting_rules.specs.declared.rows.TellerRow.{TellerRow}
+use Rattle.posting_rules.specs.Tables.{Tables, row_at, teller_key, teller_row_of}
 use Rattle.store_rows.specs.Changes.{with_teller}
 use Rattle.store_rows.specs.SixTables.{teller as table}
 use Rattle.bank_store.specs.Changes.{with_tellers}

@@ -1,7 +1,7 @@
 -- The tellers so far are there.
 use Rattle.std.proofs.Common.{◌≡◌, ◌+◌, ◌<◌, ℕ, None}
 use Rattle.sqlite.specs.Held.{state}
-use Rattle.posting_core.specs.Tables.{row_at, teller_key}
+use Rattle.posting_rules.specs.Tables.{row_at, teller_key}
 use Rattle.bank_store.specs.Changes.{with_tellers}
 use Rattle.bank_store.proofs.Adding.{Adding}
 use Rattle.bank_store.proofs.opening.add_tellers.Given as goal

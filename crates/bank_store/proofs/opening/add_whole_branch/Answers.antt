@@ -3,9 +3,9 @@ use Rattle.std.proofs.Common.{◌≡◌, ◌+◌, ◌-◌, ◌*◌, ◌<◌, ◌
 use Rattle.std.specs.Prelude.{pos}
 use Rattle.sqlite.specs.State.{HasCleanDisk}
 use Rattle.sqlite.specs.Held.{state}
-use Rattle.posting_core.specs.declared.rows.BranchRow.{BranchRow}
-use Rattle.posting_core.specs.Steps.{first_teller, first_account}
-use Rattle.posting_core.specs.Tables.{row_at, teller_key, account_key, branch_row_of}
+use Rattle.posting_rules.specs.declared.rows.BranchRow.{BranchRow}
+use Rattle.posting_rules.specs.Steps.{first_teller, first_account}
+use Rattle.posting_rules.specs.Tables.{row_at, teller_key, account_key, branch_row_of}
 use Rattle.store_rows.specs.View.{Shows}
 use Rattle.store_rows.specs.Changes.{with_branch}
 use Rattle.bank_store.specs.Changes.{with_tellers, with_accounts, tables_opened}

@@ -3,10 +3,10 @@ use Rattle.std.proofs.Common.{◌≡◌, ◌+◌, ◌<◌, [], List, ℕ, Err, t
 use Rattle.sqlite.specs.State.{HasCleanDisk}
 use Rattle.sqlite.specs.Held.{state}
 use Rattle.message_records.specs.Spelling.{reply_spelling}
-use Rattle.posting_core.specs.Entries.{reply}
-use Rattle.posting_core.specs.Runs.{behind, posts}
-use Rattle.posting_core.specs.Tables.{Tables}
-use Rattle.posting_core.proofs.Sequence.{commands_behind, commands_one_more, replies_one_more}
+use Rattle.posting_rules.specs.Entries.{reply}
+use Rattle.posting_rules.specs.Runs.{behind, posts}
+use Rattle.posting_rules.specs.Tables.{Tables}
+use Rattle.posting_rules.proofs.Sequence.{commands_behind, commands_one_more, replies_one_more}
 use Rattle.bank_store.specs.Changes.{tables_past, tables_past_all}
 use Rattle.bank_store.specs.Sound.{AreOfALog}
 use Rattle.bank_store.proofs.Adding.{adding_as, adding_then, keeps_then}

@@ -4,10 +4,10 @@ use Rattle.std.specs.Prelude.{IsTrue}
 use Rattle.std.specs.Vec.{vec_capacity}
 use Rattle.sqlite.specs.State.{HasCleanDisk}
 use Rattle.sqlite.specs.Held.{state}
-use Rattle.posting_core.specs.Commands.{Command, AreCommands}
-use Rattle.posting_core.specs.Runs.{posts, replies_to}
-use Rattle.posting_core.specs.Tables.{Tables}
-use Rattle.posting_core.specs.Tables.{Shows as Show}
+use Rattle.posting_rules.specs.Commands.{Command, AreCommands}
+use Rattle.posting_rules.specs.Runs.{posts, replies_to}
+use Rattle.posting_rules.specs.Tables.{Tables}
+use Rattle.posting_rules.specs.Tables.{Shows as Show}
 use Rattle.store_rows.specs.View.{Shows}
 use Rattle.bank_store.specs.Changes.{tables_past_all}
 use Rattle.bank_store.specs.Sound.{AreOfALog}

@@ -5,7 +5,7 @@ use Rattle.message_records.specs.declared.faults.Bad.{Bad}
 use Rattle.message_records.specs.Records.{RequestFields}
 use Rattle.message_records.specs.Reading.{request_of}
 use Rattle.message_records.specs.Spelling.{reply_spelling}
-use Rattle.posting_core.specs.Entries.{reply}
+use Rattle.posting_rules.specs.Entries.{reply}
 use Rattle.bank_store.specs.Changes.{tables_with, tables_read}
 use Rattle.bank_store.specs.Doing.{Answers}
 use Rattle.bank_store.proofs.Calls.{replies}

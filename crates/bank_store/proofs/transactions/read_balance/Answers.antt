@@ -2,7 +2,7 @@
 use Rattle.std.proofs.Common.{◌≡◌, rules, sym, subst}
 use Rattle.sqlite.specs.State.{Survives}
 use Rattle.sqlite.specs.Held.{state}
-use Rattle.posting_core.specs.Tables.{Tables}
+use Rattle.posting_rules.specs.Tables.{Tables}
 use Rattle.store_rows.specs.View.{Shows}
 use Rattle.bank_store.specs.Sound.{AreSound}
 use Rattle.bank_store.proofs.Transacted.{Leaves, committed_left}

@@ -1,8 +1,8 @@
 use Rattle.std.proofs.Common.{◌≡◌, ◌+◌, ◌-◌, ◌≤◌, ◌++◌, vec_len}
 use Rattle.std.specs.Prelude.{pos}
 use Rattle.std.specs.Vec.{vec_capacity}
-use Rattle.posting_core.specs.Tables.{account_row_of}
-use Rattle.posting_core.specs.Rows.{rows_from}
+use Rattle.posting_rules.specs.Tables.{account_row_of}
+use Rattle.posting_rules.specs.Rows.{rows_from}
 use Rattle.posting_core.proofs.plain_bank.put_accounts.Given as goal
 
 -- the rows so far, and the room that is left

@@ -1,5 +1,5 @@
 use Rattle.std.proofs.Common.{◌<◌, ◌∙◌, sym, ap, set, length, arith}
-use Rattle.posting_core.proofs.Keyed.{walk_hit, walk_miss}
+use Rattle.posting_rules.proofs.Keyed.{walk_hit, walk_miss}
 use Rattle.posting_core.proofs.walking.set_balance_at.Goals as goal
 use Rattle.posting_core.proofs.walking.set_balance_at.Goals.{then-number, else-number}
 

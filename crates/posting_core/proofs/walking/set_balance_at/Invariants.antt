@@ -1,5 +1,5 @@
 use Rattle.std.proofs.Common.{◌≡◌, ◌++◌, take, drop, map}
-use Rattle.posting_core.specs.Rows.{at_key}
+use Rattle.posting_rules.specs.Rows.{at_key}
 use Rattle.posting_core.proofs.walking.set_balance_at.Given as goal
 
 -- the rows so far are changed, and the others are as they were

@@ -1,7 +1,7 @@
 -- What the row tells.
 use Rattle.std.proofs.Common.{◌≡◌, Err, rules}
 use Rattle.sqlite.specs.Held.{state}
-use Rattle.posting_core.specs.Tables.{row_at, branch_key}
+use Rattle.posting_rules.specs.Tables.{row_at, branch_key}
 use Rattle.store_rows.specs.Columns.{branch_shown}
 use Rattle.store_rows.specs.Outcomes.{IsNoBranch}
 use Rattle.store_rows.proofs.FoundRows.{found_err}

@@ -2,8 +2,8 @@
 use Rattle.std.proofs.Common.{[], Option, rules, ◌∙◌}
 use Rattle.std.specs.Prelude.{ℤ, IsSome}
 use Rattle.sqlite.specs.Held.{state}
-use Rattle.posting_core.specs.LookUps.{account_balance_in}
-use Rattle.posting_core.proofs.Looked.{balance_shown}
+use Rattle.posting_rules.specs.LookUps.{account_balance_in}
+use Rattle.posting_rules.proofs.Looked.{balance_shown}
 use Rattle.bank_store.specs.Sound.{AreSound}
 use Rattle.bank_store.proofs.Calls.{stays}
 use Rattle.bank_store.proofs.Countered.{takes, refuses}

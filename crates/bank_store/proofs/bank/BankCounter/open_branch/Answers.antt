@@ -2,10 +2,10 @@
 use Rattle.std.proofs.Common.{◌≤◌, [], ◌∷◌, rules, arith, ◌∙◌}
 use Rattle.std.specs.Prelude.{IsSome}
 use Rattle.sqlite.specs.Held.{state}
-use Rattle.posting_core.specs.declared.counter.Opening.{Opening}
-use Rattle.posting_core.specs.Commands.{Open, AreCommands}
-use Rattle.posting_core.specs.Counter.{opening_for}
-use Rattle.posting_core.specs.LookUps.{count_in}
+use Rattle.posting_rules.specs.declared.counter.Opening.{Opening}
+use Rattle.posting_rules.specs.Commands.{Open, AreCommands}
+use Rattle.posting_rules.specs.Counter.{opening_for}
+use Rattle.posting_rules.specs.LookUps.{count_in}
 use Rattle.bank_store.specs.Changes.{tables_with_branch}
 use Rattle.bank_store.specs.Sound.{AreSound}
 use Rattle.bank_store.proofs.Calls.{opens, answers}

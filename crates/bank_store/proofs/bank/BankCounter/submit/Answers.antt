@@ -3,7 +3,7 @@ use Rattle.std.proofs.Common.{◌≡◌, [], ◌∷◌, List, ℕ, Ok, rules, ar
 use Rattle.std.specs.Prelude.{IsSome}
 use Rattle.sqlite.specs.Held.{state}
 use Rattle.message_records.specs.Reading.{request_of}
-use Rattle.posting_core.specs.Commands.{Post, AreCommands}
+use Rattle.posting_rules.specs.Commands.{Post, AreCommands}
 use Rattle.bank_store.specs.Changes.{tables_with, reply_bytes}
 use Rattle.bank_store.specs.Sound.{AreSound}
 use Rattle.bank_store.proofs.Calls.{posts, replies}

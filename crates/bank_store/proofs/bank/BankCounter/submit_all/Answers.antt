@@ -2,8 +2,8 @@
 use Rattle.std.proofs.Common.{List, ℕ, ◌++◌, rules, arith, ap, ◌∙◌}
 use Rattle.std.specs.Prelude.{IsSome}
 use Rattle.sqlite.specs.Held.{state}
-use Rattle.posting_core.specs.Commands.{AreCommands}
-use Rattle.posting_core.specs.Runs.{posts, replies_to}
+use Rattle.posting_rules.specs.Commands.{AreCommands}
+use Rattle.posting_rules.specs.Runs.{posts, replies_to}
 use Rattle.bank_store.specs.Changes.{tables_past_all}
 use Rattle.bank_store.specs.Sound.{AreOfALog}
 use Rattle.bank_store.proofs.Countered.{HoldsOfLogs, takes, refuses}

@@ -1,8 +1,8 @@
 use Rattle.std.proofs.Common.{◌<◌, [], get_or, take, length, refl, arith, rules}
 use Rattle.posting_core.specs.Plain.{plain_tables}
-use Rattle.posting_core.specs.Runs.{behind, posts}
+use Rattle.posting_rules.specs.Runs.{behind, posts}
 use Rattle.posting_core.proofs.InMemory.{record_from, reply_from}
-use Rattle.posting_core.proofs.Sequence.{commands_one_more, shows_one_more, replies_one_more}
+use Rattle.posting_rules.proofs.Sequence.{commands_one_more, shows_one_more, replies_one_more}
 use Rattle.posting_core.proofs.plain_bank.PlainBank.answer_all.Goals as goal
 
 pub loop-bytes-preserved : goal.loop-bytes-preserved

@@ -1,9 +1,9 @@
 use Rattle.std.proofs.Common.{◌≡◌, ◌+◌, ◌-◌, ◌≤◌, ◌++◌, List, take, length, vec_len}
 use Rattle.std.specs.Vec.{vec_capacity}
-use Rattle.posting_core.specs.Commands.{Command, AreCommands}
-use Rattle.posting_core.specs.Tables.{Shows}
+use Rattle.posting_rules.specs.Commands.{Command, AreCommands}
+use Rattle.posting_rules.specs.Tables.{Shows}
 use Rattle.posting_core.specs.Plain.{plain_tables}
-use Rattle.posting_core.specs.Runs.{behind, posts, replies_to}
+use Rattle.posting_rules.specs.Runs.{behind, posts, replies_to}
 use Rattle.posting_core.proofs.plain_bank.PlainBank.answer_all.Given as goal
 
 -- the records so far are behind each log, their replies were put, and there is room for the others

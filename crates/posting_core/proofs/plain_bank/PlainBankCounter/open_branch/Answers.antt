@@ -1,9 +1,9 @@
 use Rattle.std.proofs.Common.{List, [], ◌∷◌, sym, ap, ◌∙◌}
 use Rattle.std.specs.Option.{option_map}
-use Rattle.posting_core.specs.declared.rows.BranchRow.{BranchRow}
-use Rattle.posting_core.specs.Commands.{Open}
-use Rattle.posting_core.specs.Tables.{row_at, branch_key}
-use Rattle.posting_core.specs.LookUps.{count_of_branch}
+use Rattle.posting_rules.specs.declared.rows.BranchRow.{BranchRow}
+use Rattle.posting_rules.specs.Commands.{Open}
+use Rattle.posting_rules.specs.Tables.{row_at, branch_key}
+use Rattle.posting_rules.specs.LookUps.{count_of_branch}
 use Rattle.posting_core.specs.Plain.{plain_tables}
 use Rattle.posting_core.proofs.InMemory.{opened_from, branches_as_before, takes_plain}
 use Rattle.posting_core.proofs.plain_bank.PlainBankCounter.open_branch.Goals as goal

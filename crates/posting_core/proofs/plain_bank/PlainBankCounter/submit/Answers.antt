@@ -1,5 +1,5 @@
 use Rattle.std.proofs.Common.{[], ◌∷◌, refl, arith, rules}
-use Rattle.posting_core.specs.Commands.{Post}
+use Rattle.posting_rules.specs.Commands.{Post}
 use Rattle.posting_core.specs.Plain.{plain_tables}
 use Rattle.posting_core.proofs.InMemory.{record_from, reply_from, requests_as_before, plain_shows, takes_plain}
 use Rattle.posting_core.proofs.plain_bank.PlainBankCounter.submit.Goals as goal

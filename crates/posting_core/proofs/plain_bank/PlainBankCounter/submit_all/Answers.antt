@@ -1,7 +1,7 @@
 use Rattle.std.proofs.Common.{refl, subst, sym}
-use Rattle.posting_core.specs.Tables.{Tables, Shows}
+use Rattle.posting_rules.specs.Tables.{Tables, Shows}
 use Rattle.posting_core.specs.Plain.{plain_tables}
-use Rattle.posting_core.specs.Runs.{posts}
+use Rattle.posting_rules.specs.Runs.{posts}
 use Rattle.posting_core.proofs.InMemory.{requests_as_before, takes_plain}
 use Rattle.posting_core.proofs.plain_bank.PlainBankCounter.submit_all.Goals as goal
 

@@ -1,5 +1,0 @@
-use Rattle.posting_core.proofs.Limits.{stays_within}
-use Rattle.posting_core.proofs.laws.balances_stay_within.Goals as goal
-
-pub returns : goal.returns
-returns c = stays_within

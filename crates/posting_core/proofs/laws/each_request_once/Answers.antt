@@ -1,6 +1,0 @@
-use Rattle.posting_core.specs.Entries.{decided}
-use Rattle.posting_core.proofs.Requests.{none_shares, are_new}
-use Rattle.posting_core.proofs.laws.each_request_once.Goals as goal
-
-pub returns : goal.returns
-returns c = λ log. none_shares (decided log) (are_new log)

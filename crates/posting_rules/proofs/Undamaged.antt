@@ -1,0 +1,190 @@
+-- The tables of a log of commands are undamaged.
+use Rattle.std.proofs.Common.{◌≡◌, ℕ, ◌+◌, ◌<◌, ◌≤◌, Bool, true, false, cond, eqb, leb, List, [], ◌∷◌, length, Option, Some, None, refl, sym, ap, subst, ◌∙◌, arith, inl, inr}
+use Rattle.std.specs.Prelude.{ℤ, nat_abs, is_some, ◌&&◌, IfSome}
+use Rattle.std.specs.List.{Contains}
+use Rattle.std.specs.Option.{option_map}
+use Rattle.std.proofs.lemmas.Bool.{eqb-true, leb-true, le-leb}
+use Rattle.std.proofs.lemmas.List.Elements.{All-contains, All-from_recursion}
+use Rattle.posting_rules.specs.declared.rows.BranchRow.{BranchRow}
+use Rattle.posting_rules.specs.declared.rows.TellerRow.{TellerRow}
+use Rattle.posting_rules.specs.declared.rows.AccountRow.{AccountRow}
+use Rattle.posting_rules.specs.declared.rows.HistoryRow.{HistoryRow}
+use Rattle.posting_rules.specs.declared.rows.RequestRow.{RequestRow}
+use Rattle.posting_rules.specs.Commands.{Command, Open, IsCommand, AreCommands, opened, branch_of_teller, branch_of_account, place_of_account, is_within, is_teller_open, is_account_open}
+use Rattle.posting_rules.specs.Entries.{Entry, is_posted, account_balance, teller_balance, branch_balance, decided}
+use Rattle.posting_rules.specs.Tables.{Tables, Shows, HasKeys, row_at, branch_key, teller_key, account_key, history_key, request_key, branch_row_of, teller_row_of, account_row_of, history_row, history_row_of, request_row, request_row_of}
+use Rattle.posting_rules.specs.Damage.{IsSoundBranch, IsSoundTeller, IsSoundAccount, IsSoundRequest, IsSoundPosting, IsUndamaged}
+use Rattle.posting_rules.proofs.Keyed.{by_test}
+use Rattle.posting_rules.proofs.Verdicts.{when}
+use Rattle.posting_rules.proofs.Looked.{decided_shown, count_shown}
+use Rattle.posting_rules.proofs.Opened.{both, some_within}
+use Rattle.posting_rules.proofs.Appending.{next_is_free, next_has_no_posting}
+use Rattle.posting_rules.proofs.Totals.{each_under_its_key}
+use Rattle.posting_rules.proofs.Limits.{stays_within}
+use Rattle.posting_rules.proofs.SoundEntries.{IsSoundEntry, AreSound, few_enough, open_within, are_sound}
+
+-- a row of a table is the row under its key
+row_at-contained : {R : Type 0} (key : R → ℕ) (rows : List R) (r : R) → HasKeys key rows → Contains rows r
+    → row_at key rows (key r) ≡ Some r
+row_at-contained {R} key rows r keys has =
+    All-contains (λ (x : R). row_at key rows (key x) ≡ Some x) rows r
+    (All-from_recursion (λ (x : R). row_at key rows (key x) ≡ Some x) rows (each_under_its_key key rows keys)) has
+
+-- ---- branches, tellers and accounts
+
+-- the row of an open branch
+branch_sound : (o : Option ℕ) (b : ℕ) (z : ℤ) (r : BranchRow)
+    → IfSome o (λ n. IsCommand (Open b n)) → nat_abs z ≤ 999_999_999_999
+    → option_map (branch_row_of b z) o ≡ Some r → IsSoundBranch r
+branch_sound None b z r h limit e = absurd cc
+branch_sound (Some n) b z r h limit e =
+    let is : branch_row_of b z n ≡ r = cc in
+    subst IsSoundBranch is (record { some = h.0; most = h.1; few = h.2; many = h.3; balance = limit })
+
+-- a branch that is open has one of the numbers of branches
+number_within : (o : Option ℕ) (b : ℕ) → IfSome o (λ n. IsCommand (Open b n)) → is_some o ≡ true → b ≤ 9999
+number_within (Some n) b h e = h.1
+number_within None b h e = absurd cc
+
+-- the last teller, and the last account, of the last branch
+last_teller : (n : ℕ) → branch_of_teller n ≤ 9999 → n ≤ 99_990
+last_teller n h = omega arith
+
+last_account : (n : ℕ) → branch_of_account n ≤ 9999 → n ≤ 999_900_000
+last_account n h = omega arith
+
+-- the row of an open teller
+teller_sound : (opened : ℕ → Option ℕ) (n : ℕ) (z : ℤ) (r : TellerRow)
+    → ((b : ℕ) → IfSome (opened b) (λ k. IsCommand (Open b k))) → nat_abs z ≤ 999_999_999_999
+    → cond (is_teller_open opened n) (Some (teller_row_of n z)) None ≡ Some r → IsSoundTeller r
+teller_sound opened n z r open_ limit e =
+    let is = when (is_teller_open opened n) (teller_row_of n z) r e in
+    let two = both (leb 1 n) (is_some (opened (branch_of_teller n))) is.0 in
+    let home = number_within (opened (branch_of_teller n)) (branch_of_teller n) (open_ (branch_of_teller n)) two.1 in
+    subst IsSoundTeller is.1 (record { some = leb-true _ _ two.0; most = last_teller n home; balance = limit })
+
+-- the row of an open account
+account_sound : (opened : ℕ → Option ℕ) (n : ℕ) (z : ℤ) (r : AccountRow)
+    → ((b : ℕ) → IfSome (opened b) (λ k. IsCommand (Open b k))) → nat_abs z ≤ 999_999_999_999
+    → cond (is_account_open opened n) (Some (account_row_of n z)) None ≡ Some r → IsSoundAccount r
+account_sound opened n z r open_ limit e =
+    let is = when (is_account_open opened n) (account_row_of n z) r e in
+    let two = both (leb 1 n) (is_within (place_of_account n) (opened (branch_of_account n))) is.0 in
+    let some = some_within (place_of_account n) (opened (branch_of_account n)) two.1 in
+    let home = number_within (opened (branch_of_account n)) (branch_of_account n) (open_ (branch_of_account n)) some in
+    subst IsSoundAccount is.1 (record { some = leb-true _ _ two.0; most = last_account n home; balance = limit })
+
+-- from 1 on, a row is there just where a test passes
+there : {R : Type 0} (low test : Bool) (x : R) → low ≡ true → is_some (cond (low && test) (Some x) None) ≡ test
+there true true x e = refl
+there true false x e = refl
+there false test x e = absurd cc
+
+is_some-mapped : {A B : Type 0} (f : A → B) (o : Option A) → is_some (option_map f o) ≡ is_some o
+is_some-mapped f (Some x) = refl
+is_some-mapped f None = refl
+
+-- ---- requests and history
+
+-- the rows of a decided request, under an ordinal that a bank may decide
+request_row_sound : (o : ℕ) (e : Entry) → IsSoundEntry e → 1 ≤ o → o ≤ 1_000_000_000_000 → IsSoundRequest (request_row_of o e)
+request_row_sound o e h least most =
+    let r = h.request in
+    record {
+      ordinal_above = least;
+      ordinal = most;
+      teller_above = r.teller_above;
+      teller = r.teller;
+      number_above = r.number_above;
+      number = r.number;
+      account_above = r.account_above;
+      account = r.account;
+      branch_above = r.branch_above;
+      branch = r.branch;
+      delta = r.delta;
+      kept = h.kept;
+      balance = h.balance;
+    }
+
+posting_row_sound : (o : ℕ) (e : Entry) → IsSoundEntry e → 1 ≤ o → o ≤ 1_000_000_000_000 → IsSoundPosting (history_row_of o e)
+posting_row_sound o e h least most =
+    let r = h.request in
+    record {
+      ordinal_above = least;
+      ordinal = most;
+      account_above = r.account_above;
+      account = r.account;
+      teller_above = r.teller_above;
+      teller = r.teller;
+      branch_above = r.branch_above;
+      branch = r.branch;
+      delta = r.delta;
+      moment = h.moment;
+    }
+
+-- the ordinal of a decided request, by how many were decided before it
+ordinal_within : (n o : ℕ) → eqb (n + 1) o ≡ true → n < 1_000_000_000_000 → (1 ≤ o) × (o ≤ 1_000_000_000_000)
+ordinal_within n o t room = let is : n + 1 ≡ o = eqb-true _ _ t in (omega arith, omega arith)
+
+-- the row of one of the decided requests
+request_sound : (es : List Entry) (o : ℕ) (r : RequestRow) → AreSound es → request_row es o ≡ Some r → IsSoundRequest r
+request_sound [] o r all h = absurd cc
+request_sound (e ∷ es) o r all h =
+    elim (by_test (eqb (length es + 1) o)) [
+      | inl t ↦
+          let is : request_row_of o e ≡ r = (let g = rw t at h in cc) in
+          let range = ordinal_within (length es) o t all.1 in
+          subst IsSoundRequest is (request_row_sound o e all.0 range.0 range.1)
+      | inr f ↦ request_sound es o r all.2 (let g = rw f at h in g)
+    ]
+
+-- the row of one of the postings
+posting_sound : (es : List Entry) (o : ℕ) (r : HistoryRow) → AreSound es → history_row es o ≡ Some r → IsSoundPosting r
+posting_sound [] o r all h = absurd cc
+posting_sound (e ∷ es) o r all h =
+    elim (by_test (is_posted e && eqb (length es + 1) o)) [
+      | inl t ↦
+          let is : history_row_of o e ≡ r = (let g = rw t at h in cc) in
+          let range = ordinal_within (length es) o (both (is_posted e) (eqb (length es + 1) o) t).1 all.1 in
+          subst IsSoundPosting is (posting_row_sound o e all.0 range.0 range.1)
+      | inr f ↦ posting_sound es o r all.2 (let g = rw f at h in g)
+    ]
+
+-- ---- the law
+
+-- the tables of a log of commands are undamaged
+pub undamaged : (t : Tables) (log : List Command) → AreCommands log → Shows t log → IsUndamaged t
+undamaged t log are shows =
+    let s = shows.rows in
+    let es = decided log in
+    let open_ = λ (b : ℕ). opened log b in
+    let all = are_sound log are in
+    let within = stays_within log in
+    let count = decided_shown t open_ es s in
+    record {
+      meta = (length es, s.meta, few_enough es all);
+      tellers = λ n h.
+          ap is_some (s.tellers n)
+          ∙ there (leb 1 n) (is_some (open_ (branch_of_teller n))) (teller_row_of n (teller_balance es n)) (le-leb _ _ h)
+          ∙ sym (is_some-mapped (branch_row_of (branch_of_teller n) (branch_balance es (branch_of_teller n))) (open_ (branch_of_teller n)))
+          ∙ sym (ap is_some (s.branches (branch_of_teller n)));
+      accounts = λ n h.
+          ap is_some (s.accounts n)
+          ∙ there (leb 1 n) (is_within (place_of_account n) (open_ (branch_of_account n))) (account_row_of n (account_balance es n)) (le-leb _ _ h)
+          ∙ ap (is_within (place_of_account n)) (sym (count_shown t open_ es (branch_of_account n) s));
+      each_branch = λ r has.
+          branch_sound (open_ r.branch) r.branch (branch_balance es r.branch) r (open_within log are r.branch) (within.branches r.branch)
+          (sym (s.branches r.branch) ∙ row_at-contained branch_key t.branches r s.branch_keys has);
+      each_teller = λ r has.
+          teller_sound open_ r.teller (teller_balance es r.teller) r (open_within log are) (within.tellers r.teller)
+          (sym (s.tellers r.teller) ∙ row_at-contained teller_key t.tellers r s.teller_keys has);
+      each_account = λ r has.
+          account_sound open_ r.account (account_balance es r.account) r (open_within log are) (within.accounts r.account)
+          (sym (s.accounts r.account) ∙ row_at-contained account_key t.accounts r s.account_keys has);
+      each_request = λ r has.
+          request_sound es r.ordinal r all (sym (s.requests r.ordinal) ∙ row_at-contained request_key t.requests r s.request_keys has);
+      each_posting = λ r has.
+          posting_sound es r.ordinal r all (sym (s.history r.ordinal) ∙ row_at-contained history_key t.history r s.history_keys has);
+      next_request = ap (λ (n : ℕ). row_at request_key t.requests (n + 1)) count ∙ next_is_free t open_ es s;
+      next_posting = ap (λ (n : ℕ). row_at history_key t.history (n + 1)) count ∙ next_has_no_posting t open_ es s;
+    }

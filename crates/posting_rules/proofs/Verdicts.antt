@@ -1,0 +1,113 @@
+-- What a verdict says of what was known.
+use Rattle.std.proofs.Common.{◌≡◌, ℕ, ◌<◌, ◌≤◌, Bool, true, false, cond, eqb, leb, List, length, Option, Some, None, refl, sym, ap, inl, inr}
+use Rattle.std.specs.Prelude.{ℤ, ◌+ℤ◌, nat_abs}
+use Rattle.std.proofs.lemmas.Bool.{eqb-true, leb-true, leb-false}
+use Rattle.message_records.specs.declared.records.Outcome.{Outcome}
+use Rattle.message_records.specs.declared.records.Outcome.TheVariants as outcome
+use Rattle.message_records.specs.Outcomes.{has_balance}
+use Rattle.message_records.specs.Records.{RequestFields, ReplyFields}
+use Rattle.posting_rules.specs.declared.facts.Found.{Found}
+use Rattle.posting_rules.specs.declared.facts.Verdict.{Verdict}
+use Rattle.posting_rules.specs.declared.facts.Verdict.TheVariants.{Unkept, Again, Refused, Posted}
+use Rattle.posting_rules.specs.Kept.{KeptFields}
+use Rattle.posting_rules.specs.Commands.{branch_of_teller, is_teller_open, is_account_open}
+use Rattle.posting_rules.specs.Cases.{case_of, teller_case, known_case, new_case, account_case, posting_of, plus_within, is_same}
+use Rattle.posting_rules.specs.Entries.{Entry, facts, kept, teller_balance, branch_balance, account_balance}
+use Rattle.posting_rules.proofs.Keyed.{by_test}
+
+-- a new balance is the old one with the amount, and within the limit
+pub record IsSum (balance delta new : ℤ) : Type 0 where
+  pub sum : new ≡ balance +ℤ delta
+  pub within : nat_abs new ≤ 999_999_999_999
+
+-- what is so where a request is posted
+pub record IsPosting (opened : ℕ → Option ℕ) (es : List Entry) (r : RequestFields) (account teller branch : ℤ) : Type 0 where
+  pub new : kept es r.teller r.number ≡ None
+  pub room : length es < 1_000_000_000_000
+  pub teller_open : is_teller_open opened r.teller ≡ true
+  pub its_branch : r.branch ≡ branch_of_teller r.teller
+  pub account_open : is_account_open opened r.account ≡ true
+  pub account_is : IsSum (account_balance es r.account) r.delta account
+  pub teller_is : IsSum (teller_balance es r.teller) r.delta teller
+  pub branch_is : IsSum (branch_balance es (branch_of_teller r.teller)) r.delta branch
+
+-- what is so where a request is refused and kept
+pub record IsRefusal (es : List Entry) (r : RequestFields) (outcome : Outcome) : Type 0 where
+  pub new : kept es r.teller r.number ≡ None
+  pub room : length es < 1_000_000_000_000
+  pub unposted : has_balance outcome ≡ false
+
+abbrev pub IsVerdict : (ℕ → Option ℕ) → List Entry → RequestFields → Verdict → Type 0
+IsVerdict opened es r (Unkept outcome) = Unit {0}
+IsVerdict opened es r (Again reply) = Unit {0}
+IsVerdict opened es r (Refused outcome) = IsRefusal es r outcome
+IsVerdict opened es r (Posted account teller branch) = IsPosting opened es r account teller branch
+
+plus_is : (x d y : ℤ) → plus_within x d ≡ Some y → IsSum x d y
+plus_is x d y e =
+    elim (by_test (leb (nat_abs (x +ℤ d)) 999_999_999_999)) [
+      | inl t ↦ let is : x +ℤ d ≡ y = (let h = rw t at e in cc) in
+          record { sum = sym is; within = rw (sym is) (leb-true _ _ t) }
+      | inr f ↦ absurd (let h = rw f at e in cc)
+    ]
+
+-- a value that is there where a test passes
+pub when : {A : Type 0} (b : Bool) (x y : A) → cond b (Some x) None ≡ Some y → (b ≡ true) × (x ≡ y)
+when true x y e = (refl, cc)
+when false x y e = absurd cc
+
+-- the cases one after another, for whatever is to be shown of the verdict
+module _ (P : Verdict → Type 0) where
+  pub by_posting : (a t b : Option ℤ) → P (Refused outcome.OverLimit) → ((x y z : ℤ) → a ≡ Some x → t ≡ Some y → b ≡ Some z → P (Posted x y z)) → P (posting_of a t b)
+  by_posting (Some x) (Some y) (Some z) other given = given x y z refl refl refl
+  by_posting None t b other given = other
+  by_posting (Some x) None b other given = other
+  by_posting (Some x) (Some y) None other given = other
+
+  pub by_account : (o : Option ℤ) (t b d : ℤ) → P (Refused outcome.NoAccount) → ((a : ℤ) → o ≡ Some a → P (posting_of (plus_within a d) (plus_within t d) (plus_within b d))) → P (account_case o t b d)
+  by_account None t b d other given = other
+  by_account (Some a) t b d other given = given a refl
+
+  pub by_new : (f : Found) (r : RequestFields) (t b : ℤ) → P (Unkept outcome.Full) → (f.decided < 1_000_000_000_000 → P (Refused outcome.WrongBranch))
+      → (f.decided < 1_000_000_000_000 → r.branch ≡ branch_of_teller r.teller → P (account_case f.account t b r.delta)) → P (new_case f r t b)
+  by_new f r t b full wrong right =
+      elim (by_test (leb 1_000_000_000_000 f.decided)) [
+        | inl h ↦ rw h full
+        | inr h ↦ let room : f.decided < 1_000_000_000_000 = leb-false _ _ h in
+            rw h (elim (by_test (eqb r.branch (branch_of_teller r.teller))) [
+              | inl e ↦ rw e (right room (eqb-true _ _ e))
+              | inr e ↦ rw e (wrong room)
+            ])
+      ]
+
+  pub by_known : (k : Option KeptFields) (f : Found) (r : RequestFields) (t b : ℤ) → P (Unkept outcome.ReusedNumber) → ((a : ReplyFields) → P (Again a)) → (k ≡ None → P (new_case f r t b)) → P (known_case k f r t b)
+  by_known None f r t b reused again new = new refl
+  by_known (Some k) f r t b reused again new = elim (by_test (is_same k r)) [ inl h ↦ rw h (again _) | inr h ↦ rw h reused ]
+
+  pub by_teller : (o : Option (ℤ × ℤ)) (f : Found) (r : RequestFields) → P (Unkept outcome.NoTeller) → ((z : ℤ × ℤ) → o ≡ Some z → P (known_case f.kept f r z.0 z.1)) → P (teller_case o f r)
+  by_teller None f r closed some = closed
+  by_teller (Some z) f r closed some = some z refl
+
+-- what the case of a request says, by what stands before it
+pub verdict_is : (opened : ℕ → Option ℕ) (es : List Entry) (r : RequestFields) → IsVerdict opened es r (case_of (facts opened es r) r)
+unfolding case_of
+verdict_is opened es r =
+    let f = facts opened es r in
+    let P = λ (v : Verdict). IsVerdict opened es r v in
+    by_teller P f.teller f r tt (λ z tellers.
+    by_known P f.kept f r z.0 z.1 tt (λ a. tt) (λ new.
+    by_new P f r z.0 z.1 tt (λ room. record { new = new; room = room; unposted = refl }) (λ room its.
+    by_account P f.account z.0 z.1 r.delta (record { new = new; room = room; unposted = refl }) (λ a accounts.
+    by_posting P (plus_within a r.delta) (plus_within z.0 r.delta) (plus_within z.1 r.delta) (record { new = new; room = room; unposted = refl }) (λ x y w ex ey ew.
+    let open_t = when (is_teller_open opened r.teller) (teller_balance es r.teller, branch_balance es (branch_of_teller r.teller)) z tellers in
+    let open_a = when (is_account_open opened r.account) (account_balance es r.account) a accounts in
+    record {
+      new = new;
+      room = room;
+      teller_open = open_t.0;
+      its_branch = its;
+      account_open = open_a.0;
+      account_is = rw open_a.1 (plus_is a r.delta x ex);
+      teller_is = let e : teller_balance es r.teller ≡ z.0 = ap (λ (v : ℤ × ℤ). v.0) open_t.1 in rw e (plus_is z.0 r.delta y ey);
+      branch_is = let e : branch_balance es (branch_of_teller r.teller) ≡ z.1 = ap (λ (v : ℤ × ℤ). v.1) open_t.1 in rw e (plus_is z.1 r.delta w ew);
+    })))))

@@ -1,0 +1,80 @@
+-- What becomes of a request, by what is known where it comes in: the first case that applies.
+use Rattle.std.specs.Prelude.{ℤ, ◌+ℤ◌, Option, Some, None, Bool, true, false, ◌==◌, ◌&&◌, nat_le, ◌<◌, IsTrue, if◌then◌else◌}
+use Rattle.std.specs.Ordering.{int_eq}
+use Rattle.message_records.specs.declared.records.Outcome.{Outcome}
+use Rattle.message_records.specs.declared.records.Outcome.TheVariants as outcome
+use Rattle.message_records.specs.Ranges.{cents_within}
+use Rattle.message_records.specs.Records.{RequestFields, ReplyFields}
+use Rattle.posting_rules.specs.declared.facts.Found.{Found}
+use Rattle.posting_rules.specs.declared.facts.Verdict.{Verdict}
+use Rattle.posting_rules.specs.declared.facts.Verdict.TheVariants.{Unkept, Again, Refused, Posted}
+use Rattle.posting_rules.specs.Commands.{branch_of_teller}
+use Rattle.posting_rules.specs.Kept.{KeptFields}
+
+-- the kept request has the content of this one
+abbrev pub is_same : KeptFields → RequestFields → Bool
+is_same k r = (k.account == r.account) && ((k.branch == r.branch) && int_eq k.delta r.delta)
+
+abbrev pub balance_shown : Outcome → ℤ → Option ℤ
+balance_shown outcome.Posted z = Some z
+balance_shown _ z = None
+
+-- the reply that the kept request got
+abbrev pub kept_reply : KeptFields → RequestFields → ReplyFields
+kept_reply k r = record { outcome = k.outcome; request = Some r; balance = balance_shown k.outcome k.balance }
+
+-- a balance with an amount added, where it stays within the limit (TPC-B 1.2)
+abbrev pub plus_within : ℤ → ℤ → Option ℤ
+plus_within balance delta = cents_within 999_999_999_999 (balance +ℤ delta)
+
+abbrev pub posting_of : Option ℤ → Option ℤ → Option ℤ → Verdict
+posting_of (Some account) (Some teller) (Some branch) = Posted account teller branch
+posting_of _ _ _ = Refused outcome.OverLimit
+
+abbrev pub account_case : Option ℤ → ℤ → ℤ → ℤ → Verdict
+account_case None teller branch delta = Refused outcome.NoAccount
+account_case (Some account) teller branch delta = posting_of (plus_within account delta) (plus_within teller delta) (plus_within branch delta)
+
+abbrev pub new_case : Found → RequestFields → ℤ → ℤ → Verdict
+new_case f r teller branch =
+    if nat_le 1_000_000_000_000 f.decided then Unkept outcome.Full
+    else if r.branch == branch_of_teller r.teller then account_case f.account teller branch r.delta
+    else Refused outcome.WrongBranch
+
+abbrev pub known_case : Option KeptFields → Found → RequestFields → ℤ → ℤ → Verdict
+known_case None f r teller branch = new_case f r teller branch
+known_case (Some k) f r teller branch = if is_same k r then Again (kept_reply k r) else Unkept outcome.ReusedNumber
+
+abbrev pub teller_case : Option (ℤ × ℤ) → Found → RequestFields → Verdict
+teller_case None f r = Unkept outcome.NoTeller
+teller_case (Some balances) f r = known_case f.kept f r balances.0 balances.1
+
+unfoldable pub case_of : Found → RequestFields → Verdict
+case_of f r = teller_case f.teller f r
+
+-- the reply in each case
+abbrev pub reply_in : Verdict → RequestFields → ReplyFields
+reply_in (Unkept outcome) r = record { outcome = outcome; request = Some r; balance = None }
+reply_in (Again reply) r = reply
+reply_in (Refused outcome) r = record { outcome = outcome; request = Some r; balance = None }
+reply_in (Posted account teller branch) r = record { outcome = outcome.Posted; request = Some r; balance = Some account }
+
+-- an outcome that isn't kept, and one that is kept without a posting
+abbrev pub is_unkept : Outcome → Bool
+is_unkept outcome.NoTeller = true
+is_unkept outcome.ReusedNumber = true
+is_unkept outcome.Full = true
+is_unkept _ = false
+
+abbrev pub is_refusal : Outcome → Bool
+is_refusal outcome.WrongBranch = true
+is_refusal outcome.NoAccount = true
+is_refusal outcome.OverLimit = true
+is_refusal _ = false
+
+-- each outcome is one of its verdict, and there is room for what is to be kept
+abbrev pub IsProper : Found → Verdict → Type 0
+IsProper f (Unkept outcome) = IsTrue (is_unkept outcome)
+IsProper f (Again reply) = Unit {0}
+IsProper f (Refused outcome) = IsTrue (is_refusal outcome) × (f.decided < 1_000_000_000_000)
+IsProper f (Posted account teller branch) = f.decided < 1_000_000_000_000

@@ -1,0 +1,104 @@
+-- What a counter shows, what a stop may leave of it, and what a call does to both.
+use Rattle.std.specs.Prelude.{ℕ, ◌≤◌, List, length, take, Option, Some, None, ◌==◌, if◌then◌else◌}
+use Rattle.posting_rules.specs.declared.fault.Fault.{Fault}
+use Rattle.posting_rules.specs.declared.fault.Fault.TheVariants.{Memory, Store, Down, Damaged}
+use Rattle.posting_rules.specs.declared.counter.Opening.{Opening}
+use Rattle.posting_rules.specs.declared.counter.Opening.TheVariants.{Opened, Already, Differs}
+use Rattle.posting_rules.specs.Commands.{Command, AreCommands, opened}
+use Rattle.posting_rules.specs.Tables.{Tables, Shows}
+use Rattle.posting_rules.specs.Runs.{behind}
+
+-- what is known of a counter at one moment
+pub record Seen : Type 1 where
+  -- these are its tables; where it keeps no bank, there are none
+  pub tables : Tables → Type 0
+  -- it failed earlier, and answers nothing more
+  pub is_down : Type 0
+  -- what is found where it was stopped, such as a file
+  pub Remains : Type 0
+  -- a stop at this moment may leave this
+  pub left : Remains → Type 0
+  -- this is a bank, with these tables
+  pub found : Remains → Tables → Type 0
+  -- nobody else wrote what it keeps, and what it keeps is what was written
+  pub honest : Type 0
+
+-- its tables are those of a log of commands
+pub record ShowsLog (seen : Seen) (log : List Command) : Type 0 where
+  pub commands : AreCommands log
+  pub tables : Tables
+  pub are : seen.tables tables
+  pub shows : Shows tables log
+
+-- everything that a stop may leave is a bank, of whose tables P holds
+abbrev pub LeavesOnly : Seen → (Tables → Type 0) → Type 0
+LeavesOnly seen P = (remains : seen.Remains) → seen.left remains → (t : Tables) × seen.found remains t × P t
+
+-- whatever a stop may leave now is the bank that it could leave before
+abbrev pub LeavesNoMore : Seen → Seen → Type 0
+LeavesNoMore old new = (remains : new.Remains) → new.left remains
+    → (before : old.Remains) × old.left before × ((t : Tables) → old.found before t → new.found remains t)
+
+-- it shows the log, and so does everything that a stop may leave
+pub record StandsAt (seen : Seen) (log : List Command) : Type 0 where
+  pub shows : ShowsLog seen log
+  pub up : seen.is_down → ⊥
+  pub stop : LeavesOnly seen (λ t. Shows t log)
+
+-- the tables show the log and then a beginning of the commands, so many of them at least
+pub record ShowsBeginning (log commands : List Command) (least : ℕ) (tables : Tables) : Type 0 where
+  pub count : ℕ
+  pub holds : least ≤ count
+  pub within : count ≤ length commands
+  pub shows : Shows tables (behind log (take count commands))
+
+-- ---- what a call that was given some commands did
+
+-- whatever log was shown, it is shown with the commands behind it
+abbrev pub ShowMore : Seen → Seen → List Command → Type 0
+ShowMore old new commands = (log : List Command) → ShowsLog old log → ShowsLog new (behind log commands)
+
+-- it took them all
+pub record Takes (old new : Seen) (commands : List Command) : Type 0 where
+  pub shows : new.honest → ShowMore old new commands
+  pub stands : new.honest → (log : List Command) → StandsAt old log → StandsAt new (behind log commands)
+
+-- it changed nothing
+pub record IsUnchanged (old new : Seen) : Type 0 where
+  pub tables : (t : Tables) → old.tables t → new.tables t
+  pub down : new.is_down → old.is_down
+  pub left : LeavesNoMore old new
+
+-- the store failed in it: a stop may leave any beginning of the commands
+pub record IsCutShort (old new : Seen) (commands : List Command) : Type 0 where
+  pub down : new.is_down
+  pub stop : new.honest → (log : List Command) → StandsAt old log → LeavesOnly new (ShowsBeginning log commands 0)
+
+-- it tried nothing, since the counter was down
+pub record WasDown (old new : Seen) : Type 0 where
+  pub before : old.is_down
+  pub after : new.is_down
+  pub tables : new.honest → (t : Tables) → old.tables t → new.tables t
+  pub left : LeavesNoMore old new
+
+-- it met rows that no log leads to, and changed none of them
+pub record IsDamaged (old new : Seen) : Type 0 where
+  pub never_shown : new.honest → (log : List Command) → ShowsLog old log → ⊥
+  pub down : new.is_down
+  pub tables : new.honest → (t : Tables) → old.tables t → new.tables t
+
+-- what each refusal says
+abbrev pub Refuses : Fault → Seen → Seen → List Command → Type 0
+Refuses Memory old new commands = IsUnchanged old new
+Refuses Store old new commands = IsCutShort old new commands
+Refuses Down old new commands = WasDown old new
+Refuses (Damaged rule) old new commands = IsDamaged old new
+
+-- ---- the answer to an opening
+
+abbrev pub opening_for : Option ℕ → ℕ → Opening
+opening_for None count = Opened
+opening_for (Some n) count = if n == count then Already else Differs
+
+abbrev pub opening_behind : List Command → ℕ → ℕ → Opening
+opening_behind log branch count = opening_for (opened log branch) count

@@ -1,0 +1,72 @@
+-- What holds of every log: the consistency condition (TPC-B clause 2) and what else a banker relies on.
+use Rattle.std.specs.Prelude.{◌≡◌, ◌≤◌, ℕ, ℤ, pos, ◌+ℤ◌, nat_abs, List, [], ◌∷◌, map, filter, Option, Some, None, true, ◌==◌, AllPairs}
+use Rattle.std.specs.List.{AllByRecursion}
+use Rattle.message_records.specs.Outcomes.{has_balance}
+use Rattle.posting_rules.specs.declared.rows.TellerRow.{TellerRow}
+use Rattle.posting_rules.specs.declared.rows.HistoryRow.{HistoryRow}
+use Rattle.posting_rules.specs.declared.rows.RequestRow.{RequestRow}
+use Rattle.posting_rules.specs.Commands.{Command, AreCommands, branch_of_teller}
+use Rattle.posting_rules.specs.Entries.{Entry, decided, account_balance, teller_balance, branch_balance}
+use Rattle.posting_rules.specs.Tables.{Tables, Shows, row_at, history_key, request_key}
+use Rattle.posting_rules.specs.LookUps.{balance_of_branch, balance_of_teller, balance_of_account}
+use Rattle.posting_rules.specs.Runs.{replies_to}
+
+-- ---- each request once
+
+-- two decided requests have different tellers or different numbers
+abbrev pub Differ : Entry → Entry → Type 0
+Differ d e = d.request.teller ≡ e.request.teller → d.request.number ≡ e.request.number → ⊥
+
+-- no two decided requests share teller and number
+abbrev pub NoneShares : Type 0
+NoneShares = (log : List Command) → AllPairs Differ (decided log)
+
+-- ---- balances
+
+-- every balance stays within the limit
+pub record StaysWithin (log : List Command) : Type 0 where
+  pub accounts : (a : ℕ) → nat_abs (account_balance (decided log) a) ≤ 999_999_999_999
+  pub tellers : (t : ℕ) → nat_abs (teller_balance (decided log) t) ≤ 999_999_999_999
+  pub branches : (b : ℕ) → nat_abs (branch_balance (decided log) b) ≤ 999_999_999_999
+
+abbrev pub BalancesStayWithin : Type 0
+BalancesStayWithin = (log : List Command) → StaysWithin log
+
+-- ---- the consistency condition, on tables alone
+
+abbrev pub total : List ℤ → ℤ
+total [] = pos 0
+total (z ∷ zs) = z +ℤ total zs
+
+abbrev pub delta_of : HistoryRow → ℤ
+delta_of r = r.delta
+
+-- the tellers that a branch's number gives
+abbrev pub tellers_of : ℕ → List TellerRow → List TellerRow
+tellers_of b rows = filter (λ r. branch_of_teller r.teller == b) rows
+
+-- under an ordinal there is neither a posted request nor a row of history, or there are both, and they agree
+abbrev pub Match : Option RequestRow → Option HistoryRow → Type 0
+Match None None = Unit {0}
+Match (Some r) None = has_balance r.kept.outcome ≡ true → ⊥
+Match None (Some h) = ⊥
+Match (Some r) (Some h) = (has_balance r.kept.outcome ≡ true) × (h.account ≡ r.kept.account) × (h.teller ≡ r.teller) × (h.branch ≡ r.kept.branch) × (h.delta ≡ r.kept.delta)
+
+pub record IsConsistent (t : Tables) : Type 0 where
+  -- accounts, tellers and branches have one sum
+  pub tellers : total (map balance_of_teller t.tellers) ≡ total (map balance_of_account t.accounts)
+  pub branches : total (map balance_of_branch t.branches) ≡ total (map balance_of_account t.accounts)
+  -- each branch has the sum of its tellers
+  pub each_branch : AllByRecursion (λ r. total (map balance_of_teller (tellers_of r.branch t.tellers)) ≡ r.balance) t.branches
+  -- history has a row for each posted request and no other, and its deltas have that sum too
+  pub matched : (o : ℕ) → Match (row_at request_key t.requests o) (row_at history_key t.history o)
+  pub history : total (map delta_of t.history) ≡ total (map balance_of_account t.accounts)
+
+abbrev pub TablesAreConsistent : Type 0
+TablesAreConsistent = (t : Tables) (log : List Command) → Shows t log → IsConsistent t
+
+-- ---- the tables say all that matters of a log
+
+-- logs with equal tables give equal replies to whatever follows
+abbrev pub EqualTablesAnswerAlike : Type 0
+EqualTablesAnswerAlike = (t : Tables) (one two cs : List Command) → Shows t one → Shows t two → AreCommands cs → replies_to one cs ≡ replies_to two cs

@@ -1,0 +1,16 @@
+pub mod Rules
+pub mod Commands
+pub mod Kept
+pub mod Cases
+pub mod Entries
+pub mod Tables
+pub mod Rows
+pub mod LookUps
+pub mod Steps
+pub mod Appended
+pub mod Runs
+pub mod Stated
+pub mod Laws
+pub mod Damage
+pub mod Counter
+pub mod Resends

@@ -1,0 +1,64 @@
+-- What a counter looks up in its tables, by keys alone: the order of the rows doesn't matter.
+use Rattle.std.specs.Prelude.{ℕ, ℤ, List, [], ◌∷◌, Option, Some, None, ◌==◌, ◌&&◌}
+use Rattle.std.specs.List.{find}
+use Rattle.std.specs.Option.{option_map}
+use Rattle.message_records.specs.Records.{RequestFields}
+use Rattle.posting_rules.specs.declared.facts.Found.{Found}
+use Rattle.posting_rules.specs.declared.rows.MetaRow.{MetaRow}
+use Rattle.posting_rules.specs.declared.rows.BranchRow.{BranchRow}
+use Rattle.posting_rules.specs.declared.rows.TellerRow.{TellerRow}
+use Rattle.posting_rules.specs.declared.rows.AccountRow.{AccountRow}
+use Rattle.posting_rules.specs.declared.rows.RequestRow.{RequestRow}
+use Rattle.posting_rules.specs.Commands.{branch_of_teller}
+use Rattle.posting_rules.specs.Kept.{KeptFields}
+use Rattle.posting_rules.specs.Tables.{Tables, row_at, branch_key, teller_key, account_key}
+
+-- how many requests are decided
+abbrev pub decided_in : List MetaRow → ℕ
+decided_in [] = 0
+decided_in (row ∷ rows) = row.decided
+
+abbrev pub count_of_branch : BranchRow → ℕ
+count_of_branch r = r.accounts
+
+-- how many accounts a branch is open with
+abbrev pub count_in : Tables → ℕ → Option ℕ
+count_in t b = option_map count_of_branch (row_at branch_key t.branches b)
+
+abbrev pub balance_of_branch : BranchRow → ℤ
+balance_of_branch r = r.balance
+
+abbrev pub balance_of_teller : TellerRow → ℤ
+balance_of_teller r = r.balance
+
+abbrev pub balance_of_account : AccountRow → ℤ
+balance_of_account r = r.balance
+
+abbrev pub account_balance_in : Tables → ℕ → Option ℤ
+account_balance_in t a = option_map balance_of_account (row_at account_key t.accounts a)
+
+-- both, where both are there
+abbrev pub both_of : Option ℤ → Option ℤ → Option (ℤ × ℤ)
+both_of (Some x) (Some y) = Some (x, y)
+both_of _ _ = None
+
+-- the balances of a teller and of the branch that its number gives
+abbrev pub teller_balances_in : Tables → ℕ → Option (ℤ × ℤ)
+teller_balances_in t n =
+    both_of (option_map balance_of_teller (row_at teller_key t.tellers n)) (option_map balance_of_branch (row_at branch_key t.branches (branch_of_teller n)))
+
+abbrev pub kept_of_row : RequestRow → KeptFields
+kept_of_row r = r.kept
+
+-- the request that the rows keep under a teller and a number
+abbrev pub kept_in : List RequestRow → ℕ → ℕ → Option KeptFields
+kept_in rows t n = option_map kept_of_row (find (λ r. (r.teller == t) && (r.number == n)) rows)
+
+-- all that is looked up for a request
+abbrev pub found_in : Tables → RequestFields → Found
+found_in t r = record {
+  teller = teller_balances_in t r.teller;
+  kept = kept_in t.requests r.teller r.number;
+  decided = decided_in t.meta;
+  account = account_balance_in t r.account;
+}

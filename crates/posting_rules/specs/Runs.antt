@@ -1,0 +1,26 @@
+-- Commands one after another.
+use Rattle.std.specs.Prelude.{ℕ, List, [], ◌∷◌, map}
+use Rattle.message_records.specs.Spelling.{reply_spelling}
+use Rattle.posting_rules.specs.Commands.{Command, Open, Post}
+use Rattle.posting_rules.specs.Entries.{reply}
+
+-- the log with these commands behind it, the first of them first
+abbrev pub behind : List Command → List Command → List Command
+behind log [] = log
+behind log (c ∷ cs) = behind (c ∷ log) cs
+
+-- records that are posted at one moment
+abbrev pub posts : ℕ → List (List ℕ) → List Command
+posts moment records = map (Post moment) records
+
+-- the replies to what is posted, in order
+abbrev pub replies_to : List Command → List Command → List (List ℕ)
+replies_to log [] = []
+replies_to log (Open branch count ∷ cs) = replies_to (Open branch count ∷ log) cs
+replies_to log (Post moment bytes ∷ cs) = reply_spelling (reply log bytes) ∷ replies_to (Post moment bytes ∷ log) cs
+
+-- no branch is opened among them
+abbrev pub ArePosts : List Command → Type 0
+ArePosts [] = Unit {0}
+ArePosts (Open branch count ∷ cs) = ⊥
+ArePosts (Post moment bytes ∷ cs) = ArePosts cs

@@ -1,0 +1,82 @@
+-- What becomes of a record, said case by case in the words of the profile, of what stands before it.
+use Rattle.std.specs.Prelude.{◌≡◌, ◌≢◌, ◌≤◌, ◌<◌, ◌↔◌, ℕ, ℤ, ◌+ℤ◌, nat_abs, List, ◌∷◌, length, Some, None, Ok, Err, true, false}
+use Rattle.message_records.specs.declared.records.Outcome.{Outcome}
+use Rattle.message_records.specs.declared.records.Outcome.TheVariants as outcome
+use Rattle.message_records.specs.declared.faults.Bad.{Bad}
+use Rattle.message_records.specs.Records.{RequestFields, ReplyFields}
+use Rattle.message_records.specs.Reading.{request_of}
+use Rattle.posting_rules.specs.Commands.{Command, Post, opened, branch_of_teller, is_teller_open, is_account_open}
+use Rattle.posting_rules.specs.Kept.{KeptFields}
+use Rattle.posting_rules.specs.Cases.{balance_shown}
+use Rattle.posting_rules.specs.Entries.{Entry, is_posted, kept, account_balance, teller_balance, branch_balance, decided, malformed_reply, reply}
+
+-- the bytes are this request, and its teller is open
+pub record Names (before : List Command) (bytes : List ℕ) (r : RequestFields) : Type 0 where
+  pub read : request_of bytes ≡ Ok r
+  pub teller : is_teller_open (λ b. opened before b) r.teller ≡ true
+
+-- a record is decided where it names a request, nothing is kept under the teller and number, and there is room
+pub record IsDecided (before : List Command) (bytes : List ℕ) (r : RequestFields) : Type 0 where
+  pub names : Names before bytes r
+  pub new : kept (decided before) r.teller r.number ≡ None
+  pub room : length (decided before) < 1_000_000_000_000
+
+abbrev pub IsWithin : ℤ → Type 0
+IsWithin z = nat_abs z ≤ 999_999_999_999
+
+-- a decided request is posted where the branch is its teller's, its account is open, and the account, the teller and
+-- the branch stay within the limit (TPC-B 1.2)
+pub record IsPosted (before : List Command) (r : RequestFields) : Type 0 where
+  pub branch : r.branch ≡ branch_of_teller r.teller
+  pub account : is_account_open (λ b. opened before b) r.account ≡ true
+  pub account_limit : IsWithin (account_balance (decided before) r.account +ℤ r.delta)
+  pub teller_limit : IsWithin (teller_balance (decided before) r.teller +ℤ r.delta)
+  pub branch_limit : IsWithin (branch_balance (decided before) r.branch +ℤ r.delta)
+
+-- ---- which records are decided, and which are posted
+
+-- the record adds this entry to those that are decided
+pub record AddsEntry (before : List Command) (moment : ℕ) (bytes : List ℕ) (r : RequestFields) (e : Entry) : Type 0 where
+  pub adds : decided (Post moment bytes ∷ before) ≡ e ∷ decided before
+  pub at_moment : e.moment ≡ moment
+  pub of_request : e.request ≡ r
+  pub posted : (is_posted e ≡ true) ↔ IsPosted before r
+
+pub record DecidesAsStated (before : List Command) (moment : ℕ) (bytes : List ℕ) : Type 0 where
+  pub where_decided : (r : RequestFields) → IsDecided before bytes r → (e : Entry) × AddsEntry before moment bytes r e
+  pub otherwise : ((r : RequestFields) → IsDecided before bytes r → ⊥) → decided (Post moment bytes ∷ before) ≡ decided before
+
+-- ---- the reply, by the first case that applies
+
+abbrev pub refusal : Outcome → RequestFields → ReplyFields
+refusal outcome r = record { outcome = outcome; request = Some r; balance = None }
+
+-- the kept request has this content
+pub record HasContent (k : KeptFields) (r : RequestFields) : Type 0 where
+  pub account : k.account ≡ r.account
+  pub branch : k.branch ≡ r.branch
+  pub delta : k.delta ≡ r.delta
+
+pub record RepliesAsStated (before : List Command) (bytes : List ℕ) : Type 0 where
+  pub malformed : (fault : Bad) → request_of bytes ≡ Err fault → reply before bytes ≡ malformed_reply
+  pub no_teller : (r : RequestFields) → request_of bytes ≡ Ok r → is_teller_open (λ b. opened before b) r.teller ≡ false → reply before bytes ≡ refusal outcome.NoTeller r
+  pub again : (r : RequestFields) (k : KeptFields) → Names before bytes r → kept (decided before) r.teller r.number ≡ Some k → HasContent k r
+      → reply before bytes ≡ record { outcome = k.outcome; request = Some r; balance = balance_shown k.outcome k.balance }
+  pub reused_number : (r : RequestFields) (k : KeptFields) → Names before bytes r → kept (decided before) r.teller r.number ≡ Some k → (HasContent k r → ⊥)
+      → reply before bytes ≡ refusal outcome.ReusedNumber r
+  pub full : (r : RequestFields) → Names before bytes r → kept (decided before) r.teller r.number ≡ None → 1_000_000_000_000 ≤ length (decided before)
+      → reply before bytes ≡ refusal outcome.Full r
+  pub wrong_branch : (r : RequestFields) → IsDecided before bytes r → r.branch ≢ branch_of_teller r.teller → reply before bytes ≡ refusal outcome.WrongBranch r
+  pub no_account : (r : RequestFields) → IsDecided before bytes r → r.branch ≡ branch_of_teller r.teller → is_account_open (λ b. opened before b) r.account ≡ false
+      → reply before bytes ≡ refusal outcome.NoAccount r
+  pub over_limit : (r : RequestFields) → IsDecided before bytes r → r.branch ≡ branch_of_teller r.teller → is_account_open (λ b. opened before b) r.account ≡ true
+      → (IsPosted before r → ⊥) → reply before bytes ≡ refusal outcome.OverLimit r
+  pub posted : (r : RequestFields) → IsDecided before bytes r → IsPosted before r
+      → reply before bytes ≡ record { outcome = outcome.Posted; request = Some r; balance = Some (account_balance (decided before) r.account +ℤ r.delta) }
+
+-- of every record behind every log
+abbrev pub DecidedAsStated : Type 0
+DecidedAsStated = (before : List Command) (moment : ℕ) (bytes : List ℕ) → DecidesAsStated before moment bytes
+
+abbrev pub RepliedAsStated : Type 0
+RepliedAsStated = (before : List Command) (bytes : List ℕ) → RepliesAsStated before bytes

@@ -1,0 +1,91 @@
+-- How a verdict, and an opening, change tables. Each speaks of look-ups by key, so that the rows may stand in any order.
+use Rattle.std.specs.Prelude.{◌≡◌, ℕ, ◌+◌, ◌-◌, ◌*◌, ℤ, pos, List, [], ◌∷◌, Some, Bool, ◌==◌, ◌&&◌, nat_le, nat_lt, if◌then◌else◌}
+use Rattle.std.specs.Option.{option_map}
+use Rattle.message_records.specs.Records.{RequestFields}
+use Rattle.posting_rules.specs.declared.facts.Verdict.{Verdict}
+use Rattle.posting_rules.specs.declared.facts.Verdict.TheVariants.{Unkept, Again, Refused, Posted}
+use Rattle.posting_rules.specs.declared.rows.MetaRow.{MetaRow}
+use Rattle.posting_rules.specs.declared.rows.BranchRow.{BranchRow}
+use Rattle.posting_rules.specs.declared.rows.TellerRow.{TellerRow}
+use Rattle.posting_rules.specs.declared.rows.AccountRow.{AccountRow}
+use Rattle.posting_rules.specs.Commands.{branch_of_teller}
+use Rattle.posting_rules.specs.Entries.{Entry, refused_entry, posted_entry}
+use Rattle.posting_rules.specs.Tables.{Tables, row_at, HasKeys, branch_key, teller_key, account_key, history_key, request_key, branch_row_of, teller_row_of, account_row_of, request_row_of, history_row_of}
+
+-- ---- rows of one table
+
+-- the row under this key is changed, and no other
+pub record ChangesRow {R : Type 0} (key : R → ℕ) (k : ℕ) (change : R → R) (old new : List R) : Type 0 where
+  pub rows : (n : ℕ) → row_at key new n ≡ option_map (λ r. if k == n then change r else r) (row_at key old n)
+  pub keys : HasKeys key new
+
+-- this row is added, and no other
+pub record AddsRow {R : Type 0} (key : R → ℕ) (row : R) (old new : List R) : Type 0 where
+  pub rows : (n : ℕ) → row_at key new n ≡ (if key row == n then Some row else row_at key old n)
+  pub keys : HasKeys key new
+
+-- so many numbers from this one on
+abbrev pub is_from : ℕ → ℕ → ℕ → Bool
+is_from first count n = nat_le first n && nat_lt n (first + count)
+
+-- a row is added for each of so many numbers, and no other
+pub record AddsRows {R : Type 0} (key : R → ℕ) (row : ℕ → R) (first count : ℕ) (old new : List R) : Type 0 where
+  pub rows : (n : ℕ) → row_at key new n ≡ (if is_from first count n then Some (row n) else row_at key old n)
+  pub keys : HasKeys key new
+
+-- ---- a verdict
+
+abbrev pub with_branch_balance : ℤ → BranchRow → BranchRow
+with_branch_balance z r = record { branch = r.branch; accounts = r.accounts; balance = z }
+
+abbrev pub with_teller_balance : ℤ → TellerRow → TellerRow
+with_teller_balance z r = record { teller = r.teller; balance = z }
+
+abbrev pub with_account_balance : ℤ → AccountRow → AccountRow
+with_account_balance z r = record { account = r.account; balance = z }
+
+-- the row of meta where so many are decided
+abbrev pub meta_row_of : ℕ → MetaRow
+meta_row_of decided = record { id = 1; version = 1; decided = decided }
+
+-- a refused request is kept under this ordinal
+pub record KeepsRefusal (old new : Tables) (ordinal : ℕ) (e : Entry) : Type 0 where
+  pub meta : new.meta ≡ meta_row_of ordinal ∷ []
+  pub branches : new.branches ≡ old.branches
+  pub tellers : new.tellers ≡ old.tellers
+  pub accounts : new.accounts ≡ old.accounts
+  pub history : new.history ≡ old.history
+  pub requests : AddsRow request_key (request_row_of ordinal e) old.requests new.requests
+
+-- a posting is kept under this ordinal, with the new balances of its account, its teller and its branch (TPC-B 1.2)
+pub record KeepsPosting (old new : Tables) (ordinal : ℕ) (e : Entry) (teller branch : ℤ) : Type 0 where
+  pub meta : new.meta ≡ meta_row_of ordinal ∷ []
+  pub branches : ChangesRow branch_key (branch_of_teller e.request.teller) (with_branch_balance branch) old.branches new.branches
+  pub tellers : ChangesRow teller_key e.request.teller (with_teller_balance teller) old.tellers new.tellers
+  pub accounts : ChangesRow account_key e.request.account (with_account_balance e.balance) old.accounts new.accounts
+  pub history : AddsRow history_key (history_row_of ordinal e) old.history new.history
+  pub requests : AddsRow request_key (request_row_of ordinal e) old.requests new.requests
+
+-- what a verdict on a request does to the tables, where this is the next ordinal
+abbrev pub IsStep : Tables → Tables → ℕ → ℕ → RequestFields → Verdict → Type 0
+IsStep old new ordinal moment r (Unkept outcome) = new ≡ old
+IsStep old new ordinal moment r (Again reply) = new ≡ old
+IsStep old new ordinal moment r (Refused outcome) = KeepsRefusal old new ordinal (refused_entry moment r outcome)
+IsStep old new ordinal moment r (Posted account teller branch) = KeepsPosting old new ordinal (posted_entry moment r account) teller branch
+
+-- ---- an opening
+
+abbrev pub first_teller : ℕ → ℕ
+first_teller b = 10 * (b - 1) + 1
+
+abbrev pub first_account : ℕ → ℕ
+first_account b = 100_000 * (b - 1) + 1
+
+-- a branch is there, with its ten tellers and its accounts, all at zero
+pub record OpensBranch (old new : Tables) (b count : ℕ) : Type 0 where
+  pub meta : new.meta ≡ old.meta
+  pub branches : AddsRow branch_key (branch_row_of b (pos 0) count) old.branches new.branches
+  pub tellers : AddsRows teller_key (λ n. teller_row_of n (pos 0)) (first_teller b) 10 old.tellers new.tellers
+  pub accounts : AddsRows account_key (λ n. account_row_of n (pos 0)) (first_account b) count old.accounts new.accounts
+  pub history : new.history ≡ old.history
+  pub requests : new.requests ≡ old.requests

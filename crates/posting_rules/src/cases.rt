@@ -1,0 +1,84 @@
+//! Judges a request by what was looked up for it.
+ghost use Rattle.std.specs.Prelude.{◌≡◌, ◌≤◌};
+ghost use Rattle.posting_rules.specs.Commands.{branch_of_teller};
+ghost use Rattle.posting_rules.specs.Cases.{case_of, plus_within, IsProper, reply_in};
+
+use crate::facts::{Found, MAX_DECIDED, Verdict};
+use message_records::{Cents, Outcome, Reply, Request, Teller};
+
+/// Every branch has ten tellers (the scaling of TPC-B).
+pub const TELLERS_PER_BRANCH: u64 = 10;
+
+/// How many numbers of accounts a branch has (the scaling of TPC-B).
+pub const ACCOUNTS_PER_BRANCH: u64 = 100_000;
+
+/// The number of the branch that a teller's number gives.
+pub fn branch_of_teller(teller: Teller) -> u64
+    ensures { result ≡ branch_of_teller teller }
+{
+    (teller.get() - 1) / TELLERS_PER_BRANCH + 1
+}
+
+// The balance with the amount added, where it stays within the limit.
+fn plus(balance: Cents, delta: Cents) -> Option<Cents>
+    ensures { result ≡ plus_within balance delta }
+{
+    Cents::new(balance.get() + delta.get())
+}
+
+/// What becomes of a request: the first case that applies, in the order of the tests here. It takes no memory.
+#[tactic(auto, unfolding(crate::specs::Cases::case_of))]
+pub fn judge(found: &Found, request: &Request) -> Verdict
+    requires { found.now.decided ≤ 1_000_000_000_000 }
+    ensures value { result ≡ case_of found.now request.now }
+    ensures proper { IsProper found.now result }
+{
+    let Some((teller, branch)) = found.teller else {
+        return Verdict::Unkept(Outcome::NoTeller);
+    };
+    if let Some(kept) = &found.kept {
+        return if kept.is_same(request) {
+            Verdict::Again(kept.reply(request))
+        } else {
+            Verdict::Unkept(Outcome::ReusedNumber)
+        };
+    }
+    if found.decided >= MAX_DECIDED {
+        return Verdict::Unkept(Outcome::Full);
+    }
+    if request.branch().get() != branch_of_teller(request.teller()) {
+        return Verdict::Refused(Outcome::WrongBranch);
+    }
+    let Some(account) = found.account else {
+        return Verdict::Refused(Outcome::NoAccount);
+    };
+    let delta = request.delta();
+    match (
+        plus(account, delta),
+        plus(teller, delta),
+        plus(branch, delta),
+    ) {
+        (Some(account), Some(teller), Some(branch)) => Verdict::Posted {
+            account,
+            teller,
+            branch,
+        },
+        _ => Verdict::Refused(Outcome::OverLimit),
+    }
+}
+
+/// The reply that tells a verdict.
+pub fn reply_to(found: &Found, request: &Request, verdict: &Verdict) -> Reply
+    requires { IsProper found.now verdict.now }
+    ensures { result ≡ reply_in verdict.now request.now }
+{
+    match verdict {
+        Verdict::Unkept(outcome) | Verdict::Refused(outcome) => {
+            Reply::new(*outcome, Some(*request), None).unwrap()
+        }
+        Verdict::Again(reply) => *reply,
+        Verdict::Posted { account, .. } => {
+            Reply::new(Outcome::Posted, Some(*request), Some(*account)).unwrap()
+        }
+    }
+}

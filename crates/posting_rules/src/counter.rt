@@ -1,0 +1,78 @@
+//! A counter that takes requests, whatever keeps its tables.
+ghost use Rattle.std.specs.Prelude.{◌≡◌, ◌≤◌, ℕ, List, [], ◌∷◌, length, IfOk, OnOk, IfErr};
+ghost use Rattle.std.specs.Result.{IsErrOf};
+ghost use Rattle.message_records.specs.Spelling.{reply_spelling};
+ghost use Rattle.posting_rules.specs.Commands.{Command, Open, Post};
+ghost use Rattle.posting_rules.specs.Entries.{reply, balance_behind};
+ghost use Rattle.posting_rules.specs.Tables.{Tables};
+ghost use Rattle.posting_rules.specs.Counter.{Seen, ShowsLog, Takes, Refuses, opening_behind};
+ghost use Rattle.posting_rules.specs.Runs.{posts, replies_to};
+
+use crate::fault::Fault;
+use message_records::{Account, Branch, Cents, Moment};
+
+/// The answer to an opening.
+#[derive(Clone, Copy, Debug, PartialEq, Eq)]
+pub enum Opening {
+    /// The branch is open from now on.
+    Opened,
+    /// It was open with this count of accounts.
+    Already,
+    /// It was open with another count, which stays.
+    Differs,
+}
+
+/// A counter of the bank. What it answers is said by the log of commands that its tables show: it holds of every log
+/// that they show, wherever the disk is honest.
+pub trait Counter {
+    /// Its tables, whether it is down, what a stop at this moment may leave, and whether the disk is honest.
+    ghost seen: { Self → Seen };
+
+    /// Submits the 100 bytes of a record, and answers the 200 bytes of the reply.
+    fn submit(&mut self, moment: Moment, bytes: &[u8; 100]) -> Result<[u8; 200], Fault>
+        ensures reply { IfOk result (λ out. (seen self.new).honest → (log : List Command) → ShowsLog (seen self.old) log →
+            out ≡ reply_spelling (reply log bytes.now)) }
+        ensures done { OnOk result (Takes (seen self.old) (seen self.new) (Post moment bytes.now ∷ [])) }
+        ensures up { OnOk result ((seen self.new).is_down → ⊥) }
+        ensures fault { IfErr result (λ fault. Refuses fault (seen self.old) (seen self.new) (Post moment bytes.now ∷ [])) }
+        ensures down { (seen self.old).is_down → IsErrOf result Fault.Down }
+        ensures honest { (seen self.new).honest → (seen self.old).honest };
+
+    /// Submits 1 to 64 records of 100 bytes at one moment, and answers the replies of 200 bytes in order, as if each
+    /// record were submitted after the one before it. After a fault no reply is handed out.
+    fn submit_all(&mut self, moment: Moment, records: &[[u8; 100]]) -> Result<Vec<[u8; 200]>, Fault>
+        requires some { 1 ≤ length records.now }
+        requires few { length records.now ≤ 64 }
+        ensures count { IfOk result (λ replies. length replies.items ≡ length records.now) }
+        ensures replies { IfOk result (λ replies. (seen self.new).honest → (log : List Command) → ShowsLog (seen self.old) log →
+            replies.items ≡ replies_to log (posts moment records.now)) }
+        ensures done { OnOk result (Takes (seen self.old) (seen self.new) (posts moment records.now)) }
+        ensures up { OnOk result ((seen self.new).is_down → ⊥) }
+        ensures fault { IfErr result (λ fault. Refuses fault (seen self.old) (seen self.new) (posts moment records.now)) }
+        ensures down { (seen self.old).is_down → IsErrOf result Fault.Down }
+        ensures honest { (seen self.new).honest → (seen self.old).honest };
+
+    /// Opens a branch, its ten tellers, and so many accounts.
+    fn open_branch(&mut self, branch: Branch, count: u32) -> Result<Opening, Fault>
+        requires branch { branch ≤ 9999 }
+        requires some { 1 ≤ count }
+        requires few { count ≤ 100_000 }
+        ensures answer { IfOk result (λ opening. (seen self.new).honest → (log : List Command) → ShowsLog (seen self.old) log →
+            opening ≡ opening_behind log branch count) }
+        ensures done { OnOk result (Takes (seen self.old) (seen self.new) (Open branch count ∷ [])) }
+        ensures up { OnOk result ((seen self.new).is_down → ⊥) }
+        ensures fault { IfErr result (λ fault. Refuses fault (seen self.old) (seen self.new) (Open branch count ∷ [])) }
+        ensures down { (seen self.old).is_down → IsErrOf result Fault.Down }
+        ensures honest { (seen self.new).honest → (seen self.old).honest };
+
+    /// The balance of an account, none where it isn't open. It changes nothing.
+    fn balance(&mut self, account: Account) -> Result<Option<Cents>, Fault>
+        ensures value { IfOk result (λ balance. (seen self.new).honest → (log : List Command) → ShowsLog (seen self.old) log →
+            balance ≡ balance_behind log account) }
+        ensures done { OnOk result (Takes (seen self.old) (seen self.new) []) }
+        ensures tables { OnOk result ((seen self.new).honest → (t : Tables) → (seen self.old).tables t → (seen self.new).tables t) }
+        ensures up { OnOk result ((seen self.new).is_down → ⊥) }
+        ensures fault { IfErr result (λ fault. Refuses fault (seen self.old) (seen self.new) []) }
+        ensures down { (seen self.old).is_down → IsErrOf result Fault.Down }
+        ensures honest { (seen self.new).honest → (seen self.old).honest };
+}

@@ -1,0 +1,149 @@
+//! What is looked up for a request, and what becomes of it.
+ghost use Rattle.std.specs.Prelude.{◌≡◌};
+ghost use Rattle.posting_rules.specs.Kept.{kept_from};
+
+use message_records::{Account, Branch, Cents, Outcome, Reply, Request};
+use std::marker::Model;
+
+/// How many requests a bank may decide.
+pub const MAX_DECIDED: u64 = 1_000_000_000_000;
+
+/// What is kept of a decided request, under its teller and number.
+#[derive(Clone, Copy, Debug, PartialEq, Eq)]
+pub struct Kept {
+    account: Account,
+    branch: Branch,
+    delta: Cents,
+    outcome: Outcome,
+    balance: Cents,
+}
+
+impl Model for Kept {
+    ghost use Rattle.std.specs.Prelude.{IsTrue};
+    ghost use Rattle.posting_rules.specs.Kept.{KeptFields, is_kept_with};
+
+    ghost Value = { KeptFields };
+
+    ghost view = { λ k. record { account = k.account; branch = k.branch; delta = k.delta; outcome = k.outcome; balance = k.balance } };
+
+    ghost invariant = { λ k. IsTrue (is_kept_with k.outcome k.balance) };
+
+    ghost inverse = { λ k. record { account = k.account; branch = k.branch; delta = k.delta; outcome = k.outcome; balance = k.balance } };
+}
+
+impl Kept {
+    ghost use Rattle.std.specs.Prelude.{IsTrue};
+    ghost use Rattle.posting_rules.specs.Kept.{is_kept_with};
+    ghost use Rattle.posting_rules.specs.Cases.{is_same, kept_reply};
+
+    /// The kept request of these fields, none for an outcome that isn't kept, and none for a balance other than zero
+    /// where the request wasn't posted.
+    pub fn new(
+        account: Account,
+        branch: Branch,
+        delta: Cents,
+        outcome: Outcome,
+        balance: Cents,
+    ) -> Option<Self>
+        ensures { result ≡ kept_from account branch delta outcome balance }
+    {
+        let belongs = match outcome {
+            Outcome::Posted => true,
+            Outcome::WrongBranch | Outcome::NoAccount | Outcome::OverLimit => balance.get() == 0,
+            Outcome::NoTeller | Outcome::ReusedNumber | Outcome::Full | Outcome::Malformed => false,
+        };
+        if belongs {
+            Some(Kept {
+                account,
+                branch,
+                delta,
+                outcome,
+                balance,
+            })
+        } else {
+            None
+        }
+    }
+
+    pub fn account(&self) -> Account
+        ensures { result ≡ self.now.account }
+    {
+        self.account
+    }
+
+    pub fn branch(&self) -> Branch
+        ensures { result ≡ self.now.branch }
+    {
+        self.branch
+    }
+
+    pub fn delta(&self) -> Cents
+        ensures { result ≡ self.now.delta }
+    {
+        self.delta
+    }
+
+    pub fn outcome(&self) -> Outcome
+        ensures value { result ≡ self.now.outcome }
+        ensures belongs { IsTrue (is_kept_with self.now.outcome self.now.balance) }
+    {
+        self.outcome
+    }
+
+    pub fn balance(&self) -> Cents
+        ensures { result ≡ self.now.balance }
+    {
+        self.balance
+    }
+
+    // Tests whether a request has the content of this one.
+    pub(crate) fn is_same(&self, request: &Request) -> bool
+        ensures { result ≡ is_same self.now request.now }
+    {
+        self.account == request.account()
+            && self.branch == request.branch()
+            && self.delta == request.delta()
+    }
+
+    // The reply that it got.
+    pub(crate) fn reply(&self, request: &Request) -> Reply
+        ensures { result ≡ kept_reply self.now request.now }
+    {
+        let balance = if self.outcome == Outcome::Posted {
+            Some(self.balance)
+        } else {
+            None
+        };
+        Reply::new(self.outcome, Some(*request), balance).unwrap()
+    }
+}
+
+/// What is looked up for a request.
+#[derive(Clone, Copy, Debug, PartialEq, Eq)]
+pub struct Found {
+    /// The balances of the teller and of the branch that its number gives, where the teller is open.
+    pub teller: Option<(Cents, Cents)>,
+    /// The request that is kept under the teller and the number.
+    pub kept: Option<Kept>,
+    /// How many requests are decided.
+    pub decided: u64,
+    /// The balance of the account, where it is open.
+    pub account: Option<Cents>,
+}
+
+/// What becomes of a request.
+#[derive(Clone, Copy, Debug, PartialEq, Eq)]
+pub enum Verdict {
+    /// It is refused, and leaves no trace: `NoTeller`, `ReusedNumber` or `Full`.
+    Unkept(Outcome),
+    /// It was decided before, and gets the reply that it got.
+    Again(Reply),
+    /// It is refused, and kept: `WrongBranch`, `NoAccount` or `OverLimit`.
+    Refused(Outcome),
+    /// It is posted; these are the new balances of the account, of the teller and of the branch.
+    Posted {
+        account: Cents,
+        teller: Cents,
+        branch: Cents,
+    },
+}

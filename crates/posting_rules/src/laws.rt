@@ -1,0 +1,46 @@
+//! Laws of the bank, for every log of commands. Each is a function that does nothing: its contract is the law.
+ghost use Rattle.posting_rules.specs.Stated.{DecidedAsStated, RepliedAsStated};
+ghost use Rattle.posting_rules.specs.Laws.{NoneShares, BalancesStayWithin, TablesAreConsistent, EqualTablesAnswerAlike};
+ghost use Rattle.posting_rules.specs.Damage.{TablesAreUndamaged};
+ghost use Rattle.posting_rules.specs.Resends.{RepliesAgain, RepliesInPlace, AddsOnce, KeepsCommands};
+
+/// Which records are decided, which of them are posted, and what is replied, said case by case.
+pub fn cases_are_as_stated()
+    ensures decided { DecidedAsStated }
+    ensures replied { RepliedAsStated }
+{}
+
+/// No two decided requests share teller and number, so that each request is posted once.
+pub fn each_request_once()
+    ensures { NoneShares }
+{}
+
+/// Every balance of an account, a teller and a branch stays within its limit.
+pub fn balances_stay_within()
+    ensures { BalancesStayWithin }
+{}
+
+/// The consistency condition (TPC-B clause 2): accounts, tellers, branches and the deltas of history have one sum, each
+/// branch has the sum of its tellers, and history has just the posted requests.
+pub fn tables_are_consistent()
+    ensures { TablesAreConsistent }
+{}
+
+/// No log of commands leads to damaged tables.
+pub fn tables_are_undamaged()
+    ensures { TablesAreUndamaged }
+{}
+
+/// What a bank answers depends on its tables alone.
+pub fn equal_tables_answer_alike()
+    ensures { EqualTablesAnswerAlike }
+{}
+
+/// A record that comes again gets the reply that it got, and adds no row, as long as no branch is opened in between. So a
+/// resend may come in any order, in part, any number of times, and mixed with new records.
+pub fn resends_get_their_replies()
+    ensures replies { RepliesAgain }
+    ensures in_place { RepliesInPlace }
+    ensures tables { AddsOnce }
+    ensures commands { KeepsCommands }
+{}

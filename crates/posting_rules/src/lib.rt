@@ -1,0 +1,19 @@
+//! What a posting is: the tables of a bank and the laws that they keep, judging a request, and the trait of a counter.
+#![tactic(auto)]
+
+mod cases;
+mod counter;
+mod facts;
+mod fault;
+mod laws;
+mod rows;
+
+pub use cases::{ACCOUNTS_PER_BRANCH, TELLERS_PER_BRANCH, branch_of_teller, judge, reply_to};
+pub use counter::{Counter, Opening};
+pub use facts::{Found, Kept, MAX_DECIDED, Verdict};
+pub use fault::{Fault, Rule};
+pub use laws::{
+    balances_stay_within, cases_are_as_stated, each_request_once, equal_tables_answer_alike,
+    resends_get_their_replies, tables_are_consistent, tables_are_undamaged,
+};
+pub use rows::{AccountRow, BranchRow, HistoryRow, MetaRow, Ordinal, RequestRow, TellerRow};
