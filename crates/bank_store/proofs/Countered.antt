@@ -1,5 +1,5 @@
 -- A transaction on a connection, as a call of a counter.
-use Rattle.std.proofs.Common.{◌≡◌, List, length, Option, Some, None, Err, refl, sym, subst, ◌∙◌, arith, inl, inr}
+use Rattle.std.proofs.Common.{◌≡◌, List, length, Option, Some, Err, refl, sym, subst, ◌∙◌, arith, inl, inr}
 use Rattle.std.specs.Prelude.{IsSome}
 use Rattle.std.proofs.Math.Seq.{take-length}
 use Rattle.sqlite.specs.Tree.{Trees}
@@ -13,6 +13,7 @@ use Rattle.posting_rules.specs.Counter.{ShowsLog, ShowsBeginning, Takes, IsCutSh
 use Rattle.posting_rules.specs.Runs.{behind}
 use Rattle.posting_rules.specs.Tables.{Tables}
 use Rattle.posting_rules.specs.Tables.{Shows as Show}
+use Rattle.posting_rules.proofs.Calls.{IsChange}
 use Rattle.posting_rules.proofs.Sequence.{commands_behind}
 use Rattle.store_rows.specs.View.{Shows, ShowsTrees}
 use Rattle.store_rows.specs.declared.faults.TableFault.{TableFault}
@@ -32,10 +33,6 @@ all_of_them t log cs shows = record {
 
 none_of_them : (t : Tables) (log cs : List Command) → Show t log → ShowsBeginning log cs 0 t
 none_of_them t log cs shows = record { count = 0; holds = omega arith; within = omega arith; shows = shows }
-
--- the change is that of the commands
-abbrev pub IsChange : (Tables → Tables) → List Command → Type 0
-IsChange after cs = (t : Tables) (log : List Command) → AreCommands log → Show t log → Show (after t) (behind log cs)
 
 -- on sound tables, it left the change alone
 abbrev pub Changes : (Tables → Type 0) → State → State → (Tables → Tables) → Type 0

@@ -14,7 +14,7 @@ use Rattle.posting_rules.specs.declared.fault.Rule.TheVariants.{Meta, Teller, Ac
 use Rattle.posting_rules.specs.declared.rows.MetaRow.{MetaRow}
 use Rattle.posting_rules.proofs.Undamaged.{undamaged}
 use Rattle.sql_meanings.specs.Tables.{Defines}
-use Rattle.store_rows.specs.Changes.{meta_key}
+use Rattle.posting_rules.specs.Changes.{meta_key}
 use Rattle.store_rows.specs.Columns.{meta_in, meta_numbers}
 use Rattle.store_rows.specs.SixTables as six
 use Rattle.store_rows.specs.View.{Shows}

@@ -9,11 +9,11 @@ use Rattle.posting_rules.specs.declared.rows.RequestRow.{RequestRow}
 use Rattle.posting_rules.specs.Commands.{branch_of_teller}
 use Rattle.posting_rules.specs.Entries.{posted_entry}
 use Rattle.posting_rules.specs.Tables.{Tables, row_at, branch_key, teller_key, account_key, history_key, history_row_of}
-use Rattle.store_rows.specs.Changes.{meta_key, with_request, with_history, with_account_balance, with_teller_balance, with_branch_balance}
+use Rattle.posting_rules.specs.Changes.{meta_key, with_request, with_history, with_account_balance, with_teller_balance, with_branch_balance}
 use Rattle.store_rows.specs.Outcomes.{Adds}
 use Rattle.store_rows.specs.declared.faults.TableFault.{TableFault}
 use Rattle.store_rows.specs.declared.faults.TableFault.TheVariants.{Sqlite, Damaged}
-use Rattle.bank_store.specs.Changes.{tables_moved, HasRowsOf}
+use Rattle.posting_rules.specs.Changes.{tables_moved, HasRowsOf}
 use Rattle.bank_store.specs.Doing.{GoesOn, LeadsTo}
 
 -- ---- what each part leaves

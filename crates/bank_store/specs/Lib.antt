@@ -1,7 +1,5 @@
 -- A bank in the tables of a SQLite file: what its calls do to the tables, and what a stop leaves.
-pub mod Changes
 pub mod Doing
 pub mod Down
 pub mod Opening
 pub mod Seen
-pub mod Sound

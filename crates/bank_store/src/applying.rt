@@ -7,12 +7,12 @@ ghost use Rattle.posting_rules.specs.Entries.{posted_entry};
 ghost use Rattle.posting_rules.specs.Kept.{is_kept_with};
 ghost use Rattle.posting_rules.specs.LookUps.{found_in};
 ghost use Rattle.posting_rules.specs.Tables.{Tables, row_at, branch_key, teller_key, account_key, history_key, request_key};
-ghost use Rattle.store_rows.specs.Changes.{meta_key, with_decided, with_account_balance, with_teller_balance, with_branch_balance};
+ghost use Rattle.posting_rules.specs.Changes.{meta_key, with_decided, with_account_balance, with_teller_balance, with_branch_balance};
 ghost use Rattle.store_rows.specs.View.{Shows};
 ghost use Rattle.store_rows.specs.declared.faults.TableFault.TheVariants as fault;
-ghost use Rattle.bank_store.specs.Changes.{tables_kept, tables_moved, tables_after, HasRowsOf};
+ghost use Rattle.posting_rules.specs.Changes.{tables_kept, tables_moved, tables_after, HasRowsOf};
 ghost use Rattle.bank_store.specs.Doing.{Keeps, LeadsTo};
-ghost use Rattle.bank_store.specs.Sound.{AreSound};
+ghost use Rattle.posting_rules.specs.Sound.{AreSound};
 
 use message_records::{Account, Branch, Cents, Moment, Outcome, Request, Teller};
 use posting_rules::{Found, HistoryRow, Kept, Ordinal, RequestRow, Rule, Verdict};

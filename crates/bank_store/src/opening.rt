@@ -6,9 +6,9 @@ ghost use Rattle.posting_rules.specs.Counter.{opening_for};
 ghost use Rattle.posting_rules.specs.LookUps.{count_in};
 ghost use Rattle.posting_rules.specs.Tables.{Tables, row_at, branch_key, teller_key, account_key};
 ghost use Rattle.store_rows.specs.View.{Shows};
-ghost use Rattle.bank_store.specs.Changes.{with_tellers, with_accounts, tables_opened, tables_with_branch};
+ghost use Rattle.posting_rules.specs.Changes.{with_tellers, with_accounts, tables_opened, tables_with_branch};
 ghost use Rattle.bank_store.specs.Doing.{Keeps, LeadsTo, Answers};
-ghost use Rattle.bank_store.specs.Sound.{AreSound};
+ghost use Rattle.posting_rules.specs.Sound.{AreSound};
 
 use crate::look_ups::branch_at;
 use message_records::{Account, Branch, Cents, Teller};

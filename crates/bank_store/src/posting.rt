@@ -9,9 +9,9 @@ ghost use Rattle.posting_rules.specs.Runs.{posts, replies_to};
 ghost use Rattle.posting_rules.specs.Tables.{Tables};
 ghost use Rattle.posting_rules.specs.Tables.{Shows as Show};
 ghost use Rattle.store_rows.specs.View.{Shows};
-ghost use Rattle.bank_store.specs.Changes.{tables_with, tables_past, tables_past_all, reply_bytes};
+ghost use Rattle.posting_rules.specs.Changes.{tables_with, tables_past, tables_past_all, reply_bytes};
 ghost use Rattle.bank_store.specs.Doing.{Keeps, LeadsTo, Answers};
-ghost use Rattle.bank_store.specs.Sound.{AreSound};
+ghost use Rattle.posting_rules.specs.Sound.{AreSound};
 
 use crate::applying::apply;
 use crate::look_ups::look_up;

@@ -9,9 +9,9 @@ ghost use Rattle.posting_rules.specs.Runs.{posts, replies_to};
 ghost use Rattle.posting_rules.specs.Tables.{Tables};
 ghost use Rattle.posting_rules.specs.Tables.{Shows as Show};
 ghost use Rattle.store_rows.specs.View.{Shows, ShowsTrees};
-ghost use Rattle.bank_store.specs.Changes.{reply_bytes, tables_with, tables_past_all, tables_with_branch};
+ghost use Rattle.posting_rules.specs.Changes.{reply_bytes, tables_with, tables_past_all, tables_with_branch};
 ghost use Rattle.bank_store.specs.Doing.{Completes, Undoes};
-ghost use Rattle.bank_store.specs.Sound.{AreSound, AreOfALog};
+ghost use Rattle.posting_rules.specs.Sound.{AreSound, AreOfALog};
 
 use crate::look_ups::open_balance;
 use crate::opening::open_inside;

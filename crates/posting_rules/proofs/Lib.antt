@@ -17,3 +17,7 @@ pub mod Settled
 pub mod Resends
 pub mod SoundEntries
 pub mod Undamaged
+pub mod RowChanges
+pub mod Stepping
+pub mod Calls
+pub mod Records

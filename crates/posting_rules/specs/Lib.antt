@@ -14,3 +14,5 @@ pub mod Laws
 pub mod Damage
 pub mod Counter
 pub mod Resends
+pub mod Changes
+pub mod Sound

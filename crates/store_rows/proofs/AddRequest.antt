@@ -19,7 +19,7 @@ use Rattle.sql_meanings.proofs.PutRows.{PutsAs, puts_row}
 use Rattle.sql_meanings.proofs.PutFailures.{refuses_insert}
 use Rattle.sql_meanings.proofs.Statements.{HasTable, inserts}
 use Rattle.sql_meanings.proofs.TableWrites.{Leaves}
-use Rattle.store_rows.specs.Changes.{with_request}
+use Rattle.posting_rules.specs.Changes.{with_request}
 use Rattle.store_rows.specs.Outcomes.{Adds}
 use Rattle.store_rows.specs.Faults.{added}
 use Rattle.store_rows.specs.SixTables.{request}

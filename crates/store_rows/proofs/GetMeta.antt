@@ -29,7 +29,7 @@ use Rattle.sql_meanings.proofs.ReadTables.{ReadsAs}
 use Rattle.sql_meanings.proofs.Selects.{select_by_key}
 use Rattle.sql_meanings.proofs.ShownColumns.{output_of}
 use Rattle.sql_meanings.proofs.Statements.{HasTable}
-use Rattle.store_rows.specs.Changes.{meta_key}
+use Rattle.posting_rules.specs.Changes.{meta_key}
 use Rattle.store_rows.specs.Columns.{meta_shown, meta_numbers}
 use Rattle.store_rows.specs.SixTables.{meta}
 use Rattle.store_rows.specs.Texts.{get_meta}

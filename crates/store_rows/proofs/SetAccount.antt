@@ -26,7 +26,7 @@ use Rattle.sql_meanings.proofs.SetFailures.{refuses_update}
 use Rattle.sql_meanings.proofs.SetRows.{ChangesAs, sets_row}
 use Rattle.sql_meanings.proofs.Statements.{HasTable}
 use Rattle.sql_meanings.proofs.TableWrites.{Leaves, spares_standing}
-use Rattle.store_rows.specs.Changes.{with_account_balance}
+use Rattle.posting_rules.specs.Changes.{with_account_balance}
 use Rattle.store_rows.specs.SixTables.{account}
 use Rattle.store_rows.specs.Texts.{set_account}
 use Rattle.store_rows.specs.View.{Shows, account_entry}

@@ -26,7 +26,7 @@ use Rattle.sql_meanings.proofs.SetFailures.{refuses_update}
 use Rattle.sql_meanings.proofs.SetRows.{ChangesAs, sets_row}
 use Rattle.sql_meanings.proofs.Statements.{HasTable}
 use Rattle.sql_meanings.proofs.TableWrites.{Leaves, spares_standing}
-use Rattle.store_rows.specs.Changes.{meta_key, with_decided}
+use Rattle.posting_rules.specs.Changes.{meta_key, with_decided}
 use Rattle.store_rows.specs.SixTables.{meta}
 use Rattle.store_rows.specs.Texts.{set_meta}
 use Rattle.store_rows.specs.View.{Shows, meta_entry}

@@ -10,7 +10,7 @@ use Rattle.posting_rules.specs.declared.rows.TellerRow.{TellerRow}
 use Rattle.posting_rules.specs.declared.rows.AccountRow.{AccountRow}
 use Rattle.posting_rules.specs.declared.rows.RequestRow.{RequestRow}
 use Rattle.store_rows.specs.declared.metas.StoredMeta.{StoredMeta}
-use Rattle.store_rows.specs.Changes.{meta_key}
+use Rattle.posting_rules.specs.Changes.{meta_key}
 
 -- version, decided
 abbrev pub meta_shown : StoredMeta → Row

@@ -5,7 +5,7 @@ ghost use Rattle.sqlite.specs.Held.{state};
 ghost use Rattle.posting_rules.specs.Tables.{Tables, row_at, account_key};
 ghost use Rattle.sql_meanings.specs.Outcomes.{TellsRow, ReadKept, WriteKept};
 ghost use Rattle.store_rows.specs.Columns.{balance_shown, account_balance_in};
-ghost use Rattle.store_rows.specs.Changes.{with_account, with_account_balance};
+ghost use Rattle.posting_rules.specs.Changes.{with_account, with_account_balance};
 ghost use Rattle.store_rows.specs.Outcomes.{Finds, IsNoBalance, Looks, Writes, Adds};
 ghost use Rattle.store_rows.specs.SixTables.{account as table};
 ghost use Rattle.store_rows.specs.View.{Shows};

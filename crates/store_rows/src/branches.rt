@@ -5,7 +5,7 @@ ghost use Rattle.sqlite.specs.Held.{state};
 ghost use Rattle.posting_rules.specs.Tables.{Tables, row_at, branch_key};
 ghost use Rattle.sql_meanings.specs.Outcomes.{TellsRow, ReadKept, WriteKept};
 ghost use Rattle.store_rows.specs.Columns.{branch_shown, branch_above};
-ghost use Rattle.store_rows.specs.Changes.{with_branch, with_branch_balance};
+ghost use Rattle.posting_rules.specs.Changes.{with_branch, with_branch_balance};
 ghost use Rattle.store_rows.specs.Outcomes.{Finds, IsNoBranch, Looks, ReadsRow, Writes, Adds};
 ghost use Rattle.store_rows.specs.SixTables.{branch as table};
 ghost use Rattle.store_rows.specs.View.{Shows};

@@ -4,7 +4,7 @@ ghost use Rattle.sqlite.specs.State.{HasCleanDisk, Survives};
 ghost use Rattle.sqlite.specs.Held.{state};
 ghost use Rattle.posting_rules.specs.Tables.{Tables, row_at, history_key};
 ghost use Rattle.sql_meanings.specs.Outcomes.{WriteKept};
-ghost use Rattle.store_rows.specs.Changes.{with_history};
+ghost use Rattle.posting_rules.specs.Changes.{with_history};
 ghost use Rattle.store_rows.specs.Outcomes.{Adds};
 ghost use Rattle.store_rows.specs.SixTables.{history as table};
 ghost use Rattle.store_rows.specs.View.{Shows};

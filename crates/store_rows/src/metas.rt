@@ -5,7 +5,7 @@ ghost use Rattle.sqlite.specs.Held.{state};
 ghost use Rattle.posting_rules.specs.Tables.{Tables, row_at};
 ghost use Rattle.sql_meanings.specs.Outcomes.{TellsRow, ReadKept, WriteKept};
 ghost use Rattle.store_rows.specs.Columns.{meta_in, meta_shown};
-ghost use Rattle.store_rows.specs.Changes.{meta_key, with_decided};
+ghost use Rattle.posting_rules.specs.Changes.{meta_key, with_decided};
 ghost use Rattle.store_rows.specs.Outcomes.{Finds, Looks, Never, ReadsRow, Writes};
 ghost use Rattle.store_rows.specs.SixTables.{meta as table};
 ghost use Rattle.store_rows.specs.View.{Shows};

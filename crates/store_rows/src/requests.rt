@@ -5,7 +5,7 @@ ghost use Rattle.sqlite.specs.Held.{state};
 ghost use Rattle.posting_rules.specs.Tables.{Tables, row_at, request_key};
 ghost use Rattle.sql_meanings.specs.Outcomes.{TellsRow, ReadKept, WriteKept};
 ghost use Rattle.store_rows.specs.Columns.{request_in, request_shown};
-ghost use Rattle.store_rows.specs.Changes.{with_request};
+ghost use Rattle.posting_rules.specs.Changes.{with_request};
 ghost use Rattle.store_rows.specs.Outcomes.{Finds, IsNoRequest, Looks, ReadsKept, ReadsRow, Adds};
 ghost use Rattle.store_rows.specs.SixTables.{request as table};
 ghost use Rattle.store_rows.specs.View.{Shows};

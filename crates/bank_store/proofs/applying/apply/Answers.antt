@@ -9,10 +9,10 @@ use Rattle.posting_rules.specs.Cases.{case_of}
 use Rattle.posting_rules.specs.Entries.{posted_entry}
 use Rattle.posting_rules.specs.LookUps.{found_in, decided_in}
 use Rattle.posting_rules.specs.Tables.{row_at, history_key, request_key}
-use Rattle.bank_store.specs.Changes.{tables_kept, tables_moved, tables_after}
+use Rattle.posting_rules.specs.Changes.{tables_kept, tables_moved, tables_after}
 use Rattle.bank_store.specs.Doing.{LeadsTo}
 use Rattle.bank_store.proofs.Moved.{err_leads, still_in}
-use Rattle.bank_store.proofs.Stepping.{posted_rows, meta_stays_there, request_as_before}
+use Rattle.posting_rules.proofs.Stepping.{posted_rows, meta_stays_there, request_as_before}
 use Rattle.bank_store.proofs.applying.apply.Goals as goal
 
 pub returns-in_err-move_money-in-Posted-clause-told : goal.returns-in_err-move_money-in-Posted-clause-told

@@ -5,7 +5,7 @@ use Rattle.sqlite.specs.Held.{state}
 use Rattle.posting_rules.specs.declared.rows.RequestRow.{RequestRow}
 use Rattle.posting_rules.specs.Entries.{Entry}
 use Rattle.posting_rules.specs.Tables.{request_row_of}
-use Rattle.store_rows.specs.Changes.{with_decided, with_request}
+use Rattle.posting_rules.specs.Changes.{with_decided, with_request}
 use Rattle.bank_store.specs.Doing.{LeadsTo}
 use Rattle.bank_store.proofs.Moved.{meta_beside}
 use Rattle.bank_store.proofs.applying.keep_request.Goals as goal

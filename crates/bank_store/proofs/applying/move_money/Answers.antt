@@ -6,9 +6,9 @@ use Rattle.sqlite.specs.Held.{state}
 use Rattle.posting_rules.specs.declared.rows.HistoryRow.{HistoryRow}
 use Rattle.posting_rules.specs.Entries.{posted_entry}
 use Rattle.posting_rules.specs.Tables.{Tables, row_at, history_key, history_row_of}
-use Rattle.store_rows.specs.Changes.{with_history, with_account_balance, with_teller_balance, with_branch_balance}
+use Rattle.posting_rules.specs.Changes.{with_history, with_account_balance, with_teller_balance, with_branch_balance}
 use Rattle.store_rows.specs.SixTables.{history as table}
-use Rattle.bank_store.specs.Changes.{tables_moved}
+use Rattle.posting_rules.specs.Changes.{tables_moved}
 use Rattle.bank_store.specs.Doing.{LeadsTo}
 use Rattle.bank_store.proofs.Moved.{adds_leads, err_leads, still_in, account_there, teller_there, branch_there, history_free, moved_is}
 use Rattle.bank_store.proofs.applying.move_money.Goals as goal

@@ -4,9 +4,9 @@ use Rattle.std.specs.Prelude.{is_some, pos}
 use Rattle.sqlite.specs.Held.{state}
 use Rattle.posting_rules.specs.declared.rows.AccountRow.{AccountRow}
 use Rattle.posting_rules.specs.Tables.{Tables, row_at, account_key, account_row_of}
-use Rattle.store_rows.specs.Changes.{with_account}
+use Rattle.posting_rules.specs.Changes.{with_account}
 use Rattle.store_rows.specs.SixTables.{account as table}
-use Rattle.bank_store.specs.Changes.{with_accounts}
+use Rattle.posting_rules.specs.Changes.{with_accounts}
 use Rattle.bank_store.proofs.Adding.{Adding, adding_more, one_more}
 use Rattle.bank_store.proofs.opening.add_accounts.Goals as goal
 

@@ -4,9 +4,9 @@ use Rattle.std.specs.Prelude.{is_some, pos}
 use Rattle.sqlite.specs.Held.{state}
 use Rattle.posting_rules.specs.declared.rows.TellerRow.{TellerRow}
 use Rattle.posting_rules.specs.Tables.{Tables, row_at, teller_key, teller_row_of}
-use Rattle.store_rows.specs.Changes.{with_teller}
+use Rattle.posting_rules.specs.Changes.{with_teller}
 use Rattle.store_rows.specs.SixTables.{teller as table}
-use Rattle.bank_store.specs.Changes.{with_tellers}
+use Rattle.posting_rules.specs.Changes.{with_tellers}
 use Rattle.bank_store.proofs.Adding.{Adding, adding_more, one_more}
 use Rattle.bank_store.proofs.opening.add_tellers.Goals as goal
 

@@ -2,7 +2,7 @@
 use Rattle.std.proofs.Common.{◌≡◌, ◌+◌, ◌<◌, ℕ, None}
 use Rattle.sqlite.specs.Held.{state}
 use Rattle.posting_rules.specs.Tables.{row_at, teller_key}
-use Rattle.bank_store.specs.Changes.{with_tellers}
+use Rattle.posting_rules.specs.Changes.{with_tellers}
 use Rattle.bank_store.proofs.Adding.{Adding}
 use Rattle.bank_store.proofs.opening.add_tellers.Given as goal
 

@@ -7,11 +7,11 @@ use Rattle.posting_rules.specs.declared.rows.BranchRow.{BranchRow}
 use Rattle.posting_rules.specs.Steps.{first_teller, first_account}
 use Rattle.posting_rules.specs.Tables.{row_at, teller_key, account_key, branch_row_of}
 use Rattle.store_rows.specs.View.{Shows}
-use Rattle.store_rows.specs.Changes.{with_branch}
-use Rattle.bank_store.specs.Changes.{with_tellers, with_accounts, tables_opened}
+use Rattle.posting_rules.specs.Changes.{with_branch}
+use Rattle.posting_rules.specs.Changes.{with_tellers, with_accounts, tables_opened}
 use Rattle.bank_store.specs.Doing.{LeadsTo}
 use Rattle.bank_store.proofs.Moved.{err_leads, still_in}
-use Rattle.bank_store.proofs.Stepping.{opening_teller_is_free, opening_account_is_free}
+use Rattle.posting_rules.proofs.Stepping.{opening_teller_is_free, opening_account_is_free}
 use Rattle.bank_store.proofs.opening.add_whole_branch.Goals as goal
 
 pub returns-in_err-add_tellers-clause-told : goal.returns-in_err-add_tellers-clause-told

@@ -7,11 +7,11 @@ use Rattle.posting_rules.specs.Entries.{reply}
 use Rattle.posting_rules.specs.Runs.{behind, posts}
 use Rattle.posting_rules.specs.Tables.{Tables}
 use Rattle.posting_rules.proofs.Sequence.{commands_behind, commands_one_more, replies_one_more}
-use Rattle.bank_store.specs.Changes.{tables_past, tables_past_all}
-use Rattle.bank_store.specs.Sound.{AreOfALog}
+use Rattle.posting_rules.specs.Changes.{tables_past, tables_past_all}
+use Rattle.posting_rules.specs.Sound.{AreOfALog}
 use Rattle.bank_store.proofs.Adding.{adding_as, adding_then, keeps_then}
 use Rattle.bank_store.proofs.Moved.{still_in}
-use Rattle.bank_store.proofs.Records.{all_past, past_one_more}
+use Rattle.posting_rules.proofs.Records.{all_past, past_one_more}
 use Rattle.bank_store.proofs.Told.{err_answers}
 use Rattle.bank_store.proofs.posting.answer_all.Goals as goal
 

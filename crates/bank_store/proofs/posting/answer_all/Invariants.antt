@@ -9,8 +9,8 @@ use Rattle.posting_rules.specs.Runs.{posts, replies_to}
 use Rattle.posting_rules.specs.Tables.{Tables}
 use Rattle.posting_rules.specs.Tables.{Shows as Show}
 use Rattle.store_rows.specs.View.{Shows}
-use Rattle.bank_store.specs.Changes.{tables_past_all}
-use Rattle.bank_store.specs.Sound.{AreOfALog}
+use Rattle.posting_rules.specs.Changes.{tables_past_all}
+use Rattle.posting_rules.specs.Sound.{AreOfALog}
 use Rattle.bank_store.proofs.Adding.{Adding}
 use Rattle.bank_store.proofs.posting.answer_all.Given as goal
 

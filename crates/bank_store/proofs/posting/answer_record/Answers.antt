@@ -6,10 +6,10 @@ use Rattle.message_records.specs.Records.{RequestFields}
 use Rattle.message_records.specs.Reading.{request_of}
 use Rattle.message_records.specs.Spelling.{reply_spelling}
 use Rattle.posting_rules.specs.Entries.{reply}
-use Rattle.bank_store.specs.Changes.{tables_with, tables_read}
+use Rattle.posting_rules.specs.Changes.{tables_with, tables_read}
 use Rattle.bank_store.specs.Doing.{Answers}
-use Rattle.bank_store.proofs.Calls.{replies}
-use Rattle.bank_store.proofs.Stepping.{sound_tables}
+use Rattle.posting_rules.proofs.Calls.{replies}
+use Rattle.posting_rules.proofs.Stepping.{sound_tables}
 use Rattle.bank_store.proofs.posting.answer_record.Goals as goal
 
 pub returns-clause-told : goal.returns-clause-told

@@ -3,8 +3,8 @@ use Rattle.std.proofs.Common.{◌≡◌, rules, subst}
 use Rattle.sqlite.specs.State.{Survives}
 use Rattle.sqlite.specs.Held.{state}
 use Rattle.posting_rules.specs.Tables.{Tables}
-use Rattle.bank_store.specs.Changes.{tables_with_branch}
-use Rattle.bank_store.specs.Sound.{AreSound}
+use Rattle.posting_rules.specs.Changes.{tables_with_branch}
+use Rattle.posting_rules.specs.Sound.{AreSound}
 use Rattle.bank_store.proofs.Transacted.{Leaves, committed_left}
 use Rattle.bank_store.proofs.transactions.open_branch.Goals as goal
 

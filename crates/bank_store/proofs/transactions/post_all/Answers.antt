@@ -3,8 +3,8 @@ use Rattle.std.proofs.Common.{◌≡◌, rules, subst}
 use Rattle.sqlite.specs.State.{Survives}
 use Rattle.sqlite.specs.Held.{state}
 use Rattle.posting_rules.specs.Tables.{Tables}
-use Rattle.bank_store.specs.Changes.{tables_past_all}
-use Rattle.bank_store.specs.Sound.{AreOfALog}
+use Rattle.posting_rules.specs.Changes.{tables_past_all}
+use Rattle.posting_rules.specs.Sound.{AreOfALog}
 use Rattle.bank_store.proofs.Transacted.{Leaves, committed_left}
 use Rattle.bank_store.proofs.transactions.post_all.Goals as goal
 

@@ -4,7 +4,7 @@ use Rattle.sqlite.specs.State.{Survives}
 use Rattle.sqlite.specs.Held.{state}
 use Rattle.posting_rules.specs.Tables.{Tables}
 use Rattle.store_rows.specs.View.{Shows}
-use Rattle.bank_store.specs.Sound.{AreSound}
+use Rattle.posting_rules.specs.Sound.{AreSound}
 use Rattle.bank_store.proofs.Transacted.{Leaves, committed_left}
 use Rattle.bank_store.proofs.transactions.read_balance.Goals as goal
 

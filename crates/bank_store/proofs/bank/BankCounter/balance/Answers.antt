@@ -4,10 +4,10 @@ use Rattle.std.specs.Prelude.{ℤ, IsSome}
 use Rattle.sqlite.specs.Held.{state}
 use Rattle.posting_rules.specs.LookUps.{account_balance_in}
 use Rattle.posting_rules.proofs.Looked.{balance_shown}
-use Rattle.bank_store.specs.Sound.{AreSound}
-use Rattle.bank_store.proofs.Calls.{stays}
+use Rattle.posting_rules.specs.Sound.{AreSound}
+use Rattle.posting_rules.proofs.Calls.{stays}
 use Rattle.bank_store.proofs.Countered.{takes, refuses}
-use Rattle.bank_store.proofs.Stepping.{sound_tables}
+use Rattle.posting_rules.proofs.Stepping.{sound_tables}
 use Rattle.bank_store.proofs.bank.BankCounter.balance.Goals as goal
 
 pub returns-in-Ok-clause-value : goal.returns-in-Ok-clause-value

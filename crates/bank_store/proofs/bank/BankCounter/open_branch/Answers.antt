@@ -6,11 +6,11 @@ use Rattle.posting_rules.specs.declared.counter.Opening.{Opening}
 use Rattle.posting_rules.specs.Commands.{Open, AreCommands}
 use Rattle.posting_rules.specs.Counter.{opening_for}
 use Rattle.posting_rules.specs.LookUps.{count_in}
-use Rattle.bank_store.specs.Changes.{tables_with_branch}
-use Rattle.bank_store.specs.Sound.{AreSound}
-use Rattle.bank_store.proofs.Calls.{opens, answers}
+use Rattle.posting_rules.specs.Changes.{tables_with_branch}
+use Rattle.posting_rules.specs.Sound.{AreSound}
+use Rattle.posting_rules.proofs.Calls.{opens, answers}
 use Rattle.bank_store.proofs.Countered.{takes, refuses}
-use Rattle.bank_store.proofs.Stepping.{sound_tables}
+use Rattle.posting_rules.proofs.Stepping.{sound_tables}
 use Rattle.bank_store.proofs.bank.BankCounter.open_branch.Goals as goal
 
 pub returns-in-Ok-clause-answer : goal.returns-in-Ok-clause-answer

@@ -4,11 +4,11 @@ use Rattle.std.specs.Prelude.{IsSome}
 use Rattle.sqlite.specs.Held.{state}
 use Rattle.message_records.specs.Reading.{request_of}
 use Rattle.posting_rules.specs.Commands.{Post, AreCommands}
-use Rattle.bank_store.specs.Changes.{tables_with, reply_bytes}
-use Rattle.bank_store.specs.Sound.{AreSound}
-use Rattle.bank_store.proofs.Calls.{posts, replies}
+use Rattle.posting_rules.specs.Changes.{tables_with, reply_bytes}
+use Rattle.posting_rules.specs.Sound.{AreSound}
+use Rattle.posting_rules.proofs.Calls.{posts, replies}
 use Rattle.bank_store.proofs.Countered.{takes, refuses}
-use Rattle.bank_store.proofs.Stepping.{sound_tables}
+use Rattle.posting_rules.proofs.Stepping.{sound_tables}
 use Rattle.bank_store.proofs.bank.BankCounter.submit.Goals as goal
 
 pub returns-in-Ok-post-clause-reply : goal.returns-in-Ok-post-clause-reply

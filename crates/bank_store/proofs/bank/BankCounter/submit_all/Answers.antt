@@ -4,10 +4,10 @@ use Rattle.std.specs.Prelude.{IsSome}
 use Rattle.sqlite.specs.Held.{state}
 use Rattle.posting_rules.specs.Commands.{AreCommands}
 use Rattle.posting_rules.specs.Runs.{posts, replies_to}
-use Rattle.bank_store.specs.Changes.{tables_past_all}
-use Rattle.bank_store.specs.Sound.{AreOfALog}
+use Rattle.posting_rules.specs.Changes.{tables_past_all}
+use Rattle.posting_rules.specs.Sound.{AreOfALog}
 use Rattle.bank_store.proofs.Countered.{HoldsOfLogs, takes, refuses}
-use Rattle.bank_store.proofs.Records.{are_posts, posts_all}
+use Rattle.posting_rules.proofs.Records.{are_posts, posts_all}
 use Rattle.bank_store.proofs.bank.BankCounter.submit_all.Goals as goal
 
 of_logs : HoldsOfLogs AreOfALog

@@ -9,9 +9,9 @@ use Rattle.posting_rules.specs.Runs.{behind, posts}
 use Rattle.posting_rules.specs.Tables.{Tables}
 use Rattle.posting_rules.specs.Tables.{Shows as Show}
 use Rattle.posting_rules.proofs.Stepped.{malformed_shown}
-use Rattle.bank_store.specs.Changes.{tables_read, tables_past, tables_past_all}
-use Rattle.bank_store.proofs.Calls.{posts as posts_shown}
-use Rattle.bank_store.proofs.Countered.{IsChange}
+use Rattle.posting_rules.specs.Changes.{tables_read, tables_past, tables_past_all}
+use Rattle.posting_rules.proofs.Calls.{posts as posts_shown}
+use Rattle.posting_rules.proofs.Calls.{IsChange}
 
 past_shown : (t : Tables) (log : List Command) (m : ℕ) (bytes : List ℕ) → AreCommands log → Show t log → Show (tables_past t m bytes) (Post m bytes ∷ log)
 past_shown t log m bytes are shows = by_reading (request_of bytes) refl

@@ -19,10 +19,10 @@ use Rattle.posting_rules.specs.Steps.{AddsRow, AddsRows, KeepsRefusal, KeepsPost
 use Rattle.posting_rules.specs.Steps as steps
 use Rattle.posting_rules.proofs.Undamaged.{undamaged}
 use Rattle.posting_rules.proofs.Verdicts.{by_posting, by_account, by_new, by_known, by_teller}
-use Rattle.store_rows.specs.Changes.{meta_key, row_changed, row_put, with_decided, with_branch_balance, with_teller_balance, with_account_balance, with_branch, with_teller, with_account, with_history, with_request}
-use Rattle.bank_store.specs.Sound.{AreSound}
-use Rattle.bank_store.specs.Changes.{tables_kept, tables_moved, tables_posted, tables_after, with_tellers, with_accounts, tables_opened, HasRowsOf}
-use Rattle.bank_store.proofs.RowChanges.{row_changes, row_adds, rows_none, rows_more, stays_free, not_yet}
+use Rattle.posting_rules.specs.Changes.{meta_key, row_changed, row_put, with_decided, with_branch_balance, with_teller_balance, with_account_balance, with_branch, with_teller, with_account, with_history, with_request}
+use Rattle.posting_rules.specs.Sound.{AreSound}
+use Rattle.posting_rules.specs.Changes.{tables_kept, tables_moved, tables_posted, tables_after, with_tellers, with_accounts, tables_opened, HasRowsOf}
+use Rattle.posting_rules.proofs.RowChanges.{row_changes, row_adds, rows_none, rows_more, stays_free, not_yet}
 
 -- the tables that a log of commands leads to are sound
 pub sound_tables : (t : Tables) (log : List Command) → AreCommands log → Shows t log → AreSound t

@@ -5,7 +5,8 @@ use Rattle.message_records.specs.Records.{RequestFields}
 use Rattle.message_records.specs.Reading.{request_of}
 use Rattle.message_records.specs.Spelling.{reply_spelling}
 use Rattle.posting_rules.specs.declared.rows.BranchRow.{BranchRow}
-use Rattle.posting_rules.specs.Commands.{Command, Open, Post, opened}
+use Rattle.posting_rules.specs.Commands.{Command, AreCommands, Open, Post, opened}
+use Rattle.posting_rules.specs.Runs.{behind}
 use Rattle.posting_rules.specs.Cases.{case_of}
 use Rattle.posting_rules.specs.Counter.{opening_for, opening_behind}
 use Rattle.posting_rules.specs.Entries.{decided, reply}
@@ -16,9 +17,12 @@ use Rattle.posting_rules.specs.Tables.{Shows as Show}
 use Rattle.posting_rules.proofs.Looked.{count_shown, decided_shown}
 use Rattle.posting_rules.proofs.Opened.{opening_shown, already_open_shown}
 use Rattle.posting_rules.proofs.Stepped.{post_shown, reply_shown}
-use Rattle.bank_store.specs.Changes.{tables_with, reply_bytes, opened_where, tables_with_branch}
-use Rattle.bank_store.proofs.Countered.{IsChange}
-use Rattle.bank_store.proofs.Stepping.{sound_tables, step_is, opens_is}
+use Rattle.posting_rules.specs.Changes.{tables_with, reply_bytes, opened_where, tables_with_branch}
+use Rattle.posting_rules.proofs.Stepping.{sound_tables, step_is, opens_is}
+
+-- the change is that of the commands
+abbrev pub IsChange : (Tables → Tables) → List Command → Type 0
+IsChange after cs = (t : Tables) (log : List Command) → AreCommands log → Show t log → Show (after t) (behind log cs)
 
 -- ---- a request
 

@@ -9,7 +9,7 @@ use Rattle.std.proofs.lemmas.Map.Keys.{IsDistinct-cons, IsDistinct-head, IsDisti
 use Rattle.posting_rules.specs.Tables.{row_at, HasKeys}
 use Rattle.posting_rules.specs.Steps.{ChangesRow, AddsRow, AddsRows, is_from}
 use Rattle.posting_rules.proofs.Keyed.{by_test}
-use Rattle.store_rows.specs.Changes.{row_changed, row_put}
+use Rattle.posting_rules.specs.Changes.{row_changed, row_put}
 
 -- ---- tests on two numbers
 
