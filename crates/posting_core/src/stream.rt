@@ -7,14 +7,14 @@ ghost use Rattle.posting_core.specs.Stream.{Streamed, Outputs, Survives, Resends
 
 use crate::clock::Clock;
 use crate::transfer::{fill, write_out};
-use posting_rules::{Counter, Fault};
+use posting_rules::{Counter, Fault, RECORDS_PER_BATCH};
 use std::fmt;
 use std::io::{ErrorKind, Read, Write};
 
-// The length of a record, and of the buffer: 64 records.
+// The length of a record, and of the buffer: as many records as can be submitted together.
 const RECORD: usize = 100;
 
-const BUFFER: usize = 6400;
+const BUFFER: usize = RECORD * RECORDS_PER_BATCH;
 
 /// How many replies were written.
 pub type Count = u128;
@@ -53,7 +53,7 @@ impl std::error::Error for StreamFault {}
 // Moves what lies between to the front.
 fn move_to_front(buffer: &mut [u8; BUFFER], from: usize, to: usize)
     requires order { from ≤ to }
-    requires within { to ≤ 6400 }
+    requires within { to ≤ BUFFER }
     ensures { take (to - from) buffer.new ≡ take (to - from) (drop from buffer.old) }
 {
     buffer.copy_within(from..to, 0);
@@ -67,7 +67,7 @@ fn answer_batch<W: Write, K: Clock, C: Counter>(
     bank: &mut C,
 ) -> Result<(), StreamFault>
     requires some { 1 ≤ length records.now }
-    requires few { length records.now ≤ 64 }
+    requires few { length records.now ≤ RECORDS_PER_BATCH }
     ensures answers { (moment : ℕ) × IsReading (K.readings clock.old) (K.readings clock.new) moment
         × MatchResult result
         (λ _. IsAnswered (W.contents writer.old) (W.contents writer.new) (C.seen bank.old) (C.seen bank.new) (posts moment records.now))

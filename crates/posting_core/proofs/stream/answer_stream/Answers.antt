@@ -1,6 +1,7 @@
 use Rattle.std.proofs.Common.{◌≡◌, ◌≤◌, refl, arith, length, take}
 use Rattle.std.proofs.lemmas.List.{length-take-le}
 use Rattle.std.proofs.lemmas.Result.{err_from_is_err_and}
+use Rattle.posting_core.specs.declared.stream.TheConstants.{BUFFER}
 use Rattle.posting_core.proofs.Batched.{cut_into, cut_and_moved}
 use Rattle.posting_core.proofs.Streaming.{Going, going_first, going_filled, going_unread, going_batch, end_whole, end_in_record, end_unread, end_broken, at_ok, few_left}
 use Rattle.posting_core.proofs.stream.answer_stream.Goals as goal
@@ -16,7 +17,7 @@ returns g c = end_unread _ c.reads.invariant.going (few_left c.reads.filled c.re
 -- the reader failed
 pub returns-in-Err-2 : goal.returns-in-Err-2
 returns-in-Err-2 g c =
-    let long : length c.fill.new.buffer ≡ 6400 = omega (arith, c.fill.auto.buffer, c.reads.invariant.room) in
+    let long : length c.fill.new.buffer ≡ BUFFER = omega (arith, c.fill.auto.buffer, c.reads.invariant.room) in
     end_unread _ (going_unread c.reads.buffer c.fill.new.buffer c.reads.filled c.reads.filled c.reads.invariant.going c.in-Err.ensures.err refl)
     (few_left c.reads.filled c.fill.new.buffer c.reads.invariant.few long)
 
@@ -65,7 +66,7 @@ reads-preserved g c =
       | in-Ok w ↦ going_filled c.reads.buffer c.fill.new.buffer c.reads.filled c.match-fill.filled w.in-Ok.n c.reads.invariant.going w.in-Ok.ensures.ok w.filled-is
       | in-Err w ↦ going_unread c.reads.buffer c.fill.new.buffer c.reads.filled c.match-fill.filled c.reads.invariant.going w.in-Err.ensures.err w.filled-is
     ] in
-    let long : length c.fill.new.buffer ≡ 6400 = omega (arith, c.fill.auto.buffer, c.reads.invariant.room) in
+    let long : length c.fill.new.buffer ≡ BUFFER = omega (arith, c.fill.auto.buffer, c.reads.invariant.room) in
     let within : c.match-fill.filled ≤ length c.fill.new.buffer =
     elim c.match-fill.branch [
       | in-Ok w ↦ omega (arith, w.in-Ok.ensures.fits, w.filled-is)
