@@ -85,15 +85,23 @@ fn answer_batch<W: Write, K: Clock, C: Counter>(
     }
 }
 
-// The loop of `post_stream`, whose promises follow from what this says.
-fn answer_stream<R: Read, W: Write, K: Clock, C: Counter>(
+/// Answers a stream of records of 100 bytes to the end of its input, and tells how many it answered. As soon as whole
+/// records were read, all of them are submitted under one reading of the clock, and their replies are written in order
+/// and flushed. An interrupted read or write is made again, and a reader that was asked 2^64 - 1 times counts as failed.
+/// Only the bank takes memory.
+pub fn post_stream<R: Read, W: Write, K: Clock, C: Counter>(
     reader: &mut R,
     writer: &mut W,
     clock: &mut K,
     bank: &mut C,
 ) -> Result<Count, StreamFault>
-    ensures { Streamed (R.remaining reader.old) (R.remaining reader.new) (W.contents writer.old) (W.contents writer.new)
+    ensures stream { Streamed (R.remaining reader.old) (R.remaining reader.new) (W.contents writer.old) (W.contents writer.new)
         (K.readings clock.old) (K.readings clock.new) (C.seen bank.old) (C.seen bank.new) result }
+    ensures output { Outputs (R.remaining reader.old) (R.remaining reader.new) (W.contents writer.old) (W.contents writer.new)
+        (C.seen bank.old) (C.seen bank.new) result }
+    ensures stop { Survives (R.remaining reader.old) (R.remaining reader.new) (W.contents writer.old) (W.contents writer.new)
+        (C.seen bank.old) (C.seen bank.new) }
+    ensures resend { Resends (R.remaining reader.old) (R.remaining reader.new) (C.seen bank.old) (C.seen bank.new) result }
 {
     let mut buffer = [0u8; BUFFER];
     let mut filled = 0;
@@ -116,25 +124,4 @@ fn answer_stream<R: Read, W: Write, K: Clock, C: Counter>(
         }
     }
     Err(StreamFault::Read)
-}
-
-/// Answers a stream of records of 100 bytes to the end of its input, and tells how many it answered. As soon as whole
-/// records were read, all of them are submitted under one reading of the clock, and their replies are written in order
-/// and flushed. An interrupted read or write is made again, and a reader that was asked 2^64 - 1 times counts as failed.
-/// Only the bank takes memory.
-pub fn post_stream<R: Read, W: Write, K: Clock, C: Counter>(
-    reader: &mut R,
-    writer: &mut W,
-    clock: &mut K,
-    bank: &mut C,
-) -> Result<Count, StreamFault>
-    ensures stream { Streamed (R.remaining reader.old) (R.remaining reader.new) (W.contents writer.old) (W.contents writer.new)
-        (K.readings clock.old) (K.readings clock.new) (C.seen bank.old) (C.seen bank.new) result }
-    ensures output { Outputs (R.remaining reader.old) (R.remaining reader.new) (W.contents writer.old) (W.contents writer.new)
-        (C.seen bank.old) (C.seen bank.new) result }
-    ensures stop { Survives (R.remaining reader.old) (R.remaining reader.new) (W.contents writer.old) (W.contents writer.new)
-        (C.seen bank.old) (C.seen bank.new) }
-    ensures resend { Resends (R.remaining reader.old) (R.remaining reader.new) (C.seen bank.old) (C.seen bank.new) result }
-{
-    answer_stream(reader, writer, clock, bank)
 }

@@ -2,7 +2,7 @@ use Rattle.std.proofs.Common.{◌≡◌, ◌<◌, ◌≤◌, ◌*◌, length, ta
 use Rattle.posting_rules.specs.declared.limits.TheConstants.{RECORDS_PER_BATCH}
 use Rattle.posting_core.specs.declared.stream.TheConstants.{BUFFER}
 use Rattle.posting_core.proofs.Streaming.{Going}
-use Rattle.posting_core.proofs.stream.answer_stream.Given as goal
+use Rattle.posting_core.proofs.stream.post_stream.Given as goal
 
 -- all whole records that were read are answered, and the rest stands at the front of the buffer
 abbrev pub invariant-reads : goal.invariant-reads
