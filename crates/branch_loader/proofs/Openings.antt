@@ -1,5 +1,5 @@
 -- How a counter stands after some openings of a plan.
-use Rattle.std.proofs.Common.{◌≡◌, ◌≤◌, ◌<◌, ◌+◌, ◌∷◌, ◌++◌, ◌∙◌, ℕ, zero, suc, List, [], Option, Some, None, Bool, length, take, take_all, drop, get_or, arith, refl, sym, ap, subst, add-zero, zero-add}
+use Rattle.std.proofs.Common.{◌≡◌, ◌≤◌, ◌<◌, ◌+◌, ◌∷◌, ◌++◌, ◌∙◌, ℕ, zero, suc, List, [], Bool, length, take, take_all, drop, get_or, arith, refl, sym, ap, subst, add-zero, zero-add}
 use Rattle.std.specs.Prelude.{count_by, cond, sum_by}
 use Rattle.std.proofs.Math.Seq.{take-append-add, take-append_seam, take-length}
 use Rattle.std.proofs.lemmas.List.{drop-map, drop_more, length-append, length-map, length-take-le, map-append, take-append-drop, take-map}

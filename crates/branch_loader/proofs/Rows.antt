@@ -8,9 +8,10 @@ use Rattle.std.proofs.lemmas.List.{length-map, map-append}
 use Rattle.std.proofs.lemmas.List.Elements.{All-push}
 use Rattle.std.proofs.lemmas.Map.Keys.{IsDistinct-push}
 use Rattle.std.proofs.lemmas.Map.Steps.{length-le_from_distinct_below}
+use Rattle.posting_rules.specs.declared.limits.TheConstants.{LAST_BRANCH, MOST_ACCOUNTS}
 use Rattle.message_records.specs.Ranges.{whole_within}
 use Rattle.message_records.specs.Reading.{number_of}
-use Rattle.branch_loader.specs.Plans.{IsPlan, IsRow, most_accounts, most_branch, names, number_within, row_of, row_of_fields, row_of_pair, row_of_two, two_of, Rows, Row}
+use Rattle.branch_loader.specs.Plans.{IsPlan, IsRow, names, number_within, row_of, row_of_fields, row_of_pair, row_of_two, two_of, Rows, Row}
 use Rattle.branch_loader.specs.declared.fault.PlanFault.TheVariants.{Twice}
 use Rattle.branch_loader.specs.Records.{Fields}
 
@@ -40,7 +41,7 @@ unfolding IsDistinct
 no-rows = record { in_range = λ k d h. absurd (omega arith); distinct = tt }
 
 -- a row more
-plan-more : (rows : Rows) (branch accounts : Option ℕ) (p : Row) → Within most_branch branch → Within most_accounts accounts
+plan-more : (rows : Rows) (branch accounts : Option ℕ) (p : Row) → Within LAST_BRANCH branch → Within MOST_ACCOUNTS accounts
     → IsPlan rows → row_of rows branch accounts ≡ Ok p → IsPlan (rows ++ p ∷ [])
 plan-more rows None accounts p b a plan e = cc e
 plan-more rows (Some branch) None p b a plan e = cc e
@@ -57,19 +58,19 @@ plan-more rows (Some branch) (Some accounts) p b a plan e = by (names branch row
               (IsDistinct-push nat_eq_equiv (branches rows) branch plan.distinct (sym (names-branches branch rows) ∙ n));
         })
 
--- a branch that rows name is below 10,000
-below : (rows : Rows) → All IsRow rows → (q : ℕ) → names q rows ≡ true → q < 10000
+-- a branch that rows name is within the numbers that can be opened
+below : (rows : Rows) → All IsRow rows → (q : ℕ) → names q rows ≡ true → q < LAST_BRANCH + 1
 below [] all q h = cc h
 below (p ∷ rows) all q h = by (nat_eq q p.0) refl h (below rows (λ k d l. all (suc k) d (omega arith)) q)
   where
-    by : (t : Bool) → nat_eq q p.0 ≡ t → (t || names q rows) ≡ true → (names q rows ≡ true → q < 10000) → q < 10000
+    by : (t : Bool) → nat_eq q p.0 ≡ t → (t || names q rows) ≡ true → (names q rows ≡ true → q < LAST_BRANCH + 1) → q < LAST_BRANCH + 1
     by true e n more = let same : q ≡ p.0 = grind (arith, nat_tests, e) in let first = all 0 p (omega arith) in omega arith
     by false e n more = more n
 
 -- a plan is short
-pub plan-short : (rows : Rows) → IsPlan rows → length rows ≤ 10000
+pub plan-short : (rows : Rows) → IsPlan rows → length rows ≤ LAST_BRANCH + 1
 plan-short rows plan =
-    rw length-map at (length-le_from_distinct_below (branches rows) 10000 plan.distinct
+    rw length-map at (length-le_from_distinct_below (branches rows) (LAST_BRANCH + 1) plan.distinct
     (λ q h. below rows plan.in_range q (names-branches q rows ∙ h)))
 
 -- what a field writes is in range
@@ -88,18 +89,18 @@ fields-more rows fields p plan e = by (two_of fields) e
     by : (o : Option (List ℕ × List ℕ)) → row_of_two rows o ≡ Ok p → IsPlan (rows ++ p ∷ [])
     by None h = cc h
     by (Some q) h =
-        plan-more rows (number_within most_branch q.0) (number_within most_accounts q.1) p
-        (number_within-within most_branch q.0) (number_within-within most_accounts q.1) plan h
+        plan-more rows (number_within LAST_BRANCH q.0) (number_within MOST_ACCOUNTS q.1) p
+        (number_within-within LAST_BRANCH q.0) (number_within-within MOST_ACCOUNTS q.1) plan h
 
 -- so does a pair of a list, which is taken as it is
 pub pair-more : (rows : Rows) (q p : Row) → IsPlan rows → row_of_pair rows q ≡ Ok p → IsPlan (rows ++ p ∷ [])
 pair-more rows q p plan h =
-    plan-more rows (whole_within 1 most_branch q.0) (whole_within 1 most_accounts q.1) p
-    (whole_within-within most_branch q.0) (whole_within-within most_accounts q.1) plan h
+    plan-more rows (whole_within 1 LAST_BRANCH q.0) (whole_within 1 MOST_ACCOUNTS q.1) p
+    (whole_within-within LAST_BRANCH q.0) (whole_within-within MOST_ACCOUNTS q.1) plan h
 
 -- the row that a pair states is the pair
 pub pair-same : (rows : Rows) (q p : Row) → row_of_pair rows q ≡ Ok p → p ≡ q
-pair-same rows q p h = by (nat_le 1 q.0 && nat_le q.0 most_branch) (nat_le 1 q.1 && nat_le q.1 most_accounts) h
+pair-same rows q p h = by (nat_le 1 q.0 && nat_le q.0 LAST_BRANCH) (nat_le 1 q.1 && nat_le q.1 MOST_ACCOUNTS) h
   where
     last : (t : Bool) → (if t then Err (Twice (length rows + 1)) else Ok q) ≡ Ok p → p ≡ q
     last true e = cc e

@@ -1,6 +1,7 @@
 -- What a text of CSV states as a plan: branches and how many accounts each is to have, or the first fault with its row.
 use Rattle.std.specs.Prelude.{◌≡◌, ◌≤◌, ◌+◌, ◌&&◌, ⊤, Bool, false, ℕ, List, [], ◌∷◌, ◌++◌, Option, Some, None, Result, Ok, Err, All, map, length, bytes_eq, codes, nat_eq, nat_le, if◌then◌else◌, option_and_then}
 use Rattle.std.specs.List.{IsDistinct, list_any}
+use Rattle.posting_rules.specs.declared.limits.TheConstants.{LAST_BRANCH, MOST_ACCOUNTS}
 use Rattle.csv.specs.Reading.{default_config, records, strip_bom}
 use Rattle.message_records.specs.Ranges.{whole_within}
 use Rattle.message_records.specs.Reading.{number_of}
@@ -18,14 +19,6 @@ abbrev pub Rows : Type 0
 Rows = List Row
 
 -- ---- one row
-
--- the greatest number of a branch
-abbrev pub most_branch : ℕ
-most_branch = 9999
-
--- the greatest count of accounts of a branch
-abbrev pub most_accounts : ℕ
-most_accounts = 100_000
 
 -- the number from 1 on that a field of 1 to 9 digits writes
 abbrev pub number_within : ℕ → List ℕ → Option ℕ
@@ -46,7 +39,7 @@ row_of before (Some branch) (Some accounts) = if names branch before then Err (T
 
 -- the row that a pair of a list states
 abbrev pub row_of_pair : Rows → Row → Result Row PlanFault
-row_of_pair before p = row_of before (whole_within 1 most_branch p.0) (whole_within 1 most_accounts p.1)
+row_of_pair before p = row_of before (whole_within 1 LAST_BRANCH p.0) (whole_within 1 MOST_ACCOUNTS p.1)
 
 -- the two fields of a record of two
 abbrev pub two_of : Fields → Option (List ℕ × List ℕ)
@@ -58,7 +51,7 @@ two_of (one ∷ two ∷ three ∷ more) = None
 -- the row that two fields state, where there are two
 abbrev pub row_of_two : Rows → Option (List ℕ × List ℕ) → Result Row PlanFault
 row_of_two before None = Err (Columns (length before + 1))
-row_of_two before (Some p) = row_of before (number_within most_branch p.0) (number_within most_accounts p.1)
+row_of_two before (Some p) = row_of before (number_within LAST_BRANCH p.0) (number_within MOST_ACCOUNTS p.1)
 
 -- the row that a record states
 abbrev pub row_of_fields : Rows → Fields → Result Row PlanFault
@@ -97,7 +90,7 @@ plan_of_list list = rows_by row_of_pair [] list
 
 -- branch and count are in range
 abbrev pub IsRow : Row → Type 0
-IsRow p = (1 ≤ p.0) × (p.0 ≤ most_branch) × (1 ≤ p.1) × (p.1 ≤ most_accounts)
+IsRow p = (1 ≤ p.0) × (p.0 ≤ LAST_BRANCH) × (1 ≤ p.1) × (p.1 ≤ MOST_ACCOUNTS)
 
 -- each row is in range, and each branch is named once
 pub record IsPlan (rows : Rows) : Type 0 where

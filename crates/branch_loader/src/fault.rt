@@ -8,9 +8,9 @@ pub enum PlanFault {
     Header,
     /// The row hasn't two fields.
     Columns(u64),
-    /// The row's branch isn't 1 to 9 digits with a value of 1..=9999.
+    /// The row's branch isn't 1 to 9 digits with a value of 1..=`LAST_BRANCH`.
     Branch(u64),
-    /// The row's count of accounts isn't 1 to 9 digits with a value of 1..=100,000.
+    /// The row's count of accounts isn't 1 to 9 digits with a value of 1..=`MOST_ACCOUNTS`.
     Accounts(u64),
     /// An earlier row names the row's branch.
     Twice(u64),

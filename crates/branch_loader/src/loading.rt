@@ -1,12 +1,12 @@
 //! Loading a plan into a counter.
-ghost use Rattle.std.specs.Prelude.{◌≡◌, ◌≢◌, ◌+◌, ◌<◌, ◌↔◌, ℕ, List, [], length, IfOk, IfErr, OnOk};
+ghost use Rattle.std.specs.Prelude.{◌≡◌, ◌≢◌, ◌+◌, ◌≤◌, ◌↔◌, ℕ, List, [], length, IfOk, IfErr, OnOk};
 ghost use Rattle.std.specs.Result.{IsErrOf};
 ghost use Rattle.posting_rules.specs.Commands.{Command};
 ghost use Rattle.posting_rules.specs.Counter.{Seen, ShowsLog, Takes};
 ghost use Rattle.branch_loader.specs.Plans.{openings};
 
 use crate::plan::Plan;
-use posting_core::{Counter, Fault, Opening};
+use posting_core::{Counter, Fault, LAST_BRANCH, Opening};
 
 /// How many openings of a plan got each answer.
 #[derive(Clone, Copy, Debug, PartialEq, Eq)]
@@ -23,7 +23,7 @@ ghost use Rattle.branch_loader.specs.Loading.{IsRefusedAfter, LeavesBeginning, a
 
 // The counts with one answer more.
 fn with_answer(loaded: Loaded, opening: Opening) -> Loaded
-    requires { total loaded < 10_000 }
+    requires { total loaded ≤ LAST_BRANCH }
     ensures { result ≡ with_answer loaded opening }
 {
     match opening {

@@ -1,16 +1,11 @@
 //! The plan: which branches, and how many accounts each is to have.
-ghost use Rattle.std.specs.Prelude.{◌≡◌, ◌<◌, ℕ, List, length};
+ghost use Rattle.std.specs.Prelude.{◌≡◌, ◌≤◌, ◌+◌, ℕ, List, length};
 ghost use Rattle.branch_loader.specs.Plans.{IsPlan, names, plan_of_list, row_of, row_of_pair};
 
 use crate::fault::PlanFault;
 use message_records::Branch;
+use posting_core::{LAST_BRANCH, MOST_ACCOUNTS};
 use std::marker::Model;
-
-/// The greatest number of a branch in a plan.
-pub(crate) const MOST_BRANCH: u32 = 9999;
-
-/// The greatest count of accounts of a branch.
-pub(crate) const MOST_ACCOUNTS: u32 = 100_000;
 
 // Whether one of the rows names the branch.
 fn names(rows: &[(Branch, u32)], branch: u64) -> bool
@@ -25,7 +20,7 @@ pub(crate) fn row_of(
     branch: Option<Branch>,
     accounts: Option<u32>,
 ) -> Result<(Branch, u32), PlanFault>
-    requires { length before.now < 100_000 }
+    requires { length before.now ≤ LAST_BRANCH + 1 }
     ensures { result ≡ row_of before.now branch accounts }
 {
     let row = before.len() as u64 + 1;
@@ -47,10 +42,10 @@ fn row_of_pair(
     branch: Branch,
     accounts: u32,
 ) -> Result<(Branch, u32), PlanFault>
-    requires { length before.now < 100_000 }
+    requires { length before.now ≤ LAST_BRANCH + 1 }
     ensures { result ≡ row_of_pair before.now (branch, accounts) }
 {
-    let in_plan = branch.get() <= u64::from(MOST_BRANCH);
+    let in_plan = branch.get() <= LAST_BRANCH;
     let can_have = accounts >= 1 && accounts <= MOST_ACCOUNTS;
     row_of(
         before,
@@ -59,7 +54,7 @@ fn row_of_pair(
     )
 }
 
-/// Branches of 1..=9999, each named once, with counts of accounts of 1..=100,000, in an order.
+/// Branches of 1..=`LAST_BRANCH`, each named once, with counts of accounts of 1..=`MOST_ACCOUNTS`, in an order.
 #[derive(Drop)]
 pub struct Plan {
     rows: Vec<(Branch, u32)>,

@@ -1,14 +1,15 @@
 //! Reading a plan from CSV.
-ghost use Rattle.std.specs.Prelude.{◌≡◌, ◌<◌, ◌≤◌, ◌⊎◌, ℕ, List, length, option_map, IfOk, IfErr, IfSome, OnOk};
+ghost use Rattle.std.specs.Prelude.{◌≡◌, ◌<◌, ◌≤◌, ◌+◌, ◌⊎◌, ℕ, List, length, option_map, IfOk, IfErr, IfSome, OnOk};
 ghost use Rattle.csv.specs.Records.{fields_of};
 ghost use Rattle.message_records.specs.Reading.{number_of};
 ghost use Rattle.branch_loader.specs.Plans.{Tells, is_header, number_within, plan_of, plan_of_records, row_of_fields, two_of};
 ghost use Rattle.branch_loader.specs.Records.{HasLeft, IsPlain, Takes, Records};
 
 use crate::fault::PlanFault;
-use crate::plan::{MOST_ACCOUNTS, MOST_BRANCH, Plan, row_of};
+use crate::plan::{Plan, row_of};
 use csv::{ByteRecord, ErrorKind, Reader, ReaderBuilder};
 use message_records::Branch;
+use posting_core::{LAST_BRANCH, MOST_ACCOUNTS};
 use std::alloc::Global;
 use std::io::Read;
 
@@ -44,9 +45,9 @@ fn number_within(field: &[u8], most: u32) -> Option<u32>
 
 // The branch that a field writes.
 fn branch_of(field: &[u8]) -> Option<Branch>
-    ensures { result ≡ number_within 9999 field.now }
+    ensures { result ≡ number_within LAST_BRANCH field.now }
 {
-    Branch::new(u64::from(number_within(field, MOST_BRANCH)?))
+    Branch::new(u64::from(number_within(field, LAST_BRANCH as u32)?))
 }
 
 // The two fields of a record of two.
@@ -73,7 +74,7 @@ fn is_header(fields: &ByteRecord) -> bool
 
 // The row that a record states behind the rows before it.
 fn row_of_fields(before: &[(Branch, u32)], fields: &ByteRecord) -> Result<(Branch, u32), PlanFault>
-    requires { length before.now < 100_000 }
+    requires { length before.now ≤ LAST_BRANCH + 1 }
     ensures { result ≡ row_of_fields before.now (fields_of fields.now) }
 {
     match two_of(fields) {

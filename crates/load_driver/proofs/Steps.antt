@@ -5,6 +5,7 @@ use Rattle.std.proofs.lemmas.Bool.{cases_Bool}
 use Rattle.std.proofs.lemmas.Bool.Decides.{nat_tests}
 use Rattle.std.proofs.lemmas.List.{get_or-set_other, get_or-set_same, get_or_read}
 use Rattle.std.proofs.Math.ListN.{length-set}
+use Rattle.posting_rules.specs.declared.limits.TheConstants.{TELLERS_PER_BRANCH}
 use Rattle.rand_pcg.specs.Lcg.{Lcg}
 use Rattle.rand_pcg.specs.Pcg.{pcg64}
 use Rattle.branch_loader.specs.Plans.{IsPlan, Rows}
@@ -61,12 +62,12 @@ earlier-other rows seed t n ne =
     let f : nat_eq (teller_of rows (place_at rows seed n)) t ≡ false = grind (arith, nat_tests, ne) in rw (add-one n, f) (omega arith)
 
 -- the counts after one more record
-pub counts-more : (rows : Rows) (seed n place : ℕ) (counts : List ℕ) → IsPlan rows → place ≡ place_at rows seed n → place < 10 * length rows
+pub counts-more : (rows : Rows) (seed n place : ℕ) (counts : List ℕ) → IsPlan rows → place ≡ place_at rows seed n → place < TELLERS_PER_BRANCH * length rows
     → Counts rows seed n counts → Counts rows seed (n + 1) (set counts place (earlier rows seed (teller_of rows place) n + 1))
 counts-more rows seed n place counts plan at within h =
     record { len = rw length-set h.len; of_each = λ t small. by t small (cases_Bool (nat_eq t place)) }
   where
-    by : (t : ℕ) → t < 10 * length rows → (nat_eq t place ≡ true) ⊎ (nat_eq t place ≡ false)
+    by : (t : ℕ) → t < TELLERS_PER_BRANCH * length rows → (nat_eq t place ≡ true) ⊎ (nat_eq t place ≡ false)
         → get_or (set counts place (earlier rows seed (teller_of rows place) n + 1)) t 0 ≡ earlier rows seed (teller_of rows t) (n + 1)
     by t small (inl e) =
         let here : t ≡ place = grind (arith, nat_tests, e) in
@@ -88,11 +89,11 @@ pub record Steps (rows : Rows) (counts : List ℕ) (seed n t x : ℕ) : Type 0 w
 
 -- the teller that a record's first word draws, and its number
 pub stepped : (rows : Rows) (counts : List ℕ) (seed n a t x tellers : ℕ) → IsPlan rows → Counts rows seed n counts → a ≡ word seed (4 * n)
-    → tellers ≡ 10 * length rows → t ≡ draw a tellers → t < tellers → x ≡ get_or counts t x → Steps rows counts seed n t x
+    → tellers ≡ TELLERS_PER_BRANCH * length rows → t ≡ draw a tellers → t < tellers → x ≡ get_or counts t x → Steps rows counts seed n t x
 unfolding place_at
 stepped rows counts seed n a t x tellers plan h first all drawn below read =
-    let small : t < 10 * length rows = omega arith in
-    let here : t ≡ place_at rows seed n = drawn ∙ ap (draw a) all ∙ ap (λ (w : ℕ). draw w (10 * length rows)) first in
+    let small : t < TELLERS_PER_BRANCH * length rows = omega arith in
+    let here : t ≡ place_at rows seed n = drawn ∙ ap (draw a) all ∙ ap (λ (w : ℕ). draw w (TELLERS_PER_BRANCH * length rows)) first in
     let room : t < length counts = omega (arith, h.len) in
     let count : x ≡ earlier rows seed (teller_of rows t) n = get_or_read counts t x room read 0 ∙ h.of_each t small in
     let most = earlier-le rows seed (teller_of rows t) n in

@@ -9,9 +9,11 @@ use Rattle.std.proofs.lemmas.List.{get_or-map, length-append, length-map}
 use Rattle.std.proofs.lemmas.List.FromFn.{length-range_with_len}
 use Rattle.std.proofs.lemmas.List.Sums.{sum_by-cons}
 use Rattle.std.proofs.lemmas.Map.Keys.{apart_from_distinct}
+use Rattle.posting_rules.specs.declared.limits.TheConstants.{TELLERS_PER_BRANCH}
 use Rattle.branch_loader.specs.Plans.{IsPlan, IsRow, Rows, Row}
+use Rattle.posting_rules.specs.Steps.{first_account}
 use Rattle.load_driver.specs.OfPlan.{IsAccountFor, IsAccountOf}
-use Rattle.load_driver.specs.Requests.{CountsOthers, accounts_of, count_of, first_account, home_of, others, remote_accounts, teller_of}
+use Rattle.load_driver.specs.Requests.{CountsOthers, accounts_of, count_of, home_of, others, remote_accounts, teller_of}
 use Rattle.load_driver.proofs.Remote.{at-behind, at-home, at-other}
 
 -- an element is the first, or one of the rest
@@ -185,16 +187,16 @@ one_row rows i j plan small within same = by (cases_Bool (nat_lt j i))
         get_or-map (λ (p : Row). p.0) rows i (0, 0) 0 small in
         absurd (differ _ _ apart (first ∙ sym same ∙ sym second))
 
-some-branch : (rows : Rows) (t : ℕ) → IsPlan rows → t < 10 * length rows → 1 ≤ (home_of rows t).0
-some-branch rows t plan small = let row = plan.in_range (t / 10) (0, 0) (omega arith) in row.0
+some-branch : (rows : Rows) (t : ℕ) → IsPlan rows → t < TELLERS_PER_BRANCH * length rows → 1 ≤ (home_of rows t).0
+some-branch rows t plan small = let row = plan.in_range (t / TELLERS_PER_BRANCH) (0, 0) (omega arith) in row.0
 
 -- two places have two tellers
-pub one_teller : (rows : Rows) (t u : ℕ) → IsPlan rows → t < 10 * length rows → u < 10 * length rows → teller_of rows t ≡ teller_of rows u
+pub one_teller : (rows : Rows) (t u : ℕ) → IsPlan rows → t < TELLERS_PER_BRANCH * length rows → u < TELLERS_PER_BRANCH * length rows → teller_of rows t ≡ teller_of rows u
     → t ≡ u
 one_teller rows t u plan small within same =
     let first = some-branch rows t plan small in
     let second = some-branch rows u plan within in
     let branch : (home_of rows t).0 ≡ (home_of rows u).0 = omega arith in
-    let up = one_row rows (t / 10) (u / 10) plan (omega arith) (omega arith) branch in
-    let down = one_row rows (u / 10) (t / 10) plan (omega arith) (omega arith) (sym branch) in
+    let up = one_row rows (t / TELLERS_PER_BRANCH) (u / TELLERS_PER_BRANCH) plan (omega arith) (omega arith) branch in
+    let down = one_row rows (u / TELLERS_PER_BRANCH) (t / TELLERS_PER_BRANCH) plan (omega arith) (omega arith) (sym branch) in
     omega arith

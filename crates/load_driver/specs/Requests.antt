@@ -2,7 +2,10 @@
 use Rattle.std.specs.Prelude.{◌≡◌, Contains, ◌+◌, ◌-◌, ◌*◌, ◌/◌, ◌%◌, ◌||◌, Bool, not, ℕ, zero, suc, List, get_or, length, map, nat_eq, nat_lt, if◌then◌else◌, ℤ, pos, ◌-ℤ◌, filter, sum_by, IsPermutation}
 use Rattle.std.specs.List.{flat_map, range_with_len}
 use Rattle.std.specs.List.Sorted.{IsStrictlyIncreasing}
+use Rattle.posting_rules.specs.declared.limits.TheConstants.{TELLERS_PER_BRANCH}
 use Rattle.message_records.specs.Records.{RequestFields}
+use Rattle.load_driver.specs.declared.driving.TheConstants.{MOST_AMOUNT}
+use Rattle.posting_rules.specs.Steps.{first_account}
 use Rattle.load_driver.specs.Draw.{draw, word}
 use Rattle.branch_loader.specs.Plans.{Rows, Row}
 
@@ -21,15 +24,15 @@ count_of rows = sum_by (λ p. p.1) rows
 
 -- the place of record n's teller among all tellers
 unfoldable pub place_at : Rows → ℕ → ℕ → ℕ
-place_at rows seed n = draw (word seed (4 * n)) (10 * length rows)
+place_at rows seed n = draw (word seed (4 * n)) (TELLERS_PER_BRANCH * length rows)
 
 -- the row of the teller at a place
 abbrev pub home_of : Rows → ℕ → Row
-home_of rows place = get_or rows (place / 10) (0, 0)
+home_of rows place = get_or rows (place / TELLERS_PER_BRANCH) (0, 0)
 
 -- the teller at a place
 abbrev pub teller_of : Rows → ℕ → ℕ
-teller_of rows place = 10 * ((home_of rows place).0 - 1) + 1 + place % 10
+teller_of rows place = TELLERS_PER_BRANCH * ((home_of rows place).0 - 1) + 1 + place % TELLERS_PER_BRANCH
 
 -- ---- the account (TPC-B 5.3: the 85/15 rule)
 
@@ -40,10 +43,6 @@ x_at seed n = draw (word seed (4 * n + 1)) 100
 -- the account is to be one of the teller's branch
 abbrev pub is_home : Rows → ℕ → Bool
 is_home rows x = nat_lt x 85 || nat_eq (length rows) 1
-
--- the first account of a branch
-abbrev pub first_account : ℕ → ℕ
-first_account branch = 100_000 * (branch - 1) + 1
 
 -- the accounts of a row, ascending
 abbrev pub accounts_of : Row → List ℕ
@@ -72,7 +71,7 @@ account_by rows home choice pick =
 
 -- the amount that a word draws, in cents (TPC-B 5.3)
 abbrev pub amount_by : ℕ → ℤ
-amount_by word = pos (draw word 1_999_999) -ℤ pos 999_999
+amount_by word = pos (draw word (2 * MOST_AMOUNT + 1)) -ℤ pos MOST_AMOUNT
 
 -- how many of the first n records have this teller
 unfoldable pub earlier : Rows → ℕ → ℕ → ℕ → ℕ
@@ -94,7 +93,3 @@ unfoldable pub request_at : Rows → ℕ → ℕ → RequestFields
 request_at rows seed n =
     request_by rows (place_at rows seed n) (word seed (4 * n + 1)) (word seed (4 * n + 2)) (word seed (4 * n + 3))
     (earlier rows seed (teller_of rows (place_at rows seed n)) n + 1)
-
--- how many records a driver gives
-abbrev pub most_records : ℕ
-most_records = 9_999_999_999

@@ -1,24 +1,26 @@
 //! Which account a request names.
-ghost use Rattle.std.specs.Prelude.{◌≡◌, ◌≢◌, ◌<◌, ◌≤◌, ◌*◌, ◌^◌, ◌-◌, Contains, get_or, length};
+ghost use Rattle.std.specs.Prelude.{◌≡◌, ◌≢◌, ◌<◌, ◌≤◌, ◌+◌, ◌*◌, ◌^◌, ◌-◌, Contains, get_or, length};
 ghost use Rattle.branch_loader.specs.Plans.{IsPlan};
 ghost use Rattle.load_driver.specs.Draw.{draw};
-ghost use Rattle.load_driver.specs.Requests.{account_by, count_of, first_account, is_home, remote_accounts};
+ghost use Rattle.load_driver.specs.Requests.{account_by, count_of, is_home, remote_accounts};
+ghost use Rattle.posting_rules.specs.Steps.{first_account};
 ghost use Rattle.load_driver.specs.OfPlan.{IsAccountFor};
 
 use crate::draws::draw;
 use message_records::Branch;
+use posting_core::{ACCOUNTS_PER_BRANCH, LAST_BRANCH};
 
 // The first account of a branch.
 fn first_account(branch: Branch) -> u64
     ensures value { result ≡ first_account branch }
     ensures small { result < 2 ^ 40 }
 {
-    100_000 * (branch.get() - 1) + 1
+    ACCOUNTS_PER_BRANCH * (branch.get() - 1) + 1
 }
 
 // How many accounts the rows have.
 fn count_of(rows: &[(Branch, u32)]) -> u64
-    requires { length rows.now ≤ 10_000 }
+    requires { length rows.now ≤ LAST_BRANCH + 1 }
     ensures { result ≡ count_of rows.now }
 {
     rows.iter().map(|row| u64::from(row.1)).sum()

@@ -4,14 +4,17 @@ ghost use Rattle.message_records.specs.Spelling.{request_spelling};
 ghost use Rattle.message_records.specs.Reading.{request_of};
 ghost use Rattle.branch_loader.specs.Plans.{IsPlan};
 ghost use Rattle.load_driver.specs.Draw.{draw};
-ghost use Rattle.load_driver.specs.Requests.{CountsOthers, IsAscending, amount_by, is_home, most_records, request_at, request_by, x_at};
+ghost use Rattle.load_driver.specs.Requests.{CountsOthers, IsAscending, amount_by, is_home, request_at, request_by, x_at};
 ghost use Rattle.load_driver.specs.OfPlan.{IsOfPlan};
 ghost use Rattle.load_driver.specs.Counts.{Driving, IsReady};
 
 use crate::accounts::account_by;
 use crate::draws::{Words, draw, take_words, words_of};
 use branch_loader::Plan;
-use message_records::{Account, Branch, Cents, Number, Request, Teller, encode_request};
+use message_records::{
+    Account, Branch, Cents, MAX_NUMBER, Number, Request, Teller, encode_request,
+};
+use posting_core::TELLERS_PER_BRANCH;
 use rand_pcg::Lcg128Xsl64;
 use std::alloc::{AllocError, Global};
 use std::fmt;
@@ -37,7 +40,11 @@ impl fmt::Display for DriverFault {
 
 impl std::error::Error for DriverFault {}
 
-const MOST_RECORDS: u64 = 9_999_999_999;
+// How many records a driver gives: no teller needs more numbers than it has.
+const MOST_RECORDS: u64 = MAX_NUMBER;
+
+// How far from zero an amount may be drawn, in cents (TPC-B 5.3).
+const MOST_AMOUNT: u64 = 999_999;
 
 // The rows of a plan, ascending.
 fn ascending(alloc: Global, rows: &[(Branch, u32)]) -> Result<Vec<(Branch, u32)>, AllocError>
@@ -53,24 +60,26 @@ fn ascending(alloc: Global, rows: &[(Branch, u32)]) -> Result<Vec<(Branch, u32)>
 // The amount that a word draws.
 fn amount_by(word: u64) -> Cents
     ensures value { result ≡ amount_by word }
-    ensures small { nat_abs result ≤ 999_999 }
+    ensures small { nat_abs result ≤ MOST_AMOUNT }
 {
-    Cents::new(draw(word, 1_999_999) as i64 - 999_999).unwrap()
+    Cents::new(draw(word, 2 * MOST_AMOUNT + 1) as i64 - MOST_AMOUNT as i64).unwrap()
 }
 
 // The request of the teller at a place, by the record's words and by its number.
 fn request_by(rows: &[(Branch, u32)], place: u64, words: Words, number: u64) -> Request
     requires plan { IsPlan rows.now }
-    requires place { place < 10 * length rows.now }
+    requires place { place < TELLERS_PER_BRANCH * length rows.now }
     requires first { 1 ≤ number }
-    requires last { number ≤ most_records }
+    requires last { number ≤ MOST_RECORDS }
     ensures value { result ≡ request_by rows.now place words.choice words.account words.amount number }
     ensures of_plan { IsOfPlan rows.now (is_home rows.now (draw words.choice 100)) result }
 {
-    let home = rows[(place / 10) as usize];
+    let home = rows[(place / TELLERS_PER_BRANCH) as usize];
     let (branch, _) = home;
     let account = Account::new(account_by(rows, home, words.choice, words.account)).unwrap();
-    let teller = Teller::new(10 * (branch.get() - 1) + 1 + place % 10).unwrap();
+    let teller = Teller::new(
+        TELLERS_PER_BRANCH * (branch.get() - 1) + 1 + place % TELLERS_PER_BRANCH,
+    ).unwrap();
     let number = Number::new(number).unwrap();
     Request::new(account, teller, branch, number, amount_by(words.amount)).unwrap()
 }
@@ -110,7 +119,7 @@ impl Driver {
         let Ok(rows) = ascending(alloc, plan.rows()) else {
             return Err(DriverFault::Memory);
         };
-        let Ok(counts) = vec![in alloc; 0u64; 10 * rows.len()] else {
+        let Ok(counts) = vec![in alloc; 0u64; TELLERS_PER_BRANCH as usize * rows.len()] else {
             return Err(DriverFault::Memory);
         };
         Ok(Driver {
@@ -124,33 +133,33 @@ impl Driver {
 
     // Draws the next request.
     fn draw_next(&mut self) -> Request
-        requires { self.old.given < most_records }
+        requires { self.old.given < MOST_RECORDS }
         ensures value { result ≡ request_at self.old.rows self.old.seed self.old.given }
         ensures of_plan { IsOfPlan self.old.rows (is_home self.old.rows (x_at self.old.seed self.old.given)) result }
         ensures goes_on { self.new ≡ record self.old { given = self.old.given + 1 } }
     {
         let words = take_words(&mut self.words);
-        let place = draw(words.teller, 10 * self.rows.len() as u64);
+        let place = draw(words.teller, TELLERS_PER_BRANCH * self.rows.len() as u64);
         let number = self.counts[place as usize] + 1;
         self.counts[place as usize] = number;
         self.given += 1;
         request_by(self.rows.as_slice(), place, words, number)
     }
 
-    /// The 100 bytes of the next request, none after the first 9,999,999,999. It takes no memory.
+    /// The 100 bytes of the next request, none after the first `MAX_NUMBER`. It takes no memory.
     pub fn next(&mut self) -> Option<[u8; 100]>
-        ensures bytes { self.old.given < most_records →
+        ensures bytes { self.old.given < MOST_RECORDS →
             result ≡ Some (request_spelling (request_at self.old.rows self.old.seed self.old.given)) }
-        ensures of_plan { self.old.given < most_records →
+        ensures of_plan { self.old.given < MOST_RECORDS →
             IsOfPlan self.old.rows (is_home self.old.rows (x_at self.old.seed self.old.given))
             (request_at self.old.rows self.old.seed self.old.given) }
-        ensures goes_on { self.old.given < most_records → self.new ≡ record self.old { given = self.old.given + 1 } }
+        ensures goes_on { self.old.given < MOST_RECORDS → self.new ≡ record self.old { given = self.old.given + 1 } }
 
         // The bytes are read as the request again.
         ensures read_again { IfSome result (λ bytes. request_of bytes ≡ Ok (request_at self.old.rows self.old.seed self.old.given)) }
 
-        ensures ended { most_records ≤ self.old.given → result ≡ None }
-        ensures stays { most_records ≤ self.old.given → self.new ≡ self.old }
+        ensures ended { MOST_RECORDS ≤ self.old.given → result ≡ None }
+        ensures stays { MOST_RECORDS ≤ self.old.given → self.new ≡ self.old }
     {
         if self.given == MOST_RECORDS {
             return None;

@@ -4,6 +4,7 @@ use Rattle.std.specs.Prelude.{◌⊎◌}
 use Rattle.std.proofs.lemmas.List.{length-append}
 use Rattle.std.proofs.lemmas.Bool.Decides.{nat_tests}
 use Rattle.std.proofs.Math.Nat.{pow-suc, pow-succ', pow-le-pow_right, div-div-eq-div-mul, lt-div-mul-add, one-le-pow, zero-mul}
+use Rattle.message_records.specs.declared.limits.TheConstants.{MAX_BALANCE}
 use Rattle.message_records.specs.Spelling.{digits}
 use Rattle.message_records.specs.Reading.{number_after, number_of}
 
@@ -99,7 +100,7 @@ number_takes k n cs len e =
     (again.0 ∙ ap (λ (j : ℕ). digits j n) len, rw len at fits)
 
 -- a number of up to twelve digits
-pub most_of_twelve : (n k : ℕ) → n < 10 ^ k → k ≤ 12 → n ≤ 999_999_999_999
+pub most_of_twelve : (n k : ℕ) → n < 10 ^ k → k ≤ 12 → n ≤ MAX_BALANCE
 most_of_twelve n k lt le =
     let above : 0 < 10 = omega arith in
     omega (arith, pow-le-pow_right above {i = k} {j = 12} le)

@@ -4,6 +4,7 @@ use Rattle.std.specs.Prelude.{option_and_then}
 use Rattle.std.specs.Option.{ok_or}
 use Rattle.std.proofs.lemmas.Bool.Decides.{nat_tests}
 use Rattle.std.proofs.lemmas.List.{length-append}
+use Rattle.message_records.specs.declared.limits.TheConstants.{MAX_ACCOUNT, MAX_TELLER, MAX_BRANCH, MAX_NUMBER}
 use Rattle.message_records.specs.declared.faults.Bad.TheVariants as bad
 use Rattle.message_records.specs.Ranges.{whole_within}
 use Rattle.message_records.specs.Records.{RequestFields, IsRequest}
@@ -71,13 +72,13 @@ fields_again r bytes h e =
     let delta : take 11 (drop 36 bytes) ≡ signed 10 r.delta =
     last_field 36 11 bytes (signed 10 r.delta) number.1 (length-signed 10 r.delta) in
     rw (
-      number_again 999_999_999_999 12 r.account bad.Account (take 12 (drop 0 bytes)) account.0
+      number_again MAX_ACCOUNT 12 r.account bad.Account (take 12 (drop 0 bytes)) account.0
           (omega (arith, h.account)) h.account_above h.account,
-      number_again 99_999_999 8 r.teller bad.Teller (take 8 (drop 12 bytes)) teller.0
+      number_again MAX_TELLER 8 r.teller bad.Teller (take 8 (drop 12 bytes)) teller.0
           (omega (arith, h.teller)) h.teller_above h.teller,
-      number_again 999_999 6 r.branch bad.Branch (take 6 (drop 20 bytes)) branch.0
+      number_again MAX_BRANCH 6 r.branch bad.Branch (take 6 (drop 20 bytes)) branch.0
           (omega (arith, h.branch)) h.branch_above h.branch,
-      number_again 9_999_999_999 10 r.number bad.Number (take 10 (drop 26 bytes)) number.0
+      number_again MAX_NUMBER 10 r.number bad.Number (take 10 (drop 26 bytes)) number.0
           (omega (arith, h.number)) h.number_above h.number,
       signed_again 10 r.delta (take 11 (drop 36 bytes)) delta (omega (arith, h.delta)),
     ) refl
@@ -87,18 +88,18 @@ pub fields_take : (r : RequestFields) (bytes : List ℕ) → length bytes ≡ 47
     → (bytes ≡ fields_spelling r) × IsRequest r
 unfolding fields_spelling fields_of
 fields_take r bytes len e =
-    let account = step_takes (number_at 999_999_999_999 bad.Account (take 12 (drop 0 bytes))) _ r e in
-    let teller = step_takes (number_at 99_999_999 bad.Teller (take 8 (drop 12 bytes))) _ r account.2 in
-    let branch = step_takes (number_at 999_999 bad.Branch (take 6 (drop 20 bytes))) _ r teller.2 in
-    let number = step_takes (number_at 9_999_999_999 bad.Number (take 10 (drop 26 bytes))) _ r branch.2 in
+    let account = step_takes (number_at MAX_ACCOUNT bad.Account (take 12 (drop 0 bytes))) _ r e in
+    let teller = step_takes (number_at MAX_TELLER bad.Teller (take 8 (drop 12 bytes))) _ r account.2 in
+    let branch = step_takes (number_at MAX_BRANCH bad.Branch (take 6 (drop 20 bytes))) _ r teller.2 in
+    let number = step_takes (number_at MAX_NUMBER bad.Number (take 10 (drop 26 bytes))) _ r branch.2 in
     let delta = step_takes (ok_or (signed_of (take 11 (drop 36 bytes))) bad.Delta) _ r number.2 in
-    let a = number_at-takes 999_999_999_999 12 account.0 bad.Account (take 12 (drop 0 bytes))
+    let a = number_at-takes MAX_ACCOUNT 12 account.0 bad.Account (take 12 (drop 0 bytes))
     (field_length 0 12 bytes (omega arith)) account.1 in
-    let t = number_at-takes 99_999_999 8 teller.0 bad.Teller (take 8 (drop 12 bytes))
+    let t = number_at-takes MAX_TELLER 8 teller.0 bad.Teller (take 8 (drop 12 bytes))
     (field_length 12 8 bytes (omega arith)) teller.1 in
-    let b = number_at-takes 999_999 6 branch.0 bad.Branch (take 6 (drop 20 bytes))
+    let b = number_at-takes MAX_BRANCH 6 branch.0 bad.Branch (take 6 (drop 20 bytes))
     (field_length 20 6 bytes (omega arith)) branch.1 in
-    let n = number_at-takes 9_999_999_999 10 number.0 bad.Number (take 10 (drop 26 bytes))
+    let n = number_at-takes MAX_NUMBER 10 number.0 bad.Number (take 10 (drop 26 bytes))
     (field_length 26 10 bytes (omega arith)) number.1 in
     let d = signed_takes 10 delta.0 (take 11 (drop 36 bytes)) (field_length 36 11 bytes (omega arith))
     (ok_or_some (signed_of (take 11 (drop 36 bytes))) bad.Delta delta.0 delta.1) in

@@ -3,6 +3,7 @@ use Rattle.std.proofs.Common.{◌≡◌, ℕ, ◌≤◌, true, false, cond, eqb,
 use Rattle.std.specs.Prelude.{ℤ, pos, nat_abs, codes, is_some, IfSome, IfOk, unwrap_or, option_and_then}
 use Rattle.std.specs.Option.{ok_or}
 use Rattle.std.proofs.lemmas.Bool.{eqb-true}
+use Rattle.message_records.specs.declared.limits.TheConstants.{MAX_BALANCE}
 use Rattle.message_records.specs.declared.faults.Bad.{Bad}
 use Rattle.message_records.specs.declared.faults.BadReply.{BadReply}
 use Rattle.message_records.specs.declared.faults.BadReply.TheVariants as bad_reply
@@ -107,7 +108,7 @@ shown_takes Full q bytes len e = request_shown Full q bytes refl len e
 record IsBalance (o : Outcome) (q : Option ℤ) (bytes : List ℕ) : Type 0 where
   spelled : bytes ≡ signed 12 (unwrap_or q (pos 0))
   shows : is_some q ≡ has_balance o
-  in_range : IfSome q (λ z. nat_abs z ≤ 999_999_999_999)
+  in_range : IfSome q (λ z. nat_abs z ≤ MAX_BALANCE)
 
 no_balance : (o : Outcome) (q : Option ℤ) (bytes : List ℕ) → false ≡ has_balance o
     → (text_at (43 ∷ replicate 12 48) bad_reply.Balance bytes >>= λ zeros. Ok None) ≡ Ok q → IsBalance o q bytes

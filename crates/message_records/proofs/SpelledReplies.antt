@@ -1,6 +1,7 @@
 -- A reply that is spelled is read.
 use Rattle.std.proofs.Common.{◌≡◌, ℕ, ◌^◌, ◌<◌, ◌≤◌, List, ◌∷◌, ◌++◌, length, take, drop, replicate, Option, Some, None, Ok, refl, ap, ◌∙◌, lit<, arith}
 use Rattle.std.specs.Prelude.{ℤ, pos, nat_abs, codes, is_some, IfSome, unwrap_or, option_and_then}
+use Rattle.message_records.specs.declared.limits.TheConstants.{MAX_BALANCE}
 use Rattle.message_records.specs.declared.faults.BadReply.TheVariants as bad_reply
 use Rattle.message_records.specs.declared.records.Outcome.{Outcome}
 use Rattle.message_records.specs.declared.records.Outcome.TheVariants.{Posted, NoTeller, WrongBranch, NoAccount, OverLimit, ReusedNumber, Full, Malformed}
@@ -70,7 +71,7 @@ pub zero_balance : signed 12 (pos 0) ≡ 43 ∷ replicate 12 48
 unfolding digits
 zero_balance = refl
 
-balance_again : (o : Outcome) (q : Option ℤ) (bytes : List ℕ) → is_some q ≡ has_balance o → IfSome q (λ z. nat_abs z ≤ 999_999_999_999)
+balance_again : (o : Outcome) (q : Option ℤ) (bytes : List ℕ) → is_some q ≡ has_balance o → IfSome q (λ z. nat_abs z ≤ MAX_BALANCE)
     → bytes ≡ signed 12 (unwrap_or q (pos 0)) → balance_of o bytes ≡ Ok q
 balance_again Posted None bytes s h e = absurd cc
 balance_again Posted (Some z) bytes s h e = rw (signed_again 12 z bytes e (omega (arith, h))) refl

@@ -8,6 +8,7 @@ use Rattle.message_records.specs.declared.faults.Bad.{Bad}
 use Rattle.message_records.specs.declared.faults.Bad.TheVariants as bad
 use Rattle.message_records.specs.declared.faults.BadReply.{BadReply}
 use Rattle.message_records.specs.declared.faults.BadReply.TheVariants as bad_reply
+use Rattle.message_records.specs.declared.limits.TheConstants.{MAX_ACCOUNT, MAX_TELLER, MAX_BRANCH, MAX_NUMBER}
 use Rattle.message_records.specs.Ranges.{whole_within}
 use Rattle.message_records.specs.Outcomes.{name_of}
 use Rattle.message_records.specs.Records.{RequestFields, ReplyFields}
@@ -57,10 +58,10 @@ text_at text fault cs = if bytes_eq cs text then Ok text else Err fault
 -- the five fields of a request, in 47 bytes
 unfoldable pub fields_of : List ℕ → Result RequestFields Bad
 fields_of bytes = do
-  account ← number_at 999_999_999_999 bad.Account (slice_range bytes 0 12)
-  teller ← number_at 99_999_999 bad.Teller (slice_range bytes 12 20)
-  branch ← number_at 999_999 bad.Branch (slice_range bytes 20 26)
-  number ← number_at 9_999_999_999 bad.Number (slice_range bytes 26 36)
+  account ← number_at MAX_ACCOUNT bad.Account (slice_range bytes 0 12)
+  teller ← number_at MAX_TELLER bad.Teller (slice_range bytes 12 20)
+  branch ← number_at MAX_BRANCH bad.Branch (slice_range bytes 20 26)
+  number ← number_at MAX_NUMBER bad.Number (slice_range bytes 26 36)
   delta ← ok_or (signed_of (slice_range bytes 36 47)) bad.Delta
   Ok (record { account = account; teller = teller; branch = branch; number = number; delta = delta })
 

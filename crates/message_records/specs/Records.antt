@@ -1,6 +1,7 @@
 -- What a request and a reply hold (TPC-A, contents of the messages).
 use Rattle.std.specs.Prelude.{ℕ, ℤ, ◌≡◌, ◌≤◌, nat_le, nat_abs, Bool, true, false, is_some, not, ◌&&◌, Option, Some, None, IfSome, if◌then◌else◌}
 use Rattle.message_records.specs.declared.records.Outcome.{Outcome}
+use Rattle.message_records.specs.declared.limits.TheConstants.{MAX_ACCOUNT, MAX_TELLER, MAX_BRANCH, MAX_NUMBER, MAX_BALANCE, MAX_DELTA}
 use Rattle.message_records.specs.Outcomes.{has_request, has_balance}
 
 pub record RequestFields : Type 0 where
@@ -15,19 +16,19 @@ pub record RequestFields : Type 0 where
 -- each field is in its range
 pub record IsRequest (r : RequestFields) : Type 0 where
   pub account_above : 1 ≤ r.account
-  pub account : r.account ≤ 999_999_999_999
+  pub account : r.account ≤ MAX_ACCOUNT
   pub teller_above : 1 ≤ r.teller
-  pub teller : r.teller ≤ 99_999_999
+  pub teller : r.teller ≤ MAX_TELLER
   pub branch_above : 1 ≤ r.branch
-  pub branch : r.branch ≤ 999_999
+  pub branch : r.branch ≤ MAX_BRANCH
   pub number_above : 1 ≤ r.number
-  pub number : r.number ≤ 9_999_999_999
-  pub delta : nat_abs r.delta ≤ 9_999_999_999
+  pub number : r.number ≤ MAX_NUMBER
+  pub delta : nat_abs r.delta ≤ MAX_DELTA
 
 -- the request of these fields, where the amount is within its limit
 abbrev pub request_from : ℕ → ℕ → ℕ → ℕ → ℤ → Option RequestFields
 request_from account teller branch number delta =
-    if nat_le (nat_abs delta) 9_999_999_999 then Some (record { account = account; teller = teller; branch = branch; number = number; delta = delta }) else None
+    if nat_le (nat_abs delta) MAX_DELTA then Some (record { account = account; teller = teller; branch = branch; number = number; delta = delta }) else None
 
 pub record ReplyFields : Type 0 where
   pub outcome : Outcome
@@ -40,7 +41,7 @@ pub record IsReply (r : ReplyFields) : Type 0 where
   pub shows_request : is_some r.request ≡ has_request r.outcome
   pub request : IfSome r.request IsRequest
   pub shows_balance : is_some r.balance ≡ has_balance r.outcome
-  pub balance : IfSome r.balance (λ z. nat_abs z ≤ 999_999_999_999)
+  pub balance : IfSome r.balance (λ z. nat_abs z ≤ MAX_BALANCE)
 
 -- two tests with one answer
 abbrev pub agree : Bool → Bool → Bool

@@ -4,6 +4,7 @@
 mod draft;
 mod faults;
 mod laws;
+mod limits;
 mod numbers;
 mod reading;
 mod records;
@@ -11,6 +12,9 @@ mod writing;
 
 pub use faults::{Bad, BadReply};
 pub use laws::one_spelling;
+pub use limits::{
+    MAX_ACCOUNT, MAX_BALANCE, MAX_BRANCH, MAX_DELTA, MAX_MOMENT, MAX_NUMBER, MAX_TELLER,
+};
 pub use numbers::{Account, Branch, Cents, Moment, Number, Teller, Whole};
 pub use reading::{decode_reply, decode_request};
 pub use records::{Outcome, Reply, Request};

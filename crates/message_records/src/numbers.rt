@@ -2,6 +2,7 @@
 ghost use Rattle.std.specs.Prelude.{◌≡◌, ◌≤◌, ◌≤ℤ◌, pos, neg_ℤ, nat_abs};
 ghost use Rattle.message_records.specs.Ranges.{whole_within, cents_within};
 
+use crate::limits::{MAX_ACCOUNT, MAX_BALANCE, MAX_BRANCH, MAX_MOMENT, MAX_NUMBER, MAX_TELLER};
 use std::fmt;
 use std::marker::Model;
 
@@ -11,20 +12,20 @@ pub struct Whole<const LEAST: u64, const MOST: u64> {
     value: u64,
 }
 
-/// The number of an account: 1..=999,999,999,999.
-pub type Account = Whole<1, 999_999_999_999>;
+/// The number of an account: 1..=`MAX_ACCOUNT`.
+pub type Account = Whole<1, MAX_ACCOUNT>;
 
-/// The number of a teller: 1..=99,999,999.
-pub type Teller = Whole<1, 99_999_999>;
+/// The number of a teller: 1..=`MAX_TELLER`.
+pub type Teller = Whole<1, MAX_TELLER>;
 
-/// The number of a branch: 1..=999,999.
-pub type Branch = Whole<1, 999_999>;
+/// The number of a branch: 1..=`MAX_BRANCH`.
+pub type Branch = Whole<1, MAX_BRANCH>;
 
-/// A teller's own number for a request: 1..=9,999,999,999.
-pub type Number = Whole<1, 9_999_999_999>;
+/// A teller's own number for a request: 1..=`MAX_NUMBER`.
+pub type Number = Whole<1, MAX_NUMBER>;
 
-/// A count of whole seconds since 1970-01-01T00:00:00Z: 0..=253,402,300,799, to the end of the year 9999.
-pub type Moment = Whole<0, 253_402_300_799>;
+/// A count of whole seconds since 1970-01-01T00:00:00Z: 0..=`MAX_MOMENT`, to the end of the year 9999.
+pub type Moment = Whole<0, MAX_MOMENT>;
 
 impl<const LEAST: u64, const MOST: u64> Model for Whole<LEAST, MOST> {
     ghost use Rattle.std.specs.Prelude.{ℕ, ◌≤◌};
@@ -72,7 +73,7 @@ impl<const LEAST: u64, const MOST: u64> fmt::Display for Whole<LEAST, MOST> {
     }
 }
 
-/// An amount of money in cents, within 999,999,999,999 of zero (TPC-B 1.2: ten digits at least, and a sign).
+/// An amount of money in cents, within `MAX_BALANCE` of zero.
 #[derive(Clone, Copy, Debug, PartialEq, Eq, PartialOrd, Ord)]
 pub struct Cents {
     value: i64,
@@ -80,23 +81,24 @@ pub struct Cents {
 
 impl Model for Cents {
     ghost use Rattle.std.specs.Prelude.{ℤ, pos, neg_ℤ, ◌≤ℤ◌};
+    ghost use Rattle.message_records.specs.declared.limits.TheConstants.{MAX_BALANCE};
 
     ghost Value = { ℤ };
 
     ghost view = { λ a. a.value };
 
-    ghost invariant = { λ a. (neg_ℤ (pos 999_999_999_999) ≤ℤ a.value) × (a.value ≤ℤ pos 999_999_999_999) };
+    ghost invariant = { λ a. (neg_ℤ (pos MAX_BALANCE) ≤ℤ a.value) × (a.value ≤ℤ pos MAX_BALANCE) };
 
     ghost inverse = { λ z. record { value = z } };
 }
 
 impl Cents {
-    /// The greatest amount, and the least with the other sign.
-    pub const LIMIT: i64 = 999_999_999_999;
+    // The greatest amount, and the least with the other sign.
+    const LIMIT: i64 = MAX_BALANCE as i64;
 
     /// The amount, none where it is further from zero than the limit.
     pub fn new(value: i64) -> Option<Self>
-        ensures { result ≡ cents_within 999_999_999_999 value }
+        ensures { result ≡ cents_within MAX_BALANCE value }
     {
         if -Self::LIMIT <= value && value <= Self::LIMIT {
             Some(Cents { value })
@@ -107,8 +109,8 @@ impl Cents {
 
     pub fn get(self) -> i64
         ensures value { result ≡ self }
-        ensures least { neg_ℤ (pos 999_999_999_999) ≤ℤ result }
-        ensures most { result ≤ℤ pos 999_999_999_999 }
+        ensures least { neg_ℤ (pos MAX_BALANCE) ≤ℤ result }
+        ensures most { result ≤ℤ pos MAX_BALANCE }
     {
         self.value
     }

@@ -8,6 +8,7 @@ ghost use Rattle.message_records.specs.Spelling.{request_spelling, filled, reply
 ghost use Rattle.message_records.specs.Reading.{number_of, signed_of, fields_of, request_of, outcome_with, no_fields_of, shown_request_of, balance_of, reply_of};
 
 use crate::faults::{Bad, BadReply};
+use crate::limits::MAX_BALANCE;
 use crate::numbers::{Cents, Whole};
 use crate::records::{Outcome, Reply, Request};
 
@@ -195,7 +196,7 @@ fn read_digits(digits: &[u8]) -> Option<u64>
     requires { length digits.now ≤ 12 }
     ensures value { result ≡ number_of digits.now }
     ensures below { IfSome result (λ n. n < 10 ^ length digits.now) }
-    ensures most { IfSome result (λ n. n ≤ 999_999_999_999) }
+    ensures most { IfSome result (λ n. n ≤ MAX_BALANCE) }
 {
     let mut number = 0;
     for digit in digits {

@@ -2,6 +2,7 @@
 ghost use Rattle.std.specs.Prelude.{◌≡◌, ◌≤◌, nat_abs};
 ghost use Rattle.message_records.specs.Records.{request_from};
 
+use crate::limits::MAX_DELTA;
 use crate::numbers::{Account, Branch, Cents, Number, Teller};
 use std::fmt;
 use std::marker::Model;
@@ -18,20 +19,21 @@ pub struct Request {
 
 impl Model for Request {
     ghost use Rattle.std.specs.Prelude.{◌≤◌, nat_abs};
+    ghost use Rattle.message_records.specs.declared.limits.TheConstants.{MAX_DELTA};
     ghost use Rattle.message_records.specs.Records.{RequestFields};
 
     ghost Value = { RequestFields };
 
     ghost view = { λ a. record { account = a.account; teller = a.teller; branch = a.branch; number = a.number; delta = a.delta } };
 
-    ghost invariant = { λ a. nat_abs a.delta ≤ 9_999_999_999 };
+    ghost invariant = { λ a. nat_abs a.delta ≤ MAX_DELTA };
 
     ghost inverse = { λ r. record { account = r.account; teller = r.teller; branch = r.branch; number = r.number; delta = r.delta } };
 }
 
 impl Request {
-    /// The greatest amount of a request, and the least with the other sign.
-    pub const DELTA_LIMIT: i64 = 9_999_999_999;
+    // The greatest amount of a request, and the least with the other sign.
+    const DELTA_LIMIT: i64 = MAX_DELTA as i64;
 
     /// The request, none where the amount is further from zero than its limit.
     pub fn new(
@@ -83,7 +85,7 @@ impl Request {
 
     pub fn delta(&self) -> Cents
         ensures value { result ≡ self.now.delta }
-        ensures limit { nat_abs result ≤ 9_999_999_999 }
+        ensures limit { nat_abs result ≤ MAX_DELTA }
     {
         self.delta
     }

@@ -5,6 +5,7 @@ ghost use Rattle.message_records.specs.Spelling.{signed, no_fields, fields_spell
 ghost use Rattle.message_records.specs.Reading.{request_of, reply_of};
 
 use crate::draft::Draft;
+use crate::limits::MAX_BALANCE;
 use crate::numbers::Cents;
 use crate::reading::{REPLY_TAG, REQUEST_TAG};
 use crate::records::{Reply, Request};
@@ -73,7 +74,7 @@ fn put_balance<const SIZE: usize>(draft: &mut Draft<SIZE>, balance: Option<Cents
     requires { length draft.old + 13 ≤ SIZE }
     ensures value { draft.new ≡ draft.old ++ signed 12 (unwrap_or balance (pos 0)) }
     ensures len { length draft.new ≡ length draft.old + 13 }
-    ensures in_range { IfSome balance (λ z. nat_abs z ≤ 999_999_999_999) }
+    ensures in_range { IfSome balance (λ z. nat_abs z ≤ MAX_BALANCE) }
 {
     match balance {
         Some(balance) => draft.put_amount(12, balance.get()),

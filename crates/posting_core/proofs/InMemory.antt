@@ -1,5 +1,6 @@
 -- The rows of a bank in memory show a log, and what a call does to them shows the log with its command.
 use Rattle.std.proofs.Common.{◌≡◌, ℕ, ◌≤◌, List, [], ◌∷◌, length, None, refl, sym, ap, subst, ◌∙◌}
+use Rattle.posting_rules.specs.declared.limits.TheConstants.{MOST_ACCOUNTS}
 use Rattle.message_records.specs.Reading.{request_of}
 use Rattle.message_records.specs.Spelling.{reply_spelling}
 use Rattle.posting_rules.specs.declared.rows.MetaRow.{MetaRow}
@@ -53,7 +54,7 @@ pub reply_from : (t t' : Tables) (log : List Command) (bytes out : List ℕ) →
 reply_from t t' log bytes out e same s =
     e ∙ ap (λ (u : Tables). reply_spelling (reply_in_tables u (request_of bytes))) same ∙ ap reply_spelling (reply_is t log bytes s)
 
-pub opened_from : (t t' new : Tables) (log : List Command) (b count : ℕ) → new ≡ tables_opened t' b count → t' ≡ t → count_in t b ≡ None → 1 ≤ b → count ≤ 100_000 → Shows t log → Shows new (Open b count ∷ log)
+pub opened_from : (t t' new : Tables) (log : List Command) (b count : ℕ) → new ≡ tables_opened t' b count → t' ≡ t → count_in t b ≡ None → 1 ≤ b → count ≤ MOST_ACCOUNTS → Shows t log → Shows new (Open b count ∷ log)
 opened_from t t' new log b count e same none hb hc s =
     subst (λ (u : Tables). Shows u (Open b count ∷ log)) (sym (e ∙ ap (λ (u : Tables). tables_opened u b count) same)) (opened_shown t log b count none hb hc s)
 

@@ -8,6 +8,7 @@ use Rattle.std.proofs.Math.Seq.{take-append-add}
 use Rattle.std.proofs.lemmas.List.{length-append, length-take-le, take_all, map-append}
 use Rattle.posting_rules.specs.declared.fault.Fault.{Fault}
 use Rattle.posting_rules.specs.declared.fault.Fault.TheVariants.{Memory, Store, Down, Damaged}
+use Rattle.posting_core.specs.declared.stream.TheConstants.{BUFFER}
 use Rattle.posting_core.specs.declared.stream.StreamFault.{StreamFault}
 use Rattle.posting_core.specs.declared.stream.StreamFault.TheVariants.{Truncated, Read, Write, Bank}
 use Rattle.posting_rules.specs.Commands.{Command}
@@ -89,7 +90,7 @@ going_unread {r' = r'} {r'' = r''} old new filled filled' g kept e =
     (ap (λ (j : ℕ). take j new) e ∙ kept.1 ∙ sym (append-nil (take filled old)))
 
 -- less than a record is left over
-pub few_left : (filled : ℕ) (buffer : List ℕ) → filled < 100 → length buffer ≡ 6400 → length (take filled buffer) < 100
+pub few_left : (filled : ℕ) (buffer : List ℕ) → filled < 100 → length buffer ≡ BUFFER → length (take filled buffer) < 100
 few_left filled buffer lt len = let within : filled ≤ length buffer = omega arith in omega (arith, length-take-le filled buffer within)
 
 pub at_ok : {E : Type 0} (P : ℕ → Type 0) (r : Result ℕ E) (n : ℕ) → r ≡ Ok n → IfOk r P → P n

@@ -2,6 +2,7 @@
 ghost use Rattle.std.specs.Prelude.{◌≡◌, ◌≤◌, ◌<◌, ◌+◌, ◌-◌, ◌*◌, [], ◌∷◌, ◌++◌, List, pos, length, vec_len, vec_capacity, IsTrue};
 ghost use Rattle.message_records.specs.Spelling.{reply_spelling};
 ghost use Rattle.message_records.specs.Reading.{request_of};
+ghost use Rattle.posting_rules.specs.declared.limits.TheConstants.{MAX_DECIDED};
 ghost use Rattle.posting_rules.specs.Kept.{is_kept_with};
 ghost use Rattle.posting_rules.specs.Entries.{Entry};
 ghost use Rattle.posting_rules.specs.Tables.{request_row_of, history_row_of, teller_row_of, account_row_of};
@@ -9,11 +10,13 @@ ghost use Rattle.posting_rules.specs.Rows.{rows_from};
 
 use crate::walking::{balance_at, count_at, kept_at, put, set_balance_at};
 use message_records::{
-    Account, Branch, Cents, Moment, Outcome, Reply, Request, Teller, decode_request, encode_reply,
+    Account, Branch, Cents, MAX_ACCOUNT, MAX_TELLER, Moment, Outcome, Reply, Request, Teller,
+    decode_request, encode_reply,
 };
 use posting_rules::{
-    ACCOUNTS_PER_BRANCH, AccountRow, BranchRow, Counter, Fault, Found, HistoryRow, Kept, Opening,
-    Ordinal, RequestRow, TELLERS_PER_BRANCH, TellerRow, Verdict, branch_of_teller, judge, reply_to,
+    ACCOUNTS_PER_BRANCH, AccountRow, BranchRow, Counter, Fault, Found, HistoryRow, Kept,
+    LAST_BRANCH, MOST_ACCOUNTS, Opening, Ordinal, RequestRow, TELLERS_PER_BRANCH, TellerRow,
+    Verdict, branch_of_teller, judge, reply_to,
 };
 use std::alloc::Global;
 
@@ -26,7 +29,7 @@ fn zero() -> Cents
 // Keeps a decided request behind the others, for which there is room.
 fn keep(requests: &mut Vec<RequestRow>, request: &Request, outcome: Outcome, balance: Cents)
     requires room { vec_len requests.old < vec_capacity requests.old }
-    requires few { vec_len requests.old < 1_000_000_000_000 }
+    requires few { vec_len requests.old < MAX_DECIDED }
     requires kept { IsTrue (is_kept_with outcome balance) }
     ensures items { requests.new.items ≡ requests.old.items
         ++ request_row_of (length requests.old.items + 1) (record { moment = 0; request = request.now; outcome = outcome; balance = balance }) ∷ [] }
@@ -78,7 +81,7 @@ fn record_posting(
 fn put_tellers(rows: &mut Vec<TellerRow>, first: u64, count: u64)
     requires room { vec_len rows.old + count ≤ vec_capacity rows.old }
     requires above { 1 ≤ first }
-    requires below { first + count ≤ 100_000_000 }
+    requires below { first + count ≤ MAX_TELLER + 1 }
     ensures { rows.new.items ≡ rows.old.items ++ rows_from (λ n. teller_row_of n (pos 0)) first count }
 {
     for place in 0..count {
@@ -94,7 +97,7 @@ fn put_tellers(rows: &mut Vec<TellerRow>, first: u64, count: u64)
 fn put_accounts(rows: &mut Vec<AccountRow>, first: u64, count: u64)
     requires room { vec_len rows.old + count ≤ vec_capacity rows.old }
     requires above { 1 ≤ first }
-    requires below { first + count ≤ 1_000_000_000_000 }
+    requires below { first + count ≤ MAX_ACCOUNT + 1 }
     ensures { rows.new.items ≡ rows.old.items ++ rows_from (λ n. account_row_of n (pos 0)) first count }
 {
     for place in 0..count {
@@ -116,7 +119,7 @@ pub struct PlainBank {
     accounts: Vec<AccountRow>,
     history: Vec<HistoryRow>,
     requests: Vec<RequestRow>,
-    ghost few: { length requests.items ≤ 1_000_000_000_000 },
+    ghost few: { length requests.items ≤ MAX_DECIDED },
 }
 
 impl PlainBank {
@@ -145,7 +148,7 @@ impl PlainBank {
     // All that is looked up for a request.
     fn look_up(&self, request: &Request) -> Found
         ensures value { result ≡ found_in (plain_tables self.now) request.now }
-        ensures few { result.decided ≤ 1_000_000_000_000 }
+        ensures few { result.decided ≤ MAX_DECIDED }
     {
         let teller = balance_at(&self.tellers, request.teller().get());
         let branch = balance_at(&self.branches, branch_of_teller(request.teller()));
@@ -227,10 +230,10 @@ impl PlainBank {
 
     // Adds a branch, for whose rows there is room.
     fn add_branch(&mut self, branch: Branch, count: u32)
-        requires branch { branch ≤ 9999 }
-        requires few { count ≤ 100_000 }
+        requires branch { branch ≤ LAST_BRANCH }
+        requires few { count ≤ MOST_ACCOUNTS }
         requires branches { vec_len self.old.branches < vec_capacity self.old.branches }
-        requires tellers { vec_len self.old.tellers + 10 ≤ vec_capacity self.old.tellers }
+        requires tellers { vec_len self.old.tellers + TELLERS_PER_BRANCH ≤ vec_capacity self.old.tellers }
         requires accounts { vec_len self.old.accounts + count ≤ vec_capacity self.old.accounts }
         ensures tables { plain_tables self.new ≡ tables_opened (plain_tables self.old) branch count }
         ensures above { 1 ≤ branch }
@@ -296,7 +299,7 @@ impl Counter for PlainBank {
             });
         }
         self.branches.reserve(1)?;
-        self.tellers.reserve(10)?;
+        self.tellers.reserve(TELLERS_PER_BRANCH as usize)?;
         self.accounts.reserve(count as usize)?;
         self.add_branch(branch, count);
         Ok(Opening::Opened)
@@ -311,6 +314,3 @@ impl Counter for PlainBank {
         Ok(balance_at(&self.accounts, account.get()))
     }
 }
-
-#[cfg(test)]
-mod tests;

@@ -7,14 +7,14 @@ ghost use Rattle.posting_core.specs.Stream.{Streamed, Outputs, Survives, Resends
 
 use crate::clock::Clock;
 use crate::transfer::{fill, write_out};
-use posting_rules::{Counter, Fault};
+use posting_rules::{Counter, Fault, RECORDS_PER_BATCH};
 use std::fmt;
 use std::io::{ErrorKind, Read, Write};
 
-// The length of a record, and of the buffer: 64 records.
+// The length of a record, and of the buffer: as many records as can be submitted together.
 const RECORD: usize = 100;
 
-const BUFFER: usize = 6400;
+const BUFFER: usize = RECORD * RECORDS_PER_BATCH;
 
 /// How many replies were written.
 pub type Count = u128;
@@ -53,7 +53,7 @@ impl std::error::Error for StreamFault {}
 // Moves what lies between to the front.
 fn move_to_front(buffer: &mut [u8; BUFFER], from: usize, to: usize)
     requires order { from ≤ to }
-    requires within { to ≤ 6400 }
+    requires within { to ≤ BUFFER }
     ensures { take (to - from) buffer.new ≡ take (to - from) (drop from buffer.old) }
 {
     buffer.copy_within(from..to, 0);
@@ -67,7 +67,7 @@ fn answer_batch<W: Write, K: Clock, C: Counter>(
     bank: &mut C,
 ) -> Result<(), StreamFault>
     requires some { 1 ≤ length records.now }
-    requires few { length records.now ≤ 64 }
+    requires few { length records.now ≤ RECORDS_PER_BATCH }
     ensures answers { (moment : ℕ) × IsReading (K.readings clock.old) (K.readings clock.new) moment
         × MatchResult result
         (λ _. IsAnswered (W.contents writer.old) (W.contents writer.new) (C.seen bank.old) (C.seen bank.new) (posts moment records.now))
@@ -85,15 +85,23 @@ fn answer_batch<W: Write, K: Clock, C: Counter>(
     }
 }
 
-// The loop of `post_stream`, whose promises follow from what this says.
-fn answer_stream<R: Read, W: Write, K: Clock, C: Counter>(
+/// Answers a stream of records of 100 bytes to the end of its input, and tells how many it answered. As soon as whole
+/// records were read, all of them are submitted under one reading of the clock, and their replies are written in order
+/// and flushed. An interrupted read or write is made again, and a reader that was asked 2^64 - 1 times counts as failed.
+/// Only the bank takes memory.
+pub fn post_stream<R: Read, W: Write, K: Clock, C: Counter>(
     reader: &mut R,
     writer: &mut W,
     clock: &mut K,
     bank: &mut C,
 ) -> Result<Count, StreamFault>
-    ensures { Streamed (R.remaining reader.old) (R.remaining reader.new) (W.contents writer.old) (W.contents writer.new)
+    ensures stream { Streamed (R.remaining reader.old) (R.remaining reader.new) (W.contents writer.old) (W.contents writer.new)
         (K.readings clock.old) (K.readings clock.new) (C.seen bank.old) (C.seen bank.new) result }
+    ensures output { Outputs (R.remaining reader.old) (R.remaining reader.new) (W.contents writer.old) (W.contents writer.new)
+        (C.seen bank.old) (C.seen bank.new) result }
+    ensures stop { Survives (R.remaining reader.old) (R.remaining reader.new) (W.contents writer.old) (W.contents writer.new)
+        (C.seen bank.old) (C.seen bank.new) }
+    ensures resend { Resends (R.remaining reader.old) (R.remaining reader.new) (C.seen bank.old) (C.seen bank.new) result }
 {
     let mut buffer = [0u8; BUFFER];
     let mut filled = 0;
@@ -117,27 +125,3 @@ fn answer_stream<R: Read, W: Write, K: Clock, C: Counter>(
     }
     Err(StreamFault::Read)
 }
-
-/// Answers a stream of records of 100 bytes to the end of its input, and tells how many it answered. As soon as whole
-/// records were read, all of them are submitted under one reading of the clock, and their replies are written in order
-/// and flushed. An interrupted read or write is made again, and a reader that was asked 2^64 - 1 times counts as failed.
-/// Only the bank takes memory.
-pub fn post_stream<R: Read, W: Write, K: Clock, C: Counter>(
-    reader: &mut R,
-    writer: &mut W,
-    clock: &mut K,
-    bank: &mut C,
-) -> Result<Count, StreamFault>
-    ensures stream { Streamed (R.remaining reader.old) (R.remaining reader.new) (W.contents writer.old) (W.contents writer.new)
-        (K.readings clock.old) (K.readings clock.new) (C.seen bank.old) (C.seen bank.new) result }
-    ensures output { Outputs (R.remaining reader.old) (R.remaining reader.new) (W.contents writer.old) (W.contents writer.new)
-        (C.seen bank.old) (C.seen bank.new) result }
-    ensures stop { Survives (R.remaining reader.old) (R.remaining reader.new) (W.contents writer.old) (W.contents writer.new)
-        (C.seen bank.old) (C.seen bank.new) }
-    ensures resend { Resends (R.remaining reader.old) (R.remaining reader.new) (C.seen bank.old) (C.seen bank.new) result }
-{
-    answer_stream(reader, writer, clock, bank)
-}
-
-#[cfg(test)]
-mod tests;

@@ -4,6 +4,8 @@ use Rattle.std.specs.Prelude.{ℤ, ◌+ℤ◌, nat_abs, ◌⊎◌, ◌&&◌}
 use Rattle.std.specs.Ordering.{int_eq}
 use Rattle.std.proofs.lemmas.Bool.{eqb-true, eq-eqb, leb-true, leb-false, le-leb}
 use Rattle.std.proofs.lemmas.Bool.Decides.{nat_tests, Decides-int_eq}
+use Rattle.posting_rules.specs.declared.limits.TheConstants.{MAX_DECIDED}
+use Rattle.message_records.specs.declared.limits.TheConstants.{MAX_BALANCE}
 use Rattle.message_records.specs.declared.records.Outcome.{Outcome}
 use Rattle.message_records.specs.declared.records.Outcome.TheVariants as outcome
 use Rattle.message_records.specs.Outcomes.{has_balance}
@@ -22,15 +24,15 @@ use Rattle.posting_rules.proofs.Keyed.{by_test}
 
 -- ---- tests, and what they mean
 
-over : (z : ℤ) → (IsWithin z → ⊥) → cents_within 999_999_999_999 z ≡ None
-over z h = elim (by_test (leb (nat_abs z) 999_999_999_999)) [ inl t ↦ absurd (h (leb-true _ _ t)) | inr f ↦ rw f refl ]
+over : (z : ℤ) → (IsWithin z → ⊥) → cents_within MAX_BALANCE z ≡ None
+over z h = elim (by_test (leb (nat_abs z) MAX_BALANCE)) [ inl t ↦ absurd (h (leb-true _ _ t)) | inr f ↦ rw f refl ]
 
-within : (z : ℤ) → IsWithin z → cents_within 999_999_999_999 z ≡ Some z
+within : (z : ℤ) → IsWithin z → cents_within MAX_BALANCE z ≡ Some z
 within z h = rw (le-leb _ _ h) refl
 
 -- which of the three stays within
 by_limit : (z : ℤ) → IsWithin z ⊎ (IsWithin z → ⊥)
-by_limit z = elim (by_test (leb (nat_abs z) 999_999_999_999)) [ inl t ↦ inl (leb-true _ _ t) | inr f ↦ inr (λ h. let t = le-leb (nat_abs z) 999_999_999_999 h in absurd (let g = sym f ∙ t in cc)) ]
+by_limit z = elim (by_test (leb (nat_abs z) MAX_BALANCE)) [ inl t ↦ inl (leb-true _ _ t) | inr f ↦ inr (λ h. let t = le-leb (nat_abs z) MAX_BALANCE h in absurd (let g = sym f ∙ t in cc)) ]
 
 not_same : (m n : ℕ) → (m ≡ n → ⊥) → eqb m n ≡ false
 not_same m n h = grind (arith, nat_tests)
@@ -77,23 +79,23 @@ module _ (before : List Command) (r : RequestFields) where
   unfolding case_of
   new h e = rw (h, e) refl
 
-  full : 1_000_000_000_000 ≤ length (decided before) → new_verdict ≡ Unkept outcome.Full
+  full : MAX_DECIDED ≤ length (decided before) → new_verdict ≡ Unkept outcome.Full
   full h = rw (le-leb _ _ h) refl
 
-  has_room : length (decided before) < 1_000_000_000_000 → leb 1_000_000_000_000 (length (decided before)) ≡ false
+  has_room : length (decided before) < MAX_DECIDED → leb MAX_DECIDED (length (decided before)) ≡ false
   has_room h = grind (arith, nat_tests)
 
-  wrong_branch : length (decided before) < 1_000_000_000_000 → r.branch ≢ branch_of_teller r.teller → new_verdict ≡ Refused outcome.WrongBranch
+  wrong_branch : length (decided before) < MAX_DECIDED → r.branch ≢ branch_of_teller r.teller → new_verdict ≡ Refused outcome.WrongBranch
   wrong_branch h ne = rw (has_room h, not_same _ _ ne) refl
 
-  no_account : length (decided before) < 1_000_000_000_000 → r.branch ≡ branch_of_teller r.teller → is_account_open (λ b. opened before b) r.account ≡ false
+  no_account : length (decided before) < MAX_DECIDED → r.branch ≡ branch_of_teller r.teller → is_account_open (λ b. opened before b) r.account ≡ false
       → new_verdict ≡ Refused outcome.NoAccount
   no_account h its closed = rw (has_room h, eq-eqb _ _ its, closed) refl
 
   abbrev sums : Verdict
   sums = posting_of (plus_within (account_balance (decided before) r.account) r.delta) (plus_within (teller_balance (decided before) r.teller) r.delta) (plus_within (branch_balance (decided before) (branch_of_teller r.teller)) r.delta)
 
-  has_sums : length (decided before) < 1_000_000_000_000 → r.branch ≡ branch_of_teller r.teller → is_account_open (λ b. opened before b) r.account ≡ true → new_verdict ≡ sums
+  has_sums : length (decided before) < MAX_DECIDED → r.branch ≡ branch_of_teller r.teller → is_account_open (λ b. opened before b) r.account ≡ true → new_verdict ≡ sums
   has_sums h its open_a = rw (has_room h, eq-eqb _ _ its, open_a) refl
 
   posting : IsPosted before r → sums
@@ -229,7 +231,7 @@ adds_none before moment bytes h = by_read (request_of bytes) refl
           | inr f ↦ entries_are before moment bytes r (Unkept outcome.ReusedNumber) read (known before r k open_t e ∙ rw f refl)
         ]
     by_kept r None read open_t e =
-        elim (by_test (leb 1_000_000_000_000 (length (decided before)))) [
+        elim (by_test (leb MAX_DECIDED (length (decided before)))) [
           | inl t ↦ entries_are before moment bytes r (Unkept outcome.Full) read (new before r open_t e ∙ full before r (leb-true _ _ t))
           | inr f ↦ absurd (h r (record { names = record { read = read; teller = open_t }; new = e; room = leb-false _ _ f }))
         ]

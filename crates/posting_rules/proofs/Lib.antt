@@ -7,7 +7,7 @@ pub mod Stepped
 pub mod Opened
 pub mod Appending
 pub mod Totals
-pub mod Limits
+pub mod BalanceLimits
 pub mod Consistent
 pub mod Alike
 pub mod AsStated

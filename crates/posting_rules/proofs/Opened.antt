@@ -5,6 +5,7 @@ use Rattle.std.specs.Prelude.{ℤ, pos, ◌⊎◌, is_some, ◌&&◌}
 use Rattle.std.specs.List.{AllByRecursion}
 use Rattle.std.specs.Option.{option_map, option_or}
 use Rattle.std.proofs.lemmas.Bool.{eqb-true, eq-eqb, leb-true, ltb-true, le-leb, lt-ltb}
+use Rattle.posting_rules.specs.declared.limits.TheConstants.{MOST_ACCOUNTS, ACCOUNTS_PER_BRANCH}
 use Rattle.message_records.specs.declared.faults.Bad.{Bad}
 use Rattle.message_records.specs.Records.{RequestFields}
 use Rattle.message_records.specs.Reading.{request_of}
@@ -154,20 +155,20 @@ tellers_in_a_row b n hb =
     let h : b ≡ branch_of_teller n = omega arith in
     and_true (leb 1 n) (eqb b (branch_of_teller n)) (le-leb _ _ hn) (eq-eqb _ _ h))
 
-accounts_in_a_row : (b n count : ℕ) → 1 ≤ b → count ≤ 100_000 → (leb 1 n && (eqb b (branch_of_account n) && leb (place_of_account n) count)) ≡ is_from (first_account b) count n
+accounts_in_a_row : (b n count : ℕ) → 1 ≤ b → count ≤ MOST_ACCOUNTS → (leb 1 n && (eqb b (branch_of_account n) && leb (place_of_account n) count)) ≡ is_from (first_account b) count n
 accounts_in_a_row b n count hb hc =
     same_tests (leb 1 n && (eqb b (branch_of_account n) && leb (place_of_account n) count)) (is_from (first_account b) count n)
     (λ e. let one = both (leb 1 n) (eqb b (branch_of_account n) && leb (place_of_account n) count) e in
     let two = both (eqb b (branch_of_account n)) (leb (place_of_account n) count) one.1 in
     let hn : 1 ≤ n = leb-true _ _ one.0 in
-    let h : b ≡ (n - 1) / 100_000 + 1 = eqb-true _ _ two.0 in
-    let p : (n - 1) % 100_000 + 1 ≤ count = leb-true _ _ two.1 in
+    let h : b ≡ (n - 1) / ACCOUNTS_PER_BRANCH + 1 = eqb-true _ _ two.0 in
+    let p : (n - 1) % ACCOUNTS_PER_BRANCH + 1 ≤ count = leb-true _ _ two.1 in
     let low : first_account b ≤ n = omega arith in
     let high : n < first_account b + count = omega arith in
     and_true (leb (first_account b) n) (ltb n (first_account b + count)) (le-leb _ _ low) (lt-ltb _ _ high))
     (λ e. let two = both (leb (first_account b) n) (ltb n (first_account b + count)) e in
-    let low : 100_000 * (b - 1) + 1 ≤ n = leb-true _ _ two.0 in
-    let high : n < 100_000 * (b - 1) + 1 + count = ltb-true _ _ two.1 in
+    let low : ACCOUNTS_PER_BRANCH * (b - 1) + 1 ≤ n = leb-true _ _ two.0 in
+    let high : n < ACCOUNTS_PER_BRANCH * (b - 1) + 1 + count = ltb-true _ _ two.1 in
     let hn : 1 ≤ n = omega arith in
     let h : b ≡ branch_of_account n = omega arith in
     let p : place_of_account n ≤ count = omega arith in
@@ -213,7 +214,7 @@ closed_teller opened b n closed hb e =
     let none : opened (branch_of_teller n) ≡ None = ap opened (sym (eqb-true b (branch_of_teller n) two.1)) ∙ closed in
     rw (two.0, none) refl
 
-pub closed_account : (opened : ℕ → Option ℕ) (b n count : ℕ) → opened b ≡ None → 1 ≤ b → count ≤ 100_000 → is_from (first_account b) count n ≡ true → is_account_open opened n ≡ false
+pub closed_account : (opened : ℕ → Option ℕ) (b n count : ℕ) → opened b ≡ None → 1 ≤ b → count ≤ MOST_ACCOUNTS → is_from (first_account b) count n ≡ true → is_account_open opened n ≡ false
 closed_account opened b n count closed hb hc e =
     let one = both (leb 1 n) (eqb b (branch_of_account n) && leb (place_of_account n) count) (accounts_in_a_row b n count hb hc ∙ e) in
     let two = both (eqb b (branch_of_account n)) (leb (place_of_account n) count) one.1 in
@@ -223,7 +224,7 @@ closed_account opened b n count closed hb hc e =
 either_none : (opened : ℕ → Option ℕ) (b x : ℕ) → opened b ≡ None → (opened x ≡ None) ⊎ (eqb b x ≡ false)
 either_none opened b x closed = elim (by_test (eqb b x)) [ inl t ↦ inl (ap opened (sym (eqb-true b x t)) ∙ closed) | inr f ↦ inr f ]
 
-branch_added : (old new : Tables) (opened : ℕ → Option ℕ) (es : List Entry) (b count : ℕ) → AllNameOpen opened es → opened b ≡ None → 1 ≤ b → count ≤ 100_000
+branch_added : (old new : Tables) (opened : ℕ → Option ℕ) (es : List Entry) (b count : ℕ) → AllNameOpen opened es → opened b ≡ None → 1 ≤ b → count ≤ MOST_ACCOUNTS
     → HasRows old opened es → OpensBranch old new b count → HasRows new (λ x. with_branch opened b count x) es
 branch_added old new opened es b count all closed hb hc s step = record {
   meta = step.meta ∙ s.meta;
@@ -249,7 +250,7 @@ branch_added old new opened es b count all closed hb hc s step = record {
 }
 
 -- a branch that wasn't open is added
-pub opening_shown : (old new : Tables) (log : List Command) (b count : ℕ) → opened log b ≡ None → 1 ≤ b → count ≤ 100_000 → Shows old log → OpensBranch old new b count → Shows new (Open b count ∷ log)
+pub opening_shown : (old new : Tables) (log : List Command) (b count : ℕ) → opened log b ≡ None → 1 ≤ b → count ≤ MOST_ACCOUNTS → Shows old log → OpensBranch old new b count → Shows new (Open b count ∷ log)
 opening_shown old new log b count closed hb hc s step =
     record { rows = branch_added old new (λ x. opened log x) (decided log) b count (all_name_open log) closed hb hc s.rows step }
 

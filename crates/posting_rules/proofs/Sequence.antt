@@ -1,6 +1,7 @@
 -- Commands one after another.
 use Rattle.std.proofs.Common.{◌≡◌, ℕ, suc, ◌+◌, ◌<◌, ◌≤◌, List, [], ◌∷◌, ◌++◌, length, take, get_or, refl, sym, ap, subst, ◌∙◌, append_assoc}
 use Rattle.std.proofs.lemmas.List.{take_more, map-append}
+use Rattle.message_records.specs.declared.limits.TheConstants.{MAX_MOMENT}
 use Rattle.message_records.specs.Spelling.{reply_spelling}
 use Rattle.posting_rules.specs.Commands.{Command, Open, Post, AreCommands}
 use Rattle.posting_rules.specs.Entries.{reply}
@@ -37,7 +38,7 @@ posts_one_more : (m : ℕ) (rs : List (List ℕ)) (i : ℕ) → i < length rs �
 posts_one_more m rs i lt = ap (posts m) (take_more rs i [] lt) ∙ map-append (Post m) (take i rs) (get_or rs i [] ∷ [])
 
 -- they are commands of the bank
-pub commands_one_more : (m : ℕ) (rs : List (List ℕ)) (i : ℕ) → i < length rs → m ≤ 253_402_300_799 → length (get_or rs i []) ≡ 100
+pub commands_one_more : (m : ℕ) (rs : List (List ℕ)) (i : ℕ) → i < length rs → m ≤ MAX_MOMENT → length (get_or rs i []) ≡ 100
     → AreCommands (posts m (take i rs)) → AreCommands (posts m (take (i + 1) rs))
 commands_one_more m rs i lt late whole are =
     subst AreCommands (sym (posts_one_more m rs i lt)) (commands_both (posts m (take i rs)) (Post m (get_or rs i []) ∷ []) are ((late, whole), tt))

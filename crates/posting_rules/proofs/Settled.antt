@@ -4,6 +4,7 @@ use Rattle.std.specs.Prelude.{ℤ, pos, ◌⊎◌, ◌&&◌}
 use Rattle.std.specs.Ordering.{int_eq}
 use Rattle.std.proofs.lemmas.Cmp.{int_eq_equiv}
 use Rattle.std.proofs.lemmas.Bool.{eqb-true, leb-true, eq-eqb}
+use Rattle.posting_rules.specs.declared.limits.TheConstants.{MAX_DECIDED}
 use Rattle.message_records.specs.declared.records.Outcome.{Outcome}
 use Rattle.message_records.specs.declared.records.Outcome.TheVariants as outcome
 use Rattle.message_records.specs.declared.faults.Bad.{Bad}
@@ -42,7 +43,7 @@ record IsKnown (opened : ℕ → Option ℕ) (es : List Entry) (r : RequestField
 record IsFull (opened : ℕ → Option ℕ) (es : List Entry) (r : RequestFields) (out : ReplyFields) : Type 0 where
   teller : is_teller_open opened r.teller ≡ true
   none : kept es r.teller r.number ≡ None
-  full : leb 1_000_000_000_000 (length es) ≡ true
+  full : leb MAX_DECIDED (length es) ≡ true
   is_reply : out ≡ reply_in (Unkept outcome.Full) r
 
 abbrev IsSettled : (ℕ → Option ℕ) → List Entry → RequestFields → ReplyFields → Type 0
@@ -90,7 +91,7 @@ new_is opened es r e ek =
     open_case opened es r e
     ∙ ap (λ (o : Option KeptFields). known_case o (facts opened es r) r (teller_balance es r.teller) (branch_balance es (branch_of_teller r.teller))) ek
 
-full_is : (f : Found) (r : RequestFields) (t b : ℤ) → leb 1_000_000_000_000 f.decided ≡ true → new_case f r t b ≡ Unkept outcome.Full
+full_is : (f : Found) (r : RequestFields) (t b : ℤ) → leb MAX_DECIDED f.decided ≡ true → new_case f r t b ≡ Unkept outcome.Full
 full_is f r t b e = rw e refl
 
 settled_says : (opened : ℕ → Option ℕ) (es : List Entry) (r : RequestFields) (out : ReplyFields) → IsSettled opened es r out → SaysSame opened es r out
@@ -133,7 +134,7 @@ kept_stays opened es x r k m (Posted a t b) h is = kept_behind es _ r k (other_n
 
 -- where no more are decided, nothing changes
 full_stays : (opened : ℕ → Option ℕ) (es : List Entry) (x : RequestFields) (m : ℕ) (v : Verdict) → IsVerdict opened es x v
-    → leb 1_000_000_000_000 (length es) ≡ true → with_verdict m x v es ≡ es
+    → leb MAX_DECIDED (length es) ≡ true → with_verdict m x v es ≡ es
 full_stays opened es x m (Unkept o) h e = refl
 full_stays opened es x m (Again a) h e = refl
 full_stays opened es x m (Refused o) h e = let le = leb-true _ _ e in let lt = h.room in absurd (omega arith)
@@ -181,7 +182,7 @@ unchanged : (opened : ℕ → Option ℕ) (es : List Entry) (r : RequestFields) 
 unchanged opened es r m h =
     subst (λ (ds : List Entry). IsSettled opened ds r (reply_to (Ok r) opened es)) (sym ((settled_says opened es r (reply_to (Ok r) opened es) h).1 m)) h
 
-room_is : (f : Found) (r : RequestFields) (t b : ℤ) → leb 1_000_000_000_000 f.decided ≡ false
+room_is : (f : Found) (r : RequestFields) (t b : ℤ) → leb MAX_DECIDED f.decided ≡ false
     → new_case f r t b ≡ cond (eqb r.branch (branch_of_teller r.teller)) (account_case f.account t b r.delta) (Refused outcome.WrongBranch)
 room_is f r t b e = rw e refl
 
@@ -201,7 +202,7 @@ open_settles opened es r m up (Some k) e =
     unchanged opened es r m (inr (inl (record { teller = up; fields = k; is_kept = e; is_reply = ap (λ (v : Verdict). reply_in v r) (known_is opened es r k up e) })))
 open_settles opened es r m up None e =
     let f = facts opened es r in
-    elim (by_test (leb 1_000_000_000_000 (length es))) [
+    elim (by_test (leb MAX_DECIDED (length es))) [
       | inl full ↦ let is = new_is opened es r up e ∙ full_is f r _ _ full in
           unchanged opened es r m (inr (inr (record { teller = up; none = e; full = full; is_reply = ap (λ (v : Verdict). reply_in v r) is })))
       | inr room ↦ subst (Settles opened es r m) (sym (new_is opened es r up e ∙ room_is f r _ _ room))

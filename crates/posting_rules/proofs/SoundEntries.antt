@@ -3,6 +3,8 @@ use Rattle.std.proofs.Common.{◌≡◌, ℕ, ◌<◌, ◌≤◌, Bool, true, fa
 use Rattle.std.specs.Prelude.{pos, nat_abs, IfSome}
 use Rattle.std.specs.Option.{option_or}
 use Rattle.std.proofs.lemmas.Bool.{eqb-true}
+use Rattle.posting_rules.specs.declared.limits.TheConstants.{MAX_DECIDED}
+use Rattle.message_records.specs.declared.limits.TheConstants.{MAX_MOMENT, MAX_BALANCE}
 use Rattle.message_records.specs.declared.faults.Bad.{Bad}
 use Rattle.message_records.specs.Records.{RequestFields, IsRequest}
 use Rattle.message_records.specs.Reading.{request_of}
@@ -34,22 +36,22 @@ open_within (Open c count ∷ log) are b =
 
 -- ---- what is decided
 
--- a decided request was read, its moment is within the year 9999, and its outcome is kept with its balance
+-- a decided request was read, its moment is within its range, and its outcome is kept with its balance
 pub record IsSoundEntry (e : Entry) : Type 0 where
   pub request : IsRequest e.request
-  pub moment : e.moment ≤ 253_402_300_799
+  pub moment : e.moment ≤ MAX_MOMENT
   pub kept : is_kept_with e.outcome e.balance ≡ true
-  pub balance : nat_abs e.balance ≤ 999_999_999_999
+  pub balance : nat_abs e.balance ≤ MAX_BALANCE
 
 -- each decided request is sound, and there was room for it
 abbrev pub AreSound : List Entry → Type 0
 AreSound [] = Unit {0}
-AreSound (e ∷ es) = IsSoundEntry e × (length es < 1_000_000_000_000) × AreSound es
+AreSound (e ∷ es) = IsSoundEntry e × (length es < MAX_DECIDED) × AreSound es
 
 -- no more are decided than a bank may decide
-pub few_enough : (es : List Entry) → AreSound es → length es ≤ 1_000_000_000_000
+pub few_enough : (es : List Entry) → AreSound es → length es ≤ MAX_DECIDED
 few_enough [] h = lit≤ tt
-few_enough (e ∷ es) h = let room : length es < 1_000_000_000_000 = h.1 in omega arith
+few_enough (e ∷ es) h = let room : length es < MAX_DECIDED = h.1 in omega arith
 
 -- a refusal is kept with the balance zero
 abbrev IsKeepable : Verdict → Type 0
@@ -68,7 +70,7 @@ keepable opened es r =
     by_posting P (plus_within a r.delta) (plus_within z.0 r.delta) (plus_within z.1 r.delta) refl (λ x y w ex ey ew. tt)))))
 
 sound_verdict : (opened : ℕ → Option ℕ) (es : List Entry) (m : ℕ) (r : RequestFields) (v : Verdict)
-    → IsVerdict opened es r v → IsKeepable v → IsRequest r → m ≤ 253_402_300_799 → AreSound es → AreSound (with_verdict m r v es)
+    → IsVerdict opened es r v → IsKeepable v → IsRequest r → m ≤ MAX_MOMENT → AreSound es → AreSound (with_verdict m r v es)
 sound_verdict opened es m r (Unkept o) h k read late all = all
 sound_verdict opened es m r (Again x) h k read late all = all
 sound_verdict opened es m r (Refused o) h k read late all =

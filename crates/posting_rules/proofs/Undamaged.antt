@@ -1,10 +1,12 @@
 -- The tables of a log of commands are undamaged.
-use Rattle.std.proofs.Common.{◌≡◌, ℕ, ◌+◌, ◌<◌, ◌≤◌, Bool, true, false, cond, eqb, leb, List, [], ◌∷◌, length, Option, Some, None, refl, sym, ap, subst, ◌∙◌, arith, inl, inr}
+use Rattle.std.proofs.Common.{◌≡◌, ℕ, ◌+◌, ◌*◌, ◌<◌, ◌≤◌, Bool, true, false, cond, eqb, leb, List, [], ◌∷◌, length, Option, Some, None, refl, sym, ap, subst, ◌∙◌, arith, inl, inr}
 use Rattle.std.specs.Prelude.{ℤ, nat_abs, is_some, ◌&&◌, IfSome}
 use Rattle.std.specs.List.{Contains}
 use Rattle.std.specs.Option.{option_map}
 use Rattle.std.proofs.lemmas.Bool.{eqb-true, leb-true, le-leb}
 use Rattle.std.proofs.lemmas.List.Elements.{All-contains, All-from_recursion}
+use Rattle.posting_rules.specs.declared.limits.TheConstants.{MAX_DECIDED, LAST_BRANCH, ACCOUNTS_PER_BRANCH, TELLERS_PER_BRANCH}
+use Rattle.message_records.specs.declared.limits.TheConstants.{MAX_BALANCE}
 use Rattle.posting_rules.specs.declared.rows.BranchRow.{BranchRow}
 use Rattle.posting_rules.specs.declared.rows.TellerRow.{TellerRow}
 use Rattle.posting_rules.specs.declared.rows.AccountRow.{AccountRow}
@@ -20,7 +22,7 @@ use Rattle.posting_rules.proofs.Looked.{decided_shown, count_shown}
 use Rattle.posting_rules.proofs.Opened.{both, some_within}
 use Rattle.posting_rules.proofs.Appending.{next_is_free, next_has_no_posting}
 use Rattle.posting_rules.proofs.Totals.{each_under_its_key}
-use Rattle.posting_rules.proofs.Limits.{stays_within}
+use Rattle.posting_rules.proofs.BalanceLimits.{stays_within}
 use Rattle.posting_rules.proofs.SoundEntries.{IsSoundEntry, AreSound, few_enough, open_within, are_sound}
 
 -- a row of a table is the row under its key
@@ -34,7 +36,7 @@ row_at-contained {R} key rows r keys has =
 
 -- the row of an open branch
 branch_sound : (o : Option ℕ) (b : ℕ) (z : ℤ) (r : BranchRow)
-    → IfSome o (λ n. IsCommand (Open b n)) → nat_abs z ≤ 999_999_999_999
+    → IfSome o (λ n. IsCommand (Open b n)) → nat_abs z ≤ MAX_BALANCE
     → option_map (branch_row_of b z) o ≡ Some r → IsSoundBranch r
 branch_sound None b z r h limit e = absurd cc
 branch_sound (Some n) b z r h limit e =
@@ -42,20 +44,20 @@ branch_sound (Some n) b z r h limit e =
     subst IsSoundBranch is (record { some = h.0; most = h.1; few = h.2; many = h.3; balance = limit })
 
 -- a branch that is open has one of the numbers of branches
-number_within : (o : Option ℕ) (b : ℕ) → IfSome o (λ n. IsCommand (Open b n)) → is_some o ≡ true → b ≤ 9999
+number_within : (o : Option ℕ) (b : ℕ) → IfSome o (λ n. IsCommand (Open b n)) → is_some o ≡ true → b ≤ LAST_BRANCH
 number_within (Some n) b h e = h.1
 number_within None b h e = absurd cc
 
 -- the last teller, and the last account, of the last branch
-last_teller : (n : ℕ) → branch_of_teller n ≤ 9999 → n ≤ 99_990
+last_teller : (n : ℕ) → branch_of_teller n ≤ LAST_BRANCH → n ≤ TELLERS_PER_BRANCH * LAST_BRANCH
 last_teller n h = omega arith
 
-last_account : (n : ℕ) → branch_of_account n ≤ 9999 → n ≤ 999_900_000
+last_account : (n : ℕ) → branch_of_account n ≤ LAST_BRANCH → n ≤ ACCOUNTS_PER_BRANCH * LAST_BRANCH
 last_account n h = omega arith
 
 -- the row of an open teller
 teller_sound : (opened : ℕ → Option ℕ) (n : ℕ) (z : ℤ) (r : TellerRow)
-    → ((b : ℕ) → IfSome (opened b) (λ k. IsCommand (Open b k))) → nat_abs z ≤ 999_999_999_999
+    → ((b : ℕ) → IfSome (opened b) (λ k. IsCommand (Open b k))) → nat_abs z ≤ MAX_BALANCE
     → cond (is_teller_open opened n) (Some (teller_row_of n z)) None ≡ Some r → IsSoundTeller r
 teller_sound opened n z r open_ limit e =
     let is = when (is_teller_open opened n) (teller_row_of n z) r e in
@@ -65,7 +67,7 @@ teller_sound opened n z r open_ limit e =
 
 -- the row of an open account
 account_sound : (opened : ℕ → Option ℕ) (n : ℕ) (z : ℤ) (r : AccountRow)
-    → ((b : ℕ) → IfSome (opened b) (λ k. IsCommand (Open b k))) → nat_abs z ≤ 999_999_999_999
+    → ((b : ℕ) → IfSome (opened b) (λ k. IsCommand (Open b k))) → nat_abs z ≤ MAX_BALANCE
     → cond (is_account_open opened n) (Some (account_row_of n z)) None ≡ Some r → IsSoundAccount r
 account_sound opened n z r open_ limit e =
     let is = when (is_account_open opened n) (account_row_of n z) r e in
@@ -87,7 +89,7 @@ is_some-mapped f None = refl
 -- ---- requests and history
 
 -- the rows of a decided request, under an ordinal that a bank may decide
-request_row_sound : (o : ℕ) (e : Entry) → IsSoundEntry e → 1 ≤ o → o ≤ 1_000_000_000_000 → IsSoundRequest (request_row_of o e)
+request_row_sound : (o : ℕ) (e : Entry) → IsSoundEntry e → 1 ≤ o → o ≤ MAX_DECIDED → IsSoundRequest (request_row_of o e)
 request_row_sound o e h least most =
     let r = h.request in
     record {
@@ -106,7 +108,7 @@ request_row_sound o e h least most =
       balance = h.balance;
     }
 
-posting_row_sound : (o : ℕ) (e : Entry) → IsSoundEntry e → 1 ≤ o → o ≤ 1_000_000_000_000 → IsSoundPosting (history_row_of o e)
+posting_row_sound : (o : ℕ) (e : Entry) → IsSoundEntry e → 1 ≤ o → o ≤ MAX_DECIDED → IsSoundPosting (history_row_of o e)
 posting_row_sound o e h least most =
     let r = h.request in
     record {
@@ -123,7 +125,7 @@ posting_row_sound o e h least most =
     }
 
 -- the ordinal of a decided request, by how many were decided before it
-ordinal_within : (n o : ℕ) → eqb (n + 1) o ≡ true → n < 1_000_000_000_000 → (1 ≤ o) × (o ≤ 1_000_000_000_000)
+ordinal_within : (n o : ℕ) → eqb (n + 1) o ≡ true → n < MAX_DECIDED → (1 ≤ o) × (o ≤ MAX_DECIDED)
 ordinal_within n o t room = let is : n + 1 ≡ o = eqb-true _ _ t in (omega arith, omega arith)
 
 -- the row of one of the decided requests

@@ -2,6 +2,8 @@
 use Rattle.std.proofs.Common.{◌≡◌, ℕ, ◌<◌, ◌≤◌, Bool, true, false, cond, eqb, leb, List, length, Option, Some, None, refl, sym, ap, inl, inr}
 use Rattle.std.specs.Prelude.{ℤ, ◌+ℤ◌, nat_abs}
 use Rattle.std.proofs.lemmas.Bool.{eqb-true, leb-true, leb-false}
+use Rattle.posting_rules.specs.declared.limits.TheConstants.{MAX_DECIDED}
+use Rattle.message_records.specs.declared.limits.TheConstants.{MAX_BALANCE}
 use Rattle.message_records.specs.declared.records.Outcome.{Outcome}
 use Rattle.message_records.specs.declared.records.Outcome.TheVariants as outcome
 use Rattle.message_records.specs.Outcomes.{has_balance}
@@ -18,12 +20,12 @@ use Rattle.posting_rules.proofs.Keyed.{by_test}
 -- a new balance is the old one with the amount, and within the limit
 pub record IsSum (balance delta new : ℤ) : Type 0 where
   pub sum : new ≡ balance +ℤ delta
-  pub within : nat_abs new ≤ 999_999_999_999
+  pub within : nat_abs new ≤ MAX_BALANCE
 
 -- what is so where a request is posted
 pub record IsPosting (opened : ℕ → Option ℕ) (es : List Entry) (r : RequestFields) (account teller branch : ℤ) : Type 0 where
   pub new : kept es r.teller r.number ≡ None
-  pub room : length es < 1_000_000_000_000
+  pub room : length es < MAX_DECIDED
   pub teller_open : is_teller_open opened r.teller ≡ true
   pub its_branch : r.branch ≡ branch_of_teller r.teller
   pub account_open : is_account_open opened r.account ≡ true
@@ -34,7 +36,7 @@ pub record IsPosting (opened : ℕ → Option ℕ) (es : List Entry) (r : Reques
 -- what is so where a request is refused and kept
 pub record IsRefusal (es : List Entry) (r : RequestFields) (outcome : Outcome) : Type 0 where
   pub new : kept es r.teller r.number ≡ None
-  pub room : length es < 1_000_000_000_000
+  pub room : length es < MAX_DECIDED
   pub unposted : has_balance outcome ≡ false
 
 abbrev pub IsVerdict : (ℕ → Option ℕ) → List Entry → RequestFields → Verdict → Type 0
@@ -45,7 +47,7 @@ IsVerdict opened es r (Posted account teller branch) = IsPosting opened es r acc
 
 plus_is : (x d y : ℤ) → plus_within x d ≡ Some y → IsSum x d y
 plus_is x d y e =
-    elim (by_test (leb (nat_abs (x +ℤ d)) 999_999_999_999)) [
+    elim (by_test (leb (nat_abs (x +ℤ d)) MAX_BALANCE)) [
       | inl t ↦ let is : x +ℤ d ≡ y = (let h = rw t at e in cc) in
           record { sum = sym is; within = rw (sym is) (leb-true _ _ t) }
       | inr f ↦ absurd (let h = rw f at e in cc)
@@ -68,12 +70,12 @@ module _ (P : Verdict → Type 0) where
   by_account None t b d other given = other
   by_account (Some a) t b d other given = given a refl
 
-  pub by_new : (f : Found) (r : RequestFields) (t b : ℤ) → P (Unkept outcome.Full) → (f.decided < 1_000_000_000_000 → P (Refused outcome.WrongBranch))
-      → (f.decided < 1_000_000_000_000 → r.branch ≡ branch_of_teller r.teller → P (account_case f.account t b r.delta)) → P (new_case f r t b)
+  pub by_new : (f : Found) (r : RequestFields) (t b : ℤ) → P (Unkept outcome.Full) → (f.decided < MAX_DECIDED → P (Refused outcome.WrongBranch))
+      → (f.decided < MAX_DECIDED → r.branch ≡ branch_of_teller r.teller → P (account_case f.account t b r.delta)) → P (new_case f r t b)
   by_new f r t b full wrong right =
-      elim (by_test (leb 1_000_000_000_000 f.decided)) [
+      elim (by_test (leb MAX_DECIDED f.decided)) [
         | inl h ↦ rw h full
-        | inr h ↦ let room : f.decided < 1_000_000_000_000 = leb-false _ _ h in
+        | inr h ↦ let room : f.decided < MAX_DECIDED = leb-false _ _ h in
             rw h (elim (by_test (eqb r.branch (branch_of_teller r.teller))) [
               | inl e ↦ rw e (right room (eqb-true _ _ e))
               | inr e ↦ rw e (wrong room)

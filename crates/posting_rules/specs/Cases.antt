@@ -1,6 +1,8 @@
 -- What becomes of a request, by what is known where it comes in: the first case that applies.
 use Rattle.std.specs.Prelude.{ℤ, ◌+ℤ◌, Option, Some, None, Bool, true, false, ◌==◌, ◌&&◌, nat_le, ◌<◌, IsTrue, if◌then◌else◌}
 use Rattle.std.specs.Ordering.{int_eq}
+use Rattle.posting_rules.specs.declared.limits.TheConstants.{MAX_DECIDED}
+use Rattle.message_records.specs.declared.limits.TheConstants.{MAX_BALANCE}
 use Rattle.message_records.specs.declared.records.Outcome.{Outcome}
 use Rattle.message_records.specs.declared.records.Outcome.TheVariants as outcome
 use Rattle.message_records.specs.Ranges.{cents_within}
@@ -25,7 +27,7 @@ kept_reply k r = record { outcome = k.outcome; request = Some r; balance = balan
 
 -- a balance with an amount added, where it stays within the limit (TPC-B 1.2)
 abbrev pub plus_within : ℤ → ℤ → Option ℤ
-plus_within balance delta = cents_within 999_999_999_999 (balance +ℤ delta)
+plus_within balance delta = cents_within MAX_BALANCE (balance +ℤ delta)
 
 abbrev pub posting_of : Option ℤ → Option ℤ → Option ℤ → Verdict
 posting_of (Some account) (Some teller) (Some branch) = Posted account teller branch
@@ -37,7 +39,7 @@ account_case (Some account) teller branch delta = posting_of (plus_within accoun
 
 abbrev pub new_case : Found → RequestFields → ℤ → ℤ → Verdict
 new_case f r teller branch =
-    if nat_le 1_000_000_000_000 f.decided then Unkept outcome.Full
+    if nat_le MAX_DECIDED f.decided then Unkept outcome.Full
     else if r.branch == branch_of_teller r.teller then account_case f.account teller branch r.delta
     else Refused outcome.WrongBranch
 
@@ -76,5 +78,5 @@ is_refusal _ = false
 abbrev pub IsProper : Found → Verdict → Type 0
 IsProper f (Unkept outcome) = IsTrue (is_unkept outcome)
 IsProper f (Again reply) = Unit {0}
-IsProper f (Refused outcome) = IsTrue (is_refusal outcome) × (f.decided < 1_000_000_000_000)
-IsProper f (Posted account teller branch) = f.decided < 1_000_000_000_000
+IsProper f (Refused outcome) = IsTrue (is_refusal outcome) × (f.decided < MAX_DECIDED)
+IsProper f (Posted account teller branch) = f.decided < MAX_DECIDED

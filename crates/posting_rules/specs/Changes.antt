@@ -1,5 +1,6 @@
 -- What is done to the tables of a bank: a row is changed or put in, a verdict on a request, and an opening.
 use Rattle.std.specs.Prelude.{ℕ, ℤ, List, [], ◌∷◌, map, ◌==◌, nat_lt, if◌then◌else◌, ◌≡◌, zero, suc, ◌+◌, pos, Option, Some, None, Result, Ok, Err, IsSome}
+use Rattle.posting_rules.specs.declared.limits.TheConstants.{TELLERS_PER_BRANCH}
 use Rattle.posting_rules.specs.Tables.{Tables, branch_key, teller_key, account_key, history_key, request_key, row_at, branch_row_of, teller_row_of, account_row_of, request_row_of, history_row_of}
 use Rattle.posting_rules.specs.declared.rows.MetaRow.{MetaRow}
 use Rattle.posting_rules.specs.declared.rows.BranchRow.{BranchRow}
@@ -143,9 +144,9 @@ abbrev pub with_accounts : ℕ → ℕ → Tables → Tables
 with_accounts first zero t = t
 with_accounts first (suc count) t = with_account (account_row_of (first + count) (pos 0)) (with_accounts first count t)
 
--- a branch more, with its ten tellers and its accounts
+-- a branch more, with its tellers and its accounts
 abbrev pub tables_opened : Tables → ℕ → ℕ → Tables
-tables_opened t b count = with_accounts (first_account b) count (with_tellers (first_teller b) 10 (with_branch (branch_row_of b (pos 0) count) t))
+tables_opened t b count = with_accounts (first_account b) count (with_tellers (first_teller b) TELLERS_PER_BRANCH (with_branch (branch_row_of b (pos 0) count) t))
 
 -- what an opening leaves, by the row that is there
 abbrev pub opened_where : Option BranchRow → Tables → ℕ → ℕ → Tables

@@ -3,6 +3,8 @@
 use Rattle.std.specs.Prelude.{◌≡◌, ◌≤◌, ℕ, ◌+◌, ◌-◌, ◌/◌, ◌%◌, length, List, [], ◌∷◌, Option, Some, None, Bool, false, is_some, ◌==◌, ◌&&◌, nat_le, if◌then◌else◌}
 use Rattle.std.specs.List.{AllByRecursion}
 use Rattle.std.specs.Option.{option_or}
+use Rattle.posting_rules.specs.declared.limits.TheConstants.{LAST_BRANCH, MOST_ACCOUNTS, ACCOUNTS_PER_BRANCH, TELLERS_PER_BRANCH}
+use Rattle.message_records.specs.declared.limits.TheConstants.{MAX_MOMENT}
 
 pub data Command : Type 0 where
   -- a branch, and how many accounts it is to have
@@ -10,10 +12,10 @@ pub data Command : Type 0 where
   -- the moment, and the bytes of a record
   Post : ℕ → List ℕ → Command
 
--- a branch of 1..=9999 with 1..=100,000 accounts; a moment within the year 9999, and 100 bytes
+-- a branch and a count of accounts that can be opened; a moment within its range, and 100 bytes
 abbrev pub IsCommand : Command → Type 0
-IsCommand (Open branch count) = (1 ≤ branch) × (branch ≤ 9999) × (1 ≤ count) × (count ≤ 100_000)
-IsCommand (Post moment bytes) = (moment ≤ 253_402_300_799) × (length bytes ≡ 100)
+IsCommand (Open branch count) = (1 ≤ branch) × (branch ≤ LAST_BRANCH) × (1 ≤ count) × (count ≤ MOST_ACCOUNTS)
+IsCommand (Post moment bytes) = (moment ≤ MAX_MOMENT) × (length bytes ≡ 100)
 
 abbrev pub AreCommands : List Command → Type 0
 AreCommands log = AllByRecursion IsCommand log
@@ -24,17 +26,17 @@ opened [] b = None
 opened (Open branch count ∷ log) b = option_or (opened log b) (if branch == b then Some count else None)
 opened (Post moment bytes ∷ log) b = opened log b
 
--- ten tellers to a branch, numbered through (the scaling of TPC-B)
+-- each branch has TELLERS_PER_BRANCH tellers, numbered through (the scaling of TPC-B)
 abbrev pub branch_of_teller : ℕ → ℕ
-branch_of_teller t = (t - 1) / 10 + 1
+branch_of_teller t = (t - 1) / TELLERS_PER_BRANCH + 1
 
--- a hundred thousand numbers of accounts to a branch (the scaling of TPC-B)
+-- each branch has ACCOUNTS_PER_BRANCH numbers of accounts, numbered through (the scaling of TPC-B)
 abbrev pub branch_of_account : ℕ → ℕ
-branch_of_account a = (a - 1) / 100_000 + 1
+branch_of_account a = (a - 1) / ACCOUNTS_PER_BRANCH + 1
 
 -- the place of an account among those of its branch, from 1 on
 abbrev pub place_of_account : ℕ → ℕ
-place_of_account a = (a - 1) % 100_000 + 1
+place_of_account a = (a - 1) % ACCOUNTS_PER_BRANCH + 1
 
 -- a teller is open if its branch is
 abbrev pub is_teller_open : (ℕ → Option ℕ) → ℕ → Bool

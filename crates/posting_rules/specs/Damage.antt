@@ -1,6 +1,8 @@
 -- What holds of all tables that a log leads to. Tables of which it doesn't hold are damaged.
-use Rattle.std.specs.Prelude.{◌≡◌, ◌≤◌, ℕ, ◌+◌, nat_abs, List, [], ◌∷◌, None, is_some, IsTrue}
+use Rattle.std.specs.Prelude.{◌≡◌, ◌≤◌, ℕ, ◌+◌, ◌*◌, nat_abs, List, [], ◌∷◌, None, is_some, IsTrue}
 use Rattle.std.specs.List.{Contains}
+use Rattle.posting_rules.specs.declared.limits.TheConstants.{MAX_DECIDED, LAST_BRANCH, MOST_ACCOUNTS, ACCOUNTS_PER_BRANCH, TELLERS_PER_BRANCH}
+use Rattle.message_records.specs.declared.limits.TheConstants.{MAX_ACCOUNT, MAX_TELLER, MAX_BRANCH, MAX_NUMBER, MAX_MOMENT, MAX_BALANCE, MAX_DELTA}
 use Rattle.posting_rules.specs.declared.rows.BranchRow.{BranchRow}
 use Rattle.posting_rules.specs.declared.rows.TellerRow.{TellerRow}
 use Rattle.posting_rules.specs.declared.rows.AccountRow.{AccountRow}
@@ -14,75 +16,75 @@ use Rattle.posting_rules.specs.Steps.{meta_row_of}
 
 -- ---- one row
 
--- a branch of 1..=9999 with 1..=100,000 accounts, and its balance within the limit
+-- a branch and a count of accounts that can be opened, and its balance within the limit
 pub record IsSoundBranch (r : BranchRow) : Type 0 where
-  -- its number is 1 at least, and 9999 at most
+  -- its number is one that can be opened
   pub some : 1 ≤ r.branch
-  pub most : r.branch ≤ 9999
-  -- it has one account at least, and 100,000 at most
+  pub most : r.branch ≤ LAST_BRANCH
+  -- it has one account at least, and no more than can be opened
   pub few : 1 ≤ r.accounts
-  pub many : r.accounts ≤ 100_000
+  pub many : r.accounts ≤ MOST_ACCOUNTS
   -- its balance is within the limit (TPC-B 1.2)
-  pub balance : nat_abs r.balance ≤ 999_999_999_999
+  pub balance : nat_abs r.balance ≤ MAX_BALANCE
 
--- a teller of a branch of 1..=9999, and its balance within the limit
+-- a teller of a branch that can be opened, and its balance within the limit
 pub record IsSoundTeller (r : TellerRow) : Type 0 where
   -- its number is 1 at least, and that of the last branch's last teller at most
   pub some : 1 ≤ r.teller
-  pub most : r.teller ≤ 99_990
+  pub most : r.teller ≤ TELLERS_PER_BRANCH * LAST_BRANCH
   -- its balance is within the limit (TPC-B 1.2)
-  pub balance : nat_abs r.balance ≤ 999_999_999_999
+  pub balance : nat_abs r.balance ≤ MAX_BALANCE
 
--- an account of a branch of 1..=9999, and its balance within the limit
+-- an account of a branch that can be opened, and its balance within the limit
 pub record IsSoundAccount (r : AccountRow) : Type 0 where
   -- its number is 1 at least, and that of the last branch's last account at most
   pub some : 1 ≤ r.account
-  pub most : r.account ≤ 999_900_000
+  pub most : r.account ≤ ACCOUNTS_PER_BRANCH * LAST_BRANCH
   -- its balance is within the limit (TPC-B 1.2)
-  pub balance : nat_abs r.balance ≤ 999_999_999_999
+  pub balance : nat_abs r.balance ≤ MAX_BALANCE
 
 -- a request whose fields are in their ranges, and whose outcome is one that is kept with its balance
 pub record IsSoundRequest (r : RequestRow) : Type 0 where
   -- its ordinal is one of those that a bank may decide
   pub ordinal_above : 1 ≤ r.ordinal
-  pub ordinal : r.ordinal ≤ 1_000_000_000_000
+  pub ordinal : r.ordinal ≤ MAX_DECIDED
   -- each field of the request is in its range
   pub teller_above : 1 ≤ r.teller
-  pub teller : r.teller ≤ 99_999_999
+  pub teller : r.teller ≤ MAX_TELLER
   pub number_above : 1 ≤ r.number
-  pub number : r.number ≤ 9_999_999_999
+  pub number : r.number ≤ MAX_NUMBER
   pub account_above : 1 ≤ r.kept.account
-  pub account : r.kept.account ≤ 999_999_999_999
+  pub account : r.kept.account ≤ MAX_ACCOUNT
   pub branch_above : 1 ≤ r.kept.branch
-  pub branch : r.kept.branch ≤ 999_999
-  pub delta : nat_abs r.kept.delta ≤ 9_999_999_999
+  pub branch : r.kept.branch ≤ MAX_BRANCH
+  pub delta : nat_abs r.kept.delta ≤ MAX_DELTA
   -- its outcome is one that is kept, and only a posting has a balance
   pub kept : IsTrue (is_kept_with r.kept.outcome r.kept.balance)
   -- that balance is within the limit (TPC-B 1.2)
-  pub balance : nat_abs r.kept.balance ≤ 999_999_999_999
+  pub balance : nat_abs r.kept.balance ≤ MAX_BALANCE
 
--- a posting whose fields are in the ranges of a request, at a moment within the year 9999
+-- a posting whose fields are in the ranges of a request, at a moment within its range
 pub record IsSoundPosting (r : HistoryRow) : Type 0 where
   -- its ordinal is one of those that a bank may decide
   pub ordinal_above : 1 ≤ r.ordinal
-  pub ordinal : r.ordinal ≤ 1_000_000_000_000
+  pub ordinal : r.ordinal ≤ MAX_DECIDED
   -- each field of its request is in its range
   pub account_above : 1 ≤ r.account
-  pub account : r.account ≤ 999_999_999_999
+  pub account : r.account ≤ MAX_ACCOUNT
   pub teller_above : 1 ≤ r.teller
-  pub teller : r.teller ≤ 99_999_999
+  pub teller : r.teller ≤ MAX_TELLER
   pub branch_above : 1 ≤ r.branch
-  pub branch : r.branch ≤ 999_999
-  pub delta : nat_abs r.delta ≤ 9_999_999_999
-  -- its moment is within the year 9999
-  pub moment : r.moment ≤ 253_402_300_799
+  pub branch : r.branch ≤ MAX_BRANCH
+  pub delta : nat_abs r.delta ≤ MAX_DELTA
+  -- its moment is within its range
+  pub moment : r.moment ≤ MAX_MOMENT
 
 -- ---- the tables
 
 -- every row is sound, and so is what the rows of several tables say together
 pub record IsUndamaged (t : Tables) : Type 0 where
   -- meta has one row, with the version and a count within its range
-  pub meta : (n : ℕ) × (t.meta ≡ meta_row_of n ∷ []) × (n ≤ 1_000_000_000_000)
+  pub meta : (n : ℕ) × (t.meta ≡ meta_row_of n ∷ []) × (n ≤ MAX_DECIDED)
   -- a teller has its row just where its branch has one
   pub tellers : (n : ℕ) → 1 ≤ n
       → is_some (row_at teller_key t.tellers n) ≡ is_some (row_at branch_key t.branches (branch_of_teller n))

@@ -1,6 +1,7 @@
 -- What holds of every log: the consistency condition (TPC-B clause 2) and what else a banker relies on.
 use Rattle.std.specs.Prelude.{◌≡◌, ◌≤◌, ℕ, ℤ, pos, ◌+ℤ◌, nat_abs, List, [], ◌∷◌, map, filter, Option, Some, None, true, ◌==◌, AllPairs}
 use Rattle.std.specs.List.{AllByRecursion}
+use Rattle.message_records.specs.declared.limits.TheConstants.{MAX_BALANCE}
 use Rattle.message_records.specs.Outcomes.{has_balance}
 use Rattle.posting_rules.specs.declared.rows.TellerRow.{TellerRow}
 use Rattle.posting_rules.specs.declared.rows.HistoryRow.{HistoryRow}
@@ -25,9 +26,9 @@ NoneShares = (log : List Command) → AllPairs Differ (decided log)
 
 -- every balance stays within the limit
 pub record StaysWithin (log : List Command) : Type 0 where
-  pub accounts : (a : ℕ) → nat_abs (account_balance (decided log) a) ≤ 999_999_999_999
-  pub tellers : (t : ℕ) → nat_abs (teller_balance (decided log) t) ≤ 999_999_999_999
-  pub branches : (b : ℕ) → nat_abs (branch_balance (decided log) b) ≤ 999_999_999_999
+  pub accounts : (a : ℕ) → nat_abs (account_balance (decided log) a) ≤ MAX_BALANCE
+  pub tellers : (t : ℕ) → nat_abs (teller_balance (decided log) t) ≤ MAX_BALANCE
+  pub branches : (b : ℕ) → nat_abs (branch_balance (decided log) b) ≤ MAX_BALANCE
 
 abbrev pub BalancesStayWithin : Type 0
 BalancesStayWithin = (log : List Command) → StaysWithin log

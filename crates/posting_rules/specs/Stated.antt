@@ -1,5 +1,7 @@
 -- What becomes of a record, said case by case in the words of the profile, of what stands before it.
 use Rattle.std.specs.Prelude.{◌≡◌, ◌≢◌, ◌≤◌, ◌<◌, ◌↔◌, ℕ, ℤ, ◌+ℤ◌, nat_abs, List, ◌∷◌, length, Some, None, Ok, Err, true, false}
+use Rattle.posting_rules.specs.declared.limits.TheConstants.{MAX_DECIDED}
+use Rattle.message_records.specs.declared.limits.TheConstants.{MAX_BALANCE}
 use Rattle.message_records.specs.declared.records.Outcome.{Outcome}
 use Rattle.message_records.specs.declared.records.Outcome.TheVariants as outcome
 use Rattle.message_records.specs.declared.faults.Bad.{Bad}
@@ -19,10 +21,10 @@ pub record Names (before : List Command) (bytes : List ℕ) (r : RequestFields) 
 pub record IsDecided (before : List Command) (bytes : List ℕ) (r : RequestFields) : Type 0 where
   pub names : Names before bytes r
   pub new : kept (decided before) r.teller r.number ≡ None
-  pub room : length (decided before) < 1_000_000_000_000
+  pub room : length (decided before) < MAX_DECIDED
 
 abbrev pub IsWithin : ℤ → Type 0
-IsWithin z = nat_abs z ≤ 999_999_999_999
+IsWithin z = nat_abs z ≤ MAX_BALANCE
 
 -- a decided request is posted where the branch is its teller's, its account is open, and the account, the teller and
 -- the branch stay within the limit (TPC-B 1.2)
@@ -64,7 +66,7 @@ pub record RepliesAsStated (before : List Command) (bytes : List ℕ) : Type 0 w
       → reply before bytes ≡ record { outcome = k.outcome; request = Some r; balance = balance_shown k.outcome k.balance }
   pub reused_number : (r : RequestFields) (k : KeptFields) → Names before bytes r → kept (decided before) r.teller r.number ≡ Some k → (HasContent k r → ⊥)
       → reply before bytes ≡ refusal outcome.ReusedNumber r
-  pub full : (r : RequestFields) → Names before bytes r → kept (decided before) r.teller r.number ≡ None → 1_000_000_000_000 ≤ length (decided before)
+  pub full : (r : RequestFields) → Names before bytes r → kept (decided before) r.teller r.number ≡ None → MAX_DECIDED ≤ length (decided before)
       → reply before bytes ≡ refusal outcome.Full r
   pub wrong_branch : (r : RequestFields) → IsDecided before bytes r → r.branch ≢ branch_of_teller r.teller → reply before bytes ≡ refusal outcome.WrongBranch r
   pub no_account : (r : RequestFields) → IsDecided before bytes r → r.branch ≡ branch_of_teller r.teller → is_account_open (λ b. opened before b) r.account ≡ false

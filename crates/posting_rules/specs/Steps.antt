@@ -1,6 +1,7 @@
 -- How a verdict, and an opening, change tables. Each speaks of look-ups by key, so that the rows may stand in any order.
 use Rattle.std.specs.Prelude.{◌≡◌, ℕ, ◌+◌, ◌-◌, ◌*◌, ℤ, pos, List, [], ◌∷◌, Some, Bool, ◌==◌, ◌&&◌, nat_le, nat_lt, if◌then◌else◌}
 use Rattle.std.specs.Option.{option_map}
+use Rattle.posting_rules.specs.declared.limits.TheConstants.{ACCOUNTS_PER_BRANCH, TELLERS_PER_BRANCH}
 use Rattle.message_records.specs.Records.{RequestFields}
 use Rattle.posting_rules.specs.declared.facts.Verdict.{Verdict}
 use Rattle.posting_rules.specs.declared.facts.Verdict.TheVariants.{Unkept, Again, Refused, Posted}
@@ -76,16 +77,16 @@ IsStep old new ordinal moment r (Posted account teller branch) = KeepsPosting ol
 -- ---- an opening
 
 abbrev pub first_teller : ℕ → ℕ
-first_teller b = 10 * (b - 1) + 1
+first_teller b = TELLERS_PER_BRANCH * (b - 1) + 1
 
 abbrev pub first_account : ℕ → ℕ
-first_account b = 100_000 * (b - 1) + 1
+first_account b = ACCOUNTS_PER_BRANCH * (b - 1) + 1
 
--- a branch is there, with its ten tellers and its accounts, all at zero
+-- a branch is there, with its tellers and its accounts, all at zero
 pub record OpensBranch (old new : Tables) (b count : ℕ) : Type 0 where
   pub meta : new.meta ≡ old.meta
   pub branches : AddsRow branch_key (branch_row_of b (pos 0) count) old.branches new.branches
-  pub tellers : AddsRows teller_key (λ n. teller_row_of n (pos 0)) (first_teller b) 10 old.tellers new.tellers
+  pub tellers : AddsRows teller_key (λ n. teller_row_of n (pos 0)) (first_teller b) TELLERS_PER_BRANCH old.tellers new.tellers
   pub accounts : AddsRows account_key (λ n. account_row_of n (pos 0)) (first_account b) count old.accounts new.accounts
   pub history : new.history ≡ old.history
   pub requests : new.requests ≡ old.requests

@@ -3,14 +3,9 @@ ghost use Rattle.std.specs.Prelude.{◌≡◌, ◌≤◌};
 ghost use Rattle.posting_rules.specs.Commands.{branch_of_teller};
 ghost use Rattle.posting_rules.specs.Cases.{case_of, plus_within, IsProper, reply_in};
 
-use crate::facts::{Found, MAX_DECIDED, Verdict};
+use crate::facts::{Found, Verdict};
+use crate::limits::{MAX_DECIDED, TELLERS_PER_BRANCH};
 use message_records::{Cents, Outcome, Reply, Request, Teller};
-
-/// Every branch has ten tellers (the scaling of TPC-B).
-pub const TELLERS_PER_BRANCH: u64 = 10;
-
-/// How many numbers of accounts a branch has (the scaling of TPC-B).
-pub const ACCOUNTS_PER_BRANCH: u64 = 100_000;
 
 /// The number of the branch that a teller's number gives.
 pub fn branch_of_teller(teller: Teller) -> u64
@@ -29,7 +24,7 @@ fn plus(balance: Cents, delta: Cents) -> Option<Cents>
 /// What becomes of a request: the first case that applies, in the order of the tests here. It takes no memory.
 #[tactic(auto, unfolding(crate::specs::Cases::case_of))]
 pub fn judge(found: &Found, request: &Request) -> Verdict
-    requires { found.now.decided ≤ 1_000_000_000_000 }
+    requires { found.now.decided ≤ MAX_DECIDED }
     ensures value { result ≡ case_of found.now request.now }
     ensures proper { IsProper found.now result }
 {

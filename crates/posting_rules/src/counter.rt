@@ -9,6 +9,7 @@ ghost use Rattle.posting_rules.specs.Counter.{Seen, ShowsLog, Takes, Refuses, op
 ghost use Rattle.posting_rules.specs.Runs.{posts, replies_to};
 
 use crate::fault::Fault;
+use crate::limits::{LAST_BRANCH, MOST_ACCOUNTS, RECORDS_PER_BATCH};
 use message_records::{Account, Branch, Cents, Moment};
 
 /// The answer to an opening.
@@ -38,11 +39,11 @@ pub trait Counter {
         ensures down { (seen self.old).is_down → IsErrOf result Fault.Down }
         ensures honest { (seen self.new).honest → (seen self.old).honest };
 
-    /// Submits 1 to 64 records of 100 bytes at one moment, and answers the replies of 200 bytes in order, as if each
+    /// Submits 1 to `RECORDS_PER_BATCH` records of 100 bytes at one moment, and answers the replies of 200 bytes in order, as if each
     /// record were submitted after the one before it. After a fault no reply is handed out.
     fn submit_all(&mut self, moment: Moment, records: &[[u8; 100]]) -> Result<Vec<[u8; 200]>, Fault>
         requires some { 1 ≤ length records.now }
-        requires few { length records.now ≤ 64 }
+        requires few { length records.now ≤ RECORDS_PER_BATCH }
         ensures count { IfOk result (λ replies. length replies.items ≡ length records.now) }
         ensures replies { IfOk result (λ replies. (seen self.new).honest → (log : List Command) → ShowsLog (seen self.old) log →
             replies.items ≡ replies_to log (posts moment records.now)) }
@@ -52,11 +53,11 @@ pub trait Counter {
         ensures down { (seen self.old).is_down → IsErrOf result Fault.Down }
         ensures honest { (seen self.new).honest → (seen self.old).honest };
 
-    /// Opens a branch, its ten tellers, and so many accounts.
+    /// Opens a branch of 1 to `LAST_BRANCH`, its tellers, and 1 to `MOST_ACCOUNTS` accounts.
     fn open_branch(&mut self, branch: Branch, count: u32) -> Result<Opening, Fault>
-        requires branch { branch ≤ 9999 }
+        requires branch { branch ≤ LAST_BRANCH }
         requires some { 1 ≤ count }
-        requires few { count ≤ 100_000 }
+        requires few { count ≤ MOST_ACCOUNTS }
         ensures answer { IfOk result (λ opening. (seen self.new).honest → (log : List Command) → ShowsLog (seen self.old) log →
             opening ≡ opening_behind log branch count) }
         ensures done { OnOk result (Takes (seen self.old) (seen self.new) (Open branch count ∷ [])) }

@@ -5,9 +5,6 @@ ghost use Rattle.posting_rules.specs.Kept.{kept_from};
 use message_records::{Account, Branch, Cents, Outcome, Reply, Request};
 use std::marker::Model;
 
-/// How many requests a bank may decide.
-pub const MAX_DECIDED: u64 = 1_000_000_000_000;
-
 /// What is kept of a decided request, under its teller and number.
 #[derive(Clone, Copy, Debug, PartialEq, Eq)]
 pub struct Kept {

@@ -6,14 +6,19 @@ mod counter;
 mod facts;
 mod fault;
 mod laws;
+mod limits;
 mod rows;
 
-pub use cases::{ACCOUNTS_PER_BRANCH, TELLERS_PER_BRANCH, branch_of_teller, judge, reply_to};
+pub use cases::{branch_of_teller, judge, reply_to};
 pub use counter::{Counter, Opening};
-pub use facts::{Found, Kept, MAX_DECIDED, Verdict};
+pub use facts::{Found, Kept, Verdict};
 pub use fault::{Fault, Rule};
 pub use laws::{
     balances_stay_within, cases_are_as_stated, each_request_once, equal_tables_answer_alike,
     resends_get_their_replies, tables_are_consistent, tables_are_undamaged,
+};
+pub use limits::{
+    ACCOUNTS_PER_BRANCH, LAST_BRANCH, MAX_DECIDED, MOST_ACCOUNTS, RECORDS_PER_BATCH,
+    TELLERS_PER_BRANCH,
 };
 pub use rows::{AccountRow, BranchRow, HistoryRow, MetaRow, Ordinal, RequestRow, TellerRow};

@@ -1,9 +1,10 @@
 //! The rows of a bank's tables.
 use crate::facts::Kept;
+use crate::limits::MAX_DECIDED;
 use message_records::{Account, Branch, Cents, Moment, Number, Teller, Whole};
 
-/// How many requests were decided with and before one: 1..=1,000,000,000,000.
-pub type Ordinal = Whole<1, 1_000_000_000_000>;
+/// How many requests were decided with and before one: 1..=`MAX_DECIDED`.
+pub type Ordinal = Whole<1, MAX_DECIDED>;
 
 /// What is known of the bank as a whole. There is one such row, with the id 1.
 #[derive(Clone, Copy, Debug, PartialEq, Eq)]

@@ -1,4 +1,5 @@
-use Rattle.std.proofs.Common.{◌≡◌, ◌-◌, length}
+use Rattle.std.proofs.Common.{◌≡◌, ◌+◌, ◌-◌, length}
+use Rattle.posting_rules.specs.declared.limits.TheConstants.{LAST_BRANCH}
 use Rattle.branch_loader.specs.Plans.{IsPlan, plan_of_records, row_of_fields, rows_by}
 use Rattle.branch_loader.specs.Records.{HasLeft, IsPlain, Records}
 use Rattle.branch_loader.proofs.read.read_rows.Given as goal
@@ -12,4 +13,4 @@ invariant-rows g l = record {
 }
 
 abbrev pub decreases-rows : goal.decreases-rows
-decreases-rows g l = 10001 - length l.rows.items
+decreases-rows g l = LAST_BRANCH + 2 - length l.rows.items

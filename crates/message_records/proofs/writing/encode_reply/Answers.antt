@@ -1,6 +1,7 @@
 -- The draft is the spelling, which is read again.
 use Rattle.std.proofs.Common.{◌≡◌, ◌+◌, ◌++◌, ◌≤◌, length, Option, ap, subst, ◌∙◌, arith}
 use Rattle.std.specs.Prelude.{ℤ, pos, nat_abs, unwrap_or, IfSome}
+use Rattle.message_records.specs.declared.limits.TheConstants.{MAX_BALANCE}
 use Rattle.message_records.specs.Outcomes.{code_of, name_of}
 use Rattle.message_records.specs.Records.{RequestFields, IsRequest, IsReply}
 use Rattle.message_records.specs.Spelling.{signed, no_fields, fields_spelling}
@@ -30,7 +31,7 @@ pub returns-clause-read_again : goal.returns-clause-read_again
 returns-clause-read_again c =
     let reply = c.args.reply.now in
     let shown = c.shown-request.ensures in
-    let InRange : Option ℤ → Type 0 = λ q. IfSome q (λ z. nat_abs z ≤ 999_999_999_999) in
+    let InRange : Option ℤ → Type 0 = λ q. IfSome q (λ z. nat_abs z ≤ MAX_BALANCE) in
     let is_reply : IsReply reply = record {
       shows_request = shown.shows_request;
       request = subst (λ (q : Option RequestFields). IfSome q IsRequest) shown.request c.put_shown.ensures.in_range;

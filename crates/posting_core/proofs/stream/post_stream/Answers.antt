@@ -1,11 +1,108 @@
+use Rattle.std.proofs.Common.{◌≡◌, ◌≤◌, refl, arith, length, take}
+use Rattle.std.proofs.lemmas.List.{length-take-le}
+use Rattle.std.proofs.lemmas.Result.{err_from_is_err_and}
+use Rattle.posting_core.specs.declared.stream.TheConstants.{BUFFER}
+use Rattle.posting_core.proofs.Batched.{cut_into, cut_and_moved}
 use Rattle.posting_core.proofs.Output.{output_of, survives_of, resends_of}
+use Rattle.posting_core.proofs.Streaming.{Going, going_first, going_filled, going_unread, going_batch, end_whole, end_in_record, end_unread, end_broken, at_ok, few_left}
 use Rattle.posting_core.proofs.stream.post_stream.Goals as goal
+use Rattle.posting_core.proofs.stream.post_stream.Goals.{then-filled-ge-RECORD+in_ok-answer_batch, else-filled-ge-RECORD, in-Ok, in-Err}
 
-pub returns-clause-output : goal.returns-clause-output
-returns-clause-output g c = output_of c.answer_stream.result c.answer_stream.ensures
+pub reads-init : goal.reads-init
+reads-init g c = record { few = omega arith; room = refl; bound = omega arith; going = going_first _ refl }
 
-pub returns-clause-stop : goal.returns-clause-stop
-returns-clause-stop g c = survives_of c.answer_stream.result c.answer_stream.ensures
+-- the reader was asked too often
+pub returns : goal.returns
+returns g c =
+    let s = end_unread _ c.reads.invariant.going (few_left c.reads.filled c.reads.buffer c.reads.invariant.few c.reads.invariant.room) in
+    record { stream = s; output = output_of _ s; stop = survives_of _ s; resend = resends_of _ s }
 
-pub returns-clause-resend : goal.returns-clause-resend
-returns-clause-resend g c = resends_of c.answer_stream.result c.answer_stream.ensures
+-- the reader failed
+pub returns-in-Err-2 : goal.returns-in-Err-2
+returns-in-Err-2 g c =
+    let long : length c.fill.new.buffer ≡ BUFFER = omega (arith, c.fill.auto.buffer, c.reads.invariant.room) in
+    let s =
+    end_unread _ (going_unread c.reads.buffer c.fill.new.buffer c.reads.filled c.reads.filled c.reads.invariant.going c.in-Err.ensures.err refl)
+    (few_left c.reads.filled c.fill.new.buffer c.reads.invariant.few long) in
+    record { stream = s; output = output_of _ s; stop = survives_of _ s; resend = resends_of _ s }
+
+-- the input ended
+pub returns-in-Ok-eq0 : goal.returns-in-Ok-eq0
+returns-in-Ok-eq0 g c =
+    let n = c.in-Ok-eq0.field-0 in
+    let none : c.in-Ok-eq0.field-0 ≡ 0 = c.in-Ok-eq0.field-0-test in
+    let empty : c.reads.filled ≡ 0 = c.if-filled-eq0.true in
+    let s =
+    end_whole (take c.reads.filled c.fill.new.buffer)
+    (going_filled c.reads.buffer c.fill.new.buffer c.reads.filled c.reads.filled n c.reads.invariant.going (at_ok _ c.fill.result n c.in-Ok-eq0.is c.fill.ensures.ok) (omega arith))
+    (at_ok _ c.fill.result n c.in-Ok-eq0.is c.fill.ensures.end none) (rw empty refl) in
+    record { stream = s; output = output_of _ s; stop = survives_of _ s; resend = resends_of _ s }
+
+pub returns-in-Ok-eq0-2 : goal.returns-in-Ok-eq0-2
+returns-in-Ok-eq0-2 g c =
+    let n = c.in-Ok-eq0.field-0 in
+    let none : c.in-Ok-eq0.field-0 ≡ 0 = c.in-Ok-eq0.field-0-test in
+    let within : c.reads.filled ≤ length c.fill.new.buffer = omega (arith, c.reads.invariant.few, c.fill.auto.buffer, c.reads.invariant.room) in
+    let s =
+    end_in_record (take c.reads.filled c.fill.new.buffer) c.reads.filled
+    (going_filled c.reads.buffer c.fill.new.buffer c.reads.filled c.reads.filled n c.reads.invariant.going (at_ok _ c.fill.result n c.in-Ok-eq0.is c.fill.ensures.ok) (omega arith))
+    (at_ok _ c.fill.result n c.in-Ok-eq0.is c.fill.ensures.end none) (length-take-le c.reads.filled c.fill.new.buffer within) (omega arith) c.reads.invariant.few in
+    record { stream = s; output = output_of _ s; stop = survives_of _ s; resend = resends_of _ s }
+
+-- a batch broke off
+pub returns-in_err-answer_batch : goal.returns-in_err-answer_batch
+returns-in_err-answer_batch g c =
+    let fault = c.in_err-answer_batch.field-0.0 in
+    let told = err_from_is_err_and c.from_residual.result c.from_residual.ensures.1 in
+    let a = c.in_err-answer_batch.ensures.answers in
+    let going : Going (g.R.Read.remaining c.args.reader.now) (g.R.Read.remaining c.fill.new.reader) (g.W.Write.contents c.args.writer.now) (g.W.Write.contents c.reads.writer)
+    (g.K.Clock.readings c.args.clock.now) (g.K.Clock.readings c.reads.clock) (g.C.Counter.seen c.args.bank.now) (g.C.Counter.seen c.reads.bank)
+    (take c.match-fill.filled c.fill.new.buffer) c.reads.count =
+    elim c.match-fill.branch [
+      | in-Ok w ↦ going_filled c.reads.buffer c.fill.new.buffer c.reads.filled c.match-fill.filled w.in-Ok.n c.reads.invariant.going w.in-Ok.ensures.ok w.filled-is
+      | in-Err w ↦ going_unread c.reads.buffer c.fill.new.buffer c.reads.filled c.match-fill.filled c.reads.invariant.going w.in-Err.ensures.err w.filled-is
+    ] in
+    let cut = cut_into (take c.match-fill.filled c.fill.new.buffer) c.as_chunks.result.0.now c.as_chunks.result.1.now c.as_chunks.ensures.front c.as_chunks.ensures.back in
+    let s =
+    end_broken fault a.0 (take c.match-fill.filled c.fill.new.buffer) c.as_chunks.result.1.now c.as_chunks.result.0.now going cut
+    (omega (arith, c.as_chunks.ensures.back_len)) a.1 c.in_err-answer_batch.ensures.honest a.2 in
+    rw (told.1, told.2) (record { stream = s; output = output_of _ s; stop = survives_of _ s; resend = resends_of _ s })
+
+pub reads-preserved : goal.reads-preserved
+reads-preserved g c =
+    let going : Going (g.R.Read.remaining c.args.reader.now) (g.R.Read.remaining c.fill.new.reader) (g.W.Write.contents c.args.writer.now) (g.W.Write.contents c.reads.writer)
+    (g.K.Clock.readings c.args.clock.now) (g.K.Clock.readings c.reads.clock) (g.C.Counter.seen c.args.bank.now) (g.C.Counter.seen c.reads.bank)
+    (take c.match-fill.filled c.fill.new.buffer) c.reads.count =
+    elim c.match-fill.branch [
+      | in-Ok w ↦ going_filled c.reads.buffer c.fill.new.buffer c.reads.filled c.match-fill.filled w.in-Ok.n c.reads.invariant.going w.in-Ok.ensures.ok w.filled-is
+      | in-Err w ↦ going_unread c.reads.buffer c.fill.new.buffer c.reads.filled c.match-fill.filled c.reads.invariant.going w.in-Err.ensures.err w.filled-is
+    ] in
+    let long : length c.fill.new.buffer ≡ BUFFER = omega (arith, c.fill.auto.buffer, c.reads.invariant.room) in
+    let within : c.match-fill.filled ≤ length c.fill.new.buffer =
+    elim c.match-fill.branch [
+      | in-Ok w ↦ omega (arith, w.in-Ok.ensures.fits, w.filled-is)
+      | in-Err w ↦ omega (arith, c.reads.invariant.few, w.filled-is, long)
+    ] in
+    elim c.if-filled-ge-RECORD.branch [
+      | then-filled-ge-RECORD+in_ok-answer_batch w ↦
+          let a = w.in_ok-answer_batch.ensures.answers in
+          let rs = w.as_chunks.result.0.now in
+          let left = length w.as_chunks.result.1.now in
+          let after = w.move_to_front.new.buffer in
+          let len : length (take c.match-fill.filled c.fill.new.buffer) ≡ c.match-fill.filled = length-take-le c.match-fill.filled c.fill.new.buffer within in
+          let cut = cut_and_moved c.fill.new.buffer after c.match-fill.filled left rs within w.as_chunks.ensures.front w.as_chunks.ensures.back_len w.move_to_front.ensures in
+          rw (w.writer-is, w.clock-is, w.bank-is, w.buffer-is, w.filled-is, w.count-is) (record {
+            few = omega (arith, w.as_chunks.ensures.back_len);
+            room = w.move_to_front.array_long;
+            bound = omega (arith, w.as_chunks.ensures.front_len, c.reads.invariant.bound, long);
+            going = going_batch a.0 (take c.match-fill.filled c.fill.new.buffer) (take left after) _ rs going cut refl a.1 w.in_ok-answer_batch.ensures.honest a.2;
+          })
+      | else-filled-ge-RECORD w ↦
+          let low = w.if-filled-ge-RECORD.false in
+          rw (w.writer-is, w.clock-is, w.bank-is, w.buffer-is, w.filled-is, w.count-is) (record {
+            few = omega arith;
+            room = long;
+            bound = omega (arith, c.reads.invariant.bound);
+            going = going;
+          })
+    ]

@@ -1,4 +1,4 @@
-use Rattle.posting_rules.proofs.Limits.{stays_within}
+use Rattle.posting_rules.proofs.BalanceLimits.{stays_within}
 use Rattle.posting_rules.proofs.laws.balances_stay_within.Goals as goal
 
 pub returns : goal.returns

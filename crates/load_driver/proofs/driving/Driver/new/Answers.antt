@@ -1,6 +1,7 @@
 use Rattle.std.proofs.Common.{◌≡◌, ◌<◌, ◌*◌, ◌∙◌, ℕ, arith, rules, refl, length, ap, ◌≢◌, ◌∷◌, [], List}
 use Rattle.std.proofs.lemmas.List.{get_or-replicate, length-replicate}
 use Rattle.std.proofs.lemmas.List.Sorted.{length_permutation}
+use Rattle.posting_rules.specs.declared.limits.TheConstants.{TELLERS_PER_BRANCH}
 use Rattle.load_driver.specs.Requests.{earlier}
 use Rattle.load_driver.proofs.Totals.{counts-others}
 use Rattle.load_driver.proofs.driving.Driver.new.Goals as goal
@@ -24,8 +25,8 @@ invariant_of-result c =
       within = omega arith;
       words_at = c.words_of.ensures;
       counts_at = record {
-        len = rw items (length-replicate (10 * c.len.result) 0 ∙ ap (λ (n : ℕ). 10 * n) many);
-        of_each = λ place small. rw items (get_or-replicate (10 * c.len.result) place 0 0 (omega arith));
+        len = rw items (length-replicate (TELLERS_PER_BRANCH * c.len.result) 0 ∙ ap (λ (n : ℕ). TELLERS_PER_BRANCH * n) many);
+        of_each = λ place small. rw items (get_or-replicate (TELLERS_PER_BRANCH * c.len.result) place 0 0 (omega arith));
       };
     }
 

@@ -2,6 +2,7 @@
 use Rattle.std.proofs.Common.{◌≡◌, ℕ, ◌≤◌, Bool, true, false, cond, eqb, List, [], ◌∷◌, Result, Ok, Err, refl, sym, subst, ◌∙◌, lit≤}
 use Rattle.std.specs.Prelude.{ℤ, ◌+ℤ◌, nat_abs, ◌&&◌, Option}
 use Rattle.std.proofs.lemmas.Bool.{eqb-true}
+use Rattle.message_records.specs.declared.limits.TheConstants.{MAX_BALANCE}
 use Rattle.message_records.specs.declared.faults.Bad.{Bad}
 use Rattle.message_records.specs.Records.{RequestFields}
 use Rattle.message_records.specs.Reading.{request_of}
@@ -14,7 +15,7 @@ use Rattle.posting_rules.specs.Laws.{StaysWithin}
 use Rattle.posting_rules.proofs.Verdicts.{IsSum, IsVerdict, verdict_is}
 
 abbrev IsWithin : ℤ → Type 0
-IsWithin z = nat_abs z ≤ 999_999_999_999
+IsWithin z = nat_abs z ≤ MAX_BALANCE
 
 record AllWithin (es : List Entry) : Type 0 where
   accounts : (a : ℕ) → IsWithin (account_balance es a)
