@@ -31,7 +31,7 @@ returns-in_err-reply-clause-told g c clean live t shows log are show =
     let before = posts m (take i rs) in
     let past = tables_past_all t m (take i rs) in
     let told = c.in_err-reply.ensures.told clean live1 past (so_far.told clean1 live t shows (log, are, show)) (behind log before)
-    (commands_behind log before are c.loop-bytes.invariant.commands) (all_past t log m (take i rs) are c.loop-bytes.invariant.commands show) in
+    (commands_behind log before are c.loop-bytes.invariant.commands) (all_past t log m (take i rs) show) in
     rw same
     (err_answers (List ℕ) (Unit {0}) new new (tables_past past m (get_or rs i [])) (tables_past_all t m rs)
     (reply_spelling (reply (behind log before) (get_or rs i []))) e told)
@@ -66,13 +66,13 @@ loop-bytes-preserved g c =
           (λ t. sym (past_one_more t m rs i lt))
           (adding_then old mid new past (λ t. tables_past (past t) m (get_or rs i [])) AreOfALog so_far c.answer_record.ensures.survives c.in_ok-reply.ensures.kept
           (λ clean live t it shows. (c.in_ok-reply.ensures.told clean live (past t) shows (behind it.0 before)
-          (commands_behind it.0 before it.1 commands) (all_past t it.0 m (take i rs) it.1 commands it.2)).1));
+          (commands_behind it.0 before it.1 commands) (all_past t it.0 m (take i rs) it.2)).1));
       replies = λ clean live t shows log are show.
           let clean1 : HasCleanDisk mid = omega (arith, c.answer_record.ensures.survives.clean) in
           let live1 = still_in old mid (so_far.kept clean1 live) live in
           replies_one_more log m rs i _ _ _ _ lt (c.loop-bytes.invariant.replies clean1 live t shows log are show)
           (c.in_ok-reply.ensures.told clean live1 (past t) (so_far.told clean1 live t shows (log, are, show)) (behind log before)
-          (commands_behind log before are commands) (all_past t log m (take i rs) are commands show)).0
+          (commands_behind log before are commands) (all_past t log m (take i rs) show)).0
           c.put.ensures.items;
       commands = commands_one_more m rs i lt (omega (arith, c.get-seconds.ensures.value, c.get-seconds.ensures.most)) (search rules) commands;
       count = omega (arith, c.loop-bytes.invariant.count, c.put.ensures.len);

@@ -1,5 +1,5 @@
 -- Rows that stand in the order in which they came: what a record and an opening do to them.
-use Rattle.std.specs.Prelude.{ℕ, ◌+◌, ℤ, pos, [], ◌∷◌, ◌++◌, Result, Ok, Err}
+use Rattle.std.specs.Prelude.{ℕ, zero, suc, ◌+◌, ℤ, pos, List, [], ◌∷◌, ◌++◌, Result, Ok, Err}
 use Rattle.message_records.specs.declared.faults.Bad.{Bad}
 use Rattle.message_records.specs.Records.{RequestFields, ReplyFields}
 use Rattle.posting_rules.specs.declared.facts.Verdict.{Verdict}
@@ -7,10 +7,15 @@ use Rattle.posting_rules.specs.declared.facts.Verdict.TheVariants.{Unkept, Again
 use Rattle.posting_rules.specs.Commands.{branch_of_teller}
 use Rattle.posting_rules.specs.Cases.{case_of, reply_in}
 use Rattle.posting_rules.specs.Entries.{Entry, refused_entry, posted_entry, malformed_reply}
-use Rattle.posting_rules.specs.Tables.{Tables, branch_key, teller_key, account_key, branch_row_of, teller_row_of, account_row_of, request_row_of, history_row_of}
+use Rattle.posting_rules.specs.Tables.{Tables, branch_key, teller_key, account_key, branch_row_of, request_row_of, history_row_of}
 use Rattle.posting_rules.specs.LookUps.{decided_in, found_in}
 use Rattle.posting_rules.specs.Steps.{with_branch_balance, with_teller_balance, with_account_balance, meta_row_of, first_teller, first_account}
-use Rattle.posting_rules.specs.Rows.{changed, rows_from}
+use Rattle.posting_rules.specs.Changes.{row_changed, new_teller, new_account}
+
+-- a row for each of so many numbers from the first one on
+abbrev pub rows_from : {R : Type 0} → (ℕ → R) → ℕ → ℕ → List R
+rows_from row first zero = []
+rows_from row first (suc count) = rows_from row first count ++ row (first + count) ∷ []
 
 -- ---- what a record does to the rows
 
@@ -23,9 +28,9 @@ tables_kept t e = let ordinal = decided_in t.meta + 1 in record t {
 abbrev pub tables_posted : Tables → Entry → ℤ → ℤ → Tables
 tables_posted t e teller branch = let ordinal = decided_in t.meta + 1 in record {
   meta = meta_row_of ordinal ∷ [];
-  branches = changed branch_key (branch_of_teller e.request.teller) (with_branch_balance branch) t.branches;
-  tellers = changed teller_key e.request.teller (with_teller_balance teller) t.tellers;
-  accounts = changed account_key e.request.account (with_account_balance e.balance) t.accounts;
+  branches = row_changed branch_key (with_branch_balance branch) (branch_of_teller e.request.teller) t.branches;
+  tellers = row_changed teller_key (with_teller_balance teller) e.request.teller t.tellers;
+  accounts = row_changed account_key (with_account_balance e.balance) e.request.account t.accounts;
   history = t.history ++ history_row_of ordinal e ∷ [];
   requests = t.requests ++ request_row_of ordinal e ∷ [];
 }
@@ -51,8 +56,8 @@ abbrev pub tables_opened : Tables → ℕ → ℕ → Tables
 tables_opened t b count = record {
   meta = t.meta;
   branches = t.branches ++ branch_row_of b (pos 0) count ∷ [];
-  tellers = t.tellers ++ rows_from (λ n. teller_row_of n (pos 0)) (first_teller b) 10;
-  accounts = t.accounts ++ rows_from (λ n. account_row_of n (pos 0)) (first_account b) count;
+  tellers = t.tellers ++ rows_from new_teller (first_teller b) 10;
+  accounts = t.accounts ++ rows_from new_account (first_account b) count;
   history = t.history;
   requests = t.requests;
 }
