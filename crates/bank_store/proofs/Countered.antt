@@ -18,7 +18,7 @@ use Rattle.posting_rules.proofs.Sequence.{commands_behind}
 use Rattle.store_rows.specs.View.{Shows, ShowsTrees}
 use Rattle.store_rows.specs.declared.faults.TableFault.{TableFault}
 use Rattle.store_rows.specs.declared.faults.TableFault.TheVariants.{Sqlite, Damaged}
-use Rattle.bank_store.specs.Doing.{Completes, Undoes}
+use Rattle.bank_transactions.specs.Doing.{Completes, Undoes}
 use Rattle.bank_store.specs.Down.{GoesDown}
 use Rattle.bank_store.specs.Seen.{seen_in}
 
