@@ -8,7 +8,7 @@ set -eu
 here=$(cd "$(dirname "$0")/.." && pwd)
 work=$(mktemp -d)
 trap 'rm -rf "$work"' EXIT
-below='message_records posting_core sql_meanings store_rows bank_store'
+below='message_records posting_rules posting_core sql_meanings store_rows bank_transactions bank_store'
 mkdir -p "$work/crates/post/src"
 for crate in $below; do
     mkdir "$work/crates/$crate"

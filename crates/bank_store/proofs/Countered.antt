@@ -18,7 +18,7 @@ use Rattle.posting_rules.proofs.Sequence.{commands_behind}
 use Rattle.store_rows.specs.View.{Shows, ShowsTrees}
 use Rattle.store_rows.specs.declared.faults.TableFault.{TableFault}
 use Rattle.store_rows.specs.declared.faults.TableFault.TheVariants.{Sqlite, Damaged}
-use Rattle.bank_store.specs.Doing.{Completes, Undoes}
+use Rattle.bank_transactions.specs.Doing.{Completes, Undoes}
 use Rattle.bank_store.specs.Down.{GoesDown}
 use Rattle.bank_store.specs.Seen.{seen_in}
 
@@ -51,7 +51,7 @@ module _ (Sound : Tables → Type 0) (holds : HoldsOfLogs Sound) (old new : Stat
     commands = commands_behind log cs s.commands are;
     tables = after s.tables;
     are = (done clean s.tables s.are (holds s.tables log s.commands s.shows)).0;
-    shows = is s.tables log s.commands s.shows;
+    shows = is s.tables log s.shows;
   }
 
   pub takes : (D E : Type 0) → AreCommands cs → (E → ⊥) → Changes Sound old new after → Takes (seen_in old D) (seen_in new E) cs
@@ -63,7 +63,7 @@ module _ (Sound : Tables → Type 0) (holds : HoldsOfLogs Sound) (old new : Stat
         record {
           shows = shows_more are done D E clean log s;
           up = up;
-          stop = λ trees may. (after s.tables, left trees may, is s.tables log s.commands s.shows);
+          stop = λ trees may. (after s.tables, left trees may, is s.tables log s.shows);
         };
   }
 
@@ -78,7 +78,7 @@ module _ (Sound : Tables → Type 0) (holds : HoldsOfLogs Sound) (old new : Stat
           | inr made ↦ (
             after s.tables,
             made s.tables s.are (holds s.tables log s.commands s.shows),
-            all_of_them (after s.tables) log cs (is s.tables log s.commands s.shows),
+            all_of_them (after s.tables) log cs (is s.tables log s.shows),
           )
         ];
   }

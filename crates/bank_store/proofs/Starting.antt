@@ -2,7 +2,7 @@
 use Rattle.std.proofs.Common.{[]}
 use Rattle.sqlite.specs.State.{State}
 use Rattle.posting_rules.specs.Counter.{StandsAt}
-use Rattle.posting_rules.proofs.Appending.{empty_shown}
+use Rattle.posting_rules.proofs.Empty.{empty_shown}
 use Rattle.store_rows.specs.Creation.{new_tables}
 use Rattle.bank_store.specs.Opening.{IsMade}
 use Rattle.bank_store.specs.Seen.{seen_in}

@@ -1,5 +1,4 @@
 -- A bank in the tables of a SQLite file: what its calls do to the tables, and what a stop leaves.
-pub mod Doing
 pub mod Down
 pub mod Opening
 pub mod Seen

@@ -14,7 +14,7 @@ ghost use Rattle.bank_store.specs.Seen.{bank_seen, connection_of};
 use crate::bank::Bank;
 use crate::probing::{Presence, tables_there};
 use crate::refused::{OpenFault, Refused, unread};
-use crate::transactions::begin;
+use bank_transactions::begin;
 use posting_rules::{MAX_DECIDED, Rule};
 use sqlite::{Alter, Connection};
 use std::alloc::Global;

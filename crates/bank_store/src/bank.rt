@@ -11,7 +11,7 @@ ghost use Rattle.posting_rules.specs.Entries.{reply, balance_behind};
 ghost use Rattle.posting_rules.specs.Runs.{posts, replies_to};
 ghost use Rattle.posting_rules.specs.Tables.{Tables};
 
-use crate::transactions::{open_branch, post, post_all, read_balance};
+use bank_transactions::{open_branch, post, post_all, read_balance};
 use message_records::{
     Account, Branch, Cents, Moment, Outcome, Reply, decode_request, encode_reply,
 };

@@ -14,7 +14,7 @@ ghost use Rattle.bank_store.specs.declared.probing.Presence.TheVariants.{Absent}
 use crate::bank::Bank;
 use crate::probing::{Presence, tables_there};
 use crate::refused::{OpenFault, Refused, unmade};
-use crate::transactions::begin;
+use bank_transactions::begin;
 use sqlite::{Alter, Connection};
 use std::alloc::Global;
 use store_rows::create_tables;

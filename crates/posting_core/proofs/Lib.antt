@@ -1,3 +1,5 @@
+pub mod Behind
+pub mod Appending
 pub mod InMemory
 pub mod Transferred
 pub mod Timeless

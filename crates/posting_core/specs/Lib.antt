@@ -1,5 +1,6 @@
 pub mod Faults
 pub mod Plain
+pub mod Appended
 pub mod Once
 pub mod Clock
 pub mod Batches

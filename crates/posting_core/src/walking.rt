@@ -3,7 +3,7 @@ ghost use Rattle.std.specs.Prelude.{◌≡◌, ◌<◌, ◌≤◌, ◌+◌, ◌+
 ghost use Rattle.std.specs.Option.{option_map};
 ghost use Rattle.posting_rules.specs.Tables.{row_at, branch_key};
 ghost use Rattle.posting_rules.specs.LookUps.{kept_in, count_of_branch};
-ghost use Rattle.posting_rules.specs.Rows.{changed};
+ghost use Rattle.posting_rules.specs.Changes.{row_changed};
 
 use message_records::{Branch, Cents, Number, Teller};
 use posting_rules::{AccountRow, BranchRow, Kept, RequestRow, TellerRow};
@@ -109,10 +109,10 @@ pub(crate) fn balance_at<R: BalanceRow>(rows: &[R], number: u64) -> Option<Cents
 
 /// Gives the row under a number another balance.
 pub(crate) fn set_balance_at<R: BalanceRow>(rows: &mut [R], number: u64, balance: Cents)
-    ensures { rows.new ≡ changed R.key number (R.with_balance balance) rows.old }
+    ensures { rows.new ≡ row_changed R.key (R.with_balance balance) number rows.old }
 {
     for row in rows.iter_mut() {
-        if number == row.number() {
+        if row.number() == number {
             row.set_balance(balance);
         }
     }

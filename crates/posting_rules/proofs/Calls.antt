@@ -5,7 +5,7 @@ use Rattle.message_records.specs.Records.{RequestFields}
 use Rattle.message_records.specs.Reading.{request_of}
 use Rattle.message_records.specs.Spelling.{reply_spelling}
 use Rattle.posting_rules.specs.declared.rows.BranchRow.{BranchRow}
-use Rattle.posting_rules.specs.Commands.{Command, AreCommands, Open, Post, opened}
+use Rattle.posting_rules.specs.Commands.{Command, Open, Post, opened}
 use Rattle.posting_rules.specs.Runs.{behind}
 use Rattle.posting_rules.specs.Cases.{case_of}
 use Rattle.posting_rules.specs.Counter.{opening_for, opening_behind}
@@ -18,18 +18,19 @@ use Rattle.posting_rules.proofs.Looked.{count_shown, decided_shown}
 use Rattle.posting_rules.proofs.Opened.{opening_shown, already_open_shown}
 use Rattle.posting_rules.proofs.Stepped.{post_shown, reply_shown}
 use Rattle.posting_rules.specs.Changes.{tables_with, reply_bytes, opened_where, tables_with_branch}
-use Rattle.posting_rules.proofs.Stepping.{sound_tables, step_is, opens_is}
+use Rattle.posting_rules.proofs.Ready.{ready_shown}
+use Rattle.posting_rules.proofs.Stepping.{step_is, opens_is}
 
 -- the change is that of the commands
 abbrev pub IsChange : (Tables → Tables) → List Command → Type 0
-IsChange after cs = (t : Tables) (log : List Command) → AreCommands log → Show t log → Show (after t) (behind log cs)
+IsChange after cs = (t : Tables) (log : List Command) → Show t log → Show (after t) (behind log cs)
 
 -- ---- a request
 
 pub posts : (m : ℕ) (bytes : List ℕ) (r : RequestFields) → request_of bytes ≡ Ok r → IsChange (λ t. tables_with t m r) (Post m bytes ∷ [])
-posts m bytes r read t log are shows =
+posts m bytes r read t log shows =
     let v = case_of (found_in t r) r in
-    let step = step_is t m r v (sound_tables t log are shows) in
+    let step = step_is t m r v (ready_shown t log shows) in
     post_shown t (tables_with t m r) log m bytes r read shows
     (subst (λ n. IsStep t (tables_with t m r) (n + 1) m r v) (decided_shown t (λ b. opened log b) (decided log) shows.rows) step)
 
@@ -40,14 +41,14 @@ replies t log bytes r read shows = ap reply_spelling (reply_shown t log bytes r 
 -- ---- an opening
 
 pub opens : (b count : ℕ) → 1 ≤ b → count ≤ 100_000 → IsChange (λ t. tables_with_branch t b count) (Open b count ∷ [])
-opens b count above few t log are shows = by_row (row_at branch_key t.branches b) refl
+opens b count above few t log shows = by_row (row_at branch_key t.branches b) refl
   where
     counted : count_in t b ≡ opened log b
     counted = count_shown t (λ x. opened log x) (decided log) b shows.rows
 
     by_row : (o : Option BranchRow) → row_at branch_key t.branches b ≡ o → Show (opened_where o t b count) (Open b count ∷ log)
     by_row None e = opening_shown t _ log b count (sym counted ∙ ap (option_map count_of_branch) e) above few shows
-        (opens_is t b count (sound_tables t log are shows) above few e)
+        (opens_is t b count (ready_shown t log shows) above few e)
     by_row (Some row) e = already_open_shown t log b count row.accounts (sym counted ∙ ap (option_map count_of_branch) e) shows
 
 pub answers : (t : Tables) (log : List Command) (b count : ℕ) → Show t log → opening_for (count_in t b) count ≡ opening_behind log b count
@@ -56,4 +57,4 @@ answers t log b count shows = ap (λ o. opening_for o count) (count_shown t (λ 
 -- ---- a look-up
 
 pub stays : IsChange (λ t. t) []
-stays t log are shows = shows
+stays t log shows = shows

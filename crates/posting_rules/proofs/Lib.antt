@@ -5,7 +5,6 @@ pub mod Requests
 pub mod Looked
 pub mod Stepped
 pub mod Opened
-pub mod Appending
 pub mod Totals
 pub mod BalanceLimits
 pub mod Consistent
@@ -18,6 +17,8 @@ pub mod Resends
 pub mod SoundEntries
 pub mod Undamaged
 pub mod RowChanges
+pub mod Ready
+pub mod Empty
 pub mod Stepping
 pub mod Calls
 pub mod Records

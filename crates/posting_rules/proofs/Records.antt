@@ -13,22 +13,22 @@ use Rattle.posting_rules.specs.Changes.{tables_read, tables_past, tables_past_al
 use Rattle.posting_rules.proofs.Calls.{posts as posts_shown}
 use Rattle.posting_rules.proofs.Calls.{IsChange}
 
-past_shown : (t : Tables) (log : List Command) (m : ℕ) (bytes : List ℕ) → AreCommands log → Show t log → Show (tables_past t m bytes) (Post m bytes ∷ log)
-past_shown t log m bytes are shows = by_reading (request_of bytes) refl
+pub past_shown : (t : Tables) (log : List Command) (m : ℕ) (bytes : List ℕ) → Show t log → Show (tables_past t m bytes) (Post m bytes ∷ log)
+past_shown t log m bytes shows = by_reading (request_of bytes) refl
   where
     by_reading : (x : Result RequestFields Bad) → request_of bytes ≡ x → Show (tables_read t m x) (Post m bytes ∷ log)
-    by_reading (Ok r) read = posts_shown m bytes r read t log are shows
+    by_reading (Ok r) read = posts_shown m bytes r read t log shows
     by_reading (Err fault) read = malformed_shown t log m bytes fault read shows
 
-pub all_past : (t : Tables) (log : List Command) (m : ℕ) (records : List (List ℕ)) → AreCommands log → AreCommands (posts m records) → Show t log
+pub all_past : (t : Tables) (log : List Command) (m : ℕ) (records : List (List ℕ)) → Show t log
     → Show (tables_past_all t m records) (behind log (posts m records))
-all_past t log m [] are all shows = shows
-all_past t log m (bytes ∷ records) are all shows =
-    all_past (tables_past t m bytes) (Post m bytes ∷ log) m records (all.0, are) all.1 (past_shown t log m bytes are shows)
+all_past t log m [] shows = shows
+all_past t log m (bytes ∷ records) shows =
+    all_past (tables_past t m bytes) (Post m bytes ∷ log) m records (past_shown t log m bytes shows)
 
 -- posting them is a change that leads to them
-pub posts_all : (m : ℕ) (records : List (List ℕ)) → AreCommands (posts m records) → IsChange (λ t. tables_past_all t m records) (posts m records)
-posts_all m records all t log are shows = all_past t log m records are all shows
+pub posts_all : (m : ℕ) (records : List (List ℕ)) → IsChange (λ t. tables_past_all t m records) (posts m records)
+posts_all m records t log shows = all_past t log m records shows
 
 past_all-append : (t : Tables) (m : ℕ) (xs ys : List (List ℕ)) → tables_past_all t m (xs ++ ys) ≡ tables_past_all (tables_past_all t m xs) m ys
 past_all-append t m [] ys = refl

@@ -1,5 +1,5 @@
 -- What the statements on one table do to its rows, as the rows under each key tell.
-use Rattle.std.proofs.Common.{◌≡◌, ℕ, suc, ◌+◌, Bool, true, false, cond, eqb, ltb, List, [], ◌∷◌, map, Option, Some, None, refl, sym, ap, subst, ◌∙◌, arith, inl, inr}
+use Rattle.std.proofs.Common.{◌≡◌, ℕ, zero, suc, ◌+◌, Bool, true, false, cond, eqb, ltb, ◌<◌, List, [], ◌∷◌, map, Option, Some, None, refl, sym, ap, subst, ◌∙◌, arith, inl, inr}
 use Rattle.std.specs.Prelude.{nat_eq}
 use Rattle.std.specs.List.{IsDistinct, AllByRecursion}
 use Rattle.std.specs.Option.{option_map}
@@ -9,7 +9,7 @@ use Rattle.std.proofs.lemmas.Map.Keys.{IsDistinct-cons, IsDistinct-head, IsDisti
 use Rattle.posting_rules.specs.Tables.{row_at, HasKeys}
 use Rattle.posting_rules.specs.Steps.{ChangesRow, AddsRow, AddsRows, is_from}
 use Rattle.posting_rules.proofs.Keyed.{by_test}
-use Rattle.posting_rules.specs.Changes.{row_changed, row_put}
+use Rattle.posting_rules.specs.Changes.{row_changed, row_put, rows_put}
 
 -- ---- tests on two numbers
 
@@ -26,7 +26,7 @@ not_both a b n h e = grind (arith, nat_tests)
 -- ---- one row is changed
 
 -- the row, changed where it stands under the key
-abbrev changed_at : {R : Type 0} → (R → ℕ) → ℕ → (R → R) → R → R
+abbrev pub changed_at : {R : Type 0} → (R → ℕ) → ℕ → (R → R) → R → R
 changed_at key k change r = cond (eqb (key r) k) (change r) r
 
 key-changed_at : {R : Type 0} (key : R → ℕ) (k : ℕ) (change : R → R) → ((r : R) → key (change r) ≡ key r)
@@ -82,7 +82,7 @@ row_at-put key x (r ∷ rows) n =
     ]
 
 -- a key with no row differs from each key that has one
-free_apart : {R : Type 0} (key : R → ℕ) (rows : List R) (k : ℕ) → row_at key rows k ≡ None
+pub free_apart : {R : Type 0} (key : R → ℕ) (rows : List R) (k : ℕ) → row_at key rows k ≡ None
     → AllByRecursion (λ j. nat_eq k j ≡ false) (map key rows)
 free_apart key [] k none = tt
 free_apart key (r ∷ rows) k none =
@@ -154,22 +154,37 @@ rows_none key row first rows keys = record {
   keys = keys;
 }
 
--- and with each one more
-pub rows_more : {R : Type 0} (key : R → ℕ) (row : ℕ → R) (first count : ℕ) (old mid new : List R) → AddsRows key row first count old mid
-    → AddsRow key (row (first + count)) mid new → ((n : ℕ) → key (row n) ≡ n) → AddsRows key row first (suc count) old new
-rows_more key row first count old mid new before last own = record {
-  rows = λ n. last.rows n
-      ∙ ap (λ (k : ℕ). cond (eqb k n) (Some (row (first + count))) (row_at key mid n)) (own (first + count))
-      ∙ ap (cond (eqb (first + count) n) (Some (row (first + count)))) (before.rows n)
-      ∙ one_row_more row first count n (row_at key old n);
-  keys = last.keys;
-}
-
--- a number that was free and isn't one of them stays free
-pub stays_free : {R : Type 0} (key : R → ℕ) (row : ℕ → R) (first count : ℕ) (old mid : List R) (n : ℕ)
-    → AddsRows key row first count old mid → row_at key old n ≡ None → is_from first count n ≡ false → row_at key mid n ≡ None
-stays_free key row first count old mid n adds none other = adds.rows n ∙ rw other none
-
--- the number behind them isn't one of them
-pub not_yet : (first count : ℕ) → is_from first count (first + count) ≡ false
+not_yet : (first count : ℕ) → is_from first count (first + count) ≡ false
 not_yet first count = grind (arith, nat_tests)
+
+-- the number behind them is as free as before
+pub next_is_free : {R : Type 0} (key : R → ℕ) (row : ℕ → R) (first count : ℕ) (old mid : List R) → AddsRows key row first count old mid
+    → row_at key old (first + count) ≡ None → row_at key mid (first + count) ≡ None
+next_is_free key row first count old mid adds none = adds.rows (first + count) ∙ rw (not_yet first count) none
+
+-- one more under that number
+pub rows_more : {R : Type 0} (key : R → ℕ) (row : ℕ → R) (first count : ℕ) (old mid new : List R) → ((n : ℕ) → key (row n) ≡ n)
+    → AddsRows key row first count old mid → row_at key old (first + count) ≡ None
+    → (HasKeys key mid → row_at key mid (key (row (first + count))) ≡ None → AddsRow key (row (first + count)) mid new)
+    → AddsRows key row first (suc count) old new
+rows_more key row first count old mid new own before none adds =
+    let free : row_at key mid (key (row (first + count))) ≡ None =
+    ap (row_at key mid) (own (first + count)) ∙ next_is_free key row first count old mid before none in
+    let last = adds before.keys free in
+    record {
+      rows = λ n. last.rows n
+          ∙ ap (λ (k : ℕ). cond (eqb k n) (Some (row (first + count))) (row_at key mid n)) (own (first + count))
+          ∙ ap (cond (eqb (first + count) n) (Some (row (first + count)))) (before.rows n)
+          ∙ one_row_more row first count n (row_at key old n);
+      keys = last.keys;
+    }
+
+-- rows with these numbers for their keys, of which none had a row, are added
+pub rows_add : {R : Type 0} (key : R → ℕ) (row : ℕ → R) (first count : ℕ) (rows : List R) → ((n : ℕ) → key (row n) ≡ n) → HasKeys key rows
+    → ((n : ℕ) → n < count → row_at key rows (first + n) ≡ None) → AddsRows key row first count rows (rows_put key row first count rows)
+rows_add key row first zero rows own keys none = rows_none key row first rows keys
+rows_add key row first (suc count) rows own keys none =
+    let before = rows_put key row first count rows in
+    rows_more key row first count rows before (rows_put key row first (suc count) rows) own
+    (rows_add key row first count rows own keys (λ n lt. none n (omega arith))) (none count (omega arith))
+    (λ distinct free. row_adds key before (row (first + count)) distinct free)

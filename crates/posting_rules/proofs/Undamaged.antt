@@ -3,7 +3,7 @@ use Rattle.std.proofs.Common.{◌≡◌, ℕ, ◌+◌, ◌*◌, ◌<◌, ◌≤�
 use Rattle.std.specs.Prelude.{ℤ, nat_abs, is_some, ◌&&◌, IfSome}
 use Rattle.std.specs.List.{Contains}
 use Rattle.std.specs.Option.{option_map}
-use Rattle.std.proofs.lemmas.Bool.{eqb-true, leb-true, le-leb}
+use Rattle.std.proofs.lemmas.Bool.{eqb-true, leb-true}
 use Rattle.std.proofs.lemmas.List.Elements.{All-contains, All-from_recursion}
 use Rattle.posting_rules.specs.declared.limits.TheConstants.{MAX_DECIDED, LAST_BRANCH, ACCOUNTS_PER_BRANCH, TELLERS_PER_BRANCH}
 use Rattle.message_records.specs.declared.limits.TheConstants.{MAX_BALANCE}
@@ -18,9 +18,8 @@ use Rattle.posting_rules.specs.Tables.{Tables, Shows, HasKeys, row_at, branch_ke
 use Rattle.posting_rules.specs.Damage.{IsSoundBranch, IsSoundTeller, IsSoundAccount, IsSoundRequest, IsSoundPosting, IsUndamaged}
 use Rattle.posting_rules.proofs.Keyed.{by_test}
 use Rattle.posting_rules.proofs.Verdicts.{when}
-use Rattle.posting_rules.proofs.Looked.{decided_shown, count_shown}
 use Rattle.posting_rules.proofs.Opened.{both, some_within}
-use Rattle.posting_rules.proofs.Appending.{next_is_free, next_has_no_posting}
+use Rattle.posting_rules.proofs.Ready.{ready_shown}
 use Rattle.posting_rules.proofs.Totals.{each_under_its_key}
 use Rattle.posting_rules.proofs.BalanceLimits.{stays_within}
 use Rattle.posting_rules.proofs.SoundEntries.{IsSoundEntry, AreSound, few_enough, open_within, are_sound}
@@ -75,16 +74,6 @@ account_sound opened n z r open_ limit e =
     let some = some_within (place_of_account n) (opened (branch_of_account n)) two.1 in
     let home = number_within (opened (branch_of_account n)) (branch_of_account n) (open_ (branch_of_account n)) some in
     subst IsSoundAccount is.1 (record { some = leb-true _ _ two.0; most = last_account n home; balance = limit })
-
--- from 1 on, a row is there just where a test passes
-there : {R : Type 0} (low test : Bool) (x : R) → low ≡ true → is_some (cond (low && test) (Some x) None) ≡ test
-there true true x e = refl
-there true false x e = refl
-there false test x e = absurd cc
-
-is_some-mapped : {A B : Type 0} (f : A → B) (o : Option A) → is_some (option_map f o) ≡ is_some o
-is_some-mapped f (Some x) = refl
-is_some-mapped f None = refl
 
 -- ---- requests and history
 
@@ -162,18 +151,11 @@ undamaged t log are shows =
     let open_ = λ (b : ℕ). opened log b in
     let all = are_sound log are in
     let within = stays_within log in
-    let count = decided_shown t open_ es s in
+    let ready = ready_shown t log shows in
     record {
       meta = (length es, s.meta, few_enough es all);
-      tellers = λ n h.
-          ap is_some (s.tellers n)
-          ∙ there (leb 1 n) (is_some (open_ (branch_of_teller n))) (teller_row_of n (teller_balance es n)) (le-leb _ _ h)
-          ∙ sym (is_some-mapped (branch_row_of (branch_of_teller n) (branch_balance es (branch_of_teller n))) (open_ (branch_of_teller n)))
-          ∙ sym (ap is_some (s.branches (branch_of_teller n)));
-      accounts = λ n h.
-          ap is_some (s.accounts n)
-          ∙ there (leb 1 n) (is_within (place_of_account n) (open_ (branch_of_account n))) (account_row_of n (account_balance es n)) (le-leb _ _ h)
-          ∙ ap (is_within (place_of_account n)) (sym (count_shown t open_ es (branch_of_account n) s));
+      tellers = ready.its_tellers;
+      accounts = ready.its_accounts;
       each_branch = λ r has.
           branch_sound (open_ r.branch) r.branch (branch_balance es r.branch) r (open_within log are r.branch) (within.branches r.branch)
           (sym (s.branches r.branch) ∙ row_at-contained branch_key t.branches r s.branch_keys has);
@@ -187,6 +169,6 @@ undamaged t log are shows =
           request_sound es r.ordinal r all (sym (s.requests r.ordinal) ∙ row_at-contained request_key t.requests r s.request_keys has);
       each_posting = λ r has.
           posting_sound es r.ordinal r all (sym (s.history r.ordinal) ∙ row_at-contained history_key t.history r s.history_keys has);
-      next_request = ap (λ (n : ℕ). row_at request_key t.requests (n + 1)) count ∙ next_is_free t open_ es s;
-      next_posting = ap (λ (n : ℕ). row_at history_key t.history (n + 1)) count ∙ next_has_no_posting t open_ es s;
+      next_request = ready.next_request;
+      next_posting = ready.next_posting;
     }

@@ -33,6 +33,11 @@ abbrev pub row_put : {R : Type 0} → (R → ℕ) → R → List R → List R
 row_put key new [] = new ∷ []
 row_put key new (r ∷ rows) = if nat_lt (key r) (key new) then r ∷ row_put key new rows else new ∷ r ∷ rows
 
+-- the rows with new ones for so many numbers from the first on
+abbrev pub rows_put : {R : Type 0} → (R → ℕ) → (ℕ → R) → ℕ → ℕ → List R → List R
+rows_put key row first zero rows = rows
+rows_put key row first (suc count) rows = row_put key (row (first + count)) (rows_put key row first count rows)
+
 -- ---- balances and counts that are written
 
 -- so many requests are decided
@@ -134,15 +139,20 @@ pub record HasRowsOf (t : Tables) (r : RequestFields) : Type 0 where
   pub branch : IsSome (row_at branch_key t.branches r.branch)
   pub its_branch : r.branch ≡ branch_of_teller r.teller
 
+-- a teller, and an account, with nothing on it
+abbrev pub new_teller : ℕ → TellerRow
+new_teller n = teller_row_of n (pos 0)
+
+abbrev pub new_account : ℕ → AccountRow
+new_account n = account_row_of n (pos 0)
+
 -- so many tellers more, with nothing on them
-abbrev pub with_tellers : ℕ → ℕ → Tables → Tables
-with_tellers first zero t = t
-with_tellers first (suc count) t = with_teller (teller_row_of (first + count) (pos 0)) (with_tellers first count t)
+unfoldable pub with_tellers : ℕ → ℕ → Tables → Tables
+with_tellers first count t = record t { tellers = rows_put teller_key new_teller first count t.tellers }
 
 -- so many accounts more, with nothing on them
-abbrev pub with_accounts : ℕ → ℕ → Tables → Tables
-with_accounts first zero t = t
-with_accounts first (suc count) t = with_account (account_row_of (first + count) (pos 0)) (with_accounts first count t)
+unfoldable pub with_accounts : ℕ → ℕ → Tables → Tables
+with_accounts first count t = record t { accounts = rows_put account_key new_account first count t.accounts }
 
 -- a branch more, with its tellers and its accounts
 abbrev pub tables_opened : Tables → ℕ → ℕ → Tables

@@ -4,10 +4,8 @@ pub mod Kept
 pub mod Cases
 pub mod Entries
 pub mod Tables
-pub mod Rows
 pub mod LookUps
 pub mod Steps
-pub mod Appended
 pub mod Runs
 pub mod Stated
 pub mod Laws

@@ -26,7 +26,7 @@ returns-in-Ok-clause-done g c =
     let old = state g.S.Store c.args.self.now.conn in
     let new = state g.S.Store c.post_all.new.conn in
     let Down = IsSome c.args.self.now.fault in
-    takes AreOfALog of_logs old new (posts m rs) (λ t. tables_past_all t m rs) (posts_all m rs are) Down Down are (search rules)
+    takes AreOfALog of_logs old new (posts m rs) (λ t. tables_past_all t m rs) (posts_all m rs) Down Down are (search rules)
     (λ clean t shows it. let told = c.in-Ok.ensures.told clean t shows it in (told.1, told.2))
 
 pub returns-in-Err-clause-fault : goal.returns-in-Err-clause-fault
@@ -37,6 +37,6 @@ returns-in-Err-clause-fault g c =
     let old = state g.S.Store c.args.self.now.conn in
     let mid = state g.S.Store c.post_all.new.conn in
     let new = state g.S.Store c.go_down.new.self.conn in
-    refuses {X = Unit {0}} AreOfALog of_logs old mid new (posts m rs) (λ t. tables_past_all t m rs) (λ t. tt) (posts_all m rs are) (IsSome c.args.self.now.fault)
+    refuses {X = Unit {0}} AreOfALog of_logs old mid new (posts m rs) (λ t. tables_past_all t m rs) (λ t. tt) (posts_all m rs) (IsSome c.args.self.now.fault)
     c.in-Err.fault c.go_down.new.self.fault c.go_down.result c.in-Err.ensures.told c.in-Err.ensures.undone c.in-Err.ensures.stop
     c.go_down.ensures.down c.go_down.ensures.survives

@@ -1,0 +1,6 @@
+-- What the proofs of the transactions share.
+pub mod Adding
+pub mod Moved
+pub mod SoundRows
+pub mod Told
+pub mod Transacted

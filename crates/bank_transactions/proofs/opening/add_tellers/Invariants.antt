@@ -1,0 +1,14 @@
+-- The tellers so far are there.
+use Rattle.std.proofs.Common.{◌≡◌, ◌+◌, ◌<◌, ℕ, None}
+use Rattle.sqlite.specs.Held.{state}
+use Rattle.posting_rules.specs.Tables.{row_at, teller_key}
+use Rattle.posting_rules.specs.Changes.{with_tellers}
+use Rattle.bank_transactions.proofs.Adding.{Adding}
+use Rattle.bank_transactions.proofs.opening.add_tellers.Given as goal
+
+abbrev pub invariant-loop-place : goal.invariant-loop-place
+invariant-loop-place g l = record {
+  same : l.tx.conn.ghost_name ≡ l.fn.tx.conn.ghost_name;
+  so_far : Adding (state g.S.Store l.fn.tx.conn.now) (state g.S.Store l.tx.conn.now) (λ t. with_tellers l.first l.place t)
+      (λ t. (n : ℕ) → n < l.count → row_at teller_key (with_tellers l.first n t).tellers (l.first + n) ≡ None);
+}

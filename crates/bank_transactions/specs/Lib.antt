@@ -1,0 +1,2 @@
+-- A bank in the tables of a SQLite file: what each transaction does to them.
+pub mod Doing

@@ -1,0 +1,10 @@
+//! What a bank does to its tables: a request, records, an opening and a look-up, each in one transaction.
+#![tactic(auto)]
+
+mod applying;
+mod look_ups;
+mod opening;
+mod posting;
+mod transactions;
+
+pub use transactions::{begin, open_branch, post, post_all, read_balance};

@@ -1,0 +1,184 @@
+//! What is looked up in the tables. Rows that belong together are read together, and told as damage where they differ.
+ghost use Rattle.std.specs.Prelude.{◌≡◌, ◌≤◌, OnOk, IfOk};
+ghost use Rattle.sqlite.specs.State.{HasCleanDisk, Survives};
+ghost use Rattle.sqlite.specs.Held.{state};
+ghost use Rattle.posting_rules.specs.Commands.{branch_of_account, place_of_account};
+ghost use Rattle.posting_rules.specs.Damage.{IsUndamaged};
+ghost use Rattle.posting_rules.specs.LookUps.{teller_balances_in, account_balance_in, kept_in, decided_in, found_in};
+ghost use Rattle.posting_rules.specs.Tables.{Tables, row_at, branch_key};
+ghost use Rattle.store_rows.specs.View.{Shows};
+ghost use Rattle.bank_transactions.specs.Doing.{Looks, LooksUp};
+
+use message_records::{Account, Branch, Cents, Request, Teller};
+use posting_rules::{
+    ACCOUNTS_PER_BRANCH, BranchRow, Found, Kept, MAX_DECIDED, Rule, branch_of_teller,
+};
+use sqlite::{Alter, Transaction};
+use store_rows::{
+    TableFault, account_balance, find_branch, find_request, read_meta, teller_balance,
+};
+
+/// The branch with the highest number.
+const LAST_BRANCH: u64 = 9_999;
+
+/// How many accounts a branch may have.
+const MOST_ACCOUNTS: u32 = 100_000;
+
+/// The number of the branch that an account's number gives.
+fn branch_of_account(account: Account) -> u64
+    ensures { result ≡ branch_of_account account }
+{
+    (account.get() - 1) / ACCOUNTS_PER_BRANCH + 1
+}
+
+/// The place of an account among those of its branch: 1..=100,000.
+fn place_of_account(account: Account) -> u64
+    ensures { result ≡ place_of_account account }
+{
+    (account.get() - 1) % ACCOUNTS_PER_BRANCH + 1
+}
+
+/// The branch under a number, none where it isn't open.
+pub(crate) fn branch_at<S: Alter>(
+    tx: &mut Transaction<'_, S>,
+    number: u64,
+) -> Result<Option<BranchRow>, TableFault>
+    ensures same_reference { tx.new.conn.ghost_name ≡ tx.old.conn.ghost_name }
+    ensures told { HasCleanDisk (state S.Store tx.new.conn.now) → (tables : Tables)
+        → Shows (state S.Store tx.old.conn.now).now tables → IsUndamaged tables
+        → LooksUp (state S.Store tx.old.conn.now) (state S.Store tx.new.conn.now) (row_at branch_key tables.branches number) result }
+    ensures kept { HasCleanDisk (state S.Store tx.new.conn.now)
+        → Looks (state S.Store tx.old.conn.now) (state S.Store tx.new.conn.now) result }
+    ensures survives { Survives (state S.Store tx.old.conn.now) (state S.Store tx.new.conn.now) (λ _. ⊥) }
+{
+    let Some(branch) = Branch::new(number) else {
+        return Ok(None);
+    };
+    let Some(row) = find_branch(tx, branch)? else {
+        return Ok(None);
+    };
+    if number > LAST_BRANCH || row.accounts < 1 || row.accounts > MOST_ACCOUNTS {
+        return Err(TableFault::Damaged(Rule::Value));
+    }
+    Ok(Some(row))
+}
+
+/// The balances of a teller and of its branch, none where the teller isn't open.
+fn teller_balances<S: Alter>(
+    tx: &mut Transaction<'_, S>,
+    teller: Teller,
+) -> Result<Option<(Cents, Cents)>, TableFault>
+    ensures same_reference { tx.new.conn.ghost_name ≡ tx.old.conn.ghost_name }
+    ensures told { HasCleanDisk (state S.Store tx.new.conn.now) → (tables : Tables)
+        → Shows (state S.Store tx.old.conn.now).now tables → IsUndamaged tables
+        → LooksUp (state S.Store tx.old.conn.now) (state S.Store tx.new.conn.now) (teller_balances_in tables teller) result }
+    ensures kept { HasCleanDisk (state S.Store tx.new.conn.now)
+        → Looks (state S.Store tx.old.conn.now) (state S.Store tx.new.conn.now) result }
+    ensures survives { Survives (state S.Store tx.old.conn.now) (state S.Store tx.new.conn.now) (λ _. ⊥) }
+{
+    let balance = teller_balance(tx, teller)?;
+    let branch = branch_at(tx, branch_of_teller(teller))?;
+    match (balance, branch) {
+        (Some(balance), Some(branch)) => Ok(Some((balance, branch.balance))),
+        (None, None) => Ok(None),
+        _ => Err(TableFault::Damaged(Rule::Teller)),
+    }
+}
+
+/// The balance of an account, none where it isn't open.
+pub(crate) fn open_balance<S: Alter>(
+    tx: &mut Transaction<'_, S>,
+    account: Account,
+) -> Result<Option<Cents>, TableFault>
+    ensures same_reference { tx.new.conn.ghost_name ≡ tx.old.conn.ghost_name }
+    ensures told { HasCleanDisk (state S.Store tx.new.conn.now) → (tables : Tables)
+        → Shows (state S.Store tx.old.conn.now).now tables → IsUndamaged tables
+        → LooksUp (state S.Store tx.old.conn.now) (state S.Store tx.new.conn.now) (account_balance_in tables account) result }
+    ensures kept { HasCleanDisk (state S.Store tx.new.conn.now)
+        → Looks (state S.Store tx.old.conn.now) (state S.Store tx.new.conn.now) result }
+    ensures survives { Survives (state S.Store tx.old.conn.now) (state S.Store tx.new.conn.now) (λ _. ⊥) }
+{
+    let balance = account_balance(tx, account)?;
+    let branch = branch_at(tx, branch_of_account(account))?;
+    let is_open = match branch {
+        Some(branch) => place_of_account(account) <= u64::from(branch.accounts),
+        None => false,
+    };
+    if balance.is_some() != is_open {
+        return Err(TableFault::Damaged(Rule::Account));
+    }
+    Ok(balance)
+}
+
+/// The request that is kept under the teller and the number of this one.
+fn kept_request<S: Alter>(
+    tx: &mut Transaction<'_, S>,
+    request: &Request,
+) -> Result<Option<Kept>, TableFault>
+    ensures same_reference { tx.new.conn.ghost_name ≡ tx.old.conn.ghost_name }
+    ensures told { HasCleanDisk (state S.Store tx.new.conn.now) → (tables : Tables)
+        → Shows (state S.Store tx.old.conn.now).now tables → IsUndamaged tables
+        → LooksUp (state S.Store tx.old.conn.now) (state S.Store tx.new.conn.now)
+        (kept_in tables.requests request.now.teller request.now.number) result }
+    ensures kept { HasCleanDisk (state S.Store tx.new.conn.now)
+        → Looks (state S.Store tx.old.conn.now) (state S.Store tx.new.conn.now) result }
+    ensures survives { Survives (state S.Store tx.old.conn.now) (state S.Store tx.new.conn.now) (λ _. ⊥) }
+{
+    let Some(row) = find_request(tx, request.teller(), request.number())? else {
+        return Ok(None);
+    };
+    let kept = row.kept;
+    let stored = Request::new(
+        kept.account(),
+        row.teller,
+        kept.branch(),
+        row.number,
+        kept.delta(),
+    );
+    if stored.is_none() {
+        return Err(TableFault::Damaged(Rule::Request));
+    }
+    Ok(Some(kept))
+}
+
+/// How many requests are decided.
+fn decided<S: Alter>(tx: &mut Transaction<'_, S>) -> Result<u64, TableFault>
+    ensures same_reference { tx.new.conn.ghost_name ≡ tx.old.conn.ghost_name }
+    ensures within { IfOk result (λ decided. decided ≤ 1_000_000_000_000) }
+    ensures told { HasCleanDisk (state S.Store tx.new.conn.now) → (tables : Tables)
+        → Shows (state S.Store tx.old.conn.now).now tables → IsUndamaged tables
+        → LooksUp (state S.Store tx.old.conn.now) (state S.Store tx.new.conn.now) (decided_in tables.meta) result }
+    ensures kept { HasCleanDisk (state S.Store tx.new.conn.now)
+        → Looks (state S.Store tx.old.conn.now) (state S.Store tx.new.conn.now) result }
+    ensures survives { Survives (state S.Store tx.old.conn.now) (state S.Store tx.new.conn.now) (λ _. ⊥) }
+{
+    let Some(meta) = read_meta(tx)? else {
+        return Err(TableFault::Damaged(Rule::Meta));
+    };
+    if meta.decided < 0 || meta.decided as u64 > MAX_DECIDED {
+        return Err(TableFault::Damaged(Rule::Meta));
+    }
+    Ok(meta.decided as u64)
+}
+
+/// All that is looked up for a request.
+pub(crate) fn look_up<S: Alter>(
+    tx: &mut Transaction<'_, S>,
+    request: &Request,
+) -> Result<Found, TableFault>
+    ensures same_reference { tx.new.conn.ghost_name ≡ tx.old.conn.ghost_name }
+    ensures within { IfOk result (λ found. found.decided ≤ 1_000_000_000_000) }
+    ensures told { HasCleanDisk (state S.Store tx.new.conn.now) → (tables : Tables)
+        → Shows (state S.Store tx.old.conn.now).now tables → IsUndamaged tables
+        → LooksUp (state S.Store tx.old.conn.now) (state S.Store tx.new.conn.now) (found_in tables request.now) result }
+    ensures kept { HasCleanDisk (state S.Store tx.new.conn.now)
+        → Looks (state S.Store tx.old.conn.now) (state S.Store tx.new.conn.now) result }
+    ensures survives { Survives (state S.Store tx.old.conn.now) (state S.Store tx.new.conn.now) (λ _. ⊥) }
+{
+    Ok(Found {
+        decided: decided(tx)?,
+        teller: teller_balances(tx, request.teller())?,
+        kept: kept_request(tx, request)?,
+        account: open_balance(tx, request.account())?,
+    })
+}

@@ -1,0 +1,63 @@
+-- Rows that stand in the order in which they came: what a record and an opening do to them.
+use Rattle.std.specs.Prelude.{ℕ, zero, suc, ◌+◌, ℤ, pos, List, [], ◌∷◌, ◌++◌, Result, Ok, Err}
+use Rattle.message_records.specs.declared.faults.Bad.{Bad}
+use Rattle.message_records.specs.Records.{RequestFields, ReplyFields}
+use Rattle.posting_rules.specs.declared.facts.Verdict.{Verdict}
+use Rattle.posting_rules.specs.declared.facts.Verdict.TheVariants.{Unkept, Again, Refused, Posted}
+use Rattle.posting_rules.specs.Commands.{branch_of_teller}
+use Rattle.posting_rules.specs.Cases.{case_of, reply_in}
+use Rattle.posting_rules.specs.Entries.{Entry, refused_entry, posted_entry, malformed_reply}
+use Rattle.posting_rules.specs.Tables.{Tables, branch_key, teller_key, account_key, branch_row_of, request_row_of, history_row_of}
+use Rattle.posting_rules.specs.LookUps.{decided_in, found_in}
+use Rattle.posting_rules.specs.Steps.{with_branch_balance, with_teller_balance, with_account_balance, meta_row_of, first_teller, first_account}
+use Rattle.posting_rules.specs.Changes.{row_changed, new_teller, new_account}
+
+-- a row for each of so many numbers from the first one on
+abbrev pub rows_from : {R : Type 0} → (ℕ → R) → ℕ → ℕ → List R
+rows_from row first zero = []
+rows_from row first (suc count) = rows_from row first count ++ row (first + count) ∷ []
+
+-- ---- what a record does to the rows
+
+abbrev pub tables_kept : Tables → Entry → Tables
+tables_kept t e = let ordinal = decided_in t.meta + 1 in record t {
+  meta = meta_row_of ordinal ∷ [];
+  requests = t.requests ++ request_row_of ordinal e ∷ [];
+}
+
+abbrev pub tables_posted : Tables → Entry → ℤ → ℤ → Tables
+tables_posted t e teller branch = let ordinal = decided_in t.meta + 1 in record {
+  meta = meta_row_of ordinal ∷ [];
+  branches = row_changed branch_key (with_branch_balance branch) (branch_of_teller e.request.teller) t.branches;
+  tellers = row_changed teller_key (with_teller_balance teller) e.request.teller t.tellers;
+  accounts = row_changed account_key (with_account_balance e.balance) e.request.account t.accounts;
+  history = t.history ++ history_row_of ordinal e ∷ [];
+  requests = t.requests ++ request_row_of ordinal e ∷ [];
+}
+
+abbrev pub tables_after : Tables → ℕ → RequestFields → Verdict → Tables
+tables_after t moment r (Unkept outcome) = t
+tables_after t moment r (Again reply) = t
+tables_after t moment r (Refused outcome) = tables_kept t (refused_entry moment r outcome)
+tables_after t moment r (Posted account teller branch) = tables_posted t (posted_entry moment r account) teller branch
+
+-- of what was read of a record: the reply to it, and the tables after it
+abbrev pub reply_in_tables : Tables → Result RequestFields Bad → ReplyFields
+reply_in_tables t (Err fault) = malformed_reply
+reply_in_tables t (Ok r) = reply_in (case_of (found_in t r) r) r
+
+abbrev pub tables_with : Tables → ℕ → Result RequestFields Bad → Tables
+tables_with t moment (Err fault) = t
+tables_with t moment (Ok r) = tables_after t moment r (case_of (found_in t r) r)
+
+-- ---- what an opening does to the rows
+
+abbrev pub tables_opened : Tables → ℕ → ℕ → Tables
+tables_opened t b count = record {
+  meta = t.meta;
+  branches = t.branches ++ branch_row_of b (pos 0) count ∷ [];
+  tellers = t.tellers ++ rows_from new_teller (first_teller b) 10;
+  accounts = t.accounts ++ rows_from new_account (first_account b) count;
+  history = t.history;
+  requests = t.requests;
+}

@@ -1,0 +1,129 @@
+-- Tables on which the next record and the next opening can build, as those of every log are.
+use Rattle.std.proofs.Common.{◌≡◌, ℕ, suc, ◌+◌, ◌<◌, ◌≤◌, Bool, true, false, cond, leb, List, [], ◌∷◌, length, Option, Some, None, refl, sym, ap, ◌∙◌, arith}
+use Rattle.std.specs.Prelude.{is_some, ◌&&◌}
+use Rattle.std.specs.Option.{option_map}
+use Rattle.std.proofs.lemmas.Bool.{le-leb}
+use Rattle.posting_rules.specs.declared.rows.BranchRow.{BranchRow}
+use Rattle.posting_rules.specs.Commands.{Command, opened, branch_of_teller, branch_of_account, place_of_account, is_within}
+use Rattle.posting_rules.specs.Entries.{Entry, account_balance, teller_balance, branch_balance, decided}
+use Rattle.posting_rules.specs.Tables.{Tables, HasRows, Shows, HasKeys, row_at, branch_key, teller_key, account_key, history_key, request_key, branch_row_of, teller_row_of, account_row_of}
+use Rattle.posting_rules.specs.LookUps.{decided_in, count_in, count_of_branch}
+use Rattle.posting_rules.specs.Sound.{AreSound}
+use Rattle.posting_rules.specs.Steps.{meta_row_of, first_teller, first_account}
+use Rattle.posting_rules.proofs.Looked.{decided_shown, count_shown}
+use Rattle.posting_rules.proofs.Stepped.{request_row_past, history_row_past}
+
+-- meta counts, the next ordinal is free, and the tellers and the accounts are those of the branches
+pub record AreReady (t : Tables) : Type 0 where
+  pub meta : (n : ℕ) × (t.meta ≡ meta_row_of n ∷ [])
+  pub next_request : row_at request_key t.requests (decided_in t.meta + 1) ≡ None
+  pub next_posting : row_at history_key t.history (decided_in t.meta + 1) ≡ None
+  pub its_tellers : (n : ℕ) → 1 ≤ n
+      → is_some (row_at teller_key t.tellers n) ≡ is_some (row_at branch_key t.branches (branch_of_teller n))
+  pub its_accounts : (n : ℕ) → 1 ≤ n
+      → is_some (row_at account_key t.accounts n) ≡ is_within (place_of_account n) (count_in t (branch_of_account n))
+  pub branches : HasKeys branch_key t.branches
+  pub tellers : HasKeys teller_key t.tellers
+  pub accounts : HasKeys account_key t.accounts
+  pub history : HasKeys history_key t.history
+  pub requests : HasKeys request_key t.requests
+
+-- sound tables are
+pub ready_sound : (t : Tables) → AreSound t → AreReady t
+ready_sound t sound = let u = sound.undamaged in record {
+  meta = (u.meta.0, u.meta.1);
+  next_request = u.next_request;
+  next_posting = u.next_posting;
+  its_tellers = u.tellers;
+  its_accounts = u.accounts;
+  branches = sound.branches;
+  tellers = sound.tellers;
+  accounts = sound.accounts;
+  history = sound.history;
+  requests = sound.requests;
+}
+
+-- ---- the tables of a log
+
+-- from 1 on, a row is there just where a test passes
+there : {R : Type 0} (low test : Bool) (x : R) → low ≡ true → is_some (cond (low && test) (Some x) None) ≡ test
+there true true x e = refl
+there true false x e = refl
+there false test x e = absurd cc
+
+is_some-mapped : {A B : Type 0} (f : A → B) (o : Option A) → is_some (option_map f o) ≡ is_some o
+is_some-mapped f (Some x) = refl
+is_some-mapped f None = refl
+
+next_request : (t : Tables) (opened : ℕ → Option ℕ) (es : List Entry) → HasRows t opened es → row_at request_key t.requests (length es + 1) ≡ None
+next_request t opened es s =
+    let next : length es + 1 ≡ suc (length es) = omega arith in
+    ap (λ (o : ℕ). row_at request_key t.requests o) next ∙ s.requests (suc (length es)) ∙ request_row_past es (length es) (omega arith)
+
+next_posting : (t : Tables) (opened : ℕ → Option ℕ) (es : List Entry) → HasRows t opened es → row_at history_key t.history (length es + 1) ≡ None
+next_posting t opened es s =
+    let next : length es + 1 ≡ suc (length es) = omega arith in
+    ap (λ (o : ℕ). row_at history_key t.history o) next ∙ s.history (suc (length es)) ∙ history_row_past es (length es) (omega arith)
+
+-- the tables of a log are, of commands or not
+pub ready_shown : (t : Tables) (log : List Command) → Shows t log → AreReady t
+ready_shown t log shows =
+    let s = shows.rows in
+    let es = decided log in
+    let open_ = λ (b : ℕ). opened log b in
+    let count = decided_shown t open_ es s in
+    record {
+      meta = (length es, s.meta);
+      next_request = ap (λ (n : ℕ). row_at request_key t.requests (n + 1)) count ∙ next_request t open_ es s;
+      next_posting = ap (λ (n : ℕ). row_at history_key t.history (n + 1)) count ∙ next_posting t open_ es s;
+      its_tellers = λ n h.
+          ap is_some (s.tellers n)
+          ∙ there (leb 1 n) (is_some (open_ (branch_of_teller n))) (teller_row_of n (teller_balance es n)) (le-leb _ _ h)
+          ∙ sym (is_some-mapped (branch_row_of (branch_of_teller n) (branch_balance es (branch_of_teller n))) (open_ (branch_of_teller n)))
+          ∙ sym (ap is_some (s.branches (branch_of_teller n)));
+      its_accounts = λ n h.
+          ap is_some (s.accounts n)
+          ∙ there (leb 1 n) (is_within (place_of_account n) (open_ (branch_of_account n))) (account_row_of n (account_balance es n)) (le-leb _ _ h)
+          ∙ ap (is_within (place_of_account n)) (sym (count_shown t open_ es (branch_of_account n) s));
+      branches = s.branch_keys;
+      tellers = s.teller_keys;
+      accounts = s.account_keys;
+      history = s.history_keys;
+      requests = s.request_keys;
+    }
+
+-- ---- the numbers of a branch that has no row
+
+is_none : {A : Type 0} (o : Option A) → is_some o ≡ false → o ≡ None
+is_none None h = refl
+is_none (Some x) h = absurd cc
+
+none_within : (place : ℕ) (o : Option BranchRow) → o ≡ None → is_within place (option_map count_of_branch o) ≡ false
+none_within place None e = refl
+none_within place (Some r) e = absurd cc
+
+branch_of_its_teller : (b n : ℕ) → 1 ≤ b → n < 10 → branch_of_teller (first_teller b + n) ≡ b
+branch_of_its_teller b n low lt = omega arith
+
+branch_of_its_account : (b n : ℕ) → 1 ≤ b → n < 100_000 → branch_of_account (first_account b + n) ≡ b
+branch_of_its_account b n low lt = omega arith
+
+-- none of its tellers has a row
+pub no_teller : (t : Tables) (b n : ℕ) → AreReady t → 1 ≤ b → row_at branch_key t.branches b ≡ None → n < 10
+    → row_at teller_key t.tellers (first_teller b + n) ≡ None
+no_teller t b n ready low none lt =
+    is_none (row_at teller_key t.tellers (first_teller b + n)) (
+    ready.its_tellers (first_teller b + n) (omega arith)
+    ∙ ap (λ (x : ℕ). is_some (row_at branch_key t.branches x)) (branch_of_its_teller b n low lt)
+    ∙ ap is_some none
+    )
+
+-- and none of its accounts
+pub no_account : (t : Tables) (b n : ℕ) → AreReady t → 1 ≤ b → row_at branch_key t.branches b ≡ None → n < 100_000
+    → row_at account_key t.accounts (first_account b + n) ≡ None
+no_account t b n ready low none lt =
+    is_none (row_at account_key t.accounts (first_account b + n)) (
+    ready.its_accounts (first_account b + n) (omega arith)
+    ∙ ap (λ (x : ℕ). is_within (place_of_account (first_account b + n)) (count_in t x)) (branch_of_its_account b n low lt)
+    ∙ none_within (place_of_account (first_account b + n)) (row_at branch_key t.branches b) none
+    )
