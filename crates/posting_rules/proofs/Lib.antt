@@ -17,6 +17,7 @@ pub mod Settled
 pub mod Resends
 pub mod SoundEntries
 pub mod Undamaged
+pub mod NextBranch
 pub mod RowChanges
 pub mod Stepping
 pub mod Calls

@@ -16,3 +16,4 @@ pub mod Counter
 pub mod Resends
 pub mod Changes
 pub mod Sound
+pub mod Branches

@@ -9,7 +9,7 @@ mod laws;
 mod rows;
 
 pub use cases::{ACCOUNTS_PER_BRANCH, TELLERS_PER_BRANCH, branch_of_teller, judge, reply_to};
-pub use counter::{Counter, Opening};
+pub use counter::{BranchLine, Counter, Opening};
 pub use facts::{Found, Kept, MAX_DECIDED, Verdict};
 pub use fault::{Fault, Rule};
 pub use laws::{

@@ -3,7 +3,7 @@ use super::{Count, StreamFault, post_stream};
 use crate::clock::{Clock, StoredClock};
 use crate::plain_bank::PlainBank;
 use message_records::{Account, Branch, Cents, Moment};
-use posting_rules::{Counter, Fault, Opening};
+use posting_rules::{BranchLine, Counter, Fault, Opening};
 use std::alloc::{Alloc, Global};
 use std::io;
 use std::io::{ErrorKind, Read, Write};
@@ -184,6 +184,13 @@ impl Counter for FailingBank {
             return Err(Fault::Down);
         }
         self.bank.balance(account)
+    }
+
+    fn next_branch(&mut self, after: u32) -> Result<Option<BranchLine>, Fault> {
+        if self.down {
+            return Err(Fault::Down);
+        }
+        self.bank.next_branch(after)
     }
 }
 
