@@ -3,6 +3,7 @@ pub mod Adding
 pub mod Countered
 pub mod Finding
 pub mod Moved
+pub mod NextRow
 pub mod Probed
 pub mod Reading
 pub mod SoundRows

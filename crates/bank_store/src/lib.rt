@@ -6,6 +6,7 @@ mod applying;
 mod bank;
 mod creating;
 mod look_ups;
+mod next_branch;
 mod opening;
 mod posting;
 mod probing;
