@@ -1,21 +1,22 @@
 //! A bank in a file, or in whatever store.
 ghost use Rattle.posting_rules.specs.declared.fault.Fault.TheVariants as fault;
-ghost use Rattle.std.specs.Prelude.{◌≡◌, ◌≢◌, ◌≤◌, [], ◌∷◌, List, length, Err, IfOk, OnOk, IfErr, IsSome, None, false};
+ghost use Rattle.std.specs.Prelude.{◌≡◌, ◌≢◌, ◌≤◌, [], ◌∷◌, List, length, Err, IfOk, OnOk, IfErr, IfSome, IsSome, None, false};
 ghost use Rattle.std.specs.Result.{IsErrOf};
 ghost use Rattle.sqlite.specs.State.{Survives};
 ghost use Rattle.sqlite.specs.Held.{state};
 ghost use Rattle.message_records.specs.Spelling.{reply_spelling};
+ghost use Rattle.posting_rules.specs.Branches.{IsNextBranch, IsLineAbove};
 ghost use Rattle.posting_rules.specs.Commands.{Command, Open, Post};
 ghost use Rattle.posting_rules.specs.Counter.{ShowsLog, StandsAt, Takes, Refuses, opening_behind};
 ghost use Rattle.posting_rules.specs.Entries.{reply, balance_behind};
 ghost use Rattle.posting_rules.specs.Runs.{posts, replies_to};
 ghost use Rattle.posting_rules.specs.Tables.{Tables};
 
-use bank_transactions::{open_branch, post, post_all, read_balance};
+use bank_transactions::{open_branch, post, post_all, read_balance, read_next_branch};
 use message_records::{
     Account, Branch, Cents, Moment, Outcome, Reply, decode_request, encode_reply,
 };
-use posting_rules::{Counter, Fault, Opening};
+use posting_rules::{BranchLine, Counter, Fault, Opening};
 use sqlite::{Alter, Connection, Error};
 use std::alloc::Global;
 use store_rows::{TableFault, probe_meta};
@@ -195,6 +196,30 @@ impl<S: Alter + Drop> Counter for Bank<S> {
         }
         match read_balance(&mut self.conn, account) {
             Ok(balance) => Ok(balance),
+            Err(fault) => Err(self.go_down(fault)),
+        }
+    }
+
+    fn next_branch(&mut self, after: u32) -> Result<Option<BranchLine>, Fault>
+        ensures line { IfOk result (λ line. (bank_seen S.Store self.new).honest
+            → (log : List Command) → ShowsLog (bank_seen S.Store self.old) log → IsNextBranch log after line) }
+        ensures within { IfOk result (λ line. IfSome line (IsLineAbove after)) }
+        ensures done { OnOk result (Takes (bank_seen S.Store self.old) (bank_seen S.Store self.new) []) }
+        ensures tables { OnOk result ((bank_seen S.Store self.new).honest
+            → (t : Tables) → (bank_seen S.Store self.old).tables t → (bank_seen S.Store self.new).tables t) }
+        ensures up { OnOk result ((bank_seen S.Store self.new).is_down → ⊥) }
+        ensures fault { IfErr result (λ fault.
+            Refuses fault (bank_seen S.Store self.old) (bank_seen S.Store self.new) []) }
+        ensures frugal { result ≢ Err fault.Memory }
+        ensures cause { result ≡ Err fault.Store → IsSome (cause_of self.new) }
+        ensures down { (bank_seen S.Store self.old).is_down → IsErrOf result Fault.Down }
+        ensures honest { (bank_seen S.Store self.new).honest → (bank_seen S.Store self.old).honest }
+    {
+        if self.fault.is_some() {
+            return Err(Fault::Down);
+        }
+        match read_next_branch(&mut self.conn, after) {
+            Ok(next) => Ok(next.map(BranchLine::from)),
             Err(fault) => Err(self.go_down(fault)),
         }
     }

@@ -71,9 +71,9 @@ no_branch_beyond t n sound e =
           not_outside 1 999_999 n (rw (← same) low) (let le : some.0.branch ≤ 999_999 = omega arith in rw (← same) le) e)
     ]
 
-pub branch_unbroken : (t : Tables) (n : ℕ) (r : BranchRow) (broken : Rule) → IsUndamaged t → row_at branch_key t.branches n ≡ Some r → IsNoBranch r broken → ⊥
-branch_unbroken t n r broken sound e breaks =
-    let is = (branch_is t n r sound e).1 in
+-- a row in its ranges breaks no rule
+pub sound_unbroken : (r : BranchRow) (broken : Rule) → IsSoundBranch r → IsNoBranch r broken → ⊥
+sound_unbroken r broken is breaks =
     let low = is.some in
     let high = is.most in
     let many = is.many in
@@ -84,6 +84,9 @@ branch_unbroken t n r broken sound e breaks =
       ]
       | inr amount ↦ not_beyond 999_999_999_999 r.balance is.balance amount.1
     ]
+
+pub branch_unbroken : (t : Tables) (n : ℕ) (r : BranchRow) (broken : Rule) → IsUndamaged t → row_at branch_key t.branches n ≡ Some r → IsNoBranch r broken → ⊥
+branch_unbroken t n r broken sound e = sound_unbroken r broken (branch_is t n r sound e).1
 
 -- ---- balances
 

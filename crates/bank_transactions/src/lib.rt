@@ -3,8 +3,10 @@
 
 mod applying;
 mod look_ups;
+mod next_branch;
 mod opening;
 mod posting;
 mod transactions;
 
+pub use next_branch::read_next_branch;
 pub use transactions::{begin, open_branch, post, post_all, read_balance};

@@ -19,10 +19,10 @@ use store_rows::{
 };
 
 /// The branch with the highest number.
-const LAST_BRANCH: u64 = 9_999;
+pub(crate) const LAST_BRANCH: u64 = 9_999;
 
 /// How many accounts a branch may have.
-const MOST_ACCOUNTS: u32 = 100_000;
+pub(crate) const MOST_ACCOUNTS: u32 = 100_000;
 
 /// The number of the branch that an account's number gives.
 fn branch_of_account(account: Account) -> u64

@@ -1,20 +1,21 @@
 //! A bank in memory.
-ghost use Rattle.std.specs.Prelude.{◌≡◌, ◌≤◌, ◌<◌, ◌+◌, ◌-◌, ◌*◌, [], ◌∷◌, ◌++◌, List, pos, length, vec_len, vec_capacity, IsTrue};
+ghost use Rattle.std.specs.Prelude.{◌≡◌, ◌≤◌, ◌<◌, ◌+◌, ◌-◌, ◌*◌, [], ◌∷◌, ◌++◌, List, pos, length, vec_len, vec_capacity, All, IsTrue};
 ghost use Rattle.message_records.specs.Spelling.{reply_spelling};
 ghost use Rattle.message_records.specs.Reading.{request_of};
 ghost use Rattle.posting_rules.specs.declared.limits.TheConstants.{MAX_DECIDED};
+ghost use Rattle.posting_rules.specs.Branches.{IsInRange};
 ghost use Rattle.posting_rules.specs.Kept.{is_kept_with};
 ghost use Rattle.posting_rules.specs.Entries.{Entry};
 ghost use Rattle.posting_rules.specs.Tables.{request_row_of, history_row_of, teller_row_of, account_row_of};
 ghost use Rattle.posting_core.specs.Appended.{rows_from};
 
-use crate::walking::{balance_at, count_at, kept_at, put, set_balance_at};
+use crate::walking::{balance_at, count_at, kept_at, next_at, put, set_balance_at};
 use message_records::{
     Account, Branch, Cents, MAX_ACCOUNT, MAX_TELLER, Moment, Outcome, Reply, Request, Teller,
     decode_request, encode_reply,
 };
 use posting_rules::{
-    ACCOUNTS_PER_BRANCH, AccountRow, BranchRow, Counter, Fault, Found, HistoryRow, Kept,
+    ACCOUNTS_PER_BRANCH, AccountRow, BranchLine, BranchRow, Counter, Fault, Found, HistoryRow, Kept,
     LAST_BRANCH, MOST_ACCOUNTS, Opening, Ordinal, RequestRow, TELLERS_PER_BRANCH, TellerRow,
     Verdict, branch_of_teller, judge, reply_to,
 };
@@ -120,6 +121,7 @@ pub struct PlainBank {
     history: Vec<HistoryRow>,
     requests: Vec<RequestRow>,
     ghost few: { length requests.items ≤ MAX_DECIDED },
+    ghost in_range: { All IsInRange branches.items },
 }
 
 impl PlainBank {
@@ -231,6 +233,7 @@ impl PlainBank {
     // Adds a branch, for whose rows there is room.
     fn add_branch(&mut self, branch: Branch, count: u32)
         requires branch { branch ≤ LAST_BRANCH }
+        requires some { 1 ≤ count }
         requires few { count ≤ MOST_ACCOUNTS }
         requires branches { vec_len self.old.branches < vec_capacity self.old.branches }
         requires tellers { vec_len self.old.tellers + TELLERS_PER_BRANCH ≤ vec_capacity self.old.tellers }
@@ -259,7 +262,8 @@ impl PlainBank {
 }
 
 impl Counter for PlainBank {
-    ghost use Rattle.std.specs.Prelude.{IsOk, IfOk};
+    ghost use Rattle.std.specs.Prelude.{IsOk, IfOk, IfSome};
+    ghost use Rattle.posting_rules.specs.Branches.{IsNextBranch, IsLineAbove};
     ghost use Rattle.posting_rules.specs.Commands.{Command};
     ghost use Rattle.posting_rules.specs.Entries.{balance_behind};
     ghost use Rattle.posting_rules.specs.Tables.{Shows};
@@ -312,5 +316,16 @@ impl Counter for PlainBank {
         ensures stays { plain_tables self.new ≡ plain_tables self.old }
     {
         Ok(balance_at(&self.accounts, account.get()))
+    }
+
+    // It takes no memory, and always answers.
+    fn next_branch(&mut self, after: u32) -> Result<Option<BranchLine>, Fault>
+        ensures ok { IsOk result }
+        ensures line { IfOk result (λ line. (log : List Command) → Shows (plain_tables self.old) log
+            → IsNextBranch log after line) }
+        ensures within { IfOk result (λ line. IfSome line (IsLineAbove after)) }
+        ensures stays { plain_tables self.new ≡ plain_tables self.old }
+    {
+        Ok(next_at(&self.branches, after).map(BranchLine::from))
     }
 }

@@ -1,6 +1,8 @@
 //! Rows in vectors, which are found by walking.
-ghost use Rattle.std.specs.Prelude.{◌≡◌, ◌<◌, ◌≤◌, ◌+◌, ◌++◌, ◌∷◌, [], ℕ, ℤ, vec_len, vec_capacity};
+ghost use Rattle.std.specs.Prelude.{◌≡◌, ◌<◌, ◌≤◌, ◌+◌, ◌++◌, ◌∷◌, [], ℕ, ℤ, List, vec_len, vec_capacity};
 ghost use Rattle.std.specs.Option.{option_map};
+ghost use Rattle.posting_rules.specs.declared.rows.BranchRow.{BranchRow};
+ghost use Rattle.posting_rules.specs.Branches.{IsNextIn};
 ghost use Rattle.posting_rules.specs.Tables.{row_at, branch_key};
 ghost use Rattle.posting_rules.specs.LookUps.{kept_in, count_of_branch};
 ghost use Rattle.posting_rules.specs.Changes.{row_changed};
@@ -125,6 +127,33 @@ pub(crate) fn count_at(rows: &[BranchRow], branch: Branch) -> Option<u32>
     rows.iter()
         .find(|row| row.branch == branch)
         .map(|row| row.accounts)
+}
+
+// The next row above a number, where one more row is looked at.
+fn nearer(next: Option<BranchRow>, row: BranchRow, after: u32) -> Option<BranchRow>
+    ensures { (rows : List BranchRow) → IsNextIn rows after next → IsNextIn (rows ++ row ∷ []) after result }
+{
+    if row.branch.get() <= u64::from(after) {
+        return next;
+    }
+    let Some(found) = &next else {
+        return Some(row);
+    };
+    if row.branch.get() < found.branch.get() {
+        return Some(row);
+    }
+    next
+}
+
+/// The row of the branch with the least number above this one, none where there is no such row.
+pub(crate) fn next_at(rows: &[BranchRow], after: u32) -> Option<BranchRow>
+    ensures { IsNextIn rows.now after result }
+{
+    let mut next = None;
+    for row in rows {
+        next = nearer(next, *row, after);
+    }
+    next
 }
 
 /// The request that is kept under a teller and a number.

@@ -16,6 +16,7 @@ pub mod Settled
 pub mod Resends
 pub mod SoundEntries
 pub mod Undamaged
+pub mod NextBranch
 pub mod RowChanges
 pub mod Ready
 pub mod Empty

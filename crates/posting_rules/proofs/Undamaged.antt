@@ -25,7 +25,7 @@ use Rattle.posting_rules.proofs.BalanceLimits.{stays_within}
 use Rattle.posting_rules.proofs.SoundEntries.{IsSoundEntry, AreSound, few_enough, open_within, are_sound}
 
 -- a row of a table is the row under its key
-row_at-contained : {R : Type 0} (key : R → ℕ) (rows : List R) (r : R) → HasKeys key rows → Contains rows r
+pub row_at-contained : {R : Type 0} (key : R → ℕ) (rows : List R) (r : R) → HasKeys key rows → Contains rows r
     → row_at key rows (key r) ≡ Some r
 row_at-contained {R} key rows r keys has =
     All-contains (λ (x : R). row_at key rows (key x) ≡ Some x) rows r

@@ -14,3 +14,4 @@ pub mod Counter
 pub mod Resends
 pub mod Changes
 pub mod Sound
+pub mod Branches

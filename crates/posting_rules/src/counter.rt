@@ -1,7 +1,8 @@
 //! A counter that takes requests, whatever keeps its tables.
-ghost use Rattle.std.specs.Prelude.{◌≡◌, ◌≤◌, ℕ, List, [], ◌∷◌, length, IfOk, OnOk, IfErr};
+ghost use Rattle.std.specs.Prelude.{◌≡◌, ◌≤◌, ℕ, List, [], ◌∷◌, length, IfOk, IfSome, OnOk, IfErr};
 ghost use Rattle.std.specs.Result.{IsErrOf};
 ghost use Rattle.message_records.specs.Spelling.{reply_spelling};
+ghost use Rattle.posting_rules.specs.Branches.{IsNextBranch, IsLineAbove};
 ghost use Rattle.posting_rules.specs.Commands.{Command, Open, Post};
 ghost use Rattle.posting_rules.specs.Entries.{reply, balance_behind};
 ghost use Rattle.posting_rules.specs.Tables.{Tables};
@@ -10,6 +11,7 @@ ghost use Rattle.posting_rules.specs.Runs.{posts, replies_to};
 
 use crate::fault::Fault;
 use crate::limits::{LAST_BRANCH, MOST_ACCOUNTS, RECORDS_PER_BATCH};
+use crate::rows::BranchRow;
 use message_records::{Account, Branch, Cents, Moment};
 
 /// The answer to an opening.
@@ -21,6 +23,30 @@ pub enum Opening {
     Already,
     /// It was open with another count, which stays.
     Differs,
+}
+
+/// An open branch.
+#[derive(Clone, Copy, Debug, PartialEq, Eq)]
+pub struct BranchLine {
+    /// Its number: 1..=9999.
+    pub branch: Branch,
+    /// How many accounts it has: 1..=100,000.
+    pub accounts: u32,
+    pub balance: Cents,
+}
+
+impl From<BranchRow> for BranchLine {
+    ghost use Rattle.posting_rules.specs.Branches.{line_of};
+
+    ghost from_gives = { λ row line. line ≡ line_of row };
+
+    fn from(row: BranchRow) -> Self {
+        BranchLine {
+            branch: row.branch,
+            accounts: row.accounts,
+            balance: row.balance,
+        }
+    }
 }
 
 /// A counter of the bank. What it answers is said by the log of commands that its tables show: it holds of every log
@@ -72,6 +98,21 @@ pub trait Counter {
             balance ≡ balance_behind log account) }
         ensures done { OnOk result (Takes (seen self.old) (seen self.new) []) }
         ensures tables { OnOk result ((seen self.new).honest → (t : Tables) → (seen self.old).tables t → (seen self.new).tables t) }
+        ensures up { OnOk result ((seen self.new).is_down → ⊥) }
+        ensures fault { IfErr result (λ fault. Refuses fault (seen self.old) (seen self.new) []) }
+        ensures down { (seen self.old).is_down → IsErrOf result Fault.Down }
+        ensures honest { (seen self.new).honest → (seen self.old).honest };
+
+    /// The open branch with the least number above this one, none where no such branch is open. It changes
+    /// nothing. Whatever the tables hold, a branch that it answers is above this one, and its number and
+    /// its count are in their ranges.
+    fn next_branch(&mut self, after: u32) -> Result<Option<BranchLine>, Fault>
+        ensures line { IfOk result (λ line. (seen self.new).honest
+            → (log : List Command) → ShowsLog (seen self.old) log → IsNextBranch log after line) }
+        ensures within { IfOk result (λ line. IfSome line (IsLineAbove after)) }
+        ensures done { OnOk result (Takes (seen self.old) (seen self.new) []) }
+        ensures tables { OnOk result ((seen self.new).honest
+            → (t : Tables) → (seen self.old).tables t → (seen self.new).tables t) }
         ensures up { OnOk result ((seen self.new).is_down → ⊥) }
         ensures fault { IfErr result (λ fault. Refuses fault (seen self.old) (seen self.new) []) }
         ensures down { (seen self.old).is_down → IsErrOf result Fault.Down }

@@ -10,7 +10,7 @@ mod limits;
 mod rows;
 
 pub use cases::{branch_of_teller, judge, reply_to};
-pub use counter::{Counter, Opening};
+pub use counter::{BranchLine, Counter, Opening};
 pub use facts::{Found, Kept, Verdict};
 pub use fault::{Fault, Rule};
 pub use laws::{

@@ -1,0 +1,35 @@
+-- The rows of branches stay in their ranges.
+use Rattle.std.proofs.Common.{◌≡◌, ℕ, Bool, true, false, cond, eqb, List, length, get_or, sym, subst, ap, ◌∙◌, rules}
+use Rattle.std.specs.Prelude.{ℤ, All, map}
+use Rattle.std.proofs.lemmas.List.{with_items_is}
+use Rattle.std.proofs.lemmas.List.Elements.{All-map}
+use Rattle.posting_rules.specs.declared.rows.BranchRow.{BranchRow}
+use Rattle.posting_rules.specs.Branches.{IsInRange}
+use Rattle.posting_rules.specs.Changes.{row_changed}
+use Rattle.posting_rules.proofs.RowChanges.{changed_at}
+use Rattle.posting_rules.specs.Steps.{with_branch_balance}
+use Rattle.posting_rules.specs.Tables.{branch_key}
+use Rattle.posting_core.proofs.plain_bank.PlainBank.apply.Goals as goal
+
+-- another balance leaves number and count
+still_in_range : (test : Bool) (balance : ℤ) (row : BranchRow) → IsInRange row
+    → IsInRange (cond test (with_branch_balance balance row) row)
+still_in_range true balance row h = record { branch = h.branch; some = h.some; few = h.few }
+still_in_range false balance row h = h
+
+changed_in_range : (number : ℕ) (balance : ℤ) (rows : List BranchRow) → All IsInRange rows
+    → All IsInRange (row_changed branch_key (with_branch_balance balance) number rows)
+changed_in_range number balance rows h =
+    All-map IsInRange (changed_at branch_key number (with_branch_balance balance)) rows
+    (λ k d lt. still_in_range (eqb (branch_key (get_or rows k d)) number) balance (get_or rows k d) (h k d lt))
+
+pub invariant_of-self-in-Posted-1-clause-in_range : goal.invariant_of-self-in-Posted-1-clause-in_range
+invariant_of-self-in-Posted-1-clause-in_range c =
+    let vec = c.args.self.now.branches in
+    let after = c.set_balance_at-in-Posted-2.new.rows in
+    let change = changed_at branch_key c.branch_of_teller-home.result (with_branch_balance c.in-Posted.branch) in
+    let is : after ≡ map change vec.items =
+    c.set_balance_at-in-Posted-2.ensures ∙ ap (map change) c.deref_mut-in-Posted-2.ensures.value in
+    let long : length after ≡ vec.len = search rules in
+    subst (λ (rows : List BranchRow). All IsInRange rows) (sym (with_items_is vec after long ∙ is))
+    (changed_in_range c.branch_of_teller-home.result c.in-Posted.branch vec.items c.args.self.now.in_range)

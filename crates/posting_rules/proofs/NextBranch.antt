@@ -1,0 +1,124 @@
+-- The row with the least number above one is that of the next open branch.
+use Rattle.std.proofs.Common.{◌≡◌, ℕ, suc, ◌<◌, ◌≤◌, List, [], ◌∷◌, ◌++◌, refl, sym, ap, ◌∙◌, arith, inl, inr}
+use Rattle.std.specs.Prelude.{Bool, All, Option, Some, None, nat_eq, option_map}
+use Rattle.std.specs.List.{Contains, find}
+use Rattle.std.proofs.lemmas.Bool.{eqb-true}
+use Rattle.std.proofs.lemmas.List.Elements.{All-append, All-contains, All-from_recursion}
+use Rattle.std.proofs.lemmas.List.Elements.{Contains-append_left, Contains-append_right}
+use Rattle.posting_rules.specs.declared.rows.BranchRow.{BranchRow}
+use Rattle.posting_rules.specs.Branches.{IsNextIn, IsNextBranch, line_of}
+use Rattle.posting_rules.specs.Commands.{Command, opened}
+use Rattle.posting_rules.specs.Entries.{branch_balance, decided}
+use Rattle.posting_rules.specs.LookUps.{count_of_branch, balance_of_branch}
+use Rattle.posting_rules.specs.Tables.{Tables, Shows, row_at, branch_key, branch_row_of}
+use Rattle.posting_rules.proofs.Keyed.{by_test, found_passes}
+use Rattle.posting_rules.proofs.Looked.{count_shown}
+use Rattle.posting_rules.proofs.Undamaged.{row_at-contained}
+
+-- ---- one row more is looked at
+
+-- what holds of all rows, and of one more
+pub all_more : (P : BranchRow → Type 0) (rows : List BranchRow) (row : BranchRow) → All P rows → P row
+    → All P (rows ++ row ∷ [])
+all_more P rows row all one = All-append P rows (row ∷ []) all (All-from_recursion P (row ∷ []) (one, tt))
+
+-- it isn't above the number
+pub next_still : (rows : List BranchRow) (after : ℕ) (next : Option BranchRow) (row : BranchRow)
+    → IsNextIn rows after next → row.branch ≤ after → IsNextIn (rows ++ row ∷ []) after next
+next_still rows after None row is low = all_more (λ r. r.branch ≤ after) rows row is low
+next_still rows after (Some found) row is low = record {
+  stands = Contains-append_left rows (row ∷ []) found is.stands;
+  above = is.above;
+  least = all_more (λ r. after < r.branch → found.branch ≤ r.branch) rows row is.least (λ high. omega arith);
+}
+
+-- it is no nearer than what was found
+pub next_stays : (rows : List BranchRow) (after : ℕ) (found row : BranchRow) → IsNextIn rows after (Some found)
+    → found.branch ≤ row.branch → IsNextIn (rows ++ row ∷ []) after (Some found)
+next_stays rows after found row is le = record {
+  stands = Contains-append_left rows (row ∷ []) found is.stands;
+  above = is.above;
+  least = all_more (λ r. after < r.branch → found.branch ≤ r.branch) rows row is.least (λ high. le);
+}
+
+-- it is the first above the number
+pub next_first : (rows : List BranchRow) (after : ℕ) (row : BranchRow) → IsNextIn rows after None
+    → after < row.branch → IsNextIn (rows ++ row ∷ []) after (Some row)
+next_first rows after row is above = record {
+  stands = Contains-append_right rows (row ∷ []) row (0, omega arith, refl);
+  above = above;
+  least =
+      all_more (λ r. after < r.branch → row.branch ≤ r.branch) rows row
+      (λ k d within high. let low = is k d within in absurd (omega arith)) (λ high. omega arith);
+}
+
+-- it is nearer than what was found
+pub next_nearer : (rows : List BranchRow) (after : ℕ) (found row : BranchRow) → IsNextIn rows after (Some found)
+    → after < row.branch → row.branch < found.branch → IsNextIn (rows ++ row ∷ []) after (Some row)
+next_nearer rows after found row is above lt = record {
+  stands = Contains-append_right rows (row ∷ []) row (0, omega arith, refl);
+  above = above;
+  least =
+      all_more (λ r. after < r.branch → row.branch ≤ r.branch) rows row
+      (λ k d within high. let le = is.least k d within high in omega arith) (λ high. omega arith);
+}
+
+-- ---- the rows of a log
+
+-- a row that is found stands among the rows
+found_within : {R : Type 0} (test : R → Bool) (rows : List R) (row : R) → find test rows ≡ Some row
+    → Contains rows row
+found_within test [] row e = absurd cc
+found_within test (r ∷ rows) row e =
+    elim (by_test (test r)) [
+      | inl t ↦ let is : r ≡ row = (let g = rw t at e in cc) in (0, omega arith, is)
+      | inr f ↦
+          let rest = found_within test rows row (let g = rw f at e in g) in
+          let lt = rest.1 in
+          (suc rest.0, omega arith, rest.2)
+    ]
+
+module _ (t : Tables) (log : List Command) (shows : Shows t log) where
+  counted : (branch : ℕ) → opened log branch ≡ option_map count_of_branch (row_at branch_key t.branches branch)
+  counted branch = sym (count_shown t (λ b. opened log b) (decided log) branch shows.rows)
+
+  -- a number that no row has is no open branch
+  closed : (branch : ℕ) → ((row : BranchRow) → Contains t.branches row → row.branch ≡ branch → ⊥)
+      → opened log branch ≡ None
+  closed branch none = by_row (row_at branch_key t.branches branch) refl
+    where
+      by_row : (o : Option BranchRow) → row_at branch_key t.branches branch ≡ o → opened log branch ≡ None
+      by_row None e = counted branch ∙ ap (option_map count_of_branch) e
+      by_row (Some row) e =
+          let number = eqb-true row.branch branch (found_passes (λ r. nat_eq r.branch branch) t.branches row e) in
+          absurd (none row (found_within (λ r. nat_eq r.branch branch) t.branches row e) number)
+
+  -- what a row says of its branch is what the log says of it
+  balance_is : (row : BranchRow) → row_at branch_key t.branches row.branch ≡ Some row
+      → row.balance ≡ branch_balance (decided log) row.branch
+  balance_is row under =
+      let sum = branch_balance (decided log) row.branch in
+      let open_ : opened log row.branch ≡ Some row.accounts = counted row.branch ∙ ap (option_map count_of_branch) under in
+      let is : Some row ≡ option_map (branch_row_of row.branch sum) (opened log row.branch) =
+      sym under ∙ shows.rows.branches row.branch in
+      let both : Some row ≡ Some (branch_row_of row.branch sum row.accounts) = rw open_ at is in
+      let balances : Some row.balance ≡ Some sum = ap (option_map balance_of_branch) both in
+      cc
+
+  -- what the next row says of its branch is what the log says of the next open one
+  pub next_shown : (after : ℕ) (next : Option BranchRow) → IsNextIn t.branches after next
+      → IsNextBranch log after (option_map line_of next)
+  next_shown after None none = λ branch above. closed branch (λ row has e.
+      let le = All-contains (λ r. r.branch ≤ after) t.branches row none has in
+      omega arith)
+  next_shown after (Some row) found =
+      let under = row_at-contained branch_key t.branches row shows.rows.branch_keys found.stands in
+      record {
+        above = found.above;
+        accounts = counted row.branch ∙ ap (option_map count_of_branch) under;
+        balance = balance_is row under;
+        none_between = λ branch low high. closed branch (λ r has e.
+            let least = All-contains (λ x. after < x.branch → row.branch ≤ x.branch) t.branches r found.least has in
+            let le = least (omega arith) in
+            omega arith);
+      }

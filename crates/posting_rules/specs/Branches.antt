@@ -1,0 +1,52 @@
+-- The open branches, one after another.
+use Rattle.std.specs.Prelude.{◌≡◌, ◌<◌, ◌≤◌, ℕ, List, Option, Some, None, All}
+use Rattle.std.specs.List.{Contains}
+use Rattle.posting_rules.specs.declared.counter.BranchLine.{BranchLine}
+use Rattle.posting_rules.specs.declared.rows.BranchRow.{BranchRow}
+use Rattle.posting_rules.specs.declared.limits.TheConstants.{LAST_BRANCH, MOST_ACCOUNTS}
+use Rattle.posting_rules.specs.Commands.{Command, opened}
+use Rattle.posting_rules.specs.Entries.{branch_balance, decided}
+
+-- ---- of a log
+
+-- the branch is open above this number, with this count and this balance, and none between is open
+pub record IsNextOpen (log : List Command) (after : ℕ) (line : BranchLine) : Type 0 where
+  pub above : after < line.branch
+  pub accounts : opened log line.branch ≡ Some line.accounts
+  pub balance : line.balance ≡ branch_balance (decided log) line.branch
+  pub none_between : (branch : ℕ) → after < branch → branch < line.branch → opened log branch ≡ None
+
+-- the open branch with the least number above this one, none where no such branch is open
+abbrev pub IsNextBranch : List Command → ℕ → Option BranchLine → Type 0
+IsNextBranch log after None = (branch : ℕ) → after < branch → opened log branch ≡ None
+IsNextBranch log after (Some line) = IsNextOpen log after line
+
+-- it is above this number, and number and count are in their ranges
+pub record IsLineAbove (after : ℕ) (line : BranchLine) : Type 0 where
+  pub above : after < line.branch
+  pub branch : line.branch ≤ LAST_BRANCH
+  pub some : 1 ≤ line.accounts
+  pub few : line.accounts ≤ MOST_ACCOUNTS
+
+-- ---- of rows, in whatever order they stand
+
+-- number and count are in the ranges of a bank's branches
+pub record IsInRange (row : BranchRow) : Type 0 where
+  pub branch : row.branch ≤ LAST_BRANCH
+  pub some : 1 ≤ row.accounts
+  pub few : row.accounts ≤ MOST_ACCOUNTS
+
+-- the row stands above this number, and none above it has a lower one
+pub record IsNextRow (rows : List BranchRow) (after : ℕ) (row : BranchRow) : Type 0 where
+  pub stands : Contains rows row
+  pub above : after < row.branch
+  pub least : All (λ r. after < r.branch → row.branch ≤ r.branch) rows
+
+-- the row with the least number above this one, none where there is no such row
+abbrev pub IsNextIn : List BranchRow → ℕ → Option BranchRow → Type 0
+IsNextIn rows after None = All (λ r. r.branch ≤ after) rows
+IsNextIn rows after (Some row) = IsNextRow rows after row
+
+-- what a row says of its branch
+abbrev pub line_of : BranchRow → BranchLine
+line_of row = record { branch = row.branch; accounts = row.accounts; balance = row.balance }
