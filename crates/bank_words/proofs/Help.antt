@@ -1,15 +1,18 @@
 -- Words that ask for help fail with the help.
-use Rattle.std.proofs.Common.{◌≡◌, ◌∙◌, ap, refl, sym, inl, inr, List, [], ◌∷◌, codes, Result, Ok, Err, IsErrAnd}
+use Rattle.std.proofs.Common.{◌≡◌, ◌∙◌, ap, refl, sym, inl, inr, List}
+use Rattle.std.proofs.Common.{[], ◌∷◌, codes, Result, Ok, Err, IsErrAnd}
 use Rattle.clap.specs.Words.{FailsBy, HasKind, Kinds, Text, fault_of}
 use Rattle.clap.specs.declared.error.Error.{Error}
 use Rattle.clap.specs.declared.error.kind.ErrorKind.TheVariants.{DisplayHelp}
 use Rattle.clap.proofs.OnLiterals.{clap_on_literals}
-use Rattle.bank.specs.Words.{AsksForHelp, IsHelp, bank_app}
+use Rattle.bank_words.specs.CommandLine.{bank_app}
+use Rattle.bank_words.specs.Words.{AsksForHelp, IsHelp}
 
 abbrev help_alone : Kinds
 help_alone = DisplayHelp ∷ []
 
-at_bank : (program : Text) (rest : List Text) → fault_of bank_app (program ∷ codes "--help" ∷ rest) ≡ help_alone
+at_bank : (program : Text) (rest : List Text)
+    → fault_of bank_app (program ∷ codes "--help" ∷ rest) ≡ help_alone
 unfolding clap_on_literals
 at_bank program rest = refl
 
@@ -31,7 +34,8 @@ asked words (inr (inl init)) = ap (fault_of bank_app) init.1 ∙ at_init init.0
 asked words (inr (inr (inl load))) = ap (fault_of bank_app) load.1 ∙ at_load load.0
 asked words (inr (inr (inr post))) = ap (fault_of bank_app) post.1 ∙ at_post post.0
 
-helped : {T : Type 0} (r : Result T Error) (kinds : Kinds) → kinds ≡ help_alone → FailsBy kinds r → IsErrAnd r IsHelp
+helped : {T : Type 0} (r : Result T Error) (kinds : Kinds) → kinds ≡ help_alone → FailsBy kinds r
+    → IsErrAnd r IsHelp
 helped (Ok x) kinds is fails =
     let bad : [] ≡ help_alone = rw fails at is in
     cc

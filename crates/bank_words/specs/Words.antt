@@ -1,51 +1,12 @@
--- The program's command line as clap's specification sees it, and which command its words tell.
-use Rattle.std.specs.Prelude.{◌≡◌, ◌⊎◌, ◌==◌, Bool, List, [], ◌∷◌, Some, true, false, codes, drop, is_some, IsSomeAnd}
-use Rattle.clap.specs.Words.{App, Row, Rule, Text, first_of, kind_of, new_app, new_rule}
-use Rattle.clap.specs.Words.{subcommand_of, with_rule, with_subcommand}
+-- Which command the words of the command line tell, and which words tell one.
+use Rattle.std.specs.Prelude.{◌≡◌, ◌⊎◌, ◌==◌, Bool, List, [], ◌∷◌, Some, true, false, codes, drop, is_some}
+use Rattle.std.specs.Prelude.{IsSomeAnd}
+use Rattle.clap.specs.Words.{Row, Text, first_of, kind_of, subcommand_of}
 use Rattle.clap.specs.declared.error.Error.{Error}
 use Rattle.clap.specs.declared.error.kind.ErrorKind.TheVariants as kind
-use Rattle.bank.specs.declared.words.Command.{Command}
-use Rattle.bank.specs.declared.words.Command.TheVariants.{Init, Load, Post}
-
--- a required positional argument, which takes one value and has a name in help
-abbrev pub required_rule : Text → Rule
-required_rule id = record (new_rule id) { value_names = 1; required = true }
-
--- FILE, the bank's file
-abbrev pub file_rule : Rule
-file_rule = required_rule (codes "file")
-
--- CSV, the plan of branches
-abbrev pub plan_rule : Rule
-plan_rule = required_rule (codes "plan")
-
--- `init FILE`
-abbrev pub init_app : App
-init_app = with_rule (new_app (codes "init")) file_rule
-
--- `load FILE CSV`
-abbrev pub load_app : App
-load_app = with_rule (with_rule (new_app (codes "load")) file_rule) plan_rule
-
--- `post FILE`
-abbrev pub post_app : App
-post_app = with_rule (new_app (codes "post")) file_rule
-
--- `bank` before it has its commands: it wants one, shows its help where no word follows its name,
--- and has no command `help`
-abbrev pub bank_alone : App
-bank_alone = let bank = new_app (codes "bank") in record bank {
-  top = record bank.top {
-    subcommand_required = true;
-    arg_required_else_help = true;
-    disable_help_subcommand = true;
-  };
-}
-
--- `bank` with its three commands
-abbrev pub bank_app : App
-bank_app =
-    with_subcommand (with_subcommand (with_subcommand bank_alone init_app.top) load_app.top) post_app.top
+use Rattle.bank_words.specs.CommandLine.{bank_app}
+use Rattle.bank_words.specs.declared.reading.Command.{Command}
+use Rattle.bank_words.specs.declared.reading.Command.TheVariants.{Init, Load, Post}
 
 -- the command has this name, and its files are the first values of its arguments
 abbrev pub IsCommandOf : Text × List Row → Command → Type 0
@@ -69,16 +30,24 @@ abbrev pub begins_with_dash : Text → Bool
 begins_with_dash [] = false
 begins_with_dash (byte ∷ rest) = byte == 45
 
--- the words are the program's name, a command's, and that command's files, of which none begins
--- with a dash
+-- the words are `init FILE`, behind the program's name, with a file that doesn't begin with a dash
+abbrev pub AskToInit : List Text → Type 0
+AskToInit words = (program : Text) × (file : Text) × (begins_with_dash file ≡ false)
+    × (words ≡ program ∷ codes "init" ∷ file ∷ [])
+
+-- the words are `load FILE CSV`, with files that don't begin with a dash
+abbrev pub AskToLoad : List Text → Type 0
+AskToLoad words = (program : Text) × (file : Text) × (plan : Text) × (begins_with_dash file ≡ false)
+    × (begins_with_dash plan ≡ false) × (words ≡ program ∷ codes "load" ∷ file ∷ plan ∷ [])
+
+-- the words are `post FILE`, with a file that doesn't begin with a dash
+abbrev pub AskToPost : List Text → Type 0
+AskToPost words = (program : Text) × (file : Text) × (begins_with_dash file ≡ false)
+    × (words ≡ program ∷ codes "post" ∷ file ∷ [])
+
+-- the words spell a command: its name and its files, of which none begins with a dash
 abbrev pub IsSpelled : List Text → Type 0
-IsSpelled words = ((program : Text) × (file : Text) × (begins_with_dash file ≡ false)
-    × (words ≡ program ∷ codes "init" ∷ file ∷ []))
-    ⊎ ((program : Text) × (file : Text) × (plan : Text) × (begins_with_dash file ≡ false)
-    × (begins_with_dash plan ≡ false)
-    × (words ≡ program ∷ codes "load" ∷ file ∷ plan ∷ []))
-    ⊎ ((program : Text) × (file : Text) × (begins_with_dash file ≡ false)
-    × (words ≡ program ∷ codes "post" ∷ file ∷ []))
+IsSpelled words = AskToInit words ⊎ AskToLoad words ⊎ AskToPost words
 
 -- the words after the program's name are the command's own
 abbrev pub IsSpelledBy : List Text → Command → Type 0

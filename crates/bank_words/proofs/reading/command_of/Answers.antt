@@ -1,7 +1,7 @@
 use Rattle.std.proofs.Common.{codes}
 use Rattle.clap.specs.Words.{found_of, rows_of}
-use Rattle.bank.proofs.Getters.{plan_of_load, text_first, text_given}
-use Rattle.bank.proofs.words.command_of.Goals as goal
+use Rattle.bank_words.proofs.Getters.{plan_of_load, text_first, text_given}
+use Rattle.bank_words.proofs.reading.command_of.Goals as goal
 
 pub unwrap-file-requires : goal.unwrap-file-requires
 unwrap-file-requires c =
@@ -16,18 +16,26 @@ unwrap-plan-requires c =
 pub returns-in-init : goal.returns-in-init
 returns-in-init c =
     let found = found_of c.args.values.now in
-    (c.in-init.is, text_first c.get_str.result c.unwrap-file.result found (codes "file") c.get_str.ensures c.unwrap-file.ensures)
+    let file = c.unwrap-file.result in (
+      c.in-init.is,
+      text_first c.get_str.result file found (codes "file") c.get_str.ensures c.unwrap-file.ensures,
+    )
 
 pub returns-in-load : goal.returns-in-load
 returns-in-load c =
     let found = found_of c.args.values.now in
+    let file = c.unwrap-file.result in
+    let given = c.get_str-in-load in
     let plan = c.unwrap-plan.result in (
       c.in-load.is,
-      text_first c.get_str.result c.unwrap-file.result found (codes "file") c.get_str.ensures c.unwrap-file.ensures,
-      text_first c.get_str-in-load.result plan found (codes "plan") c.get_str-in-load.ensures c.unwrap-plan.ensures,
+      text_first c.get_str.result file found (codes "file") c.get_str.ensures c.unwrap-file.ensures,
+      text_first given.result plan found (codes "plan") given.ensures c.unwrap-plan.ensures,
     )
 
 pub returns-in-post : goal.returns-in-post
 returns-in-post c =
     let found = found_of c.args.values.now in
-    (c.in-post.is, text_first c.get_str.result c.unwrap-file.result found (codes "file") c.get_str.ensures c.unwrap-file.ensures)
+    let file = c.unwrap-file.result in (
+      c.in-post.is,
+      text_first c.get_str.result file found (codes "file") c.get_str.ensures c.unwrap-file.ensures,
+    )

@@ -1,23 +1,29 @@
 -- Where clap finds no fault in the words, they name one of the program's commands, with all its values.
-use Rattle.std.proofs.Common.{◌≡◌, ◌&&◌, ◌||◌, Bool, true, false, not, refl, subst, inl, inr, Result, Ok, Err, IfOk}
+use Rattle.std.proofs.Common.{◌≡◌, ◌&&◌, ◌||◌, Bool, true, false, not, refl}
+use Rattle.std.proofs.Common.{subst, inl, inr, Result, Ok, Err, IfOk}
 use Rattle.std.proofs.Common.{List, [], ◌∷◌, Option, Some, None, is_some, codes}
 use Rattle.std.specs.Prelude.{IsSomeAnd, cond, find, option_map}
 use Rattle.std.specs.List.{list_any}
 use Rattle.std.specs.Option.{option_map_or}
 use Rattle.clap.specs.Facts.{explicit_source}
-use Rattle.clap.specs.Walk.{first_of, Held, Names, Row, Text, answers_to, finished, nothing_held, rows_after, settled}
+use Rattle.clap.specs.Walk.{first_of, Held, Names, Row, Text}
+use Rattle.clap.specs.Walk.{answers_to, finished, nothing_held, rows_after, settled}
 use Rattle.clap.specs.Walk.{stop_after, walk, walk_from}
-use Rattle.clap.specs.Simple.{new_app, with_rule, App, Shape, argument_words, built, built_leaf, entered, inherited, label_of}
+use Rattle.clap.specs.Simple.{new_app, with_rule, App, Shape, argument_words}
+use Rattle.clap.specs.Simple.{built, built_leaf, entered, inherited, label_of}
 use Rattle.clap.specs.Simple.{marked_built, names_of, on_top, rows_at, subcommand_of, with_leaf_noted}
 use Rattle.clap.specs.Simple.{HasMatchesOf, subcommand_rows_of}
 use Rattle.clap.specs.Kinds.{FailsBy, Kinds, check_kinds, or_else}
 use Rattle.clap.specs.Takes.{is_given}
-use Rattle.clap.specs.Faults.{check_fault, defaults_fault, entered_fault, fault_of, is_simple_and_free, level_fault}
+use Rattle.clap.specs.Faults.{check_fault, defaults_fault, entered_fault}
+use Rattle.clap.specs.Faults.{fault_of, is_simple_and_free, level_fault}
 use Rattle.clap.specs.Faults.{settle_fault, walk_fault}
 use Rattle.clap.specs.declared.error.Error.{Error}
 use Rattle.clap.specs.declared.parser.matches.ArgMatches.{ArgMatches}
-use Rattle.bank.specs.Words.{IsComplete, bank_app, file_rule, load_app}
-use Rattle.bank.proofs.Filled.{given_value, rows_filled}
+use Rattle.bank_words.specs.CommandLine.{bank_app, file_rule, load_app}
+use Rattle.bank_words.specs.Words.{IsComplete}
+use Rattle.bank_words.proofs.Filled.{rows_filled}
+use Rattle.bank_words.proofs.Rows.{given_value}
 
 -- ---- faults
 
@@ -43,12 +49,14 @@ never_empty true y none = cc
 never_empty false y none = cc
 
 -- a command that wants a subcommand has met one
-has_command : (s : Shape) (rows : List Row) (has : Bool) → s.subcommand_required ≡ true → check_fault s rows has ≡ []
+has_command : (s : Shape) (rows : List Row) (has : Bool) → s.subcommand_required ≡ true
+    → check_fault s rows has ≡ []
     → has ≡ true
 has_command s rows true wanted none = refl
 has_command s rows false wanted none =
     absurd (never_empty (s.arg_required_else_help && not (list_any (λ r. explicit_source r.source) rows))
-    (not (s.subcommand_negates_reqs && false) && list_any (λ a. a.required && not (is_given a.id rows)) s.rules)
+    (not (s.subcommand_negates_reqs && false)
+    && list_any (λ a. a.required && not (is_given a.id rows)) s.rules)
     (rw wanted at none))
 
 -- a level with no fault has none below it, and passes the last checks
@@ -62,8 +70,10 @@ level_parts s names h words has below none =
     let check = check_fault s (finished s.rules end) has in
     let last = or_else defaults check in
     let later = or_else settle last in
-    let after = no_second (walk_fault s names (walk_from h) words) (or_else below later) none in
-    (no_first below later after, no_second defaults check (no_second settle last (no_second below later after)))
+    let after = no_second (walk_fault s names (walk_from h) words) (or_else below later) none in (
+      no_first below later after,
+      no_second defaults check (no_second settle last (no_second below later after)),
+    )
 
 -- ---- the three commands, as they are built
 
@@ -80,7 +90,8 @@ abbrev pub two_files : Shape
 two_files = leaf_of load_app.top
 
 -- with no fault, FILE has a value
-one_has_file : (name : Text) (words : List Text) → level_fault (one_file name) [] nothing_held words false [] ≡ []
+one_has_file : (name : Text) (words : List Text)
+    → level_fault (one_file name) [] nothing_held words false [] ≡ []
     → is_some (first_of (codes "file") (rows_after (one_file name).rules [] words)) ≡ true
 one_has_file name words none =
     let s = one_file name in
@@ -91,7 +102,8 @@ one_has_file name words none =
 
 -- with no fault the command has its values
 abbrev Completes : Shape → Type 0
-Completes s = (words : List Text) → level_fault s [] nothing_held words false [] ≡ [] → IsComplete (rows_at s words)
+Completes s =
+    (words : List Text) → level_fault s [] nothing_held words false [] ≡ [] → IsComplete (rows_at s words)
 
 init_completes : Completes (one_file (codes "init"))
 init_completes words none = (one_has_file (codes "init") words none, inl refl)
@@ -105,8 +117,10 @@ load_completes words none =
     let filled = rows_filled two_files.rules [] words
     (inl (refl, refl, refl), (inl (refl, refl, refl), (inr (refl, refl, refl), tt))) in
     let given = two_given (is_given (codes "file") rows) (is_given (codes "plan") rows)
-    (level_parts two_files [] nothing_held words false [] none).1 in
-    (given_value (codes "file") rows filled given.0, inr (inr (refl, given_value (codes "plan") rows filled given.1)))
+    (level_parts two_files [] nothing_held words false [] none).1 in (
+      given_value (codes "file") rows filled given.0,
+      inr (inr (refl, given_value (codes "plan") rows filled given.1)),
+    )
 
 one_of_three : (P : Shape → Type 0) (p : Shape → Bool) (x y z s : Shape) → P x → P y → P z
     → find p (x ∷ y ∷ z ∷ []) ≡ Some s → P s

@@ -1,24 +1,28 @@
 -- What clap reads in words that spell a command: that command.
-use Rattle.std.proofs.Common.{◌≡◌, ◌∙◌, ◌&&◌, ℕ, Bool, true, false, refl, sym, ap, ap₂, inl, inr, List, [], ◌∷◌}
+use Rattle.std.proofs.Common.{◌≡◌, ◌∙◌, ◌&&◌, ℕ, Bool, true, false, refl}
+use Rattle.std.proofs.Common.{sym, ap, ap₂, inl, inr, List, [], ◌∷◌}
 use Rattle.std.proofs.Common.{Some, None, codes, Result, Ok, Err, IsErrAnd, drop}
 use Rattle.std.specs.Prelude.{MatchResult}
 use Rattle.clap.specs.Lexer.{short_of}
-use Rattle.clap.specs.Walk.{Held, Row, Rule, Step, Text, Walk, after_step, arg_by_index, finished, first_of, idle}
+use Rattle.clap.specs.Walk.{Held, Row, Rule, Step, Text, Walk}
+use Rattle.clap.specs.Walk.{after_step, arg_by_index, finished, first_of, idle}
 use Rattle.clap.specs.Walk.{nothing_held, rows_after, to_positional, value, walk, walked, word_met}
 use Rattle.clap.specs.Simple.{Shape, rows_at, subcommand_of}
-use Rattle.clap.specs.Takes.{default_passes, is_valid, level_passes, settle_passes, step_passes, takes, turn_passes}
+use Rattle.clap.specs.Takes.{default_passes, is_valid, level_passes, settle_passes}
+use Rattle.clap.specs.Takes.{step_passes, takes, turn_passes}
 use Rattle.clap.specs.Takes.{walk_passes, word_passes}
 use Rattle.clap.specs.Words.{kind_of}
 use Rattle.clap.specs.declared.error.Error.{Error}
 use Rattle.clap.specs.declared.error.kind.ErrorKind.TheVariants.{OutOfMemory}
 use Rattle.std.specs.List.{list_all}
 use Rattle.clap.proofs.OnLiterals.{clap_on_literals}
-use Rattle.bank.specs.declared.words.Command.{Command}
-use Rattle.bank.specs.declared.words.Command.TheVariants.{Init, Load, Post}
-use Rattle.bank.specs.Words.{IsCommandOf, IsReadFrom, IsSpelled, IsSpelledBy, IsWantOfMemory, bank_app}
-use Rattle.bank.specs.Words.{begins_with_dash}
-use Rattle.bank.proofs.Complete.{one_file, two_files}
-use Rattle.bank.proofs.Getters.{init_is_not_load, post_is_not_init, post_is_not_load}
+use Rattle.bank_words.specs.declared.reading.Command.{Command}
+use Rattle.bank_words.specs.declared.reading.Command.TheVariants.{Init, Load, Post}
+use Rattle.bank_words.specs.CommandLine.{bank_app}
+use Rattle.bank_words.specs.Words.{IsCommandOf, IsReadFrom, IsSpelled, IsSpelledBy, IsWantOfMemory}
+use Rattle.bank_words.specs.Words.{begins_with_dash}
+use Rattle.bank_words.proofs.Complete.{one_file, two_files}
+use Rattle.bank_words.proofs.Getters.{init_is_not_load, post_is_not_init, post_is_not_load}
 
 -- ---- a word that is no flag, at a command with no subcommand
 
@@ -47,10 +51,12 @@ before h position = record {
 }
 
 value_walked : (c : List Rule) (h : Held) (position : ℕ) (word : Text) → begins_with_dash word ≡ false
-    → walked c [] (before h position) word ≡ to_positional c (arg_by_index c position) word (before h position) h
+    → walked c [] (before h position) word
+    ≡ to_positional c (arg_by_index c position) word (before h position) h
 unfolding walked
 value_walked c h position word dash =
-    ap (λ (m : Held × Step). after_step c word (before h position) m.0 m.1) (value_word c position word h dash)
+    ap (λ (m : Held × Step). after_step c word (before h position) m.0 m.1)
+    (value_word c position word h dash)
 
 value_turn : (s : Shape) (h : Held) (position : ℕ) (word : Text) → begins_with_dash word ≡ false
     → turn_passes s [] (before h position) word ≡ step_passes s position h value
@@ -76,7 +82,8 @@ one_walk name file dash = value_walked (one_file name).rules nothing_held 1 file
 one_first : (name file : Text) → begins_with_dash file ≡ false
     → first_of (codes "file") (rows_after (one_file name).rules [] (file ∷ [])) ≡ Some file
 one_first name file dash =
-    ap (λ (w : Walk). first_of (codes "file") (finished (one_file name).rules w.held)) (one_walk name file dash)
+    ap (λ (w : Walk). first_of (codes "file") (finished (one_file name).rules w.held))
+    (one_walk name file dash)
 
 one_passes : (name file : Text) → begins_with_dash file ≡ false
     → level_passes (one_file name) [] nothing_held (file ∷ []) false ≡ true
@@ -86,7 +93,8 @@ one_passes name file dash =
     (value_turn (one_file name) nothing_held 1 file dash) (one_walk name file dash)
 
 init_read : (program file : Text)
-    → subcommand_of bank_app (program ∷ codes "init" ∷ file ∷ []) ≡ Some (rows_at (one_file (codes "init")) (file ∷ []))
+    → subcommand_of bank_app (program ∷ codes "init" ∷ file ∷ [])
+    ≡ Some (rows_at (one_file (codes "init")) (file ∷ []))
 unfolding clap_on_literals
 init_read program file = refl
 
@@ -97,7 +105,8 @@ unfolding clap_on_literals
 init_taken program file = refl
 
 post_read : (program file : Text)
-    → subcommand_of bank_app (program ∷ codes "post" ∷ file ∷ []) ≡ Some (rows_at (one_file (codes "post")) (file ∷ []))
+    → subcommand_of bank_app (program ∷ codes "post" ∷ file ∷ [])
+    ≡ Some (rows_at (one_file (codes "post")) (file ∷ []))
 unfolding clap_on_literals
 post_read program file = refl
 
@@ -112,36 +121,42 @@ post_taken program file = refl
 -- the walk after FILE and CSV
 abbrev plan_walk : Text → Text → Walk
 plan_walk file plan =
-    to_positional two_files.rules (arg_by_index two_files.rules 2) plan (before (file_held file) 2) (file_held file)
+    to_positional two_files.rules (arg_by_index two_files.rules 2) plan (before (file_held file) 2)
+    (file_held file)
 
 two_walk : (file plan : Text) → begins_with_dash file ≡ false → begins_with_dash plan ≡ false
     → walk two_files.rules [] nothing_held (file ∷ plan ∷ []) ≡ plan_walk file plan
 two_walk file plan dash plan_dash =
-    ap (λ (w : Walk). walked two_files.rules [] w plan) (value_walked two_files.rules nothing_held 1 file dash)
+    ap (λ (w : Walk). walked two_files.rules [] w plan)
+    (value_walked two_files.rules nothing_held 1 file dash)
     ∙ value_walked two_files.rules (file_held file) 2 plan plan_dash
 
 two_first : (file plan : Text) → begins_with_dash file ≡ false → begins_with_dash plan ≡ false
     → first_of (codes "file") (rows_after two_files.rules [] (file ∷ plan ∷ [])) ≡ Some file
 two_first file plan dash plan_dash =
-    ap (λ (w : Walk). first_of (codes "file") (finished two_files.rules w.held)) (two_walk file plan dash plan_dash)
+    ap (λ (w : Walk). first_of (codes "file") (finished two_files.rules w.held))
+    (two_walk file plan dash plan_dash)
 
 two_second : (file plan : Text) → begins_with_dash file ≡ false → begins_with_dash plan ≡ false
     → first_of (codes "plan") (rows_after two_files.rules [] (file ∷ plan ∷ [])) ≡ Some plan
 two_second file plan dash plan_dash =
-    ap (λ (w : Walk). first_of (codes "plan") (finished two_files.rules w.held)) (two_walk file plan dash plan_dash)
+    ap (λ (w : Walk). first_of (codes "plan") (finished two_files.rules w.held))
+    (two_walk file plan dash plan_dash)
 
 two_passes : (file plan : Text) → begins_with_dash file ≡ false → begins_with_dash plan ≡ false
     → level_passes two_files [] nothing_held (file ∷ plan ∷ []) false ≡ true
 unfolding walk_passes
 two_passes file plan dash plan_dash =
     let first = value_turn two_files nothing_held 1 file dash in
-    let second = ap (λ (w : Walk). turn_passes two_files [] w plan) (value_walked two_files.rules nothing_held 1 file dash)
+    let second = ap (λ (w : Walk). turn_passes two_files [] w plan)
+    (value_walked two_files.rules nothing_held 1 file dash)
     ∙ value_turn two_files (file_held file) 2 plan plan_dash in
     ap₂ (λ (b : Bool) (w : Walk). b && ends_well two_files w.held)
     (ap₂ (λ (a b : Bool). a && (b && true)) first second) (two_walk file plan dash plan_dash)
 
 load_read : (program file plan : Text)
-    → subcommand_of bank_app (program ∷ codes "load" ∷ file ∷ plan ∷ []) ≡ Some (rows_at two_files (file ∷ plan ∷ []))
+    → subcommand_of bank_app (program ∷ codes "load" ∷ file ∷ plan ∷ [])
+    ≡ Some (rows_at two_files (file ∷ plan ∷ []))
 unfolding clap_on_literals
 load_read program file plan = refl
 
@@ -157,14 +172,16 @@ same_text s t same = cc
 
 init_told : (rows : List Row) (file : Text) (words : List Text) (command : Command)
     → first_of (codes "file") rows ≡ Some file
-    → drop 1 words ≡ codes "init" ∷ file ∷ [] → IsCommandOf (codes "init", rows) command → IsSpelledBy words command
+    → drop 1 words ≡ codes "init" ∷ file ∷ [] → IsCommandOf (codes "init", rows) command
+    → IsSpelledBy words command
 init_told rows file words (Init f) first are told = rw (← same_text file f.now (sym first ∙ told.1)) are
 init_told rows file words (Load f plan) first are told = absurd (init_is_not_load told.0)
 init_told rows file words (Post f) first are told = absurd (post_is_not_init (sym told.0))
 
 post_told : (rows : List Row) (file : Text) (words : List Text) (command : Command)
     → first_of (codes "file") rows ≡ Some file
-    → drop 1 words ≡ codes "post" ∷ file ∷ [] → IsCommandOf (codes "post", rows) command → IsSpelledBy words command
+    → drop 1 words ≡ codes "post" ∷ file ∷ [] → IsCommandOf (codes "post", rows) command
+    → IsSpelledBy words command
 post_told rows file words (Init f) first are told = absurd (post_is_not_init told.0)
 post_told rows file words (Load f plan) first are told = absurd (post_is_not_load told.0)
 post_told rows file words (Post f) first are told = rw (← same_text file f.now (sym first ∙ told.1)) are
@@ -208,7 +225,8 @@ spelled_at_ok words command read (inr (inr s)) =
     (rw (ap (subcommand_of bank_app) s.3 ∙ post_read s.0 s.1) at read)
 
 -- and only want of memory is in the way
-pub spelled_at_err : (r : Result Command Error) (error : Error) (words : List Text) → IsErrAnd r (λ e. e ≡ error)
+pub spelled_at_err : (r : Result Command Error) (error : Error) (words : List Text)
+    → IsErrAnd r (λ e. e ≡ error)
     → (takes bank_app words ≡ true → kind_of error ≡ OutOfMemory) → IsSpelled words
     → MatchResult r (IsSpelledBy words) IsWantOfMemory
 spelled_at_err (Ok c) error words is fails spelled = absurd is

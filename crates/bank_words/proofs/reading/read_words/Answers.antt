@@ -1,9 +1,9 @@
 use Rattle.std.proofs.Common.{rules, map}
 use Rattle.clap.specs.Words.{found_of, rows_of}
-use Rattle.bank.proofs.Getters.{met_complete}
-use Rattle.bank.proofs.Help.{help_given, no_help_asked}
-use Rattle.bank.proofs.Spelled.{spelled_at_err, spelled_at_ok}
-use Rattle.bank.proofs.words.read_words.Goals as goal
+use Rattle.bank_words.proofs.Getters.{met_complete}
+use Rattle.bank_words.proofs.Help.{help_given, no_help_asked}
+use Rattle.bank_words.proofs.Spelled.{spelled_at_err, spelled_at_ok}
+use Rattle.bank_words.proofs.reading.read_words.Goals as goal
 
 pub command_of-requires : goal.command_of-requires
 command_of-requires g c =
@@ -23,4 +23,5 @@ returns-in_err-matches-clause-spelled g c =
     c.from_residual.ensures.1 c.in_err-matches.ensures.taken
 
 pub returns-clause-spelled : goal.returns-clause-spelled
-returns-clause-spelled g c = spelled_at_ok (map g.S.AsStr.text c.args.words.now) c.command_of.result (search rules)
+returns-clause-spelled g c =
+    spelled_at_ok (map g.S.AsStr.text c.args.words.now) c.command_of.result (search rules)

@@ -1,5 +1,6 @@
 -- What `get_str` gives, by the rows of clap's matches.
-use Rattle.std.proofs.Common.{◌≡◌, ◌∙◌, ◌∷◌, List, ℕ, Option, Some, None, is_some, true, false, codes, inl, inr}
+use Rattle.std.proofs.Common.{◌≡◌, ◌∙◌, ◌∷◌, List, ℕ, Option, Some}
+use Rattle.std.proofs.Common.{None, is_some, true, false, codes, inl, inr}
 use Rattle.std.proofs.Common.{arith, slice_index, IsSome, ap, ap₂, refl, sym}
 use Rattle.std.specs.Prelude.{IsSomeAnd, option_map}
 use Rattle.std.specs.Borrow.{Bor}
@@ -9,10 +10,11 @@ use Rattle.clap.specs.declared.parser.matches.ArgMatches.{ArgMatches}
 use Rattle.clap.specs.declared.parser.matches.Found.{Found}
 use Rattle.clap.specs.declared.parser.matches.ArgMatches.TheViews.{out-ArgMatches}
 use Rattle.clap.proofs.WalkLemmas.{first_value-rows}
-use Rattle.bank.specs.Words.{IsComplete}
+use Rattle.bank_words.specs.Words.{IsComplete}
 
 -- an argument with a value gives one
-pub text_given : (o : Option (Bor Text)) (f : Found) (id : Text) → option_map (λ s. s.now) o ≡ first_value f id
+pub text_given : (o : Option (Bor Text)) (f : Found) (id : Text)
+    → option_map (λ s. s.now) o ≡ first_value f id
     → is_some (first_of id (rows_of f)) ≡ true → IsSome o
 text_given o f id reads has = go o (reads ∙ first_value-rows f id)
   where
@@ -42,7 +44,8 @@ met_rows m name rows named met = go (subcommand_rows_of m) named_by met
     named_by : Some name ≡ option_map (λ p. p.0) (subcommand_rows_of m)
     named_by = named ∙ sym (composed _ (λ p. p.0) (out-ArgMatches m).subcommand)
 
-    go : (o : Option (Text × List Row)) → Some name ≡ option_map (λ p. p.0) o → Some rows ≡ option_map (λ p. p.1) o
+    go : (o : Option (Text × List Row)) → Some name ≡ option_map (λ p. p.0) o
+        → Some rows ≡ option_map (λ p. p.1) o
         → o ≡ Some (name, rows)
     go None named met = cc
     go (Some p) named met =

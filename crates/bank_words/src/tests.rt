@@ -1,4 +1,5 @@
-use crate::words::{Command, read_words};
+//! Words that are read, words that are refused, and the help.
+use crate::reading::{Command, read_words};
 use clap::error::ErrorKind;
 use std::test::Fail;
 
