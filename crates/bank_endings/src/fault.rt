@@ -1,6 +1,6 @@
 //! Why a command ends before its work is done.
 ghost use Rattle.std.specs.Prelude.{◌≡◌};
-ghost use Rattle.bank.specs.Faults.{fault_of_bank, fault_of_opening, fault_of_plan, fault_of_stream, status_of};
+ghost use Rattle.bank_endings.specs.Faults.{fault_of_bank, fault_of_opening, fault_of_plan, fault_of_stream, status_of};
 
 use crate::status::Status;
 use bank_store::OpenFault;
@@ -57,7 +57,7 @@ impl CommandFault {
 }
 
 impl fmt::Display for CommandFault {
-    ghost use Rattle.bank.specs.Faults.{fault_text};
+    ghost use Rattle.bank_endings.specs.Faults.{fault_text};
 
     ghost output = { fault_text };
 

@@ -10,10 +10,10 @@ use Rattle.branch_loader.specs.declared.fault.PlanFault.{PlanFault}
 use Rattle.branch_loader.specs.declared.fault.PlanFault.TheVariants as plan
 use Rattle.bank_store.specs.declared.refused.OpenFault.{OpenFault}
 use Rattle.bank_store.specs.declared.refused.OpenFault.TheVariants as opening
-use Rattle.bank.specs.declared.fault.CommandFault.{CommandFault}
-use Rattle.bank.specs.declared.fault.CommandFault.TheVariants as fault
-use Rattle.bank.specs.declared.status.Status.{Status}
-use Rattle.bank.specs.declared.status.Status.TheVariants.{System, Input}
+use Rattle.bank_endings.specs.declared.fault.CommandFault.{CommandFault}
+use Rattle.bank_endings.specs.declared.fault.CommandFault.TheVariants as fault
+use Rattle.bank_endings.specs.declared.status.Status.{Status}
+use Rattle.bank_endings.specs.declared.status.Status.TheVariants.{System, Input}
 
 -- the system's faults end the program with one status, and what came in with another
 abbrev pub status_of : CommandFault → Status

@@ -1,6 +1,11 @@
-//! The program's clock.
+//! The clock that the program stamps postings with: the system's time, as a moment.
+#![tactic(auto)]
+
 ghost use Rattle.std.specs.Prelude.{◌≡◌, ◌/◌, MatchResult, min};
 ghost use Rattle.std.specs.Time.{system_time_nanos};
+
+#[cfg(test)]
+mod tests;
 
 use message_records::Moment;
 use posting_core::Clock;
@@ -30,9 +35,11 @@ impl<'a, T: TimeSource> Clock for SystemClock<'a, T> {
     }
 }
 
-/// The moment of a reading: the last one where the time is later, and 0 where there is no time, as before 1970.
+/// The moment of a reading: the last one where the time is later, and 0 where there is no time, as
+/// before 1970.
 pub fn moment_of(reading: io::Result<SystemTime>) -> Moment
-    ensures { MatchResult reading (λ time. result ≡ min (system_time_nanos time / 1_000_000_000) LAST) (λ _. result ≡ 0) }
+    ensures { MatchResult reading
+        (λ time. result ≡ min (system_time_nanos time / 1_000_000_000) LAST) (λ _. result ≡ 0) }
 {
     let Ok(time) = reading else {
         return Moment::new(0).unwrap();

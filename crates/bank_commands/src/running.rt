@@ -3,15 +3,14 @@ ghost use Rattle.std.specs.Prelude.{◌≡◌, ◌≢◌, ◌⊎◌, [], map, If
 ghost use Rattle.std.specs.Io.KnownBytes.{Appends, Keeps};
 ghost use Rattle.branch_loader.specs.declared.loading.Loaded.{Loaded};
 ghost use Rattle.clap.specs.Words.{fault_of};
-ghost use Rattle.bank.specs.Lines.{created_line};
-ghost use Rattle.bank.specs.Running.{AreRefused, AskToInit, AskToLoad, Ends, Tells};
-ghost use Rattle.bank.specs.Words.{AsksForHelp, IsSpelled, bank_app};
+ghost use Rattle.bank_endings.specs.Lines.{created_line};
+ghost use Rattle.bank_words.specs.CommandLine.{bank_app};
+ghost use Rattle.bank_words.specs.Words.{AsksForHelp, AskToInit, AskToLoad, IsSpelled};
+ghost use Rattle.bank_commands.specs.Running.{AreRefused, Ends, Tells};
 
 use crate::commands::{init, load_plan, post};
-use crate::fault::CommandFault;
-use crate::printing::{explain, tell};
-use crate::status::Status;
-use crate::words::{Command, read_words};
+use bank_endings::{CommandFault, Status, explain, tell};
+use bank_words::{Command, read_words};
 use posting_core::Clock;
 use sqlite::Start;
 use std::convert::AsStr;
@@ -66,16 +65,17 @@ fn perform<S: Start, R: Read, W: Write, K: Clock>(
     ensures { IfOk result (λ status. Ends command.entry status (W.contents output.old) (W.contents output.new)) }
 {
     match command {
-        Command::Init { file } => init(rt, start, file, output)?,
+        Command::Init { file } => {
+            init(rt, start, file, output)?;
+            Ok(Status::Done)
+        }
         Command::Load { file, plan } => {
             let loaded = load_plan(rt, start, file, plan, output)?;
-            if loaded.differs > 0 {
-                return Ok(Status::Differs);
-            }
+            Ok(Status::from(loaded))
         }
         Command::Post { file } => {
             post(rt, start, file, input, output, clock)?;
+            Ok(Status::Done)
         }
     }
-    Ok(Status::Done)
 }

@@ -1,12 +1,11 @@
 //! The three commands.
 ghost use Rattle.std.specs.Prelude.{◌≡◌, ◌≢◌, IfErr, IfOk, OnOk};
 ghost use Rattle.std.specs.Io.KnownBytes.{Appends, IsAtEnd, Keeps};
-ghost use Rattle.bank.specs.Faults.{IsOfFile};
-ghost use Rattle.bank.specs.Lines.{created_line, loaded_line};
+ghost use Rattle.bank_endings.specs.Faults.{IsOfFile};
+ghost use Rattle.bank_endings.specs.Lines.{created_line, loaded_line};
 
-use crate::fault::CommandFault;
 use crate::files::{close, find_bank, make_bank, plan_in};
-use crate::printing::{print_created, print_loaded};
+use bank_endings::{CommandFault, print_created, print_loaded};
 use branch_loader::{Loaded, load};
 use posting_core::{Clock, Count, Counter, post_stream};
 use sqlite::Start;

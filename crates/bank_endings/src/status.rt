@@ -1,8 +1,9 @@
 //! The exit statuses of the program.
 ghost use Rattle.std.specs.Prelude.{◌≡◌};
 ghost use Rattle.std.specs.Process.{exit_status};
-ghost use Rattle.bank.specs.Statuses.{number_of_status};
+ghost use Rattle.bank_endings.specs.Statuses.{number_of_status, status_of_loaded};
 
+use branch_loader::Loaded;
 use std::process::ExitCode;
 
 /// How the program ends.
@@ -18,6 +19,19 @@ pub enum Status {
     Input,
     /// A branch of the plan is open with another count of accounts.
     Differs,
+}
+
+/// How the program ends after a plan was loaded.
+impl From<Loaded> for Status {
+    ghost from_gives = { λ loaded status. status ≡ status_of_loaded loaded };
+
+    fn from(loaded: Loaded) -> Status {
+        if loaded.differs > 0 {
+            Status::Differs
+        } else {
+            Status::Done
+        }
+    }
 }
 
 impl From<Status> for ExitCode {

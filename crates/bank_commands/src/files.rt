@@ -1,7 +1,7 @@
 //! The file of a bank.
 ghost use Rattle.std.specs.Prelude.{◌≡◌, IfOk, OnErr, IsErrOf, false};
 
-use crate::fault::CommandFault;
+use bank_endings::CommandFault;
 use bank_store::{Bank, OpenFault, Refused, adopt, create};
 use branch_loader::{Plan, PlanFault, read_plan};
 use sqlite::{Connection, FileFrom, FileStore, Start};

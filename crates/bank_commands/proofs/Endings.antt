@@ -4,11 +4,11 @@ use Rattle.std.specs.Io.KnownBytes.{Keeps}
 use Rattle.clap.specs.Words.{IsAmong, Text, fault_of}
 use Rattle.clap.specs.declared.error.kind.ErrorKind.{ErrorKind}
 use Rattle.clap.specs.declared.error.kind.ErrorKind.TheVariants.{DisplayHelp, DisplayVersion, OutOfMemory}
-use Rattle.bank.specs.declared.status.Status.{Status}
-use Rattle.bank.specs.declared.status.Status.TheVariants.{Done, Usage, System}
-use Rattle.bank.specs.Lines.{IsRequest, IsShown}
-use Rattle.bank.specs.Running.{AreRefused}
-use Rattle.bank.specs.Words.{bank_app}
+use Rattle.bank_endings.specs.declared.status.Status.{Status}
+use Rattle.bank_endings.specs.declared.status.Status.TheVariants.{Done, Usage, System}
+use Rattle.bank_endings.specs.Lines.{IsRequest, IsShown}
+use Rattle.bank_words.specs.CommandLine.{bank_app}
+use Rattle.bank_commands.specs.Running.{AreRefused}
 
 -- the error of words that are refused is no call for help
 pub not_asked : (words : List Text) (k : ErrorKind) → AreRefused words

@@ -1,7 +1,7 @@
 use Rattle.std.proofs.Common.{map}
 use Rattle.clap.specs.Words.{kind_of}
-use Rattle.bank.proofs.Endings.{help_ends, memory_ends, mistake_ends, mistake_keeps, not_asked, system_is_not_usage}
-use Rattle.bank.proofs.running.run.Goals as goal
+use Rattle.bank_commands.proofs.Endings.{help_ends, memory_ends, mistake_ends, mistake_keeps, not_asked, system_is_not_usage}
+use Rattle.bank_commands.proofs.running.run.Goals as goal
 
 -- ---- words that are refused
 

@@ -2,8 +2,8 @@
 ghost use Rattle.std.specs.Prelude.{◌≡◌, ◌⊎◌, IsOk, OnErr, OnOk, IsErrOf};
 ghost use Rattle.std.specs.Io.KnownBytes.{Appends, Keeps};
 ghost use Rattle.clap.specs.Words.{kind_of};
-ghost use Rattle.bank.specs.Faults.{status_of};
-ghost use Rattle.bank.specs.Lines.{IsRequest, IsShown, created_line, loaded_line};
+ghost use Rattle.bank_endings.specs.Faults.{status_of};
+ghost use Rattle.bank_endings.specs.Lines.{IsRequest, IsShown, created_line, loaded_line};
 
 use crate::fault::CommandFault;
 use crate::status::Status;
