@@ -2,19 +2,9 @@
 //! posted to it from standard input.
 #![tactic(auto)]
 
-mod clock;
-mod commands;
-mod fault;
-mod files;
-mod printing;
-mod running;
-mod status;
-#[cfg(test)]
-mod tests;
-mod words;
-
-use clock::SystemClock;
-use running::{run, words_of};
+use bank_clock::SystemClock;
+use bank_commands::{run, words_of};
+use bank_endings::tell_no_words;
 use sqlite::Unknown;
 use std::process::ExitCode;
 
@@ -30,7 +20,7 @@ fn main(rt: HostRuntime) -> ExitCode {
             &mut faults,
             &mut SystemClock::new(&rt),
         ),
-        Err(error) => printing::tell_no_words(&error, &mut faults),
+        Err(error) => tell_no_words(&error, &mut faults),
     };
     ExitCode::from(status)
 }

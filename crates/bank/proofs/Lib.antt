@@ -1,6 +1,0 @@
-pub mod Filled
-pub mod Complete
-pub mod Help
-pub mod Getters
-pub mod Spelled
-pub mod Endings

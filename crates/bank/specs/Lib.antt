@@ -1,5 +1,0 @@
-pub mod Words
-pub mod Statuses
-pub mod Faults
-pub mod Lines
-pub mod Running

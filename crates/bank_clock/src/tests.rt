@@ -1,0 +1,44 @@
+//! The program's clock over a source that is known.
+use crate::SystemClock;
+use message_records::Moment;
+use posting_core::Clock;
+use std::io::{self, ErrorKind};
+use std::rt::Clock as TimeSource;
+use std::test::Fail;
+use std::time::Duration;
+
+// A source that tells so many seconds and a half, or fails.
+#[derive(Drop)]
+struct Stopped(Option<u64>);
+
+impl TimeSource for Stopped {
+    fn monotonic(&self) -> io::Result<Duration> {
+        Ok(Duration::ZERO)
+    }
+
+    fn since_1970(&self) -> io::Result<Duration> {
+        match self.0 {
+            Some(seconds) => Ok(Duration::new(seconds, 500_000_000)),
+            None => Err(io::Error::from(ErrorKind::InvalidData)),
+        }
+    }
+}
+
+fn reading(seconds: Option<u64>) -> Moment {
+    SystemClock::new(&Stopped(seconds)).now()
+}
+
+#[test]
+fn whole_seconds_within_the_range(rt: HostRuntime) -> Result<(), Fail> {
+    let cases = [
+        (None, 0),
+        (Some(0), 0),
+        (Some(1_700_000_000), 1_700_000_000),
+        (Some(253_402_300_799), 253_402_300_799),
+        (Some(253_402_300_800), 253_402_300_799),
+    ];
+    for (seconds, want) in cases {
+        assert_eq!(rt; reading(seconds).get(), want);
+    }
+    Ok(())
+}

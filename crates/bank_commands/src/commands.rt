@@ -1,0 +1,76 @@
+//! The three commands.
+ghost use Rattle.std.specs.Prelude.{◌≡◌, ◌≢◌, IfErr, IfOk, OnOk};
+ghost use Rattle.std.specs.Io.KnownBytes.{Appends, IsAtEnd, Keeps};
+ghost use Rattle.bank_endings.specs.Faults.{IsOfFile};
+ghost use Rattle.bank_endings.specs.Lines.{created_line, loaded_line};
+
+use crate::files::{close, find_bank, make_bank, plan_in};
+use bank_endings::{CommandFault, print_created, print_loaded};
+use branch_loader::{Loaded, load};
+use posting_core::{Clock, Count, Counter, post_stream};
+use sqlite::Start;
+use std::io::{Read, Write};
+use std::rt::Files;
+
+/// Makes a bank in the file, and prints `created`.
+pub fn init<S: Start, W: Write>(
+    rt: &HostRuntime,
+    start: S,
+    file: &str,
+    output: &mut W,
+) -> Result<(), CommandFault>
+    ensures line { OnOk result (Appends (W.contents output.old) (W.contents output.new) created_line) }
+    ensures silent { IfErr result (λ fault. fault ≢ CommandFault.Write → Keeps (W.contents output.old) (W.contents output.new)) }
+{
+    let bank = make_bank(rt, start, file)?;
+    close(bank);
+    print_created(output)
+}
+
+/// Opens the branches of a plan in the file's bank, and prints how many got each answer.
+pub fn load_plan<S: Start, W: Write>(
+    rt: &HostRuntime,
+    start: S,
+    file: &str,
+    plan: &str,
+    output: &mut W,
+) -> Result<Loaded, CommandFault>
+    ensures line { IfOk result (λ loaded. Appends (W.contents output.old) (W.contents output.new) (loaded_line loaded)) }
+    ensures silent { IfErr result (λ fault. fault ≢ CommandFault.Write → Keeps (W.contents output.old) (W.contents output.new)) }
+{
+    let mut bank = find_bank(rt, start, file)?;
+    let loaded = load_from(rt, plan, &mut bank);
+    close(bank);
+    let loaded = loaded?;
+    print_loaded(loaded, output)?;
+    Ok(loaded)
+}
+
+// Opens the branches of the plan in a file.
+fn load_from<R: Files + AllocGlobal, C: Counter>(
+    rt: &R,
+    path: &str,
+    bank: &mut C,
+) -> Result<Loaded, CommandFault> {
+    let plan = plan_in(rt, path)?;
+    Ok(load(&plan, bank)?)
+}
+
+/// Posts the records of the input to the file's bank, and writes their replies.
+pub fn post<S: Start, R: Read, W: Write, K: Clock>(
+    rt: &HostRuntime,
+    start: S,
+    file: &str,
+    input: &mut R,
+    output: &mut W,
+    clock: &mut K,
+) -> Result<Count, CommandFault>
+    ensures ended { OnOk result (IsAtEnd (R.remaining input.new)) }
+    ensures unread { IfErr result (λ fault. IsOfFile fault → R.remaining input.new ≡ R.remaining input.old) }
+    ensures silent { IfErr result (λ fault. IsOfFile fault → Keeps (W.contents output.old) (W.contents output.new)) }
+{
+    let mut bank = find_bank(rt, start, file)?;
+    let posted = post_stream(input, output, clock, &mut bank);
+    close(bank);
+    Ok(posted?)
+}

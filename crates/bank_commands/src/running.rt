@@ -1,0 +1,81 @@
+//! A run of the program, from its words to its status.
+ghost use Rattle.std.specs.Prelude.{◌≡◌, ◌≢◌, ◌⊎◌, [], map, IfOk};
+ghost use Rattle.std.specs.Io.KnownBytes.{Appends, Keeps};
+ghost use Rattle.branch_loader.specs.declared.loading.Loaded.{Loaded};
+ghost use Rattle.clap.specs.Words.{fault_of};
+ghost use Rattle.bank_endings.specs.Lines.{created_line};
+ghost use Rattle.bank_words.specs.CommandLine.{bank_app};
+ghost use Rattle.bank_words.specs.Words.{AsksForHelp, AskToInit, AskToLoad, IsSpelled};
+ghost use Rattle.bank_commands.specs.Running.{AreRefused, Ends, Tells};
+
+use crate::commands::{init, load_plan, post};
+use bank_endings::{CommandFault, Status, explain, tell};
+use bank_words::{Command, read_words};
+use posting_core::Clock;
+use sqlite::Start;
+use std::convert::AsStr;
+use std::io::{Read, Write};
+use std::rt::Env;
+use std::{env, io};
+
+/// The words of the command line, of which the first is the program's name.
+pub fn words_of<R: Env + AllocGlobal>(rt: &R) -> io::Result<Vec<String>> {
+    Ok(env::args(rt)?.collect(rt.alloc())?)
+}
+
+/// Does what the words say, and gives the status that the program ends with. A fault is told on `faults`.
+pub fn run<S: Start, T: AsStr, R: Read, W: Write, E: Write, K: Clock>(
+    rt: &HostRuntime,
+    start: S,
+    words: &[T],
+    input: &mut R,
+    output: &mut W,
+    faults: &mut E,
+    clock: &mut K,
+) -> Status
+    ensures refused { AreRefused (map T.text words.entry.now) → (result ≡ Status.Usage) ⊎ (result ≡ Status.System) }
+    ensures silent { AreRefused (map T.text words.entry.now) → Keeps (W.contents output.old) (W.contents output.new) }
+    ensures unread { fault_of bank_app (map T.text words.entry.now) ≢ [] → R.remaining input.new ≡ R.remaining input.old }
+    ensures help { AsksForHelp (map T.text words.entry.now) → (result ≡ Status.Done) ⊎ (result ≡ Status.System) }
+    ensures taken { IsSpelled (map T.text words.entry.now) → result ≢ Status.Usage }
+    ensures created { AskToInit (map T.text words.entry.now) → result ≡ Status.Done
+        → Appends (W.contents output.old) (W.contents output.new) created_line }
+    ensures loaded { AskToLoad (map T.text words.entry.now) → (result ≡ Status.Done) ⊎ (result ≡ Status.Differs)
+        → (loaded : Loaded) × Tells result (W.contents output.old) (W.contents output.new) loaded }
+{
+    let command = match read_words(rt.alloc(), words) {
+        Ok(command) => command,
+        Err(error) => return explain(&error, output, faults),
+    };
+    match perform(rt, start, command, input, output, clock) {
+        Ok(status) => status,
+        Err(fault) => tell(fault, faults),
+    }
+}
+
+// Does the command, and tells how it went.
+fn perform<S: Start, R: Read, W: Write, K: Clock>(
+    rt: &HostRuntime,
+    start: S,
+    command: Command<'_>,
+    input: &mut R,
+    output: &mut W,
+    clock: &mut K,
+) -> Result<Status, CommandFault>
+    ensures { IfOk result (λ status. Ends command.entry status (W.contents output.old) (W.contents output.new)) }
+{
+    match command {
+        Command::Init { file } => {
+            init(rt, start, file, output)?;
+            Ok(Status::Done)
+        }
+        Command::Load { file, plan } => {
+            let loaded = load_plan(rt, start, file, plan, output)?;
+            Ok(Status::from(loaded))
+        }
+        Command::Post { file } => {
+            post(rt, start, file, input, output, clock)?;
+            Ok(Status::Done)
+        }
+    }
+}

@@ -1,0 +1,76 @@
+-- The faults of commands: what each is made of, its text, and the status after it.
+use Rattle.std.specs.Prelude.{ℕ, List, ◌++◌, codes, Option, None, Some, ⊤}
+use Rattle.std.specs.Fmt.{decimal, signed_decimal}
+use Rattle.posting_rules.specs.Rules.{number_of_rule}
+use Rattle.posting_rules.specs.declared.fault.Fault.{Fault}
+use Rattle.posting_rules.specs.declared.fault.Fault.TheVariants as bank
+use Rattle.posting_core.specs.declared.stream.StreamFault.{StreamFault}
+use Rattle.posting_core.specs.declared.stream.StreamFault.TheVariants as stream
+use Rattle.branch_loader.specs.declared.fault.PlanFault.{PlanFault}
+use Rattle.branch_loader.specs.declared.fault.PlanFault.TheVariants as plan
+use Rattle.bank_store.specs.declared.refused.OpenFault.{OpenFault}
+use Rattle.bank_store.specs.declared.refused.OpenFault.TheVariants as opening
+use Rattle.bank_endings.specs.declared.fault.CommandFault.{CommandFault}
+use Rattle.bank_endings.specs.declared.fault.CommandFault.TheVariants as fault
+use Rattle.bank_endings.specs.declared.status.Status.{Status}
+use Rattle.bank_endings.specs.declared.status.Status.TheVariants.{System, Input}
+
+-- the system's faults end the program with one status, and what came in with another
+abbrev pub status_of : CommandFault → Status
+status_of fault.Store = System
+status_of fault.Memory = System
+status_of (fault.Damaged rule) = System
+status_of fault.Read = System
+status_of fault.Write = System
+status_of (fault.Truncated count) = Input
+status_of (fault.Plan plan) = Input
+status_of fault.AlreadyBank = Input
+status_of fault.NoBank = Input
+status_of fault.Foreign = Input
+status_of (fault.Version version) = Input
+
+-- the text of a fault; that of a plan's fault is its own
+abbrev pub fault_text : CommandFault → Option (List ℕ)
+fault_text fault.Store = Some (codes "store fault")
+fault_text fault.Memory = Some (codes "no memory")
+fault_text (fault.Damaged rule) = Some (codes "damaged rule " ++ decimal (number_of_rule rule))
+fault_text fault.Read = Some (codes "read failed")
+fault_text fault.Write = Some (codes "write failed")
+fault_text (fault.Truncated count) = Some (codes "truncated " ++ decimal count ++ codes " bytes")
+fault_text (fault.Plan plan) = None
+fault_text fault.AlreadyBank = Some (codes "already a bank")
+fault_text fault.NoBank = Some (codes "no bank")
+fault_text fault.Foreign = Some (codes "foreign tables")
+fault_text (fault.Version version) = Some (codes "version " ++ signed_decimal version)
+
+abbrev pub fault_of_opening : OpenFault → CommandFault
+fault_of_opening opening.Store = fault.Store
+fault_of_opening opening.NotBlank = fault.AlreadyBank
+fault_of_opening opening.Blank = fault.NoBank
+fault_of_opening opening.Foreign = fault.Foreign
+fault_of_opening (opening.Version version) = fault.Version version
+fault_of_opening (opening.Damaged rule) = fault.Damaged rule
+
+-- a bank that is down went down by its store
+abbrev pub fault_of_bank : Fault → CommandFault
+fault_of_bank bank.Memory = fault.Memory
+fault_of_bank bank.Store = fault.Store
+fault_of_bank bank.Down = fault.Store
+fault_of_bank (bank.Damaged rule) = fault.Damaged rule
+
+abbrev pub fault_of_plan : PlanFault → CommandFault
+fault_of_plan plan.Memory = fault.Memory
+fault_of_plan other = fault.Plan other
+
+abbrev pub fault_of_stream : StreamFault → CommandFault
+fault_of_stream (stream.Truncated count) = fault.Truncated count
+fault_of_stream stream.Read = fault.Read
+fault_of_stream stream.Write = fault.Write
+fault_of_stream (stream.Bank cause) = fault_of_bank cause
+
+-- the file isn't there, or it isn't the bank's
+abbrev pub IsOfFile : CommandFault → Type 0
+IsOfFile fault.NoBank = ⊤
+IsOfFile fault.Foreign = ⊤
+IsOfFile (fault.Version version) = ⊤
+IsOfFile _ = ⊥

@@ -1,0 +1,3 @@
+pub mod Statuses
+pub mod Faults
+pub mod Lines

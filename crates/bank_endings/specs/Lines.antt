@@ -1,0 +1,30 @@
+-- The lines that the program prints, and how it ends where its words aren't a command.
+use Rattle.std.specs.Prelude.{◌≡◌, ◌⊎◌, ℕ, List, [], ◌∷◌, ◌++◌, codes}
+use Rattle.std.specs.Fmt.{decimal}
+use Rattle.branch_loader.specs.declared.loading.Loaded.{Loaded}
+use Rattle.clap.specs.declared.error.kind.ErrorKind.{ErrorKind}
+use Rattle.clap.specs.declared.error.kind.ErrorKind.TheVariants as kind
+use Rattle.bank_endings.specs.declared.status.Status.{Status}
+use Rattle.bank_endings.specs.declared.status.Status.TheVariants.{Done, Usage, System}
+
+-- a text, and the end of its line
+abbrev pub line : List ℕ → List ℕ
+line text = text ++ 10 ∷ []
+
+abbrev pub created_line : List ℕ
+created_line = line (codes "created")
+
+abbrev pub loaded_line : Loaded → List ℕ
+loaded_line loaded = line (codes "opened " ++ decimal loaded.opened ++ codes " already " ++ decimal loaded.already
+    ++ codes " differs " ++ decimal loaded.differs)
+
+-- help or the version was asked for
+abbrev pub IsRequest : ErrorKind → Type 0
+IsRequest asked = (asked ≡ kind.DisplayHelp) ⊎ (asked ≡ kind.DisplayVersion)
+
+-- how the program ends on an error of this kind
+abbrev pub IsShown : ErrorKind → Status → Type 0
+IsShown kind.OutOfMemory status = status ≡ System
+IsShown kind.DisplayHelp status = (status ≡ Done) ⊎ (status ≡ System)
+IsShown kind.DisplayVersion status = (status ≡ Done) ⊎ (status ≡ System)
+IsShown other status = status ≡ Usage

@@ -1,0 +1,29 @@
+//! Plays a script of runs of the program over files, and prints what came of each. It wants an empty
+//! folder to run in.
+//!
+//! A line of the script is a word and what it takes. It is printed, and below it, behind two spaces,
+//! what it led to:
+//!
+//!   `# TEXT`            is a heading
+//!   `write FILE LINE..` writes a file of these lines
+//!   `sql FILE TEXT`     runs SQL on a file
+//!   `look FILE`         tells whether the file is there
+//!   `record TEXT`       gives the next run a record, which spaces fill to 100 bytes
+//!   `part TEXT`         gives the next run these bytes
+//!   `broken END`        gives the next run an `input` that fails, or an `output` that does
+//!   `bank WORD..`       runs the program on these words
+#![tactic(auto)]
+
+mod ends;
+mod script;
+mod showing;
+
+use script::Script;
+
+fn main(rt: HostRuntime) -> Result<(), anyhow::Error> {
+    let mut script = Script::new(rt.alloc());
+    for line in rt.lines(rt.alloc()) {
+        script.play(&rt, line?.as_str())?;
+    }
+    Ok(())
+}

@@ -1,0 +1,134 @@
+//! The lines of a script.
+use crate::ends::Broken;
+use crate::showing::shown;
+use anyhow::bail;
+use bank_commands::run;
+use bank_endings::Status;
+use posting_core::StoredClock;
+use sqlite::{Connection, Error, Unknown};
+use std::alloc::{AllocError, Global};
+use std::fs;
+use std::io::{Read, Write};
+
+// Which end of the next run fails.
+#[derive(Clone, Copy)]
+enum Fails {
+    Neither,
+    Input,
+    Output,
+}
+
+/// What the next run is given.
+#[derive(Drop)]
+pub struct Script {
+    input: Vec<u8>,
+    fails: Fails,
+}
+
+impl Script {
+    /// A script at its beginning: the next run has no input, and neither of its ends fails.
+    pub fn new(alloc: Global) -> Self {
+        Script {
+            input: Vec::new(alloc),
+            fails: Fails::Neither,
+        }
+    }
+
+    /// Prints a line of the script, does what it says, and prints what came of it.
+    pub fn play(&mut self, rt: &HostRuntime, line: &str) -> Result<(), anyhow::Error> {
+        println!(rt; "{line}")?;
+        let (word, rest) = line.split_once(' ').unwrap_or((line, ""));
+        match word {
+            "#" | "" => {}
+            "write" => write_lines(rt, rest)?,
+            "sql" => {
+                let (file, sql) = rest.split_once(' ').unwrap_or((rest, ""));
+                execute(rt, file, sql)?;
+            }
+            "look" => {
+                let is_there = fs::exists(rt, rest)?;
+                println!(rt; "  {}", if is_there { "there" } else { "not there" })?;
+            }
+            "record" => {
+                let record = padded(rt.alloc(), rest)?;
+                self.input.extend_from_slice(record.as_slice())?;
+            }
+            "part" => self.input.extend_from_slice(rest.as_bytes())?,
+            "broken" => {
+                self.fails = if rest == "input" {
+                    Fails::Input
+                } else {
+                    Fails::Output
+                };
+            }
+            "bank" => self.run(rt, line)?,
+            _ => bail!("no such step: {word}"),
+        }
+        Ok(())
+    }
+
+    // Runs the program on the words of a line, with what the lines before it gave, and prints how it went.
+    fn run(&mut self, rt: &HostRuntime, line: &str) -> Result<(), anyhow::Error> {
+        let mut words = Vec::new(rt.alloc());
+        for word in line.split(' ') {
+            words.push(word)?;
+        }
+        let words = words.as_slice();
+        let mut rest = self.input.as_slice();
+        let mut output = Vec::new(rt.alloc());
+        let (status, faults) = match self.fails {
+            Fails::Neither => run_between(rt, words, &mut rest, &mut output),
+            Fails::Input => run_between(rt, words, &mut Broken, &mut output),
+            Fails::Output => run_between(rt, words, &mut rest, &mut Broken),
+        };
+        print!(rt; "{}", shown(rt.alloc(), "output", output.as_slice())?)?;
+        print!(rt; "{}", shown(rt.alloc(), "fault", faults.as_slice())?)?;
+        println!(rt; "  status: {status:?}")?;
+        self.input.clear();
+        self.fails = Fails::Neither;
+        Ok(())
+    }
+}
+
+// A record of this text, which spaces fill to 100 bytes.
+fn padded(alloc: Global, text: &str) -> Result<Vec<u8>, AllocError> {
+    let mut bytes = Vec::new(alloc);
+    bytes.extend_from_slice(text.as_bytes())?;
+    bytes.resize(100, b' ')?;
+    Ok(bytes)
+}
+
+// Writes a file, whose name stands before its lines.
+fn write_lines(rt: &HostRuntime, rest: &str) -> Result<(), anyhow::Error> {
+    let mut words = rest.split(' ');
+    let file = words.next().unwrap_or("");
+    let mut text = String::new(rt.alloc());
+    for line in words {
+        text.push_str(line)?;
+        text.push('\n')?;
+    }
+    fs::write(rt, file, text.as_str())?;
+    Ok(())
+}
+
+// Runs SQL on a file.
+fn execute(rt: &HostRuntime, file: &str, sql: &str) -> Result<(), Error> {
+    let mut conn = Connection::open(rt, file)?;
+    let ran = conn.execute_batch(sql);
+    let closed = conn.close();
+    ran?;
+    closed
+}
+
+// A run between a reader and a writer: how it ended, and what it told of faults.
+fn run_between<R: Read, W: Write>(
+    rt: &HostRuntime,
+    words: &[&str],
+    input: &mut R,
+    output: &mut W,
+) -> (Status, Vec<u8>) {
+    let mut faults = Vec::new(rt.alloc());
+    let mut clock = StoredClock::new(Vec::new(rt.alloc()));
+    let status = run(rt, Unknown, words, input, output, &mut faults, &mut clock);
+    (status, faults)
+}

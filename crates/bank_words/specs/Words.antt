@@ -1,0 +1,71 @@
+-- Which command the words of the command line tell, and which words tell one.
+use Rattle.std.specs.Prelude.{◌≡◌, ◌⊎◌, ◌==◌, Bool, List, [], ◌∷◌, Some, true, false, codes, drop, is_some}
+use Rattle.std.specs.Prelude.{IsSomeAnd}
+use Rattle.clap.specs.Words.{Row, Text, first_of, kind_of, subcommand_of}
+use Rattle.clap.specs.declared.error.Error.{Error}
+use Rattle.clap.specs.declared.error.kind.ErrorKind.TheVariants as kind
+use Rattle.bank_words.specs.CommandLine.{bank_app}
+use Rattle.bank_words.specs.declared.reading.Command.{Command}
+use Rattle.bank_words.specs.declared.reading.Command.TheVariants.{Init, Load, Post}
+
+-- the command has this name, and its files are the first values of its arguments
+abbrev pub IsCommandOf : Text × List Row → Command → Type 0
+IsCommandOf p (Init file) = (p.0 ≡ codes "init") × (first_of (codes "file") p.1 ≡ Some file.now)
+IsCommandOf p (Load file plan) = (p.0 ≡ codes "load") × (first_of (codes "file") p.1 ≡ Some file.now)
+    × (first_of (codes "plan") p.1 ≡ Some plan.now)
+IsCommandOf p (Post file) = (p.0 ≡ codes "post") × (first_of (codes "file") p.1 ≡ Some file.now)
+
+-- clap matches the words to a subcommand of `bank` and to its values, and the command is that one
+abbrev pub IsReadFrom : List Text → Command → Type 0
+IsReadFrom words command = IsSomeAnd (subcommand_of bank_app words) (λ p. IsCommandOf p command)
+
+-- the name is that of a command, and each of its arguments has a value
+abbrev pub IsComplete : Text × List Row → Type 0
+IsComplete p = (is_some (first_of (codes "file") p.1) ≡ true)
+    × ((p.0 ≡ codes "init") ⊎ (p.0 ≡ codes "post")
+    ⊎ ((p.0 ≡ codes "load") × (is_some (first_of (codes "plan") p.1) ≡ true)))
+
+-- a flag begins with a dash
+abbrev pub begins_with_dash : Text → Bool
+begins_with_dash [] = false
+begins_with_dash (byte ∷ rest) = byte == 45
+
+-- the words are `init FILE`, behind the program's name, with a file that doesn't begin with a dash
+abbrev pub AskToInit : List Text → Type 0
+AskToInit words = (program : Text) × (file : Text) × (begins_with_dash file ≡ false)
+    × (words ≡ program ∷ codes "init" ∷ file ∷ [])
+
+-- the words are `load FILE CSV`, with files that don't begin with a dash
+abbrev pub AskToLoad : List Text → Type 0
+AskToLoad words = (program : Text) × (file : Text) × (plan : Text) × (begins_with_dash file ≡ false)
+    × (begins_with_dash plan ≡ false) × (words ≡ program ∷ codes "load" ∷ file ∷ plan ∷ [])
+
+-- the words are `post FILE`, with a file that doesn't begin with a dash
+abbrev pub AskToPost : List Text → Type 0
+AskToPost words = (program : Text) × (file : Text) × (begins_with_dash file ≡ false)
+    × (words ≡ program ∷ codes "post" ∷ file ∷ [])
+
+-- the words spell a command: its name and its files, of which none begins with a dash
+abbrev pub IsSpelled : List Text → Type 0
+IsSpelled words = AskToInit words ⊎ AskToLoad words ⊎ AskToPost words
+
+-- the words after the program's name are the command's own
+abbrev pub IsSpelledBy : List Text → Command → Type 0
+IsSpelledBy words (Init file) = drop 1 words ≡ codes "init" ∷ file.now ∷ []
+IsSpelledBy words (Load file plan) = drop 1 words ≡ codes "load" ∷ file.now ∷ plan.now ∷ []
+IsSpelledBy words (Post file) = drop 1 words ≡ codes "post" ∷ file.now ∷ []
+
+-- memory ran out
+abbrev pub IsWantOfMemory : Error → Type 0
+IsWantOfMemory error = kind_of error ≡ kind.OutOfMemory
+
+-- the words ask for help: `bank --help ..`, or `bank COMMAND --help`
+abbrev pub AsksForHelp : List Text → Type 0
+AsksForHelp words = ((program : Text) × (rest : List Text) × (words ≡ program ∷ codes "--help" ∷ rest))
+    ⊎ ((program : Text) × (words ≡ program ∷ codes "init" ∷ codes "--help" ∷ []))
+    ⊎ ((program : Text) × (words ≡ program ∷ codes "load" ∷ codes "--help" ∷ []))
+    ⊎ ((program : Text) × (words ≡ program ∷ codes "post" ∷ codes "--help" ∷ []))
+
+-- the error is the help, or memory ran out
+abbrev pub IsHelp : Error → Type 0
+IsHelp error = (kind_of error ≡ kind.DisplayHelp) ⊎ (kind_of error ≡ kind.OutOfMemory)

@@ -1,0 +1,80 @@
+//! The program's command line as clap is told of it: three commands, their arguments, and the texts of help.
+ghost use Rattle.std.specs.Prelude.{◌≡◌, IfOk, false};
+ghost use Rattle.clap.specs.Words.{app_of, rule_of};
+ghost use Rattle.clap.specs.declared.builder.command.Command.TheViews.{out-Command as fields_of};
+ghost use Rattle.bank_words.specs.CommandLine.{bank_app, file_rule, init_app, load_app, plan_rule, post_app};
+
+use crate::texts;
+use clap::{Arg, Command};
+use std::alloc::{AllocError, Global};
+
+/// The whole command line.
+pub fn bank_command<'a>(alloc: Global) -> Result<Command<'a>, AllocError>
+    ensures { IfOk result (λ bank. app_of bank ≡ bank_app) }
+{
+    Command::new(alloc, "bank")
+        .about(texts::BANK)
+        .long_about(texts::BANK_AT_LENGTH)
+        .after_help(texts::BANK_EXAMPLE)
+        .after_long_help(texts::BANK_DETAILS)
+        .subcommand_required(true)
+        .arg_required_else_help(true)
+        .disable_help_subcommand(true)
+        .subcommand(init_command(alloc)?)?
+        .subcommand(load_command(alloc)?)?
+        .subcommand(post_command(alloc)?)
+}
+
+fn init_command<'a>(alloc: Global) -> Result<Command<'a>, AllocError>
+    ensures app { IfOk result (λ init. app_of init ≡ init_app) }
+    ensures local { IfOk result (λ init. (fields_of init).has_globals ≡ false) }
+{
+    Command::new(alloc, "init")
+        .about(texts::INIT)
+        .long_about(texts::INIT_AT_LENGTH)
+        .after_help(texts::INIT_EXAMPLE)
+        .arg(file_argument(alloc))
+}
+
+fn load_command<'a>(alloc: Global) -> Result<Command<'a>, AllocError>
+    ensures app { IfOk result (λ load. app_of load ≡ load_app) }
+    ensures local { IfOk result (λ load. (fields_of load).has_globals ≡ false) }
+{
+    Command::new(alloc, "load")
+        .about(texts::LOAD)
+        .long_about(texts::LOAD_AT_LENGTH)
+        .after_long_help(texts::LOAD_DETAILS)
+        .arg(file_argument(alloc))?
+        .arg(plan_argument(alloc))
+}
+
+fn post_command<'a>(alloc: Global) -> Result<Command<'a>, AllocError>
+    ensures app { IfOk result (λ post. app_of post ≡ post_app) }
+    ensures local { IfOk result (λ post. (fields_of post).has_globals ≡ false) }
+{
+    Command::new(alloc, "post")
+        .about(texts::POST)
+        .long_about(texts::POST_AT_LENGTH)
+        .after_long_help(texts::POST_DETAILS)
+        .arg(file_argument(alloc))
+}
+
+fn file_argument<'a>(alloc: Global) -> Arg<'a>
+    ensures rule { rule_of result ≡ file_rule }
+    ensures local { result.global ≡ false }
+{
+    Arg::new(alloc, "file")
+        .required(true)
+        .value_name("FILE")
+        .help(texts::FILE)
+}
+
+fn plan_argument<'a>(alloc: Global) -> Arg<'a>
+    ensures rule { rule_of result ≡ plan_rule }
+    ensures local { result.global ≡ false }
+{
+    Arg::new(alloc, "plan")
+        .required(true)
+        .value_name("CSV")
+        .help(texts::PLAN)
+}

@@ -1,0 +1,10 @@
+//! The command line of the program: which words it takes, and which command on which files they tell.
+#![tactic(auto)]
+
+mod command_line;
+mod reading;
+#[cfg(test)]
+mod tests;
+mod texts;
+
+pub use reading::{Command, read_words};

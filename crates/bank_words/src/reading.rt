@@ -1,0 +1,72 @@
+//! Which of the program's commands the words of the command line tell, and on which files.
+ghost use Rattle.std.specs.Prelude.{◌≡◌, IfErr, IfOk, IsErrAnd, IsSomeAnd, MatchResult, map, true};
+ghost use Rattle.clap.specs.Words.{FailsBy, fault_of, found_of, kind_of, rows_of, subcommand_of};
+ghost use Rattle.clap.specs.Words.{subcommand_rows_of, takes};
+ghost use Rattle.bank_words.specs.CommandLine.{bank_app};
+ghost use Rattle.bank_words.specs.Words.{AsksForHelp, IsCommandOf, IsComplete, IsHelp, IsReadFrom};
+ghost use Rattle.bank_words.specs.Words.{IsSpelled, IsSpelledBy, IsWantOfMemory};
+
+use crate::command_line::bank_command;
+use clap::ArgMatches;
+use clap::error::ErrorKind;
+use std::alloc::Global;
+use std::convert::AsStr;
+
+/// What the program is told to do.
+#[derive(Clone, Copy, Debug, PartialEq, Eq)]
+pub enum Command<'a> {
+    /// Make a new bank in the file.
+    Init { file: &'a str },
+    /// Open the branches of a plan in the file's bank.
+    Load { file: &'a str, plan: &'a str },
+    /// Post the records of standard input to the file's bank.
+    Post { file: &'a str },
+}
+
+/// Reads the words of the command line, of which the first is the program's own name. The command is
+/// the one that clap matches in the words, and any other words are the error that clap gives, with
+/// the text for the user. A request for help is such an error, of the kind `DisplayHelp`.
+pub fn read_words<'a, S: AsStr>(alloc: Global, words: &'a [S]) -> Result<Command<'a>, clap::Error>
+    ensures command { IfOk result (IsReadFrom (map S.text words.entry.now)) }
+    ensures taken { IfErr result (λ error. takes bank_app (map S.text words.entry.now) ≡ true
+        → kind_of error ≡ ErrorKind.OutOfMemory) }
+    ensures fault { FailsBy (fault_of bank_app (map S.text words.entry.now)) result }
+    ensures spelled { IsSpelled (map S.text words.entry.now)
+        → MatchResult result (IsSpelledBy (map S.text words.entry.now)) IsWantOfMemory }
+    ensures help { AsksForHelp (map S.text words.entry.now) → IsErrAnd result IsHelp }
+{
+    let matches = matches_of(alloc, words)?;
+    let Some((name, values)) = matches.subcommand() else {
+        unreachable!()
+    };
+    Ok(command_of(name, values))
+}
+
+// What clap matches in the words: a command of the program, with all its values.
+fn matches_of<'a, S: AsStr>(alloc: Global, words: &'a [S]) -> Result<ArgMatches<'a>, clap::Error>
+    ensures matches { IfOk result (λ matches. subcommand_rows_of matches
+        ≡ subcommand_of bank_app (map S.text words.entry.now)) }
+    ensures complete { IfOk result (λ matches. IsSomeAnd (subcommand_rows_of matches) IsComplete) }
+    ensures taken { IfErr result (λ error. takes bank_app (map S.text words.entry.now) ≡ true
+        → kind_of error ≡ ErrorKind.OutOfMemory) }
+    ensures fault { FailsBy (fault_of bank_app (map S.text words.entry.now)) result }
+{
+    bank_command(alloc)?.try_get_matches_from(words)
+}
+
+// The command that a subcommand's name and values tell.
+fn command_of<'a>(name: &str, values: &ArgMatches<'a>) -> Command<'a>
+    requires { IsComplete (name.now, rows_of (found_of values.now)) }
+    ensures { IsCommandOf (name.now, rows_of (found_of values.now)) result }
+{
+    let file = values.get_str("file").unwrap();
+    match name {
+        "init" => Command::Init { file },
+        "load" => {
+            let plan = values.get_str("plan").unwrap();
+            Command::Load { file, plan }
+        }
+        "post" => Command::Post { file },
+        _ => unreachable!(),
+    }
+}
