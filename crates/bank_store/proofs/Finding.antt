@@ -13,11 +13,11 @@ use Rattle.posting_rules.specs.Tables.{Shows as Show}
 use Rattle.posting_rules.specs.declared.fault.Rule.TheVariants.{Meta, Teller, Account, Balance, Request, Value, Key}
 use Rattle.posting_rules.specs.declared.rows.MetaRow.{MetaRow}
 use Rattle.posting_rules.proofs.Undamaged.{undamaged}
-use Rattle.sql_meanings.specs.Tables.{Defines}
+use Rattle.sql_meanings.proofs.Contents.{each_defined}
 use Rattle.posting_rules.specs.Changes.{meta_key}
 use Rattle.store_rows.specs.Columns.{meta_in, meta_numbers}
 use Rattle.store_rows.specs.SixTables as six
-use Rattle.store_rows.specs.View.{Shows}
+use Rattle.store_rows.specs.View.{Shows, contents}
 use Rattle.store_rows.specs.declared.metas.StoredMeta.{StoredMeta}
 use Rattle.bank_store.specs.Opening.{six_tables, Lacks, IsPresent, IsAsBefore, IsOurs, IsOfVersion, IsNoCount, ChecksMeta, TellsMeta, IsUnread, IsReadOnly, MetaIs, Misses, SeeksBank}
 use Rattle.bank_store.specs.declared.probing.Presence.TheVariants.{Absent, Whole}
@@ -70,19 +70,7 @@ module _ (old mid new : State) (stored : Option StoredMeta) (tables : IsPresent 
 
 -- a database that shows tables lacks none of the six
 lacks_none : (db : Database) (t : Tables) → Shows db t → (table : Table) → Has six_tables table → Lacks db table → ⊥
-lacks_none db t shows table has lacks = lacks shows.sound (defined has)
-  where
-    is : (known : Table) → table ≡ known → Defines db.schema known → Defines db.schema table
-    is known same defines = subst (Defines db.schema) (sym same) defines
-
-    defined : Has six_tables table → Defines db.schema table
-    defined (inl same) = is six.meta same shows.meta.defined
-    defined (inr (inl same)) = is six.branch same shows.branches.defined
-    defined (inr (inr (inl same))) = is six.teller same shows.tellers.defined
-    defined (inr (inr (inr (inl same)))) = is six.account same shows.accounts.defined
-    defined (inr (inr (inr (inr (inl same))))) = is six.history same shows.history.defined
-    defined (inr (inr (inr (inr (inr (inl same)))))) = is six.request same shows.requests.defined
-    defined (inr (inr (inr (inr (inr (inr none)))))) = absurd none
+lacks_none db t shows table has lacks = lacks shows.sound (each_defined db six_tables (contents t) shows.each table has)
 
 -- where none of the six is, no tables are shown
 pub no_bank : (db : Database) (t : Tables) → IsPresent db six_tables Absent → Shows db t → ⊥

@@ -6,6 +6,7 @@ pub mod ByKey
 pub mod Casting
 pub mod Changes
 pub mod Columns
+pub mod Contents
 pub mod Creating
 pub mod Defining
 pub mod EntryLists
@@ -31,6 +32,7 @@ pub mod ReadTables
 pub mod Referring
 pub mod Refusals
 pub mod RisingOrder
+pub mod Saying
 pub mod Selects
 pub mod SetFailures
 pub mod SetRows
@@ -41,6 +43,7 @@ pub mod Steps
 pub mod Stopping
 pub mod TableWrites
 pub mod TestedAnswers
+pub mod Texts
 pub mod Trees
 pub mod TwoColumns
 pub mod Typed

@@ -74,7 +74,8 @@ kept_reading old new text params (Err e) only (inl (inl (inr shown))) = let it =
 kept_reading old new text params (Err e) only (inl (inr none)) = let it = rw ((only none.1.0 none.1.1.is).bare) at none.1.2 in inr it.3
 kept_reading old new text params (Err e) only (inr late) = absurd (let it = rw ((only late.0 late.1.is).bare) at late.2 in cc)
 
-no_rows_error : (cause : StoreError) → ¬ (QueryReturnedNoRows ≡ store_error cause)
+-- no fault of the store is told as no rows
+pub no_rows_error : (cause : StoreError) → ¬ (QueryReturnedNoRows ≡ store_error cause)
 no_rows_error OutOfMemory e = cc
 no_rows_error Io e = cc
 no_rows_error Corrupt e = cc

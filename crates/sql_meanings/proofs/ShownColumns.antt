@@ -3,12 +3,20 @@ use Rattle.std.proofs.Common.{
   ◌≡◌,
   ℕ,
   ◌-◌,
+  ◌<◌,
   List,
   [],
   ◌∷◌,
   ◌++◌,
   append_assoc,
   append-nil,
+  length,
+  map,
+  Option,
+  option_map,
+  unwrap_or,
+  refl,
+  arith,
   Ok,
   Some,
   None,
@@ -31,9 +39,11 @@ use Rattle.sqlite_resolve.specs.declared.scope.Output.{Output}
 use Rattle.sqlite_resolve.specs.declared.state.Carried.{Carried}
 use Rattle.sqlite_resolve.specs.Lowering.{nothing}
 use Rattle.sqlite_resolve.specs.Scope.{Name, declared}
+use Rattle.sqlite_ast.specs.Layer.{Layer, ShownLayer}
 use Rattle.sqlite_resolve.specs.Body as body
 use Rattle.sqlite_resolve.specs.Body.{outputs, outputs_from, shown, heading, is_column}
 use Rattle.sqlite_resolve.specs.Expr.{lower}
+use Rattle.sql_meanings.specs.Plain.{key_column}
 use Rattle.sql_meanings.proofs.Columns.{bound_to, over_one, found_is, column_is}
 use Rattle.sql_meanings.proofs.Expressions.{st, lower_column}
 
@@ -67,6 +77,10 @@ Shows table [] [] = Unit {0}
 Shows table [] (o ∷ os) = ⊥
 Shows table (s ∷ ss) [] = ⊥
 Shows table (s ∷ ss) (o ∷ os) = ShowsOne table s o × Shows table ss os
+
+-- the columns at these places, as they are shown
+abbrev pub outputs_at : Table → List ℕ → List Output
+outputs_at table places = map (λ k. output_of table k (unwrap_or (slice_get table.columns k) (key_column []))) places
 
 -- what each expression takes of the budget
 abbrev pub spent : ℕ → List Output → ℕ
@@ -114,3 +128,74 @@ module _ (schema : Schema) (p : ℕ) (table : Table) (listed : slice_get schema.
   outputs_are (s ∷ ss) (o ∷ os) done budget l it room =
       rw (shown_is s o done budget l it.0 room.0) (outputs_are ss os (done ++ o ∷ []) (budget - 1) o.carried it.1 room.1
       ∙ rw append_assoc)
+
+-- ---- computed of what was written
+
+-- the name of a column, where the expression is one
+abbrev pub column_name : Layer → Option Name
+column_name (Expr-F.Column None wanted) = Some wanted
+column_name _ = None
+
+-- the same of what is shown, where it has no other name
+abbrev pub shown_name : ShownLayer → Option Name
+shown_name (Shown-F.One e None text) = column_name (out-Expr e)
+shown_name _ = None
+
+abbrev pub output_in : Table → Option ℕ → Option Output
+output_in table None = None
+output_in table (Some place) = option_map (output_of table place) (slice_get table.columns place)
+
+abbrev pub output_named : Table → Option Name → Option Output
+output_named table None = None
+output_named table (Some wanted) = output_in table (column_named table wanted)
+
+module _ (table : Table) (s : Shown) (o : Output) where
+  at_place : (e : Expr) (wanted text : Name) (place : ℕ) → out-Shown s ≡ Shown-F.One e None text → out-Expr e ≡ Expr-F.Column None wanted
+      → column_named table wanted ≡ Some place → (c : Option Column) → slice_get table.columns place ≡ c
+      → option_map (output_of table place) c ≡ Some o → ShowsOne table s o
+  at_place e wanted text place written is named None there h = absurd cc
+  at_place e wanted text place written is named (Some column) there h = record {
+    e = e;
+    wanted = wanted;
+    text = text;
+    place = place;
+    column = column;
+    written = written;
+    is = is;
+    named = named;
+    there = there;
+    out = cc;
+  }
+
+  by_place : (e : Expr) (wanted text : Name) → out-Shown s ≡ Shown-F.One e None text → out-Expr e ≡ Expr-F.Column None wanted
+      → (place : Option ℕ) → column_named table wanted ≡ place → output_in table place ≡ Some o → ShowsOne table s o
+  by_place e wanted text written is None named h = absurd cc
+  by_place e wanted text written is (Some place) named h =
+      at_place e wanted text place written is named (slice_get table.columns place) refl h
+
+  by_name : (e : Expr) (text : Name) → out-Shown s ≡ Shown-F.One e None text → (x : Layer) → out-Expr e ≡ x
+      → output_named table (column_name x) ≡ Some o → ShowsOne table s o
+  by_name e text written (Expr-F.Column None wanted) is h =
+      by_place e wanted text written is (column_named table wanted) refl h
+  by_name e text written _ is h = absurd cc
+
+  by_layer : (x : ShownLayer) → out-Shown s ≡ x → output_named table (shown_name x) ≡ Some o → ShowsOne table s o
+  by_layer (Shown-F.One e None text) is h = by_name e text is (out-Expr e) refl h
+  by_layer _ is h = absurd cc
+
+-- each expression names its column where each name finds one
+pub shows_named : (table : Table) (ss : List Shown) (os : List Output)
+    → map (λ s. output_named table (shown_name (out-Shown s))) ss ≡ map Some os → Shows table ss os
+shows_named table [] [] h = tt
+shows_named table [] (o ∷ os) h = absurd cc
+shows_named table (s ∷ ss) [] h = absurd cc
+shows_named table (s ∷ ss) (o ∷ os) h = (by_layer table s o (out-Shown s) refl cc, shows_named table ss os cc)
+
+-- a budget above the length of a list is enough for it, and what is above that is left
+pub has_room : (budget : ℕ) (os : List Output) → length os < budget → HasRoom budget os
+has_room budget [] h = tt
+has_room budget (o ∷ os) h = (grind arith, has_room (budget - 1) os (grind arith))
+
+pub is_left : (budget : ℕ) (os : List Output) → spent budget os ≡ budget - length os
+is_left budget [] = omega arith
+is_left budget (o ∷ os) = is_left (budget - 1) os ∙ omega arith

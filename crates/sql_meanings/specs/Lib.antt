@@ -1,4 +1,6 @@
 -- What SQL texts mean, and what they leave in tables of whole numbers.
+pub mod Calls
+pub mod Contents
 pub mod Entries
 pub mod Making
 pub mod Outcomes

@@ -18,7 +18,7 @@ use Rattle.sql_meanings.specs.Making.{CreatesOnly, IsMakeable}
 use Rattle.sql_meanings.proofs.ListedTexts.{listing_tests}
 use Rattle.sql_meanings.proofs.Creating.{Makes, compiled_create, known, told}
 use Rattle.store_rows.specs.SixTables as six
-use Rattle.store_rows.specs.Texts.{make_meta, make_branch, make_teller, make_account, make_history, make_request}
+use Rattle.store_rows.specs.declared.texts.TheConstants.{MAKE_META, MAKE_BRANCH, MAKE_TELLER, MAKE_ACCOUNT, MAKE_HISTORY, MAKE_REQUEST}
 
 abbrev is_ascii : List ℕ → Bool
 is_ascii = list_all (λ b. nat_lt b 128)
@@ -55,98 +55,98 @@ pub sequence : (t : Table) × IsMakeable sequence_text t
 unfolding everything listing_tests
 sequence = (_, makeable sequence_text _ refl refl refl refl refl refl refl refl)
 
-meta_makeable : IsMakeable make_meta six.meta
+meta_makeable : IsMakeable MAKE_META.now six.meta
 unfolding everything listing_tests
-meta_makeable = makeable make_meta six.meta refl refl refl refl refl refl refl refl
+meta_makeable = makeable MAKE_META.now six.meta refl refl refl refl refl refl refl refl
 
-meta_made : (schema : Schema) → Makes schema make_meta
+meta_made : (schema : Schema) → Makes schema MAKE_META.now
 unfolding everything
 meta_made schema = (
   _,
-  told schema make_meta _ (compiled_create schema make_meta _ _ _ refl refl refl refl refl refl),
+  told schema MAKE_META.now _ (compiled_create schema MAKE_META.now _ _ _ refl refl refl refl refl refl),
   record { command = refl; bare = refl; timeless = refl; text_is = refl; whole = lit≤ tt; nameless = refl },
 )
 
 -- the text makes the table `meta`
-pub meta_creates : CreatesOnly make_meta six.meta
-meta_creates = record { makeable = meta_makeable; free = refl; command = λ schema c is. known make_meta schema c (meta_made schema) is }
+pub meta_creates : CreatesOnly MAKE_META.now six.meta
+meta_creates = record { makeable = meta_makeable; free = refl; command = λ schema c is. known MAKE_META.now schema c (meta_made schema) is }
 
-branch_makeable : IsMakeable make_branch six.branch
+branch_makeable : IsMakeable MAKE_BRANCH.now six.branch
 unfolding everything listing_tests
-branch_makeable = makeable make_branch six.branch refl refl refl refl refl refl refl refl
+branch_makeable = makeable MAKE_BRANCH.now six.branch refl refl refl refl refl refl refl refl
 
-branch_made : (schema : Schema) → Makes schema make_branch
+branch_made : (schema : Schema) → Makes schema MAKE_BRANCH.now
 unfolding everything
 branch_made schema = (
   _,
-  told schema make_branch _ (compiled_create schema make_branch _ _ _ refl refl refl refl refl refl),
+  told schema MAKE_BRANCH.now _ (compiled_create schema MAKE_BRANCH.now _ _ _ refl refl refl refl refl refl),
   record { command = refl; bare = refl; timeless = refl; text_is = refl; whole = lit≤ tt; nameless = refl },
 )
 
 -- the text makes the table `branch`
-pub branch_creates : CreatesOnly make_branch six.branch
-branch_creates = record { makeable = branch_makeable; free = refl; command = λ schema c is. known make_branch schema c (branch_made schema) is }
+pub branch_creates : CreatesOnly MAKE_BRANCH.now six.branch
+branch_creates = record { makeable = branch_makeable; free = refl; command = λ schema c is. known MAKE_BRANCH.now schema c (branch_made schema) is }
 
-teller_makeable : IsMakeable make_teller six.teller
+teller_makeable : IsMakeable MAKE_TELLER.now six.teller
 unfolding everything listing_tests
-teller_makeable = makeable make_teller six.teller refl refl refl refl refl refl refl refl
+teller_makeable = makeable MAKE_TELLER.now six.teller refl refl refl refl refl refl refl refl
 
-teller_made : (schema : Schema) → Makes schema make_teller
+teller_made : (schema : Schema) → Makes schema MAKE_TELLER.now
 unfolding everything
 teller_made schema = (
   _,
-  told schema make_teller _ (compiled_create schema make_teller _ _ _ refl refl refl refl refl refl),
+  told schema MAKE_TELLER.now _ (compiled_create schema MAKE_TELLER.now _ _ _ refl refl refl refl refl refl),
   record { command = refl; bare = refl; timeless = refl; text_is = refl; whole = lit≤ tt; nameless = refl },
 )
 
 -- the text makes the table `teller`
-pub teller_creates : CreatesOnly make_teller six.teller
-teller_creates = record { makeable = teller_makeable; free = refl; command = λ schema c is. known make_teller schema c (teller_made schema) is }
+pub teller_creates : CreatesOnly MAKE_TELLER.now six.teller
+teller_creates = record { makeable = teller_makeable; free = refl; command = λ schema c is. known MAKE_TELLER.now schema c (teller_made schema) is }
 
-account_makeable : IsMakeable make_account six.account
+account_makeable : IsMakeable MAKE_ACCOUNT.now six.account
 unfolding everything listing_tests
-account_makeable = makeable make_account six.account refl refl refl refl refl refl refl refl
+account_makeable = makeable MAKE_ACCOUNT.now six.account refl refl refl refl refl refl refl refl
 
-account_made : (schema : Schema) → Makes schema make_account
+account_made : (schema : Schema) → Makes schema MAKE_ACCOUNT.now
 unfolding everything
 account_made schema = (
   _,
-  told schema make_account _ (compiled_create schema make_account _ _ _ refl refl refl refl refl refl),
+  told schema MAKE_ACCOUNT.now _ (compiled_create schema MAKE_ACCOUNT.now _ _ _ refl refl refl refl refl refl),
   record { command = refl; bare = refl; timeless = refl; text_is = refl; whole = lit≤ tt; nameless = refl },
 )
 
 -- the text makes the table `account`
-pub account_creates : CreatesOnly make_account six.account
-account_creates = record { makeable = account_makeable; free = refl; command = λ schema c is. known make_account schema c (account_made schema) is }
+pub account_creates : CreatesOnly MAKE_ACCOUNT.now six.account
+account_creates = record { makeable = account_makeable; free = refl; command = λ schema c is. known MAKE_ACCOUNT.now schema c (account_made schema) is }
 
-history_makeable : IsMakeable make_history six.history
+history_makeable : IsMakeable MAKE_HISTORY.now six.history
 unfolding everything listing_tests
-history_makeable = makeable make_history six.history refl refl refl refl refl refl refl refl
+history_makeable = makeable MAKE_HISTORY.now six.history refl refl refl refl refl refl refl refl
 
-history_made : (schema : Schema) → Makes schema make_history
+history_made : (schema : Schema) → Makes schema MAKE_HISTORY.now
 unfolding everything
 history_made schema = (
   _,
-  told schema make_history _ (compiled_create schema make_history _ _ _ refl refl refl refl refl refl),
+  told schema MAKE_HISTORY.now _ (compiled_create schema MAKE_HISTORY.now _ _ _ refl refl refl refl refl refl),
   record { command = refl; bare = refl; timeless = refl; text_is = refl; whole = lit≤ tt; nameless = refl },
 )
 
 -- the text makes the table `history`
-pub history_creates : CreatesOnly make_history six.history
-history_creates = record { makeable = history_makeable; free = refl; command = λ schema c is. known make_history schema c (history_made schema) is }
+pub history_creates : CreatesOnly MAKE_HISTORY.now six.history
+history_creates = record { makeable = history_makeable; free = refl; command = λ schema c is. known MAKE_HISTORY.now schema c (history_made schema) is }
 
-request_makeable : IsMakeable make_request six.request
+request_makeable : IsMakeable MAKE_REQUEST.now six.request
 unfolding everything listing_tests
-request_makeable = makeable make_request six.request refl refl refl refl refl refl refl refl
+request_makeable = makeable MAKE_REQUEST.now six.request refl refl refl refl refl refl refl refl
 
-request_made : (schema : Schema) → Makes schema make_request
+request_made : (schema : Schema) → Makes schema MAKE_REQUEST.now
 unfolding everything
 request_made schema = (
   _,
-  told schema make_request _ (compiled_create schema make_request _ _ _ refl refl refl refl refl refl),
+  told schema MAKE_REQUEST.now _ (compiled_create schema MAKE_REQUEST.now _ _ _ refl refl refl refl refl refl),
   record { command = refl; bare = refl; timeless = refl; text_is = refl; whole = lit≤ tt; nameless = refl },
 )
 
 -- the text makes the table `request`
-pub request_creates : CreatesOnly make_request six.request
-request_creates = record { makeable = request_makeable; free = refl; command = λ schema c is. known make_request schema c (request_made schema) is }
+pub request_creates : CreatesOnly MAKE_REQUEST.now six.request
+request_creates = record { makeable = request_makeable; free = refl; command = λ schema c is. known MAKE_REQUEST.now schema c (request_made schema) is }

@@ -16,7 +16,7 @@ use Rattle.sqlite_tied.specs.Compute.{everything}
 use Rattle.sql_meanings.specs.Making.{NotMade, counts_rows}
 use Rattle.sql_meanings.specs.Outcomes.{IsInterrupted, has_unique}
 use Rattle.store_rows.specs.SixTables as six
-use Rattle.store_rows.specs.Texts as text
+use Rattle.store_rows.specs.declared.texts.TheConstants as text
 use Rattle.store_rows.specs.Creation.{IsEmpty, RefusedIn, six_texts, with_first}
 
 abbrev nothing : Schema
@@ -30,27 +30,27 @@ record Takes (schema : Schema) (sql : List ℕ) (t : Table) : Type 0 where
   pub room : nat_lt (next_tree schema + length t.uniques) 65536 ≡ true
   pub counted : lacks_sequence (created schema t) ≡ false
 
-takes_meta : Takes (with_first 0 nothing) text.make_meta six.meta
+takes_meta : Takes (with_first 0 nothing) text.MAKE_META.now six.meta
 unfolding understood everything
 takes_meta = record { understood = refl; free = refl; free_indexes = refl; room = refl; counted = refl }
 
-takes_branch : Takes (with_first 1 nothing) text.make_branch six.branch
+takes_branch : Takes (with_first 1 nothing) text.MAKE_BRANCH.now six.branch
 unfolding understood everything
 takes_branch = record { understood = refl; free = refl; free_indexes = refl; room = refl; counted = refl }
 
-takes_teller : Takes (with_first 2 nothing) text.make_teller six.teller
+takes_teller : Takes (with_first 2 nothing) text.MAKE_TELLER.now six.teller
 unfolding understood everything
 takes_teller = record { understood = refl; free = refl; free_indexes = refl; room = refl; counted = refl }
 
-takes_account : Takes (with_first 3 nothing) text.make_account six.account
+takes_account : Takes (with_first 3 nothing) text.MAKE_ACCOUNT.now six.account
 unfolding understood everything
 takes_account = record { understood = refl; free = refl; free_indexes = refl; room = refl; counted = refl }
 
-takes_history : Takes (with_first 4 nothing) text.make_history six.history
+takes_history : Takes (with_first 4 nothing) text.MAKE_HISTORY.now six.history
 unfolding understood everything
 takes_history = record { understood = refl; free = refl; free_indexes = refl; room = refl; counted = refl }
 
-takes_request : Takes (with_first 5 nothing) text.make_request six.request
+takes_request : Takes (with_first 5 nothing) text.MAKE_REQUEST.now six.request
 unfolding understood everything
 takes_request = record { understood = refl; free = refl; free_indexes = refl; room = refl; counted = refl }
 
@@ -86,12 +86,12 @@ each_taken made next is e h = go made is h
         not_refused schema sql t takes e (subst (λ (it : List ℕ × Table). NotMade schema it.0 it.1 e) (sym same) refused)
 
     go : (n : ℕ) → slice_get six_texts n ≡ Some next → NotMade (with_first n nothing) next.0 next.1 e → ⊥
-    go zero found = this _ text.make_meta six.meta takes_meta (same_next _ next found)
-    go (suc zero) found = this _ text.make_branch six.branch takes_branch (same_next _ next found)
-    go (suc (suc zero)) found = this _ text.make_teller six.teller takes_teller (same_next _ next found)
-    go (suc (suc (suc zero))) found = this _ text.make_account six.account takes_account (same_next _ next found)
-    go (suc (suc (suc (suc zero)))) found = this _ text.make_history six.history takes_history (same_next _ next found)
-    go (suc (suc (suc (suc (suc zero))))) found = this _ text.make_request six.request takes_request (same_next _ next found)
+    go zero found = this _ text.MAKE_META.now six.meta takes_meta (same_next _ next found)
+    go (suc zero) found = this _ text.MAKE_BRANCH.now six.branch takes_branch (same_next _ next found)
+    go (suc (suc zero)) found = this _ text.MAKE_TELLER.now six.teller takes_teller (same_next _ next found)
+    go (suc (suc (suc zero))) found = this _ text.MAKE_ACCOUNT.now six.account takes_account (same_next _ next found)
+    go (suc (suc (suc (suc zero)))) found = this _ text.MAKE_HISTORY.now six.history takes_history (same_next _ next found)
+    go (suc (suc (suc (suc (suc zero))))) found = this _ text.MAKE_REQUEST.now six.request takes_request (same_next _ next found)
     go (suc (suc (suc (suc (suc (suc n)))))) found = λ refused. let none = found in cc
 
 -- a new bank's meta has no UNIQUE

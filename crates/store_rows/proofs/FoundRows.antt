@@ -2,6 +2,9 @@
 use Rattle.std.proofs.Common.{◌≡◌, ℤ, inl, inr, Option, Some, None, option_map, Result, Ok, Err, refl, ap}
 use Rattle.sqlite.specs.Order.{Row, column}
 use Rattle.sqlite.specs.State.{State, IsUnchanged}
+use Rattle.sqlite.specs.declared.error.Error.TheVariants.{QueryReturnedNoRows}
+use Rattle.sql_meanings.specs.Outcomes.{TellsRow}
+use Rattle.sql_meanings.proofs.OnlyShowing.{no_rows_error}
 use Rattle.posting_rules.specs.declared.fault.Rule.{Rule}
 use Rattle.posting_rules.specs.declared.fault.Rule.TheVariants.{Balance}
 use Rattle.store_rows.specs.declared.faults.TableFault.{TableFault}
@@ -25,6 +28,13 @@ module _ {X : Type 0} (old new : State) (shown : X → Row) (Breaks : X → Rule
   found_err None fault told read = absurd (let e = told.0 in cc)
   found_err (Some y) (Sqlite e) told read = inr (inl (read y (the_row told.0)), told.1)
   found_err (Some y) (Damaged broken) told read = ((y, refl, read y (the_row told.0)), told.1)
+
+  -- no row is told where none was looked for
+  pub found_none : (wanted : Option X) → TellsRow old new (option_map shown wanted) (Err QueryReturnedNoRows) → Finds old new wanted Breaks (Ok None)
+  found_none None (inl none) = (refl, none.2)
+  found_none (Some y) (inl none) = absurd (let e = none.1 in cc)
+  found_none wanted (inr (inl fails)) = absurd (no_rows_error fails.0 fails.1)
+  found_none wanted (inr (inr limit)) = absurd (let e = limit.0 in cc)
 
 -- the balance of a row of one balance
 pub reads_balance : (row : Row) (r : Result ℤ TableFault) → ReadsCents Balance (column row 0) r → ReadsRow balance_shown IsNoBalance row r

@@ -28,12 +28,15 @@ use Rattle.sql_meanings.proofs.OnlyShowing.{only_understood}
 use Rattle.sql_meanings.proofs.ReadRows.{reads_two}
 use Rattle.sql_meanings.proofs.ReadTables.{ReadsAs}
 use Rattle.sql_meanings.proofs.Selects.{select_by_two}
-use Rattle.sql_meanings.proofs.ShownColumns.{output_of}
+use Rattle.sql_meanings.proofs.ShownColumns.{outputs_at, shows_named}
 use Rattle.sql_meanings.proofs.Statements.{HasTable}
+use Rattle.sql_meanings.proofs.Texts.{IsSelect, only_reads, select_of}
 use Rattle.store_rows.specs.Columns.{request_shown, request_in}
 use Rattle.store_rows.specs.SixTables.{request}
-use Rattle.store_rows.specs.Texts.{get_request}
+use Rattle.store_rows.specs.declared.texts.TheConstants.{GET_REQUEST}
 use Rattle.store_rows.specs.View.{Shows, request_entry}
+use Rattle.store_rows.proofs.BankTables.{holds}
+use Rattle.store_rows.proofs.TheTables.{requests}
 use Rattle.store_rows.proofs.RowLists.{same_number, shown_by, shown_itself}
 
 by_tid : (tree : ℕ) → Tests (placed_at request tree) (codes "tid") 2
@@ -44,11 +47,17 @@ by_number : (tree : ℕ) → Tests (placed_at request tree) (codes "number") 3
 unfolding everything
 by_number tree = record { place = 2; column = number_column (codes "number"); named = refl; there = refl; is_at = refl; by_bytes = refl }
 
+
 abbrev outputs : ℕ → List Output
-outputs tree = output_of (placed_at request tree) 0 (key_column (codes "ordinal")) ∷ output_of (placed_at request tree) 1 (number_column (codes "tid")) ∷ output_of (placed_at request tree) 2 (number_column (codes "number")) ∷ output_of (placed_at request tree) 3 (number_column (codes "aid")) ∷ output_of (placed_at request tree) 4 (number_column (codes "bid")) ∷ output_of (placed_at request tree) 5 (number_column (codes "delta")) ∷ output_of (placed_at request tree) 6 (number_column (codes "outcome")) ∷ output_of (placed_at request tree) 7 (number_column (codes "balance")) ∷ []
+outputs tree = outputs_at (placed_at request tree) (0 ∷ 1 ∷ 2 ∷ 3 ∷ 4 ∷ 5 ∷ 6 ∷ 7 ∷ [])
 
 abbrev project : List Term
 project = col 1 0 ∷ col 1 2 ∷ col 1 3 ∷ col 1 4 ∷ col 1 5 ∷ col 1 6 ∷ col 1 7 ∷ col 1 8 ∷ []
+
+is_get : IsSelect request GET_REQUEST.now 2 (0 ∷ 1 ∷ 2 ∷ 3 ∷ 4 ∷ 5 ∷ 6 ∷ 7 ∷ [])
+unfolding everything
+is_get = select_of request GET_REQUEST.now 2 _ _ _ _ _ _ _ _ _ refl refl refl (lit≤ tt) refl refl refl refl
+    (λ tree. refl) (lit≤ tt)
 
 module _ (schema : Schema) (p tree : ℕ) (has : HasTable schema (codes "request") p (placed_at request tree)) where
   typed : program.program schema [] (ungrouped (Inner tree ∷ []) (two_are 2 3) (outputs tree) false [] no_limit (number 0))
@@ -56,117 +65,12 @@ module _ (schema : Schema) (p tree : ℕ) (has : HasTable schema (codes "request
   unfolding program.program ungrouped
   typed = rw (has.low, has.found)
 
-  meant : Means schema get_request 2 (Select (record { lets = []; body = by_two 2 3 tree project }) (codes "ordinal" ∷ codes "tid" ∷ codes "number" ∷ codes "aid" ∷ codes "bid" ∷ codes "delta" ∷ codes "outcome" ∷ codes "balance" ∷ []))
-  unfolding everything
+  meant : Means schema GET_REQUEST.now 2 (Select (record { lets = []; body = by_two 2 3 tree project }) (codes "ordinal" ∷ codes "tid" ∷ codes "number" ∷ codes "aid" ∷ codes "bid" ∷ codes "delta" ∷ codes "outcome" ∷ codes "balance" ∷ []))
+  unfolding everything is_get
   meant =
-      means schema get_request 2 _ _ (select_by_two schema (codes "request") p (placed_at request tree) has get_request _ _ _ _ _ _ _ _ _ _ _ _ (codes "tid") (codes "number") 2 1 3 2
+      means schema GET_REQUEST.now 2 _ _ (select_by_two schema (codes "request") p (placed_at request tree) has GET_REQUEST.now is_get.P is_get.s is_get.core is_get.source is_get.shown _ _ _ _ _ _ _ (codes "tid") (codes "number") 2 1 3 2
       (by_tid tree) (by_number tree) (outputs tree) _
-      refl refl refl refl refl refl refl refl refl refl refl refl refl (
-        record { e = _; wanted = _; text = _; place = 0; column = _; written = refl; is = refl; named = refl; there = refl; out = refl },
-        (
-          record {
-            e = _;
-            wanted = _;
-            text = _;
-            place = 1;
-            column = _;
-            written = refl;
-            is = refl;
-            named = refl;
-            there = refl;
-            out =
-                refl;
-          },
-          (
-            record {
-              e = _;
-              wanted = _;
-              text = _;
-              place = 2;
-              column = _;
-              written = refl;
-              is = refl;
-              named = refl;
-              there = refl;
-              out =
-                  refl;
-            },
-            (
-              record {
-                e = _;
-                wanted = _;
-                text = _;
-                place = 3;
-                column = _;
-                written = refl;
-                is = refl;
-                named = refl;
-                there = refl;
-                out =
-                    refl;
-              },
-              (
-                record {
-                  e = _;
-                  wanted = _;
-                  text = _;
-                  place = 4;
-                  column = _;
-                  written = refl;
-                  is = refl;
-                  named = refl;
-                  there = refl;
-                  out =
-                      refl;
-                },
-                (
-                  record {
-                    e = _;
-                    wanted = _;
-                    text = _;
-                    place = 5;
-                    column = _;
-                    written = refl;
-                    is = refl;
-                    named = refl;
-                    there = refl;
-                    out = refl;
-                  },
-                  (
-                    record {
-                      e = _;
-                      wanted = _;
-                      text = _;
-                      place = 6;
-                      column = _;
-                      written = refl;
-                      is = refl;
-                      named = refl;
-                      there = refl;
-                      out = refl;
-                    },
-                    (
-                      record {
-                        e = _;
-                        wanted = _;
-                        text = _;
-                        place = 7;
-                        column = _;
-                        written = refl;
-                        is = refl;
-                        named = refl;
-                        there = refl;
-                        out = refl;
-                      },
-                      tt,
-                    ),
-                  ),
-                ),
-              ),
-            ),
-          ),
-        ),
-      )
+      refl refl refl refl refl refl refl refl refl refl refl refl refl (shows_named (placed_at request tree) is_get.shown (outputs tree) (is_get.shows tree))
       (refl, (refl, (refl, (refl, (refl, (refl, (refl, (refl, tt))))))))
       (number_at schema p (placed_at request tree) has.listed (codes "request") (outputs tree) false 1 (number_column (codes "tid")) refl refl)
       (number_at schema p (placed_at request tree) has.listed (codes "request") (outputs tree) false 2 (number_column (codes "number")) refl refl)
@@ -177,7 +81,7 @@ module _ (schema : Schema) (p tree : ℕ) (has : HasTable schema (codes "request
   unfolding everything
   accepts a b = rw (has.low, has.found)
 
-reads : (a b : ℤ) → ReadsAs request get_request (Int a ∷ Int b ∷ []) (λ t. by_two 2 3 t project)
+reads : (a b : ℤ) → ReadsAs request GET_REQUEST.now (Int a ∷ Int b ∷ []) (λ t. by_two 2 3 t project)
 reads a b = record { names = codes "ordinal" ∷ codes "tid" ∷ codes "number" ∷ codes "aid" ∷ codes "bid" ∷ codes "delta" ∷ codes "outcome" ∷ codes "balance" ∷ []; means = meant; accepts = λ schema p tree has. accepts schema p tree has a b; unfolded = λ _. refl; ungrouped = λ _. refl }
 
 has_both : (a b : ℕ) (r : RequestRow) → has_two (pos a) (pos b) (request_entry r) ≡ ((r.teller == a) && (r.number == b))
@@ -185,7 +89,7 @@ has_both a b r = rw (same_number r.teller a, same_number r.number b) refl
 
 -- it tells the request of the teller under the number
 pub tells : (old new : State) (t : Tables) (a b : ℕ) (r : Result Row Error) → Shows old.now t
-    → QueriesRowInside get_request (Int (pos a) ∷ Int (pos b) ∷ []) old new r
+    → QueriesRowInside GET_REQUEST.now (Int (pos a) ∷ Int (pos b) ∷ []) old new r
     → TellsRow old new (option_map request_shown (request_in t a b)) r
 tells old new t a b r shows h =
     subst (λ o. TellsRow old new o r)
@@ -193,10 +97,9 @@ tells old new t a b r shows h =
     request_shown (λ x. x) (λ _. refl)
     (has_two (pos a) (pos b)) (λ x. (x.teller == a) && (x.number == b)) (has_both a b) t.requests
     ∙ shown_itself request_shown (request_in t a b))
-    (reads_two old new request refl shows.sound _ shows.requests get_request project (pos a) (pos b) refl refl
+    (reads_two old new request refl shows.sound _ (holds requests old.now t shows) GET_REQUEST.now project (pos a) (pos b) refl refl
     (reads (pos a) (pos b)) r h)
 
 -- under any schema it only shows rows
-pub only : (schema : Schema) → OnlyShows get_request 2 (understood schema get_request)
-unfolding everything
-only schema = only_understood get_request 2 _ _ refl refl refl (lit≤ tt) refl schema
+pub only : (schema : Schema) → OnlyShows GET_REQUEST.now 2 (understood schema GET_REQUEST.now)
+only = only_reads is_get

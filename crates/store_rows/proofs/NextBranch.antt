@@ -27,23 +27,32 @@ use Rattle.sql_meanings.proofs.OnlyShowing.{only_understood}
 use Rattle.sql_meanings.proofs.ReadRows.{reads_next}
 use Rattle.sql_meanings.proofs.ReadTables.{ReadsAs}
 use Rattle.sql_meanings.proofs.Above.{select_above}
-use Rattle.sql_meanings.proofs.ShownColumns.{output_of}
+use Rattle.sql_meanings.proofs.ShownColumns.{outputs_at, shows_named}
 use Rattle.sql_meanings.proofs.Statements.{HasTable}
+use Rattle.sql_meanings.proofs.Texts.{IsSelect, only_reads, select_of}
 use Rattle.store_rows.specs.Columns.{branch_shown, branch_above}
 use Rattle.store_rows.specs.SixTables.{branch}
-use Rattle.store_rows.specs.Texts.{next_branch}
+use Rattle.store_rows.specs.declared.texts.TheConstants.{NEXT_BRANCH}
 use Rattle.store_rows.specs.View.{Shows, branch_entry}
+use Rattle.store_rows.proofs.BankTables.{holds}
+use Rattle.store_rows.proofs.TheTables.{branches}
 use Rattle.store_rows.proofs.RowLists.{is_row_above, shown_by, shown_itself}
 
 by_id : (tree : ℕ) → Tests (placed_at branch tree) (codes "bid") 0
 unfolding everything
 by_id tree = record { place = 0; column = key_column (codes "bid"); named = refl; there = refl; is_at = refl; by_bytes = refl }
 
+
 abbrev outputs : ℕ → List Output
-outputs tree = output_of (placed_at branch tree) 0 (key_column (codes "bid")) ∷ output_of (placed_at branch tree) 1 (number_column (codes "accounts")) ∷ output_of (placed_at branch tree) 2 (number_column (codes "balance")) ∷ []
+outputs tree = outputs_at (placed_at branch tree) (0 ∷ 1 ∷ 2 ∷ [])
 
 abbrev project : List Term
 project = col 1 0 ∷ col 1 2 ∷ col 1 3 ∷ []
+
+is_next : IsSelect branch NEXT_BRANCH.now 1 (0 ∷ 1 ∷ 2 ∷ [])
+unfolding everything
+is_next = select_of branch NEXT_BRANCH.now 1 _ _ _ _ _ _ _ _ _ refl refl refl (lit≤ tt) refl refl refl refl
+    (λ tree. refl) (lit≤ tt)
 
 module _ (schema : Schema) (p tree : ℕ) (has : HasTable schema (codes "branch") p (placed_at branch tree)) where
   typed : program.program schema [] (ungrouped (Inner tree ∷ []) key_above (outputs tree) false ascending (lit (Int (pos 1))) (number 0))
@@ -51,44 +60,11 @@ module _ (schema : Schema) (p tree : ℕ) (has : HasTable schema (codes "branch"
   unfolding program.program ungrouped
   typed = rw (has.low, has.found)
 
-  meant : Means schema next_branch 1 (Select (record { lets = []; body = next_above tree project }) (codes "bid" ∷ codes "accounts" ∷ codes "balance" ∷ []))
-  unfolding everything by_id
+  meant : Means schema NEXT_BRANCH.now 1 (Select (record { lets = []; body = next_above tree project }) (codes "bid" ∷ codes "accounts" ∷ codes "balance" ∷ []))
+  unfolding everything is_next by_id
   meant =
-      means schema next_branch 1 _ _ (select_above schema (codes "branch") p (placed_at branch tree) has next_branch _ _ _ _ _ _ _ _ _ _ _ (codes "bid") _ _ 0 1 (by_id tree) (outputs tree) _
-      refl refl refl refl refl refl refl refl refl refl refl refl refl refl (
-        record { e = _; wanted = _; text = _; place = 0; column = _; written = refl; is = refl; named = refl; there = refl; out = refl },
-        (
-          record {
-            e = _;
-            wanted = _;
-            text = _;
-            place = 1;
-            column = _;
-            written = refl;
-            is = refl;
-            named = refl;
-            there = refl;
-            out =
-                refl;
-          },
-          (
-            record {
-              e = _;
-              wanted = _;
-              text = _;
-              place = 2;
-              column = _;
-              written = refl;
-              is = refl;
-              named = refl;
-              there = refl;
-              out =
-                  refl;
-            },
-            tt,
-          ),
-        ),
-      )
+      means schema NEXT_BRANCH.now 1 _ _ (select_above schema (codes "branch") p (placed_at branch tree) has NEXT_BRANCH.now is_next.P is_next.s is_next.core is_next.source is_next.shown _ _ _ _ _ _ (codes "bid") _ _ 0 1 (by_id tree) (outputs tree) _
+      refl refl refl refl refl refl refl refl refl refl refl refl refl refl (shows_named (placed_at branch tree) is_next.shown (outputs tree) (is_next.shows tree))
       (refl, (refl, (refl, tt)))
       (key_at schema (codes "branch") p (outputs tree) false) refl refl refl refl refl
       typed) refl (lit≤ tt) refl refl refl
@@ -97,12 +73,12 @@ module _ (schema : Schema) (p tree : ℕ) (has : HasTable schema (codes "branch"
   unfolding everything
   accepts k = rw (has.low, has.found)
 
-reads : (k : ℤ) → ReadsAs branch next_branch (Int k ∷ []) (λ t. next_above t project)
+reads : (k : ℤ) → ReadsAs branch NEXT_BRANCH.now (Int k ∷ []) (λ t. next_above t project)
 reads k = record { names = codes "bid" ∷ codes "accounts" ∷ codes "balance" ∷ []; means = meant; accepts = λ schema p tree has. accepts schema p tree has k; unfolded = λ _. refl; ungrouped = λ _. refl }
 
 -- it tells the row with the least key above
 pub tells : (old new : State) (t : Tables) (k : ℕ) (r : Result Row Error) → Shows old.now t
-    → QueriesRowInside next_branch (Int (pos k) ∷ []) old new r
+    → QueriesRowInside NEXT_BRANCH.now (Int (pos k) ∷ []) old new r
     → TellsRow old new (option_map branch_shown (branch_above t k)) r
 tells old new t k r shows h =
     subst (λ o. TellsRow old new o r)
@@ -110,9 +86,8 @@ tells old new t k r shows h =
     (λ _. refl)
     (is_above (pos k)) (λ x. nat_lt k x.branch) (is_row_above branch_key branch_entry (λ _. refl) k) t.branches
     ∙ shown_itself branch_shown (branch_above t k))
-    (reads_next old new branch refl shows.sound _ shows.branches next_branch project (pos k) (reads (pos k)) r h)
+    (reads_next old new branch refl shows.sound _ (holds branches old.now t shows) NEXT_BRANCH.now project (pos k) (reads (pos k)) r h)
 
 -- under any schema it only shows rows
-pub only : (schema : Schema) → OnlyShows next_branch 1 (understood schema next_branch)
-unfolding everything
-only schema = only_understood next_branch 1 _ _ refl refl refl (lit≤ tt) refl schema
+pub only : (schema : Schema) → OnlyShows NEXT_BRANCH.now 1 (understood schema NEXT_BRANCH.now)
+only = only_reads is_next

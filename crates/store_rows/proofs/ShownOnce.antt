@@ -18,8 +18,11 @@ use Rattle.posting_rules.specs.declared.rows.HistoryRow.{HistoryRow}
 use Rattle.posting_rules.specs.declared.rows.RequestRow.{RequestRow}
 use Rattle.sql_meanings.specs.Entries.{Entry, stored}
 use Rattle.sql_meanings.specs.Tables.{Holds}
-use Rattle.sql_meanings.proofs.Trees.{Holds-prop, same_schema}
-use Rattle.store_rows.specs.View.{Shows, ShowsTrees, meta_entry, branch_entry, teller_entry, account_entry, history_entry, request_entry}
+use Rattle.sql_meanings.specs.Contents.{HoldsEach}
+use Rattle.sql_meanings.proofs.Contents.{HoldsEach-prop}
+use Rattle.sql_meanings.proofs.Trees.{same_schema}
+use Rattle.store_rows.specs.SixTables.{bank_tables}
+use Rattle.store_rows.specs.View.{Shows, ShowsTrees, contents, meta_entry, branch_entry, teller_entry, account_entry, history_entry, request_entry}
 use Rattle.store_rows.proofs.KeptRows.{decode, decoded}
 
 -- what can be told back is told once
@@ -101,28 +104,43 @@ request_back r = ap (λ o. let it : RequestRow = record r {
 
 -- ---- one bank
 
-module _ {R : Type 0} (entry : R → Entry) (back : Entry → R) (same : (r : R) → back (entry r) ≡ r) where
-  one_table : (db : Database) (table : Table) (xs ys : List R) → Holds db table (map entry xs) → Holds db table (map entry ys) → xs ≡ ys
-  one_table db table xs ys p q =
-      lists_once entry back same xs ys (lists_once stored entry_in entry_back (map entry xs) (map entry ys) (sym p.rows.are ∙ q.rows.are))
+-- the tables of the entries that a file holds
+tables_in : List (List Entry) → Tables
+tables_in (a ∷ b ∷ c ∷ d ∷ e ∷ f ∷ more) = record {
+  meta = map meta_in a;
+  branches = map branch_in b;
+  tellers = map teller_in c;
+  accounts = map account_in d;
+  history = map history_in e;
+  requests = map request_in f;
+}
+tables_in _ = record { meta = []; branches = []; tellers = []; accounts = []; history = []; requests = [] }
+
+tables_back : (t : Tables) → tables_in (contents t) ≡ t
+unfolding tables_in
+tables_back t = rw (
+  all_back meta_entry meta_in (λ _. refl) t.meta,
+  all_back branch_entry branch_in (λ _. refl) t.branches,
+  all_back teller_entry teller_in (λ _. refl) t.tellers,
+  all_back account_entry account_in (λ _. refl) t.accounts,
+  all_back history_entry history_in (λ _. refl) t.history,
+  all_back request_entry request_in request_back t.requests,
+) refl
+
+entries_once : (db : Database) (table : Table) (xs ys : List Entry) → Holds db table xs → Holds db table ys → xs ≡ ys
+entries_once db table xs ys p q = lists_once stored entry_in entry_back xs ys (sym p.rows.are ∙ q.rows.are)
+
+each_once : (db : Database) (tables : List Table) (xs ys : List (List Entry)) → HoldsEach db tables xs → HoldsEach db tables ys → xs ≡ ys
+each_once db [] [] [] p q = refl
+each_once db [] [] (y ∷ ys) p q = absurd q
+each_once db [] (x ∷ xs) ys p q = absurd p
+each_once db (t ∷ tables) [] ys p q = absurd p
+each_once db (t ∷ tables) (x ∷ xs) [] p q = absurd q
+each_once db (t ∷ tables) (x ∷ xs) (y ∷ ys) p q =
+    let one = entries_once db t x y p.0 q.0 in let rest = each_once db tables xs ys p.1 q.1 in cc
 
 one_database : (db : Database) (a b : Tables) → Shows db a → Shows db b → a ≡ b
-one_database db a b p q =
-    let meta : a.meta ≡ b.meta = one_table meta_entry meta_in (λ _. refl) db _ a.meta b.meta p.meta q.meta in
-    let branches : a.branches ≡ b.branches = one_table branch_entry branch_in
-    (λ _. refl) db _ a.branches b.branches p.branches q.branches in
-    let tellers : a.tellers ≡ b.tellers = one_table teller_entry teller_in (λ _. refl) db _ a.tellers b.tellers p.tellers q.tellers in
-    let accounts : a.accounts ≡ b.accounts = one_table account_entry account_in
-    (λ _. refl) db _ a.accounts b.accounts p.accounts q.accounts in
-    let history : a.history ≡ b.history = one_table history_entry history_in (λ _. refl) db _ a.history b.history p.history q.history in
-    let requests : a.requests ≡ b.requests = one_table request_entry request_in request_back db _ a.requests b.requests p.requests
-    q.requests in
-    ap (λ x. let t : Tables = record a { meta = x } in t) meta
-    ∙ ap (λ x. let t : Tables = record a { meta = b.meta; branches = x } in t) branches
-    ∙ ap (λ x. let t : Tables = record a { meta = b.meta; branches = b.branches; tellers = x } in t) tellers
-    ∙ ap (λ x. let t : Tables = record b { accounts = x; history = a.history; requests = a.requests } in t) accounts
-    ∙ ap (λ x. let t : Tables = record b { history = x; requests = a.requests } in t) history
-    ∙ ap (λ x. let t : Tables = record b { requests = x } in t) requests
+one_database db a b p q = sym (tables_back a) ∙ ap tables_in (each_once db bank_tables (contents a) (contents b) p.each q.each) ∙ tables_back b
 
 -- what a connection shows its trees show
 pub to_trees : (db : Database) (t : Tables) → Shows db t → ShowsTrees db.trees t
@@ -143,7 +161,7 @@ one_bank trees a b p q =
 
 -- the view is a proposition
 pub Shows-prop : (db : Database) (t : Tables) → IsProp (Shows db t)
-Shows-prop db t = hlevel Holds-prop
+Shows-prop db t = let each = HoldsEach-prop db bank_tables (contents t) in hlevel each
 
 -- so is what trees show
 pub ShowsTrees-prop : (trees : Trees) (t : Tables) → IsProp (ShowsTrees trees t)

@@ -35,12 +35,19 @@ all_made a b c d e f g p q r s t u sound alone =
     record {
       shows = record {
         sound = ∣ sound ∣₁;
-        meta = meta.0;
-        branches = (still_empty b c g six.branch sound q cg).0;
-        tellers = (still_empty c d g six.teller sound r dg).0;
-        accounts = (still_empty d e g six.account sound s eg).0;
-        history = (still_empty e f g six.history sound t fg).0;
-        requests = (still_empty f g g six.request sound u (keeps_itself g)).0;
+        each = (
+          meta.0,
+          (
+            (still_empty b c g six.branch sound q cg).0,
+            (
+              (still_empty c d g six.teller sound r dg).0,
+              (
+                (still_empty d e g six.account sound s eg).0,
+                ((still_empty e f g six.history sound t fg).0, ((still_empty f g g six.request sound u (keeps_itself g)).0, tt)),
+              ),
+            ),
+          ),
+        );
       };
       keeps = λ t h. (ag.has t h, ag.rows t h);
       alone = alone;

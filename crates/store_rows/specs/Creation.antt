@@ -17,7 +17,7 @@ use Rattle.sql_meanings.specs.Outcomes.{GoesOn, HasWideIndex, IsInterrupted, IsU
 use Rattle.sql_meanings.specs.Tables.{tree_of}
 use Rattle.store_rows.specs.Outcomes.{IsForbidden}
 use Rattle.store_rows.specs.SixTables as six
-use Rattle.store_rows.specs.Texts as text
+use Rattle.store_rows.specs.declared.texts.TheConstants as text
 use Rattle.store_rows.specs.View.{Shows}
 
 -- no rows at all
@@ -31,8 +31,8 @@ new_tables = record no_rows { meta = record { id = 1; version = 1; decided = 0 }
 -- the six texts, each with its table
 abbrev pub six_texts : List (List ℕ × Table)
 six_texts =
-    (text.make_meta, six.meta) ∷ (text.make_branch, six.branch) ∷ (text.make_teller, six.teller) ∷ (text.make_account, six.account)
-    ∷ (text.make_history, six.history) ∷ (text.make_request, six.request) ∷ []
+    (text.MAKE_META.now, six.meta) ∷ (text.MAKE_BRANCH.now, six.branch) ∷ (text.MAKE_TELLER.now, six.teller) ∷ (text.MAKE_ACCOUNT.now, six.account)
+    ∷ (text.MAKE_HISTORY.now, six.history) ∷ (text.MAKE_REQUEST.now, six.request) ∷ []
 
 -- the schema with the first so many of them more, and nothing else
 abbrev pub with_first : ℕ → Schema → Schema

@@ -1,7 +1,6 @@
 -- The six tables of a bank, as `sqlite` understands them.
-use Rattle.std.specs.Prelude.{[], ◌∷◌, codes, pos}
+use Rattle.std.specs.Prelude.{List, [], ◌∷◌, codes, pos}
 use Rattle.sqlite.specs.Table.{Table}
-use Rattle.sqlite.specs.Schema.{Schema}
 use Rattle.sqlite.specs.Collation.TheVariants.{Binary}
 use Rattle.sqlite.specs.Term.{lit, col, op2}
 use Rattle.sqlite.specs.declared.types.Value.TheVariants.{Int}
@@ -9,7 +8,6 @@ use Rattle.sqlite_sql.specs.declared.ops.BinaryOp.TheVariants.{Compare}
 use Rattle.sqlite_sql.specs.declared.ops.CompareOp.TheVariants.{Eq}
 use Rattle.sqlite_value.specs.Keys.{plain}
 use Rattle.sql_meanings.specs.Plain.{plain_table}
-use Rattle.sql_meanings.specs.Tables.{Defines}
 
 -- one row, since its key must be 1
 abbrev pub meta : Table
@@ -41,12 +39,6 @@ request = record (plain_table (codes "request") (codes "ordinal")
       orders = plain ∷ [];
     }
 
--- the schema defines the six tables, whatever else it has
-pub record DefinesAll (schema : Schema) : Type 0 where
-  pub meta : Defines schema meta
-  pub branches : Defines schema branch
-  pub tellers : Defines schema teller
-  pub accounts : Defines schema account
-  -- the postings, by the ordinal of their request
-  pub history : Defines schema history
-  pub requests : Defines schema request
+-- all of them; another table of the bank is one more here
+abbrev pub bank_tables : List Table
+bank_tables = meta ∷ branch ∷ teller ∷ account ∷ history ∷ request ∷ []

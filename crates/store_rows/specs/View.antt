@@ -1,5 +1,5 @@
 -- The one view of a database as the tables of a bank.
-use Rattle.std.specs.Prelude.{pos, [], ◌∷◌, map}
+use Rattle.std.specs.Prelude.{pos, List, [], ◌∷◌, map}
 use Rattle.sqlite.specs.Schema.{Schema}
 use Rattle.sqlite.specs.Tree.{Trees}
 use Rattle.sqlite.specs.Effect.{Database, IsDatabase}
@@ -12,8 +12,8 @@ use Rattle.posting_rules.specs.declared.rows.AccountRow.{AccountRow}
 use Rattle.posting_rules.specs.declared.rows.HistoryRow.{HistoryRow}
 use Rattle.posting_rules.specs.declared.rows.RequestRow.{RequestRow}
 use Rattle.sql_meanings.specs.Entries.{Entry}
-use Rattle.sql_meanings.specs.Tables.{Holds}
-use Rattle.store_rows.specs.SixTables as six
+use Rattle.sql_meanings.specs.Contents.{HoldsEach}
+use Rattle.store_rows.specs.SixTables.{bank_tables}
 
 -- ---- how a file holds the rows: the key, and the other columns in their order
 
@@ -47,15 +47,16 @@ request_entry r = record {
 
 -- ---- the view
 
--- a sound database defines the six tables and holds these rows by rising keys, whatever else it has
+-- the rows of each table as a file holds them, in the order of `bank_tables`
+abbrev pub contents : Tables → List (List Entry)
+contents t =
+    map meta_entry t.meta ∷ map branch_entry t.branches ∷ map teller_entry t.tellers ∷ map account_entry t.accounts
+    ∷ map history_entry t.history ∷ map request_entry t.requests ∷ []
+
+-- a sound database defines the tables of a bank and holds these rows by rising keys, whatever else it has
 pub record Shows (db : Database) (t : Tables) : Type 0 where
   pub sound : ∥ IsDatabase db ∥₁
-  pub meta : Holds db six.meta (map meta_entry t.meta)
-  pub branches : Holds db six.branch (map branch_entry t.branches)
-  pub tellers : Holds db six.teller (map teller_entry t.tellers)
-  pub accounts : Holds db six.account (map account_entry t.accounts)
-  pub history : Holds db six.history (map history_entry t.history)
-  pub requests : Holds db six.request (map request_entry t.requests)
+  pub each : HoldsEach db bank_tables (contents t)
 
 -- the same of bare trees, which tell their schema: this is what a stop may leave
 abbrev pub ShowsTrees : Trees → Tables → Type 0

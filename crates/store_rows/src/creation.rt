@@ -8,6 +8,9 @@ ghost use Rattle.sql_meanings.specs.Outcomes.{WriteKept, WritesKept, MakesTold};
 ghost use Rattle.store_rows.specs.View.{Shows};
 ghost use Rattle.store_rows.specs.Creation.{no_rows, new_tables, MakesAll, StartsBank, CreatesBank, CreationFails, HasNewBank};
 
+use crate::texts::{
+    ADD_META, MAKE_ACCOUNT, MAKE_BRANCH, MAKE_HISTORY, MAKE_META, MAKE_REQUEST, MAKE_TELLER,
+};
 use sqlite::{Alter, Connection, Error, Transaction, params};
 
 /// The version of the tables.
@@ -34,30 +37,12 @@ fn make_tables<S: Alter>(tx: &mut Transaction<'_, S>) -> Result<(), Error>
         → WritesKept (state S.Store tx.old.conn.now) (state S.Store tx.new.conn.now) result }
     ensures survives { Survives (state S.Store tx.old.conn.now) (state S.Store tx.new.conn.now) (λ _. ⊥) }
 {
-    make_table(
-        tx,
-        "CREATE TABLE meta (id INTEGER PRIMARY KEY CHECK (id = 1), version INTEGER NOT NULL, decided INTEGER NOT NULL) STRICT",
-    )?;
-    make_table(
-        tx,
-        "CREATE TABLE branch (bid INTEGER PRIMARY KEY, accounts INTEGER NOT NULL, balance INTEGER NOT NULL) STRICT",
-    )?;
-    make_table(
-        tx,
-        "CREATE TABLE teller (tid INTEGER PRIMARY KEY, balance INTEGER NOT NULL) STRICT",
-    )?;
-    make_table(
-        tx,
-        "CREATE TABLE account (aid INTEGER PRIMARY KEY, balance INTEGER NOT NULL) STRICT",
-    )?;
-    make_table(
-        tx,
-        "CREATE TABLE history (ordinal INTEGER PRIMARY KEY, aid INTEGER NOT NULL, tid INTEGER NOT NULL, bid INTEGER NOT NULL, delta INTEGER NOT NULL, moment INTEGER NOT NULL) STRICT",
-    )?;
-    make_table(
-        tx,
-        "CREATE TABLE request (ordinal INTEGER PRIMARY KEY, tid INTEGER NOT NULL, number INTEGER NOT NULL, aid INTEGER NOT NULL, bid INTEGER NOT NULL, delta INTEGER NOT NULL, outcome INTEGER NOT NULL, balance INTEGER NOT NULL, UNIQUE (tid, number)) STRICT",
-    )?;
+    make_table(tx, MAKE_META)?;
+    make_table(tx, MAKE_BRANCH)?;
+    make_table(tx, MAKE_TELLER)?;
+    make_table(tx, MAKE_ACCOUNT)?;
+    make_table(tx, MAKE_HISTORY)?;
+    make_table(tx, MAKE_REQUEST)?;
     Ok(())
 }
 
@@ -72,7 +57,7 @@ fn add_meta<S: Alter>(tx: &mut Transaction<'_, S>) -> Result<usize, Error>
     ensures survives { Survives (state S.Store tx.old.conn.now) (state S.Store tx.new.conn.now) (λ _. ⊥) }
 {
     tx.execute(
-        "INSERT INTO meta (id, version, decided) VALUES (?1, ?2, ?3)",
+        ADD_META,
         params![1i64, VERSION, 0i64],
     )
 }

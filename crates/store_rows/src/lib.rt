@@ -12,7 +12,9 @@ mod laws;
 mod metas;
 mod probes;
 mod requests;
+mod statements;
 mod tellers;
+mod texts;
 
 pub use accounts::{account_balance, add_account, set_account_balance};
 pub use branches::{add_branch, find_branch, next_branch, set_branch_balance};

@@ -6,6 +6,9 @@ ghost use Rattle.sqlite.specs.Held.{state};
 ghost use Rattle.sql_meanings.specs.Outcomes.{is_refusal as refuses_text, OnlyShows, TellsProbe, TellsUnderstood};
 ghost use Rattle.store_rows.specs.SixTables.{meta, branch, teller, account, history, request};
 
+use crate::texts::{
+    PROBE_ACCOUNT, PROBE_BRANCH, PROBE_HISTORY, PROBE_META, PROBE_REQUEST, PROBE_TELLER,
+};
 use sqlite::{Alter, Connection, Error};
 
 // Whether the error says that a text isn't understood.
@@ -36,7 +39,7 @@ pub fn probe_meta<S: Alter>(conn: &mut Connection<S>) -> Result<bool, Error>
     ensures mode { conn.old.in_transaction ≡ false → conn.new.in_transaction ≡ false }
     ensures survives { Survives (state S.Store conn.old) (state S.Store conn.new) (λ _. ⊥) }
 {
-    is_understood(conn, "SELECT id, version, decided FROM meta")
+    is_understood(conn, PROBE_META)
 }
 
 /// Whether the table of branches can be read; every other error is told.
@@ -46,7 +49,7 @@ pub fn probe_branches<S: Alter>(conn: &mut Connection<S>) -> Result<bool, Error>
     ensures mode { conn.old.in_transaction ≡ false → conn.new.in_transaction ≡ false }
     ensures survives { Survives (state S.Store conn.old) (state S.Store conn.new) (λ _. ⊥) }
 {
-    is_understood(conn, "SELECT bid, accounts, balance FROM branch")
+    is_understood(conn, PROBE_BRANCH)
 }
 
 /// Whether the table of tellers can be read; every other error is told.
@@ -56,7 +59,7 @@ pub fn probe_tellers<S: Alter>(conn: &mut Connection<S>) -> Result<bool, Error>
     ensures mode { conn.old.in_transaction ≡ false → conn.new.in_transaction ≡ false }
     ensures survives { Survives (state S.Store conn.old) (state S.Store conn.new) (λ _. ⊥) }
 {
-    is_understood(conn, "SELECT tid, balance FROM teller")
+    is_understood(conn, PROBE_TELLER)
 }
 
 /// Whether the table of accounts can be read; every other error is told.
@@ -66,7 +69,7 @@ pub fn probe_accounts<S: Alter>(conn: &mut Connection<S>) -> Result<bool, Error>
     ensures mode { conn.old.in_transaction ≡ false → conn.new.in_transaction ≡ false }
     ensures survives { Survives (state S.Store conn.old) (state S.Store conn.new) (λ _. ⊥) }
 {
-    is_understood(conn, "SELECT aid, balance FROM account")
+    is_understood(conn, PROBE_ACCOUNT)
 }
 
 /// Whether the table of postings can be read; every other error is told.
@@ -76,10 +79,7 @@ pub fn probe_history<S: Alter>(conn: &mut Connection<S>) -> Result<bool, Error>
     ensures mode { conn.old.in_transaction ≡ false → conn.new.in_transaction ≡ false }
     ensures survives { Survives (state S.Store conn.old) (state S.Store conn.new) (λ _. ⊥) }
 {
-    is_understood(
-        conn,
-        "SELECT ordinal, aid, tid, bid, delta, moment FROM history",
-    )
+    is_understood(conn, PROBE_HISTORY)
 }
 
 /// Whether the table of decided requests can be read; every other error is told.
@@ -89,8 +89,5 @@ pub fn probe_requests<S: Alter>(conn: &mut Connection<S>) -> Result<bool, Error>
     ensures mode { conn.old.in_transaction ≡ false → conn.new.in_transaction ≡ false }
     ensures survives { Survives (state S.Store conn.old) (state S.Store conn.new) (λ _. ⊥) }
 {
-    is_understood(
-        conn,
-        "SELECT ordinal, tid, number, aid, bid, delta, outcome, balance FROM request",
-    )
+    is_understood(conn, PROBE_REQUEST)
 }

@@ -1,19 +1,14 @@
 -- What the look-up tells.
-use Rattle.std.proofs.Common.{arith}
-use Rattle.sqlite.specs.Held.{state}
-use Rattle.sql_meanings.proofs.OnlyShowing.{kept_reading}
-use Rattle.store_rows.proofs.GetBranch.{only, tells}
-use Rattle.store_rows.proofs.Lookups.{as_integer}
+use Rattle.std.proofs.Common.{rules}
+use Rattle.sql_meanings.proofs.Texts.{only_reads}
+use Rattle.store_rows.proofs.Getting.{is_get_branch}
+use Rattle.store_rows.proofs.RowsUnder.{tells_branch}
 use Rattle.store_rows.proofs.branches.branch_row.Goals as goal
 
-pub returns-clause-told : goal.returns-clause-told
-returns-clause-told g c clean t shows =
-    tells (state g.S.Store c.args.tx.now.conn.now) (state g.S.Store c.query_row.new.self.conn.now) t c.args.branch c.query_row.result
-    shows
-    (rw (c.params-to_sql.ensures, as_integer c.get-key.result c.args.branch c.get-key.ensures.value (omega arith)) at
-    (c.query_row.ensures.row clean))
-
-pub returns-clause-kept : goal.returns-clause-kept
-returns-clause-kept g c clean =
-    kept_reading (state g.S.Store c.args.tx.now.conn.now) (state g.S.Store c.query_row.new.self.conn.now) _ _ c.query_row.result
-    (only c.args.tx.now.conn.now.schema) (c.query_row.ensures.row clean)
+pub returns : goal.returns
+returns g c = record {
+  told = λ clean t shows. tells_branch _ _ t c.args.branch shows c.row_under.result (rw c.get.ensures.value at (c.row_under.ensures.told clean));
+  kept = λ clean. c.row_under.ensures.kept clean (only_reads is_get_branch c.args.tx.now.conn.now.schema);
+  same_reference = search rules;
+  survives = search rules;
+}

@@ -1,22 +1,19 @@
 -- What the write leaves.
-use Rattle.std.proofs.Common.{◌≡◌, Err, rules, arith, refl}
-use Rattle.sqlite.specs.Held.{state}
-use Rattle.store_rows.proofs.SetMeta.{fails, tells}
+use Rattle.std.proofs.Common.{pos, refl, rules, arith, lit≤}
+use Rattle.posting_rules.specs.Changes.{with_decided}
+use Rattle.store_rows.proofs.BankTables.{tells_write}
 use Rattle.store_rows.proofs.Lookups.{as_integer}
+use Rattle.store_rows.proofs.Setting.{sets_meta, set_second}
+use Rattle.store_rows.proofs.TheTables.{meta}
 use Rattle.store_rows.proofs.metas.set_decided.Goals as goal
 
-pub returns-clause-told : goal.returns-clause-told
-returns-clause-told g c clean live t shows =
-    tells (state g.S.Store c.args.tx.now.conn.now) (state g.S.Store c.execute.new.self.conn.now) t c.args.decided c.in_ok-count.count
-    shows
-    (rw (c.params-to_sql.ensures, c.params-to_sql-2.ensures, as_integer c.args.decided c.args.decided refl (omega arith))
-    at (c.in_ok-count.ensures.runs clean live))
-
-pub returns-in_err-count-clause-told : goal.returns-in_err-count-clause-told
-returns-in_err-count-clause-told g c clean live t shows =
-    let e = c.in_err-count in
-    let same : c.from_residual.result ≡ Err e.field-0.0 = search rules in
-    rw same
-    (fails (state g.S.Store c.args.tx.now.conn.now) (state g.S.Store c.execute.new.self.conn.now) t c.args.decided e.field-0.0 shows
-    (rw (c.params-to_sql.ensures, c.params-to_sql-2.ensures, as_integer c.args.decided c.args.decided refl (omega arith))
-    at (e.ensures.runs clean live)))
+pub returns : goal.returns
+unfolding with_decided
+returns g c = record {
+  told = λ clean live t shows. tells_write meta _ _ t shows _ 1 _ (λ r. record r { decided = c.args.decided }) (set_second (pos c.args.decided))
+      (sets_meta (pos c.args.decided)) (λ _. refl) (lit≤ tt) c.write_under.result
+      (rw (as_integer c.args.decided c.args.decided refl (omega arith)) at (c.write_under.ensures.told clean live));
+  kept = search rules;
+  same_reference = search rules;
+  survives = search rules;
+}

@@ -1,14 +1,9 @@
 -- What acceptance and refusal say.
 use Rattle.std.proofs.Common.{refl}
-use Rattle.sqlite.specs.Held.{state}
 use Rattle.sql_meanings.proofs.Probing.{tells_probe}
-use Rattle.store_rows.specs.SixTables.{account}
-use Rattle.store_rows.specs.Texts.{probe_account}
-use Rattle.store_rows.proofs.ProbeAccount.{probes}
+use Rattle.store_rows.proofs.Probing.{probes_account}
 use Rattle.store_rows.proofs.probes.probe_accounts.Goals as goal
 
 pub returns-clause-told : goal.returns-clause-told
 returns-clause-told g c clean =
-    tells_probe account probe_account probes refl (state g.S.Store c.args.conn.now)
-    (state g.S.Store c.is_understood.new.conn) c.is_understood.result
-    (c.is_understood.ensures.told clean (probes.shows c.args.conn.now.schema))
+    tells_probe _ _ probes_account refl _ _ c.is_understood.result (c.is_understood.ensures.told clean (probes_account.shows c.args.conn.now.schema))

@@ -1,14 +1,9 @@
 -- What acceptance and refusal say.
 use Rattle.std.proofs.Common.{refl}
-use Rattle.sqlite.specs.Held.{state}
 use Rattle.sql_meanings.proofs.Probing.{tells_probe}
-use Rattle.store_rows.specs.SixTables.{meta}
-use Rattle.store_rows.specs.Texts.{probe_meta}
-use Rattle.store_rows.proofs.ProbeMeta.{probes}
+use Rattle.store_rows.proofs.Probing.{probes_meta}
 use Rattle.store_rows.proofs.probes.probe_meta.Goals as goal
 
 pub returns-clause-told : goal.returns-clause-told
 returns-clause-told g c clean =
-    tells_probe meta probe_meta probes refl (state g.S.Store c.args.conn.now)
-    (state g.S.Store c.is_understood.new.conn) c.is_understood.result
-    (c.is_understood.ensures.told clean (probes.shows c.args.conn.now.schema))
+    tells_probe _ _ probes_meta refl _ _ c.is_understood.result (c.is_understood.ensures.told clean (probes_meta.shows c.args.conn.now.schema))

@@ -1,16 +1,17 @@
 -- What the row tells.
 use Rattle.std.proofs.Common.{◌≡◌, Err, rules}
-use Rattle.sqlite.specs.Held.{state}
 use Rattle.store_rows.specs.Columns.{request_in, request_shown}
 use Rattle.store_rows.specs.Outcomes.{IsNoRequest}
 use Rattle.store_rows.proofs.FoundRows.{found_err}
 use Rattle.store_rows.proofs.requests.find_request.Goals as goal
 
-pub returns-in_err-request_from-in-Ok-clause-told : goal.returns-in_err-request_from-in-Ok-clause-told
-returns-in_err-request_from-in-Ok-clause-told g c clean t shows =
+pub returns-in_err-request_from-in-Ok : goal.returns-in_err-request_from-in-Ok
+returns-in_err-request_from-in-Ok g c =
     let e = c.in_err-request_from-in-Ok in
     let same : c.from_residual.result ≡ Err e.field-0.0 = search rules in
-    rw same
-    (found_err (state g.S.Store c.args.tx.now.conn.now) (state g.S.Store c.request_row.new.tx.conn.now) request_shown IsNoRequest
-    c.in-Ok.row (request_in t c.args.teller c.args.number) e.field-0.0
-    (c.in-Ok.ensures.told clean t shows) e.ensures)
+    record {
+      told = λ clean t shows. rw same (found_err _ _ request_shown IsNoRequest c.in-Ok.row (request_in t c.args.teller c.args.number) e.field-0.0 (c.in-Ok.ensures.told clean t shows) e.ensures);
+      kept = search rules;
+      same_reference = search rules;
+      survives = search rules;
+    }

@@ -1,25 +1,20 @@
 -- What the look-up tells.
-use Rattle.std.proofs.Common.{arith}
-use Rattle.sqlite.specs.Held.{state}
+use Rattle.std.proofs.Common.{arith, rules}
 use Rattle.sql_meanings.proofs.OnlyShowing.{kept_reading}
 use Rattle.store_rows.proofs.GetRequest.{only, tells}
 use Rattle.store_rows.proofs.Lookups.{as_integer}
 use Rattle.store_rows.proofs.requests.request_row.Goals as goal
 
-pub returns-clause-told : goal.returns-clause-told
-returns-clause-told g c clean t shows =
-    tells (state g.S.Store c.args.tx.now.conn.now) (state g.S.Store c.query_row.new.self.conn.now) t c.args.teller c.args.number
-    c.query_row.result shows
-    (rw (
-      c.params-to_sql.ensures,
-      c.params-to_sql-2.ensures,
-      as_integer c.get-first.result c.args.teller c.get-first.ensures.value
-          (omega arith),
-      as_integer c.get-second.result c.args.number c.get-second.ensures.value (omega arith),
-    ) at
-    (c.query_row.ensures.row clean))
-
-pub returns-clause-kept : goal.returns-clause-kept
-returns-clause-kept g c clean =
-    kept_reading (state g.S.Store c.args.tx.now.conn.now) (state g.S.Store c.query_row.new.self.conn.now) _ _ c.query_row.result
-    (only c.args.tx.now.conn.now.schema) (c.query_row.ensures.row clean)
+pub returns : goal.returns
+returns g c = record {
+  told = λ clean t shows. tells _ _ t c.args.teller c.args.number c.query_row.result shows
+      (rw (
+        c.params-to_sql.ensures,
+        c.params-to_sql-2.ensures,
+        as_integer c.get-first.result c.args.teller c.get-first.ensures.value (omega arith),
+        as_integer c.get-second.result c.args.number c.get-second.ensures.value (omega arith),
+      ) at (c.query_row.ensures.row clean));
+  kept = λ clean. kept_reading _ _ _ _ c.query_row.result (only c.args.tx.now.conn.now.schema) (c.query_row.ensures.row clean);
+  same_reference = search rules;
+  survives = search rules;
+}

@@ -1,36 +1,19 @@
 -- What the write leaves.
-use Rattle.std.proofs.Common.{◌≡◌, Err, rules, arith}
-use Rattle.sqlite.specs.Held.{state}
-use Rattle.store_rows.proofs.SetTeller.{fails, tells}
-use Rattle.store_rows.proofs.Lookups.{as_amount, as_integer}
+use Rattle.std.proofs.Common.{pos, refl, rules, arith}
+use Rattle.posting_rules.specs.Changes.{with_teller_balance}
+use Rattle.store_rows.proofs.BankTables.{tells_write}
+use Rattle.store_rows.proofs.Lookups.{as_amount}
+use Rattle.store_rows.proofs.Setting.{sets_teller, set_first}
+use Rattle.store_rows.proofs.TheTables.{tellers}
 use Rattle.store_rows.proofs.tellers.set_teller_balance.Goals as goal
 
-pub returns-clause-told : goal.returns-clause-told
-returns-clause-told g c clean live t shows =
-    tells (state g.S.Store c.args.tx.now.conn.now) (state g.S.Store c.execute.new.self.conn.now) t c.args.teller c.args.balance
-    c.in_ok-count.count shows
-    (rw (
-      c.params-to_sql.ensures,
-      c.params-to_sql-2.ensures,
-      as_integer c.get-key.result c.args.teller c.get-key.ensures.value
-          (omega arith),
-      as_amount c.get-amount.result c.args.balance c.get-amount.ensures.value c.get-amount.ensures.least
-          c.get-amount.ensures.most,
-    )
-    at (c.in_ok-count.ensures.runs clean live))
-
-pub returns-in_err-count-clause-told : goal.returns-in_err-count-clause-told
-returns-in_err-count-clause-told g c clean live t shows =
-    let e = c.in_err-count in
-    let same : c.from_residual.result ≡ Err e.field-0.0 = search rules in
-    rw same
-    (fails (state g.S.Store c.args.tx.now.conn.now) (state g.S.Store c.execute.new.self.conn.now) t c.args.teller c.args.balance e.field-0.0 (omega arith) shows
-    (rw (
-      c.params-to_sql.ensures,
-      c.params-to_sql-2.ensures,
-      as_integer c.get-key.result c.args.teller c.get-key.ensures.value
-          (omega arith),
-      as_amount c.get-amount.result c.args.balance c.get-amount.ensures.value c.get-amount.ensures.least
-          c.get-amount.ensures.most,
-    )
-    at (e.ensures.runs clean live)))
+pub returns : goal.returns
+unfolding with_teller_balance
+returns g c = record {
+  told = λ clean live t shows. tells_write tellers _ _ t shows _ c.args.teller _ (λ r. record r { balance = c.args.balance })
+      (set_first c.args.balance) (sets_teller (pos c.args.teller) c.args.balance) (λ _. refl) (omega arith) c.write_under.result
+      (rw (c.get.ensures.value, as_amount c.get-2.result c.args.balance c.get-2.ensures.value c.get-2.ensures.least c.get-2.ensures.most) at (c.write_under.ensures.told clean live));
+  kept = search rules;
+  same_reference = search rules;
+  survives = search rules;
+}

@@ -1,16 +1,18 @@
--- What the balance of the row tells.
-use Rattle.std.proofs.Common.{◌≡◌, Err, rules}
-use Rattle.sqlite.specs.Held.{state}
-use Rattle.store_rows.specs.Columns.{teller_balance_in, balance_shown}
-use Rattle.store_rows.specs.Outcomes.{IsNoBalance}
-use Rattle.store_rows.proofs.FoundRows.{found_err, reads_balance}
+-- What stands under the number.
+use Rattle.std.proofs.Common.{pos, refl, rules}
+use Rattle.sql_meanings.proofs.Texts.{only_reads}
+use Rattle.store_rows.specs.Columns.{teller_balance_in, teller_balance_of, balance_shown}
+use Rattle.store_rows.proofs.BankTables.{tells_row}
+use Rattle.store_rows.proofs.Getting.{is_get_teller, reads_teller}
+use Rattle.store_rows.proofs.TheTables.{tellers}
 use Rattle.store_rows.proofs.tellers.teller_balance.Goals as goal
 
-pub returns-in_err-cents_at-in-Ok-clause-told : goal.returns-in_err-cents_at-in-Ok-clause-told
-returns-in_err-cents_at-in-Ok-clause-told g c clean t shows =
-    let e = c.in_err-cents_at-in-Ok in
-    let same : c.from_residual.result ≡ Err e.field-0.0 = search rules in
-    rw same
-    (found_err (state g.S.Store c.args.tx.now.conn.now) (state g.S.Store c.balance_row.new.tx.conn.now) balance_shown IsNoBalance
-    c.in-Ok.row (teller_balance_in t c.args.teller) e.field-0.0
-    (c.in-Ok.ensures.told clean t shows) (reads_balance c.in-Ok.row (Err e.field-0.0) e.ensures))
+pub returns : goal.returns
+returns g c = record {
+  told = λ clean t shows. c.balance_under.ensures.told clean (teller_balance_in t c.args.teller) (λ row h.
+      tells_row tellers _ _ t shows _ _ c.args.teller (reads_teller (pos c.args.teller)) balance_shown teller_balance_of (λ _. refl) row
+      (rw c.get.ensures.value at h));
+  kept = λ clean. c.balance_under.ensures.kept clean (only_reads is_get_teller c.args.tx.now.conn.now.schema);
+  same_reference = search rules;
+  survives = search rules;
+}

@@ -1,0 +1,151 @@
+-- What a text means of a table in whatever schema, by what is computed of the text alone.
+use Rattle.std.proofs.Common.{◌≡◌, ◌≤◌, ◌<◌, ℕ, ℤ, List, [], ◌∷◌, length, map, Ok, Err, Some, None, Option, refl, true, false, ap, arith}
+use Rattle.std.proofs.lemmas.List.{length-map}
+use Rattle.sqlite.specs.Listing.{listing_schema, understood}
+use Rattle.sqlite.specs.Query.{inner, end}
+use Rattle.sqlite.specs.Schema.{Schema}
+use Rattle.sqlite.specs.Table.{Table}
+use Rattle.sqlite.specs.Term.{Term}
+use Rattle.sqlite.specs.declared.types.Value.TheVariants.{Int}
+use Rattle.sqlite_ast.specs.declared.Binary.TheVariants as binary
+use Rattle.sqlite_ast.specs.declared.Core.{Core, out-Core}
+use Rattle.sqlite_ast.specs.declared.Expr.{Expr, out-Expr}
+use Rattle.sqlite_ast.specs.declared.Expr.TheOpen.{Expr-F}
+use Rattle.sqlite_ast.specs.declared.Select as written_select
+use Rattle.sqlite_ast.specs.declared.Select.{out-Select}
+use Rattle.sqlite_ast.specs.declared.Shown.{Shown, out-Shown}
+use Rattle.sqlite_ast.specs.declared.Sort.{Sort}
+use Rattle.sqlite_ast.specs.declared.Source.{Source as From}
+use Rattle.sqlite_ast.specs.declared.Statement.TheVariants as written
+use Rattle.sqlite_draft.specs.declared.join.Step.TheVariants.{Inner}
+use Rattle.sqlite_resolve.specs.Compile.{compiled, first}
+use Rattle.sqlite_resolve.specs.Program as prog
+use Rattle.sqlite_resolve.specs.Scope.{Name}
+use Rattle.sqlite_resolve.specs.Select.{ungrouped}
+use Rattle.sqlite_resolve.specs.Terms.{number}
+use Rattle.sqlite_resolve.specs.declared.error.CompileError.TheVariants.{NoSuchTable}
+use Rattle.sqlite_syntax.specs.declared.statement.Parsed.{Parsed}
+use Rattle.sqlite_typing.specs.Types.{accepts_program}
+use Rattle.sql_meanings.specs.Outcomes.{OnlyShows}
+use Rattle.sql_meanings.specs.Queries.{by_key, key_is, no_limit, query}
+use Rattle.sql_meanings.specs.Tables.{placed_at}
+use Rattle.sql_meanings.proofs.ByKey.{Tests, key_at}
+use Rattle.sql_meanings.proofs.Means.{means}
+use Rattle.sql_meanings.proofs.OnlyShowing.{only_understood}
+use Rattle.sql_meanings.proofs.Probing.{ProbesAs, refuses_query, understood_missing}
+use Rattle.sql_meanings.proofs.ReadTables.{ReadsAs}
+use Rattle.sql_meanings.proofs.Selects.{one_table, select_all, select_by_key}
+use Rattle.sql_meanings.proofs.ShownColumns.{has_room, is_left, output_named, outputs_at, shown_name, shows_named, spent}
+use Rattle.sql_meanings.proofs.Statements.{HasTable}
+
+-- a SELECT as it is written: it shows the columns at these places of one table
+pub record IsSelect (table : Table) (text : List ℕ) (count : ℕ) (places : List ℕ) : Type 0 where
+  pub P : Parsed
+  pub s : written_select.Select
+  pub core : Core
+  pub source : From
+  pub shown : List Shown
+  pub filter : Option Expr
+  pub order : List Sort
+  pub limit : Option Expr
+  pub parsed : first text ≡ Ok P
+  pub statement : P.statement ≡ written.Select s
+  pub plain : P.formats ≡ []
+  pub whole : length text ≤ P.tail
+  pub given : count ≡ length P.names
+  pub select : out-Select s ≡ record { with = []; first = core; others = []; order = order; limit = limit; offset = None }
+  pub body : out-Core core ≡ record { distinct = false; shown = shown; from = source ∷ []; filter = filter; group = []; having = None }
+  pub from : one_table table.name source
+  pub shows : (tree : ℕ) → map (λ s. output_named (placed_at table tree) (shown_name (out-Shown s))) shown
+      ≡ map Some (outputs_at (placed_at table tree) places)
+  pub few : length places < 1000
+
+-- a text is such a SELECT where that computes
+abbrev pub select_of : (table : Table) (text : List ℕ) (count : ℕ) (places : List ℕ) (P : Parsed) (s : written_select.Select) (core : Core)
+    (source : From) (shown : List Shown) (filter : Option Expr) (order : List Sort) (limit : Option Expr) → first text ≡ Ok P
+    → P.statement ≡ written.Select s → P.formats ≡ [] → length text ≤ P.tail → count ≡ length P.names
+    → out-Select s ≡ record { with = []; first = core; others = []; order = order; limit = limit; offset = None }
+    → out-Core core ≡ record { distinct = false; shown = shown; from = source ∷ []; filter = filter; group = []; having = None }
+    → one_table table.name source
+    → ((tree : ℕ) → map (λ s. output_named (placed_at table tree) (shown_name (out-Shown s))) shown
+    ≡ map Some (outputs_at (placed_at table tree) places))
+    → length places < 1000 → IsSelect table text count places
+select_of table text count places P s core source shown filter order limit parsed statement plain whole given select body from shows few =
+    record {
+      P = P;
+      s = s;
+      core = core;
+      source = source;
+      shown = shown;
+      filter = filter;
+      order = order;
+      limit = limit;
+      parsed = parsed;
+      statement = statement;
+      plain = plain;
+      whole = whole;
+      given = given;
+      select = select;
+      body = body;
+      from = from;
+      shows = shows;
+      few = few;
+    }
+
+-- under any schema it only shows rows
+pub only_reads : {table : Table} {text : List ℕ} {count : ℕ} {places : List ℕ} → IsSelect table text count places → (schema : Schema)
+    → OnlyShows text count (understood schema text)
+only_reads {table} {text} {count} {places} is = only_understood text count is.P is.s is.parsed is.statement is.plain is.whole is.given
+
+many : (table : Table) (places : List ℕ) → length places < 1000 → length (outputs_at table places) < 1000
+many table places few = simp length-map few
+
+left_over : (table : Table) (places : List ℕ) → length places < 1000 → 90000 < spent 100000 (outputs_at table places)
+left_over table places few = let n = many table places few in rw (is_left 100000 (outputs_at table places)) (omega arith)
+
+module _ (table : Table) (text : List ℕ) (places : List ℕ) where
+  -- SELECT columns FROM table
+  pub probes_by : (is : IsSelect table text 0 places) (terms : List Term)
+      → is.order ≡ [] → is.limit ≡ None
+      → is.filter ≡ None
+      → ((schema : Schema) (p tree : ℕ) → HasTable schema table.name p (placed_at table tree)
+      → prog.program schema [] (ungrouped (Inner tree ∷ []) [] (outputs_at (placed_at table tree) places) false [] no_limit (number 0))
+      ≡ Ok (record { lets = []; body = query (inner tree end) [] terms [] no_limit }))
+      → compiled listing_schema text ≡ Err NoSuchTable → ProbesAs table text
+  probes_by is terms unordered unlimited whole typed unlisted = record {
+    shows = only_reads is;
+    there = λ schema p tree has.
+        let low = many (placed_at table tree) places is.few in
+        let m = means schema text 0 _ _ (select_all schema table.name p (placed_at table tree) has text is.P is.s is.core is.source is.shown
+        (outputs_at (placed_at table tree) places) _ is.parsed is.statement is.plain (rw (unordered, unlimited) at is.select) (rw whole at is.body) is.from
+        (shows_named _ _ _ (is.shows tree)) (has_room 100000 _ (omega arith)) (typed schema p tree has)) refl is.whole is.given refl refl in (m.found, m.is);
+    missing = λ schema a b. understood_missing schema text (refuses_query schema table.name a b text is.P is.s is.core is.source [] is.parsed
+        is.statement is.plain (rw (unordered, unlimited) at is.select) (ap (λ c. c.from) is.body) (ap (λ c. c.origin) is.from)) unlisted;
+  }
+
+  -- SELECT columns FROM table WHERE key = ?1
+  pub reads_by : (is : IsSelect table text 1 places) (terms : List Term) (test a b : Expr) (wanted : Name)
+      → ((tree : ℕ) → Tests (placed_at table tree) wanted 0)
+      → is.order ≡ [] → is.limit ≡ None
+      → is.filter ≡ Some test
+      → out-Expr test ≡ Expr-F.Binary binary.Eq a b → out-Expr a ≡ Expr-F.Column None wanted → out-Expr b ≡ Expr-F.Parameter 1
+      → ((schema : Schema) (p tree : ℕ) → HasTable schema table.name p (placed_at table tree)
+      → prog.program schema [] (ungrouped (Inner tree ∷ []) key_is (outputs_at (placed_at table tree) places) false [] no_limit (number 0))
+      ≡ Ok (record { lets = []; body = by_key tree terms }))
+      → (k : ℤ) → ((schema : Schema) (p tree : ℕ) → HasTable schema table.name p (placed_at table tree)
+      → accepts_program schema [] (by_key tree terms) (Int k ∷ []) ≡ true)
+      → ReadsAs table text (Int k ∷ []) (λ tree. by_key tree terms)
+  reads_by is terms test a b wanted tests unordered unlimited filtered equal left right typed k accepts = record {
+    names = map (λ o. o.name) (outputs_at table places);
+    means = λ schema p tree has.
+        let os = outputs_at (placed_at table tree) places in
+        let low = many (placed_at table tree) places is.few in
+        let rest = left_over (placed_at table tree) places is.few in
+        means schema text 1 _ _ (select_by_key schema table.name p (placed_at table tree) has text is.P is.s is.core is.source is.shown test a b
+        wanted 0 1 (tests tree) os _ is.parsed is.statement is.plain (rw (unordered, unlimited) at is.select) (rw filtered at is.body) is.from equal left
+        right (shows_named _ _ _ (is.shows tree)) (has_room 100000 _ (omega arith)) (key_at schema table.name p os false) (grind arith) (grind arith) (grind arith)
+        (typed schema p tree has)) refl is.whole is.given refl refl;
+    accepts = accepts;
+    unfolded = λ _. refl;
+    ungrouped = λ _. refl;
+  }

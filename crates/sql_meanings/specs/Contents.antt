@@ -1,0 +1,28 @@
+-- Tables side by side in one database, each with its rows.
+use Rattle.std.specs.Prelude.{◌&&◌, ◌==◌, not, Bool, true, List, [], ◌∷◌, length}
+use Rattle.std.specs.List.{list_all}
+use Rattle.std.specs.Str.{bytes_eq}
+use Rattle.sqlite.specs.Table.{Table}
+use Rattle.sqlite.specs.Effect.{Database}
+use Rattle.sql_meanings.specs.Entries.{Entry}
+use Rattle.sql_meanings.specs.Tables.{Holds}
+
+-- the database holds each of these tables with its rows, whatever else it has
+abbrev pub HoldsEach : Database → List Table → List (List Entry) → Type 0
+HoldsEach db [] [] = Unit {0}
+HoldsEach db [] (es ∷ contents) = ⊥
+HoldsEach db (t ∷ tables) [] = ⊥
+HoldsEach db (t ∷ tables) (es ∷ contents) = Holds db t es × HoldsEach db tables contents
+
+-- no table has this one's name
+abbrev pub has_other_names : Table → List Table → Bool
+has_other_names t = list_all (λ other. not (bytes_eq t.name other.name))
+
+-- no table has a foreign key
+abbrev pub is_free : Table → Bool
+is_free t = length t.references == 0
+
+-- no table has a foreign key, and no two have one name: compared whole
+abbrev pub stand_apart : List Table → Bool
+stand_apart [] = true
+stand_apart (t ∷ tables) = is_free t && has_other_names t tables && stand_apart tables

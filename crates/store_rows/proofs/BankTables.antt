@@ -1,0 +1,155 @@
+-- The tables of the bank, each with its typed rows: what a statement on one of them leaves is said once for all.
+use Rattle.std.proofs.Common.{◌≡◌, ℕ, ◌≤◌, pos, Bool, true, cond, nat_eq, is_some, List, [], ◌∷◌, map, find, slice_get, slice_set, Some, Option, option_map, Ok, Err, Result, refl, sym, ap, subst, ◌∙◌}
+use Rattle.sqlite.specs.Order.{Row}
+use Rattle.sqlite.specs.Effect.{Database}
+use Rattle.sqlite.specs.State.{State, ExecutesInside, QueriesRowInside}
+use Rattle.sqlite.specs.Table.{Table}
+use Rattle.sqlite.specs.Term.{Term, eval_all}
+use Rattle.sqlite.specs.declared.error.Error.{Error}
+use Rattle.sqlite.specs.declared.types.Value.TheVariants.{Int}
+use Rattle.sqlite_sql.specs.Ops.{fits_i64}
+use Rattle.posting_rules.specs.Changes.{row_changed, row_put}
+use Rattle.posting_rules.specs.Tables.{Tables, row_at}
+use Rattle.sql_meanings.specs.Contents.{HoldsEach}
+use Rattle.sql_meanings.specs.Entries.{Entry, changed, has_key, stored}
+use Rattle.sql_meanings.specs.Outcomes.{Forbids, TellsRow}
+use Rattle.sql_meanings.specs.Queries.{by_key}
+use Rattle.sql_meanings.specs.Tables.{Holds}
+use Rattle.sql_meanings.proofs.Contents.{held, one_written}
+use Rattle.sql_meanings.proofs.Failures.{set_fails_as}
+use Rattle.sql_meanings.proofs.PutFailures.{refuses_insert}
+use Rattle.sql_meanings.proofs.PutRows.{PutsAs, puts_row}
+use Rattle.sql_meanings.proofs.ReadRows.{reads_key}
+use Rattle.sql_meanings.proofs.ReadTables.{ReadsAs}
+use Rattle.sql_meanings.proofs.SetFailures.{refuses_update}
+use Rattle.sql_meanings.proofs.SetRows.{ChangesAs, sets_row}
+use Rattle.sql_meanings.proofs.TableWrites.{IsOfNumbers, Leaves, spares_standing}
+use Rattle.sql_meanings.proofs.Writing.{uncounted}
+use Rattle.store_rows.specs.Faults.{added}
+use Rattle.store_rows.specs.Outcomes.{Adds, IsForbidden, Writes}
+use Rattle.store_rows.specs.SixTables.{bank_tables}
+use Rattle.store_rows.specs.Statements.{MeetsOne}
+use Rattle.store_rows.specs.View.{Shows, contents}
+use Rattle.store_rows.proofs.Failing.{adds_err, forbidden, forbidden_put, key_fits}
+use Rattle.store_rows.proofs.Lookups.{one_written as one_met}
+use Rattle.store_rows.proofs.RowLists.{changed_rows, put_rows, shown_itself, shown_row, taken_row_key}
+
+-- a table of the bank: its place among them, and how a file holds its rows
+pub record Kind (R : Type 0) : Type 0 where
+  pub place : ℕ
+  pub table : Table
+  pub key : R → ℕ
+  pub entry : R → Entry
+  pub rows : Tables → List R
+  pub having : List R → Tables → Tables
+  pub keyed : (r : R) → (entry r).key ≡ pos (key r)
+  pub listed : slice_get bank_tables place ≡ Some (uncounted table)
+  pub has : (t : Tables) → slice_get (contents t) place ≡ Some (map entry (rows t))
+  pub replaced : (t : Tables) (rs : List R) → slice_set (contents t) place (map entry rs) ≡ contents (having rs t)
+  pub again : (t : Tables) (rs : List R) → rows (having rs t) ≡ rs
+  pub numbered : IsOfNumbers (uncounted table)
+
+module _ {R : Type 0} (kind : Kind R) where
+  abbrev table : Table
+  table = uncounted kind.table
+
+  abbrev under : Tables → ℕ → Option R
+  under t k = row_at kind.key (kind.rows t) k
+
+  -- what is shown is held
+  pub holds : (db : Database) (t : Tables) → Shows db t → Holds db table (map kind.entry (kind.rows t))
+  holds db t shows = held db bank_tables (contents t) shows.each kind.place table (map kind.entry (kind.rows t)) kind.listed (kind.has t)
+
+  -- after a write the database shows the same tables, but for this one
+  pub written : (old new : State) (t : Tables) → Shows old.now t → (rs : List R) → Leaves old new table (map kind.entry rs)
+      → Shows new.now (kind.having rs t)
+  written old new t shows rs left = record {
+    sound = ∣ left.sound ∣₁;
+    each = subst (HoldsEach new.now bank_tables) (kind.replaced t rs) (one_written old new table kind.numbered.free (map kind.entry (kind.rows t)) (map kind.entry rs)
+        (holds old.now t shows) left bank_tables (contents t) refl shows.each kind.place kind.listed);
+  }
+
+  shows_rows : (t : Tables) (rs : List R) (db : Database) → Shows db (kind.having rs t) → Holds db table (map kind.entry rs)
+  shows_rows t rs db shows = subst (λ x. Holds db table (map kind.entry x)) (kind.again t rs) (holds db (kind.having rs t) shows)
+
+  -- ---- a row more
+
+  module _ (old new : State) (t : Tables) (shows : Shows old.now t) (text : List ℕ) (params : Row) (r : R)
+      (puts : PutsAs table text params (kind.entry r)) (low : kind.key r ≤ 1_000_000_000_000) where
+    taken_is : is_some (find (has_key (kind.entry r).key) (map kind.entry (kind.rows t))) ≡ is_some (under t (kind.key r))
+    taken_is = rw (kind.keyed r) (taken_row_key kind.key kind.entry kind.keyed (kind.key r) (kind.rows t))
+
+    -- the row is there now, and each other row and table is as it was; or the key was taken; or why it isn't there
+    pub tells_added : (answer : Result ℕ Error) → ExecutesInside 0 text params old new answer
+        → Adds old new table (is_some (under t (kind.key r))) (kind.having (row_put kind.key r (kind.rows t)) t) (added answer)
+    tells_added (Ok count) h =
+        let done = puts_row old new kind.table kind.numbered shows.sound _ (holds old.now t shows) text params (kind.entry r) puts count h.0 in
+        let free = sym taken_is ∙ done.1 in
+        let rows = put_rows kind.key kind.entry kind.keyed r (kind.rows t) free in
+        (free, written old new t shows _ (subst (Leaves old new table) rows done.0), (h.1, done.0.marks), done.2)
+    tells_added (Err e) h =
+        let after = row_put kind.key r (kind.rows t) in
+        adds_err old new table _ _ _ _ e taken_is
+        (forbidden_put kind.key kind.entry kind.keyed old.now.schema (kind.having after t) table r (kind.rows t) (holds old.now t shows).rows.rise
+        (shows_rows t after))
+        (refuses_insert old new kind.table kind.numbered shows.sound _ (holds old.now t shows) text params (kind.entry r) puts
+        (subst (λ z. fits_i64 z ≡ true) (sym (kind.keyed r)) (key_fits (kind.key r) low)) e h)
+
+  -- ---- a number of a row
+
+  module _ (old new : State) (t : Tables) (shows : Shows old.now t) (text : List ℕ) (k : ℕ) (more : Row) (change : R → R)
+      (change_entry : Entry → Entry) (changes : ChangesAs table text (pos k) more change_entry)
+      (same : (r : R) → change_entry (kind.entry r) ≡ kind.entry (change r)) where
+    abbrev after : List R
+    after = row_changed kind.key change k (kind.rows t)
+
+    rows_are : changed change_entry (pos k) (map kind.entry (kind.rows t)) ≡ map kind.entry after
+    rows_are = changed_rows kind.key kind.entry kind.keyed change change_entry same k (kind.rows t)
+
+    -- the row under the key is changed, and each other row and table is as it was
+    tells_set : (count : ℕ) → ExecutesInside 0 text (Int (pos k) ∷ more) old new (Ok count)
+        → Writes old new table (is_some (under t k)) (kind.having after t) (Ok (nat_eq count 1))
+    tells_set count h =
+        let done = sets_row old new table kind.numbered shows.sound _ (holds old.now t shows) text (pos k) more change_entry changes count h.0 in (
+          one_met count _ (done.1 ∙ ap (λ b. cond b 1 0) (taken_row_key kind.key kind.entry kind.keyed k (kind.rows t))),
+          written old new t shows _ (subst (Leaves old new table) rows_are done.0),
+          (h.1, done.0.marks),
+          spares_standing old new table _ done.0,
+        )
+
+    -- why it can't be
+    fails_to_set : k ≤ 1_000_000_000_000 → (e : Error) → ExecutesInside 0 text (Int (pos k) ∷ more) old new (Err e)
+        → Writes old new table (is_some (under t k)) (kind.having after t) (Err e)
+    fails_to_set low e h =
+        set_fails_as old new table _ e (IsForbidden old.now.schema table (kind.having after t))
+        (λ none. forbidden old.now.schema (kind.having after t) table _ (shows_rows t after) (subst (Forbids old.now.schema table) rows_are none))
+        (refuses_update old new table kind.numbered shows.sound _ (holds old.now t shows) text (pos k) more change_entry changes
+        (key_fits k low) e h)
+
+    -- either
+    pub tells_write : k ≤ 1_000_000_000_000 → (answer : Result Bool Error) → MeetsOne text (Int (pos k) ∷ more) old new answer
+        → Writes old new table (is_some (under t k)) (kind.having after t) answer
+    tells_write low (Ok met) h =
+        subst (λ b. Writes old new table (is_some (under t k)) (kind.having after t) (Ok b)) (sym h.2) (tells_set h.0 h.1)
+    tells_write low (Err e) h = fails_to_set low e h
+
+  -- ---- a row under its key
+
+  -- it tells what is shown of the row
+  pub tells_row : (old new : State) (t : Tables) → Shows old.now t → (text : List ℕ) (project : List Term) (k : ℕ)
+      → ReadsAs table text (Int (pos k) ∷ []) (λ tree. by_key tree project) → {X : Type 0} (shown : X → Row) (value : R → X)
+      → ((r : R) → eval_all project ((Int (pos k) ∷ []) ∷ stored (kind.entry r) ∷ []) ≡ shown (value r))
+      → (r : Result Row Error) → QueriesRowInside text (Int (pos k) ∷ []) old new r
+      → TellsRow old new (option_map shown (option_map value (under t k))) r
+  tells_row old new t shows text project k reads shown value same r h =
+      subst (λ o. TellsRow old new o r)
+      (shown_row kind.key kind.entry kind.keyed (λ e. eval_all project ((Int (pos k) ∷ []) ∷ stored e ∷ [])) shown value same k (kind.rows t))
+      (reads_key old new table kind.numbered.free shows.sound _ (holds old.now t shows) text project (pos k) reads r h)
+
+  -- the same of the whole row
+  pub tells_whole : (old new : State) (t : Tables) → Shows old.now t → (text : List ℕ) (project : List Term) (k : ℕ)
+      → ReadsAs table text (Int (pos k) ∷ []) (λ tree. by_key tree project) → (shown : R → Row)
+      → ((r : R) → eval_all project ((Int (pos k) ∷ []) ∷ stored (kind.entry r) ∷ []) ≡ shown r)
+      → (r : Result Row Error) → QueriesRowInside text (Int (pos k) ∷ []) old new r → TellsRow old new (option_map shown (under t k)) r
+  tells_whole old new t shows text project k reads shown same r h =
+      subst (λ o. TellsRow old new o r) (shown_itself shown (under t k)) (tells_row old new t shows text project k reads shown (λ x. x) same r h)

@@ -1,0 +1,30 @@
+-- What the balance of the row tells.
+use Rattle.std.proofs.Common.{◌≡◌, [], Ok, Err, rules}
+use Rattle.sqlite.specs.declared.error.Error.TheVariants.{QueryReturnedNoRows}
+use Rattle.sql_meanings.proofs.OnlyShowing.{kept_none}
+use Rattle.store_rows.specs.Columns.{balance_shown}
+use Rattle.store_rows.specs.Outcomes.{IsNoBalance}
+use Rattle.store_rows.proofs.FoundRows.{found_err, found_none, reads_balance}
+use Rattle.store_rows.proofs.statements.balance_under.Goals as goal
+
+pub returns-in_err-cents_at-in-Ok : goal.returns-in_err-cents_at-in-Ok
+returns-in_err-cents_at-in-Ok g c =
+    let e = c.in_err-cents_at-in-Ok in
+    let same : c.from_residual.result ≡ Err e.field-0.0 = search rules in
+    record {
+      told = λ clean wanted tells. rw same (found_err _ _ balance_shown IsNoBalance c.in-Ok.row wanted e.field-0.0
+          (tells (Ok c.in-Ok.row) (c.in-Ok.ensures.told clean)) (reads_balance c.in-Ok.row (Err e.field-0.0) e.ensures));
+      kept = search rules;
+      same_reference = search rules;
+      survives = search rules;
+    }
+
+pub returns-in-Err-QueryReturnedNoRows : goal.returns-in-Err-QueryReturnedNoRows
+returns-in-Err-QueryReturnedNoRows g c =
+    let answer = rw c.in-Err-QueryReturnedNoRows.field-0-is at c.in-Err-QueryReturnedNoRows.ensures in
+    record {
+      told = λ clean wanted tells. found_none _ _ balance_shown IsNoBalance [] wanted (tells (Err QueryReturnedNoRows) (answer.told clean));
+      kept = λ clean only. kept_none _ _ (answer.kept clean only);
+      same_reference = search rules;
+      survives = search rules;
+    }

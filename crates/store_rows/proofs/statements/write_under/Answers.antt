@@ -1,0 +1,42 @@
+-- The text is run with the key and the number.
+use Rattle.std.proofs.Common.{◌≡◌, ℕ, Ok, Err, Result, rules, arith, refl}
+use Rattle.sqlite.specs.Held.{state}
+use Rattle.sqlite.specs.State.{ExecutesInside}
+use Rattle.sql_meanings.proofs.Makings.{kept_inside}
+use Rattle.std.proofs.lemmas.Int.{to_z-of_z}
+use Rattle.std.proofs.Common.{w64}
+use Rattle.store_rows.proofs.Lookups.{as_integer}
+use Rattle.store_rows.proofs.statements.write_under.Goals as goal
+
+pub returns : goal.returns
+returns g c = record {
+  told = λ clean live. (
+    c.in_ok-count.count,
+    rw (
+      c.params-to_sql.ensures,
+      c.params-to_sql-2.ensures,
+      as_integer c.args.key c.args.key refl (omega arith),
+      to_z-of_z w64 c.args.number c.ranges.number,
+    ) at (c.in_ok-count.ensures.runs clean live),
+    refl,
+  );
+  kept = search rules;
+  same_reference = search rules;
+  survives = search rules;
+}
+
+pub returns-in_err-count : goal.returns-in_err-count
+returns-in_err-count g c =
+    let e = c.in_err-count in
+    let same : c.from_residual.result ≡ Err e.field-0.0 = search rules in
+    record {
+      told = λ clean live. rw same (rw (
+        c.params-to_sql.ensures,
+        c.params-to_sql-2.ensures,
+        as_integer c.args.key c.args.key refl (omega arith),
+        to_z-of_z w64 c.args.number c.ranges.number,
+      ) at (e.ensures.runs clean live));
+      kept = search rules;
+      same_reference = search rules;
+      survives = search rules;
+    }

@@ -1,0 +1,97 @@
+//! The statements, letter for letter.
+
+/// Makes the table `meta`.
+pub(crate) const MAKE_META: &str =
+    "CREATE TABLE meta (id INTEGER PRIMARY KEY CHECK (id = 1), version INTEGER NOT NULL, decided INTEGER NOT NULL) STRICT";
+
+/// Makes the table `branch`.
+pub(crate) const MAKE_BRANCH: &str =
+    "CREATE TABLE branch (bid INTEGER PRIMARY KEY, accounts INTEGER NOT NULL, balance INTEGER NOT NULL) STRICT";
+
+/// Makes the table `teller`.
+pub(crate) const MAKE_TELLER: &str =
+    "CREATE TABLE teller (tid INTEGER PRIMARY KEY, balance INTEGER NOT NULL) STRICT";
+
+/// Makes the table `account`.
+pub(crate) const MAKE_ACCOUNT: &str =
+    "CREATE TABLE account (aid INTEGER PRIMARY KEY, balance INTEGER NOT NULL) STRICT";
+
+/// Makes the table `history`.
+pub(crate) const MAKE_HISTORY: &str =
+    "CREATE TABLE history (ordinal INTEGER PRIMARY KEY, aid INTEGER NOT NULL, tid INTEGER NOT NULL, bid INTEGER NOT NULL, delta INTEGER NOT NULL, moment INTEGER NOT NULL) STRICT";
+
+/// Makes the table `request`.
+pub(crate) const MAKE_REQUEST: &str =
+    "CREATE TABLE request (ordinal INTEGER PRIMARY KEY, tid INTEGER NOT NULL, number INTEGER NOT NULL, aid INTEGER NOT NULL, bid INTEGER NOT NULL, delta INTEGER NOT NULL, outcome INTEGER NOT NULL, balance INTEGER NOT NULL, UNIQUE (tid, number)) STRICT";
+
+/// The row of meta.
+pub(crate) const GET_META: &str = "SELECT version, decided FROM meta WHERE id = ?1";
+
+/// Another number of decided requests.
+pub(crate) const SET_META: &str = "UPDATE meta SET decided = ?2 WHERE id = ?1";
+
+/// The first row of meta.
+pub(crate) const ADD_META: &str = "INSERT INTO meta (id, version, decided) VALUES (?1, ?2, ?3)";
+
+/// A branch.
+pub(crate) const GET_BRANCH: &str = "SELECT bid, accounts, balance FROM branch WHERE bid = ?1";
+
+/// The branch with the least number above one.
+pub(crate) const NEXT_BRANCH: &str =
+    "SELECT bid, accounts, balance FROM branch WHERE bid > ?1 ORDER BY bid LIMIT 1";
+
+/// Another balance of a branch.
+pub(crate) const SET_BRANCH: &str = "UPDATE branch SET balance = ?2 WHERE bid = ?1";
+
+/// A branch more.
+pub(crate) const ADD_BRANCH: &str =
+    "INSERT INTO branch (bid, accounts, balance) VALUES (?1, ?2, ?3)";
+
+/// A teller's balance.
+pub(crate) const GET_TELLER: &str = "SELECT balance FROM teller WHERE tid = ?1";
+
+/// Another balance of a teller.
+pub(crate) const SET_TELLER: &str = "UPDATE teller SET balance = ?2 WHERE tid = ?1";
+
+/// A teller more.
+pub(crate) const ADD_TELLER: &str = "INSERT INTO teller (tid, balance) VALUES (?1, ?2)";
+
+/// An account's balance.
+pub(crate) const GET_ACCOUNT: &str = "SELECT balance FROM account WHERE aid = ?1";
+
+/// Another balance of an account.
+pub(crate) const SET_ACCOUNT: &str = "UPDATE account SET balance = ?2 WHERE aid = ?1";
+
+/// An account more.
+pub(crate) const ADD_ACCOUNT: &str = "INSERT INTO account (aid, balance) VALUES (?1, ?2)";
+
+/// A posting more.
+pub(crate) const ADD_HISTORY: &str =
+    "INSERT INTO history (ordinal, aid, tid, bid, delta, moment) VALUES (?1, ?2, ?3, ?4, ?5, ?6)";
+
+/// A decided request more.
+pub(crate) const ADD_REQUEST: &str =
+    "INSERT INTO request (ordinal, tid, number, aid, bid, delta, outcome, balance) VALUES (?1, ?2, ?3, ?4, ?5, ?6, ?7, ?8)";
+
+/// The request of a teller under a number.
+pub(crate) const GET_REQUEST: &str =
+    "SELECT ordinal, tid, number, aid, bid, delta, outcome, balance FROM request WHERE tid = ?1 AND number = ?2";
+
+/// Names every column of `meta`.
+pub(crate) const PROBE_META: &str = "SELECT id, version, decided FROM meta";
+
+/// Names every column of `branch`.
+pub(crate) const PROBE_BRANCH: &str = "SELECT bid, accounts, balance FROM branch";
+
+/// Names every column of `teller`.
+pub(crate) const PROBE_TELLER: &str = "SELECT tid, balance FROM teller";
+
+/// Names every column of `account`.
+pub(crate) const PROBE_ACCOUNT: &str = "SELECT aid, balance FROM account";
+
+/// Names every column of `history`.
+pub(crate) const PROBE_HISTORY: &str = "SELECT ordinal, aid, tid, bid, delta, moment FROM history";
+
+/// Names every column of `request`.
+pub(crate) const PROBE_REQUEST: &str =
+    "SELECT ordinal, tid, number, aid, bid, delta, outcome, balance FROM request";
