@@ -70,7 +70,7 @@ first_above (row ∷ rows) after rise =
 
 -- the branch above a number that a database shows is the one with the least number
 pub next_is : (db : Database) (t : Tables) (after : ℕ) → Shows db t → IsNextIn t.branches after (branch_above t after)
-next_is db t after shows = first_above t.branches after shows.branches.rows.rise
+next_is db t after shows = first_above t.branches after shows.each.1.0.rows.rise
 
 -- it breaks no rule of undamaged tables
 pub next_unbroken : (t : Tables) (after : ℕ) (r : BranchRow) (broken : Rule) → IsUndamaged t

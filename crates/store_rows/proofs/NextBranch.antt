@@ -18,12 +18,11 @@ use Rattle.sqlite_typing.specs.Types.{accepts_program}
 use Rattle.posting_rules.specs.Tables.{Tables, branch_key}
 use Rattle.sql_meanings.specs.Entries.{is_above, stored}
 use Rattle.sql_meanings.specs.Outcomes.{OnlyShows, TellsRow}
-use Rattle.sql_meanings.specs.Plain.{key_column, number_column}
+use Rattle.sql_meanings.specs.Plain.{key_column}
 use Rattle.sql_meanings.specs.Queries.{ascending, next_above, key_above}
 use Rattle.sql_meanings.specs.Tables.{placed_at}
 use Rattle.sql_meanings.proofs.ByKey.{Tests, key_at}
 use Rattle.sql_meanings.proofs.Means.{Means, means}
-use Rattle.sql_meanings.proofs.OnlyShowing.{only_understood}
 use Rattle.sql_meanings.proofs.ReadRows.{reads_next}
 use Rattle.sql_meanings.proofs.ReadTables.{ReadsAs}
 use Rattle.sql_meanings.proofs.Above.{select_above}
