@@ -1,6 +1,7 @@
 -- The rows of branches stay in their ranges.
-use Rattle.std.proofs.Common.{◌≡◌, ℕ, Bool, true, false, cond, eqb, List, length, get_or, sym, subst, ap, ◌∙◌, rules}
+use Rattle.std.proofs.Common.{◌≡◌, ℕ, Bool, true, false, cond, eqb, List, length, get_or, sym, subst, ap, ◌∙◌, arith, rules}
 use Rattle.std.specs.Prelude.{ℤ, All, map}
+use Rattle.std.proofs.lemmas.Grind.{common_steps}
 use Rattle.std.proofs.lemmas.List.{with_items_is}
 use Rattle.std.proofs.lemmas.List.Elements.{All-map}
 use Rattle.posting_rules.specs.declared.rows.BranchRow.{BranchRow}
@@ -33,3 +34,9 @@ invariant_of-self-in-Posted-1-clause-in_range c =
     let long : length after ≡ vec.len = search rules in
     subst (λ (rows : List BranchRow). All IsInRange rows) (sym (with_items_is vec after long ∙ is))
     (changed_in_range c.branch_of_teller-home.result c.in-Posted.branch vec.items c.args.self.now.in_range)
+
+pub returns-in-Refused-clause-tables : goal.returns-in-Refused-clause-tables
+returns-in-Refused-clause-tables c = grind (arith, common_steps)
+
+pub returns-in-Posted-clause-tables : goal.returns-in-Posted-clause-tables
+returns-in-Posted-clause-tables c = grind (arith, common_steps)
