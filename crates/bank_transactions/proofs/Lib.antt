@@ -1,6 +1,5 @@
 -- What the proofs of the transactions share.
-pub mod Adding
-pub mod Moved
+pub mod Chained
+pub mod Opened
 pub mod SoundRows
-pub mod Told
 pub mod Transacted

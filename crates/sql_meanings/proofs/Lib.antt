@@ -32,6 +32,7 @@ pub mod Referring
 pub mod Refusals
 pub mod RisingOrder
 pub mod Selects
+pub mod Saying
 pub mod SetFailures
 pub mod SetRows
 pub mod ShownColumns

@@ -1,4 +1,5 @@
 -- What SQL texts mean, and what they leave in tables of whole numbers.
+pub mod Calls
 pub mod Entries
 pub mod Making
 pub mod Outcomes
