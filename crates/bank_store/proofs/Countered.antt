@@ -1,10 +1,12 @@
 -- A transaction on a connection, as a call of a counter.
-use Rattle.std.proofs.Common.{◌≡◌, List, length, Option, Some, Err, refl, sym, subst, ◌∙◌, arith, inl, inr}
+use Rattle.std.proofs.Common.{◌≡◌, List, length, Option, Some, Result, Ok, Err, refl, sym, subst, ◌∙◌, arith, inl, inr}
 use Rattle.std.specs.Prelude.{IsSome}
 use Rattle.std.proofs.Math.Seq.{take-length}
 use Rattle.sqlite.specs.Tree.{Trees}
 use Rattle.sqlite.specs.Effect.{Database}
 use Rattle.sqlite.specs.State.{State, HasCleanDisk, Survives}
+use Rattle.sqlite.specs.Held.{Held, state}
+use Rattle.sqlite_trees.specs.declared.store.Store.{Ghosts}
 use Rattle.sqlite.proofs.StateLemmas.{survives_then}
 use Rattle.posting_rules.specs.declared.fault.Fault.{Fault}
 use Rattle.posting_rules.specs.declared.fault.Fault.TheVariants as told
@@ -18,7 +20,7 @@ use Rattle.posting_rules.proofs.Sequence.{commands_behind}
 use Rattle.store_rows.specs.View.{Shows, ShowsTrees}
 use Rattle.store_rows.specs.declared.faults.TableFault.{TableFault}
 use Rattle.store_rows.specs.declared.faults.TableFault.TheVariants.{Sqlite, Damaged}
-use Rattle.bank_transactions.specs.Doing.{Completes, Undoes}
+use Rattle.bank_transactions.specs.Doing.{Leaves, Transacts}
 use Rattle.bank_store.specs.Down.{GoesDown}
 use Rattle.bank_store.specs.Seen.{seen_in}
 
@@ -34,42 +36,15 @@ all_of_them t log cs shows = record {
 none_of_them : (t : Tables) (log cs : List Command) → Show t log → ShowsBeginning log cs 0 t
 none_of_them t log cs shows = record { count = 0; holds = omega arith; within = omega arith; shows = shows }
 
--- on sound tables, it left the change alone
-abbrev pub Changes : (Tables → Type 0) → State → State → (Tables → Tables) → Type 0
-Changes Sound old new after =
-    HasCleanDisk new → (t : Tables) → Shows old.now t → Sound t
-    → Shows new.now (after t) × ((left : Trees) → new.may_leave left → ShowsTrees left (after t))
-
 -- the tables of every log are so
 abbrev pub HoldsOfLogs : (Tables → Type 0) → Type 0
 HoldsOfLogs Sound = (t : Tables) (log : List Command) → AreCommands log → Show t log → Sound t
 
-module _ (Sound : Tables → Type 0) (holds : HoldsOfLogs Sound) (old new : State) (cs : List Command) (after : Tables → Tables) (is : IsChange after cs) where
-  shows_more : AreCommands cs → Changes Sound old new after → (D E : Type 0) → HasCleanDisk new → (log : List Command) → ShowsLog (seen_in old D) log
-      → ShowsLog (seen_in new E) (behind log cs)
-  shows_more are done D E clean log s = record {
-    commands = commands_behind log cs s.commands are;
-    tables = after s.tables;
-    are = (done clean s.tables s.are (holds s.tables log s.commands s.shows)).0;
-    shows = is s.tables log s.shows;
-  }
-
-  pub takes : (D E : Type 0) → AreCommands cs → (E → ⊥) → Changes Sound old new after → Takes (seen_in old D) (seen_in new E) cs
-  takes D E are up done = record {
-    shows = λ clean log s. shows_more are done D E clean log s;
-    stands = λ clean log at.
-        let s = at.shows in
-        let left = (done clean s.tables s.are (holds s.tables log s.commands s.shows)).1 in
-        record {
-          shows = shows_more are done D E clean log s;
-          up = up;
-          stop = λ trees may. (after s.tables, left trees may, is s.tables log s.shows);
-        };
-  }
-
-  pub cut_short : (D E : Type 0) → E → Survives old new (λ left. (t : Tables) → Shows old.now t → Sound t → ShowsTrees left (after t))
-      → IsCutShort (seen_in old D) (seen_in new E) cs
-  cut_short D E down survives = record {
+module _ {S X : Type 0} {So : Tables → Type 0} {after : Tables → Tables} {wanted : Tables → X} {g : Ghosts S} {old new : Held S} {r : Result X TableFault}
+    (holds : HoldsOfLogs So) (cs : List Command) (is : IsChange after cs) (does : Transacts g old new So after wanted r) where
+  -- a call that a fault ended: what a stop leaves is what it could leave before, or all of the call
+  pub cut_short : (end : State) (D E : Type 0) → E → Survives (state g old) end (Leaves (state g old) So after) → IsCutShort (seen_in (state g old) D) (seen_in end E) cs
+  cut_short end D E down survives = record {
     down = down;
     stop = λ clean log at trees may.
         let s = at.shows in
@@ -83,6 +58,29 @@ module _ (Sound : Tables → Type 0) (holds : HoldsOfLogs Sound) (old new : Stat
         ];
   }
 
+-- a call that was answered
+pub takes : {S X : Type 0} {So : Tables → Type 0} {after : Tables → Tables} {wanted : Tables → X} {g : Ghosts S} {old new : Held S} {x : X} (holds : HoldsOfLogs So)
+    (cs : List Command) → IsChange after cs → AreCommands cs → (D E : Type 0) → (E → ⊥) → Transacts g old new So after wanted (Ok x)
+    → Takes (seen_in (state g old) D) (seen_in (state g new) E) cs
+takes {S} {X} {So} {after} {wanted} {g} {old} {new} {x} holds cs is are D E up does =
+    let told = λ (clean : HasCleanDisk (state g new)) (log : List Command) (s : ShowsLog (seen_in (state g old) D) log).
+    does.told clean s.tables s.are (holds s.tables log s.commands s.shows) in
+    let shows = λ (clean : HasCleanDisk (state g new)) (log : List Command) (s : ShowsLog (seen_in (state g old) D) log).
+    let it : ShowsLog (seen_in (state g new) E) (behind log cs) = record {
+      commands = commands_behind log cs s.commands are;
+      tables = after s.tables;
+      are = (told clean log s).1;
+      shows = is s.tables log s.shows;
+    } in it in
+    record {
+      shows = shows;
+      stands = λ clean log at. record {
+        shows = shows clean log at.shows;
+        up = up;
+        stop = λ trees may. (after at.shows.tables, (told clean log at.shows).2 trees may, is at.shows.tables log at.shows.shows);
+      };
+    }
+
 pub is_damaged : (Sound : Tables → Type 0) (holds : HoldsOfLogs Sound) (old new : State) (D E : Type 0) → E → (HasCleanDisk new → (t : Tables) → Shows old.now t → Sound t → ⊥)
     → (HasCleanDisk new → new.now ≡ old.now) → IsDamaged (seen_in old D) (seen_in new E)
 is_damaged Sound holds old new D E down never same = record {
@@ -95,37 +93,30 @@ kept_down : (kept : Option TableFault) (fault : TableFault) → kept ≡ Some fa
 kept_down kept fault e = subst (λ (o : Option TableFault). IsSome o) (sym e) refl
 
 -- a call that a fault ended, and that brought the bank down
-pub refuses : {X : Type 0} (Sound : Tables → Type 0) (holds : HoldsOfLogs Sound) (old mid new : State) (cs : List Command) (after : Tables → Tables) (answer : Tables → X) (is : IsChange after cs) (D : Type 0)
-    (e : TableFault) (kept : Option TableFault) (fault : Fault)
-    → (HasCleanDisk mid → (t : Tables) → Shows old.now t → Sound t → Completes mid (after t) (answer t) (Err e))
-    → (HasCleanDisk mid → Undoes {X = X} old mid (Err e))
-    → Survives old mid (λ left. (t : Tables) → Shows old.now t → Sound t → ShowsTrees left (after t))
-    → GoesDown mid new e kept fault → Survives mid new (λ _. ⊥)
-    → Refuses fault (seen_in old D) (seen_in new (IsSome kept)) cs
-refuses {X} Sound holds old mid new cs after answer is D e kept fault completes undoes stop down quiet = by_fault e completes undoes down
+pub refuses : {S X : Type 0} {So : Tables → Type 0} {after : Tables → Tables} {wanted : Tables → X} (g : Ghosts S) (old mid new : Held S) (holds : HoldsOfLogs So)
+    (cs : List Command) (is : IsChange after cs) (D : Type 0) (e : TableFault) (kept : Option TableFault) (fault : Fault)
+    → Transacts {X = X} g old mid So after wanted (Err e) → GoesDown (state g mid) (state g new) e kept fault → Survives (state g mid) (state g new) (λ _. ⊥)
+    → Refuses fault (seen_in (state g old) D) (seen_in (state g new) (IsSome kept)) cs
+refuses {S} {X} {So} {after} {wanted} g old mid new holds cs is D e kept fault does down quiet = by_fault e does down
   where
-    Left : Trees → Type 0
-    Left left = (t : Tables) → Shows old.now t → Sound t → ShowsTrees left (after t)
-
-    whole : Survives old new Left
-    whole = survives_then old mid new Left (λ _. ⊥) Left (λ clean db h. h) (λ clean db none. absurd none) stop quiet
-
-    before : HasCleanDisk new → HasCleanDisk mid
+    before : HasCleanDisk (state g new) → HasCleanDisk (state g mid)
     before clean = omega (arith, quiet.clean)
 
-    failed : (g : TableFault) → kept ≡ Some g → fault ≡ told.Store → Refuses fault (seen_in old D) (seen_in new (IsSome kept)) cs
-    failed g keeps same =
-        subst (λ f. Refuses f (seen_in old D) (seen_in new (IsSome kept)) cs) (sym same)
-        (cut_short Sound holds old new cs after is D (IsSome kept) (kept_down kept g keeps) whole)
+    Refused : Fault → Type 0
+    Refused f = Refuses f (seen_in (state g old) D) (seen_in (state g new) (IsSome kept)) cs
 
-    by_fault : (f : TableFault)
-        → (HasCleanDisk mid → (t : Tables) → Shows old.now t → Sound t → Completes mid (after t) (answer t) (Err f))
-        → (HasCleanDisk mid → Undoes {X = X} old mid (Err f)) → GoesDown mid new f kept fault
-        → Refuses fault (seen_in old D) (seen_in new (IsSome kept)) cs
-    by_fault (Sqlite error) complete undo went = failed (Sqlite error) went.0 went.1
-    by_fault (Damaged rule) complete undo (inl went) =
-        subst (λ f. Refuses f (seen_in old D) (seen_in new (IsSome kept)) cs) (sym went.1)
-        (is_damaged Sound holds old new D (IsSome kept) (kept_down kept (Damaged rule) went.0)
-        (λ clean t shows sound. complete (before clean) t shows sound)
-        (λ clean. let same = went.2 clean in same.0.now_is ∙ (undo (before clean) same.0.was_open).1))
-    by_fault (Damaged rule) complete undo (inr went) = failed (Sqlite went.1.0) went.1.1 went.0
+    failed : (f : TableFault) → kept ≡ Some f → fault ≡ told.Store → Refused fault
+    failed f keeps same =
+        subst Refused (sym same)
+        (cut_short holds cs is does (state g new) D (IsSome kept) (kept_down kept f keeps)
+        (survives_then (state g old) (state g mid) (state g new) (Leaves (state g old) So after) (λ _. ⊥) (Leaves (state g old) So after)
+        (λ clean db h. h) (λ clean db none. absurd none) does.stop quiet))
+
+    by_fault : (f : TableFault) → Transacts {X = X} g old mid So after wanted (Err f) → GoesDown (state g mid) (state g new) f kept fault → Refused fault
+    by_fault (Sqlite error) it went = failed (Sqlite error) went.0 went.1
+    by_fault (Damaged rule) it (inl went) =
+        subst Refused (sym went.1)
+        (is_damaged So holds (state g old) (state g new) D (IsSome kept) (kept_down kept (Damaged rule) went.0)
+        (λ clean t shows sound. it.told (before clean) t shows sound)
+        (λ clean. let same = went.2 clean in same.0.now_is ∙ (it.undone (before clean) same.0.was_open).1))
+    by_fault (Damaged rule) it (inr went) = failed (Sqlite went.1.0) went.1.1 went.0

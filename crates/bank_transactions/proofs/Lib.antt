@@ -1,7 +1,6 @@
 -- What the proofs of the transactions share.
-pub mod Adding
-pub mod Moved
+pub mod Chained
 pub mod NextRow
+pub mod Opened
 pub mod SoundRows
-pub mod Told
 pub mod Transacted

@@ -1,5 +1,5 @@
 -- The rows of undamaged tables are sound: nothing that is read of them is told to be damaged.
-use Rattle.std.proofs.Common.{◌≡◌, ◌⊎◌, ℕ, suc, ◌≤◌, Bool, true, false, leb, List, [], ◌∷◌, Option, Some, None, refl, sym, subst, arith, inl, inr}
+use Rattle.std.proofs.Common.{◌≡◌, ◌⊎◌, ℕ, suc, ◌≤◌, Bool, true, false, leb, List, [], ◌∷◌, Option, Some, None, Err, refl, sym, subst, arith, inl, inr}
 use Rattle.std.specs.Prelude.{ℤ, nat_abs, nat_eq, is_some, ◌&&◌}
 use Rattle.std.specs.List.{find, Contains}
 use Rattle.std.proofs.lemmas.Bool.{eqb-true}
@@ -15,7 +15,11 @@ use Rattle.posting_rules.specs.Damage.{IsUndamaged, IsSoundBranch, IsSoundTeller
 use Rattle.posting_rules.specs.Tables.{Tables, row_at, branch_key, teller_key, account_key}
 use Rattle.posting_rules.proofs.Keyed.{by_test, found_passes}
 use Rattle.store_rows.specs.Columns.{teller_balance_in, account_balance_in, request_in}
-use Rattle.store_rows.specs.Outcomes.{IsNoBalance, IsNoBranch, IsNoRequest, CanBeKept}
+use Rattle.store_rows.specs.Outcomes.{Finds, IsNoBalance, IsNoBranch, IsNoRequest, CanBeKept}
+use Rattle.store_rows.specs.declared.faults.TableFault.{TableFault}
+use Rattle.store_rows.specs.declared.faults.TableFault.TheVariants.{Sqlite, Damaged}
+use Rattle.sqlite.specs.State.{State}
+use Rattle.bank_transactions.specs.Doing.{LooksUp}
 
 -- there is a value or there is none
 pub by_option : {X : Type 0} (o : Option X) → (o ≡ None) ⊎ ((x : X) × (o ≡ Some x))
@@ -145,3 +149,9 @@ request_unbroken t teller number r broken sound e breaks =
 -- the fields of a kept request are those of a request
 pub is_a_request : (a t b n : ℕ) (z : ℤ) → nat_abs z ≤ 9_999_999_999 → is_some (request_from a t b n z) ≡ false → ⊥
 is_a_request a t b n z le e = let test : leb (nat_abs z) 9_999_999_999 ≡ true = grind (arith, nat_tests) in let h = rw test at e in cc
+
+-- so what is found is never told to be damaged
+pub err_found : {X Y : Type 0} (old new before after : State) (wanted : Option X) (Breaks : X → Rule → Type 0) (looked : Y) (e : TableFault)
+    → ((x : X) (broken : Rule) → wanted ≡ Some x → Breaks x broken → ⊥) → Finds old new wanted Breaks (Err e) → LooksUp before after looked (Err e)
+err_found old new before after wanted Breaks looked (Sqlite e) unbroken finds = tt
+err_found old new before after wanted Breaks looked (Damaged rule) unbroken finds = unbroken finds.0.0 rule finds.0.1 finds.0.2

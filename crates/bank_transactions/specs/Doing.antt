@@ -1,8 +1,16 @@
--- What the parts of a call do to a connection.
-use Rattle.std.specs.Prelude.{◌≡◌, IsTrue, Result, Ok, Err, ⊤}
+-- What the parts of a call do to the tables, and what a whole transaction does.
+use Rattle.std.specs.Prelude.{◌≡◌, IsTrue, Bool, true, false, Result, Ok, Err, ⊤}
 use Rattle.sqlite.specs.Tree.{Trees}
-use Rattle.sqlite.specs.State.{State, KeepsCommit}
+use Rattle.sqlite.specs.State.{State, KeepsCommit, HasCleanDisk, Survives}
+use Rattle.sqlite.specs.Held.{Held, state}
+use Rattle.sqlite.specs.declared.error.Error.{Error}
+use Rattle.sqlite.specs.declared.transaction.Transaction.{Transaction}
+use Rattle.sqlite_trees.specs.declared.store.Store.{Ghosts}
+use Rattle.posting_rules.specs.Damage.{IsUndamaged}
 use Rattle.posting_rules.specs.Tables.{Tables}
+use Rattle.posting_rules.specs.declared.fault.Rule.{Rule}
+use Rattle.sql_meanings.specs.Calls.{Says, Inside}
+use Rattle.store_rows.specs.Calls.{OfTables}
 use Rattle.store_rows.specs.View.{Shows, ShowsTrees}
 use Rattle.store_rows.specs.declared.faults.TableFault.{TableFault}
 use Rattle.store_rows.specs.declared.faults.TableFault.TheVariants.{Sqlite, Damaged}
@@ -18,37 +26,53 @@ pub record Stays (old new : State) : Type 0 where
   pub goes_on : GoesOn old new
   pub now : new.now ≡ old.now
 
--- whatever the rows: nothing is committed, and after Ok the transaction goes on
-abbrev pub Keeps : {X : Type 0} → State → State → Result X TableFault → Type 0
-Keeps old new (Ok x) = GoesOn old new
-Keeps old new (Err fault) = KeepsCommit old new
+-- ---- a part that reads
 
 -- whatever the rows: after Ok everything is as it was, and at an error nothing is committed
 abbrev pub Looks : {X : Type 0} → State → State → Result X TableFault → Type 0
 Looks old new (Ok x) = Stays old new
 Looks old new (Err fault) = KeepsCommit old new
 
--- on sound tables: the answer is what was looked for, and nothing has changed; they are never told to be damaged
+-- the answer is what was looked for, and nothing has changed; the tables are never told to be damaged
 abbrev pub LooksUp : {X : Type 0} → State → State → X → Result X TableFault → Type 0
 LooksUp old new wanted (Ok found) = (found ≡ wanted) × Stays old new
 LooksUp old new wanted (Err (Sqlite e)) = ⊤
 LooksUp old new wanted (Err (Damaged rule)) = ⊥
 
--- on sound tables: they are these now; they are never told to be damaged
-abbrev pub LeadsTo : {X : Type 0} → State → Tables → Result X TableFault → Type 0
-LeadsTo new after (Ok x) = Shows new.now after
-LeadsTo new after (Err (Sqlite e)) = ⊤
-LeadsTo new after (Err (Damaged rule)) = ⊥
+-- in undamaged tables it is what was looked for
+abbrev pub Reads : {S X : Type 0} → Ghosts S → Transaction S → Transaction S → (Tables → X) → Result X TableFault → Type 0
+Reads g old new wanted result =
+    Says g old new (OfTables (λ before now tables. IsUndamaged tables → LooksUp before now (wanted tables) result))
+    (λ before now. Looks before now result)
 
--- on sound tables: they are these now, and the answer is this one; they are never told to be damaged
+-- ---- a part that writes
+
+-- whatever the rows: nothing is committed, and after Ok the transaction goes on
+abbrev pub Keeps : {X : Type 0} → State → State → Result X TableFault → Type 0
+Keeps old new (Ok x) = GoesOn old new
+Keeps old new (Err fault) = KeepsCommit old new
+
+-- the tables are these now, and the answer is this one; they are never told to be damaged
 abbrev pub Answers : {X : Type 0} → State → Tables → X → Result X TableFault → Type 0
 Answers new after wanted (Ok x) = (x ≡ wanted) × Shows new.now after
 Answers new after wanted (Err (Sqlite e)) = ⊤
 Answers new after wanted (Err (Damaged rule)) = ⊥
 
+-- what the answer of a write comes to: the row that it writes is there, or this rule is broken
+abbrev pub expected : Result Bool Error → Rule → Result (Unit {0}) TableFault
+expected (Ok true) rule = Ok tt
+expected (Ok false) rule = Err (Damaged rule)
+expected (Err e) rule = Err (Sqlite e)
+
+-- tables that are so become these, and the answer is this one
+pub record Does {S X : Type 0} (g : Ghosts S) (old new : Transaction S) (So : Tables → Type 0) (after : Tables → Tables) (wanted : Tables → X)
+    (result : Result X TableFault) : Type 0 where
+  pub says : Says g old new (Inside (OfTables (λ before now tables. So tables → Answers now (after tables) (wanted tables) result)))
+      (Inside (λ before now. Keeps before now result))
+
 -- ---- a transaction
 
--- on sound tables: they are these now, and a stop leaves them; the answer is this one; they are never told to be damaged
+-- the tables are these now, and a stop leaves them; the answer is this one; they are never told to be damaged
 abbrev pub Completes : {X : Type 0} → State → Tables → X → Result X TableFault → Type 0
 Completes new after wanted (Ok x) = (x ≡ wanted) × Shows new.now after × ((left : Trees) → new.may_leave left → ShowsTrees left after)
 Completes new after wanted (Err (Sqlite e)) = ⊤
@@ -58,3 +82,17 @@ Completes new after wanted (Err (Damaged rule)) = ⊥
 abbrev pub Undoes : {X : Type 0} → State → State → Result X TableFault → Type 0
 Undoes old new (Err (Damaged rule)) = IsTrue new.is_open → IsTrue old.is_open × (new.now ≡ old.now)
 Undoes old new _ = ⊤
+
+-- what a stop may leave besides what it could leave before: tables that are so, as the transaction leaves them
+abbrev pub Leaves : State → (Tables → Type 0) → (Tables → Tables) → Trees → Type 0
+Leaves old So after left = (tables : Tables) → Shows old.now tables → So tables → ShowsTrees left (after tables)
+
+-- Tables that are so become these, and the answer is this one. Damage undoes all. A stop leaves what it could leave before, or what the
+-- transaction leaves. No transaction goes on.
+pub record Transacts {S X : Type 0} (g : Ghosts S) (old new : Held S) (So : Tables → Type 0) (after : Tables → Tables) (wanted : Tables → X)
+    (result : Result X TableFault) : Type 0 where
+  pub told : HasCleanDisk (state g new) → (tables : Tables) → Shows (state g old).now tables → So tables
+      → Completes (state g new) (after tables) (wanted tables) result
+  pub undone : HasCleanDisk (state g new) → Undoes (state g old) (state g new) result
+  pub stop : Survives (state g old) (state g new) (Leaves (state g old) So after)
+  pub mode : new.in_transaction ≡ false

@@ -1,13 +1,9 @@
 //! What is looked up in the tables. Rows that belong together are read together, and told as damage where they differ.
-ghost use Rattle.std.specs.Prelude.{◌≡◌, ◌≤◌, OnOk, IfOk};
-ghost use Rattle.sqlite.specs.State.{HasCleanDisk, Survives};
-ghost use Rattle.sqlite.specs.Held.{state};
+ghost use Rattle.std.specs.Prelude.{◌≡◌, ◌≤◌, IfOk};
 ghost use Rattle.posting_rules.specs.Commands.{branch_of_account, place_of_account};
-ghost use Rattle.posting_rules.specs.Damage.{IsUndamaged};
 ghost use Rattle.posting_rules.specs.LookUps.{teller_balances_in, account_balance_in, kept_in, decided_in, found_in};
-ghost use Rattle.posting_rules.specs.Tables.{Tables, row_at, branch_key};
-ghost use Rattle.store_rows.specs.View.{Shows};
-ghost use Rattle.bank_transactions.specs.Doing.{Looks, LooksUp};
+ghost use Rattle.posting_rules.specs.Tables.{row_at, branch_key};
+ghost use Rattle.bank_transactions.specs.Doing.{Reads};
 
 use message_records::{Account, Branch, Cents, Request, Teller};
 use posting_rules::{
@@ -43,13 +39,7 @@ pub(crate) fn branch_at<S: Alter>(
     tx: &mut Transaction<'_, S>,
     number: u64,
 ) -> Result<Option<BranchRow>, TableFault>
-    ensures same_reference { tx.new.conn.ghost_name ≡ tx.old.conn.ghost_name }
-    ensures told { HasCleanDisk (state S.Store tx.new.conn.now) → (tables : Tables)
-        → Shows (state S.Store tx.old.conn.now).now tables → IsUndamaged tables
-        → LooksUp (state S.Store tx.old.conn.now) (state S.Store tx.new.conn.now) (row_at branch_key tables.branches number) result }
-    ensures kept { HasCleanDisk (state S.Store tx.new.conn.now)
-        → Looks (state S.Store tx.old.conn.now) (state S.Store tx.new.conn.now) result }
-    ensures survives { Survives (state S.Store tx.old.conn.now) (state S.Store tx.new.conn.now) (λ _. ⊥) }
+    ensures { Reads S.Store tx.old tx.new (λ tables. row_at branch_key tables.branches number) result }
 {
     let Some(branch) = Branch::new(number) else {
         return Ok(None);
@@ -68,13 +58,7 @@ fn teller_balances<S: Alter>(
     tx: &mut Transaction<'_, S>,
     teller: Teller,
 ) -> Result<Option<(Cents, Cents)>, TableFault>
-    ensures same_reference { tx.new.conn.ghost_name ≡ tx.old.conn.ghost_name }
-    ensures told { HasCleanDisk (state S.Store tx.new.conn.now) → (tables : Tables)
-        → Shows (state S.Store tx.old.conn.now).now tables → IsUndamaged tables
-        → LooksUp (state S.Store tx.old.conn.now) (state S.Store tx.new.conn.now) (teller_balances_in tables teller) result }
-    ensures kept { HasCleanDisk (state S.Store tx.new.conn.now)
-        → Looks (state S.Store tx.old.conn.now) (state S.Store tx.new.conn.now) result }
-    ensures survives { Survives (state S.Store tx.old.conn.now) (state S.Store tx.new.conn.now) (λ _. ⊥) }
+    ensures { Reads S.Store tx.old tx.new (λ tables. teller_balances_in tables teller) result }
 {
     let balance = teller_balance(tx, teller)?;
     let branch = branch_at(tx, branch_of_teller(teller))?;
@@ -90,13 +74,7 @@ pub(crate) fn open_balance<S: Alter>(
     tx: &mut Transaction<'_, S>,
     account: Account,
 ) -> Result<Option<Cents>, TableFault>
-    ensures same_reference { tx.new.conn.ghost_name ≡ tx.old.conn.ghost_name }
-    ensures told { HasCleanDisk (state S.Store tx.new.conn.now) → (tables : Tables)
-        → Shows (state S.Store tx.old.conn.now).now tables → IsUndamaged tables
-        → LooksUp (state S.Store tx.old.conn.now) (state S.Store tx.new.conn.now) (account_balance_in tables account) result }
-    ensures kept { HasCleanDisk (state S.Store tx.new.conn.now)
-        → Looks (state S.Store tx.old.conn.now) (state S.Store tx.new.conn.now) result }
-    ensures survives { Survives (state S.Store tx.old.conn.now) (state S.Store tx.new.conn.now) (λ _. ⊥) }
+    ensures { Reads S.Store tx.old tx.new (λ tables. account_balance_in tables account) result }
 {
     let balance = account_balance(tx, account)?;
     let branch = branch_at(tx, branch_of_account(account))?;
@@ -115,14 +93,7 @@ fn kept_request<S: Alter>(
     tx: &mut Transaction<'_, S>,
     request: &Request,
 ) -> Result<Option<Kept>, TableFault>
-    ensures same_reference { tx.new.conn.ghost_name ≡ tx.old.conn.ghost_name }
-    ensures told { HasCleanDisk (state S.Store tx.new.conn.now) → (tables : Tables)
-        → Shows (state S.Store tx.old.conn.now).now tables → IsUndamaged tables
-        → LooksUp (state S.Store tx.old.conn.now) (state S.Store tx.new.conn.now)
-        (kept_in tables.requests request.now.teller request.now.number) result }
-    ensures kept { HasCleanDisk (state S.Store tx.new.conn.now)
-        → Looks (state S.Store tx.old.conn.now) (state S.Store tx.new.conn.now) result }
-    ensures survives { Survives (state S.Store tx.old.conn.now) (state S.Store tx.new.conn.now) (λ _. ⊥) }
+    ensures { Reads S.Store tx.old tx.new (λ tables. kept_in tables.requests request.now.teller request.now.number) result }
 {
     let Some(row) = find_request(tx, request.teller(), request.number())? else {
         return Ok(None);
@@ -143,14 +114,8 @@ fn kept_request<S: Alter>(
 
 /// How many requests are decided.
 fn decided<S: Alter>(tx: &mut Transaction<'_, S>) -> Result<u64, TableFault>
-    ensures same_reference { tx.new.conn.ghost_name ≡ tx.old.conn.ghost_name }
-    ensures within { IfOk result (λ decided. decided ≤ 1_000_000_000_000) }
-    ensures told { HasCleanDisk (state S.Store tx.new.conn.now) → (tables : Tables)
-        → Shows (state S.Store tx.old.conn.now).now tables → IsUndamaged tables
-        → LooksUp (state S.Store tx.old.conn.now) (state S.Store tx.new.conn.now) (decided_in tables.meta) result }
-    ensures kept { HasCleanDisk (state S.Store tx.new.conn.now)
-        → Looks (state S.Store tx.old.conn.now) (state S.Store tx.new.conn.now) result }
-    ensures survives { Survives (state S.Store tx.old.conn.now) (state S.Store tx.new.conn.now) (λ _. ⊥) }
+    ensures within { IfOk result (λ decided. decided ≤ MAX_DECIDED) }
+    ensures says { Reads S.Store tx.old tx.new (λ tables. decided_in tables.meta) result }
 {
     let Some(meta) = read_meta(tx)? else {
         return Err(TableFault::Damaged(Rule::Meta));
@@ -166,14 +131,8 @@ pub(crate) fn look_up<S: Alter>(
     tx: &mut Transaction<'_, S>,
     request: &Request,
 ) -> Result<Found, TableFault>
-    ensures same_reference { tx.new.conn.ghost_name ≡ tx.old.conn.ghost_name }
-    ensures within { IfOk result (λ found. found.decided ≤ 1_000_000_000_000) }
-    ensures told { HasCleanDisk (state S.Store tx.new.conn.now) → (tables : Tables)
-        → Shows (state S.Store tx.old.conn.now).now tables → IsUndamaged tables
-        → LooksUp (state S.Store tx.old.conn.now) (state S.Store tx.new.conn.now) (found_in tables request.now) result }
-    ensures kept { HasCleanDisk (state S.Store tx.new.conn.now)
-        → Looks (state S.Store tx.old.conn.now) (state S.Store tx.new.conn.now) result }
-    ensures survives { Survives (state S.Store tx.old.conn.now) (state S.Store tx.new.conn.now) (λ _. ⊥) }
+    ensures within { IfOk result (λ found. found.decided ≤ MAX_DECIDED) }
+    ensures says { Reads S.Store tx.old tx.new (λ tables. found_in tables request.now) result }
 {
     Ok(Found {
         decided: decided(tx)?,

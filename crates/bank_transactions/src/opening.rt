@@ -1,16 +1,14 @@
 //! A branch comes with its ten tellers and its accounts.
-ghost use Rattle.std.specs.Prelude.{◌≡◌, ◌≤◌, ◌<◌, ◌+◌, ℕ, IsTrue, None};
-ghost use Rattle.sqlite.specs.State.{HasCleanDisk, Survives};
-ghost use Rattle.sqlite.specs.Held.{state};
+ghost use Rattle.std.specs.Prelude.{◌≡◌, ◌≤◌, ◌<◌, ◌+◌, ℕ, None, false};
+ghost use Rattle.posting_rules.specs.Changes.{tables_opened, tables_with_branch};
 ghost use Rattle.posting_rules.specs.Counter.{opening_for};
 ghost use Rattle.posting_rules.specs.LookUps.{count_in};
-ghost use Rattle.posting_rules.specs.Tables.{Tables, row_at, branch_key, teller_key, account_key};
-ghost use Rattle.store_rows.specs.View.{Shows};
-ghost use Rattle.posting_rules.specs.Changes.{with_tellers, with_accounts, tables_opened, tables_with_branch};
-ghost use Rattle.bank_transactions.specs.Doing.{Keeps, LeadsTo, Answers};
 ghost use Rattle.posting_rules.specs.Sound.{AreSound};
+ghost use Rattle.posting_rules.specs.Tables.{row_at, branch_key};
+ghost use Rattle.bank_transactions.specs.Doing.{Does};
+ghost use Rattle.bank_transactions.specs.NewRows.{with_new, with_new_rows, is_taken, last_of};
 
-use crate::look_ups::branch_at;
+use crate::look_ups::{LAST_BRANCH, MOST_ACCOUNTS, branch_at};
 use message_records::{Account, Branch, Cents, Teller};
 use posting_rules::{
     ACCOUNTS_PER_BRANCH, AccountRow, BranchRow, Opening, TELLERS_PER_BRANCH, TellerRow,
@@ -18,56 +16,51 @@ use posting_rules::{
 use sqlite::{Alter, Transaction};
 use store_rows::{TableFault, add_account, add_branch, add_teller};
 
-// Adds so many tellers from this number on, with nothing on them.
-fn add_tellers<S: Alter>(
-    tx: &mut Transaction<'_, S>,
-    first: u64,
-    count: u64,
-) -> Result<(), TableFault>
-    requires above { 1 ≤ first }
-    requires below { first + count ≤ 100_000_000 }
-    ensures same_reference { tx.new.conn.ghost_name ≡ tx.old.conn.ghost_name }
-    ensures told { HasCleanDisk (state S.Store tx.new.conn.now) → IsTrue tx.old.conn.now.in_transaction → (tables : Tables)
-        → Shows (state S.Store tx.old.conn.now).now tables
-        → ((n : ℕ) → n < count → row_at teller_key (with_tellers first n tables).tellers (first + n) ≡ None)
-        → LeadsTo (state S.Store tx.new.conn.now) (with_tellers first count tables) result }
-    ensures kept { HasCleanDisk (state S.Store tx.new.conn.now) → IsTrue tx.old.conn.now.in_transaction
-        → Keeps (state S.Store tx.old.conn.now) (state S.Store tx.new.conn.now) result }
-    ensures survives { Survives (state S.Store tx.old.conn.now) (state S.Store tx.new.conn.now) (λ _. ⊥) }
-{
-    for place in 0..count {
-        let row = TellerRow {
-            teller: Teller::new(first + place).unwrap(),
-            balance: Cents::new(0).unwrap(),
-        };
-        add_teller(tx, row)?;
-    }
-    Ok(())
+/// The rows that come with a branch.
+#[derive(Clone, Copy, Debug, PartialEq, Eq)]
+pub(crate) enum NewRows {
+    Tellers,
+    Accounts,
 }
 
-// Adds so many accounts from this number on, with nothing on them.
-fn add_accounts<S: Alter>(
+// Adds a row under a number, with nothing on it.
+fn add_new<S: Alter>(
     tx: &mut Transaction<'_, S>,
+    kind: NewRows,
+    number: u64,
+) -> Result<(), TableFault>
+    requires above { 1 ≤ number }
+    requires below { number ≤ last_of kind }
+    ensures { Does S.Store tx.old tx.new (λ tables. is_taken kind number tables ≡ false) (with_new kind number) (λ _. tt) result }
+{
+    let balance = Cents::new(0).unwrap();
+    match kind {
+        NewRows::Tellers => {
+            let teller = Teller::new(number).unwrap();
+            add_teller(tx, TellerRow { teller, balance })
+        }
+        NewRows::Accounts => {
+            let account = Account::new(number).unwrap();
+            add_account(tx, AccountRow { account, balance })
+        }
+    }
+}
+
+// Adds so many of them from this number on.
+fn add_rows<S: Alter>(
+    tx: &mut Transaction<'_, S>,
+    kind: NewRows,
     first: u64,
     count: u64,
 ) -> Result<(), TableFault>
     requires above { 1 ≤ first }
-    requires below { first + count ≤ 1_000_000_000_000 }
-    ensures same_reference { tx.new.conn.ghost_name ≡ tx.old.conn.ghost_name }
-    ensures told { HasCleanDisk (state S.Store tx.new.conn.now) → IsTrue tx.old.conn.now.in_transaction → (tables : Tables)
-        → Shows (state S.Store tx.old.conn.now).now tables
-        → ((n : ℕ) → n < count → row_at account_key (with_accounts first n tables).accounts (first + n) ≡ None)
-        → LeadsTo (state S.Store tx.new.conn.now) (with_accounts first count tables) result }
-    ensures kept { HasCleanDisk (state S.Store tx.new.conn.now) → IsTrue tx.old.conn.now.in_transaction
-        → Keeps (state S.Store tx.old.conn.now) (state S.Store tx.new.conn.now) result }
-    ensures survives { Survives (state S.Store tx.old.conn.now) (state S.Store tx.new.conn.now) (λ _. ⊥) }
+    requires below { first + count ≤ last_of kind + 1 }
+    ensures { Does S.Store tx.old tx.new
+        (λ tables. (n : ℕ) → n < count → is_taken kind (first + n) (with_new_rows kind first n tables) ≡ false)
+        (with_new_rows kind first count) (λ _. tt) result }
 {
     for place in 0..count {
-        let row = AccountRow {
-            account: Account::new(first + place).unwrap(),
-            balance: Cents::new(0).unwrap(),
-        };
-        add_account(tx, row)?;
+        add_new(tx, kind, first + place)?;
     }
     Ok(())
 }
@@ -78,15 +71,10 @@ fn add_whole_branch<S: Alter>(
     branch: Branch,
     count: u32,
 ) -> Result<(), TableFault>
-    requires branch { branch ≤ 9999 }
-    requires few { count ≤ 100_000 }
-    ensures same_reference { tx.new.conn.ghost_name ≡ tx.old.conn.ghost_name }
-    ensures told { HasCleanDisk (state S.Store tx.new.conn.now) → IsTrue tx.old.conn.now.in_transaction → (tables : Tables)
-        → Shows (state S.Store tx.old.conn.now).now tables → AreSound tables → row_at branch_key tables.branches branch ≡ None
-        → LeadsTo (state S.Store tx.new.conn.now) (tables_opened tables branch count) result }
-    ensures kept { HasCleanDisk (state S.Store tx.new.conn.now) → IsTrue tx.old.conn.now.in_transaction
-        → Keeps (state S.Store tx.old.conn.now) (state S.Store tx.new.conn.now) result }
-    ensures survives { Survives (state S.Store tx.old.conn.now) (state S.Store tx.new.conn.now) (λ _. ⊥) }
+    requires branch { branch ≤ LAST_BRANCH }
+    requires few { count ≤ MOST_ACCOUNTS }
+    ensures { Does S.Store tx.old tx.new (λ tables. AreSound tables × (row_at branch_key tables.branches branch ≡ None))
+        (λ tables. tables_opened tables branch count) (λ _. tt) result }
 {
     let before = branch.get() - 1;
     let row = BranchRow {
@@ -95,8 +83,10 @@ fn add_whole_branch<S: Alter>(
         balance: Cents::new(0).unwrap(),
     };
     add_branch(tx, row)?;
-    add_tellers(tx, TELLERS_PER_BRANCH * before + 1, TELLERS_PER_BRANCH)?;
-    add_accounts(tx, ACCOUNTS_PER_BRANCH * before + 1, u64::from(count))
+    let first_teller = TELLERS_PER_BRANCH * before + 1;
+    add_rows(tx, NewRows::Tellers, first_teller, TELLERS_PER_BRANCH)?;
+    let first_account = ACCOUNTS_PER_BRANCH * before + 1;
+    add_rows(tx, NewRows::Accounts, first_account, u64::from(count))
 }
 
 /// Looks the branch up, and adds it where it isn't open.
@@ -105,16 +95,10 @@ pub(crate) fn open_inside<S: Alter>(
     branch: Branch,
     count: u32,
 ) -> Result<Opening, TableFault>
-    requires branch { branch ≤ 9999 }
-    requires few { count ≤ 100_000 }
-    ensures same_reference { tx.new.conn.ghost_name ≡ tx.old.conn.ghost_name }
-    ensures told { HasCleanDisk (state S.Store tx.new.conn.now) → IsTrue tx.old.conn.now.in_transaction → (tables : Tables)
-        → Shows (state S.Store tx.old.conn.now).now tables → AreSound tables
-        → Answers (state S.Store tx.new.conn.now) (tables_with_branch tables branch count)
-        (opening_for (count_in tables branch) count) result }
-    ensures kept { HasCleanDisk (state S.Store tx.new.conn.now) → IsTrue tx.old.conn.now.in_transaction
-        → Keeps (state S.Store tx.old.conn.now) (state S.Store tx.new.conn.now) result }
-    ensures survives { Survives (state S.Store tx.old.conn.now) (state S.Store tx.new.conn.now) (λ _. ⊥) }
+    requires branch { branch ≤ LAST_BRANCH }
+    requires few { count ≤ MOST_ACCOUNTS }
+    ensures { Does S.Store tx.old tx.new AreSound (λ tables. tables_with_branch tables branch count)
+        (λ tables. opening_for (count_in tables branch) count) result }
 {
     if let Some(row) = branch_at(tx, branch.get())? {
         return Ok(if row.accounts == count {

@@ -1,17 +1,12 @@
 //! A request is judged by what is looked up, and what changes is written.
-ghost use Rattle.std.specs.Prelude.{◌≡◌, ◌≤◌, ◌<◌, ◌+◌, ◌++◌, [], ◌∷◌, List, length, vec_len, vec_capacity, IsTrue, OnOk};
-ghost use Rattle.sqlite.specs.State.{HasCleanDisk, Survives};
+ghost use Rattle.std.specs.Prelude.{◌≡◌, ◌≤◌, ◌<◌, ◌+◌, ◌++◌, [], ◌∷◌, length, vec_len, vec_capacity, IsTrue, OnOk};
+ghost use Rattle.sqlite.specs.State.{HasCleanDisk};
 ghost use Rattle.sqlite.specs.Held.{state};
-ghost use Rattle.message_records.specs.Spelling.{reply_spelling};
-ghost use Rattle.posting_rules.specs.Commands.{Command, AreCommands};
-ghost use Rattle.posting_rules.specs.Entries.{reply};
-ghost use Rattle.posting_rules.specs.Runs.{posts, replies_to};
+ghost use Rattle.posting_rules.specs.Changes.{tables_with, tables_past, tables_past_all, reply_bytes, reply_past, replies_past_all};
+ghost use Rattle.posting_rules.specs.Sound.{AreSound, AreOfALog};
 ghost use Rattle.posting_rules.specs.Tables.{Tables};
-ghost use Rattle.posting_rules.specs.Tables.{Shows as Show};
 ghost use Rattle.store_rows.specs.View.{Shows};
-ghost use Rattle.posting_rules.specs.Changes.{tables_with, tables_past, tables_past_all, reply_bytes};
-ghost use Rattle.bank_transactions.specs.Doing.{Keeps, LeadsTo, Answers};
-ghost use Rattle.posting_rules.specs.Sound.{AreSound};
+ghost use Rattle.bank_transactions.specs.Doing.{Does};
 
 use crate::applying::apply;
 use crate::look_ups::look_up;
@@ -26,13 +21,8 @@ pub(crate) fn answer<S: Alter>(
     moment: Moment,
     request: &Request,
 ) -> Result<[u8; 200], TableFault>
-    ensures same_reference { tx.new.conn.ghost_name ≡ tx.old.conn.ghost_name }
-    ensures told { HasCleanDisk (state S.Store tx.new.conn.now) → IsTrue tx.old.conn.now.in_transaction → (tables : Tables)
-        → Shows (state S.Store tx.old.conn.now).now tables → AreSound tables
-        → Answers (state S.Store tx.new.conn.now) (tables_with tables moment request.now) (reply_bytes tables request.now) result }
-    ensures kept { HasCleanDisk (state S.Store tx.new.conn.now) → IsTrue tx.old.conn.now.in_transaction
-        → Keeps (state S.Store tx.old.conn.now) (state S.Store tx.new.conn.now) result }
-    ensures survives { Survives (state S.Store tx.old.conn.now) (state S.Store tx.new.conn.now) (λ _. ⊥) }
+    ensures { Does S.Store tx.old tx.new AreSound (λ tables. tables_with tables moment request.now)
+        (λ tables. reply_bytes tables request.now) result }
 {
     let found = look_up(tx, request)?;
     let verdict = judge(&found, request);
@@ -46,13 +36,8 @@ fn answer_record<S: Alter>(
     moment: Moment,
     bytes: &[u8; 100],
 ) -> Result<[u8; 200], TableFault>
-    ensures same_reference { tx.new.conn.ghost_name ≡ tx.old.conn.ghost_name }
-    ensures told { HasCleanDisk (state S.Store tx.new.conn.now) → IsTrue tx.old.conn.now.in_transaction → (tables : Tables)
-        → Shows (state S.Store tx.old.conn.now).now tables → (log : List Command) → AreCommands log → Show tables log
-        → Answers (state S.Store tx.new.conn.now) (tables_past tables moment bytes.now) (reply_spelling (reply log bytes.now)) result }
-    ensures kept { HasCleanDisk (state S.Store tx.new.conn.now) → IsTrue tx.old.conn.now.in_transaction
-        → Keeps (state S.Store tx.old.conn.now) (state S.Store tx.new.conn.now) result }
-    ensures survives { Survives (state S.Store tx.old.conn.now) (state S.Store tx.new.conn.now) (λ _. ⊥) }
+    ensures { Does S.Store tx.old tx.new AreSound (λ tables. tables_past tables moment bytes.now)
+        (λ tables. reply_past tables bytes.now) result }
 {
     let Ok(request) = decode_request(bytes) else {
         let reply = Reply::new(Outcome::Malformed, None, None);
@@ -79,17 +64,11 @@ pub(crate) fn answer_all<S: Alter>(
     replies: &mut Vec<[u8; 200]>,
 ) -> Result<(), TableFault>
     requires { vec_len replies.old + length records.now ≤ vec_capacity replies.old }
-    ensures same_reference { tx.new.conn.ghost_name ≡ tx.old.conn.ghost_name }
-    ensures told { HasCleanDisk (state S.Store tx.new.conn.now) → IsTrue tx.old.conn.now.in_transaction → (tables : Tables)
-        → Shows (state S.Store tx.old.conn.now).now tables → (log : List Command) → AreCommands log → Show tables log
-        → LeadsTo (state S.Store tx.new.conn.now) (tables_past_all tables moment records.now) result }
+    ensures says { Does S.Store tx.old tx.new AreOfALog (λ tables. tables_past_all tables moment records.now) (λ _. tt) result }
     ensures replies { HasCleanDisk (state S.Store tx.new.conn.now) → IsTrue tx.old.conn.now.in_transaction → (tables : Tables)
-        → Shows (state S.Store tx.old.conn.now).now tables → (log : List Command) → AreCommands log → Show tables log
-        → OnOk result (replies.new.items ≡ replies.old.items ++ replies_to log (posts moment records.now)) }
+        → Shows (state S.Store tx.old.conn.now).now tables → AreOfALog tables
+        → OnOk result (replies.new.items ≡ replies.old.items ++ replies_past_all tables moment records.now) }
     ensures count { OnOk result (length replies.new.items ≡ length replies.old.items + length records.now) }
-    ensures kept { HasCleanDisk (state S.Store tx.new.conn.now) → IsTrue tx.old.conn.now.in_transaction
-        → Keeps (state S.Store tx.old.conn.now) (state S.Store tx.new.conn.now) result }
-    ensures survives { Survives (state S.Store tx.old.conn.now) (state S.Store tx.new.conn.now) (λ _. ⊥) }
 {
     // A moment is in its range.
     let _seconds = moment.get();

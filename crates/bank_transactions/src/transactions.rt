@@ -1,19 +1,16 @@
 //! Each call is one transaction. A commit writes nothing where nothing was changed.
-ghost use Rattle.std.specs.Prelude.{◌≡◌, ◌≤◌, ◌+◌, ◌++◌, List, length, vec_len, vec_capacity, IsTrue, OnOk, true, false};
-ghost use Rattle.sqlite.specs.State.{HasCleanDisk, Survives};
+ghost use Rattle.std.specs.Prelude.{◌≡◌, ◌≤◌, ◌+◌, ◌++◌, length, vec_len, vec_capacity, IsTrue, OnOk, true, false};
+ghost use Rattle.sqlite.specs.State.{HasCleanDisk};
 ghost use Rattle.sqlite.specs.Held.{state};
+ghost use Rattle.posting_rules.specs.Changes.{reply_bytes, replies_past_all, tables_with, tables_past_all, tables_with_branch};
 ghost use Rattle.posting_rules.specs.Counter.{opening_for};
 ghost use Rattle.posting_rules.specs.LookUps.{account_balance_in, count_in};
-ghost use Rattle.posting_rules.specs.Commands.{Command, AreCommands};
-ghost use Rattle.posting_rules.specs.Runs.{posts, replies_to};
-ghost use Rattle.posting_rules.specs.Tables.{Tables};
-ghost use Rattle.posting_rules.specs.Tables.{Shows as Show};
-ghost use Rattle.store_rows.specs.View.{Shows, ShowsTrees};
-ghost use Rattle.posting_rules.specs.Changes.{reply_bytes, tables_with, tables_past_all, tables_with_branch};
-ghost use Rattle.bank_transactions.specs.Doing.{Completes, Undoes};
 ghost use Rattle.posting_rules.specs.Sound.{AreSound, AreOfALog};
+ghost use Rattle.posting_rules.specs.Tables.{Tables};
+ghost use Rattle.store_rows.specs.View.{Shows};
+ghost use Rattle.bank_transactions.specs.Doing.{Transacts};
 
-use crate::look_ups::open_balance;
+use crate::look_ups::{LAST_BRANCH, MOST_ACCOUNTS, open_balance};
 use crate::opening::open_inside;
 use crate::posting::{answer, answer_all};
 use message_records::{Account, Branch, Cents, Moment, Request};
@@ -39,13 +36,8 @@ pub fn post<S: Alter>(
     request: &Request,
 ) -> Result<[u8; 200], TableFault>
     requires { conn.old.in_transaction ≡ false }
-    ensures told { HasCleanDisk (state S.Store conn.new) → (tables : Tables)
-        → Shows (state S.Store conn.old).now tables → AreSound tables
-        → Completes (state S.Store conn.new) (tables_with tables moment request.now) (reply_bytes tables request.now) result }
-    ensures undone { HasCleanDisk (state S.Store conn.new) → Undoes (state S.Store conn.old) (state S.Store conn.new) result }
-    ensures stop { Survives (state S.Store conn.old) (state S.Store conn.new) (λ left. (tables : Tables)
-        → Shows (state S.Store conn.old).now tables → AreSound tables → ShowsTrees left (tables_with tables moment request.now)) }
-    ensures mode { conn.new.in_transaction ≡ false }
+    ensures { Transacts S.Store conn.old conn.new AreSound (λ tables. tables_with tables moment request.now)
+        (λ tables. reply_bytes tables request.now) result }
 {
     let mut tx = begin(conn);
     let reply = answer(&mut tx, moment, request)?;
@@ -62,18 +54,11 @@ pub fn post_all<S: Alter>(
 ) -> Result<(), TableFault>
     requires mode { conn.old.in_transaction ≡ false }
     requires room { vec_len replies.old + length records.now ≤ vec_capacity replies.old }
-    ensures told { HasCleanDisk (state S.Store conn.new) → (tables : Tables)
-        → Shows (state S.Store conn.old).now tables → AreOfALog tables
-        → Completes (state S.Store conn.new) (tables_past_all tables moment records.now) tt result }
+    ensures says { Transacts S.Store conn.old conn.new AreOfALog (λ tables. tables_past_all tables moment records.now) (λ _. tt) result }
     ensures replies { HasCleanDisk (state S.Store conn.new) → (tables : Tables)
-        → Shows (state S.Store conn.old).now tables → (log : List Command) → AreCommands log → Show tables log
-        → OnOk result (replies.new.items ≡ replies.old.items ++ replies_to log (posts moment records.now)) }
-    ensures count { OnOk result (length replies.new.items ≡ length replies.old.items + length records.now) }
-    ensures undone { HasCleanDisk (state S.Store conn.new) → Undoes (state S.Store conn.old) (state S.Store conn.new) result }
-    ensures stop { Survives (state S.Store conn.old) (state S.Store conn.new) (λ left. (tables : Tables)
         → Shows (state S.Store conn.old).now tables → AreOfALog tables
-        → ShowsTrees left (tables_past_all tables moment records.now)) }
-    ensures mode { conn.new.in_transaction ≡ false }
+        → OnOk result (replies.new.items ≡ replies.old.items ++ replies_past_all tables moment records.now) }
+    ensures count { OnOk result (length replies.new.items ≡ length replies.old.items + length records.now) }
 {
     let mut tx = begin(conn);
     answer_all(&mut tx, moment, records, replies)?;
@@ -88,16 +73,10 @@ pub fn open_branch<S: Alter>(
     count: u32,
 ) -> Result<Opening, TableFault>
     requires mode { conn.old.in_transaction ≡ false }
-    requires branch { branch ≤ 9999 }
-    requires few { count ≤ 100_000 }
-    ensures told { HasCleanDisk (state S.Store conn.new) → (tables : Tables)
-        → Shows (state S.Store conn.old).now tables → AreSound tables
-        → Completes (state S.Store conn.new) (tables_with_branch tables branch count)
-        (opening_for (count_in tables branch) count) result }
-    ensures undone { HasCleanDisk (state S.Store conn.new) → Undoes (state S.Store conn.old) (state S.Store conn.new) result }
-    ensures stop { Survives (state S.Store conn.old) (state S.Store conn.new) (λ left. (tables : Tables)
-        → Shows (state S.Store conn.old).now tables → AreSound tables → ShowsTrees left (tables_with_branch tables branch count)) }
-    ensures mode { conn.new.in_transaction ≡ false }
+    requires branch { branch ≤ LAST_BRANCH }
+    requires few { count ≤ MOST_ACCOUNTS }
+    ensures { Transacts S.Store conn.old conn.new AreSound (λ tables. tables_with_branch tables branch count)
+        (λ tables. opening_for (count_in tables branch) count) result }
 {
     let mut tx = begin(conn);
     let opening = open_inside(&mut tx, branch, count)?;
@@ -111,15 +90,9 @@ pub fn read_balance<S: Alter>(
     account: Account,
 ) -> Result<Option<Cents>, TableFault>
     requires { conn.old.in_transaction ≡ false }
-    ensures told { HasCleanDisk (state S.Store conn.new) → (tables : Tables)
-        → Shows (state S.Store conn.old).now tables → AreSound tables
-        → Completes (state S.Store conn.new) tables (account_balance_in tables account) result }
+    ensures says { Transacts S.Store conn.old conn.new AreSound (λ tables. tables) (λ tables. account_balance_in tables account) result }
     ensures same { HasCleanDisk (state S.Store conn.new) → (tables : Tables)
         → Shows (state S.Store conn.old).now tables → OnOk result (Shows (state S.Store conn.new).now tables) }
-    ensures undone { HasCleanDisk (state S.Store conn.new) → Undoes (state S.Store conn.old) (state S.Store conn.new) result }
-    ensures stop { Survives (state S.Store conn.old) (state S.Store conn.new) (λ left. (tables : Tables)
-        → Shows (state S.Store conn.old).now tables → AreSound tables → ShowsTrees left tables) }
-    ensures mode { conn.new.in_transaction ≡ false }
 {
     let mut tx = begin(conn);
     let balance = open_balance(&mut tx, account)?;

@@ -15,7 +15,7 @@ use Rattle.message_records.specs.Reading.{request_of}
 use Rattle.posting_rules.specs.declared.facts.Verdict.{Verdict}
 use Rattle.posting_rules.specs.declared.facts.Verdict.TheVariants.{Unkept, Again, Refused, Posted}
 use Rattle.posting_rules.specs.Commands.{branch_of_teller}
-use Rattle.posting_rules.specs.Entries.{Entry, refused_entry, posted_entry}
+use Rattle.posting_rules.specs.Entries.{Entry, refused_entry, posted_entry, malformed_reply}
 use Rattle.posting_rules.specs.Cases.{case_of, reply_in}
 use Rattle.posting_rules.specs.LookUps.{decided_in, found_in}
 use Rattle.posting_rules.specs.Steps.{first_teller, first_account}
@@ -131,6 +131,19 @@ tables_past_all t moment (bytes ∷ records) = tables_past_all (tables_past t mo
 -- the bytes of the reply to a request
 abbrev pub reply_bytes : Tables → RequestFields → List ℕ
 reply_bytes t r = reply_spelling (reply_in (case_of (found_in t r) r) r)
+
+-- the bytes of the reply to a record, which may be no request
+abbrev pub reply_read : Tables → Result RequestFields Bad → List ℕ
+reply_read t (Err fault) = reply_spelling malformed_reply
+reply_read t (Ok r) = reply_bytes t r
+
+abbrev pub reply_past : Tables → List ℕ → List ℕ
+reply_past t bytes = reply_read t (request_of bytes)
+
+-- and of those to records, one after another
+abbrev pub replies_past_all : Tables → ℕ → List (List ℕ) → List (List ℕ)
+replies_past_all t moment [] = []
+replies_past_all t moment (bytes ∷ records) = reply_past t bytes ∷ replies_past_all (tables_past t moment bytes) moment records
 
 -- the rows that a posting changes are there
 pub record HasRowsOf (t : Tables) (r : RequestFields) : Type 0 where

@@ -1,23 +1,42 @@
 -- What a kept request leaves.
-use Rattle.std.proofs.Common.{◌≡◌, rules, arith, subst}
-use Rattle.sqlite.specs.State.{HasCleanDisk}
-use Rattle.sqlite.specs.Held.{state}
+use Rattle.std.proofs.Common.{◌≡◌, Ok, Err, rules, refl, ap, ◌∙◌}
+use Rattle.std.specs.Prelude.{is_some, IsSome}
+use Rattle.posting_rules.specs.declared.fault.Rule.TheVariants.{Meta}
 use Rattle.posting_rules.specs.declared.rows.RequestRow.{RequestRow}
+use Rattle.posting_rules.specs.Changes.{meta_key, with_decided, with_request}
 use Rattle.posting_rules.specs.Entries.{Entry}
-use Rattle.posting_rules.specs.Tables.{request_row_of}
-use Rattle.posting_rules.specs.Changes.{with_decided, with_request}
-use Rattle.bank_transactions.specs.Doing.{LeadsTo}
-use Rattle.bank_transactions.proofs.Moved.{meta_beside}
+use Rattle.posting_rules.specs.Tables.{Tables, row_at, request_key, request_row_of}
+use Rattle.store_rows.specs.SixTables.{meta, request}
+use Rattle.bank_transactions.proofs.Chained.{does_then, does_err, does_for, does_add, does_write}
 use Rattle.bank_transactions.proofs.applying.keep_request.Goals as goal
 
-pub returns-clause-told : goal.returns-clause-told
-returns-clause-told g c clean live t shows there free =
+meta_beside : (r : RequestRow) (t : Tables) → IsSome (row_at meta_key t.meta 1) → IsSome (row_at meta_key (with_request r t).meta 1)
+unfolding with_request
+meta_beside r t there = there
+
+pub returns-in_err-add_request : goal.returns-in_err-add_request
+returns-in_err-add_request g c =
+    let e = c.in_err-add_request.field-0.0 in
+    let same : c.from_residual.result ≡ Err e = search rules in
+    let row : RequestRow = record { ordinal = c.args.ordinal; teller = c.teller.result; number = c.number.result; kept = c.unwrap.result } in
+    let add = c.in_err-add_request.ensures in
+    rw same (does_err (does_add g.S.Store c.args.tx.now c.add_request.new.tx request (λ t. is_some (row_at request_key t.requests c.args.ordinal))
+    (λ t. with_request row t) (Err e) (record { same_reference = add.same_reference; told = add.told; kept = add.kept; survives = add.survives })
+    (λ t free. free)) (λ t so. ap is_some so.1))
+
+pub returns : goal.returns
+returns g c =
     let ordinal = c.args.ordinal in
     let row : RequestRow = record { ordinal = ordinal; teller = c.teller.result; number = c.number.result; kept = c.unwrap.result } in
     let e : Entry = record { moment = 0; request = c.args.request.now; outcome = c.args.outcome; balance = c.args.balance } in
-    let same : row ≡ request_row_of ordinal e = search rules in
-    let clean1 : HasCleanDisk (state g.S.Store c.add_request.new.tx.conn.now) = omega (arith, c.write_decided.ensures.survives.clean) in
-    let live1 = (c.in_ok-add_request.ensures.kept clean1 live).mode in
-    let added = c.in_ok-add_request.ensures.told clean1 live t shows in
-    let told = c.write_decided.ensures.told clean live1 (with_request row t) added.1 (meta_beside row t there) in
-    subst (λ r. LeadsTo (state g.S.Store c.write_decided.new.tx.conn.now) (with_decided ordinal (with_request r t)) c.write_decided.result) same told
+    let is : row ≡ request_row_of ordinal e = search rules in
+    let add = c.in_ok-add_request.ensures in
+    let count = c.set_decided.ensures in
+    does_for (does_then
+    (does_add g.S.Store c.args.tx.now c.add_request.new.tx request (λ t. is_some (row_at request_key t.requests ordinal)) (λ t. with_request row t) (Ok tt)
+    (record { same_reference = add.same_reference; told = add.told; kept = add.kept; survives = add.survives }) (λ t so. ap is_some so.1))
+    (does_write g.S.Store c.add_request.new.tx c.set_decided.new.tx meta (λ t. is_some (row_at meta_key t.meta 1)) (λ t. with_decided c.get.result t)
+    c.set_decided.result Meta c.expect_row.result c.expect_row.ensures
+    (record { same_reference = count.same_reference; told = count.told; kept = count.kept; survives = count.survives }) (λ t there. there))
+    (λ t so. meta_beside row t so.0))
+    (λ t so. (so, ap (λ n. with_decided n (with_request row t)) c.get.ensures.value ∙ ap (λ r. with_decided ordinal (with_request r t)) is, refl))

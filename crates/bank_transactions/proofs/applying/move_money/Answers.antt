@@ -1,99 +1,99 @@
 -- What the balances of a posting leave.
-use Rattle.std.proofs.Common.{◌≡◌, Err, rules, arith, subst, ap}
-use Rattle.std.specs.Prelude.{is_some}
-use Rattle.sqlite.specs.State.{HasCleanDisk}
-use Rattle.sqlite.specs.Held.{state}
+use Rattle.std.proofs.Common.{◌≡◌, Ok, Err, rules, refl, sym, ap, subst, ℕ, None}
+use Rattle.std.specs.Prelude.{ℤ, is_some, IsSome}
+use Rattle.message_records.specs.Records.{RequestFields}
+use Rattle.posting_rules.specs.declared.fault.Rule.TheVariants.{Account, Teller}
 use Rattle.posting_rules.specs.declared.rows.HistoryRow.{HistoryRow}
+use Rattle.posting_rules.specs.Changes.{with_history, with_account_balance, with_teller_balance, with_branch_balance, tables_moved}
+use Rattle.posting_rules.specs.Commands.{branch_of_teller}
 use Rattle.posting_rules.specs.Entries.{posted_entry}
-use Rattle.posting_rules.specs.Tables.{Tables, row_at, history_key, history_row_of}
-use Rattle.posting_rules.specs.Changes.{with_history, with_account_balance, with_teller_balance, with_branch_balance}
-use Rattle.store_rows.specs.SixTables.{history as table}
-use Rattle.posting_rules.specs.Changes.{tables_moved}
-use Rattle.bank_transactions.specs.Doing.{LeadsTo}
-use Rattle.bank_transactions.proofs.Moved.{adds_leads, err_leads, still_in, account_there, teller_there, branch_there, history_free, moved_is}
+use Rattle.posting_rules.specs.Tables.{Tables, row_at, account_key, teller_key, branch_key, history_key, history_row_of}
+use Rattle.store_rows.specs.SixTables.{account, teller, branch, history}
+use Rattle.bank_transactions.proofs.Chained.{does_then, does_err, does_for, does_add, does_write}
 use Rattle.bank_transactions.proofs.applying.move_money.Goals as goal
 
-pub returns-in_err-write_teller-clause-told : goal.returns-in_err-write_teller-clause-told
-returns-in_err-write_teller-clause-told g c clean live t shows are free =
-    let e = c.in_err-write_teller.field-0.0 in
-    let same : c.from_residual-in_err-write_teller.result ≡ Err e = search rules in
-    let r = c.args.request.now in
-    let a = c.account.result in
-    let te = c.teller.result in
-    let s0 = state g.S.Store c.args.tx.now.conn.now in
-    let s1 = state g.S.Store c.write_account.new.tx.conn.now in
-    let s2 = state g.S.Store c.write_teller.new.tx.conn.now in
-    let clean1 : HasCleanDisk s1 = omega (arith, c.write_teller.ensures.survives.clean) in
-    let live1 = still_in s0 s1 (c.in_ok-write_account.ensures.kept clean1 live) live in
-    let one = with_account_balance a c.args.account t in
-    let shows1 = c.in_ok-write_account.ensures.told clean1 live t shows (account_there t r a are c.account.ensures) in
-    let told2 = c.in_err-write_teller.ensures.told clean live1 one shows1 (teller_there t r a te c.args.account are c.teller.ensures) in
-    rw same (err_leads (Unit {0}) (Unit {0}) s2 s2 (with_teller_balance te c.args.teller one)
-    (tables_moved t c.args.ordinal (posted_entry c.args.moment r c.args.account) c.args.teller c.args.branch) e told2)
+-- each write leaves the rows of the others where they are
+teller_there : (t : Tables) (a te : ℕ) (x : ℤ) → IsSome (row_at teller_key t.tellers te) → IsSome (row_at teller_key (with_account_balance a x t).tellers te)
+unfolding with_account_balance
+teller_there t a te x there = there
 
-pub returns-in_err-write_branch-clause-told : goal.returns-in_err-write_branch-clause-told
-returns-in_err-write_branch-clause-told g c clean live t shows are free =
-    let e = c.in_err-write_branch.field-0.0 in
-    let same : c.from_residual-in_err-write_branch.result ≡ Err e = search rules in
-    let r = c.args.request.now in
-    let a = c.account.result in
-    let te = c.teller.result in
-    let b = c.branch-request.result in
-    let s0 = state g.S.Store c.args.tx.now.conn.now in
-    let s1 = state g.S.Store c.write_account.new.tx.conn.now in
-    let s2 = state g.S.Store c.write_teller.new.tx.conn.now in
-    let s3 = state g.S.Store c.write_branch.new.tx.conn.now in
-    let clean2 : HasCleanDisk s2 = omega (arith, c.write_branch.ensures.survives.clean) in
-    let clean1 : HasCleanDisk s1 = omega (arith, c.write_teller.ensures.survives.clean) in
-    let live1 = still_in s0 s1 (c.in_ok-write_account.ensures.kept clean1 live) live in
-    let live2 = still_in s1 s2 (c.in_ok-write_teller.ensures.kept clean2 live1) live1 in
-    let one = with_account_balance a c.args.account t in
-    let two = with_teller_balance te c.args.teller one in
-    let shows1 = c.in_ok-write_account.ensures.told clean1 live t shows (account_there t r a are c.account.ensures) in
-    let shows2 = c.in_ok-write_teller.ensures.told clean2 live1 one shows1 (teller_there t r a te c.args.account are c.teller.ensures) in
-    let told3 = c.in_err-write_branch.ensures.told clean live2 two shows2
-    (branch_there t r a te b c.args.account c.args.teller are c.branch-request.ensures) in
-    rw same (err_leads (Unit {0}) (Unit {0}) s3 s3 (with_branch_balance b c.args.branch two)
-    (tables_moved t c.args.ordinal (posted_entry c.args.moment r c.args.account) c.args.teller c.args.branch) e told3)
+branch_there : (t : Tables) (a te b : ℕ) (x y : ℤ) → IsSome (row_at branch_key t.branches b)
+    → IsSome (row_at branch_key (with_teller_balance te y (with_account_balance a x t)).branches b)
+unfolding with_account_balance with_teller_balance
+branch_there t a te b x y there = there
 
-pub returns-clause-told : goal.returns-clause-told
-returns-clause-told g c clean live t shows are free =
-    let r = c.args.request.now in
-    let a = c.account.result in
-    let te = c.teller.result in
-    let b = c.branch-request.result in
-    let ordinal = c.args.ordinal in
-    let s0 = state g.S.Store c.args.tx.now.conn.now in
-    let s1 = state g.S.Store c.write_account.new.tx.conn.now in
-    let s2 = state g.S.Store c.write_teller.new.tx.conn.now in
-    let s3 = state g.S.Store c.write_branch.new.tx.conn.now in
-    let s4 = state g.S.Store c.add_history.new.tx.conn.now in
-    let clean3 : HasCleanDisk s3 = omega (arith, c.add_history.ensures.survives.clean) in
-    let clean2 : HasCleanDisk s2 = omega (arith, c.write_branch.ensures.survives.clean) in
-    let clean1 : HasCleanDisk s1 = omega (arith, c.write_teller.ensures.survives.clean) in
-    let live1 = still_in s0 s1 (c.in_ok-write_account.ensures.kept clean1 live) live in
-    let live2 = still_in s1 s2 (c.in_ok-write_teller.ensures.kept clean2 live1) live1 in
-    let live3 = still_in s2 s3 (c.in_ok-write_branch.ensures.kept clean3 live2) live2 in
-    let one = with_account_balance a c.args.account t in
-    let two = with_teller_balance te c.args.teller one in
-    let three = with_branch_balance b c.args.branch two in
-    let shows1 = c.in_ok-write_account.ensures.told clean1 live t shows (account_there t r a are c.account.ensures) in
-    let shows2 = c.in_ok-write_teller.ensures.told clean2 live1 one shows1 (teller_there t r a te c.args.account are c.teller.ensures) in
-    let shows3 = c.in_ok-write_branch.ensures.told clean3 live2 two shows2
-    (branch_there t r a te b c.args.account c.args.teller are c.branch-request.ensures) in
+history_free : (t : Tables) (a te b n : ℕ) (x y z : ℤ) → row_at history_key t.history n ≡ None
+    → row_at history_key (with_branch_balance b z (with_teller_balance te y (with_account_balance a x t))).history n ≡ None
+unfolding with_account_balance with_teller_balance with_branch_balance
+history_free t a te b n x y z free = free
+
+moved_is : (t : Tables) (r : RequestFields) (a te b ordinal moment : ℕ) (account teller branch : ℤ) (row : HistoryRow)
+    → a ≡ r.account → te ≡ r.teller → b ≡ r.branch → r.branch ≡ branch_of_teller r.teller → row ≡ history_row_of ordinal (posted_entry moment r account)
+    → with_history row (with_branch_balance b branch (with_teller_balance te teller (with_account_balance a account t)))
+    ≡ tables_moved t ordinal (posted_entry moment r account) teller branch
+moved_is t r a te b ordinal moment account teller branch row same_a same_t same_b its same = rw (same, same_a, same_t, same_b, its) refl
+
+pub returns-in_err-expect_row-2 : goal.returns-in_err-expect_row-2
+returns-in_err-expect_row-2 g c =
+    let e = c.in_err-expect_row-2.field-0.0 in
+    let same : c.from_residual-in_err-expect_row-2.result ≡ Err e = search rules in
+    rw same (does_err (does_then (does_write g.S.Store c.args.tx.now c.set_account_balance.new.tx account (λ t. is_some (row_at account_key t.accounts c.account.result)) (with_account_balance c.account.result c.args.account)
+    c.set_account_balance.result Account (Ok tt) c.in_ok-expect_row.ensures
+    (record { same_reference = c.set_account_balance.ensures.same_reference; told = c.set_account_balance.ensures.told; kept = c.set_account_balance.ensures.kept; survives = c.set_account_balance.ensures.survives }) (λ t so. subst (λ n. IsSome (row_at account_key t.accounts n)) (sym c.account.ensures) so.0.account))
+    (does_write g.S.Store c.set_account_balance.new.tx c.set_teller_balance.new.tx teller (λ t. is_some (row_at teller_key t.tellers c.teller.result)) (with_teller_balance c.teller.result c.args.teller)
+    c.set_teller_balance.result Teller (Err e) c.in_err-expect_row-2.ensures
+    (record { same_reference = c.set_teller_balance.ensures.same_reference; told = c.set_teller_balance.ensures.told; kept = c.set_teller_balance.ensures.kept; survives = c.set_teller_balance.ensures.survives }) (λ t there. there))
+    (λ t so. teller_there t c.account.result c.teller.result c.args.account
+    (subst (λ n. IsSome (row_at teller_key t.tellers n)) (sym c.teller.ensures) so.0.teller))) (λ t so. so))
+
+pub returns-in_err-expect_row-3 : goal.returns-in_err-expect_row-3
+returns-in_err-expect_row-3 g c =
+    let e = c.in_err-expect_row-3.field-0.0 in
+    let same : c.from_residual-in_err-expect_row-3.result ≡ Err e = search rules in
+    rw same (does_err (does_then (does_then (does_write g.S.Store c.args.tx.now c.set_account_balance.new.tx account (λ t. is_some (row_at account_key t.accounts c.account.result)) (with_account_balance c.account.result c.args.account)
+    c.set_account_balance.result Account (Ok tt) c.in_ok-expect_row.ensures
+    (record { same_reference = c.set_account_balance.ensures.same_reference; told = c.set_account_balance.ensures.told; kept = c.set_account_balance.ensures.kept; survives = c.set_account_balance.ensures.survives }) (λ t so. subst (λ n. IsSome (row_at account_key t.accounts n)) (sym c.account.ensures) so.0.account))
+    (does_write g.S.Store c.set_account_balance.new.tx c.set_teller_balance.new.tx teller (λ t. is_some (row_at teller_key t.tellers c.teller.result)) (with_teller_balance c.teller.result c.args.teller)
+    c.set_teller_balance.result Teller (Ok tt) c.in_ok-expect_row-2.ensures
+    (record { same_reference = c.set_teller_balance.ensures.same_reference; told = c.set_teller_balance.ensures.told; kept = c.set_teller_balance.ensures.kept; survives = c.set_teller_balance.ensures.survives }) (λ t there. there))
+    (λ t so. teller_there t c.account.result c.teller.result c.args.account
+    (subst (λ n. IsSome (row_at teller_key t.tellers n)) (sym c.teller.ensures) so.0.teller)))
+    (does_write g.S.Store c.set_teller_balance.new.tx c.set_branch_balance.new.tx branch (λ t. is_some (row_at branch_key t.branches c.branch-request.result)) (with_branch_balance c.branch-request.result c.args.branch)
+    c.set_branch_balance.result Teller (Err e) c.in_err-expect_row-3.ensures
+    (record { same_reference = c.set_branch_balance.ensures.same_reference; told = c.set_branch_balance.ensures.told; kept = c.set_branch_balance.ensures.kept; survives = c.set_branch_balance.ensures.survives }) (λ t there. there))
+    (λ t so. branch_there t c.account.result c.teller.result c.branch-request.result c.args.account c.args.teller
+    (subst (λ n. IsSome (row_at branch_key t.branches n)) (sym c.branch-request.ensures) so.0.branch))) (λ t so. so))
+
+pub returns : goal.returns
+returns g c =
     let row : HistoryRow = record {
-      ordinal = ordinal;
+      ordinal = c.args.ordinal;
       account = c.account-2.result;
       teller = c.teller-2.result;
       branch = c.branch-request-2.result;
       delta = c.delta.result;
       moment = c.args.moment;
     } in
-    let is : row ≡ history_row_of ordinal (posted_entry c.args.moment r c.args.account) = search rules in
-    let free3 = history_free t a te b ordinal c.args.account c.args.teller c.args.branch free in
-    let told4 = adds_leads s3 s4 table (is_some (row_at history_key three.history ordinal)) (with_history row three) c.add_history.result
-    (ap is_some free3) (c.add_history.ensures.told clean live3 three shows3) in
-    subst (λ (after : Tables). LeadsTo s4 after c.add_history.result)
-    (moved_is t r a te b ordinal c.args.moment c.args.account c.args.teller c.args.branch row c.account.ensures c.teller.ensures
-    c.branch-request.ensures are.its_branch is)
-    told4
+    let is : row ≡ history_row_of c.args.ordinal (posted_entry c.args.moment c.args.request.now c.args.account) = search rules in
+    does_for (does_then (does_then (does_then (does_write g.S.Store c.args.tx.now c.set_account_balance.new.tx account (λ t. is_some (row_at account_key t.accounts c.account.result)) (with_account_balance c.account.result c.args.account)
+    c.set_account_balance.result Account (Ok tt) c.in_ok-expect_row.ensures
+    (record { same_reference = c.set_account_balance.ensures.same_reference; told = c.set_account_balance.ensures.told; kept = c.set_account_balance.ensures.kept; survives = c.set_account_balance.ensures.survives }) (λ t so. subst (λ n. IsSome (row_at account_key t.accounts n)) (sym c.account.ensures) so.0.account))
+    (does_write g.S.Store c.set_account_balance.new.tx c.set_teller_balance.new.tx teller (λ t. is_some (row_at teller_key t.tellers c.teller.result)) (with_teller_balance c.teller.result c.args.teller)
+    c.set_teller_balance.result Teller (Ok tt) c.in_ok-expect_row-2.ensures
+    (record { same_reference = c.set_teller_balance.ensures.same_reference; told = c.set_teller_balance.ensures.told; kept = c.set_teller_balance.ensures.kept; survives = c.set_teller_balance.ensures.survives }) (λ t there. there))
+    (λ t so. teller_there t c.account.result c.teller.result c.args.account
+    (subst (λ n. IsSome (row_at teller_key t.tellers n)) (sym c.teller.ensures) so.0.teller)))
+    (does_write g.S.Store c.set_teller_balance.new.tx c.set_branch_balance.new.tx branch (λ t. is_some (row_at branch_key t.branches c.branch-request.result)) (with_branch_balance c.branch-request.result c.args.branch)
+    c.set_branch_balance.result Teller (Ok tt) c.in_ok-expect_row-3.ensures
+    (record { same_reference = c.set_branch_balance.ensures.same_reference; told = c.set_branch_balance.ensures.told; kept = c.set_branch_balance.ensures.kept; survives = c.set_branch_balance.ensures.survives }) (λ t there. there))
+    (λ t so. branch_there t c.account.result c.teller.result c.branch-request.result c.args.account c.args.teller
+    (subst (λ n. IsSome (row_at branch_key t.branches n)) (sym c.branch-request.ensures) so.0.branch)))
+    (does_add g.S.Store c.set_branch_balance.new.tx c.add_history.new.tx history (λ t. is_some (row_at history_key t.history c.args.ordinal)) (with_history row)
+    c.add_history.result (record { same_reference = c.add_history.ensures.same_reference; told = c.add_history.ensures.told; kept = c.add_history.ensures.kept; survives = c.add_history.ensures.survives }) (λ t free. free))
+    (λ t so. ap is_some (history_free t c.account.result c.teller.result c.branch-request.result c.args.ordinal c.args.account c.args.teller c.args.branch so.1)))
+    (λ t so. (
+      so,
+      moved_is t c.args.request.now c.account.result c.teller.result c.branch-request.result c.args.ordinal c.args.moment c.args.account c.args.teller
+          c.args.branch row c.account.ensures c.teller.ensures c.branch-request.ensures so.0.its_branch is,
+      refl,
+    ))

@@ -3,38 +3,51 @@ use Rattle.std.proofs.Common.{◌≡◌, Err, Some, rules, sym, ◌∙◌, inl, 
 use Rattle.sqlite.specs.Held.{state}
 use Rattle.posting_rules.specs.Tables.{row_at, branch_key}
 use Rattle.store_rows.specs.Outcomes.{IsNoBranch}
-use Rattle.bank_transactions.proofs.SoundRows.{no_branch_beyond, branch_is, branch_unbroken}
-use Rattle.bank_transactions.proofs.Told.{err_found}
+use Rattle.bank_transactions.proofs.SoundRows.{err_found, no_branch_beyond, branch_is, branch_unbroken}
 use Rattle.bank_transactions.proofs.look_ups.branch_at.Goals as goal
 
-pub returns-in_default-clause-told : goal.returns-in_default-clause-told
-returns-in_default-clause-told g c clean t shows sound =
-    (no_branch_beyond t c.args.number sound (sym c.new.ensures ∙ c.in_default.is), search rules)
+pub returns-in_default : goal.returns-in_default
+returns-in_default g c = record {
+  told = λ clean t shows sound.
+      (no_branch_beyond t c.args.number sound (sym c.new.ensures ∙ c.in_default.is), search rules);
+  same_reference = search rules;
+  kept = search rules;
+  survives = search rules;
+}
 
-pub returns-in_err-row-clause-told : goal.returns-in_err-row-clause-told
-returns-in_err-row-clause-told g c clean t shows sound =
-    let same : c.from_residual.result ≡ Err c.in_err-row.field-0.0 = search rules in
-    let key : c.in-Some.branch ≡ c.args.number = search rules in
-    let before = state g.S.Store c.args.tx.now.conn.now in
-    let after = state g.S.Store c.find_branch.new.tx.conn.now in
-    rw same
-    (err_found before after before after (row_at branch_key t.branches c.in-Some.branch) IsNoBranch
-    (row_at branch_key t.branches c.args.number) c.in_err-row.field-0.0
-    (λ r broken is breaks. branch_unbroken t c.in-Some.branch r broken sound is breaks)
-    (c.in_err-row.ensures.told clean t shows))
+pub returns-in_err-row : goal.returns-in_err-row
+returns-in_err-row g c = record {
+  told = λ clean t shows sound.
+      let same : c.from_residual.result ≡ Err c.in_err-row.field-0.0 = search rules in
+      let key : c.in-Some.branch ≡ c.args.number = search rules in
+      let before = state g.S.Store c.args.tx.now.conn.now in
+      let after = state g.S.Store c.find_branch.new.tx.conn.now in
+      rw same
+      (err_found before after before after (row_at branch_key t.branches c.in-Some.branch) IsNoBranch
+      (row_at branch_key t.branches c.args.number) c.in_err-row.field-0.0
+      (λ r broken is breaks. branch_unbroken t c.in-Some.branch r broken sound is breaks)
+      (c.in_err-row.ensures.told clean t shows));
+  same_reference = search rules;
+  kept = search rules;
+  survives = search rules;
+}
 
-pub returns-then-number-gt-LAST_BRANCH-clause-told :
-    goal.returns-then-number-gt-LAST_BRANCH-clause-told
-returns-then-number-gt-LAST_BRANCH-clause-told g c clean t shows sound =
-    let told = (c.in_ok-row.ensures.told clean t shows).0 in
-    let found : row_at branch_key t.branches c.in-Some.branch ≡ Some c.in-Some-2.row = sym told ∙ c.in-Some-2.is in
-    let is = branch_is t c.in-Some.branch c.in-Some-2.row sound found in
-    let same = is.0 in
-    let most = is.1.most in
-    let few = is.1.few in
-    let many = is.1.many in
-    let key : c.in-Some.branch ≡ c.args.number = search rules in
-    elim c.then-number-gt-LAST_BRANCH.either [
-      | inl above ↦ omega arith
-      | inr count ↦ elim count [ inl none ↦ (let lt = none.1 in omega arith) | inr over ↦ (let lt = over.2 in omega arith) ]
-    ]
+pub returns-then-number-gt-LAST_BRANCH : goal.returns-then-number-gt-LAST_BRANCH
+returns-then-number-gt-LAST_BRANCH g c = record {
+  told = λ clean t shows sound.
+      let told = (c.in_ok-row.ensures.told clean t shows).0 in
+      let found : row_at branch_key t.branches c.in-Some.branch ≡ Some c.in-Some-2.row = sym told ∙ c.in-Some-2.is in
+      let is = branch_is t c.in-Some.branch c.in-Some-2.row sound found in
+      let same = is.0 in
+      let most = is.1.most in
+      let few = is.1.few in
+      let many = is.1.many in
+      let key : c.in-Some.branch ≡ c.args.number = search rules in
+      elim c.then-number-gt-LAST_BRANCH.either [
+        | inl above ↦ omega arith
+        | inr count ↦ elim count [ inl none ↦ (let lt = none.1 in omega arith) | inr over ↦ (let lt = over.2 in omega arith) ]
+      ];
+  same_reference = search rules;
+  kept = search rules;
+  survives = search rules;
+}

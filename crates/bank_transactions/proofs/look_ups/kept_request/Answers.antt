@@ -5,26 +5,35 @@ use Rattle.sqlite.specs.Held.{state}
 use Rattle.posting_rules.specs.LookUps.{kept_in}
 use Rattle.store_rows.specs.Columns.{request_in}
 use Rattle.store_rows.specs.Outcomes.{IsNoRequest}
-use Rattle.bank_transactions.proofs.SoundRows.{is_a_request, request_is, request_unbroken}
-use Rattle.bank_transactions.proofs.Told.{err_found}
+use Rattle.bank_transactions.proofs.SoundRows.{err_found, is_a_request, request_is, request_unbroken}
 use Rattle.bank_transactions.proofs.look_ups.kept_request.Goals as goal
 
-pub returns-in_err-row-clause-told : goal.returns-in_err-row-clause-told
-returns-in_err-row-clause-told g c clean t shows sound =
-    let same : c.from_residual.result ≡ Err c.in_err-row.field-0.0 = search rules in
-    let before = state g.S.Store c.args.tx.now.conn.now in
-    let after = state g.S.Store c.find_request.new.tx.conn.now in
-    rw same
-    (err_found before after before after (request_in t c.teller.result c.number.result) IsNoRequest
-    (kept_in t.requests c.args.request.now.teller c.args.request.now.number) c.in_err-row.field-0.0
-    (λ r broken is breaks. request_unbroken t c.teller.result c.number.result r broken sound is breaks)
-    (c.in_err-row.ensures.told clean t shows))
+pub returns-in_err-row : goal.returns-in_err-row
+returns-in_err-row g c = record {
+  told = λ clean t shows sound.
+      let same : c.from_residual.result ≡ Err c.in_err-row.field-0.0 = search rules in
+      let before = state g.S.Store c.args.tx.now.conn.now in
+      let after = state g.S.Store c.find_request.new.tx.conn.now in
+      rw same
+      (err_found before after before after (request_in t c.teller.result c.number.result) IsNoRequest
+      (kept_in t.requests c.args.request.now.teller c.args.request.now.number) c.in_err-row.field-0.0
+      (λ r broken is breaks. request_unbroken t c.teller.result c.number.result r broken sound is breaks)
+      (c.in_err-row.ensures.told clean t shows));
+  same_reference = search rules;
+  kept = search rules;
+  survives = search rules;
+}
 
-pub returns-then-is_none-clause-told : goal.returns-then-is_none-clause-told
-returns-then-is_none-clause-told g c clean t shows sound =
-    let row = c.in-Some.row in
-    let found : request_in t c.teller.result c.number.result ≡ Some row = sym (c.in_ok-row.ensures.told clean t shows).0 ∙ c.in-Some.is in
-    let within : nat_abs row.kept.delta ≤ 9_999_999_999 = (request_is t c.teller.result c.number.result row sound found).delta in
-    is_a_request c.account.result row.teller c.branch-kept.result row.number c.delta.result
-    (subst (λ z. nat_abs z ≤ 9_999_999_999) (sym c.delta.ensures) within)
-    (ap is_some (sym c.new-stored.ensures) ∙ c.if-is_none.ensures)
+pub returns-then-is_none : goal.returns-then-is_none
+returns-then-is_none g c = record {
+  told = λ clean t shows sound.
+      let row = c.in-Some.row in
+      let found : request_in t c.teller.result c.number.result ≡ Some row = sym (c.in_ok-row.ensures.told clean t shows).0 ∙ c.in-Some.is in
+      let within : nat_abs row.kept.delta ≤ 9_999_999_999 = (request_is t c.teller.result c.number.result row sound found).delta in
+      is_a_request c.account.result row.teller c.branch-kept.result row.number c.delta.result
+      (subst (λ z. nat_abs z ≤ 9_999_999_999) (sym c.delta.ensures) within)
+      (ap is_some (sym c.new-stored.ensures) ∙ c.if-is_none.ensures);
+  same_reference = search rules;
+  kept = search rules;
+  survives = search rules;
+}

@@ -1,29 +1,22 @@
 -- What a stop may leave of the transaction.
-use Rattle.std.proofs.Common.{◌≡◌, rules, subst}
-use Rattle.sqlite.specs.State.{Survives}
-use Rattle.sqlite.specs.Held.{state}
-use Rattle.posting_rules.specs.Tables.{Tables}
-use Rattle.posting_rules.specs.Changes.{tables_with_branch}
-use Rattle.posting_rules.specs.Sound.{AreSound}
-use Rattle.bank_transactions.proofs.Transacted.{Leaves, committed_left}
+use Rattle.std.proofs.Common.{rules}
+use Rattle.bank_transactions.proofs.Transacted.{stopped}
 use Rattle.bank_transactions.proofs.transactions.open_branch.Goals as goal
 
-pub returns-in_err-commit-clause-stop : goal.returns-in_err-commit-clause-stop
-returns-in_err-commit-clause-stop g c =
-    let same : c.commit.new.tx.0 ≡ c.conn-2-1.given.0 = search rules in
-    let old = c.args.conn.now in
-    let after : Tables → Tables = λ t. tables_with_branch t c.args.branch c.args.count in
-    subst (λ h. Survives (state g.S.Store old) (state g.S.Store h) (Leaves AreSound (state g.S.Store old) after)) same
-    (committed_left g.S.Store AreSound old c.begin-tx.result.conn.now c.open_inside.new.tx.conn.now c.commit.new.tx.0 after c.begin-tx.ensures.begun
-    (λ clean live t shows sound. (c.in_ok-opening.ensures.told clean live t shows sound).1)
-    c.open_inside.ensures.survives c.commit.ensures.survives)
+pub returns-in_err-commit : goal.returns-in_err-commit
+returns-in_err-commit g c = record {
+  told = search rules;
+  undone = search rules;
+  stop = stopped g.S.Store c.args.conn.now c.begin-tx.result c.open_inside.new.tx c.commit.new.tx.0 c.conn-2-1.given.0 c.begin-tx.ensures.begun
+      c.in_ok-opening.ensures c.commit.ensures.survives (search rules);
+  mode = search rules;
+}
 
-pub returns-clause-stop : goal.returns-clause-stop
-returns-clause-stop g c =
-    let same : c.commit.new.tx.0 ≡ c.conn-2-1.given.0 = search rules in
-    let old = c.args.conn.now in
-    let after : Tables → Tables = λ t. tables_with_branch t c.args.branch c.args.count in
-    subst (λ h. Survives (state g.S.Store old) (state g.S.Store h) (Leaves AreSound (state g.S.Store old) after)) same
-    (committed_left g.S.Store AreSound old c.begin-tx.result.conn.now c.open_inside.new.tx.conn.now c.commit.new.tx.0 after c.begin-tx.ensures.begun
-    (λ clean live t shows sound. (c.in_ok-opening.ensures.told clean live t shows sound).1)
-    c.open_inside.ensures.survives c.commit.ensures.survives)
+pub returns : goal.returns
+returns g c = record {
+  told = search rules;
+  undone = search rules;
+  stop = stopped g.S.Store c.args.conn.now c.begin-tx.result c.open_inside.new.tx c.commit.new.tx.0 c.conn-2-1.given.0 c.begin-tx.ensures.begun
+      c.in_ok-opening.ensures c.commit.ensures.survives (search rules);
+  mode = search rules;
+}

@@ -1,29 +1,22 @@
 -- What a stop may leave of the transaction.
-use Rattle.std.proofs.Common.{◌≡◌, rules, subst}
-use Rattle.sqlite.specs.State.{Survives}
-use Rattle.sqlite.specs.Held.{state}
-use Rattle.posting_rules.specs.Tables.{Tables}
-use Rattle.posting_rules.specs.Changes.{tables_past_all}
-use Rattle.posting_rules.specs.Sound.{AreOfALog}
-use Rattle.bank_transactions.proofs.Transacted.{Leaves, committed_left}
+use Rattle.std.proofs.Common.{rules}
+use Rattle.bank_transactions.proofs.Transacted.{stopped}
 use Rattle.bank_transactions.proofs.transactions.post_all.Goals as goal
 
-pub returns-in_err-commit-clause-stop : goal.returns-in_err-commit-clause-stop
-returns-in_err-commit-clause-stop g c =
-    let same : c.commit.new.tx.0 ≡ c.conn-2-1.given.0 = search rules in
-    let old = c.args.conn.now in
-    let after : Tables → Tables = λ t. tables_past_all t c.args.moment c.args.records.now in
-    subst (λ h. Survives (state g.S.Store old) (state g.S.Store h) (Leaves AreOfALog (state g.S.Store old) after)) same
-    (committed_left g.S.Store AreOfALog old c.begin-tx.result.conn.now c.answer_all.new.tx.conn.now c.commit.new.tx.0 after c.begin-tx.ensures.begun
-    (λ clean live t shows it. c.in_ok-answer_all.ensures.told clean live t shows it.0 it.1 it.2)
-    c.answer_all.ensures.survives c.commit.ensures.survives)
+pub returns-in_err-commit-clause-says : goal.returns-in_err-commit-clause-says
+returns-in_err-commit-clause-says g c = record {
+  told = search rules;
+  undone = search rules;
+  stop = stopped g.S.Store c.args.conn.now c.begin-tx.result c.answer_all.new.tx c.commit.new.tx.0 c.conn-2-1.given.0 c.begin-tx.ensures.begun
+      c.in_ok-answer_all.ensures.says c.commit.ensures.survives (search rules);
+  mode = search rules;
+}
 
-pub returns-clause-stop : goal.returns-clause-stop
-returns-clause-stop g c =
-    let same : c.commit.new.tx.0 ≡ c.conn-2-1.given.0 = search rules in
-    let old = c.args.conn.now in
-    let after : Tables → Tables = λ t. tables_past_all t c.args.moment c.args.records.now in
-    subst (λ h. Survives (state g.S.Store old) (state g.S.Store h) (Leaves AreOfALog (state g.S.Store old) after)) same
-    (committed_left g.S.Store AreOfALog old c.begin-tx.result.conn.now c.answer_all.new.tx.conn.now c.commit.new.tx.0 after c.begin-tx.ensures.begun
-    (λ clean live t shows it. c.in_ok-answer_all.ensures.told clean live t shows it.0 it.1 it.2)
-    c.answer_all.ensures.survives c.commit.ensures.survives)
+pub returns-clause-says : goal.returns-clause-says
+returns-clause-says g c = record {
+  told = search rules;
+  undone = search rules;
+  stop = stopped g.S.Store c.args.conn.now c.begin-tx.result c.answer_all.new.tx c.commit.new.tx.0 c.conn-2-1.given.0 c.begin-tx.ensures.begun
+      c.in_ok-answer_all.ensures.says c.commit.ensures.survives (search rules);
+  mode = search rules;
+}

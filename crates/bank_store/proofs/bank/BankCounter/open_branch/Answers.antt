@@ -1,16 +1,10 @@
 -- What an opening comes to.
 use Rattle.std.proofs.Common.{◌≤◌, [], ◌∷◌, rules, arith, ◌∙◌}
 use Rattle.std.specs.Prelude.{IsSome}
-use Rattle.sqlite.specs.Held.{state}
-use Rattle.posting_rules.specs.declared.counter.Opening.{Opening}
 use Rattle.posting_rules.specs.Commands.{Open, AreCommands}
-use Rattle.posting_rules.specs.Counter.{opening_for}
-use Rattle.posting_rules.specs.LookUps.{count_in}
-use Rattle.posting_rules.specs.Changes.{tables_with_branch}
-use Rattle.posting_rules.specs.Sound.{AreSound}
 use Rattle.posting_rules.proofs.Calls.{opens, answers}
-use Rattle.bank_store.proofs.Countered.{takes, refuses}
 use Rattle.posting_rules.proofs.Stepping.{sound_tables}
+use Rattle.bank_store.proofs.Countered.{takes, refuses}
 use Rattle.bank_store.proofs.bank.BankCounter.open_branch.Goals as goal
 
 pub returns-in-Ok-clause-answer : goal.returns-in-Ok-clause-answer
@@ -24,21 +18,14 @@ returns-in-Ok-clause-done g c =
     let count = c.args.count in
     let above : 1 ≤ b = omega (arith, c.get-number.ensures.value, c.get-number.ensures.least) in
     let are : AreCommands (Open b count ∷ []) = ((above, c.requires.branch, c.requires.some, c.requires.few), tt) in
-    let old = state g.S.Store c.args.self.now.conn in
-    let new = state g.S.Store c.open_branch.new.conn in
     let Down = IsSome c.args.self.now.fault in
-    takes AreSound sound_tables old new (Open b count ∷ []) (λ t. tables_with_branch t b count) (opens b count above c.requires.few) Down Down are (search rules)
-    (λ clean t shows sound. let told = c.in-Ok.ensures.told clean t shows sound in (told.1, told.2))
+    takes sound_tables (Open b count ∷ []) (opens b count above c.requires.few) are Down Down (search rules) c.in-Ok.ensures
 
 pub returns-in-Err-clause-fault : goal.returns-in-Err-clause-fault
 returns-in-Err-clause-fault g c =
     let b = c.args.branch in
     let count = c.args.count in
     let above : 1 ≤ b = omega (arith, c.get-number.ensures.value, c.get-number.ensures.least) in
-    let old = state g.S.Store c.args.self.now.conn in
-    let mid = state g.S.Store c.open_branch.new.conn in
-    let new = state g.S.Store c.go_down.new.self.conn in
-    refuses {X = Opening} AreSound sound_tables old mid new (Open b count ∷ []) (λ t. tables_with_branch t b count) (λ t. opening_for (count_in t b) count)
+    refuses g.S.Store c.args.self.now.conn c.open_branch.new.conn c.go_down.new.self.conn sound_tables (Open b count ∷ [])
     (opens b count above c.requires.few) (IsSome c.args.self.now.fault)
-    c.in-Err.fault c.go_down.new.self.fault c.go_down.result c.in-Err.ensures.told c.in-Err.ensures.undone c.in-Err.ensures.stop
-    c.go_down.ensures.down c.go_down.ensures.survives
+    c.in-Err.fault c.go_down.new.self.fault c.go_down.result c.in-Err.ensures c.go_down.ensures.down c.go_down.ensures.survives

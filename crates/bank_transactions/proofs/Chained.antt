@@ -1,0 +1,195 @@
+-- The parts of a call one after another.
+use Rattle.std.proofs.Common.{◌≡◌, false, true, Ok, Err, Result, refl, sym, subst, ◌∙◌, inl, inr}
+use Rattle.std.specs.Prelude.{IsTrue, Bool}
+use Rattle.sqlite.specs.Effect.{Database}
+use Rattle.sqlite.specs.State.{State, Survives}
+use Rattle.sqlite.specs.Held.{state}
+use Rattle.sqlite.specs.Table.{Table}
+use Rattle.sqlite.specs.declared.error.Error.{Error}
+use Rattle.sqlite.specs.declared.transaction.Transaction.{Transaction}
+use Rattle.sqlite_trees.specs.declared.store.Store.{Ghosts}
+use Rattle.posting_rules.specs.Damage.{IsUndamaged}
+use Rattle.posting_rules.specs.Tables.{Tables}
+use Rattle.sql_meanings.specs.Calls.{Says, Inside}
+use Rattle.sql_meanings.specs.Outcomes.{WriteKept}
+use Rattle.sql_meanings.proofs.Saying.{says_then}
+use Rattle.store_rows.specs.Calls.{OfTables}
+use Rattle.store_rows.specs.Outcomes.{Adds, Writes}
+use Rattle.store_rows.specs.View.{Shows}
+use Rattle.store_rows.specs.declared.faults.TableFault.{TableFault}
+use Rattle.store_rows.specs.declared.faults.TableFault.TheVariants.{Sqlite, Damaged}
+use Rattle.bank_transactions.specs.Doing.{GoesOn, Keeps, Looks, LooksUp, Answers, Reads, Does, expected}
+use Rattle.posting_rules.specs.declared.fault.Rule.{Rule}
+
+-- ---- what goes on
+
+-- a transaction that goes on is in the transaction still
+pub still_in : (old new : State) → GoesOn old new → IsTrue old.in_transaction → IsTrue new.in_transaction
+still_in old new on live = subst (λ (b : Bool). IsTrue b) (sym on.mode) live
+
+keeps_then : {X : Type 0} (old mid new : State) (r : Result X TableFault) → GoesOn old mid → Keeps mid new r → Keeps old new r
+keeps_then old mid new (Ok x) on then = record {
+  opened = λ h. on.opened (then.opened h);
+  committed = then.committed ∙ on.committed;
+  mode = then.mode ∙ on.mode;
+}
+keeps_then old mid new (Err e) on then = record {
+  was_open = λ h. on.opened (then.was_open h);
+  committed = λ h. then.committed h ∙ on.committed;
+}
+
+-- whatever a statement writes, as long as the transaction goes on
+write_keeps : (old new : State) (r : Result (Unit {0}) TableFault) → IsTrue old.in_transaction → WriteKept old new r → Keeps old new r
+write_keeps old new (Ok done) live kept = record { opened = λ h. kept.was_open; committed = kept.committed_is; mode = kept.mode ∙ sym live }
+write_keeps old new (Err e) live (inl same) = record { was_open = λ h. same.0.was_open; committed = λ h. same.0.committed_is }
+write_keeps old new (Err e) live (inr undone) = record { was_open = undone.was_open; committed = λ h. (undone.undone h).1 }
+
+-- ---- what is told
+
+-- no damage of a part is none of the whole
+same_fault : {X Y : Type 0} (new end : State) (one two : Tables) (x : X) (y : Y) (e : TableFault) → Answers new one x (Err e) → Answers end two y (Err e)
+same_fault new end one two x y (Sqlite e) told = tt
+same_fault new end one two x y (Damaged rule) told = told
+
+-- ---- parts
+
+-- nothing yet
+pub does_none : {S : Type 0} {g : Ghosts S} {tx : Transaction S} {So : Tables → Type 0} → Survives (state g tx.conn.now) (state g tx.conn.now) (λ _. ⊥)
+    → Does {X = Unit {0}} g tx tx So (λ t. t) (λ _. tt {0}) (Ok (tt {0}))
+does_none stays = record {
+  says = record {
+    same_reference = refl;
+    told = λ clean live t shows so. (refl, shows);
+    kept = λ clean live. record { opened = λ h. h; committed = refl; mode = refl };
+    survives = stays;
+  };
+}
+
+-- one part, and then another
+pub does_then : {S X Y : Type 0} {g : Ghosts S} {old mid new : Transaction S} {So So' : Tables → Type 0} {after after' : Tables → Tables}
+    {w : Tables → X} {w' : Tables → Y} {x : X} {r : Result Y TableFault} → Does g old mid So after w (Ok x) → Does g mid new So' after' w' r
+    → ((t : Tables) → So t → So' (after t)) → Does g old new So (λ t. after' (after t)) (λ t. w' (after t)) r
+does_then {S} {X} {Y} {g} {old} {mid} {new} {So} {So'} {after} {after'} {w} {w'} {x} {r} one two ready = record {
+  says = says_then g old mid new one.says two.says
+      (λ told kept told' live t shows so.
+      told' (still_in (state g old.conn.now) (state g mid.conn.now) (kept live) live) (after t) (told live t shows so).1 (ready t so))
+      (λ kept kept' live. keeps_then (state g old.conn.now) (state g mid.conn.now) (state g new.conn.now) r (kept live)
+      (kept' (still_in (state g old.conn.now) (state g mid.conn.now) (kept live) live)));
+}
+
+-- an error of a part is that of the whole
+pub does_err : {S X Y : Type 0} {g : Ghosts S} {old new : Transaction S} {So So' : Tables → Type 0} {after after' : Tables → Tables}
+    {w : Tables → X} {w' : Tables → Y} {e : TableFault} → Does g old new So after w (Err e) → ((t : Tables) → So' t → So t)
+    → Does g old new So' after' w' (Err e)
+does_err {S} {X} {Y} {g} {old} {new} {So} {So'} {after} {after'} {w} {w'} {e} part so = record {
+  says = record {
+    same_reference = part.says.same_reference;
+    told = λ clean live t shows it. same_fault (state g new.conn.now) (state g new.conn.now) (after t) (after' t) (w t) (w' t) e
+        (part.says.told clean live t shows (so t it));
+    kept = part.says.kept;
+    survives = part.says.survives;
+  };
+}
+
+-- the same, said in other words, with another answer
+pub does_as : {S X Y : Type 0} {g : Ghosts S} {old new : Transaction S} {So So' : Tables → Type 0} {after after' : Tables → Tables}
+    {w : Tables → X} {w' : Tables → Y} {x : X} {y : Y} → Does g old new So after w (Ok x)
+    → ((t : Tables) → So' t → So t × (after t ≡ after' t) × (x ≡ w t → y ≡ w' t)) → Does g old new So' after' w' (Ok y)
+does_as {S} {X} {Y} {g} {old} {new} part same = record {
+  says = record {
+    same_reference = part.says.same_reference;
+    told = λ clean live t shows so.
+        let is = same t so in
+        let it = part.says.told clean live t shows is.0 in
+        (is.2 it.0, subst (λ (u : Tables). Shows (state g new.conn.now).now u) is.1 it.1);
+    kept = part.says.kept;
+    survives = part.says.survives;
+  };
+}
+
+-- the same, whatever the answer
+pub does_for : {S X : Type 0} {g : Ghosts S} {old new : Transaction S} {So So' : Tables → Type 0} {after after' : Tables → Tables}
+    {w w' : Tables → X} {r : Result X TableFault} → Does g old new So after w r
+    → ((t : Tables) → So' t → So t × (after t ≡ after' t) × (w t ≡ w' t)) → Does g old new So' after' w' r
+does_for {S} {X} {g} {old} {new} {So} {So'} {after} {after'} {w} {w'} {r} part same = record {
+  says = record {
+    same_reference = part.says.same_reference;
+    told = λ clean live t shows so.
+        let is = same t so in
+        subst (λ (u : Tables). Answers (state g new.conn.now) u (w' t) r) is.1
+        (subst (λ (x : X). Answers (state g new.conn.now) (after t) x r) is.2 (part.says.told clean live t shows is.0));
+    kept = part.says.kept;
+    survives = part.says.survives;
+  };
+}
+
+-- ---- what the statements do
+
+looked : {X : Type 0} (old new : State) (t : Tables) (w : X) (r : Result X TableFault) → Shows old.now t → LooksUp old new w r → Answers new t w r
+looked old new t w (Ok x) shows told = (told.0, subst (λ (db : Database). Shows db t) (sym told.1.now) shows)
+looked old new t w (Err (Sqlite e)) shows told = tt
+looked old new t w (Err (Damaged rule)) shows told = told
+
+look_keeps : {X : Type 0} (old new : State) (r : Result X TableFault) → Looks old new r → Keeps old new r
+look_keeps old new (Ok x) looks = looks.goes_on
+look_keeps old new (Err e) looks = looks
+
+-- a look-up leaves the tables
+pub does_read : {S X : Type 0} (g : Ghosts S) (old new : Transaction S) (w : Tables → X) (r : Result X TableFault) → Reads g old new w r
+    → Does g old new IsUndamaged (λ t. t) w r
+does_read g old new w r reads = record {
+  says = record {
+    same_reference = reads.same_reference;
+    told = λ clean live t shows so. looked (state g old.conn.now) (state g new.conn.now) t (w t) r shows (reads.told clean t shows so);
+    kept = λ clean live. look_keeps (state g old.conn.now) (state g new.conn.now) r (reads.kept clean);
+    survives = reads.survives;
+  };
+}
+
+added : (old new : State) (table : Table) (taken : Bool) (after : Tables) (r : Result (Unit {0}) TableFault) → taken ≡ false → Adds old new table taken after r
+    → Answers new after tt r
+added old new table taken after (Ok done) free adds = (refl, adds.1)
+added old new table taken after (Err (Sqlite e)) free adds = tt
+added old new table taken after (Err (Damaged rule)) free adds = let is = adds.1 in cc
+
+-- a row is put in under a key that is free
+pub does_add : {S : Type 0} {So : Tables → Type 0} (g : Ghosts S) (old new : Transaction S) (table : Table) (taken : Tables → Bool) (more : Tables → Tables)
+    (r : Result (Unit {0}) TableFault)
+    → Says g old new (Inside (OfTables (λ before now t. Adds before now table (taken t) (more t) r))) (Inside (λ before now. WriteKept before now r))
+    → ((t : Tables) → So t → taken t ≡ false) → Does g old new So more (λ _. tt) r
+does_add g old new table taken more r says free = record {
+  says = record {
+    same_reference = says.same_reference;
+    told = λ clean live t shows so.
+        added (state g old.conn.now) (state g new.conn.now) table (taken t) (more t) r (free t so) (says.told clean live t shows);
+    kept = λ clean live. write_keeps (state g old.conn.now) (state g new.conn.now) r live (says.kept clean live);
+    survives = says.survives;
+  };
+}
+
+written : (old new : State) (table : Table) (there : Bool) (after : Tables) (r : Result Bool Error) (rule : Rule) → IsTrue there
+    → Writes old new table there after r → Answers new after tt (expected r rule)
+written old new table there after (Ok true) rule is writes = (refl, writes.1)
+written old new table there after (Ok false) rule is writes = let no = writes.0 in cc
+written old new table there after (Err e) rule is writes = tt
+
+written_keeps : (old new : State) (r : Result Bool Error) (rule : Rule) → IsTrue old.in_transaction → WriteKept old new r → Keeps old new (expected r rule)
+written_keeps old new (Ok true) rule live kept = write_keeps old new (Ok tt) live kept
+written_keeps old new (Ok false) rule live kept = record { was_open = λ h. kept.was_open; committed = λ h. kept.committed_is }
+written_keeps old new (Err e) rule live kept = write_keeps old new (Err (Sqlite e)) live kept
+
+-- a row that is there is written
+pub does_write : {S : Type 0} {So : Tables → Type 0} (g : Ghosts S) (old new : Transaction S) (table : Table) (there : Tables → Bool) (after : Tables → Tables)
+    (answer : Result Bool Error) (rule : Rule) (r : Result (Unit {0}) TableFault) → r ≡ expected answer rule
+    → Says g old new (Inside (OfTables (λ before now t. Writes before now table (there t) (after t) answer))) (Inside (λ before now. WriteKept before now answer))
+    → ((t : Tables) → So t → IsTrue (there t)) → Does g old new So after (λ _. tt) r
+does_write {S} {So} g old new table there after answer rule r is says so =
+    subst (λ (x : Result (Unit {0}) TableFault). Does g old new So after (λ _. tt) x) (sym is) (record {
+      says = record {
+        same_reference = says.same_reference;
+        told = λ clean live t shows it.
+            written (state g old.conn.now) (state g new.conn.now) table (there t) (after t) answer rule (so t it) (says.told clean live t shows);
+        kept = λ clean live. written_keeps (state g old.conn.now) (state g new.conn.now) answer rule live (says.kept clean live);
+        survives = says.survives;
+      };
+    })

@@ -1,0 +1,26 @@
+-- The rows that come with a branch, one by one.
+use Rattle.std.specs.Prelude.{ℕ, zero, suc, ◌+◌, Bool, is_some}
+use Rattle.posting_rules.specs.Changes.{with_teller, with_account, new_teller, new_account}
+use Rattle.posting_rules.specs.Tables.{Tables, row_at, teller_key, account_key}
+use Rattle.bank_transactions.specs.declared.opening.NewRows.{NewRows}
+use Rattle.bank_transactions.specs.declared.opening.NewRows.TheVariants.{Tellers, Accounts}
+
+-- the last number that such a row may have
+abbrev pub last_of : NewRows → ℕ
+last_of Tellers = 99_999_999
+last_of Accounts = 999_999_999_999
+
+-- a row under this number is there
+abbrev pub is_taken : NewRows → ℕ → Tables → Bool
+is_taken Tellers n t = is_some (row_at teller_key t.tellers n)
+is_taken Accounts n t = is_some (row_at account_key t.accounts n)
+
+-- a row more, with nothing on it
+abbrev pub with_new : NewRows → ℕ → Tables → Tables
+with_new Tellers n t = with_teller (new_teller n) t
+with_new Accounts n t = with_account (new_account n) t
+
+-- so many more, from this number on
+abbrev pub with_new_rows : NewRows → ℕ → ℕ → Tables → Tables
+with_new_rows kind first zero t = t
+with_new_rows kind first (suc count) t = with_new kind (first + count) (with_new_rows kind first count t)
