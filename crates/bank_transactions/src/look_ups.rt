@@ -7,18 +7,13 @@ ghost use Rattle.bank_transactions.specs.Doing.{Reads};
 
 use message_records::{Account, Branch, Cents, Request, Teller};
 use posting_rules::{
-    ACCOUNTS_PER_BRANCH, BranchRow, Found, Kept, MAX_DECIDED, Rule, branch_of_teller,
+    ACCOUNTS_PER_BRANCH, BranchRow, Found, Kept, LAST_BRANCH, MAX_DECIDED, MOST_ACCOUNTS, Rule,
+    branch_of_teller,
 };
 use sqlite::{Alter, Transaction};
 use store_rows::{
     TableFault, account_balance, find_branch, find_request, read_meta, teller_balance,
 };
-
-/// The branch with the highest number.
-pub(crate) const LAST_BRANCH: u64 = 9_999;
-
-/// How many accounts a branch may have.
-pub(crate) const MOST_ACCOUNTS: u32 = 100_000;
 
 /// The number of the branch that an account's number gives.
 fn branch_of_account(account: Account) -> u64

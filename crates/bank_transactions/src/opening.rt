@@ -8,10 +8,11 @@ ghost use Rattle.posting_rules.specs.Tables.{row_at, branch_key};
 ghost use Rattle.bank_transactions.specs.Doing.{Does};
 ghost use Rattle.bank_transactions.specs.NewRows.{with_new, with_new_rows, is_taken, last_of};
 
-use crate::look_ups::{LAST_BRANCH, MOST_ACCOUNTS, branch_at};
+use crate::look_ups::branch_at;
 use message_records::{Account, Branch, Cents, Teller};
 use posting_rules::{
-    ACCOUNTS_PER_BRANCH, AccountRow, BranchRow, Opening, TELLERS_PER_BRANCH, TellerRow,
+    ACCOUNTS_PER_BRANCH, AccountRow, BranchRow, LAST_BRANCH, MOST_ACCOUNTS, Opening,
+    TELLERS_PER_BRANCH, TellerRow,
 };
 use sqlite::{Alter, Transaction};
 use store_rows::{TableFault, add_account, add_branch, add_teller};

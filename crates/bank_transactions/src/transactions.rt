@@ -10,11 +10,11 @@ ghost use Rattle.posting_rules.specs.Tables.{Tables};
 ghost use Rattle.store_rows.specs.View.{Shows};
 ghost use Rattle.bank_transactions.specs.Doing.{Transacts};
 
-use crate::look_ups::{LAST_BRANCH, MOST_ACCOUNTS, open_balance};
+use crate::look_ups::open_balance;
 use crate::opening::open_inside;
 use crate::posting::{answer, answer_all};
 use message_records::{Account, Branch, Cents, Moment, Request};
-use posting_rules::Opening;
+use posting_rules::{LAST_BRANCH, MOST_ACCOUNTS, Opening};
 use sqlite::{Alter, Connection, Transaction};
 use store_rows::{TableFault, commit};
 

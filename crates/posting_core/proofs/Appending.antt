@@ -14,7 +14,7 @@ use Rattle.posting_rules.specs.Tables.{Tables, Shows, row_at, branch_key, teller
 use Rattle.posting_rules.specs.LookUps.{decided_in, found_in, count_in, count_of_branch}
 use Rattle.posting_rules.specs.Changes.{new_teller, new_account}
 use Rattle.posting_rules.specs.Steps.{IsStep, with_branch_balance, with_teller_balance, with_account_balance, first_teller, first_account}
-use Rattle.posting_rules.specs.Appended.{tables_after, tables_with, tables_opened, reply_in_tables}
+use Rattle.posting_core.specs.Appended.{tables_after, tables_with, tables_opened, reply_in_tables}
 use Rattle.posting_rules.proofs.RowChanges.{row_changes}
 use Rattle.posting_rules.proofs.Ready.{AreReady, ready_shown, no_teller, no_account}
 use Rattle.posting_rules.proofs.Looked.{decided_shown, count_shown}

@@ -14,7 +14,7 @@ use Rattle.std.proofs.lemmas.Map.Keys.{IsDistinct-push}
 use Rattle.posting_rules.specs.Tables.{row_at, HasKeys}
 use Rattle.posting_rules.specs.Steps.{AddsRow, AddsRows}
 use Rattle.posting_rules.proofs.RowChanges.{changed_at, free_apart, rows_none, rows_more}
-use Rattle.posting_rules.specs.Appended.{rows_from}
+use Rattle.posting_core.specs.Appended.{rows_from}
 
 -- ---- one row behind the others
 

@@ -17,10 +17,10 @@ use Rattle.posting_rules.specs.Steps.{meta_row_of}
 use Rattle.posting_rules.specs.Runs.{behind}
 use Rattle.posting_rules.specs.Counter.{ShowsLog, StandsAt, Takes}
 use Rattle.posting_core.specs.declared.plain_bank.PlainBank.{PlainBank}
-use Rattle.posting_rules.specs.Appended.{tables_with, tables_opened, reply_in_tables}
+use Rattle.posting_core.specs.Appended.{tables_with, tables_opened, reply_in_tables}
 use Rattle.posting_core.specs.Plain.{plain_tables, plain_seen}
 use Rattle.posting_rules.proofs.Empty.{empty_shown}
-use Rattle.posting_rules.proofs.Appending.{record_shown, reply_is, opened_shown}
+use Rattle.posting_core.proofs.Appending.{record_shown, reply_is, opened_shown}
 use Rattle.posting_rules.proofs.Sequence.{commands_behind}
 
 pub empty_from : (bs : List BranchRow) (ts : List TellerRow) (xs : List AccountRow) (hs : List HistoryRow) (rs : List RequestRow) → bs ≡ [] → ts ≡ [] → xs ≡ [] → hs ≡ [] → rs ≡ []

@@ -7,7 +7,7 @@ ghost use Rattle.posting_rules.specs.Branches.{IsInRange};
 ghost use Rattle.posting_rules.specs.Kept.{is_kept_with};
 ghost use Rattle.posting_rules.specs.Entries.{Entry};
 ghost use Rattle.posting_rules.specs.Tables.{request_row_of, history_row_of, teller_row_of, account_row_of};
-ghost use Rattle.posting_rules.specs.Appended.{rows_from};
+ghost use Rattle.posting_core.specs.Appended.{rows_from};
 
 use crate::walking::{balance_at, count_at, kept_at, next_at, put, set_balance_at};
 use message_records::{
@@ -130,7 +130,7 @@ impl PlainBank {
     ghost use Rattle.posting_rules.specs.LookUps.{found_in};
     ghost use Rattle.posting_rules.specs.Commands.{Command, AreCommands};
     ghost use Rattle.posting_rules.specs.Runs.{behind, posts, replies_to};
-    ghost use Rattle.posting_rules.specs.Appended.{tables_after, tables_with, tables_opened, reply_in_tables};
+    ghost use Rattle.posting_core.specs.Appended.{tables_after, tables_with, tables_opened, reply_in_tables};
     ghost use Rattle.posting_core.specs.Plain.{plain_tables};
 
     /// A bank with no branch. It takes no memory.

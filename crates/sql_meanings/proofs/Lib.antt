@@ -34,7 +34,6 @@ pub mod Refusals
 pub mod RisingOrder
 pub mod Saying
 pub mod Selects
-pub mod Saying
 pub mod SetFailures
 pub mod SetRows
 pub mod ShownColumns

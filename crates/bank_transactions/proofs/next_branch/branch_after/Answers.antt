@@ -4,38 +4,53 @@ use Rattle.sqlite.specs.Held.{state}
 use Rattle.store_rows.specs.Columns.{branch_above}
 use Rattle.store_rows.specs.Outcomes.{IsNoBranch}
 use Rattle.bank_transactions.proofs.NextRow.{next_sound, next_unbroken}
-use Rattle.bank_transactions.proofs.Told.{err_found}
+use Rattle.bank_transactions.proofs.SoundRows.{err_found}
 use Rattle.bank_transactions.proofs.next_branch.branch_after.Goals as goal
 
-pub returns-in_err-row-clause-told : goal.returns-in_err-row-clause-told
-returns-in_err-row-clause-told g c clean t shows sound =
-    let same : c.from_residual.result ≡ Err c.in_err-row.field-0.0 = search rules in
-    let before = state g.S.Store c.args.tx.now.conn.now in
-    let after = state g.S.Store c.next_branch.new.tx.conn.now in
-    rw same
-    (err_found before after before after (branch_above t c.args.after) IsNoBranch (branch_above t c.args.after)
-    c.in_err-row.field-0.0 (λ r broken is breaks. next_unbroken t c.args.after r broken sound is breaks)
-    (c.in_err-row.ensures.told clean t shows))
+pub returns-in_err-row-clause-says : goal.returns-in_err-row-clause-says
+returns-in_err-row-clause-says g c = record {
+  told = λ clean t shows sound.
+      let same : c.from_residual.result ≡ Err c.in_err-row.field-0.0 = search rules in
+      let before = state g.S.Store c.args.tx.now.conn.now in
+      let after = state g.S.Store c.next_branch.new.tx.conn.now in
+      rw same
+      (err_found before after before after (branch_above t c.args.after) IsNoBranch (branch_above t c.args.after)
+      c.in_err-row.field-0.0 (λ r broken is breaks. next_unbroken t c.args.after r broken sound is breaks)
+      (c.in_err-row.ensures.told clean t shows));
+  same_reference = search rules;
+  kept = search rules;
+  survives = search rules;
+}
 
 -- a number of undamaged tables is above the one that was asked for, and in its range
-pub returns-then-number-from-clause-told : goal.returns-then-number-from-clause-told
-returns-then-number-from-clause-told g c clean t shows sound =
-    let row = c.in-Some.row in
-    let found : branch_above t c.args.after ≡ Some row = sym (c.in_ok-row.ensures.told clean t shows).0 ∙ c.in-Some.is in
-    let is = next_sound _ t c.args.after row shows sound found in
-    let above = is.0 in
-    let most = is.1.most in
-    elim c.then-number-from.either [
-      | inl low ↦ omega (arith, low, c.from.ensures, c.get-number.ensures.value)
-      | inr high ↦ (let lt = high.1 in omega (arith, lt, c.get-number.ensures.value))
-    ]
+pub returns-then-number-from-clause-says : goal.returns-then-number-from-clause-says
+returns-then-number-from-clause-says g c = record {
+  told = λ clean t shows sound.
+      let row = c.in-Some.row in
+      let found : branch_above t c.args.after ≡ Some row = sym (c.in_ok-row.ensures.told clean t shows).0 ∙ c.in-Some.is in
+      let is = next_sound _ t c.args.after row shows sound found in
+      let above = is.0 in
+      let most = is.1.most in
+      elim c.then-number-from.either [
+        | inl low ↦ omega (arith, low, c.from.ensures, c.get-number.ensures.value)
+        | inr high ↦ (let lt = high.1 in omega (arith, lt, c.get-number.ensures.value))
+      ];
+  same_reference = search rules;
+  kept = search rules;
+  survives = search rules;
+}
 
 -- and so is a count
-pub returns-then-row-lt1-clause-told : goal.returns-then-row-lt1-clause-told
-returns-then-row-lt1-clause-told g c clean t shows sound =
-    let row = c.in-Some.row in
-    let found : branch_above t c.args.after ≡ Some row = sym (c.in_ok-row.ensures.told clean t shows).0 ∙ c.in-Some.is in
-    let is = (next_sound _ t c.args.after row shows sound found).1 in
-    let few = is.few in
-    let many = is.many in
-    elim c.then-row-lt1.either [ inl none ↦ omega arith | inr over ↦ (let gt = over.1 in omega arith) ]
+pub returns-then-row-lt1-clause-says : goal.returns-then-row-lt1-clause-says
+returns-then-row-lt1-clause-says g c = record {
+  told = λ clean t shows sound.
+      let row = c.in-Some.row in
+      let found : branch_above t c.args.after ≡ Some row = sym (c.in_ok-row.ensures.told clean t shows).0 ∙ c.in-Some.is in
+      let is = (next_sound _ t c.args.after row shows sound found).1 in
+      let few = is.few in
+      let many = is.many in
+      elim c.then-row-lt1.either [ inl none ↦ omega arith | inr over ↦ (let gt = over.1 in omega arith) ];
+  same_reference = search rules;
+  kept = search rules;
+  survives = search rules;
+}

@@ -2,7 +2,7 @@ use Rattle.std.proofs.Common.{◌≡◌, ◌+◌, ◌-◌, ◌≤◌, ◌++◌, 
 use Rattle.std.specs.Prelude.{pos}
 use Rattle.std.specs.Vec.{vec_capacity}
 use Rattle.posting_rules.specs.Tables.{teller_row_of}
-use Rattle.posting_rules.specs.Appended.{rows_from}
+use Rattle.posting_core.specs.Appended.{rows_from}
 use Rattle.posting_core.proofs.plain_bank.put_tellers.Given as goal
 
 -- the rows so far, and the room that is left

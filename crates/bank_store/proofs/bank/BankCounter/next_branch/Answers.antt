@@ -1,10 +1,7 @@
 -- What the next branch comes to.
-use Rattle.std.proofs.Common.{◌≡◌, [], Option, rules, sym, subst}
+use Rattle.std.proofs.Common.{◌≡◌, [], rules, sym, subst}
 use Rattle.std.specs.Prelude.{IsSome, option_map}
-use Rattle.sqlite.specs.Held.{state}
-use Rattle.posting_rules.specs.declared.rows.BranchRow.{BranchRow}
 use Rattle.posting_rules.specs.Branches.{IsNextIn, line_of}
-use Rattle.posting_rules.specs.Sound.{AreSound}
 use Rattle.posting_rules.proofs.Calls.{stays}
 use Rattle.posting_rules.proofs.NextBranch.{next_shown}
 use Rattle.posting_rules.proofs.Stepping.{sound_tables}
@@ -17,7 +14,7 @@ pub returns-in-Ok-clause-line : goal.returns-in-Ok-clause-line
 returns-in-Ok-clause-line g c clean log s =
     let after = c.args.after in
     let found : c.in-Ok.next ≡ branch_above s.tables after =
-    (c.in-Ok.ensures.told clean s.tables s.are (sound_tables s.tables log s.commands s.shows)).0 in
+    (c.in-Ok.ensures.says.told clean s.tables s.are (sound_tables s.tables log s.commands s.shows)).0 in
     let is : c.map.result ≡ option_map line_of c.in-Ok.next = search rules in
     let next : IsNextIn s.tables.branches after c.in-Ok.next =
     subst (IsNextIn s.tables.branches after) (sym found) (next_is _ s.tables after s.are) in
@@ -25,18 +22,10 @@ returns-in-Ok-clause-line g c clean log s =
 
 pub returns-in-Ok-clause-done : goal.returns-in-Ok-clause-done
 returns-in-Ok-clause-done g c =
-    let old = state g.S.Store c.args.self.now.conn in
-    let new = state g.S.Store c.read_next_branch.new.conn in
     let Down = IsSome c.args.self.now.fault in
-    takes AreSound sound_tables old new [] (λ t. t) stays Down Down tt (search rules)
-    (λ clean t shows sound. let told = c.in-Ok.ensures.told clean t shows sound in (told.1, told.2))
+    takes sound_tables [] stays tt Down Down (search rules) c.in-Ok.ensures.says
 
 pub returns-in-Err-clause-fault : goal.returns-in-Err-clause-fault
 returns-in-Err-clause-fault g c =
-    let old = state g.S.Store c.args.self.now.conn in
-    let mid = state g.S.Store c.read_next_branch.new.conn in
-    let new = state g.S.Store c.go_down.new.self.conn in
-    refuses {X = Option BranchRow} AreSound sound_tables old mid new [] (λ t. t) (λ t. branch_above t c.args.after)
-    stays (IsSome c.args.self.now.fault) c.in-Err.fault c.go_down.new.self.fault c.go_down.result
-    c.in-Err.ensures.told c.in-Err.ensures.undone c.in-Err.ensures.stop c.go_down.ensures.down
-    c.go_down.ensures.survives
+    refuses g.S.Store c.args.self.now.conn c.read_next_branch.new.conn c.go_down.new.self.conn sound_tables [] stays (IsSome c.args.self.now.fault)
+    c.in-Err.fault c.go_down.new.self.fault c.go_down.result c.in-Err.ensures.says c.go_down.ensures.down c.go_down.ensures.survives
