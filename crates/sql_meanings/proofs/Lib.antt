@@ -15,6 +15,7 @@ pub mod Failures
 pub mod Growing
 pub mod KeyedAnswers
 pub mod ListedTexts
+pub mod Makeable
 pub mod MakeFailures
 pub mod Makings
 pub mod Means

@@ -19,12 +19,11 @@ use Rattle.posting_rules.specs.Tables.{Tables, request_key}
 use Rattle.posting_rules.specs.declared.rows.RequestRow.{RequestRow}
 use Rattle.sql_meanings.specs.Entries.{has_two, stored}
 use Rattle.sql_meanings.specs.Outcomes.{OnlyShows, TellsRow}
-use Rattle.sql_meanings.specs.Plain.{key_column, number_column}
+use Rattle.sql_meanings.specs.Plain.{number_column}
 use Rattle.sql_meanings.specs.Queries.{by_two, two_are, no_limit}
 use Rattle.sql_meanings.specs.Tables.{placed_at}
 use Rattle.sql_meanings.proofs.ByKey.{Tests, number_at}
 use Rattle.sql_meanings.proofs.Means.{Means, means}
-use Rattle.sql_meanings.proofs.OnlyShowing.{only_understood}
 use Rattle.sql_meanings.proofs.ReadRows.{reads_two}
 use Rattle.sql_meanings.proofs.ReadTables.{ReadsAs}
 use Rattle.sql_meanings.proofs.Selects.{select_by_two}
@@ -46,7 +45,6 @@ by_tid tree = record { place = 1; column = number_column (codes "tid"); named = 
 by_number : (tree : ℕ) → Tests (placed_at request tree) (codes "number") 3
 unfolding everything
 by_number tree = record { place = 2; column = number_column (codes "number"); named = refl; there = refl; is_at = refl; by_bytes = refl }
-
 
 abbrev outputs : ℕ → List Output
 outputs tree = outputs_at (placed_at request tree) (0 ∷ 1 ∷ 2 ∷ 3 ∷ 4 ∷ 5 ∷ 6 ∷ 7 ∷ [])

@@ -18,12 +18,11 @@ use Rattle.sqlite_typing.specs.Types.{accepts_program}
 use Rattle.posting_rules.specs.Tables.{Tables, branch_key}
 use Rattle.sql_meanings.specs.Entries.{is_above, stored}
 use Rattle.sql_meanings.specs.Outcomes.{OnlyShows, TellsRow}
-use Rattle.sql_meanings.specs.Plain.{key_column, number_column}
+use Rattle.sql_meanings.specs.Plain.{key_column}
 use Rattle.sql_meanings.specs.Queries.{ascending, next_above, key_above}
 use Rattle.sql_meanings.specs.Tables.{placed_at}
 use Rattle.sql_meanings.proofs.ByKey.{Tests, key_at}
 use Rattle.sql_meanings.proofs.Means.{Means, means}
-use Rattle.sql_meanings.proofs.OnlyShowing.{only_understood}
 use Rattle.sql_meanings.proofs.ReadRows.{reads_next}
 use Rattle.sql_meanings.proofs.ReadTables.{ReadsAs}
 use Rattle.sql_meanings.proofs.Above.{select_above}
@@ -41,7 +40,6 @@ use Rattle.store_rows.proofs.RowLists.{is_row_above, shown_by, shown_itself}
 by_id : (tree : ℕ) → Tests (placed_at branch tree) (codes "bid") 0
 unfolding everything
 by_id tree = record { place = 0; column = key_column (codes "bid"); named = refl; there = refl; is_at = refl; by_bytes = refl }
-
 
 abbrev outputs : ℕ → List Output
 outputs tree = outputs_at (placed_at branch tree) (0 ∷ 1 ∷ 2 ∷ [])

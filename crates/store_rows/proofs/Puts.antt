@@ -1,6 +1,5 @@
 -- What each INSERT puts in.
 use Rattle.std.proofs.Common.{ℕ, zero, suc, pos, List, [], ◌∷◌, lit≤, refl}
-use Rattle.message_records.specs.Outcomes.{code_of}
 use Rattle.posting_rules.specs.declared.rows.BranchRow.{BranchRow}
 use Rattle.posting_rules.specs.declared.rows.TellerRow.{TellerRow}
 use Rattle.posting_rules.specs.declared.rows.AccountRow.{AccountRow}

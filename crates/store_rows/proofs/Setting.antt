@@ -1,5 +1,5 @@
 -- What each UPDATE under a key changes.
-use Rattle.std.proofs.Common.{◌≡◌, ℕ, ℤ, pos, false, List, [], ◌∷◌, codes, length, lit≤, refl, arith}
+use Rattle.std.proofs.Common.{◌≡◌, ℤ, pos, false, List, [], ◌∷◌, codes, length, lit≤, refl, arith}
 use Rattle.sqlite.specs.Term.{Term, col, lit, eval_all}
 use Rattle.sqlite.specs.declared.types.Value.TheVariants.{Null, Int}
 use Rattle.sqlite_tied.specs.Compute.{everything}

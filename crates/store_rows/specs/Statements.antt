@@ -1,5 +1,5 @@
 -- What a statement of one table was run as.
-use Rattle.std.specs.Prelude.{◌≡◌, ℕ, ℤ, List, nat_eq, Bool, Option, option_map, Result, Ok, Err}
+use Rattle.std.specs.Prelude.{◌≡◌, ℕ, List, nat_eq, Bool, Result, Ok, Err}
 use Rattle.sqlite.specs.Order.{Row}
 use Rattle.sqlite.specs.State.{State, ExecutesInside}
 use Rattle.sqlite.specs.declared.error.Error.{Error}

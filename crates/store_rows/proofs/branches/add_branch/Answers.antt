@@ -1,6 +1,5 @@
 -- What the new row leaves.
-use Rattle.std.proofs.Common.{arith, rules, refl, ap, ◌∙◌}
-use Rattle.message_records.specs.Outcomes.{code_of}
+use Rattle.std.proofs.Common.{arith, rules, refl}
 use Rattle.posting_rules.specs.Changes.{with_branch}
 use Rattle.store_rows.proofs.BankTables.{tells_added}
 use Rattle.store_rows.proofs.Lookups.{as_amount, as_integer}

@@ -1,5 +1,5 @@
 -- What the new row leaves.
-use Rattle.std.proofs.Common.{arith, rules, refl, ap, ◌∙◌}
+use Rattle.std.proofs.Common.{arith, rules, ap, ◌∙◌}
 use Rattle.message_records.specs.Outcomes.{code_of}
 use Rattle.posting_rules.specs.Changes.{with_request}
 use Rattle.store_rows.proofs.BankTables.{tells_added}

@@ -1,8 +1,5 @@
 -- The text is run with the key and the number.
-use Rattle.std.proofs.Common.{◌≡◌, ℕ, Ok, Err, Result, rules, arith, refl}
-use Rattle.sqlite.specs.Held.{state}
-use Rattle.sqlite.specs.State.{ExecutesInside}
-use Rattle.sql_meanings.proofs.Makings.{kept_inside}
+use Rattle.std.proofs.Common.{◌≡◌, Err, rules, arith, refl}
 use Rattle.std.proofs.lemmas.Int.{to_z-of_z}
 use Rattle.std.proofs.Common.{w64}
 use Rattle.store_rows.proofs.Lookups.{as_integer}
