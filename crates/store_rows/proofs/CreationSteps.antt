@@ -1,6 +1,5 @@
 -- How the creation of a bank goes on from statement to statement, and how it fails.
-use Rattle.std.proofs.Common.{◌≡◌, ◌≢◌, ◌⊎◌, inl, inr, ℕ, zero, suc, ◌<◌, ◌≤◌, length, List, [], ◌∷◌, map, take, slice_get, Some, Ok, Err, IsTrue, refl, sym, ap, subst, ◌∙◌, arith, true, false}
-use Rattle.std.specs.Prelude.{fold}
+use Rattle.std.proofs.Common.{◌≡◌, ◌≢◌, ◌⊎◌, inl, inr, ℕ, suc, ◌<◌, ◌≤◌, List, [], ◌∷◌, map, take, slice_get, Some, Ok, Err, IsTrue, refl, sym, ap, subst, ◌∙◌, arith, true, false}
 use Rattle.std.specs.List.{AllByRecursion}
 use Rattle.sqlite.specs.Schema.{Schema}
 use Rattle.sqlite.specs.Table.{Table}
@@ -21,40 +20,14 @@ use Rattle.sql_meanings.specs.Tables.{placed_at}
 use Rattle.sql_meanings.specs.Outcomes.{GoesOn, MakeFails, MakesTold}
 use Rattle.sql_meanings.proofs.Afterwards.{fails_since, names_on, names_since, undone_since, undone_twice}
 use Rattle.sql_meanings.proofs.Makings.{holds_none, kept}
+use Rattle.sql_meanings.proofs.Places.{all_more, fold_more, some_at}
 use Rattle.sql_meanings.proofs.Standing.{counts_created, then_keeps}
 use Rattle.store_rows.specs.SixTables as six
 use Rattle.store_rows.specs.Creation.{CreatesBank, CreationFails, IsMade, MakesAll, MakesWide, six_texts, with_first}
 
--- ---- the lists
-
--- of the one at a place
-pub each_at : {X : Type 0} (P : X → Type 0) (xs : List X) → AllByRecursion P xs → (n : ℕ) (x : X) → slice_get xs n ≡ Some x → P x
-each_at P [] all n x is = absurd cc
-each_at P (y ∷ xs) all zero x is = let same : y ≡ x = cc in subst P same all.0
-each_at P (y ∷ xs) all (suc n) x is = each_at P xs all.1 n x is
-
--- one stands at each place
-some_at : {X : Type 0} (xs : List X) (n : ℕ) → n < length xs → (x : X) × (slice_get xs n ≡ Some x)
-some_at [] n low = absurd (omega arith)
-some_at (y ∷ xs) zero low = (y, refl)
-some_at (y ∷ xs) (suc n) low = some_at xs n (omega arith)
-
+-- a text for each place
 pub next_at : (at : ℕ) → at < 6 → (it : List ℕ × Table) × (slice_get six_texts at ≡ Some it)
 next_at at low = some_at six_texts at low
-
--- of one more
-all_more : {X : Type 0} (P : X → Type 0) (xs : List X) (n : ℕ) (x : X) → slice_get xs n ≡ Some x → AllByRecursion P (take n xs) → P x
-    → AllByRecursion P (take (suc n) xs)
-all_more P [] n x is all one = absurd cc
-all_more P (y ∷ xs) zero x is all one = let same : y ≡ x = cc in (subst P (sym same) one, tt)
-all_more P (y ∷ xs) (suc n) x is all one = (all.0, all_more P xs n x is all.1 one)
-
--- a fold over one more
-fold_more : {X A : Type 0} (f : A → X → A) (xs : List X) (n : ℕ) (x : X) → slice_get xs n ≡ Some x → (start : A)
-    → fold f start (take (suc n) xs) ≡ f (fold f start (take n xs)) x
-fold_more f [] n x is start = absurd cc
-fold_more f (y ∷ xs) zero x is start = let same : y ≡ x = cc in ap (f start) same
-fold_more f (y ∷ xs) (suc n) x is start = fold_more f xs n x is (f start y)
 
 -- ---- what was made so far
 

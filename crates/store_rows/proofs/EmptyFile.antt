@@ -1,7 +1,7 @@
 -- In an empty file no statement that makes a bank is refused, but for the limit on steps.
 use Rattle.std.proofs.Common.{◌≡◌, ◌&&◌, not, inl, inr, ℕ, zero, suc, ◌+◌, nat_lt, List, [], ◌∷◌, slice_get, length, take, Bool, true, false, Some, is_ok, IsTrue, refl, ap, subst, ◌∙◌, arith}
 use Rattle.std.specs.Prelude.{fold}
-use Rattle.sql_meanings.proofs.Contents.{and_both}
+use Rattle.sql_meanings.proofs.Tests.{and_both}
 use Rattle.std.specs.List.{list_any}
 use Rattle.std.proofs.lemmas.Bool.{cases_Bool}
 use Rattle.sqlite.specs.Schema.{Schema}

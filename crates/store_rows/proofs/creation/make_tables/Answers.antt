@@ -4,10 +4,11 @@ use Rattle.sqlite.specs.State.{HasCleanDisk}
 use Rattle.sqlite.specs.Held.{state}
 use Rattle.sqlite.specs.Table.{Table}
 use Rattle.sql_meanings.specs.Making.{CreatesOnly}
+use Rattle.sql_meanings.proofs.Places.{each_at}
 use Rattle.sql_meanings.proofs.Saying.{survives_both}
 use Rattle.store_rows.specs.Creation.{MakesAll, six_texts}
 use Rattle.store_rows.proofs.CreateTexts.{each_creates}
-use Rattle.store_rows.proofs.CreationSteps.{begun_live, each_at, ends_made, next_at, one_more, makes_leave, then_fails, Reached}
+use Rattle.store_rows.proofs.CreationSteps.{begun_live, ends_made, next_at, one_more, makes_leave, then_fails, Reached}
 use Rattle.store_rows.proofs.creation.make_tables.Goals as goal
 
 pub loop-at-init : goal.loop-at-init
