@@ -1,5 +1,5 @@
 -- Tables side by side: what is held of each, and what a write of one leaves.
-use Rattle.std.proofs.Common.{◌≡◌, ◌≢◌, ◌==◌, ◌&&◌, not, inl, inr, ℕ, zero, suc, List, [], ◌∷◌, length, slice_get, slice_set, Some, Bool, true, false, refl, sym, subst, arith}
+use Rattle.std.proofs.Common.{◌≡◌, ◌≢◌, ◌==◌, ◌&&◌, not, inl, inr, ℕ, zero, suc, List, [], ◌∷◌, length, slice_get, slice_set, Some, true, refl, sym, subst, arith}
 use Rattle.std.specs.Str.{bytes_eq}
 use Rattle.std.proofs.lemmas.Slice.Eq.{bytes_eq-Decides}
 use Rattle.sqlite.specs.State.{State}
@@ -11,14 +11,10 @@ use Rattle.sql_meanings.specs.Entries.{Entry}
 use Rattle.sql_meanings.specs.Tables.{Defines, Holds}
 use Rattle.sql_meanings.proofs.Steps.{stayed, stepped}
 use Rattle.sql_meanings.proofs.TableWrites.{Leaves}
+use Rattle.sql_meanings.proofs.Tests.{and_both}
 use Rattle.sql_meanings.proofs.Trees.{Holds-prop}
 
 -- ---- what the tests say
-
--- two tests that hold together hold each
-pub and_both : (a b : Bool) → (a && b) ≡ true → (a ≡ true) × (b ≡ true)
-and_both true b h = (refl, h)
-and_both false b h = absurd (cc)
 
 no_references : (t : Table) → is_free t ≡ true → t.references ≡ []
 no_references t h = go t.references h

@@ -16,12 +16,14 @@ pub mod Growing
 pub mod KeyedAnswers
 pub mod ListedTexts
 pub mod MakeFailures
+pub mod Makeable
 pub mod Makings
 pub mod Means
 pub mod NumberRows
 pub mod OneTable
 pub mod OnlyShowing
 pub mod OrderedAnswers
+pub mod Places
 pub mod PlainReads
 pub mod Probing
 pub mod PutFailures
@@ -43,6 +45,7 @@ pub mod Steps
 pub mod Stopping
 pub mod TableWrites
 pub mod TestedAnswers
+pub mod Tests
 pub mod Texts
 pub mod Trees
 pub mod TwoColumns

@@ -58,6 +58,7 @@ use Rattle.sql_meanings.specs.Queries.{no_limit, query, two_are}
 use Rattle.sql_meanings.proofs.EntryLists.{Above, int_equals}
 use Rattle.sql_meanings.proofs.KeyedAnswers.{small_permutation}
 use Rattle.sql_meanings.proofs.TestedAnswers.{looked_up}
+use Rattle.sql_meanings.proofs.Tests.{and_both}
 
 -- the test on the two columns
 first_two_test : (one two key : ℤ) (t n : ℤ) (more : List ℤ)
@@ -108,10 +109,6 @@ has_stored (x ∷ es) e (inr h) = inr (has_stored es e h)
 
 same_two : (a b k : ℤ) → is_eq (int_cmp a k) ≡ true → is_eq (int_cmp b k) ≡ true → is_eq (int_cmp a b) ≡ true
 same_two a b k p q = grind (arith, ints)
-
-and_both : (a b : Bool) → (a && b) ≡ true → (a ≡ true) × (b ≡ true)
-and_both true b h = (refl, h)
-and_both false b h = absurd (cc)
 
 -- no two rows have the same two numbers there
 abbrev pub Clear : List Entry → Type 0

@@ -1,36 +1,5 @@
 -- A row of a STRICT table of a sound database is a key and numbers: no value of another type can stand there.
-use Rattle.std.proofs.Common.{
-  ◌≡◌,
-  inl,
-  inr,
-  ℕ,
-  zero,
-  suc,
-  ◌==◌,
-  ℤ,
-  List,
-  [],
-  ◌∷◌,
-  map,
-  drop,
-  length,
-  Bool,
-  true,
-  false,
-  not,
-  ◌&&◌,
-  Some,
-  refl,
-  sym,
-  ap,
-  subst,
-  ◌∙◌,
-  IsTrue,
-  arith,
-  add-one,
-  Less,
-  int_cmp,
-}
+use Rattle.std.proofs.Common.{◌≡◌, inl, inr, ℕ, zero, suc, ◌==◌, ℤ, List, [], ◌∷◌, map, drop, length, true, false, not, Some, refl, sym, ap, subst, ◌∙◌, IsTrue, arith, add-one, Less, int_cmp}
 use Rattle.std.specs.List.{AllByRecursion}
 use Rattle.sqlite.specs.declared.types.Value.{Value}
 use Rattle.sqlite.specs.declared.types.Value.TheVariants.{Null, Int, Real, Text, Blob}
@@ -50,10 +19,7 @@ use Rattle.sqlite_rules.specs.Lists.{Has}
 use Rattle.sqlite_rules.proofs.RuleLemmas.{keeps_at}
 use Rattle.sql_meanings.specs.Plain.{key_column, number_column}
 use Rattle.sql_meanings.specs.Entries.{Entry, IsTree, numbers, stored}
-
-and_both : (a b : Bool) → (a && b) ≡ true → (a ≡ true) × (b ≡ true)
-and_both true b h = (refl, h)
-and_both false b h = absurd (cc)
+use Rattle.sql_meanings.proofs.Tests.{and_both}
 
 -- the first of what is left
 pub drop_head : (n : ℕ) (row : Row) (v : Value) (vs : Row) → drop n row ≡ v ∷ vs → (column row n ≡ v) × (drop (suc n) row ≡ vs)

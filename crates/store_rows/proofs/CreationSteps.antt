@@ -1,20 +1,63 @@
 -- How the creation of a bank goes on from statement to statement, and how it fails.
-use Rattle.std.proofs.Common.{◌≡◌, inl, inr, ℕ, suc, ◌≤◌, List, slice_get, Some, Ok, Err, IsTrue, refl, sym, ap, subst, ◌∙◌, arith, true, false}
+use Rattle.std.proofs.Common.{◌≡◌, ◌≢◌, ◌⊎◌, inl, inr, ℕ, suc, ◌<◌, ◌≤◌, List, [], ◌∷◌, map, take, slice_get, Some, Ok, Err, IsTrue, refl, sym, ap, subst, ◌∙◌, arith, true, false}
+use Rattle.std.specs.List.{AllByRecursion}
 use Rattle.sqlite.specs.Schema.{Schema}
 use Rattle.sqlite.specs.Table.{Table}
-use Rattle.sqlite.specs.Change.{created}
-use Rattle.sqlite.specs.Effect.{Database}
-use Rattle.sqlite.specs.State.{State, IsRolledBack, IsUnchanged, KeepsCommit, KeepsCounts}
+use Rattle.sqlite.specs.Change.{created, next_tree}
+use Rattle.sqlite.specs.Effect.{Database, IsDatabase}
+use Rattle.sqlite_catalog.proofs.StepLemmas.{table_below}
+use Rattle.sqlite.specs.Held.{Held, state}
+use Rattle.sqlite.specs.declared.transaction.Transaction.{Transaction}
+use Rattle.sqlite_trees.specs.declared.store.Store.{Ghosts}
+use Rattle.sqlite.specs.State.{State, HasCleanDisk, Survives, IsRolledBack, IsUnchanged, KeepsCommit, KeepsCounts}
 use Rattle.sqlite.specs.Steps.{FailsToCommit}
 use Rattle.sqlite.specs.State.{Shows as StateShows}
 use Rattle.sqlite.specs.declared.error.Error.{Error}
 use Rattle.sqlite_rules.specs.Lists.{Has}
-use Rattle.sql_meanings.specs.Making.{Keeps, NotMade, counts_rows}
+use Rattle.sql_meanings.specs.Making.{Adds, Keeps, NotMade, Stands, counts_rows}
+use Rattle.sql_meanings.specs.Contents.{HoldsEach}
+use Rattle.sql_meanings.specs.Tables.{placed_at}
 use Rattle.sql_meanings.specs.Outcomes.{GoesOn, MakeFails, MakesTold}
 use Rattle.sql_meanings.proofs.Afterwards.{fails_since, names_on, names_since, undone_since, undone_twice}
-use Rattle.sql_meanings.proofs.Makings.{kept}
+use Rattle.sql_meanings.proofs.Makings.{holds_none, kept}
+use Rattle.sql_meanings.proofs.Places.{all_more, fold_more, some_at}
 use Rattle.sql_meanings.proofs.Standing.{counts_created, then_keeps}
-use Rattle.store_rows.specs.Creation.{CreatesBank, CreationFails, MakesAll, MakesWide, six_texts, with_first}
+use Rattle.store_rows.specs.SixTables as six
+use Rattle.store_rows.specs.Creation.{CreatesBank, CreationFails, IsMade, MakesAll, MakesWide, six_texts, with_first}
+
+-- a text for each place
+pub next_at : (at : ℕ) → at < 6 → (it : List ℕ × Table) × (slice_get six_texts at ≡ Some it)
+next_at at low = some_at six_texts at low
+
+-- ---- what was made so far
+
+-- the table is new, and stands with no rows
+pub record IsNew (old now : Database) (t : Table) : Type 0 where
+  pub tree : ℕ
+  pub stands : Stands now.schema (placed_at t tree)
+  pub empty : now.trees tree ≡ []
+  pub apart : (u : Table) → Has old.schema.tables u → u.tree ≢ tree
+
+stays_new : (old mid new : Database) (t : Table) → Keeps mid new → IsNew old mid t → IsNew old new t
+stays_new old mid new t since is = record {
+  tree = is.tree;
+  stands = since.stands _ is.stands;
+  empty = since.rows _ is.stands.listed ∙ is.empty;
+  apart = is.apart;
+}
+
+stay_new : (old mid new : Database) (ts : List (List ℕ × Table)) → Keeps mid new → AllByRecursion (λ it. IsNew old mid it.1) ts
+    → AllByRecursion (λ it. IsNew old new it.1) ts
+stay_new old mid new [] since all = tt
+stay_new old mid new (it ∷ ts) since all = (stays_new old mid new it.1 since all.0, stay_new old mid new ts since all.1)
+
+made_new : (old mid new : Database) (t : Table) → Keeps old mid → Adds mid new t → IsNew old new t
+made_new old mid new t before made = record {
+  tree = next_tree mid.schema;
+  stands = made.stands;
+  empty = made.empty;
+  apart = λ u h same. let low = table_below mid.schema u (before.has u h) in absurd (omega arith);
+}
 
 -- the first so many tables were made so far
 pub record Reached (old mid : State) (made : ℕ) : Type 0 where
@@ -23,7 +66,19 @@ pub record Reached (old mid : State) (made : ℕ) : Type 0 where
   pub counts : KeepsCounts old mid
   pub keeps : Keeps old.now mid.now
   pub faults : old.faults ≤ mid.faults
+  pub sound : IsDatabase mid.now
+  pub new : AllByRecursion (λ it. IsNew old.now mid.now it.1) (take made six_texts)
   pub alone : counts_rows old.now.schema ≡ false → (counts_rows mid.now.schema ≡ false) × (mid.now.schema ≡ with_first made old.now.schema)
+
+-- the same, or none was made and nothing has changed
+abbrev pub Begun : {S : Type 0} → Ghosts S → Held S → Held S → ℕ → Type 0
+Begun g old mid made = ((made ≡ 0) × (mid ≡ old)) ⊎ Reached (state g old) (state g mid) made
+
+-- what the loop keeps
+pub record Going {S : Type 0} (g : Ghosts S) (old mid : Transaction S) (made : ℕ) : Type 0 where
+  pub same_reference : mid.conn.ghost_name ≡ old.conn.ghost_name
+  pub begun : HasCleanDisk (state g mid.conn.now) → IsTrue old.conn.now.in_transaction → Begun g old.conn.now mid.conn.now made
+  pub survives : Survives (state g old.conn.now) (state g mid.conn.now) (λ _. ⊥)
 
 -- the new schema, where no table counts its rows
 grown : (old new : Schema) (t : Table) → t.is_counted ≡ false → (counts_rows (created old t) ≡ false → new ≡ created old t) → counts_rows old ≡ false
@@ -33,31 +88,104 @@ grown old new t uncounted alone none =
     let is = alone more in
     (ap counts_rows is ∙ more, is)
 
--- the first table
-pub first_made : (old new : State) (text : List ℕ) (t : Table) → t.is_counted ≡ false
-    → ((s : Schema) → with_first 1 s ≡ created s t) → MakesTold old new text t (Ok 0)
-    → StateShows old new new.now old.committed true → old.faults ≤ new.faults → Reached old new 1
-first_made old new text t uncounted one told shows more = record {
-  shows = shows;
-  marks = told.3;
-  counts = told.2;
-  keeps = told.0.keeps;
-  faults = more;
-  alone = λ none.
-      let it = grown old.now.schema new.now.schema t uncounted told.0.alone none in
-      (it.0, it.1 ∙ sym (one old.now.schema));
-}
+keeps_itself : (a : Database) → Keeps a a
+keeps_itself a = record { stands = λ t h. h; has = λ t h. h; rows = λ t h. refl }
 
-module _ (old new : State) (live : IsTrue old.in_transaction) where
-  -- a table is refused before any was made
-  pub first_fails : (it : List ℕ × Table) → slice_get six_texts 0 ≡ Some it → (e : Error) → MakeFails old new it.0 it.1 e → MakesAll old new (Err e)
-  first_fails it has e (inl store) = inl store
-  first_fails it has e (inr (refused, same)) = inr (
+module _ (old mid new : State) (made : ℕ) (it : List ℕ × Table) (has : slice_get six_texts made ≡ Some it) where
+  -- ---- one more
+
+  module _ (uncounted : it.1.is_counted ≡ false) (told : MakesTold mid new it.0 it.1 (Ok 0)) (shows : StateShows mid new new.now mid.committed true)
+      (more : mid.faults ≤ new.faults) where
+    after_some : Reached old mid made → Reached old new (suc made)
+    after_some reached = record {
+      shows = record {
+        was_open = reached.shows.was_open;
+        is_open = shows.is_open;
+        now_is = refl;
+        committed_is = shows.committed_is ∙ reached.shows.committed_is;
+        mode = shows.mode;
+      };
+      marks = told.3 ∙ reached.marks;
+      counts = record {
+        changes = told.2.changes ∙ reached.counts.changes;
+        last_rowid = told.2.last_rowid ∙ reached.counts.last_rowid;
+      };
+      keeps = then_keeps old.now mid.now new.now reached.keeps told.0.keeps;
+      faults = let before = reached.faults in omega arith;
+      sound = told.1;
+      new = all_more (λ x. IsNew old.now new.now x.1) six_texts made it has (stay_new old.now mid.now new.now (take made six_texts) told.0.keeps reached.new)
+          (made_new old.now mid.now new.now it.1 reached.keeps told.0);
+      alone = λ none.
+          let before = reached.alone none in
+          let grew = grown mid.now.schema new.now.schema it.1 uncounted told.0.alone before.0 in
+          (grew.0, grew.1 ∙ ap (λ s. created s it.1) before.1 ∙ sym (fold_more (λ s x. created s x.1) six_texts made it has old.now.schema));
+    }
+
+    after_none : made ≡ 0 → Reached mid new (suc made)
+    after_none none = record {
+      shows = shows;
+      marks = told.3;
+      counts = told.2;
+      keeps = told.0.keeps;
+      faults = more;
+      sound = told.1;
+      new = all_more (λ x. IsNew mid.now new.now x.1) six_texts made it has (subst (λ n. AllByRecursion (λ x. IsNew mid.now new.now x.1) (take n six_texts)) (sym none) tt)
+          (made_new mid.now mid.now new.now it.1 (keeps_itself mid.now) told.0);
+      alone = λ nothing.
+          let grew = grown mid.now.schema new.now.schema it.1 uncounted told.0.alone nothing in (
+            grew.0,
+            grew.1 ∙ sym (fold_more (λ s x. created s x.1) six_texts made it has mid.now.schema
+                ∙ ap (λ n. created (with_first n mid.now.schema) it.1) none),
+          );
+    }
+
+  -- ---- one is refused
+
+  -- the state after a refusal shows what was made before it
+  still : Reached old mid made → IsUnchanged mid new → GoesOn old new × KeepsCounts old new
+  still reached same = (
+    (
+      record {
+        was_open = reached.shows.was_open;
+        is_open = same.0.is_open;
+        now_is = refl;
+        committed_is = same.0.committed_is ∙ reached.shows.committed_is;
+        mode = same.0.mode ∙ reached.shows.mode;
+      },
+      same.2 ∙ reached.marks,
+    ),
+    record { changes = same.1.changes ∙ reached.counts.changes; last_rowid = same.1.last_rowid ∙ reached.counts.last_rowid },
+  )
+
+  fails_after : (e : Error) → MakeFails mid new it.0 it.1 e → Reached old mid made → MakesAll old new (Err e)
+  fails_after e (inl store) reached =
+      inl (fails_since old mid new ⊥ ⊥ (λ x. x) e true reached.shows reached.counts reached.faults store)
+  fails_after e (inr (refused, same)) reached =
+      let after = still reached same in
+      inr (
+        record {
+          made = made;
+          next = it;
+          is_next = has;
+          alone = λ none. ap (λ (d : Database). d.schema) same.0.now_is ∙ (reached.alone none).1;
+          refused = subst (λ (d : Database). NotMade d.schema it.0 it.1 e) (sym same.0.now_is) refused;
+        },
+        λ t listed. (
+          subst (λ (d : Database). Has d.schema.tables t) (sym same.0.now_is) (reached.keeps.has t listed),
+          ap (λ (d : Database). d.trees t.tree) same.0.now_is ∙ reached.keeps.rows t listed,
+        ),
+        after.0,
+        after.1,
+      )
+
+  fails_first : (e : Error) → IsTrue mid.in_transaction → MakeFails mid new it.0 it.1 e → made ≡ 0 → MakesAll mid new (Err e)
+  fails_first e live (inl store) none = inl store
+  fails_first e live (inr (refused, same)) none = inr (
     record {
       made = 0;
       next = it;
-      is_next = has;
-      alone = λ none. ap (λ (d : Database). d.schema) same.0.now_is;
+      is_next = subst (λ n. slice_get six_texts n ≡ Some it) none has;
+      alone = λ nothing. ap (λ (d : Database). d.schema) same.0.now_is;
       refused = subst (λ (d : Database). NotMade d.schema it.0 it.1 e) (sym same.0.now_is) refused;
     },
     λ t listed. (subst (λ (d : Database). Has d.schema.tables t) (sym same.0.now_is) listed, ap (λ (d : Database). d.trees t.tree) same.0.now_is),
@@ -74,69 +202,58 @@ module _ (old new : State) (live : IsTrue old.in_transaction) where
     same.1,
   )
 
-module _ (old mid new : State) (made : ℕ) (reached : Reached old mid made) where
-  -- one table more
-  pub one_more : (text : List ℕ) (t : Table) → t.is_counted ≡ false
-      → ((s : Schema) → with_first (suc made) s ≡ created (with_first made s) t) → MakesTold mid new text t (Ok 0)
-      → StateShows mid new new.now mid.committed true → mid.faults ≤ new.faults → Reached old new (suc made)
-  one_more text t uncounted one told shows more = record {
-    shows = record {
-      was_open = reached.shows.was_open;
-      is_open = shows.is_open;
-      now_is = refl;
-      committed_is = shows.committed_is ∙ reached.shows.committed_is;
-      mode = shows.mode;
-    };
-    marks = told.3 ∙ reached.marks;
-    counts = record {
-      changes = told.2.changes ∙ reached.counts.changes;
-      last_rowid = told.2.last_rowid ∙ reached.counts.last_rowid;
-    };
-    keeps = then_keeps old.now mid.now new.now reached.keeps told.0.keeps;
-    faults = let before = reached.faults in omega arith;
-    alone = λ none.
-        let before = reached.alone none in
-        let it = grown mid.now.schema new.now.schema t uncounted told.0.alone before.0 in
-        (it.0, it.1 ∙ ap (λ s. created s t) before.1 ∙ sym (one old.now.schema));
-  }
+module _ {S : Type 0} (g : Ghosts S) (old mid : Held S) (new : State) (made : ℕ) (it : List ℕ × Table) (has : slice_get six_texts made ≡ Some it)
+  where
+    -- one table more
+    pub one_more : it.1.is_counted ≡ false → MakesTold (state g mid) new it.0 it.1 (Ok 0)
+        → StateShows (state g mid) new new.now (state g mid).committed true → (state g mid).faults ≤ new.faults → Begun g old mid made
+        → Reached (state g old) new (suc made)
+    one_more uncounted told shows more (inl none) =
+        subst (λ h. Reached (state g h) new (suc made)) none.1
+        (after_none (state g mid) (state g mid) new made it has uncounted told shows more none.0)
+    one_more uncounted told shows more (inr reached) = after_some (state g old) (state g mid) new made it has uncounted told shows more reached
 
-  -- the state after a refusal shows what was made before it
-  still : IsUnchanged mid new → GoesOn old new × KeepsCounts old new
-  still same = (
-    (
-      record {
-        was_open = reached.shows.was_open;
-        is_open = same.0.is_open;
-        now_is = refl;
-        committed_is = same.0.committed_is ∙ reached.shows.committed_is;
-        mode = same.0.mode ∙ reached.shows.mode;
-      },
-      same.2 ∙ reached.marks,
-    ),
-    record { changes = same.1.changes ∙ reached.counts.changes; last_rowid = same.1.last_rowid ∙ reached.counts.last_rowid },
-  )
+    -- a table is refused after those before it were made
+    pub then_fails : (e : Error) → IsTrue mid.in_transaction → MakeFails (state g mid) new it.0 it.1 e → Begun g old mid made
+        → MakesAll (state g old) new (Err e)
+    then_fails e live fails (inl none) =
+        subst (λ h. MakesAll (state g h) new (Err e)) none.1 (fails_first (state g mid) (state g mid) new made it has e live fails none.0)
+    then_fails e live fails (inr reached) = fails_after (state g old) (state g mid) new made it has e fails reached
 
-  -- a table is refused after others were made
-  pub then_fails : (it : List ℕ × Table) → slice_get six_texts made ≡ Some it → (e : Error) → MakeFails mid new it.0 it.1 e → MakesAll old new (Err e)
-  then_fails it has e (inl store) =
-      inl (fails_since old mid new ⊥ ⊥ (λ x. x) e true reached.shows reached.counts reached.faults store)
-  then_fails it has e (inr (refused, same)) =
-      let after = still same in
-      inr (
-        record {
-          made = made;
-          next = it;
-          is_next = has;
-          alone = λ none. ap (λ (d : Database). d.schema) same.0.now_is ∙ (reached.alone none).1;
-          refused = subst (λ (d : Database). NotMade d.schema it.0 it.1 e) (sym same.0.now_is) refused;
-        },
-        λ t listed. (
-          subst (λ (d : Database). Has d.schema.tables t) (sym same.0.now_is) (reached.keeps.has t listed),
-          ap (λ (d : Database). d.trees t.tree) same.0.now_is ∙ reached.keeps.rows t listed,
-        ),
-        after.0,
-        after.1,
-      )
+-- ---- all of them
+
+none_held : (old g : Database) (its : List (List ℕ × Table)) → IsDatabase g → AllByRecursion (λ it. IsNew old g it.1) its
+    → HoldsEach g (map (λ it. it.1) its) (map (λ it. []) its)
+none_held old g [] sound all = tt
+none_held old g (it ∷ its) sound all =
+    ((holds_none g it.1 all.0.tree sound all.0.stands all.0.empty).0, none_held old g its sound all.1)
+
+-- the six are made
+pub all_made : (old new : State) → Reached old new 6 → IsMade old.now new.now
+all_made old new reached = record {
+  shows = record { sound = ∣ reached.sound ∣₁; each = none_held old.now new.now six_texts reached.sound reached.new };
+  keeps = λ t h. (reached.keeps.has t h, reached.keeps.rows t h);
+  alone = λ none. (reached.alone none).1;
+  apart = λ t h same. reached.new.0.apart t h
+      (same ∙ (holds_none new.now six.meta reached.new.0.tree reached.sound reached.new.0.stands reached.new.0.empty).1);
+}
+
+module _ {S : Type 0} (g : Ghosts S) (old mid : Held S) where
+  -- the transaction is in the transaction still
+  pub begun_live : (made : ℕ) → Begun g old mid made → IsTrue old.in_transaction → IsTrue mid.in_transaction
+  begun_live made (inl none) live = subst (λ (h : Held S). IsTrue h.in_transaction) (sym none.1) live
+  begun_live made (inr reached) live = reached.shows.mode
+
+  -- after the last the six are made
+  pub ends_made : Begun g old mid 6 → MakesAll (state g old) (state g mid) (Ok tt)
+  ends_made (inl none) = absurd (let six = none.0 in omega arith)
+  ends_made (inr reached) =
+      (all_made (state g old) (state g mid) reached, (reached.shows, reached.marks), reached.counts)
+
+-- a refusal commits nothing
+pub makes_leave : (old new : State) (e : Error) → MakesAll old new (Err e) → KeepsCommit old new
+makes_leave old new e (inl store) = kept old new (inr store.3)
+makes_leave old new e (inr refused) = record { was_open = λ live. refused.2.0.was_open; committed = λ live. refused.2.0.committed_is }
 
 -- ---- in a transaction of its own
 

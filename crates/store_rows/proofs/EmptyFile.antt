@@ -1,5 +1,7 @@
 -- In an empty file no statement that makes a bank is refused, but for the limit on steps.
-use Rattle.std.proofs.Common.{◌≡◌, inl, inr, ℕ, zero, suc, ◌+◌, nat_lt, List, [], ◌∷◌, slice_get, length, Bool, true, false, Some, is_ok, IsTrue, refl, sym, ap, subst, ◌∙◌, arith}
+use Rattle.std.proofs.Common.{◌≡◌, ◌&&◌, not, inl, inr, ℕ, zero, suc, ◌+◌, nat_lt, List, [], ◌∷◌, slice_get, length, take, Bool, true, false, Some, is_ok, IsTrue, refl, ap, subst, ◌∙◌, arith}
+use Rattle.std.specs.Prelude.{fold}
+use Rattle.sql_meanings.proofs.Tests.{and_both}
 use Rattle.std.specs.List.{list_any}
 use Rattle.std.proofs.lemmas.Bool.{cases_Bool}
 use Rattle.sqlite.specs.Schema.{Schema}
@@ -16,43 +18,36 @@ use Rattle.sqlite_tied.specs.Compute.{everything}
 use Rattle.sql_meanings.specs.Making.{NotMade, counts_rows}
 use Rattle.sql_meanings.specs.Outcomes.{IsInterrupted, has_unique}
 use Rattle.store_rows.specs.SixTables as six
-use Rattle.store_rows.specs.declared.texts.TheConstants as text
 use Rattle.store_rows.specs.Creation.{IsEmpty, RefusedIn, six_texts, with_first}
 
 abbrev nothing : Schema
 nothing = record { tables = []; indexes = []; views = [] }
 
 -- the schema takes the table: the text is understood, the names are free, there is room, and nothing waits to count its rows
-record Takes (schema : Schema) (sql : List ℕ) (t : Table) : Type 0 where
-  pub understood : is_ok (understood schema sql) ≡ true
-  pub free : is_used schema t.name ≡ false
-  pub free_indexes : list_any (λ (i : Index). is_used schema i.name) (automatics t 0 0 t.uniques) ≡ false
-  pub room : nat_lt (next_tree schema + length t.uniques) 65536 ≡ true
-  pub counted : lacks_sequence (created schema t) ≡ false
+abbrev takes : Schema → List ℕ × Table → Bool
+takes schema it =
+    is_ok (understood schema it.0) && (not (is_used schema it.1.name)
+    && (not (list_any (λ (i : Index). is_used schema i.name) (automatics it.1 0 0 it.1.uniques))
+    && (nat_lt (next_tree schema + length it.1.uniques) 65536 && not (lacks_sequence (created schema it.1)))))
 
-takes_meta : Takes (with_first 0 nothing) text.MAKE_META.now six.meta
-unfolding understood everything
-takes_meta = record { understood = refl; free = refl; free_indexes = refl; room = refl; counted = refl }
+-- one after another
+takes_all : Schema → List (List ℕ × Table) → Bool
+takes_all schema [] = true
+takes_all schema (it ∷ its) = takes schema it && takes_all (created schema it.1) its
 
-takes_branch : Takes (with_first 1 nothing) text.MAKE_BRANCH.now six.branch
-unfolding understood everything
-takes_branch = record { understood = refl; free = refl; free_indexes = refl; room = refl; counted = refl }
+all_taken : takes_all nothing six_texts ≡ true
+unfolding takes_all understood everything
+all_taken = refl
 
-takes_teller : Takes (with_first 2 nothing) text.MAKE_TELLER.now six.teller
-unfolding understood everything
-takes_teller = record { understood = refl; free = refl; free_indexes = refl; room = refl; counted = refl }
-
-takes_account : Takes (with_first 3 nothing) text.MAKE_ACCOUNT.now six.account
-unfolding understood everything
-takes_account = record { understood = refl; free = refl; free_indexes = refl; room = refl; counted = refl }
-
-takes_history : Takes (with_first 4 nothing) text.MAKE_HISTORY.now six.history
-unfolding understood everything
-takes_history = record { understood = refl; free = refl; free_indexes = refl; room = refl; counted = refl }
-
-takes_request : Takes (with_first 5 nothing) text.MAKE_REQUEST.now six.request
-unfolding understood everything
-takes_request = record { understood = refl; free = refl; free_indexes = refl; room = refl; counted = refl }
+taken_at : (schema : Schema) (its : List (List ℕ × Table)) → takes_all schema its ≡ true → (n : ℕ) (it : List ℕ × Table) → slice_get its n ≡ Some it
+    → takes (fold (λ s x. created s x.1) schema (take n its)) it ≡ true
+unfolding takes_all
+taken_at schema [] all n it is = absurd cc
+taken_at schema (x ∷ its) all zero it is =
+    let both = and_both (takes schema x) (takes_all (created schema x.1) its) all in
+    let same : x ≡ it = cc in subst (λ y. takes schema y ≡ true) same both.0
+taken_at schema (x ∷ its) all (suc n) it is =
+    let both = and_both (takes schema x) (takes_all (created schema x.1) its) all in taken_at (created schema x.1) its both.1 n it is
 
 none_passes : {A : Type 0} (p : A → Bool) (xs : List A) (x : A) → list_any p xs ≡ false → Has xs x → p x ≡ true → ⊥
 none_passes p [] x none h passed = h
@@ -64,35 +59,34 @@ none_passes p (y ∷ xs) x none h passed = elim (cases_Bool (p y)) [
   ]
 ]
 
--- a table that the schema takes isn't refused
-not_refused : (schema : Schema) (sql : List ℕ) (t : Table) → Takes schema sql t → (e : Error) → NotMade schema sql t e → ⊥
-not_refused schema sql t takes e (inl (fault, is, tells)) = let bad = ap is_ok is in let good = takes.understood in cc
-not_refused schema sql t takes e (inr (inl (inl (tells, inl used)))) = let good = takes.free in cc
-not_refused schema sql t takes e (inr (inl (inl (tells, inr (i, has, used))))) =
-    none_passes (λ (i : Index). is_used schema i.name) (automatics t 0 0 t.uniques) i takes.free_indexes has used
-not_refused schema sql t takes e (inr (inl (inr (tells, full)))) = let good = takes.room in grind arith
-not_refused schema sql t takes e (inr (inr rest)) = let good = takes.counted in let bad = rest.0 in cc
+on_not : (b : Bool) → not b ≡ true → b ≡ false
+on_not true h = absurd cc
+on_not false h = refl
 
-same_next : (a b : List ℕ × Table) → Some a ≡ Some b → a ≡ b
-same_next a b is = cc
+-- a table that the schema takes isn't refused
+not_refused : (schema : Schema) (it : List ℕ × Table) → takes schema it ≡ true → (e : Error) → NotMade schema it.0 it.1 e → ⊥
+not_refused schema it taken e refused =
+    let known = and_both (is_ok (understood schema it.0)) _ taken in
+    let free = and_both (not (is_used schema it.1.name)) _ known.1 in
+    let indexes = and_both (not (list_any (λ (i : Index). is_used schema i.name) (automatics it.1 0 0 it.1.uniques))) _ free.1 in
+    let room = and_both (nat_lt (next_tree schema + length it.1.uniques) 65536) _ indexes.1 in
+    go known.0 (on_not _ free.0) (on_not _ indexes.0) room.0 (on_not _ room.1) refused
+  where
+    go : is_ok (understood schema it.0) ≡ true → is_used schema it.1.name ≡ false
+        → list_any (λ (i : Index). is_used schema i.name) (automatics it.1 0 0 it.1.uniques) ≡ false
+        → nat_lt (next_tree schema + length it.1.uniques) 65536 ≡ true → lacks_sequence (created schema it.1) ≡ false
+        → NotMade schema it.0 it.1 e → ⊥
+    go known free indexes room counted (inl (fault, is, tells)) = let bad = ap is_ok is in cc
+    go known free indexes room counted (inr (inl (inl (tells, inl used)))) = cc
+    go known free indexes room counted (inr (inl (inl (tells, inr (i, has, used))))) =
+        none_passes (λ (i : Index). is_used schema i.name) (automatics it.1 0 0 it.1.uniques) i indexes has used
+    go known free indexes room counted (inr (inl (inr (tells, full)))) = grind arith
+    go known free indexes room counted (inr (inr rest)) = let bad = rest.0 in cc
 
 -- none of the six is refused
 each_taken : (made : ℕ) (next : List ℕ × Table) → slice_get six_texts made ≡ Some next → (e : Error)
     → NotMade (with_first made nothing) next.0 next.1 e → ⊥
-each_taken made next is e h = go made is h
-  where
-    this : (schema : Schema) (sql : List ℕ) (t : Table) → Takes schema sql t → (sql, t) ≡ next → NotMade schema next.0 next.1 e → ⊥
-    this schema sql t takes same refused =
-        not_refused schema sql t takes e (subst (λ (it : List ℕ × Table). NotMade schema it.0 it.1 e) (sym same) refused)
-
-    go : (n : ℕ) → slice_get six_texts n ≡ Some next → NotMade (with_first n nothing) next.0 next.1 e → ⊥
-    go zero found = this _ text.MAKE_META.now six.meta takes_meta (same_next _ next found)
-    go (suc zero) found = this _ text.MAKE_BRANCH.now six.branch takes_branch (same_next _ next found)
-    go (suc (suc zero)) found = this _ text.MAKE_TELLER.now six.teller takes_teller (same_next _ next found)
-    go (suc (suc (suc zero))) found = this _ text.MAKE_ACCOUNT.now six.account takes_account (same_next _ next found)
-    go (suc (suc (suc (suc zero)))) found = this _ text.MAKE_HISTORY.now six.history takes_history (same_next _ next found)
-    go (suc (suc (suc (suc (suc zero))))) found = this _ text.MAKE_REQUEST.now six.request takes_request (same_next _ next found)
-    go (suc (suc (suc (suc (suc (suc n)))))) found = λ refused. let none = found in cc
+each_taken made next is e refused = not_refused (with_first made nothing) next (taken_at nothing six_texts all_taken made next is) e refused
 
 -- a new bank's meta has no UNIQUE
 no_unique : has_unique (with_first 6 nothing) six.meta ≡ false

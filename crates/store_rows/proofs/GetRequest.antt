@@ -46,7 +46,6 @@ by_number : (tree : ℕ) → Tests (placed_at request tree) (codes "number") 3
 unfolding everything
 by_number tree = record { place = 2; column = number_column (codes "number"); named = refl; there = refl; is_at = refl; by_bytes = refl }
 
-
 abbrev outputs : ℕ → List Output
 outputs tree = outputs_at (placed_at request tree) (0 ∷ 1 ∷ 2 ∷ 3 ∷ 4 ∷ 5 ∷ 6 ∷ 7 ∷ [])
 

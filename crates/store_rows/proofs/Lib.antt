@@ -18,5 +18,4 @@ pub mod RowLists
 pub mod RowsUnder
 pub mod Setting
 pub mod ShownOnce
-pub mod SixMade
 pub mod TheTables

@@ -41,7 +41,6 @@ by_id : (tree : ℕ) → Tests (placed_at branch tree) (codes "bid") 0
 unfolding everything
 by_id tree = record { place = 0; column = key_column (codes "bid"); named = refl; there = refl; is_at = refl; by_bytes = refl }
 
-
 abbrev outputs : ℕ → List Output
 outputs tree = outputs_at (placed_at branch tree) (0 ∷ 1 ∷ 2 ∷ [])
 

@@ -12,7 +12,7 @@ ghost use Rattle.store_rows.specs.SixTables.{account as table};
 use crate::faults::TableFault;
 use crate::statements::{balance_under, put_in, write_under};
 use crate::texts::{ADD_ACCOUNT, GET_ACCOUNT, SET_ACCOUNT};
-use message_records::{Cents, Account};
+use message_records::{Account, Cents};
 use posting_rules::AccountRow;
 use sqlite::{Alter, Error, Transaction, params};
 

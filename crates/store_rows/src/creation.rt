@@ -1,16 +1,15 @@
 //! The six tables come to be, in one transaction, beside whatever the file has.
-ghost use Rattle.std.specs.Prelude.{◌≡◌, IsTrue, IfErr, OnOk, OnErr, false};
+ghost use Rattle.std.specs.Prelude.{◌≡◌, ◌<◌, IsTrue, IfErr, IfSome, OnOk, OnErr, false, slice_get};
 ghost use Rattle.sqlite.specs.Table.{Table};
 ghost use Rattle.sqlite.specs.State.{HasCleanDisk, Survives};
 ghost use Rattle.sqlite.specs.Held.{state};
+ghost use Rattle.sql_meanings.specs.Calls.{Says, Inside};
 ghost use Rattle.sql_meanings.specs.Making.{CreatesOnly, KeepsTables};
 ghost use Rattle.sql_meanings.specs.Outcomes.{WriteKept, WritesKept, MakesTold};
 ghost use Rattle.store_rows.specs.View.{Shows};
-ghost use Rattle.store_rows.specs.Creation.{no_rows, new_tables, MakesAll, StartsBank, CreatesBank, CreationFails, HasNewBank};
+ghost use Rattle.store_rows.specs.Creation.{no_rows, new_tables, six_texts, MakesAll, StartsBank, CreatesBank, CreationFails, HasNewBank};
 
-use crate::texts::{
-    ADD_META, MAKE_ACCOUNT, MAKE_BRANCH, MAKE_HISTORY, MAKE_META, MAKE_REQUEST, MAKE_TELLER,
-};
+use crate::texts::{ADD_META, MAKE_TABLES};
 use sqlite::{Alter, Connection, Error, Transaction, params};
 
 /// The version of the tables.
@@ -18,58 +17,46 @@ pub const VERSION: i64 = 1;
 
 // Makes the table that the text defines.
 fn make_table<S: Alter>(tx: &mut Transaction<'_, S>, text: &str) -> Result<usize, Error>
-    ensures same_reference { tx.new.conn.ghost_name ≡ tx.old.conn.ghost_name }
-    ensures told { HasCleanDisk (state S.Store tx.new.conn.now) → IsTrue tx.old.conn.now.in_transaction → (table : Table)
-        → CreatesOnly text.now table
-        → MakesTold (state S.Store tx.old.conn.now) (state S.Store tx.new.conn.now) text.now table result }
-    ensures kept { HasCleanDisk (state S.Store tx.new.conn.now) → IsTrue tx.old.conn.now.in_transaction
-        → WriteKept (state S.Store tx.old.conn.now) (state S.Store tx.new.conn.now) result }
-    ensures survives { Survives (state S.Store tx.old.conn.now) (state S.Store tx.new.conn.now) (λ _. ⊥) }
+    ensures { Says S.Store tx.old tx.new
+        (Inside (λ old new. (table : Table) → CreatesOnly text.now table → MakesTold old new text.now table result))
+        (Inside (λ old new. WriteKept old new result)) }
 {
     tx.execute(text, &[])
 }
 
-fn make_tables<S: Alter>(tx: &mut Transaction<'_, S>) -> Result<(), Error>
-    ensures same_reference { tx.new.conn.ghost_name ≡ tx.old.conn.ghost_name }
-    ensures told { HasCleanDisk (state S.Store tx.new.conn.now) → IsTrue tx.old.conn.now.in_transaction
-        → MakesAll (state S.Store tx.old.conn.now) (state S.Store tx.new.conn.now) result }
-    ensures kept { HasCleanDisk (state S.Store tx.new.conn.now) → IsTrue tx.old.conn.now.in_transaction
-        → WritesKept (state S.Store tx.old.conn.now) (state S.Store tx.new.conn.now) result }
-    ensures survives { Survives (state S.Store tx.old.conn.now) (state S.Store tx.new.conn.now) (λ _. ⊥) }
+// The text that makes the table at a place.
+fn make_text(at: usize) -> &'static str
+    requires { at < 6 }
+    ensures { IfSome (slice_get six_texts at) (λ it. result.now ≡ it.0) }
 {
-    make_table(tx, MAKE_META)?;
-    make_table(tx, MAKE_BRANCH)?;
-    make_table(tx, MAKE_TELLER)?;
-    make_table(tx, MAKE_ACCOUNT)?;
-    make_table(tx, MAKE_HISTORY)?;
-    make_table(tx, MAKE_REQUEST)?;
+    MAKE_TABLES[at]
+}
+
+fn make_tables<S: Alter>(tx: &mut Transaction<'_, S>) -> Result<(), Error>
+    ensures { Says S.Store tx.old tx.new
+        (Inside (λ old new. MakesAll old new result))
+        (Inside (λ old new. WritesKept old new result)) }
+{
+    for at in 0..MAKE_TABLES.len() {
+        make_table(tx, make_text(at))?;
+    }
     Ok(())
 }
 
 // The first row of meta: the version, and nothing decided.
 fn add_meta<S: Alter>(tx: &mut Transaction<'_, S>) -> Result<usize, Error>
-    ensures same_reference { tx.new.conn.ghost_name ≡ tx.old.conn.ghost_name }
-    ensures told { HasCleanDisk (state S.Store tx.new.conn.now) → IsTrue tx.old.conn.now.in_transaction
-        → Shows (state S.Store tx.old.conn.now).now no_rows
-        → StartsBank (state S.Store tx.old.conn.now) (state S.Store tx.new.conn.now) result }
-    ensures kept { HasCleanDisk (state S.Store tx.new.conn.now) → IsTrue tx.old.conn.now.in_transaction
-        → WriteKept (state S.Store tx.old.conn.now) (state S.Store tx.new.conn.now) result }
-    ensures survives { Survives (state S.Store tx.old.conn.now) (state S.Store tx.new.conn.now) (λ _. ⊥) }
+    ensures { Says S.Store tx.old tx.new
+        (Inside (λ old new. Shows old.now no_rows → StartsBank old new result))
+        (Inside (λ old new. WriteKept old new result)) }
 {
-    tx.execute(
-        ADD_META,
-        params![1i64, VERSION, 0i64],
-    )
+    tx.execute(ADD_META, params![1i64, VERSION, 0i64])
 }
 
 /// Makes the six tables and the first row of meta, inside a transaction.
 pub fn create_tables<S: Alter>(tx: &mut Transaction<'_, S>) -> Result<(), Error>
-    ensures same_reference { tx.new.conn.ghost_name ≡ tx.old.conn.ghost_name }
-    ensures told { HasCleanDisk (state S.Store tx.new.conn.now) → IsTrue tx.old.conn.now.in_transaction
-        → CreatesBank (state S.Store tx.old.conn.now) (state S.Store tx.new.conn.now) result }
-    ensures kept { HasCleanDisk (state S.Store tx.new.conn.now) → IsTrue tx.old.conn.now.in_transaction
-        → WritesKept (state S.Store tx.old.conn.now) (state S.Store tx.new.conn.now) result }
-    ensures survives { Survives (state S.Store tx.old.conn.now) (state S.Store tx.new.conn.now) (λ _. ⊥) }
+    ensures { Says S.Store tx.old tx.new
+        (Inside (λ old new. CreatesBank old new result))
+        (Inside (λ old new. WritesKept old new result)) }
 {
     make_tables(tx)?;
     add_meta(tx)?;

@@ -8,7 +8,9 @@ use crate::{
     set_account_balance, set_branch_balance, set_decided, set_teller_balance, teller_balance,
 };
 use message_records::{Account, Branch, Cents, Moment, Number, Outcome, Teller};
-use posting_core::{AccountRow, BranchRow, HistoryRow, Kept, Ordinal, RequestRow, Rule, TellerRow};
+use posting_rules::{
+    AccountRow, BranchRow, HistoryRow, Kept, Ordinal, RequestRow, Rule, TellerRow,
+};
 use sqlite::{Alter, Connection, Error, ErrorCode, Transaction};
 use std::test::Fail;
 

@@ -24,6 +24,16 @@ pub(crate) const MAKE_HISTORY: &str =
 pub(crate) const MAKE_REQUEST: &str =
     "CREATE TABLE request (ordinal INTEGER PRIMARY KEY, tid INTEGER NOT NULL, number INTEGER NOT NULL, aid INTEGER NOT NULL, bid INTEGER NOT NULL, delta INTEGER NOT NULL, outcome INTEGER NOT NULL, balance INTEGER NOT NULL, UNIQUE (tid, number)) STRICT";
 
+/// The texts that make the tables, in the order in which they are made.
+pub(crate) const MAKE_TABLES: [&str; 6] = [
+    MAKE_META,
+    MAKE_BRANCH,
+    MAKE_TELLER,
+    MAKE_ACCOUNT,
+    MAKE_HISTORY,
+    MAKE_REQUEST,
+];
+
 /// The row of meta.
 pub(crate) const GET_META: &str = "SELECT version, decided FROM meta WHERE id = ?1";
 

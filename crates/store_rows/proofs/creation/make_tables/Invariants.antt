@@ -1,0 +1,6 @@
+-- So many tables were made.
+use Rattle.store_rows.proofs.CreationSteps.{Going}
+use Rattle.store_rows.proofs.creation.make_tables.Given as goal
+
+abbrev pub invariant-loop-at : goal.invariant-loop-at
+invariant-loop-at g l = Going g.S.Store l.initial.tx l.tx l.at
