@@ -13,8 +13,12 @@ use Rattle.bank_commands.specs.Running.{AreRefused}
 -- the error of words that are refused is no call for help
 pub not_asked : (words : List Text) (k : ErrorKind) → AreRefused words
     → (k ≡ OutOfMemory) ⊎ IsAmong k (fault_of bank_app words) → IsRequest k → ⊥
-not_asked words k refused (inl memory) (inl asked) = let bad : OutOfMemory ≡ DisplayHelp = sym memory ∙ asked in cc
-not_asked words k refused (inl memory) (inr asked) = let bad : OutOfMemory ≡ DisplayVersion = sym memory ∙ asked in cc
+not_asked words k refused (inl memory) (inl asked) =
+    let bad : OutOfMemory ≡ DisplayHelp = sym memory ∙ asked in
+    cc
+not_asked words k refused (inl memory) (inr asked) =
+    let bad : OutOfMemory ≡ DisplayVersion = sym memory ∙ asked in
+    cc
 not_asked words k refused (inr among) asked = refused.no_request k among asked
 
 -- an error that is no call for help ends the program as a mistake in the words, or for want of memory
@@ -26,7 +30,8 @@ mistake_ends DisplayVersion status free shown = absurd (free (inr refl))
 mistake_ends other status free shown = inl shown
 
 -- and prints nothing
-pub mistake_keeps : (k : ErrorKind) (old new : Option (List ℕ)) → (IsRequest k → ⊥) → Keeps old new ⊎ IsRequest k
+pub mistake_keeps : (k : ErrorKind) (old new : Option (List ℕ)) → (IsRequest k → ⊥)
+    → Keeps old new ⊎ IsRequest k
     → Keeps old new
 mistake_keeps k old new free (inl keeps) = keeps
 mistake_keeps k old new free (inr asked) = absurd (free asked)

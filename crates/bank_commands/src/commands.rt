@@ -20,7 +20,8 @@ pub fn init<S: Start, W: Write>(
     output: &mut W,
 ) -> Result<(), CommandFault>
     ensures line { OnOk result (Appends (W.contents output.old) (W.contents output.new) created_line) }
-    ensures silent { IfErr result (λ fault. fault ≢ CommandFault.Write → Keeps (W.contents output.old) (W.contents output.new)) }
+    ensures silent { IfErr result
+        (λ fault. fault ≢ CommandFault.Write → Keeps (W.contents output.old) (W.contents output.new)) }
 {
     let bank = make_bank(rt, start, file)?;
     close(bank);
@@ -35,8 +36,10 @@ pub fn load_plan<S: Start, W: Write>(
     plan: &str,
     output: &mut W,
 ) -> Result<Loaded, CommandFault>
-    ensures line { IfOk result (λ loaded. Appends (W.contents output.old) (W.contents output.new) (loaded_line loaded)) }
-    ensures silent { IfErr result (λ fault. fault ≢ CommandFault.Write → Keeps (W.contents output.old) (W.contents output.new)) }
+    ensures line { IfOk result
+        (λ loaded. Appends (W.contents output.old) (W.contents output.new) (loaded_line loaded)) }
+    ensures silent { IfErr result
+        (λ fault. fault ≢ CommandFault.Write → Keeps (W.contents output.old) (W.contents output.new)) }
 {
     let mut bank = find_bank(rt, start, file)?;
     let loaded = load_from(rt, plan, &mut bank);
@@ -67,7 +70,8 @@ pub fn post<S: Start, R: Read, W: Write, K: Clock>(
 ) -> Result<Count, CommandFault>
     ensures ended { OnOk result (IsAtEnd (R.remaining input.new)) }
     ensures unread { IfErr result (λ fault. IsOfFile fault → R.remaining input.new ≡ R.remaining input.old) }
-    ensures silent { IfErr result (λ fault. IsOfFile fault → Keeps (W.contents output.old) (W.contents output.new)) }
+    ensures silent { IfErr result
+        (λ fault. IsOfFile fault → Keeps (W.contents output.old) (W.contents output.new)) }
 {
     let mut bank = find_bank(rt, start, file)?;
     let posted = post_stream(input, output, clock, &mut bank);

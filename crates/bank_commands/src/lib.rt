@@ -1,5 +1,5 @@
-//! The commands of the program over a bank in a file: `init` makes it, `load` opens its branches, `post` posts to it.
-//! A run goes from the words of the command line to the status that the program ends with.
+//! The commands of the program over a bank in a file: `init` makes it, `load` opens its branches, `post`
+//! posts to it. A run goes from the words of the command line to the status that the program ends with.
 #![tactic(auto)]
 
 mod commands;

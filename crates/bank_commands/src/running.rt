@@ -33,14 +33,19 @@ pub fn run<S: Start, T: AsStr, R: Read, W: Write, E: Write, K: Clock>(
     faults: &mut E,
     clock: &mut K,
 ) -> Status
-    ensures refused { AreRefused (map T.text words.entry.now) → (result ≡ Status.Usage) ⊎ (result ≡ Status.System) }
-    ensures silent { AreRefused (map T.text words.entry.now) → Keeps (W.contents output.old) (W.contents output.new) }
-    ensures unread { fault_of bank_app (map T.text words.entry.now) ≢ [] → R.remaining input.new ≡ R.remaining input.old }
-    ensures help { AsksForHelp (map T.text words.entry.now) → (result ≡ Status.Done) ⊎ (result ≡ Status.System) }
+    ensures refused { AreRefused (map T.text words.entry.now)
+        → (result ≡ Status.Usage) ⊎ (result ≡ Status.System) }
+    ensures silent { AreRefused (map T.text words.entry.now)
+        → Keeps (W.contents output.old) (W.contents output.new) }
+    ensures unread { fault_of bank_app (map T.text words.entry.now) ≢ []
+        → R.remaining input.new ≡ R.remaining input.old }
+    ensures help { AsksForHelp (map T.text words.entry.now)
+        → (result ≡ Status.Done) ⊎ (result ≡ Status.System) }
     ensures taken { IsSpelled (map T.text words.entry.now) → result ≢ Status.Usage }
     ensures created { AskToInit (map T.text words.entry.now) → result ≡ Status.Done
         → Appends (W.contents output.old) (W.contents output.new) created_line }
-    ensures loaded { AskToLoad (map T.text words.entry.now) → (result ≡ Status.Done) ⊎ (result ≡ Status.Differs)
+    ensures loaded { AskToLoad (map T.text words.entry.now)
+        → (result ≡ Status.Done) ⊎ (result ≡ Status.Differs)
         → (loaded : Loaded) × Tells result (W.contents output.old) (W.contents output.new) loaded }
 {
     let command = match read_words(rt.alloc(), words) {
@@ -62,7 +67,8 @@ fn perform<S: Start, R: Read, W: Write, K: Clock>(
     output: &mut W,
     clock: &mut K,
 ) -> Result<Status, CommandFault>
-    ensures { IfOk result (λ status. Ends command.entry status (W.contents output.old) (W.contents output.new)) }
+    ensures { IfOk result
+        (λ status. Ends command.entry status (W.contents output.old) (W.contents output.new)) }
 {
     match command {
         Command::Init { file } => {

@@ -15,7 +15,8 @@ abbrev pub created_line : List ℕ
 created_line = line (codes "created")
 
 abbrev pub loaded_line : Loaded → List ℕ
-loaded_line loaded = line (codes "opened " ++ decimal loaded.opened ++ codes " already " ++ decimal loaded.already
+loaded_line loaded = line (codes "opened " ++ decimal loaded.opened
+    ++ codes " already " ++ decimal loaded.already
     ++ codes " differs " ++ decimal loaded.differs)
 
 -- help or the version was asked for

@@ -1,6 +1,7 @@
 //! Why a command ends before its work is done.
 ghost use Rattle.std.specs.Prelude.{◌≡◌};
-ghost use Rattle.bank_endings.specs.Faults.{fault_of_bank, fault_of_opening, fault_of_plan, fault_of_stream, status_of};
+ghost use Rattle.bank_endings.specs.Faults.{fault_of_bank, fault_of_opening, fault_of_plan, fault_of_stream};
+ghost use Rattle.bank_endings.specs.Faults.{status_of};
 
 use crate::status::Status;
 use bank_store::OpenFault;

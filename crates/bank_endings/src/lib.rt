@@ -1,5 +1,5 @@
-//! How a command of the program ends: with its work done, or with a fault. Each fault has a text and a status, and
-//! each command that did its work a line and a status.
+//! How a command of the program ends: with its work done, or with a fault. Each fault has a text and a
+//! status, and each command that did its work a line and a status.
 #![tactic(auto)]
 
 mod fault;

@@ -23,7 +23,8 @@ pub fn print_created<W: Write>(output: &mut W) -> Result<(), CommandFault>
 
 /// Prints how many branches got each answer.
 pub fn print_loaded<W: Write>(loaded: Loaded, output: &mut W) -> Result<(), CommandFault>
-    ensures line { OnOk result (Appends (W.contents output.old) (W.contents output.new) (loaded_line loaded)) }
+    ensures line { OnOk result
+        (Appends (W.contents output.old) (W.contents output.new) (loaded_line loaded)) }
     ensures fault { OnErr result (IsErrOf result CommandFault.Write) }
 {
     let Loaded {
@@ -50,8 +51,8 @@ fn finish<W: Write>(written: io::Result<()>, output: &mut W) -> Result<(), Comma
     Ok(())
 }
 
-/// Tells a fault on standard error, and gives the status that the program ends with. Where that can't be written,
-/// the status alone tells it.
+/// Tells a fault on standard error, and gives the status that the program ends with. Where that can't be
+/// written, the status alone tells it.
 pub fn tell<E: Write>(fault: CommandFault, faults: &mut E) -> Status
     ensures { result ≡ status_of fault }
 {
@@ -59,7 +60,8 @@ pub fn tell<E: Write>(fault: CommandFault, faults: &mut E) -> Status
     fault.status()
 }
 
-/// Tells why the words aren't a command, with the text of clap. Help that was asked for goes to standard output.
+/// Tells why the words aren't a command, with the text of clap. Help that was asked for goes to standard
+/// output.
 pub fn explain<W: Write, E: Write>(error: &clap::Error, output: &mut W, faults: &mut E) -> Status
     ensures status { IsShown (kind_of error.now) result }
     ensures silent { Keeps (W.contents output.old) (W.contents output.new) ⊎ IsRequest (kind_of error.now) }

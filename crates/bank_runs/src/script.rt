@@ -7,8 +7,8 @@ use bank_endings::Status;
 use posting_core::StoredClock;
 use sqlite::{Connection, Error, Unknown};
 use std::alloc::{AllocError, Global};
-use std::fs;
 use std::io::{Read, Write};
+use std::{fs, io};
 
 // Which end of the next run fails.
 #[derive(Clone, Copy)]
@@ -41,28 +41,17 @@ impl Script {
         match word {
             "#" | "" => {}
             "write" => write_lines(rt, rest)?,
-            "sql" => {
-                let (file, sql) = rest.split_once(' ').unwrap_or((rest, ""));
-                execute(rt, file, sql)?;
-            }
-            "look" => {
-                let is_there = fs::exists(rt, rest)?;
-                println!(rt; "  {}", if is_there { "there" } else { "not there" })?;
-            }
+            "sql" => execute(rt, rest)?,
+            "look" => look(rt, rest)?,
             "record" => {
                 let record = padded(rt.alloc(), rest)?;
                 self.input.extend_from_slice(record.as_slice())?;
             }
             "part" => self.input.extend_from_slice(rest.as_bytes())?,
-            "broken" => {
-                self.fails = if rest == "input" {
-                    Fails::Input
-                } else {
-                    Fails::Output
-                };
-            }
+            "broken" if rest == "input" => self.fails = Fails::Input,
+            "broken" if rest == "output" => self.fails = Fails::Output,
             "bank" => self.run(rt, line)?,
-            _ => bail!("no such step: {word}"),
+            _ => bail!("no such step: {line}"),
         }
         Ok(())
     }
@@ -111,8 +100,19 @@ fn write_lines(rt: &HostRuntime, rest: &str) -> Result<(), anyhow::Error> {
     Ok(())
 }
 
-// Runs SQL on a file.
-fn execute(rt: &HostRuntime, file: &str, sql: &str) -> Result<(), Error> {
+// Tells whether a file is there.
+fn look(rt: &HostRuntime, file: &str) -> io::Result<()> {
+    let found = if fs::exists(rt, file)? {
+        "there"
+    } else {
+        "not there"
+    };
+    println!(rt; "  {found}")
+}
+
+// Runs SQL on a file, whose name stands before it.
+fn execute(rt: &HostRuntime, rest: &str) -> Result<(), Error> {
+    let (file, sql) = rest.split_once(' ').unwrap_or((rest, ""));
     let mut conn = Connection::open(rt, file)?;
     let ran = conn.execute_batch(sql);
     let closed = conn.close();

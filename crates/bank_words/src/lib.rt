@@ -3,8 +3,6 @@
 
 mod command_line;
 mod reading;
-#[cfg(test)]
-mod tests;
 mod texts;
 
 pub use reading::{Command, read_words};

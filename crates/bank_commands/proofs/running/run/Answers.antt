@@ -1,20 +1,23 @@
 use Rattle.std.proofs.Common.{map}
 use Rattle.clap.specs.Words.{kind_of}
-use Rattle.bank_commands.proofs.Endings.{help_ends, memory_ends, mistake_ends, mistake_keeps, not_asked, system_is_not_usage}
+use Rattle.bank_commands.proofs.Endings.{help_ends, memory_ends, mistake_ends, mistake_keeps, not_asked}
+use Rattle.bank_commands.proofs.Endings.{system_is_not_usage}
 use Rattle.bank_commands.proofs.running.run.Goals as goal
 
 -- ---- words that are refused
 
 pub returns-in-Err-clause-refused : goal.returns-in-Err-clause-refused
 returns-in-Err-clause-refused g c refused =
-    mistake_ends (kind_of c.in-Err.error) c.explain.result
-    (not_asked (map g.T.AsStr.text c.args.words.now) (kind_of c.in-Err.error) refused c.in-Err.ensures.fault)
+    let kind = kind_of c.in-Err.error in
+    mistake_ends kind c.explain.result
+    (not_asked (map g.T.AsStr.text c.args.words.now) kind refused c.in-Err.ensures.fault)
     c.explain.ensures.status
 
 pub returns-in-Err-clause-silent : goal.returns-in-Err-clause-silent
 returns-in-Err-clause-silent g c refused =
-    mistake_keeps (kind_of c.in-Err.error) (g.W.Write.contents c.args.output.now) (g.W.Write.contents c.explain.new.output)
-    (not_asked (map g.T.AsStr.text c.args.words.now) (kind_of c.in-Err.error) refused c.in-Err.ensures.fault)
+    let kind = kind_of c.in-Err.error in
+    mistake_keeps kind (g.W.Write.contents c.args.output.now) (g.W.Write.contents c.explain.new.output)
+    (not_asked (map g.T.AsStr.text c.args.words.now) kind refused c.in-Err.ensures.fault)
     c.explain.ensures.silent
 
 pub returns-in-Err-clause-help : goal.returns-in-Err-clause-help
@@ -23,8 +26,9 @@ returns-in-Err-clause-help g c asks =
 
 pub returns-in-Err-clause-taken : goal.returns-in-Err-clause-taken
 returns-in-Err-clause-taken g c spelled =
+    let kind = kind_of c.in-Err.error in
     system_is_not_usage c.explain.result
-    (memory_ends (kind_of c.in-Err.error) c.explain.result (c.in-Err.ensures.spelled spelled) c.explain.ensures.status)
+    (memory_ends kind c.explain.result (c.in-Err.ensures.spelled spelled) c.explain.ensures.status)
 
 -- ---- words that clap takes ask for no help
 

@@ -1,8 +1,14 @@
-use Rattle.std.proofs.Common.{ap, map, ◌∙◌}
+use Rattle.std.proofs.Common.{rules, ap, map, ◌∙◌}
 use Rattle.std.proofs.lemmas.Result.{IfErr-weaker}
 use Rattle.clap.specs.Words.{App, app_of, takes}
 use Rattle.bank_words.proofs.Complete.{matches_complete}
 use Rattle.bank_words.proofs.reading.matches_of.Goals as goal
+
+pub returns-clause-matches : goal.returns-clause-matches
+returns-clause-matches g c = search rules
+
+pub returns-clause-fault : goal.returns-clause-fault
+returns-clause-fault g c = search rules
 
 pub returns-clause-complete : goal.returns-clause-complete
 returns-clause-complete g c =
