@@ -1,0 +1,5 @@
+pub mod Counted
+pub mod Drawn
+pub mod Ended
+pub mod Going
+pub mod Listed

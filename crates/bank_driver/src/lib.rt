@@ -1,0 +1,10 @@
+//! The driver at work: the requests of the 85/15 rule, submitted to a counter over the branches that are open there.
+#![tactic(auto)]
+
+mod batches;
+mod driving;
+mod fault;
+mod listing;
+
+pub use driving::{Driven, drive_records};
+pub use fault::DriveFault;
