@@ -1,5 +1,6 @@
 -- How a drive goes on by a batch, and how it ends.
-use Rattle.std.proofs.Common.{◌≡◌, ◌≤◌, ◌<◌, ◌+◌, ◌-◌, ℕ, List, [], ◌∷◌, ◌++◌, length, Option, Ok, Err, refl, sym, ap, subst, ◌∙◌, arith, append-nil}
+use Rattle.std.proofs.Common.{◌≡◌, ◌≤◌, ◌<◌, ◌+◌, ◌-◌, ℕ, List, [], ◌∷◌, ◌++◌, length, Option, Ok, Err, refl}
+use Rattle.std.proofs.Common.{sym, ap, subst, ◌∙◌, arith, append-nil}
 use Rattle.std.specs.Prelude.{min}
 use Rattle.std.specs.List.{AllByRecursion}
 use Rattle.std.proofs.lemmas.List.{length-append}
@@ -26,7 +27,8 @@ use Rattle.bank_driver.proofs.Drawn.{drawn_on}
 abbrev Are64 : List Batch → Type 0
 Are64 bs = AllByRecursion (λ (b : Batch). length b.records ≡ 64) bs
 
-full_more : (bs : List Batch) (b : Batch) → Are64 bs → 1 ≤ length b.records → length b.records ≤ 64 → AreFull (bs ++ b ∷ [])
+full_more : (bs : List Batch) (b : Batch) → Are64 bs → 1 ≤ length b.records → length b.records ≤ 64
+    → AreFull (bs ++ b ∷ [])
 full_more [] b all some few = ((some, few), tt)
 full_more (x ∷ []) b all some few = (all.0, ((some, few), tt))
 full_more (x ∷ y ∷ bs) b all some few = (all.0, full_more (y ∷ bs) b all.1 some few)
@@ -38,8 +40,8 @@ all_more (x ∷ bs) b all one = (all.0, all_more bs b all.1 one)
 -- ---- where a drive stands
 
 -- some records of a driver were submitted, and so many are left
-pub record Going {C : Type 0} (seen : C → Seen) (old now : C) (k k' : Option (List ℕ)) (first driver : Driving)
-    (count left : ℕ) (driven : Driven) : Type 0 where
+pub record Going {C : Type 0} (seen : C → Seen) (old now : C) (k k' : Option (List ℕ))
+    (first driver : Driving) (count left : ℕ) (driven : Driven) : Type 0 where
   pub batches : List Batch
   pub rows : driver.rows ≡ first.rows
   pub seed : driver.seed ≡ first.seed
@@ -78,8 +80,8 @@ going_first seen c k first count none up = record {
 }
 
 -- the records of a batch that was drawn next
-module _ {C : Type 0} (seen : C → Seen) (old now new : C) (k k' k'' : Option (List ℕ)) (first driver : Driving)
-    (count left size moment : ℕ) (records : List (List ℕ)) (driven : Driven)
+module _ {C : Type 0} (seen : C → Seen) (old now new : C) (k k' k'' : Option (List ℕ))
+    (first driver : Driving) (count left size moment : ℕ) (records : List (List ℕ)) (driven : Driven)
     (g : Going seen old now k k' first driver count left driven)
     (is : records ≡ drawn driver.rows driver.seed driver.given size) (long : length records ≡ size)
     (some : 1 ≤ size) (few : size ≤ 64) (within : size ≤ left) (reading : IsReading k' k'' moment)
@@ -94,7 +96,8 @@ module _ {C : Type 0} (seen : C → Seen) (old now new : C) (k k' k'' : Option (
   are_drawn =
       records_one_more g.batches batch ∙ ap (λ (t : List (List ℕ)). t ++ records) g.records
       ∙ ap (λ (t : List (List ℕ)). drawn first.rows first.seed 0 driver.given ++ t)
-      (is ∙ ap (λ (r : Rows). drawn r driver.seed driver.given size) g.rows ∙ ap (λ (s : ℕ). drawn first.rows s driver.given size) g.seed)
+      (is ∙ ap (λ (r : Rows). drawn r driver.seed driver.given size) g.rows
+      ∙ ap (λ (s : ℕ). drawn first.rows s driver.given size) g.seed)
       ∙ drawn_on first.rows first.seed driver.given size
 
   so_many : length (records_of all) ≡ driver.given + size
@@ -130,7 +133,8 @@ module _ {C : Type 0} (seen : C → Seen) (old now new : C) (k k' k'' : Option (
         total = omega (arith, more, rest, given, g.total, most);
         posted = λ h log s.
             let before = g.posted (honest h) log s in
-            let one = counted.posted_is h (behind log (posts_of g.batches)) (g.takes.shows (honest h) log s) in
+            let one = counted.posted_is h (behind log (posts_of g.batches)) (g.takes.shows (honest h) log s)
+            in
             more ∙ ap (λ (n : ℕ). n + posted) before
             ∙ ap (λ (n : ℕ). posted_among log (posts_of g.batches) + n) one
             ∙ sym (posted_among-append log (posts_of g.batches) (posts moment records))
@@ -158,8 +162,10 @@ module _ {C : Type 0} (seen : C → Seen) (old now new : C) (k k' k'' : Option (
           refuses = subst (λ (cs : List Command). Refuses fault (seen now) (seen new) cs) (sym one) refuses;
         };
         stop = λ h log s.
-            stop_part (seen new) log (posts_of g.batches) (posts moment records) (posts_of all) (posts_of_one_more g.batches batch)
-            (refused_stop fault (seen now) (seen new) (behind log (posts_of g.batches)) (posts moment records) refuses h
+            stop_part (seen new) log (posts_of g.batches) (posts moment records) (posts_of all)
+            (posts_of_one_more g.batches batch)
+            (refused_stop fault (seen now) (seen new) (behind log (posts_of g.batches))
+            (posts moment records) refuses h
             (g.takes.stands (honest h) log s));
       }
 
@@ -169,7 +175,8 @@ pub end_done : {C : Type 0} (seen : C → Seen) (old now : C) (k k' : Option (Li
     → Submits seen old now k k' first.rows first.seed count (Ok driven)
 end_done seen old now k k' first driver count left driven g none =
     let no_more : g.batches ++ [] ≡ g.batches = append-nil g.batches in
-    let long : length (records_of (g.batches ++ [])) ≡ driver.given = ap (λ (bs : List Batch). length (records_of bs)) no_more ∙ g.number in
+    let long : length (records_of (g.batches ++ [])) ≡ driver.given =
+    ap (λ (bs : List Batch). length (records_of bs)) no_more ∙ g.number in
     record {
       taken = g.batches;
       refused = [];
@@ -188,9 +195,11 @@ end_done seen old now k k' first driver count left driven g none =
         total = omega (arith, g.total, g.given);
         posted = g.posted;
       };
-      stop = λ h log s. stop_all (seen now) log (posts_of (g.batches ++ [])) (posts_of g.batches) (ap posts_of no_more) (g.takes.stands h log s);
+      stop = λ h log s. stop_all (seen now) log (posts_of (g.batches ++ [])) (posts_of g.batches)
+          (ap posts_of no_more) (g.takes.stands h log s);
     }
 
 -- the size of a batch, where some records are left
-pub size_of : (left size : ℕ) → 0 < left → size ≡ min left 64 → (1 ≤ size) × (size ≤ 64) × (size ≤ left) × (size < left → size ≡ 64)
+pub size_of : (left size : ℕ) → 0 < left → size ≡ min left 64
+    → (1 ≤ size) × (size ≤ 64) × (size ≤ left) × (size < left → size ≡ 64)
 size_of left size some is = (omega arith, omega arith, omega arith, λ lt. omega arith)

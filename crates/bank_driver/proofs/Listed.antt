@@ -1,5 +1,6 @@
 -- The open branches are listed one after another.
-use Rattle.std.proofs.Common.{◌≡◌, ◌≤◌, ◌<◌, ◌+◌, ◌-◌, ℕ, zero, suc, true, false, List, [], ◌∷◌, ◌++◌, Some, None, Result, Ok, Err, leb, refl, sym, ap, ◌∙◌, arith, append-nil}
+use Rattle.std.proofs.Common.{◌≡◌, ◌≤◌, ◌<◌, ◌+◌, ◌-◌, ℕ, zero, suc, true, false, List, [], ◌∷◌, ◌++◌, Some}
+use Rattle.std.proofs.Common.{None, Result, Ok, Err, leb, refl, sym, ap, ◌∙◌, arith, append-nil}
 use Rattle.std.specs.List.{AllByRecursion}
 use Rattle.std.specs.Prelude.{nat_eq, ◌&&◌}
 use Rattle.std.proofs.lemmas.Bool.Decides.{nat_tests}
@@ -28,7 +29,8 @@ rows_by-append : (before list after rows : Rows) → rows_by row_of_pair before 
     → rows_by row_of_pair before (list ++ after) ≡ rows_by row_of_pair rows after
 unfolding rows_by
 rows_by-append before [] after rows e = let same : before ≡ rows = cc in rw same refl
-rows_by-append before (x ∷ list) after rows e = by_row (row_of_pair before x) (λ p. rows_by-append (before ++ p ∷ []) list after rows) e
+rows_by-append before (x ∷ list) after rows e =
+    by_row (row_of_pair before x) (λ p. rows_by-append (before ++ p ∷ []) list after rows) e
   where
     going : Result Row PlanFault → Rows → Result Rows PlanFault
     going r rest = elim r [ Ok p ↦ rows_by row_of_pair (before ++ p ∷ []) rest | Err fault ↦ Err fault ]
@@ -71,13 +73,15 @@ suc_plus : (m n : ℕ) → m + suc n ≡ suc (m + n)
 suc_plus m n = omega arith
 
 -- where none of the next numbers is open, no branch is added
-pub none_more : (log : List Command) (low n : ℕ) → ((branch : ℕ) → low < branch → branch ≤ low + n → opened log branch ≡ None)
+pub none_more : (log : List Command) (low n : ℕ)
+    → ((branch : ℕ) → low < branch → branch ≤ low + n → opened log branch ≡ None)
     → open_up_to log (low + n) ≡ open_up_to log low
 unfolding open_up_to
 none_more log low zero none = ap (open_up_to log) (let e : low + 0 ≡ low = omega arith in e)
 none_more log low (suc n) none =
     ap (open_up_to log) (suc_plus low n)
-    ∙ ap (λ o. open_up_to log (low + n) ++ row_if_open (suc (low + n)) o) (none (suc (low + n)) (omega arith) (omega arith))
+    ∙ ap (λ o. open_up_to log (low + n) ++ row_if_open (suc (low + n)) o)
+    (none (suc (low + n)) (omega arith) (omega arith))
     ∙ append-nil (open_up_to log (low + n))
     ∙ none_more log low n (λ branch above le. none branch above (omega arith))
 
@@ -102,7 +106,8 @@ pub record Listing {C : Type 0} (seen : C → Seen) (old now : C) (rows : Rows) 
   pub plan : plan_of_list rows ≡ Ok rows
   pub up_to : AreUpTo after rows
   pub few : after ≤ 9999
-  pub listed : (seen now).honest → (log : List Command) → ShowsLog (seen old) log → rows ≡ open_up_to log after
+  pub listed : (seen now).honest → (log : List Command) → ShowsLog (seen old) log
+      → rows ≡ open_up_to log after
   pub takes : Takes (seen old) (seen now) []
   pub honest : (seen now).honest → (seen old).honest
   pub up : (seen now).is_down → (seen old).is_down
@@ -121,7 +126,8 @@ listing_first seen c = record {
   down = λ d. d;
 }
 
-pub listing_more : {C : Type 0} (seen : C → Seen) (old now new : C) (rows : Rows) (after : ℕ) (line : BranchLine)
+pub listing_more : {C : Type 0} (seen : C → Seen) (old now new : C) (rows : Rows) (after : ℕ)
+    (line : BranchLine)
     → Listing seen old now rows after → IsLineAbove after line → Takes (seen now) (seen new) []
     → ((seen new).honest → (log : List Command) → ShowsLog (seen now) log → IsNextOpen log after line)
     → ((seen now).is_down → ⊥) → ((seen new).is_down → ⊥) → ((seen new).honest → (seen now).honest)
@@ -145,10 +151,12 @@ listing_more seen old now new rows after line l in_range takes next was_up is_up
 
 -- no branch stands behind the last one
 pub listing_all : {C : Type 0} (seen : C → Seen) (old now : C) (rows : Rows) (after : ℕ) (log : List Command)
-    → Listing seen old now rows after → IsNextBranch log after None → (seen now).honest → ShowsLog (seen old) log
+    → Listing seen old now rows after → IsNextBranch log after None → (seen now).honest
+    → ShowsLog (seen old) log
     → rows ≡ open_branches log
 listing_all seen old now rows after log l none h s =
     let few = l.few in
     let n = 9999 - after in
     let all : after + n ≡ 9999 = omega arith in
-    l.listed h log s ∙ sym (none_more log after n (λ branch above le. none branch above)) ∙ ap (open_up_to log) all
+    l.listed h log s ∙ sym (none_more log after n (λ branch above le. none branch above))
+    ∙ ap (open_up_to log) all

@@ -30,7 +30,7 @@ pub record IsUnlisted {C : Type 0} (seen : C → Seen) (old new : C) (fault : Fa
   pub takes : Takes (seen old) (seen stood) []
   pub refuses : Refuses fault (seen stood) (seen new) []
 
--- ---- how it ends, where some batches were taken, the counter stood behind them, and then a batch was refused, or none
+-- ---- how it ends: some batches were taken, the counter stood there, and a batch was refused then or none
 
 -- all records were taken, and their replies were counted
 pub record IsDone {C : Type 0} (seen : C → Seen) (old stood new : C) (count : ℕ) (taken refused : List Batch)
@@ -55,16 +55,19 @@ pub record IsRefused {C : Type 0} (seen : C → Seen) (stood new : C) (refused :
   pub one : length refused ≤ 1
   pub refuses : Refuses fault (seen stood) (seen new) (posts_of refused)
 
-abbrev pub Ends : {C : Type 0} → (C → Seen) → (old stood new : C) → Rows → (count : ℕ) → (taken refused : List Batch)
+abbrev pub Ends : {C : Type 0} → (C → Seen) → (old stood new : C) → Rows → (count : ℕ)
+    → (taken refused : List Batch)
     → Result Driven DriveFault → Type 0
-Ends seen old stood new rows count taken refused (Ok driven) = IsDone seen old stood new count taken refused driven
+Ends seen old stood new rows count taken refused (Ok driven) =
+    IsDone seen old stood new count taken refused driven
 Ends seen old stood new rows count taken refused (Err NoBranches) = IsIdle stood new rows taken refused
 Ends seen old stood new rows count taken refused (Err (Bank fault)) = IsRefused seen stood new refused fault
 
 -- ---- what it did, whatever its result
 
 -- it submitted the first records of rows and a seed
-pub record Submits {C : Type 0} (seen : C → Seen) (old new : C) (k k' : Option (List ℕ)) (rows : Rows) (seed count : ℕ)
+pub record Submits {C : Type 0} (seen : C
+    → Seen) (old new : C) (k k' : Option (List ℕ)) (rows : Rows) (seed count : ℕ)
     (result : Result Driven DriveFault) : Type 0 where
   -- the batches that the counter took, and the one that it refused
   pub taken : List Batch
@@ -84,7 +87,7 @@ pub record Submits {C : Type 0} (seen : C → Seen) (old new : C) (k k' : Option
   pub stop : (seen new).honest → (log : List Command) → StandsAt (seen old) log
       → LeavesOnly (seen new) (ShowsBeginning log (posts_of (taken ++ refused)) (length (posts_of taken)))
 
--- wherever the branches were listed: where the bank refused a call, before it was given a batch, they may not have been
+-- wherever the branches were listed: not where the bank refused a call before the first batch
 abbrev pub IfListed : Result Driven DriveFault → List Batch → Type 0 → Type 0
 IfListed (Err (Bank fault)) [] P = ⊤
 IfListed _ _ P = P
@@ -100,7 +103,7 @@ pub record Drives {C : Type 0} (seen : C → Seen) (old new : C) (k k' : Option 
 -- ---- records that come again
 
 -- where a counter showed posts p behind a log, it shows p and then those of the records that don't stand in p
-pub record Resends (c c' : Seen) (seed count : ℕ) : Type 0 where
+pub record Resends (c c' : Seen) (seed count : ℕ) (driven : Driven) : Type 0 where
   pub rows : Rows
   pub commands : List Command
   pub posts : ArePosts commands
@@ -108,3 +111,7 @@ pub record Resends (c c' : Seen) (seed count : ℕ) : Type 0 where
   pub listed : c'.honest → (log : List Command) → ShowsLog c log → IsAscending (open_branches log) rows
   pub tables : c'.honest → (log p added : List Command) → ArePosts p → Skips p commands added
       → ShowsLog c (behind log p) → ShowsLog c' (behind (behind log p) added)
+  -- where p are posts of these very records, such as a drive made before, none is added, and p's replies are
+  -- counted
+  pub again : c'.honest → (log p : List Command) → ArePosts p → posted_records p ≡ posted_records commands
+      → ShowsLog c (behind log p) → ShowsLog c' (behind log p) × (driven.posted ≡ posted_among log p)

@@ -1,5 +1,6 @@
 -- Which records a drive submits, and how many of them are posted.
-use Rattle.std.specs.Prelude.{◌≡◌, ◌≤◌, ◌+◌, ℕ, zero, suc, List, [], ◌∷◌, ◌++◌, length, Option, Some, None, if◌then◌else◌}
+use Rattle.std.specs.Prelude.{◌≡◌, ◌≤◌, ◌+◌, ℕ, zero, suc, List, [], ◌∷◌, ◌++◌, length, Option, Some, None}
+use Rattle.std.specs.Prelude.{if◌then◌else◌}
 use Rattle.message_records.specs.Outcomes.{has_balance}
 use Rattle.message_records.specs.Spelling.{request_spelling}
 use Rattle.posting_rules.specs.Commands.{Command, Open, Post, opened}
@@ -33,7 +34,8 @@ open_branches log = open_up_to log 9999
 -- so many records that ascending rows and a seed draw, from this one on
 unfoldable pub drawn : Rows → ℕ → ℕ → ℕ → List (List ℕ)
 drawn rows seed from zero = []
-drawn rows seed from (suc n) = drawn rows seed from n ++ request_spelling (request_at rows seed (from + n)) ∷ []
+drawn rows seed from (suc n) =
+    drawn rows seed from n ++ request_spelling (request_at rows seed (from + n)) ∷ []
 
 -- the first so many
 abbrev pub first_drawn : Rows → ℕ → ℕ → List (List ℕ)

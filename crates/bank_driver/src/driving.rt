@@ -75,9 +75,10 @@ fn drive<C: Counter, K: Clock>(
     Ok(driven)
 }
 
-/// Submits the first records of a seed, `count` of them (1..=1,000,000,000), over the branches that are open at the
-/// counter, in batches of 64, the last one smaller, each under one reading of the clock, and counts their replies.
-/// After a fault what was answered before it stands. It takes memory for the branches and their tellers, once.
+/// Submits the first records of a seed, `count` of them (1..=1,000,000,000), over the branches that are open
+/// at the counter, and counts their replies. A batch has 64 records, the last one may have fewer, and each is
+/// submitted under one reading of the clock. After a fault what was answered before it stands. It takes
+/// memory for the branches and their tellers before the first batch.
 pub fn drive_records<C: Counter, K: Clock>(
     alloc: Global,
     counter: &mut C,
@@ -93,7 +94,7 @@ pub fn drive_records<C: Counter, K: Clock>(
         → (log : List Command) → ShowsLog (C.seen counter.old) log → NoneOpen log }
     ensures some { OnOk result ((C.seen counter.new).honest
         → (log : List Command) → ShowsLog (C.seen counter.old) log → NoneOpen log → ⊥) }
-    ensures resend { OnOk result (Resends (C.seen counter.old) (C.seen counter.new) seed count) }
+    ensures resend { IfOk result (Resends (C.seen counter.old) (C.seen counter.new) seed count) }
     ensures down { IsErrOf result (DriveFault.Bank Fault.Down) ↔ (C.seen counter.old).is_down }
     ensures honest { (C.seen counter.new).honest → (C.seen counter.old).honest }
 {

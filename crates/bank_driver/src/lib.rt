@@ -1,4 +1,4 @@
-//! The driver at work: the requests of the 85/15 rule, submitted to a counter over the branches that are open there.
+//! The driver at work: the requests of the 85/15 rule, submitted to a counter over its open branches.
 #![tactic(auto)]
 
 mod batches;
@@ -8,3 +8,6 @@ mod listing;
 
 pub use driving::{Driven, drive_records};
 pub use fault::DriveFault;
+
+#[cfg(test)]
+mod tests;

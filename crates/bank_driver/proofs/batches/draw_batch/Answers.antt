@@ -9,7 +9,9 @@ use Rattle.bank_driver.proofs.batches.draw_batch.Goals as goal
 
 pub loop-place-init : goal.loop-place-init
 loop-place-init c = record {
-  goes_on = let e : c.args.driver.now.given ≡ c.args.driver.now.given + 0 = omega arith in ap (λ (n : ℕ). let d : Driving = record c.args.driver.now { given = n } in d) e;
+  goes_on =
+      let same : c.args.driver.now.given ≡ c.args.driver.now.given + 0 = omega arith in
+      ap (λ (n : ℕ). let d : Driving = record c.args.driver.now { given = n } in d) same;
   drawn = sym (drawn_none c.args.driver.now.rows c.args.driver.now.seed c.args.driver.now.given);
 }
 
@@ -20,10 +22,12 @@ loop-place-preserved c =
     let so_far = c.loop-place.invariant.goes_on in
     let given : c.loop-place.driver.given ≡ first.given + i = ap (λ (d : Driving). d.given) so_far in
     let left : c.loop-place.driver.given < most_records = omega (arith, c.requires) in
-    let next : request_spelling (request_at c.loop-place.driver.rows c.loop-place.driver.seed c.loop-place.driver.given) ≡ c.unwrap.result =
+    let d = c.loop-place.driver in
+    let next : request_spelling (request_at d.rows d.seed d.given) ≡ c.unwrap.result =
     (let e = sym (c.next.ensures.bytes left) ∙ c.unwrap.ensures in cc) in
     let drawn_now = ap (λ (d : Driving). request_spelling (request_at d.rows d.seed d.given)) so_far in
-    let bytes : c.unwrap.result ≡ request_spelling (request_at first.rows first.seed (first.given + i)) = sym next ∙ drawn_now in
+    let bytes : c.unwrap.result ≡ request_spelling (request_at first.rows first.seed (first.given + i)) =
+    sym next ∙ drawn_now in
     let plus : first.given + i + 1 ≡ first.given + (i + 1) = omega arith in
     record {
       goes_on = c.next.ensures.goes_on left

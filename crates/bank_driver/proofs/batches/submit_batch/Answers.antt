@@ -12,7 +12,8 @@ returns-clause-answers g c =
     let moment = c.now-moment.result in
     let records = c.draw_batch.new.batch in
     let replies = c.in_ok-replies.replies.items in
-    let number : c.count_posted.result ≡ count_by is_posted replies = c.count_posted.ensures ∙ ap (count_by is_posted) c.deref.ensures.value in
+    let number : c.count_posted.result ≡ count_by is_posted replies = c.count_posted.ensures
+    ∙ ap (count_by is_posted) c.deref.ensures.value in
     let few : count_by is_posted replies ≤ length replies = count_by-le-length is_posted replies in
     let long : length (posts moment records) ≡ length records = rw length-map refl in (
       moment,
@@ -20,6 +21,7 @@ returns-clause-answers g c =
       record {
         takes = c.in_ok-replies.ensures.done;
         few = omega (arith, number, few, long, c.in_ok-replies.ensures.count);
-        posted_is = λ h log s. number ∙ ap (count_by is_posted) (c.in_ok-replies.ensures.replies h log s) ∙ counted log (posts moment records);
+        posted_is = λ h log s. number ∙ ap (count_by is_posted) (c.in_ok-replies.ensures.replies h log s)
+            ∙ counted log (posts moment records);
       },
     )

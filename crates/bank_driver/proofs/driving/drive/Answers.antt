@@ -10,7 +10,8 @@ use Rattle.bank_driver.proofs.driving.drive.Goals as goal
 pub loop-left-init : goal.loop-left-init
 loop-left-init g c = record {
   room = refl;
-  going = going_first g.C.Counter.seen c.args.counter.now (g.K.Clock.readings c.args.clock.now) c.args.driver.now c.args.count
+  going = going_first g.C.Counter.seen c.args.counter.now (g.K.Clock.readings c.args.clock.now)
+      c.args.driver.now c.args.count
       c.requires.first c.requires.up;
 }
 
@@ -30,9 +31,12 @@ returns-in_err-posted-clause-submits g c =
     let a = c.in_err-posted.ensures.answers in
     let p = err_from_is_err_and c.from_residual.result c.from_residual.ensures.1 in
     rw (p.1, p.2)
-    (end_refused g.C.Counter.seen c.args.counter.now c.loop-left.counter c.submit_batch.new.counter (g.K.Clock.readings c.args.clock.now)
-    (g.K.Clock.readings c.loop-left.clock) (g.K.Clock.readings c.submit_batch.new.clock) c.args.driver.now driver c.args.count
-    c.loop-left.left size a.0 records c.loop-left.driven c.loop-left.invariant.going is long fits.0 few fits.2 a.1
+    (end_refused g.C.Counter.seen c.args.counter.now c.loop-left.counter c.submit_batch.new.counter
+    (g.K.Clock.readings c.args.clock.now)
+    (g.K.Clock.readings c.loop-left.clock) (g.K.Clock.readings c.submit_batch.new.clock) c.args.driver.now
+    driver c.args.count
+    c.loop-left.left size a.0 records c.loop-left.driven c.loop-left.invariant.going is long fits.0 few
+    fits.2 a.1
     c.in_err-posted.ensures.honest c.in_err-posted.field-0.0 a.2)
 
 -- a batch was answered
@@ -54,16 +58,29 @@ loop-left-preserved g c =
     ∙ ap (λ (n : ℕ). let d : Driving = record driver { given = driver.given + n } in d) part in
     let rest = drop size c.loop-left.records in
     record {
-      room = omega (arith, length-append records rest, length-drop size c.loop-left.records, long, few, c.loop-left.invariant.room);
-      going = going_on g.C.Counter.seen c.args.counter.now c.loop-left.counter c.submit_batch.new.counter (g.K.Clock.readings c.args.clock.now)
-          (g.K.Clock.readings c.loop-left.clock) (g.K.Clock.readings c.submit_batch.new.clock) c.args.driver.now driver c.args.count
-          c.loop-left.left size a.0 records c.loop-left.driven c.loop-left.invariant.going is long fits.0 few fits.2 a.1
-          c.in_ok-posted.ensures.honest c.in_ok-posted.posted c.submit_batch.new.driver _ goes_on refl refl fits.3 a.2
+      room = omega (
+        arith,
+        length-append records rest,
+        length-drop size c.loop-left.records,
+        long,
+        few,
+        c.loop-left.invariant.room,
+      );
+      going = going_on g.C.Counter.seen c.args.counter.now c.loop-left.counter c.submit_batch.new.counter
+          (g.K.Clock.readings c.args.clock.now)
+          (g.K.Clock.readings c.loop-left.clock) (g.K.Clock.readings c.submit_batch.new.clock)
+          c.args.driver.now driver c.args.count
+          c.loop-left.left size a.0 records c.loop-left.driven c.loop-left.invariant.going is long fits.0
+          few fits.2 a.1
+          c.in_ok-posted.ensures.honest c.in_ok-posted.posted c.submit_batch.new.driver _ goes_on refl refl
+          fits.3 a.2
           (omega (arith, a.2.few, most, long)) c.in_ok-posted.ensures.up;
     }
 
 pub returns-clause-submits : goal.returns-clause-submits
 returns-clause-submits g c =
-    end_done g.C.Counter.seen c.args.counter.now c.loop-left.counter (g.K.Clock.readings c.args.clock.now) (g.K.Clock.readings c.loop-left.clock)
-    c.args.driver.now c.loop-left.driver c.args.count c.loop-left.left c.loop-left.driven c.loop-left.invariant.going
+    end_done g.C.Counter.seen c.args.counter.now c.loop-left.counter (g.K.Clock.readings c.args.clock.now)
+    (g.K.Clock.readings c.loop-left.clock)
+    c.args.driver.now c.loop-left.driver c.args.count c.loop-left.left c.loop-left.driven
+    c.loop-left.invariant.going
     (let none = c.loop-left-test.false in omega arith)
