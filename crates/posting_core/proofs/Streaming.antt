@@ -115,7 +115,7 @@ takes_more c c' c'' cs ds honest a b =
       stands = λ h log s. subst (λ (l : List Command). StandsAt c'' l) (same log) (b.stands h (behind log cs) (a.stands (honest h) log s));
     }
 
-takes_batch : (c c' c'' : Seen) (bs : List Batch) (b : Batch) → (c''.honest → c'.honest) → Takes c c' (posts_of bs) → Takes c' c'' (posts_in b)
+pub takes_batch : (c c' c'' : Seen) (bs : List Batch) (b : Batch) → (c''.honest → c'.honest) → Takes c c' (posts_of bs) → Takes c' c'' (posts_in b)
     → Takes c c'' (posts_of (bs ++ b ∷ []))
 takes_batch c c' c'' bs b honest x y =
     subst (λ (t : List Command). Takes c c'' t) (sym (posts_of_one_more bs b)) (takes_more c c' c'' (posts_of bs) (posts_in b) honest x y)
@@ -130,7 +130,7 @@ whole_batch : (bs : List Batch) (b : Batch) → AllByRecursion IsRecord (records
 whole_batch bs b x y =
     subst (λ (t : List (List ℕ)). AllByRecursion IsRecord t) (sym (records_one_more bs b)) (all_more IsRecord (records_of bs) b.records x y)
 
-clock_batch : (k k' k'' : Option (List ℕ)) (bs : List Batch) (b : Batch) → AreReadings k k' (moments_of bs) → IsReading k' k'' b.moment
+pub clock_batch : (k k' k'' : Option (List ℕ)) (bs : List Batch) (b : Batch) → AreReadings k k' (moments_of bs) → IsReading k' k'' b.moment
     → AreReadings k k'' (moments_of (bs ++ b ∷ []))
 clock_batch k k' k'' bs b x y =
     subst (λ (t : List ℕ). AreReadings k k'' t) (sym (map-append moment_of bs (b ∷ []))) (readings_more k k' k'' (moments_of bs) b.moment x y)
@@ -160,7 +160,7 @@ going_batch {r = r} {r' = r'} {w = w} {w' = w'} {w'' = w''} {k = k} {k' = k'} {k
 -- ---- ends where all that was read was taken
 
 -- a stop leaves all that was taken
-stop_all : (c : Seen) (log cs ds : List Command) → cs ≡ ds → StandsAt c (behind log ds) → LeavesOnly c (ShowsBeginning log cs (length ds))
+pub stop_all : (c : Seen) (log cs ds : List Command) → cs ≡ ds → StandsAt c (behind log ds) → LeavesOnly c (ShowsBeginning log cs (length ds))
 stop_all c log cs ds e s = leaves_weaker c (λ t. Shows t (behind log ds)) (ShowsBeginning log cs (length ds))
     (λ t shown. record {
       count = length ds;
@@ -220,7 +220,7 @@ end_unread rest g few = end_of (Err Read) g (record { written = λ t s e. e; up 
 -- ---- ends at a batch
 
 -- what a stop leaves where the last commands were refused
-stop_part : (c : Seen) (log cs ds es : List Command) → es ≡ cs ++ ds → LeavesOnly c (ShowsBeginning (behind log cs) ds 0)
+pub stop_part : (c : Seen) (log cs ds es : List Command) → es ≡ cs ++ ds → LeavesOnly c (ShowsBeginning (behind log cs) ds 0)
     → LeavesOnly c (ShowsBeginning log es (length cs))
 stop_part c log cs ds es e stop = leaves_weaker c (ShowsBeginning (behind log cs) ds 0) (ShowsBeginning log es (length cs))
     (λ t b.
@@ -234,7 +234,7 @@ stop_part c log cs ds es e stop = leaves_weaker c (ShowsBeginning (behind log cs
     stop
 
 -- refused commands leave a beginning of them
-refused_stop : (fault : Fault) (c c' : Seen) (log cs : List Command) → Refuses fault c c' cs → c'.honest → StandsAt c log → LeavesOnly c' (ShowsBeginning log cs 0)
+pub refused_stop : (fault : Fault) (c c' : Seen) (log cs : List Command) → Refuses fault c c' cs → c'.honest → StandsAt c log → LeavesOnly c' (ShowsBeginning log cs 0)
 refused_stop Memory c c' log cs u h s = leaves_weaker c' (λ t. Shows t log) (ShowsBeginning log cs 0)
     (λ t shown. record { count = 0; holds = omega arith; within = omega arith; shows = shown })
     (leaves_still c c' (λ t. Shows t log) u.left s.stop)

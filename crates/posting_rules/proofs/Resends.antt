@@ -29,7 +29,7 @@ decided_same one two (Post m r ∷ cs) h eo ed =
     decided_same (Post m r ∷ one) (Post m r ∷ two) cs h eo
     (ap (λ (o : ℕ → Option ℕ). with_record m (request_of r) o (decided one)) eo ∙ ap (λ (es : List Entry). with_record m (request_of r) (λ b. opened two b) es) ed)
 
-posts_both : (xs ys : List Command) → ArePosts xs → ArePosts ys → ArePosts (xs ++ ys)
+pub posts_both : (xs ys : List Command) → ArePosts xs → ArePosts ys → ArePosts (xs ++ ys)
 posts_both [] ys a b = b
 posts_both (Open x n ∷ xs) ys a b = absurd a
 posts_both (Post m r ∷ xs) ys a b = posts_both xs ys a b

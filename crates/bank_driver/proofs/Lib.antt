@@ -1,0 +1,6 @@
+pub mod Again
+pub mod Counted
+pub mod Drawn
+pub mod Ended
+pub mod Going
+pub mod Listed

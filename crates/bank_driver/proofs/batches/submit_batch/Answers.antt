@@ -1,0 +1,27 @@
+use Rattle.std.proofs.Common.{◌≡◌, ◌≤◌, length, refl, ap, ◌∙◌, arith}
+use Rattle.std.specs.Prelude.{count_by}
+use Rattle.std.proofs.lemmas.List.{length-map}
+use Rattle.std.proofs.lemmas.List.Sums.{count_by-le-length}
+use Rattle.posting_rules.specs.Runs.{posts}
+use Rattle.bank_driver.specs.Counted.{is_posted}
+use Rattle.bank_driver.proofs.Counted.{counted}
+use Rattle.bank_driver.proofs.batches.submit_batch.Goals as goal
+
+pub returns-clause-answers : goal.returns-clause-answers
+returns-clause-answers g c =
+    let moment = c.now-moment.result in
+    let records = c.draw_batch.new.batch in
+    let replies = c.in_ok-replies.replies.items in
+    let number : c.count_posted.result ≡ count_by is_posted replies = c.count_posted.ensures
+    ∙ ap (count_by is_posted) c.deref.ensures.value in
+    let few : count_by is_posted replies ≤ length replies = count_by-le-length is_posted replies in
+    let long : length (posts moment records) ≡ length records = rw length-map refl in (
+      moment,
+      c.now-moment.ensures,
+      record {
+        takes = c.in_ok-replies.ensures.done;
+        few = omega (arith, number, few, long, c.in_ok-replies.ensures.count);
+        posted_is = λ h log s. number ∙ ap (count_by is_posted) (c.in_ok-replies.ensures.replies h log s)
+            ∙ counted log (posts moment records);
+      },
+    )

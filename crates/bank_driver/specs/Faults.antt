@@ -1,0 +1,9 @@
+-- The texts of the faults of a drive.
+use Rattle.std.specs.Prelude.{ℕ, List, codes}
+use Rattle.posting_rules.specs.Rules.{fault_text}
+use Rattle.bank_driver.specs.declared.fault.DriveFault.{DriveFault}
+use Rattle.bank_driver.specs.declared.fault.DriveFault.TheVariants.{NoBranches, Bank}
+
+abbrev pub drive_text : DriveFault → List ℕ
+drive_text NoBranches = codes "no branches"
+drive_text (Bank fault) = fault_text fault

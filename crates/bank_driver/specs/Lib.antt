@@ -1,0 +1,4 @@
+pub mod Faults
+pub mod Records
+pub mod Counted
+pub mod Drives

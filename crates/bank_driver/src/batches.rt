@@ -1,0 +1,70 @@
+//! A batch of records that are drawn, submitted, and counted by their replies.
+ghost use Rattle.std.specs.Prelude.{◌≡◌, ◌≤◌, ◌+◌, ℕ, length, count_by, MatchResult, OnOk};
+ghost use Rattle.posting_rules.specs.Counter.{Refuses};
+ghost use Rattle.posting_rules.specs.Runs.{posts};
+ghost use Rattle.posting_core.specs.Clock.{IsReading};
+ghost use Rattle.load_driver.specs.Requests.{most_records};
+ghost use Rattle.bank_driver.specs.Counted.{IsCounted, is_posted};
+ghost use Rattle.bank_driver.specs.Records.{drawn};
+
+use load_driver::Driver;
+use posting_core::{Clock, Counter, Fault};
+
+/// The length of a record.
+pub(crate) const RECORD: usize = 100;
+
+/// The length of a reply.
+const REPLY: usize = 200;
+
+/// The code of the outcome POSTED.
+const POSTED: [u8; 2] = *b"00";
+
+// Draws the next records, one to each place.
+fn draw_batch(driver: &mut Driver, batch: &mut [[u8; RECORD]])
+    requires { driver.old.given + length batch.old ≤ most_records }
+    ensures drawn { batch.new ≡ drawn driver.old.rows driver.old.seed driver.old.given (length batch.old) }
+    ensures goes_on { driver.new ≡ record driver.old { given = driver.old.given + length batch.old } }
+{
+    for place in batch.iter_mut() {
+        *place = driver.next().unwrap();
+    }
+}
+
+// Whether a reply tells that its request was posted: the outcome's code stands behind the tag.
+fn is_posted(reply: &[u8; REPLY]) -> bool
+    ensures { result ≡ is_posted reply.now }
+{
+    reply[4..6] == POSTED[..]
+}
+
+// How many of the replies tell that their requests were posted.
+fn count_posted(replies: &[[u8; REPLY]]) -> u64
+    ensures { result ≡ count_by is_posted replies.now }
+{
+    replies.iter().filter(|reply| is_posted(reply)).count() as u64
+}
+
+/// Draws a batch, submits it under one reading of the clock, and answers how many of its records were posted.
+pub(crate) fn submit_batch<C: Counter, K: Clock>(
+    driver: &mut Driver,
+    batch: &mut [[u8; RECORD]],
+    counter: &mut C,
+    clock: &mut K,
+) -> Result<u64, Fault>
+    requires some { 1 ≤ length batch.old }
+    requires few { length batch.old ≤ 64 }
+    requires left { driver.old.given + length batch.old ≤ most_records }
+    ensures drawn { batch.new ≡ drawn driver.old.rows driver.old.seed driver.old.given (length batch.old) }
+    ensures goes_on { driver.new ≡ record driver.old { given = driver.old.given + length batch.old } }
+    ensures answers { (moment : ℕ) × IsReading (K.readings clock.old) (K.readings clock.new) moment
+        × MatchResult result
+        (λ posted. IsCounted (C.seen counter.old) (C.seen counter.new) (posts moment batch.new) posted)
+        (λ fault. Refuses fault (C.seen counter.old) (C.seen counter.new) (posts moment batch.new)) }
+    ensures up { OnOk result ((C.seen counter.new).is_down → ⊥) }
+    ensures honest { (C.seen counter.new).honest → (C.seen counter.old).honest }
+{
+    draw_batch(driver, batch);
+    let moment = clock.now();
+    let replies = counter.submit_all(moment, batch)?;
+    Ok(count_posted(&replies))
+}

@@ -1,0 +1,52 @@
+//! Why a drive ended before its last record.
+use posting_core::Fault;
+use std::alloc::AllocError;
+use std::fmt;
+
+/// Why a drive ended before its last record.
+#[derive(Clone, Copy, Debug, PartialEq, Eq)]
+pub enum DriveFault {
+    /// No branch is open.
+    NoBranches,
+    /// The bank refused a call. Memory that was refused to the drive itself is `Memory` too.
+    Bank(Fault),
+}
+
+impl fmt::Display for DriveFault {
+    ghost use Rattle.std.specs.Prelude.{Some};
+    ghost use Rattle.bank_driver.specs.Faults.{drive_text};
+
+    ghost output = { λ fault. Some (drive_text fault) };
+
+    fn fmt<W: fmt::Write>(&self, f: &mut fmt::Formatter<W>) -> fmt::Result {
+        match self {
+            DriveFault::NoBranches => write!(f, "no branches"),
+            DriveFault::Bank(fault) => write!(f, "{fault}"),
+        }
+    }
+}
+
+impl std::error::Error for DriveFault {}
+
+impl From<Fault> for DriveFault {
+    ghost use Rattle.std.specs.Prelude.{◌≡◌};
+    ghost use Rattle.bank_driver.specs.declared.fault.DriveFault.TheVariants.{Bank};
+
+    ghost from_gives = { λ fault drive. drive ≡ Bank fault };
+
+    fn from(fault: Fault) -> Self {
+        DriveFault::Bank(fault)
+    }
+}
+
+impl From<AllocError> for DriveFault {
+    ghost use Rattle.std.specs.Prelude.{◌≡◌};
+    ghost use Rattle.bank_driver.specs.declared.fault.DriveFault.TheVariants.{Bank};
+    ghost use Rattle.posting_rules.specs.declared.fault.Fault.TheVariants.{Memory};
+
+    ghost from_gives = { λ _ drive. drive ≡ Bank Memory };
+
+    fn from(_: AllocError) -> Self {
+        DriveFault::Bank(Fault::Memory)
+    }
+}

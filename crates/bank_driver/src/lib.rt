@@ -1,0 +1,13 @@
+//! The driver at work: the requests of the 85/15 rule, submitted to a counter over its open branches.
+#![tactic(auto)]
+
+mod batches;
+mod driving;
+mod fault;
+mod listing;
+
+pub use driving::{Driven, drive_records};
+pub use fault::DriveFault;
+
+#[cfg(test)]
+mod tests;

@@ -1,0 +1,149 @@
+//! Drives over a bank in memory, beside the records of `tools/driver_vectors.py`.
+use crate::{DriveFault, Driven, drive_records};
+use message_records::{Account, Branch, Cents, Moment, decode_request};
+use posting_core::{Counter, Fault, PlainBank, StoredClock};
+use std::alloc::{AllocError, Global};
+use std::test::Fail;
+
+// Refused memory fails the test, and so does every other fault of the bank.
+fn kept<T: Drop>(answer: Result<T, Fault>) -> Result<T, Fail> {
+    match answer {
+        Ok(value) => Ok(value),
+        Err(Fault::Memory) => Err(AllocError.into()),
+        Err(_) => Err("a fault of the bank".into()),
+    }
+}
+
+// A bank in memory with these branches and counts.
+fn bank_with(alloc: Global, branches: &[(u64, u32)]) -> Result<PlainBank, Fail> {
+    let mut bank = PlainBank::new(alloc);
+    for (branch, accounts) in branches {
+        let branch = Branch::new(*branch).ok_or("a branch")?;
+        if branch.get() > 9999 || *accounts < 1 || *accounts > 100_000 {
+            return Err("a branch of a plan".into());
+        }
+        kept(bank.open_branch(branch, *accounts))?;
+    }
+    Ok(bank)
+}
+
+// Drives so many records of a seed through the bank, all at the moment 0.
+fn driven(alloc: Global, bank: &mut PlainBank, seed: u64, count: u64) -> Result<Driven, Fail> {
+    if count < 1 || count > 1_000_000_000 {
+        return Err("a count".into());
+    }
+    let mut clock = StoredClock::new(Vec::new(alloc));
+    match drive_records(alloc, bank, &mut clock, seed, count) {
+        Ok(driven) => Ok(driven),
+        Err(DriveFault::Bank(Fault::Memory)) => Err(AllocError.into()),
+        Err(_) => Err("a drive".into()),
+    }
+}
+
+// The record of this text, and its account.
+fn record_of(text: &[u8; 51]) -> Result<([u8; 100], Account), Fail> {
+    let mut bytes = [b' '; 100];
+    bytes[..51].copy_from_slice(text.as_slice());
+    match decode_request(&bytes) {
+        Ok(request) => Ok((bytes, request.account())),
+        Err(_) => Err("a record".into()),
+    }
+}
+
+// Whether these records were posted: submitted again, each is told to be posted, and its account stays.
+fn were_posted(bank: &mut PlainBank, texts: &[[u8; 51]]) -> Result<bool, Fail> {
+    let moment = Moment::new(1).ok_or("a moment")?;
+    for text in texts {
+        let (bytes, account) = record_of(text)?;
+        let before: Option<Cents> = kept(bank.balance(account))?;
+        let reply = kept(bank.submit(moment, &bytes))?;
+        if !reply.starts_with(b"DR0100") || kept(bank.balance(account))? != before {
+            return Ok(false);
+        }
+    }
+    Ok(true)
+}
+
+// The arguments of `tools/driver_vectors.py` are `7 4 1:1`.
+#[test]
+fn one_account(rt: HostRuntime) -> Result<(), Fail> {
+    let texts = [
+        *b"DC01000000000001000000090000010000000001+0000232911",
+        *b"DC01000000000001000000090000010000000002+0000052382",
+        *b"DC01000000000001000000060000010000000001+0000206313",
+        *b"DC01000000000001000000050000010000000001-0000763092",
+    ];
+    let mut bank = bank_with(rt.alloc(), &[(1, 1)])?;
+    let account = Account::new(1).ok_or("an account")?;
+    let all = Driven {
+        posted: 50,
+        refused: 0,
+    };
+    assert_eq!(rt; driven(rt.alloc(), &mut bank, 7, 50)?, all);
+    let balance = kept(bank.balance(account))?;
+    assert_eq!(rt; driven(rt.alloc(), &mut bank, 7, 50)?, all);
+    assert_eq!(rt; kept(bank.balance(account))?, balance);
+    assert!(rt; were_posted(&mut bank, &texts)?);
+    Ok(())
+}
+
+// They are `11 6 2:3 1:2`: the branches are drawn from in ascending order.
+#[test]
+fn two_branches(rt: HostRuntime) -> Result<(), Fail> {
+    let texts = [
+        *b"DC01000000000001000000120000020000000001-0000895354",
+        *b"DC01000000100001000000130000020000000001-0000836062",
+        *b"DC01000000000002000000040000010000000001-0000457507",
+        *b"DC01000000000001000000100000010000000001+0000327813",
+        *b"DC01000000100003000000100000010000000002-0000432263",
+        *b"DC01000000000001000000010000010000000001+0000509516",
+    ];
+    let mut bank = bank_with(rt.alloc(), &[(2, 3), (1, 2)])?;
+    assert_eq!(rt; driven(rt.alloc(), &mut bank, 11, 6)?.posted, 6);
+    assert!(rt; were_posted(&mut bank, &texts)?);
+    Ok(())
+}
+
+// They are `5 129 1:1 2:2 3:3 4:4 5:5 6:6 7:7 8:8 9:9 10:10 11:11 9999:12`: of three batches the records at
+// either end of each.
+#[test]
+fn twelve_branches(rt: HostRuntime) -> Result<(), Fail> {
+    let texts = [
+        *b"DC01000000600001000000630000070000000001+0000619934",
+        *b"DC01000000300003000000400000040000000001+0000509482",
+        *b"DC01000000400004000000440000050000000001+0000081356",
+        *b"DC01000000100001000000720000080000000003+0000119960",
+        *b"DC01000000800007000000890000090000000002-0000632217",
+        *b"DC01000000300002000000390000040000000001-0000527593",
+        *b"DC01000000100001000000180000020000000003-0000068949",
+        *b"DC01000000400001000000460000050000000003-0000016755",
+    ];
+    let branches = [
+        (1, 1),
+        (2, 2),
+        (3, 3),
+        (4, 4),
+        (5, 5),
+        (6, 6),
+        (7, 7),
+        (8, 8),
+        (9, 9),
+        (10, 10),
+        (11, 11),
+        (9999, 12),
+    ];
+    let mut bank = bank_with(rt.alloc(), &branches)?;
+    let count = driven(rt.alloc(), &mut bank, 5, 129)?;
+    assert_eq!(rt; (count.posted, count.refused), (129, 0));
+    assert!(rt; were_posted(&mut bank, &texts)?);
+    Ok(())
+}
+
+#[test]
+fn no_branches(rt: HostRuntime) -> Result<(), Fail> {
+    let mut bank = PlainBank::new(rt.alloc());
+    let mut clock = StoredClock::new(Vec::new(rt.alloc()));
+    let answer = drive_records(rt.alloc(), &mut bank, &mut clock, 7, 50);
+    assert_eq!(rt; answer, Err(DriveFault::NoBranches));
+    Ok(())
+}
