@@ -139,6 +139,3 @@ pub fn post_stream<R: Read, W: Write, K: Clock, C: Counter>(
 {
     answer_stream(reader, writer, clock, bank)
 }
-
-#[cfg(test)]
-mod tests;

@@ -1,12 +1,6 @@
 //! The worked examples that a bank in memory can run, each value from outside.
 use super::PlainBank;
-use crate::cases::judge;
 use crate::counter::{Counter, Opening};
-use crate::facts::{Found, Verdict};
-use crate::laws::{
-    balances_stay_within, cases_are_as_stated, each_request_once, equal_tables_answer_alike,
-    resends_get_their_replies, tables_are_consistent,
-};
 use message_records::{
     Account, Bad, Branch, Cents, Moment, Number, Outcome, Request, Teller, decode_reply,
     decode_request, encode_request,
@@ -200,38 +194,4 @@ fn bytes_that_are_no_request(rt: HostRuntime) -> Result<(), Fail> {
     }
     assert_eq!(rt; bank.requests.len(), 0);
     Ok(())
-}
-
-#[test]
-fn the_full_bank(rt: HostRuntime) -> Result<(), Fail> {
-    let zero = Cents::new(0).ok_or("zero")?;
-    let one = Cents::new(1).ok_or("one")?;
-    let record = request(1, 1, 1, 1, 1)?;
-    let found = |decided: u64| Found {
-        teller: Some((zero, zero)),
-        kept: None,
-        decided,
-        account: Some(zero),
-    };
-    assert_eq!(rt;
-        judge(&found(1_000_000_000_000), &record),
-        Verdict::Unkept(Outcome::Full)
-    );
-    let posted = Verdict::Posted {
-        account: one,
-        teller: one,
-        branch: one,
-    };
-    assert_eq!(rt; judge(&found(999_999_999_999), &record), posted);
-    Ok(())
-}
-
-#[test]
-fn laws() {
-    cases_are_as_stated();
-    each_request_once();
-    balances_stay_within();
-    tables_are_consistent();
-    equal_tables_answer_alike();
-    resends_get_their_replies();
 }

@@ -1,12 +1,9 @@
 //! Streams over ends and a bank that fail, at every byte.
-use super::{Count, StreamFault, post_stream};
-use crate::clock::{Clock, StoredClock};
-use crate::counter::{Counter, Opening};
-use crate::fault::Fault;
-use crate::plain_bank::PlainBank;
-use message_records::{Account, Branch, Cents, Moment};
+use crate::banks::{FailingBank, fresh};
+use crate::ends::{CutReader, CutWriter};
+use message_records::{Account, Moment};
+use posting_core::{Clock, Count, Counter, Fault, StoredClock, StreamFault, post_stream};
 use std::alloc::{Alloc, Global};
-use std::io;
 use std::io::{ErrorKind, Read, Write};
 use std::process::Abort;
 use std::test::Fail;
@@ -46,14 +43,6 @@ fn two_replies(rt: &(impl Abort + Alloc<A = Global>)) -> Result<Vec<u8>, Fail> {
     Ok(replies)
 }
 
-// Branch 1 with three accounts and branch 2 with two.
-fn fresh(rt: &impl Alloc<A = Global>) -> Result<PlainBank, Fail> {
-    let mut bank = PlainBank::new(rt.alloc());
-    bank.open_branch(Branch::new(1).ok_or("branch")?, 3)?;
-    bank.open_branch(Branch::new(2).ok_or("branch")?, 2)?;
-    Ok(bank)
-}
-
 // How a stream ended on a fresh bank, and the balances then of the accounts that the two records name.
 #[derive(Drop)]
 struct Ended {
@@ -77,115 +66,6 @@ fn streamed<R: Read, W: Write>(
         first: first.ok_or("closed")?.get(),
         remote: remote.ok_or("closed")?.get(),
     })
-}
-
-// Gives some bytes, then fails once, and then gives others.
-#[derive(Drop)]
-struct CutReader<'a> {
-    before: &'a [u8],
-    fault: Option<ErrorKind>,
-    behind: &'a [u8],
-}
-
-impl<'a> Read for CutReader<'a> {
-    fn read(&mut self, buf: &mut [u8]) -> io::Result<usize> {
-        if !self.before.is_empty() {
-            return self.before.read(buf);
-        }
-        match self.fault.take() {
-            Some(kind) => Err(io::Error::from(kind)),
-            None => self.behind.read(buf),
-        }
-    }
-}
-
-// Takes so many bytes, and then fails, or takes none.
-#[derive(Drop)]
-struct CutWriter {
-    taken: Vec<u8>,
-    most: usize,
-    fault: Option<ErrorKind>,
-}
-
-impl Write for CutWriter {
-    fn write(&mut self, buf: &[u8]) -> io::Result<usize> {
-        let room = self.most.saturating_sub(self.taken.len());
-        match self.fault {
-            Some(kind) if room == 0 => Err(io::Error::from(kind)),
-            _ => {
-                let count = buf.len().min(room);
-                self.taken.extend_from_slice(&buf[..count])?;
-                Ok(count)
-            }
-        }
-    }
-
-    fn flush(&mut self) -> io::Result<()> {
-        match self.fault {
-            Some(kind) if self.taken.len() >= self.most => Err(io::Error::from(kind)),
-            _ => Ok(()),
-        }
-    }
-}
-
-// A bank whose store fails for good after so many submissions.
-#[derive(Drop)]
-struct FailingBank {
-    bank: PlainBank,
-    left: u64,
-    down: bool,
-}
-
-impl Counter for FailingBank {
-    ghost use Rattle.std.specs.Prelude.{◌≡◌, true};
-    ghost use Rattle.posting_core.specs.Plain.{plain_seen};
-
-    ghost seen = { λ b. record (plain_seen b.bank) { is_down = b.down ≡ true } };
-
-    fn submit(&mut self, moment: Moment, bytes: &[u8; 100]) -> Result<[u8; 200], Fault> {
-        if self.down {
-            return Err(Fault::Down);
-        }
-        let reply = self.bank.submit(moment, bytes)?;
-        if self.left == 0 {
-            self.down = true;
-            return Err(Fault::Store);
-        }
-        self.left -= 1;
-        Ok(reply)
-    }
-
-    fn submit_all(
-        &mut self,
-        moment: Moment,
-        records: &[[u8; 100]],
-    ) -> Result<Vec<[u8; 200]>, Fault> {
-        if self.down {
-            return Err(Fault::Down);
-        }
-        let replies = self.bank.submit_all(moment, records)?;
-        if self.left == 0 {
-            self.down = true;
-            return Err(Fault::Store);
-        }
-        self.left -= 1;
-        Ok(replies)
-    }
-
-    // It opens no further branch.
-    fn open_branch(&mut self, _branch: Branch, _count: u32) -> Result<Opening, Fault> {
-        if self.down {
-            return Err(Fault::Down);
-        }
-        Err(Fault::Memory)
-    }
-
-    fn balance(&mut self, account: Account) -> Result<Option<Cents>, Fault> {
-        if self.down {
-            return Err(Fault::Down);
-        }
-        self.bank.balance(account)
-    }
 }
 
 #[test]
