@@ -16,6 +16,3 @@ pub use adopting::adopt;
 pub use bank::Bank;
 pub use creating::create;
 pub use refused::{OpenFault, Refused};
-
-#[cfg(test)]
-mod tests;
