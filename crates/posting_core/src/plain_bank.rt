@@ -314,6 +314,3 @@ impl Counter for PlainBank {
         Ok(balance_at(&self.accounts, account.get()))
     }
 }
-
-#[cfg(test)]
-mod tests;
