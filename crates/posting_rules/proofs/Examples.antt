@@ -1,10 +1,10 @@
 -- The worked examples, computed from the definitions to the byte.
-use Rattle.std.specs.Prelude.{◌≡◌, ℕ, List, [], ◌∷◌, ◌++◌, pos, negsuc, refl, codes, replicate}
+use Rattle.std.specs.Prelude.{◌≡◌, ℕ, Bool, true, false, List, [], ◌∷◌, ◌++◌, map, pos, negsuc, refl, codes, replicate}
 use Rattle.message_records.specs.Spelling.{digits, fields_spelling, reply_spelling}
 use Rattle.message_records.specs.Reading.{fields_of, request_of}
 use Rattle.posting_rules.specs.Commands.{Command, Open, Post}
 use Rattle.posting_rules.specs.Cases.{case_of}
-use Rattle.posting_rules.specs.Entries.{decided, reply, teller_balance, branch_balance}
+use Rattle.posting_rules.specs.Entries.{is_posted, decided, reply, teller_balance, branch_balance}
 
 -- branch 1 with three accounts, and branch 2 with two
 bank : List Command
@@ -85,3 +85,27 @@ lettered = codes "DC01000000000001000000010000010000000001+0000000500" ++ replic
 a_letter_in_the_filler : reply_spelling (reply [] lettered) ≡ reply_bytes (codes "DR0190000000000000000000000000000000000000+0000000000+000000000000MALFORMED") 125
 unfolding reply_bytes lettered digits fields_spelling reply_spelling fields_of request_of case_of
 a_letter_in_the_filler = refl
+
+-- ---- which requests are decided, and which of these are posted, the newest first
+
+posted : List Command → List Bool
+posted log = map is_posted (decided log)
+
+refusals : List Command
+refusals = Post 1000 nowhere ∷ Post 1000 elsewhere ∷ Post 1000 late ∷ two
+
+posted_of_refusals : posted (Post 1000 first ∷ Post 1000 reused ∷ refusals) ≡ false ∷ false ∷ true ∷ true ∷ []
+unfolding bank request first one reused remote two late elsewhere nowhere posted refusals digits fields_spelling fields_of request_of case_of
+posted_of_refusals = refl
+
+posted_of_a_repeat : posted (Post 1000 first ∷ one) ≡ true ∷ []
+unfolding bank request first one posted digits fields_spelling fields_of request_of case_of
+posted_of_a_repeat = refl
+
+posted_of_an_opening : posted (Post 3000 late ∷ Open 3 1 ∷ Post 3000 late ∷ one) ≡ true ∷ true ∷ []
+unfolding bank request first one late posted digits fields_spelling fields_of request_of case_of
+posted_of_an_opening = refl
+
+posted_of_a_letter : posted (Post 1000 lettered ∷ []) ≡ []
+unfolding lettered posted digits fields_spelling fields_of request_of case_of
+posted_of_a_letter = refl

@@ -29,6 +29,3 @@ pub use probes::{
 };
 pub use requests::{add_request, find_request};
 pub use tellers::{add_teller, set_teller_balance, teller_balance};
-
-#[cfg(test)]
-mod tests;

@@ -1,27 +1,18 @@
 //! Each statement once, over a store in memory, beside a table of somebody else's.
 ghost use Rattle.std.specs.Prelude.{◌≡◌, ◌≤◌};
 
-use crate::{
+use crate::sql::{batch, number};
+use message_records::{Account, Branch, Cents, Moment, Number, Outcome, Teller};
+use posting_core::{AccountRow, BranchRow, HistoryRow, Kept, Ordinal, RequestRow, Rule, TellerRow};
+use sqlite::{Alter, Connection, Error, ErrorCode, Transaction};
+use std::process::Abort;
+use std::test::Fail;
+use store_rows::{
     StoredMeta, TableFault, account_balance, add_account, add_branch, add_history, add_request,
     add_teller, commit, create, find_branch, find_request, next_branch, probe_accounts,
     probe_branches, probe_history, probe_meta, probe_requests, probe_tellers, read_meta,
     set_account_balance, set_branch_balance, set_decided, set_teller_balance, teller_balance,
 };
-use message_records::{Account, Branch, Cents, Moment, Number, Outcome, Teller};
-use posting_rules::{
-    AccountRow, BranchRow, HistoryRow, Kept, Ordinal, RequestRow, Rule, TellerRow,
-};
-use sqlite::{Alter, Connection, Error, ErrorCode, Transaction};
-use std::test::Fail;
-
-// The helpers have no clause on what they do, so that no test carries the state of each call.
-fn batch<S: Alter>(conn: &mut Connection<S>, sql: &str) -> Result<(), Error> {
-    conn.execute_batch(sql)
-}
-
-fn number<S: Alter>(conn: &mut Connection<S>, sql: &str) -> Result<i64, Error> {
-    conn.query_row(sql, &[])?.get(0)
-}
 
 fn not_now() -> Error {
     Error::SqliteFailure(ErrorCode::TransactionState)
@@ -223,31 +214,28 @@ fn taken<S: Alter>(conn: &mut Connection<S>) -> Result<(), TableFault> {
     open(&mut tx)
 }
 
-#[test]
-fn a_new_bank_stands_beside_another_table(rt: HostRuntime) -> Result<(), Fail> {
-    let mut conn = Connection::open_in_memory(rt.alloc())?;
+// A bank is made once, and a table that was there before stays with its row.
+fn is_made_beside<S: Alter>(rt: &impl Abort, conn: &mut Connection<S>) -> Result<(), Fail> {
     batch(
-        &mut conn,
+        conn,
         "CREATE TABLE note (id INTEGER PRIMARY KEY, title TEXT NOT NULL) STRICT; INSERT INTO note (title) VALUES ('mine')",
     )?;
-    assert_eq!(rt; accepted(&mut conn)?, 0);
-    make(&mut conn)?;
-    assert_eq!(rt; accepted(&mut conn)?, 6);
+    assert_eq!(rt; accepted(conn)?, 0);
+    make(conn)?;
+    assert_eq!(rt; accepted(conn)?, 6);
     assert_eq!(rt;
-        number(&mut conn, "SELECT count(*) FROM note WHERE title = 'mine'")?,
+        number(conn, "SELECT count(*) FROM note WHERE title = 'mine'")?,
         1
     );
-    assert!(rt; make(&mut conn).is_err());
+    assert!(rt; make(conn).is_err());
     Ok(())
 }
 
-#[test]
-fn a_posting_is_written_and_read(rt: HostRuntime) -> Result<(), Fail> {
-    let mut conn = Connection::open_in_memory(rt.alloc())?;
-    make(&mut conn)?;
-    assert_eq!(rt; post(&mut conn)?, 4);
+// What a posting wrote is read, and its keys are taken.
+fn is_read<S: Alter>(rt: &impl Abort, conn: &mut Connection<S>) -> Result<(), Fail> {
+    assert_eq!(rt; post(conn)?, 4);
     let amount = Some(cents(-500));
-    let (balances, rows) = read(&mut conn)?;
+    let (balances, rows) = read(conn)?;
     assert_eq!(rt;
         balances,
         Balances {
@@ -271,34 +259,18 @@ fn a_posting_is_written_and_read(rt: HostRuntime) -> Result<(), Fail> {
     );
     assert_eq!(rt;
         number(
-            &mut conn,
+            conn,
             "SELECT count(*) FROM history WHERE delta = -500 AND moment = 1000"
         )?,
         1
     );
-    assert_eq!(rt; taken(&mut conn), Err(TableFault::Damaged(Rule::Key)));
+    assert_eq!(rt; taken(conn), Err(TableFault::Damaged(Rule::Key)));
     Ok(())
 }
 
 #[test]
-fn stored_values_outside_their_types_are_told(rt: HostRuntime) -> Result<(), Fail> {
+fn each_statement(rt: HostRuntime) -> Result<(), Fail> {
     let mut conn = Connection::open_in_memory(rt.alloc())?;
-    make(&mut conn)?;
-    post(&mut conn)?;
-    for (sql, rule) in [
-        ("UPDATE teller SET balance = 1000000000000", Rule::Balance),
-        (
-            "UPDATE teller SET balance = 0; UPDATE branch SET accounts = -1",
-            Rule::Value,
-        ),
-        (
-            "UPDATE branch SET accounts = 3; UPDATE request SET outcome = 15",
-            Rule::Request,
-        ),
-        ("UPDATE request SET outcome = 12", Rule::Request),
-    ] {
-        batch(&mut conn, sql)?;
-        assert_eq!(rt; read(&mut conn), Err(TableFault::Damaged(rule)), "{sql}");
-    }
-    Ok(())
+    is_made_beside(&rt, &mut conn)?;
+    is_read(&rt, &mut conn)
 }

@@ -1,0 +1,167 @@
+//! What a bank answers to a call, whatever keeps its tables.
+use crate::records::Record;
+use message_records::{Account, Branch, Moment};
+use posting_core::{Counter, Opening};
+use std::alloc::{AllocError, Global};
+
+/// What separates the things that a step names, and what is answered to each.
+const BETWEEN: &str = ", ";
+
+/// How many records a batch may have.
+const MOST_RECORDS: usize = 64;
+
+/// A call of a bank, but for the things that it names.
+#[derive(Clone, Copy)]
+pub enum Call {
+    /// Opens branches: each a number and a count of accounts.
+    Open,
+    /// Submits records one by one.
+    Post(Moment),
+    /// Submits records together.
+    Batch(Moment),
+    /// Asks for the balances of accounts.
+    Balance,
+}
+
+impl Call {
+    /// The call that a step says, and the things that it names; none where it says no call.
+    pub fn of<'a>(word: &str, rest: &'a str) -> Option<(Self, &'a str)> {
+        let (first, records) = rest.split_once(' ').unwrap_or((rest, ""));
+        match word {
+            "open" => Some((Call::Open, rest)),
+            "balance" => Some((Call::Balance, rest)),
+            "post" => Some((Call::Post(moment_of(first)?), records)),
+            "batch" => Some((Call::Batch(moment_of(first)?), records)),
+            _ => None,
+        }
+    }
+}
+
+fn moment_of(text: &str) -> Option<Moment> {
+    Moment::new(text.parse::<u64>().ok()?)
+}
+
+/// Makes the call, and tells what was answered to each thing that it names.
+pub fn answer<C: Counter>(
+    alloc: Global,
+    bank: &mut C,
+    call: Call,
+    list: &str,
+) -> Result<String, AllocError> {
+    if let Call::Batch(moment) = call {
+        return together(alloc, bank, moment, list);
+    }
+    let mut answers = String::new(alloc);
+    for item in list.split(BETWEEN) {
+        add(&mut answers, one_by_one(alloc, bank, call, item)?.as_str())?;
+    }
+    Ok(answers)
+}
+
+// Adds an answer behind the others.
+fn add(answers: &mut String, said: &str) -> Result<(), AllocError> {
+    if !answers.is_empty() {
+        answers.push_str(BETWEEN)?;
+    }
+    answers.push_str(said)
+}
+
+fn one_by_one<C: Counter>(
+    alloc: Global,
+    bank: &mut C,
+    call: Call,
+    item: &str,
+) -> Result<String, AllocError> {
+    match call {
+        Call::Open => opened(alloc, bank, item),
+        Call::Post(moment) | Call::Batch(moment) => posted(alloc, bank, moment, item),
+        Call::Balance => balance_of(alloc, bank, item),
+    }
+}
+
+// A branch and its count of accounts: `1 with 3`.
+fn branch_of(item: &str) -> Option<(Branch, u32)> {
+    let (branch, count) = item.split_once(" with ")?;
+    Some((
+        Branch::new(branch.parse::<u64>().ok()?)?,
+        count.parse::<u32>().ok()?,
+    ))
+}
+
+fn opened<C: Counter>(alloc: Global, bank: &mut C, item: &str) -> Result<String, AllocError> {
+    let Some((branch, count)) = branch_of(item) else {
+        return "no branch".to_string(alloc);
+    };
+    if branch.get() > 9999 || count < 1 || count > 100_000 {
+        return "out of range".to_string(alloc);
+    }
+    match bank.open_branch(branch, count) {
+        Ok(Opening::Opened) => "opened".to_string(alloc),
+        Ok(Opening::Already) => "already".to_string(alloc),
+        Ok(Opening::Differs) => "differs".to_string(alloc),
+        Err(fault) => fault.to_string(alloc),
+    }
+}
+
+fn posted<C: Counter>(
+    alloc: Global,
+    bank: &mut C,
+    moment: Moment,
+    item: &str,
+) -> Result<String, AllocError> {
+    let Some(record) = Record::of(item) else {
+        return "no record".to_string(alloc);
+    };
+    match bank.submit(moment, &record.bytes) {
+        Ok(reply) => record.told(alloc, &reply),
+        Err(fault) => fault.to_string(alloc),
+    }
+}
+
+fn balance_of<C: Counter>(alloc: Global, bank: &mut C, item: &str) -> Result<String, AllocError> {
+    let Some(account) = item.parse::<u64>().ok().and_then(Account::new) else {
+        return "no account".to_string(alloc);
+    };
+    match bank.balance(account) {
+        Ok(Some(balance)) => balance.to_string(alloc),
+        Ok(None) => "not open".to_string(alloc),
+        Err(fault) => fault.to_string(alloc),
+    }
+}
+
+// The records of a list, none where one of them is none.
+fn records_of(alloc: Global, list: &str) -> Result<Option<Vec<Record>>, AllocError> {
+    let mut records = Vec::new(alloc);
+    for item in list.split(BETWEEN) {
+        let Some(record) = Record::of(item) else {
+            return Ok(None);
+        };
+        records.push(record)?;
+    }
+    Ok(Some(records))
+}
+
+fn together<C: Counter>(
+    alloc: Global,
+    bank: &mut C,
+    moment: Moment,
+    list: &str,
+) -> Result<String, AllocError> {
+    let Some(records) = records_of(alloc, list)? else {
+        return "no record".to_string(alloc);
+    };
+    let bytes: Vec<[u8; 100]> = records.iter().map(|record| record.bytes).collect(alloc)?;
+    if bytes.is_empty() || bytes.len() > MOST_RECORDS {
+        return "no batch".to_string(alloc);
+    }
+    match bank.submit_all(moment, bytes.as_slice()) {
+        Ok(replies) => {
+            let mut answers = String::new(alloc);
+            for (record, reply) in records.iter().zip(&replies) {
+                add(&mut answers, record.told(alloc, reply)?.as_str())?;
+            }
+            Ok(answers)
+        }
+        Err(fault) => fault.to_string(alloc),
+    }
+}

@@ -1,0 +1,87 @@
+//! The records of a script.
+use message_records::{
+    Account, Branch, Cents, Number, Reply, Request, Teller, decode_reply, encode_request,
+};
+use std::alloc::{AllocError, Global};
+
+/// A record, and how the reply to it is told.
+#[derive(Clone, Copy)]
+pub struct Record {
+    pub bytes: [u8; 100],
+    /// Whether it is written as a request's numbers, so that the reply is told by its outcome and balance.
+    is_request: bool,
+}
+
+// The text, and spaces behind it; none where it is too long.
+fn padded(text: &str) -> Option<[u8; 100]> {
+    if text.len() > 100 {
+        return None;
+    }
+    let mut bytes = [b' '; 100];
+    for (place, byte) in bytes.iter_mut().zip(text.as_bytes()) {
+        *place = *byte;
+    }
+    Some(bytes)
+}
+
+/// The record of a request.
+pub fn bytes_of(
+    account: u64,
+    teller: u64,
+    branch: u64,
+    number: u64,
+    delta: i64,
+) -> Option<[u8; 100]> {
+    let account = Account::new(account)?;
+    let teller = Teller::new(teller)?;
+    let branch = Branch::new(branch)?;
+    let number = Number::new(number)?;
+    let delta = Cents::new(delta)?;
+    let request = Request::new(account, teller, branch, number, delta)?;
+    Some(encode_request(&request))
+}
+
+// The record of a request's five numbers.
+fn bytes_of_numbers(text: &str) -> Option<[u8; 100]> {
+    let mut words = text.split(' ');
+    let account = words.next()?.parse::<u64>().ok()?;
+    let teller = words.next()?.parse::<u64>().ok()?;
+    let branch = words.next()?.parse::<u64>().ok()?;
+    let number = words.next()?.parse::<u64>().ok()?;
+    let delta = words.next()?.parse::<i64>().ok()?;
+    bytes_of(account, teller, branch, number, delta)
+}
+
+impl Record {
+    /// The record that a text writes: its bytes, with spaces behind them, or the five numbers of a request.
+    pub fn of(text: &str) -> Option<Self> {
+        let is_request = !text.starts_with("DC");
+        let bytes = if is_request {
+            bytes_of_numbers(text)?
+        } else {
+            padded(text)?
+        };
+        Some(Record { bytes, is_request })
+    }
+
+    /// The text that tells the reply to it.
+    pub fn told(&self, alloc: Global, reply: &[u8; 200]) -> Result<String, AllocError> {
+        if !self.is_request {
+            let text = String::from_utf8_lossy(alloc, reply)?;
+            return text.trim_end_matches(' ').to_string(alloc);
+        }
+        match decode_reply(reply) {
+            Ok(reply) => in_words(alloc, &reply),
+            Err(bad) => format!(in alloc; "no reply: {bad:?}"),
+        }
+    }
+}
+
+// The outcome, and the balance where there is one.
+fn in_words(alloc: Global, reply: &Reply) -> Result<String, AllocError> {
+    let outcome = reply.outcome();
+    match reply.balance() {
+        Some(balance) => format!(in alloc; "{outcome} {balance}"),
+        None => format!(in alloc; "{outcome}"),
+    }
+}

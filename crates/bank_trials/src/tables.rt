@@ -1,0 +1,32 @@
+//! The tables under a connection, by SQL. The functions have no clause on what they do, so that no caller
+//! carries the state of each call.
+use sqlite::{Alter, Connection, Error};
+
+/// Runs statements.
+pub fn batch<S: Alter>(conn: &mut Connection<S>, sql: &str) -> Result<(), Error> {
+    conn.execute_batch(sql)
+}
+
+/// The number that a query finds.
+pub fn number<S: Alter>(conn: &mut Connection<S>, sql: &str) -> Result<i64, Error> {
+    conn.query_row(sql, &[])?.get(0)
+}
+
+// A sum over each table, in which the columns have different weights.
+const SUMS: [&str; 6] = [
+    "SELECT coalesce(sum(1 + 2 * id + 3 * version + 5 * decided), 0) FROM meta",
+    "SELECT coalesce(sum(1 + 2 * bid + 3 * accounts + 5 * balance), 0) FROM branch",
+    "SELECT coalesce(sum(1 + 2 * tid + 3 * balance), 0) FROM teller",
+    "SELECT coalesce(sum(1 + 2 * aid + 3 * balance), 0) FROM account",
+    "SELECT coalesce(sum(1 + 2 * ordinal + 3 * aid + 5 * tid + 7 * bid + 11 * delta + 13 * moment), 0) FROM history",
+    "SELECT coalesce(sum(1 + 2 * ordinal + 3 * tid + 5 * number + 7 * aid + 11 * bid + 13 * delta + 17 * outcome + 19 * balance), 0) FROM request",
+];
+
+/// The sums over the six tables.
+pub fn sums<S: Alter>(conn: &mut Connection<S>) -> Result<[i64; 6], Error> {
+    let mut found = [0; 6];
+    for (place, sql) in found.iter_mut().zip(SUMS) {
+        *place = number(conn, sql)?;
+    }
+    Ok(found)
+}

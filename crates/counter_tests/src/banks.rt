@@ -1,0 +1,73 @@
+//! Banks to be streamed to.
+use message_records::{Account, Branch, Cents, Moment};
+use posting_core::{Counter, Fault, Opening, PlainBank};
+use std::alloc::{Alloc, Global};
+use std::test::Fail;
+
+/// Branch 1 with three accounts and branch 2 with two.
+pub fn fresh(rt: &impl Alloc<A = Global>) -> Result<PlainBank, Fail> {
+    let mut bank = PlainBank::new(rt.alloc());
+    bank.open_branch(Branch::new(1).ok_or("branch")?, 3)?;
+    bank.open_branch(Branch::new(2).ok_or("branch")?, 2)?;
+    Ok(bank)
+}
+
+/// A bank whose store fails for good after so many submissions.
+#[derive(Drop)]
+pub struct FailingBank {
+    pub bank: PlainBank,
+    pub left: u64,
+    pub down: bool,
+}
+
+impl Counter for FailingBank {
+    ghost use Rattle.std.specs.Prelude.{◌≡◌, true};
+    ghost use Rattle.posting_core.specs.Plain.{plain_seen};
+
+    ghost seen = { λ b. record (plain_seen b.bank) { is_down = b.down ≡ true } };
+
+    fn submit(&mut self, moment: Moment, bytes: &[u8; 100]) -> Result<[u8; 200], Fault> {
+        if self.down {
+            return Err(Fault::Down);
+        }
+        let reply = self.bank.submit(moment, bytes)?;
+        if self.left == 0 {
+            self.down = true;
+            return Err(Fault::Store);
+        }
+        self.left -= 1;
+        Ok(reply)
+    }
+
+    fn submit_all(
+        &mut self,
+        moment: Moment,
+        records: &[[u8; 100]],
+    ) -> Result<Vec<[u8; 200]>, Fault> {
+        if self.down {
+            return Err(Fault::Down);
+        }
+        let replies = self.bank.submit_all(moment, records)?;
+        if self.left == 0 {
+            self.down = true;
+            return Err(Fault::Store);
+        }
+        self.left -= 1;
+        Ok(replies)
+    }
+
+    // It opens no further branch.
+    fn open_branch(&mut self, _branch: Branch, _count: u32) -> Result<Opening, Fault> {
+        if self.down {
+            return Err(Fault::Down);
+        }
+        Err(Fault::Memory)
+    }
+
+    fn balance(&mut self, account: Account) -> Result<Option<Cents>, Fault> {
+        if self.down {
+            return Err(Fault::Down);
+        }
+        self.bank.balance(account)
+    }
+}

@@ -1,0 +1,198 @@
+//! A call in which the machine stops, on any bank and any store: what it adds, and how far it came.
+use crate::sql::number;
+use bank_store::{Bank, OpenFault, Refused, adopt, create};
+use message_records::{Branch, Moment};
+use posting_core::{Counter, Fault, Opening};
+use sqlite::{Alter, Connection, Error};
+use std::alloc::{Alloc, Global};
+use std::process::Abort;
+use std::test::Fail;
+
+const RECORD: &str = "DC01000000000001000000010000010000000001+0000000500";
+
+const REPLY: &str = "DR0100000000000001000000010000010000000001+0000000500+000000000500POSTED";
+
+/// The call in which the machine stops.
+#[derive(Clone, Copy)]
+pub enum Call {
+    /// The first posting.
+    Post,
+    /// Branch 3 is opened with two accounts.
+    OpenBranch,
+}
+
+// What a call may add: the rows of history, the branch, its tellers and its accounts.
+const ADDED: [&str; 4] = [
+    "SELECT count(*) FROM history",
+    "SELECT count(*) FROM branch WHERE bid = 3",
+    "SELECT count(*) FROM teller WHERE tid >= 21 AND tid <= 30",
+    "SELECT count(*) FROM account WHERE aid >= 200001 AND aid <= 300000",
+];
+
+// What the call adds.
+fn whole(call: Call) -> [i64; 4] {
+    match call {
+        Call::Post => [1, 0, 0, 0],
+        Call::OpenBranch => [0, 1, 10, 2],
+    }
+}
+
+fn added<S: Alter>(conn: &mut Connection<S>) -> Result<[i64; 4], Error> {
+    let mut found = [0; 4];
+    for (place, sql) in found.iter_mut().zip(ADDED) {
+        *place = number(conn, sql)?;
+    }
+    Ok(found)
+}
+
+// The text, and spaces behind it.
+fn padded<const SIZE: usize>(text: &str) -> [u8; SIZE] {
+    let mut bytes = [b' '; SIZE];
+    for (place, byte) in bytes.iter_mut().zip(text.as_bytes()) {
+        *place = *byte;
+    }
+    bytes
+}
+
+fn open<C: Counter>(
+    rt: &impl Abort,
+    bank: &mut C,
+    branch: u64,
+    count: u32,
+) -> Result<Opening, Fault> {
+    let branch = Branch::new(branch).expect(rt, "branch");
+    assert!(rt; branch.get() <= 9999);
+    assert!(rt; 1 <= count && count <= 100_000);
+    bank.open_branch(branch, count)
+}
+
+// Makes the call. The answer is the one that it is to have.
+fn make<C: Counter>(rt: &impl Abort, bank: &mut C, call: Call) -> Result<(), Fault> {
+    match call {
+        Call::Post => {
+            let moment = Moment::new(1000).expect(rt, "moment");
+            let reply = bank.submit(moment, &padded(RECORD))?;
+            assert_eq!(rt; reply, padded::<200>(REPLY));
+        }
+        Call::OpenBranch => {
+            let opening = open(rt, bank, 3, 2)?;
+            assert!(rt; opening != Opening::Differs);
+        }
+    }
+    Ok(())
+}
+
+// Takes up the bank.
+fn taken_up<S: Alter + Drop>(
+    rt: &(impl Abort + Alloc<A = Global>),
+    conn: Connection<S>,
+) -> Result<Bank<S>, OpenFault> {
+    assert!(rt; conn.is_autocommit());
+    match adopt(rt.alloc(), conn) {
+        Ok(bank) => Ok(bank),
+        Err(Refused { fault, conn: _conn }) => Err(fault),
+    }
+}
+
+// Makes a bank: branch 1 with three accounts and branch 2 with two.
+fn made<S: Alter + Drop>(
+    rt: &(impl Abort + Alloc<A = Global>),
+    conn: Connection<S>,
+) -> Result<Connection<S>, OpenFault> {
+    assert!(rt; conn.is_autocommit());
+    match create(rt.alloc(), conn) {
+        Ok(mut bank) => {
+            assert_eq!(rt; open(rt, &mut bank, 1, 3), Ok(Opening::Opened));
+            assert_eq!(rt; open(rt, &mut bank, 2, 2), Ok(Opening::Opened));
+            Ok(bank.release())
+        }
+        Err(Refused { fault, conn: _conn }) => Err(fault),
+    }
+}
+
+// Takes up the bank and makes the call, until that ends or the machine stops.
+fn called<S: Alter + Drop>(
+    rt: &(impl Abort + Alloc<A = Global>),
+    conn: Connection<S>,
+    call: Call,
+) -> Worked<S> {
+    assert!(rt; conn.is_autocommit());
+    let mut bank = match adopt(rt.alloc(), conn) {
+        Ok(bank) => bank,
+        Err(Refused { fault, conn }) => {
+            assert_eq!(rt; fault, OpenFault::Store);
+            return Worked {
+                is_begun: false,
+                is_done: false,
+                conn,
+            };
+        }
+    };
+    let answer = make(rt, &mut bank, call);
+    match answer {
+        Ok(()) => assert_eq!(rt; bank.cause(), None),
+        Err(fault) => {
+            assert_eq!(rt; fault, Fault::Store);
+            assert!(rt; bank.cause().is_some());
+        }
+    }
+    Worked {
+        is_begun: true,
+        is_done: answer.is_ok(),
+        conn: bank.release(),
+    }
+}
+
+// Tests that the call is there whole or not at all, and whole if it was answered, and sends it again.
+fn resent<S: Alter + Drop>(
+    rt: &(impl Abort + Alloc<A = Global>),
+    mut conn: Connection<S>,
+    call: Call,
+    is_answered: bool,
+) -> Result<Connection<S>, Fail> {
+    let found = added(&mut conn)?;
+    assert!(rt; found == whole(call) || !is_answered && found == [0; 4]);
+    let mut bank = taken_up(rt, conn)?;
+    let answer = make(rt, &mut bank, call);
+    let mut conn = bank.release();
+    assert_eq!(rt; answer, Ok(()));
+    assert_eq!(rt; added(&mut conn)?, whole(call));
+    Ok(conn)
+}
+
+/// What a machine does with the bank in its files.
+#[derive(Clone, Copy)]
+pub enum Task {
+    /// Makes it, with two branches.
+    Make,
+    /// Makes the call.
+    Call(Call),
+    /// Tests what the call left, which was answered or not, and makes it again.
+    Resend(Call, bool),
+}
+
+/// How far a task came, and the connection then.
+#[derive(Drop)]
+pub struct Worked<S: Alter> {
+    pub is_begun: bool,
+    pub is_done: bool,
+    pub conn: Connection<S>,
+}
+
+/// Does the task, until that ends or the machine stops. Only a call may stop.
+pub fn work<S: Alter + Drop>(
+    rt: &(impl Abort + Alloc<A = Global>),
+    conn: Connection<S>,
+    task: Task,
+) -> Result<Worked<S>, Fail> {
+    let conn = match task {
+        Task::Call(call) => return Ok(called(rt, conn, call)),
+        Task::Make => made(rt, conn)?,
+        Task::Resend(call, is_answered) => resent(rt, conn, call, is_answered)?,
+    };
+    Ok(Worked {
+        is_begun: true,
+        is_done: true,
+        conn,
+    })
+}

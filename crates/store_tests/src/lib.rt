@@ -1,0 +1,14 @@
+//! Tests of the bank in tables that no scenario reaches: each statement of the six tables once, and machines
+//! that stop.
+#![tactic(auto)]
+
+#[cfg(test)]
+mod calls;
+#[cfg(test)]
+mod files;
+#[cfg(test)]
+mod rows;
+#[cfg(test)]
+mod sql;
+#[cfg(test)]
+mod stops;

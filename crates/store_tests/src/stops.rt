@@ -1,0 +1,148 @@
+//! A machine that stops in the middle of a call: what the files hold then, and what a resend gets.
+use crate::calls::{Call, Task, Worked, work};
+use crate::files::{Fused, Image, closed, crash, fused, opened, written};
+use sqlite::Files;
+use std::alloc::{Alloc, Global};
+use std::process::Abort;
+use std::test::Fail;
+
+/// How a task on files ended: whether it was begun and done, and the files that are left.
+#[derive(Drop)]
+struct Ended {
+    is_begun: bool,
+    is_done: bool,
+    files: Files<Fused>,
+}
+
+// Opens the files and does the task, until that ends or the machine stops.
+fn run(
+    rt: &(impl Abort + Alloc<A = Global>),
+    files: Files<Fused>,
+    task: Task,
+) -> Result<Ended, Fail> {
+    match opened(rt, files) {
+        Ok(conn) => {
+            let Worked {
+                is_begun,
+                is_done,
+                conn,
+            } = work(rt, conn, task)?;
+            Ok(Ended {
+                is_begun,
+                is_done,
+                files: closed(conn),
+            })
+        }
+        Err(files) => Ok(Ended {
+            is_begun: false,
+            is_done: false,
+            files,
+        }),
+    }
+}
+
+// A bank of two branches, in files.
+fn two_branches(rt: &(impl Abort + Alloc<A = Global>)) -> Result<Image, Fail> {
+    let files = Files {
+        log: fused(rt, &[], u64::MAX),
+        db: fused(rt, &[], u64::MAX),
+    };
+    let ended = run(rt, files, Task::Make)?;
+    assert!(rt; ended.is_done);
+    written(rt.alloc(), &ended.files)
+}
+
+// The first bytes if it is to be, or else the others.
+fn either<'a>(is_first: bool, first: &'a [u8], other: &'a [u8]) -> &'a [u8] {
+    if is_first { first } else { other }
+}
+
+// Each file holds all that was written, or just what was synced.
+fn holds_whatever_is_left(
+    rt: &(impl Abort + Alloc<A = Global>),
+    ended: Ended,
+    call: Call,
+) -> Result<(), Fail> {
+    let Ended {
+        is_begun: _,
+        is_done,
+        mut files,
+    } = ended;
+    let all = written(rt.alloc(), &files)?;
+    crash(&mut files);
+    let synced = written(rt.alloc(), &files)?;
+    let is_db_same = all.db.as_slice() == synced.db.as_slice();
+    let is_log_same = all.log.as_slice() == synced.log.as_slice();
+    for (loses_db, loses_log) in [(false, false), (false, true), (true, false), (true, true)] {
+        if loses_db && is_db_same || loses_log && is_log_same {
+            continue;
+        }
+        let db = either(loses_db, &synced.db, &all.db);
+        let log = either(loses_log, &synced.log, &all.log);
+        let files = Files {
+            db: fused(rt, db, u64::MAX),
+            log: fused(rt, log, u64::MAX),
+        };
+        let resent = run(rt, files, Task::Resend(call, is_done))?;
+        assert!(rt; resent.is_done, "files that open again");
+    }
+    Ok(())
+}
+
+// Stops the machine at each call on the one file or the other, and counts the stops in the bank's call.
+fn stop_at_each(
+    rt: &(impl Abort + Alloc<A = Global>),
+    start: &Image,
+    call: Call,
+    stops_db: bool,
+) -> Result<u64, Fail> {
+    let mut stops = 0u64;
+    for calls in 0..1_000u64 {
+        let (db_calls, log_calls) = if stops_db {
+            (calls, u64::MAX)
+        } else {
+            (u64::MAX, calls)
+        };
+        let files = Files {
+            db: fused(rt, &start.db, db_calls),
+            log: fused(rt, &start.log, log_calls),
+        };
+        let ended = run(rt, files, Task::Call(call))?;
+        if ended.is_done {
+            holds_whatever_is_left(rt, ended, call)?;
+            return Ok(stops);
+        }
+        if ended.is_begun {
+            stops = stops.saturating_add(1);
+            holds_whatever_is_left(rt, ended, call)?;
+        }
+    }
+    Err("a run that ends".into())
+}
+
+// Stops at each call on the file while the bank works.
+fn stop_in(rt: &(impl Abort + Alloc<A = Global>), call: Call, stops_db: bool) -> Result<(), Fail> {
+    let start = two_branches(rt)?;
+    assert!(rt; stop_at_each(rt, &start, call, stops_db)? > 0);
+    Ok(())
+}
+
+#[test]
+fn a_posting_stops_at_the_database_file(rt: HostRuntime) -> Result<(), Fail> {
+    stop_in(&rt, Call::Post, true)
+}
+
+#[test]
+fn a_posting_stops_at_the_log(rt: HostRuntime) -> Result<(), Fail> {
+    stop_in(&rt, Call::Post, false)
+}
+
+#[test]
+fn an_opening_stops_at_the_database_file(rt: HostRuntime) -> Result<(), Fail> {
+    stop_in(&rt, Call::OpenBranch, true)
+}
+
+#[test]
+fn an_opening_stops_at_the_log(rt: HostRuntime) -> Result<(), Fail> {
+    stop_in(&rt, Call::OpenBranch, false)
+}
