@@ -2,7 +2,6 @@
 use Rattle.std.proofs.Common.{◌≡◌, List, length, Option, Some, Result, Ok, Err, refl, sym, subst, ◌∙◌, arith, inl, inr}
 use Rattle.std.specs.Prelude.{IsSome}
 use Rattle.std.proofs.Math.Seq.{take-length}
-use Rattle.sqlite.specs.Tree.{Trees}
 use Rattle.sqlite.specs.Effect.{Database}
 use Rattle.sqlite.specs.State.{State, HasCleanDisk, Survives}
 use Rattle.sqlite.specs.Held.{Held, state}
@@ -17,7 +16,7 @@ use Rattle.posting_rules.specs.Tables.{Tables}
 use Rattle.posting_rules.specs.Tables.{Shows as Show}
 use Rattle.posting_rules.proofs.Calls.{IsChange}
 use Rattle.posting_rules.proofs.Sequence.{commands_behind}
-use Rattle.store_rows.specs.View.{Shows, ShowsTrees}
+use Rattle.store_rows.specs.View.{Shows}
 use Rattle.store_rows.specs.declared.faults.TableFault.{TableFault}
 use Rattle.store_rows.specs.declared.faults.TableFault.TheVariants.{Sqlite, Damaged}
 use Rattle.bank_transactions.specs.Doing.{Leaves, Transacts}
