@@ -3,11 +3,10 @@ ghost use Rattle.std.specs.Prelude.{◌≡◌, ◌≤◌, ◌+◌, ℕ, length, 
 ghost use Rattle.posting_rules.specs.Counter.{Refuses};
 ghost use Rattle.posting_rules.specs.Runs.{posts};
 ghost use Rattle.posting_core.specs.Clock.{IsReading};
-ghost use Rattle.load_driver.specs.Requests.{most_records};
 ghost use Rattle.bank_driver.specs.Counted.{IsCounted, is_posted};
 ghost use Rattle.bank_driver.specs.Records.{drawn};
 
-use load_driver::Driver;
+use load_driver::{Driver, MOST_RECORDS};
 use posting_core::{Clock, Counter, Fault};
 
 /// The length of a record.
@@ -21,7 +20,7 @@ const POSTED: [u8; 2] = *b"00";
 
 // Draws the next records, one to each place.
 fn draw_batch(driver: &mut Driver, batch: &mut [[u8; RECORD]])
-    requires { driver.old.given + length batch.old ≤ most_records }
+    requires { driver.old.given + length batch.old ≤ MOST_RECORDS }
     ensures drawn { batch.new ≡ drawn driver.old.rows driver.old.seed driver.old.given (length batch.old) }
     ensures goes_on { driver.new ≡ record driver.old { given = driver.old.given + length batch.old } }
 {
@@ -53,7 +52,7 @@ pub(crate) fn submit_batch<C: Counter, K: Clock>(
 ) -> Result<u64, Fault>
     requires some { 1 ≤ length batch.old }
     requires few { length batch.old ≤ 64 }
-    requires left { driver.old.given + length batch.old ≤ most_records }
+    requires left { driver.old.given + length batch.old ≤ MOST_RECORDS }
     ensures drawn { batch.new ≡ drawn driver.old.rows driver.old.seed driver.old.given (length batch.old) }
     ensures goes_on { driver.new ≡ record driver.old { given = driver.old.given + length batch.old } }
     ensures answers { (moment : ℕ) × IsReading (K.readings clock.old) (K.readings clock.new) moment

@@ -12,11 +12,11 @@ use crate::fault::DriveFault;
 use crate::listing::list_branches;
 use branch_loader::Plan;
 use load_driver::{Driver, DriverFault};
-use posting_core::{Clock, Counter, Fault};
+use posting_core::{Clock, Counter, Fault, RECORDS_PER_BATCH};
 use std::alloc::Global;
 
-/// How many records a batch has, but the last one.
-const BATCH: usize = 64;
+/// How many records can be asked for.
+pub const MAX_DRIVEN: u64 = 1_000_000_000;
 
 /// How many records got which reply.
 #[derive(Clone, Copy, Debug, PartialEq, Eq)]
@@ -50,7 +50,7 @@ fn drive<C: Counter, K: Clock>(
     count: u64,
 ) -> Result<Driven, DriveFault>
     requires first { driver.old.given ≡ 0 }
-    requires few { count ≤ 1_000_000_000 }
+    requires few { count ≤ MAX_DRIVEN }
     requires up { (C.seen counter.old).is_down → ⊥ }
     ensures submits { Submits C.seen counter.old counter.new (K.readings clock.old) (K.readings clock.new)
         driver.old.rows driver.old.seed count result }
@@ -58,14 +58,14 @@ fn drive<C: Counter, K: Clock>(
     ensures up { IsErrOf result (DriveFault.Bank Fault.Down) → ⊥ }
     ensures honest { (C.seen counter.new).honest → (C.seen counter.old).honest }
 {
-    let mut records = [[0u8; RECORD]; BATCH];
+    let mut records = [[0u8; RECORD]; RECORDS_PER_BATCH];
     let mut driven = Driven {
         posted: 0,
         refused: 0,
     };
     let mut left = count;
     while left > 0 {
-        let size = left.min(BATCH as u64);
+        let size = left.min(RECORDS_PER_BATCH as u64);
         let batch = &mut records[..size as usize];
         let posted = submit_batch(driver, batch, counter, clock)?;
         driven.posted += posted;
@@ -87,7 +87,7 @@ pub fn drive_records<C: Counter, K: Clock>(
     count: u64,
 ) -> Result<Driven, DriveFault>
     requires some { 1 ≤ count }
-    requires few { count ≤ 1_000_000_000 }
+    requires few { count ≤ MAX_DRIVEN }
     ensures drives { Drives C.seen counter.old counter.new (K.readings clock.old) (K.readings clock.new)
         seed count result }
     ensures none { result ≡ Err DriveFault.NoBranches → (C.seen counter.new).honest

@@ -6,7 +6,7 @@ mod driving;
 mod fault;
 mod listing;
 
-pub use driving::{Driven, drive_records};
+pub use driving::{Driven, MAX_DRIVEN, drive_records};
 pub use fault::DriveFault;
 
 #[cfg(test)]

@@ -40,8 +40,8 @@ impl fmt::Display for DriverFault {
 
 impl std::error::Error for DriverFault {}
 
-// How many records a driver gives: no teller needs more numbers than it has.
-const MOST_RECORDS: u64 = MAX_NUMBER;
+/// How many records a driver gives: no teller needs more numbers than it has.
+pub const MOST_RECORDS: u64 = MAX_NUMBER;
 
 // How far from zero an amount may be drawn, in cents (TPC-B 5.3).
 const MOST_AMOUNT: u64 = 999_999;

@@ -5,7 +5,7 @@ mod accounts;
 mod draws;
 mod driving;
 
-pub use driving::{Driver, DriverFault};
+pub use driving::{Driver, DriverFault, MOST_RECORDS};
 
 #[cfg(test)]
 mod tests;
