@@ -25,7 +25,8 @@ fn branch_after<S: Alter>(
     ensures within { IfOk result (λ next. IfSome next (λ row. IsLineAbove after (line_of row))) }
     ensures told { HasCleanDisk (state S.Store tx.new.conn.now) → (tables : Tables)
         → Shows (state S.Store tx.old.conn.now).now tables → IsUndamaged tables
-        → LooksUp (state S.Store tx.old.conn.now) (state S.Store tx.new.conn.now) (branch_above tables after) result }
+        → LooksUp (state S.Store tx.old.conn.now) (state S.Store tx.new.conn.now)
+        (branch_above tables after) result }
     ensures kept { HasCleanDisk (state S.Store tx.new.conn.now)
         → Looks (state S.Store tx.old.conn.now) (state S.Store tx.new.conn.now) result }
     ensures survives { Survives (state S.Store tx.old.conn.now) (state S.Store tx.new.conn.now) (λ _. ⊥) }
@@ -54,7 +55,8 @@ pub(crate) fn read_next_branch<S: Alter>(
         → Shows (state S.Store conn.old).now tables → AreSound tables
         → Completes (state S.Store conn.new) tables (branch_above tables after) result }
     ensures same { HasCleanDisk (state S.Store conn.new) → (tables : Tables)
-        → Shows (state S.Store conn.old).now tables → OnOk result (Shows (state S.Store conn.new).now tables) }
+        → Shows (state S.Store conn.old).now tables
+        → OnOk result (Shows (state S.Store conn.new).now tables) }
     ensures undone { HasCleanDisk (state S.Store conn.new)
         → Undoes (state S.Store conn.old) (state S.Store conn.new) result }
     ensures stop { Survives (state S.Store conn.old) (state S.Store conn.new) (λ left. (tables : Tables)

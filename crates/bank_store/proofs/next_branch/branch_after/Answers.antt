@@ -13,7 +13,8 @@ returns-in_err-row-clause-told g c clean t shows sound =
     let before = state g.S.Store c.args.tx.now.conn.now in
     let after = state g.S.Store c.next_branch.new.tx.conn.now in
     rw same
-    (err_found before after before after (branch_above t c.args.after) IsNoBranch (branch_above t c.args.after)
+    (err_found before after before after (branch_above t c.args.after) IsNoBranch
+    (branch_above t c.args.after)
     c.in_err-row.field-0.0 (λ r broken is breaks. next_unbroken t c.args.after r broken sound is breaks)
     (c.in_err-row.ensures.told clean t shows))
 
@@ -21,7 +22,8 @@ returns-in_err-row-clause-told g c clean t shows sound =
 pub returns-then-number-from-clause-told : goal.returns-then-number-from-clause-told
 returns-then-number-from-clause-told g c clean t shows sound =
     let row = c.in-Some.row in
-    let found : branch_above t c.args.after ≡ Some row = sym (c.in_ok-row.ensures.told clean t shows).0 ∙ c.in-Some.is in
+    let found : branch_above t c.args.after ≡ Some row = sym (c.in_ok-row.ensures.told clean t shows).0
+    ∙ c.in-Some.is in
     let is = next_sound _ t c.args.after row shows sound found in
     let above = is.0 in
     let most = is.1.most in
@@ -34,7 +36,8 @@ returns-then-number-from-clause-told g c clean t shows sound =
 pub returns-then-row-lt1-clause-told : goal.returns-then-row-lt1-clause-told
 returns-then-row-lt1-clause-told g c clean t shows sound =
     let row = c.in-Some.row in
-    let found : branch_above t c.args.after ≡ Some row = sym (c.in_ok-row.ensures.told clean t shows).0 ∙ c.in-Some.is in
+    let found : branch_above t c.args.after ≡ Some row = sym (c.in_ok-row.ensures.told clean t shows).0
+    ∙ c.in-Some.is in
     let is = (next_sound _ t c.args.after row shows sound found).1 in
     let few = is.few in
     let many = is.many in

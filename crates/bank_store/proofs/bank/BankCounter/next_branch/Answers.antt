@@ -36,7 +36,8 @@ returns-in-Err-clause-fault g c =
     let old = state g.S.Store c.args.self.now.conn in
     let mid = state g.S.Store c.read_next_branch.new.conn in
     let new = state g.S.Store c.go_down.new.self.conn in
-    refuses {X = Option BranchRow} AreSound sound_tables old mid new [] (λ t. t) (λ t. branch_above t c.args.after)
+    refuses {X = Option BranchRow} AreSound sound_tables old mid new [] (λ t. t)
+    (λ t. branch_above t c.args.after)
     stays (IsSome c.args.self.now.fault) c.in-Err.fault c.go_down.new.self.fault c.go_down.result
     c.in-Err.ensures.told c.in-Err.ensures.undone c.in-Err.ensures.stop c.go_down.ensures.down
     c.go_down.ensures.survives

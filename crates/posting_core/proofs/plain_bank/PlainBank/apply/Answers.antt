@@ -1,5 +1,6 @@
 -- The rows of branches stay in their ranges.
-use Rattle.std.proofs.Common.{◌≡◌, ℕ, Bool, true, false, cond, eqb, List, length, get_or, sym, subst, ap, ◌∙◌, rules}
+use Rattle.std.proofs.Common.{◌≡◌, ℕ, Bool, true, false, cond, eqb, List, length, get_or, sym, subst, ap, ◌∙◌}
+use Rattle.std.proofs.Common.{rules}
 use Rattle.std.specs.Prelude.{ℤ, All, map}
 use Rattle.std.proofs.lemmas.List.{with_items_is}
 use Rattle.std.proofs.lemmas.List.Elements.{All-map}
@@ -20,7 +21,8 @@ changed_in_range : (number : ℕ) (balance : ℤ) (rows : List BranchRow) → Al
     → All IsInRange (changed branch_key number (with_branch_balance balance) rows)
 changed_in_range number balance rows h =
     All-map IsInRange (at_key branch_key number (with_branch_balance balance)) rows
-    (λ k d lt. still_in_range (eqb number (branch_key (get_or rows k d))) balance (get_or rows k d) (h k d lt))
+    (λ k d lt. still_in_range (eqb number (branch_key (get_or rows k d))) balance (get_or rows k d)
+    (h k d lt))
 
 pub invariant_of-self-in-Posted-1-clause-in_range : goal.invariant_of-self-in-Posted-1-clause-in_range
 invariant_of-self-in-Posted-1-clause-in_range c =
