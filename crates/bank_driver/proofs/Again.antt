@@ -52,7 +52,7 @@ module _ (log p : List Command) (posts : ArePosts p) where
   posted_again before [] q (Post k two ∷ r) is hrest hq hr same = absurd cc
   posted_again before (Post m one ∷ rest) q (Post k two ∷ r) is hrest hq hr same =
       let equal : one ≡ two = cc in
-      let count = λ (f : ReplyFields). cond (has_balance f.outcome) 1 0 in
+      let count : ReplyFields → ℕ = λ f. cond (has_balance f.outcome) 1 0 in
       let now = behind (behind log p) q in
       let later = posted_among (Post k two ∷ now) r in
       let given : reply now two ≡ reply (behind log before) two =

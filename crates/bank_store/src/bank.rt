@@ -201,8 +201,8 @@ impl<S: Alter + Drop> Counter for Bank<S> {
     }
 
     fn next_branch(&mut self, after: u32) -> Result<Option<BranchLine>, Fault>
-        ensures line { IfOk result (λ line. (bank_seen S.Store self.new).honest
-            → (log : List Command) → ShowsLog (bank_seen S.Store self.old) log → IsNextBranch log after line) }
+        ensures line { IfOk result (λ line. (bank_seen S.Store self.new).honest → (log : List Command)
+            → ShowsLog (bank_seen S.Store self.old) log → IsNextBranch log after line) }
         ensures within { IfOk result (λ line. IfSome line (IsLineAbove after)) }
         ensures done { OnOk result (Takes (bank_seen S.Store self.old) (bank_seen S.Store self.new) []) }
         ensures tables { OnOk result ((bank_seen S.Store self.new).honest

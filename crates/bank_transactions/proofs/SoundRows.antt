@@ -89,7 +89,8 @@ sound_unbroken r broken is breaks =
       | inr amount ↦ not_beyond 999_999_999_999 r.balance is.balance amount.1
     ]
 
-pub branch_unbroken : (t : Tables) (n : ℕ) (r : BranchRow) (broken : Rule) → IsUndamaged t → row_at branch_key t.branches n ≡ Some r → IsNoBranch r broken → ⊥
+pub branch_unbroken : (t : Tables) (n : ℕ) (r : BranchRow) (broken : Rule) → IsUndamaged t
+    → row_at branch_key t.branches n ≡ Some r → IsNoBranch r broken → ⊥
 branch_unbroken t n r broken sound e = sound_unbroken r broken (branch_is t n r sound e).1
 
 -- ---- balances

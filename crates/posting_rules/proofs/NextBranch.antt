@@ -33,7 +33,8 @@ next_still rows after (Some found) row is low = record {
 }
 
 -- it is no nearer than what was found
-pub next_stays : (rows : List BranchRow) (after : ℕ) (found row : BranchRow) → IsNextIn rows after (Some found)
+pub next_stays : (rows : List BranchRow) (after : ℕ) (found row : BranchRow)
+    → IsNextIn rows after (Some found)
     → found.branch ≤ row.branch → IsNextIn (rows ++ row ∷ []) after (Some found)
 next_stays rows after found row is le = record {
   stands = Contains-append_left rows (row ∷ []) found is.stands;
@@ -53,7 +54,8 @@ next_first rows after row is above = record {
 }
 
 -- it is nearer than what was found
-pub next_nearer : (rows : List BranchRow) (after : ℕ) (found row : BranchRow) → IsNextIn rows after (Some found)
+pub next_nearer : (rows : List BranchRow) (after : ℕ) (found row : BranchRow)
+    → IsNextIn rows after (Some found)
     → after < row.branch → row.branch < found.branch → IsNextIn (rows ++ row ∷ []) after (Some row)
 next_nearer rows after found row is above lt = record {
   stands = Contains-append_right rows (row ∷ []) row (0, omega arith, refl);
@@ -79,7 +81,8 @@ found_within test (r ∷ rows) row e =
     ]
 
 module _ (t : Tables) (log : List Command) (shows : Shows t log) where
-  counted : (branch : ℕ) → opened log branch ≡ option_map count_of_branch (row_at branch_key t.branches branch)
+  counted : (branch : ℕ)
+      → opened log branch ≡ option_map count_of_branch (row_at branch_key t.branches branch)
   counted branch = sym (count_shown t (λ b. opened log b) (decided log) branch shows.rows)
 
   -- a number that no row has is no open branch
@@ -90,7 +93,8 @@ module _ (t : Tables) (log : List Command) (shows : Shows t log) where
       by_row : (o : Option BranchRow) → row_at branch_key t.branches branch ≡ o → opened log branch ≡ None
       by_row None e = counted branch ∙ ap (option_map count_of_branch) e
       by_row (Some row) e =
-          let number = eqb-true row.branch branch (found_passes (λ r. nat_eq r.branch branch) t.branches row e) in
+          let number = eqb-true row.branch branch
+          (found_passes (λ r. nat_eq r.branch branch) t.branches row e) in
           absurd (none row (found_within (λ r. nat_eq r.branch branch) t.branches row e) number)
 
   -- what a row says of its branch is what the log says of it
@@ -98,7 +102,8 @@ module _ (t : Tables) (log : List Command) (shows : Shows t log) where
       → row.balance ≡ branch_balance (decided log) row.branch
   balance_is row under =
       let sum = branch_balance (decided log) row.branch in
-      let open_ : opened log row.branch ≡ Some row.accounts = counted row.branch ∙ ap (option_map count_of_branch) under in
+      let open_ : opened log row.branch ≡ Some row.accounts = counted row.branch
+      ∙ ap (option_map count_of_branch) under in
       let is : Some row ≡ option_map (branch_row_of row.branch sum) (opened log row.branch) =
       sym under ∙ shows.rows.branches row.branch in
       let both : Some row ≡ Some (branch_row_of row.branch sum row.accounts) = rw open_ at is in
@@ -118,7 +123,8 @@ module _ (t : Tables) (log : List Command) (shows : Shows t log) where
         accounts = counted row.branch ∙ ap (option_map count_of_branch) under;
         balance = balance_is row under;
         none_between = λ branch low high. closed branch (λ r has e.
-            let least = All-contains (λ x. after < x.branch → row.branch ≤ x.branch) t.branches r found.least has in
+            let least =
+            All-contains (λ x. after < x.branch → row.branch ≤ x.branch) t.branches r found.least has in
             let le = least (omega arith) in
             omega arith);
       }

@@ -21,7 +21,8 @@ returns-in_err-posted-clause-submits g c =
     let size = c.min-size.result in
     let records = c.submit_batch.new.batch in
     let driver = c.loop-left.driver in
-    let fits = size_of c.loop-left.left size c.loop-left-test.true c.min-size.ensures in
+    let more = c.loop-left-test.true in
+    let fits = size_of c.loop-left.left size (omega arith) c.min-size.ensures in
     let few = fits.1 in
     let part : length (take size c.loop-left.records) ≡ size =
     length-take-le size c.loop-left.records (omega (arith, c.loop-left.invariant.room, few)) in
@@ -45,7 +46,8 @@ loop-left-preserved g c =
     let size = c.min-size.result in
     let records = c.submit_batch.new.batch in
     let driver = c.loop-left.driver in
-    let fits = size_of c.loop-left.left size c.loop-left-test.true c.min-size.ensures in
+    let more = c.loop-left-test.true in
+    let fits = size_of c.loop-left.left size (omega arith) c.min-size.ensures in
     let few = fits.1 in
     let part : length (take size c.loop-left.records) ≡ size =
     length-take-le size c.loop-left.records (omega (arith, c.loop-left.invariant.room, few)) in

@@ -7,5 +7,6 @@ loop-row-preserved c =
     let i = c.loop-row.row-index in
     let rows = c.args.rows.now in
     let row = c.row-item.result in
-    let more : take (i + 1) rows ≡ take i rows ++ row ∷ [] = take_more rows i row (omega arith) ∙ rw (← c.row-item.is) refl in
+    let more : take (i + 1) rows ≡ take i rows ++ row ∷ [] = take_more rows i row (omega arith)
+    ∙ rw (← c.row-item.is) refl in
     rw more (c.nearer-next.ensures (take i rows) c.loop-row.invariant)
