@@ -1,12 +1,21 @@
 -- What a text means of a table in whatever schema, by what is computed of the text alone.
-use Rattle.std.proofs.Common.{◌≡◌, ◌≤◌, ◌<◌, ℕ, ℤ, List, [], ◌∷◌, length, map, Ok, Err, Some, None, Option, refl, true, false, ap, arith}
+use Rattle.std.proofs.Common.{◌≡◌, ◌≤◌, ◌<◌, ℕ, ℤ, List, [], ◌∷◌, length, map, Ok, Err, Some, None, Option, refl, true, false, ap, arith, zero, suc, ◌+◌, ◌/◌}
 use Rattle.std.proofs.lemmas.List.{length-map}
 use Rattle.sqlite.specs.Listing.{listing_schema, understood}
 use Rattle.sqlite.specs.Query.{inner, end}
+use Rattle.sqlite.specs.Effect.{value_rows}
+use Rattle.sqlite.specs.Order.{Row}
+use Rattle.sqlite.specs.Rows.{stamped}
+use Rattle.sqlite.specs.Source.TheVariants.{Values}
+use Rattle.sqlite_schema.specs.Rules.{passes_checks}
+use Rattle.sqlite_ast.specs.declared.Conflict.TheVariants as conflict
+use Rattle.sqlite_ast.specs.declared.Rows.{Rows}
+use Rattle.sql_meanings.specs.Entries.{Entry, stored}
+use Rattle.sql_meanings.proofs.PutRows.{PutsAs}
 use Rattle.sqlite.specs.Schema.{Schema}
 use Rattle.sqlite.specs.Table.{Table}
-use Rattle.sqlite.specs.Term.{Term}
-use Rattle.sqlite.specs.declared.types.Value.TheVariants.{Int}
+use Rattle.sqlite.specs.Term.{Term, col, lit}
+use Rattle.sqlite.specs.declared.types.Value.TheVariants.{Null, Int}
 use Rattle.sqlite_ast.specs.declared.Binary.TheVariants as binary
 use Rattle.sqlite_ast.specs.declared.Core.{Core, out-Core}
 use Rattle.sqlite_ast.specs.declared.Expr.{Expr, out-Expr}
@@ -18,17 +27,17 @@ use Rattle.sqlite_ast.specs.declared.Sort.{Sort}
 use Rattle.sqlite_ast.specs.declared.Source.{Source as From}
 use Rattle.sqlite_ast.specs.declared.Statement.TheVariants as written
 use Rattle.sqlite_draft.specs.declared.join.Step.TheVariants.{Inner}
-use Rattle.sqlite_resolve.specs.Compile.{compiled, first}
+use Rattle.sqlite_resolve.specs.Compile.{compiled, first, new_rows, small}
 use Rattle.sqlite_resolve.specs.Program as prog
 use Rattle.sqlite_resolve.specs.Scope.{Name}
 use Rattle.sqlite_resolve.specs.Select.{ungrouped}
 use Rattle.sqlite_resolve.specs.Terms.{number}
 use Rattle.sqlite_resolve.specs.declared.error.CompileError.TheVariants.{NoSuchTable}
 use Rattle.sqlite_syntax.specs.declared.statement.Parsed.{Parsed}
-use Rattle.sqlite_typing.specs.Types.{accepts_program}
+use Rattle.sqlite_typing.specs.Types.{accepts_program, accepts_terms}
 use Rattle.sql_meanings.specs.Outcomes.{OnlyShows}
 use Rattle.sql_meanings.specs.Queries.{by_key, key_is, no_limit, query}
-use Rattle.sql_meanings.specs.Tables.{placed_at}
+use Rattle.sql_meanings.specs.Tables.{placed_at, width_of}
 use Rattle.sql_meanings.proofs.ByKey.{Tests, key_at}
 use Rattle.sql_meanings.proofs.Means.{means}
 use Rattle.sql_meanings.proofs.OnlyShowing.{only_understood}
@@ -36,7 +45,7 @@ use Rattle.sql_meanings.proofs.Probing.{ProbesAs, refuses_query, understood_miss
 use Rattle.sql_meanings.proofs.ReadTables.{ReadsAs}
 use Rattle.sql_meanings.proofs.Selects.{one_table, select_all, select_by_key}
 use Rattle.sql_meanings.proofs.ShownColumns.{has_room, is_left, output_named, outputs_at, shown_name, shows_named, spent}
-use Rattle.sql_meanings.proofs.Statements.{HasTable}
+use Rattle.sql_meanings.proofs.Statements.{HasTable, inserts}
 
 -- a SELECT as it is written: it shows the columns at these places of one table
 pub record IsSelect (table : Table) (text : List ℕ) (count : ℕ) (places : List ℕ) : Type 0 where
@@ -149,3 +158,35 @@ module _ (table : Table) (text : List ℕ) (places : List ℕ) where
     unfolded = λ _. refl;
     ungrouped = λ _. refl;
   }
+
+abbrev parameters : ℕ → ℕ → List Term
+parameters first zero = []
+parameters first (suc count) = col 0 first ∷ parameters (suc first) count
+
+-- the key, and behind it so many numbers
+abbrev pub put_terms : ℕ → List Term
+put_terms count = col 0 0 ∷ lit Null ∷ parameters 1 count
+
+-- INSERT INTO table (columns) VALUES (?1, ..)
+pub puts_by : (table : Table) (text : List ℕ) (params : Row) (new : Entry) (count : ℕ) (P : Parsed) (columns : List Name) (rows : Rows)
+    → first text ≡ Ok P → P.statement ≡ written.Insert conflict.Abort table.name columns rows [] [] → P.formats ≡ []
+    → table.stamps.formats ≡ []
+    → ((schema : Schema) (tree : ℕ)
+    → new_rows schema (placed_at table tree) (small P.names + 0) columns rows ≡ Ok (Values (put_terms count) (count + 2)))
+    → length text ≤ P.tail → length params ≡ length P.names
+    → ((tree : ℕ) → value_rows (stamped (placed_at table tree) params) (count + 2) (length (put_terms count) / (count + 2)) (put_terms count)
+    ≡ stored new ∷ [])
+    → length new.values ≡ width_of table
+    → ((tree : ℕ) → accepts_terms (put_terms count) (stamped (placed_at table tree) params) ≡ true)
+    → passes_checks table (stored new) ≡ true → PutsAs table text params new
+puts_by table text params new count P columns rows parsed is plain untimed made whole counted gives wide accepts passes = record {
+  terms = put_terms count;
+  width = count + 2;
+  means = λ schema p tree has. means schema text (length params) _ _
+      (inserts schema table.name p (placed_at table tree) has text P columns rows (Values (put_terms count) (count + 2)) parsed is plain untimed
+      (made schema tree)) refl whole counted refl refl;
+  gives = gives;
+  wide = wide;
+  accepts = accepts;
+  passes = passes;
+}

@@ -14,7 +14,8 @@ use Rattle.sql_meanings.specs.Contents.{HoldsEach}
 use Rattle.sql_meanings.specs.Entries.{Entry, changed, has_key, stored}
 use Rattle.sql_meanings.specs.Outcomes.{Forbids, TellsRow}
 use Rattle.sql_meanings.specs.Queries.{by_key}
-use Rattle.sql_meanings.specs.Tables.{Holds}
+use Rattle.sql_meanings.specs.Plain.{key_column, number_column}
+use Rattle.sql_meanings.specs.Tables.{Holds, width_of}
 use Rattle.sql_meanings.proofs.Contents.{held, one_written}
 use Rattle.sql_meanings.proofs.Failures.{set_fails_as}
 use Rattle.sql_meanings.proofs.PutFailures.{refuses_insert}
@@ -48,6 +49,28 @@ pub record Kind (R : Type 0) : Type 0 where
   pub replaced : (t : Tables) (rs : List R) → slice_set (contents t) place (map entry rs) ≡ contents (having rs t)
   pub again : (t : Tables) (rs : List R) → rows (having rs t) ≡ rs
   pub numbered : IsOfNumbers (uncounted table)
+
+-- a table of a key and numbers, where all that computes
+abbrev pub kind_of : {R : Type 0} (place : ℕ) (table : Table) (key : R → ℕ) (entry : R → Entry) (rows : Tables → List R)
+    (having : List R → Tables → Tables) → ((r : R) → (entry r).key ≡ pos (key r)) → slice_get bank_tables place ≡ Some (uncounted table)
+    → ((t : Tables) → slice_get (contents t) place ≡ Some (map entry (rows t)))
+    → ((t : Tables) (rs : List R) → slice_set (contents t) place (map entry rs) ≡ contents (having rs t))
+    → ((t : Tables) (rs : List R) → rows (having rs t) ≡ rs) → (k : List ℕ) (names : List (List ℕ)) → table.references ≡ []
+    → table.key ≡ Some 0 → table.computed ≡ [] → width_of table ≤ 1999 → table.columns ≡ key_column k ∷ map number_column names → Kind R
+kind_of place table key entry rows having keyed listed has replaced again k names free at_first uncomputed narrow columns = record {
+  place = place;
+  table = table;
+  key = key;
+  entry = entry;
+  rows = rows;
+  having = having;
+  keyed = keyed;
+  listed = listed;
+  has = has;
+  replaced = replaced;
+  again = again;
+  numbered = record { free = free; keyed = at_first; uncomputed = uncomputed; narrow = narrow; key = k; names = names; columns = columns };
+}
 
 module _ {R : Type 0} (kind : Kind R) where
   abbrev table : Table

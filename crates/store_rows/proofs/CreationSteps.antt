@@ -1,5 +1,5 @@
 -- How the creation of a bank goes on from statement to statement, and how it fails.
-use Rattle.std.proofs.Common.{◌≡◌, ◌≢◌, ◌⊎◌, inl, inr, ℕ, suc, ◌<◌, ◌≤◌, List, [], ◌∷◌, map, take, slice_get, Some, Ok, Err, IsTrue, refl, sym, ap, subst, ◌∙◌, arith, true, false}
+use Rattle.std.proofs.Common.{length, ◌≡◌, ◌≢◌, ◌⊎◌, inl, inr, ℕ, suc, ◌<◌, ◌≤◌, List, [], ◌∷◌, map, take, slice_get, Some, Ok, Err, IsTrue, refl, sym, ap, subst, ◌∙◌, arith, true, false}
 use Rattle.std.specs.List.{AllByRecursion}
 use Rattle.sqlite.specs.Schema.{Schema}
 use Rattle.sqlite.specs.Table.{Table}
@@ -26,7 +26,7 @@ use Rattle.store_rows.specs.SixTables as six
 use Rattle.store_rows.specs.Creation.{CreatesBank, CreationFails, IsMade, MakesAll, MakesWide, six_texts, with_first}
 
 -- a text for each place
-pub next_at : (at : ℕ) → at < 6 → (it : List ℕ × Table) × (slice_get six_texts at ≡ Some it)
+pub next_at : (at : ℕ) → at < length six_texts → (it : List ℕ × Table) × (slice_get six_texts at ≡ Some it)
 next_at at low = some_at six_texts at low
 
 -- ---- what was made so far
@@ -229,7 +229,7 @@ none_held old g (it ∷ its) sound all =
     ((holds_none g it.1 all.0.tree sound all.0.stands all.0.empty).0, none_held old g its sound all.1)
 
 -- the six are made
-pub all_made : (old new : State) → Reached old new 6 → IsMade old.now new.now
+pub all_made : (old new : State) → Reached old new (length six_texts) → IsMade old.now new.now
 all_made old new reached = record {
   shows = record { sound = ∣ reached.sound ∣₁; each = none_held old.now new.now six_texts reached.sound reached.new };
   keeps = λ t h. (reached.keeps.has t h, reached.keeps.rows t h);
@@ -245,7 +245,7 @@ module _ {S : Type 0} (g : Ghosts S) (old mid : Held S) where
   begun_live made (inr reached) live = reached.shows.mode
 
   -- after the last the six are made
-  pub ends_made : Begun g old mid 6 → MakesAll (state g old) (state g mid) (Ok tt)
+  pub ends_made : Begun g old mid (length six_texts) → MakesAll (state g old) (state g mid) (Ok tt)
   ends_made (inl none) = absurd (let six = none.0 in omega arith)
   ends_made (inr reached) =
       (all_made (state g old) (state g mid) reached, (reached.shows, reached.marks), reached.counts)

@@ -89,7 +89,7 @@ each_taken : (made : ℕ) (next : List ℕ × Table) → slice_get six_texts mad
 each_taken made next is e refused = not_refused (with_first made nothing) next (taken_at nothing six_texts all_taken made next is) e refused
 
 -- a new bank's meta has no UNIQUE
-no_unique : has_unique (with_first 6 nothing) six.meta ≡ false
+no_unique : has_unique (with_first (length six_texts) nothing) six.meta ≡ false
 unfolding understood everything
 no_unique = refl
 
@@ -105,5 +105,5 @@ refused_on_nothing old db e empty (inl (one, keeps)) =
     (subst (λ s. NotMade s one.next.0 one.next.1 e) (from_nothing old.now db.schema one.made empty one.alone) one.refused))
 refused_on_nothing old db e empty (inr (inl limit, made)) = limit
 refused_on_nothing old db e empty (inr (inr (unique, none), made)) =
-    absurd (let bad = subst (λ s. IsTrue (has_unique s six.meta)) (from_nothing old.now db.schema 6 empty made.alone) none.0 in
+    absurd (let bad = subst (λ s. IsTrue (has_unique s six.meta)) (from_nothing old.now db.schema (length six_texts) empty made.alone) none.0 in
     let good = no_unique in cc)

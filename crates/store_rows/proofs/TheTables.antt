@@ -10,148 +10,40 @@ use Rattle.posting_rules.specs.declared.rows.HistoryRow.{HistoryRow}
 use Rattle.posting_rules.specs.declared.rows.RequestRow.{RequestRow}
 use Rattle.store_rows.specs.SixTables as six
 use Rattle.store_rows.specs.View.{meta_entry, branch_entry, teller_entry, account_entry, history_entry, request_entry}
-use Rattle.store_rows.proofs.BankTables.{Kind}
+use Rattle.store_rows.proofs.BankTables.{Kind, kind_of}
 
+-- the bank as a whole
 abbrev pub meta : Kind MetaRow
-meta = record {
-  place = 0;
-  table = six.meta;
-  key = meta_key;
-  entry = meta_entry;
-  rows = λ t. t.meta;
-  having = λ rows t. record t { meta = rows };
-  keyed = λ _. refl;
-  listed = refl;
-  has = λ _. refl;
-  replaced = λ _ _. refl;
-  again = λ _ _. refl;
-  numbered = record {
-    free = refl;
-    keyed = refl;
-    uncomputed = refl;
-    narrow = lit≤ tt;
-    key = codes "id";
-    names = codes "version" ∷ codes "decided" ∷ [];
-    columns = refl;
-  };
-}
+meta = kind_of 0 six.meta meta_key meta_entry (λ t. t.meta) (λ rows t. record t { meta = rows }) (λ _. refl) refl (λ _. refl)
+    (λ _ _. refl) (λ _ _. refl) (codes "id") (codes "version" ∷ codes "decided" ∷ [])
+    refl refl refl (lit≤ tt) refl
 
+-- the branches
 abbrev pub branches : Kind BranchRow
-branches = record {
-  place = 1;
-  table = six.branch;
-  key = branch_key;
-  entry = branch_entry;
-  rows = λ t. t.branches;
-  having = λ rows t. record t { branches = rows };
-  keyed = λ _. refl;
-  listed = refl;
-  has = λ _. refl;
-  replaced = λ _ _. refl;
-  again = λ _ _. refl;
-  numbered = record {
-    free = refl;
-    keyed = refl;
-    uncomputed = refl;
-    narrow = lit≤ tt;
-    key = codes "bid";
-    names = codes "accounts" ∷ codes "balance" ∷ [];
-    columns = refl;
-  };
-}
+branches = kind_of 1 six.branch branch_key branch_entry (λ t. t.branches) (λ rows t. record t { branches = rows }) (λ _. refl) refl (λ _. refl)
+    (λ _ _. refl) (λ _ _. refl) (codes "bid") (codes "accounts" ∷ codes "balance" ∷ [])
+    refl refl refl (lit≤ tt) refl
 
+-- the tellers
 abbrev pub tellers : Kind TellerRow
-tellers = record {
-  place = 2;
-  table = six.teller;
-  key = teller_key;
-  entry = teller_entry;
-  rows = λ t. t.tellers;
-  having = λ rows t. record t { tellers = rows };
-  keyed = λ _. refl;
-  listed = refl;
-  has = λ _. refl;
-  replaced = λ _ _. refl;
-  again = λ _ _. refl;
-  numbered = record {
-    free = refl;
-    keyed = refl;
-    uncomputed = refl;
-    narrow = lit≤ tt;
-    key = codes "tid";
-    names = codes "balance" ∷ [];
-    columns = refl;
-  };
-}
+tellers = kind_of 2 six.teller teller_key teller_entry (λ t. t.tellers) (λ rows t. record t { tellers = rows }) (λ _. refl) refl (λ _. refl)
+    (λ _ _. refl) (λ _ _. refl) (codes "tid") (codes "balance" ∷ [])
+    refl refl refl (lit≤ tt) refl
 
+-- the accounts
 abbrev pub accounts : Kind AccountRow
-accounts = record {
-  place = 3;
-  table = six.account;
-  key = account_key;
-  entry = account_entry;
-  rows = λ t. t.accounts;
-  having = λ rows t. record t { accounts = rows };
-  keyed = λ _. refl;
-  listed = refl;
-  has = λ _. refl;
-  replaced = λ _ _. refl;
-  again = λ _ _. refl;
-  numbered = record {
-    free = refl;
-    keyed = refl;
-    uncomputed = refl;
-    narrow = lit≤ tt;
-    key = codes "aid";
-    names = codes "balance" ∷ [];
-    columns = refl;
-  };
-}
+accounts = kind_of 3 six.account account_key account_entry (λ t. t.accounts) (λ rows t. record t { accounts = rows }) (λ _. refl) refl (λ _. refl)
+    (λ _ _. refl) (λ _ _. refl) (codes "aid") (codes "balance" ∷ [])
+    refl refl refl (lit≤ tt) refl
 
+-- the postings
 abbrev pub history : Kind HistoryRow
-history = record {
-  place = 4;
-  table = six.history;
-  key = history_key;
-  entry = history_entry;
-  rows = λ t. t.history;
-  having = λ rows t. record t { history = rows };
-  keyed = λ _. refl;
-  listed = refl;
-  has = λ _. refl;
-  replaced = λ _ _. refl;
-  again = λ _ _. refl;
-  numbered = record {
-    free = refl;
-    keyed = refl;
-    uncomputed = refl;
-    narrow = lit≤ tt;
-    key = codes "ordinal";
-    names = codes "aid" ∷ codes "tid" ∷ codes "bid" ∷ codes "delta" ∷ codes "moment" ∷ [];
-    columns = refl;
-  };
-}
+history = kind_of 4 six.history history_key history_entry (λ t. t.history) (λ rows t. record t { history = rows }) (λ _. refl) refl (λ _. refl)
+    (λ _ _. refl) (λ _ _. refl) (codes "ordinal") (codes "aid" ∷ codes "tid" ∷ codes "bid" ∷ codes "delta" ∷ codes "moment" ∷ [])
+    refl refl refl (lit≤ tt) refl
 
+-- the decided requests
 abbrev pub requests : Kind RequestRow
-requests = record {
-  place = 5;
-  table = six.request;
-  key = request_key;
-  entry = request_entry;
-  rows = λ t. t.requests;
-  having = λ rows t. record t { requests = rows };
-  keyed = λ _. refl;
-  listed = refl;
-  has = λ _. refl;
-  replaced = λ _ _. refl;
-  again = λ _ _. refl;
-  numbered = record {
-    free = refl;
-    keyed = refl;
-    uncomputed = refl;
-    narrow = lit≤ tt;
-    key = codes "ordinal";
-    names = codes "tid" ∷ codes "number" ∷ codes "aid" ∷ codes "bid" ∷ codes "delta" ∷ codes "outcome" ∷ codes "balance" ∷ [];
-    columns = refl;
-  };
-}
+requests = kind_of 5 six.request request_key request_entry (λ t. t.requests) (λ rows t. record t { requests = rows }) (λ _. refl) refl (λ _. refl)
+    (λ _ _. refl) (λ _ _. refl) (codes "ordinal") (codes "tid" ∷ codes "number" ∷ codes "aid" ∷ codes "bid" ∷ codes "delta" ∷ codes "outcome" ∷ codes "balance" ∷ [])
+    refl refl refl (lit≤ tt) refl

@@ -1,5 +1,5 @@
 -- The six tables come to be, beside whatever the file has.
-use Rattle.std.specs.Prelude.{◌≡◌, ◌≢◌, ◌⊎◌, List, [], ◌∷◌, codes, fold, take, slice_get, false, Some, Result, Ok, Err, ℕ}
+use Rattle.std.specs.Prelude.{◌≡◌, ◌≢◌, ◌⊎◌, List, [], ◌∷◌, codes, fold, length, take, slice_get, false, Some, Result, Ok, Err, ℕ}
 use Rattle.sqlite.specs.Schema.{Schema}
 use Rattle.sqlite.specs.Table.{Table}
 use Rattle.sqlite.specs.Tree.{Trees}
@@ -43,7 +43,7 @@ with_first n schema = fold (λ s it. created s it.1) schema (take n six_texts)
 pub record IsMade (old new : Database) : Type 0 where
   pub shows : Shows new no_rows
   pub keeps : KeepsTables old new
-  pub alone : counts_rows old.schema ≡ false → new.schema ≡ with_first 6 old.schema
+  pub alone : counts_rows old.schema ≡ false → new.schema ≡ with_first (length six_texts) old.schema
   pub apart : (t : Table) → Has old.schema.tables t → t.tree ≢ tree_of new.schema (codes "meta")
 
 -- The first so many of the six are made, and the next is refused under the schema that stands now. Where no table counts its rows, that

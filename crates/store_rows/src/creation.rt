@@ -1,5 +1,5 @@
 //! The six tables come to be, in one transaction, beside whatever the file has.
-ghost use Rattle.std.specs.Prelude.{◌≡◌, ◌<◌, IsTrue, IfErr, IfSome, OnOk, OnErr, false, slice_get};
+ghost use Rattle.std.specs.Prelude.{◌≡◌, ◌<◌, IsTrue, IfErr, IfSome, OnOk, OnErr, false, slice_get, length};
 ghost use Rattle.sqlite.specs.Table.{Table};
 ghost use Rattle.sqlite.specs.State.{HasCleanDisk, Survives};
 ghost use Rattle.sqlite.specs.Held.{state};
@@ -26,7 +26,7 @@ fn make_table<S: Alter>(tx: &mut Transaction<'_, S>, text: &str) -> Result<usize
 
 // The text that makes the table at a place.
 fn make_text(at: usize) -> &'static str
-    requires { at < 6 }
+    requires { at < length six_texts }
     ensures { IfSome (slice_get six_texts at) (λ it. result.now ≡ it.0) }
 {
     MAKE_TABLES[at]

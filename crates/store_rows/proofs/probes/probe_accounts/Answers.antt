@@ -1,9 +1,12 @@
 -- What acceptance and refusal say.
-use Rattle.std.proofs.Common.{refl}
+use Rattle.std.proofs.Common.{refl, rules}
 use Rattle.sql_meanings.proofs.Probing.{tells_probe}
 use Rattle.store_rows.proofs.Probing.{probes_account}
 use Rattle.store_rows.proofs.probes.probe_accounts.Goals as goal
 
-pub returns-clause-told : goal.returns-clause-told
-returns-clause-told g c clean =
-    tells_probe _ _ probes_account refl _ _ c.is_understood.result (c.is_understood.ensures.told clean (probes_account.shows c.args.conn.now.schema))
+pub returns : goal.returns
+returns g c = record {
+  told = λ clean. tells_probe _ _ probes_account refl _ _ c.is_understood.result (c.is_understood.ensures.told clean (probes_account.shows _));
+  mode = search rules;
+  survives = search rules;
+}
