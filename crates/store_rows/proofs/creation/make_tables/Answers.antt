@@ -1,5 +1,5 @@
 -- One creation after another, and how each may fail.
-use Rattle.std.proofs.Common.{◌≡◌, ℕ, List, Err, inl, inr, refl, rules, subst, ◌∙◌, arith, false, IsTrue}
+use Rattle.std.proofs.Common.{length, ◌≡◌, ℕ, List, Err, inl, inr, refl, rules, subst, ◌∙◌, arith, false, IsTrue}
 use Rattle.sqlite.specs.State.{HasCleanDisk}
 use Rattle.sqlite.specs.Held.{state}
 use Rattle.sqlite.specs.Table.{Table}
@@ -62,7 +62,7 @@ returns-in_err-make_table g c =
 
 pub returns : goal.returns
 returns g c =
-    let all : c.loop-at.at ≡ 6 = omega arith in
+    let all : c.loop-at.at ≡ length six_texts = omega arith in
     let so_far = c.loop-at.invariant in
     record {
       same_reference = so_far.same_reference;
