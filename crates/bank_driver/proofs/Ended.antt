@@ -26,6 +26,7 @@ use Rattle.bank_driver.specs.Records.{NoneOpen, first_drawn, open_branches, open
 use Rattle.bank_driver.proofs.Again.{posted_again, skips_again}
 use Rattle.bank_driver.proofs.Drawn.{drawn_none}
 use Rattle.bank_driver.proofs.Listed.{none_more}
+use Rattle.posting_rules.specs.declared.limits.TheConstants.{LAST_BRANCH}
 
 -- ---- where no branch is open
 
@@ -60,14 +61,14 @@ none_open log are none branch = by_opened (opened log branch) refl (open_within 
     by_opened : (o : Option ℕ) → opened log branch ≡ o → IfSome o (λ n. IsCommand (Open branch n))
         → opened log branch ≡ None
     by_opened None e is = e
-    by_opened (Some n) e is = none_up_to log 9999 branch none is.0 is.1
+    by_opened (Some n) e is = none_up_to log LAST_BRANCH branch none is.0 is.1
 
 -- and where none is open, none is listed
 pub none_listed : (log : List Command) → NoneOpen log → open_branches log ≡ []
 unfolding open_up_to
 none_listed log none =
-    let all : 0 + 9999 ≡ 9999 = omega arith in
-    ap (open_up_to log) (sym all) ∙ none_more log 0 9999 (λ branch above le. none branch)
+    let all : 0 + LAST_BRANCH ≡ LAST_BRANCH = omega arith in
+    ap (open_up_to log) (sym all) ∙ none_more log 0 LAST_BRANCH (λ branch above le. none branch)
 
 -- ---- faults before the first record
 

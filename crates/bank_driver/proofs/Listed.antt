@@ -14,6 +14,7 @@ use Rattle.branch_loader.specs.declared.fault.PlanFault.{PlanFault}
 use Rattle.branch_loader.proofs.Openings.{Takes-append}
 use Rattle.branch_loader.proofs.Stated.{rows_by-ok, rows_by-done}
 use Rattle.bank_driver.specs.Records.{open_branches, open_up_to, row_if_open}
+use Rattle.posting_rules.specs.declared.limits.TheConstants.{LAST_BRANCH, MOST_ACCOUNTS}
 
 -- ---- rows that are a plan
 
@@ -22,7 +23,7 @@ within most n low high = let test : (leb 1 n && leb n most) ≡ true = grind (ar
 
 -- a row in its ranges, of a branch that no row before names
 row_is : (before : Rows) (p : Row) → IsRow p → names p.0 before ≡ false → row_of_pair before p ≡ Ok p
-row_is before p row new = rw (within 9999 p.0 row.0 row.1, within 100_000 p.1 row.2 row.3, new) refl
+row_is before p row new = rw (within LAST_BRANCH p.0 row.0 row.1, within MOST_ACCOUNTS p.1 row.2 row.3, new) refl
 
 -- rows behind those that were read
 rows_by-append : (before list after rows : Rows) → rows_by row_of_pair before list ≡ Ok rows
@@ -105,7 +106,7 @@ next_more log after line is =
 pub record Listing {C : Type 0} (seen : C → Seen) (old now : C) (rows : Rows) (after : ℕ) : Type 0 where
   pub plan : plan_of_list rows ≡ Ok rows
   pub up_to : AreUpTo after rows
-  pub few : after ≤ 9999
+  pub few : after ≤ LAST_BRANCH
   pub listed : (seen now).honest → (log : List Command) → ShowsLog (seen old) log
       → rows ≡ open_up_to log after
   pub takes : Takes (seen old) (seen now) []
@@ -156,7 +157,7 @@ pub listing_all : {C : Type 0} (seen : C → Seen) (old now : C) (rows : Rows) (
     → rows ≡ open_branches log
 listing_all seen old now rows after log l none h s =
     let few = l.few in
-    let n = 9999 - after in
-    let all : after + n ≡ 9999 = omega arith in
+    let n = LAST_BRANCH - after in
+    let all : after + n ≡ LAST_BRANCH = omega arith in
     l.listed h log s ∙ sym (none_more log after n (λ branch above le. none branch above))
     ∙ ap (open_up_to log) all

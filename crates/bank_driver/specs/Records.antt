@@ -8,6 +8,7 @@ use Rattle.posting_rules.specs.Entries.{reply}
 use Rattle.posting_core.specs.Batches.{Batch}
 use Rattle.branch_loader.specs.Plans.{Rows}
 use Rattle.load_driver.specs.Requests.{request_at}
+use Rattle.posting_rules.specs.declared.limits.TheConstants.{LAST_BRANCH}
 
 -- ---- the branches
 
@@ -27,7 +28,7 @@ open_up_to log (suc n) = open_up_to log n ++ row_if_open (suc n) (opened log (su
 
 -- the open branches of a log, ascending, each with its count of accounts
 abbrev pub open_branches : List Command → Rows
-open_branches log = open_up_to log 9999
+open_branches log = open_up_to log LAST_BRANCH
 
 -- ---- the records
 

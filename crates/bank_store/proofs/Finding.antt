@@ -24,6 +24,7 @@ use Rattle.bank_store.specs.declared.probing.Presence.TheVariants.{Absent, Whole
 use Rattle.bank_store.specs.declared.refused.OpenFault.{OpenFault}
 use Rattle.bank_store.specs.declared.refused.OpenFault.TheVariants.{Store, NotBlank, Blank, Foreign, Version, Damaged}
 use Rattle.bank_store.proofs.Probed.{as_before}
+use Rattle.posting_rules.specs.declared.limits.TheConstants.{MAX_DECIDED}
 
 -- the row wasn't read
 module _ (old mid new : State) (tables : IsPresent old.now six_tables Whole) (first : IsAsBefore old mid) where
@@ -102,7 +103,7 @@ not_outside z n most is le (inr above) = let h = rw is at above in omega (arith,
 not_missing : (stored : Option StoredMeta) → IsOurs stored → IsNoCount stored → ⊥
 not_missing stored ours (inl none) = let both = sym none ∙ ours.1 in cc
 not_missing stored ours (inr outside) =
-    not_outside outside.1 ours.0 1_000_000_000_000 (sym (ap decided_in outside.2) ∙ ap decided_in ours.1) ours.2 outside.3
+    not_outside outside.1 ours.0 MAX_DECIDED (sym (ap decided_in outside.2) ∙ ap decided_in ours.1) ours.2 outside.3
 
 -- a bank that shows a log is missed only where the store failed
 pub known : (old : State) (fault : OpenFault) (t : Tables) (log : List Command) → Misses old fault → Shows old.now t → AreCommands log → Show t log → fault ≡ Store

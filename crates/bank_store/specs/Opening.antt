@@ -34,6 +34,7 @@ use Rattle.bank_store.specs.declared.probing.Presence.TheVariants.{Absent, Parti
 use Rattle.bank_store.specs.declared.refused.OpenFault.{OpenFault}
 use Rattle.bank_store.specs.declared.refused.OpenFault.TheVariants.{Store, NotBlank, Blank, Foreign, Version, Damaged}
 use Rattle.bank_store.specs.declared.refused.Refused.{Refused}
+use Rattle.posting_rules.specs.declared.limits.TheConstants.{MAX_DECIDED}
 
 -- a connection that no bank holds is never down
 abbrev pub conn_seen : {S : Type 0} (g : Ghosts S) → Held S → Seen
@@ -99,7 +100,7 @@ TellsPresence old new tables (Err e) = IsUndone old new
 
 -- it has our version, and a count within its range
 abbrev pub IsOurs : Option StoredMeta → Type 0
-IsOurs stored = (decided : ℕ) × (stored ≡ Some (record { version = pos 1; decided = pos decided })) × (decided ≤ 1_000_000_000_000)
+IsOurs stored = (decided : ℕ) × (stored ≡ Some (record { version = pos 1; decided = pos decided })) × (decided ≤ MAX_DECIDED)
 
 -- it has this version, which isn't ours
 abbrev pub IsOfVersion : ℤ → Option StoredMeta → Type 0
@@ -109,7 +110,7 @@ IsOfVersion version stored = (decided : ℤ) × (stored ≡ Some (record { versi
 abbrev pub IsNoCount : Option StoredMeta → Type 0
 IsNoCount stored =
     (stored ≡ None)
-    ⊎ ((version decided : ℤ) × (stored ≡ Some (record { version = version; decided = decided })) × ((decided <ℤ pos 0) ⊎ (pos 1_000_000_000_000 <ℤ decided)))
+    ⊎ ((version decided : ℤ) × (stored ≡ Some (record { version = version; decided = decided })) × ((decided <ℤ pos 0) ⊎ (pos MAX_DECIDED <ℤ decided)))
 
 -- what is said against the row
 abbrev pub ChecksMeta : Option StoredMeta → Result (Unit {0}) OpenFault → Type 0

@@ -16,7 +16,9 @@ use bank_transactions::{open_branch, post, post_all, read_balance, read_next_bra
 use message_records::{
     Account, Branch, Cents, Moment, Outcome, Reply, decode_request, encode_reply,
 };
-use posting_rules::{BranchLine, Counter, Fault, Opening};
+use posting_rules::{
+    BranchLine, Counter, Fault, LAST_BRANCH, MOST_ACCOUNTS, Opening, RECORDS_PER_BATCH,
+};
 use sqlite::{Alter, Connection, Error};
 use std::alloc::Global;
 use store_rows::{TableFault, probe_meta};
@@ -130,7 +132,7 @@ impl<S: Alter + Drop> Counter for Bank<S> {
     // Room is made for the replies before the store is asked for anything.
     fn submit_all(&mut self, moment: Moment, records: &[[u8; 100]]) -> Result<Vec<[u8; 200]>, Fault>
         requires some { 1 ≤ length records.now }
-        requires few { length records.now ≤ 64 }
+        requires few { length records.now ≤ RECORDS_PER_BATCH }
         ensures count { IfOk result (λ replies. length replies.items ≡ length records.now) }
         ensures replies { IfOk result (λ replies. (bank_seen S.Store self.new).honest → (log : List Command) → ShowsLog (bank_seen S.Store self.old) log →
             replies.items ≡ replies_to log (posts moment records.now)) }
@@ -155,9 +157,9 @@ impl<S: Alter + Drop> Counter for Bank<S> {
     }
 
     fn open_branch(&mut self, branch: Branch, count: u32) -> Result<Opening, Fault>
-        requires branch { branch ≤ 9999 }
+        requires branch { branch ≤ LAST_BRANCH }
         requires some { 1 ≤ count }
-        requires few { count ≤ 100_000 }
+        requires few { count ≤ MOST_ACCOUNTS }
         ensures answer { IfOk result (λ opening. (bank_seen S.Store self.new).honest → (log : List Command) → ShowsLog (bank_seen S.Store self.old) log →
             opening ≡ opening_behind log branch count) }
         ensures done { OnOk result (Takes (bank_seen S.Store self.old) (bank_seen S.Store self.new) (Open branch count ∷ [])) }

@@ -8,6 +8,7 @@ use Rattle.posting_rules.specs.Tables.{Tables, row_at, branch_key, branch_row_of
 use Rattle.posting_rules.proofs.Stepping.{no_more_tellers, no_more_accounts, one_more_teller, one_more_account, opening_teller_is_free, opening_account_is_free}
 use Rattle.bank_transactions.specs.NewRows.{is_taken, with_new_rows}
 use Rattle.bank_transactions.specs.declared.opening.NewRows.TheVariants.{Tellers, Accounts}
+use Rattle.posting_rules.specs.declared.limits.TheConstants.{MOST_ACCOUNTS}
 
 tellers_are : (first count : ℕ) (t : Tables) → with_new_rows Tellers first count t ≡ with_tellers first count t
 tellers_are first zero t = no_more_tellers first t
@@ -39,7 +40,7 @@ module _ (t : Tables) (b count teller account : ℕ) (from : teller ≡ first_te
         (ap (is_taken Tellers (first_teller b + n)) (tellers_are (first_teller b) n branched)
         ∙ ap is_some (opening_teller_is_free t b count n sound above none lt))
 
-    pub next_account : (n : ℕ) → count ≤ 100_000 → n < count
+    pub next_account : (n : ℕ) → count ≤ MOST_ACCOUNTS → n < count
         → is_taken Accounts (account + n) (with_new_rows Accounts account n (with_new_rows Tellers teller 10 branched)) ≡ false
     next_account n few lt =
         subst (λ (first : ℕ). is_taken Accounts (first + n) (with_new_rows Accounts first n (with_new_rows Tellers teller 10 branched)) ≡ false) (sym start)

@@ -20,6 +20,8 @@ use Rattle.store_rows.specs.declared.faults.TableFault.{TableFault}
 use Rattle.store_rows.specs.declared.faults.TableFault.TheVariants.{Sqlite, Damaged}
 use Rattle.sqlite.specs.State.{State}
 use Rattle.bank_transactions.specs.Doing.{LooksUp}
+use Rattle.message_records.specs.declared.limits.TheConstants.{MAX_ACCOUNT, MAX_BALANCE, MAX_BRANCH, MAX_DELTA, MAX_NUMBER, MAX_TELLER}
+use Rattle.posting_rules.specs.declared.limits.TheConstants.{MAX_DECIDED}
 
 -- there is a value or there is none
 pub by_option : {X : Type 0} (o : Option X) → (o ≡ None) ⊎ ((x : X) × (o ≡ Some x))
@@ -64,7 +66,7 @@ branch_is t n r sound e =
     (key_of_found branch_key t.branches n r e, sound.each_branch r (found_within (λ x. nat_eq x.branch n) t.branches r e))
 
 -- no branch has a number outside those of branches
-pub no_branch_beyond : (t : Tables) (n : ℕ) → IsUndamaged t → whole_within 1 999_999 n ≡ None → None ≡ row_at branch_key t.branches n
+pub no_branch_beyond : (t : Tables) (n : ℕ) → IsUndamaged t → whole_within 1 MAX_BRANCH n ≡ None → None ≡ row_at branch_key t.branches n
 no_branch_beyond t n sound e =
     elim (by_option (row_at branch_key t.branches n)) [
       | inl none ↦ sym none
@@ -72,7 +74,7 @@ no_branch_beyond t n sound e =
           let same = is.0 in
           let low = is.1.some in
           let high = is.1.most in
-          not_outside 1 999_999 n (rw (← same) low) (let le : some.0.branch ≤ 999_999 = omega arith in rw (← same) le) e)
+          not_outside 1 MAX_BRANCH n (rw (← same) low) (let le : some.0.branch ≤ MAX_BRANCH = omega arith in rw (← same) le) e)
     ]
 
 -- a row in its ranges breaks no rule
@@ -83,10 +85,10 @@ sound_unbroken r broken is breaks =
     let many = is.many in
     elim breaks [
       | inl value ↦ elim value.1 [
-        | inl number ↦ not_outside 1 999_999 r.branch low (omega arith) number
+        | inl number ↦ not_outside 1 MAX_BRANCH r.branch low (omega arith) number
         | inr count ↦ not_outside 0 4_294_967_295 r.accounts (omega arith) (omega arith) count
       ]
-      | inr amount ↦ not_beyond 999_999_999_999 r.balance is.balance amount.1
+      | inr amount ↦ not_beyond MAX_BALANCE r.balance is.balance amount.1
     ]
 
 pub branch_unbroken : (t : Tables) (n : ℕ) (r : BranchRow) (broken : Rule) → IsUndamaged t
@@ -104,7 +106,7 @@ teller_unbroken t n z broken sound e breaks =
       | inl none ↦ let h = rw none at e in cc
       | inr some ↦
           let is : some.0.balance ≡ z = (let h = rw some.1 at e in cc) in
-          not_beyond 999_999_999_999 z (subst (λ b. nat_abs b ≤ 999_999_999_999) is (teller_sound t n some.0 sound some.1).balance) breaks.1
+          not_beyond MAX_BALANCE z (subst (λ b. nat_abs b ≤ MAX_BALANCE) is (teller_sound t n some.0 sound some.1).balance) breaks.1
     ]
 
 account_sound : (t : Tables) (n : ℕ) (r : AccountRow) → IsUndamaged t → row_at account_key t.accounts n ≡ Some r → IsSoundAccount r
@@ -116,7 +118,7 @@ account_unbroken t n z broken sound e breaks =
       | inl none ↦ let h = rw none at e in cc
       | inr some ↦
           let is : some.0.balance ≡ z = (let h = rw some.1 at e in cc) in
-          not_beyond 999_999_999_999 z (subst (λ b. nat_abs b ≤ 999_999_999_999) is (account_sound t n some.0 sound some.1).balance) breaks.1
+          not_beyond MAX_BALANCE z (subst (λ b. nat_abs b ≤ MAX_BALANCE) is (account_sound t n some.0 sound some.1).balance) breaks.1
     ]
 
 -- ---- kept requests
@@ -126,10 +128,10 @@ request_is t teller number r sound e = sound.each_request r (found_within _ t.re
 
 can_be_kept : (r : RequestRow) → IsSoundRequest r → CanBeKept r.kept
 can_be_kept r is = record {
-  account = within_range 1 999_999_999_999 r.kept.account is.account_above is.account;
-  branch = within_range 1 999_999 r.kept.branch is.branch_above is.branch;
-  delta = cents_inside 999_999_999_999 r.kept.delta (let le = is.delta in omega arith);
-  balance = cents_inside 999_999_999_999 r.kept.balance is.balance;
+  account = within_range 1 MAX_ACCOUNT r.kept.account is.account_above is.account;
+  branch = within_range 1 MAX_BRANCH r.kept.branch is.branch_above is.branch;
+  delta = cents_inside MAX_BALANCE r.kept.delta (let le = is.delta in omega arith);
+  balance = cents_inside MAX_BALANCE r.kept.balance is.balance;
   outcome = is.kept;
 }
 
@@ -137,19 +139,19 @@ pub request_unbroken : (t : Tables) (teller number : ℕ) (r : RequestRow) (brok
 request_unbroken t teller number r broken sound e breaks =
     let is = request_is t teller number r sound e in
     elim breaks [
-      | inl value ↦ not_outside 1 1_000_000_000_000 r.ordinal is.ordinal_above is.ordinal value.1
+      | inl value ↦ not_outside 1 MAX_DECIDED r.ordinal is.ordinal_above is.ordinal value.1
       | inr request ↦ elim request.1 [
-        | inl who ↦ not_outside 1 99_999_999 r.teller is.teller_above is.teller who
+        | inl who ↦ not_outside 1 MAX_TELLER r.teller is.teller_above is.teller who
         | inr rest ↦ elim rest [
-          | inl which ↦ not_outside 1 9_999_999_999 r.number is.number_above is.number which
+          | inl which ↦ not_outside 1 MAX_NUMBER r.number is.number_above is.number which
           | inr kept ↦ kept (can_be_kept r is)
         ]
       ]
     ]
 
 -- the fields of a kept request are those of a request
-pub is_a_request : (a t b n : ℕ) (z : ℤ) → nat_abs z ≤ 9_999_999_999 → is_some (request_from a t b n z) ≡ false → ⊥
-is_a_request a t b n z le e = let test : leb (nat_abs z) 9_999_999_999 ≡ true = grind (arith, nat_tests) in let h = rw test at e in cc
+pub is_a_request : (a t b n : ℕ) (z : ℤ) → nat_abs z ≤ MAX_DELTA → is_some (request_from a t b n z) ≡ false → ⊥
+is_a_request a t b n z le e = let test : leb (nat_abs z) MAX_DELTA ≡ true = grind (arith, nat_tests) in let h = rw test at e in cc
 
 -- so what is found is never told to be damaged
 pub err_found : {X Y : Type 0} (old new before after : State) (wanted : Option X) (Breaks : X → Rule → Type 0) (looked : Y) (e : TableFault)

@@ -4,11 +4,12 @@ use Rattle.posting_rules.specs.Changes.{with_teller, with_account, new_teller, n
 use Rattle.posting_rules.specs.Tables.{Tables, row_at, teller_key, account_key}
 use Rattle.bank_transactions.specs.declared.opening.NewRows.{NewRows}
 use Rattle.bank_transactions.specs.declared.opening.NewRows.TheVariants.{Tellers, Accounts}
+use Rattle.message_records.specs.declared.limits.TheConstants.{MAX_ACCOUNT, MAX_TELLER}
 
 -- the last number that such a row may have
 abbrev pub last_of : NewRows → ℕ
-last_of Tellers = 99_999_999
-last_of Accounts = 999_999_999_999
+last_of Tellers = MAX_TELLER
+last_of Accounts = MAX_ACCOUNT
 
 -- a row under this number is there
 abbrev pub is_taken : NewRows → ℕ → Tables → Bool

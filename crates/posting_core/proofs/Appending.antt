@@ -21,6 +21,7 @@ use Rattle.posting_rules.proofs.Looked.{decided_shown, count_shown}
 use Rattle.posting_rules.proofs.Stepped.{post_shown, malformed_shown, reply_shown}
 use Rattle.posting_rules.proofs.Opened.{opening_shown}
 use Rattle.posting_core.proofs.Behind.{row_behind, rows_behind}
+use Rattle.posting_rules.specs.declared.limits.TheConstants.{MOST_ACCOUNTS}
 
 -- ---- a record
 
@@ -72,7 +73,7 @@ unmapped f None e = refl
 unmapped f (Some x) e = absurd cc
 
 -- the tables with a branch that wasn't open show the log with its opening
-pub opened_shown : (t : Tables) (log : List Command) (b count : ℕ) → count_in t b ≡ None → 1 ≤ b → count ≤ 100_000 → Shows t log → Shows (tables_opened t b count) (Open b count ∷ log)
+pub opened_shown : (t : Tables) (log : List Command) (b count : ℕ) → count_in t b ≡ None → 1 ≤ b → count ≤ MOST_ACCOUNTS → Shows t log → Shows (tables_opened t b count) (Open b count ∷ log)
 opened_shown t log b count none hb hc s =
     let ready = ready_shown t log s in
     let closed = unmapped count_of_branch (row_at branch_key t.branches b) none in

@@ -15,8 +15,8 @@ use message_records::{
     decode_request, encode_reply,
 };
 use posting_rules::{
-    ACCOUNTS_PER_BRANCH, AccountRow, BranchLine, BranchRow, Counter, Fault, Found, HistoryRow, Kept,
-    LAST_BRANCH, MOST_ACCOUNTS, Opening, Ordinal, RequestRow, TELLERS_PER_BRANCH, TellerRow,
+    ACCOUNTS_PER_BRANCH, AccountRow, BranchLine, BranchRow, Counter, Fault, Found, HistoryRow,
+    Kept, LAST_BRANCH, MOST_ACCOUNTS, Opening, Ordinal, RequestRow, TELLERS_PER_BRANCH, TellerRow,
     Verdict, branch_of_teller, judge, reply_to,
 };
 use std::alloc::Global;

@@ -20,6 +20,7 @@ use Rattle.posting_rules.proofs.Stepped.{post_shown, reply_shown}
 use Rattle.posting_rules.specs.Changes.{tables_with, reply_bytes, opened_where, tables_with_branch}
 use Rattle.posting_rules.proofs.Ready.{ready_shown}
 use Rattle.posting_rules.proofs.Stepping.{step_is, opens_is}
+use Rattle.posting_rules.specs.declared.limits.TheConstants.{MOST_ACCOUNTS}
 
 -- the change is that of the commands
 abbrev pub IsChange : (Tables → Tables) → List Command → Type 0
@@ -40,7 +41,7 @@ replies t log bytes r read shows = ap reply_spelling (reply_shown t log bytes r 
 
 -- ---- an opening
 
-pub opens : (b count : ℕ) → 1 ≤ b → count ≤ 100_000 → IsChange (λ t. tables_with_branch t b count) (Open b count ∷ [])
+pub opens : (b count : ℕ) → 1 ≤ b → count ≤ MOST_ACCOUNTS → IsChange (λ t. tables_with_branch t b count) (Open b count ∷ [])
 opens b count above few t log shows = by_row (row_at branch_key t.branches b) refl
   where
     counted : count_in t b ≡ opened log b

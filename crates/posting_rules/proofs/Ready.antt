@@ -12,6 +12,7 @@ use Rattle.posting_rules.specs.Sound.{AreSound}
 use Rattle.posting_rules.specs.Steps.{meta_row_of, first_teller, first_account}
 use Rattle.posting_rules.proofs.Looked.{decided_shown, count_shown}
 use Rattle.posting_rules.proofs.Stepped.{request_row_past, history_row_past}
+use Rattle.posting_rules.specs.declared.limits.TheConstants.{ACCOUNTS_PER_BRANCH}
 
 -- meta counts, the next ordinal is free, and the tellers and the accounts are those of the branches
 pub record AreReady (t : Tables) : Type 0 where
@@ -105,7 +106,7 @@ none_within place (Some r) e = absurd cc
 branch_of_its_teller : (b n : ℕ) → 1 ≤ b → n < 10 → branch_of_teller (first_teller b + n) ≡ b
 branch_of_its_teller b n low lt = omega arith
 
-branch_of_its_account : (b n : ℕ) → 1 ≤ b → n < 100_000 → branch_of_account (first_account b + n) ≡ b
+branch_of_its_account : (b n : ℕ) → 1 ≤ b → n < ACCOUNTS_PER_BRANCH → branch_of_account (first_account b + n) ≡ b
 branch_of_its_account b n low lt = omega arith
 
 -- none of its tellers has a row
@@ -119,7 +120,7 @@ no_teller t b n ready low none lt =
     )
 
 -- and none of its accounts
-pub no_account : (t : Tables) (b n : ℕ) → AreReady t → 1 ≤ b → row_at branch_key t.branches b ≡ None → n < 100_000
+pub no_account : (t : Tables) (b n : ℕ) → AreReady t → 1 ≤ b → row_at branch_key t.branches b ≡ None → n < ACCOUNTS_PER_BRANCH
     → row_at account_key t.accounts (first_account b + n) ≡ None
 no_account t b n ready low none lt =
     is_none (row_at account_key t.accounts (first_account b + n)) (

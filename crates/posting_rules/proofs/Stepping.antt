@@ -21,6 +21,7 @@ use Rattle.posting_rules.specs.Sound.{AreSound}
 use Rattle.posting_rules.specs.Changes.{tables_kept, tables_moved, tables_posted, tables_after, with_tellers, with_accounts, tables_opened, HasRowsOf}
 use Rattle.posting_rules.proofs.Ready.{AreReady, ready_sound, no_teller, no_account}
 use Rattle.posting_rules.proofs.RowChanges.{row_changes, row_adds, rows_add, next_is_free}
+use Rattle.posting_rules.specs.declared.limits.TheConstants.{MOST_ACCOUNTS}
 
 -- the tables that a log of commands leads to are sound
 pub sound_tables : (t : Tables) (log : List Command) → AreCommands log → Shows t log → AreSound t
@@ -152,7 +153,7 @@ posted_rows t r a te b =
 -- ---- an opening
 
 -- the tables of an opening
-pub opens_is : (t : Tables) (b count : ℕ) → AreReady t → 1 ≤ b → count ≤ 100_000 → row_at branch_key t.branches b ≡ None
+pub opens_is : (t : Tables) (b count : ℕ) → AreReady t → 1 ≤ b → count ≤ MOST_ACCOUNTS → row_at branch_key t.branches b ≡ None
     → OpensBranch t (tables_opened t b count) b count
 unfolding with_branch with_tellers with_accounts
 opens_is t b count ready low most none = record {
@@ -197,7 +198,7 @@ opening_teller_is_free t b count n sound low none lt =
     (no_teller t b n ready low none lt)
 
 -- and while it puts its accounts in, the next of these
-pub opening_account_is_free : (t : Tables) (b count tellers n : ℕ) → AreSound t → 1 ≤ b → count ≤ 100_000
+pub opening_account_is_free : (t : Tables) (b count tellers n : ℕ) → AreSound t → 1 ≤ b → count ≤ MOST_ACCOUNTS
     → row_at branch_key t.branches b ≡ None → n < count
     → let staffed = with_tellers (first_teller b) tellers (with_branch (branch_row_of b (pos 0) count) t) in
     row_at account_key (with_accounts (first_account b) n staffed).accounts (first_account b + n) ≡ None

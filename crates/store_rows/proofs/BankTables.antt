@@ -34,6 +34,7 @@ use Rattle.store_rows.specs.View.{Shows, contents}
 use Rattle.store_rows.proofs.Failing.{adds_err, forbidden, forbidden_put, key_fits}
 use Rattle.store_rows.proofs.Lookups.{one_written as one_met}
 use Rattle.store_rows.proofs.RowLists.{changed_rows, put_rows, shown_itself, shown_row, taken_row_key}
+use Rattle.store_rows.specs.declared.statements.TheConstants.{MAX_KEY}
 
 -- a table of the bank: its place among them, and how a file holds its rows
 pub record Kind (R : Type 0) : Type 0 where
@@ -98,7 +99,7 @@ module _ {R : Type 0} (kind : Kind R) where
   -- ---- a row more
 
   module _ (old new : State) (t : Tables) (shows : Shows old.now t) (text : List ℕ) (params : Row) (r : R)
-      (puts : PutsAs table text params (kind.entry r)) (low : kind.key r ≤ 1_000_000_000_000) where
+      (puts : PutsAs table text params (kind.entry r)) (low : kind.key r ≤ MAX_KEY) where
     taken_is : is_some (find (has_key (kind.entry r).key) (map kind.entry (kind.rows t))) ≡ is_some (under t (kind.key r))
     taken_is = rw (kind.keyed r) (taken_row_key kind.key kind.entry kind.keyed (kind.key r) (kind.rows t))
 
@@ -141,7 +142,7 @@ module _ {R : Type 0} (kind : Kind R) where
         )
 
     -- why it can't be
-    fails_to_set : k ≤ 1_000_000_000_000 → (e : Error) → ExecutesInside 0 text (Int (pos k) ∷ more) old new (Err e)
+    fails_to_set : k ≤ MAX_KEY → (e : Error) → ExecutesInside 0 text (Int (pos k) ∷ more) old new (Err e)
         → Writes old new table (is_some (under t k)) (kind.having after t) (Err e)
     fails_to_set low e h =
         set_fails_as old new table _ e (IsForbidden old.now.schema table (kind.having after t))
@@ -150,7 +151,7 @@ module _ {R : Type 0} (kind : Kind R) where
         (key_fits k low) e h)
 
     -- either
-    pub tells_write : k ≤ 1_000_000_000_000 → (answer : Result Bool Error) → MeetsOne text (Int (pos k) ∷ more) old new answer
+    pub tells_write : k ≤ MAX_KEY → (answer : Result Bool Error) → MeetsOne text (Int (pos k) ∷ more) old new answer
         → Writes old new table (is_some (under t k)) (kind.having after t) answer
     tells_write low (Ok met) h =
         subst (λ b. Writes old new table (is_some (under t k)) (kind.having after t) (Ok b)) (sym h.2) (tells_set h.0 h.1)

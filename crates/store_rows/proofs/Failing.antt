@@ -27,9 +27,10 @@ use Rattle.store_rows.specs.Outcomes.{Adds, IsForbidden}
 use Rattle.store_rows.specs.Faults.{added}
 use Rattle.store_rows.specs.View.{Shows}
 use Rattle.store_rows.proofs.RowLists.{put_rows}
+use Rattle.store_rows.specs.declared.statements.TheConstants.{MAX_KEY}
 
 -- a number of at most twelve digits is a key that a file can hold
-pub key_fits : (k : ℕ) → k ≤ 1_000_000_000_000 → fits_i64 (pos k) ≡ true
+pub key_fits : (k : ℕ) → k ≤ MAX_KEY → fits_i64 (pos k) ≡ true
 key_fits k low = grind arith
 
 -- where a table can't have its rows no file shows the tables

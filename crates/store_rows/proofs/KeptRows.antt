@@ -21,6 +21,7 @@ use Rattle.store_rows.specs.declared.faults.TableFault.{TableFault}
 use Rattle.store_rows.specs.declared.faults.TableFault.TheVariants.{Sqlite, Damaged}
 use Rattle.store_rows.specs.Columns.{request_shown}
 use Rattle.store_rows.specs.Outcomes.{ReadsCents, ReadsKept, ReadsOutcome, ReadsWhole}
+use Rattle.message_records.specs.declared.limits.TheConstants.{MAX_ACCOUNT, MAX_BRANCH}
 
 -- the outcome that a code stands for
 abbrev pub decode : ℕ → Outcome
@@ -47,8 +48,8 @@ same_number : (a b : ℕ) → ◌≡◌ {A = ℤ} (pos a) (pos b) → a ≡ b
 same_number a b h = cc
 
 module _ (row : Row) (account branch : ℕ) (delta : ℤ) (outcome : Outcome) (balance : ℤ)
-    (one : ReadsWhole 1 999_999_999_999 Request (column row 3) (Ok account))
-    (two : ReadsWhole 1 999_999 Request (column row 4) (Ok branch)) (three : ReadsCents Request (column row 5) (Ok delta))
+    (one : ReadsWhole 1 MAX_ACCOUNT Request (column row 3) (Ok account))
+    (two : ReadsWhole 1 MAX_BRANCH Request (column row 4) (Ok branch)) (three : ReadsCents Request (column row 5) (Ok delta))
     (four : ReadsOutcome (column row 6) (Ok outcome)) (five : ReadsCents Request (column row 7) (Ok balance)) where
   abbrev fields : KeptFields
   fields = record { account = account; branch = branch; delta = delta; outcome = outcome; balance = balance }

@@ -5,6 +5,8 @@ use Rattle.std.specs.Prelude.{neg_ℤ}
 use Rattle.std.proofs.lemmas.Int.{ints, to_z_pos, to_z-of_z}
 use Rattle.sqlite.specs.Order.{Row, column}
 use Rattle.sqlite.specs.declared.types.Value.TheVariants.{Int}
+use Rattle.message_records.specs.declared.limits.TheConstants.{MAX_BALANCE}
+use Rattle.store_rows.specs.declared.statements.TheConstants.{MAX_KEY}
 
 -- a column with a number is one of the row's
 pub column_within : (row : Row) (at : ℕ) (n : ℤ) → column row at ≡ Int n → at < length row
@@ -19,12 +21,12 @@ one_written count true h = rw h refl
 one_written count false h = rw h refl
 
 -- a number of at most twelve digits is the same as an `i64`
-pub as_integer : (n k : ℕ) → n ≡ k → n ≤ 1_000_000_000_000 → to_z w64 n ≡ pos k
+pub as_integer : (n k : ℕ) → n ≡ k → n ≤ MAX_KEY → to_z w64 n ≡ pos k
 as_integer n k same low = to_z_pos w64 n (omega arith) ∙ ap pos same
 
-fits : (z : ℤ) → neg_ℤ (pos 999_999_999_999) ≤ℤ z → z ≤ℤ pos 999_999_999_999 → FitsSigned w64 z
+fits : (z : ℤ) → neg_ℤ (pos MAX_BALANCE) ≤ℤ z → z ≤ℤ pos MAX_BALANCE → FitsSigned w64 z
 fits z least most = omega (arith, ints)
 
 -- so is an amount
-pub as_amount : (z y : ℤ) → z ≡ y → neg_ℤ (pos 999_999_999_999) ≤ℤ z → z ≤ℤ pos 999_999_999_999 → to_z w64 (of_z w64 z) ≡ y
+pub as_amount : (z y : ℤ) → z ≡ y → neg_ℤ (pos MAX_BALANCE) ≤ℤ z → z ≤ℤ pos MAX_BALANCE → to_z w64 (of_z w64 z) ≡ y
 as_amount z y same least most = to_z-of_z w64 z (fits z least most) ∙ same

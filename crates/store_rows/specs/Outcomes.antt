@@ -25,6 +25,8 @@ use Rattle.store_rows.specs.declared.faults.TableFault.{TableFault}
 use Rattle.store_rows.specs.declared.faults.TableFault.TheVariants.{Sqlite, Damaged}
 use Rattle.store_rows.specs.Columns.{request_shown}
 use Rattle.store_rows.specs.View.{Shows}
+use Rattle.message_records.specs.declared.limits.TheConstants.{MAX_ACCOUNT, MAX_BALANCE, MAX_BRANCH, MAX_NUMBER, MAX_TELLER}
+use Rattle.posting_rules.specs.declared.limits.TheConstants.{MAX_DECIDED}
 
 -- The answer is what was looked for and nothing has changed; or the store failed; or what is there breaks a rule in this way, and nothing
 -- has changed.
@@ -40,28 +42,28 @@ Looks old new (Err e) = WriteFails old new
 
 -- the balance is outside the limits
 abbrev pub IsNoBalance : ℤ → Rule → Type 0
-IsNoBalance z broken = (broken ≡ rule.Balance) × (cents_within 999_999_999_999 z ≡ None)
+IsNoBalance z broken = (broken ≡ rule.Balance) × (cents_within MAX_BALANCE z ≡ None)
 
 -- the number is outside the numbers of branches, the count is no count, or the balance is outside the limits
 abbrev pub IsNoBranch : BranchRow → Rule → Type 0
 IsNoBranch r broken =
-    ((broken ≡ rule.Value) × ((whole_within 1 999_999 r.branch ≡ None) ⊎ (whole_within 0 4_294_967_295 r.accounts ≡ None)))
-    ⊎ ((broken ≡ rule.Balance) × (cents_within 999_999_999_999 r.balance ≡ None))
+    ((broken ≡ rule.Value) × ((whole_within 1 MAX_BRANCH r.branch ≡ None) ⊎ (whole_within 0 4_294_967_295 r.accounts ≡ None)))
+    ⊎ ((broken ≡ rule.Balance) × (cents_within MAX_BALANCE r.balance ≡ None))
 
 -- the request is one that can be kept
 pub record CanBeKept (k : KeptFields) : Type 0 where
-  pub account : whole_within 1 999_999_999_999 k.account ≡ Some k.account
-  pub branch : whole_within 1 999_999 k.branch ≡ Some k.branch
-  pub delta : cents_within 999_999_999_999 k.delta ≡ Some k.delta
-  pub balance : cents_within 999_999_999_999 k.balance ≡ Some k.balance
+  pub account : whole_within 1 MAX_ACCOUNT k.account ≡ Some k.account
+  pub branch : whole_within 1 MAX_BRANCH k.branch ≡ Some k.branch
+  pub delta : cents_within MAX_BALANCE k.delta ≡ Some k.delta
+  pub balance : cents_within MAX_BALANCE k.balance ≡ Some k.balance
   pub outcome : IsTrue (is_kept_with k.outcome k.balance)
 
 -- the ordinal is no ordinal, or what is kept is no request that can be kept
 abbrev pub IsNoRequest : RequestRow → Rule → Type 0
 IsNoRequest r broken =
-    ((broken ≡ rule.Value) × (whole_within 1 1_000_000_000_000 r.ordinal ≡ None))
+    ((broken ≡ rule.Value) × (whole_within 1 MAX_DECIDED r.ordinal ≡ None))
     ⊎ ((broken ≡ rule.Request)
-    × ((whole_within 1 99_999_999 r.teller ≡ None) ⊎ ((whole_within 1 9_999_999_999 r.number ≡ None) ⊎ (¬ CanBeKept r.kept))))
+    × ((whole_within 1 MAX_TELLER r.teller ≡ None) ⊎ ((whole_within 1 MAX_NUMBER r.number ≡ None) ⊎ (¬ CanBeKept r.kept))))
 
 -- no rule is broken so
 abbrev pub Never : {X : Type 0} → X → Rule → Type 0
@@ -102,7 +104,7 @@ ReadsWhole least most broken v (Err (Damaged rule)) = (z : ℤ) → v ≡ Int z 
 abbrev pub ReadsCents : Rule → Value → Result ℤ TableFault → Type 0
 ReadsCents broken v (Ok n) = (z : ℤ) → v ≡ Int z → n ≡ z
 ReadsCents broken v (Err (Sqlite e)) = (z : ℤ) → v ≡ Int z → e ≡ SqliteFailure OutOfMemory
-ReadsCents broken v (Err (Damaged rule)) = (z : ℤ) → v ≡ Int z → (rule ≡ broken) × (cents_within 999_999_999_999 z ≡ None)
+ReadsCents broken v (Err (Damaged rule)) = (z : ℤ) → v ≡ Int z → (rule ≡ broken) × (cents_within MAX_BALANCE z ≡ None)
 
 -- the outcome whose code the value is, or it is no code, or memory was refused
 abbrev pub ReadsOutcome : Value → Result Outcome TableFault → Type 0

@@ -13,6 +13,7 @@ use crate::columns::integer_at;
 use crate::faults::TableFault;
 use crate::statements::{row_under, write_under};
 use crate::texts::{GET_META, SET_META};
+use posting_rules::MAX_DECIDED;
 use sqlite::{Alter, Error, Row, Transaction};
 
 /// What the row of the bank holds, whatever the numbers: another product may have written them.
@@ -58,7 +59,7 @@ pub fn read_meta<S: Alter>(tx: &mut Transaction<'_, S>) -> Result<Option<StoredM
 
 /// Writes how many requests are decided, and tells whether meta has its row.
 pub fn set_decided<S: Alter>(tx: &mut Transaction<'_, S>, decided: u64) -> Result<bool, Error>
-    requires { decided ≤ 1_000_000_000_000 }
+    requires { decided ≤ MAX_DECIDED }
     ensures { Says S.Store tx.old tx.new
         (Inside (OfTables (λ old new tables. Writes old new table (is_some (row_at meta_key tables.meta 1))
         (with_decided decided tables) result)))

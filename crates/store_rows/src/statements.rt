@@ -16,9 +16,12 @@ ghost use Rattle.store_rows.specs.Statements.{MeetsOne, PutsIn};
 use crate::columns::cents_at;
 use crate::faults::{TableFault, added};
 use message_records::Cents;
-use posting_rules::Rule;
+use posting_rules::{MAX_DECIDED, Rule};
 use sqlite::types::ValueRef;
 use sqlite::{Alter, Error, Row, Transaction, params};
+
+/// The greatest key of a row: no ordinal is greater, and no number of a branch, a teller or an account is.
+pub(crate) const MAX_KEY: u64 = MAX_DECIDED;
 
 // The row that a text shows under a key.
 pub(crate) fn row_under<S: Alter>(
@@ -26,7 +29,7 @@ pub(crate) fn row_under<S: Alter>(
     text: &str,
     key: u64,
 ) -> Result<Row, Error>
-    requires { key ≤ 1_000_000_000_000 }
+    requires { key ≤ MAX_KEY }
     ensures { Says S.Store tx.old tx.new
         (λ old new. QueriesRowInside text.now (Int (pos key) ∷ []) old new result)
         (λ old new. OnlyShows text.now 1 (understood old.now.schema text.now) → ReadKept old new result) }
@@ -41,7 +44,7 @@ pub(crate) fn balance_under<S: Alter>(
     text: &str,
     key: u64,
 ) -> Result<Option<Cents>, TableFault>
-    requires { key ≤ 1_000_000_000_000 }
+    requires { key ≤ MAX_KEY }
     ensures { Says S.Store tx.old tx.new
         (λ old new. (wanted : Option ℤ)
         → ((row : Result Shown Failure) → QueriesRowInside text.now (Int (pos key) ∷ []) old new row
@@ -62,7 +65,7 @@ pub(crate) fn write_under<S: Alter>(
     key: u64,
     number: i64,
 ) -> Result<bool, Error>
-    requires { key ≤ 1_000_000_000_000 }
+    requires { key ≤ MAX_KEY }
     ensures { Says S.Store tx.old tx.new
         (Inside (λ old new. MeetsOne text.now (Int (pos key) ∷ Int number ∷ []) old new result))
         (Inside (λ old new. WriteKept old new result)) }

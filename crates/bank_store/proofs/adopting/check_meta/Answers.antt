@@ -7,6 +7,7 @@ use mir.Syntax.{w64}
 use Rattle.store_rows.specs.declared.metas.StoredMeta.{StoredMeta}
 use Rattle.bank_store.specs.Opening.{IsOurs, IsOfVersion, IsNoCount}
 use Rattle.bank_store.proofs.adopting.check_meta.Goals.{then-meta-lt0-via-then-meta-lt0, then-meta-lt0-via-else-meta-lt0+then-meta-gt-MAX_DECIDED}
+use Rattle.posting_rules.specs.declared.limits.TheConstants.{MAX_DECIDED}
 use Rattle.bank_store.proofs.adopting.check_meta.Goals as goal
 
 below_zero : (z : ℤ) → int_lt z (pos 0) ≡ true → z <ℤ pos 0
@@ -24,10 +25,10 @@ not_below_zero (negsuc n) h = cc
 other_version : (m : StoredMeta) (v : ℤ) → v ≡ m.version → v ≢ pos 1 → IsOfVersion v (Some m)
 other_version m v same other = (m.decided, ap (λ (x : ℤ). let it : StoredMeta = record m { version = x } in Some it) (sym same), other)
 
-no_count : (m : StoredMeta) → (m.decided <ℤ pos 0) ⊎ (pos 1_000_000_000_000 <ℤ m.decided) → IsNoCount (Some m)
+no_count : (m : StoredMeta) → (m.decided <ℤ pos 0) ⊎ (pos MAX_DECIDED <ℤ m.decided) → IsNoCount (Some m)
 no_count m outside = inr (m.version, m.decided, refl, outside)
 
-our_version : (m : StoredMeta) (n : ℕ) → m.version ≡ pos 1 → m.decided ≡ pos n → n ≤ 1_000_000_000_000 → IsOurs (Some m)
+our_version : (m : StoredMeta) (n : ℕ) → m.version ≡ pos 1 → m.decided ≡ pos n → n ≤ MAX_DECIDED → IsOurs (Some m)
 our_version m n version decided le = (
   n,
   ap (λ (x : ℤ). let it : StoredMeta = record m { version = x } in Some it) version
@@ -47,7 +48,7 @@ returns-then-meta-lt0 c =
     let same : to_z w64 (of_z w64 m.decided) ≡ m.decided = search rules in
     no_count m (elim c.then-meta-lt0.branch [
       | then-meta-lt0-via-then-meta-lt0 w ↦ inl (below_zero m.decided (rw same at w.if-meta-lt0.true))
-      | then-meta-lt0-via-else-meta-lt0+then-meta-gt-MAX_DECIDED w ↦ inr (beyond m.decided 1_000_000_000_000 (rw same at w.if-meta-lt0.false) (rw same at w.if-meta-gt-MAX_DECIDED.true))
+      | then-meta-lt0-via-else-meta-lt0+then-meta-gt-MAX_DECIDED w ↦ inr (beyond m.decided MAX_DECIDED (rw same at w.if-meta-lt0.false) (rw same at w.if-meta-gt-MAX_DECIDED.true))
     ])
 
 pub returns : goal.returns

@@ -6,6 +6,7 @@ use Rattle.posting_rules.specs.LookUps.{kept_in}
 use Rattle.store_rows.specs.Columns.{request_in}
 use Rattle.store_rows.specs.Outcomes.{IsNoRequest}
 use Rattle.bank_transactions.proofs.SoundRows.{err_found, is_a_request, request_is, request_unbroken}
+use Rattle.message_records.specs.declared.limits.TheConstants.{MAX_DELTA}
 use Rattle.bank_transactions.proofs.look_ups.kept_request.Goals as goal
 
 pub returns-in_err-row : goal.returns-in_err-row
@@ -29,9 +30,9 @@ returns-then-is_none g c = record {
   told = λ clean t shows sound.
       let row = c.in-Some.row in
       let found : request_in t c.teller.result c.number.result ≡ Some row = sym (c.in_ok-row.ensures.told clean t shows).0 ∙ c.in-Some.is in
-      let within : nat_abs row.kept.delta ≤ 9_999_999_999 = (request_is t c.teller.result c.number.result row sound found).delta in
+      let within : nat_abs row.kept.delta ≤ MAX_DELTA = (request_is t c.teller.result c.number.result row sound found).delta in
       is_a_request c.account.result row.teller c.branch-kept.result row.number c.delta.result
-      (subst (λ z. nat_abs z ≤ 9_999_999_999) (sym c.delta.ensures) within)
+      (subst (λ z. nat_abs z ≤ MAX_DELTA) (sym c.delta.ensures) within)
       (ap is_some (sym c.new-stored.ensures) ∙ c.if-is_none.ensures);
   same_reference = search rules;
   kept = search rules;

@@ -8,6 +8,7 @@ use Rattle.posting_rules.specs.Tables.{row_at, branch_key, branch_row_of}
 use Rattle.store_rows.specs.SixTables.{branch}
 use Rattle.bank_transactions.proofs.Chained.{does_then, does_err, does_for, does_add}
 use Rattle.bank_transactions.proofs.Opened.{opened_is, next_teller, next_account}
+use Rattle.posting_rules.specs.declared.limits.TheConstants.{ACCOUNTS_PER_BRANCH}
 use Rattle.bank_transactions.proofs.opening.add_whole_branch.Goals as goal
 
 pub returns-in_err-add_rows : goal.returns-in_err-add_rows
@@ -15,9 +16,9 @@ returns-in_err-add_rows g c =
     let b = c.args.branch in
     let count = c.args.count in
     let teller : ℕ = 10 * (c.get-before.result - 1) + 1 in
-    let account : ℕ = 100_000 * (c.get-before.result - 1) + 1 in
+    let account : ℕ = ACCOUNTS_PER_BRANCH * (c.get-before.result - 1) + 1 in
     let from : teller ≡ first_teller b = ap (λ n. 10 * (n - 1) + 1) c.get-before.ensures.value in
-    let start : account ≡ first_account b = ap (λ n. 100_000 * (n - 1) + 1) c.get-before.ensures.value in
+    let start : account ≡ first_account b = ap (λ n. ACCOUNTS_PER_BRANCH * (n - 1) + 1) c.get-before.ensures.value in
     let above : 1 ≤ b = omega (arith, c.get-before.ensures.value, c.get-before.ensures.least) in
     let row : BranchRow = record { branch = b; accounts = count; balance = c.unwrap.result } in
     let is : row ≡ branch_row_of b (pos 0) count = search rules in
@@ -33,9 +34,9 @@ returns g c =
     let b = c.args.branch in
     let count = c.args.count in
     let teller : ℕ = 10 * (c.get-before.result - 1) + 1 in
-    let account : ℕ = 100_000 * (c.get-before.result - 1) + 1 in
+    let account : ℕ = ACCOUNTS_PER_BRANCH * (c.get-before.result - 1) + 1 in
     let from : teller ≡ first_teller b = ap (λ n. 10 * (n - 1) + 1) c.get-before.ensures.value in
-    let start : account ≡ first_account b = ap (λ n. 100_000 * (n - 1) + 1) c.get-before.ensures.value in
+    let start : account ≡ first_account b = ap (λ n. ACCOUNTS_PER_BRANCH * (n - 1) + 1) c.get-before.ensures.value in
     let above : 1 ≤ b = omega (arith, c.get-before.ensures.value, c.get-before.ensures.least) in
     let row : BranchRow = record { branch = b; accounts = count; balance = c.unwrap.result } in
     let is : row ≡ branch_row_of b (pos 0) count = search rules in
