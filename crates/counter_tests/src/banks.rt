@@ -1,6 +1,6 @@
 //! Banks to be streamed to.
 use message_records::{Account, Branch, Cents, Moment};
-use posting_core::{Counter, Fault, Opening, PlainBank};
+use posting_core::{BranchLine, Counter, Fault, Opening, PlainBank};
 use std::alloc::{Alloc, Global};
 use std::test::Fail;
 
@@ -69,5 +69,12 @@ impl Counter for FailingBank {
             return Err(Fault::Down);
         }
         self.bank.balance(account)
+    }
+
+    fn next_branch(&mut self, after: u32) -> Result<Option<BranchLine>, Fault> {
+        if self.down {
+            return Err(Fault::Down);
+        }
+        self.bank.next_branch(after)
     }
 }
