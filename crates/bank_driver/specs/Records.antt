@@ -8,7 +8,7 @@ use Rattle.posting_rules.specs.Entries.{reply}
 use Rattle.posting_core.specs.Batches.{Batch}
 use Rattle.branch_loader.specs.Plans.{Rows}
 use Rattle.load_driver.specs.Requests.{request_at}
-use Rattle.posting_rules.specs.declared.limits.TheConstants.{LAST_BRANCH}
+use Rattle.posting_rules.specs.declared.limits.TheConstants.{LAST_BRANCH, RECORDS_PER_BATCH}
 
 -- ---- the branches
 
@@ -44,8 +44,8 @@ first_drawn rows seed n = drawn rows seed 0 n
 
 -- a batch has 64 records, and fewer where none comes behind it
 abbrev pub IsFull : Batch → List Batch → Type 0
-IsFull batch [] = (1 ≤ length batch.records) × (length batch.records ≤ 64)
-IsFull batch (next ∷ batches) = length batch.records ≡ 64
+IsFull batch [] = (1 ≤ length batch.records) × (length batch.records ≤ RECORDS_PER_BATCH)
+IsFull batch (next ∷ batches) = length batch.records ≡ RECORDS_PER_BATCH
 
 -- each batch has 64 records, but the last one may have fewer
 abbrev pub AreFull : List Batch → Type 0

@@ -7,7 +7,7 @@ ghost use Rattle.bank_driver.specs.Counted.{IsCounted, is_posted};
 ghost use Rattle.bank_driver.specs.Records.{drawn};
 
 use load_driver::{Driver, MOST_RECORDS};
-use posting_core::{Clock, Counter, Fault};
+use posting_core::{Clock, Counter, Fault, RECORDS_PER_BATCH};
 
 /// The length of a record.
 pub(crate) const RECORD: usize = 100;
@@ -51,7 +51,7 @@ pub(crate) fn submit_batch<C: Counter, K: Clock>(
     clock: &mut K,
 ) -> Result<u64, Fault>
     requires some { 1 ≤ length batch.old }
-    requires few { length batch.old ≤ 64 }
+    requires few { length batch.old ≤ RECORDS_PER_BATCH }
     requires left { driver.old.given + length batch.old ≤ MOST_RECORDS }
     ensures drawn { batch.new ≡ drawn driver.old.rows driver.old.seed driver.old.given (length batch.old) }
     ensures goes_on { driver.new ≡ record driver.old { given = driver.old.given + length batch.old } }
