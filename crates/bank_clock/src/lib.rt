@@ -7,14 +7,11 @@ ghost use Rattle.std.specs.Time.{system_time_nanos};
 #[cfg(test)]
 mod tests;
 
-use message_records::Moment;
+use message_records::{MAX_MOMENT, Moment};
 use posting_core::Clock;
 use std::io;
 use std::rt::Clock as TimeSource;
 use std::time::{SystemTime, UNIX_EPOCH};
-
-/// The last second of the year 9999.
-const LAST: u64 = 253_402_300_799;
 
 /// The clock of the system, in whole seconds since 1970-01-01T00:00:00Z.
 #[derive(Drop)]
@@ -39,7 +36,7 @@ impl<'a, T: TimeSource> Clock for SystemClock<'a, T> {
 /// before 1970.
 pub fn moment_of(reading: io::Result<SystemTime>) -> Moment
     ensures { MatchResult reading
-        (λ time. result ≡ min (system_time_nanos time / 1_000_000_000) LAST) (λ _. result ≡ 0) }
+        (λ time. result ≡ min (system_time_nanos time / 1_000_000_000) MAX_MOMENT) (λ _. result ≡ 0) }
 {
     let Ok(time) = reading else {
         return Moment::new(0).unwrap();
@@ -47,5 +44,5 @@ pub fn moment_of(reading: io::Result<SystemTime>) -> Moment
     let Ok(since) = time.duration_since(UNIX_EPOCH) else {
         return Moment::new(0).unwrap();
     };
-    Moment::new(since.as_secs().min(LAST)).unwrap()
+    Moment::new(since.as_secs().min(MAX_MOMENT)).unwrap()
 }
