@@ -1,6 +1,6 @@
 -- What is found of a bank, and that nothing is missed where a log is shown.
-use Rattle.std.proofs.Common.{◌≡◌, ◌≤◌, ℕ, ℤ, pos, List, Option, Some, None, Ok, Err, Result, refl, sym, ap, subst, ◌∙◌, inl, inr, arith}
-use Rattle.std.specs.Prelude.{◌⊎◌, ◌<ℤ◌, option_map}
+use Rattle.std.proofs.Common.{◌≡◌, ◌≤◌, ℕ, ℤ, pos, List, [], ◌∷◌, Option, Some, None, Ok, Err, Result, refl, sym, ap, subst, ◌∙◌, inl, inr, arith}
+use Rattle.std.specs.Prelude.{◌⊎◌, ◌<ℤ◌}
 use Rattle.std.proofs.lemmas.Int.{ints}
 use Rattle.sqlite.specs.Table.{Table}
 use Rattle.sqlite.specs.Effect.{Database}
@@ -8,21 +8,21 @@ use Rattle.sqlite.specs.State.{State}
 use Rattle.sqlite_rules.specs.Lists.{Has}
 use Rattle.posting_rules.specs.Commands.{Command, AreCommands}
 use Rattle.posting_rules.specs.Damage.{IsUndamaged}
-use Rattle.posting_rules.specs.Tables.{Tables, row_at}
+use Rattle.posting_rules.specs.Tables.{Tables}
 use Rattle.posting_rules.specs.Tables.{Shows as Show}
 use Rattle.posting_rules.specs.declared.fault.Rule.TheVariants.{Meta, Teller, Account, Balance, Request, Value, Key}
-use Rattle.posting_rules.specs.declared.rows.MetaRow.{MetaRow}
 use Rattle.posting_rules.proofs.Undamaged.{undamaged}
 use Rattle.sql_meanings.proofs.Contents.{each_defined}
-use Rattle.posting_rules.specs.Changes.{meta_key}
-use Rattle.store_rows.specs.Columns.{meta_in, meta_numbers}
+use Rattle.sql_meanings.specs.Entries.{Entry}
+use Rattle.store_rows.specs.Columns.{meta_in}
 use Rattle.store_rows.specs.SixTables as six
-use Rattle.store_rows.specs.View.{Shows, contents}
+use Rattle.store_rows.specs.View.{HoldsRows, Shows, contents, meta_entry}
 use Rattle.store_rows.specs.declared.metas.StoredMeta.{StoredMeta}
 use Rattle.bank_store.specs.Opening.{six_tables, Lacks, IsPresent, IsAsBefore, IsOurs, IsOfVersion, IsNoCount, ChecksMeta, TellsMeta, IsUnread, IsReadOnly, MetaIs, Misses, SeeksBank}
 use Rattle.bank_store.specs.declared.probing.Presence.TheVariants.{Absent, Whole}
 use Rattle.bank_store.specs.declared.refused.OpenFault.{OpenFault}
 use Rattle.bank_store.specs.declared.refused.OpenFault.TheVariants.{Store, NotBlank, Blank, Foreign, Version, Damaged}
+use Rattle.store_rows.proofs.MetaRow.{has_one}
 use Rattle.bank_store.proofs.Probed.{as_before}
 use Rattle.posting_rules.specs.declared.limits.TheConstants.{MAX_DECIDED}
 
@@ -30,14 +30,14 @@ use Rattle.posting_rules.specs.declared.limits.TheConstants.{MAX_DECIDED}
 module _ (old mid new : State) (tables : IsPresent old.now six_tables Whole) (first : IsAsBefore old mid) where
   abbrev MissedAt : OpenFault → Type 0
   MissedAt fault =
-      ((t : Tables) → Shows mid.now t → TellsMeta (meta_in t) (Err fault)) → IsReadOnly {X = Option StoredMeta} mid new (Err fault) → SeeksBank old new (Err fault)
+      ((rows : List Entry) → HoldsRows mid.now six.meta rows → TellsMeta (meta_in rows) (Err fault)) → IsReadOnly {X = Option StoredMeta} mid new (Err fault) → SeeksBank old new (Err fault)
 
   at_store : MissedAt Store
   at_store tells reads = (tt, λ still. as_before old mid new first (reads still))
 
   at_value : MissedAt (Damaged Value)
   at_value tells same =
-      ((tables, λ t shows. tells t (subst (λ (db : Database). Shows db t) (sym first.now_is) shows)), as_before old mid new first same)
+      ((tables, λ rows has. tells rows (subst (λ (db : Database). HoldsRows db six.meta rows) (sym first.now_is) has)), as_before old mid new first same)
 
   pub missed : (fault : OpenFault) → IsUnread fault → MissedAt fault
   missed fault (inl is) = subst MissedAt (sym is) at_store
@@ -45,9 +45,9 @@ module _ (old mid new : State) (tables : IsPresent old.now six_tables Whole) (fi
 
 -- what was read of the row, and what was said against it
 module _ (old mid new : State) (stored : Option StoredMeta) (tables : IsPresent old.now six_tables Whole) (first : IsAsBefore old mid)
-    (read : (t : Tables) → Shows mid.now t → stored ≡ meta_in t) (then : IsAsBefore mid new) where
+    (read : (rows : List Entry) → HoldsRows mid.now six.meta rows → stored ≡ meta_in rows) (then : IsAsBefore mid new) where
   row_is : (P : Option StoredMeta → Type 0) → P stored → MetaIs old P
-  row_is P holds t shows = subst P (read t (subst (λ (db : Database). Shows db t) (sym first.now_is) shows)) holds
+  row_is P holds rows has = subst P (read rows (subst (λ (db : Database). HoldsRows db six.meta rows) (sym first.now_is) has)) holds
 
   same : IsAsBefore old new
   same = as_before old mid new first then
@@ -78,12 +78,8 @@ pub no_bank : (db : Database) (t : Tables) → IsPresent db six_tables Absent �
 no_bank db t absent shows = lacks_none db t shows six.meta (inl refl) absent.0
 
 -- what meta holds of a log
-holds : (t : Tables) → IsUndamaged t → IsOurs (meta_in t)
-holds t sound = (
-  sound.meta.0,
-  ap (λ (rows : List MetaRow). option_map meta_numbers (row_at meta_key rows 1)) sound.meta.1,
-  sound.meta.2,
-)
+holds : (t : Tables) → IsUndamaged t → IsOurs (meta_in (meta_entry t.decided ∷ []))
+holds t sound = (t.decided, refl, sound.decided)
 
 abbrev version_in : Option StoredMeta → ℤ
 version_in None = pos 0
@@ -111,11 +107,11 @@ known old Store t log misses shows are log_shown = refl
 known old NotBlank t log misses shows are log_shown = absurd misses
 known old Blank t log misses shows are log_shown = absurd (no_bank old.now t misses shows)
 known old Foreign t log misses shows are log_shown = absurd (lacks_none old.now t shows misses.1.0 misses.1.1 misses.1.2)
-known old (Version n) t log misses shows are log_shown = absurd (not_other (meta_in t) n (holds t (undamaged t log are log_shown)) (misses.1 t shows))
-known old (Damaged Meta) t log misses shows are log_shown = absurd (not_missing (meta_in t) (holds t (undamaged t log are log_shown)) (misses.1 t shows))
+known old (Version n) t log misses shows are log_shown = absurd (not_other _ n (holds t (undamaged t log are log_shown)) (misses.1 (meta_entry t.decided ∷ []) (has_one old.now t shows)))
+known old (Damaged Meta) t log misses shows are log_shown = absurd (not_missing _ (holds t (undamaged t log are log_shown)) (misses.1 (meta_entry t.decided ∷ []) (has_one old.now t shows)))
 known old (Damaged Teller) t log misses shows are log_shown = absurd misses
 known old (Damaged Account) t log misses shows are log_shown = absurd misses
 known old (Damaged Balance) t log misses shows are log_shown = absurd misses
 known old (Damaged Request) t log misses shows are log_shown = absurd misses
-known old (Damaged Value) t log misses shows are log_shown = absurd (misses.1 t shows)
+known old (Damaged Value) t log misses shows are log_shown = absurd (misses.1 (meta_entry t.decided ∷ []) (has_one old.now t shows))
 known old (Damaged Key) t log misses shows are log_shown = absurd misses

@@ -15,7 +15,6 @@ use Rattle.sqlite_trees.specs.declared.store.Store.{Ghosts}
 use Rattle.sqlite_rules.specs.Lists.{Has}
 use Rattle.posting_rules.specs.Counter.{Seen}
 use Rattle.posting_rules.specs.Rules.{number_of_rule}
-use Rattle.posting_rules.specs.Tables.{Tables}
 use Rattle.posting_rules.specs.declared.fault.Rule.TheVariants.{Meta, Value}
 use Rattle.sql_meanings.specs.Making.{KeepsTables}
 use Rattle.sql_meanings.specs.Outcomes.{IsThere}
@@ -23,7 +22,9 @@ use Rattle.sql_meanings.specs.Tables.{Defines}
 use Rattle.store_rows.specs.Columns.{meta_in}
 use Rattle.store_rows.specs.Creation.{RefusedIn, new_tables}
 use Rattle.store_rows.specs.SixTables as six
-use Rattle.store_rows.specs.View.{Shows, ShowsTrees}
+use Rattle.sql_meanings.specs.Entries.{Entry}
+use Rattle.store_rows.specs.View.{HoldsRows, Shows, ShowsTrees}
+use Rattle.store_rows.specs.declared.metas.TheConstants.{VERSION}
 use Rattle.store_rows.specs.declared.metas.StoredMeta.{StoredMeta}
 use Rattle.store_rows.specs.declared.faults.TableFault.{TableFault}
 use Rattle.store_rows.specs.declared.faults.TableFault.TheVariants.{Sqlite, Damaged as Broken}
@@ -100,11 +101,11 @@ TellsPresence old new tables (Err e) = IsUndone old new
 
 -- it has our version, and a count within its range
 abbrev pub IsOurs : Option StoredMeta → Type 0
-IsOurs stored = (decided : ℕ) × (stored ≡ Some (record { version = pos 1; decided = pos decided })) × (decided ≤ MAX_DECIDED)
+IsOurs stored = (decided : ℕ) × (stored ≡ Some (record { version = VERSION; decided = pos decided })) × (decided ≤ MAX_DECIDED)
 
 -- it has this version, which isn't ours
 abbrev pub IsOfVersion : ℤ → Option StoredMeta → Type 0
-IsOfVersion version stored = (decided : ℤ) × (stored ≡ Some (record { version = version; decided = decided })) × (version ≢ pos 1)
+IsOfVersion version stored = (decided : ℤ) × (stored ≡ Some (record { version = version; decided = decided })) × (version ≢ VERSION)
 
 -- it is missing, or its count is outside its range
 abbrev pub IsNoCount : Option StoredMeta → Type 0
@@ -141,9 +142,9 @@ IsReadOnly old new _ = IsAsBefore old new
 
 -- ---- a bank is found
 
--- in every bank that the database shows, the row is so
+-- whatever rows of `meta` the database holds, the row of the bank is so
 abbrev pub MetaIs : State → (Option StoredMeta → Type 0) → Type 0
-MetaIs s P = (t : Tables) → Shows s.now t → P (meta_in t)
+MetaIs s P = (rows : List Entry) → HoldsRows s.now six.meta rows → P (meta_in rows)
 
 -- the six tables are there, with a row of our version, and everything is as it was
 pub record IsFound (old new : State) : Type 0 where

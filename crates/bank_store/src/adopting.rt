@@ -4,10 +4,11 @@ ghost use Rattle.sqlite.specs.State.{HasCleanDisk, Survives};
 ghost use Rattle.sqlite.specs.Held.{state};
 ghost use Rattle.posting_rules.specs.Commands.{Command};
 ghost use Rattle.posting_rules.specs.Counter.{ShowsLog, StandsAt, LeavesOnly};
-ghost use Rattle.posting_rules.specs.Tables.{Tables};
 ghost use Rattle.posting_rules.specs.Tables.{Shows as Show};
 ghost use Rattle.store_rows.specs.Columns.{meta_in};
-ghost use Rattle.store_rows.specs.View.{Shows};
+ghost use Rattle.sql_meanings.specs.Entries.{Entry};
+ghost use Rattle.store_rows.specs.SixTables.{meta as table};
+ghost use Rattle.store_rows.specs.View.{HoldsRows};
 ghost use Rattle.bank_store.specs.Opening.{conn_seen, state_in, ChecksMeta, TellsMeta, IsReadOnly, IsUndone, IsUnread, IsFound, SeeksBank, Misses, IsAsBefore};
 ghost use Rattle.bank_store.specs.Seen.{bank_seen, connection_of};
 
@@ -23,8 +24,8 @@ use store_rows::{StoredMeta, VERSION, probe_meta, read_meta};
 // What the row of the bank holds, none where there is no such row. Nothing is written, so the transaction is dropped.
 fn stored_meta<S: Alter>(conn: &mut Connection<S>) -> Result<Option<StoredMeta>, OpenFault>
     requires { conn.old.in_transaction ≡ false }
-    ensures told { HasCleanDisk (state S.Store conn.new) → (tables : Tables)
-        → Shows (state S.Store conn.old).now tables → TellsMeta (meta_in tables) result }
+    ensures told { HasCleanDisk (state S.Store conn.new) → (rows : List Entry)
+        → HoldsRows (state S.Store conn.old).now table rows → TellsMeta (meta_in rows) result }
     ensures undone { HasCleanDisk (state S.Store conn.new) → IsUndone (state S.Store conn.old) (state S.Store conn.new) }
     ensures fault { IfErr result IsUnread }
     ensures mode { conn.new.in_transaction ≡ false }
@@ -40,8 +41,8 @@ fn stored_meta<S: Alter>(conn: &mut Connection<S>) -> Result<Option<StoredMeta>,
 // The same. The store is asked for a table again, so that it is known to be open, and to have undone the transaction.
 fn settled_meta<S: Alter>(conn: &mut Connection<S>) -> Result<Option<StoredMeta>, OpenFault>
     requires { conn.old.in_transaction ≡ false }
-    ensures told { HasCleanDisk (state S.Store conn.new) → (tables : Tables)
-        → Shows (state S.Store conn.old).now tables → TellsMeta (meta_in tables) result }
+    ensures told { HasCleanDisk (state S.Store conn.new) → (rows : List Entry)
+        → HoldsRows (state S.Store conn.old).now table rows → TellsMeta (meta_in rows) result }
     ensures same { HasCleanDisk (state S.Store conn.new) → IsReadOnly (state S.Store conn.old) (state S.Store conn.new) result }
     ensures fault { IfErr result IsUnread }
     ensures mode { conn.new.in_transaction ≡ false }

@@ -1,7 +1,7 @@
 //! Writes what a verdict changes.
-ghost use Rattle.std.specs.Prelude.{◌≡◌, ◌+◌, IsTrue, IsSome, None};
+ghost use Rattle.std.specs.Prelude.{◌≡◌, ◌+◌, IsTrue, None};
 ghost use Rattle.posting_rules.specs.Cases.{case_of, IsProper};
-ghost use Rattle.posting_rules.specs.Changes.{meta_key, tables_kept, tables_moved, tables_after, HasRowsOf};
+ghost use Rattle.posting_rules.specs.Changes.{tables_kept, tables_moved, tables_after, HasRowsOf};
 ghost use Rattle.posting_rules.specs.Entries.{posted_entry};
 ghost use Rattle.posting_rules.specs.Kept.{is_kept_with};
 ghost use Rattle.posting_rules.specs.LookUps.{found_in};
@@ -38,7 +38,7 @@ fn keep_request<S: Alter>(
 ) -> Result<(), TableFault>
     requires { IsTrue (is_kept_with outcome balance) }
     ensures { Does S.Store tx.old tx.new
-        (λ tables. IsSome (row_at meta_key tables.meta 1) × (row_at request_key tables.requests ordinal ≡ None))
+        (λ tables. row_at request_key tables.requests ordinal ≡ None)
         (λ tables. tables_kept tables ordinal (record { moment = 0; request = request.now; outcome = outcome; balance = balance }))
         (λ _. tt) result }
 {

@@ -1,7 +1,7 @@
 //! What is looked up in the tables. Rows that belong together are read together, and told as damage where they differ.
 ghost use Rattle.std.specs.Prelude.{◌≡◌, ◌≤◌, IfOk};
 ghost use Rattle.posting_rules.specs.Commands.{branch_of_account, place_of_account};
-ghost use Rattle.posting_rules.specs.LookUps.{teller_balances_in, account_balance_in, kept_in, decided_in, found_in};
+ghost use Rattle.posting_rules.specs.LookUps.{teller_balances_in, account_balance_in, kept_in, found_in};
 ghost use Rattle.posting_rules.specs.Tables.{row_at, branch_key};
 ghost use Rattle.bank_transactions.specs.Doing.{Reads};
 
@@ -110,7 +110,7 @@ fn kept_request<S: Alter>(
 /// How many requests are decided.
 fn decided<S: Alter>(tx: &mut Transaction<'_, S>) -> Result<u64, TableFault>
     ensures within { IfOk result (λ decided. decided ≤ MAX_DECIDED) }
-    ensures says { Reads S.Store tx.old tx.new (λ tables. decided_in tables.meta) result }
+    ensures says { Reads S.Store tx.old tx.new (λ tables. tables.decided) result }
 {
     let Some(meta) = read_meta(tx)? else {
         return Err(TableFault::Damaged(Rule::Meta));

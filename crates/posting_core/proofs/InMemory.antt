@@ -3,7 +3,6 @@ use Rattle.std.proofs.Common.{◌≡◌, ℕ, ◌≤◌, List, [], ◌∷◌, le
 use Rattle.posting_rules.specs.declared.limits.TheConstants.{MOST_ACCOUNTS}
 use Rattle.message_records.specs.Reading.{request_of}
 use Rattle.message_records.specs.Spelling.{reply_spelling}
-use Rattle.posting_rules.specs.declared.rows.MetaRow.{MetaRow}
 use Rattle.posting_rules.specs.declared.rows.BranchRow.{BranchRow}
 use Rattle.posting_rules.specs.declared.rows.TellerRow.{TellerRow}
 use Rattle.posting_rules.specs.declared.rows.AccountRow.{AccountRow}
@@ -13,7 +12,6 @@ use Rattle.posting_rules.specs.Commands.{Command, Open, Post, AreCommands}
 use Rattle.posting_rules.specs.Entries.{reply}
 use Rattle.posting_rules.specs.Tables.{Tables, Shows}
 use Rattle.posting_rules.specs.LookUps.{count_in}
-use Rattle.posting_rules.specs.Steps.{meta_row_of}
 use Rattle.posting_rules.specs.Runs.{behind}
 use Rattle.posting_rules.specs.Counter.{ShowsLog, StandsAt, Takes}
 use Rattle.posting_core.specs.declared.plain_bank.PlainBank.{PlainBank}
@@ -24,19 +22,19 @@ use Rattle.posting_core.proofs.Appending.{record_shown, reply_is, opened_shown}
 use Rattle.posting_rules.proofs.Sequence.{commands_behind}
 
 pub empty_from : (bs : List BranchRow) (ts : List TellerRow) (xs : List AccountRow) (hs : List HistoryRow) (rs : List RequestRow) → bs ≡ [] → ts ≡ [] → xs ≡ [] → hs ≡ [] → rs ≡ []
-    → Shows (record { meta = meta_row_of (length rs) ∷ []; branches = bs; tellers = ts; accounts = xs; history = hs; requests = rs }) []
+    → Shows (record { decided = length rs; branches = bs; tellers = ts; accounts = xs; history = hs; requests = rs }) []
 empty_from bs ts xs hs rs eb et ea eh er = rw (eb, et, ea, eh, er) empty_shown
 
 -- ---- the rows after room was made for more
 
 -- the tables with these rows of history and requests
 abbrev pub with_requests : Tables → List HistoryRow → List RequestRow → Tables
-with_requests t hs rs = record t { meta = meta_row_of (length rs) ∷ []; history = hs; requests = rs }
+with_requests t hs rs = record t { decided = length rs; history = hs; requests = rs }
 
-pub requests_as_before : (t : Tables) (hs : List HistoryRow) (rs : List RequestRow) → t.meta ≡ meta_row_of (length t.requests) ∷ [] → hs ≡ t.history → rs ≡ t.requests → with_requests t hs rs ≡ t
+pub requests_as_before : (t : Tables) (hs : List HistoryRow) (rs : List RequestRow) → t.decided ≡ length t.requests → hs ≡ t.history → rs ≡ t.requests → with_requests t hs rs ≡ t
 requests_as_before t hs rs em eh er =
     ap (λ (x : List HistoryRow). with_requests t x rs) eh ∙ ap (λ (x : List RequestRow). with_requests t t.history x) er
-    ∙ ap (λ (x : List MetaRow). let u : Tables = record t { meta = x } in u) (sym em)
+    ∙ ap (λ (x : ℕ). let u : Tables = record t { decided = x } in u) (sym em)
 
 -- the tables with these rows of branches, tellers and accounts
 abbrev pub with_branches : Tables → List BranchRow → List TellerRow → List AccountRow → Tables

@@ -8,8 +8,8 @@ use Rattle.posting_rules.specs.Commands.{branch_of_teller}
 use Rattle.posting_rules.specs.Cases.{case_of, reply_in}
 use Rattle.posting_rules.specs.Entries.{Entry, refused_entry, posted_entry, malformed_reply}
 use Rattle.posting_rules.specs.Tables.{Tables, branch_key, teller_key, account_key, branch_row_of, request_row_of, history_row_of}
-use Rattle.posting_rules.specs.LookUps.{decided_in, found_in}
-use Rattle.posting_rules.specs.Steps.{with_branch_balance, with_teller_balance, with_account_balance, meta_row_of, first_teller, first_account}
+use Rattle.posting_rules.specs.LookUps.{found_in}
+use Rattle.posting_rules.specs.Steps.{with_branch_balance, with_teller_balance, with_account_balance, first_teller, first_account}
 use Rattle.posting_rules.specs.Changes.{row_changed, new_teller, new_account}
 
 -- a row for each of so many numbers from the first one on
@@ -20,14 +20,14 @@ rows_from row first (suc count) = rows_from row first count ++ row (first + coun
 -- ---- what a record does to the rows
 
 abbrev pub tables_kept : Tables → Entry → Tables
-tables_kept t e = let ordinal = decided_in t.meta + 1 in record t {
-  meta = meta_row_of ordinal ∷ [];
+tables_kept t e = let ordinal = t.decided + 1 in record t {
+  decided = ordinal;
   requests = t.requests ++ request_row_of ordinal e ∷ [];
 }
 
 abbrev pub tables_posted : Tables → Entry → ℤ → ℤ → Tables
-tables_posted t e teller branch = let ordinal = decided_in t.meta + 1 in record {
-  meta = meta_row_of ordinal ∷ [];
+tables_posted t e teller branch = let ordinal = t.decided + 1 in record {
+  decided = ordinal;
   branches = row_changed branch_key (with_branch_balance branch) (branch_of_teller e.request.teller) t.branches;
   tellers = row_changed teller_key (with_teller_balance teller) e.request.teller t.tellers;
   accounts = row_changed account_key (with_account_balance e.balance) e.request.account t.accounts;
@@ -54,7 +54,7 @@ tables_with t moment (Ok r) = tables_after t moment r (case_of (found_in t r) r)
 
 abbrev pub tables_opened : Tables → ℕ → ℕ → Tables
 tables_opened t b count = record {
-  meta = t.meta;
+  decided = t.decided;
   branches = t.branches ++ branch_row_of b (pos 0) count ∷ [];
   tellers = t.tellers ++ rows_from new_teller (first_teller b) 10;
   accounts = t.accounts ++ rows_from new_account (first_account b) count;

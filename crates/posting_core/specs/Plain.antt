@@ -1,14 +1,13 @@
 -- A bank in memory: its rows stand in the order in which they came.
-use Rattle.std.specs.Prelude.{◌≡◌, [], ◌∷◌, length}
+use Rattle.std.specs.Prelude.{◌≡◌, length}
 use Rattle.posting_core.specs.declared.plain_bank.PlainBank.{PlainBank}
 use Rattle.posting_rules.specs.Tables.{Tables}
-use Rattle.posting_rules.specs.Steps.{meta_row_of}
 use Rattle.posting_rules.specs.Counter.{Seen}
 
--- a request has the row whose place is its ordinal, so that the count of the rows is what meta keeps
+-- a request has the row whose place is its ordinal, so that the count of the rows is how many are decided
 abbrev pub plain_tables : PlainBank → Tables
 plain_tables bank = record {
-  meta = meta_row_of (length bank.requests.items) ∷ [];
+  decided = length bank.requests.items;
   branches = bank.branches.items;
   tellers = bank.tellers.items;
   accounts = bank.accounts.items;

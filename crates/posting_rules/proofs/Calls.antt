@@ -14,7 +14,7 @@ use Rattle.posting_rules.specs.LookUps.{found_in, count_in, count_of_branch}
 use Rattle.posting_rules.specs.Steps.{IsStep}
 use Rattle.posting_rules.specs.Tables.{Tables, row_at, branch_key}
 use Rattle.posting_rules.specs.Tables.{Shows as Show}
-use Rattle.posting_rules.proofs.Looked.{count_shown, decided_shown}
+use Rattle.posting_rules.proofs.Looked.{count_shown}
 use Rattle.posting_rules.proofs.Opened.{opening_shown, already_open_shown}
 use Rattle.posting_rules.proofs.Stepped.{post_shown, reply_shown}
 use Rattle.posting_rules.specs.Changes.{tables_with, reply_bytes, opened_where, tables_with_branch}
@@ -33,7 +33,7 @@ posts m bytes r read t log shows =
     let v = case_of (found_in t r) r in
     let step = step_is t m r v (ready_shown t log shows) in
     post_shown t (tables_with t m r) log m bytes r read shows
-    (subst (λ n. IsStep t (tables_with t m r) (n + 1) m r v) (decided_shown t (λ b. opened log b) (decided log) shows.rows) step)
+    (subst (λ n. IsStep t (tables_with t m r) (n + 1) m r v) shows.rows.decided step)
 
 pub replies : (t : Tables) (log : List Command) (bytes : List ℕ) (r : RequestFields) → request_of bytes ≡ Ok r → Show t log
     → reply_bytes t r ≡ reply_spelling (reply log bytes)

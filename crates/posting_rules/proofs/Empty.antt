@@ -1,9 +1,8 @@
--- Tables with no row but that of meta show the empty log.
-use Rattle.std.proofs.Common.{◌≡◌, Bool, true, false, leb, [], ◌∷◌, refl}
+-- Tables with no row show the empty log.
+use Rattle.std.proofs.Common.{◌≡◌, Bool, true, false, leb, [], refl}
 use Rattle.std.specs.Prelude.{nat_eq, ◌&&◌}
 use Rattle.std.specs.List.{IsDistinct}
 use Rattle.posting_rules.specs.Tables.{Shows}
-use Rattle.posting_rules.specs.Steps.{meta_row_of}
 
 none_distinct : IsDistinct nat_eq []
 unfolding IsDistinct
@@ -13,10 +12,10 @@ and_false : (b : Bool) → (b && false) ≡ false
 and_false true = refl
 and_false false = refl
 
-pub empty_shown : Shows (record { meta = meta_row_of 0 ∷ []; branches = []; tellers = []; accounts = []; history = []; requests = [] }) []
+pub empty_shown : Shows (record { decided = 0; branches = []; tellers = []; accounts = []; history = []; requests = [] }) []
 empty_shown = record {
   rows = record {
-    meta = refl;
+    decided = refl;
     branches = λ b. refl;
     tellers = λ n. rw (and_false (leb 1 n)) refl;
     accounts = λ n. rw (and_false (leb 1 n)) refl;

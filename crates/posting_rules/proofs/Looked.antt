@@ -1,15 +1,14 @@
 -- What is looked up in the tables of a log is what stands there by the definitions.
-use Rattle.std.proofs.Common.{◌≡◌, ℕ, Bool, true, false, cond, leb, List, length, Option, Some, None, refl, ap, ◌∙◌}
+use Rattle.std.proofs.Common.{◌≡◌, ℕ, Bool, true, false, cond, leb, List, Option, Some, None, refl, ap, ◌∙◌}
 use Rattle.std.specs.Prelude.{ℤ, is_some, ◌&&◌}
 use Rattle.std.specs.Option.{option_map}
 use Rattle.message_records.specs.Records.{RequestFields}
 use Rattle.posting_rules.specs.declared.facts.Found.{Found}
-use Rattle.posting_rules.specs.declared.rows.MetaRow.{MetaRow}
 use Rattle.posting_rules.specs.Commands.{Command, opened, branch_of_teller, is_teller_open, is_account_open}
 use Rattle.posting_rules.specs.Kept.{KeptFields}
 use Rattle.posting_rules.specs.Entries.{Entry, facts, teller_balance, branch_balance, account_balance, decided, balance_behind}
 use Rattle.posting_rules.specs.Tables.{Tables, HasRows, Shows, row_at, branch_key, branch_row_of, teller_row, teller_row_of, account_row_of}
-use Rattle.posting_rules.specs.LookUps.{found_in, both_of, teller_balances_in, account_balance_in, count_in, count_of_branch, balance_of_branch, balance_of_teller, balance_of_account, decided_in}
+use Rattle.posting_rules.specs.LookUps.{found_in, both_of, teller_balances_in, account_balance_in, count_in, count_of_branch, balance_of_branch, balance_of_teller, balance_of_account}
 use Rattle.posting_rules.proofs.Requests.{AreNew, kept_shown}
 
 -- an open teller has its branch's row
@@ -44,14 +43,11 @@ count_of_row None b z = refl
 pub count_shown : (t : Tables) (opened : ℕ → Option ℕ) (es : List Entry) (b : ℕ) → HasRows t opened es → count_in t b ≡ opened b
 count_shown t opened es b s = ap (option_map count_of_branch) (s.branches b) ∙ count_of_row (opened b) b (branch_balance es b)
 
-pub decided_shown : (t : Tables) (opened : ℕ → Option ℕ) (es : List Entry) → HasRows t opened es → decided_in t.meta ≡ length es
-decided_shown t opened es s = ap (λ (rows : List MetaRow). decided_in rows) s.meta
-
 -- all that is looked up for a request
 pub found_shown : (t : Tables) (opened : ℕ → Option ℕ) (es : List Entry) (r : RequestFields) → AreNew es → HasRows t opened es → found_in t r ≡ facts opened es r
 found_shown t opened es r new s =
     made _ _ _ _ _ _ _ _ (teller_balances_shown t opened es r.teller s) (kept_shown t.requests es s.request_keys s.requests new r.teller r.number)
-    (decided_shown t opened es s) (account_balance_shown t opened es r.account s)
+    s.decided (account_balance_shown t opened es r.account s)
   where
     made : (a a' : Option (ℤ × ℤ)) (k k' : Option KeptFields) (n n' : ℕ) (b b' : Option ℤ) → a ≡ a' → k ≡ k' → n ≡ n' → b ≡ b'
         → (let f : Found = record { teller = a; kept = k; decided = n; account = b } in f) ≡ record { teller = a'; kept = k'; decided = n'; account = b' }

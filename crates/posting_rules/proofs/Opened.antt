@@ -227,7 +227,7 @@ either_none opened b x closed = elim (by_test (eqb b x)) [ inl t ↦ inl (ap ope
 branch_added : (old new : Tables) (opened : ℕ → Option ℕ) (es : List Entry) (b count : ℕ) → AllNameOpen opened es → opened b ≡ None → 1 ≤ b → count ≤ MOST_ACCOUNTS
     → HasRows old opened es → OpensBranch old new b count → HasRows new (λ x. with_branch opened b count x) es
 branch_added old new opened es b count all closed hb hc s step = record {
-  meta = step.meta ∙ s.meta;
+  decided = step.decided ∙ s.decided;
   branches = λ n. step.branches.rows n ∙ ap (cond (eqb b n) (Some (branch_row_of b (pos 0) count))) (s.branches n)
       ∙ branch_put (opened n) (eqb b n) b n count (branch_balance es n) (eqb-true b n) (λ t. ap opened (sym (eqb-true b n t)) ∙ closed) (branch_none opened es n all);
   tellers = λ n. step.tellers.rows n ∙ ap (cond (is_from (first_teller b) 10 n) (Some (teller_row_of n (pos 0)))) (s.tellers n)

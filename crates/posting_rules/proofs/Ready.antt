@@ -1,5 +1,5 @@
 -- Tables on which the next record and the next opening can build, as those of every log are.
-use Rattle.std.proofs.Common.{◌≡◌, ℕ, suc, ◌+◌, ◌<◌, ◌≤◌, Bool, true, false, cond, leb, List, [], ◌∷◌, length, Option, Some, None, refl, sym, ap, ◌∙◌, arith}
+use Rattle.std.proofs.Common.{◌≡◌, ℕ, suc, ◌+◌, ◌<◌, ◌≤◌, Bool, true, false, cond, leb, List, length, Option, Some, None, refl, sym, ap, ◌∙◌, arith}
 use Rattle.std.specs.Prelude.{is_some, ◌&&◌}
 use Rattle.std.specs.Option.{option_map}
 use Rattle.std.proofs.lemmas.Bool.{le-leb}
@@ -7,18 +7,17 @@ use Rattle.posting_rules.specs.declared.rows.BranchRow.{BranchRow}
 use Rattle.posting_rules.specs.Commands.{Command, opened, branch_of_teller, branch_of_account, place_of_account, is_within}
 use Rattle.posting_rules.specs.Entries.{Entry, account_balance, teller_balance, branch_balance, decided}
 use Rattle.posting_rules.specs.Tables.{Tables, HasRows, Shows, HasKeys, row_at, branch_key, teller_key, account_key, history_key, request_key, branch_row_of, teller_row_of, account_row_of}
-use Rattle.posting_rules.specs.LookUps.{decided_in, count_in, count_of_branch}
+use Rattle.posting_rules.specs.LookUps.{count_in, count_of_branch}
 use Rattle.posting_rules.specs.Sound.{AreSound}
-use Rattle.posting_rules.specs.Steps.{meta_row_of, first_teller, first_account}
-use Rattle.posting_rules.proofs.Looked.{decided_shown, count_shown}
+use Rattle.posting_rules.specs.Steps.{first_teller, first_account}
+use Rattle.posting_rules.proofs.Looked.{count_shown}
 use Rattle.posting_rules.proofs.Stepped.{request_row_past, history_row_past}
 use Rattle.posting_rules.specs.declared.limits.TheConstants.{ACCOUNTS_PER_BRANCH}
 
--- meta counts, the next ordinal is free, and the tellers and the accounts are those of the branches
+-- the next ordinal is free, and the tellers and the accounts are those of the branches
 pub record AreReady (t : Tables) : Type 0 where
-  pub meta : (n : ℕ) × (t.meta ≡ meta_row_of n ∷ [])
-  pub next_request : row_at request_key t.requests (decided_in t.meta + 1) ≡ None
-  pub next_posting : row_at history_key t.history (decided_in t.meta + 1) ≡ None
+  pub next_request : row_at request_key t.requests (t.decided + 1) ≡ None
+  pub next_posting : row_at history_key t.history (t.decided + 1) ≡ None
   pub its_tellers : (n : ℕ) → 1 ≤ n
       → is_some (row_at teller_key t.tellers n) ≡ is_some (row_at branch_key t.branches (branch_of_teller n))
   pub its_accounts : (n : ℕ) → 1 ≤ n
@@ -32,7 +31,6 @@ pub record AreReady (t : Tables) : Type 0 where
 -- sound tables are
 pub ready_sound : (t : Tables) → AreSound t → AreReady t
 ready_sound t sound = let u = sound.undamaged in record {
-  meta = (u.meta.0, u.meta.1);
   next_request = u.next_request;
   next_posting = u.next_posting;
   its_tellers = u.tellers;
@@ -72,11 +70,9 @@ ready_shown t log shows =
     let s = shows.rows in
     let es = decided log in
     let open_ = λ (b : ℕ). opened log b in
-    let count = decided_shown t open_ es s in
     record {
-      meta = (length es, s.meta);
-      next_request = ap (λ (n : ℕ). row_at request_key t.requests (n + 1)) count ∙ next_request t open_ es s;
-      next_posting = ap (λ (n : ℕ). row_at history_key t.history (n + 1)) count ∙ next_posting t open_ es s;
+      next_request = ap (λ (n : ℕ). row_at request_key t.requests (n + 1)) s.decided ∙ next_request t open_ es s;
+      next_posting = ap (λ (n : ℕ). row_at history_key t.history (n + 1)) s.decided ∙ next_posting t open_ es s;
       its_tellers = λ n h.
           ap is_some (s.tellers n)
           ∙ there (leb 1 n) (is_some (open_ (branch_of_teller n))) (teller_row_of n (teller_balance es n)) (le-leb _ _ h)

@@ -21,7 +21,7 @@ use Rattle.posting_rules.specs.Cases.{case_of, reply_in}
 use Rattle.posting_rules.specs.Entries.{Entry, is_posted, facts, posted_sum, teller_balance, branch_balance, account_balance, refused_entry, posted_entry, with_verdict, with_record, reply_to, decided, reply}
 use Rattle.posting_rules.specs.Tables.{Tables, HasRows, HasKeys, Shows, row_at, branch_key, teller_key, account_key, history_key, request_key, branch_row_of, teller_row_of, account_row_of, history_row, history_row_of, request_row, request_row_of}
 use Rattle.posting_rules.specs.LookUps.{found_in}
-use Rattle.posting_rules.specs.Steps.{AddsRow, KeepsRefusal, KeepsPosting, IsStep, with_branch_balance, with_teller_balance, with_account_balance, meta_row_of}
+use Rattle.posting_rules.specs.Steps.{AddsRow, KeepsRefusal, KeepsPosting, IsStep, with_branch_balance, with_teller_balance, with_account_balance}
 use Rattle.posting_rules.proofs.Verdicts.{IsVerdict, IsPosting, IsRefusal, verdict_is}
 use Rattle.posting_rules.proofs.Requests.{are_new}
 use Rattle.posting_rules.proofs.Looked.{found_shown}
@@ -99,7 +99,7 @@ refusal_shown : (old new : Tables) (opened : ℕ → Option ℕ) (es : List Entr
 refusal_shown old new opened es m r o s h step =
     let e = refused_entry m r o in
     record {
-      meta = step.meta ∙ ap (λ (n : ℕ). meta_row_of n ∷ []) (one_more (length es));
+      decided = step.decided ∙ one_more (length es);
       branches = λ b. ap (λ (rows : List BranchRow). row_at branch_key rows b) step.branches ∙ s.branches b
           ∙ ap (λ (z : ℤ). option_map (branch_row_of b z) (opened b)) (unposted_sum (λ q. eqb q.branch b) es e h.unposted);
       tellers = λ t. ap (λ (rows : List TellerRow). row_at teller_key rows t) step.tellers ∙ s.tellers t
@@ -121,7 +121,7 @@ posting_shown old new opened es m r a t b s h step =
     let e = posted_entry m r a in
     let home = branch_of_teller r.teller in
     record {
-      meta = step.meta ∙ ap (λ (n : ℕ). meta_row_of n ∷ []) (one_more (length es));
+      decided = step.decided ∙ one_more (length es);
       branches = λ n. step.branches.rows n ∙ ap (option_map (λ row. cond (eqb home n) (with_branch_balance b row) row)) (s.branches n)
           ∙ branch_changed (opened n) (eqb home n) n b (branch_balance es n) r.delta (λ q. h.branch_is.sum ∙ ap (λ (x : ℕ). branch_balance es x +ℤ r.delta) (eqb-true _ _ q))
           ∙ ap (λ (x : ℕ). option_map (branch_row_of n (cond (eqb x n) (branch_balance es n +ℤ r.delta) (branch_balance es n))) (opened n)) (sym h.its_branch);

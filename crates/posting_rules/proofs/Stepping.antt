@@ -1,22 +1,21 @@
 -- In sound tables, what a verdict or an opening leaves by its statements is what it does to tables by look-ups.
-use Rattle.std.proofs.Common.{◌≡◌, ℕ, suc, ◌+◌, ◌<◌, ◌≤◌, List, [], ◌∷◌, Option, Some, None, refl, ap, ◌∙◌, arith}
+use Rattle.std.proofs.Common.{◌≡◌, ℕ, suc, ◌+◌, ◌<◌, ◌≤◌, List, Option, Some, None, refl, ap, ◌∙◌, arith}
 use Rattle.std.specs.Prelude.{ℤ, pos, is_some, IsSome}
 use Rattle.std.specs.Option.{option_map}
 use Rattle.message_records.specs.Records.{RequestFields}
 use Rattle.posting_rules.specs.declared.facts.Verdict.{Verdict}
 use Rattle.posting_rules.specs.declared.facts.Verdict.TheVariants.{Unkept, Again, Refused, Posted}
-use Rattle.posting_rules.specs.declared.rows.MetaRow.{MetaRow}
 use Rattle.posting_rules.specs.declared.rows.RequestRow.{RequestRow}
 use Rattle.posting_rules.specs.Commands.{Command, AreCommands, branch_of_teller}
 use Rattle.posting_rules.specs.Cases.{case_of, plus_within}
 use Rattle.posting_rules.specs.Entries.{Entry, refused_entry, posted_entry}
 use Rattle.posting_rules.specs.Tables.{Tables, Shows, row_at, branch_key, teller_key, account_key, history_key, request_key, branch_row_of, request_row_of, history_row_of}
-use Rattle.posting_rules.specs.LookUps.{decided_in, both_of, balance_of_branch, balance_of_teller, balance_of_account, found_in}
-use Rattle.posting_rules.specs.Steps.{AddsRow, AddsRows, KeepsRefusal, KeepsPosting, IsStep, OpensBranch, meta_row_of, first_teller, first_account}
+use Rattle.posting_rules.specs.LookUps.{both_of, balance_of_branch, balance_of_teller, balance_of_account, found_in}
+use Rattle.posting_rules.specs.Steps.{AddsRow, AddsRows, KeepsRefusal, KeepsPosting, IsStep, OpensBranch, first_teller, first_account}
 use Rattle.posting_rules.specs.Steps as steps
 use Rattle.posting_rules.proofs.Undamaged.{undamaged}
 use Rattle.posting_rules.proofs.Verdicts.{by_posting, by_account, by_new, by_known, by_teller}
-use Rattle.posting_rules.specs.Changes.{meta_key, row_changed, rows_put, new_teller, new_account, with_decided, with_branch_balance, with_teller_balance, with_account_balance, with_branch, with_teller, with_account, with_history, with_request}
+use Rattle.posting_rules.specs.Changes.{rows_put, new_teller, new_account, with_decided, with_branch_balance, with_teller_balance, with_account_balance, with_branch, with_teller, with_account, with_history, with_request}
 use Rattle.posting_rules.specs.Sound.{AreSound}
 use Rattle.posting_rules.specs.Changes.{tables_kept, tables_moved, tables_posted, tables_after, with_tellers, with_accounts, tables_opened, HasRowsOf}
 use Rattle.posting_rules.proofs.Ready.{AreReady, ready_sound, no_teller, no_account}
@@ -34,57 +33,37 @@ sound_tables t log are shows = record {
   requests = shows.rows.request_keys;
 }
 
--- ---- the row of meta
-
--- the count is written where the one row of meta stands
-count_written : (rows : List MetaRow) (before decided : ℕ) → rows ≡ meta_row_of before ∷ []
-    → row_changed meta_key (λ r. record r { decided = decided }) 1 rows ≡ meta_row_of decided ∷ []
-count_written rows before decided is = ap (row_changed meta_key (λ r. record r { decided = decided }) 1) is
-
--- so the tables with a count have the row of meta with it
-pub decided_is : (t : Tables) (before decided : ℕ) → t.meta ≡ meta_row_of before ∷ []
-    → (with_decided decided t).meta ≡ meta_row_of decided ∷ []
-unfolding with_decided
-decided_is t before decided is = count_written t.meta before decided is
-
-has_meta : (rows : List MetaRow) (n : ℕ) → rows ≡ meta_row_of n ∷ [] → IsSome (row_at meta_key rows 1)
-has_meta rows n is = ap (λ (ms : List MetaRow). is_some (row_at meta_key ms 1)) is
-
--- the row of meta is there
-pub meta_is_there : (t : Tables) → AreSound t → IsSome (row_at meta_key t.meta 1)
-meta_is_there t sound = has_meta t.meta sound.undamaged.meta.0 sound.undamaged.meta.1
-
 -- ---- what is decided
 
 -- the tables of a refusal
-pub refused_is : (t : Tables) (e : Entry) → AreReady t → KeepsRefusal t (tables_kept t (decided_in t.meta + 1) e) (decided_in t.meta + 1) e
+pub refused_is : (t : Tables) (e : Entry) → AreReady t → KeepsRefusal t (tables_kept t (t.decided + 1) e) (t.decided + 1) e
 unfolding with_decided with_request
 refused_is t e ready = record {
-  meta = count_written t.meta ready.meta.0 (decided_in t.meta + 1) ready.meta.1;
+  decided = refl;
   branches = refl;
   tellers = refl;
   accounts = refl;
   history = refl;
-  requests = row_adds request_key t.requests (request_row_of (decided_in t.meta + 1) e) ready.requests ready.next_request;
+  requests = row_adds request_key t.requests (request_row_of (t.decided + 1) e) ready.requests ready.next_request;
 }
 
 -- the tables of a posting
 pub posted_is : (t : Tables) (e : Entry) (teller branch : ℤ) → AreReady t
-    → KeepsPosting t (tables_posted t (decided_in t.meta + 1) e teller branch) (decided_in t.meta + 1) e teller branch
+    → KeepsPosting t (tables_posted t (t.decided + 1) e teller branch) (t.decided + 1) e teller branch
 unfolding with_decided with_request with_history with_branch_balance with_teller_balance with_account_balance
 posted_is t e teller branch ready = record {
-  meta = count_written t.meta ready.meta.0 (decided_in t.meta + 1) ready.meta.1;
+  decided = refl;
   branches =
       row_changes branch_key (branch_of_teller e.request.teller) (steps.with_branch_balance branch) t.branches (λ _. refl) ready.branches;
   tellers = row_changes teller_key e.request.teller (steps.with_teller_balance teller) t.tellers (λ _. refl) ready.tellers;
   accounts = row_changes account_key e.request.account (steps.with_account_balance e.balance) t.accounts (λ _. refl) ready.accounts;
-  history = row_adds history_key t.history (history_row_of (decided_in t.meta + 1) e) ready.history ready.next_posting;
-  requests = row_adds request_key t.requests (request_row_of (decided_in t.meta + 1) e) ready.requests ready.next_request;
+  history = row_adds history_key t.history (history_row_of (t.decided + 1) e) ready.history ready.next_posting;
+  requests = row_adds request_key t.requests (request_row_of (t.decided + 1) e) ready.requests ready.next_request;
 }
 
 -- the tables of any verdict
 pub step_is : (t : Tables) (moment : ℕ) (r : RequestFields) (v : Verdict) → AreReady t
-    → IsStep t (tables_after t moment r v) (decided_in t.meta + 1) moment r v
+    → IsStep t (tables_after t moment r v) (t.decided + 1) moment r v
 step_is t moment r (Unkept outcome) ready = refl
 step_is t moment r (Again reply) ready = refl
 step_is t moment r (Refused outcome) ready = refused_is t (refused_entry moment r outcome) ready
@@ -96,23 +75,11 @@ pub requests_as_before : (t : Tables) (ordinal : ℕ) (e : Entry) (teller branch
 unfolding with_history with_branch_balance with_teller_balance with_account_balance
 requests_as_before t ordinal e teller branch = refl
 
--- and how many they are
-pub meta_as_before : (t : Tables) (ordinal : ℕ) (e : Entry) (teller branch : ℤ) → (tables_moved t ordinal e teller branch).meta ≡ t.meta
-unfolding with_history with_branch_balance with_teller_balance with_account_balance
-meta_as_before t ordinal e teller branch = refl
-
 -- so that the next ordinal is as free behind them as before
 pub request_as_before : (t : Tables) (ordinal : ℕ) (e : Entry) (teller branch : ℤ) (n : ℕ)
     → row_at request_key (tables_moved t ordinal e teller branch).requests n ≡ row_at request_key t.requests n
 request_as_before t ordinal e teller branch n =
     ap (λ (rows : List RequestRow). row_at request_key rows n) (requests_as_before t ordinal e teller branch)
-
--- and the row of meta is there
-pub meta_stays_there : (t : Tables) (ordinal : ℕ) (e : Entry) (teller branch : ℤ) → AreSound t
-    → IsSome (row_at meta_key (tables_moved t ordinal e teller branch).meta 1)
-meta_stays_there t ordinal e teller branch sound =
-    has_meta (tables_moved t ordinal e teller branch).meta sound.undamaged.meta.0
-    (meta_as_before t ordinal e teller branch ∙ sound.undamaged.meta.1)
 
 -- ---- the rows that a posting changes
 
@@ -157,7 +124,7 @@ pub opens_is : (t : Tables) (b count : ℕ) → AreReady t → 1 ≤ b → count
     → OpensBranch t (tables_opened t b count) b count
 unfolding with_branch with_tellers with_accounts
 opens_is t b count ready low most none = record {
-  meta = refl;
+  decided = refl;
   branches = row_adds branch_key t.branches (branch_row_of b (pos 0) count) ready.branches none;
   tellers = rows_add teller_key new_teller (first_teller b) 10 t.tellers (λ _. refl) ready.tellers
       (λ n lt. no_teller t b n ready low none lt);

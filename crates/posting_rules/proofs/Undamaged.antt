@@ -153,7 +153,7 @@ undamaged t log are shows =
     let within = stays_within log in
     let ready = ready_shown t log shows in
     record {
-      meta = (length es, s.meta, few_enough es all);
+      decided = subst (λ n. n ≤ MAX_DECIDED) (sym s.decided) (few_enough es all);
       tellers = ready.its_tellers;
       accounts = ready.its_accounts;
       each_branch = λ r has.

@@ -2,7 +2,6 @@
 use Rattle.std.specs.Prelude.{ℕ, ℤ, List, [], ◌∷◌, map, ◌==◌, nat_lt, if◌then◌else◌, ◌≡◌, zero, suc, ◌+◌, pos, Option, Some, None, Result, Ok, Err, IsSome}
 use Rattle.posting_rules.specs.declared.limits.TheConstants.{TELLERS_PER_BRANCH}
 use Rattle.posting_rules.specs.Tables.{Tables, branch_key, teller_key, account_key, history_key, request_key, row_at, branch_row_of, teller_row_of, account_row_of, request_row_of, history_row_of}
-use Rattle.posting_rules.specs.declared.rows.MetaRow.{MetaRow}
 use Rattle.posting_rules.specs.declared.rows.BranchRow.{BranchRow}
 use Rattle.posting_rules.specs.declared.rows.TellerRow.{TellerRow}
 use Rattle.posting_rules.specs.declared.rows.AccountRow.{AccountRow}
@@ -17,12 +16,8 @@ use Rattle.posting_rules.specs.declared.facts.Verdict.TheVariants.{Unkept, Again
 use Rattle.posting_rules.specs.Commands.{branch_of_teller}
 use Rattle.posting_rules.specs.Entries.{Entry, refused_entry, posted_entry, malformed_reply}
 use Rattle.posting_rules.specs.Cases.{case_of, reply_in}
-use Rattle.posting_rules.specs.LookUps.{decided_in, found_in}
+use Rattle.posting_rules.specs.LookUps.{found_in}
 use Rattle.posting_rules.specs.Steps.{first_teller, first_account}
-
--- the id of the row of meta
-abbrev pub meta_key : MetaRow → ℕ
-meta_key r = r.id
 
 -- the rows, of which the one under a key is changed
 abbrev pub row_changed : {R : Type 0} → (R → ℕ) → (R → R) → ℕ → List R → List R
@@ -42,7 +37,7 @@ rows_put key row first (suc count) rows = row_put key (row (first + count)) (row
 
 -- so many requests are decided
 unfoldable pub with_decided : ℕ → Tables → Tables
-with_decided decided t = record t { meta = row_changed meta_key (λ r. record r { decided = decided }) 1 t.meta }
+with_decided decided t = record t { decided = decided }
 
 -- a branch has this balance
 unfoldable pub with_branch_balance : ℕ → ℤ → Tables → Tables
@@ -108,8 +103,8 @@ tables_posted t ordinal e teller branch = tables_kept (tables_moved t ordinal e 
 abbrev pub tables_after : Tables → ℕ → RequestFields → Verdict → Tables
 tables_after t moment r (Unkept outcome) = t
 tables_after t moment r (Again reply) = t
-tables_after t moment r (Refused outcome) = tables_kept t (decided_in t.meta + 1) (refused_entry moment r outcome)
-tables_after t moment r (Posted account teller branch) = tables_posted t (decided_in t.meta + 1) (posted_entry moment r account) teller branch
+tables_after t moment r (Refused outcome) = tables_kept t (t.decided + 1) (refused_entry moment r outcome)
+tables_after t moment r (Posted account teller branch) = tables_posted t (t.decided + 1) (posted_entry moment r account) teller branch
 
 -- what a request leaves
 abbrev pub tables_with : Tables → ℕ → RequestFields → Tables

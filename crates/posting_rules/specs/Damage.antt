@@ -1,5 +1,5 @@
 -- What holds of all tables that a log leads to. Tables of which it doesn't hold are damaged.
-use Rattle.std.specs.Prelude.{◌≡◌, ◌≤◌, ℕ, ◌+◌, ◌*◌, nat_abs, List, [], ◌∷◌, None, is_some, IsTrue}
+use Rattle.std.specs.Prelude.{◌≡◌, ◌≤◌, ℕ, ◌+◌, ◌*◌, nat_abs, List, None, is_some, IsTrue}
 use Rattle.std.specs.List.{Contains}
 use Rattle.posting_rules.specs.declared.limits.TheConstants.{MAX_DECIDED, LAST_BRANCH, MOST_ACCOUNTS, ACCOUNTS_PER_BRANCH, TELLERS_PER_BRANCH}
 use Rattle.message_records.specs.declared.limits.TheConstants.{MAX_ACCOUNT, MAX_TELLER, MAX_BRANCH, MAX_NUMBER, MAX_MOMENT, MAX_BALANCE, MAX_DELTA}
@@ -11,8 +11,7 @@ use Rattle.posting_rules.specs.declared.rows.RequestRow.{RequestRow}
 use Rattle.posting_rules.specs.Commands.{Command, AreCommands, branch_of_teller, branch_of_account, place_of_account, is_within}
 use Rattle.posting_rules.specs.Kept.{is_kept_with}
 use Rattle.posting_rules.specs.Tables.{Tables, Shows, row_at, branch_key, teller_key, account_key, history_key, request_key}
-use Rattle.posting_rules.specs.LookUps.{decided_in, count_in}
-use Rattle.posting_rules.specs.Steps.{meta_row_of}
+use Rattle.posting_rules.specs.LookUps.{count_in}
 
 -- ---- one row
 
@@ -83,8 +82,8 @@ pub record IsSoundPosting (r : HistoryRow) : Type 0 where
 
 -- every row is sound, and so is what the rows of several tables say together
 pub record IsUndamaged (t : Tables) : Type 0 where
-  -- meta has one row, with the version and a count within its range
-  pub meta : (n : ℕ) × (t.meta ≡ meta_row_of n ∷ []) × (n ≤ MAX_DECIDED)
+  -- no more requests are decided than a bank may decide
+  pub decided : t.decided ≤ MAX_DECIDED
   -- a teller has its row just where its branch has one
   pub tellers : (n : ℕ) → 1 ≤ n
       → is_some (row_at teller_key t.tellers n) ≡ is_some (row_at branch_key t.branches (branch_of_teller n))
@@ -102,9 +101,9 @@ pub record IsUndamaged (t : Tables) : Type 0 where
   -- every row of history has fields within their ranges
   pub each_posting : (r : HistoryRow) → Contains t.history r → IsSoundPosting r
   -- the next ordinal has no request
-  pub next_request : row_at request_key t.requests (decided_in t.meta + 1) ≡ None
+  pub next_request : row_at request_key t.requests (t.decided + 1) ≡ None
   -- and no posting
-  pub next_posting : row_at history_key t.history (decided_in t.meta + 1) ≡ None
+  pub next_posting : row_at history_key t.history (t.decided + 1) ≡ None
 
 -- no log of commands leads to damaged tables
 abbrev pub TablesAreUndamaged : Type 0

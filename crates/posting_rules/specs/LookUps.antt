@@ -1,10 +1,9 @@
 -- What a counter looks up in its tables, by keys alone: the order of the rows doesn't matter.
-use Rattle.std.specs.Prelude.{ℕ, ℤ, List, [], ◌∷◌, Option, Some, None, ◌==◌, ◌&&◌}
+use Rattle.std.specs.Prelude.{ℕ, ℤ, List, Option, Some, None, ◌==◌, ◌&&◌}
 use Rattle.std.specs.List.{find}
 use Rattle.std.specs.Option.{option_map}
 use Rattle.message_records.specs.Records.{RequestFields}
 use Rattle.posting_rules.specs.declared.facts.Found.{Found}
-use Rattle.posting_rules.specs.declared.rows.MetaRow.{MetaRow}
 use Rattle.posting_rules.specs.declared.rows.BranchRow.{BranchRow}
 use Rattle.posting_rules.specs.declared.rows.TellerRow.{TellerRow}
 use Rattle.posting_rules.specs.declared.rows.AccountRow.{AccountRow}
@@ -12,11 +11,6 @@ use Rattle.posting_rules.specs.declared.rows.RequestRow.{RequestRow}
 use Rattle.posting_rules.specs.Commands.{branch_of_teller}
 use Rattle.posting_rules.specs.Kept.{KeptFields}
 use Rattle.posting_rules.specs.Tables.{Tables, row_at, branch_key, teller_key, account_key}
-
--- how many requests are decided
-abbrev pub decided_in : List MetaRow → ℕ
-decided_in [] = 0
-decided_in (row ∷ rows) = row.decided
 
 abbrev pub count_of_branch : BranchRow → ℕ
 count_of_branch r = r.accounts
@@ -59,6 +53,6 @@ abbrev pub found_in : Tables → RequestFields → Found
 found_in t r = record {
   teller = teller_balances_in t r.teller;
   kept = kept_in t.requests r.teller r.number;
-  decided = decided_in t.meta;
+  decided = t.decided;
   account = account_balance_in t r.account;
 }

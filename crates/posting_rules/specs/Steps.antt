@@ -1,11 +1,10 @@
 -- How a verdict, and an opening, change tables. Each speaks of look-ups by key, so that the rows may stand in any order.
-use Rattle.std.specs.Prelude.{◌≡◌, ℕ, ◌+◌, ◌-◌, ◌*◌, ℤ, pos, List, [], ◌∷◌, Some, Bool, ◌==◌, ◌&&◌, nat_le, nat_lt, if◌then◌else◌}
+use Rattle.std.specs.Prelude.{◌≡◌, ℕ, ◌+◌, ◌-◌, ◌*◌, ℤ, pos, List, Some, Bool, ◌==◌, ◌&&◌, nat_le, nat_lt, if◌then◌else◌}
 use Rattle.std.specs.Option.{option_map}
 use Rattle.posting_rules.specs.declared.limits.TheConstants.{ACCOUNTS_PER_BRANCH, TELLERS_PER_BRANCH}
 use Rattle.message_records.specs.Records.{RequestFields}
 use Rattle.posting_rules.specs.declared.facts.Verdict.{Verdict}
 use Rattle.posting_rules.specs.declared.facts.Verdict.TheVariants.{Unkept, Again, Refused, Posted}
-use Rattle.posting_rules.specs.declared.rows.MetaRow.{MetaRow}
 use Rattle.posting_rules.specs.declared.rows.BranchRow.{BranchRow}
 use Rattle.posting_rules.specs.declared.rows.TellerRow.{TellerRow}
 use Rattle.posting_rules.specs.declared.rows.AccountRow.{AccountRow}
@@ -45,13 +44,9 @@ with_teller_balance z r = record { teller = r.teller; balance = z }
 abbrev pub with_account_balance : ℤ → AccountRow → AccountRow
 with_account_balance z r = record { account = r.account; balance = z }
 
--- the row of meta where so many are decided
-abbrev pub meta_row_of : ℕ → MetaRow
-meta_row_of decided = record { id = 1; version = 1; decided = decided }
-
 -- a refused request is kept under this ordinal
 pub record KeepsRefusal (old new : Tables) (ordinal : ℕ) (e : Entry) : Type 0 where
-  pub meta : new.meta ≡ meta_row_of ordinal ∷ []
+  pub decided : new.decided ≡ ordinal
   pub branches : new.branches ≡ old.branches
   pub tellers : new.tellers ≡ old.tellers
   pub accounts : new.accounts ≡ old.accounts
@@ -60,7 +55,7 @@ pub record KeepsRefusal (old new : Tables) (ordinal : ℕ) (e : Entry) : Type 0 
 
 -- a posting is kept under this ordinal, with the new balances of its account, its teller and its branch (TPC-B 1.2)
 pub record KeepsPosting (old new : Tables) (ordinal : ℕ) (e : Entry) (teller branch : ℤ) : Type 0 where
-  pub meta : new.meta ≡ meta_row_of ordinal ∷ []
+  pub decided : new.decided ≡ ordinal
   pub branches : ChangesRow branch_key (branch_of_teller e.request.teller) (with_branch_balance branch) old.branches new.branches
   pub tellers : ChangesRow teller_key e.request.teller (with_teller_balance teller) old.tellers new.tellers
   pub accounts : ChangesRow account_key e.request.account (with_account_balance e.balance) old.accounts new.accounts
@@ -84,7 +79,7 @@ first_account b = ACCOUNTS_PER_BRANCH * (b - 1) + 1
 
 -- a branch is there, with its tellers and its accounts, all at zero
 pub record OpensBranch (old new : Tables) (b count : ℕ) : Type 0 where
-  pub meta : new.meta ≡ old.meta
+  pub decided : new.decided ≡ old.decided
   pub branches : AddsRow branch_key (branch_row_of b (pos 0) count) old.branches new.branches
   pub tellers : AddsRows teller_key (λ n. teller_row_of n (pos 0)) (first_teller b) TELLERS_PER_BRANCH old.tellers new.tellers
   pub accounts : AddsRows account_key (λ n. account_row_of n (pos 0)) (first_account b) count old.accounts new.accounts

@@ -1,8 +1,7 @@
--- The six tables of a bank, and the rows that a log leads to.
+-- The tables of a bank, and the rows that a log leads to.
 use Rattle.std.specs.Prelude.{◌≡◌, ℕ, ◌+◌, ℤ, List, [], ◌∷◌, length, map, Option, Some, None, ◌==◌, ◌&&◌, if◌then◌else◌, nat_eq}
 use Rattle.std.specs.List.{find, IsDistinct}
 use Rattle.std.specs.Option.{option_map}
-use Rattle.posting_rules.specs.declared.rows.MetaRow.{MetaRow}
 use Rattle.posting_rules.specs.declared.rows.BranchRow.{BranchRow}
 use Rattle.posting_rules.specs.declared.rows.TellerRow.{TellerRow}
 use Rattle.posting_rules.specs.declared.rows.AccountRow.{AccountRow}
@@ -12,7 +11,8 @@ use Rattle.posting_rules.specs.Commands.{Command, opened, is_teller_open, is_acc
 use Rattle.posting_rules.specs.Entries.{Entry, is_posted, account_balance, teller_balance, branch_balance, kept_fields, decided}
 
 pub record Tables : Type 0 where
-  pub meta : List MetaRow
+  -- how many requests are decided
+  pub decided : ℕ
   pub branches : List BranchRow
   pub tellers : List TellerRow
   pub accounts : List AccountRow
@@ -43,10 +43,6 @@ abbrev pub request_key : RequestRow → ℕ
 request_key r = r.ordinal
 
 -- ---- the rows that a log leads to, by what is open and what is decided
-
--- one row: the version of the tables and how many requests are decided
-abbrev pub meta_rows : List Entry → List MetaRow
-meta_rows es = record { id = 1; version = 1; decided = length es } ∷ []
 
 abbrev pub branch_row_of : ℕ → ℤ → ℕ → BranchRow
 branch_row_of b balance count = record { branch = b; accounts = count; balance = balance }
@@ -91,7 +87,7 @@ history_row (e ∷ es) o = if (is_posted e && (length es + 1 == o)) then Some (h
 
 -- the tables have these rows and no others, in whatever order
 pub record HasRows (tables : Tables) (opened : ℕ → Option ℕ) (es : List Entry) : Type 0 where
-  pub meta : tables.meta ≡ meta_rows es
+  pub decided : tables.decided ≡ length es
   pub branches : (b : ℕ) → row_at branch_key tables.branches b ≡ branch_row opened es b
   pub tellers : (t : ℕ) → row_at teller_key tables.tellers t ≡ teller_row opened es t
   pub accounts : (a : ℕ) → row_at account_key tables.accounts a ≡ account_row opened es a

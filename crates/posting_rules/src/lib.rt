@@ -21,4 +21,4 @@ pub use limits::{
     ACCOUNTS_PER_BRANCH, LAST_BRANCH, MAX_DECIDED, MOST_ACCOUNTS, RECORDS_PER_BATCH,
     TELLERS_PER_BRANCH,
 };
-pub use rows::{AccountRow, BranchRow, HistoryRow, MetaRow, Ordinal, RequestRow, TellerRow};
+pub use rows::{AccountRow, BranchRow, HistoryRow, Ordinal, RequestRow, TellerRow};

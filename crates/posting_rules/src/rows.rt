@@ -6,16 +6,6 @@ use message_records::{Account, Branch, Cents, Moment, Number, Teller, Whole};
 /// How many requests were decided with and before one: 1..=`MAX_DECIDED`.
 pub type Ordinal = Whole<1, MAX_DECIDED>;
 
-/// What is known of the bank as a whole. There is one such row, with the id 1.
-#[derive(Clone, Copy, Debug, PartialEq, Eq)]
-pub struct MetaRow {
-    pub id: u64,
-    /// Of the form of the tables.
-    pub version: u64,
-    /// How many requests are decided.
-    pub decided: u64,
-}
-
 #[derive(Clone, Copy, Debug, PartialEq, Eq)]
 pub struct BranchRow {
     pub branch: Branch,

@@ -231,7 +231,7 @@ none_held old g (it ∷ its) sound all =
 -- the six are made
 pub all_made : (old new : State) → Reached old new (length six_texts) → IsMade old.now new.now
 all_made old new reached = record {
-  shows = record { sound = ∣ reached.sound ∣₁; each = none_held old.now new.now six_texts reached.sound reached.new };
+  empty = record { sound = ∣ reached.sound ∣₁; each = none_held old.now new.now six_texts reached.sound reached.new };
   keeps = λ t h. (reached.keeps.has t h, reached.keeps.rows t h);
   alone = λ none. (reached.alone none).1;
   apart = λ t h same. reached.new.0.apart t h

@@ -11,6 +11,7 @@ pub mod GetRequest
 pub mod Getting
 pub mod KeptRows
 pub mod Lookups
+pub mod MetaRow
 pub mod NextBranch
 pub mod Probing
 pub mod Puts

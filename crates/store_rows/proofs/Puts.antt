@@ -52,7 +52,7 @@ puts_request r = puts_by six.request ADD_REQUEST.now (given (request_entry r)) (
 
 -- the first row of meta
 abbrev pub first_row : Entry
-first_row = meta_entry (record { id = 1; version = 1; decided = 0 })
+first_row = meta_entry 0
 
 pub puts_first : PutsAs six.meta ADD_META.now (given first_row) first_row
 unfolding everything

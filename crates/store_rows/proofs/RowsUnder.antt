@@ -6,19 +6,14 @@ use Rattle.sqlite.specs.declared.error.Error.{Error}
 use Rattle.sqlite.specs.declared.types.Value.TheVariants.{Int}
 use Rattle.posting_rules.specs.Tables.{Tables, branch_key, row_at}
 use Rattle.sql_meanings.specs.Outcomes.{TellsRow}
-use Rattle.store_rows.specs.Columns.{branch_shown, meta_in, meta_numbers, meta_shown}
+use Rattle.store_rows.specs.Columns.{branch_shown}
 use Rattle.store_rows.specs.View.{Shows}
-use Rattle.store_rows.specs.declared.texts.TheConstants.{GET_BRANCH, GET_META}
-use Rattle.store_rows.proofs.BankTables.{tells_row, tells_whole}
-use Rattle.store_rows.proofs.Getting.{reads_branch, reads_meta}
-use Rattle.store_rows.proofs.TheTables.{branches, meta}
+use Rattle.store_rows.specs.declared.texts.TheConstants.{GET_BRANCH}
+use Rattle.store_rows.proofs.BankTables.{tells_whole}
+use Rattle.store_rows.proofs.Getting.{reads_branch}
+use Rattle.store_rows.proofs.TheTables.{branches}
 
 -- the row of a branch
 pub tells_branch : (old new : State) (t : Tables) (k : ℕ) → Shows old.now t → (r : Result Row Error)
     → QueriesRowInside GET_BRANCH.now (Int (pos k) ∷ []) old new r → TellsRow old new (option_map branch_shown (row_at branch_key t.branches k)) r
 tells_branch old new t k shows = tells_whole branches old new t shows _ _ k (reads_branch (pos k)) branch_shown (λ _. refl)
-
--- the row of meta
-pub tells_meta : (old new : State) (t : Tables) → Shows old.now t → (r : Result Row Error)
-    → QueriesRowInside GET_META.now (Int (pos 1) ∷ []) old new r → TellsRow old new (option_map meta_shown (meta_in t)) r
-tells_meta old new t shows = tells_row meta old new t shows _ _ 1 (reads_meta (pos 1)) meta_shown meta_numbers (λ _. refl)

@@ -10,7 +10,6 @@ use Rattle.sqlite.specs.Table.{Table}
 use Rattle.sqlite.specs.Tree.{Trees}
 use Rattle.sqlite.specs.Effect.{Database, IsDatabase}
 use Rattle.posting_rules.specs.Tables.{Tables}
-use Rattle.posting_rules.specs.declared.rows.MetaRow.{MetaRow}
 use Rattle.posting_rules.specs.declared.rows.BranchRow.{BranchRow}
 use Rattle.posting_rules.specs.declared.rows.TellerRow.{TellerRow}
 use Rattle.posting_rules.specs.declared.rows.AccountRow.{AccountRow}
@@ -22,7 +21,7 @@ use Rattle.sql_meanings.specs.Contents.{HoldsEach}
 use Rattle.sql_meanings.proofs.Contents.{HoldsEach-prop}
 use Rattle.sql_meanings.proofs.Trees.{same_schema}
 use Rattle.store_rows.specs.SixTables.{bank_tables}
-use Rattle.store_rows.specs.View.{Shows, ShowsTrees, contents, meta_entry, branch_entry, teller_entry, account_entry, history_entry, request_entry}
+use Rattle.store_rows.specs.View.{Shows, ShowsTrees, contents, branch_entry, teller_entry, account_entry, history_entry, request_entry}
 use Rattle.store_rows.proofs.KeptRows.{decode, decoded}
 
 -- what can be told back is told once
@@ -67,8 +66,9 @@ at e i = nat_abs (slice_index_or e.values i (pos 0))
 abbrev amount : Entry → ℕ → ℤ
 amount e i = slice_index_or e.values i (pos 0)
 
-abbrev meta_in : Entry → MetaRow
-meta_in e = record { id = nat_abs e.key; version = at e 0; decided = at e 1 }
+decided_in : List Entry → ℕ
+decided_in [] = 0
+decided_in (e ∷ es) = at e 1
 
 abbrev branch_in : Entry → BranchRow
 branch_in e = record { branch = nat_abs e.key; accounts = at e 0; balance = amount e 1 }
@@ -107,19 +107,18 @@ request_back r = ap (λ o. let it : RequestRow = record r {
 -- the tables of the entries that a file holds
 tables_in : List (List Entry) → Tables
 tables_in (a ∷ b ∷ c ∷ d ∷ e ∷ f ∷ more) = record {
-  meta = map meta_in a;
+  decided = decided_in a;
   branches = map branch_in b;
   tellers = map teller_in c;
   accounts = map account_in d;
   history = map history_in e;
   requests = map request_in f;
 }
-tables_in _ = record { meta = []; branches = []; tellers = []; accounts = []; history = []; requests = [] }
+tables_in _ = record { decided = 0; branches = []; tellers = []; accounts = []; history = []; requests = [] }
 
 tables_back : (t : Tables) → tables_in (contents t) ≡ t
-unfolding tables_in
+unfolding tables_in decided_in
 tables_back t = rw (
-  all_back meta_entry meta_in (λ _. refl) t.meta,
   all_back branch_entry branch_in (λ _. refl) t.branches,
   all_back teller_entry teller_in (λ _. refl) t.tellers,
   all_back account_entry account_in (λ _. refl) t.accounts,

@@ -1,22 +1,14 @@
--- The tables of the bank, each with its typed rows.
+-- The tables of the bank that have typed rows, each with these.
 use Rattle.std.proofs.Common.{[], ◌∷◌, codes, lit≤, refl}
-use Rattle.posting_rules.specs.Changes.{meta_key}
 use Rattle.posting_rules.specs.Tables.{branch_key, teller_key, account_key, history_key, request_key}
-use Rattle.posting_rules.specs.declared.rows.MetaRow.{MetaRow}
 use Rattle.posting_rules.specs.declared.rows.BranchRow.{BranchRow}
 use Rattle.posting_rules.specs.declared.rows.TellerRow.{TellerRow}
 use Rattle.posting_rules.specs.declared.rows.AccountRow.{AccountRow}
 use Rattle.posting_rules.specs.declared.rows.HistoryRow.{HistoryRow}
 use Rattle.posting_rules.specs.declared.rows.RequestRow.{RequestRow}
 use Rattle.store_rows.specs.SixTables as six
-use Rattle.store_rows.specs.View.{meta_entry, branch_entry, teller_entry, account_entry, history_entry, request_entry}
+use Rattle.store_rows.specs.View.{branch_entry, teller_entry, account_entry, history_entry, request_entry}
 use Rattle.store_rows.proofs.BankTables.{Kind, kind_of}
-
--- the bank as a whole
-abbrev pub meta : Kind MetaRow
-meta = kind_of 0 six.meta meta_key meta_entry (λ t. t.meta) (λ rows t. record t { meta = rows }) (λ _. refl) refl (λ _. refl)
-    (λ _ _. refl) (λ _ _. refl) (codes "id") (codes "version" ∷ codes "decided" ∷ [])
-    refl refl refl (lit≤ tt) refl
 
 -- the branches
 abbrev pub branches : Kind BranchRow

@@ -1,5 +1,5 @@
 -- What the calls on the tables of a bank tell.
-use Rattle.std.specs.Prelude.{◌≡◌, false, Bool, Result}
+use Rattle.std.specs.Prelude.{◌≡◌, false, Bool, List, Result}
 use Rattle.sqlite.specs.Held.{Held, state}
 use Rattle.sqlite.specs.State.{State, HasCleanDisk, Survives}
 use Rattle.sqlite.specs.Table.{Table}
@@ -7,11 +7,17 @@ use Rattle.sqlite.specs.declared.error.Error.{Error}
 use Rattle.sqlite_trees.specs.declared.store.Store.{Ghosts}
 use Rattle.posting_rules.specs.Tables.{Tables}
 use Rattle.sql_meanings.specs.Outcomes.{TellsProbe}
-use Rattle.store_rows.specs.View.{Shows}
+use Rattle.sql_meanings.specs.Entries.{Entry}
+use Rattle.store_rows.specs.SixTables.{meta}
+use Rattle.store_rows.specs.View.{HoldsRows, Shows}
 
 -- of whatever tables are shown
 abbrev pub OfTables : (State → State → Tables → Type 0) → State → State → Type 0
 OfTables Told old new = (tables : Tables) → Shows old.now tables → Told old new tables
+
+-- of whatever rows of `meta` are held
+abbrev pub OfMeta : (State → State → List Entry → Type 0) → State → State → Type 0
+OfMeta Told old new = (rows : List Entry) → HoldsRows old.now meta rows → Told old new rows
 
 -- Whether the columns of a table can be read, on an honest disk. Only a fault shuts the store, and a stop leaves nothing new.
 pub record Probes {S : Type 0} (g : Ghosts S) (old new : Held S) (table : Table) (answer : Result Bool Error) : Type 0 where

@@ -1,16 +1,16 @@
 -- What the reading statements show of a row, and what they look for.
-use Rattle.std.specs.Prelude.{◌&&◌, ◌==◌, ℕ, ℤ, pos, [], ◌∷◌, Option, find, nat_lt, option_map}
+use Rattle.std.specs.Prelude.{◌&&◌, ◌==◌, ℕ, ℤ, pos, List, [], ◌∷◌, Option, find, nat_lt, option_map, slice_index_or}
 use Rattle.sqlite.specs.Order.{Row}
 use Rattle.sqlite.specs.declared.types.Value.TheVariants.{Int}
 use Rattle.message_records.specs.Outcomes.{code_of}
 use Rattle.posting_rules.specs.Tables.{Tables, row_at, teller_key, account_key}
-use Rattle.posting_rules.specs.declared.rows.MetaRow.{MetaRow}
 use Rattle.posting_rules.specs.declared.rows.BranchRow.{BranchRow}
 use Rattle.posting_rules.specs.declared.rows.TellerRow.{TellerRow}
 use Rattle.posting_rules.specs.declared.rows.AccountRow.{AccountRow}
 use Rattle.posting_rules.specs.declared.rows.RequestRow.{RequestRow}
 use Rattle.store_rows.specs.declared.metas.StoredMeta.{StoredMeta}
-use Rattle.posting_rules.specs.Changes.{meta_key}
+use Rattle.store_rows.specs.declared.metas.TheConstants.{META_ID}
+use Rattle.sql_meanings.specs.Entries.{Entry, has_key}
 
 -- version, decided
 abbrev pub meta_shown : StoredMeta → Row
@@ -33,13 +33,17 @@ request_shown r =
 
 -- ---- what is looked for
 
--- the numbers of the row of meta
-abbrev pub meta_numbers : MetaRow → StoredMeta
-meta_numbers r = record { version = pos r.version; decided = pos r.decided }
+-- the number at this place behind the key of a row
+abbrev pub number_at : ℕ → Entry → ℤ
+number_at place row = slice_index_or row.values place (pos 0)
 
--- what meta holds of the bank
-abbrev pub meta_in : Tables → Option StoredMeta
-meta_in t = option_map meta_numbers (row_at meta_key t.meta 1)
+-- the numbers of a row of `meta`
+abbrev pub meta_numbers : Entry → StoredMeta
+meta_numbers row = record { version = number_at 0 row; decided = number_at 1 row }
+
+-- what the row of the bank holds among the rows of `meta`
+abbrev pub meta_in : List Entry → Option StoredMeta
+meta_in rows = option_map meta_numbers (find (has_key (pos META_ID)) rows)
 
 -- a teller's balance
 abbrev pub teller_balance_of : TellerRow → ℤ

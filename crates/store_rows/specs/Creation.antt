@@ -1,10 +1,10 @@
 -- The six tables come to be, beside whatever the file has.
-use Rattle.std.specs.Prelude.{◌≡◌, ◌≢◌, ◌⊎◌, List, [], ◌∷◌, codes, fold, length, take, slice_get, false, Some, Result, Ok, Err, ℕ}
+use Rattle.std.specs.Prelude.{◌≡◌, ◌≢◌, ◌⊎◌, List, [], ◌∷◌, codes, fold, length, map, take, slice_get, false, Some, Result, Ok, Err, ℕ}
 use Rattle.sqlite.specs.Schema.{Schema}
 use Rattle.sqlite.specs.Table.{Table}
 use Rattle.sqlite.specs.Tree.{Trees}
 use Rattle.sqlite.specs.Change.{created}
-use Rattle.sqlite.specs.Effect.{Database}
+use Rattle.sqlite.specs.Effect.{Database, IsDatabase}
 use Rattle.sqlite.specs.State.{State, Fails, KeepsCounts}
 use Rattle.sqlite.specs.declared.error.Error.{Error}
 use Rattle.sqlite.specs.declared.error.Error.TheVariants.{SqliteFailure}
@@ -16,17 +16,25 @@ use Rattle.sql_meanings.specs.Making.{KeepsTables, NotMade, SparesTables, counts
 use Rattle.sql_meanings.specs.Outcomes.{GoesOn, HasWideIndex, IsInterrupted, IsUndone, NamesCause, PutFails}
 use Rattle.sql_meanings.specs.Tables.{tree_of}
 use Rattle.store_rows.specs.Outcomes.{IsForbidden}
+use Rattle.sql_meanings.specs.Contents.{HoldsEach}
+use Rattle.sql_meanings.specs.Entries.{Entry}
+use Rattle.store_rows.specs.SixTables.{bank_tables}
 use Rattle.store_rows.specs.SixTables as six
 use Rattle.store_rows.specs.declared.texts.TheConstants as text
 use Rattle.store_rows.specs.View.{Shows}
 
--- no rows at all
-abbrev pub no_rows : Tables
-no_rows = record { meta = []; branches = []; tellers = []; accounts = []; history = []; requests = [] }
-
--- the tables of a new bank: the one row of meta, with nothing decided
+-- the tables of a new bank: nothing is decided, and nothing is open
 abbrev pub new_tables : Tables
-new_tables = record no_rows { meta = record { id = 1; version = 1; decided = 0 } ∷ [] }
+new_tables = record { decided = 0; branches = []; tellers = []; accounts = []; history = []; requests = [] }
+
+-- no rows in each of the six
+abbrev pub no_rows : List (List Entry)
+no_rows = map (λ table. []) bank_tables
+
+-- a sound database defines the six tables, and they have no rows
+pub record AreEmpty (db : Database) : Type 0 where
+  pub sound : ∥ IsDatabase db ∥₁
+  pub each : HoldsEach db bank_tables no_rows
 
 -- the six texts, each with its table
 abbrev pub six_texts : List (List ℕ × Table)
@@ -41,7 +49,7 @@ with_first n schema = fold (λ s it. created s it.1) schema (take n six_texts)
 -- The six tables are there and empty, and every table that was there is there, with its rows. Where no table counts its rows, nothing else
 -- is new.
 pub record IsMade (old new : Database) : Type 0 where
-  pub shows : Shows new no_rows
+  pub empty : AreEmpty new
   pub keeps : KeepsTables old new
   pub alone : counts_rows old.schema ≡ false → new.schema ≡ with_first (length six_texts) old.schema
   pub apart : (t : Table) → Has old.schema.tables t → t.tree ≢ tree_of new.schema (codes "meta")

@@ -1,11 +1,11 @@
 -- The one view of a database as the tables of a bank.
-use Rattle.std.specs.Prelude.{pos, List, [], ◌∷◌, map}
+use Rattle.std.specs.Prelude.{ℕ, pos, List, [], ◌∷◌, map}
 use Rattle.sqlite.specs.Schema.{Schema}
+use Rattle.sqlite.specs.Table.{Table}
 use Rattle.sqlite.specs.Tree.{Trees}
 use Rattle.sqlite.specs.Effect.{Database, IsDatabase}
 use Rattle.message_records.specs.Outcomes.{code_of}
 use Rattle.posting_rules.specs.Tables.{Tables}
-use Rattle.posting_rules.specs.declared.rows.MetaRow.{MetaRow}
 use Rattle.posting_rules.specs.declared.rows.BranchRow.{BranchRow}
 use Rattle.posting_rules.specs.declared.rows.TellerRow.{TellerRow}
 use Rattle.posting_rules.specs.declared.rows.AccountRow.{AccountRow}
@@ -13,13 +13,15 @@ use Rattle.posting_rules.specs.declared.rows.HistoryRow.{HistoryRow}
 use Rattle.posting_rules.specs.declared.rows.RequestRow.{RequestRow}
 use Rattle.sql_meanings.specs.Entries.{Entry}
 use Rattle.sql_meanings.specs.Contents.{HoldsEach}
+use Rattle.sql_meanings.specs.Tables.{Holds}
+use Rattle.store_rows.specs.declared.metas.TheConstants.{META_ID, VERSION}
 use Rattle.store_rows.specs.SixTables.{bank_tables}
 
 -- ---- how a file holds the rows: the key, and the other columns in their order
 
--- a row of `meta`
-abbrev pub meta_entry : MetaRow → Entry
-meta_entry r = record { key = pos r.id; values = pos r.version ∷ pos r.decided ∷ [] }
+-- the one row of `meta`: the version of the tables, and how many requests are decided
+abbrev pub meta_entry : ℕ → Entry
+meta_entry decided = record { key = pos META_ID; values = VERSION ∷ pos decided ∷ [] }
 
 -- a row of `branch`
 abbrev pub branch_entry : BranchRow → Entry
@@ -47,10 +49,15 @@ request_entry r = record {
 
 -- ---- the view
 
+-- a sound database defines this table, and holds these rows of it by rising keys, whatever numbers they are
+pub record HoldsRows (db : Database) (table : Table) (rows : List Entry) : Type 0 where
+  pub sound : ∥ IsDatabase db ∥₁
+  pub holds : Holds db table rows
+
 -- the rows of each table as a file holds them, in the order of `bank_tables`
 abbrev pub contents : Tables → List (List Entry)
 contents t =
-    map meta_entry t.meta ∷ map branch_entry t.branches ∷ map teller_entry t.tellers ∷ map account_entry t.accounts
+    (meta_entry t.decided ∷ []) ∷ map branch_entry t.branches ∷ map teller_entry t.tellers ∷ map account_entry t.accounts
     ∷ map history_entry t.history ∷ map request_entry t.requests ∷ []
 
 -- a sound database defines the tables of a bank and holds these rows by rising keys, whatever else it has

@@ -7,13 +7,11 @@ ghost use Rattle.sql_meanings.specs.Calls.{Says, Inside};
 ghost use Rattle.sql_meanings.specs.Making.{CreatesOnly, KeepsTables};
 ghost use Rattle.sql_meanings.specs.Outcomes.{WriteKept, WritesKept, MakesTold};
 ghost use Rattle.store_rows.specs.View.{Shows};
-ghost use Rattle.store_rows.specs.Creation.{no_rows, new_tables, six_texts, MakesAll, StartsBank, CreatesBank, CreationFails, HasNewBank};
+ghost use Rattle.store_rows.specs.Creation.{AreEmpty, new_tables, six_texts, MakesAll, StartsBank, CreatesBank, CreationFails, HasNewBank};
 
+use crate::metas::{META_ID, VERSION};
 use crate::texts::{ADD_META, MAKE_TABLES};
 use sqlite::{Alter, Connection, Error, Transaction, params};
-
-/// The version of the tables.
-pub const VERSION: i64 = 1;
 
 // Makes the table that the text defines.
 fn make_table<S: Alter>(tx: &mut Transaction<'_, S>, text: &str) -> Result<usize, Error>
@@ -46,10 +44,11 @@ fn make_tables<S: Alter>(tx: &mut Transaction<'_, S>) -> Result<(), Error>
 // The first row of meta: the version, and nothing decided.
 fn add_meta<S: Alter>(tx: &mut Transaction<'_, S>) -> Result<usize, Error>
     ensures { Says S.Store tx.old tx.new
-        (Inside (λ old new. Shows old.now no_rows → StartsBank old new result))
+        (Inside (λ old new. AreEmpty old.now → StartsBank old new result))
         (Inside (λ old new. WriteKept old new result)) }
 {
-    tx.execute(ADD_META, params![1i64, VERSION, 0i64])
+    let id = META_ID as i64;
+    tx.execute(ADD_META, params![id, VERSION, 0i64])
 }
 
 /// Makes the six tables and the first row of meta, inside a transaction.

@@ -19,11 +19,11 @@ mod texts;
 pub use accounts::{account_balance, add_account, set_account_balance};
 pub use branches::{add_branch, find_branch, next_branch, set_branch_balance};
 pub use commits::commit;
-pub use creation::{VERSION, create, create_tables};
+pub use creation::{create, create_tables};
 pub use faults::TableFault;
 pub use history::add_history;
 pub use laws::trees_law;
-pub use metas::{StoredMeta, read_meta, set_decided};
+pub use metas::{StoredMeta, VERSION, read_meta, set_decided};
 pub use probes::{
     probe_accounts, probe_branches, probe_history, probe_meta, probe_requests, probe_tellers,
 };

@@ -1,10 +1,9 @@
 //! The table of the bank as a whole: one row.
-ghost use Rattle.std.specs.Prelude.{◌≤◌, is_some, option_map};
-ghost use Rattle.posting_rules.specs.Tables.{row_at};
-ghost use Rattle.posting_rules.specs.Changes.{meta_key, with_decided};
+ghost use Rattle.std.specs.Prelude.{◌≤◌, true, option_map};
+ghost use Rattle.posting_rules.specs.Changes.{with_decided};
 ghost use Rattle.sql_meanings.specs.Calls.{Says, Inside};
 ghost use Rattle.sql_meanings.specs.Outcomes.{ReadKept, TellsRow, WriteKept};
-ghost use Rattle.store_rows.specs.Calls.{OfTables};
+ghost use Rattle.store_rows.specs.Calls.{OfMeta, OfTables};
 ghost use Rattle.store_rows.specs.Columns.{meta_in, meta_shown};
 ghost use Rattle.store_rows.specs.Outcomes.{Finds, Looks, Never, ReadsRow, Writes};
 ghost use Rattle.store_rows.specs.SixTables.{meta as table};
@@ -15,6 +14,12 @@ use crate::statements::{row_under, write_under};
 use crate::texts::{GET_META, SET_META};
 use posting_rules::MAX_DECIDED;
 use sqlite::{Alter, Error, Row, Transaction};
+
+/// The id of the row of the bank, which is the only one.
+pub(crate) const META_ID: u64 = 1;
+
+/// The version of the tables.
+pub const VERSION: i64 = 1;
 
 /// What the row of the bank holds, whatever the numbers: another product may have written them.
 #[derive(Clone, Copy, Debug, PartialEq, Eq)]
@@ -38,16 +43,16 @@ fn meta_from(row: &Row) -> Result<StoredMeta, TableFault>
 // The row of the bank.
 fn meta_row<S: Alter>(tx: &mut Transaction<'_, S>) -> Result<Row, Error>
     ensures { Says S.Store tx.old tx.new
-        (OfTables (λ old new tables. TellsRow old new (option_map meta_shown (meta_in tables)) result))
+        (OfMeta (λ old new rows. TellsRow old new (option_map meta_shown (meta_in rows)) result))
         (λ old new. ReadKept old new result) }
 {
-    row_under(tx, GET_META, 1)
+    row_under(tx, GET_META, META_ID)
 }
 
-/// What meta holds of the bank, none where it has no row.
+/// What meta holds of the bank, none where it has no row under the bank's id, whatever other rows it has.
 pub fn read_meta<S: Alter>(tx: &mut Transaction<'_, S>) -> Result<Option<StoredMeta>, TableFault>
     ensures { Says S.Store tx.old tx.new
-        (OfTables (λ old new tables. Finds old new (meta_in tables) Never result))
+        (OfMeta (λ old new rows. Finds old new (meta_in rows) Never result))
         (λ old new. Looks old new result) }
 {
     match meta_row(tx) {
@@ -61,9 +66,8 @@ pub fn read_meta<S: Alter>(tx: &mut Transaction<'_, S>) -> Result<Option<StoredM
 pub fn set_decided<S: Alter>(tx: &mut Transaction<'_, S>, decided: u64) -> Result<bool, Error>
     requires { decided ≤ MAX_DECIDED }
     ensures { Says S.Store tx.old tx.new
-        (Inside (OfTables (λ old new tables. Writes old new table (is_some (row_at meta_key tables.meta 1))
-        (with_decided decided tables) result)))
+        (Inside (OfTables (λ old new tables. Writes old new table true (with_decided decided tables) result)))
         (Inside (λ old new. WriteKept old new result)) }
 {
-    write_under(tx, SET_META, 1, decided as i64)
+    write_under(tx, SET_META, META_ID, decided as i64)
 }

@@ -28,5 +28,5 @@ returns-in-Some-clause-told g c clean =
     let midway : HasCleanDisk mid = omega (arith, c.in_ok-settled_meta-in-Whole.ensures.survives.clean) in
     let there = subst (λ (p : Presence). IsPresent old.now six_tables p × IsAsBefore old mid) c.in-Whole.is (c.in_ok-tables_there.ensures.told midway) in
     looked old mid new (Some c.in-Some.meta) there.0 there.1
-    (λ t shows. sym c.in-Some.is ∙ c.in_ok-settled_meta-in-Whole.ensures.told clean t shows)
+    (λ rows has. sym c.in-Some.is ∙ c.in_ok-settled_meta-in-Whole.ensures.told clean rows has)
     (c.in_ok-settled_meta-in-Whole.ensures.same clean) c.check_meta.result c.check_meta.ensures

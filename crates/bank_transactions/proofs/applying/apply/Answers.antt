@@ -8,10 +8,10 @@ use Rattle.posting_rules.specs.declared.facts.Verdict.TheVariants.{Posted}
 use Rattle.posting_rules.specs.Cases.{case_of}
 use Rattle.posting_rules.specs.Changes.{HasRowsOf, tables_kept, tables_moved, tables_after}
 use Rattle.posting_rules.specs.Entries.{posted_entry}
-use Rattle.posting_rules.specs.LookUps.{found_in, decided_in}
+use Rattle.posting_rules.specs.LookUps.{found_in}
 use Rattle.posting_rules.specs.Sound.{AreSound}
 use Rattle.posting_rules.specs.Tables.{Tables, row_at, history_key, request_key}
-use Rattle.posting_rules.proofs.Stepping.{posted_rows, meta_stays_there, request_as_before}
+use Rattle.posting_rules.proofs.Stepping.{posted_rows, request_as_before}
 use Rattle.bank_transactions.proofs.Chained.{does_then, does_err, does_for}
 use Rattle.bank_transactions.proofs.applying.apply.Goals as goal
 
@@ -21,7 +21,7 @@ Judged t r f v = AreSound t × (f ≡ found_in t r) × (v ≡ case_of f r)
 
 module _ (t : Tables) (r : RequestFields) (f : Found) (v : Verdict) (judged : Judged t r f v) (account teller branch : ℤ) (posted : v ≡ Posted account teller branch)
     (ordinal : ℕ) (is : ordinal ≡ f.decided + 1) where
-  next : ordinal ≡ decided_in t.meta + 1
+  next : ordinal ≡ t.decided + 1
   next = is ∙ ap (λ (x : Found). x.decided + 1) judged.1
 
   -- the rows that a posting changes are there, and its ordinal is free
@@ -53,11 +53,8 @@ returns-in_ok-move_money-in-Posted g c =
     (does_for c.in_ok-move_money-in-Posted.ensures
     (λ t so. (has_rows t r f verdict so v.account v.teller v.branch v.is ordinal is, refl, refl)))
     c.keep_request-in-Posted.ensures
-    (λ t so. (
-      meta_stays_there t ordinal e v.teller v.branch so.0,
-      request_as_before t ordinal e v.teller v.branch ordinal
-          ∙ ap (row_at request_key t.requests) (next t r f verdict so v.account v.teller v.branch v.is ordinal is) ∙ so.0.undamaged.next_request,
-    )))
+    (λ t so. request_as_before t ordinal e v.teller v.branch ordinal
+    ∙ ap (row_at request_key t.requests) (next t r f verdict so v.account v.teller v.branch v.is ordinal is) ∙ so.0.undamaged.next_request))
     (λ t so. (
       so,
       ap (λ (n : ℕ). tables_kept (tables_moved t n e v.teller v.branch) n e) (next t r f verdict so v.account v.teller v.branch v.is ordinal is)

@@ -2,12 +2,12 @@
 use Rattle.std.proofs.Common.{rules}
 use Rattle.sql_meanings.proofs.Texts.{only_reads}
 use Rattle.store_rows.proofs.Getting.{is_get_meta}
-use Rattle.store_rows.proofs.RowsUnder.{tells_meta}
+use Rattle.store_rows.proofs.MetaRow.{tells_meta}
 use Rattle.store_rows.proofs.metas.meta_row.Goals as goal
 
 pub returns : goal.returns
 returns g c = record {
-  told = λ clean t shows. tells_meta _ _ t shows c.row_under.result (c.row_under.ensures.told clean);
+  told = λ clean rows has. tells_meta _ _ rows has c.row_under.result (c.row_under.ensures.told clean);
   kept = λ clean. c.row_under.ensures.kept clean (only_reads is_get_meta c.args.tx.now.conn.now.schema);
   same_reference = search rules;
   survives = search rules;

@@ -10,7 +10,7 @@ returns-in_err-meta_from-in-Ok g c =
     let e = c.in_err-meta_from-in-Ok in
     let same : c.from_residual.result ≡ Err e.field-0.0 = search rules in
     record {
-      told = λ clean t shows. rw same (found_err _ _ meta_shown Never c.in-Ok.row (meta_in t) e.field-0.0 (c.in-Ok.ensures.told clean t shows) e.ensures);
+      told = λ clean rows has. rw same (found_err _ _ meta_shown Never c.in-Ok.row (meta_in rows) e.field-0.0 (c.in-Ok.ensures.told clean rows has) e.ensures);
       kept = search rules;
       same_reference = search rules;
       survives = search rules;
@@ -18,7 +18,7 @@ returns-in_err-meta_from-in-Ok g c =
 
 pub returns-in_ok-meta_from-in-Ok : goal.returns-in_ok-meta_from-in-Ok
 returns-in_ok-meta_from-in-Ok g c = record {
-  told = λ clean t shows. found_ok _ _ meta_shown Never c.in-Ok.row (meta_in t) _ (c.in-Ok.ensures.told clean t shows) c.in_ok-meta_from-in-Ok.ensures;
+  told = λ clean rows has. found_ok _ _ meta_shown Never c.in-Ok.row (meta_in rows) _ (c.in-Ok.ensures.told clean rows has) c.in_ok-meta_from-in-Ok.ensures;
   kept = search rules;
   same_reference = search rules;
   survives = search rules;

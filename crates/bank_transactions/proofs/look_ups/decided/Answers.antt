@@ -1,0 +1,82 @@
+-- What the row of the bank tells of how many requests are decided.
+use Rattle.std.proofs.Common.{◌≡◌, ◌≤◌, ◌<◌, ℕ, ℤ, pos, negsuc, nat_abs, [], ◌∷◌, Some, None, Option, Err, true, rules, arith, sym, ap, ◌∙◌}
+use Rattle.std.specs.Prelude.{int_lt}
+use Rattle.std.proofs.lemmas.Int.{ints}
+use Rattle.sqlite.specs.Held.{state}
+use Rattle.posting_rules.specs.declared.limits.TheConstants.{MAX_DECIDED}
+use Rattle.store_rows.specs.Columns.{meta_in}
+use Rattle.store_rows.specs.Outcomes.{Never}
+use Rattle.store_rows.specs.View.{meta_entry}
+use Rattle.store_rows.specs.declared.metas.StoredMeta.{StoredMeta}
+use Rattle.store_rows.proofs.MetaRow.{has_one}
+use Rattle.bank_transactions.proofs.SoundRows.{err_found}
+use mir.Val.{to_z, of_z}
+use mir.Syntax.{w64}
+use Rattle.bank_transactions.proofs.look_ups.decided.Goals.{then-meta-lt0-via-then-meta-lt0, then-meta-lt0-via-else-meta-lt0+then-meta-gt-MAX_DECIDED}
+use Rattle.bank_transactions.proofs.look_ups.decided.Goals as goal
+
+-- the row that was told is the one row of these tables
+row_is : (m : StoredMeta) (n : ℕ) → Some m ≡ meta_in (meta_entry n ∷ []) → m.decided ≡ pos n
+row_is m n is = cc
+
+none_is : (o : Option StoredMeta) (n : ℕ) → o ≡ meta_in (meta_entry n ∷ []) → o ≡ None → ⊥
+none_is o n is none = let both = sym none ∙ is in cc
+
+pub returns-in_err-meta-clause-says : goal.returns-in_err-meta-clause-says
+returns-in_err-meta-clause-says g c = record {
+  told = λ clean t shows sound.
+      let same : c.from_residual.result ≡ Err c.in_err-meta.field-0.0 = search rules in
+      let before = state g.S.Store c.args.tx.now.conn.now in
+      let after = state g.S.Store c.read_meta.new.tx.conn.now in
+      rw same
+      (err_found before after before after (meta_in (meta_entry t.decided ∷ [])) Never t.decided c.in_err-meta.field-0.0 (λ m broken is breaks. breaks)
+      (c.in_err-meta.ensures.told clean (meta_entry t.decided ∷ []) (has_one before.now t shows)));
+  same_reference = search rules;
+  kept = search rules;
+  survives = search rules;
+}
+
+pub returns-in_default-clause-says : goal.returns-in_default-clause-says
+returns-in_default-clause-says g c = record {
+  told = λ clean t shows sound.
+      none_is _ t.decided (c.in_ok-meta.ensures.told clean (meta_entry t.decided ∷ []) (has_one _ t shows)).0 c.in_default.is;
+  same_reference = search rules;
+  kept = search rules;
+  survives = search rules;
+}
+
+not_negative : (z : ℤ) (n : ℕ) → z ≡ pos n → int_lt z (pos 0) ≡ true → ⊥
+not_negative (pos k) n is low = omega (arith, ints)
+not_negative (negsuc k) n is low = absurd cc
+
+not_beyond : (z : ℤ) (n : ℕ) → z ≡ pos n → n ≤ MAX_DECIDED → MAX_DECIDED < nat_abs z → ⊥
+not_beyond z n is most high = let h = rw is at high in omega arith
+
+pub returns-then-meta-lt0-clause-says : goal.returns-then-meta-lt0-clause-says
+returns-then-meta-lt0-clause-says g c = record {
+  told = λ clean t shows sound.
+      let m = c.in-Some.meta in
+      let found = (c.in_ok-meta.ensures.told clean (meta_entry t.decided ∷ []) (has_one _ t shows)).0 in
+      let same : to_z w64 (of_z w64 m.decided) ≡ m.decided = search rules in
+      let is : to_z w64 (of_z w64 m.decided) ≡ pos t.decided = same ∙ row_is m t.decided (sym c.in-Some.is ∙ found) in
+      elim c.then-meta-lt0.branch [
+        | then-meta-lt0-via-then-meta-lt0 w ↦ not_negative _ t.decided is w.if-meta-lt0.true
+        | then-meta-lt0-via-else-meta-lt0+then-meta-gt-MAX_DECIDED w ↦ not_beyond _ t.decided is sound.decided w.if-meta-gt-MAX_DECIDED.true
+      ];
+  same_reference = search rules;
+  kept = search rules;
+  survives = search rules;
+}
+
+pub returns-clause-says : goal.returns-clause-says
+returns-clause-says g c = record {
+  told = λ clean t shows sound.
+      let m = c.in-Some.meta in
+      let told = c.in_ok-meta.ensures.told clean (meta_entry t.decided ∷ []) (has_one _ t shows) in
+      let same : to_z w64 (of_z w64 m.decided) ≡ m.decided = search rules in
+      let is : to_z w64 (of_z w64 m.decided) ≡ pos t.decided = same ∙ row_is m t.decided (sym c.in-Some.is ∙ told.0) in
+      (ap nat_abs is, search rules);
+  same_reference = search rules;
+  kept = search rules;
+  survives = search rules;
+}
