@@ -10,6 +10,7 @@ use Rattle.posting_rules.specs.Runs.{behind}
 use Rattle.posting_rules.specs.Tables.{Tables, Shows}
 use Rattle.posting_rules.proofs.Remaining.{leaves_still, leaves_weaker}
 use Rattle.posting_rules.proofs.Sequence.{behind-append}
+use Rattle.posting_core.proofs.Refused.{still_down}
 use Rattle.posting_rules.specs.declared.counter.Opening.{Opening}
 use Rattle.posting_rules.specs.declared.counter.Opening.TheVariants.{Opened, Already, Differs}
 use Rattle.posting_rules.specs.declared.fault.Fault.{Fault}
@@ -162,12 +163,16 @@ behind-more seen old now new rows p loaded opening b takes answer was_up is_up h
   sum = with_answer-total loaded opening ∙ ap (λ (n : ℕ). n + 1) b.sum ∙ sym (length-append rows (p ∷ []));
 }
 
+none_before : {A : Type 0} (xs : List A) → (0 < length xs → ⊥) → length xs ≡ 0
+none_before [] h = refl
+none_before (x ∷ xs) h = absurd (h (omega arith))
+
 -- the next opening refused
 pub behind-refused : {C : Type 0} (seen : C → Seen) (old now new : C) (rows : Rows) (i : ℕ) (p : Row) (loaded : Loaded) (fault : Fault)
     → IsBehind seen old now (take i rows) loaded → i < length rows → p ≡ get_or rows i p
     → Refuses fault (seen now) (seen new) (Open p.0 p.1 ∷ []) → ((seen new).honest → (seen now).honest)
-    → IsRefusedAfter seen old new (openings rows) fault i
-behind-refused seen old now new rows i p loaded fault b within read refused honest =
+    → ((seen now).is_down → fault ≡ Down) → IsRefusedAfter seen old new (openings rows) fault i
+behind-refused seen old now new rows i p loaded fault b within read refused honest down =
     let front : length (take i rows) ≡ i = length-take-le i rows (omega arith) in
     let rest : drop i rows ≡ p ∷ drop (i + 1) rows = drop_more rows i p within ∙ rw (← read) refl in
     let taken : take i (openings rows) ≡ openings (take i rows) = take-map (λ (q : Row). Open q.0 q.1) i rows in
@@ -186,6 +191,10 @@ behind-refused seen old now new rows i p loaded fault b within read refused hone
       first = λ e. b.first (front ∙ e);
       taken = rw taken b.taken;
       refused = rw dropped refused;
+      honest = honest;
+      up = λ d. (b.up d, sym front ∙ none_before (take i rows) (λ some. b.begun some (b.up d)));
+      tried = down;
+      down = λ d. still_down fault (seen now) (seen new) (Open p.0 p.1 ∷ []) refused (down d);
       left = subst (λ (cs : List Command). LeavesBeginning (seen old) (seen new) cs i) (sym whole)
           (subst (λ (n : ℕ). LeavesBeginning (seen old) (seen new) behind_all n) count left);
     }

@@ -5,6 +5,7 @@ use Rattle.posting_rules.specs.Counter.{Seen, StandsAt, LeavesOnly, ShowsBeginni
 use Rattle.posting_rules.specs.declared.counter.Opening.{Opening}
 use Rattle.posting_rules.specs.declared.counter.Opening.TheVariants.{Opened, Already, Differs}
 use Rattle.posting_rules.specs.declared.fault.Fault.{Fault}
+use Rattle.posting_rules.specs.declared.fault.Fault.TheVariants.{Down}
 use Rattle.branch_loader.specs.declared.loading.Loaded.{Loaded}
 use Rattle.branch_loader.specs.Plans.{Rows}
 
@@ -47,7 +48,8 @@ abbrev pub LeavesBeginning : Seen → Seen → List Command → ℕ → Type 0
 LeavesBeginning old new commands least =
     new.honest → (log : List Command) → StandsAt old log → LeavesOnly new (ShowsBeginning log commands least)
 
--- the counter answered so many of the commands, stood there, and refused the next one
+-- the counter answered so many of the commands, stood there, and refused the next one; where it stood it was honest and up
+-- wherever it is so afterwards, and down only where it was down from the start
 pub record IsRefusedAfter {C : Type 0} (seen : C → Seen) (old new : C) (commands : List Command) (fault : Fault)
     (answered : ℕ) : Type 0 where
   pub within : answered < length commands
@@ -56,5 +58,9 @@ pub record IsRefusedAfter {C : Type 0} (seen : C → Seen) (old new : C) (comman
   pub first : answered ≡ 0 → stood ≡ old
   pub taken : Takes (seen old) (seen stood) (take answered commands)
   pub refused : Refuses fault (seen stood) (seen new) (take 1 (drop answered commands))
+  pub honest : (seen new).honest → (seen stood).honest
+  pub up : (seen stood).is_down → (seen old).is_down × (answered ≡ 0)
+  pub tried : (seen stood).is_down → fault ≡ Down
+  pub down : (seen stood).is_down → (seen new).is_down
   -- a stop may leave no less than what was answered
   pub left : LeavesBeginning (seen old) (seen new) commands answered

@@ -1,5 +1,5 @@
 -- What a text of CSV states as a plan: branches and how many accounts each is to have, or the first fault with its row.
-use Rattle.std.specs.Prelude.{◌≡◌, ◌≤◌, ◌+◌, ◌&&◌, ⊤, Bool, false, ℕ, List, [], ◌∷◌, ◌++◌, Option, Some, None, Result, Ok, Err, All, map, length, bytes_eq, codes, nat_eq, nat_le, if◌then◌else◌, option_and_then}
+use Rattle.std.specs.Prelude.{◌≡◌, ◌≤◌, ◌+◌, ◌&&◌, ◌⊎◌, ⊤, Bool, false, ℕ, List, [], ◌∷◌, ◌++◌, Option, Some, None, Result, Ok, Err, All, map, length, bytes_eq, codes, nat_eq, nat_le, if◌then◌else◌, option_and_then}
 use Rattle.std.specs.List.{IsDistinct, list_any}
 use Rattle.posting_rules.specs.declared.limits.TheConstants.{LAST_BRANCH, MOST_ACCOUNTS}
 use Rattle.csv.specs.Reading.{default_config, records, strip_bom}
@@ -8,7 +8,8 @@ use Rattle.message_records.specs.Reading.{number_of}
 use Rattle.posting_rules.specs.Commands.{Command, Open}
 use Rattle.branch_loader.specs.declared.fault.PlanFault.{PlanFault}
 use Rattle.branch_loader.specs.declared.fault.PlanFault.TheVariants.{Header, Columns, Branch, Accounts, Twice, Csv, Memory}
-use Rattle.branch_loader.specs.Records.{Records, Fields}
+use Rattle.posting_core.specs.Told.{EndsWith}
+use Rattle.branch_loader.specs.Records.{Records, Fields, RecordTold, IsRecord, IsSourceFailure, IsWantOfMemory}
 
 -- a branch, and how many accounts it is to have
 abbrev pub Row : Type 0
@@ -106,3 +107,11 @@ abbrev pub Tells : Result Rows PlanFault → Result Rows PlanFault → Type 0
 Tells stated (Err Csv) = ⊤
 Tells stated (Err Memory) = ⊤
 Tells stated answer = stated ≡ answer
+
+-- ---- what csv told, where the answer is none of a plan
+
+-- The source failed, or memory was refused: to csv, or behind a record for the room of its row. Every other answer is stated.
+abbrev pub IsToldSo : Result Rows PlanFault → Option (List RecordTold) → Option (List RecordTold) → Type 0
+IsToldSo (Err Csv) old new = EndsWith IsSourceFailure old new
+IsToldSo (Err Memory) old new = EndsWith IsWantOfMemory old new ⊎ EndsWith IsRecord old new
+IsToldSo answer old new = ⊤

@@ -5,6 +5,7 @@ mod fault;
 mod loading;
 mod plan;
 mod read;
+mod records;
 
 pub use fault::PlanFault;
 pub use loading::{Loaded, load};

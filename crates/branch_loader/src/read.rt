@@ -1,13 +1,15 @@
 //! Reading a plan from CSV.
-ghost use Rattle.std.specs.Prelude.{◌≡◌, ◌<◌, ◌≤◌, ◌+◌, ◌⊎◌, ℕ, List, length, option_map, IfOk, IfErr, IfSome, OnOk};
+ghost use Rattle.std.specs.Prelude.{◌≡◌, ◌<◌, ◌≤◌, ◌+◌, ◌⊎◌, ℕ, List, [], true, length, option_map, IfOk, IfErr, IfSome, OnOk};
+ghost use Rattle.posting_core.specs.Told.{EndsWith};
 ghost use Rattle.csv.specs.Records.{fields_of};
 ghost use Rattle.message_records.specs.Reading.{number_of};
-ghost use Rattle.branch_loader.specs.Plans.{Tells, is_header, number_within, plan_of, plan_of_records, row_of_fields, two_of};
-ghost use Rattle.branch_loader.specs.Records.{HasLeft, IsPlain, Takes, Records};
+ghost use Rattle.branch_loader.specs.Plans.{IsToldSo, Tells, is_header, number_within, plan_of, plan_of_records, row_of_fields, two_of};
+ghost use Rattle.branch_loader.specs.Records.{IsRecord, IsSourceFailure, IsWantOfMemory, RecordTold, Records, Takes};
 
 use crate::fault::PlanFault;
 use crate::plan::{Plan, row_of};
-use csv::{ByteRecord, ErrorKind, Reader, ReaderBuilder};
+use crate::records::RecordSource;
+use csv::{ByteRecord, ErrorKind, ReaderBuilder};
 use message_records::Branch;
 use posting_core::{LAST_BRANCH, MOST_ACCOUNTS};
 use std::alloc::Global;
@@ -87,15 +89,17 @@ fn row_of_fields(before: &[(Branch, u32)], fields: &ByteRecord) -> Result<(Branc
     }
 }
 
-// Takes the next record, if there is one. Of csv's errors only these two can come here.
-fn next_record<R: Read>(reader: &mut Reader<R>, fields: &mut ByteRecord) -> Result<bool, PlanFault>
-    requires { IsPlain reader.old }
-    ensures plain { OnOk result (IsPlain reader.new) }
-    ensures takes { IfOk result (λ found. (rows : Records) → HasLeft R.remaining reader.old rows
-        → Takes found (fields_of fields.new) rows (HasLeft R.remaining reader.new)) }
-    ensures fault { IfErr result (λ fault. (fault ≡ PlanFault.Csv) ⊎ (fault ≡ PlanFault.Memory)) }
+// Takes the next record, if there is one.
+fn next_record<S: RecordSource>(source: &mut S, fields: &mut ByteRecord) -> Result<bool, PlanFault>
+    requires { S.is_plain source.old }
+    ensures plain { OnOk result (S.is_plain source.new) }
+    ensures takes { IfOk result (λ found. (rows : Records) → S.has_left source.old rows
+        → Takes found (fields_of fields.new) rows (S.has_left source.new)) }
+    ensures found { IfOk result (λ found. found ≡ true → EndsWith IsRecord (S.told source.old) (S.told source.new)) }
+    ensures fault { IfErr result (λ fault. ((fault ≡ PlanFault.Csv) × EndsWith IsSourceFailure (S.told source.old) (S.told source.new))
+        ⊎ ((fault ≡ PlanFault.Memory) × EndsWith IsWantOfMemory (S.told source.old) (S.told source.new))) }
 {
-    match reader.read_byte_record(fields) {
+    match source.next(fields) {
         Ok(found) => Ok(found),
         Err(error) => match error.into_kind() {
             ErrorKind::Io(_) => Err(PlanFault::Csv),
@@ -106,13 +110,14 @@ fn next_record<R: Read>(reader: &mut Reader<R>, fields: &mut ByteRecord) -> Resu
 }
 
 // The plan that the records of a reader state.
-fn read_rows<R: Read>(
+fn read_rows<S: RecordSource>(
     alloc: Global,
-    records: &mut Reader<R>,
+    records: &mut S,
     fields: &mut ByteRecord,
 ) -> Result<Plan, PlanFault>
-    requires { IsPlain records.old }
-    ensures { (all : Records) → HasLeft R.remaining records.old all → Tells (plan_of_records all) result }
+    requires { S.is_plain records.old }
+    ensures plan { (all : Records) → S.has_left records.old all → Tells (plan_of_records all) result }
+    ensures told { IsToldSo result (S.told records.old) (S.told records.new) }
 {
     if !next_record(records, fields)? {
         return Err(PlanFault::Header);
@@ -129,10 +134,12 @@ fn read_rows<R: Read>(
 }
 
 /// Reads a plan to the end of the source, or to its first fault: the header `branch,accounts`, after a byte order
-/// mark or without one, and a record of a branch and its count of accounts for each branch. `Csv` comes where the
-/// source failed, `Memory` where memory was refused.
+/// mark or without one, and a record of a branch and its count of accounts for each branch. `Csv` comes only where the
+/// last that csv told was a failure of its source, `Memory` only where that was want of memory, or where it was a record
+/// and the room for its row was refused.
 pub fn read_plan<R: Read + Drop>(alloc: Global, reader: R) -> Result<Plan, PlanFault>
-    ensures { IfSome (R.remaining reader) (λ text. Tells (plan_of text) result) }
+    ensures plan { IfSome (R.remaining reader) (λ text. Tells (plan_of text) result) }
+    ensures told { (told : List RecordTold) × IsToldSo result (Some []) (Some told) }
 {
     let mut records = ReaderBuilder::new()
         .has_headers(false)

@@ -3,9 +3,13 @@ use Rattle.std.proofs.Common.{◌≡◌, ℕ, List, [], ◌∷◌, Option, Resul
 use Rattle.std.specs.Prelude.{OnOk, IfErr}
 use Rattle.posting_core.specs.declared.once.OnceFault.{OnceFault}
 use Rattle.posting_core.specs.declared.once.OnceFault.TheVariants.{Short, Read, Write, Bank}
+use Rattle.posting_rules.specs.declared.fault.Fault.{Fault}
+use Rattle.posting_rules.specs.declared.fault.Fault.TheVariants.{Memory, Store, Down, Damaged}
+use Rattle.posting_core.specs.declared.plain_bank.PlainBank.{PlainBank}
+use Rattle.posting_core.specs.Plain.{plain_seen}
 use Rattle.posting_rules.specs.Commands.{Command, Open, AreCommands}
 use Rattle.posting_rules.specs.Tables.{Tables, Shows}
-use Rattle.posting_rules.specs.Counter.{Seen, ShowsLog}
+use Rattle.posting_rules.specs.Counter.{Seen, ShowsLog, Refuses}
 use Rattle.posting_core.specs.Once as once
 use Rattle.counter_once.specs.First.{two_branches, IsAnswered, Leaves}
 
@@ -14,18 +18,25 @@ pub answered : {T : Type 0} (result : Result T OnceFault) (r r' w w' : Option (L
 answered (Ok x) r r' w w' c c' moment honest shows a = record { bytes = a.bytes; whole = a.whole; read = a.read; written = a.written honest two_branches shows }
 answered (Err fault) r r' w w' c c' moment honest shows a = tt
 
-left : (fault : OnceFault) (r r' w w' : Option (List ℕ)) (c c' : Seen) (moment : ℕ) → c'.honest → ShowsLog c two_branches
-    → once.Leaves fault r r' w w' c c' moment → Leaves fault r r' w w'
-left Short r r' w w' c c' moment honest shows a = record { bytes = a.bytes; few = a.few; read = a.read; ended = a.ended; written = a.written }
-left Read r r' w w' c c' moment honest shows a = a.written
-left Write r r' w w' c c' moment honest shows a =
-    record { bytes = a.bytes; whole = a.whole; read = a.read; count = a.count; written = a.written honest two_branches shows }
-left (Bank fault) r r' w w' c c' moment honest shows a = a.written
+-- a bank in memory is never down, so that it refuses for want of memory alone
+only_memory : (fault : Fault) (a b : PlainBank) (cs : List Command) → Refuses fault (plain_seen a) (plain_seen b) cs → fault ≡ Memory
+only_memory Memory a b cs u = refl
+only_memory Store a b cs u = absurd u.down
+only_memory Down a b cs u = absurd u.after
+only_memory (Damaged rule) a b cs u = absurd u.down
 
-pub faulted : {T : Type 0} (result : Result T OnceFault) (r r' w w' : Option (List ℕ)) (c c' : Seen) (moment : ℕ) → c'.honest → ShowsLog c two_branches
-    → IfErr result (λ fault. once.Leaves fault r r' w w' c c' moment) → IfErr result (λ fault. Leaves fault r r' w w')
-faulted (Ok x) r r' w w' c c' moment honest shows a = tt
-faulted {T} (Err fault) r r' w w' c c' moment honest shows a = left fault r r' w w' c c' moment honest shows a
+left : (fault : OnceFault) (r r' w w' : Option (List ℕ)) (a b : PlainBank) (moment : ℕ) → ShowsLog (plain_seen a) two_branches
+    → once.Leaves fault r r' w w' (plain_seen a) (plain_seen b) moment → Leaves fault r r' w w'
+left Short r r' w w' a b moment shows x = record { bytes = x.bytes; few = x.few; read = x.read; ended = x.ended; written = x.written }
+left Read r r' w w' a b moment shows x = x.written
+left Write r r' w w' a b moment shows x =
+    record { bytes = x.bytes; whole = x.whole; read = x.read; count = x.count; written = x.written tt two_branches shows }
+left (Bank fault) r r' w w' a b moment shows x = record { memory = only_memory fault a b _ x.refuses; written = x.written }
+
+pub faulted : {T : Type 0} (result : Result T OnceFault) (r r' w w' : Option (List ℕ)) (a b : PlainBank) (moment : ℕ) → ShowsLog (plain_seen a) two_branches
+    → IfErr result (λ fault. once.Leaves fault r r' w w' (plain_seen a) (plain_seen b) moment) → IfErr result (λ fault. Leaves fault r r' w w')
+faulted (Ok x) r r' w w' a b moment shows left_so = tt
+faulted {T} (Err fault) r r' w w' a b moment shows left_so = left fault r r' w w' a b moment shows left_so
 
 pub two_are_commands : AreCommands two_branches
 two_are_commands = ((omega arith, omega arith, omega arith, omega arith), ((omega arith, omega arith, omega arith, omega arith), tt))

@@ -2,6 +2,8 @@
 use Rattle.std.specs.Prelude.{◌≡◌, ◌<◌, ℕ, List, [], ◌∷◌, length, take, Option}
 use Rattle.std.specs.Io.KnownBytes.{Keeps, Appends, Consumes, IsAtEnd}
 use Rattle.message_records.specs.Spelling.{reply_spelling}
+use Rattle.posting_rules.specs.declared.fault.Fault.{Fault}
+use Rattle.posting_rules.specs.declared.fault.Fault.TheVariants.{Memory}
 use Rattle.posting_core.specs.declared.once.OnceFault.{OnceFault}
 use Rattle.posting_core.specs.declared.once.OnceFault.TheVariants.{Short, Read, Write, Bank}
 use Rattle.posting_rules.specs.Commands.{Command, Open}
@@ -36,9 +38,14 @@ pub record IsCutOff (r r' w w' : Option (List ℕ)) : Type 0 where
   pub count : ℕ
   pub written : Appends w w' (take count (reply_spelling (reply two_branches bytes)))
 
+-- memory was refused to the bank, and nothing is written
+pub record IsRefused (fault : Fault) (w w' : Option (List ℕ)) : Type 0 where
+  pub memory : fault ≡ Memory
+  pub written : Keeps w w'
+
 -- what each fault leaves
 abbrev pub Leaves : OnceFault → Option (List ℕ) → Option (List ℕ) → Option (List ℕ) → Option (List ℕ) → Type 0
 Leaves Short r r' w w' = EndsShort r r' w w'
 Leaves Read r r' w w' = Keeps w w'
 Leaves Write r r' w w' = IsCutOff r r' w w'
-Leaves (Bank fault) r r' w w' = Keeps w w'
+Leaves (Bank fault) r r' w w' = IsRefused fault w w'

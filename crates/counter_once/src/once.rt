@@ -1,14 +1,15 @@
 //! The first record of a new bank.
 ghost use Rattle.std.specs.Prelude.{◌≡◌, OnOk, IfErr, IfOk};
+ghost use Rattle.std.specs.Result.{IsErrOf};
 ghost use Rattle.posting_rules.specs.declared.fault.Fault.TheVariants.{Memory};
 ghost use Rattle.posting_rules.specs.Tables.{Shows};
 ghost use Rattle.posting_core.specs.Plain.{plain_tables};
+ghost use Rattle.posting_core.specs.Told.{EndsWith, HasReadFailed, HasWriteFailed, IsEndOfInput, IsFlush};
 ghost use Rattle.counter_once.specs.First.{two_branches, IsAnswered, Leaves};
 
 use message_records::{Branch, Moment};
-use posting_core::{Counter, Fault, OnceFault, PlainBank, answer_once};
+use posting_core::{Counter, Fault, OnceFault, PlainBank, Sink, Source, answer_once};
 use std::alloc::Global;
-use std::io::{Read, Write};
 
 /// The moment of the record, in seconds since 1970-01-01T00:00:00Z.
 const MOMENT: u64 = 1000;
@@ -25,14 +26,18 @@ fn two_branches(alloc: Global) -> Result<PlainBank, Fault>
 }
 
 /// Answers the first record of a new bank: branch 1 has three accounts and branch 2 has two. It reads 100 bytes, and
-/// leaves what follows unread.
-pub fn answer_first<R: Read, W: Write>(
+/// leaves what follows unread. The bank refuses only for want of memory.
+pub fn answer_first<R: Source, W: Sink>(
     alloc: Global,
     reader: &mut R,
     writer: &mut W,
 ) -> Result<(), OnceFault>
     ensures ok { OnOk result (IsAnswered (R.remaining reader.old) (R.remaining reader.new) (W.contents writer.old) (W.contents writer.new)) }
     ensures fault { IfErr result (λ fault. Leaves fault (R.remaining reader.old) (R.remaining reader.new) (W.contents writer.old) (W.contents writer.new)) }
+    ensures ended { IsErrOf result OnceFault.Short → EndsWith IsEndOfInput (R.told reader.old) (R.told reader.new) }
+    ensures unread { IsErrOf result OnceFault.Read → HasReadFailed (R.told reader.old) (R.told reader.new) }
+    ensures unwritten { IsErrOf result OnceFault.Write → HasWriteFailed (W.told writer.old) (W.told writer.new) }
+    ensures flushed { OnOk result (EndsWith IsFlush (W.told writer.old) (W.told writer.new)) }
 {
     let mut bank = match two_branches(alloc) {
         Ok(bank) => bank,

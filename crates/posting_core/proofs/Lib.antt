@@ -7,4 +7,5 @@ pub mod Timeless
 pub mod Batched
 pub mod Streaming
 pub mod Through
+pub mod Refused
 pub mod Output

@@ -120,12 +120,12 @@ pub takes_batch : (c c' c'' : Seen) (bs : List Batch) (b : Batch) → (c''.hones
 takes_batch c c' c'' bs b honest x y =
     subst (λ (t : List Command). Takes c c'' t) (sym (posts_of_one_more bs b)) (takes_more c c' c'' (posts_of bs) (posts_in b) honest x y)
 
-read_batch : (r r' : Option (List ℕ)) (bs : List Batch) (b : Batch) (all rest : List ℕ) → Consumes r r' (joined (records_of bs) ++ all)
+pub read_batch : (r r' : Option (List ℕ)) (bs : List Batch) (b : Batch) (all rest : List ℕ) → Consumes r r' (joined (records_of bs) ++ all)
     → all ≡ joined b.records ++ rest → Consumes r r' (joined (records_of (bs ++ b ∷ [])) ++ rest)
 read_batch r r' bs b all rest got e =
     subst (λ (t : List ℕ). Consumes r r' t) (ap (λ (t : List ℕ). joined (records_of bs) ++ t) e ∙ sym (joined_one_more bs b rest)) got
 
-whole_batch : (bs : List Batch) (b : Batch) → AllByRecursion IsRecord (records_of bs) → AllByRecursion IsRecord b.records
+pub whole_batch : (bs : List Batch) (b : Batch) → AllByRecursion IsRecord (records_of bs) → AllByRecursion IsRecord b.records
     → AllByRecursion IsRecord (records_of (bs ++ b ∷ []))
 whole_batch bs b x y =
     subst (λ (t : List (List ℕ)). AllByRecursion IsRecord t) (sym (records_one_more bs b)) (all_more IsRecord (records_of bs) b.records x y)

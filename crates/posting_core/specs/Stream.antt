@@ -4,11 +4,12 @@ use Rattle.std.specs.List.{AllByRecursion}
 use Rattle.std.specs.Simd.{first_chunks}
 use Rattle.std.specs.Io.KnownBytes.{Appends, Consumes, IsAtEnd}
 use Rattle.posting_rules.specs.declared.fault.Fault.{Fault}
-use Rattle.posting_rules.specs.declared.fault.Fault.TheVariants.{Memory}
+use Rattle.posting_rules.specs.declared.fault.Fault.TheVariants.{Memory, Down}
+use Rattle.posting_rules.specs.declared.limits.TheConstants.{RECORDS_PER_BATCH}
 use Rattle.posting_core.specs.declared.stream.StreamFault.{StreamFault}
 use Rattle.posting_core.specs.declared.stream.StreamFault.TheVariants.{Truncated, Read, Write, Bank}
 use Rattle.posting_rules.specs.Commands.{Command, Open, Post}
-use Rattle.posting_rules.specs.Counter.{Seen, ShowsLog, LeavesOnly, StandsAt, ShowsBeginning}
+use Rattle.posting_rules.specs.Counter.{Seen, ShowsLog, LeavesOnly, StandsAt, ShowsBeginning, Takes, Refuses}
 use Rattle.posting_rules.specs.Runs.{behind, posts, replies_to, ArePosts}
 use Rattle.posting_core.specs.Clock.{AreReadings}
 use Rattle.posting_core.specs.Told.{ReadTold, WriteTold, EndsWith, HasReadFailed, HasWriteFailed, IsEndOfInput, IsThrough}
@@ -139,7 +140,7 @@ pub record Survives (r r' w w' : Option (List ℕ)) (c c' : Seen) : Type 0 where
 -- ---- records that come again
 
 -- wherever the bank took all that was read
-abbrev pub IfTaken : Result ℕ StreamFault → Type 0 → Type 0
+abbrev pub IfTaken : {A : Type 0} → Result A StreamFault → Type 0 → Type 0
 IfTaken (Err (Bank fault)) P = ⊤
 IfTaken _ P = P
 
@@ -152,3 +153,30 @@ pub record Resends (r r' : Option (List ℕ)) (c c' : Seen) (result : Result ℕ
   pub records : posted_records commands ≡ whole_records bytes
   pub tables : c'.honest → (log p added : List Command) → ArePosts p → Skips p commands added → ShowsLog c (behind log p)
       → IfTaken result (ShowsLog c' (behind (behind log p) added))
+
+-- ---- what the fault of the bank says
+
+abbrev pub IfBank : StreamFault → (Fault → Type 0) → Type 0
+IfBank (Bank fault) P = P fault
+IfBank _ P = ⊤
+
+-- the bank took some of the records that were read, stood there, and refused the next batch
+pub record IsRefusedBehind {C : Type 0} (seen : C → Seen) (old new : C) (r r' : Option (List ℕ)) (fault : Fault) : Type 0 where
+  pub bytes : List ℕ
+  pub read : Consumes r r' bytes
+  pub taken : List Command
+  pub batch : List Command
+  pub posts : ArePosts (taken ++ batch)
+  pub records : posted_records (taken ++ batch) ≡ whole_records bytes
+  pub some : 1 ≤ length batch
+  pub few : length batch ≤ RECORDS_PER_BATCH
+  -- the bank after what it took: it was down only where it was down before
+  pub stood : C
+  pub first : taken ≡ [] → stood ≡ old
+  pub takes : Takes (seen old) (seen stood) taken
+  pub up : (seen stood).is_down → (seen old).is_down × (taken ≡ [])
+  -- what it did then
+  pub refuses : Refuses fault (seen stood) (seen new) batch
+  pub tried : (seen stood).is_down → fault ≡ Down
+  pub down : (seen stood).is_down → (seen new).is_down
+  pub honest : (seen new).honest → (seen stood).honest

@@ -4,7 +4,7 @@ ghost use Rattle.std.specs.Result.{IsErrOf};
 ghost use Rattle.posting_core.specs.Clock.{IsReading};
 ghost use Rattle.posting_rules.specs.Runs.{posts};
 ghost use Rattle.posting_core.specs.Batches.{IsAnswered, BreaksOff};
-ghost use Rattle.posting_core.specs.Stream.{Streamed, Outputs, Survives, Resends, EndsAs};
+ghost use Rattle.posting_core.specs.Stream.{Streamed, Outputs, Survives, Resends, EndsAs, IfBank, IfTaken, IsRefusedBehind, UnlessDown};
 ghost use Rattle.posting_core.specs.Told.{EndsWith, HasWriteFailed, IsFlush};
 
 use crate::clock::Clock;
@@ -78,6 +78,8 @@ fn answer_batch<W: Sink, K: Clock, C: Counter>(
     ensures flushed { OnOk result (EndsWith IsFlush (W.told writer.old) (W.told writer.new)) }
     ensures unwritten { IsErrOf result StreamFault.Write → HasWriteFailed (W.told writer.old) (W.told writer.new) }
     ensures unasked { IfErr result (λ fault. fault ≢ StreamFault.Write → W.told writer.new ≡ W.told writer.old) }
+    ensures up { IfTaken result ((C.seen bank.new).is_down → ⊥) }
+    ensures down { (C.seen bank.old).is_down → IsErrOf result (StreamFault.Bank Fault.Down) }
     ensures honest { (C.seen bank.new).honest → (C.seen bank.old).honest }
 {
     let moment = clock.now();
@@ -108,6 +110,9 @@ pub fn post_stream<R: Source, W: Sink, K: Clock, C: Counter>(
     ensures stop { Survives (R.remaining reader.old) (R.remaining reader.new) (W.contents writer.old) (W.contents writer.new)
         (C.seen bank.old) (C.seen bank.new) }
     ensures resend { Resends (R.remaining reader.old) (R.remaining reader.new) (C.seen bank.old) (C.seen bank.new) result }
+    ensures refused { IfErr result (λ fault. IfBank fault
+        (IsRefusedBehind C.seen bank.old bank.new (R.remaining reader.old) (R.remaining reader.new))) }
+    ensures up { UnlessDown result ((C.seen bank.new).is_down → (C.seen bank.old).is_down) }
     ensures ends { EndsAs result (R.told reader.old) (R.told reader.new) (W.told writer.old) (W.told writer.new) }
 {
     let mut buffer = [0u8; BUFFER];

@@ -33,7 +33,7 @@ returns-in_err-opening-clause-fault g c =
     let refused =
     behind-refused g.C.Counter.seen c.args.counter.now c.loop-row.counter c.open_branch.new.self rows c.loop-row.row-index
     c.row-item.result c.loop-row.loaded c.in_err-opening.field-0.0 c.loop-row.invariant (omega arith) c.row-item.is
-    c.in_err-opening.ensures.fault c.in_err-opening.ensures.honest in
+    c.in_err-opening.ensures.fault c.in_err-opening.ensures.honest (λ down. let e = c.in_err-opening.ensures.down down in cc e) in
     let p = err_from_is_err_and c.from_residual.result c.from_residual.ensures.1 in
     rw (p.1, p.2) (c.loop-row.row-index, rw c.rows-row-items.ensures.rows at refused)
 

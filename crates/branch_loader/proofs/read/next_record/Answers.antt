@@ -1,9 +1,15 @@
-use Rattle.csv.specs.Records.{fields_of}
-use Rattle.branch_loader.proofs.Remain.{takes}
+use Rattle.std.proofs.Common.{inl, inr, refl}
+use Rattle.branch_loader.specs.Records.{IsSourceFailure, IsWantOfMemory}
+use Rattle.branch_loader.proofs.Told.{failed_last, found_last}
 use Rattle.branch_loader.proofs.read.next_record.Goals as goal
 
-pub returns-in-Ok-clause-takes : goal.returns-in-Ok-clause-takes
-returns-in-Ok-clause-takes g c rows left =
-    takes g.R.Read.remaining c.args.reader.now c.read_byte_record.new.self c.in-Ok.found (fields_of c.read_byte_record.new.row) rows
-    c.requires.config left
-    (c.in-Ok.ensures.reads c.requires.trim c.requires.ready)
+pub returns-in-Ok-clause-found : goal.returns-in-Ok-clause-found
+returns-in-Ok-clause-found g c some = found_last c.next.result c.in-Ok.found c.in-Ok.is c.next.ensures.tells some
+
+pub returns-in-Io-clause-fault : goal.returns-in-Io-clause-fault
+returns-in-Io-clause-fault g c =
+    inl (refl, failed_last IsSourceFailure c.next.result c.in-Err.error c.into_kind.result _ c.in-Err.is c.into_kind.ensures c.in-Io.is tt c.next.ensures.tells)
+
+pub returns-in-OutOfMemory-clause-fault : goal.returns-in-OutOfMemory-clause-fault
+returns-in-OutOfMemory-clause-fault g c =
+    inr (refl, failed_last IsWantOfMemory c.next.result c.in-Err.error c.into_kind.result _ c.in-Err.is c.into_kind.ensures c.in-OutOfMemory.is tt c.next.ensures.tells)

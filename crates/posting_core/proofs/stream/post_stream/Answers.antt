@@ -6,12 +6,13 @@ use Rattle.posting_core.proofs.Batched.{cut_into, cut_and_moved}
 use Rattle.posting_core.proofs.Output.{output_of, survives_of, resends_of}
 use Rattle.posting_core.proofs.Streaming.{Going, going_first, going_filled, going_unread, going_batch, end_whole, end_in_record, end_unread, end_broken, at_ok, few_left}
 use Rattle.posting_core.proofs.Telling.{made_many, made_none, made_one, other_kind, read_ended, read_failed}
+use Rattle.posting_core.proofs.Refused.{refused_broken, up_broken}
 use Rattle.posting_core.proofs.Through.{ends_broken, through_batch, through_first}
 use Rattle.posting_core.proofs.stream.post_stream.Goals as goal
 use Rattle.posting_core.proofs.stream.post_stream.Goals.{then-filled-ge-RECORD+in_ok-answer_batch, else-filled-ge-RECORD, in-Ok, in-Err}
 
 pub reads-init : goal.reads-init
-reads-init g c = record { few = omega arith; room = refl; bound = omega arith; going = going_first _ refl; made = made_none _; through = through_first _ }
+reads-init g c = record { few = omega arith; room = refl; bound = omega arith; going = going_first _ refl; first = λ none. refl; up = λ down. (down, refl); made = made_none _; through = through_first _ }
 
 -- the reader was asked too often
 pub returns : goal.returns
@@ -22,6 +23,8 @@ returns g c =
       output = output_of _ s;
       stop = survives_of _ s;
       resend = resends_of _ s;
+      refused = tt;
+      up = λ down. (c.reads.invariant.up down).0;
       ends = (inr (made_many c.reads.invariant.made (omega arith)), c.reads.invariant.through);
     }
 
@@ -37,6 +40,8 @@ returns-in-Err-2 g c =
       output = output_of _ s;
       stop = survives_of _ s;
       resend = resends_of _ s;
+      refused = tt;
+      up = λ down. (c.reads.invariant.up down).0;
       ends = (
         read_failed c.fill.result c.in-Err.e c.reads.invariant.made c.fill.ensures.tells c.in-Err.is
             (other_kind c.kind.result c.in-Err.e c.if-eq.ensures c.kind.ensures),
@@ -59,6 +64,8 @@ returns-in-Ok-eq0 g c =
       output = output_of _ s;
       stop = survives_of _ s;
       resend = resends_of _ s;
+      refused = tt;
+      up = λ down. (c.reads.invariant.up down).0;
       ends = (read_ended c.fill.result n c.reads.invariant.made c.fill.ensures.tells c.in-Ok-eq0.is none, c.reads.invariant.through);
     }
 
@@ -76,6 +83,8 @@ returns-in-Ok-eq0-2 g c =
       output = output_of _ s;
       stop = survives_of _ s;
       resend = resends_of _ s;
+      refused = tt;
+      up = λ down. (c.reads.invariant.up down).0;
       ends = (read_ended c.fill.result n c.reads.invariant.made c.fill.ensures.tells c.in-Ok-eq0.is none, c.reads.invariant.through);
     }
 
@@ -92,6 +101,13 @@ returns-in_err-answer_batch g c =
       | in-Ok w ↦ going_filled c.reads.buffer c.fill.new.buffer c.reads.filled c.match-fill.filled w.in-Ok.n c.reads.invariant.going w.in-Ok.ensures.ok w.filled-is
       | in-Err w ↦ going_unread c.reads.buffer c.fill.new.buffer c.reads.filled c.match-fill.filled c.reads.invariant.going w.in-Err.ensures.err w.filled-is
     ] in
+    let long : length c.fill.new.buffer ≡ BUFFER = omega (arith, c.fill.auto.buffer, c.reads.invariant.room) in
+    let within : c.match-fill.filled ≤ length c.fill.new.buffer =
+    elim c.match-fill.branch [
+      | in-Ok w ↦ omega (arith, w.in-Ok.ensures.fits, w.filled-is)
+      | in-Err w ↦ omega (arith, c.reads.invariant.few, w.filled-is, long)
+    ] in
+    let len : length (take c.match-fill.filled c.fill.new.buffer) ≡ c.match-fill.filled = length-take-le c.match-fill.filled c.fill.new.buffer within in
     let cut = cut_into (take c.match-fill.filled c.fill.new.buffer) c.as_chunks.result.0.now c.as_chunks.result.1.now c.as_chunks.ensures.front c.as_chunks.ensures.back in
     let s =
     end_broken fault a.0 (take c.match-fill.filled c.fill.new.buffer) c.as_chunks.result.1.now c.as_chunks.result.0.now going cut
@@ -101,6 +117,10 @@ returns-in_err-answer_batch g c =
       output = output_of _ s;
       stop = survives_of _ s;
       resend = resends_of _ s;
+      refused = refused_broken g.C.Counter.seen c.args.bank.now c.reads.bank c.answer_batch.new.bank _ _ fault a.0 _ _ c.as_chunks.result.0.now going cut
+          (omega (arith, c.as_chunks.ensures.back_len)) (omega (arith, c.as_chunks.ensures.front_len, len)) (omega (arith, c.as_chunks.ensures.front_len, len)) c.reads.invariant.first c.reads.invariant.up c.in_err-answer_batch.ensures.honest a.2
+          (λ down. let e = c.in_err-answer_batch.ensures.down down in cc e);
+      up = up_broken _ _ (g.C.Counter.seen c.args.bank.now) (g.C.Counter.seen c.reads.bank) (g.C.Counter.seen c.answer_batch.new.bank) _ fault a.2 c.in_err-answer_batch.ensures.up (λ down. (c.reads.invariant.up down).0);
       ends = ends_broken _ _ _ _ _ _ _ _ _ _ fault c.reads.invariant.through a.2
           (λ e. c.in_err-answer_batch.ensures.unwritten (ap Err e)) c.in_err-answer_batch.ensures.unasked;
     })
@@ -132,6 +152,8 @@ reads-preserved g c =
             few = omega (arith, w.as_chunks.ensures.back_len);
             room = w.move_to_front.array_long;
             bound = omega (arith, w.as_chunks.ensures.front_len, c.reads.invariant.bound, long);
+            first = λ none. absurd (omega (arith, w.as_chunks.ensures.front_len));
+            up = λ down. absurd (w.in_ok-answer_batch.ensures.up down);
             made = made_one _ _ c.reads.invariant.made c.fill.ensures.tells refl;
             through = through_batch c.reads.invariant.through w.in_ok-answer_batch.ensures.flushed;
             going = going_batch a.0 (take c.match-fill.filled c.fill.new.buffer) (take left after) _ rs going cut refl a.1 w.in_ok-answer_batch.ensures.honest a.2;
@@ -143,6 +165,8 @@ reads-preserved g c =
             room = long;
             bound = omega (arith, c.reads.invariant.bound);
             going = going;
+            first = c.reads.invariant.first;
+            up = c.reads.invariant.up;
             made = made_one _ _ c.reads.invariant.made c.fill.ensures.tells refl;
             through = c.reads.invariant.through;
           })

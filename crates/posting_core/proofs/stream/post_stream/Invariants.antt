@@ -15,6 +15,8 @@ invariant-reads g l = record {
   bound : l.count ≤ RECORDS_PER_BATCH * l.counter;
   going : Going (g.R.Source.remaining l.fn.reader) (g.R.Source.remaining l.reader) (g.W.Sink.contents l.fn.writer) (g.W.Sink.contents l.writer)
       (g.K.Clock.readings l.fn.clock) (g.K.Clock.readings l.clock) (g.C.Counter.seen l.fn.bank) (g.C.Counter.seen l.bank) (take l.filled l.buffer) l.count;
+  first : l.count ≡ 0 → l.bank ≡ l.fn.bank;
+  up : (g.C.Counter.seen l.bank).is_down → (g.C.Counter.seen l.fn.bank).is_down × (l.count ≡ 0);
   made : HasMade (g.R.Source.told l.fn.reader) (g.R.Source.told l.reader) l.counter;
   through : IsThrough (g.W.Sink.told l.fn.writer) (g.W.Sink.told l.writer);
 }
