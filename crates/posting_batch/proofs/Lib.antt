@@ -7,3 +7,4 @@ pub mod Covered
 pub mod InOrder
 pub mod NewRows
 pub mod Idle
+pub mod Examples
