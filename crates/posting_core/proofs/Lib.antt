@@ -1,8 +1,10 @@
 pub mod Behind
+pub mod Telling
 pub mod Appending
 pub mod InMemory
 pub mod Transferred
 pub mod Timeless
 pub mod Batched
 pub mod Streaming
+pub mod Through
 pub mod Output

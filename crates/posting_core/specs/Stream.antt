@@ -11,6 +11,7 @@ use Rattle.posting_rules.specs.Commands.{Command, Open, Post}
 use Rattle.posting_rules.specs.Counter.{Seen, ShowsLog, LeavesOnly, StandsAt, ShowsBeginning}
 use Rattle.posting_rules.specs.Runs.{behind, posts, replies_to, ArePosts}
 use Rattle.posting_core.specs.Clock.{AreReadings}
+use Rattle.posting_core.specs.Told.{ReadTold, WriteTold, EndsWith, HasReadFailed, HasWriteFailed, IsEndOfInput, IsThrough}
 use Rattle.posting_core.specs.Batches.{Batch, IsRecord, joined, moments_of, records_of, posts_of}
 use Rattle.posting_rules.specs.Resends.{Skips}
 
@@ -98,6 +99,16 @@ pub record Outputs (r r' w w' : Option (List ℕ)) (c c' : Seen) (result : Resul
   pub bytes : List ℕ
   pub read : Consumes r r' bytes
   pub writes : c'.honest → (log : List Command) → ShowsLog c log → Writes result w w' (replies_text log bytes)
+
+-- ---- what the ends told: the source from r to r', and the sink from w to w'
+
+-- a fault of an end comes where that end failed, and all that was written was flushed wherever the sink didn't fail
+abbrev pub EndsAs : Result ℕ StreamFault → Option (List ReadTold) → Option (List ReadTold) → Option (List WriteTold) → Option (List WriteTold) → Type 0
+EndsAs (Ok count) r r' w w' = EndsWith IsEndOfInput r r' × IsThrough w w'
+EndsAs (Err (Truncated n)) r r' w w' = EndsWith IsEndOfInput r r' × IsThrough w w'
+EndsAs (Err Read) r r' w w' = HasReadFailed r r' × IsThrough w w'
+EndsAs (Err Write) r r' w w' = HasWriteFailed w w'
+EndsAs (Err (Bank fault)) r r' w w' = IsThrough w w'
 
 -- ---- what a stop leaves
 

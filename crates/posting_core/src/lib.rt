@@ -3,6 +3,7 @@
 #![tactic(auto)]
 
 mod clock;
+mod ends;
 mod once;
 mod plain_bank;
 mod stream;
@@ -10,6 +11,7 @@ mod transfer;
 mod walking;
 
 pub use clock::{Clock, StoredClock};
+pub use ends::{Sink, Source};
 pub use once::{OnceFault, answer_once};
 pub use plain_bank::PlainBank;
 pub use posting_rules::{

@@ -1,12 +1,14 @@
 //! One record from a reader, and its reply to a writer.
 ghost use Rattle.std.specs.Prelude.{OnOk, IfErr};
+ghost use Rattle.std.specs.Result.{IsErrOf};
 ghost use Rattle.posting_core.specs.Once.{IsAnswered, Leaves};
+ghost use Rattle.posting_core.specs.Told.{EndsWith, HasReadFailed, HasWriteFailed, IsEndOfInput, IsFlush};
 
+use crate::ends::{Sink, Source};
 use crate::transfer::{read_full, write_out};
 use message_records::Moment;
 use posting_rules::{Counter, Fault};
 use std::fmt;
-use std::io::{Read, Write};
 
 /// Why a record wasn't answered, or not wholly.
 #[derive(Clone, Copy, Debug, PartialEq, Eq)]
@@ -39,8 +41,9 @@ impl fmt::Display for OnceFault {
 
 impl std::error::Error for OnceFault {}
 
-/// Reads a record of 100 bytes, submits it, and writes the reply. What follows in the input is left unread.
-pub fn answer_once<R: Read, W: Write, C: Counter>(
+/// Reads a record of 100 bytes, submits it, and writes and flushes the reply. What follows in the input is left unread.
+/// `Read` and `Write` come only where a read, a write or a flush of this call failed, or where 2^64 - 1 of them were made.
+pub fn answer_once<R: Source, W: Sink, C: Counter>(
     reader: &mut R,
     writer: &mut W,
     moment: Moment,
@@ -50,6 +53,10 @@ pub fn answer_once<R: Read, W: Write, C: Counter>(
         (C.seen bank.old) (C.seen bank.new) moment) }
     ensures fault { IfErr result (λ fault. Leaves fault (R.remaining reader.old) (R.remaining reader.new) (W.contents writer.old) (W.contents writer.new)
         (C.seen bank.old) (C.seen bank.new) moment) }
+    ensures ended { IsErrOf result OnceFault.Short → EndsWith IsEndOfInput (R.told reader.old) (R.told reader.new) }
+    ensures unread { IsErrOf result OnceFault.Read → HasReadFailed (R.told reader.old) (R.told reader.new) }
+    ensures unwritten { IsErrOf result OnceFault.Write → HasWriteFailed (W.told writer.old) (W.told writer.new) }
+    ensures flushed { OnOk result (EndsWith IsFlush (W.told writer.old) (W.told writer.new)) }
     ensures honest { (C.seen bank.new).honest → (C.seen bank.old).honest }
 {
     let mut record = [0u8; 100];

@@ -1,15 +1,18 @@
 //! A stream of records in, and a stream of replies out.
-ghost use Rattle.std.specs.Prelude.{◌≡◌, ℕ, ◌-◌, ◌≤◌, MatchResult, length, take, drop};
+ghost use Rattle.std.specs.Prelude.{◌≡◌, ◌≢◌, ℕ, ◌-◌, ◌≤◌, MatchResult, IfErr, OnOk, length, take, drop};
+ghost use Rattle.std.specs.Result.{IsErrOf};
 ghost use Rattle.posting_core.specs.Clock.{IsReading};
 ghost use Rattle.posting_rules.specs.Runs.{posts};
 ghost use Rattle.posting_core.specs.Batches.{IsAnswered, BreaksOff};
-ghost use Rattle.posting_core.specs.Stream.{Streamed, Outputs, Survives, Resends};
+ghost use Rattle.posting_core.specs.Stream.{Streamed, Outputs, Survives, Resends, EndsAs};
+ghost use Rattle.posting_core.specs.Told.{EndsWith, HasWriteFailed, IsFlush};
 
 use crate::clock::Clock;
+use crate::ends::{Sink, Source};
 use crate::transfer::{fill, write_out};
 use posting_rules::{Counter, Fault, RECORDS_PER_BATCH};
 use std::fmt;
-use std::io::{ErrorKind, Read, Write};
+use std::io::ErrorKind;
 
 // The length of a record, and of the buffer: as many records as can be submitted together.
 const RECORD: usize = 100;
@@ -60,7 +63,7 @@ fn move_to_front(buffer: &mut [u8; BUFFER], from: usize, to: usize)
 }
 
 // Submits a batch under one reading of the clock, and writes the replies.
-fn answer_batch<W: Write, K: Clock, C: Counter>(
+fn answer_batch<W: Sink, K: Clock, C: Counter>(
     records: &[[u8; RECORD]],
     writer: &mut W,
     clock: &mut K,
@@ -72,6 +75,9 @@ fn answer_batch<W: Write, K: Clock, C: Counter>(
         × MatchResult result
         (λ _. IsAnswered (W.contents writer.old) (W.contents writer.new) (C.seen bank.old) (C.seen bank.new) (posts moment records.now))
         (λ fault. BreaksOff fault (W.contents writer.old) (W.contents writer.new) (C.seen bank.old) (C.seen bank.new) (posts moment records.now)) }
+    ensures flushed { OnOk result (EndsWith IsFlush (W.told writer.old) (W.told writer.new)) }
+    ensures unwritten { IsErrOf result StreamFault.Write → HasWriteFailed (W.told writer.old) (W.told writer.new) }
+    ensures unasked { IfErr result (λ fault. fault ≢ StreamFault.Write → W.told writer.new ≡ W.told writer.old) }
     ensures honest { (C.seen bank.new).honest → (C.seen bank.old).honest }
 {
     let moment = clock.now();
@@ -87,9 +93,9 @@ fn answer_batch<W: Write, K: Clock, C: Counter>(
 
 /// Answers a stream of records of 100 bytes to the end of its input, and tells how many it answered. As soon as whole
 /// records were read, all of them are submitted under one reading of the clock, and their replies are written in order
-/// and flushed. An interrupted read or write is made again, and a reader that was asked 2^64 - 1 times counts as failed.
-/// Only the bank takes memory.
-pub fn post_stream<R: Read, W: Write, K: Clock, C: Counter>(
+/// and flushed. An interrupted read or write is made again. `Read` and `Write` come only where a read, a write or a flush
+/// of this call failed, where a write took no byte, or where 2^64 - 1 of them were made. Only the bank takes memory.
+pub fn post_stream<R: Source, W: Sink, K: Clock, C: Counter>(
     reader: &mut R,
     writer: &mut W,
     clock: &mut K,
@@ -102,6 +108,7 @@ pub fn post_stream<R: Read, W: Write, K: Clock, C: Counter>(
     ensures stop { Survives (R.remaining reader.old) (R.remaining reader.new) (W.contents writer.old) (W.contents writer.new)
         (C.seen bank.old) (C.seen bank.new) }
     ensures resend { Resends (R.remaining reader.old) (R.remaining reader.new) (C.seen bank.old) (C.seen bank.new) result }
+    ensures ends { EndsAs result (R.told reader.old) (R.told reader.new) (W.told writer.old) (W.told writer.new) }
 {
     let mut buffer = [0u8; BUFFER];
     let mut filled = 0;

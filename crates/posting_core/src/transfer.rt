@@ -1,9 +1,11 @@
 //! Bytes from a reader and to a writer, with what is known of both.
-ghost use Rattle.std.specs.Prelude.{◌≡◌, ◌≤◌, ◌<◌, ◌+◌, ◌++◌, ℕ, List, IfOk, OnOk, OnErr, length, take};
+ghost use Rattle.std.specs.Prelude.{◌≡◌, ◌≤◌, ◌<◌, ◌+◌, ◌++◌, ◌∷◌, [], ℕ, List, IfOk, OnOk, OnErr, length, take};
 ghost use Rattle.std.specs.Io.KnownBytes.{Keeps, Appends, Consumes, IsAtEnd};
+ghost use Rattle.posting_core.specs.Told.{Adds, EndsWith, HasMore, HasReadFailed, HasWriteFailed, IsEndOfInput, IsFlush, read_told};
 
+use crate::ends::{Sink, Source};
 use std::io;
-use std::io::{ErrorKind, Read, Write};
+use std::io::ErrorKind;
 
 /// The reader failed.
 #[derive(Clone, Copy, Debug, PartialEq, Eq)]
@@ -14,23 +16,26 @@ pub(crate) struct ReadFailed;
 pub(crate) struct WriteFailed;
 
 /// One read into what is left of a buffer.
-pub(crate) fn fill<R: Read>(reader: &mut R, buffer: &mut [u8], filled: usize) -> io::Result<usize>
+pub(crate) fn fill<R: Source>(reader: &mut R, buffer: &mut [u8], filled: usize) -> io::Result<usize>
     requires { filled < length buffer.old }
     ensures fits { IfOk result (λ n. filled + n ≤ length buffer.new) }
     ensures ok { IfOk result (λ n. (bytes : List ℕ) × (take (filled + n) buffer.new ≡ take filled buffer.old ++ bytes)
         × Consumes (R.remaining reader.old) (R.remaining reader.new) bytes) }
     ensures end { IfOk result (λ n. n ≡ 0 → IsAtEnd (R.remaining reader.new)) }
     ensures err { OnErr result (Keeps (R.remaining reader.old) (R.remaining reader.new) × (take filled buffer.new ≡ take filled buffer.old)) }
+    ensures tells { Adds (R.told reader.old) (R.told reader.new) (read_told result ∷ []) }
 {
-    reader.read(&mut buffer[filled..])
+    reader.give(&mut buffer[filled..])
 }
 
 /// Reads until the buffer is full or the input ends, and answers how many bytes were read. An interrupted read is made
 /// again. A reader that was asked 2^64 - 1 times counts as failed.
-pub(crate) fn read_full<R: Read>(reader: &mut R, buffer: &mut [u8]) -> Result<usize, ReadFailed>
+pub(crate) fn read_full<R: Source>(reader: &mut R, buffer: &mut [u8]) -> Result<usize, ReadFailed>
     ensures within { IfOk result (λ n. n ≤ length buffer.new) }
     ensures bytes { IfOk result (λ n. Consumes (R.remaining reader.old) (R.remaining reader.new) (take n buffer.new)) }
     ensures end { IfOk result (λ n. n < length buffer.new → IsAtEnd (R.remaining reader.new)) }
+    ensures ended { IfOk result (λ n. n < length buffer.new → EndsWith IsEndOfInput (R.told reader.old) (R.told reader.new)) }
+    ensures failed { OnErr result (HasReadFailed (R.told reader.old) (R.told reader.new)) }
 {
     let mut filled = 0;
     'reads: for _ in 0..u64::MAX {
@@ -48,28 +53,32 @@ pub(crate) fn read_full<R: Read>(reader: &mut R, buffer: &mut [u8]) -> Result<us
 }
 
 /// Writes the bytes and flushes, up to a write that fails or takes none. An interrupted write is made again.
-pub(crate) fn write_out<W: Write>(writer: &mut W, bytes: &[u8]) -> Result<(), WriteFailed>
-    ensures { (n : ℕ) × (n ≤ length bytes.now) × Appends (W.contents writer.old) (W.contents writer.new) (take n bytes.now)
+pub(crate) fn write_out<W: Sink>(writer: &mut W, bytes: &[u8]) -> Result<(), WriteFailed>
+    ensures written { (n : ℕ) × (n ≤ length bytes.now) × Appends (W.contents writer.old) (W.contents writer.new) (take n bytes.now)
         × OnOk result (n ≡ length bytes.now) }
+    ensures flushed { OnOk result (EndsWith IsFlush (W.told writer.old) (W.told writer.new)) }
+    ensures failed { OnErr result (HasWriteFailed (W.told writer.old) (W.told writer.new)) }
 {
     write_each(writer, bytes)?;
-    match writer.flush() {
+    match writer.send_on() {
         Ok(()) => Ok(()),
         Err(_) => Err(WriteFailed),
     }
 }
 
 // Writes the bytes, up to a write that fails or takes none.
-fn write_each<W: Write>(writer: &mut W, bytes: &[u8]) -> Result<(), WriteFailed>
-    ensures { (n : ℕ) × (n ≤ length bytes.now) × Appends (W.contents writer.old) (W.contents writer.new) (take n bytes.now)
+fn write_each<W: Sink>(writer: &mut W, bytes: &[u8]) -> Result<(), WriteFailed>
+    ensures written { (n : ℕ) × (n ≤ length bytes.now) × Appends (W.contents writer.old) (W.contents writer.new) (take n bytes.now)
         × OnOk result (n ≡ length bytes.now) }
+    ensures more { OnOk result (HasMore (W.told writer.old) (W.told writer.new)) }
+    ensures failed { OnErr result (HasWriteFailed (W.told writer.old) (W.told writer.new)) }
 {
     let mut done = 0;
     'writes: for _ in 0..u64::MAX {
         if done == bytes.len() {
             return Ok(());
         }
-        match writer.write(&bytes[done..]) {
+        match writer.take(&bytes[done..]) {
             Ok(0) => return Err(WriteFailed),
             Ok(n) => done += n,
             Err(e) if e.kind() == ErrorKind::Interrupted => {}

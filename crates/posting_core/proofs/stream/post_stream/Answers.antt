@@ -1,21 +1,29 @@
-use Rattle.std.proofs.Common.{◌≡◌, ◌≤◌, refl, arith, length, take}
+use Rattle.std.proofs.Common.{◌≡◌, ◌≤◌, inr, refl, ap, Err, arith, length, take}
 use Rattle.std.proofs.lemmas.List.{length-take-le}
 use Rattle.std.proofs.lemmas.Result.{err_from_is_err_and}
 use Rattle.posting_core.specs.declared.stream.TheConstants.{BUFFER}
 use Rattle.posting_core.proofs.Batched.{cut_into, cut_and_moved}
 use Rattle.posting_core.proofs.Output.{output_of, survives_of, resends_of}
 use Rattle.posting_core.proofs.Streaming.{Going, going_first, going_filled, going_unread, going_batch, end_whole, end_in_record, end_unread, end_broken, at_ok, few_left}
+use Rattle.posting_core.proofs.Telling.{made_many, made_none, made_one, other_kind, read_ended, read_failed}
+use Rattle.posting_core.proofs.Through.{ends_broken, through_batch, through_first}
 use Rattle.posting_core.proofs.stream.post_stream.Goals as goal
 use Rattle.posting_core.proofs.stream.post_stream.Goals.{then-filled-ge-RECORD+in_ok-answer_batch, else-filled-ge-RECORD, in-Ok, in-Err}
 
 pub reads-init : goal.reads-init
-reads-init g c = record { few = omega arith; room = refl; bound = omega arith; going = going_first _ refl }
+reads-init g c = record { few = omega arith; room = refl; bound = omega arith; going = going_first _ refl; made = made_none _; through = through_first _ }
 
 -- the reader was asked too often
 pub returns : goal.returns
 returns g c =
     let s = end_unread _ c.reads.invariant.going (few_left c.reads.filled c.reads.buffer c.reads.invariant.few c.reads.invariant.room) in
-    record { stream = s; output = output_of _ s; stop = survives_of _ s; resend = resends_of _ s }
+    record {
+      stream = s;
+      output = output_of _ s;
+      stop = survives_of _ s;
+      resend = resends_of _ s;
+      ends = (inr (made_many c.reads.invariant.made (omega arith)), c.reads.invariant.through);
+    }
 
 -- the reader failed
 pub returns-in-Err-2 : goal.returns-in-Err-2
@@ -24,7 +32,17 @@ returns-in-Err-2 g c =
     let s =
     end_unread _ (going_unread c.reads.buffer c.fill.new.buffer c.reads.filled c.reads.filled c.reads.invariant.going c.in-Err.ensures.err refl)
     (few_left c.reads.filled c.fill.new.buffer c.reads.invariant.few long) in
-    record { stream = s; output = output_of _ s; stop = survives_of _ s; resend = resends_of _ s }
+    record {
+      stream = s;
+      output = output_of _ s;
+      stop = survives_of _ s;
+      resend = resends_of _ s;
+      ends = (
+        read_failed c.fill.result c.in-Err.e c.reads.invariant.made c.fill.ensures.tells c.in-Err.is
+            (other_kind c.kind.result c.in-Err.e c.if-eq.ensures c.kind.ensures),
+        c.reads.invariant.through,
+      );
+    }
 
 -- the input ended
 pub returns-in-Ok-eq0 : goal.returns-in-Ok-eq0
@@ -36,7 +54,13 @@ returns-in-Ok-eq0 g c =
     end_whole (take c.reads.filled c.fill.new.buffer)
     (going_filled c.reads.buffer c.fill.new.buffer c.reads.filled c.reads.filled n c.reads.invariant.going (at_ok _ c.fill.result n c.in-Ok-eq0.is c.fill.ensures.ok) (omega arith))
     (at_ok _ c.fill.result n c.in-Ok-eq0.is c.fill.ensures.end none) (rw empty refl) in
-    record { stream = s; output = output_of _ s; stop = survives_of _ s; resend = resends_of _ s }
+    record {
+      stream = s;
+      output = output_of _ s;
+      stop = survives_of _ s;
+      resend = resends_of _ s;
+      ends = (read_ended c.fill.result n c.reads.invariant.made c.fill.ensures.tells c.in-Ok-eq0.is none, c.reads.invariant.through);
+    }
 
 pub returns-in-Ok-eq0-2 : goal.returns-in-Ok-eq0-2
 returns-in-Ok-eq0-2 g c =
@@ -47,7 +71,13 @@ returns-in-Ok-eq0-2 g c =
     end_in_record (take c.reads.filled c.fill.new.buffer) c.reads.filled
     (going_filled c.reads.buffer c.fill.new.buffer c.reads.filled c.reads.filled n c.reads.invariant.going (at_ok _ c.fill.result n c.in-Ok-eq0.is c.fill.ensures.ok) (omega arith))
     (at_ok _ c.fill.result n c.in-Ok-eq0.is c.fill.ensures.end none) (length-take-le c.reads.filled c.fill.new.buffer within) (omega arith) c.reads.invariant.few in
-    record { stream = s; output = output_of _ s; stop = survives_of _ s; resend = resends_of _ s }
+    record {
+      stream = s;
+      output = output_of _ s;
+      stop = survives_of _ s;
+      resend = resends_of _ s;
+      ends = (read_ended c.fill.result n c.reads.invariant.made c.fill.ensures.tells c.in-Ok-eq0.is none, c.reads.invariant.through);
+    }
 
 -- a batch broke off
 pub returns-in_err-answer_batch : goal.returns-in_err-answer_batch
@@ -55,7 +85,7 @@ returns-in_err-answer_batch g c =
     let fault = c.in_err-answer_batch.field-0.0 in
     let told = err_from_is_err_and c.from_residual.result c.from_residual.ensures.1 in
     let a = c.in_err-answer_batch.ensures.answers in
-    let going : Going (g.R.Read.remaining c.args.reader.now) (g.R.Read.remaining c.fill.new.reader) (g.W.Write.contents c.args.writer.now) (g.W.Write.contents c.reads.writer)
+    let going : Going (g.R.Source.remaining c.args.reader.now) (g.R.Source.remaining c.fill.new.reader) (g.W.Sink.contents c.args.writer.now) (g.W.Sink.contents c.reads.writer)
     (g.K.Clock.readings c.args.clock.now) (g.K.Clock.readings c.reads.clock) (g.C.Counter.seen c.args.bank.now) (g.C.Counter.seen c.reads.bank)
     (take c.match-fill.filled c.fill.new.buffer) c.reads.count =
     elim c.match-fill.branch [
@@ -66,11 +96,18 @@ returns-in_err-answer_batch g c =
     let s =
     end_broken fault a.0 (take c.match-fill.filled c.fill.new.buffer) c.as_chunks.result.1.now c.as_chunks.result.0.now going cut
     (omega (arith, c.as_chunks.ensures.back_len)) a.1 c.in_err-answer_batch.ensures.honest a.2 in
-    rw (told.1, told.2) (record { stream = s; output = output_of _ s; stop = survives_of _ s; resend = resends_of _ s })
+    rw (told.1, told.2) (record {
+      stream = s;
+      output = output_of _ s;
+      stop = survives_of _ s;
+      resend = resends_of _ s;
+      ends = ends_broken _ _ _ _ _ _ _ _ _ _ fault c.reads.invariant.through a.2
+          (λ e. c.in_err-answer_batch.ensures.unwritten (ap Err e)) c.in_err-answer_batch.ensures.unasked;
+    })
 
 pub reads-preserved : goal.reads-preserved
 reads-preserved g c =
-    let going : Going (g.R.Read.remaining c.args.reader.now) (g.R.Read.remaining c.fill.new.reader) (g.W.Write.contents c.args.writer.now) (g.W.Write.contents c.reads.writer)
+    let going : Going (g.R.Source.remaining c.args.reader.now) (g.R.Source.remaining c.fill.new.reader) (g.W.Sink.contents c.args.writer.now) (g.W.Sink.contents c.reads.writer)
     (g.K.Clock.readings c.args.clock.now) (g.K.Clock.readings c.reads.clock) (g.C.Counter.seen c.args.bank.now) (g.C.Counter.seen c.reads.bank)
     (take c.match-fill.filled c.fill.new.buffer) c.reads.count =
     elim c.match-fill.branch [
@@ -95,6 +132,8 @@ reads-preserved g c =
             few = omega (arith, w.as_chunks.ensures.back_len);
             room = w.move_to_front.array_long;
             bound = omega (arith, w.as_chunks.ensures.front_len, c.reads.invariant.bound, long);
+            made = made_one _ _ c.reads.invariant.made c.fill.ensures.tells refl;
+            through = through_batch c.reads.invariant.through w.in_ok-answer_batch.ensures.flushed;
             going = going_batch a.0 (take c.match-fill.filled c.fill.new.buffer) (take left after) _ rs going cut refl a.1 w.in_ok-answer_batch.ensures.honest a.2;
           })
       | else-filled-ge-RECORD w ↦
@@ -104,5 +143,7 @@ reads-preserved g c =
             room = long;
             bound = omega (arith, c.reads.invariant.bound);
             going = going;
+            made = made_one _ _ c.reads.invariant.made c.fill.ensures.tells refl;
+            through = c.reads.invariant.through;
           })
     ]

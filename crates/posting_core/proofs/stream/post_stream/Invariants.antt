@@ -1,15 +1,20 @@
 use Rattle.std.proofs.Common.{◌≡◌, ◌<◌, ◌≤◌, ◌*◌, length, take}
 use Rattle.posting_rules.specs.declared.limits.TheConstants.{RECORDS_PER_BATCH}
 use Rattle.posting_core.specs.declared.stream.TheConstants.{BUFFER}
+use Rattle.posting_core.specs.Told.{IsThrough}
+use Rattle.posting_core.proofs.Telling.{HasMade}
 use Rattle.posting_core.proofs.Streaming.{Going}
 use Rattle.posting_core.proofs.stream.post_stream.Given as goal
 
--- all whole records that were read are answered, and the rest stands at the front of the buffer
+-- all whole records that were read are answered, and the rest stands at the front of the buffer; one read was made a turn, and
+-- what was written was flushed
 abbrev pub invariant-reads : goal.invariant-reads
 invariant-reads g l = record {
   few : l.filled < 100;
   room : length l.buffer ≡ BUFFER;
   bound : l.count ≤ RECORDS_PER_BATCH * l.counter;
-  going : Going (g.R.Read.remaining l.fn.reader) (g.R.Read.remaining l.reader) (g.W.Write.contents l.fn.writer) (g.W.Write.contents l.writer)
+  going : Going (g.R.Source.remaining l.fn.reader) (g.R.Source.remaining l.reader) (g.W.Sink.contents l.fn.writer) (g.W.Sink.contents l.writer)
       (g.K.Clock.readings l.fn.clock) (g.K.Clock.readings l.clock) (g.C.Counter.seen l.fn.bank) (g.C.Counter.seen l.bank) (take l.filled l.buffer) l.count;
+  made : HasMade (g.R.Source.told l.fn.reader) (g.R.Source.told l.reader) l.counter;
+  through : IsThrough (g.W.Sink.told l.fn.writer) (g.W.Sink.told l.writer);
 }

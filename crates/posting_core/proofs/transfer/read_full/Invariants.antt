@@ -1,10 +1,12 @@
 use Rattle.std.proofs.Common.{◌≤◌, length, take}
 use Rattle.std.specs.Io.KnownBytes.{Consumes}
+use Rattle.posting_core.proofs.Telling.{HasMade}
 use Rattle.posting_core.proofs.transfer.read_full.Given as goal
 
--- the bytes so far were read
+-- the bytes so far were read, by one read a turn
 abbrev pub invariant-reads : goal.invariant-reads
 invariant-reads g l = record {
   within : l.filled ≤ length l.buffer;
-  read : Consumes (g.R.Read.remaining l.fn.reader) (g.R.Read.remaining l.reader) (take l.filled l.buffer);
+  read : Consumes (g.R.Source.remaining l.fn.reader) (g.R.Source.remaining l.reader) (take l.filled l.buffer);
+  made : HasMade (g.R.Source.told l.fn.reader) (g.R.Source.told l.reader) l.counter;
 }

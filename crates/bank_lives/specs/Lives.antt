@@ -1,0 +1,61 @@
+-- The life of a counter from call to call, and what is found where it was stopped.
+use Rattle.std.specs.Prelude.{◌≡◌, ◌≤◌, ◌⊎◌, ℕ, zero, suc, ◌+◌, List, [], ◌++◌, length, take, AllPairs}
+use Rattle.posting_rules.specs.declared.fault.Fault.{Fault}
+use Rattle.posting_rules.specs.declared.fault.Fault.TheVariants.{Memory, Store, Down, Damaged}
+use Rattle.posting_rules.specs.Commands.{Command, AreCommands}
+use Rattle.posting_rules.specs.Counter.{Seen, StandsAt, LeavesOnly, LeavesNoMore, ShowsBeginning}
+use Rattle.posting_rules.specs.Entries.{decided}
+use Rattle.posting_rules.specs.Laws.{Differ, IsConsistent}
+use Rattle.posting_rules.specs.Runs.{behind}
+use Rattle.posting_rules.specs.Tables.{Tables}
+
+-- ---- one call
+
+-- what a call did that was given these commands, of which so many at the front were acknowledged
+pub record IsCall (old new : Seen) (commands : List Command) (acknowledged : ℕ) : Type 0 where
+  pub are : AreCommands commands
+  pub within : acknowledged ≤ length commands
+  pub honest : new.honest → old.honest
+  -- a stop may leave a beginning of the commands that holds all that were acknowledged
+  pub stop : new.honest → (log : List Command) → StandsAt old log
+      → LeavesOnly new (ShowsBeginning log commands acknowledged)
+  -- it took them all, or it went down
+  pub stands : new.honest → (log : List Command) → StandsAt old log
+      → StandsAt new (behind log commands) ⊎ new.is_down
+  -- where it was down it acknowledged none, it is down, and a stop leaves no more than it left
+  pub down : old.is_down → new.is_down × (acknowledged ≡ 0) × LeavesNoMore old new
+
+-- a counter that was out of memory, or down, was given nothing
+abbrev pub given_to : Fault → List Command → List Command
+given_to Memory commands = []
+given_to Store commands = commands
+given_to Down commands = []
+given_to (Damaged rule) commands = commands
+
+-- ---- a life
+
+-- how many commands a beginning has that holds all that were acknowledged, with those of one call more
+abbrev pub reached : ℕ → List Command → ℕ → ℕ
+reached least given zero = least
+reached least given (suc n) = length given + suc n
+
+-- Calls one after another: the counter as they began and as it is now, the commands that they were given, and
+-- how many of these the least beginning has that holds all that were acknowledged.
+pub data Life {C : Type 0} (seen : C → Seen) (first : C) : C → List Command → ℕ → Type 0 where
+  begins : Life seen first first [] 0
+  goes_on : (now next : C) (given commands : List Command) (least acknowledged : ℕ)
+      → Life seen first now given least → IsCall (seen now) (seen next) commands acknowledged
+      → Life seen first next (given ++ commands) (reached least given acknowledged)
+
+-- ---- after a stop
+
+-- It stands at the log that the life began with and a beginning of the commands that were given in it, which holds
+-- every one that was acknowledged. Each request is posted once, and accounts, tellers, branches and the deltas of
+-- history have one sum (TPC-B clause 2).
+pub record IsFound (seen : Seen) (log given : List Command) (least : ℕ) : Type 0 where
+  pub count : ℕ
+  pub holds : least ≤ count
+  pub within : count ≤ length given
+  pub stands : StandsAt seen (behind log (take count given))
+  pub once : AllPairs Differ (decided (behind log (take count given)))
+  pub sums : (t : Tables) → seen.tables t → IsConsistent t

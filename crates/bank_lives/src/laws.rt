@@ -1,0 +1,30 @@
+//! Laws of a counter's life. Each is a function that does nothing: its contract is the law.
+ghost use Rattle.std.specs.Prelude.{◌≡◌, ◌≤◌, ℕ, List, length};
+ghost use Rattle.posting_rules.specs.declared.fault.Fault.{Fault as Told};
+ghost use Rattle.posting_rules.specs.declared.fault.Fault.TheVariants.{Down};
+ghost use Rattle.posting_rules.specs.Commands.{Command, AreCommands};
+ghost use Rattle.posting_rules.specs.Counter.{Takes, Refuses, StandsAt, LeavesOnly, ShowsBeginning};
+ghost use Rattle.bank_lives.specs.Lives.{IsCall, Life, given_to};
+
+use posting_rules::Counter;
+
+/// Each call of a counter, by what the trait says of it, is a call of its life.
+pub fn calls_law<C: Counter>(_counter: &C)
+    ensures answered { (old new : _) (commands : List Command) → AreCommands commands → Takes (C.seen old) (C.seen new) commands
+        → ((C.seen old).is_down → ⊥) → ((C.seen new).honest → (C.seen old).honest)
+        → IsCall (C.seen old) (C.seen new) commands (length commands) }
+    ensures refused { (fault : Told) (old new : _) (commands : List Command) → AreCommands commands
+        → Refuses fault (C.seen old) (C.seen new) commands → ((C.seen old).is_down → fault ≡ Down)
+        → ((C.seen new).honest → (C.seen old).honest) → IsCall (C.seen old) (C.seen new) (given_to fault commands) 0 }
+{}
+
+/// At every moment of a life, everything that a stop may leave shows the log that the life began with and a beginning
+/// of the commands that were given, which holds every one that was acknowledged. What is acknowledged was given, and
+/// what is given are commands of the bank.
+pub fn life_law<C: Counter>(counter: &C)
+    ensures given { (first : _) (given : List Command) (least : ℕ) → Life C.seen first counter.now given least
+        → (least ≤ length given) × AreCommands given }
+    ensures left { (first : _) (log given : List Command) (least : ℕ) → Life C.seen first counter.now given least
+        → StandsAt (C.seen first) log → (C.seen counter.now).honest
+        → LeavesOnly (C.seen counter.now) (ShowsBeginning log given least) }
+{}

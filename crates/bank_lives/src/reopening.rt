@@ -1,0 +1,46 @@
+//! A bank that is found after a stop.
+ghost use Rattle.std.specs.Prelude.{◌≡◌, ℕ, List, IfOk, IfErr, false};
+ghost use Rattle.sqlite.specs.Held.{state};
+ghost use Rattle.sqlite.specs.State.{HasCleanDisk, Opens};
+ghost use Rattle.posting_rules.specs.Commands.{Command};
+ghost use Rattle.posting_rules.specs.Counter.{StandsAt};
+ghost use Rattle.bank_store.specs.Seen.{bank_seen};
+ghost use Rattle.bank_lives.specs.Lives.{IsFound, Life};
+
+use crate::laws::life_law;
+use bank_store::{Bank, OpenFault, Refused, adopt};
+use posting_rules::{each_request_once, tables_are_consistent};
+use sqlite::{Alter, Connection};
+use std::alloc::Global;
+use store_rows::trees_law;
+
+/// Takes up the bank that a connection finds which was opened on what a stop left of another bank.
+///
+/// `stopped` is that bank at the moment of the stop, after whatever calls it was given, and the connection found what
+/// a stop at that moment may leave. Then the bank stands at the log that the life began with and a beginning of the
+/// commands that were given, which holds every one that was acknowledged; each request is posted once, and every
+/// branch has the sum of its tellers (TPC-B clause 2). So the bank that is found is the first of the next life, and
+/// the same holds of that one. Where none is found, the store failed.
+pub fn reopen<S: Alter + Drop, T: Alter>(
+    alloc: Global,
+    stopped: &Bank<S>,
+    conn: Connection<T>,
+) -> Result<Bank<T>, Refused<T>>
+    requires { conn.in_transaction ≡ false }
+    ensures found { IfOk result (λ bank. (bank_seen T.Store bank).honest → Opens (state T.Store conn)
+        → (bank_seen S.Store stopped.now).honest → (bank_seen S.Store stopped.now).left (state T.Store conn).now.trees
+        → (first : _) (log given : List Command) (least : ℕ) → StandsAt (bank_seen S.Store first) log
+        → Life (λ bank. bank_seen S.Store bank) first stopped.now given least
+        → IsFound (bank_seen T.Store bank) log given least) }
+    ensures missed { IfErr result (λ refused. HasCleanDisk (state T.Store refused.conn) → Opens (state T.Store conn)
+        → (bank_seen S.Store stopped.now).honest → (bank_seen S.Store stopped.now).left (state T.Store conn).now.trees
+        → (first : _) (log given : List Command) (least : ℕ) → StandsAt (bank_seen S.Store first) log
+        → Life (λ bank. bank_seen S.Store bank) first stopped.now given least
+        → refused.fault ≡ OpenFault.Store) }
+{
+    life_law(stopped);
+    trees_law(&conn);
+    each_request_once();
+    tables_are_consistent();
+    adopt(alloc, conn)
+}

@@ -1,0 +1,63 @@
+//! The two ends of a stream: what gives bytes, and what takes them.
+ghost use Rattle.std.specs.Prelude.{ℕ, List, [], ◌∷◌, Option, None};
+ghost use Rattle.std.specs.Io.{ReadsAtMost, WritesAtMost};
+ghost use Rattle.std.specs.Io.KnownBytes.{Keeps, ReadConsumes, WriteAppends};
+ghost use Rattle.posting_core.specs.Told.{Adds, ReadTold, WriteTold, read_told, write_told, flush_told};
+
+use std::io;
+use std::io::{Read, Write};
+
+/// What gives bytes. Every reader does. A type of its own may also know what its reads told.
+pub trait Source {
+    /// The bytes that it will give from here on, where they are known.
+    ghost remaining: { Self → Option (List ℕ) } = { λ _. None };
+
+    /// What each read told so far, where it is known.
+    ghost told: { Self → Option (List ReadTold) } = { λ _. None };
+
+    /// One read into the buffer.
+    fn give(&mut self, buffer: &mut [u8]) -> io::Result<usize>
+        ensures bound { ReadsAtMost result buffer.new }
+        ensures bytes { ReadConsumes (remaining self.old) (remaining self.new) result buffer.new }
+        ensures tells { Adds (told self.old) (told self.new) (read_told result ∷ []) };
+}
+
+/// What takes bytes. Every writer does. A type of its own may also know what its writes and flushes told.
+pub trait Sink {
+    /// The bytes that it holds, where they are known.
+    ghost contents: { Self → Option (List ℕ) } = { λ _. None };
+
+    /// What each write and flush told so far, where it is known.
+    ghost told: { Self → Option (List WriteTold) } = { λ _. None };
+
+    /// One write of bytes at the front of these.
+    fn take(&mut self, bytes: &[u8]) -> io::Result<usize>
+        ensures bound { WritesAtMost result bytes.now }
+        ensures bytes { WriteAppends (contents self.old) (contents self.new) result bytes.now }
+        ensures tells { Adds (told self.old) (told self.new) (write_told bytes.now result ∷ []) };
+
+    /// Sends on what was taken.
+    fn send_on(&mut self) -> io::Result<()>
+        ensures bytes { Keeps (contents self.old) (contents self.new) }
+        ensures tells { Adds (told self.old) (told self.new) (flush_told result ∷ []) };
+}
+
+impl<R: Read> Source for R {
+    ghost remaining = { R.remaining };
+
+    fn give(&mut self, buffer: &mut [u8]) -> io::Result<usize> {
+        self.read(buffer)
+    }
+}
+
+impl<W: Write> Sink for W {
+    ghost contents = { W.contents };
+
+    fn take(&mut self, bytes: &[u8]) -> io::Result<usize> {
+        self.write(bytes)
+    }
+
+    fn send_on(&mut self) -> io::Result<()> {
+        self.flush()
+    }
+}
