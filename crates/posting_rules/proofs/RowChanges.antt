@@ -13,7 +13,7 @@ use Rattle.posting_rules.specs.Changes.{row_changed, row_put, rows_put}
 
 -- ---- tests on two numbers
 
-eqb-flip : (a b : ℕ) → eqb a b ≡ eqb b a
+pub eqb-flip : (a b : ℕ) → eqb a b ≡ eqb b a
 eqb-flip a b = grind (arith, nat_tests)
 
 eqb-apart : (a b : ℕ) → ltb a b ≡ true → eqb a b ≡ false
@@ -29,11 +29,11 @@ not_both a b n h e = grind (arith, nat_tests)
 abbrev pub changed_at : {R : Type 0} → (R → ℕ) → ℕ → (R → R) → R → R
 changed_at key k change r = cond (eqb (key r) k) (change r) r
 
-key-changed_at : {R : Type 0} (key : R → ℕ) (k : ℕ) (change : R → R) → ((r : R) → key (change r) ≡ key r)
+pub key-changed_at : {R : Type 0} (key : R → ℕ) (k : ℕ) (change : R → R) → ((r : R) → key (change r) ≡ key r)
     → (r : R) → key (changed_at key k change r) ≡ key r
 key-changed_at key k change same r = elim (by_test (eqb (key r) k)) [ inl t ↦ rw t (same r) | inr f ↦ rw f refl ]
 
-row_at-changed : {R : Type 0} (key : R → ℕ) (k : ℕ) (change : R → R) → ((r : R) → key (change r) ≡ key r) → (rows : List R) (n : ℕ)
+pub row_at-changed : {R : Type 0} (key : R → ℕ) (k : ℕ) (change : R → R) → ((r : R) → key (change r) ≡ key r) → (rows : List R) (n : ℕ)
     → row_at key (row_changed key change k rows) n ≡ option_map (λ r. cond (eqb k n) (change r) r) (row_at key rows n)
 row_at-changed key k change same [] n = refl
 row_at-changed key k change same (r ∷ rows) n =
@@ -46,7 +46,7 @@ row_at-changed key k change same (r ∷ rows) n =
       | inr f ↦ rw f (row_at-changed key k change same rows n)
     ]
 
-keys-changed : {R : Type 0} (key : R → ℕ) (k : ℕ) (change : R → R) → ((r : R) → key (change r) ≡ key r) → (rows : List R)
+pub keys-changed : {R : Type 0} (key : R → ℕ) (k : ℕ) (change : R → R) → ((r : R) → key (change r) ≡ key r) → (rows : List R)
     → map key (row_changed key change k rows) ≡ map key rows
 keys-changed key k change same [] = refl
 keys-changed key k change same (r ∷ rows) =

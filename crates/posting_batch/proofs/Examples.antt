@@ -1,0 +1,78 @@
+-- The worked examples of a batch, computed from the definitions.
+use Rattle.std.specs.Prelude.{◌≡◌, ℕ, ℤ, List, [], ◌∷◌, map, pos, Option, Some, None, Result, Ok, refl}
+use Rattle.message_records.specs.declared.faults.Bad.{Bad}
+use Rattle.message_records.specs.declared.records.Outcome.{Outcome}
+use Rattle.message_records.specs.declared.records.Outcome.TheVariants.{Posted, ReusedNumber, NoAccount}
+use Rattle.message_records.specs.Records.{RequestFields, ReplyFields}
+use Rattle.posting_rules.specs.Cases.{case_of}
+use Rattle.posting_rules.specs.Steps.{meta_row_of}
+use Rattle.posting_rules.specs.Tables.{Tables, branch_row_of, teller_row_of, account_row_of}
+use Rattle.posting_batch.specs.Batch.{covering_all, no_slots, filled}
+use Rattle.posting_batch.specs.Judging.{overlay_with_all, replies_over}
+use Rattle.posting_batch.specs.Overlay.{Overlay}
+
+-- account, teller, branch, number and amount
+request : ℕ → ℕ → ℕ → ℕ → ℤ → Result RequestFields Bad
+request a t b n z = Ok (record { account = a; teller = t; branch = b; number = n; delta = z })
+
+-- branch 1 with three accounts, and branch 2 with two; of their tellers the first
+bank : Tables
+bank = record {
+  meta = meta_row_of 0 ∷ [];
+  branches = branch_row_of 1 (pos 0) 3 ∷ branch_row_of 2 (pos 0) 2 ∷ [];
+  tellers = teller_row_of 1 (pos 0) ∷ teller_row_of 11 (pos 0) ∷ [];
+  accounts = map (λ n. account_row_of n (pos 0)) (1 ∷ 2 ∷ 3 ∷ 100_001 ∷ 100_002 ∷ []);
+  history = [];
+  requests = [];
+}
+
+batch_of : List (Result RequestFields Bad) → Overlay
+batch_of reads = filled bank (covering_all no_slots reads)
+
+told : List (Result RequestFields Bad) → List (Outcome × Option ℤ)
+told reads = map (λ (reply : ReplyFields). (reply.outcome, reply.balance)) (replies_over (batch_of reads) 1000 reads)
+
+left : List (Result RequestFields Bad) → Overlay
+left reads = overlay_with_all (batch_of reads) 1000 reads
+
+-- ---- four requests, of which two are posted
+
+four : List (Result RequestFields Bad)
+four = request 1 1 1 1 (pos 5) ∷ request 1 11 2 1 (pos 7) ∷ request 1 1 1 1 (pos 6) ∷ request 9 1 1 2 (pos 1) ∷ []
+
+replies_of_four : told four ≡ (Posted, Some (pos 5)) ∷ (Posted, Some (pos 12)) ∷ (ReusedNumber, None) ∷ (NoAccount, None) ∷ []
+unfolding request bank batch_of told four case_of
+replies_of_four = refl
+
+history_of_four : map (λ row. row.ordinal) (left four).history ≡ 1 ∷ 2 ∷ []
+unfolding request bank batch_of left four case_of
+history_of_four = refl
+
+decided_of_four : (left four).decided ≡ 3
+unfolding request bank batch_of left four case_of
+decided_of_four = refl
+
+branches_of_four : map (λ slot. slot.changed) (left four).branches ≡ Some (pos 5) ∷ Some (pos 7) ∷ []
+unfolding request bank batch_of left four case_of
+branches_of_four = refl
+
+account_of_four : map (λ slot. slot.changed) (left four).accounts ≡ Some (pos 12) ∷ None ∷ []
+unfolding request bank batch_of left four case_of
+account_of_four = refl
+
+-- ---- one record twice in a batch
+
+twice : List (Result RequestFields Bad)
+twice = request 1 1 1 1 (pos 5) ∷ request 1 1 1 1 (pos 5) ∷ []
+
+replies_of_twice : told twice ≡ (Posted, Some (pos 5)) ∷ (Posted, Some (pos 5)) ∷ []
+unfolding request bank batch_of told twice case_of
+replies_of_twice = refl
+
+history_of_twice : map (λ row. row.ordinal) (left twice).history ≡ 1 ∷ []
+unfolding request bank batch_of left twice case_of
+history_of_twice = refl
+
+account_of_twice : map (λ slot. slot.changed) (left twice).accounts ≡ Some (pos 5) ∷ []
+unfolding request bank batch_of left twice case_of
+account_of_twice = refl

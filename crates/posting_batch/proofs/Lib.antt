@@ -1,0 +1,10 @@
+pub mod Ranks
+pub mod Walked
+pub mod KeptSlots
+pub mod Orders
+pub mod Overlaid
+pub mod Covered
+pub mod InOrder
+pub mod NewRows
+pub mod Idle
+pub mod Examples

@@ -1,0 +1,81 @@
+-- A slot is placed where its rank is.
+use Rattle.std.proofs.Common.{◌≡◌, ℕ, zero, suc, ◌+◌, ◌<◌, ◌≤◌, Bool, true, false, List, [], ◌∷◌, length, drop, get_or, refl, sym, ap, ◌∙◌, arith, inl, inr}
+use Rattle.std.specs.List.{insert}
+use Rattle.posting_rules.proofs.Keyed.{by_test}
+use Rattle.posting_batch.specs.Placed.{placed, rank}
+
+module _ {S : Type 0} (below same : S → S → Bool) (e : S) where
+  -- the rank is the place of the first slot that is not below
+  pub rank_here : (xs : List S) (i : ℕ) (x : S) → i < length xs → x ≡ get_or xs i x → below x e ≡ false → rank below e xs ≡ i + rank below e (drop i xs)
+      → rank below e xs ≡ i
+  rank_here [] i x lt is stops so_far = absurd (omega arith)
+  rank_here (y ∷ ys) zero x lt is stops so_far =
+      let here : x ≡ y = is in
+      let f : below y e ≡ false = ap (λ (s : S). below s e) (sym here) ∙ stops in
+      rw f refl
+  rank_here (y ∷ ys) (suc i) x lt is stops so_far =
+      elim (by_test (below y e)) [
+        | inl t ↦ rw t (ap suc (rank_here ys i x (omega arith) is stops (let h = rw t at so_far in omega arith)))
+        | inr f ↦ absurd (let h = rw f at so_far in omega arith)
+      ]
+
+  -- it is beyond each one that is
+  pub rank_more : (xs : List S) (i : ℕ) (x : S) → i < length xs → x ≡ get_or xs i x → below x e ≡ true → rank below e xs ≡ i + rank below e (drop i xs)
+      → rank below e xs ≡ suc i + rank below e (drop (suc i) xs)
+  rank_more [] i x lt is goes so_far = absurd (omega arith)
+  rank_more (y ∷ ys) zero x lt is goes so_far =
+      let here : x ≡ y = is in
+      let t : below y e ≡ true = ap (λ (s : S). below s e) (sym here) ∙ goes in
+      rw t (omega arith)
+  rank_more (y ∷ ys) (suc i) x lt is goes so_far =
+      elim (by_test (below y e)) [
+        | inl t ↦
+            let h : rank below e ys ≡ suc i + rank below e (drop (suc i) ys) =
+            rank_more ys i x (omega arith) is goes (let g = rw t at so_far in omega arith) in
+            rw t (omega arith)
+        | inr f ↦ absurd (let h = rw f at so_far in omega arith)
+      ]
+
+  -- the slot at the rank has the key: all stay
+  pub placed_hit : (xs : List S) (b : ℕ) (x : S) → b ≡ rank below e xs → b < length xs → x ≡ get_or xs b x → same x e ≡ true → xs ≡ placed below same e xs
+  placed_hit [] b x at lt is hit = absurd (omega arith)
+  placed_hit (y ∷ ys) b x at lt is hit =
+      elim (by_test (below y e)) [
+        | inl t ↦
+            let next : b ≡ suc (rank below e ys) = (let h = rw t at at in h) in
+            let there : x ≡ get_or ys (rank below e ys) x = is ∙ ap (λ (j : ℕ). get_or (y ∷ ys) j x) next in
+            rw t (ap (λ zs. y ∷ zs) (placed_hit ys (rank below e ys) x refl (omega arith) there hit))
+        | inr f ↦
+            let first : b ≡ zero = (let h = rw f at at in h) in
+            let here : x ≡ y = is ∙ ap (λ (j : ℕ). get_or (y ∷ ys) j x) first in
+            let u : same y e ≡ true = ap (λ (s : S). same s e) (sym here) ∙ hit in
+            rw (f, u) refl
+      ]
+
+  -- it has another: the new one goes before it
+  pub placed_miss : (xs : List S) (b : ℕ) (x : S) → b ≡ rank below e xs → b < length xs → x ≡ get_or xs b x → same x e ≡ false
+      → insert xs b e ≡ placed below same e xs
+  placed_miss [] b x at lt is miss = absurd (omega arith)
+  placed_miss (y ∷ ys) b x at lt is miss =
+      elim (by_test (below y e)) [
+        | inl t ↦
+            let next : b ≡ suc (rank below e ys) = (let h = rw t at at in h) in
+            let there : x ≡ get_or ys (rank below e ys) x = is ∙ ap (λ (j : ℕ). get_or (y ∷ ys) j x) next in
+            ap (λ (j : ℕ). insert (y ∷ ys) j e) next ∙ rw t (ap (λ zs. y ∷ zs) (placed_miss ys (rank below e ys) x refl (omega arith) there miss))
+        | inr f ↦
+            let first : b ≡ zero = (let h = rw f at at in h) in
+            let here : x ≡ y = is ∙ ap (λ (j : ℕ). get_or (y ∷ ys) j x) first in
+            let u : same y e ≡ false = ap (λ (s : S). same s e) (sym here) ∙ miss in
+            ap (λ (j : ℕ). insert (y ∷ ys) j e) first ∙ rw (f, u) refl
+      ]
+
+  -- there is none: the new one goes behind all
+  pub placed_last : (xs : List S) (b : ℕ) → b ≡ rank below e xs → length xs ≤ b → insert xs b e ≡ placed below same e xs
+  placed_last [] b at le = ap (λ (j : ℕ). insert [] j e) at
+  placed_last (y ∷ ys) b at le =
+      elim (by_test (below y e)) [
+        | inl t ↦
+            let next : b ≡ suc (rank below e ys) = (let h = rw t at at in h) in
+            ap (λ (j : ℕ). insert (y ∷ ys) j e) next ∙ rw t (ap (λ zs. y ∷ zs) (placed_last ys (rank below e ys) refl (omega arith)))
+        | inr f ↦ absurd (let h = rw f at at in omega arith)
+      ]

@@ -1,0 +1,21 @@
+use Rattle.std.proofs.Common.{◌≡◌, List, Result, map, sym, subst, rules}
+use Rattle.message_records.specs.declared.faults.Bad.{Bad}
+use Rattle.message_records.specs.Reading.{request_of}
+use Rattle.message_records.specs.Records.{RequestFields}
+use Rattle.posting_batch.specs.Batch.{CoversAll, HasRisingSlots, covering_all, no_slots}
+use Rattle.posting_batch.specs.Overlay.{Overlay}
+use Rattle.posting_batch.specs.View.{view}
+use Rattle.posting_batch.proofs.Covered.{covers_all, made_all}
+use Rattle.posting_batch.proofs.batch.Batch.new.Goals as goal
+
+pub returns-clause-covers : goal.returns-clause-covers
+returns-clause-covers c =
+    let reads : List (Result RequestFields Bad) = map request_of c.args.records.now in
+    let is : view c.decode_all.new.overlay ≡ covering_all no_slots reads = search rules in
+    subst (λ (o : Overlay). CoversAll o reads) (sym is) (covers_all no_slots reads)
+
+pub returns-clause-rising : goal.returns-clause-rising
+returns-clause-rising c =
+    let reads : List (Result RequestFields Bad) = map request_of c.args.records.now in
+    let is : view c.decode_all.new.overlay ≡ covering_all no_slots reads = search rules in
+    subst (λ (o : Overlay). HasRisingSlots o) (sym is) (made_all reads).rising

@@ -1,0 +1,121 @@
+-- A batch before its records are judged, and after.
+use Rattle.std.specs.Prelude.{◌≡◌, ℕ, List, [], ◌∷◌, map, None, IfSome, IsSome, Result, Ok, Err}
+use Rattle.std.specs.List.{find, AllByRecursion}
+use Rattle.std.specs.Option.{option_map}
+use Rattle.message_records.specs.declared.faults.Bad.{Bad}
+use Rattle.message_records.specs.Records.{RequestFields}
+use Rattle.posting_rules.specs.Changes.{row_put}
+use Rattle.posting_rules.specs.Commands.{branch_of_teller, branch_of_account}
+use Rattle.posting_rules.specs.LookUps.{decided_in, kept_in, account_balance_in, balance_of_teller}
+use Rattle.posting_rules.specs.Tables.{Tables, row_at, branch_key, teller_key, account_key, history_key, request_key}
+use Rattle.posting_batch.specs.declared.slots.AccountSlot.{AccountSlot}
+use Rattle.posting_batch.specs.declared.slots.TellerSlot.{TellerSlot}
+use Rattle.posting_batch.specs.declared.slots.BranchSlot.{BranchSlot}
+use Rattle.posting_batch.specs.declared.slots.RequestSlot.{RequestSlot}
+use Rattle.posting_batch.specs.Overlay.{Overlay}
+use Rattle.posting_batch.specs.Placed.{placed, number_below, number_same, request_below, request_same, IsRising}
+use Rattle.posting_batch.specs.Slots.{is_for, account_slot_key, teller_slot_key, branch_slot_key, empty_account, empty_teller, empty_branch, empty_request}
+
+-- ---- a batch is made
+
+abbrev pub with_account_slot : ℕ → List AccountSlot → List AccountSlot
+with_account_slot n slots = placed (number_below account_slot_key) (number_same account_slot_key) (empty_account n) slots
+
+abbrev pub with_teller_slot : ℕ → List TellerSlot → List TellerSlot
+with_teller_slot n slots = placed (number_below teller_slot_key) (number_same teller_slot_key) (empty_teller n) slots
+
+abbrev pub with_branch_slot : ℕ → List BranchSlot → List BranchSlot
+with_branch_slot n slots = placed (number_below branch_slot_key) (number_same branch_slot_key) (empty_branch n) slots
+
+abbrev pub with_request_slot : ℕ → ℕ → List RequestSlot → List RequestSlot
+with_request_slot n m slots = placed request_below request_same (empty_request n m) slots
+
+-- the overlay with slots for all that a record can touch: its teller, the branch that the teller's number gives, its account,
+-- the branch that the account's number gives, and its teller and number
+abbrev pub covering : Overlay → Result RequestFields Bad → Overlay
+covering o (Err fault) = o
+covering o (Ok r) = record o {
+  branches = with_branch_slot (branch_of_account r.account) (with_branch_slot (branch_of_teller r.teller) o.branches);
+  tellers = with_teller_slot r.teller o.tellers;
+  accounts = with_account_slot r.account o.accounts;
+  kept = with_request_slot r.teller r.number o.kept;
+}
+
+abbrev pub covering_all : Overlay → List (Result RequestFields Bad) → Overlay
+covering_all o [] = o
+covering_all o (read ∷ reads) = covering_all (covering o read) reads
+
+abbrev pub no_slots : Overlay
+no_slots = record { branches = []; tellers = []; accounts = []; kept = []; decided = 0; history = []; requests = [] }
+
+-- every key that a request can touch has its slot
+pub record Covers (o : Overlay) (r : RequestFields) : Type 0 where
+  pub branch : IsSome (row_at branch_slot_key o.branches (branch_of_teller r.teller))
+  pub teller : IsSome (row_at teller_slot_key o.tellers r.teller)
+  pub account : IsSome (row_at account_slot_key o.accounts r.account)
+  pub its_branch : IsSome (row_at branch_slot_key o.branches (branch_of_account r.account))
+  pub kept : IsSome (find (is_for r.teller r.number) o.kept)
+
+abbrev pub CoversRead : Overlay → Result RequestFields Bad → Type 0
+CoversRead o (Err fault) = Unit {0}
+CoversRead o (Ok r) = Covers o r
+
+abbrev pub CoversAll : Overlay → List (Result RequestFields Bad) → Type 0
+CoversAll o reads = AllByRecursion (CoversRead o) reads
+
+-- the slots stand in the order of their keys, and no two have one key
+pub record HasRisingSlots (o : Overlay) : Type 0 where
+  pub branches : IsRising (number_below branch_slot_key) o.branches
+  pub tellers : IsRising (number_below teller_slot_key) o.tellers
+  pub accounts : IsRising (number_below account_slot_key) o.accounts
+  pub kept : IsRising request_below o.kept
+
+-- nothing is changed yet, and no row is new
+pub record IsUnchanged (o : Overlay) : Type 0 where
+  pub branches : AllByRecursion (λ s. s.changed ≡ None) o.branches
+  pub tellers : AllByRecursion (λ s. s.changed ≡ None) o.tellers
+  pub accounts : AllByRecursion (λ s. s.changed ≡ None) o.accounts
+  pub history : o.history ≡ []
+  pub requests : o.requests ≡ []
+
+-- ---- it is filled
+
+abbrev pub branch_filled : Tables → BranchSlot → BranchSlot
+branch_filled t s = record s { stored = row_at branch_key t.branches s.branch }
+
+abbrev pub teller_filled : Tables → TellerSlot → TellerSlot
+teller_filled t s = record s { stored = option_map balance_of_teller (row_at teller_key t.tellers s.teller) }
+
+abbrev pub account_filled : Tables → AccountSlot → AccountSlot
+account_filled t s = record s { stored = account_balance_in t s.account }
+
+abbrev pub request_filled : Tables → RequestSlot → RequestSlot
+request_filled t s = record s { kept = kept_in t.requests s.teller s.number }
+
+-- each slot with what is in the tables under its key
+abbrev pub filled : Tables → Overlay → Overlay
+filled t o = record o {
+  branches = map (branch_filled t) o.branches;
+  tellers = map (teller_filled t) o.tellers;
+  accounts = map (account_filled t) o.accounts;
+  kept = map (request_filled t) o.kept;
+  decided = decided_in t.meta;
+}
+
+-- ---- its records are judged
+
+-- a balance is changed only where the row is there
+pub record ChangesRows (o : Overlay) (t : Tables) : Type 0 where
+  pub branches : AllByRecursion (λ s. IfSome s.changed (λ z. IsSome (row_at branch_key t.branches s.branch))) o.branches
+  pub tellers : AllByRecursion (λ s. IfSome s.changed (λ z. IsSome (row_at teller_key t.tellers s.teller))) o.tellers
+  pub accounts : AllByRecursion (λ s. IfSome s.changed (λ z. IsSome (row_at account_key t.accounts s.account))) o.accounts
+
+-- rows that are put in one after another, each under a key that is free by then
+abbrev pub PutsFree : {R : Type 0} → (R → ℕ) → List R → List R → Type 0
+PutsFree key [] rows = Unit {0}
+PutsFree key (r ∷ rs) rows = (row_at key rows (key r) ≡ None) × PutsFree key rs (row_put key r rows)
+
+-- the keys of the new rows are free
+pub record AddsRows (o : Overlay) (t : Tables) : Type 0 where
+  pub history : PutsFree history_key o.history t.history
+  pub requests : PutsFree request_key o.requests t.requests

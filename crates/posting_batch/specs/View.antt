@@ -1,0 +1,39 @@
+-- What a batch holds, without where it lies in memory.
+use Rattle.std.specs.Prelude.{◌≡◌, ℕ, List, [], ◌∷◌, map, Result}
+use Rattle.message_records.specs.declared.faults.Bad.{Bad}
+use Rattle.message_records.specs.Reading.{request_of}
+use Rattle.message_records.specs.Records.{RequestFields}
+use Rattle.posting_rules.specs.LookUps.{decided_in}
+use Rattle.posting_rules.specs.Steps.{meta_row_of}
+use Rattle.posting_rules.specs.Tables.{Tables}
+use Rattle.posting_batch.specs.declared.overlay.Overlay as held
+use Rattle.posting_batch.specs.declared.batch.Batch.{Batch}
+use Rattle.posting_batch.specs.Overlay.{Overlay}
+use Rattle.posting_batch.specs.Batch.{covering_all, no_slots, filled}
+
+-- the overlay
+abbrev pub view : held.Overlay → Overlay
+view o = record {
+  branches = o.branches.items;
+  tellers = o.tellers.items;
+  accounts = o.accounts.items;
+  kept = o.kept.items;
+  decided = o.decided;
+  history = o.history.items;
+  requests = o.requests.items;
+}
+
+-- what was read of the records
+abbrev pub reads_of : Batch → List (Result RequestFields Bad)
+reads_of b = b.reads.items
+
+-- the batch is made of these records: an empty slot stands under each key that they can touch
+pub record IsMadeOf (b : Batch) (records : List (List ℕ)) : Type 0 where
+  pub reads : reads_of b ≡ map request_of records
+  pub overlay : view b.overlay ≡ covering_all no_slots (map request_of records)
+
+-- and its slots are filled from these tables
+pub record IsFilledFrom (b : Batch) (t : Tables) (records : List (List ℕ)) : Type 0 where
+  pub reads : reads_of b ≡ map request_of records
+  pub overlay : view b.overlay ≡ filled t (covering_all no_slots (map request_of records))
+  pub counted : t.meta ≡ meta_row_of (decided_in t.meta) ∷ []

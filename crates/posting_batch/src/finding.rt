@@ -1,0 +1,72 @@
+//! Slots are found by walking: a batch has few of them.
+ghost use Rattle.std.specs.Prelude.{◌≡◌};
+ghost use Rattle.std.specs.List.{find};
+ghost use Rattle.std.specs.Option.{option_map};
+ghost use Rattle.posting_rules.specs.Tables.{row_at};
+ghost use Rattle.posting_batch.specs.Slots.{slot_balance, kept_in_slots, is_for, kept_of_slot, row_of_slot, in_slot, branch_slot_key};
+
+use crate::slots::{BalanceSlot, BranchSlot, RequestSlot};
+use message_records::{Cents, Number, Teller};
+use posting_rules::{BranchRow, Kept};
+
+// What the slot under a number tells of its balance.
+fn told_at<T: BalanceSlot>(slots: &[T], number: u64) -> Option<Option<Cents>>
+    ensures { result ≡ option_map T.balance_in (row_at T.key slots.now number) }
+{
+    slots
+        .iter()
+        .find(|slot| slot.number() == number)
+        .map(|slot| slot.balance())
+}
+
+/// The balance under a number, none where there is no row.
+pub(crate) fn balance_at<T: BalanceSlot>(slots: &[T], number: u64) -> Option<Cents>
+    ensures { result ≡ slot_balance T.key T.balance_in slots.now number }
+{
+    told_at(slots, number).flatten()
+}
+
+// What the slot of a branch tells of its row.
+fn told_branch(slots: &[BranchSlot], number: u64) -> Option<Option<BranchRow>>
+    ensures { result ≡ option_map row_of_slot (row_at branch_slot_key slots.now number) }
+{
+    slots
+        .iter()
+        .find(|slot| slot.branch == number)
+        .map(|slot| slot.stored)
+}
+
+/// The row of a branch as its slot was filled, none where it has no row.
+pub fn stored_branch(slots: &[BranchSlot], number: u64) -> Option<BranchRow>
+    ensures { result ≡ in_slot row_of_slot (row_at branch_slot_key slots.now number) }
+{
+    told_branch(slots, number).flatten()
+}
+
+impl RequestSlot {
+    ghost use Rattle.posting_batch.specs.Slots.{is_for};
+
+    // Tests whether the slot is that of a teller and a number.
+    pub(crate) fn is_for(&self, teller: Teller, number: Number) -> bool
+        ensures { result ≡ is_for teller number self.now }
+    {
+        self.teller == teller && self.number == number
+    }
+}
+
+// What the slot of a teller and a number tells.
+fn told_for(slots: &[RequestSlot], teller: Teller, number: Number) -> Option<Option<Kept>>
+    ensures { result ≡ option_map kept_of_slot (find (is_for teller number) slots.now) }
+{
+    slots
+        .iter()
+        .find(|slot| slot.is_for(teller, number))
+        .map(|slot| slot.kept)
+}
+
+/// The request that is kept under a teller and a number.
+pub(crate) fn kept_at(slots: &[RequestSlot], teller: Teller, number: Number) -> Option<Kept>
+    ensures { result ≡ kept_in_slots slots.now teller number }
+{
+    told_for(slots, teller, number).flatten()
+}

@@ -1,0 +1,192 @@
+//! Records are judged in the slots of a batch, one after another.
+ghost use Rattle.std.specs.Prelude.{◌≡◌, ◌≤◌, ◌<◌, ◌+◌, ◌++◌, [], ◌∷◌, map, length, vec_len, vec_capacity, IsTrue};
+ghost use Rattle.message_records.specs.Spelling.{reply_spelling};
+ghost use Rattle.posting_rules.specs.declared.limits.TheConstants.{MAX_DECIDED};
+ghost use Rattle.posting_rules.specs.Cases.{IsProper};
+ghost use Rattle.posting_rules.specs.Entries.{posted_entry};
+ghost use Rattle.posting_rules.specs.Kept.{is_kept_with};
+
+use crate::changing::{change_at, keep_at};
+use crate::finding::{balance_at, kept_at};
+use crate::slots::{AccountSlot, BranchSlot, RequestSlot, TellerSlot};
+use message_records::{Bad, Cents, Moment, Outcome, Reply, Request, encode_reply};
+use posting_rules::{
+    Found, HistoryRow, Kept, MAX_DECIDED, Ordinal, RequestRow, Verdict, branch_of_teller, judge,
+    reply_to,
+};
+
+// Puts something behind the others, for which there is room.
+pub(crate) fn put<T: Drop>(items: &mut Vec<T>, item: T)
+    requires { vec_len items.old < vec_capacity items.old }
+    ensures items { items.new.items ≡ items.old.items ++ item ∷ [] }
+    ensures len { vec_len items.new ≡ vec_len items.old + 1 }
+    ensures capacity { vec_capacity items.old ≤ vec_capacity items.new }
+{
+    let _ = items.push(item);
+}
+
+/// What is known of the rows that a batch can touch, and the rows that are new.
+#[derive(Drop)]
+pub struct Overlay {
+    pub branches: Vec<BranchSlot>,
+    pub tellers: Vec<TellerSlot>,
+    pub accounts: Vec<AccountSlot>,
+    pub kept: Vec<RequestSlot>,
+    /// How many requests are decided: 0..=`MAX_DECIDED`.
+    pub decided: u64,
+    /// The postings that are new, in the order of their ordinals.
+    pub history: Vec<HistoryRow>,
+    /// The decided requests that are new, in the order of their ordinals.
+    pub requests: Vec<RequestRow>,
+    ghost few: { decided ≤ MAX_DECIDED },
+}
+
+impl Overlay {
+    ghost use Rattle.posting_batch.specs.Judging.{found_over, overlay_kept, overlay_posted, overlay_after, overlay_with, reply_over, overlay_with_all, replies_over};
+    ghost use Rattle.posting_batch.specs.View.{view};
+
+    // All that is looked up for a request.
+    fn look_up(&self, request: &Request) -> Found
+        ensures value { result ≡ found_over (view self.now) request.now }
+        ensures few { result.decided ≤ MAX_DECIDED }
+    {
+        let teller = balance_at(&self.tellers, request.teller().get());
+        let branch = balance_at(&self.branches, branch_of_teller(request.teller()));
+        Found {
+            teller: match (teller, branch) {
+                (Some(teller), Some(branch)) => Some((teller, branch)),
+                _ => None,
+            },
+            kept: kept_at(&self.kept, request.teller(), request.number()),
+            decided: self.decided,
+            account: balance_at(&self.accounts, request.account().get()),
+        }
+    }
+
+    // Keeps a decided request under the next ordinal, for which there is room, and counts it.
+    fn keep(&mut self, request: &Request, outcome: Outcome, balance: Cents)
+        requires room { vec_len self.old.requests < vec_capacity self.old.requests }
+        requires few { self.old.decided < MAX_DECIDED }
+        requires kept { IsTrue (is_kept_with outcome balance) }
+        ensures requests { (vec_len self.new.requests ≡ vec_len self.old.requests + 1)
+            × (vec_capacity self.old.requests ≤ vec_capacity self.new.requests) }
+        ensures history { self.new.history ≡ self.old.history }
+        ensures overlay { view self.new
+            ≡ overlay_kept (view self.old) (record { moment = 0; request = request.now; outcome = outcome; balance = balance }) }
+    {
+        let kept = Kept::new(
+            request.account(),
+            request.branch(),
+            request.delta(),
+            outcome,
+            balance,
+        )
+        .unwrap();
+        let row = RequestRow {
+            ordinal: Ordinal::new(self.decided + 1).unwrap(),
+            teller: request.teller(),
+            number: request.number(),
+            kept,
+        };
+        keep_at(&mut self.kept, request.teller(), request.number(), kept);
+        put(&mut self.requests, row);
+        self.decided += 1;
+    }
+
+    // Changes the balances of a posting, and records it under the next ordinal, for which there is room.
+    fn move_money(
+        &mut self,
+        moment: Moment,
+        request: &Request,
+        account: Cents,
+        teller: Cents,
+        branch: Cents,
+    )
+        requires room { vec_len self.old.history < vec_capacity self.old.history }
+        requires few { self.old.decided < MAX_DECIDED }
+        ensures history { (vec_len self.new.history ≡ vec_len self.old.history + 1)
+            × (vec_capacity self.old.history ≤ vec_capacity self.new.history) }
+        ensures requests { self.new.requests ≡ self.old.requests }
+        ensures decided { self.new.decided ≡ self.old.decided }
+        ensures overlay { overlay_kept (view self.new) (posted_entry moment request.now account)
+            ≡ overlay_posted (view self.old) (posted_entry moment request.now account) teller branch }
+    {
+        let home = branch_of_teller(request.teller());
+        change_at(&mut self.accounts, request.account().get(), account);
+        change_at(&mut self.tellers, request.teller().get(), teller);
+        change_at(&mut self.branches, home, branch);
+        let row = HistoryRow {
+            ordinal: Ordinal::new(self.decided + 1).unwrap(),
+            account: request.account(),
+            teller: request.teller(),
+            branch: request.branch(),
+            delta: request.delta(),
+            moment,
+        };
+        put(&mut self.history, row);
+    }
+
+    // Changes the slots as the verdict says, and puts the new rows, for which there is room.
+    fn apply(&mut self, moment: Moment, request: &Request, verdict: &Verdict)
+        requires proper { IsProper (found_over (view self.old) request.now) verdict.now }
+        requires requests { vec_len self.old.requests < vec_capacity self.old.requests }
+        requires history { vec_len self.old.history < vec_capacity self.old.history }
+        ensures requests { (vec_len self.new.requests ≤ vec_len self.old.requests + 1)
+            × (vec_capacity self.old.requests ≤ vec_capacity self.new.requests) }
+        ensures history { (vec_len self.new.history ≤ vec_len self.old.history + 1)
+            × (vec_capacity self.old.history ≤ vec_capacity self.new.history) }
+        ensures overlay { view self.new ≡ overlay_after (view self.old) moment request.now verdict.now }
+    {
+        match verdict {
+            Verdict::Unkept(_) | Verdict::Again(_) => {}
+            Verdict::Refused(outcome) => self.keep(request, *outcome, Cents::new(0).unwrap()),
+            Verdict::Posted {
+                account,
+                teller,
+                branch,
+            } => {
+                self.move_money(moment, request, *account, *teller, *branch);
+                self.keep(request, Outcome::Posted, *account);
+            }
+        }
+    }
+
+    // Answers a record, for which there is room.
+    fn answer(&mut self, moment: Moment, read: &Result<Request, Bad>) -> [u8; 200]
+        requires requests { vec_len self.old.requests < vec_capacity self.old.requests }
+        requires history { vec_len self.old.history < vec_capacity self.old.history }
+        ensures requests { (vec_len self.new.requests ≤ vec_len self.old.requests + 1)
+            × (vec_capacity self.old.requests ≤ vec_capacity self.new.requests) }
+        ensures history { (vec_len self.new.history ≤ vec_len self.old.history + 1)
+            × (vec_capacity self.old.history ≤ vec_capacity self.new.history) }
+        ensures reply { result ≡ reply_spelling (reply_over (view self.old) read.now) }
+        ensures overlay { view self.new ≡ overlay_with (view self.old) moment read.now }
+    {
+        let Ok(request) = read else {
+            return encode_reply(&Reply::new(Outcome::Malformed, None, None).unwrap());
+        };
+        let found = self.look_up(request);
+        let verdict = judge(&found, request);
+        self.apply(moment, request, &verdict);
+        encode_reply(&reply_to(&found, request, &verdict))
+    }
+
+    /// Answers records in order, for which there is room, and puts the replies behind the others.
+    pub(crate) fn answer_all(
+        &mut self,
+        moment: Moment,
+        reads: &[Result<Request, Bad>],
+        replies: &mut Vec<[u8; 200]>,
+    )
+        requires requests { vec_len self.old.requests + length reads.now ≤ vec_capacity self.old.requests }
+        requires history { vec_len self.old.history + length reads.now ≤ vec_capacity self.old.history }
+        requires replies { vec_len replies.old + length reads.now ≤ vec_capacity replies.old }
+        ensures overlay { view self.new ≡ overlay_with_all (view self.old) moment reads.now }
+        ensures replies { replies.new.items ≡ replies.old.items ++ map reply_spelling (replies_over (view self.old) moment reads.now) }
+    {
+        for read in reads {
+            let reply = self.answer(moment, read);
+            put(replies, reply);
+        }
+    }
+}
