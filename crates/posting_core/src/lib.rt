@@ -6,7 +6,7 @@ mod clock;
 mod once;
 mod plain_bank;
 mod stream;
-mod transfer;
+pub mod transfer;
 mod walking;
 
 pub use clock::{Clock, StoredClock};

@@ -7,14 +7,14 @@ use std::io::{ErrorKind, Read, Write};
 
 /// The reader failed.
 #[derive(Clone, Copy, Debug, PartialEq, Eq)]
-pub(crate) struct ReadFailed;
+pub struct ReadFailed;
 
 /// The writer failed, or took no byte.
 #[derive(Clone, Copy, Debug, PartialEq, Eq)]
-pub(crate) struct WriteFailed;
+pub struct WriteFailed;
 
 /// One read into what is left of a buffer.
-pub(crate) fn fill<R: Read>(reader: &mut R, buffer: &mut [u8], filled: usize) -> io::Result<usize>
+pub fn fill<R: Read>(reader: &mut R, buffer: &mut [u8], filled: usize) -> io::Result<usize>
     requires { filled < length buffer.old }
     ensures fits { IfOk result (λ n. filled + n ≤ length buffer.new) }
     ensures ok { IfOk result (λ n. (bytes : List ℕ) × (take (filled + n) buffer.new ≡ take filled buffer.old ++ bytes)
@@ -27,7 +27,7 @@ pub(crate) fn fill<R: Read>(reader: &mut R, buffer: &mut [u8], filled: usize) ->
 
 /// Reads until the buffer is full or the input ends, and answers how many bytes were read. An interrupted read is made
 /// again. A reader that was asked 2^64 - 1 times counts as failed.
-pub(crate) fn read_full<R: Read>(reader: &mut R, buffer: &mut [u8]) -> Result<usize, ReadFailed>
+pub fn read_full<R: Read>(reader: &mut R, buffer: &mut [u8]) -> Result<usize, ReadFailed>
     ensures within { IfOk result (λ n. n ≤ length buffer.new) }
     ensures bytes { IfOk result (λ n. Consumes (R.remaining reader.old) (R.remaining reader.new) (take n buffer.new)) }
     ensures end { IfOk result (λ n. n < length buffer.new → IsAtEnd (R.remaining reader.new)) }
@@ -48,7 +48,7 @@ pub(crate) fn read_full<R: Read>(reader: &mut R, buffer: &mut [u8]) -> Result<us
 }
 
 /// Writes the bytes and flushes, up to a write that fails or takes none. An interrupted write is made again.
-pub(crate) fn write_out<W: Write>(writer: &mut W, bytes: &[u8]) -> Result<(), WriteFailed>
+pub fn write_out<W: Write>(writer: &mut W, bytes: &[u8]) -> Result<(), WriteFailed>
     ensures { (n : ℕ) × (n ≤ length bytes.now) × Appends (W.contents writer.old) (W.contents writer.new) (take n bytes.now)
         × OnOk result (n ≡ length bytes.now) }
 {
@@ -59,8 +59,8 @@ pub(crate) fn write_out<W: Write>(writer: &mut W, bytes: &[u8]) -> Result<(), Wr
     }
 }
 
-// Writes the bytes, up to a write that fails or takes none.
-fn write_each<W: Write>(writer: &mut W, bytes: &[u8]) -> Result<(), WriteFailed>
+/// Writes the bytes, up to a write that fails or takes none.
+pub fn write_each<W: Write>(writer: &mut W, bytes: &[u8]) -> Result<(), WriteFailed>
     ensures { (n : ℕ) × (n ≤ length bytes.now) × Appends (W.contents writer.old) (W.contents writer.new) (take n bytes.now)
         × OnOk result (n ≡ length bytes.now) }
 {
