@@ -7,7 +7,7 @@ mod ends;
 mod once;
 mod plain_bank;
 mod stream;
-mod transfer;
+pub mod transfer;
 mod walking;
 
 pub use clock::{Clock, StoredClock};

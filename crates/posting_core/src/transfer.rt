@@ -9,14 +9,14 @@ use std::io::ErrorKind;
 
 /// The reader failed.
 #[derive(Clone, Copy, Debug, PartialEq, Eq)]
-pub(crate) struct ReadFailed;
+pub struct ReadFailed;
 
 /// The writer failed, or took no byte.
 #[derive(Clone, Copy, Debug, PartialEq, Eq)]
-pub(crate) struct WriteFailed;
+pub struct WriteFailed;
 
 /// One read into what is left of a buffer.
-pub(crate) fn fill<R: Source>(reader: &mut R, buffer: &mut [u8], filled: usize) -> io::Result<usize>
+pub fn fill<R: Source>(reader: &mut R, buffer: &mut [u8], filled: usize) -> io::Result<usize>
     requires { filled < length buffer.old }
     ensures fits { IfOk result (λ n. filled + n ≤ length buffer.new) }
     ensures ok { IfOk result (λ n. (bytes : List ℕ) × (take (filled + n) buffer.new ≡ take filled buffer.old ++ bytes)
@@ -30,7 +30,7 @@ pub(crate) fn fill<R: Source>(reader: &mut R, buffer: &mut [u8], filled: usize) 
 
 /// Reads until the buffer is full or the input ends, and answers how many bytes were read. An interrupted read is made
 /// again. A reader that was asked 2^64 - 1 times counts as failed.
-pub(crate) fn read_full<R: Source>(reader: &mut R, buffer: &mut [u8]) -> Result<usize, ReadFailed>
+pub fn read_full<R: Source>(reader: &mut R, buffer: &mut [u8]) -> Result<usize, ReadFailed>
     ensures within { IfOk result (λ n. n ≤ length buffer.new) }
     ensures bytes { IfOk result (λ n. Consumes (R.remaining reader.old) (R.remaining reader.new) (take n buffer.new)) }
     ensures end { IfOk result (λ n. n < length buffer.new → IsAtEnd (R.remaining reader.new)) }
@@ -53,7 +53,7 @@ pub(crate) fn read_full<R: Source>(reader: &mut R, buffer: &mut [u8]) -> Result<
 }
 
 /// Writes the bytes and flushes, up to a write that fails or takes none. An interrupted write is made again.
-pub(crate) fn write_out<W: Sink>(writer: &mut W, bytes: &[u8]) -> Result<(), WriteFailed>
+pub fn write_out<W: Sink>(writer: &mut W, bytes: &[u8]) -> Result<(), WriteFailed>
     ensures written { (n : ℕ) × (n ≤ length bytes.now) × Appends (W.contents writer.old) (W.contents writer.new) (take n bytes.now)
         × OnOk result (n ≡ length bytes.now) }
     ensures flushed { OnOk result (EndsWith IsFlush (W.told writer.old) (W.told writer.new)) }
@@ -66,8 +66,8 @@ pub(crate) fn write_out<W: Sink>(writer: &mut W, bytes: &[u8]) -> Result<(), Wri
     }
 }
 
-// Writes the bytes, up to a write that fails or takes none.
-fn write_each<W: Sink>(writer: &mut W, bytes: &[u8]) -> Result<(), WriteFailed>
+/// Writes the bytes, up to a write that fails or takes none.
+pub fn write_each<W: Sink>(writer: &mut W, bytes: &[u8]) -> Result<(), WriteFailed>
     ensures written { (n : ℕ) × (n ≤ length bytes.now) × Appends (W.contents writer.old) (W.contents writer.new) (take n bytes.now)
         × OnOk result (n ≡ length bytes.now) }
     ensures more { OnOk result (HasMore (W.told writer.old) (W.told writer.new)) }

@@ -1,0 +1,178 @@
+-- The body's length, read from the fields in order.
+use Rattle.std.proofs.Common.{suc, get_or, drop, add-one, drop-cons, ◌≡◌, ℕ, ◌+◌, ◌-◌, ◌*◌, ◌<◌, ◌≤◌, inl, inr, min, Bool, true, false, cond, leb, List, [], ◌∷◌, length, map, Option, Some, None, refl, sym, ap, ◌∙◌, arith}
+use Rattle.std.specs.Prelude.{◌&&◌, ◌||◌, codes, unwrap_or, IfSome}
+use Rattle.std.specs.List.{list_any, list_all}
+use Rattle.std.specs.Char.{is_ascii_digit, digit_value}
+use Rattle.std.specs.Str.Parse.{digits_value_after}
+use Rattle.std.proofs.lemmas.Bool.{cases_Bool, cases_lt, and_parts, leb-true, le-leb, lt-leb, lt-ltb}
+use Rattle.std.proofs.lemmas.Str.{digit_value_digit}
+use Rattle.httparse.specs.declared.spans.HeaderSpan.{HeaderSpan}
+use Rattle.httparse.specs.Spans.{header_bytes}
+use Rattle.counter_http.specs.Fields.{NamedValue, is_named, values_of, stated_length, length_by, body_length, has_close, asks_to_close}
+
+-- ---- a number in digits, that stays at 4097 once it is too large
+
+abbrev pub length_from : ℕ → List ℕ → Option ℕ
+length_from n [] = cond (leb n 4096) (Some n) None
+length_from n (c ∷ cs) = cond (is_ascii_digit c) (length_from (min (n * 10 + (c - 48)) 4097) cs) None
+
+capped : (n : ℕ) → cond (leb (min n 4097) 4096) (Some (min n 4097)) None ≡ cond (leb n 4096) (Some n) None
+capped n = elim (cases_lt 4096 n) [
+  | inl large ↦
+      let cap : min n 4097 ≡ 4097 = omega arith in
+      rw (cap, lt-leb n 4096 large) refl
+  | inr small ↦
+      let cap : min n 4097 ≡ n = omega arith in
+      rw cap refl
+]
+
+digit_is : (c : ℕ) → is_ascii_digit c ≡ true → digit_value c ≡ c - 48
+digit_is c t =
+    let parts = and_parts (leb 48 c) (leb c 57) t in
+    let low : 48 ≤ c = leb-true 48 c parts.0 in
+    let high : c ≤ 57 = leb-true c 57 parts.1 in
+    omega (arith, digit_value_digit c (low, high))
+
+read_from : (n : ℕ) (cs : List ℕ)
+    → length_from (min n 4097) cs ≡ cond (list_all is_ascii_digit cs && leb (digits_value_after 10 n cs) 4096) (Some (digits_value_after 10 n cs)) None
+read_from n [] = capped n
+read_from n (c ∷ cs) = elim (cases_Bool (is_ascii_digit c)) [
+  | inl t ↦
+      let digit : digit_value c ≡ c - 48 = digit_is c t in
+      let same : min (min n 4097 * 10 + (c - 48)) 4097 ≡ min (n * 10 + digit_value c) 4097 = omega arith in
+      rw t (ap (λ (k : ℕ). length_from k cs) same ∙ read_from (n * 10 + digit_value c) cs)
+  | inr f ↦ rw f refl
+]
+
+pub stated_from : (digits : List ℕ) → 0 < length digits → stated_length digits ≡ length_from 0 digits
+stated_from digits some = rw (lt-ltb 0 (length digits) some) (sym (read_from 0 digits))
+
+-- ---- the fields, with the length that was stated so far
+
+abbrev pub on_stated : Option ℕ → Option ℕ → (Option ℕ → Option ℕ) → Option ℕ
+on_stated (Some n) new go = None
+on_stated None None go = None
+on_stated None (Some n) go = go (Some n)
+
+abbrev pub length_behind : Option ℕ → List NamedValue → Option ℕ
+length_behind stated [] = Some (unwrap_or stated 0)
+length_behind stated (f ∷ fs) =
+    cond (is_named (codes "transfer-encoding") f) None
+    (cond (is_named (codes "content-length") f) (on_stated stated (stated_length f.1) (λ o. length_behind o fs)) (length_behind stated fs))
+
+abbrev only : ℕ → List (List ℕ) → Option ℕ
+only n [] = Some n
+only n (v ∷ vs) = None
+
+abbrev coded : List NamedValue → Bool
+coded fs = list_any (is_named (codes "transfer-encoding")) fs
+
+abbrev lengths : List NamedValue → List (List ℕ)
+lengths fs = values_of (codes "content-length") fs
+
+abbrev none : Option ℕ
+none = None
+
+none_either : (b : Bool) → none ≡ cond b none none
+none_either true = refl
+none_either false = refl
+
+behind_stated : (n : ℕ) (fs : List NamedValue) → length_behind (Some n) fs ≡ cond (coded fs) None (only n (lengths fs))
+behind_stated n [] = refl
+behind_stated n (f ∷ fs) = elim (cases_Bool (is_named (codes "transfer-encoding") f)) [
+  | inl t ↦ rw t refl
+  | inr u ↦ elim (cases_Bool (is_named (codes "content-length") f)) [
+    | inl t ↦ rw (u, t) (none_either (coded fs))
+    | inr v ↦ rw (u, v) (behind_stated n fs)
+  ]
+]
+
+-- one value: the fields behind it state none
+one_value : (f : NamedValue) (fs : List NamedValue) (o : Option ℕ) → stated_length f.1 ≡ o
+    → on_stated None o (λ p. length_behind p fs) ≡ cond (coded fs) None (length_by (f.1 ∷ lengths fs))
+one_value f fs None e = refused (lengths fs) (coded fs)
+  where
+    refused : (vs : List (List ℕ)) (b : Bool) → None ≡ cond b None (length_by (f.1 ∷ vs))
+    refused [] b = rw e (none_either b)
+    refused (v ∷ vs) b = none_either b
+one_value f fs (Some n) e = behind_stated n fs ∙ ap (λ (o : Option ℕ). cond (coded fs) None o) (same (lengths fs))
+  where
+    same : (vs : List (List ℕ)) → only n vs ≡ length_by (f.1 ∷ vs)
+    same [] = sym e
+    same (v ∷ vs) = refl
+
+pub length_is : (fs : List NamedValue) → body_length fs ≡ length_behind None fs
+length_is [] = refl
+length_is (f ∷ fs) = elim (cases_Bool (is_named (codes "transfer-encoding") f)) [
+  | inl t ↦ rw t refl
+  | inr u ↦ elim (cases_Bool (is_named (codes "content-length") f)) [
+    | inl t ↦ rw (u, t) (sym (one_value f fs (stated_length f.1) refl))
+    | inr v ↦ rw (u, v) (length_is fs)
+  ]
+]
+
+-- ---- no length is over 4096
+
+abbrev IsFew : Option ℕ → Type 0
+IsFew o = IfSome o (λ n. n ≤ 4096)
+
+few_from : (n : ℕ) (cs : List ℕ) → IsFew (length_from n cs)
+few_from n [] = elim (cases_lt 4096 n) [
+  | inl large ↦ rw (lt-leb n 4096 large) tt
+  | inr small ↦ rw (le-leb n 4096 small) small
+]
+few_from n (c ∷ cs) = elim (cases_Bool (is_ascii_digit c)) [
+  | inl t ↦ rw t (few_from (min (n * 10 + (c - 48)) 4097) cs)
+  | inr f ↦ rw f tt
+]
+
+pub few_stated : (digits : List ℕ) → IsFew (stated_length digits)
+few_stated [] = tt
+few_stated (c ∷ cs) = rw (stated_from (c ∷ cs) (omega arith)) (few_from 0 (c ∷ cs))
+
+few_on : (fs : List NamedValue) (o new : Option ℕ) → IsFew new → ((n : ℕ) → n ≤ 4096 → IsFew (length_behind (Some n) fs))
+    → IsFew (on_stated o new (λ p. length_behind p fs))
+few_on fs (Some n) new h go = tt
+few_on fs None None h go = tt
+few_on fs None (Some n) h go = go n h
+
+few_behind : (o : Option ℕ) (fs : List NamedValue) → IsFew o → IsFew (length_behind o fs)
+few_behind None [] h = omega arith
+few_behind (Some n) [] h = h
+few_behind o (f ∷ fs) h = elim (cases_Bool (is_named (codes "transfer-encoding") f)) [
+  | inl t ↦ rw t tt
+  | inr u ↦ elim (cases_Bool (is_named (codes "content-length") f)) [
+    | inl t ↦ rw (u, t) (few_on fs o (stated_length f.1) (few_stated f.1) (λ n k. few_behind (Some n) fs k))
+    | inr v ↦ rw (u, v) (few_behind o fs h)
+  ]
+]
+
+pub few_length : (fs : List NamedValue) → IsFew (body_length fs)
+few_length fs = rw (length_is fs) (few_behind None fs tt)
+
+-- ---- one field after another
+
+pub field_there : (buf : List ℕ) (fields : List HeaderSpan) (i : ℕ) (f : HeaderSpan) → i < length fields → f ≡ get_or fields i f
+    → map (header_bytes buf) (drop i fields) ≡ header_bytes buf f ∷ map (header_bytes buf) (drop (i + 1) fields)
+field_there buf fields i f lt is =
+    let there : drop i fields ≡ f ∷ drop (i + 1) fields = rw add-one (drop-cons fields i f lt ∙ ap (λ (x : HeaderSpan). x ∷ drop (suc i) fields) (sym is)) in
+    ap (λ (t : List HeaderSpan). map (header_bytes buf) t) there
+
+pub names_coding : (stated : Option ℕ) (f : NamedValue) (fs : List NamedValue) → is_named (codes "transfer-encoding") f ≡ true → length_behind stated (f ∷ fs) ≡ None
+names_coding stated f fs t = rw t refl
+
+pub names_length : (stated : Option ℕ) (f : NamedValue) (fs : List NamedValue) → is_named (codes "transfer-encoding") f ≡ false
+    → is_named (codes "content-length") f ≡ true → length_behind stated (f ∷ fs) ≡ on_stated stated (stated_length f.1) (λ o. length_behind o fs)
+names_length stated f fs u t = rw (u, t) refl
+
+pub names_other : (stated : Option ℕ) (f : NamedValue) (fs : List NamedValue) → is_named (codes "transfer-encoding") f ≡ false
+    → is_named (codes "content-length") f ≡ false → length_behind stated (f ∷ fs) ≡ length_behind stated fs
+names_other stated f fs u v = rw (u, v) refl
+
+-- ---- the fields `Connection`
+
+pub names_connection : (f : NamedValue) (fs : List NamedValue) → is_named (codes "connection") f ≡ true → asks_to_close (f ∷ fs) ≡ (has_close f.1 || asks_to_close fs)
+names_connection f fs t = rw t refl
+
+pub names_another : (f : NamedValue) (fs : List NamedValue) → is_named (codes "connection") f ≡ false → asks_to_close (f ∷ fs) ≡ asks_to_close fs
+names_another f fs u = rw u refl

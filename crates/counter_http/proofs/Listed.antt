@@ -1,0 +1,140 @@
+-- The lines of the open branches, one after another, and what the bank did meanwhile.
+use Rattle.std.proofs.Common.{lit<, Bool, false, ◌≡◌, ℕ, zero, suc, ◌-◌, ◌<◌, ◌≤◌, inl, inr, List, [], ◌∷◌, ◌++◌, length, Option, Some, None, refl, sym, ap, ◌∙◌, append_assoc, append-nil, arith}
+use Rattle.std.specs.Prelude.{codes, ℤ, pos, negsuc}
+use Rattle.std.proofs.lemmas.Bool.{cases_lt, le-ltb}
+use Rattle.posting_rules.specs.declared.counter.BranchLine.{BranchLine}
+use Rattle.posting_rules.specs.Commands.{Command, opened}
+use Rattle.posting_rules.specs.Entries.{branch_balance, decided}
+use Rattle.posting_rules.specs.declared.fault.Fault.{Fault}
+use Rattle.posting_rules.specs.declared.fault.Fault.TheVariants.{Memory}
+use Rattle.posting_rules.specs.Counter.{Seen, Takes, Refuses}
+use Rattle.posting_rules.specs.declared.limits.TheConstants.{LAST_BRANCH}
+use Rattle.posting_rules.specs.Branches.{IsNextBranch}
+use Rattle.std.specs.Prelude.{replicate}
+use Rattle.std.specs.List.{repeat}
+use Rattle.std.specs.Int.{is_negative}
+use lib.IntN.{nat_abs}
+use lib.Utf8.{encode}
+use Rattle.std.proofs.lemmas.Str.{encode_ascii}
+use Rattle.std.specs.Fmt.{padded_integral, format_spec, decimal, signed_decimal, char_count}
+use Rattle.counter_http.specs.Answers.{account_line, right_in, branch_line, line_if_open, lines_up_to, branch_lines}
+use Rattle.counter_http.specs.Turns.{IsRefusedAt}
+
+-- ---- what the bank did so far: it answered calls that change nothing
+
+pub record Asking {C : Type 0} (seen : C → Seen) (old now : C) : Type 0 where
+  pub honest : (seen now).honest → (seen old).honest
+  pub up : (seen now).is_down → (seen old).is_down
+  pub takes : Takes (seen old) (seen now) []
+
+pub asking_first : {C : Type 0} (seen : C → Seen) (c : C) → Asking seen c c
+asking_first seen c = record { honest = λ h. h; up = λ d. d; takes = record { shows = λ h log s. s; stands = λ h log s. s } }
+
+-- one call more
+pub asking_more : {C : Type 0} (seen : C → Seen) (old now new : C) → Asking seen old now → Takes (seen now) (seen new) []
+    → ((seen new).is_down → ⊥) → ((seen new).honest → (seen now).honest) → Asking seen old new
+asking_more seen old now new a takes up honest = record {
+  honest = λ h. a.honest (honest h);
+  up = λ d. absurd (up d);
+  takes = record {
+    shows = λ h log s. takes.shows h log (a.takes.shows (honest h) log s);
+    stands = λ h log s. takes.stands h log (a.takes.stands (honest h) log s);
+  };
+}
+
+-- the next one was refused
+pub asking_refused : {C : Type 0} (seen : C → Seen) (old now new : C) (fault : Fault) → Asking seen old now
+    → Refuses fault (seen now) (seen new) [] → ((seen new).honest → (seen now).honest) → IsRefusedAt seen old new fault []
+asking_refused seen old now new fault a refuses honest =
+    record { stood = now; honest_first = a.honest; honest = honest; up = a.up; takes = a.takes; refuses = refuses }
+
+-- memory for what it answered was refused
+pub asking_full : {C : Type 0} (seen : C → Seen) (old now : C) → Asking seen old now → IsRefusedAt seen old now Memory []
+asking_full seen old now a = record {
+  stood = now;
+  honest_first = a.honest;
+  honest = λ h. h;
+  up = a.up;
+  takes = a.takes;
+  refuses = record { tables = λ t h. h; down = λ d. d; left = λ remains left. (remains, left, λ t h. h) };
+}
+
+-- ---- lines
+
+-- no branch above one and below another is open
+abbrev NoneBetween : List Command → ℕ → ℕ → Type 0
+NoneBetween log low high = (b : ℕ) → low < b → b < high → opened log b ≡ None
+
+skipped : (log : List Command) (low high n : ℕ) → NoneBetween log low high → low ≤ n → n < high → lines_up_to log n ≡ lines_up_to log low
+skipped log low high zero none le lt = ap (lines_up_to log) (let e : 0 ≡ low = omega arith in e)
+skipped log low high (suc m) none le lt = elim (cases_lt low (suc m)) [
+  | inl more ↦
+      let closed : opened log (suc m) ≡ None = none (suc m) more lt in
+      ap (λ (o : Option ℕ). lines_up_to log m ++ line_if_open log (suc m) o) closed ∙ append-nil (lines_up_to log m) ∙ skipped log low high m none (omega arith) (omega arith)
+  | inr ge ↦ ap (lines_up_to log) (let e : suc m ≡ low = omega arith in e)
+]
+
+at_branch : (log : List Command) (b accounts : ℕ) (balance : ℤ) → 0 < b → opened log b ≡ Some accounts → balance ≡ branch_balance (decided log) b
+    → lines_up_to log b ≡ lines_up_to log (b - 1) ++ branch_line b accounts balance
+at_branch log zero accounts balance some e z = absurd (omega arith)
+at_branch log (suc m) accounts balance some e z =
+    let less : m ≡ suc m - 1 = omega arith in
+    ap (λ (o : Option ℕ). lines_up_to log m ++ line_if_open log (suc m) o) e
+    ∙ ap (λ (v : ℤ). lines_up_to log m ++ branch_line (suc m) accounts v) (sym z)
+    ∙ ap (λ (k : ℕ). lines_up_to log k ++ branch_line (suc m) accounts balance) less
+
+pub next_line : (log : List Command) (after : ℕ) (line : BranchLine) → IsNextBranch log after (Some line)
+    → lines_up_to log line.branch ≡ lines_up_to log after ++ branch_line line.branch line.accounts line.balance
+next_line log after line is =
+    let low : after < line.branch = is.above in
+    at_branch log line.branch line.accounts line.balance (omega arith) is.accounts is.balance
+    ∙ ap (λ (t : List ℕ). t ++ branch_line line.branch line.accounts line.balance)
+    (skipped log after line.branch (line.branch - 1) is.none_between (omega arith) (omega arith))
+
+pub all_listed : (log : List Command) (after : ℕ) → IsNextBranch log after None → after ≤ LAST_BRANCH → lines_up_to log after ≡ branch_lines log
+unfolding branch_lines
+all_listed log after none le = sym (skipped log after (suc LAST_BRANCH) LAST_BRANCH (λ b low high. none b low) le (omega arith))
+
+-- ---- a number, right in so many places
+
+spaces_are : (n : ℕ) → repeat {A = ℕ} n (32 ∷ []) ≡ replicate {A = ℕ} n 32
+spaces_are zero = refl
+spaces_are (suc n) = ap (λ (t : List ℕ). 32 ∷ t) (spaces_are n)
+
+filled : (n : ℕ) → repeat n (encode 32) ≡ replicate n 32
+filled n = ap (λ (t : List ℕ). repeat n t) (encode_ascii 32 (lit< tt)) ∙ spaces_are n
+
+lay : (d s : List ℕ) (m m' z : ℕ) → m' ≡ m → z ≡ 0 → ((repeat m' (encode 32) ++ s) ++ []) ++ [] ++ (d ++ repeat z (encode 32)) ≡ replicate m 32 ++ (s ++ d)
+lay d s m m' z e f = rw (e, f, filled m) (simp (append_assoc, append-nil))
+
+right : (n k : ℕ) → padded_integral (format_spec 32 3 0 n 18446744073709551615) false [] (decimal k) ≡ right_in n (decimal k)
+unfolding padded_integral char_count
+right n k =
+    let d = length (decimal k) in
+    lay (decimal k) [] (n - d) (n - d - 0 - 0) (n - d - 0 - 0 - (n - d - 0 - 0)) (omega arith) (omega arith)
+
+right_signed : (n : ℕ) (z : ℤ) → padded_integral (format_spec 32 3 0 n 18446744073709551615) (is_negative z) [] (decimal (nat_abs z)) ≡ right_in n (signed_decimal z)
+unfolding padded_integral char_count
+right_signed n (pos k) =
+    let plus : is_negative (pos k) ≡ false = le-ltb k 0 (omega arith) in
+    ap (λ (b : Bool). padded_integral (format_spec 32 3 0 n 18446744073709551615) b [] (decimal k)) plus ∙ right n k
+right_signed n (negsuc k) =
+    let d = length (decimal (suc k)) in
+    lay (decimal (suc k)) (45 ∷ []) (n - suc d) (n - d - 1 - 0) (n - d - 1 - 0 - (n - d - 1 - 0)) (omega arith) (omega arith)
+
+pub line_text : (b a : ℕ) (z y : ℤ) → y ≡ z
+    → padded_integral (format_spec 32 3 0 6 18446744073709551615) false [] (decimal b)
+    ++ (32 ∷ (padded_integral (format_spec 32 3 0 7 18446744073709551615) false [] (decimal a)
+    ++ (32 ∷ (padded_integral (format_spec 32 3 0 14 18446744073709551615) (is_negative y) [] (decimal (nat_abs y)) ++ (10 ∷ []))))) ≡ branch_line b a z
+line_text b a z y e =
+    rw (e, right 6 b, right 7 a, right_signed 14 z) (six (right_in 6 (decimal b)) (32 ∷ []) (right_in 7 (decimal a)) (32 ∷ []) (right_in 14 (signed_decimal z)) (10 ∷ []))
+  where
+    six : (p s q u r l : List ℕ) → p ++ (s ++ (q ++ (u ++ (r ++ l)))) ≡ p ++ s ++ q ++ u ++ r ++ l
+    six p s q u r l = simp append_assoc
+
+pub account_text : (a b : ℕ) (z y : ℤ) → b ≡ a → y ≡ z
+    → codes "account " ++ (decimal b ++ (codes " balance " ++ (signed_decimal y ++ codes "\n"))) ≡ account_line a z
+account_text a b z y f e = rw (f, e) (four (codes "account ") (decimal a) (codes " balance ") (signed_decimal z) (codes "\n"))
+  where
+    four : (p d q s l : List ℕ) → p ++ (d ++ (q ++ (s ++ l))) ≡ p ++ d ++ q ++ s ++ l
+    four p d q s l = simp append_assoc

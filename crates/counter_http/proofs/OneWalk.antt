@@ -1,0 +1,78 @@
+-- An input has one walk.
+use Rattle.std.proofs.Common.{◌≡◌, ◌≢◌, ℕ, inl, inr, List, [], ◌∷◌, ◌++◌, length, take, drop, Some, refl, sym, ap, subst, ◌∙◌, append_assoc, arith}
+use Rattle.std.proofs.Math.Seq.{take-append_seam, drop-append_seam}
+use Rattle.std.proofs.lemmas.Bool.{cases_Bool}
+use Rattle.std.proofs.lemmas.List.{length-append}
+use Rattle.httparse.specs.Grammar.{RequestHead, print_request}
+use Rattle.httparse.proofs.GrammarLemmas.{request_unique}
+use Rattle.counter_http.specs.Fields.{named_values, body_length}
+use Rattle.counter_http.specs.Messages.{Message, message_text, IsMessage, closes, Ending, Finished, Closed, No_head, No_body, Ends, Walks}
+use Rattle.counter_http.proofs.Walking.{no_message, head_some}
+
+-- texts of one length at the front of one text
+front_same : (a b x y : List ℕ) → length a ≡ length b → a ++ x ≡ b ++ y → (a ≡ b) × (x ≡ y)
+front_same a b x y len e = (
+  sym (take-append_seam a x) ∙ ap (take (length a)) e ∙ ap (λ (n : ℕ). take n (b ++ y)) len ∙ take-append_seam b y,
+  sym (drop-append_seam a x) ∙ ap (drop (length a)) e ∙ ap (λ (n : ℕ). drop n (b ++ y)) len ∙ drop-append_seam b y,
+)
+
+abbrev message_of : RequestHead → List ℕ → Message
+message_of h body = record { head = h; body = body }
+
+made : (h k : RequestHead) (x y : List ℕ) → h ≡ k → x ≡ y → message_of h x ≡ message_of k y
+made h k x y eh ex = rw (eh, ex) refl
+
+same_message : (m n : Message) (a b : List ℕ) → IsMessage m → IsMessage n → message_text m ++ a ≡ message_text n ++ b → (m ≡ n) × (a ≡ b)
+same_message m n a b im jn e =
+    let same = request_unique (message_text m ++ a) m.head n.head (m.body ++ a) (n.body ++ b) (im.head.head, append_assoc (print_request m.head) m.body a)
+    (jn.head.head, e ∙ append_assoc (print_request n.head) n.body b) in
+    let lengths : Some (length m.body) ≡ Some (length n.body) = sym im.body ∙ ap (λ (h : RequestHead). body_length (named_values h)) same.0 ∙ jn.body in
+    let len : length m.body ≡ length n.body = cc in
+    let rest = front_same m.body n.body a b len same.1 in
+    (made m.head n.head m.body n.body same.0 rest.0, rest.1)
+
+some_text : (m : Message) (a : List ℕ) → IsMessage m → message_text m ++ a ≢ []
+some_text m a im e =
+    let len = ap length e in
+    absurd (omega (arith, len, length-append (message_text m) a, length-append (print_request m.head) m.body, head_some m.head im.head.head))
+
+ends_unique : (e f : Ending) (rest : List ℕ) → Ends e rest → Ends f rest → e ≡ f
+ends_unique Finished Finished rest x y = refl
+ends_unique Finished Closed rest x y = absurd y
+ends_unique Finished No_head rest x y = absurd (y.0 x)
+ends_unique Finished (No_body h) rest x y =
+    let len = ap length (sym x ∙ y.1.1) in
+    absurd (omega (arith, len, length-append (print_request h) y.1.0, head_some h y.0.head))
+ends_unique Closed f rest x y = absurd x
+ends_unique No_head Finished rest x y = absurd (x.0 y)
+ends_unique No_head Closed rest x y = absurd y
+ends_unique No_head No_head rest x y = refl
+ends_unique No_head (No_body h) rest x y = absurd (x.1 h y.1.0 y.0 y.1.1)
+ends_unique (No_body h) Finished rest x y =
+    let len = ap length (sym y ∙ x.1.1) in
+    absurd (omega (arith, len, length-append (print_request h) x.1.0, head_some h x.0.head))
+ends_unique (No_body h) Closed rest x y = absurd y
+ends_unique (No_body h) No_head rest x y = absurd (y.1 h x.1.0 x.0 x.1.1)
+ends_unique (No_body h) (No_body k) rest x y = ap (λ (j : RequestHead). No_body j) (request_unique rest h k x.1.0 y.1.0 (x.0.head, x.1.1) (y.0.head, y.1.1)).0
+
+more : (m n : Message) (ms ns : List Message) → m ≡ n → ms ≡ ns → m ∷ ms ≡ n ∷ ns
+more m n ms ns e es = rw (e, es) refl
+
+pub walk_unique : (input : List ℕ) (ms ns : List Message) (e f : Ending) → Walks input ms e → Walks input ns f → (ms ≡ ns) × (e ≡ f)
+walk_unique input [] [] e f x y = (refl, ends_unique e f input x y)
+walk_unique input [] (n ∷ ns) e f x y = absurd (no_message e input x n y.1.0 y.0 y.1.1)
+walk_unique input (m ∷ ms) [] e f x y = absurd (no_message f input y m x.1.0 x.0 x.1.1)
+walk_unique input (m ∷ ms) (n ∷ ns) e f x y =
+    let same = same_message m n x.1.0 y.1.0 x.0 y.0 (sym x.1.1 ∙ y.1.1) in
+    let ends : closes m.head ≡ closes n.head = ap (λ (k : Message). closes k.head) same.0 in
+    elim (cases_Bool (closes m.head)) [
+      | inl t ↦
+          let a = x.1.2 t in
+          let b = y.1.2 (sym ends ∙ t) in
+          (more m n ms ns same.0 (a.0 ∙ sym b.0), a.1 ∙ sym b.1)
+      | inr o ↦
+          let a = x.1.3 o in
+          let b : Walks x.1.0 ns f = subst (λ (r : List ℕ). Walks r ns f) (sym same.1) (y.1.3 (sym ends ∙ o)) in
+          let rest = walk_unique x.1.0 ms ns e f a b in
+          (more m n ms ns same.0 rest.0, rest.1)
+    ]

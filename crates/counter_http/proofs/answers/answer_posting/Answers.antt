@@ -1,0 +1,39 @@
+use Rattle.std.proofs.Common.{◌∙◌, ap, sym, ℕ, List}
+use Rattle.message_records.specs.Spelling.{reply_spelling}
+use Rattle.posting_rules.specs.Entries.{reply}
+use Rattle.counter_http.specs.Next.{asked}
+use Rattle.counter_http.proofs.Answered.{told_answer, told_refused, refused_first, posting_readings, posting_answer, takes_posting, refuses_posting, octets}
+use Rattle.counter_http.proofs.answers.answer_posting.Goals as goal
+
+pub returns-in-Ok-clause-answers : goal.returns-in-Ok-clause-answers
+returns-in-Ok-clause-answers g c =
+    let a = asked c.args.message.now in
+    let m = c.now-moment.result in
+    let seen = g.C.Counter.seen in
+    let old = c.args.bank.now in
+    let new = c.submit.new.self in (
+      m,
+      posting_readings _ _ a m c.requires.posting c.now-moment.ensures,
+      told_answer seen _ _ old new a _ _ c.say.result
+          (takes_posting (seen old) (seen new) a m _ c.requires.posting c.requires.body c.in-Ok.ensures.done)
+          (λ d. absurd (c.in-Ok.ensures.up d))
+          (λ h log s. ap octets (c.in-Ok.ensures.reply h log s
+          ∙ ap (λ (b : List ℕ). reply_spelling (reply log b)) c.requires.body) ∙ sym (posting_answer log a c.requires.posting))
+          c.say.ensures.written c.say.ensures.fault,
+    )
+
+pub returns-in-Err-clause-answers : goal.returns-in-Err-clause-answers
+returns-in-Err-clause-answers g c =
+    let a = asked c.args.message.now in
+    let m = c.now-moment.result in
+    let seen = g.C.Counter.seen in
+    let old = c.args.bank.now in
+    let new = c.submit.new.self in (
+      m,
+      posting_readings _ _ a m c.requires.posting c.now-moment.ensures,
+      told_refused seen c.in-Err.fault c.fail.result _ _ old new a _ c.fail.ensures.0
+          (refused_first seen old new c.in-Err.fault _
+          (refuses_posting c.in-Err.fault (seen old) (seen new) a m _ c.requires.posting c.requires.body c.in-Err.ensures.fault)
+          c.in-Err.ensures.honest)
+          c.fail.ensures.1 c.fail.ensures.2,
+    )

@@ -1,0 +1,7 @@
+use Rattle.std.proofs.Common.{refl}
+use Rattle.counter_http.specs.Answers.{status_words}
+use Rattle.counter_http.proofs.fixed.not_taken.Goals as goal
+
+pub returns : goal.returns
+unfolding status_words
+returns c = refl

@@ -1,0 +1,63 @@
+use Rattle.std.proofs.Common.{◌++◌, ℕ, List, Option, Some, ap, subst, sym, ◌∙◌}
+use Rattle.std.specs.Prelude.{IfSome}
+use Rattle.std.proofs.lemmas.Result.{err_from_is_err_and}
+use Rattle.posting_rules.specs.declared.counter.BranchLine.{BranchLine}
+use Rattle.posting_rules.specs.Branches.{IsNextBranch, IsLineAbove}
+use Rattle.counter_http.specs.Answers.{lines_up_to}
+use Rattle.counter_http.proofs.Listed.{asking_more, asking_refused, asking_full, next_line, all_listed}
+use Rattle.counter_http.proofs.lines.all_lines.Goals as goal
+
+-- the bank refused a call
+pub returns-in_err-line-clause-fault : goal.returns-in_err-line-clause-fault
+returns-in_err-line-clause-fault g c =
+    let p = err_from_is_err_and c.from_residual.result c.from_residual.ensures.1 in
+    rw (p.1, p.2) (asking_refused g.C.Counter.seen c.args.bank.now c.loop-body.bank c.next_branch.new.self _
+    c.loop-body.invariant.asking c.in_err-line.ensures.fault c.in_err-line.ensures.honest)
+
+-- memory was refused
+pub returns-in_err-line_of_branch-clause-fault : goal.returns-in_err-line_of_branch-clause-fault
+returns-in_err-line_of_branch-clause-fault g c =
+    let p = err_from_is_err_and c.from_residual-in_err-line_of_branch.result c.from_residual-in_err-line_of_branch.ensures.1 in
+    rw (p.1, p.2) (asking_full g.C.Counter.seen c.args.bank.now c.next_branch.new.self
+    (asking_more g.C.Counter.seen c.args.bank.now c.loop-body.bank c.next_branch.new.self c.loop-body.invariant.asking
+    c.in_ok-line.ensures.done c.in_ok-line.ensures.up c.in_ok-line.ensures.honest))
+
+pub returns-in_err-push_str-clause-fault : goal.returns-in_err-push_str-clause-fault
+returns-in_err-push_str-clause-fault g c =
+    let p = err_from_is_err_and c.from_residual-in_err-push_str.result c.from_residual-in_err-push_str.ensures.1 in
+    rw (p.1, p.2) (asking_full g.C.Counter.seen c.args.bank.now c.next_branch.new.self
+    (asking_more g.C.Counter.seen c.args.bank.now c.loop-body.bank c.next_branch.new.self c.loop-body.invariant.asking
+    c.in_ok-line.ensures.done c.in_ok-line.ensures.up c.in_ok-line.ensures.honest))
+
+pub returns-clause-done : goal.returns-clause-done
+returns-clause-done g c =
+    (asking_more g.C.Counter.seen c.args.bank.now c.loop-body.bank c.next_branch.new.self c.loop-body.invariant.asking
+    c.in_ok-line.ensures.done c.in_ok-line.ensures.up c.in_ok-line.ensures.honest).takes
+
+pub returns-clause-lines : goal.returns-clause-lines
+returns-clause-lines g c h log s =
+    let i = c.loop-body.invariant in
+    let before = c.in_ok-line.ensures.honest h in
+    i.lines before log s
+    ∙ all_listed log c.loop-body.after
+    (subst (λ (o : Option BranchLine). IsNextBranch log c.loop-body.after o) c.in_default.is
+    (c.in_ok-line.ensures.line h log (i.asking.takes.shows before log s))) i.within
+
+pub loop-body-preserved : goal.loop-body-preserved
+loop-body-preserved g c =
+    let i = c.loop-body.invariant in
+    let above : IsLineAbove c.loop-body.after c.in-Some.line =
+    subst (λ (o : Option BranchLine). IfSome o (IsLineAbove c.loop-body.after)) c.in-Some.is c.in_ok-line.ensures.within in
+    rw c.get-after.ensures.value (record {
+      within = above.branch;
+      asking = asking_more g.C.Counter.seen c.args.bank.now c.loop-body.bank c.next_branch.new.self i.asking
+          c.in_ok-line.ensures.done c.in_ok-line.ensures.up c.in_ok-line.ensures.honest;
+      lines = λ h log s.
+          let before = c.in_ok-line.ensures.honest h in
+          let next : IsNextBranch log c.loop-body.after (Some c.in-Some.line) =
+          subst (λ (o : Option BranchLine). IsNextBranch log c.loop-body.after o) c.in-Some.is
+          (c.in_ok-line.ensures.line h log (i.asking.takes.shows before log s)) in
+          c.in_ok-push_str.ensures.bytes ∙ ap (λ (t : List ℕ). t ++ c.as_str.result.now) (i.lines before log s)
+          ∙ ap (λ (t : List ℕ). lines_up_to log c.loop-body.after ++ t) (c.as_str.ensures.value ∙ c.in_ok-line_of_branch.ensures)
+          ∙ sym (next_line log c.loop-body.after c.in-Some.line next);
+    })

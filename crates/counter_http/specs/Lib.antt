@@ -1,0 +1,10 @@
+pub mod Faults
+pub mod Fields
+pub mod Messages
+pub mod Next
+pub mod Rows
+pub mod Paths
+pub mod Answers
+pub mod Telling
+pub mod Turns
+pub mod Serving

@@ -1,0 +1,151 @@
+-- Messages one after another: each is answered in its turn, and a record is submitted under one reading of the clock.
+-- The writer's known bytes before and after are w and w', the clock's known readings k and k'. What is seen of a
+-- counter is told by seen, or the counter is seen as c before and as c' after.
+use Rattle.std.specs.Prelude.{◌≡◌, ◌⊎◌, ℕ, List, [], ◌∷◌, length, take, map, Option, Bool, true, false, ⊤, Result, MatchResult, OnOk}
+use Rattle.std.specs.List.{flat_map}
+use Rattle.std.specs.Io.KnownBytes.{Appends}
+use Rattle.posting_rules.specs.declared.fault.Fault.{Fault}
+use Rattle.posting_rules.specs.Commands.{Command, Post}
+use Rattle.posting_rules.specs.Counter.{Seen, ShowsLog, Takes, Refuses}
+use Rattle.posting_rules.specs.Runs.{behind}
+use Rattle.posting_core.specs.Batches.{joined}
+use Rattle.posting_core.specs.Clock.{AreReadings}
+use Rattle.counter_http.specs.declared.fault.ServeFault.{ServeFault}
+use Rattle.counter_http.specs.declared.fault.ServeFault.TheVariants.{Read, Write, Bank, Memory}
+use Rattle.counter_http.specs.Messages.{Message, message_text}
+use Rattle.counter_http.specs.Answers.{Asked, asked_by, is_posting, answer_of, unavailable}
+
+abbrev pub commands_if : Bool → ℕ → List ℕ → List Command
+commands_if true moment body = Post moment body ∷ []
+commands_if false moment body = []
+
+abbrev pub readings_if : Bool → ℕ → List ℕ
+readings_if true moment = moment ∷ []
+readings_if false moment = []
+
+-- the command that a message submits, and the reading of the clock for it
+abbrev pub commands_for : ℕ → Asked → List Command
+commands_for moment asked = commands_if (is_posting asked) moment asked.body
+
+abbrev pub readings_for : ℕ → Asked → List ℕ
+readings_for moment asked = readings_if (is_posting asked) moment
+
+-- a message, and the moment that its record is submitted at, if it has one
+pub record Turn : Type 0 where
+  pub message : Message
+  pub moment : ℕ
+
+abbrev pub commands_in : Turn → List Command
+commands_in t = commands_for t.moment (asked_by t.message)
+
+abbrev pub moments_in : Turn → List ℕ
+moments_in t = readings_for t.moment (asked_by t.message)
+
+abbrev pub message_in : Turn → Message
+message_in t = t.message
+
+abbrev pub text_in : Turn → List ℕ
+text_in t = message_text t.message
+
+-- of messages one after another: what they are, their bytes, the commands, and the readings of the clock
+abbrev pub messages_of : List Turn → List Message
+messages_of ts = map message_in ts
+
+abbrev pub texts_of : List Turn → List ℕ
+texts_of ts = flat_map text_in ts
+
+abbrev pub commands_of : List Turn → List Command
+commands_of ts = flat_map commands_in ts
+
+abbrev pub moments_of : List Turn → List ℕ
+moments_of ts = flat_map moments_in ts
+
+-- the answers behind a log
+abbrev pub answers_to : List Command → List Turn → List (List ℕ)
+answers_to log [] = []
+answers_to log (t ∷ ts) = answer_of log (asked_by t.message) ∷ answers_to (behind log (commands_in t)) ts
+
+-- ---- what became of messages
+
+-- the bank took their commands, and their answers were written
+pub record AreAnswered (w w' k k' : Option (List ℕ)) (c c' : Seen) (turns : List Turn) : Type 0 where
+  pub clock : AreReadings k k' (moments_of turns)
+  pub written : List ℕ
+  pub wrote : Appends w w' written
+  pub honest : c'.honest → c.honest
+  pub up : c'.is_down → c.is_down
+  pub takes : Takes c c' (commands_of turns)
+  pub answers : c'.honest → (log : List Command) → ShowsLog c log → written ≡ joined (answers_to log turns)
+
+-- ---- what became of one message
+
+-- the bank took its command, and its answer was written
+pub record IsAnswered (w w' : Option (List ℕ)) (c c' : Seen) (asked : Asked) (commands : List Command)
+    : Type 0 where
+  pub written : List ℕ
+  pub wrote : Appends w w' written
+  pub up : c'.is_down → c.is_down
+  pub takes : Takes c c' commands
+  pub answer : c'.honest → (log : List Command) → ShowsLog c log → written ≡ answer_of log asked
+
+-- the bank took its command, and a beginning of its answer was written
+pub record IsAnsweredInPart (w w' : Option (List ℕ)) (c c' : Seen) (asked : Asked) (commands : List Command)
+    : Type 0 where
+  pub written : List ℕ
+  pub wrote : Appends w w' written
+  pub up : c'.is_down → c.is_down
+  pub takes : Takes c c' commands
+  pub answer : c'.honest → (log : List Command) → ShowsLog c log
+      → written ≡ take (length written) (answer_of log asked)
+
+-- the bank answered some calls that change nothing, stood there, and refused the one that was given the commands
+pub record IsRefusedAt {C : Type 0} (seen : C → Seen) (old new : C) (fault : Fault) (commands : List Command)
+    : Type 0 where
+  pub stood : C
+  pub honest_first : (seen stood).honest → (seen old).honest
+  pub honest : (seen new).honest → (seen stood).honest
+  pub up : (seen stood).is_down → (seen old).is_down
+  pub takes : Takes (seen old) (seen stood) []
+  pub refuses : Refuses fault (seen stood) (seen new) commands
+
+-- the bank refused it, and a 503 was written
+pub record IsRefused {C : Type 0} (seen : C → Seen) (w w' : Option (List ℕ)) (old new : C) (fault : Fault)
+    (asked : Asked) (commands : List Command) : Type 0 where
+  pub wrote : Appends w w' (unavailable asked)
+  pub refused : IsRefusedAt seen old new fault commands
+
+-- the bank refused it, and a beginning of a 503 was written
+pub record IsRefusedInPart {C : Type 0} (seen : C → Seen) (w w' : Option (List ℕ)) (old new : C)
+    (asked : Asked) (commands : List Command) : Type 0 where
+  pub written : List ℕ
+  pub wrote : Appends w w' written
+  pub told : written ≡ take (length written) (unavailable asked)
+  pub fault : Fault
+  pub refused : IsRefusedAt seen old new fault commands
+
+-- what each fault says
+abbrev pub BreaksOff : {C : Type 0} → (C → Seen) → ServeFault → (w w' : Option (List ℕ)) → (old new : C)
+    → Asked → List Command → Type 0
+BreaksOff seen Write w w' old new asked commands =
+    IsAnsweredInPart w w' (seen old) (seen new) asked commands ⊎ IsRefusedInPart seen w w' old new asked commands
+BreaksOff seen (Bank fault) w w' old new asked commands = IsRefused seen w w' old new fault asked commands
+BreaksOff seen Read w w' old new asked commands = ⊥
+BreaksOff seen Memory w w' old new asked commands = ⊥
+
+-- the fault of the bank, where all of the text was written, and that of the writer elsewhere
+abbrev pub IsTellingOf : Fault → ServeFault → ℕ → List ℕ → Type 0
+IsTellingOf fault Write n text = ⊤
+IsTellingOf fault (Bank told) n text = (told ≡ fault) × (n ≡ length text)
+IsTellingOf fault Read n text = ⊥
+IsTellingOf fault Memory n text = ⊥
+
+-- what became of a message that asked for something of the bank, whatever the result
+abbrev pub IsDealtWith : {C : Type 0} → (C → Seen) → (w w' : Option (List ℕ)) → (old new : C) → Asked
+    → List Command → Result (Unit {0}) ServeFault → Type 0
+IsDealtWith seen w w' old new asked commands result =
+    MatchResult result (λ _. IsAnswered w w' (seen old) (seen new) asked commands)
+    (λ fault. BreaksOff seen fault w w' old new asked commands)
+
+-- so much of a text was written, and all of it where the result is none of a fault
+abbrev pub IsWrittenTo : (w w' : Option (List ℕ)) → List ℕ → Result (Unit {0}) ServeFault → Type 0
+IsWrittenTo w w' text result = (n : ℕ) × Appends w w' (take n text) × OnOk result (n ≡ length text)

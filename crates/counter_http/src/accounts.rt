@@ -1,0 +1,43 @@
+//! Which account a path names.
+ghost use Rattle.std.specs.Prelude.{◌≡◌, ◌≤◌, length};
+ghost use Rattle.message_records.specs.Reading.{number_after};
+ghost use Rattle.counter_http.specs.Answers.{account_named};
+ghost use Rattle.counter_http.specs.Paths.{account_in};
+
+use crate::limits::ACCOUNT_DIGITS;
+use message_records::Account;
+
+// Where the account stands in its path, behind `/account/`.
+const ID_START: usize = 9;
+
+// The number that so few digits write.
+fn number_of(digits: &[u8]) -> Option<u64>
+    requires { length digits.now ≤ ACCOUNT_DIGITS }
+    ensures { result ≡ number_after 0 digits.now }
+{
+    let mut number = 0u64;
+    for digit in digits {
+        if !digit.is_ascii_digit() {
+            return None;
+        }
+        number = number * 10 + u64::from(*digit - b'0');
+    }
+    Some(number)
+}
+
+// The account that 1 to 12 digits name, the first not 0.
+fn account_named(id: &[u8]) -> Option<Account>
+    ensures { result ≡ account_named id.now }
+{
+    if id.is_empty() || id.len() > ACCOUNT_DIGITS || id[0] == b'0' {
+        return None;
+    }
+    Account::new(number_of(id)?)
+}
+
+/// The account that the path of an account names.
+pub(crate) fn account_in(path: &[u8]) -> Option<Account>
+    ensures { result ≡ account_named (account_in path.now) }
+{
+    account_named(&path[ID_START.min(path.len())..])
+}

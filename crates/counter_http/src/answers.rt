@@ -1,0 +1,200 @@
+//! The answer to each message.
+ghost use Rattle.std.specs.Prelude.{◌≡◌, ℕ, take, OnErr, true, Some, []};
+ghost use Rattle.std.specs.Result.{IsErrOf};
+ghost use Rattle.std.specs.Io.KnownBytes.{Appends};
+ghost use Rattle.posting_core.specs.Clock.{AreReadings};
+ghost use Rattle.counter_http.specs.Answers.{refusal, answer_text, shows, unavailable, is_posting, is_reading, plain};
+ghost use Rattle.counter_http.specs.Next.{asked};
+ghost use Rattle.counter_http.specs.Paths.{route_of, path_of};
+ghost use Rattle.counter_http.specs.Telling.{said};
+ghost use Rattle.counter_http.specs.Turns.{commands_for, readings_for, IsDealtWith, IsTellingOf, IsWrittenTo};
+
+use crate::accounts::account_in;
+use crate::fault::ServeFault;
+use crate::fixed::{bare, fixed_answer};
+use crate::limits::RECORD;
+use crate::lines::{all_lines, line_of_account};
+use crate::next::{Whole, is_head};
+use crate::routes::{Route, Routes, path_of};
+use crate::telling::{Response, tell};
+use http::StatusCode;
+use posting_core::{Clock, Counter, Fault};
+use std::alloc::Global;
+use std::io::Write;
+
+/// Answers a 400, after which the connection ends.
+pub(crate) fn refuse<W: Write>(writer: &mut W, shows_body: bool) -> Result<(), ServeFault>
+    ensures written { IsWrittenTo (W.contents writer.old) (W.contents writer.new) (refusal shows_body) result }
+    ensures fault { OnErr result (IsErrOf result ServeFault.Write) }
+{
+    match tell(
+        writer,
+        &bare(b"400 Bad Request\n", StatusCode::BAD_REQUEST),
+        shows_body,
+        true,
+    ) {
+        Ok(()) => Ok(()),
+        Err(_) => Err(ServeFault::Write),
+    }
+}
+
+// Answers a message.
+fn say<W: Write>(
+    message: &Whole<'_>,
+    response: &Response<'_>,
+    writer: &mut W,
+) -> Result<(), ServeFault>
+    ensures written { IsWrittenTo (W.contents writer.old) (W.contents writer.new)
+        (answer_text (said response.now) (shows (asked message.now)) message.now.closes) result }
+    ensures fault { OnErr result (IsErrOf result ServeFault.Write) }
+{
+    match tell(writer, response, !is_head(message.method), message.closes) {
+        Ok(()) => Ok(()),
+        Err(_) => Err(ServeFault::Write),
+    }
+}
+
+// Answers with a text.
+fn say_text<W: Write>(message: &Whole<'_>, text: &[u8], writer: &mut W) -> Result<(), ServeFault>
+    ensures written { IsWrittenTo (W.contents writer.old) (W.contents writer.new)
+        (answer_text (plain text.now) (shows (asked message.now)) message.now.closes) result }
+    ensures fault { OnErr result (IsErrOf result ServeFault.Write) }
+{
+    let response = Response {
+        status: StatusCode::OK,
+        media: b"text/plain",
+        allow: None,
+        body: text,
+    };
+    say(message, &response, writer)
+}
+
+// Answers a 503, and tells the fault of the bank, or that of the writer.
+fn fail<W: Write>(message: &Whole<'_>, fault: Fault, writer: &mut W) -> ServeFault
+    ensures { (n : ℕ) × Appends (W.contents writer.old) (W.contents writer.new) (take n (unavailable (asked message.now)))
+        × IsTellingOf fault result n (unavailable (asked message.now)) }
+{
+    let response = bare(
+        b"503 Service Unavailable\n",
+        StatusCode::SERVICE_UNAVAILABLE,
+    );
+    match tell(writer, &response, !is_head(message.method), true) {
+        Ok(()) => ServeFault::Bank(fault),
+        Err(_) => ServeFault::Write,
+    }
+}
+
+// Submits the record of a message, and answers with the reply.
+fn answer_posting<W: Write, K: Clock, C: Counter>(
+    message: &Whole<'_>,
+    bytes: &[u8; RECORD],
+    writer: &mut W,
+    clock: &mut K,
+    bank: &mut C,
+) -> Result<(), ServeFault>
+    requires body { bytes.now ≡ message.now.body.now }
+    requires posting { is_posting (asked message.now) ≡ true }
+    ensures answers { (moment : ℕ) × AreReadings (K.readings clock.old) (K.readings clock.new) (readings_for moment (asked message.now))
+        × IsDealtWith C.seen (W.contents writer.old) (W.contents writer.new) bank.old bank.new (asked message.now)
+        (commands_for moment (asked message.now)) result }
+    ensures honest { (C.seen bank.new).honest → (C.seen bank.old).honest }
+{
+    let moment = clock.now();
+    match bank.submit(moment, bytes) {
+        Ok(reply) => {
+            let response = Response {
+                status: StatusCode::OK,
+                media: b"application/octet-stream",
+                allow: None,
+                body: &reply,
+            };
+            say(message, &response, writer)
+        }
+        Err(fault) => Err(fail(message, fault, writer)),
+    }
+}
+
+// Answers with the balance of the account that the path names.
+fn answer_account<W: Write, C: Counter>(
+    alloc: Global,
+    message: &Whole<'_>,
+    writer: &mut W,
+    bank: &mut C,
+) -> Result<(), ServeFault>
+    requires route { route_of (path_of message.now.target.now) ≡ Some Route.Account }
+    requires reads { is_reading message.now.method.now ≡ true }
+    ensures answers { IsDealtWith C.seen (W.contents writer.old) (W.contents writer.new) bank.old bank.new (asked message.now) [] result }
+    ensures honest { (C.seen bank.new).honest → (C.seen bank.old).honest }
+{
+    let Some(account) = account_in(path_of(message.target)) else {
+        return say(
+            message,
+            &bare(b"404 Not Found\n", StatusCode::NOT_FOUND),
+            writer,
+        );
+    };
+    let balance = match bank.balance(account) {
+        Ok(Some(balance)) => balance,
+        Ok(None) => {
+            return say(
+                message,
+                &bare(b"404 Not Found\n", StatusCode::NOT_FOUND),
+                writer,
+            );
+        }
+        Err(fault) => return Err(fail(message, fault, writer)),
+    };
+    match line_of_account(alloc, account, balance) {
+        Ok(line) => say_text(message, line.as_bytes(), writer),
+        Err(_) => Err(fail(message, Fault::Memory, writer)),
+    }
+}
+
+// Answers with the open branches.
+fn answer_branches<W: Write, C: Counter>(
+    alloc: Global,
+    message: &Whole<'_>,
+    writer: &mut W,
+    bank: &mut C,
+) -> Result<(), ServeFault>
+    requires route { route_of (path_of message.now.target.now) ≡ Some Route.Branches }
+    requires reads { is_reading message.now.method.now ≡ true }
+    ensures answers { IsDealtWith C.seen (W.contents writer.old) (W.contents writer.new) bank.old bank.new (asked message.now) [] result }
+    ensures honest { (C.seen bank.new).honest → (C.seen bank.old).honest }
+{
+    match all_lines(alloc, bank) {
+        Ok(lines) => say_text(message, lines.as_bytes(), writer),
+        Err(fault) => Err(fail(message, fault, writer)),
+    }
+}
+
+/// Answers a message, before anything more is read. A record is submitted under one reading of the clock.
+pub(crate) fn answer_message<W: Write, K: Clock, C: Counter>(
+    alloc: Global,
+    message: &Whole<'_>,
+    routes: &Routes,
+    writer: &mut W,
+    clock: &mut K,
+    bank: &mut C,
+) -> Result<(), ServeFault>
+    ensures answers { (moment : ℕ) × AreReadings (K.readings clock.old) (K.readings clock.new) (readings_for moment (asked message.now))
+        × IsDealtWith C.seen (W.contents writer.old) (W.contents writer.new) bank.old bank.new (asked message.now)
+        (commands_for moment (asked message.now)) result }
+    ensures honest { (C.seen bank.new).honest → (C.seen bank.old).honest }
+{
+    let route = routes.find(message.target);
+    if let Some(response) = fixed_answer(message, route) {
+        return say(message, &response, writer);
+    }
+    match route {
+        None => unreachable!(),
+        Some(Route::Posting) => {
+            let Some(bytes) = message.body.as_array::<RECORD>() else {
+                unreachable!()
+            };
+            answer_posting(message, bytes, writer, clock, bank)
+        }
+        Some(Route::Account) => answer_account(alloc, message, writer, bank),
+        Some(Route::Branches) => answer_branches(alloc, message, writer, bank),
+    }
+}

@@ -1,0 +1,34 @@
+//! Why a connection ends before its walk does.
+use posting_core::Fault;
+use std::fmt;
+
+/// Why a connection ended before the walk over its messages did, and what stands after it.
+#[derive(Clone, Copy, Debug, PartialEq, Eq)]
+pub enum ServeFault {
+    /// The reader failed. The whole messages that were read were answered.
+    Read,
+    /// The writer failed, or took no byte. Of the answers a beginning was written.
+    Write,
+    /// The bank refused a call. A 503 was written to the message that made it, behind the answers to those before.
+    Bank(Fault),
+    /// Memory was refused before anything was read, and nothing was done.
+    Memory,
+}
+
+impl fmt::Display for ServeFault {
+    ghost use Rattle.std.specs.Prelude.{Some};
+    ghost use Rattle.counter_http.specs.Faults.{fault_text};
+
+    ghost output = { λ fault. Some (fault_text fault) };
+
+    fn fmt<W: fmt::Write>(&self, f: &mut fmt::Formatter<W>) -> fmt::Result {
+        match self {
+            ServeFault::Read => write!(f, "read failed"),
+            ServeFault::Write => write!(f, "write failed"),
+            ServeFault::Bank(fault) => write!(f, "{fault}"),
+            ServeFault::Memory => write!(f, "no memory"),
+        }
+    }
+}
+
+impl std::error::Error for ServeFault {}

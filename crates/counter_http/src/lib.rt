@@ -1,0 +1,18 @@
+//! The counter over HTTP: messages that are read from a connection, answered one after another, and submitted to a bank.
+#![tactic(auto)]
+
+mod accounts;
+mod answers;
+mod fault;
+mod fields;
+mod fixed;
+mod limits;
+mod lines;
+mod next;
+mod routes;
+mod serving;
+mod telling;
+
+pub use fault::ServeFault;
+pub use limits::{MAX_BODY, MAX_FIELDS, MAX_HEAD};
+pub use serving::{Served, serve_connection};

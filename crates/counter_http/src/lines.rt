@@ -1,0 +1,51 @@
+//! The lines of accounts and branches.
+ghost use Rattle.std.specs.Prelude.{◌≡◌, ℕ, List, [], IfOk, OnOk, IfErr, OnErr, string_bytes};
+ghost use Rattle.posting_rules.specs.Commands.{Command};
+ghost use Rattle.posting_rules.specs.Counter.{ShowsLog, Takes};
+ghost use Rattle.counter_http.specs.Answers.{account_line, branch_line, branch_lines};
+ghost use Rattle.counter_http.specs.Turns.{IsRefusedAt};
+
+use message_records::{Account, Cents};
+use posting_core::{BranchLine, Counter, Fault};
+use std::alloc::{AllocError, Global};
+
+/// The line of an account.
+pub(crate) fn line_of_account(
+    alloc: Global,
+    account: Account,
+    balance: Cents,
+) -> Result<String, AllocError>
+    ensures { IfOk result (λ text. string_bytes text ≡ account_line account balance) }
+{
+    let number = account.get();
+    let cents = balance.get();
+    format!(in alloc; "account {number} balance {cents}\n")
+}
+
+// The line of a branch.
+fn line_of_branch(alloc: Global, line: &BranchLine) -> Result<String, AllocError>
+    ensures { IfOk result (λ text. string_bytes text ≡ branch_line line.now.branch line.now.accounts line.now.balance) }
+{
+    let branch = line.branch.get();
+    let accounts = line.accounts;
+    let balance = line.balance.get();
+    format!(in alloc; "{branch:>6} {accounts:>7} {balance:>14}\n")
+}
+
+/// The lines of all open branches, ascending.
+pub(crate) fn all_lines<C: Counter>(alloc: Global, bank: &mut C) -> Result<String, Fault>
+    ensures lines { IfOk result (λ body. (C.seen bank.new).honest
+        → (log : List Command) → ShowsLog (C.seen bank.old) log → string_bytes body ≡ branch_lines log) }
+    ensures done { OnOk result (Takes (C.seen bank.old) (C.seen bank.new) []) }
+    ensures up { OnOk result ((C.seen bank.new).is_down → (C.seen bank.old).is_down) }
+    ensures fault { IfErr result (λ fault. IsRefusedAt C.seen bank.old bank.new fault []) }
+    ensures honest { (C.seen bank.new).honest → (C.seen bank.old).honest }
+{
+    let mut body = String::new(alloc);
+    let mut after = 0;
+    while let Some(line) = bank.next_branch(after)? {
+        body.push_str(line_of_branch(alloc, &line)?.as_str())?;
+        after = line.branch.get() as u32;
+    }
+    Ok(body)
+}

@@ -1,0 +1,63 @@
+//! The routes, which are made once.
+ghost use Rattle.std.specs.Prelude.{◌≡◌};
+ghost use Rattle.counter_http.specs.Paths.{route_of, path_of, path_end};
+ghost use Rattle.counter_http.specs.Rows.{all_routes};
+
+use matchit::{InsertError, Router};
+use std::alloc::Global;
+
+/// What a path leads to.
+#[derive(Clone, Copy, Debug, PartialEq, Eq)]
+pub(crate) enum Route {
+    Posting,
+    Account,
+    Branches,
+}
+
+/// The routes.
+#[derive(Drop)]
+pub(crate) struct Routes {
+    router: Router<Route>,
+    ghost rows: { router ≡ all_routes },
+}
+
+// Where the path of a target ends.
+fn end_of_path(target: &[u8]) -> usize
+    ensures { result ≡ path_end target.now }
+{
+    target
+        .iter()
+        .position(|byte| *byte == b'?')
+        .unwrap_or(target.len())
+}
+
+/// The path of a target: what stands before its first `?`.
+pub(crate) fn path_of(target: &[u8]) -> &[u8]
+    ensures { result.now ≡ path_of target.now }
+{
+    &target[..end_of_path(target)]
+}
+
+impl Routes {
+    /// Makes the routes.
+    pub(crate) fn new(alloc: Global) -> Result<Self, InsertError> {
+        let mut router = Router::new(alloc);
+        router.insert("/post", Route::Posting)?;
+        router.insert("/account/{id}", Route::Account)?;
+        router.insert("/branches", Route::Branches)?;
+        Ok(Routes { router })
+    }
+
+    /// The route of a target.
+    pub(crate) fn find(&self, target: &[u8]) -> Option<Route>
+        ensures { result ≡ route_of (path_of target.now) }
+    {
+        let Ok(path) = str::from_utf8(path_of(target)) else {
+            return None;
+        };
+        match self.router.at(path) {
+            Ok(found) => Some(*found.value),
+            Err(_) => None,
+        }
+    }
+}

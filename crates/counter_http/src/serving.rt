@@ -1,0 +1,100 @@
+//! A connection, from its first byte to its last answer.
+ghost use Rattle.std.specs.Prelude.{◌≡◌, ◌≤◌, ◌-◌, length, take, drop};
+ghost use Rattle.counter_http.specs.Serving.{Serves};
+
+use crate::answers::{answer_message, refuse};
+use crate::fault::ServeFault;
+use crate::limits::BUFFER;
+use crate::next::{Next, next_message};
+use crate::routes::Routes;
+use posting_core::transfer::fill;
+use posting_core::{Clock, Counter};
+use std::alloc::Global;
+use std::io::{ErrorKind, Read, Write};
+
+/// How many answers were written.
+pub type Served = u128;
+
+// Moves what lies between to the front.
+fn move_to_front(buffer: &mut [u8], from: usize, to: usize)
+    requires order { from ≤ to }
+    requires within { to ≤ length buffer.old }
+    ensures { take (to - from) buffer.new ≡ take (to - from) (drop from buffer.old) }
+{
+    buffer.copy_within(from..to, 0);
+}
+
+// The loop of `serve_connection`.
+fn serve<R: Read, W: Write, K: Clock, C: Counter>(
+    alloc: Global,
+    reader: &mut R,
+    writer: &mut W,
+    clock: &mut K,
+    bank: &mut C,
+    routes: &Routes,
+    buffer: &mut [u8],
+) -> Result<Served, ServeFault>
+    requires { length buffer.old ≡ BUFFER }
+    ensures { Serves C.seen (R.remaining reader.old) (R.remaining reader.new) (W.contents writer.old) (W.contents writer.new)
+        (K.readings clock.old) (K.readings clock.new) bank.old bank.new result }
+{
+    let mut filled = 0;
+    let mut served = 0;
+    let mut shows_body = true;
+    'reads: for _ in 0..u64::MAX {
+        match fill(reader, buffer, filled) {
+            Ok(0) if filled == 0 => return Ok(served),
+            Ok(0) => {
+                refuse(writer, shows_body)?;
+                return Ok(served + 1);
+            }
+            Ok(n) => filled += n,
+            Err(e) if e.kind() == ErrorKind::Interrupted => {}
+            Err(_) => return Err(ServeFault::Read),
+        }
+        let mut used = 0;
+        'messages: loop {
+            match next_message(&buffer[used..filled]) {
+                Next::Message(message) => {
+                    answer_message(alloc, &message, routes, writer, clock, bank)?;
+                    served += 1;
+                    used += message.length;
+                    if message.closes {
+                        return Ok(served);
+                    }
+                }
+                Next::Unfinished(shows) => {
+                    shows_body = shows;
+                    break 'messages;
+                }
+                Next::Refused(shows) => {
+                    refuse(writer, shows)?;
+                    return Ok(served + 1);
+                }
+            }
+        }
+        move_to_front(buffer, used, filled);
+        filled -= used;
+    }
+    Err(ServeFault::Read)
+}
+
+/// Serves a connection to the end of its walk, and tells how many answers were written.
+pub fn serve_connection<R: Read, W: Write, K: Clock, C: Counter>(
+    alloc: Global,
+    reader: &mut R,
+    writer: &mut W,
+    clock: &mut K,
+    bank: &mut C,
+) -> Result<Served, ServeFault>
+    ensures served { Serves C.seen (R.remaining reader.old) (R.remaining reader.new) (W.contents writer.old) (W.contents writer.new)
+        (K.readings clock.old) (K.readings clock.new) bank.old bank.new result }
+{
+    let Ok(routes) = Routes::new(alloc) else {
+        return Err(ServeFault::Memory);
+    };
+    let Ok(mut buffer) = vec![in alloc; 0u8; BUFFER] else {
+        return Err(ServeFault::Memory);
+    };
+    serve(alloc, reader, writer, clock, bank, &routes, &mut buffer)
+}

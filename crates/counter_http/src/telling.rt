@@ -1,0 +1,116 @@
+//! The bytes of an answer, which leave in one write where they are few: a client then waits for one packet.
+ghost use Rattle.std.specs.Prelude.{◌≡◌, ◌++◌, ℕ, List, [], Option, length, take, OnOk};
+ghost use Rattle.std.specs.Io.KnownBytes.{Appends};
+ghost use Rattle.counter_http.specs.Answers.{answer_text};
+ghost use Rattle.counter_http.specs.Telling.{IsTold, said, first_lines, last_lines};
+
+use arrayvec::ArrayVec;
+use http::StatusCode;
+use posting_core::transfer::{WriteFailed, write_each, write_out};
+use std::io::Write;
+
+// How many bytes are held before they are written: more than a head and a reply have together.
+const HELD: usize = 512;
+
+/// What is answered.
+#[derive(Clone, Copy)]
+pub(crate) struct Response<'a> {
+    pub status: StatusCode,
+    pub media: &'a [u8],
+    /// The methods that the route takes, where they are told.
+    pub allow: Option<&'a [u8]>,
+    pub body: &'a [u8],
+}
+
+// Tells more of a text, where the writer took all of it so far, and answers whether it still does. What has no room is
+// written at once, behind what was held.
+fn put<W: Write>(writer: &mut W, held: &mut ArrayVec<u8, HELD>, going: bool, bytes: &[u8]) -> bool
+    ensures { (before : Option (List ℕ)) (text : List ℕ) → IsTold before (W.contents writer.old) going held.old.items text
+        → IsTold before (W.contents writer.new) result held.new.items (text ++ bytes.now) }
+{
+    if !going {
+        return false;
+    }
+    if held.try_extend_from_slice(bytes).is_ok() {
+        return true;
+    }
+    if write_each(writer, held.as_slice()).is_err() {
+        return false;
+    }
+    held.clear();
+    write_each(writer, bytes).is_ok()
+}
+
+// Tells the lines before a body's length.
+fn put_first<W: Write>(
+    writer: &mut W,
+    held: &mut ArrayVec<u8, HELD>,
+    response: &Response<'_>,
+) -> bool
+    requires { held.old.items ≡ [] }
+    ensures { IsTold (W.contents writer.old) (W.contents writer.new) result held.new.items (first_lines (said response.now)) }
+{
+    let going = put(writer, held, true, b"HTTP/1.1 ");
+    let going = put(writer, held, going, response.status.as_str().as_bytes());
+    let going = put(writer, held, going, b" ");
+    let phrase = response.status.canonical_reason().unwrap_or("");
+    let going = put(writer, held, going, phrase.as_bytes());
+    let going = put(writer, held, going, b"\r\nContent-Type: ");
+    let going = put(writer, held, going, response.media);
+    put(writer, held, going, b"\r\nContent-Length: ")
+}
+
+// Tells the lines behind a body's length, where the writer took all before them.
+fn put_last<W: Write>(
+    writer: &mut W,
+    held: &mut ArrayVec<u8, HELD>,
+    going: bool,
+    response: &Response<'_>,
+    closes: bool,
+) -> bool
+    ensures { (before : Option (List ℕ)) (text : List ℕ) → IsTold before (W.contents writer.old) going held.old.items text
+        → IsTold before (W.contents writer.new) result held.new.items (text ++ last_lines (said response.now) closes) }
+{
+    let going = put(writer, held, going, b"\r\n");
+    let going = match response.allow {
+        Some(methods) => {
+            let going = put(writer, held, going, b"Allow: ");
+            let going = put(writer, held, going, methods);
+            put(writer, held, going, b"\r\n")
+        }
+        None => going,
+    };
+    let going = if closes {
+        put(writer, held, going, b"Connection: close\r\n")
+    } else {
+        going
+    };
+    put(writer, held, going, b"\r\n")
+}
+
+/// Writes an answer, with its body or without, after which the connection ends or goes on.
+pub(crate) fn tell<W: Write>(
+    writer: &mut W,
+    response: &Response<'_>,
+    shows_body: bool,
+    closes: bool,
+) -> Result<(), WriteFailed>
+    ensures { (n : ℕ) × Appends (W.contents writer.old) (W.contents writer.new) (take n (answer_text (said response.now) shows_body closes))
+        × OnOk result (n ≡ length (answer_text (said response.now) shows_body closes)) }
+{
+    let mut held = ArrayVec::new();
+    let going = put_first(writer, &mut held, response);
+    let mut digits = itoa::Buffer::new();
+    let length = digits.format(response.body.len());
+    let going = put(writer, &mut held, going, length.as_bytes());
+    let going = put_last(writer, &mut held, going, response, closes);
+    let going = if shows_body {
+        put(writer, &mut held, going, response.body)
+    } else {
+        going
+    };
+    if !going {
+        return Err(WriteFailed);
+    }
+    write_out(writer, held.as_slice())
+}
