@@ -32,23 +32,23 @@ use Rattle.sql_meanings.proofs.ShownColumns.{has_room, outputs_at, shows_named}
 use Rattle.sql_meanings.proofs.Statements.{HasTable}
 use Rattle.sql_meanings.proofs.Texts.{IsSelect, left_over, many}
 
-module _ (table : Table) (text : List ℕ) (places : List ℕ) (most : ℕ) (terms : List Term) (key most_text : Name) (sort : Sort)
-    (e cap : Expr) (keys : (tree : ℕ) → Tests (placed_at table tree) key 0)
+module _ (table : Table) (text : List ℕ) (places : List ℕ) (most : ℕ) (terms : List Term) (key : Name)
+    (keys : (tree : ℕ) → Tests (placed_at table tree) key 0)
     (by_bytes : (tree : ℕ) → alone (declared (placed_at table tree) (keys tree).place (keys tree).column) ≡ Binary)
-    (sorts : out-Sort sort ≡ record { key = e; descending = false; nulls_first = None }) (by_key : out-Expr e ≡ Expr-F.Column None key)
-    (unnamed : (tree : ℕ) → alias_of key (outputs_at (placed_at table tree) places) ≡ None)
-    (capped : out-Expr cap ≡ Expr-F.Integer most_text) (value : integer false most_text ≡ Ok (Int (pos most))) where
+    (unnamed : (tree : ℕ) → alias_of key (outputs_at (placed_at table tree) places) ≡ None) where
   -- SELECT columns FROM table WHERE key >= ?1 ORDER BY key LIMIT most
-  pub seeks_by : (is : IsSelect table text 1 places) (test a b : Expr)
+  pub seeks_by : (is : IsSelect table text 1 places) (sort : Sort) (cap test e a b : Expr) (most_text : Name)
       → is.order ≡ sort ∷ [] → is.limit ≡ Some cap → is.filter ≡ Some test
+      → out-Sort sort ≡ record { key = e; descending = false; nulls_first = None } → out-Expr e ≡ Expr-F.Column None key
       → out-Expr test ≡ Expr-F.Binary binary.Ge a b → out-Expr a ≡ Expr-F.Column None key → out-Expr b ≡ Expr-F.Parameter 1
+      → out-Expr cap ≡ Expr-F.Integer most_text → integer false most_text ≡ Ok (Int (pos most))
       → ((schema : Schema) (p tree : ℕ) → HasTable schema table.name p (placed_at table tree)
       → prog.program schema [] (ungrouped (Inner tree ∷ []) key_from (outputs_at (placed_at table tree) places) false ascending (lit (Int (pos most))) (number 0))
       ≡ Ok (record { lets = []; body = next_from most tree terms }))
       → (k : ℤ) → ((schema : Schema) (p tree : ℕ) → HasTable schema table.name p (placed_at table tree)
       → accepts_program schema [] (next_from most tree terms) (Int k ∷ []) ≡ true)
       → ReadsAs table text (Int k ∷ []) (λ tree. next_from most tree terms)
-  seeks_by is test a b ordered limited filtered above left right typed k accepts = record {
+  seeks_by is sort cap test e a b most_text ordered limited filtered sorts by_key above left right capped value typed k accepts = record {
     names = map (λ o. o.name) (outputs_at table places);
     means = λ schema p tree has.
         let os = outputs_at (placed_at table tree) places in
@@ -65,12 +65,14 @@ module _ (table : Table) (text : List ℕ) (places : List ℕ) (most : ℕ) (ter
   }
 
   -- SELECT columns FROM table WHERE one = ?1 AND key >= ?2 ORDER BY key LIMIT most
-  pub seeks_of_by : (is : IsSelect table text 2 places) (both test a b test' a' b' : Expr) (one : Name)
-      (ones : (tree : ℕ) → Tests (placed_at table tree) one 2)
+  pub seeks_of_by : (one : Name) (ones : (tree : ℕ) → Tests (placed_at table tree) one 2)
+      (is : IsSelect table text 2 places) (sort : Sort) (cap both e test test' a b a' b' : Expr) (most_text : Name)
       → is.order ≡ sort ∷ [] → is.limit ≡ Some cap → is.filter ≡ Some both
+      → out-Sort sort ≡ record { key = e; descending = false; nulls_first = None } → out-Expr e ≡ Expr-F.Column None key
       → out-Expr both ≡ Expr-F.Binary binary.And test test'
       → out-Expr test ≡ Expr-F.Binary binary.Eq a b → out-Expr a ≡ Expr-F.Column None one → out-Expr b ≡ Expr-F.Parameter 1
       → out-Expr test' ≡ Expr-F.Binary binary.Ge a' b' → out-Expr a' ≡ Expr-F.Column None key → out-Expr b' ≡ Expr-F.Parameter 2
+      → out-Expr cap ≡ Expr-F.Integer most_text → integer false most_text ≡ Ok (Int (pos most))
       → ((schema : Schema) (p tree : ℕ) → HasTable schema table.name p (placed_at table tree)
       → affinity_of (over_one schema table.name p (outputs_at (placed_at table tree) places) false) (col 1 2) ≡ affinity.Numeric)
       → ((schema : Schema) (p tree : ℕ) → HasTable schema table.name p (placed_at table tree)
@@ -79,7 +81,7 @@ module _ (table : Table) (text : List ℕ) (places : List ℕ) (most : ℕ) (ter
       → (n k : ℤ) → ((schema : Schema) (p tree : ℕ) → HasTable schema table.name p (placed_at table tree)
       → accepts_program schema [] (next_of_from most tree terms) (Int n ∷ Int k ∷ []) ≡ true)
       → ReadsAs table text (Int n ∷ Int k ∷ []) (λ tree. next_of_from most tree terms)
-  seeks_of_by is both test a b test' a' b' one ones ordered limited filtered and equal left right above left' right' numeric typed n k accepts = record {
+  seeks_of_by one ones is sort cap both e test test' a b a' b' most_text ordered limited filtered sorts by_key and equal left right above left' right' capped value numeric typed n k accepts = record {
     names = map (λ o. o.name) (outputs_at table places);
     means = λ schema p tree has.
         let os = outputs_at (placed_at table tree) places in
