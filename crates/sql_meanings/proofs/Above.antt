@@ -78,7 +78,8 @@ unfolding compared converted may_be_text
 compared_above cx at m left right = rw (left, right)
 
 module _ (schema : Schema) where
-  constant_is : (e : Expr) (text : List ℕ) (v : Value) → out-Expr e ≡ Expr-F.Integer text → integer false text ≡ Ok v
+  -- a LIMIT by an integer
+  pub constant_is : (e : Expr) (text : List ℕ) (v : Value) → out-Expr e ≡ Expr-F.Integer text → integer false text ≡ Ok v
       → constant schema e ≡ Ok (lit v)
   unfolding constant stepless
   constant_is e text v is value = rw (lower_integer (outermost schema) e text v 699 1 100000 nothing is value refl)
@@ -89,7 +90,8 @@ module _ (schema : Schema) where
   unfolding viewing
   viewing_is core order page n shown lets is = rw is
 
-  paged_is : (s : written_select.Select) (core : Core) (source : From) (from : Name) (order : List Sort) (limit : Expr) (most : Term)
+  -- a SELECT of one table, with a LIMIT
+  pub paged_is : (s : written_select.Select) (core : Core) (source : From) (from : Name) (order : List Sort) (limit : Expr) (most : Term)
       (shown : Draft × List Name × List (Option Collation))
       → out-Select s ≡ record { with = []; first = core; others = []; order = order; limit = Some limit; offset = None }
       → (out-Core core).from ≡ source ∷ [] → (out-Source source).origin ≡ origin.Table from → constant schema limit ≡ Ok most

@@ -2,6 +2,8 @@
 pub mod Above
 pub mod Actions
 pub mod Afterwards
+pub mod AtOrAbove
+pub mod AtOrAboveOf
 pub mod ByKey
 pub mod Casting
 pub mod Changes
@@ -30,11 +32,14 @@ pub mod PutFailures
 pub mod PutRows
 pub mod PuttingIn
 pub mod ReadRows
+pub mod ReadSeeks
 pub mod ReadTables
 pub mod Referring
 pub mod Refusals
 pub mod RisingOrder
 pub mod Saying
+pub mod SeekAnswers
+pub mod SeekTexts
 pub mod Selects
 pub mod SetFailures
 pub mod SetRows

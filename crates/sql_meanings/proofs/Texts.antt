@@ -106,10 +106,12 @@ pub only_reads : {table : Table} {text : List ℕ} {count : ℕ} {places : List 
     → OnlyShows text count (understood schema text)
 only_reads {table} {text} {count} {places} is = only_understood text count is.P is.s is.parsed is.statement is.plain is.whole is.given
 
-many : (table : Table) (places : List ℕ) → length places < 1000 → length (outputs_at table places) < 1000
+-- few columns are few outputs
+pub many : (table : Table) (places : List ℕ) → length places < 1000 → length (outputs_at table places) < 1000
 many table places few = simp length-map few
 
-left_over : (table : Table) (places : List ℕ) → length places < 1000 → 90000 < spent 100000 (outputs_at table places)
+-- what is left over of the room for them
+pub left_over : (table : Table) (places : List ℕ) → length places < 1000 → 90000 < spent 100000 (outputs_at table places)
 left_over table places few = let n = many table places few in rw (is_left 100000 (outputs_at table places)) (omega arith)
 
 module _ (table : Table) (text : List ℕ) (places : List ℕ) where

@@ -6,4 +6,5 @@ pub mod Making
 pub mod Outcomes
 pub mod Plain
 pub mod Queries
+pub mod Seeks
 pub mod Tables

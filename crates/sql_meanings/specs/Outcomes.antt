@@ -98,6 +98,11 @@ abbrev pub TellsRow : State → State → Option Row → Result Row Error → Ty
 TellsRow old new found (Ok row) = (found ≡ Some row) × IsUnchanged old new
 TellsRow old new found (Err e) = ((e ≡ QueryReturnedNoRows) × (found ≡ None) × IsUnchanged old new) ⊎ ReadFails old new e
 
+-- what is read of several rows: these, and nothing has changed, or why it failed
+abbrev pub TellsRows : State → State → List Row → Result (List Row) Error → Type 0
+TellsRows old new wanted (Ok rows) = (rows ≡ wanted) × IsUnchanged old new
+TellsRows old new wanted (Err e) = ReadFails old new e
+
 -- whatever the rows: the transaction goes on, and an error leaves it as it was or rolls it back
 abbrev pub WriteKept : {X E : Type 0} → State → State → Result X E → Type 0
 WriteKept old new (Ok x) = StateShows old new new.now old.committed true

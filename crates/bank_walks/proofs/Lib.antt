@@ -1,0 +1,5 @@
+-- What the walks read.
+pub mod EntriesRead
+pub mod NumbersRead
+pub mod WalkTexts
+pub mod Widths

@@ -1,0 +1,10 @@
+use Rattle.std.proofs.Common.{◌≡◌, pos, ℕ, ◌<◌, get_or, length}
+use Rattle.sqlite.specs.Order.{column}
+use Rattle.sqlite.specs.declared.types.Value.TheVariants.{Int}
+use Rattle.bank_walks.proofs.numbers.numbers.Given as goal
+
+abbrev pub invariant-loop-at : goal.invariant-loop-at
+invariant-loop-at g l = record {
+  long : length l.numbers ≡ g.row.COUNT;
+  read : (k : ℕ) → k < l.at → column l.row k ≡ Int (get_or l.numbers k (pos 0));
+}

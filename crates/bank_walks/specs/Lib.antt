@@ -1,0 +1,5 @@
+-- What the walks over the tables of a bank give.
+pub mod Outcomes
+pub mod Reading
+pub mod Rows
+pub mod Stored

@@ -1,0 +1,56 @@
+-- The stored rows: keys, counts and moments within their ranges, and the other numbers whatever they are.
+use Rattle.std.specs.Prelude.{◌⊎◌, ℕ, pos, ℤ, List, [], ◌∷◌, slice_index_or}
+use Rattle.message_records.specs.declared.limits.TheConstants.{MAX_MOMENT}
+use Rattle.posting_rules.specs.declared.limits.TheConstants.{ACCOUNTS_PER_BRANCH, LAST_BRANCH, MAX_DECIDED}
+use Rattle.sql_meanings.specs.Entries.{Entry}
+use Rattle.bank_walks.specs.Reading.{IsOutside}
+use Rattle.bank_walks.specs.declared.limits.TheConstants.{LAST_ACCOUNT, LAST_TELLER}
+use Rattle.bank_walks.specs.declared.branches.StoredBranch.{StoredBranch}
+use Rattle.bank_walks.specs.declared.tellers.StoredTeller.{StoredTeller}
+use Rattle.bank_walks.specs.declared.accounts.StoredAccount.{StoredAccount}
+use Rattle.bank_walks.specs.declared.postings.StoredPosting.{StoredPosting}
+use Rattle.bank_walks.specs.declared.requests.StoredRequest.{StoredRequest}
+
+-- one of the numbers behind the key
+abbrev pub number_behind : ℕ → Entry → ℤ
+number_behind at e = slice_index_or e.values at (pos 0)
+
+-- a row of `branch`
+abbrev pub branch_entry : StoredBranch → Entry
+branch_entry r = record { key = pos r.branch; values = pos r.accounts ∷ r.balance ∷ [] }
+
+-- no branch has this number, or it can't have so many accounts
+abbrev pub IsNoBranch : Entry → Type 0
+IsNoBranch e = IsOutside 1 LAST_BRANCH e.key ⊎ IsOutside 1 ACCOUNTS_PER_BRANCH (number_behind 0 e)
+
+-- a row of `teller`
+abbrev pub teller_entry : StoredTeller → Entry
+teller_entry r = record { key = pos r.teller; values = r.balance ∷ [] }
+
+-- no teller has this number
+abbrev pub IsNoTeller : Entry → Type 0
+IsNoTeller e = IsOutside 1 LAST_TELLER e.key
+
+-- a row of `account`
+abbrev pub account_entry : StoredAccount → Entry
+account_entry r = record { key = pos r.account; values = r.balance ∷ [] }
+
+-- no account has this number
+abbrev pub IsNoAccount : Entry → Type 0
+IsNoAccount e = IsOutside 1 LAST_ACCOUNT e.key
+
+-- a row of `history`
+abbrev pub posting_entry : StoredPosting → Entry
+posting_entry r = record { key = pos r.ordinal; values = r.account ∷ r.teller ∷ r.branch ∷ r.delta ∷ pos r.moment ∷ [] }
+
+-- no posting has this ordinal, or this moment
+abbrev pub IsNoPosting : Entry → Type 0
+IsNoPosting e = IsOutside 1 MAX_DECIDED e.key ⊎ IsOutside 0 MAX_MOMENT (number_behind 4 e)
+
+-- a row of `request`
+abbrev pub request_entry : StoredRequest → Entry
+request_entry r = record { key = pos r.ordinal; values = r.teller ∷ r.number ∷ r.account ∷ r.branch ∷ r.delta ∷ r.outcome ∷ r.balance ∷ [] }
+
+-- no request has this ordinal
+abbrev pub IsNoRequest : Entry → Type 0
+IsNoRequest e = IsOutside 1 MAX_DECIDED e.key

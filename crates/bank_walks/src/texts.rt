@@ -1,0 +1,25 @@
+//! The statements of the walks, letter for letter. Each shows the rows that come next, by rising keys, at most `AHEAD` of them.
+
+/// The branches from a number on.
+pub(crate) const BRANCHES_FROM: &str =
+    "SELECT bid, accounts, balance FROM branch WHERE bid >= ?1 ORDER BY bid LIMIT 64";
+
+/// The tellers from a number on.
+pub(crate) const TELLERS_FROM: &str =
+    "SELECT tid, balance FROM teller WHERE tid >= ?1 ORDER BY tid LIMIT 64";
+
+/// The accounts from a number on.
+pub(crate) const ACCOUNTS_FROM: &str =
+    "SELECT aid, balance FROM account WHERE aid >= ?1 ORDER BY aid LIMIT 64";
+
+/// The postings from a number on.
+pub(crate) const POSTINGS_FROM: &str =
+    "SELECT ordinal, aid, tid, bid, delta, moment FROM history WHERE ordinal >= ?1 ORDER BY ordinal LIMIT 64";
+
+/// The decided requests from a number on.
+pub(crate) const REQUESTS_FROM: &str =
+    "SELECT ordinal, tid, number, aid, bid, delta, outcome, balance FROM request WHERE ordinal >= ?1 ORDER BY ordinal LIMIT 64";
+
+/// The postings of an account from an ordinal on.
+pub(crate) const POSTINGS_OF: &str =
+    "SELECT ordinal, aid, tid, bid, delta, moment FROM history WHERE aid = ?1 AND ordinal >= ?2 ORDER BY ordinal LIMIT 64";

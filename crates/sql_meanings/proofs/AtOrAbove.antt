@@ -1,0 +1,116 @@
+-- The next rows from a key on, under any schema.
+use Rattle.std.proofs.Common.{◌≡◌, ℕ, suc, ◌-◌, List, [], ◌∷◌, map, Ok, Some, None, true, false, nat_lt, ap, ◌∙◌}
+use Rattle.sqlite_value.specs.declared.keys.Collation.TheVariants.{Binary}
+use Rattle.sqlite_sql.specs.declared.ops.BinaryOp.TheVariants as by
+use Rattle.sqlite_sql.specs.declared.ops.CompareOp.TheVariants as compare
+use Rattle.sqlite_schema.specs.declared.program.Program.{Program}
+use Rattle.sqlite_schema.specs.declared.command.Command.TheVariants.{Select}
+use Rattle.sqlite.specs.Term.{Term, lit, col, op2}
+use Rattle.sqlite.specs.declared.types.Value.{Value}
+use Rattle.sqlite.specs.Schema.{Schema}
+use Rattle.sqlite.specs.Table.{Table}
+use Rattle.sqlite_ast.specs.declared.Expr.{Expr, out-Expr}
+use Rattle.sqlite_ast.specs.declared.Expr.TheOpen.{Expr-F}
+use Rattle.sqlite_ast.specs.declared.Binary.TheVariants as binary
+use Rattle.sqlite_ast.specs.declared.Statement.TheVariants as written
+use Rattle.sqlite_ast.specs.declared.Select as written_select
+use Rattle.sqlite_ast.specs.declared.Select.{out-Select}
+use Rattle.sqlite_ast.specs.declared.Core.{Core, out-Core}
+use Rattle.sqlite_ast.specs.declared.Shown.{Shown}
+use Rattle.sqlite_ast.specs.declared.Sort.{Sort, out-Sort}
+use Rattle.sqlite_ast.specs.declared.Source.{Source as From}
+use Rattle.sqlite_syntax.specs.declared.statement.Parsed.{Parsed}
+use Rattle.sqlite_draft.specs.declared.join.Step.TheVariants.{Inner}
+use Rattle.sqlite_resolve.specs.declared.compare.Affinity.TheVariants as affinity
+use Rattle.sqlite_resolve.specs.declared.scope.Output.{Output}
+use Rattle.sqlite_resolve.specs.declared.state.Carried.{Carried}
+use Rattle.sqlite_resolve.specs.Literal.{integer}
+use Rattle.sqlite_resolve.specs.Lowering.{nothing, alone, chosen, begin, finish, spend}
+use Rattle.sqlite_resolve.specs.Scope.{Name, Context, declared, alias_of}
+use Rattle.sqlite_resolve.specs.Terms.{number, conjuncts}
+use Rattle.sqlite_resolve.specs.Compare.{compared, affinity_of, converted, may_be_text}
+use Rattle.sqlite_resolve.specs.Select.{ungrouped}
+use Rattle.sqlite_resolve.specs.Expr.{
+  lower,
+  lower_to,
+  node,
+  opened,
+  passes,
+  operation,
+  both,
+  wanted_truth,
+  tests_truth,
+  tests_alias,
+  combine,
+}
+use Rattle.sqlite_resolve.specs.Program.{viewing, single, source, sources, whole, with, level, query_to, query}
+use Rattle.sqlite_resolve.specs.Program as prog
+use Rattle.sqlite_resolve.specs.Compile.{compiled, first, with_command}
+use Rattle.sql_meanings.proofs.Above.{constant_is, paged_is}
+use Rattle.sql_meanings.proofs.Columns.{over_one, column_is}
+use Rattle.sql_meanings.proofs.Expressions.{st, lower_column, lower_parameter}
+use Rattle.sql_meanings.proofs.Statements.{HasTable, compiled_select}
+use Rattle.sql_meanings.proofs.ByKey.{Tests, parameter_at}
+use Rattle.sql_meanings.proofs.OneTable.{parts_are, read_is}
+use Rattle.sql_meanings.proofs.ShownColumns.{Shows, HasRoom, spent, last_of}
+use Rattle.sql_meanings.proofs.Selects.{one_table, one_test, one_order, outputs_are_all}
+
+pub lower_from : (cx : Context) (e a b : Expr) (x y : Term) (p q : Carried) (d next budget b1 b2 : ℕ) (l : Carried)
+    → out-Expr e ≡ Expr-F.Binary binary.Ge a b → nat_lt 1 budget ≡ true
+    → lower_to d cx a (st next (budget - 1) nothing) ≡ Ok (x, st next b1 p)
+    → lower_to d cx b (st next b1 p) ≡ Ok (y, st next b2 q)
+    → lower_to (suc d) cx e (st next budget l) ≡ Ok (compared cx (by.Compare compare.Ge (chosen p q)) x y, st next b2 nothing)
+unfolding lower_to node spend begin opened finish passes operation both wanted_truth tests_truth tests_alias combine
+lower_from cx e a b x y p q d next budget b1 b2 l is enough left right = rw (is, enough, left, right)
+
+pub compared_from : (cx : Context) (at m : ℕ) → affinity_of cx (col 1 at) ≡ affinity.Numeric → affinity_of cx (col 0 m) ≡ affinity.None
+    → compared cx (by.Compare compare.Ge Binary) (col 1 at) (col 0 m) ≡ op2 (by.Compare compare.Ge Binary) (col 1 at) (col 0 m)
+unfolding compared converted may_be_text
+compared_from cx at m left right = rw (left, right)
+
+module _ (schema : Schema) (name : Name) (p : ℕ) (table : Table) (has : HasTable schema name p table) where
+  -- SELECT columns FROM table WHERE key >= ?m ORDER BY key LIMIT n
+  pub select_from : (text : List ℕ) (P : Parsed) (s : written_select.Select) (core : Core) (source : From) (shown : List Shown)
+      (test a b e limit : Expr) (sort : Sort) (wanted most : Name) (v : Value) (at m : ℕ) (t : Tests table wanted at) (os : List Output)
+      (q : Program)
+      → first text ≡ Ok P → P.statement ≡ written.Select s → P.formats ≡ []
+      → out-Select s ≡ record { with = []; first = core; others = []; order = sort ∷ []; limit = Some limit; offset = None }
+      → out-Core core ≡ record { distinct = false; shown = shown; from = source ∷ []; filter = Some test; group = []; having = None }
+      → one_table name source
+      → out-Expr test ≡ Expr-F.Binary binary.Ge a b → out-Expr a ≡ Expr-F.Column None wanted → out-Expr b ≡ Expr-F.Parameter m
+      → out-Sort sort ≡ record { key = e; descending = false; nulls_first = None } → out-Expr e ≡ Expr-F.Column None wanted
+      → alias_of wanted os ≡ None
+      → out-Expr limit ≡ Expr-F.Integer most → integer false most ≡ Ok v
+      → Shows table shown os → HasRoom 100000 os
+      → affinity_of (over_one schema name p os false) (col 1 at) ≡ affinity.Numeric
+      → (r0 : nat_lt 1 (spent 100000 os) ≡ true) (r1 : nat_lt 1 (spent 100000 os - 1) ≡ true) (r2 : nat_lt 1 (spent 100000 os - 1 - 1)
+      ≡ true) (r3 : nat_lt 1 (spent 100000 os - 1 - 1 - 1) ≡ true)
+      → alone (declared table t.place t.column) ≡ Binary
+      → prog.program schema [] (ungrouped (Inner table.tree ∷ [])
+      (op2 (by.Compare compare.Ge Binary) (col 1 at) (col 0 (m - 1)) ∷ []) os false
+      ((col 1 at, record { collation = Binary; descending = false }) ∷ []) (lit v) (number 0)) ≡ Ok q
+      → compiled schema text ≡ Ok (with_command P ([], (Select q (map (λ o. o.name) os), None)))
+  select_from text P s core source shown test a b e limit sort wanted most v at m t os q parsed is plain select body from above left
+      right sorts e_is none cap value shows room number r0 r1 r2 r3 bytes typed =
+      let cx = over_one schema name p os false in
+      let B = spent 100000 os in
+      let here = column_is schema p table has.listed name os false wanted t.place t.column (st 2 (B - 1 - 1) nothing) t.named t.there in
+      let x = lower_column cx a wanted _ _ 698 2 (B - 1) nothing left r1 here in
+      let y = lower_parameter cx b m 698 2 (B - 1 - 1) (declared table t.place t.column) right r2 in
+      let low : lower cx test (st 2 B (last_of nothing os)) ≡ Ok (
+        op2 (by.Compare compare.Ge Binary) (col 1 at) (col 0 (m - 1)),
+        st 2 (B - 1 - 1 - 1) nothing,
+      ) = lower_from cx test a b _ _ _ _ 699 2 B _ _ (last_of nothing os) above r0 x y
+      ∙ rw (t.by_bytes, t.is_at, compared_from cx at (m - 1) number (parameter_at schema name p os false (m - 1))) in
+      let there = column_is schema p table has.listed name os false wanted t.place t.column
+      (st 2 (B - 1 - 1 - 1 - 1) nothing) t.named t.there in
+      let z = lower_column cx e wanted _ _ 699 2 (B - 1 - 1 - 1) nothing e_is r3 (there
+      ∙ ap (λ k. Ok (col 1 k, st 2 (B - 1 - 1 - 1 - 1) (declared table t.place t.column))) t.is_at) in
+      let by_key = one_order cx os sort e wanted at _ _ _ _ (ap (λ w. w.key) sorts) (ap (λ w. w.descending) sorts)
+      (ap (λ w. w.nulls_first) sorts) e_is none z in
+      let made = parts_are schema name p table has core source shown (Some test) (sort ∷ []) os _ _ _ _ _ _ _ _ body from
+      (outputs_are_all schema p table has.listed name shown os shows room) (one_test cx test _ _ _ _ _ low) (rw bytes at by_key)
+      (lit v, Rattle.sqlite_resolve.specs.Terms.number 0) in
+      let whole = paged_is schema s core source name (sort ∷ []) limit (lit v) _ select (ap (λ c. c.from) body) (ap (λ c. c.origin) from)
+      (constant_is schema limit most v cap value) made in
+      compiled_select schema text P s _ parsed is plain (read_is schema s _ q whole typed)

@@ -1,0 +1,81 @@
+-- What a query of one table answers that asks for the next rows from a key on.
+use Rattle.std.proofs.Common.{◌≡◌, ◌&&◌, ℕ, ℤ, List, [], ◌∷◌, map, filter, Bool, true, false, Some, refl, ap, ◌∙◌, int_cmp}
+use Rattle.std.specs.List.{flat_map, list_all}
+use Rattle.std.specs.Ordering.{is_ge, int_eq}
+use Rattle.sqlite.specs.declared.types.Value.{Value}
+use Rattle.sqlite.specs.declared.types.Value.TheVariants.{Int}
+use Rattle.sqlite.specs.Order.{Row}
+use Rattle.sqlite_value.proofs.OrderLemmas.{value_cmp-Int}
+use Rattle.sqlite.specs.Collation.TheVariants.{Binary}
+use Rattle.sqlite_sql.specs.Ops.{is_true, from_truth, binary}
+use Rattle.sqlite_sql.specs.declared.ops.BinaryOp.TheVariants.{Compare}
+use Rattle.sqlite_sql.specs.declared.ops.CompareOp.TheVariants.{Ge}
+use Rattle.sqlite.specs.Tree.{Trees}
+use Rattle.sqlite.specs.Term.{Term, Env, eval_all, holds}
+use Rattle.sqlite.specs.Query.{IsAnswerAs, matches_as, page, inner, end}
+use Rattle.sql_meanings.specs.Entries.{Entry, IsTree, stored}
+use Rattle.sql_meanings.specs.Seeks.{is_from, is_of_from, key_from, next_from, next_of_from, of_from}
+use Rattle.sql_meanings.proofs.EntryLists.{int_equals}
+use Rattle.sql_meanings.proofs.OrderedAnswers.{ordered_answer, rise_filter}
+use Rattle.sql_meanings.proofs.TestedAnswers.{passing}
+
+truth_back : (b : Bool) → is_true (from_truth (Some b)) ≡ b
+truth_back true = refl
+truth_back false = refl
+
+int_from : (a b : ℤ) → is_true (binary (Compare Ge Binary) (Int a) (Int b)) ≡ is_ge (int_cmp a b)
+unfolding binary
+int_from a b = truth_back _ ∙ ap is_ge (value_cmp-Int a b)
+
+and_true : (b : Bool) → (b && true) ≡ b
+and_true true = refl
+and_true false = refl
+
+both_true : (a b : Bool) → (a && (b && true)) ≡ (a && b)
+both_true true true = refl
+both_true true false = refl
+both_true false b = refl
+
+passes_from : (k : ℤ) (e : Entry) → list_all (holds ((Int k ∷ []) ∷ stored e ∷ [])) key_from ≡ is_from k e
+passes_from k e = rw (int_from e.key k) (and_true (is_from k e))
+
+first_two : (one k key n : ℤ) (more : List ℤ)
+    → list_all (holds ((Int one ∷ Int k ∷ []) ∷ stored (record { key = key; values = n ∷ more }) ∷ [])) of_from
+    ≡ (int_eq n one && (is_ge (int_cmp key k) && true))
+first_two one k key n more = rw (int_equals n one, int_from key k)
+
+passes_of : (one k key : ℤ) (values : List ℤ)
+    → list_all (holds ((Int one ∷ Int k ∷ []) ∷ stored (record { key = key; values = values }) ∷ [])) of_from
+    ≡ is_of_from one k (record { key = key; values = values })
+unfolding binary
+passes_of one k key [] = refl
+passes_of one k key (n ∷ more) = first_two one k key n more ∙ both_true (int_eq n one) (is_ge (int_cmp key k))
+
+-- the rows from the parameter on, by rising keys, cut by the limit
+pub from_answer : (lost : Value) {width : ℕ} (most t : ℕ) (project : List Term) (db : Trees) (k : ℤ) (rows : List Row) (es : List Entry)
+    → IsTree width (db t) es
+    → IsAnswerAs lost (next_from most t project) db (Int k ∷ []) rows
+    → rows ≡ page (next_from most t project) (Int k ∷ []) (map (λ e. eval_all project ((Int k ∷ []) ∷ stored e ∷ [])) (filter (is_from k) es))
+from_answer lost most t project db k rows es tree a =
+    let params : Row = Int k ∷ [] in
+    let f : Entry → Env = λ e. params ∷ stored e ∷ [] in
+    let kept = filter (is_from k) es in
+    let matched : matches_as lost db key_from (inner t end) (params ∷ []) ≡ map f kept =
+    ap (flat_map (λ r. matches_as lost db key_from end (params ∷ r ∷ []))) tree.are
+    ∙ passing params key_from (is_from k) (passes_from k) lost db es in
+    ordered_answer (inner t end) key_from project _ f (λ e. refl) lost db params rows kept (rise_filter (is_from k) es tree.rise) matched a
+
+-- the same of those with the first parameter behind their keys
+pub of_from_answer : (lost : Value) {width : ℕ} (most t : ℕ) (project : List Term) (db : Trees) (one k : ℤ) (rows : List Row)
+    (es : List Entry) → IsTree width (db t) es
+    → IsAnswerAs lost (next_of_from most t project) db (Int one ∷ Int k ∷ []) rows
+    → rows ≡ page (next_of_from most t project) (Int one ∷ Int k ∷ [])
+    (map (λ e. eval_all project ((Int one ∷ Int k ∷ []) ∷ stored e ∷ [])) (filter (is_of_from one k) es))
+of_from_answer lost most t project db one k rows es tree a =
+    let params : Row = Int one ∷ Int k ∷ [] in
+    let f : Entry → Env = λ e. params ∷ stored e ∷ [] in
+    let kept = filter (is_of_from one k) es in
+    let matched : matches_as lost db of_from (inner t end) (params ∷ []) ≡ map f kept =
+    ap (flat_map (λ r. matches_as lost db of_from end (params ∷ r ∷ []))) tree.are
+    ∙ passing params of_from (is_of_from one k) (λ e. passes_of one k e.key e.values) lost db es in
+    ordered_answer (inner t end) of_from project _ f (λ e. refl) lost db params rows kept (rise_filter (is_of_from one k) es tree.rise) matched a
