@@ -1,6 +1,6 @@
 -- The table of cases gives what is stated case by case.
 use Rattle.std.proofs.Common.{◌≡◌, ◌≢◌, ℕ, ◌<◌, ◌≤◌, Bool, true, false, cond, eqb, leb, List, ◌∷◌, length, Option, Some, None, Result, Ok, Err, refl, sym, ap, subst, ◌∙◌, arith, inl, inr}
-use Rattle.std.specs.Prelude.{ℤ, ◌+ℤ◌, nat_abs, ◌⊎◌, ◌&&◌}
+use Rattle.std.specs.Prelude.{ℤ, pos, ◌+ℤ◌, nat_abs, ◌⊎◌, ◌&&◌}
 use Rattle.std.specs.Ordering.{int_eq}
 use Rattle.std.proofs.lemmas.Bool.{eqb-true, eq-eqb, leb-true, leb-false, le-leb}
 use Rattle.std.proofs.lemmas.Bool.Decides.{nat_tests, Decides-int_eq}
@@ -17,8 +17,8 @@ use Rattle.posting_rules.specs.declared.facts.Verdict.{Verdict}
 use Rattle.posting_rules.specs.declared.facts.Verdict.TheVariants.{Unkept, Again, Refused, Posted}
 use Rattle.posting_rules.specs.Commands.{Command, Post, opened, branch_of_teller, is_teller_open, is_account_open}
 use Rattle.posting_rules.specs.Kept.{KeptFields}
-use Rattle.posting_rules.specs.Cases.{case_of, new_case, posting_of, plus_within, is_same, kept_reply, reply_in}
-use Rattle.posting_rules.specs.Entries.{Entry, is_posted, facts, kept, account_balance, teller_balance, branch_balance, with_verdict, with_record, decided, reply_to, reply, refused_entry, posted_entry}
+use Rattle.posting_rules.specs.Cases.{balance_shown, case_of, new_case, posting_of, plus_within, is_same, kept_reply, reply_in}
+use Rattle.posting_rules.specs.Entries.{Entry, facts, kept, account_balance, teller_balance, branch_balance, with_verdict, with_record, decided, reply_to, reply, refused_entry, posted_entry}
 use Rattle.posting_rules.specs.Stated.{IsDecided, IsWithin, IsPosted, AddsEntry, DecidesAsStated, HasContent, RepliesAsStated}
 use Rattle.posting_rules.proofs.Keyed.{by_test}
 
@@ -167,25 +167,42 @@ entries_are : (before : List Command) (moment : ℕ) (bytes : List ℕ) (r : Req
 entries_are before moment bytes r v read e =
     ap (λ (x : Result RequestFields Bad). with_record moment x (λ b. opened before b) (decided before)) read ∙ ap (λ (w : Verdict). with_verdict moment r w (decided before)) e
 
--- an entry that isn't posted, where the request may not be
-unposted : (before : List Command) (moment : ℕ) (bytes : List ℕ) (r : RequestFields) (e : Entry) → is_posted e ≡ false → e.moment ≡ moment → e.request ≡ r
-    → (IsPosted before r → ⊥) → decided (Post moment bytes ∷ before) ≡ e ∷ decided before → AddsEntry before moment bytes r e
-unposted before moment bytes r e f em er h adds = record {
-  adds = adds;
-  at_moment = em;
-  of_request = er;
-  posted = (λ p. absurd (let g = sym f ∙ p in cc), λ p. absurd (h p));
-}
+-- an outcome without a posting shows no balance
+no_balance : (o : Outcome) (z : ℤ) → has_balance o ≡ false → balance_shown o z ≡ None
+no_balance outcome.Posted z e = absurd cc
+no_balance outcome.NoTeller z e = refl
+no_balance outcome.WrongBranch z e = refl
+no_balance outcome.NoAccount z e = refl
+no_balance outcome.OverLimit z e = refl
+no_balance outcome.ReusedNumber z e = refl
+no_balance outcome.Full z e = refl
+no_balance outcome.Malformed z e = refl
 
 refused : (before : List Command) (moment : ℕ) (bytes : List ℕ) (r : RequestFields) (o : Outcome) → request_of bytes ≡ Ok r → verdict before r ≡ Refused o → has_balance o ≡ false
     → (IsPosted before r → ⊥) → (e : Entry) × AddsEntry before moment bytes r e
-refused before moment bytes r o read e f h =
-    (refused_entry moment r o, unposted before moment bytes r (refused_entry moment r o) f refl refl h (entries_are before moment bytes r (Refused o) read e))
+refused before moment bytes r o read e f h = (
+  refused_entry moment r o,
+  record {
+    adds = entries_are before moment bytes r (Refused o) read e;
+    at_moment = refl;
+    of_request = refl;
+    posted = (λ p. absurd (let g = sym f ∙ p in cc), λ p. absurd (h p));
+    replied = reply_is before bytes r (Refused o) read e ∙ rw (no_balance o (pos 0) f) refl;
+    unposted = λ _. refl;
+  },
+)
 
 posted : (before : List Command) (moment : ℕ) (bytes : List ℕ) (r : RequestFields) → IsDecided before bytes r → IsPosted before r → (e : Entry) × AddsEntry before moment bytes r e
 posted before moment bytes r d p = (
   posted_entry moment r (account_balance (decided before) r.account +ℤ r.delta),
-  record { adds = entries_are before moment bytes r _ d.names.read (posted_verdict before r bytes d p); at_moment = refl; of_request = refl; posted = (λ e. p, λ q. refl) },
+  record {
+    adds = entries_are before moment bytes r _ d.names.read (posted_verdict before r bytes d p);
+    at_moment = refl;
+    of_request = refl;
+    posted = (λ e. p, λ q. refl);
+    replied = reply_is before bytes r _ d.names.read (posted_verdict before r bytes d p);
+    unposted = λ none. absurd (none p);
+  },
 )
 
 -- where the branch is the teller's and the account is open, the three sums decide

@@ -1,6 +1,6 @@
 -- The tables of a log are consistent: one sum, each branch the sum of its tellers, and a row of history for each posting.
 use Rattle.std.proofs.Common.{◌≡◌, ℕ, ◌+◌, ◌<◌, Bool, true, false, cond, eqb, leb, List, [], ◌∷◌, length, map, Option, Some, None, refl, sym, ap, ◌∙◌, arith, inl, inr}
-use Rattle.std.specs.Prelude.{ℤ, pos, ◌+ℤ◌, filter, is_some}
+use Rattle.std.specs.Prelude.{◌&&◌, ℤ, pos, ◌+ℤ◌, filter, is_some}
 use Rattle.std.specs.List.{AllByRecursion}
 use Rattle.std.specs.Option.{option_map}
 use Rattle.std.proofs.Math.IntN.{+ℤ_idl}
@@ -203,12 +203,14 @@ rows_match (e ∷ es) o =
 -- ---- the condition
 
 -- a posting's branch is its teller's, so that both have it
-same_branch : (opened : ℕ → Option ℕ) (es : List Entry) (b : ℕ) → AllNameOpen opened es → posted_sum (λ r. eqb (branch_of_teller r.teller) b) es ≡ posted_sum (λ r. eqb r.branch b) es
+same_branch : (opened : ℕ → Option ℕ) (es : List Entry) (b : ℕ) → AllNameOpen opened es
+    → posted_sum (λ r. leb 1 r.teller && eqb (branch_of_teller r.teller) b) es ≡ posted_sum (λ r. eqb r.branch b) es
 same_branch opened [] b h = refl
 same_branch opened (e ∷ es) b h =
     elim (by_test (is_posted e)) [
       | inl p ↦ let its : branch_of_teller e.request.teller ≡ e.request.branch = sym (h.0.branch p) in
-          rw (p, its) (ap (λ (z : ℤ). cond (eqb e.request.branch b) (z +ℤ e.request.delta) z) (same_branch opened es b h.1))
+          let low = (both (leb 1 e.request.teller) (is_some (opened (branch_of_teller e.request.teller))) (h.0.teller p)).0 in
+          rw (p, low, its) (ap (λ (z : ℤ). cond (eqb e.request.branch b) (z +ℤ e.request.delta) z) (same_branch opened es b h.1))
       | inr f ↦ rw f (same_branch opened es b h.1)
     ]
 
@@ -237,7 +239,7 @@ consistent t log shows =
       tellers = tellers ∙ sym accounts;
       branches = branches ∙ sym accounts;
       each_branch = all_follow (λ r. balance_of_branch r ≡ branch_balance es r.branch) (λ r. total (map balance_of_teller (tellers_of r.branch t.tellers)) ≡ r.balance) t.branches
-          (λ r e. one_sum teller_key balance_of_teller (λ x. x.teller) (λ k. eqb (branch_of_teller k) r.branch) t.tellers es s.teller_keys (teller_has t open_ es s) (tellers_have t open_ es es s named)
+          (λ r e. one_sum teller_key balance_of_teller (λ x. x.teller) (λ k. leb 1 k && eqb (branch_of_teller k) r.branch) t.tellers es s.teller_keys (teller_has t open_ es s) (tellers_have t open_ es es s named)
           ∙ same_branch open_ es r.branch named ∙ sym e)
           (branch_has t open_ es s);
       matched = λ o. rw (s.requests o, s.history o) (rows_match es o);

@@ -9,6 +9,7 @@ pub mod Totals
 pub mod BalanceLimits
 pub mod Consistent
 pub mod Alike
+pub mod Answering
 pub mod AsStated
 pub mod Sequence
 pub mod Remaining

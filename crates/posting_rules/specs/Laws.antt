@@ -1,5 +1,5 @@
 -- What holds of every log: the consistency condition (TPC-B clause 2) and what else a banker relies on.
-use Rattle.std.specs.Prelude.{◌≡◌, ◌≤◌, ℕ, ℤ, pos, ◌+ℤ◌, nat_abs, List, [], ◌∷◌, map, filter, Option, Some, None, true, ◌==◌, AllPairs}
+use Rattle.std.specs.Prelude.{◌≡◌, ◌≤◌, ℕ, ℤ, pos, ◌+ℤ◌, nat_abs, List, [], ◌∷◌, map, filter, Option, Some, None, true, ◌==◌, ◌&&◌, nat_le, AllPairs}
 use Rattle.std.specs.List.{AllByRecursion}
 use Rattle.message_records.specs.declared.limits.TheConstants.{MAX_BALANCE}
 use Rattle.message_records.specs.Outcomes.{has_balance}
@@ -42,9 +42,9 @@ total (z ∷ zs) = z +ℤ total zs
 abbrev pub delta_of : HistoryRow → ℤ
 delta_of r = r.delta
 
--- the tellers that a branch's number gives
+-- the tellers that a branch's number gives; there is no teller 0
 abbrev pub tellers_of : ℕ → List TellerRow → List TellerRow
-tellers_of b rows = filter (λ r. branch_of_teller r.teller == b) rows
+tellers_of b rows = filter (λ r. nat_le 1 r.teller && (branch_of_teller r.teller == b)) rows
 
 -- under an ordinal there is neither a posted request nor a row of history, or there are both, and they agree
 abbrev pub Match : Option RequestRow → Option HistoryRow → Type 0

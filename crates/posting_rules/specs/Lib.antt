@@ -15,3 +15,4 @@ pub mod Resends
 pub mod Changes
 pub mod Sound
 pub mod Branches
+pub mod Alike

@@ -1,5 +1,5 @@
 -- What becomes of a record, said case by case in the words of the profile, of what stands before it.
-use Rattle.std.specs.Prelude.{◌≡◌, ◌≢◌, ◌≤◌, ◌<◌, ◌↔◌, ℕ, ℤ, ◌+ℤ◌, nat_abs, List, ◌∷◌, length, Some, None, Ok, Err, true, false}
+use Rattle.std.specs.Prelude.{◌≡◌, ◌≢◌, ◌≤◌, ◌<◌, ◌↔◌, ℕ, ℤ, pos, ◌+ℤ◌, nat_abs, List, ◌∷◌, length, Some, None, Ok, Err, true, false}
 use Rattle.posting_rules.specs.declared.limits.TheConstants.{MAX_DECIDED}
 use Rattle.message_records.specs.declared.limits.TheConstants.{MAX_BALANCE}
 use Rattle.message_records.specs.declared.records.Outcome.{Outcome}
@@ -43,6 +43,9 @@ pub record AddsEntry (before : List Command) (moment : ℕ) (bytes : List ℕ) (
   pub at_moment : e.moment ≡ moment
   pub of_request : e.request ≡ r
   pub posted : (is_posted e ≡ true) ↔ IsPosted before r
+  -- its outcome and balance are those of the reply, and the balance is zero where the reply has none
+  pub replied : reply before bytes ≡ record { outcome = e.outcome; request = Some r; balance = balance_shown e.outcome e.balance }
+  pub unposted : (IsPosted before r → ⊥) → e.balance ≡ pos 0
 
 pub record DecidesAsStated (before : List Command) (moment : ℕ) (bytes : List ℕ) : Type 0 where
   pub where_decided : (r : RequestFields) → IsDecided before bytes r → (e : Entry) × AddsEntry before moment bytes r e

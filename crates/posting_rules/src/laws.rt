@@ -1,6 +1,7 @@
 //! Laws of the bank, for every log of commands. Each is a function that does nothing: its contract is the law.
 ghost use Rattle.posting_rules.specs.Stated.{DecidedAsStated, RepliedAsStated};
 ghost use Rattle.posting_rules.specs.Laws.{NoneShares, BalancesStayWithin, TablesAreConsistent, EqualTablesAnswerAlike};
+ghost use Rattle.posting_rules.specs.Alike.{OpeningsAnswerAlike, BalancesAnswerAlike, BranchesAnswerAlike};
 ghost use Rattle.posting_rules.specs.Damage.{TablesAreUndamaged};
 ghost use Rattle.posting_rules.specs.Resends.{RepliesAgain, RepliesInPlace, AddsOnce, KeepsCommands};
 
@@ -31,9 +32,12 @@ pub fn tables_are_undamaged()
     ensures { TablesAreUndamaged }
 {}
 
-/// What a bank answers depends on its tables alone.
+/// What a bank answers depends on its tables alone: the replies, the answers to openings, the balances and the branches.
 pub fn equal_tables_answer_alike()
-    ensures { EqualTablesAnswerAlike }
+    ensures replies { EqualTablesAnswerAlike }
+    ensures openings { OpeningsAnswerAlike }
+    ensures balances { BalancesAnswerAlike }
+    ensures branches { BranchesAnswerAlike }
 {}
 
 /// A record that comes again gets the reply that it got, and adds no row, as long as no branch is opened in between. So a

@@ -1,0 +1,75 @@
+-- Logs with equal tables answer openings, balances and branches alike, whatever commands follow.
+use Rattle.std.proofs.Common.{◌≡◌, ℕ, List, [], ◌∷◌, Option, Some, None, sym, ap, ◌∙◌}
+use Rattle.std.specs.Prelude.{option_map}
+use Rattle.posting_rules.specs.declared.counter.BranchLine.{BranchLine}
+use Rattle.posting_rules.specs.Branches.{IsNextBranch}
+use Rattle.posting_rules.specs.Changes.{tables_past, tables_with_branch}
+use Rattle.posting_rules.specs.Commands.{Command, Open, Post, AreCommands, opened}
+use Rattle.posting_rules.specs.Counter.{opening_for, opening_behind}
+use Rattle.posting_rules.specs.Entries.{balance_behind, branch_balance, decided}
+use Rattle.posting_rules.specs.LookUps.{balance_of_branch}
+use Rattle.posting_rules.specs.Runs.{behind}
+use Rattle.posting_rules.specs.Tables.{Tables, Shows}
+use Rattle.posting_rules.specs.Alike.{AreAlike}
+use Rattle.posting_rules.proofs.Calls.{opens}
+use Rattle.posting_rules.proofs.Looked.{balance_shown, count_shown}
+use Rattle.posting_rules.proofs.Records.{past_shown}
+
+-- tables that show both logs with the commands behind them
+record BothShown (one two : List Command) : Type 0 where
+  tables : Tables
+  first : Shows tables one
+  second : Shows tables two
+
+both_shown : (t : Tables) (one two cs : List Command) → Shows t one → Shows t two → AreCommands cs → BothShown (behind one cs) (behind two cs)
+both_shown t one two [] s u valid = record { tables = t; first = s; second = u }
+both_shown t one two (Post m bytes ∷ cs) s u valid =
+    both_shown (tables_past t m bytes) (Post m bytes ∷ one) (Post m bytes ∷ two) cs (past_shown t one m bytes s) (past_shown t two m bytes u) valid.1
+both_shown t one two (Open b count ∷ cs) s u valid =
+    let is = opens b count valid.0.0 valid.0.3 in
+    both_shown (tables_with_branch t b count) (Open b count ∷ one) (Open b count ∷ two) cs (is t one s) (is t two u) valid.1
+
+-- ---- logs with equal tables
+
+opened_alike : (one two : List Command) → BothShown one two → (b : ℕ) → opened one b ≡ opened two b
+opened_alike one two x b =
+    sym (count_shown x.tables (λ n. opened one n) (decided one) b x.first.rows) ∙ count_shown x.tables (λ n. opened two n) (decided two) b x.second.rows
+
+-- an open branch has one balance
+open_alike : (one two : List Command) → BothShown one two → (b n : ℕ) → opened one b ≡ Some n
+    → branch_balance (decided one) b ≡ branch_balance (decided two) b
+open_alike one two x b n is =
+    let other : opened two b ≡ Some n = sym (opened_alike one two x b) ∙ is in
+    let rows = sym (x.first.rows.branches b) ∙ x.second.rows.branches b in
+    let same = rw (is, other) at rows in
+    let balances : Some (branch_balance (decided one) b) ≡ Some (branch_balance (decided two) b) = ap (option_map balance_of_branch) same in
+    cc balances
+
+next_alike : (one two : List Command) → BothShown one two → (after : ℕ) (line : Option BranchLine) → IsNextBranch one after line → IsNextBranch two after line
+next_alike one two x after None h = λ b above. sym (opened_alike one two x b) ∙ h b above
+next_alike one two x after (Some line) h = record {
+  above = h.above;
+  accounts = sym (opened_alike one two x line.branch) ∙ h.accounts;
+  balance = h.balance ∙ open_alike one two x line.branch line.accounts h.accounts;
+  none_between = λ b low high. sym (opened_alike one two x b) ∙ h.none_between b low high;
+}
+
+-- ---- whatever commands follow
+
+both_of : (t : Tables) (one two cs : List Command) → AreAlike t one two cs → BothShown (behind one cs) (behind two cs)
+both_of t one two cs a = both_shown t one two cs a.first a.second a.valid
+
+pub openings_alike : (t : Tables) (one two cs : List Command) → AreAlike t one two cs → (b count : ℕ)
+    → opening_behind (behind one cs) b count ≡ opening_behind (behind two cs) b count
+openings_alike t one two cs a b count =
+    ap (λ (o : Option ℕ). opening_for o count) (opened_alike (behind one cs) (behind two cs) (both_of t one two cs a) b)
+
+pub balances_alike : (t : Tables) (one two cs : List Command) → AreAlike t one two cs → (account : ℕ)
+    → balance_behind (behind one cs) account ≡ balance_behind (behind two cs) account
+balances_alike t one two cs a account =
+    let x = both_of t one two cs a in
+    sym (balance_shown x.tables (behind one cs) account x.first) ∙ balance_shown x.tables (behind two cs) account x.second
+
+pub branches_alike : (t : Tables) (one two cs : List Command) → AreAlike t one two cs → (after : ℕ) (line : Option BranchLine)
+    → IsNextBranch (behind one cs) after line → IsNextBranch (behind two cs) after line
+branches_alike t one two cs a after line = next_alike (behind one cs) (behind two cs) (both_of t one two cs a) after line

@@ -1,0 +1,30 @@
+-- The tables say all that matters of a log: what is answered behind logs with equal tables, whatever commands follow.
+use Rattle.std.specs.Prelude.{◌≡◌, ℕ, List, Option}
+use Rattle.posting_rules.specs.declared.counter.BranchLine.{BranchLine}
+use Rattle.posting_rules.specs.Branches.{IsNextBranch}
+use Rattle.posting_rules.specs.Commands.{Command, AreCommands}
+use Rattle.posting_rules.specs.Counter.{opening_behind}
+use Rattle.posting_rules.specs.Entries.{balance_behind}
+use Rattle.posting_rules.specs.Runs.{behind}
+use Rattle.posting_rules.specs.Tables.{Tables, Shows}
+
+-- the tables show both logs, and these commands follow either
+pub record AreAlike (t : Tables) (one two commands : List Command) : Type 0 where
+  pub first : Shows t one
+  pub second : Shows t two
+  pub valid : AreCommands commands
+
+-- an opening gets one answer
+abbrev pub OpeningsAnswerAlike : Type 0
+OpeningsAnswerAlike = (t : Tables) (one two commands : List Command) → AreAlike t one two commands → (branch count : ℕ)
+    → opening_behind (behind one commands) branch count ≡ opening_behind (behind two commands) branch count
+
+-- an account has one balance
+abbrev pub BalancesAnswerAlike : Type 0
+BalancesAnswerAlike = (t : Tables) (one two commands : List Command) → AreAlike t one two commands → (account : ℕ)
+    → balance_behind (behind one commands) account ≡ balance_behind (behind two commands) account
+
+-- one branch is the next that is open
+abbrev pub BranchesAnswerAlike : Type 0
+BranchesAnswerAlike = (t : Tables) (one two commands : List Command) → AreAlike t one two commands → (after : ℕ) (line : Option BranchLine)
+    → IsNextBranch (behind one commands) after line → IsNextBranch (behind two commands) after line
