@@ -1,5 +1,5 @@
 -- What is found of a bank, and that nothing is missed where a log is shown.
-use Rattle.std.proofs.Common.{◌≡◌, ◌≤◌, ℕ, ℤ, pos, List, [], ◌∷◌, Option, Some, None, Ok, Err, Result, refl, sym, ap, subst, ◌∙◌, inl, inr, arith}
+use Rattle.std.proofs.Common.{◌≡◌, ◌≤◌, ℕ, ℤ, pos, List, [], ◌∷◌, map, Option, Some, None, Ok, Err, Result, refl, sym, ap, subst, ◌∙◌, inl, inr, arith}
 use Rattle.std.specs.Prelude.{◌⊎◌, ◌<ℤ◌}
 use Rattle.std.proofs.lemmas.Int.{ints}
 use Rattle.sqlite.specs.Table.{Table}
@@ -15,10 +15,14 @@ use Rattle.posting_rules.proofs.Undamaged.{undamaged}
 use Rattle.sql_meanings.proofs.Contents.{each_defined}
 use Rattle.sql_meanings.specs.Entries.{Entry}
 use Rattle.store_rows.specs.Columns.{meta_in}
+use Rattle.store_rows.specs.Probes.{six_probes}
+use Rattle.store_rows.specs.Probes as probe
 use Rattle.store_rows.specs.SixTables as six
+use Rattle.store_rows.specs.SixTables.{bank_tables}
+use Rattle.store_rows.specs.Statements.{HasOtherValue}
 use Rattle.store_rows.specs.View.{HoldsRows, Shows, contents, meta_entry}
 use Rattle.store_rows.specs.declared.metas.StoredMeta.{StoredMeta}
-use Rattle.bank_store.specs.Opening.{six_tables, Lacks, IsPresent, IsAsBefore, IsOurs, IsOfVersion, IsNoCount, ChecksMeta, TellsMeta, IsUnread, IsReadOnly, MetaIs, Misses, SeeksBank}
+use Rattle.bank_store.specs.Opening.{Lacks, IsPresent, IsAsBefore, IsOurs, IsOfVersion, IsNoCount, ChecksMeta, TellsMeta, IsUnread, IsOfOtherType, IsReadOnly, MetaIs, Misses, SeeksBank}
 use Rattle.bank_store.specs.declared.probing.Presence.TheVariants.{Absent, Whole}
 use Rattle.bank_store.specs.declared.refused.OpenFault.{OpenFault}
 use Rattle.bank_store.specs.declared.refused.OpenFault.TheVariants.{Store, NotBlank, Blank, Foreign, Version, Damaged}
@@ -27,24 +31,30 @@ use Rattle.bank_store.proofs.Probed.{as_before}
 use Rattle.posting_rules.specs.declared.limits.TheConstants.{MAX_DECIDED}
 
 -- the row wasn't read
-module _ (old mid new : State) (tables : IsPresent old.now six_tables Whole) (first : IsAsBefore old mid) where
+module _ (old mid new : State) (tables : IsPresent old.now six_probes Whole) (first : IsAsBefore old mid) where
   abbrev MissedAt : OpenFault → Type 0
   MissedAt fault =
-      ((rows : List Entry) → HoldsRows mid.now six.meta rows → TellsMeta (meta_in rows) (Err fault)) → IsReadOnly {X = Option StoredMeta} mid new (Err fault) → SeeksBank old new (Err fault)
+      ((rows : List Entry) → HoldsRows mid.now six.meta rows → TellsMeta (meta_in rows) (Err fault)) → IsOfOtherType mid.now fault → IsReadOnly {X = Option StoredMeta} mid new (Err fault) → SeeksBank old new (Err fault)
 
   at_store : MissedAt Store
-  at_store tells reads = (tt, λ still. as_before old mid new first (reads still))
+  at_store tells other reads = (tt, λ still. as_before old mid new first (reads still))
 
   at_value : MissedAt (Damaged Value)
-  at_value tells same =
-      ((tables, λ rows has. tells rows (subst (λ (db : Database). HoldsRows db six.meta rows) (sym first.now_is) has)), as_before old mid new first same)
+  at_value tells other same = (
+    (
+      tables,
+      λ rows has. tells rows (subst (λ (db : Database). HoldsRows db six.meta rows) (sym first.now_is) has),
+      subst HasOtherValue first.now_is other,
+    ),
+    as_before old mid new first same,
+  )
 
   pub missed : (fault : OpenFault) → IsUnread fault → MissedAt fault
   missed fault (inl is) = subst MissedAt (sym is) at_store
   missed fault (inr is) = subst MissedAt (sym is) at_value
 
 -- what was read of the row, and what was said against it
-module _ (old mid new : State) (stored : Option StoredMeta) (tables : IsPresent old.now six_tables Whole) (first : IsAsBefore old mid)
+module _ (old mid new : State) (stored : Option StoredMeta) (tables : IsPresent old.now six_probes Whole) (first : IsAsBefore old mid)
     (read : (rows : List Entry) → HoldsRows mid.now six.meta rows → stored ≡ meta_in rows) (then : IsAsBefore mid new) where
   row_is : (P : Option StoredMeta → Type 0) → P stored → MetaIs old P
   row_is P holds rows has = subst P (read rows (subst (λ (db : Database). HoldsRows db six.meta rows) (sym first.now_is) has)) holds
@@ -70,12 +80,17 @@ module _ (old mid new : State) (stored : Option StoredMeta) (tables : IsPresent 
 -- ---- where a log is shown
 
 -- a database that shows tables lacks none of the six
-lacks_none : (db : Database) (t : Tables) → Shows db t → (table : Table) → Has six_tables table → Lacks db table → ⊥
-lacks_none db t shows table has lacks = lacks shows.sound (each_defined db six_tables (contents t) shows.each table has)
+has_its_table : (probes : List (List ℕ × Table)) (it : List ℕ × Table) → Has probes it → Has (map (λ p. p.1) probes) it.1
+has_its_table [] it has = has
+has_its_table (p ∷ probes) it (inl is) = inl (ap (λ q. q.1) is)
+has_its_table (p ∷ probes) it (inr has) = inr (has_its_table probes it has)
+
+lacks_none : (db : Database) (t : Tables) → Shows db t → (it : List ℕ × Table) → Has six_probes it → Lacks db it → ⊥
+lacks_none db t shows it has lacks = lacks.1 shows.sound (each_defined db bank_tables (contents t) shows.each it.1 (has_its_table six_probes it has))
 
 -- where none of the six is, no tables are shown
-pub no_bank : (db : Database) (t : Tables) → IsPresent db six_tables Absent → Shows db t → ⊥
-no_bank db t absent shows = lacks_none db t shows six.meta (inl refl) absent.0
+pub no_bank : (db : Database) (t : Tables) → IsPresent db six_probes Absent → Shows db t → ⊥
+no_bank db t absent shows = lacks_none db t shows probe.meta (inl refl) absent.0
 
 -- what meta holds of a log
 holds : (t : Tables) → IsUndamaged t → IsOurs (meta_in (meta_entry t.decided ∷ []))

@@ -11,7 +11,9 @@ use Rattle.store_rows.specs.declared.faults.TableFault.TheVariants.{Sqlite, Dama
 use Rattle.store_rows.specs.declared.metas.StoredMeta.{StoredMeta}
 use Rattle.bank_store.specs.declared.refused.OpenFault.{OpenFault}
 use Rattle.bank_store.specs.declared.refused.OpenFault.TheVariants.{Store}
-use Rattle.bank_store.specs.Opening.{unread_by, TellsMeta}
+use Rattle.sqlite.specs.Effect.{Database}
+use Rattle.store_rows.specs.Statements.{TellsOther}
+use Rattle.bank_store.specs.Opening.{unread_by, IsOfOtherType, TellsMeta}
 
 by_cause : (c : StoreError) → unread_by (Sqlite (store_error c)) ≡ Store
 by_cause cause.OutOfMemory = refl
@@ -31,3 +33,8 @@ by_store old new e (inr (inr limit, same)) = ap (λ (x : Error). unread_by (Sqli
 pub read_err : (old new : State) (wanted : Option StoredMeta) (e : TableFault) → Finds old new wanted Never (Err e) → TellsMeta wanted (Err (unread_by e))
 read_err old new wanted (Sqlite e) finds = subst (λ (f : OpenFault). TellsMeta wanted (Err f)) (sym (by_store old new e finds)) tt
 read_err old new wanted (Damaged rule) finds = absurd finds.0.2
+
+-- what is told as a damaged value is one
+pub other_value : (db : Database) (e : TableFault) → TellsOther db e → IsOfOtherType db (unread_by e)
+other_value db (Sqlite e) other = tt
+other_value db (Damaged rule) other = other

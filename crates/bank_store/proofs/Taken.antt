@@ -1,5 +1,5 @@
 -- Why no bank can be made.
-use Rattle.std.proofs.Common.{◌≡◌, true, Ok, Err, Result, refl, ap, subst, ◌∙◌, inl, inr}
+use Rattle.std.proofs.Common.{◌≡◌, ℕ, List, true, Ok, Err, Result, refl, ap, subst, ◌∙◌, inl, inr}
 use Rattle.std.specs.Prelude.{IfErr, IsSome}
 use Rattle.sqlite.specs.Table.{Table}
 use Rattle.sqlite.specs.Effect.{Database}
@@ -11,9 +11,10 @@ use Rattle.sqlite_schema.specs.Names.{table_named, view_named}
 use Rattle.posting_rules.proofs.Keyed.{by_test}
 use Rattle.sql_meanings.specs.Making.{KeepsTables}
 use Rattle.store_rows.specs.Creation.{CreatesBank, IsEmpty, IsMade, RefusesNext}
-use Rattle.store_rows.specs.SixTables as six
+use Rattle.store_rows.specs.Probes.{six_probes}
+use Rattle.store_rows.specs.Probes as probe
 use Rattle.store_rows.proofs.EmptyFile.{refused_on_nothing}
-use Rattle.bank_store.specs.Opening.{of_the_store, unmade_by, six_tables, HasName, OneOf, IsPresent, IsRefused, IsTaken}
+use Rattle.bank_store.specs.Opening.{of_the_store, unmade_by, IsReadable, OneOf, IsPresent, IsRefused, IsTaken}
 use Rattle.bank_store.specs.declared.probing.Presence.{Presence}
 use Rattle.bank_store.specs.declared.probing.Presence.TheVariants.{Absent, Partial, Whole}
 use Rattle.bank_store.specs.declared.refused.OpenFault.{OpenFault}
@@ -63,18 +64,18 @@ pub if_err : {X E : Type 0} (P Q : E → Type 0) → ((e : E) → P e → Q e) �
 if_err P Q f (Ok x) h = tt
 if_err P Q f (Err e) h = f e h
 
-pub some_there : (db : Database) (p : Presence) → (p ≡ Absent → ⊥) → IsPresent db six_tables p → OneOf six_tables (HasName db)
+pub some_there : (db : Database) (p : Presence) → (p ≡ Absent → ⊥) → IsPresent db six_probes p → OneOf six_probes (IsReadable db)
 some_there db Absent not_so here = absurd (not_so refl)
 some_there db Partial not_so here = here.0
-some_there db Whole not_so here = (six.meta, inl refl, here.0)
+some_there db Whole not_so here = (probe.meta, inl refl, here.0)
 
-none_named : (db : Database) (table : Table) → IsEmpty db → HasName db table → ⊥
-none_named db table empty (inl there) = there (ap (λ s. table_named s table.name) empty)
-none_named db table empty (inr there) = there (ap (λ s. view_named s table.name) empty)
+none_named : (db : Database) (it : List ℕ × Table) → IsEmpty db → IsReadable db it → ⊥
+none_named db it empty (text, inl there) = there (ap (λ s. table_named s it.1.name) empty)
+none_named db it empty (text, inr there) = there (ap (λ s. view_named s it.1.name) empty)
 
 -- an empty file has nothing that stands in the way
 pub not_taken : (old : State) → IsEmpty old.now → IsTaken old → ⊥
-not_taken old empty (inl (table, listed, there)) = none_named old.now table empty there
+not_taken old empty (inl (it, listed, there)) = none_named old.now it empty there
 not_taken old empty (inr (e, db, other, refused)) =
     let limit = refused_on_nothing old db e empty refused in
     let own = ap of_the_store limit.0 in

@@ -1,5 +1,5 @@
 -- What a connection is seen as before a bank is made in it or found there, and what either call tells.
-use Rattle.std.specs.Prelude.{◌≡◌, ◌≢◌, ◌⊎◌, ◌≤◌, ◌<ℤ◌, if◌then◌else◌, IsTrue, ℕ, ℤ, pos, Bool, true, false, List, [], ◌∷◌, ◌++◌, codes, Option, Some, None, Result, Ok, Err, ⊤}
+use Rattle.std.specs.Prelude.{◌≡◌, ◌≢◌, ◌⊎◌, ◌≤◌, ◌<ℤ◌, if◌then◌else◌, IsTrue, ℕ, ℤ, pos, Bool, true, false, List, ◌++◌, codes, Option, Some, None, Result, Ok, Err, ⊤}
 use Rattle.std.specs.Fmt.{decimal, signed_decimal}
 use Rattle.std.specs.List.{AllByRecursion}
 use Rattle.sqlite.specs.Table.{Table}
@@ -17,11 +17,13 @@ use Rattle.posting_rules.specs.Counter.{Seen}
 use Rattle.posting_rules.specs.Rules.{number_of_rule}
 use Rattle.posting_rules.specs.declared.fault.Rule.TheVariants.{Meta, Value}
 use Rattle.sql_meanings.specs.Making.{KeepsTables}
-use Rattle.sql_meanings.specs.Outcomes.{IsThere}
+use Rattle.sql_meanings.specs.Outcomes.{IsThere, IsUnderstood}
 use Rattle.sql_meanings.specs.Tables.{Defines}
 use Rattle.store_rows.specs.Columns.{meta_in}
-use Rattle.store_rows.specs.Creation.{RefusedIn, new_tables}
+use Rattle.store_rows.specs.Creation.{IsAlone, RefusedIn, new_tables}
+use Rattle.store_rows.specs.Probes.{IsNotUnderstood, six_probes}
 use Rattle.store_rows.specs.SixTables as six
+use Rattle.store_rows.specs.Statements.{HasOtherValue}
 use Rattle.sql_meanings.specs.Entries.{Entry}
 use Rattle.store_rows.specs.View.{HoldsRows, Shows, ShowsTrees}
 use Rattle.store_rows.specs.declared.metas.TheConstants.{VERSION}
@@ -56,26 +58,23 @@ IsUndone old new = IsTrue new.is_open → IsAsBefore old new
 
 -- ---- the six tables
 
-abbrev pub six_tables : List Table
-six_tables = six.meta ∷ six.branch ∷ six.teller ∷ six.account ∷ six.history ∷ six.request ∷ []
+-- the table can be read: its probe is understood, and a table or a view has its name
+abbrev pub IsReadable : Database → List ℕ × Table → Type 0
+IsReadable db probe = IsUnderstood db.schema probe.0 × IsThere db.schema probe.1.name
 
--- a table or a view has the name of this table
-abbrev pub HasName : Database → Table → Type 0
-HasName db table = IsThere db.schema table.name
-
--- a sound database doesn't define this table
-abbrev pub Lacks : Database → Table → Type 0
-Lacks db table = ∥ IsDatabase db ∥₁ → ¬ Defines db.schema table
+-- it can't: its probe isn't understood, and a sound database doesn't define this table
+abbrev pub Lacks : Database → List ℕ × Table → Type 0
+Lacks db probe = IsNotUnderstood db.schema probe.0 × (∥ IsDatabase db ∥₁ → ¬ Defines db.schema probe.1)
 
 -- one of the tables is so
-abbrev pub OneOf : List Table → (Table → Type 0) → Type 0
-OneOf tables P = (table : Table) × Has tables table × P table
+abbrev pub OneOf : List (List ℕ × Table) → (List ℕ × Table → Type 0) → Type 0
+OneOf probes P = (probe : List ℕ × Table) × Has probes probe × P probe
 
 -- how many of these tables are there
-abbrev pub IsPresent : Database → List Table → Presence → Type 0
-IsPresent db tables Absent = AllByRecursion (Lacks db) tables
-IsPresent db tables Partial = OneOf tables (HasName db) × OneOf tables (Lacks db)
-IsPresent db tables Whole = AllByRecursion (HasName db) tables
+abbrev pub IsPresent : Database → List (List ℕ × Table) → Presence → Type 0
+IsPresent db probes Absent = AllByRecursion (Lacks db) probes
+IsPresent db probes Partial = OneOf probes (IsReadable db) × OneOf probes (Lacks db)
+IsPresent db probes Whole = AllByRecursion (IsReadable db) probes
 
 -- one table is there, or it isn't
 abbrev pub presence_of : Bool → Presence
@@ -93,9 +92,9 @@ joined Whole Partial = Partial
 joined Whole Whole = Whole
 
 -- how many there are, and everything is as it was; or the store failed
-abbrev pub TellsPresence : {E : Type 0} → State → State → List Table → Result Presence E → Type 0
-TellsPresence old new tables (Ok presence) = IsPresent old.now tables presence × IsAsBefore old new
-TellsPresence old new tables (Err e) = IsUndone old new
+abbrev pub TellsPresence : {E : Type 0} → State → State → List (List ℕ × Table) → Result Presence E → Type 0
+TellsPresence old new probes (Ok presence) = IsPresent old.now probes presence × IsAsBefore old new
+TellsPresence old new probes (Err e) = IsUndone old new
 
 -- ---- the row of the bank
 
@@ -119,6 +118,11 @@ ChecksMeta stored (Ok done) = IsOurs stored
 ChecksMeta stored (Err (Version n)) = IsOfVersion n stored
 ChecksMeta stored (Err (Damaged Meta)) = IsNoCount stored
 ChecksMeta stored (Err _) = ⊥
+
+-- where a value is damaged, the row of the bank has one that is no whole number
+abbrev pub IsOfOtherType : Database → OpenFault → Type 0
+IsOfOtherType db (Damaged Value) = HasOtherValue db
+IsOfOtherType db _ = ⊤
 
 -- the row is this one, or the store failed
 abbrev pub TellsMeta : Option StoredMeta → Result (Option StoredMeta) OpenFault → Type 0
@@ -148,7 +152,7 @@ MetaIs s P = (rows : List Entry) → HoldsRows s.now six.meta rows → P (meta_i
 
 -- the six tables are there, with a row of our version, and everything is as it was
 pub record IsFound (old new : State) : Type 0 where
-  pub tables : IsPresent old.now six_tables Whole
+  pub tables : IsPresent old.now six_probes Whole
   pub meta : MetaIs old IsOurs
   pub same : IsAsBefore old new
 
@@ -156,11 +160,11 @@ pub record IsFound (old new : State) : Type 0 where
 abbrev pub Misses : State → OpenFault → Type 0
 Misses old Store = ⊤
 Misses old NotBlank = ⊥
-Misses old Blank = IsPresent old.now six_tables Absent
-Misses old Foreign = IsPresent old.now six_tables Partial
-Misses old (Version n) = IsPresent old.now six_tables Whole × MetaIs old (IsOfVersion n)
-Misses old (Damaged Meta) = IsPresent old.now six_tables Whole × MetaIs old IsNoCount
-Misses old (Damaged Value) = IsPresent old.now six_tables Whole × MetaIs old (λ _. ⊥)
+Misses old Blank = IsPresent old.now six_probes Absent
+Misses old Foreign = IsPresent old.now six_probes Partial
+Misses old (Version n) = IsPresent old.now six_probes Whole × MetaIs old (IsOfVersion n)
+Misses old (Damaged Meta) = IsPresent old.now six_probes Whole × MetaIs old IsNoCount
+Misses old (Damaged Value) = IsPresent old.now six_probes Whole × MetaIs old (λ _. ⊥) × HasOtherValue old.now
 Misses old (Damaged _) = ⊥
 
 -- a bank is found, or why it isn't
@@ -170,19 +174,21 @@ SeeksBank old new (Err fault) = Misses old fault × IsReadOnly {X = Unit {0}} ol
 
 -- ---- a bank is made
 
--- a bank with nothing in it is there, whatever a stop leaves, and every table that was there is there, with its rows
+-- a bank with nothing in it is there, whatever a stop leaves, and every table that was there is there, with its rows, and nothing else is
 pub record IsMade (old new : State) : Type 0 where
   pub shows : Shows new.now new_tables
   pub left : (left : Trees) → new.may_leave left → ShowsTrees left new_tables
   pub keeps : KeepsTables old.now new.now
+  pub alone : IsAlone old.now new.now
 
--- the error is the store's own
+-- the error is the store's own: for memory, the disk, a size or the limit on steps
 abbrev pub of_the_store : Error → Bool
 of_the_store (SqliteFailure code.OutOfMemory) = true
 of_the_store (SqliteFailure code.SystemIoFailure) = true
 of_the_store (SqliteFailure code.DatabaseCorrupt) = true
 of_the_store (SqliteFailure code.DiskFull) = true
 of_the_store (SqliteFailure code.TooBig) = true
+of_the_store (SqliteFailure code.SchemaTooBig) = true
 of_the_store (SqliteFailure code.Closed) = true
 of_the_store (SqliteFailure code.OperationInterrupted) = true
 of_the_store _ = false
@@ -197,7 +203,7 @@ IsRefused old = (e : Error) × (db : Database) × (of_the_store e ≡ false) × 
 
 -- why there is something already: one of the tables is there, or the bank can't be made
 abbrev pub IsTaken : State → Type 0
-IsTaken old = OneOf six_tables (HasName old.now) ⊎ IsRefused old
+IsTaken old = OneOf six_probes (IsReadable old.now) ⊎ IsRefused old
 
 -- why a bank isn't made
 abbrev pub IsUnmade : OpenFault → Type 0

@@ -9,7 +9,7 @@ ghost use Rattle.store_rows.specs.Columns.{meta_in};
 ghost use Rattle.sql_meanings.specs.Entries.{Entry};
 ghost use Rattle.store_rows.specs.SixTables.{meta as table};
 ghost use Rattle.store_rows.specs.View.{HoldsRows};
-ghost use Rattle.bank_store.specs.Opening.{conn_seen, state_in, ChecksMeta, TellsMeta, IsReadOnly, IsUndone, IsUnread, IsFound, SeeksBank, Misses, IsAsBefore};
+ghost use Rattle.bank_store.specs.Opening.{conn_seen, state_in, ChecksMeta, TellsMeta, IsReadOnly, IsUndone, IsUnread, IsOfOtherType, IsFound, SeeksBank, Misses, IsAsBefore};
 ghost use Rattle.bank_store.specs.Seen.{bank_seen, connection_of};
 
 use crate::bank::Bank;
@@ -28,6 +28,7 @@ fn stored_meta<S: Alter>(conn: &mut Connection<S>) -> Result<Option<StoredMeta>,
         → HoldsRows (state S.Store conn.old).now table rows → TellsMeta (meta_in rows) result }
     ensures undone { HasCleanDisk (state S.Store conn.new) → IsUndone (state S.Store conn.old) (state S.Store conn.new) }
     ensures fault { IfErr result IsUnread }
+    ensures other { HasCleanDisk (state S.Store conn.new) → IfErr result (IsOfOtherType (state S.Store conn.old).now) }
     ensures mode { conn.new.in_transaction ≡ false }
     ensures survives { Survives (state S.Store conn.old) (state S.Store conn.new) (λ _. ⊥) }
 {
@@ -45,6 +46,7 @@ fn settled_meta<S: Alter>(conn: &mut Connection<S>) -> Result<Option<StoredMeta>
         → HoldsRows (state S.Store conn.old).now table rows → TellsMeta (meta_in rows) result }
     ensures same { HasCleanDisk (state S.Store conn.new) → IsReadOnly (state S.Store conn.old) (state S.Store conn.new) result }
     ensures fault { IfErr result IsUnread }
+    ensures other { HasCleanDisk (state S.Store conn.new) → IfErr result (IsOfOtherType (state S.Store conn.old).now) }
     ensures mode { conn.new.in_transaction ≡ false }
     ensures survives { Survives (state S.Store conn.old) (state S.Store conn.new) (λ _. ⊥) }
 {

@@ -5,9 +5,10 @@ ghost use Rattle.sqlite.specs.Held.{state};
 ghost use Rattle.posting_rules.specs.Counter.{StandsAt};
 ghost use Rattle.posting_rules.specs.Tables.{Tables};
 ghost use Rattle.sql_meanings.specs.Making.{KeepsTables};
-ghost use Rattle.store_rows.specs.Creation.{HasNewBank, IsEmpty};
+ghost use Rattle.store_rows.specs.Creation.{HasNewBank, IsAlone, IsEmpty};
+ghost use Rattle.store_rows.specs.Probes.{six_probes};
 ghost use Rattle.store_rows.specs.View.{Shows};
-ghost use Rattle.bank_store.specs.Opening.{state_in, six_tables, IsPresent, IsMade, IsUndone, IsUnmade, IsRefused, IsTaken};
+ghost use Rattle.bank_store.specs.Opening.{state_in, IsPresent, IsMade, IsUndone, IsUnmade, IsRefused, IsTaken};
 ghost use Rattle.bank_store.specs.Seen.{bank_seen, connection_of};
 ghost use Rattle.bank_store.specs.declared.probing.Presence.TheVariants.{Absent};
 
@@ -45,7 +46,7 @@ fn make_tables<S: Alter>(conn: &mut Connection<S>) -> Result<(), OpenFault>
 // The same, where none of the tables is there.
 fn make_bank<S: Alter>(conn: &mut Connection<S>) -> Result<(), OpenFault>
     requires { conn.old.in_transaction ≡ false }
-    ensures blank { HasCleanDisk (state S.Store conn.new) → OnOk result (IsPresent (state S.Store conn.old).now six_tables Absent) }
+    ensures blank { HasCleanDisk (state S.Store conn.new) → OnOk result (IsPresent (state S.Store conn.old).now six_probes Absent) }
     ensures made { HasCleanDisk (state S.Store conn.new) → OnOk result (IsMade (state S.Store conn.old) (state S.Store conn.new)) }
     ensures undone { HasCleanDisk (state S.Store conn.new)
         → OnErr result (IsUndone (state S.Store conn.old) (state S.Store conn.new)) }
@@ -67,8 +68,10 @@ pub fn create<S: Alter>(alloc: Global, mut conn: Connection<S>) -> Result<Bank<S
     ensures stands { IfOk result (λ bank. (bank_seen S.Store bank).honest → StandsAt (bank_seen S.Store bank) []) }
     ensures keeps { IfOk result (λ bank. HasCleanDisk (state S.Store (connection_of bank))
         → KeepsTables (state S.Store conn).now (state S.Store (connection_of bank)).now) }
+    ensures alone { IfOk result (λ bank. HasCleanDisk (state S.Store (connection_of bank))
+        → IsAlone (state S.Store conn).now (state S.Store (connection_of bank)).now) }
     ensures blank { IfOk result (λ bank. HasCleanDisk (state S.Store (connection_of bank))
-        → IsPresent (state S.Store conn).now six_tables Absent) }
+        → IsPresent (state S.Store conn).now six_probes Absent) }
     ensures new { IfOk result (λ bank. HasCleanDisk (state S.Store (connection_of bank)) → (tables : Tables)
         → Shows (state S.Store conn).now tables → ⊥) }
     ensures undone { IfErr result (λ refused. HasCleanDisk (state S.Store refused.conn)

@@ -2,8 +2,8 @@
 ghost use Rattle.std.specs.Prelude.{◌≡◌, ◌∷◌, [], IfErr, false};
 ghost use Rattle.sqlite.specs.State.{HasCleanDisk, Survives};
 ghost use Rattle.sqlite.specs.Held.{state};
-ghost use Rattle.store_rows.specs.SixTables.{meta, branch, teller, account, history, request};
-ghost use Rattle.bank_store.specs.Opening.{six_tables, joined, presence_of, TellsPresence};
+ghost use Rattle.store_rows.specs.Probes.{meta, branch, teller, account, history, request, six_probes};
+ghost use Rattle.bank_store.specs.Opening.{joined, presence_of, TellsPresence};
 
 use crate::refused::OpenFault;
 use sqlite::{Alter, Connection, Error};
@@ -73,7 +73,7 @@ fn last_three<S: Alter>(conn: &mut Connection<S>) -> Result<Presence, Error>
 pub(crate) fn tables_there<S: Alter>(conn: &mut Connection<S>) -> Result<Presence, OpenFault>
     requires { conn.old.in_transaction ≡ false }
     ensures told { HasCleanDisk (state S.Store conn.new)
-        → TellsPresence (state S.Store conn.old) (state S.Store conn.new) six_tables result }
+        → TellsPresence (state S.Store conn.old) (state S.Store conn.new) six_probes result }
     ensures fault { IfErr result (λ fault. fault ≡ OpenFault.Store) }
     ensures mode { conn.new.in_transaction ≡ false }
     ensures survives { Survives (state S.Store conn.old) (state S.Store conn.new) (λ _. ⊥) }

@@ -10,7 +10,7 @@ use store_rows::TableFault;
 /// Why a bank isn't made in a file, or isn't found there.
 #[derive(Clone, Copy, Debug, PartialEq, Eq)]
 pub enum OpenFault {
-    /// A call of `sqlite` failed: for memory, the disk, a size or a limit of steps.
+    /// A call of `sqlite` failed: for memory, the disk, a size (also that of the schema) or a limit of steps.
     Store,
     /// No bank can be made: a table of the bank is there, or can't be made.
     NotBlank,
@@ -65,6 +65,7 @@ fn is_of_the_store(e: &Error) -> bool
                 | ErrorCode::DatabaseCorrupt
                 | ErrorCode::DiskFull
                 | ErrorCode::TooBig
+                | ErrorCode::SchemaTooBig
                 | ErrorCode::Closed
                 | ErrorCode::OperationInterrupted
         )

@@ -25,7 +25,7 @@ pub starts : (old new : State) (r : Result ℕ Error) → AreEmpty old.now → E
     → StartsBank old new r
 starts old new (Ok count) made h =
     let done = puts_row old new six.meta numbered made.sound [] (none_yet old.now made) ADD_META.now _ _ puts_first count h.0 in
-    (record { sound = ∣ done.0.sound ∣₁; each = meta_written old new no_rows made.each [] _ refl done.0 }, done.2)
+    (record { sound = ∣ done.0.sound ∣₁; each = meta_written old new no_rows made.each [] _ refl done.0 }, done.2, done.0.steps.schema)
 starts old new (Err e) made h =
     elim (refuses_insert old new six.meta numbered made.sound [] (none_yet old.now made) ADD_META.now (given first_row) first_row
     puts_first (key_fits 1 (lit≤ tt)) e h) [

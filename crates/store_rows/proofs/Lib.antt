@@ -13,6 +13,7 @@ pub mod KeptRows
 pub mod Lookups
 pub mod MetaRow
 pub mod NextBranch
+pub mod OtherValue
 pub mod Probing
 pub mod Puts
 pub mod RowLists

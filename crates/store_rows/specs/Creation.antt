@@ -72,7 +72,7 @@ MakesAll old new (Err e) =
 -- the first row is there, and every table but meta is as it was; or why the row can't be put in
 abbrev pub StartsBank : State → State → Result ℕ Error → Type 0
 StartsBank old new (Ok count) =
-    Shows new.now new_tables × SparesTables old.now new.now (codes "meta")
+    Shows new.now new_tables × SparesTables old.now new.now (codes "meta") × (new.now.schema ≡ old.now.schema)
 StartsBank old new (Err e) = PutFails old new six.meta (IsForbidden old.now.schema six.meta new_tables) e
 
 -- once the six are made, an index of meta has more columns than can be stored
@@ -86,10 +86,14 @@ RefusedIn old db e =
     (RefusesNext old.now.schema db.schema e × KeepsTables old.now db)
     ⊎ ((IsInterrupted old e ⊎ ((e ≡ SqliteFailure (ConstraintViolation Unique)) × IsForbidden db.schema six.meta new_tables)) × IsMade old.now db)
 
--- The tables of a new bank are there, and every table that was there is there, with its rows. Or the store failed, and the transaction is
--- rolled back; or a statement is refused in the database that stands now.
+-- where no table counts its rows, the six tables are new, and nothing else is
+abbrev pub IsAlone : Database → Database → Type 0
+IsAlone old new = counts_rows old.schema ≡ false → new.schema ≡ with_first (length six_texts) old.schema
+
+-- The tables of a new bank are there, and every table that was there is there, with its rows, and nothing else is. Or the store failed, and
+-- the transaction is rolled back; or a statement is refused in the database that stands now.
 abbrev pub CreatesBank : State → State → Result (Unit {0}) Error → Type 0
-CreatesBank old new (Ok done) = Shows new.now new_tables × KeepsTables old.now new.now
+CreatesBank old new (Ok done) = Shows new.now new_tables × KeepsTables old.now new.now × IsAlone old.now new.now
 CreatesBank old new (Err e) =
     Fails old new (MakesWide old.now) e ⊎ (RefusedIn old new.now e × GoesOn old new × KeepsCounts old new)
 

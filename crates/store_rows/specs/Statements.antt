@@ -1,10 +1,19 @@
 -- What a statement of one table was run as.
-use Rattle.std.specs.Prelude.{◌≡◌, ℕ, List, nat_eq, Bool, Result, Ok, Err}
+use Rattle.std.specs.Prelude.{◌≡◌, ◌⊎◌, ℕ, pos, List, [], ◌∷◌, nat_eq, slice_get, Bool, Some, Result, Ok, Err, ⊤}
+use Rattle.sqlite.specs.Effect.{Database, Reads, ReadsFirst}
+use Rattle.sqlite.specs.Listing.{IsSourceOf, reads_listing, understood}
 use Rattle.sqlite.specs.Order.{Row}
 use Rattle.sqlite.specs.State.{State, ExecutesInside}
 use Rattle.sqlite.specs.declared.error.Error.{Error}
+use Rattle.sqlite.specs.declared.types.Value.TheVariants.{Int}
+use Rattle.sqlite_resolve.specs.declared.compiled.Compiled.{Compiled}
+use Rattle.store_rows.specs.Columns.{meta_shown}
 use Rattle.store_rows.specs.Faults.{added}
 use Rattle.store_rows.specs.declared.faults.TableFault.{TableFault}
+use Rattle.store_rows.specs.declared.faults.TableFault.TheVariants.{Sqlite, Damaged}
+use Rattle.store_rows.specs.declared.metas.StoredMeta.{StoredMeta}
+use Rattle.store_rows.specs.declared.metas.TheConstants.{META_ID}
+use Rattle.store_rows.specs.declared.texts.TheConstants.{GET_META}
 
 -- the text was run with these values, and the answer tells whether it met one row
 abbrev pub MeetsOne : List ℕ → Row → State → State → Result Bool Error → Type 0
@@ -14,3 +23,18 @@ MeetsOne text params old new (Err e) = ExecutesInside 0 text params old new (Err
 -- the text was run with these values, and the answer is told as that of an INSERT
 abbrev pub PutsIn : List ℕ → Row → State → State → Result (Unit {0}) TableFault → Type 0
 PutsIn text params old new r = (answer : Result ℕ Error) × ExecutesInside 0 text params old new answer × (r ≡ added answer)
+
+-- run on this database with these values, the text shows this row first
+abbrev pub ShowsFirst : List ℕ → Row → Database → Row → Type 0
+ShowsFirst text params db row = (c : Compiled) × (understood db.schema text ≡ Ok c) × (source : Database)
+    × IsSourceOf (reads_listing db.schema text) db source
+    × (ReadsFirst c.command source params (row ∷ []) ⊎ ((rows : List Row) × Reads c.command source params rows × (slice_get rows 0 ≡ Some row)))
+
+-- the row of the bank has a value that is no whole number, whatever table `meta` is
+abbrev pub HasOtherValue : Database → Type 0
+HasOtherValue db = (row : Row) × ShowsFirst GET_META.now (Int (pos META_ID) ∷ []) db row × ((m : StoredMeta) → row ≡ meta_shown m → ⊥)
+
+-- what damage at the row of the bank says
+abbrev pub TellsOther : Database → TableFault → Type 0
+TellsOther db (Sqlite e) = ⊤
+TellsOther db (Damaged rule) = HasOtherValue db

@@ -7,7 +7,7 @@ ghost use Rattle.sql_meanings.specs.Calls.{Says, Inside};
 ghost use Rattle.sql_meanings.specs.Making.{CreatesOnly, KeepsTables};
 ghost use Rattle.sql_meanings.specs.Outcomes.{WriteKept, WritesKept, MakesTold};
 ghost use Rattle.store_rows.specs.View.{Shows};
-ghost use Rattle.store_rows.specs.Creation.{AreEmpty, new_tables, six_texts, MakesAll, StartsBank, CreatesBank, CreationFails, HasNewBank};
+ghost use Rattle.store_rows.specs.Creation.{AreEmpty, new_tables, six_texts, MakesAll, StartsBank, CreatesBank, CreationFails, HasNewBank, IsAlone};
 
 use crate::metas::{META_ID, VERSION};
 use crate::texts::{ADD_META, MAKE_TABLES};
@@ -67,7 +67,8 @@ pub fn create<S: Alter>(conn: &mut Connection<S>) -> Result<(), Error>
     requires { conn.old.in_transaction ≡ false }
     ensures ok { HasCleanDisk (state S.Store conn.new)
         → OnOk result (Shows (state S.Store conn.new).now new_tables × Shows (state S.Store conn.new).committed new_tables
-        × KeepsTables (state S.Store conn.old).now (state S.Store conn.new).now) }
+        × KeepsTables (state S.Store conn.old).now (state S.Store conn.new).now
+        × IsAlone (state S.Store conn.old).now (state S.Store conn.new).now) }
     ensures err { HasCleanDisk (state S.Store conn.new) → IsTrue (state S.Store conn.new).is_open
         → OnErr result ((state S.Store conn.new).committed ≡ (state S.Store conn.old).committed) }
     ensures cause { HasCleanDisk (state S.Store conn.new)

@@ -1,12 +1,18 @@
 //! The table of the bank as a whole: one row.
-ghost use Rattle.std.specs.Prelude.{◌≤◌, true, option_map};
+ghost use Rattle.std.specs.Prelude.{◌≤◌, ◌∷◌, [], pos, true, option_map, IfOk, IfErr};
 ghost use Rattle.posting_rules.specs.Changes.{with_decided};
 ghost use Rattle.sql_meanings.specs.Calls.{Says, Inside};
 ghost use Rattle.sql_meanings.specs.Outcomes.{ReadKept, TellsRow, WriteKept};
 ghost use Rattle.store_rows.specs.Calls.{OfMeta, OfTables};
+ghost use Rattle.sqlite.specs.Held.{state};
+ghost use Rattle.sqlite.specs.State.{HasCleanDisk};
+ghost use Rattle.sqlite.specs.declared.types.Value.TheVariants.{Int};
 ghost use Rattle.store_rows.specs.Columns.{meta_in, meta_shown};
 ghost use Rattle.store_rows.specs.Outcomes.{Finds, Looks, Never, ReadsRow, Writes};
 ghost use Rattle.store_rows.specs.SixTables.{meta as table};
+ghost use Rattle.store_rows.specs.Statements.{ShowsFirst, TellsOther};
+ghost use Rattle.store_rows.specs.declared.metas.TheConstants.{META_ID as id};
+ghost use Rattle.store_rows.specs.declared.texts.TheConstants.{GET_META as text};
 
 use crate::columns::integer_at;
 use crate::faults::TableFault;
@@ -44,16 +50,17 @@ fn meta_from(row: &Row) -> Result<StoredMeta, TableFault>
 fn meta_row<S: Alter>(tx: &mut Transaction<'_, S>) -> Result<Row, Error>
     ensures { Says S.Store tx.old tx.new
         (OfMeta (λ old new rows. TellsRow old new (option_map meta_shown (meta_in rows)) result))
-        (λ old new. ReadKept old new result) }
+        (λ old new. ReadKept old new result × IfOk result (ShowsFirst text.now (Int (pos id) ∷ []) old.now)) }
 {
     row_under(tx, GET_META, META_ID)
 }
 
 /// What meta holds of the bank, none where it has no row under the bank's id, whatever other rows it has.
 pub fn read_meta<S: Alter>(tx: &mut Transaction<'_, S>) -> Result<Option<StoredMeta>, TableFault>
-    ensures { Says S.Store tx.old tx.new
+    ensures says { Says S.Store tx.old tx.new
         (OfMeta (λ old new rows. Finds old new (meta_in rows) Never result))
         (λ old new. Looks old new result) }
+    ensures other { HasCleanDisk (state S.Store tx.new.conn.now) → IfErr result (TellsOther (state S.Store tx.old.conn.now).now) }
 {
     match meta_row(tx) {
         Ok(row) => Ok(Some(meta_from(&row)?)),

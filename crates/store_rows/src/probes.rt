@@ -5,7 +5,7 @@ ghost use Rattle.sqlite.specs.Listing.{understood};
 ghost use Rattle.sqlite.specs.Held.{state};
 ghost use Rattle.sql_meanings.specs.Outcomes.{is_refusal as refuses_text, OnlyShows, TellsUnderstood};
 ghost use Rattle.store_rows.specs.Calls.{Probes};
-ghost use Rattle.store_rows.specs.SixTables.{meta, branch, teller, account, history, request};
+ghost use Rattle.store_rows.specs.Probes.{meta, branch, teller, account, history, request};
 
 use crate::texts::{
     PROBE_ACCOUNT, PROBE_BRANCH, PROBE_HISTORY, PROBE_META, PROBE_REQUEST, PROBE_TELLER,
@@ -33,42 +33,42 @@ fn is_understood<S: Alter>(conn: &mut Connection<S>, text: &str) -> Result<bool,
     }
 }
 
-/// Whether the table of the bank can be read; every other error is told.
+/// Whether the probe of `meta` is understood; every other error is told.
 pub fn probe_meta<S: Alter>(conn: &mut Connection<S>) -> Result<bool, Error>
     ensures { Probes S.Store conn.old conn.new meta result }
 {
     is_understood(conn, PROBE_META)
 }
 
-/// Whether the table of branches can be read; every other error is told.
+/// Whether the probe of `branch` is understood; every other error is told.
 pub fn probe_branches<S: Alter>(conn: &mut Connection<S>) -> Result<bool, Error>
     ensures { Probes S.Store conn.old conn.new branch result }
 {
     is_understood(conn, PROBE_BRANCH)
 }
 
-/// Whether the table of tellers can be read; every other error is told.
+/// Whether the probe of `teller` is understood; every other error is told.
 pub fn probe_tellers<S: Alter>(conn: &mut Connection<S>) -> Result<bool, Error>
     ensures { Probes S.Store conn.old conn.new teller result }
 {
     is_understood(conn, PROBE_TELLER)
 }
 
-/// Whether the table of accounts can be read; every other error is told.
+/// Whether the probe of `account` is understood; every other error is told.
 pub fn probe_accounts<S: Alter>(conn: &mut Connection<S>) -> Result<bool, Error>
     ensures { Probes S.Store conn.old conn.new account result }
 {
     is_understood(conn, PROBE_ACCOUNT)
 }
 
-/// Whether the table of postings can be read; every other error is told.
+/// Whether the probe of `history` is understood; every other error is told.
 pub fn probe_history<S: Alter>(conn: &mut Connection<S>) -> Result<bool, Error>
     ensures { Probes S.Store conn.old conn.new history result }
 {
     is_understood(conn, PROBE_HISTORY)
 }
 
-/// Whether the table of decided requests can be read; every other error is told.
+/// Whether the probe of `request` is understood; every other error is told.
 pub fn probe_requests<S: Alter>(conn: &mut Connection<S>) -> Result<bool, Error>
     ensures { Probes S.Store conn.old conn.new request result }
 {

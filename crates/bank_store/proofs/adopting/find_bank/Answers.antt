@@ -2,7 +2,8 @@
 use Rattle.std.proofs.Common.{◌≡◌, Some, Err, Result, rules, arith, sym, ◌∙◌, subst}
 use Rattle.sqlite.specs.State.{HasCleanDisk}
 use Rattle.sqlite.specs.Held.{state}
-use Rattle.bank_store.specs.Opening.{six_tables, IsPresent, IsAsBefore, SeeksBank}
+use Rattle.store_rows.specs.Probes.{six_probes}
+use Rattle.bank_store.specs.Opening.{IsPresent, IsAsBefore, SeeksBank}
 use Rattle.bank_store.specs.declared.probing.Presence.{Presence}
 use Rattle.bank_store.specs.declared.refused.OpenFault.{OpenFault}
 use Rattle.bank_store.proofs.Finding.{looked, missed}
@@ -15,10 +16,10 @@ returns-in_err-settled_meta-in-Whole-clause-told g c clean =
     let new = state g.S.Store c.settled_meta.new.conn in
     let e = c.in_err-settled_meta-in-Whole in
     let midway : HasCleanDisk mid = omega (arith, e.ensures.survives.clean) in
-    let there = subst (λ (p : Presence). IsPresent old.now six_tables p × IsAsBefore old mid) c.in-Whole.is (c.in_ok-tables_there.ensures.told midway) in
+    let there = subst (λ (p : Presence). IsPresent old.now six_probes p × IsAsBefore old mid) c.in-Whole.is (c.in_ok-tables_there.ensures.told midway) in
     let is : c.from_residual-in_err-settled_meta-in-Whole.result ≡ Err e.field-0.0 = search rules in
     subst (λ (r : Result (Unit {0}) OpenFault). SeeksBank old new r) (sym is)
-    (missed old mid new there.0 there.1 e.field-0.0 e.ensures.fault (e.ensures.told clean) (e.ensures.same clean))
+    (missed old mid new there.0 there.1 e.field-0.0 e.ensures.fault (e.ensures.told clean) (e.ensures.other clean) (e.ensures.same clean))
 
 pub returns-in-Some-clause-told : goal.returns-in-Some-clause-told
 returns-in-Some-clause-told g c clean =
@@ -26,7 +27,7 @@ returns-in-Some-clause-told g c clean =
     let mid = state g.S.Store c.tables_there.new.conn in
     let new = state g.S.Store c.settled_meta.new.conn in
     let midway : HasCleanDisk mid = omega (arith, c.in_ok-settled_meta-in-Whole.ensures.survives.clean) in
-    let there = subst (λ (p : Presence). IsPresent old.now six_tables p × IsAsBefore old mid) c.in-Whole.is (c.in_ok-tables_there.ensures.told midway) in
+    let there = subst (λ (p : Presence). IsPresent old.now six_probes p × IsAsBefore old mid) c.in-Whole.is (c.in_ok-tables_there.ensures.told midway) in
     looked old mid new (Some c.in-Some.meta) there.0 there.1
     (λ rows has. sym c.in-Some.is ∙ c.in_ok-settled_meta-in-Whole.ensures.told clean rows has)
     (c.in_ok-settled_meta-in-Whole.ensures.same clean) c.check_meta.result c.check_meta.ensures

@@ -3,7 +3,8 @@ use Rattle.std.proofs.Common.{◌≡◌, Ok, Err, Result, rules, arith, subst, i
 use Rattle.std.specs.Prelude.{OnOk}
 use Rattle.sqlite.specs.State.{HasCleanDisk}
 use Rattle.sqlite.specs.Held.{state}
-use Rattle.bank_store.specs.Opening.{six_tables, IsPresent, IsAsBefore, IsRefused, IsTaken}
+use Rattle.store_rows.specs.Probes.{six_probes}
+use Rattle.bank_store.specs.Opening.{IsPresent, IsAsBefore, IsRefused, IsTaken}
 use Rattle.bank_store.specs.declared.refused.OpenFault.TheVariants.{NotBlank}
 use Rattle.bank_store.specs.declared.probing.Presence.{Presence}
 use Rattle.bank_store.proofs.Taken.{if_err, refused_before, some_there}
@@ -18,7 +19,7 @@ returns-in-Absent-clause-blank g c clean =
     let old = state g.S.Store c.args.conn.now in
     let mid = state g.S.Store c.tables_there.new.conn in
     let midway : HasCleanDisk mid = omega (arith, c.make_tables.ensures.stop.clean) in
-    let there = subst (λ (p : Presence). IsPresent old.now six_tables p × IsAsBefore old mid) c.in-Absent.is (c.in_ok-tables_there.ensures.told midway) in
+    let there = subst (λ (p : Presence). IsPresent old.now six_probes p × IsAsBefore old mid) c.in-Absent.is (c.in_ok-tables_there.ensures.told midway) in
     on_ok _ there.0 c.make_tables.result
 
 pub returns-in-Absent-clause-refused : goal.returns-in-Absent-clause-refused

@@ -2,8 +2,8 @@
 use Rattle.std.proofs.Common.{◌≡◌, [], ◌∷◌, rules, arith, subst}
 use Rattle.sqlite.specs.State.{HasCleanDisk}
 use Rattle.sqlite.specs.Held.{state}
-use Rattle.store_rows.specs.SixTables.{meta, branch, teller, account, history, request}
-use Rattle.bank_store.specs.Opening.{six_tables, joined, IsPresent, IsAsBefore}
+use Rattle.store_rows.specs.Probes.{meta, branch, teller, account, history, request, six_probes}
+use Rattle.bank_store.specs.Opening.{joined, IsPresent, IsAsBefore}
 use Rattle.bank_store.specs.declared.probing.Presence.{Presence}
 use Rattle.bank_store.proofs.Probed.{then_present}
 use Rattle.bank_store.proofs.probing.tables_there.Goals as goal
@@ -17,4 +17,4 @@ returns-clause-told g c clean =
     let all = then_present a b d meta (branch ∷ teller ∷ []) account (history ∷ request ∷ []) c.in-Ok.one c.in-Ok-last_three.two
     (c.in-Ok.ensures.told midway) (c.in-Ok-last_three.ensures.told clean) in
     let is : joined c.in-Ok.one c.in-Ok-last_three.two ≡ c.and.result = search rules in
-    subst (λ (p : Presence). IsPresent a.now six_tables p × IsAsBefore a d) is all
+    subst (λ (p : Presence). IsPresent a.now six_probes p × IsAsBefore a d) is all

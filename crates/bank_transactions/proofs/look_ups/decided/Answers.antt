@@ -30,7 +30,7 @@ returns-in_err-meta-clause-says g c = record {
       let after = state g.S.Store c.read_meta.new.tx.conn.now in
       rw same
       (err_found before after before after (meta_in (meta_entry t.decided ∷ [])) Never t.decided c.in_err-meta.field-0.0 (λ m broken is breaks. breaks)
-      (c.in_err-meta.ensures.told clean (meta_entry t.decided ∷ []) (has_one before.now t shows)));
+      (c.in_err-meta.ensures.says.told clean (meta_entry t.decided ∷ []) (has_one before.now t shows)));
   same_reference = search rules;
   kept = search rules;
   survives = search rules;
@@ -39,7 +39,7 @@ returns-in_err-meta-clause-says g c = record {
 pub returns-in_default-clause-says : goal.returns-in_default-clause-says
 returns-in_default-clause-says g c = record {
   told = λ clean t shows sound.
-      none_is _ t.decided (c.in_ok-meta.ensures.told clean (meta_entry t.decided ∷ []) (has_one _ t shows)).0 c.in_default.is;
+      none_is _ t.decided (c.in_ok-meta.ensures.says.told clean (meta_entry t.decided ∷ []) (has_one _ t shows)).0 c.in_default.is;
   same_reference = search rules;
   kept = search rules;
   survives = search rules;
@@ -56,7 +56,7 @@ pub returns-then-meta-lt0-clause-says : goal.returns-then-meta-lt0-clause-says
 returns-then-meta-lt0-clause-says g c = record {
   told = λ clean t shows sound.
       let m = c.in-Some.meta in
-      let found = (c.in_ok-meta.ensures.told clean (meta_entry t.decided ∷ []) (has_one _ t shows)).0 in
+      let found = (c.in_ok-meta.ensures.says.told clean (meta_entry t.decided ∷ []) (has_one _ t shows)).0 in
       let same : to_z w64 (of_z w64 m.decided) ≡ m.decided = search rules in
       let is : to_z w64 (of_z w64 m.decided) ≡ pos t.decided = same ∙ row_is m t.decided (sym c.in-Some.is ∙ found) in
       elim c.then-meta-lt0.branch [
@@ -72,7 +72,7 @@ pub returns-clause-says : goal.returns-clause-says
 returns-clause-says g c = record {
   told = λ clean t shows sound.
       let m = c.in-Some.meta in
-      let told = c.in_ok-meta.ensures.told clean (meta_entry t.decided ∷ []) (has_one _ t shows) in
+      let told = c.in_ok-meta.ensures.says.told clean (meta_entry t.decided ∷ []) (has_one _ t shows) in
       let same : to_z w64 (of_z w64 m.decided) ≡ m.decided = search rules in
       let is : to_z w64 (of_z w64 m.decided) ≡ pos t.decided = same ∙ row_is m t.decided (sym c.in-Some.is ∙ told.0) in
       (ap nat_abs is, search rules);

@@ -3,10 +3,11 @@ use Rattle.std.proofs.Common.{◌≡◌, Err, rules}
 use Rattle.store_rows.specs.Columns.{meta_in, meta_shown}
 use Rattle.store_rows.specs.Outcomes.{Never}
 use Rattle.store_rows.proofs.FoundRows.{found_err, found_ok}
+use Rattle.store_rows.proofs.OtherValue.{other_told}
 use Rattle.store_rows.proofs.metas.read_meta.Goals as goal
 
-pub returns-in_err-meta_from-in-Ok : goal.returns-in_err-meta_from-in-Ok
-returns-in_err-meta_from-in-Ok g c =
+pub returns-in_err-meta_from-in-Ok-clause-says : goal.returns-in_err-meta_from-in-Ok-clause-says
+returns-in_err-meta_from-in-Ok-clause-says g c =
     let e = c.in_err-meta_from-in-Ok in
     let same : c.from_residual.result ≡ Err e.field-0.0 = search rules in
     record {
@@ -16,10 +17,16 @@ returns-in_err-meta_from-in-Ok g c =
       survives = search rules;
     }
 
-pub returns-in_ok-meta_from-in-Ok : goal.returns-in_ok-meta_from-in-Ok
-returns-in_ok-meta_from-in-Ok g c = record {
+pub returns-in_ok-meta_from-in-Ok-clause-says : goal.returns-in_ok-meta_from-in-Ok-clause-says
+returns-in_ok-meta_from-in-Ok-clause-says g c = record {
   told = λ clean rows has. found_ok _ _ meta_shown Never c.in-Ok.row (meta_in rows) _ (c.in-Ok.ensures.told clean rows has) c.in_ok-meta_from-in-Ok.ensures;
   kept = search rules;
   same_reference = search rules;
   survives = search rules;
 }
+
+pub returns-in_err-meta_from-in-Ok-clause-other : goal.returns-in_err-meta_from-in-Ok-clause-other
+returns-in_err-meta_from-in-Ok-clause-other g c clean =
+    let e = c.in_err-meta_from-in-Ok in
+    let same : c.from_residual.result ≡ Err e.field-0.0 = search rules in
+    rw same (other_told _ c.in-Ok.row e.field-0.0 (c.in-Ok.ensures.kept clean).1 e.ensures)

@@ -1,0 +1,44 @@
+-- A value of another type in the row of the bank.
+use Rattle.std.proofs.Common.{◌≡◌, ℕ, pos, List, [], ◌∷◌, append-nil, length, inl, inr, Ok, Err, Result, ap, ◌∙◌}
+use Rattle.std.specs.Prelude.{IfOk}
+use Rattle.sqlite.specs.Clock.{timed}
+use Rattle.sqlite.specs.Effect.{Database}
+use Rattle.sqlite.specs.Listing.{understood}
+use Rattle.sqlite.specs.Order.{Row}
+use Rattle.sqlite.specs.State.{State, QueriesRow, QueriesRowInside, Begins, Shown}
+use Rattle.sqlite.specs.declared.error.Error.{Error}
+use Rattle.sql_meanings.specs.Outcomes.{OnlyShows}
+use Rattle.store_rows.specs.Columns.{meta_shown}
+use Rattle.store_rows.specs.Outcomes.{Never, ReadsRow}
+use Rattle.store_rows.specs.Statements.{ShowsFirst, TellsOther}
+use Rattle.store_rows.specs.declared.faults.TableFault.{TableFault}
+use Rattle.store_rows.specs.declared.faults.TableFault.TheVariants.{Sqlite, Damaged}
+use Rattle.store_rows.specs.declared.metas.TheConstants.{META_ID}
+use Rattle.store_rows.specs.declared.texts.TheConstants.{GET_META}
+use Rattle.sqlite.specs.declared.types.Value.TheVariants.{Int}
+
+untimed : (params : Row) (formats : List (List ℕ)) (now : ℕ) → formats ≡ [] → timed params formats now ≡ params
+untimed params formats now none = ap (λ fs. timed params fs now) none ∙ append-nil params
+
+-- what a text that only shows rows told is what it shows
+pub first_told : (old new : State) (text : List ℕ) (params : Row) (r : Result Row Error)
+    → OnlyShows text (length params) (understood old.now.schema text) → QueriesRowInside text params old new r
+    → IfOk r (ShowsFirst text params old.now)
+unfolding QueriesRow Begins Shown
+first_told old new text params (Err e) only h = tt
+first_told old new text params (Ok row) only (inl begun) =
+    let b = begun.0 in
+    let same = untimed params b.0.formats b.1.now (only b.0 b.1.is).timeless in
+    (b.0, b.1.is, b.3, b.4, inl (rw same at b.5))
+first_told old new text params (Ok row) only (inr whole) =
+    let b = whole.1 in
+    let one = only b.0 b.1.is in
+    let same = untimed params b.0.formats b.1.now one.timeless in
+    let it = rw one.bare at b.2 in
+    (b.0, b.1.is, it.0, it.1, inr (whole.0, rw same at it.2, whole.2))
+
+-- a row that can't be read has such a value
+pub other_told : (db : Database) (row : Row) (fault : TableFault) → ShowsFirst GET_META.now (Int (pos META_ID) ∷ []) db row
+    → ReadsRow meta_shown Never row (Err fault) → TellsOther db fault
+other_told db row (Sqlite e) shows read = tt
+other_told db row (Damaged rule) shows read = (row, shows, read)
