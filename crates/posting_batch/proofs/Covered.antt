@@ -7,8 +7,7 @@ use Rattle.std.proofs.lemmas.Bool.{eqb-true, eq-eqb}
 use Rattle.message_records.specs.declared.faults.Bad.{Bad}
 use Rattle.message_records.specs.Records.{RequestFields}
 use Rattle.posting_rules.specs.Commands.{branch_of_teller, branch_of_account}
-use Rattle.posting_rules.specs.LookUps.{decided_in, kept_in, account_balance_in, balance_of_teller}
-use Rattle.posting_rules.specs.Steps.{meta_row_of}
+use Rattle.posting_rules.specs.LookUps.{kept_in, account_balance_in, balance_of_teller}
 use Rattle.posting_rules.specs.Tables.{Tables, row_at, branch_key, teller_key, account_key}
 use Rattle.posting_rules.proofs.Keyed.{by_test}
 use Rattle.posting_batch.specs.declared.slots.AccountSlot.{AccountSlot}
@@ -236,9 +235,9 @@ weaker : {S : Type 0} (P Q : S → Type 0) → ((s : S) → P s → Q s) → (o 
 weaker P Q so None h = tt
 weaker P Q so (Some s) h = so s h
 
-unchanged_over : (o : Overlay) (t : Tables) → IsUnchanged o → t.meta ≡ meta_row_of o.decided ∷ [] → tables_over o t ≡ t
+unchanged_over : (o : Overlay) (t : Tables) → IsUnchanged o → o.decided ≡ t.decided → tables_over o t ≡ t
 unchanged_over o t un counted =
-    tables_made _ _ _ _ _ _ _ _ _ _ _ _ (sym counted)
+    tables_made _ _ _ _ _ _ _ _ _ _ _ _ counted
     (same_rows branch_slot_key branch_key put_branch o.branches
     (λ n r. weaker (λ s. s.changed ≡ None) (λ s. put_branch s r ≡ r) (λ s h. rw h refl) (row_at branch_slot_key o.branches n) (found_all (λ s. s.changed ≡ None) (λ s. eqb s.branch n) o.branches un.branches)) t.branches)
     (same_rows teller_slot_key teller_key put_teller o.tellers
@@ -257,12 +256,12 @@ pub record Stands (o : Overlay) (t : Tables) (reads : List (Result RequestFields
   pub rising : HasRisingSlots o
   pub covers : CoversAll o reads
 
-pub stands : (t : Tables) (reads : List (Result RequestFields Bad)) → t.meta ≡ meta_row_of (decided_in t.meta) ∷ [] → Stands (filled t (covering_all no_slots reads)) t reads
-stands t reads counted =
+pub stands : (t : Tables) (reads : List (Result RequestFields Bad)) → Stands (filled t (covering_all no_slots reads)) t reads
+stands t reads =
     let o = covering_all no_slots reads in
     let made = made_all reads in
     let un = unchanged_filled o t made.unchanged in
-    let is = unchanged_over (filled t o) t un counted in
+    let is = unchanged_over (filled t o) t un refl in
     record {
       fits = record {
         branches = λ n. filled_at branch_slot_key (branch_filled t) (λ k s. s.stored ≡ row_at branch_key t.branches k) (λ s. refl) o.branches n;

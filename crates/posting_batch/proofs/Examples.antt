@@ -5,7 +5,6 @@ use Rattle.message_records.specs.declared.records.Outcome.{Outcome}
 use Rattle.message_records.specs.declared.records.Outcome.TheVariants.{Posted, ReusedNumber, NoAccount}
 use Rattle.message_records.specs.Records.{RequestFields, ReplyFields}
 use Rattle.posting_rules.specs.Cases.{case_of}
-use Rattle.posting_rules.specs.Steps.{meta_row_of}
 use Rattle.posting_rules.specs.Tables.{Tables, branch_row_of, teller_row_of, account_row_of}
 use Rattle.posting_batch.specs.Batch.{covering_all, no_slots, filled}
 use Rattle.posting_batch.specs.Judging.{overlay_with_all, replies_over}
@@ -18,7 +17,7 @@ request a t b n z = Ok (record { account = a; teller = t; branch = b; number = n
 -- branch 1 with three accounts, and branch 2 with two; of their tellers the first
 bank : Tables
 bank = record {
-  meta = meta_row_of 0 ∷ [];
+  decided = 0;
   branches = branch_row_of 1 (pos 0) 3 ∷ branch_row_of 2 (pos 0) 2 ∷ [];
   tellers = teller_row_of 1 (pos 0) ∷ teller_row_of 11 (pos 0) ∷ [];
   accounts = map (λ n. account_row_of n (pos 0)) (1 ∷ 2 ∷ 3 ∷ 100_001 ∷ 100_002 ∷ []);

@@ -9,7 +9,6 @@ use Rattle.message_records.specs.Records.{RequestFields}
 use Rattle.posting_rules.specs.declared.facts.Found.{Found}
 use Rattle.posting_rules.specs.declared.facts.Verdict.{Verdict}
 use Rattle.posting_rules.specs.declared.facts.Verdict.TheVariants.{Unkept, Again, Refused, Posted}
-use Rattle.posting_rules.specs.declared.rows.MetaRow.{MetaRow}
 use Rattle.posting_rules.specs.declared.rows.BranchRow.{BranchRow}
 use Rattle.posting_rules.specs.declared.rows.TellerRow.{TellerRow}
 use Rattle.posting_rules.specs.declared.rows.AccountRow.{AccountRow}
@@ -194,11 +193,11 @@ each_put-append key [] r rows = refl
 each_put-append key (x ∷ rs) r rows = each_put-append key rs r (row_put key x rows)
 
 -- tables whose parts are equal
-pub tables_made : (m m' : List MetaRow) (b b' : List BranchRow) (e e' : List TellerRow) (a a' : List AccountRow) (h h' : List HistoryRow) (q q' : List RequestRow)
-    → m ≡ m' → b ≡ b' → e ≡ e' → a ≡ a' → h ≡ h' → q ≡ q'
-    → (let t : Tables = record { meta = m; branches = b; tellers = e; accounts = a; history = h; requests = q } in t)
-    ≡ record { meta = m'; branches = b'; tellers = e'; accounts = a'; history = h'; requests = q' }
-tables_made m m' b b' e e' a a' h h' q q' em eb ee ea eh eq = rw (em, eb, ee, ea, eh, eq) refl
+pub tables_made : (n n' : ℕ) (b b' : List BranchRow) (e e' : List TellerRow) (a a' : List AccountRow) (h h' : List HistoryRow) (q q' : List RequestRow)
+    → n ≡ n' → b ≡ b' → e ≡ e' → a ≡ a' → h ≡ h' → q ≡ q'
+    → (let t : Tables = record { decided = n; branches = b; tellers = e; accounts = a; history = h; requests = q } in t)
+    ≡ record { decided = n'; branches = b'; tellers = e'; accounts = a'; history = h'; requests = q' }
+tables_made n n' b b' e e' a a' h h' q q' en eb ee ea eh eq = rw (en, eb, ee, ea, eh, eq) refl
 
 refused_over : (o : Overlay) (t : Tables) (e : Entry) → tables_over (overlay_kept o e) t ≡ tables_kept (tables_over o t) (o.decided + 1) e
 unfolding with_decided with_request

@@ -6,7 +6,7 @@ use Rattle.message_records.specs.declared.faults.Bad.{Bad}
 use Rattle.message_records.specs.Records.{RequestFields}
 use Rattle.posting_rules.specs.Changes.{row_put}
 use Rattle.posting_rules.specs.Commands.{branch_of_teller, branch_of_account}
-use Rattle.posting_rules.specs.LookUps.{decided_in, kept_in, account_balance_in, balance_of_teller}
+use Rattle.posting_rules.specs.LookUps.{kept_in, account_balance_in, balance_of_teller}
 use Rattle.posting_rules.specs.Tables.{Tables, row_at, branch_key, teller_key, account_key, history_key, request_key}
 use Rattle.posting_batch.specs.declared.slots.AccountSlot.{AccountSlot}
 use Rattle.posting_batch.specs.declared.slots.TellerSlot.{TellerSlot}
@@ -99,7 +99,7 @@ filled t o = record o {
   tellers = map (teller_filled t) o.tellers;
   accounts = map (account_filled t) o.accounts;
   kept = map (request_filled t) o.kept;
-  decided = decided_in t.meta;
+  decided = t.decided;
 }
 
 -- ---- its records are judged

@@ -6,7 +6,7 @@ use Rattle.posting_rules.specs.declared.rows.AccountRow.{AccountRow}
 use Rattle.posting_rules.specs.declared.rows.HistoryRow.{HistoryRow}
 use Rattle.posting_rules.specs.declared.rows.RequestRow.{RequestRow}
 use Rattle.posting_rules.specs.Changes.{row_put}
-use Rattle.posting_rules.specs.Steps.{meta_row_of, with_branch_balance, with_teller_balance, with_account_balance}
+use Rattle.posting_rules.specs.Steps.{with_branch_balance, with_teller_balance, with_account_balance}
 use Rattle.posting_rules.specs.Tables.{Tables, row_at, branch_key, teller_key, account_key, history_key, request_key}
 use Rattle.posting_batch.specs.declared.slots.AccountSlot.{AccountSlot}
 use Rattle.posting_batch.specs.declared.slots.TellerSlot.{TellerSlot}
@@ -73,7 +73,7 @@ abbrev pub requests_put : List RequestRow → Tables → Tables
 requests_put rows t = record t { requests = each_put request_key rows t.requests }
 
 abbrev pub decided_put : ℕ → Tables → Tables
-decided_put decided t = record t { meta = meta_row_of decided ∷ [] }
+decided_put decided t = record t { decided = decided }
 
 -- the tables with the changed rows and the new ones put in, and the count
 abbrev pub tables_over : Overlay → Tables → Tables

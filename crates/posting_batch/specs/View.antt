@@ -1,10 +1,8 @@
 -- What a batch holds, without where it lies in memory.
-use Rattle.std.specs.Prelude.{◌≡◌, ℕ, List, [], ◌∷◌, map, Result}
+use Rattle.std.specs.Prelude.{◌≡◌, ℕ, List, map, Result}
 use Rattle.message_records.specs.declared.faults.Bad.{Bad}
 use Rattle.message_records.specs.Reading.{request_of}
 use Rattle.message_records.specs.Records.{RequestFields}
-use Rattle.posting_rules.specs.LookUps.{decided_in}
-use Rattle.posting_rules.specs.Steps.{meta_row_of}
 use Rattle.posting_rules.specs.Tables.{Tables}
 use Rattle.posting_batch.specs.declared.overlay.Overlay as held
 use Rattle.posting_batch.specs.declared.batch.Batch.{Batch}
@@ -36,4 +34,3 @@ pub record IsMadeOf (b : Batch) (records : List (List ℕ)) : Type 0 where
 pub record IsFilledFrom (b : Batch) (t : Tables) (records : List (List ℕ)) : Type 0 where
   pub reads : reads_of b ≡ map request_of records
   pub overlay : view b.overlay ≡ filled t (covering_all no_slots (map request_of records))
-  pub counted : t.meta ≡ meta_row_of (decided_in t.meta) ∷ []

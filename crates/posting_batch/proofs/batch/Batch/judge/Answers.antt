@@ -23,7 +23,7 @@ returns-clause-tables c t records is =
     let m = c.args.moment in
     let reads : List (Result RequestFields Bad) = map request_of records in
     let old = filled t (covering_all no_slots reads) in
-    let it = stands t reads is.counted in
+    let it = stands t reads in
     let after : view c.answer_all.new.self ≡ overlay_with_all old m reads =
     c.answer_all.ensures.overlay ∙ ap (λ (rs : List (Result RequestFields Bad)). overlay_with_all (view c.args.self.overlay) m rs) (c.deref.ensures.value ∙ is.reads)
     ∙ ap (λ (o : Overlay). overlay_with_all o m reads) is.overlay in
@@ -34,7 +34,7 @@ returns-clause-replies c t records is =
     let m = c.args.moment in
     let reads : List (Result RequestFields Bad) = map request_of records in
     let old = filled t (covering_all no_slots reads) in
-    let it = stands t reads is.counted in
+    let it = stands t reads in
     let told : c.answer_all.new.replies.items ≡ replies_past_all t m records =
     c.answer_all.ensures.replies
     ∙ ap (λ (items : List (List ℕ)). items ++ map reply_spelling (replies_over (view c.args.self.overlay) m c.deref.result.now)) c.args.self.fresh
@@ -48,7 +48,7 @@ returns-clause-answers c t records is log shows =
     let m = c.args.moment in
     let reads : List (Result RequestFields Bad) = map request_of records in
     let old = filled t (covering_all no_slots reads) in
-    let it = stands t reads is.counted in
+    let it = stands t reads in
     let told : c.answer_all.new.replies.items ≡ replies_past_all t m records =
     c.answer_all.ensures.replies
     ∙ ap (λ (items : List (List ℕ)). items ++ map reply_spelling (replies_over (view c.args.self.overlay) m c.deref.result.now)) c.args.self.fresh
@@ -62,7 +62,7 @@ returns-clause-shows c t records is log shows =
     let m = c.args.moment in
     let reads : List (Result RequestFields Bad) = map request_of records in
     let old = filled t (covering_all no_slots reads) in
-    let it = stands t reads is.counted in
+    let it = stands t reads in
     let after : view c.answer_all.new.self ≡ overlay_with_all old m reads =
     c.answer_all.ensures.overlay ∙ ap (λ (rs : List (Result RequestFields Bad)). overlay_with_all (view c.args.self.overlay) m rs) (c.deref.ensures.value ∙ is.reads)
     ∙ ap (λ (o : Overlay). overlay_with_all o m reads) is.overlay in
@@ -74,7 +74,7 @@ returns-clause-changes c t records is =
     let m = c.args.moment in
     let reads : List (Result RequestFields Bad) = map request_of records in
     let old = filled t (covering_all no_slots reads) in
-    let it = stands t reads is.counted in
+    let it = stands t reads in
     let after : view c.answer_all.new.self ≡ overlay_with_all old m reads =
     c.answer_all.ensures.overlay ∙ ap (λ (rs : List (Result RequestFields Bad)). overlay_with_all (view c.args.self.overlay) m rs) (c.deref.ensures.value ∙ is.reads)
     ∙ ap (λ (o : Overlay). overlay_with_all o m reads) is.overlay in
@@ -85,7 +85,7 @@ returns-clause-rising c t records is =
     let m = c.args.moment in
     let reads : List (Result RequestFields Bad) = map request_of records in
     let old = filled t (covering_all no_slots reads) in
-    let it = stands t reads is.counted in
+    let it = stands t reads in
     let after : view c.answer_all.new.self ≡ overlay_with_all old m reads =
     c.answer_all.ensures.overlay ∙ ap (λ (rs : List (Result RequestFields Bad)). overlay_with_all (view c.args.self.overlay) m rs) (c.deref.ensures.value ∙ is.reads)
     ∙ ap (λ (o : Overlay). overlay_with_all o m reads) is.overlay in
@@ -96,7 +96,7 @@ returns-clause-adds c t records is log shows =
     let m = c.args.moment in
     let reads : List (Result RequestFields Bad) = map request_of records in
     let old = filled t (covering_all no_slots reads) in
-    let it = stands t reads is.counted in
+    let it = stands t reads in
     let after : view c.answer_all.new.self ≡ overlay_with_all old m reads =
     c.answer_all.ensures.overlay ∙ ap (λ (rs : List (Result RequestFields Bad)). overlay_with_all (view c.args.self.overlay) m rs) (c.deref.ensures.value ∙ is.reads)
     ∙ ap (λ (o : Overlay). overlay_with_all o m reads) is.overlay in
