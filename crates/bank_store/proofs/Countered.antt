@@ -21,6 +21,7 @@ use Rattle.store_rows.specs.declared.faults.TableFault.{TableFault}
 use Rattle.store_rows.specs.declared.faults.TableFault.TheVariants.{Sqlite, Damaged}
 use Rattle.bank_transactions.specs.Doing.{Leaves, Transacts}
 use Rattle.bank_store.specs.Down.{GoesDown}
+use Rattle.bank_store.specs.NoneOrAll.{LeavesNoneOrAll}
 use Rattle.bank_store.specs.Seen.{seen_in}
 
 -- what the commands lead to is a beginning of them, and so is what was there
@@ -56,6 +57,30 @@ module _ {S X : Type 0} {So : Tables → Type 0} {after : Tables → Tables} {wa
           )
         ];
   }
+
+  -- whatever ended the call, a stop leaves none of the commands or all of them
+  pub none_or_all : (end : State) (D E : Type 0) → Survives (state g old) end (Leaves (state g old) So after)
+      → LeavesNoneOrAll (seen_in (state g old) D) (seen_in end E) cs
+  none_or_all end D E survives = λ clean log at trees may.
+      let s = at.shows in
+      elim (survives.crash clean trees may) [
+        | inl before ↦ (let it = at.stop trees before in (it.0, it.1, inl it.2))
+        | inr made ↦ (after s.tables, made s.tables s.are (holds s.tables log s.commands s.shows), inr (is s.tables log s.shows))
+      ]
+
+-- the same after a fault that brought the bank down
+pub none_or_all_down : {S X : Type 0} {So : Tables → Type 0} {after : Tables → Tables} {wanted : Tables → X} (g : Ghosts S) (old mid new : Held S)
+    (r : Result X TableFault) (holds : HoldsOfLogs So) (cs : List Command) (is : IsChange after cs) (D E : Type 0)
+    → Transacts {X = X} g old mid So after wanted r → Survives (state g mid) (state g new) (λ _. ⊥)
+    → LeavesNoneOrAll (seen_in (state g old) D) (seen_in (state g new) E) cs
+none_or_all_down {S} {X} {So} {after} {wanted} g old mid new r holds cs is D E does quiet =
+    none_or_all holds cs is does (state g new) D E
+    (survives_then (state g old) (state g mid) (state g new) (Leaves (state g old) So after) (λ _. ⊥) (Leaves (state g old) So after)
+    (λ clean db h. h) (λ clean db none. absurd none) does.stop quiet)
+
+-- where nothing was tried a stop leaves none of them
+pub none_left : (s : State) (D E : Type 0) (cs : List Command) → LeavesNoneOrAll (seen_in s D) (seen_in s E) cs
+none_left s D E cs = λ clean log at trees may. let it = at.stop trees may in (it.0, it.1, inl it.2)
 
 -- a call that was answered
 pub takes : {S X : Type 0} {So : Tables → Type 0} {after : Tables → Tables} {wanted : Tables → X} {g : Ghosts S} {old new : Held S} {x : X} (holds : HoldsOfLogs So)

@@ -2,3 +2,4 @@
 pub mod Down
 pub mod Opening
 pub mod Seen
+pub mod NoneOrAll

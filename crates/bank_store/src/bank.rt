@@ -99,6 +99,7 @@ impl<S: Alter> Bank<S> {
 }
 
 impl<S: Alter + Drop> Counter for Bank<S> {
+    ghost use Rattle.bank_store.specs.NoneOrAll.{LeavesNoneOrAll};
     ghost use Rattle.bank_store.specs.Seen.{bank_seen, cause_of};
 
     ghost seen = { λ bank. bank_seen S.Store bank };
@@ -129,7 +130,7 @@ impl<S: Alter + Drop> Counter for Bank<S> {
         }
     }
 
-    // Room is made for the replies before the store is asked for anything.
+    // Room is made for the replies before the store is asked for anything. The records stand together or not at all.
     fn submit_all(&mut self, moment: Moment, records: &[[u8; 100]]) -> Result<Vec<[u8; 200]>, Fault>
         requires some { 1 ≤ length records.now }
         requires few { length records.now ≤ RECORDS_PER_BATCH }
@@ -139,6 +140,7 @@ impl<S: Alter + Drop> Counter for Bank<S> {
         ensures done { OnOk result (Takes (bank_seen S.Store self.old) (bank_seen S.Store self.new) (posts moment records.now)) }
         ensures up { OnOk result ((bank_seen S.Store self.new).is_down → ⊥) }
         ensures fault { IfErr result (λ fault. Refuses fault (bank_seen S.Store self.old) (bank_seen S.Store self.new) (posts moment records.now)) }
+        ensures none_or_all { LeavesNoneOrAll (bank_seen S.Store self.old) (bank_seen S.Store self.new) (posts moment records.now) }
         ensures cause { result ≡ Err fault.Store → IsSome (cause_of self.new) }
         ensures down { (bank_seen S.Store self.old).is_down → IsErrOf result Fault.Down }
         ensures honest { (bank_seen S.Store self.new).honest → (bank_seen S.Store self.old).honest }
