@@ -14,7 +14,7 @@ use Rattle.sql_meanings.proofs.ShownColumns.{outputs_at}
 use Rattle.sql_meanings.proofs.SeekTexts.{seeks_by, seeks_of_by}
 use Rattle.sql_meanings.proofs.Texts.{IsSelect, select_of}
 use Rattle.store_rows.specs.SixTables as six
-use Rattle.bank_walks.specs.declared.seeks.TheConstants.{AHEAD}
+use Rattle.bank_walks.specs.declared.ahead.TheConstants.{AHEAD}
 use Rattle.bank_walks.specs.declared.texts.TheConstants.{ACCOUNTS_FROM, BRANCHES_FROM, POSTINGS_FROM, POSTINGS_OF, REQUESTS_FROM, TELLERS_FROM}
 
 -- the key of `branch`

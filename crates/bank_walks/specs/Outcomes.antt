@@ -1,12 +1,11 @@
 -- What is read of a row, and what a step of a walk meets.
-use Rattle.std.specs.Prelude.{◌≡◌, ℕ, ℤ, pos, List, [], ◌∷◌, length, Option, Some, None, option_map, Result, Ok, Err}
-use Rattle.sqlite.specs.State.{State, IsUnchanged}
+use Rattle.std.specs.Prelude.{◌≡◌, ℕ, ℤ, pos, true, List, [], ◌∷◌, length, map, Option, Some, None, Result, Ok, Err, ⊤}
 use Rattle.sqlite.specs.Order.{Row}
 use Rattle.sqlite.specs.declared.error.Error.TheVariants.{SqliteFailure}
 use Rattle.sqlite.specs.declared.error.ErrorCode.TheVariants.{OutOfMemory}
 use Rattle.posting_rules.specs.declared.fault.Rule.TheVariants as rule
 use Rattle.sql_meanings.specs.Entries.{Entry, numbers}
-use Rattle.sql_meanings.specs.Outcomes.{IsStoreError}
+use Rattle.sql_meanings.specs.Seeks.{is_from}
 use Rattle.store_rows.specs.declared.faults.TableFault.{TableFault}
 use Rattle.store_rows.specs.declared.faults.TableFault.TheVariants.{Sqlite, Damaged}
 
@@ -32,10 +31,19 @@ ReadsEntry width entry Breaks row (Err (Sqlite x)) =
 ReadsEntry width entry Breaks row (Err (Damaged broken)) =
     (e : Entry) → row ≡ numbers (all_numbers e) → length e.values ≡ width → (broken ≡ rule.Value) × Breaks e
 
--- The answer is the row that was looked for, or there is none, and nothing has changed; or the store failed; or a number of the row is
--- out of its range, and nothing has changed.
-abbrev pub Meets : {R : Type 0} → State → State → (R → Entry) → (Entry → Type 0) → Option Entry → Result (Option R) TableFault → Type 0
-Meets old new entry Breaks wanted (Ok found) = (option_map entry found ≡ wanted) × IsUnchanged old new
-Meets old new entry Breaks wanted (Err (Sqlite e)) = IsStoreError old new e
-Meets old new entry Breaks wanted (Err (Damaged broken)) =
-    (broken ≡ rule.Value) × ((e : Entry) × (wanted ≡ Some e) × Breaks e) × IsUnchanged old new
+-- the rows as a statement shows them
+abbrev pub shown : List Entry → List Row
+shown = map (λ e. numbers (all_numbers e))
+
+-- The same of a row whose key is a number or above it: the key of what was read is that number or above it.
+abbrev pub ReadsNext : {R : Type 0} → ℕ → (R → Entry) → (Entry → Type 0) → ℤ → Row → Result R TableFault → Type 0
+ReadsNext width entry Breaks next row (Ok r) =
+    ((e : Entry) → row ≡ numbers (all_numbers e) → length e.values ≡ width → entry r ≡ e) × (is_from next (entry r) ≡ true)
+ReadsNext width entry Breaks next row (Err (Sqlite x)) = ⊤
+ReadsNext width entry Breaks next row (Err (Damaged broken)) =
+    (e : Entry) → row ≡ numbers (all_numbers e) → length e.values ≡ width → is_from next e ≡ true → (broken ≡ rule.Value) × Breaks e
+
+-- an error of the store, or a number of the first row to come is out of its range
+abbrev pub BreaksFirst : {X : Type 0} → (X → Type 0) → List X → TableFault → Type 0
+BreaksFirst Breaks to_come (Sqlite e) = ⊤
+BreaksFirst {X} Breaks to_come (Damaged broken) = (broken ≡ rule.Value) × ((x : X) × (more : List X) × (to_come ≡ x ∷ more) × Breaks x)

@@ -1,5 +1,5 @@
 -- The rows of a table in a database, as walks speak of them: of any sound file, whatever its numbers.
-use Rattle.std.specs.Prelude.{◌≡◌, ◌^◌, ◌-◌, ℤ, negsuc, true, List, ◌∷◌, filter}
+use Rattle.std.specs.Prelude.{◌≡◌, ◌^◌, ◌-◌, ℤ, negsuc, true, ℕ, List, [], length, filter, Option, Some, None}
 use Rattle.std.specs.List.{AllByRecursion}
 use Rattle.sqlite.specs.Table.{Table}
 use Rattle.sqlite.specs.Effect.{Database, IsDatabase}
@@ -17,3 +17,12 @@ pub record HasRows (db : Database) (table : Table) (rows : List Entry) : Type 0 
 -- the rows with keys from a number on
 abbrev pub rows_from : ℤ → List Entry → List Entry
 rows_from k rows = filter (is_from k) rows
+
+-- each row has so many numbers behind its key
+abbrev pub IsWide : ℕ → List Entry → Type 0
+IsWide width = AllByRecursion (λ e. length e.values ≡ width)
+
+-- the rows with keys from a number on, none where there is no number
+abbrev pub rows_behind : Option ℤ → List Entry → List Entry
+rows_behind None rows = []
+rows_behind (Some k) rows = rows_from k rows

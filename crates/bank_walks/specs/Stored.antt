@@ -1,8 +1,9 @@
 -- The stored rows: keys, counts and moments within their ranges, and the other numbers whatever they are.
-use Rattle.std.specs.Prelude.{◌⊎◌, ℕ, pos, ℤ, List, [], ◌∷◌, slice_index_or}
+use Rattle.std.specs.Prelude.{◌⊎◌, ℕ, pos, ℤ, List, [], ◌∷◌, slice_index_or, Bool, true, Option, Some, None}
 use Rattle.message_records.specs.declared.limits.TheConstants.{MAX_MOMENT}
 use Rattle.posting_rules.specs.declared.limits.TheConstants.{ACCOUNTS_PER_BRANCH, LAST_BRANCH, MAX_DECIDED}
 use Rattle.sql_meanings.specs.Entries.{Entry}
+use Rattle.sql_meanings.specs.Seeks.{begins}
 use Rattle.bank_walks.specs.Reading.{IsOutside}
 use Rattle.bank_walks.specs.declared.limits.TheConstants.{LAST_ACCOUNT, LAST_TELLER}
 use Rattle.bank_walks.specs.declared.branches.StoredBranch.{StoredBranch}
@@ -54,3 +55,8 @@ request_entry r = record { key = pos r.ordinal; values = r.teller ∷ r.number �
 -- no request has this ordinal
 abbrev pub IsNoRequest : Entry → Type 0
 IsNoRequest e = IsOutside 1 MAX_DECIDED e.key
+
+-- the posting is one of this account, or any where none is named
+abbrev pub is_of : Option ℕ → Entry → Bool
+is_of None e = true
+is_of (Some account) e = begins (pos account) e.values

@@ -1,8 +1,10 @@
 //! The rows of `branch`.
 use crate::numbers::{numbers, whole};
-use message_records::Whole;
+use crate::stored_row::StoredRow;
+use crate::texts::BRANCHES_FROM;
+use message_records::{Account, Whole};
 use posting_rules::{ACCOUNTS_PER_BRANCH, LAST_BRANCH, Rule};
-use sqlite::Row;
+use sqlite::{Alter, Connection, Error, Row, params};
 use store_rows::TableFault;
 
 /// A row of `branch`: 1..=`LAST_BRANCH`, how many accounts it has, 1..=`ACCOUNTS_PER_BRANCH`, and its balance, whatever it is.
@@ -15,7 +17,7 @@ pub struct StoredBranch {
 
 impl StoredBranch {
     ghost use Rattle.bank_walks.specs.Stored.{branch_entry, IsNoBranch};
-    ghost use Rattle.bank_walks.specs.Outcomes.{ReadsEntry, Stores};
+    ghost use Rattle.bank_walks.specs.Outcomes.{Stores};
 
     // The row that the numbers are, none where one is out of its range.
     fn of(numbers: [i64; 3]) -> Option<Self>
@@ -27,11 +29,44 @@ impl StoredBranch {
             balance: numbers[2],
         })
     }
+}
 
-    // The row that is read.
-    pub(crate) fn read(row: &Row) -> Result<Self, TableFault>
-        ensures { ReadsEntry 2 branch_entry IsNoBranch row.now result }
-    {
+impl Default for StoredBranch {
+    fn default() -> Self {
+        StoredBranch {
+            branch: Whole::new(1).unwrap(),
+            accounts: Whole::new(1).unwrap(),
+            balance: 0,
+        }
+    }
+}
+
+impl StoredRow for StoredBranch {
+    ghost use Rattle.std.specs.Prelude.{true};
+    ghost use Rattle.bank_walks.specs.Stored.{branch_entry, IsNoBranch};
+    ghost use Rattle.store_rows.specs.SixTables.{branch as the_table};
+
+    ghost table = { the_table };
+
+    ghost entry = { branch_entry };
+
+    ghost is_broken = { IsNoBranch };
+
+    ghost is_given = { λ of e. true };
+
+    fn read(row: &Row) -> Result<Self, TableFault> {
         Self::of(numbers(row)?).ok_or(TableFault::Damaged(Rule::Value))
+    }
+
+    fn seek<S: Alter>(
+        conn: &mut Connection<S>,
+        _of: Option<Account>,
+        from: i64,
+    ) -> Result<Vec<Row>, Error> {
+        conn.query_all(BRANCHES_FROM, params![from])
+    }
+
+    fn key(&self) -> u64 {
+        self.branch.get()
     }
 }

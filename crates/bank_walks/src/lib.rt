@@ -2,19 +2,21 @@
 #![tactic(auto)]
 
 mod accounts;
+mod ahead;
 mod branches;
 mod limits;
 mod numbers;
 mod postings;
 mod requests;
-mod seeks;
+mod stored_row;
 mod tellers;
 mod texts;
 
 pub use accounts::StoredAccount;
+pub use ahead::{AHEAD, Ahead, read_ahead};
 pub use branches::StoredBranch;
 pub use limits::{LAST_ACCOUNT, LAST_TELLER};
 pub use postings::StoredPosting;
 pub use requests::StoredRequest;
-pub use seeks::AHEAD;
+pub use stored_row::StoredRow;
 pub use tellers::StoredTeller;

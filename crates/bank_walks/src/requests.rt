@@ -1,7 +1,10 @@
 //! The rows of `request`.
 use crate::numbers::{numbers, whole};
+use crate::stored_row::StoredRow;
+use crate::texts::REQUESTS_FROM;
+use message_records::{Account, Whole};
 use posting_rules::{Ordinal, Rule};
-use sqlite::Row;
+use sqlite::{Alter, Connection, Error, Row, params};
 use store_rows::TableFault;
 
 /// A row of `request`: its ordinal within the range, and the other numbers, whatever they are. The outcome is a code.
@@ -19,7 +22,7 @@ pub struct StoredRequest {
 
 impl StoredRequest {
     ghost use Rattle.bank_walks.specs.Stored.{request_entry, IsNoRequest};
-    ghost use Rattle.bank_walks.specs.Outcomes.{ReadsEntry, Stores};
+    ghost use Rattle.bank_walks.specs.Outcomes.{Stores};
 
     // The row that the numbers are, none where one is out of its range.
     fn of(numbers: [i64; 8]) -> Option<Self>
@@ -36,11 +39,49 @@ impl StoredRequest {
             balance: numbers[7],
         })
     }
+}
 
-    // The row that is read.
-    pub(crate) fn read(row: &Row) -> Result<Self, TableFault>
-        ensures { ReadsEntry 7 request_entry IsNoRequest row.now result }
-    {
+impl Default for StoredRequest {
+    fn default() -> Self {
+        StoredRequest {
+            ordinal: Whole::new(1).unwrap(),
+            teller: 0,
+            number: 0,
+            account: 0,
+            branch: 0,
+            delta: 0,
+            outcome: 0,
+            balance: 0,
+        }
+    }
+}
+
+impl StoredRow for StoredRequest {
+    ghost use Rattle.std.specs.Prelude.{true};
+    ghost use Rattle.bank_walks.specs.Stored.{request_entry, IsNoRequest};
+    ghost use Rattle.store_rows.specs.SixTables.{request as the_table};
+
+    ghost table = { the_table };
+
+    ghost entry = { request_entry };
+
+    ghost is_broken = { IsNoRequest };
+
+    ghost is_given = { λ of e. true };
+
+    fn read(row: &Row) -> Result<Self, TableFault> {
         Self::of(numbers(row)?).ok_or(TableFault::Damaged(Rule::Value))
+    }
+
+    fn seek<S: Alter>(
+        conn: &mut Connection<S>,
+        _of: Option<Account>,
+        from: i64,
+    ) -> Result<Vec<Row>, Error> {
+        conn.query_all(REQUESTS_FROM, params![from])
+    }
+
+    fn key(&self) -> u64 {
+        self.ordinal.get()
     }
 }

@@ -1,9 +1,11 @@
 //! The rows of `teller`.
 use crate::limits::LAST_TELLER;
 use crate::numbers::{numbers, whole};
-use message_records::Whole;
+use crate::stored_row::StoredRow;
+use crate::texts::TELLERS_FROM;
+use message_records::{Account, Whole};
 use posting_rules::Rule;
-use sqlite::Row;
+use sqlite::{Alter, Connection, Error, Row, params};
 use store_rows::TableFault;
 
 /// A row of `teller`: 1..=`LAST_TELLER`, and its balance, whatever it is.
@@ -15,7 +17,7 @@ pub struct StoredTeller {
 
 impl StoredTeller {
     ghost use Rattle.bank_walks.specs.Stored.{teller_entry, IsNoTeller};
-    ghost use Rattle.bank_walks.specs.Outcomes.{ReadsEntry, Stores};
+    ghost use Rattle.bank_walks.specs.Outcomes.{Stores};
 
     // The row that the numbers are, none where one is out of its range.
     fn of(numbers: [i64; 2]) -> Option<Self>
@@ -26,11 +28,43 @@ impl StoredTeller {
             balance: numbers[1],
         })
     }
+}
 
-    // The row that is read.
-    pub(crate) fn read(row: &Row) -> Result<Self, TableFault>
-        ensures { ReadsEntry 1 teller_entry IsNoTeller row.now result }
-    {
+impl Default for StoredTeller {
+    fn default() -> Self {
+        StoredTeller {
+            teller: Whole::new(1).unwrap(),
+            balance: 0,
+        }
+    }
+}
+
+impl StoredRow for StoredTeller {
+    ghost use Rattle.std.specs.Prelude.{true};
+    ghost use Rattle.bank_walks.specs.Stored.{teller_entry, IsNoTeller};
+    ghost use Rattle.store_rows.specs.SixTables.{teller as the_table};
+
+    ghost table = { the_table };
+
+    ghost entry = { teller_entry };
+
+    ghost is_broken = { IsNoTeller };
+
+    ghost is_given = { λ of e. true };
+
+    fn read(row: &Row) -> Result<Self, TableFault> {
         Self::of(numbers(row)?).ok_or(TableFault::Damaged(Rule::Value))
+    }
+
+    fn seek<S: Alter>(
+        conn: &mut Connection<S>,
+        _of: Option<Account>,
+        from: i64,
+    ) -> Result<Vec<Row>, Error> {
+        conn.query_all(TELLERS_FROM, params![from])
+    }
+
+    fn key(&self) -> u64 {
+        self.teller.get()
     }
 }

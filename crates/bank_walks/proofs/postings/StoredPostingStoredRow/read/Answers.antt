@@ -2,7 +2,7 @@
 use Rattle.std.proofs.Common.{◌≡◌, Err, rules}
 use Rattle.bank_walks.specs.Stored.{posting_entry, IsNoPosting}
 use Rattle.bank_walks.proofs.EntriesRead.{reads_by, reads_fails}
-use Rattle.bank_walks.proofs.postings.StoredPosting.read.Goals as goal
+use Rattle.bank_walks.proofs.postings.StoredPostingStoredRow.read.Goals as goal
 
 pub returns-in_err-numbers : goal.returns-in_err-numbers
 returns-in_err-numbers c =

@@ -2,7 +2,7 @@
 use Rattle.std.proofs.Common.{◌≡◌, Err, rules}
 use Rattle.bank_walks.specs.Stored.{teller_entry, IsNoTeller}
 use Rattle.bank_walks.proofs.EntriesRead.{reads_by, reads_fails}
-use Rattle.bank_walks.proofs.tellers.StoredTeller.read.Goals as goal
+use Rattle.bank_walks.proofs.tellers.StoredTellerStoredRow.read.Goals as goal
 
 pub returns-in_err-numbers : goal.returns-in_err-numbers
 returns-in_err-numbers c =

@@ -1,0 +1,117 @@
+-- What the statement of a walk tells, and what stands after it.
+use Rattle.std.proofs.Common.{◌≡◌, inl, inr, zero, suc, ℕ, ℤ, List, [], ◌∷◌, map, filter, take, cond, Bool, true, false, length, Ok, Err, Result, refl, sym, ap, ◌∙◌}
+use Rattle.std.specs.Prelude.{IfOk, IfErr}
+use Rattle.std.specs.List.{AllByRecursion}
+use Rattle.std.proofs.lemmas.Bool.{cases_Bool}
+use Rattle.sqlite.specs.Order.{Row}
+use Rattle.sqlite.specs.Table.{Table}
+use Rattle.sqlite.specs.Term.{Term, eval_all}
+use Rattle.sqlite.specs.Listing.{understood}
+use Rattle.sqlite.specs.State.{State, FailsToQuery, IsUnchanged, Shown}
+use Rattle.sqlite.specs.declared.error.Error.{Error}
+use Rattle.sqlite.specs.declared.types.Value.TheVariants.{Int}
+use Rattle.sql_meanings.specs.Entries.{Entry, numbers, stored}
+use Rattle.sql_meanings.specs.Outcomes.{OnlyShows, WriteFails}
+use Rattle.sql_meanings.specs.Seeks.{begins, is_from, is_of_from, next_from, next_of_from}
+use Rattle.sql_meanings.specs.Tables.{width_of}
+use Rattle.sql_meanings.proofs.ReadSeeks.{kept_all, reads_from, reads_of_from}
+use Rattle.sql_meanings.proofs.ReadTables.{ReadsAs}
+use Rattle.bank_walks.specs.Outcomes.{all_numbers, shown}
+use Rattle.bank_walks.specs.Rows.{HasRows, IsWide, rows_from}
+use Rattle.bank_walks.specs.declared.ahead.TheConstants.{AHEAD}
+
+-- ---- lists
+
+-- rows that pass a test are as wide
+pub wide_filter : (width : ℕ) (p : Entry → Bool) (es : List Entry) → IsWide width es → IsWide width (filter p es)
+wide_filter width p [] all = all
+wide_filter width p (e ∷ es) all = go (p e) (wide_filter width p es all.1)
+  where
+    go : (b : Bool) → IsWide width (filter p es) → IsWide width (cond b (e ∷ filter p es) (filter p es))
+    go true more = (all.0, more)
+    go false more = more
+
+-- their keys are as great
+pub least_filter : (k : ℤ) (p : Entry → Bool) (es : List Entry) → AllByRecursion (λ e. is_from k e ≡ true) es
+    → AllByRecursion (λ e. is_from k e ≡ true) (filter p es)
+least_filter k p [] all = all
+least_filter k p (e ∷ es) all = go (p e) (least_filter k p es all.1)
+  where
+    go : (b : Bool) → AllByRecursion (λ x. is_from k x ≡ true) (filter p es)
+        → AllByRecursion (λ x. is_from k x ≡ true) (cond b (e ∷ filter p es) (filter p es))
+    go true more = (all.0, more)
+    go false more = more
+
+-- any row passes
+pub all_given : (es : List Entry) → filter (λ _. true) es ≡ es
+all_given [] = refl
+all_given (e ∷ es) = ap (λ l. e ∷ l) (all_given es)
+
+-- two tests, one after the other
+both_given : (one k : ℤ) (es : List Entry) → filter (is_of_from one k) es ≡ filter (is_from k) (filter (λ e. begins one e.values) es)
+both_given one k [] = refl
+both_given one k (e ∷ es) = elim (cases_Bool (begins one e.values)) [
+  | inl is ↦ rw (is) (first (is_from k e) (both_given one k es))
+  | inr away ↦ rw (away) (both_given one k es)
+]
+  where
+    first : (b : Bool) → filter (is_of_from one k) es ≡ filter (is_from k) (filter (λ e. begins one e.values) es)
+        → cond b (e ∷ filter (is_of_from one k) es) (filter (is_of_from one k) es)
+        ≡ cond b (e ∷ filter (is_from k) (filter (λ e. begins one e.values) es)) (filter (is_from k) (filter (λ e. begins one e.values) es))
+    first true more = ap (λ l. e ∷ l) more
+    first false more = more
+
+taken : {X Y : Type 0} (f : X → Y) (n : ℕ) (xs : List X) → take n (map f xs) ≡ map f (take n xs)
+taken f zero xs = refl
+taken f (suc n) [] = refl
+taken f (suc n) (x ∷ xs) = ap (λ l. f x ∷ l) (taken f n xs)
+
+same_shown : (width : ℕ) (f : Entry → Row) → ((e : Entry) → length e.values ≡ width → f e ≡ numbers (all_numbers e)) → (es : List Entry)
+    → IsWide width es → map f es ≡ shown es
+same_shown width f same [] all = refl
+same_shown width f same (e ∷ es) all = rw (same e all.0) (ap (λ l. numbers (all_numbers e) ∷ l) (same_shown width f same es all.1))
+
+-- ---- what is told
+
+module _ (old new : State) (table : Table) (free : table.references ≡ []) (rows : List Entry) (has : HasRows old.now table rows)
+    (text : List ℕ) (project : List Term) where
+  -- the rows from a number on
+  pub tells_from : (k : ℤ) → ReadsAs table text (Int k ∷ []) (λ t. next_from AHEAD t project)
+      → ((e : Entry) → length e.values ≡ width_of table → eval_all project ((Int k ∷ []) ∷ stored e ∷ []) ≡ numbers (all_numbers e))
+      → (found : List Row) → Shown text (Int k ∷ []) old new found
+      → found ≡ shown (take AHEAD (rows_from k (filter (λ _. true) rows)))
+  tells_from k reads whole found h =
+      let told = reads_from old new table free has.sound rows has.holds text AHEAD project k reads (Ok found) h in
+      told.0 ∙ ap (take AHEAD) (same_shown (width_of table) _ whole (filter (is_from k) rows) (wide_filter _ (is_from k) rows has.holds.rows.wide))
+      ∙ taken (λ e. numbers (all_numbers e)) AHEAD (filter (is_from k) rows)
+      ∙ ap (λ es. shown (take AHEAD (rows_from k es))) (sym (all_given rows))
+
+  -- the same of those with a number behind their keys
+  pub tells_of_from : (one k : ℤ) → ReadsAs table text (Int one ∷ Int k ∷ []) (λ t. next_of_from AHEAD t project)
+      → ((e : Entry) → length e.values ≡ width_of table → eval_all project ((Int one ∷ Int k ∷ []) ∷ stored e ∷ []) ≡ numbers (all_numbers e))
+      → (found : List Row) → Shown text (Int one ∷ Int k ∷ []) old new found
+      → found ≡ shown (take AHEAD (rows_from k (filter (λ e. begins one e.values) rows)))
+  tells_of_from one k reads whole found h =
+      let told = reads_of_from old new table free has.sound rows has.holds text AHEAD project one k reads (Ok found) h in
+      told.0 ∙ ap (take AHEAD) (same_shown (width_of table) _ whole (filter (is_of_from one k) rows) (wide_filter _ (is_of_from one k) rows has.holds.rows.wide))
+      ∙ taken (λ e. numbers (all_numbers e)) AHEAD (filter (is_of_from one k) rows)
+      ∙ ap (λ es. shown (take AHEAD es)) (both_given one k rows)
+
+module _ (old new : State) (text : List ℕ) (params : Row) (only : OnlyShows text (length params) (understood old.now.schema text)) where
+  -- an answer has changed nothing
+  pub same_after : (found : List Row) → Shown text params old new found → IsUnchanged old new
+  same_after found h = kept_all old new text params (Ok found) only h
+
+  -- nor has an error, unless the store failed
+  pub fails_after : (e : Error) → FailsToQuery text params old new e → WriteFails old new
+  fails_after e h = elim (kept_all old new text params (Err e) only h) [ inl fails ↦ inr fails.3 | inr same ↦ inl same ]
+
+-- ---- answers
+
+pub if_ok : {X E : Type 0} (P Q : X → Type 0) (r : Result X E) → ((x : X) → P x → Q x) → IfOk r P → IfOk r Q
+if_ok P Q (Ok x) f p = f x p
+if_ok P Q (Err e) f p = p
+
+pub if_err : {X E : Type 0} (P Q : E → Type 0) (r : Result X E) → ((e : E) → P e → Q e) → IfErr r P → IfErr r Q
+if_err P Q (Ok x) f p = p
+if_err P Q (Err e) f p = f e p

@@ -1,0 +1,43 @@
+-- What is gathered, row by row.
+use Rattle.std.proofs.Common.{◌≡◌, ◌<◌, ◌+ℤ◌, ◌++◌, ℕ, ℤ, pos, [], List, map, length, get_or, refl, sym, ap, subst, ◌∙◌, rules, arith, w64, to_z, of_z}
+use Rattle.std.proofs.lemmas.Int.{to_z-of_z}
+use Rattle.sql_meanings.specs.Tables.{width_of}
+use Rattle.bank_walks.specs.Rows.{rows_from}
+use Rattle.bank_walks.specs.declared.ahead.TheConstants.{AHEAD}
+use Rattle.bank_walks.proofs.Gathering.{behind_key, gathers_on, gathers_none, none_there}
+use Rattle.bank_walks.proofs.ahead.gather.Goals as goal
+
+pub loop-row-preserved : goal.loop-row-preserved
+loop-row-preserved g c =
+    let from = c.args.from in
+    let same : to_z w64 (of_z w64 from) ≡ from = search (rules, to_z-of_z) in
+    let entry = g.R.StoredRow.entry in
+    let low : length c.loop-row.rows.items < length c.args.found.now = search rules in
+    let key = behind_key c.key.result (entry c.in-Ok.read).key c.key.ensures.key c.key.ensures.most in
+    let at : c.row-item.result ≡ get_or c.args.found.now (length c.loop-row.rows.items) c.row-item.result =
+    c.row-item.is ∙ ap (λ n. get_or c.args.found.now n c.row-item.result) (sym c.loop-row.invariant.count) in
+    rw same record {
+      count = omega (arith, c.push.ensures.len, c.loop-row.invariant.count);
+      told = λ rows rise wide is.
+          rw (c.push.ensures.items, key)
+          (gathers_on entry g.R.StoredRow.is_broken (width_of g.R.StoredRow.table) AHEAD c.args.found.now from rows rise wide is
+          c.loop-row.rows.items (to_z w64 c.loop-row.next-bits) c.row-item.result low at
+          ((rw same at (c.loop-row.invariant.told rows rise wide)) is) c.in-Ok.read c.in-Ok.ensures);
+    }
+
+pub returns-then-is_full-clause-told : goal.returns-then-is_full-clause-told
+returns-then-is_full-clause-told g c rows rise wide is =
+    let same : to_z w64 (of_z w64 c.args.from) ≡ c.args.from = search (rules, to_z-of_z) in
+    (rw same at (c.loop-row.invariant.told rows rise wide)) is
+
+pub returns-then-is_empty-clause-told : goal.returns-then-is_empty-clause-told
+returns-then-is_empty-clause-told g c rows rise wide is =
+    let from = c.args.from in
+    let same : to_z w64 (of_z w64 from) ≡ from = search (rules, to_z-of_z) in
+    let low : length c.loop-row.rows.items < length c.args.found.now = search rules in
+    let at : c.row-item.result ≡ get_or c.args.found.now (length c.loop-row.rows.items) c.row-item.result =
+    c.row-item.is ∙ ap (λ n. get_or c.args.found.now n c.row-item.result) (sym c.loop-row.invariant.count) in
+    let none : c.loop-row.rows.items ≡ [] = none_there c.loop-row.rows.items (sym c.is_empty.ensures ∙ c.if-is_empty.true) in
+    gathers_none g.R.StoredRow.entry g.R.StoredRow.is_broken (width_of g.R.StoredRow.table) AHEAD c.args.found.now from rows rise wide is
+    c.loop-row.rows.items (to_z w64 c.loop-row.next-bits) c.row-item.result low at
+    ((rw same at (c.loop-row.invariant.told rows rise wide)) is) c.in-Err.fault none c.in-Err.ensures
