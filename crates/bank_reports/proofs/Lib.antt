@@ -1,0 +1,5 @@
+-- That the audit tells of the consistency condition.
+pub mod Lists
+pub mod Ordinals
+pub mod Telling
+pub mod OfTables

@@ -1,0 +1,4 @@
+-- The audit of the tables of a bank, as a file has them, and the texts of reports.
+pub mod Stored
+pub mod Audit
+pub mod Consistency
