@@ -3,3 +3,4 @@ pub mod Lists
 pub mod Ordinals
 pub mod Telling
 pub mod OfTables
+pub mod Joined

@@ -2,3 +2,6 @@
 pub mod Stored
 pub mod Audit
 pub mod Consistency
+pub mod Lines
+pub mod AuditText
+pub mod StatementText
