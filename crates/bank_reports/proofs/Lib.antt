@@ -4,3 +4,4 @@ pub mod Ordinals
 pub mod Telling
 pub mod OfTables
 pub mod Joined
+pub mod Written

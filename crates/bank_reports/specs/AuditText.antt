@@ -26,7 +26,7 @@ number_lines a =
     ∷ []
 
 -- a branch that isn't the sum of its tellers
-abbrev pub branch_line : BranchLine → List ℕ
+unfoldable pub branch_line : BranchLine → List ℕ
 branch_line l = line (codes "branch " ++ decimal l.branch ++ codes " tellers " ++ signed_decimal l.tellers ++ codes " balance " ++ signed_decimal l.balance)
 
 abbrev pub verdict_line : Bool → List ℕ

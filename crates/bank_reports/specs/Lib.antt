@@ -5,3 +5,4 @@ pub mod Consistency
 pub mod Lines
 pub mod AuditText
 pub mod StatementText
+pub mod Written

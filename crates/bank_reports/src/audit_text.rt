@@ -63,6 +63,7 @@ pub(crate) fn numbers_text(audit: &Audit) -> ArrayString<NUMBER_LINES>
 }
 
 /// The line of a branch that isn't the sum of its tellers.
+#[tactic(auto, unfolding(crate::specs::AuditText::branch_line))]
 pub(crate) fn branch_text(branch: &BranchLine) -> ArrayString<BRANCH_LINE>
     ensures { result.bytes ≡ branch_line branch.now }
 {

@@ -8,6 +8,7 @@ mod limits;
 mod lines;
 mod rows;
 mod statement_text;
+mod writing;
 
 pub use audit::{Audit, BranchLine, BranchLines};
 pub use laws::audit_tells_consistency;
@@ -17,3 +18,4 @@ pub use statement_text::{
     STATEMENT_LINE, StatementLine, statement_closing, statement_heading, statement_line,
     statement_names,
 };
+pub use writing::{WriteFault, write_audit};

@@ -13,7 +13,7 @@ pub(crate) struct ReadFailed;
 
 /// The writer failed, or took no byte.
 #[derive(Clone, Copy, Debug, PartialEq, Eq)]
-pub(crate) struct WriteFailed;
+pub struct WriteFailed;
 
 /// One read into what is left of a buffer.
 pub(crate) fn fill<R: Source>(reader: &mut R, buffer: &mut [u8], filled: usize) -> io::Result<usize>
@@ -53,7 +53,7 @@ pub(crate) fn read_full<R: Source>(reader: &mut R, buffer: &mut [u8]) -> Result<
 }
 
 /// Writes the bytes and flushes, up to a write that fails or takes none. An interrupted write is made again.
-pub(crate) fn write_out<W: Sink>(writer: &mut W, bytes: &[u8]) -> Result<(), WriteFailed>
+pub fn write_out<W: Sink>(writer: &mut W, bytes: &[u8]) -> Result<(), WriteFailed>
     ensures written { (n : ℕ) × (n ≤ length bytes.now) × Appends (W.contents writer.old) (W.contents writer.new) (take n bytes.now)
         × OnOk result (n ≡ length bytes.now) }
     ensures flushed { OnOk result (EndsWith IsFlush (W.told writer.old) (W.told writer.new)) }
@@ -66,8 +66,8 @@ pub(crate) fn write_out<W: Sink>(writer: &mut W, bytes: &[u8]) -> Result<(), Wri
     }
 }
 
-// Writes the bytes, up to a write that fails or takes none.
-fn write_each<W: Sink>(writer: &mut W, bytes: &[u8]) -> Result<(), WriteFailed>
+/// Writes the bytes, up to a write that fails or takes none.
+pub fn write_each<W: Sink>(writer: &mut W, bytes: &[u8]) -> Result<(), WriteFailed>
     ensures written { (n : ℕ) × (n ≤ length bytes.now) × Appends (W.contents writer.old) (W.contents writer.new) (take n bytes.now)
         × OnOk result (n ≡ length bytes.now) }
     ensures more { OnOk result (HasMore (W.told writer.old) (W.told writer.new)) }
