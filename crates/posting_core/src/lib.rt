@@ -22,3 +22,4 @@ pub use posting_rules::{
     resends_get_their_replies, tables_are_consistent, tables_are_undamaged,
 };
 pub use stream::{Count, StreamFault, post_stream};
+pub use transfer::{WriteFailed, write_each, write_out};

@@ -1,0 +1,7 @@
+-- That the audit tells of the consistency condition.
+pub mod Lists
+pub mod Ordinals
+pub mod Telling
+pub mod OfTables
+pub mod Joined
+pub mod Written
