@@ -10,10 +10,9 @@ use Rattle.posting_rules.specs.Commands.{branch_of_teller, branch_of_account}
 use Rattle.posting_rules.specs.LookUps.{kept_in, account_balance_in, balance_of_teller}
 use Rattle.posting_rules.specs.Tables.{Tables, row_at, branch_key, teller_key, account_key}
 use Rattle.posting_rules.proofs.Keyed.{by_test}
-use Rattle.posting_batch.specs.declared.slots.AccountSlot.{AccountSlot}
 use Rattle.posting_batch.specs.declared.slots.BranchSlot.{BranchSlot}
 use Rattle.posting_batch.specs.declared.slots.RequestSlot.{RequestSlot}
-use Rattle.posting_batch.specs.Batch.{with_branch_slot, covering, covering_all, no_slots, CoversRead, CoversAll, HasRisingSlots, IsUnchanged, filled, branch_filled, teller_filled, account_filled, request_filled}
+use Rattle.posting_batch.specs.Batch.{with_branch_slot, covering, covering_all, no_slots, CoversRead, CoversAll, HasRisingSlots, HasHomes, IsUnchanged, filled, branch_filled, teller_filled, account_filled, request_filled}
 use Rattle.posting_batch.specs.Overlay.{Overlay, by_slot, over, put_account, put_teller, put_branch, tables_over}
 use Rattle.posting_batch.specs.Placed.{placed, number_below, number_same, request_below, request_same}
 use Rattle.posting_batch.specs.Slots.{is_for, account_slot_key, teller_slot_key, branch_slot_key, empty_account, empty_teller, empty_branch, empty_request}
@@ -124,32 +123,35 @@ made_all reads = made_on no_slots reads (record {
   rising = record { branches = tt; tellers = tt; accounts = tt; kept = tt };
 })
 
--- ---- the branch of each account has a slot
+-- ---- the branch of each teller and of each account has a slot
 
-abbrev pub HasBranches : Overlay → Type 0
-HasBranches o = AllByRecursion (λ s. IsSome (row_at branch_slot_key o.branches (branch_of_account s.account))) o.accounts
+homes_kept : {S : Type 0} (branch_of : S → ℕ) (e : BranchSlot) (bs : List BranchSlot) (xs : List S) → AllByRecursion (λ s. IsSome (row_at branch_slot_key bs (branch_of s))) xs
+    → AllByRecursion (λ s. IsSome (row_at branch_slot_key (placed (number_below branch_slot_key) (number_same branch_slot_key) e bs) (branch_of s))) xs
+homes_kept branch_of e bs [] all = tt
+homes_kept branch_of e bs (x ∷ xs) all = (keeps_number branch_slot_key e bs (branch_of x) all.0, homes_kept branch_of e bs xs all.1)
 
-branches_kept : (e : BranchSlot) (bs : List BranchSlot) (xs : List AccountSlot) → AllByRecursion (λ s. IsSome (row_at branch_slot_key bs (branch_of_account s.account))) xs
-    → AllByRecursion (λ s. IsSome (row_at branch_slot_key (placed (number_below branch_slot_key) (number_same branch_slot_key) e bs) (branch_of_account s.account))) xs
-branches_kept e bs [] all = tt
-branches_kept e bs (x ∷ xs) all = (keeps_number branch_slot_key e bs (branch_of_account x.account) all.0, branches_kept e bs xs all.1)
-
-branches_with : (o : Overlay) (read : Result RequestFields Bad) → HasBranches o → HasBranches (covering o read)
-branches_with o (Err fault) has = has
-branches_with o (Ok r) has =
+homes_with : (o : Overlay) (read : Result RequestFields Bad) → HasHomes o → HasHomes (covering o read)
+homes_with o (Err fault) has = has
+homes_with o (Ok r) has =
     let home = empty_branch (branch_of_teller r.teller) in
     let its = empty_branch (branch_of_account r.account) in
     let first = with_branch_slot (branch_of_teller r.teller) o.branches in
-    all-placed (number_below account_slot_key) (number_same account_slot_key) (empty_account r.account)
-    (λ s. IsSome (row_at branch_slot_key (covering o (Ok r)).branches (branch_of_account s.account))) o.accounts
-    (has_number branch_slot_key its first) (branches_kept its first o.accounts (branches_kept home o.branches o.accounts has))
+    record {
+      tellers = all-placed (number_below teller_slot_key) (number_same teller_slot_key) (empty_teller r.teller)
+          (λ s. IsSome (row_at branch_slot_key (covering o (Ok r)).branches (branch_of_teller s.teller))) o.tellers
+          (keeps_number branch_slot_key its first (branch_of_teller r.teller) (has_number branch_slot_key home o.branches))
+          (homes_kept (λ s. branch_of_teller s.teller) its first o.tellers (homes_kept (λ s. branch_of_teller s.teller) home o.branches o.tellers has.tellers));
+      accounts = all-placed (number_below account_slot_key) (number_same account_slot_key) (empty_account r.account)
+          (λ s. IsSome (row_at branch_slot_key (covering o (Ok r)).branches (branch_of_account s.account))) o.accounts (has_number branch_slot_key its first)
+          (homes_kept (λ s. branch_of_account s.account) its first o.accounts (homes_kept (λ s. branch_of_account s.account) home o.branches o.accounts has.accounts));
+    }
 
-branches_on : (o : Overlay) (reads : List (Result RequestFields Bad)) → HasBranches o → HasBranches (covering_all o reads)
-branches_on o [] has = has
-branches_on o (read ∷ reads) has = branches_on (covering o read) reads (branches_with o read has)
+homes_on : (o : Overlay) (reads : List (Result RequestFields Bad)) → HasHomes o → HasHomes (covering_all o reads)
+homes_on o [] has = has
+homes_on o (read ∷ reads) has = homes_on (covering o read) reads (homes_with o read has)
 
-pub branches_all : (reads : List (Result RequestFields Bad)) → HasBranches (covering_all no_slots reads)
-branches_all reads = branches_on no_slots reads tt
+pub homes_all : (reads : List (Result RequestFields Bad)) → HasHomes (covering_all no_slots reads)
+homes_all reads = homes_on no_slots reads (record { tellers = tt; accounts = tt })
 
 -- ---- slots that are filled
 

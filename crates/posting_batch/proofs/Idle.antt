@@ -1,13 +1,14 @@
--- Each decided request is counted; where none is decided, an overlay stays as it is.
-use Rattle.std.proofs.Common.{◌≡◌, ◌⊎◌, ℕ, ◌+◌, ◌<◌, ◌≤◌, List, [], ◌∷◌, length, Result, Ok, Err, refl, ap, ◌∙◌, arith, inl, inr}
+-- Each record has its reply, and each decided request is counted; where none is decided, an overlay stays as it is.
+use Rattle.std.proofs.Common.{◌≡◌, ◌⊎◌, ℕ, ◌+◌, ◌<◌, ◌≤◌, List, [], ◌∷◌, length, Result, Ok, Err, refl, ap, ◌∙◌, arith, inl, inr, suc, map}
 use Rattle.std.proofs.lemmas.List.{length-append}
 use Rattle.message_records.specs.declared.faults.Bad.{Bad}
 use Rattle.message_records.specs.Records.{RequestFields}
+use Rattle.message_records.specs.Spelling.{reply_spelling}
 use Rattle.posting_rules.specs.declared.facts.Verdict.{Verdict}
 use Rattle.posting_rules.specs.declared.facts.Verdict.TheVariants.{Unkept, Again, Refused, Posted}
 use Rattle.posting_rules.specs.declared.rows.RequestRow.{RequestRow}
 use Rattle.posting_rules.specs.Cases.{case_of}
-use Rattle.posting_batch.specs.Judging.{found_over, overlay_after, overlay_with, overlay_with_all}
+use Rattle.posting_batch.specs.Judging.{found_over, overlay_after, overlay_with, overlay_with_all, replies_over}
 use Rattle.posting_batch.specs.Overlay.{Overlay}
 
 -- an overlay is as it was, or counts more
@@ -72,3 +73,9 @@ all_rows o m (read ∷ reads) =
     let one = rows_with o m read in
     let rest = all_rows next m reads in
     omega (arith, one, rest)
+
+-- ---- and each record has its reply
+
+pub all_answered : (o : Overlay) (m : ℕ) (reads : List (Result RequestFields Bad)) → length (map reply_spelling (replies_over o m reads)) ≡ length reads
+all_answered o m [] = refl
+all_answered o m (read ∷ reads) = ap suc (all_answered (overlay_with o m read) m reads)

@@ -8,3 +8,4 @@ pub mod InOrder
 pub mod NewRows
 pub mod Idle
 pub mod Examples
+pub mod Written

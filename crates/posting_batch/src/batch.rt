@@ -38,7 +38,7 @@ pub struct Judged {
 }
 
 impl Batch {
-    ghost use Rattle.posting_batch.specs.View.{view, IsMadeOf, IsFilledFrom};
+    ghost use Rattle.posting_batch.specs.View.{view, reads_of, IsMadeOf, IsFilledFrom};
 
     /// Decodes up to `RECORDS_PER_BATCH` records, and places an empty slot under every key that they can touch. All that a
     /// batch ever takes of memory is taken here.
@@ -92,11 +92,12 @@ impl Batch {
 
         // Each changed row is there, and is written once; each new row has a key that is free.
         ensures changes { (t : Tables) (records : List (List ℕ)) → IsFilledFrom self t records → ChangesRows (view result.overlay) t }
-        ensures rising { (t : Tables) (records : List (List ℕ)) → IsFilledFrom self t records → HasRisingSlots (view result.overlay) }
+        ensures rising { HasRisingSlots (view self.overlay) → HasRisingSlots (view result.overlay) }
         ensures adds { (t : Tables) (records : List (List ℕ)) → IsFilledFrom self t records → (log : List Command) → Shows t log
             → AddsRows (view result.overlay) t }
 
-        // Each decided request is counted. Where none is decided, nothing is changed and nothing is new.
+        // Each record has its reply, and each decided request is counted. Where none is decided, nothing is changed and nothing is new.
+        ensures count { length result.replies.items ≡ length (reads_of self) }
         ensures counts { result.overlay.decided + length self.overlay.requests.items
             ≡ self.overlay.decided + length result.overlay.requests.items }
         ensures idle { result.overlay.decided ≡ self.overlay.decided → view result.overlay ≡ view self.overlay }

@@ -13,7 +13,7 @@ use Rattle.posting_batch.specs.Judging.{overlay_with_all, replies_over}
 use Rattle.posting_batch.specs.Overlay.{Overlay, tables_over}
 use Rattle.posting_batch.specs.View.{view}
 use Rattle.posting_batch.proofs.Covered.{stands}
-use Rattle.posting_batch.proofs.Idle.{all_idle, all_rows}
+use Rattle.posting_batch.proofs.Idle.{all_answered, all_idle, all_rows}
 use Rattle.posting_batch.proofs.InOrder.{all_tables, all_replies, all_rising}
 use Rattle.posting_batch.proofs.NewRows.{all_changes, all_adds}
 use Rattle.posting_batch.proofs.batch.Batch.judge.Goals as goal
@@ -81,15 +81,16 @@ returns-clause-changes c t records is =
     subst (λ (o : Overlay). ChangesRows o t) (sym after) (all_changes old t m reads it.fits it.unchanged it.covers)
 
 pub returns-clause-rising : goal.returns-clause-rising
-returns-clause-rising c t records is =
-    let m = c.args.moment in
-    let reads : List (Result RequestFields Bad) = map request_of records in
-    let old = filled t (covering_all no_slots reads) in
-    let it = stands t reads in
-    let after : view c.answer_all.new.self ≡ overlay_with_all old m reads =
-    c.answer_all.ensures.overlay ∙ ap (λ (rs : List (Result RequestFields Bad)). overlay_with_all (view c.args.self.overlay) m rs) (c.deref.ensures.value ∙ is.reads)
-    ∙ ap (λ (o : Overlay). overlay_with_all o m reads) is.overlay in
-    subst (λ (o : Overlay). HasRisingSlots o) (sym after) (all_rising old m reads it.rising)
+returns-clause-rising c rising =
+    subst (λ (o : Overlay). HasRisingSlots o) (sym c.answer_all.ensures.overlay) (all_rising (view c.args.self.overlay) c.args.moment c.deref.result.now rising)
+
+pub returns-clause-count : goal.returns-clause-count
+returns-clause-count c =
+    let old = view c.args.self.overlay in
+    let reads = c.deref.result.now in
+    ap length c.answer_all.ensures.replies
+    ∙ ap (λ (items : List (List ℕ)). length (items ++ map reply_spelling (replies_over old c.args.moment reads))) c.args.self.fresh
+    ∙ all_answered old c.args.moment reads ∙ ap length c.deref.ensures.value
 
 pub returns-clause-adds : goal.returns-clause-adds
 returns-clause-adds c t records is log shows =
