@@ -7,6 +7,9 @@ use Rattle.httparse.specs.Grammar.{RequestHead, print_request}
 use Rattle.httparse.proofs.GrammarLemmas.{request_unique}
 use Rattle.counter_http.specs.Fields.{named_values, body_length}
 use Rattle.counter_http.specs.Messages.{Message, message_text, IsMessage, closes, Ending, Finished, Closed, No_head, No_body, Ends, Walks}
+use Rattle.std.specs.List.{AllByRecursion}
+use Rattle.counter_http.specs.Serving.{GoesOn, BeginsWithNoMessage}
+use Rattle.counter_http.specs.Outputs.{texts_of_all}
 use Rattle.counter_http.proofs.Walking.{no_message, head_some}
 
 -- texts of one length at the front of one text
@@ -76,3 +79,16 @@ walk_unique input (m ∷ ms) (n ∷ ns) e f x y =
           let rest = walk_unique x.1.0 ms ns e f a b in
           (more m n ms ns same.0 rest.0, rest.1)
     ]
+
+-- the whole messages at the front of an input are one list
+pub front_unique : (ms ns : List Message) (a b : List ℕ) → AllByRecursion GoesOn ms → AllByRecursion GoesOn ns
+    → BeginsWithNoMessage a → BeginsWithNoMessage b → texts_of_all ms ++ a ≡ texts_of_all ns ++ b → ms ≡ ns
+front_unique [] [] a b im jn none none' e = refl
+front_unique [] (n ∷ ns) a b im jn none none' e =
+    absurd (none n (texts_of_all ns ++ b) jn.0.whole (e ∙ append_assoc (message_text n) (texts_of_all ns) b))
+front_unique (m ∷ ms) [] a b im jn none none' e =
+    absurd (none' m (texts_of_all ms ++ a) im.0.whole (sym e ∙ append_assoc (message_text m) (texts_of_all ms) a))
+front_unique (m ∷ ms) (n ∷ ns) a b im jn none none' e =
+    let same = same_message m n (texts_of_all ms ++ a) (texts_of_all ns ++ b) im.0.whole jn.0.whole
+    (sym (append_assoc (message_text m) (texts_of_all ms) a) ∙ e ∙ append_assoc (message_text n) (texts_of_all ns) b) in
+    more m n ms ns same.0 (front_unique ms ns a b im.1 jn.1 none none' same.1)

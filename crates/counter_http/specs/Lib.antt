@@ -8,3 +8,4 @@ pub mod Answers
 pub mod Telling
 pub mod Turns
 pub mod Serving
+pub mod Outputs

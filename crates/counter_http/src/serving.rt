@@ -1,5 +1,6 @@
 //! A connection, from its first byte to its last answer.
 ghost use Rattle.std.specs.Prelude.{◌≡◌, ◌≤◌, ◌-◌, length, take, drop};
+ghost use Rattle.counter_http.specs.Outputs.{Outputs, Survives};
 ghost use Rattle.counter_http.specs.Serving.{Serves};
 
 use crate::answers::{answer_message, refuse};
@@ -79,7 +80,11 @@ fn serve<R: Read, W: Write, K: Clock, C: Counter>(
     Err(ServeFault::Read)
 }
 
-/// Serves a connection to the end of its walk, and tells how many answers were written.
+/// Serves a connection to the end of the walk over its messages, and tells how many answers were written. As soon as
+/// whole messages were read they are answered, in their order and before anything more is read; a record is submitted
+/// under one reading of the clock. An answer of at most 512 bytes is one write. An interrupted read or write is made
+/// again, and a reader that was asked 2^64 - 1 times counts as failed. The buffer and the routes are made before
+/// anything is read; after that only the bank and the body of a `GET` take memory.
 pub fn serve_connection<R: Read, W: Write, K: Clock, C: Counter>(
     alloc: Global,
     reader: &mut R,
@@ -89,6 +94,11 @@ pub fn serve_connection<R: Read, W: Write, K: Clock, C: Counter>(
 ) -> Result<Served, ServeFault>
     ensures served { Serves C.seen (R.remaining reader.old) (R.remaining reader.new) (W.contents writer.old) (W.contents writer.new)
         (K.readings clock.old) (K.readings clock.new) bank.old bank.new result }
+    ensures output { Outputs (R.remaining reader.old) (R.remaining reader.new) (W.contents writer.old) (W.contents writer.new)
+        (C.seen bank.old) (C.seen bank.new) result }
+    ensures stop { Survives (R.remaining reader.old) (R.remaining reader.new) (W.contents writer.old) (W.contents writer.new)
+        (C.seen bank.old) (C.seen bank.new) }
+    ensures honest { (C.seen bank.new).honest → (C.seen bank.old).honest }
 {
     let Ok(routes) = Routes::new(alloc) else {
         return Err(ServeFault::Memory);

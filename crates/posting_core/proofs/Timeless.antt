@@ -19,11 +19,11 @@ use Rattle.posting_rules.proofs.Sequence.{replies_to-append}
 
 -- ---- entries without their moments
 
-abbrev zeroed : List Entry → List Entry
+abbrev pub zeroed : List Entry → List Entry
 zeroed [] = []
 zeroed (e ∷ es) = record { moment = 0; request = e.request; outcome = e.outcome; balance = e.balance } ∷ zeroed es
 
-sum_zeroed : (test : RequestFields → Bool) (es : List Entry) → posted_sum test (zeroed es) ≡ posted_sum test es
+pub sum_zeroed : (test : RequestFields → Bool) (es : List Entry) → posted_sum test (zeroed es) ≡ posted_sum test es
 sum_zeroed test [] = refl
 sum_zeroed test (e ∷ es) = ap (λ (z : ℤ). cond (is_posted e && test e.request) (z +ℤ e.request.delta) z) (sum_zeroed test es)
 
@@ -59,7 +59,7 @@ facts_zeroed opened es r =
     made t t' b b' k k' n n' a a' et eb ek en ea = rw (et, eb, ek, en, ea) refl
 
 -- and so is the reply
-reply_zeroed : (opened : ℕ → Option ℕ) (es : List Entry) (read : Result RequestFields Bad) → reply_to read opened (zeroed es) ≡ reply_to read opened es
+pub reply_zeroed : (opened : ℕ → Option ℕ) (es : List Entry) (read : Result RequestFields Bad) → reply_to read opened (zeroed es) ≡ reply_to read opened es
 reply_zeroed opened es (Ok r) = rw (facts_zeroed opened es r) refl
 reply_zeroed opened es (Err e) = refl
 
@@ -69,7 +69,7 @@ verdict_zeroed m r (Again a) es = refl
 verdict_zeroed m r (Refused o) es = refl
 verdict_zeroed m r (Posted a t b) es = refl
 
-record_zeroed : (m : ℕ) (opened : ℕ → Option ℕ) (es : List Entry) (read : Result RequestFields Bad)
+pub record_zeroed : (m : ℕ) (opened : ℕ → Option ℕ) (es : List Entry) (read : Result RequestFields Bad)
     → zeroed (with_record m read opened es) ≡ with_record 0 read opened (zeroed es)
 record_zeroed m opened es (Ok r) =
     verdict_zeroed m r (case_of (facts opened es r) r) es ∙ ap (λ (f : Found). with_verdict 0 r (case_of f r) (zeroed es)) (sym (facts_zeroed opened es r))

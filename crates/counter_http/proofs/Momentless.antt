@@ -1,0 +1,109 @@
+-- No answer depends on the moments of the postings before it.
+use Rattle.std.proofs.Common.{◌≡◌, ℕ, zero, suc, Bool, true, false, cond, eqb, List, [], ◌∷◌, ◌++◌, length, Option, Some, None, refl, sym, ap, ◌∙◌}
+use Rattle.std.specs.Prelude.{ℤ, codes, bytes_eq}
+use Rattle.message_records.specs.Records.{ReplyFields}
+use Rattle.message_records.specs.Reading.{request_of}
+use Rattle.message_records.specs.Spelling.{reply_spelling}
+use Rattle.posting_rules.specs.declared.limits.TheConstants.{LAST_BRANCH}
+use Rattle.posting_rules.specs.Commands.{Command, Post, opened, is_account_open}
+use Rattle.posting_rules.specs.Entries.{Entry, account_balance, branch_balance, with_record, decided, reply_to, reply, balance_behind}
+use Rattle.posting_rules.specs.Runs.{behind}
+use Rattle.posting_core.proofs.Timeless.{zeroed, sum_zeroed, reply_zeroed, record_zeroed}
+use Rattle.counter_http.specs.declared.routes.Route.{Route}
+use Rattle.counter_http.specs.declared.routes.Route.TheVariants.{Posting, Account, Branches}
+use Rattle.counter_http.specs.Paths.{account_in, path_of, route_of}
+use Rattle.counter_http.specs.Answers.{Asked, Answer, asked_by, account_answer, account_named, answer_of, answer_on, answer_text, answer_to, balance_answer, bare, branch_line, branch_lines, is_posting, is_reading, line_if_open, lines_up_to, not_allowed, plain, shows}
+use Rattle.counter_http.specs.Turns.{Turn, commands_for, commands_if, commands_in, answers_to, messages_of}
+use Rattle.counter_http.specs.Outputs.{answers_behind}
+
+-- the same is open, and the same is decided but for the moments
+pub record IsAlike (a b : List Command) : Type 0 where
+  pub opens : ◌≡◌ {A = ℕ → Option ℕ} (λ n. opened a n) (λ n. opened b n)
+  pub entries : zeroed (decided a) ≡ zeroed (decided b)
+
+abbrev Opened : Type 0
+Opened = ℕ → Option ℕ
+
+-- ---- what is answered
+
+reply_alike : (a b : List Command) (bytes : List ℕ) → IsAlike a b → reply a bytes ≡ reply b bytes
+reply_alike a b bytes h =
+    sym (reply_zeroed (λ n. opened a n) (decided a) (request_of bytes))
+    ∙ ap (λ (o : Opened). reply_to (request_of bytes) o (zeroed (decided a))) h.opens
+    ∙ ap (λ (es : List Entry). reply_to (request_of bytes) (λ n. opened b n) es) h.entries
+    ∙ reply_zeroed (λ n. opened b n) (decided b) (request_of bytes)
+
+balance_alike : (a b : List Command) (account : ℕ) → IsAlike a b → balance_behind a account ≡ balance_behind b account
+balance_alike a b account h =
+    let sum : account_balance (decided a) account ≡ account_balance (decided b) account =
+    sym (sum_zeroed (λ r. eqb r.account account) (decided a)) ∙ ap (λ (es : List Entry). account_balance es account) h.entries
+    ∙ sum_zeroed (λ r. eqb r.account account) (decided b) in
+    ap (λ (o : Opened). cond (is_account_open o account) (Some (account_balance (decided a) account)) None) h.opens
+    ∙ ap (λ (z : ℤ). cond (is_account_open (λ n. opened b n) account) (Some z) None) sum
+
+line_alike : (a b : List Command) (branch : ℕ) (o : Option ℕ) → IsAlike a b → line_if_open a branch o ≡ line_if_open b branch o
+line_alike a b branch None h = refl
+line_alike a b branch (Some accounts) h =
+    ap (branch_line branch accounts)
+    (sym (sum_zeroed (λ r. eqb r.branch branch) (decided a)) ∙ ap (λ (es : List Entry). branch_balance es branch) h.entries
+    ∙ sum_zeroed (λ r. eqb r.branch branch) (decided b))
+
+lines_alike : (a b : List Command) (n : ℕ) → IsAlike a b → lines_up_to a n ≡ lines_up_to b n
+lines_alike a b zero h = refl
+lines_alike a b (suc n) h =
+    ap (λ (t : List ℕ). t ++ line_if_open a (suc n) (opened a (suc n))) (lines_alike a b n h)
+    ∙ ap (λ (t : List ℕ). lines_up_to b n ++ t)
+    (line_alike a b (suc n) (opened a (suc n)) h ∙ ap (λ (o : Opened). line_if_open b (suc n) (o (suc n))) h.opens)
+
+branches_alike : (a b : List Command) → IsAlike a b → branch_lines a ≡ branch_lines b
+unfolding branch_lines
+branches_alike a b h = lines_alike a b LAST_BRANCH h
+
+account_alike : (a b : List Command) (account : Option ℕ) → IsAlike a b → account_answer a account ≡ account_answer b account
+account_alike a b None h = refl
+account_alike a b (Some account) h = ap (balance_answer account) (balance_alike a b account h)
+
+on_alike : (a b : List Command) (o : Option Route) (asked : Asked) → IsAlike a b → answer_on a o asked ≡ answer_on b o asked
+on_alike a b None asked h = refl
+on_alike a b (Some Posting) asked h =
+    ap (λ (r : ReplyFields). cond (bytes_eq asked.method (codes "POST"))
+    (cond (eqb (length asked.body) 100) (record { code = 200; media = codes "application/octet-stream"; allow = None; body = reply_spelling r }) (bare 400))
+    (not_allowed (codes "POST"))) (reply_alike a b asked.body h)
+on_alike a b (Some Account) asked h =
+    ap (λ (x : Answer). cond (is_reading asked.method) x (not_allowed (codes "GET, HEAD")))
+    (account_alike a b (account_named (account_in (path_of asked.target))) h)
+on_alike a b (Some Branches) asked h =
+    ap (λ (x : List ℕ). cond (is_reading asked.method) (plain x) (not_allowed (codes "GET, HEAD"))) (branches_alike a b h)
+
+answer_alike : (a b : List Command) (asked : Asked) → IsAlike a b → answer_of a asked ≡ answer_of b asked
+unfolding answer_to
+answer_alike a b asked h =
+    ap (λ (x : Answer). answer_text x (shows asked) asked.closes) (on_alike a b (route_of (path_of asked.target)) asked h)
+
+-- ---- what stands behind
+
+post_alike : (a b : List Command) (m k : ℕ) (bytes : List ℕ) → IsAlike a b → IsAlike (Post m bytes ∷ a) (Post k bytes ∷ b)
+post_alike a b m k bytes h = record {
+  opens = h.opens;
+  entries = record_zeroed m (λ n. opened a n) (decided a) (request_of bytes)
+      ∙ ap (λ (o : Opened). with_record 0 (request_of bytes) o (zeroed (decided a))) h.opens
+      ∙ ap (λ (es : List Entry). with_record 0 (request_of bytes) (λ n. opened b n) es) h.entries
+      ∙ sym (record_zeroed k (λ n. opened b n) (decided b) (request_of bytes));
+}
+
+behind_alike : (a b : List Command) (m k : ℕ) (posts : Bool) (bytes : List ℕ) → IsAlike a b
+    → IsAlike (behind a (commands_if posts m bytes)) (behind b (commands_if posts k bytes))
+behind_alike a b m k true bytes h = post_alike a b m k bytes h
+behind_alike a b m k false bytes h = h
+
+answers_alike : (a b : List Command) (ts : List Turn) → IsAlike a b → answers_to a ts ≡ answers_behind b (messages_of ts)
+answers_alike a b [] h = refl
+answers_alike a b (t ∷ ts) h =
+    let asked = asked_by t.message in
+    let more = answers_alike (behind a (commands_in t)) (behind b (commands_for 0 asked)) ts
+    (behind_alike a b t.moment 0 (is_posting asked) asked.body h) in
+    ap (λ (x : List ℕ). x ∷ answers_to (behind a (commands_in t)) ts) (answer_alike a b asked h)
+    ∙ ap (λ (xs : List (List ℕ)). answer_of b asked ∷ xs) more
+
+pub momentless : (log : List Command) (ts : List Turn) → answers_to log ts ≡ answers_behind log (messages_of ts)
+momentless log ts = answers_alike log log ts (record { opens = refl; entries = refl })
