@@ -1,4 +1,4 @@
--- What a connection writes, said of the bytes that it reads alone, however they were cut; and what a stop leaves of it.
+-- What a connection writes, said of the bytes that it reads alone, however they were cut; and what a stop leaves.
 use Rattle.std.specs.Prelude.{◌≡◌, ◌⊎◌, ℕ, List, [], ◌∷◌, ◌++◌, length, map, take, Option, Result, Ok, Err, OnOk}
 use Rattle.std.specs.List.{AllByRecursion, flat_map}
 use Rattle.std.specs.Io.KnownBytes.{Appends, Consumes, IsAtEnd}
@@ -69,7 +69,8 @@ pub record AnswersBroken (log : List Command) (input text : List ℕ) : Type 0 w
 abbrev pub IsTextFor : Result ℕ ServeFault → List Command → (input text : List ℕ) → Type 0
 IsTextFor (Ok count) log input text = Answers log input text
 IsTextFor (Err Read) log input text = AnswersWhole log input text
-IsTextFor (Err Write) log input text = Answers log input text ⊎ (AnswersFirst log input text ⊎ AnswersBroken log input text)
+IsTextFor (Err Write) log input text =
+    Answers log input text ⊎ (AnswersFirst log input text ⊎ AnswersBroken log input text)
 IsTextFor (Err (Bank fault)) log input text = AnswersBroken log input text
 IsTextFor (Err Memory) log input text = (input ≡ []) × (text ≡ [])
 
@@ -80,7 +81,8 @@ Writes _ w w' text = Appends w w' text
 
 -- what follows doesn't change the answers to an input
 abbrev pub IsSettled : List ℕ → Type 0
-IsSettled input = (more : List ℕ) (log : List Command) (text : List ℕ) → Answers log input text → Answers log (input ++ more) text
+IsSettled input =
+    (more : List ℕ) (log : List Command) (text : List ℕ) → Answers log input text → Answers log (input ++ more) text
 
 pub record Outputs (r r' w w' : Option (List ℕ)) (c c' : Seen) (result : Result ℕ ServeFault) : Type 0 where
   pub input : List ℕ
@@ -90,7 +92,8 @@ pub record Outputs (r r' w w' : Option (List ℕ)) (c c' : Seen) (result : Resul
   -- the input ended, or what follows it changes nothing
   pub ended : OnOk result (IsAtEnd r' ⊎ IsSettled input)
   -- an input has one text of either kind
-  pub one_text : (log : List Command) (text other : List ℕ) → Answers log input text → Answers log input other → text ≡ other
+  pub one_text : (log : List Command) (text other : List ℕ)
+      → Answers log input text → Answers log input other → text ≡ other
   pub one_front : (log : List Command) (text other : List ℕ)
       → AnswersWhole log input text → AnswersWhole log input other → text ≡ other
 

@@ -80,7 +80,8 @@ pub data IsUnwritten {C : Type 0} (seen : C → Seen) (r' : Option (List ℕ)) (
   At_refusal : IsBroken taken refused last → (fault : Fault) → Refuses fault (seen stood) (seen new) (commands_of refused)
       → IsUnwritten seen r' stood new taken refused rest last
 
-abbrev pub Exits : {C : Type 0} → (C → Seen) → Result ℕ ServeFault → (r' : Option (List ℕ)) → (old stood new : C)
+abbrev pub Exits : {C : Type 0} → (C → Seen) → Result ℕ ServeFault → (r' : Option (List ℕ))
+    → (old stood new : C)
     → (taken refused : List Turn) → (rest : List ℕ) → (last : List (List ℕ)) → Type 0
 Exits seen (Ok count) r' old stood new taken refused rest last =
     IsWalked r' taken refused rest last × (count ≡ length taken + length last) × (new ≡ stood)

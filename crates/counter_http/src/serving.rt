@@ -36,7 +36,8 @@ fn serve<R: Read, W: Write, K: Clock, C: Counter>(
     buffer: &mut [u8],
 ) -> Result<Served, ServeFault>
     requires { length buffer.old ≡ BUFFER }
-    ensures { Serves C.seen (R.remaining reader.old) (R.remaining reader.new) (W.contents writer.old) (W.contents writer.new)
+    ensures { Serves C.seen (R.remaining reader.old) (R.remaining reader.new) (W.contents writer.old)
+        (W.contents writer.new)
         (K.readings clock.old) (K.readings clock.new) bank.old bank.new result }
 {
     let mut filled = 0;
@@ -92,11 +93,14 @@ pub fn serve_connection<R: Read, W: Write, K: Clock, C: Counter>(
     clock: &mut K,
     bank: &mut C,
 ) -> Result<Served, ServeFault>
-    ensures served { Serves C.seen (R.remaining reader.old) (R.remaining reader.new) (W.contents writer.old) (W.contents writer.new)
+    ensures served { Serves C.seen (R.remaining reader.old) (R.remaining reader.new) (W.contents writer.old)
+        (W.contents writer.new)
         (K.readings clock.old) (K.readings clock.new) bank.old bank.new result }
-    ensures output { Outputs (R.remaining reader.old) (R.remaining reader.new) (W.contents writer.old) (W.contents writer.new)
+    ensures output { Outputs (R.remaining reader.old) (R.remaining reader.new) (W.contents writer.old)
+        (W.contents writer.new)
         (C.seen bank.old) (C.seen bank.new) result }
-    ensures stop { Survives (R.remaining reader.old) (R.remaining reader.new) (W.contents writer.old) (W.contents writer.new)
+    ensures stop { Survives (R.remaining reader.old) (R.remaining reader.new) (W.contents writer.old)
+        (W.contents writer.new)
         (C.seen bank.old) (C.seen bank.new) }
     ensures honest { (C.seen bank.new).honest → (C.seen bank.old).honest }
 {
