@@ -72,8 +72,8 @@ fn say_text<W: Write>(message: &Whole<'_>, text: &[u8], writer: &mut W) -> Resul
 
 // Answers a 503, and tells the fault of the bank, or that of the writer.
 fn fail<W: Write>(message: &Whole<'_>, fault: Fault, writer: &mut W) -> ServeFault
-    ensures { (n : ℕ) × Appends (W.contents writer.old) (W.contents writer.new) (take n (unavailable
-        (asked message.now)))
+    ensures { (n : ℕ) × Appends (W.contents writer.old) (W.contents writer.new)
+        (take n (unavailable (asked message.now)))
         × IsTellingOf fault result n (unavailable (asked message.now)) }
 {
     let response = bare(

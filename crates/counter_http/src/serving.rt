@@ -81,11 +81,11 @@ fn serve<R: Read, W: Write, K: Clock, C: Counter>(
     Err(ServeFault::Read)
 }
 
-/// Serves a connection to the end of the walk over its messages, and tells how many answers were written. As soon as
-/// whole messages were read they are answered, in their order and before anything more is read; a record is submitted
-/// under one reading of the clock. An answer of at most 512 bytes is one write. An interrupted read or write is made
-/// again, and a reader that was asked 2^64 - 1 times counts as failed. The buffer and the routes are made before
-/// anything is read; after that only the bank and the body of a `GET` take memory.
+/// Serves a connection to the end of the walk over its messages, and tells how many answers were written. As soon
+/// as whole messages were read they are answered, in their order and before anything more is read; a record is
+/// submitted under one reading of the clock. An answer of at most 512 bytes is one write. An interrupted read or
+/// write is made again, and a reader that was asked 2^64 - 1 times counts as failed. The buffer and the routes are
+/// made before anything is read; after that only the bank and the body of a `GET` take memory.
 pub fn serve_connection<R: Read, W: Write, K: Clock, C: Counter>(
     alloc: Global,
     reader: &mut R,
