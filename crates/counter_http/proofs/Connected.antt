@@ -40,7 +40,8 @@ pub record Going (r r' w w' k k' : Option (List ℕ)) (c c' : Seen) (rest : List
   pub count_is : count ≡ length turns
   pub answered : AreAnswered w w' k k' c c' turns
 
-pub going_first : {r w k : Option (List ℕ)} {c : Seen} (rest : List ℕ) → rest ≡ [] → Going r r w w k k c c rest 0
+pub going_first : {r w k : Option (List ℕ)} {c : Seen} (rest : List ℕ) → rest ≡ []
+    → Going r r w w k k c c rest 0
 going_first {r = r} rest e = record {
   turns = [];
   read = subst (λ (t : List ℕ). Consumes r r t) (sym e) (Consumes-nil r);
@@ -50,7 +51,8 @@ going_first {r = r} rest e = record {
 }
 
 -- more bytes were read
-going_read : {r r' r'' w w' k k' : Option (List ℕ)} {c c' : Seen} {count : ℕ} (rest more all : List ℕ) → Going r r' w w' k k' c c' rest count
+going_read : {r r' r'' w w' k k' : Option (List ℕ)} {c c' : Seen} {count : ℕ} (rest more all : List ℕ)
+    → Going r r' w w' k k' c c' rest count
     → Consumes r' r'' more → all ≡ rest ++ more → Going r r'' w w' k k' c c' all count
 going_read {r = r} {r' = r'} {r'' = r''} rest more all g got e =
     let before = texts_of g.turns in
@@ -63,15 +65,18 @@ going_read {r = r} {r' = r'} {r'' = r''} rest more all g got e =
       answered = g.answered;
     }
 
-pub going_filled : {r r' r'' w w' k k' : Option (List ℕ)} {c c' : Seen} {count : ℕ} (old new : List ℕ) (filled filled' n : ℕ)
+pub going_filled : {r r' r'' w w' k k' : Option (List ℕ)} {c c' : Seen} {count : ℕ} (old new : List ℕ)
+    (filled filled' n : ℕ)
     → Going r r' w w' k k' c c' (take filled old) count
     → ((bytes : List ℕ) × (take (filled + n) new ≡ take filled old ++ bytes) × Consumes r' r'' bytes)
     → filled' ≡ filled + n → Going r r'' w w' k k' c c' (take filled' new) count
 going_filled old new filled filled' n g got e =
     going_read (take filled old) got.0 (take filled' new) g got.2 (ap (λ (j : ℕ). take j new) e ∙ got.1)
 
-pub going_unread : {r r' r'' w w' k k' : Option (List ℕ)} {c c' : Seen} {count : ℕ} (old new : List ℕ) (filled filled' : ℕ)
-    → Going r r' w w' k k' c c' (take filled old) count → (Keeps r' r'' × (take filled new ≡ take filled old)) → filled' ≡ filled
+pub going_unread : {r r' r'' w w' k k' : Option (List ℕ)} {c c' : Seen} {count : ℕ} (old new : List ℕ)
+    (filled filled' : ℕ)
+    → Going r r' w w' k k' c c' (take filled old) count → (Keeps r' r'' × (take filled new ≡ take filled old))
+    → filled' ≡ filled
     → Going r r'' w w' k k' c c' (take filled' new) count
 going_unread {r' = r'} {r'' = r''} old new filled filled' g kept e =
     going_read (take filled old) [] (take filled' new) g (Consumes-kept r' r' r'' [] (Consumes-nil r') kept.0)
@@ -79,17 +84,20 @@ going_unread {r' = r'} {r'' = r''} old new filled filled' g kept e =
 
 -- ---- a message
 
-texts_one_more : (ts : List Turn) (t : Turn) (rest : List ℕ) → texts_of (ts ++ t ∷ []) ++ rest ≡ texts_of ts ++ (text_in t ++ rest)
+texts_one_more : (ts : List Turn) (t : Turn) (rest : List ℕ)
+    → texts_of (ts ++ t ∷ []) ++ rest ≡ texts_of ts ++ (text_in t ++ rest)
 texts_one_more ts t rest =
     ap (λ (x : List ℕ). x ++ rest) (flat_map-append text_in ts (t ∷ []) ∙ ap (λ (x : List ℕ). texts_of ts ++ x) (append-nil (text_in t)))
     ∙ append_assoc (texts_of ts) (text_in t) rest
 
-read_one_more : (r r' : Option (List ℕ)) (ts : List Turn) (t : Turn) (all rest : List ℕ) → Consumes r r' (texts_of ts ++ all) → all ≡ text_in t ++ rest
+read_one_more : (r r' : Option (List ℕ)) (ts : List Turn) (t : Turn) (all rest : List ℕ)
+    → Consumes r r' (texts_of ts ++ all) → all ≡ text_in t ++ rest
     → Consumes r r' (texts_of (ts ++ t ∷ []) ++ rest)
 read_one_more r r' ts t all rest got e =
     subst (λ (x : List ℕ). Consumes r r' x) (ap (λ (x : List ℕ). texts_of ts ++ x) e ∙ sym (texts_one_more ts t rest)) got
 
-stays_one_more : (ts : List Turn) (t : Turn) → AllByRecursion (λ (u : Turn). GoesOn u.message) ts → GoesOn t.message → AllByRecursion (λ (u : Turn). GoesOn u.message) (ts ++ t ∷ [])
+stays_one_more : (ts : List Turn) (t : Turn) → AllByRecursion (λ (u : Turn). GoesOn u.message) ts
+    → GoesOn t.message → AllByRecursion (λ (u : Turn). GoesOn u.message) (ts ++ t ∷ [])
 stays_one_more [] t all one = (one, tt)
 stays_one_more (s ∷ ts) t all one = (all.0, stays_one_more ts t all.1 one)
 
@@ -97,9 +105,12 @@ stays_one_more (s ∷ ts) t all one = (all.0, stays_one_more ts t all.1 one)
 abbrev pub turn_of : {all : List ℕ} {w : Whole} → ℕ → IsWhole all w → Turn
 turn_of moment is = record { message = is.message; moment = moment }
 
-pub going_message : {r r' w w' w'' k k' k'' : Option (List ℕ)} {c c' c'' : Seen} {count : ℕ} (m : ℕ) (all rest : List ℕ) (count' : ℕ) (p : Whole)
-    → Going r r' w w' k k' c c' all count → (is : IsWhole all p) → p.closes ≡ false → rest ≡ drop p.length all → count' ≡ count + 1
-    → AreReadings k' k'' (readings_for m (asked p)) → (c''.honest → c'.honest) → IsAnswered w' w'' c' c'' (asked p) (commands_for m (asked p))
+pub going_message : {r r' w w' w'' k k' k'' : Option (List ℕ)} {c c' c'' : Seen} {count : ℕ} (m : ℕ)
+    (all rest : List ℕ) (count' : ℕ) (p : Whole)
+    → Going r r' w w' k k' c c' all count → (is : IsWhole all p) → p.closes ≡ false → rest ≡ drop p.length all
+    → count' ≡ count + 1
+    → AreReadings k' k'' (readings_for m (asked p)) → (c''.honest → c'.honest)
+    → IsAnswered w' w'' c' c'' (asked p) (commands_for m (asked p))
     → Going r r' w w'' k k'' c c'' rest count'
 going_message {r = r} {r' = r'} m all rest count' p g is on left n reading honest a =
     let t : Turn = turn_of m is in record {
@@ -112,7 +123,8 @@ going_message {r = r} {r' = r'} m all rest count' p g is on left n reading hones
 
 -- ---- ends where the bank took all that it was given
 
-stop_all : (c : Seen) (log cs ds : List Command) → cs ≡ ds → StandsAt c (behind log ds) → LeavesOnly c (ShowsBeginning log cs (length ds))
+stop_all : (c : Seen) (log cs ds : List Command) → cs ≡ ds → StandsAt c (behind log ds)
+    → LeavesOnly c (ShowsBeginning log cs (length ds))
 stop_all c log cs ds e s = leaves_weaker c (λ t. Shows t (behind log ds)) (ShowsBeginning log cs (length ds))
     (λ t shown. record {
       count = length ds;
@@ -123,10 +135,13 @@ stop_all c log cs ds e s = leaves_weaker c (λ t. Shows t (behind log ds)) (Show
     s.stop
 
 -- the messages were answered, and then so much was written
-end_with : {C : Type 0} (seen : C → Seen) {r r' w w' w'' k k' : Option (List ℕ)} (old new : C) (result : Result ℕ ServeFault) (ts : List Turn) (rest : List ℕ) (last : List (List ℕ)) (more : List ℕ)
-    → Consumes r r' (texts_of ts ++ rest) → AreAnswered w w' k k' (seen old) (seen new) ts → Appends w' w'' more
+end_with : {C : Type 0} (seen : C → Seen) {r r' w w' w'' k k' : Option (List ℕ)} (old new : C)
+    (result : Result ℕ ServeFault) (ts : List Turn) (rest : List ℕ) (last : List (List ℕ)) (more : List ℕ)
+    → Consumes r r' (texts_of ts ++ rest) → AreAnswered w w' k k' (seen old) (seen new) ts
+    → Appends w' w'' more
     → Exits seen result r' old new new ts [] rest last
-    → ((text : List ℕ) → IsWritten result (text ++ more) (text ++ joined last)) → Serves seen r r' w w'' k k' old new result
+    → ((text : List ℕ) → IsWritten result (text ++ more) (text ++ joined last))
+    → Serves seen r r' w w'' k k' old new result
 end_with seen {r = r} {r' = r'} {w = w} {w' = w'} {w'' = w''} {k = k} {k' = k'} old new result ts rest last more read a wrote exits writes =
     let none : ts ++ [] ≡ ts = append-nil ts in
     record {
@@ -150,7 +165,8 @@ end_with seen {r = r} {r' = r'} {w = w} {w' = w'} {w'' = w''} {k = k} {k' = k'} 
     }
 
 -- nothing remains
-pub end_finished : {C : Type 0} (seen : C → Seen) {r r' w w' k k' : Option (List ℕ)} (old new : C) {count : ℕ} (rest : List ℕ)
+pub end_finished : {C : Type 0} (seen : C → Seen) {r r' w w' k k' : Option (List ℕ)} (old new : C) {count : ℕ}
+    (rest : List ℕ)
     → Going r r' w w' k k' (seen old) (seen new) rest count → IsAtEnd r' → rest ≡ []
     → Serves seen r r' w w' k k' old new (Ok count)
 end_finished seen {w' = w'} old new {count = count} rest g ended none =
@@ -161,7 +177,8 @@ end_finished seen {w' = w'} old new {count = count} rest g ended none =
     ) (λ text. refl)
 
 -- the reader failed
-pub end_unread : {C : Type 0} (seen : C → Seen) {r r' w w' k k' : Option (List ℕ)} (old new : C) {count : ℕ} (rest : List ℕ)
+pub end_unread : {C : Type 0} (seen : C → Seen) {r r' w w' k k' : Option (List ℕ)} (old new : C) {count : ℕ}
+    (rest : List ℕ)
     → Going r r' w w' k k' (seen old) (seen new) rest count → BeginsWithNoMessage rest
     → Serves seen r r' w w' k k' old new (Err Read)
 end_unread seen {w' = w'} old new rest g none =
@@ -169,8 +186,10 @@ end_unread seen {w' = w'} old new rest g none =
     (record { stays = g.stays; no_more = none; none_refused = refl; nothing = refl }, refl) (λ text. refl)
 
 -- the answer to a message was the last
-pub end_closed : {C : Type 0} (seen : C → Seen) {r r' w w' w'' k k' k'' : Option (List ℕ)} (old now new : C) {count : ℕ} (m : ℕ) (all : List ℕ) (count' : ℕ) (p : Whole)
-    → Going r r' w w' k k' (seen old) (seen now) all count → (is : IsWhole all p) → p.closes ≡ true → count' ≡ count + 1
+pub end_closed : {C : Type 0} (seen : C → Seen) {r r' w w' w'' k k' k'' : Option (List ℕ)} (old now new : C)
+    {count : ℕ} (m : ℕ) (all : List ℕ) (count' : ℕ) (p : Whole)
+    → Going r r' w w' k k' (seen old) (seen now) all count → (is : IsWhole all p) → p.closes ≡ true
+    → count' ≡ count + 1
     → AreReadings k' k'' (readings_for m (asked p)) → ((seen new).honest → (seen now).honest)
     → IsAnswered w' w'' (seen now) (seen new) (asked p) (commands_for m (asked p))
     → Serves seen r r' w w'' k k'' old new (Ok count')
@@ -199,13 +218,15 @@ end_closed seen {r = r} {r' = r'} {w'' = w''} old now new m all count' p g is la
 -- ---- a 400
 
 -- what remains is answered by a 400, since no more comes
-pub short_walk : {r r' w w' k k' : Option (List ℕ)} {c c' : Seen} {count : ℕ} {shown : Bool} (rest : List ℕ) (g : Going r r' w w' k k' c c' rest count) → IsUnfinished rest shown
+pub short_walk : {r r' w w' k k' : Option (List ℕ)} {c c' : Seen} {count : ℕ} {shown : Bool} (rest : List ℕ)
+    (g : Going r r' w w' k k' c c' rest count) → IsUnfinished rest shown
     → IsAtEnd r' → rest ≢ [] → IsWalked r' g.turns [] rest (refusal shown ∷ [])
 short_walk rest g is ended some =
     record { ending = is.ending; walks = walks_end g.turns rest is.ending g.stays (is.ends some); last_is = sym is.told; ended = inl ended; none_refused = refl }
 
 -- whatever comes
-pub hopeless_walk : {r r' w w' k k' : Option (List ℕ)} {c c' : Seen} {count : ℕ} {shown : Bool} (rest : List ℕ) (g : Going r r' w w' k k' c c' rest count) → IsHopeless rest shown
+pub hopeless_walk : {r r' w w' k k' : Option (List ℕ)} {c c' : Seen} {count : ℕ} {shown : Bool}
+    (rest : List ℕ) (g : Going r r' w w' k k' c c' rest count) → IsHopeless rest shown
     → IsWalked r' g.turns [] rest (refusal shown ∷ [])
 hopeless_walk rest g is =
     record {
@@ -217,8 +238,10 @@ hopeless_walk rest g is =
     }
 
 -- it was written
-pub end_told : {C : Type 0} (seen : C → Seen) {r r' w w' w'' k k' : Option (List ℕ)} (old new : C) {count : ℕ} (shown : Bool) (count' : ℕ) (rest : List ℕ)
-    (g : Going r r' w w' k k' (seen old) (seen new) rest count) → IsWalked r' g.turns [] rest (refusal shown ∷ [])
+pub end_told : {C : Type 0} (seen : C → Seen) {r r' w w' w'' k k' : Option (List ℕ)} (old new : C) {count : ℕ}
+    (shown : Bool) (count' : ℕ) (rest : List ℕ)
+    (g : Going r r' w w' k k' (seen old) (seen new) rest count)
+    → IsWalked r' g.turns [] rest (refusal shown ∷ [])
     → ((n : ℕ) × Appends w' w'' (take n (refusal shown)) × (n ≡ length (refusal shown))) → count' ≡ count + 1
     → Serves seen r r' w w'' k k' old new (Ok count')
 end_told seen {w' = w'} {w'' = w''} old new shown count' rest g walked told one =
@@ -233,9 +256,11 @@ written_part a b t u ea eb =
     ∙ ap (λ (j : ℕ). take j (t ++ u)) (ap (λ (x : List ℕ). length x + length b) (sym ea) ∙ sym (length-append a b))
 
 -- it was written in part
-pub end_untold : {C : Type 0} (seen : C → Seen) {r r' w w' w'' k k' : Option (List ℕ)} (old new : C) {count : ℕ} (shown : Bool) (n : ℕ) (rest : List ℕ)
+pub end_untold : {C : Type 0} (seen : C → Seen) {r r' w w' w'' k k' : Option (List ℕ)} (old new : C)
+    {count : ℕ} (shown : Bool) (n : ℕ) (rest : List ℕ)
     (g : Going r r' w w' k k' (seen old) (seen new) rest count)
-    → IsWalked r' g.turns [] rest (refusal shown ∷ []) → Appends w' w'' (take n (refusal shown)) → Serves seen r r' w w'' k k' old new (Err Write)
+    → IsWalked r' g.turns [] rest (refusal shown ∷ []) → Appends w' w'' (take n (refusal shown))
+    → Serves seen r r' w w'' k k' old new (Err Write)
 end_untold seen old new shown n rest g walked wrote =
     end_with seen old new (Err Write) g.turns rest (refusal shown ∷ []) (take n (refusal shown)) g.read g.answered wrote (At_last walked refl)
     (λ text. written_part text (take n (refusal shown)) text (refusal shown ++ []) refl
@@ -244,18 +269,23 @@ end_untold seen old new shown n rest g walked wrote =
 -- ---- ends at a message
 
 -- its answer was written in part
-answer_begun : {C : Type 0} (seen : C → Seen) {r r' w w' w'' k k' k'' : Option (List ℕ)} (old now new : C) {count : ℕ} (t : Turn) (all rest : List ℕ)
-    → Going r r' w w' k k' (seen old) (seen now) all count → IsMessage t.message → all ≡ text_in t ++ rest → AreReadings k' k'' (moments_in t)
+answer_begun : {C : Type 0} (seen : C → Seen) {r r' w w' w'' k k' k'' : Option (List ℕ)} (old now new : C)
+    {count : ℕ} (t : Turn) (all rest : List ℕ)
+    → Going r r' w w' k k' (seen old) (seen now) all count → IsMessage t.message → all ≡ text_in t ++ rest
+    → AreReadings k' k'' (moments_in t)
     → ((seen new).honest → (seen now).honest)
-    → IsAnsweredInPart w' w'' (seen now) (seen new) (asked_by t.message) (commands_in t) → Serves seen r r' w w'' k k'' old new (Err Write)
+    → IsAnsweredInPart w' w'' (seen now) (seen new) (asked_by t.message) (commands_in t)
+    → Serves seen r r' w w'' k k'' old new (Err Write)
 answer_begun seen {r = r} {r' = r'} {w = w} {w' = w'} {w'' = w''} {k = k} {k' = k'} {k'' = k''} old now new t all rest g is front reading honest a =
     let before = g.turns in
     let ts = before ++ t ∷ [] in
     let none : ts ++ [] ≡ ts = append-nil ts in
     let commands : commands_of ts ≡ commands_of before ++ commands_in t =
-    flat_map-append commands_in before (t ∷ []) ∙ ap (λ (x : List Command). commands_of before ++ x) (append-nil (commands_in t)) in
+    flat_map-append commands_in before (t ∷ [])
+    ∙ ap (λ (x : List Command). commands_of before ++ x) (append-nil (commands_in t)) in
     let moments : moments_of ts ≡ moments_of before ++ moments_in t =
-    flat_map-append moments_in before (t ∷ []) ∙ ap (λ (x : List ℕ). moments_of before ++ x) (append-nil (moments_in t)) in
+    flat_map-append moments_in before (t ∷ [])
+    ∙ ap (λ (x : List ℕ). moments_of before ++ x) (append-nil (moments_in t)) in
     let takes : Takes (seen old) (seen new) (commands_of ts) =
     subst (λ (x : List Command). Takes (seen old) (seen new) x) (sym commands)
     (takes_append (seen old) (seen now) (seen new) (commands_of before) (commands_in t) honest g.answered.takes a.takes) in
@@ -286,11 +316,13 @@ answer_begun seen {r = r} {r' = r'} {w = w} {w' = w'} {w'' = w''} {k = k} {k' = 
     }
 
 -- what a stop leaves where the last commands were refused
-stop_part : (c : Seen) (log cs ds es : List Command) → es ≡ cs ++ ds → LeavesOnly c (ShowsBeginning (behind log cs) ds 0)
+stop_part : (c : Seen) (log cs ds es : List Command) → es ≡ cs ++ ds
+    → LeavesOnly c (ShowsBeginning (behind log cs) ds 0)
     → LeavesOnly c (ShowsBeginning log es (length cs))
 stop_part c log cs ds es e stop = leaves_weaker c (ShowsBeginning (behind log cs) ds 0) (ShowsBeginning log es (length cs))
     (λ t b.
-    let begins : take (length cs + b.count) es ≡ cs ++ take b.count ds = ap (take (length cs + b.count)) e ∙ take-append-add cs ds b.count in
+    let begins : take (length cs + b.count) es ≡ cs ++ take b.count ds = ap (take (length cs + b.count)) e
+    ∙ take-append-add cs ds b.count in
     record {
       count = length cs + b.count;
       holds = omega arith;
@@ -300,7 +332,8 @@ stop_part c log cs ds es e stop = leaves_weaker c (ShowsBeginning (behind log cs
     stop
 
 -- what a stop leaves of a counter that refused commands
-refused_stop : (fault : Fault) (c c' : Seen) (log cs : List Command) → Refuses fault c c' cs → c'.honest → StandsAt c log
+refused_stop : (fault : Fault) (c c' : Seen) (log cs : List Command) → Refuses fault c c' cs → c'.honest
+    → StandsAt c log
     → LeavesOnly c' (ShowsBeginning log cs 0)
 refused_stop bank.Memory c c' log cs u h s = leaves_weaker c' (λ t. Shows t log) (ShowsBeginning log cs 0)
     (λ t shown. record { count = 0; holds = omega arith; within = omega arith; shows = shown })
@@ -310,18 +343,23 @@ refused_stop bank.Down c c' log cs u h s = absurd (s.up u.before)
 refused_stop (bank.Damaged rule) c c' log cs u h s = absurd (u.never_shown h log s.shows)
 
 -- the bank refused it, and so much was written
-bank_failed : {C : Type 0} (seen : C → Seen) {r r' w w' w'' k k' k'' : Option (List ℕ)} (old now new : C) {count : ℕ} (result : Result ℕ ServeFault) (t : Turn) (all rest : List ℕ) (more : List ℕ)
-    (fault : Fault) (g : Going r r' w w' k k' (seen old) (seen now) all count) → all ≡ text_in t ++ rest → AreReadings k' k'' (moments_in t)
+bank_failed : {C : Type 0} (seen : C → Seen) {r r' w w' w'' k k' k'' : Option (List ℕ)} (old now new : C)
+    {count : ℕ} (result : Result ℕ ServeFault) (t : Turn) (all rest : List ℕ) (more : List ℕ)
+    (fault : Fault) (g : Going r r' w w' k k' (seen old) (seen now) all count) → all ≡ text_in t ++ rest
+    → AreReadings k' k'' (moments_in t)
     → Appends w' w'' more → (b : IsRefusedAt seen now new fault (commands_in t))
     → Exits seen result r' old b.stood new g.turns (t ∷ []) rest (unavailable (asked_by t.message) ∷ [])
-    → ((text : List ℕ) → IsWritten result (text ++ more) (text ++ (unavailable (asked_by t.message) ++ []))) → Serves seen r r' w w'' k k'' old new result
+    → ((text : List ℕ) → IsWritten result (text ++ more) (text ++ (unavailable (asked_by t.message) ++ [])))
+    → Serves seen r r' w w'' k k'' old new result
 bank_failed seen {r = r} {r' = r'} {w = w} {w' = w'} {w'' = w''} {k = k} {k' = k'} {k'' = k''} old now new result t all rest more fault g front reading wrote b exits writes =
     let before = g.turns in
     let last = unavailable (asked_by t.message) ∷ [] in
     let commands : commands_of (before ++ t ∷ []) ≡ commands_of before ++ commands_in t =
-    flat_map-append commands_in before (t ∷ []) ∙ ap (λ (x : List Command). commands_of before ++ x) (append-nil (commands_in t)) in
+    flat_map-append commands_in before (t ∷ [])
+    ∙ ap (λ (x : List Command). commands_of before ++ x) (append-nil (commands_in t)) in
     let moments : moments_of (before ++ t ∷ []) ≡ moments_of before ++ moments_in t =
-    flat_map-append moments_in before (t ∷ []) ∙ ap (λ (x : List ℕ). moments_of before ++ x) (append-nil (moments_in t)) in
+    flat_map-append moments_in before (t ∷ [])
+    ∙ ap (λ (x : List ℕ). moments_of before ++ x) (append-nil (moments_in t)) in
     let takes : Takes (seen old) (seen b.stood) (commands_of before) =
     subst (λ (x : List Command). Takes (seen old) (seen b.stood) x) (append-nil (commands_of before))
     (takes_append (seen old) (seen now) (seen b.stood) (commands_of before) [] b.honest_first g.answered.takes b.takes) in
@@ -351,10 +389,13 @@ bank_failed seen {r = r} {r' = r'} {w = w} {w' = w'} {w'' = w''} {k = k} {k' = k
 one_commands : (t : Turn) → commands_in t ≡ commands_of (t ∷ [])
 one_commands t = sym (append-nil (commands_in t))
 
-broken_at : {C : Type 0} (seen : C → Seen) (fault : ServeFault) {r r' w w' w'' k k' k'' : Option (List ℕ)} (old now new : C) {count : ℕ} (t : Turn) (all rest : List ℕ)
-    → Going r r' w w' k k' (seen old) (seen now) all count → IsMessage t.message → all ≡ text_in t ++ rest → AreReadings k' k'' (moments_in t)
+broken_at : {C : Type 0} (seen : C → Seen) (fault : ServeFault) {r r' w w' w'' k k' k'' : Option (List ℕ)}
+    (old now new : C) {count : ℕ} (t : Turn) (all rest : List ℕ)
+    → Going r r' w w' k k' (seen old) (seen now) all count → IsMessage t.message → all ≡ text_in t ++ rest
+    → AreReadings k' k'' (moments_in t)
     → ((seen new).honest → (seen now).honest)
-    → BreaksOff seen fault w' w'' now new (asked_by t.message) (commands_in t) → Serves seen r r' w w'' k k'' old new (Err fault)
+    → BreaksOff seen fault w' w'' now new (asked_by t.message) (commands_in t)
+    → Serves seen r r' w w'' k k'' old new (Err fault)
 broken_at seen Write old now new t all rest g is front reading honest (inl a) = answer_begun seen old now new t all rest g is front reading honest a
 broken_at seen Write old now new t all rest g is front reading honest (inr a) =
     bank_failed seen old now new (Err Write) t all rest a.written a.fault g front reading a.wrote a.refused
@@ -371,10 +412,14 @@ broken_at seen (Bank fault) old now new t all rest g is front reading honest a =
 broken_at seen Read old now new t all rest g is front reading honest a = absurd a
 broken_at seen Memory old now new t all rest g is front reading honest a = absurd a
 
-pub end_broken : {C : Type 0} (seen : C → Seen) (fault : ServeFault) {r r' w w' w'' k k' k'' : Option (List ℕ)} (old now new : C) {count : ℕ} (m : ℕ) (all : List ℕ) (p : Whole)
-    → Going r r' w w' k k' (seen old) (seen now) all count → IsWhole all p → AreReadings k' k'' (readings_for m (asked p))
+pub end_broken : {C : Type 0} (seen : C → Seen) (fault : ServeFault)
+    {r r' w w' w'' k k' k'' : Option (List ℕ)} (old now new : C) {count : ℕ} (m : ℕ) (all : List ℕ)
+    (p : Whole)
+    → Going r r' w w' k k' (seen old) (seen now) all count → IsWhole all p
+    → AreReadings k' k'' (readings_for m (asked p))
     → ((seen new).honest → (seen now).honest)
-    → BreaksOff seen fault w' w'' now new (asked p) (commands_for m (asked p)) → Serves seen r r' w w'' k k'' old new (Err fault)
+    → BreaksOff seen fault w' w'' now new (asked p) (commands_for m (asked p))
+    → Serves seen r r' w w'' k k'' old new (Err fault)
 end_broken seen fault {w' = w'} {w'' = w''} {k' = k'} {k'' = k''} old now new m all p g is reading honest a =
     broken_at seen fault old now new (turn_of m is) all (drop p.length all) g is.whole is.front
     (subst (λ (x : Asked). AreReadings k' k'' (readings_for m x)) is.asks reading) honest
@@ -388,7 +433,8 @@ unfinished_none [] is = no_message Finished [] refl
 unfinished_none (b ∷ bs) is = no_message is.ending (b ∷ bs) (is.ends (λ e. let len = ap length e in absurd (omega arith)))
 
 -- nothing was read
-pub same_front : (old new bytes : List ℕ) (filled n : ℕ) → n ≡ 0 → filled ≤ length old → filled ≤ length new → take (filled + n) new ≡ take filled old ++ bytes
+pub same_front : (old new bytes : List ℕ) (filled n : ℕ) → n ≡ 0 → filled ≤ length old → filled ≤ length new
+    → take (filled + n) new ≡ take filled old ++ bytes
     → take filled new ≡ take filled old
 same_front old new bytes filled n none fits fits' e =
     let plain : filled + n ≡ filled = omega arith in
@@ -418,7 +464,8 @@ message_long {all = all} {p = p} is =
     )
 
 -- memory was refused before anything was read
-pub untouched : {C : Type 0} (seen : C → Seen) {r w k : Option (List ℕ)} (c : C) → Serves seen r r w w k k c c (Err Memory)
+pub untouched : {C : Type 0} (seen : C → Seen) {r w k : Option (List ℕ)} (c : C)
+    → Serves seen r r w w k k c c (Err Memory)
 untouched seen {r = r} {w = w} c =
     end_with seen c c (Err Memory) [] [] [] [] (Consumes-nil r) answered_none (Appends-nil w)
     (record { none_taken = refl; none_refused = refl; no_rest = refl; nothing = refl }, refl) (λ text. refl)

@@ -18,13 +18,15 @@ pub some_more : (buf more : List ℕ) → 0 < length buf → buf ++ more ≢ []
 some_more buf more some e = let len = ap length e in absurd (omega (arith, length-append buf more, len))
 
 -- the head that stands at the front has no more fields than there was room for
-few_fields : (buf : List ℕ) (headers : List HeaderSpan) (count : ℕ) (h : RequestHead) → AreFieldsAt buf headers count h.fields → count ≤ length headers
+few_fields : (buf : List ℕ) (headers : List HeaderSpan) (count : ℕ) (h : RequestHead)
+    → AreFieldsAt buf headers count h.fields → count ≤ length headers
     → length h.fields ≡ count
 few_fields buf headers count h are fits =
     let len = ap length are in
     omega (arith, len, length-map (take count headers) (header_bytes buf), length-map h.fields name_and_value, length-take count headers)
 
-pub head_is : (buf : List ℕ) (headers : List HeaderSpan) (r : RequestSpans) (h : RequestHead) → length headers ≡ 32 → IsRequestWithin buf headers r
+pub head_is : (buf : List ℕ) (headers : List HeaderSpan) (r : RequestSpans) (h : RequestHead)
+    → length headers ≡ 32 → IsRequestWithin buf headers r
     → IsRequestAt buf headers r h → r.len ≤ 8192 → IsHead h
 head_is buf headers r h room within at long = record {
   head = at.reads.0;
@@ -33,7 +35,8 @@ head_is buf headers r h room within at long = record {
 }
 
 -- a head that is too long stands at the front
-pub too_long : (buf : List ℕ) (headers : List HeaderSpan) (r : RequestSpans) → IsRequestWithin buf headers r → IsRequestOf buf headers r → 8192 < r.len
+pub too_long : (buf : List ℕ) (headers : List HeaderSpan) (r : RequestSpans) → IsRequestWithin buf headers r
+    → IsRequestOf buf headers r → 8192 < r.len
     → AlwaysEnds No_head buf
 too_long buf headers r within found long more = (
   some_more buf more (omega (arith, within.section.len_fits)),
@@ -50,7 +53,8 @@ too_far buf none long more = (
   λ h behind is e.
       let text = print_request h in
       let fits : length text ≤ length buf = omega (arith, is.bytes) in
-      let front : take (length text) buf ≡ text = sym (take-append-le (length text) buf more fits) ∙ ap (take (length text)) e ∙ take-append_seam text behind in
+      let front : take (length text) buf ≡ text = sym (take-append-le (length text) buf more fits)
+      ∙ ap (take (length text)) e ∙ take-append_seam text behind in
       none h (drop (length text) buf) (is.head, sym (take-append-drop (length text) buf) ∙ ap (λ (t : List ℕ). t ++ drop (length text) buf) front),
 )
 
@@ -68,12 +72,14 @@ no_head_yet buf none some = (some, λ h behind is e. none h behind (is.head, e))
 -- ---- a head, and what stands behind it
 
 -- what the fields say is read off their spans
-pub fields_say : {X : Type 0} (F : List NamedValue → X) (buf : List ℕ) (headers : List HeaderSpan) (r : RequestSpans) (h : RequestHead) → IsRequestAt buf headers r h
+pub fields_say : {X : Type 0} (F : List NamedValue → X) (buf : List ℕ) (headers : List HeaderSpan)
+    (r : RequestSpans) (h : RequestHead) → IsRequestAt buf headers r h
     → F (map (header_bytes buf) (take r.headers headers)) ≡ F (named_values h)
 fields_say F buf headers r h at = ap F at.fields
 
 -- the body can't be told
-pub no_length : (buf : List ℕ) (r : RequestSpans) (h : RequestHead) → IsHead h → ReadsRequest buf h (drop r.len buf) → body_length (named_values h) ≡ None
+pub no_length : (buf : List ℕ) (r : RequestSpans) (h : RequestHead) → IsHead h
+    → ReadsRequest buf h (drop r.len buf) → body_length (named_values h) ≡ None
     → AlwaysEnds (No_body h) buf
 no_length buf r h is reads none more = (
   is,
@@ -85,13 +91,15 @@ no_length buf r h is reads none more = (
 )
 
 -- it isn't there yet
-pub short_body : (buf : List ℕ) (r : RequestSpans) (h : RequestHead) (n : ℕ) → IsHead h → ReadsRequest buf h (drop r.len buf) → body_length (named_values h) ≡ Some n
+pub short_body : (buf : List ℕ) (r : RequestSpans) (h : RequestHead) (n : ℕ) → IsHead h
+    → ReadsRequest buf h (drop r.len buf) → body_length (named_values h) ≡ Some n
     → length (drop r.len buf) < n → Ends (No_body h) buf
 short_body buf r h n is reads some short =
     (is, (drop r.len buf, reads.1, subst (λ (o : Option ℕ). LacksBody o (drop r.len buf)) (sym some) short))
 
 -- it is there
-pub whole_message : (buf : List ℕ) (r : RequestSpans) (h : RequestHead) (n : ℕ) → IsHead h → ReadsRequest buf h (drop r.len buf) → r.len ≡ length (print_request h)
+pub whole_message : (buf : List ℕ) (r : RequestSpans) (h : RequestHead) (n : ℕ) → IsHead h
+    → ReadsRequest buf h (drop r.len buf) → r.len ≡ length (print_request h)
     → body_length (named_values h) ≡ Some n → n ≤ length (drop r.len buf)
     → IsMessage (record { head = h; body = take n (drop r.len buf) })
     × (buf ≡ message_text (record { head = h; body = take n (drop r.len buf) }) ++ drop (r.len + n) buf)
@@ -112,10 +120,13 @@ at_err {A = A} {E = E} {P = P} r e is h = subst (λ (q : Result A E). OnErr q P)
 -- ---- the end of the connection
 
 pub closes_old : (h : RequestHead) (v : ℕ) → v ≡ h.minor → v ≡ 0 → eqb v 0 ≡ closes h
-closes_old h v is zero = eq-eqb v 0 zero ∙ (let old : eqb h.minor 0 ≡ true = eq-eqb h.minor 0 (sym is ∙ zero) in rw old refl)
+closes_old h v is zero =
+    eq-eqb v 0 zero ∙ (let old : eqb h.minor 0 ≡ true = eq-eqb h.minor 0 (sym is ∙ zero) in rw old refl)
 
-pub closes_asked : (h : RequestHead) (v : ℕ) → v ≡ h.minor → (v ≡ 0 → ⊥) → asks_to_close (named_values h) ≡ closes h
-closes_asked h v is not = let new : eqb h.minor 0 ≡ false = ne_eqb h.minor 0 (λ e. not (is ∙ e)) in rw new refl
+pub closes_asked : (h : RequestHead) (v : ℕ) → v ≡ h.minor → (v ≡ 0 → ⊥)
+    → asks_to_close (named_values h) ≡ closes h
+closes_asked h v is not =
+    let new : eqb h.minor 0 ≡ false = ne_eqb h.minor 0 (λ e. not (is ∙ e)) in rw new refl
 
 abbrev pub asked_as : List ℕ → List ℕ → List ℕ → Bool → Asked
 asked_as m t b x = record { method = m; target = t; body = b; closes = x }

@@ -77,7 +77,8 @@ none_either : (b : Bool) → none ≡ cond b none none
 none_either true = refl
 none_either false = refl
 
-behind_stated : (n : ℕ) (fs : List NamedValue) → length_behind (Some n) fs ≡ cond (coded fs) None (only n (lengths fs))
+behind_stated : (n : ℕ) (fs : List NamedValue)
+    → length_behind (Some n) fs ≡ cond (coded fs) None (only n (lengths fs))
 behind_stated n [] = refl
 behind_stated n (f ∷ fs) = elim (cases_Bool (is_named (codes "transfer-encoding") f)) [
   | inl t ↦ rw t refl
@@ -95,7 +96,8 @@ one_value f fs None e = refused (lengths fs) (coded fs)
     refused : (vs : List (List ℕ)) (b : Bool) → None ≡ cond b None (length_by (f.1 ∷ vs))
     refused [] b = rw e (none_either b)
     refused (v ∷ vs) b = none_either b
-one_value f fs (Some n) e = behind_stated n fs ∙ ap (λ (o : Option ℕ). cond (coded fs) None o) (same (lengths fs))
+one_value f fs (Some n) e =
+    behind_stated n fs ∙ ap (λ (o : Option ℕ). cond (coded fs) None o) (same (lengths fs))
   where
     same : (vs : List (List ℕ)) → only n vs ≡ length_by (f.1 ∷ vs)
     same [] = sym e
@@ -130,7 +132,8 @@ pub few_stated : (digits : List ℕ) → IsFew (stated_length digits)
 few_stated [] = tt
 few_stated (c ∷ cs) = rw (stated_from (c ∷ cs) (omega arith)) (few_from 0 (c ∷ cs))
 
-few_on : (fs : List NamedValue) (o new : Option ℕ) → IsFew new → ((n : ℕ) → n ≤ 4096 → IsFew (length_behind (Some n) fs))
+few_on : (fs : List NamedValue) (o new : Option ℕ) → IsFew new
+    → ((n : ℕ) → n ≤ 4096 → IsFew (length_behind (Some n) fs))
     → IsFew (on_stated o new (λ p. length_behind p fs))
 few_on fs (Some n) new h go = tt
 few_on fs None None h go = tt
@@ -152,27 +155,34 @@ few_length fs = rw (length_is fs) (few_behind None fs tt)
 
 -- ---- one field after another
 
-pub field_there : (buf : List ℕ) (fields : List HeaderSpan) (i : ℕ) (f : HeaderSpan) → i < length fields → f ≡ get_or fields i f
+pub field_there : (buf : List ℕ) (fields : List HeaderSpan) (i : ℕ) (f : HeaderSpan) → i < length fields
+    → f ≡ get_or fields i f
     → map (header_bytes buf) (drop i fields) ≡ header_bytes buf f ∷ map (header_bytes buf) (drop (i + 1) fields)
 field_there buf fields i f lt is =
     let there : drop i fields ≡ f ∷ drop (i + 1) fields = rw add-one (drop-cons fields i f lt ∙ ap (λ (x : HeaderSpan). x ∷ drop (suc i) fields) (sym is)) in
     ap (λ (t : List HeaderSpan). map (header_bytes buf) t) there
 
-pub names_coding : (stated : Option ℕ) (f : NamedValue) (fs : List NamedValue) → is_named (codes "transfer-encoding") f ≡ true → length_behind stated (f ∷ fs) ≡ None
+pub names_coding : (stated : Option ℕ) (f : NamedValue) (fs : List NamedValue)
+    → is_named (codes "transfer-encoding") f ≡ true → length_behind stated (f ∷ fs) ≡ None
 names_coding stated f fs t = rw t refl
 
-pub names_length : (stated : Option ℕ) (f : NamedValue) (fs : List NamedValue) → is_named (codes "transfer-encoding") f ≡ false
-    → is_named (codes "content-length") f ≡ true → length_behind stated (f ∷ fs) ≡ on_stated stated (stated_length f.1) (λ o. length_behind o fs)
+pub names_length : (stated : Option ℕ) (f : NamedValue) (fs : List NamedValue)
+    → is_named (codes "transfer-encoding") f ≡ false
+    → is_named (codes "content-length") f ≡ true
+    → length_behind stated (f ∷ fs) ≡ on_stated stated (stated_length f.1) (λ o. length_behind o fs)
 names_length stated f fs u t = rw (u, t) refl
 
-pub names_other : (stated : Option ℕ) (f : NamedValue) (fs : List NamedValue) → is_named (codes "transfer-encoding") f ≡ false
+pub names_other : (stated : Option ℕ) (f : NamedValue) (fs : List NamedValue)
+    → is_named (codes "transfer-encoding") f ≡ false
     → is_named (codes "content-length") f ≡ false → length_behind stated (f ∷ fs) ≡ length_behind stated fs
 names_other stated f fs u v = rw (u, v) refl
 
 -- ---- the fields `Connection`
 
-pub names_connection : (f : NamedValue) (fs : List NamedValue) → is_named (codes "connection") f ≡ true → asks_to_close (f ∷ fs) ≡ (has_close f.1 || asks_to_close fs)
+pub names_connection : (f : NamedValue) (fs : List NamedValue) → is_named (codes "connection") f ≡ true
+    → asks_to_close (f ∷ fs) ≡ (has_close f.1 || asks_to_close fs)
 names_connection f fs t = rw t refl
 
-pub names_another : (f : NamedValue) (fs : List NamedValue) → is_named (codes "connection") f ≡ false → asks_to_close (f ∷ fs) ≡ asks_to_close fs
+pub names_another : (f : NamedValue) (fs : List NamedValue) → is_named (codes "connection") f ≡ false
+    → asks_to_close (f ∷ fs) ≡ asks_to_close fs
 names_another f fs u = rw u refl

@@ -31,7 +31,8 @@ pub asking_first : {C : Type 0} (seen : C → Seen) (c : C) → Asking seen c c
 asking_first seen c = record { honest = λ h. h; up = λ d. d; takes = record { shows = λ h log s. s; stands = λ h log s. s } }
 
 -- one call more
-pub asking_more : {C : Type 0} (seen : C → Seen) (old now new : C) → Asking seen old now → Takes (seen now) (seen new) []
+pub asking_more : {C : Type 0} (seen : C → Seen) (old now new : C) → Asking seen old now
+    → Takes (seen now) (seen new) []
     → ((seen new).is_down → ⊥) → ((seen new).honest → (seen now).honest) → Asking seen old new
 asking_more seen old now new a takes up honest = record {
   honest = λ h. a.honest (honest h);
@@ -44,12 +45,14 @@ asking_more seen old now new a takes up honest = record {
 
 -- the next one was refused
 pub asking_refused : {C : Type 0} (seen : C → Seen) (old now new : C) (fault : Fault) → Asking seen old now
-    → Refuses fault (seen now) (seen new) [] → ((seen new).honest → (seen now).honest) → IsRefusedAt seen old new fault []
+    → Refuses fault (seen now) (seen new) [] → ((seen new).honest → (seen now).honest)
+    → IsRefusedAt seen old new fault []
 asking_refused seen old now new fault a refuses honest =
     record { stood = now; honest_first = a.honest; honest = honest; up = a.up; takes = a.takes; refuses = refuses }
 
 -- memory for what it answered was refused
-pub asking_full : {C : Type 0} (seen : C → Seen) (old now : C) → Asking seen old now → IsRefusedAt seen old now Memory []
+pub asking_full : {C : Type 0} (seen : C → Seen) (old now : C) → Asking seen old now
+    → IsRefusedAt seen old now Memory []
 asking_full seen old now a = record {
   stood = now;
   honest_first = a.honest;
@@ -65,16 +68,19 @@ asking_full seen old now a = record {
 abbrev NoneBetween : List Command → ℕ → ℕ → Type 0
 NoneBetween log low high = (b : ℕ) → low < b → b < high → opened log b ≡ None
 
-skipped : (log : List Command) (low high n : ℕ) → NoneBetween log low high → low ≤ n → n < high → lines_up_to log n ≡ lines_up_to log low
+skipped : (log : List Command) (low high n : ℕ) → NoneBetween log low high → low ≤ n → n < high
+    → lines_up_to log n ≡ lines_up_to log low
 skipped log low high zero none le lt = ap (lines_up_to log) (let e : 0 ≡ low = omega arith in e)
 skipped log low high (suc m) none le lt = elim (cases_lt low (suc m)) [
   | inl more ↦
       let closed : opened log (suc m) ≡ None = none (suc m) more lt in
-      ap (λ (o : Option ℕ). lines_up_to log m ++ line_if_open log (suc m) o) closed ∙ append-nil (lines_up_to log m) ∙ skipped log low high m none (omega arith) (omega arith)
+      ap (λ (o : Option ℕ). lines_up_to log m ++ line_if_open log (suc m) o) closed
+      ∙ append-nil (lines_up_to log m) ∙ skipped log low high m none (omega arith) (omega arith)
   | inr ge ↦ ap (lines_up_to log) (let e : suc m ≡ low = omega arith in e)
 ]
 
-at_branch : (log : List Command) (b accounts : ℕ) (balance : ℤ) → 0 < b → opened log b ≡ Some accounts → balance ≡ branch_balance (decided log) b
+at_branch : (log : List Command) (b accounts : ℕ) (balance : ℤ) → 0 < b → opened log b ≡ Some accounts
+    → balance ≡ branch_balance (decided log) b
     → lines_up_to log b ≡ lines_up_to log (b - 1) ++ branch_line b accounts balance
 at_branch log zero accounts balance some e z = absurd (omega arith)
 at_branch log (suc m) accounts balance some e z =
@@ -91,7 +97,8 @@ next_line log after line is =
     ∙ ap (λ (t : List ℕ). t ++ branch_line line.branch line.accounts line.balance)
     (skipped log after line.branch (line.branch - 1) is.none_between (omega arith) (omega arith))
 
-pub all_listed : (log : List Command) (after : ℕ) → IsNextBranch log after None → after ≤ LAST_BRANCH → lines_up_to log after ≡ branch_lines log
+pub all_listed : (log : List Command) (after : ℕ) → IsNextBranch log after None → after ≤ LAST_BRANCH
+    → lines_up_to log after ≡ branch_lines log
 unfolding branch_lines
 all_listed log after none le = sym (skipped log after (suc LAST_BRANCH) LAST_BRANCH (λ b low high. none b low) le (omega arith))
 
@@ -104,20 +111,24 @@ spaces_are (suc n) = ap (λ (t : List ℕ). 32 ∷ t) (spaces_are n)
 filled : (n : ℕ) → repeat n (encode 32) ≡ replicate n 32
 filled n = ap (λ (t : List ℕ). repeat n t) (encode_ascii 32 (lit< tt)) ∙ spaces_are n
 
-lay : (d s : List ℕ) (m m' z : ℕ) → m' ≡ m → z ≡ 0 → ((repeat m' (encode 32) ++ s) ++ []) ++ [] ++ (d ++ repeat z (encode 32)) ≡ replicate m 32 ++ (s ++ d)
+lay : (d s : List ℕ) (m m' z : ℕ) → m' ≡ m → z ≡ 0
+    → ((repeat m' (encode 32) ++ s) ++ []) ++ [] ++ (d ++ repeat z (encode 32)) ≡ replicate m 32 ++ (s ++ d)
 lay d s m m' z e f = rw (e, f, filled m) (simp (append_assoc, append-nil))
 
-right : (n k : ℕ) → padded_integral (format_spec 32 3 0 n 18446744073709551615) false [] (decimal k) ≡ right_in n (decimal k)
+right : (n k : ℕ)
+    → padded_integral (format_spec 32 3 0 n 18446744073709551615) false [] (decimal k) ≡ right_in n (decimal k)
 unfolding padded_integral char_count
 right n k =
     let d = length (decimal k) in
     lay (decimal k) [] (n - d) (n - d - 0 - 0) (n - d - 0 - 0 - (n - d - 0 - 0)) (omega arith) (omega arith)
 
-right_signed : (n : ℕ) (z : ℤ) → padded_integral (format_spec 32 3 0 n 18446744073709551615) (is_negative z) [] (decimal (nat_abs z)) ≡ right_in n (signed_decimal z)
+right_signed : (n : ℕ) (z : ℤ)
+    → padded_integral (format_spec 32 3 0 n 18446744073709551615) (is_negative z) [] (decimal (nat_abs z)) ≡ right_in n (signed_decimal z)
 unfolding padded_integral char_count
 right_signed n (pos k) =
     let plus : is_negative (pos k) ≡ false = le-ltb k 0 (omega arith) in
-    ap (λ (b : Bool). padded_integral (format_spec 32 3 0 n 18446744073709551615) b [] (decimal k)) plus ∙ right n k
+    ap (λ (b : Bool). padded_integral (format_spec 32 3 0 n 18446744073709551615) b [] (decimal k)) plus
+    ∙ right n k
 right_signed n (negsuc k) =
     let d = length (decimal (suc k)) in
     lay (decimal (suc k)) (45 ∷ []) (n - suc d) (n - d - 1 - 0) (n - d - 1 - 0 - (n - d - 1 - 0)) (omega arith) (omega arith)

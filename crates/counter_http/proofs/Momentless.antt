@@ -33,15 +33,18 @@ reply_alike a b bytes h =
     ∙ ap (λ (es : List Entry). reply_to (request_of bytes) (λ n. opened b n) es) h.entries
     ∙ reply_zeroed (λ n. opened b n) (decided b) (request_of bytes)
 
-balance_alike : (a b : List Command) (account : ℕ) → IsAlike a b → balance_behind a account ≡ balance_behind b account
+balance_alike : (a b : List Command) (account : ℕ) → IsAlike a b
+    → balance_behind a account ≡ balance_behind b account
 balance_alike a b account h =
     let sum : account_balance (decided a) account ≡ account_balance (decided b) account =
-    sym (sum_zeroed (λ r. eqb r.account account) (decided a)) ∙ ap (λ (es : List Entry). account_balance es account) h.entries
+    sym (sum_zeroed (λ r. eqb r.account account) (decided a))
+    ∙ ap (λ (es : List Entry). account_balance es account) h.entries
     ∙ sum_zeroed (λ r. eqb r.account account) (decided b) in
     ap (λ (o : Opened). cond (is_account_open o account) (Some (account_balance (decided a) account)) None) h.opens
     ∙ ap (λ (z : ℤ). cond (is_account_open (λ n. opened b n) account) (Some z) None) sum
 
-line_alike : (a b : List Command) (branch : ℕ) (o : Option ℕ) → IsAlike a b → line_if_open a branch o ≡ line_if_open b branch o
+line_alike : (a b : List Command) (branch : ℕ) (o : Option ℕ) → IsAlike a b
+    → line_if_open a branch o ≡ line_if_open b branch o
 line_alike a b branch None h = refl
 line_alike a b branch (Some accounts) h =
     ap (branch_line branch accounts)
@@ -59,11 +62,13 @@ branches_alike : (a b : List Command) → IsAlike a b → branch_lines a ≡ bra
 unfolding branch_lines
 branches_alike a b h = lines_alike a b LAST_BRANCH h
 
-account_alike : (a b : List Command) (account : Option ℕ) → IsAlike a b → account_answer a account ≡ account_answer b account
+account_alike : (a b : List Command) (account : Option ℕ) → IsAlike a b
+    → account_answer a account ≡ account_answer b account
 account_alike a b None h = refl
 account_alike a b (Some account) h = ap (balance_answer account) (balance_alike a b account h)
 
-on_alike : (a b : List Command) (o : Option Route) (asked : Asked) → IsAlike a b → answer_on a o asked ≡ answer_on b o asked
+on_alike : (a b : List Command) (o : Option Route) (asked : Asked) → IsAlike a b
+    → answer_on a o asked ≡ answer_on b o asked
 on_alike a b None asked h = refl
 on_alike a b (Some Posting) asked h =
     ap (λ (r : ReplyFields). cond (bytes_eq asked.method (codes "POST"))
@@ -82,7 +87,8 @@ answer_alike a b asked h =
 
 -- ---- what stands behind
 
-post_alike : (a b : List Command) (m k : ℕ) (bytes : List ℕ) → IsAlike a b → IsAlike (Post m bytes ∷ a) (Post k bytes ∷ b)
+post_alike : (a b : List Command) (m k : ℕ) (bytes : List ℕ) → IsAlike a b
+    → IsAlike (Post m bytes ∷ a) (Post k bytes ∷ b)
 post_alike a b m k bytes h = record {
   opens = h.opens;
   entries = record_zeroed m (λ n. opened a n) (decided a) (request_of bytes)
@@ -96,7 +102,8 @@ behind_alike : (a b : List Command) (m k : ℕ) (posts : Bool) (bytes : List ℕ
 behind_alike a b m k true bytes h = post_alike a b m k bytes h
 behind_alike a b m k false bytes h = h
 
-answers_alike : (a b : List Command) (ts : List Turn) → IsAlike a b → answers_to a ts ≡ answers_behind b (messages_of ts)
+answers_alike : (a b : List Command) (ts : List Turn) → IsAlike a b
+    → answers_to a ts ≡ answers_behind b (messages_of ts)
 answers_alike a b [] h = refl
 answers_alike a b (t ∷ ts) h =
     let asked = asked_by t.message in
@@ -105,5 +112,6 @@ answers_alike a b (t ∷ ts) h =
     ap (λ (x : List ℕ). x ∷ answers_to (behind a (commands_in t)) ts) (answer_alike a b asked h)
     ∙ ap (λ (xs : List (List ℕ)). answer_of b asked ∷ xs) more
 
-pub momentless : (log : List Command) (ts : List Turn) → answers_to log ts ≡ answers_behind log (messages_of ts)
+pub momentless : (log : List Command) (ts : List Turn)
+    → answers_to log ts ≡ answers_behind log (messages_of ts)
 momentless log ts = answers_alike log log ts (record { opens = refl; entries = refl })

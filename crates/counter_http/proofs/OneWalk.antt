@@ -15,8 +15,10 @@ use Rattle.counter_http.proofs.Walking.{no_message, head_some}
 -- texts of one length at the front of one text
 front_same : (a b x y : List ℕ) → length a ≡ length b → a ++ x ≡ b ++ y → (a ≡ b) × (x ≡ y)
 front_same a b x y len e = (
-  sym (take-append_seam a x) ∙ ap (take (length a)) e ∙ ap (λ (n : ℕ). take n (b ++ y)) len ∙ take-append_seam b y,
-  sym (drop-append_seam a x) ∙ ap (drop (length a)) e ∙ ap (λ (n : ℕ). drop n (b ++ y)) len ∙ drop-append_seam b y,
+  sym (take-append_seam a x) ∙ ap (take (length a)) e ∙ ap (λ (n : ℕ). take n (b ++ y)) len
+      ∙ take-append_seam b y,
+  sym (drop-append_seam a x) ∙ ap (drop (length a)) e ∙ ap (λ (n : ℕ). drop n (b ++ y)) len
+      ∙ drop-append_seam b y,
 )
 
 abbrev message_of : RequestHead → List ℕ → Message
@@ -25,11 +27,13 @@ message_of h body = record { head = h; body = body }
 made : (h k : RequestHead) (x y : List ℕ) → h ≡ k → x ≡ y → message_of h x ≡ message_of k y
 made h k x y eh ex = rw (eh, ex) refl
 
-same_message : (m n : Message) (a b : List ℕ) → IsMessage m → IsMessage n → message_text m ++ a ≡ message_text n ++ b → (m ≡ n) × (a ≡ b)
+same_message : (m n : Message) (a b : List ℕ) → IsMessage m → IsMessage n
+    → message_text m ++ a ≡ message_text n ++ b → (m ≡ n) × (a ≡ b)
 same_message m n a b im jn e =
     let same = request_unique (message_text m ++ a) m.head n.head (m.body ++ a) (n.body ++ b) (im.head.head, append_assoc (print_request m.head) m.body a)
     (jn.head.head, e ∙ append_assoc (print_request n.head) n.body b) in
-    let lengths : Some (length m.body) ≡ Some (length n.body) = sym im.body ∙ ap (λ (h : RequestHead). body_length (named_values h)) same.0 ∙ jn.body in
+    let lengths : Some (length m.body) ≡ Some (length n.body) = sym im.body
+    ∙ ap (λ (h : RequestHead). body_length (named_values h)) same.0 ∙ jn.body in
     let len : length m.body ≡ length n.body = cc in
     let rest = front_same m.body n.body a b len same.1 in
     (made m.head n.head m.body n.body same.0 rest.0, rest.1)
@@ -61,7 +65,8 @@ ends_unique (No_body h) (No_body k) rest x y = ap (λ (j : RequestHead). No_body
 more : (m n : Message) (ms ns : List Message) → m ≡ n → ms ≡ ns → m ∷ ms ≡ n ∷ ns
 more m n ms ns e es = rw (e, es) refl
 
-pub walk_unique : (input : List ℕ) (ms ns : List Message) (e f : Ending) → Walks input ms e → Walks input ns f → (ms ≡ ns) × (e ≡ f)
+pub walk_unique : (input : List ℕ) (ms ns : List Message) (e f : Ending) → Walks input ms e → Walks input ns f
+    → (ms ≡ ns) × (e ≡ f)
 walk_unique input [] [] e f x y = (refl, ends_unique e f input x y)
 walk_unique input [] (n ∷ ns) e f x y = absurd (no_message e input x n y.1.0 y.0 y.1.1)
 walk_unique input (m ∷ ms) [] e f x y = absurd (no_message f input y m x.1.0 x.0 x.1.1)

@@ -49,7 +49,8 @@ seek_none zero (b ∷ path) =
     rw (seek_none 0 path, param_none (b ∷ path), seek_none ((param_step no_rows (b ∷ path)).0 - 1) path) refl
 
 -- where each row goes on with a byte
-literal_step : (rs : Rs) (b : ℕ) (path : List ℕ) → step 256 rs ≡ no_rows → step 257 rs ≡ no_rows → seek 0 rs (b ∷ path) ≡ seek 0 (step b rs) path
+literal_step : (rs : Rs) (b : ℕ) (path : List ℕ) → step 256 rs ≡ no_rows → step 257 rs ≡ no_rows
+    → seek 0 rs (b ∷ path) ≡ seek 0 (step b rs) path
 unfolding seek
 literal_step rs b path e f =
     rw (e, f, param_none (b ∷ path), seek_none ((param_step no_rows (b ∷ path)).0 - 1) path) (or_none (seek 0 (step b rs) path))
@@ -68,10 +69,12 @@ eqb_sym a b = elim (cases_eq a b) [
 apart : (x y : ℕ) → x < y → eqb x y ≡ false
 apart x y lt = ne_eqb x y (λ e. absurd (omega arith))
 
-step_other : (x y : ℕ) (text : List ℕ) (k : RouteOf Route) → eqb x y ≡ false → step y (row (x ∷ text) k) ≡ no_rows
+step_other : (x y : ℕ) (text : List ℕ) (k : RouteOf Route) → eqb x y ≡ false
+    → step y (row (x ∷ text) k) ≡ no_rows
 step_other x y text k e = rw e refl
 
-seek_row : (text : List ℕ) (k : RouteOf Route) (path : List ℕ) → AreBytes text → seek 0 (row text k) path ≡ cond (bytes_eq path text) (Some k) None
+seek_row : (text : List ℕ) (k : RouteOf Route) (path : List ℕ) → AreBytes text
+    → seek 0 (row text k) path ≡ cond (bytes_eq path text) (Some k) None
 unfolding seek
 seek_row [] k [] all = refl
 seek_row [] k (b ∷ path) all = literal_step (row [] k) b path refl refl ∙ seek_none 0 path
@@ -113,7 +116,8 @@ slash_same (b ∷ path) = elim (cases_Bool (eqb b 47)) [
   | inr f ↦ rw f (slash_same path)
 ]
 
-param_first : (k : RouteOf Route) (b : ℕ) (path : List ℕ) → b < 256 → seek 0 (row (256 ∷ []) k) (b ∷ path) ≡ cond (not (has_slash (b ∷ path))) (Some k) None
+param_first : (k : RouteOf Route) (b : ℕ) (path : List ℕ) → b < 256
+    → seek 0 (row (256 ∷ []) k) (b ∷ path) ≡ cond (not (has_slash (b ∷ path))) (Some k) None
 unfolding seek param_step
 param_first k b path byte =
     let other : eqb 256 b ≡ false = ne_eqb 256 b (λ e. absurd (omega arith)) in
@@ -122,7 +126,8 @@ param_first k b path byte =
 abbrev leads : List ℕ → List ℕ → Bool
 leads lit path = bytes_eq (take (length lit) path) lit && (ltb (length lit) (length path) && not (list_any is_slash (drop (length lit) path)))
 
-seek_account : (lit : List ℕ) (k : RouteOf Route) (path : List ℕ) → AreBytes lit → AreBytes path → seek 0 (row (lit ++ 256 ∷ []) k) path ≡ cond (leads lit path) (Some k) None
+seek_account : (lit : List ℕ) (k : RouteOf Route) (path : List ℕ) → AreBytes lit → AreBytes path
+    → seek 0 (row (lit ++ 256 ∷ []) k) path ≡ cond (leads lit path) (Some k) None
 unfolding seek
 seek_account [] k [] all bytes = refl
 seek_account [] k (b ∷ path) all bytes =
@@ -132,7 +137,8 @@ seek_account (x ∷ lit) k [] all bytes = refl
 seek_account (x ∷ lit) k (b ∷ path) all bytes =
     literal_step (row (x ∷ (lit ++ 256 ∷ [])) k) b path (step_other x 256 _ k (apart x 256 all.0)) (step_other x 257 _ k (apart x 257 (omega (arith, all.0))))
     ∙ elim (cases_Bool (eqb x b)) [
-      | inl t ↦ let u : eqb b x ≡ true = eqb_sym b x ∙ t in rw (t, u, ltb_suc (length lit) (length path)) (seek_account lit k path all.1 bytes.1)
+      | inl t ↦ let u : eqb b x ≡ true = eqb_sym b x
+          ∙ t in rw (t, u, ltb_suc (length lit) (length path)) (seek_account lit k path all.1 bytes.1)
       | inr f ↦ let u : eqb b x ≡ false = eqb_sym b x ∙ f in rw (f, u) (seek_none 0 path)
     ]
 
@@ -141,7 +147,8 @@ seek_account (x ∷ lit) k (b ∷ path) all bytes =
 abbrev value_in : RouteOf Route → Route
 value_in r = r.value
 
-mapped : (b : Bool) (k : RouteOf Route) → option_map value_in (cond b (Some k) None) ≡ cond b (Some k.value) None
+mapped : (b : Bool) (k : RouteOf Route)
+    → option_map value_in (cond b (Some k) None) ≡ cond b (Some k.value) None
 mapped true k = refl
 mapped false k = refl
 
@@ -151,12 +158,14 @@ behind_slash = (codes "account/" ++ 256 ∷ [], account_row.1) ∷ (codes "branc
 ltb_nine : (n : ℕ) → ltb 9 (suc (suc n)) ≡ ltb 7 n
 ltb_nine n = ltb_suc 8 (suc n) ∙ ltb_suc 7 n
 
-second_account : (q : List ℕ) → AreBytes q → option_map value_in (seek 0 behind_slash (97 ∷ q)) ≡ route_named (47 ∷ 97 ∷ q)
+second_account : (q : List ℕ) → AreBytes q
+    → option_map value_in (seek 0 behind_slash (97 ∷ q)) ≡ route_named (47 ∷ 97 ∷ q)
 second_account q bytes =
     ap (option_map value_in) (literal_step behind_slash 97 q refl refl ∙ seek_account (codes "ccount/") account_row.1 q (lit< tt, (lit< tt, (lit< tt, (lit< tt, (lit< tt, (lit< tt, (lit< tt, tt))))))) bytes)
     ∙ mapped (leads (codes "ccount/") q) account_row.1 ∙ (rw ltb_nine refl)
 
-second_branches : (q : List ℕ) → option_map value_in (seek 0 behind_slash (98 ∷ q)) ≡ route_named (47 ∷ 98 ∷ q)
+second_branches : (q : List ℕ)
+    → option_map value_in (seek 0 behind_slash (98 ∷ q)) ≡ route_named (47 ∷ 98 ∷ q)
 second_branches q =
     ap (option_map value_in) (literal_step behind_slash 98 q refl refl ∙ seek_row (codes "ranches") (fixed (codes "/branches") Branches).1 q (lit< tt, (lit< tt, (lit< tt, (lit< tt, (lit< tt, (lit< tt, (lit< tt, tt))))))))
     ∙ mapped (bytes_eq q (codes "ranches")) (fixed (codes "/branches") Branches).1
@@ -166,7 +175,8 @@ second_post q =
     ap (option_map value_in) (literal_step behind_slash 112 q refl refl ∙ seek_row (codes "ost") (fixed (codes "/post") Posting).1 q (lit< tt, (lit< tt, (lit< tt, tt))))
     ∙ mapped (bytes_eq q (codes "ost")) (fixed (codes "/post") Posting).1
 
-second_other : (c : ℕ) (q : List ℕ) → eqb c 97 ≡ false → eqb c 98 ≡ false → eqb c 112 ≡ false → option_map value_in (seek 0 behind_slash (c ∷ q)) ≡ route_named (47 ∷ c ∷ q)
+second_other : (c : ℕ) (q : List ℕ) → eqb c 97 ≡ false → eqb c 98 ≡ false → eqb c 112 ≡ false
+    → option_map value_in (seek 0 behind_slash (c ∷ q)) ≡ route_named (47 ∷ c ∷ q)
 second_other c q a b p =
     let a' : eqb 97 c ≡ false = eqb_sym 97 c ∙ a in
     let b' : eqb 98 c ≡ false = eqb_sym 98 c ∙ b in
@@ -213,7 +223,8 @@ bytes_take zero bs all = tt
 bytes_take (suc n) [] all = tt
 bytes_take (suc n) (b ∷ bs) all = (all.0, bytes_take n bs all.1)
 
-pub path_bytes : (target path : List ℕ) (n : ℕ) → ((i : ℕ) → get_or target i 0 < 256) → path ≡ take n target → AreBytes path
+pub path_bytes : (target path : List ℕ) (n : ℕ) → ((i : ℕ) → get_or target i 0 < 256) → path ≡ take n target
+    → AreBytes path
 path_bytes target path n h e = subst AreBytes (sym e) (bytes_take n target (bytes_from target h))
 
 no_text : (path : List ℕ) → (IsUtf8 path → ⊥) → None ≡ route_of path
@@ -223,13 +234,15 @@ no_text path not = elim (cases_Bool (is_utf8 path)) [
   | inr f ↦ rw f refl
 ]
 
-pub find_text : (path : List ℕ) (o : Option (RouteOf Route)) → AreBytes path → IsUtf8 path → first all_routes path ≡ o → option_map value_in o ≡ route_of path
+pub find_text : (path : List ℕ) (o : Option (RouteOf Route)) → AreBytes path → IsUtf8 path
+    → first all_routes path ≡ o → option_map value_in o ≡ route_of path
 unfolding route_of
 find_text path o bytes text e =
     let t : is_utf8 path ≡ true = is_utf8-from_IsUtf8 path text in
     rw t (ap (option_map value_in) (sym e) ∙ routed path bytes)
 
-pub find_no_text : (target path : List ℕ) → path ≡ path_of target → (IsUtf8 path → ⊥) → None ≡ route_of (path_of target)
+pub find_no_text : (target path : List ℕ) → path ≡ path_of target → (IsUtf8 path → ⊥)
+    → None ≡ route_of (path_of target)
 find_no_text target path e not = no_text path not ∙ ap route_of e
 
 pub position_within : (p : ℕ → Bool) (xs : List ℕ) → position_or_len p xs ≤ length xs
@@ -250,7 +263,8 @@ position_is p n r e le = elim (cases_lt p n) [
       ap (λ (o : Option ℕ). unwrap_or o n) (e ∙ none) ∙ same
 ]
 
-pub at_rows : {rs : Rs} → rs ≡ all_routes → (path : List ℕ) (o : Option (RouteOf Route)) → first rs path ≡ o → first all_routes path ≡ o
+pub at_rows : {rs : Rs} → rs ≡ all_routes → (path : List ℕ) (o : Option (RouteOf Route)) → first rs path ≡ o
+    → first all_routes path ≡ o
 at_rows e path o h = ap (λ (x : Rs). first x path) (sym e) ∙ h
 
 pub IsUtf8-of : {xs ys : List ℕ} → xs ≡ ys → IsUtf8 ys → IsUtf8 xs

@@ -12,11 +12,13 @@ use Rattle.posting_core.specs.Batches.{joined}
 use Rattle.posting_core.proofs.Batched.{joined-append}
 use Rattle.counter_http.specs.Turns.{Turn, commands_for, readings_for, commands_in, moments_in, commands_of, moments_of, answers_to, AreAnswered, IsAnswered}
 
-pub readings_append : (k k' k'' : Option (List ℕ)) (xs ys : List ℕ) → AreReadings k k' xs → AreReadings k' k'' ys → AreReadings k k'' (xs ++ ys)
+pub readings_append : (k k' k'' : Option (List ℕ)) (xs ys : List ℕ) → AreReadings k k' xs
+    → AreReadings k' k'' ys → AreReadings k k'' (xs ++ ys)
 readings_append k k' k'' [] ys e more = subst (λ (o : Option (List ℕ)). AreReadings o k'' ys) e more
 readings_append k k' k'' (x ∷ xs) ys e more = (e.0, readings_append (after_one k) k' k'' xs ys e.1 more)
 
-pub takes_append : (c c' c'' : Seen) (cs ds : List Command) → (c''.honest → c'.honest) → Takes c c' cs → Takes c' c'' ds → Takes c c'' (cs ++ ds)
+pub takes_append : (c c' c'' : Seen) (cs ds : List Command) → (c''.honest → c'.honest) → Takes c c' cs
+    → Takes c' c'' ds → Takes c c'' (cs ++ ds)
 takes_append c c' c'' cs ds honest a b =
     let same : (log : List Command) → behind (behind log cs) ds ≡ behind log (cs ++ ds) = λ log. sym (behind-append log cs ds) in
     record {
@@ -24,7 +26,8 @@ takes_append c c' c'' cs ds honest a b =
       stands = λ h log s. subst (λ (l : List Command). StandsAt c'' l) (same log) (b.stands h (behind log cs) (a.stands (honest h) log s));
     }
 
-pub answers-append : (log : List Command) (ts us : List Turn) → answers_to log (ts ++ us) ≡ answers_to log ts ++ answers_to (behind log (commands_of ts)) us
+pub answers-append : (log : List Command) (ts us : List Turn)
+    → answers_to log (ts ++ us) ≡ answers_to log ts ++ answers_to (behind log (commands_of ts)) us
 answers-append log [] us = refl
 answers-append log (t ∷ ts) us =
     ap (λ (xs : List (List ℕ)). answer_of log (asked_by t.message) ∷ xs)
@@ -43,7 +46,8 @@ answered_none {w = w} = record {
 }
 
 -- some messages, and then others
-pub answered_more : {w w' w'' k k' k'' : Option (List ℕ)} {c c' c'' : Seen} (ts us : List Turn) → AreAnswered w w' k k' c c' ts → AreAnswered w' w'' k' k'' c' c'' us
+pub answered_more : {w w' w'' k k' k'' : Option (List ℕ)} {c c' c'' : Seen} (ts us : List Turn)
+    → AreAnswered w w' k k' c c' ts → AreAnswered w' w'' k' k'' c' c'' us
     → AreAnswered w w'' k k'' c c'' (ts ++ us)
 answered_more {w = w} {w' = w'} {w'' = w''} {k = k} {k' = k'} {k'' = k''} {c = c} {c' = c'} {c'' = c''} ts us a b = record {
   clock = subst (λ (xs : List ℕ). AreReadings k k'' xs) (sym (flat_map-append moments_in ts us)) (readings_append k k' k'' (moments_of ts) (moments_of us) a.clock b.clock);
@@ -60,7 +64,8 @@ answered_more {w = w} {w' = w'} {w'' = w''} {k = k} {k' = k'} {k'' = k''} {c = c
 }
 
 -- one message
-pub answered_one : {w w' k k' : Option (List ℕ)} {c c' : Seen} (t : Turn) (a : Asked) → a ≡ asked_by t.message → AreReadings k k' (readings_for t.moment a) → (c'.honest → c.honest)
+pub answered_one : {w w' k k' : Option (List ℕ)} {c c' : Seen} (t : Turn) (a : Asked) → a ≡ asked_by t.message
+    → AreReadings k k' (readings_for t.moment a) → (c'.honest → c.honest)
     → IsAnswered w w' c c' a (commands_for t.moment a) → AreAnswered w w' k k' c c' (t ∷ [])
 answered_one {k = k} {k' = k'} {c = c} {c' = c'} t a e clock honest is = record {
   clock = subst (λ (ms : List ℕ). AreReadings k k' ms) (ap (readings_for t.moment) e ∙ sym (append-nil (moments_in t))) clock;
@@ -69,5 +74,6 @@ answered_one {k = k} {k' = k'} {c = c} {c' = c'} t a e clock honest is = record 
   honest = honest;
   up = is.up;
   takes = subst (λ (cs : List Command). Takes c c' cs) (ap (commands_for t.moment) e ∙ sym (append-nil (commands_in t))) is.takes;
-  answers = λ h log s. is.answer h log s ∙ ap (answer_of log) e ∙ sym (append-nil (answer_of log (asked_by t.message)));
+  answers = λ h log s. is.answer h log s ∙ ap (answer_of log) e
+      ∙ sym (append-nil (answer_of log (asked_by t.message)));
 }

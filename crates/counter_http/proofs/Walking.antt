@@ -11,7 +11,8 @@ use Rattle.counter_http.specs.Turns.{Turn, messages_of, text_in, texts_of}
 use Rattle.counter_http.specs.Serving.{GoesOn, BeginsWithNoMessage}
 
 -- a walk behind messages after which the connection goes on
-pub walks_behind : (ts us : List Turn) (rest : List ℕ) (ending : Ending) → AllByRecursion (λ (u : Turn). GoesOn u.message) ts → Walks rest (messages_of us) ending
+pub walks_behind : (ts us : List Turn) (rest : List ℕ) (ending : Ending)
+    → AllByRecursion (λ (u : Turn). GoesOn u.message) ts → Walks rest (messages_of us) ending
     → Walks (texts_of ts ++ rest) (messages_of (ts ++ us)) ending
 walks_behind [] us rest ending all w = w
 walks_behind (t ∷ ts) us rest ending all w = (
@@ -25,19 +26,24 @@ walks_behind (t ∷ ts) us rest ending all w = (
 )
 
 -- a walk that ends with what remains
-pub walks_end : (ts : List Turn) (rest : List ℕ) (ending : Ending) → AllByRecursion (λ (u : Turn). GoesOn u.message) ts → Ends ending rest → Walks (texts_of ts ++ rest) (messages_of ts) ending
+pub walks_end : (ts : List Turn) (rest : List ℕ) (ending : Ending)
+    → AllByRecursion (λ (u : Turn). GoesOn u.message) ts → Ends ending rest
+    → Walks (texts_of ts ++ rest) (messages_of ts) ending
 walks_end ts rest ending all ends =
     subst (λ (us : List Turn). Walks (texts_of ts ++ rest) (messages_of us) ending) (append-nil ts) (walks_behind ts [] rest ending all ends)
 
 -- whatever follows
-pub walks_always : (ts : List Turn) (rest : List ℕ) (ending : Ending) → AllByRecursion (λ (u : Turn). GoesOn u.message) ts → AlwaysEnds ending rest
+pub walks_always : (ts : List Turn) (rest : List ℕ) (ending : Ending)
+    → AllByRecursion (λ (u : Turn). GoesOn u.message) ts → AlwaysEnds ending rest
     → (more : List ℕ) → Walks ((texts_of ts ++ rest) ++ more) (messages_of ts) ending
 walks_always ts rest ending all ends more =
     subst (λ (input : List ℕ). Walks input (messages_of ts) ending) (sym (append_assoc (texts_of ts) rest more)) (walks_end ts (rest ++ more) ending all (ends more))
 
 -- a walk that ends with a message
-pub walks_closed : (t : Turn) (behind : List ℕ) → IsMessage t.message → closes t.message.head ≡ true → Walks (message_text t.message ++ behind) (messages_of (t ∷ [])) Closed
-walks_closed t behind is last = (is, (behind, refl, λ _. (refl, refl), λ on. absurd (true≢false (sym last ∙ on))))
+pub walks_closed : (t : Turn) (behind : List ℕ) → IsMessage t.message → closes t.message.head ≡ true
+    → Walks (message_text t.message ++ behind) (messages_of (t ∷ [])) Closed
+walks_closed t behind is last =
+    (is, (behind, refl, λ _. (refl, refl), λ on. absurd (true≢false (sym last ∙ on))))
 
 -- ---- no message stands where the walk ends
 
@@ -46,7 +52,8 @@ pub head_some : (h : RequestHead) → IsRequestHead h → 0 < length (print_requ
 unfolding print_request
 head_some h is = omega (arith, is.method.0, length-append {A = ℕ})
 
-cut_short : (m : Message) (behind after : List ℕ) → IsMessage m → LacksBody (body_length (named_values m.head)) after → after ≡ m.body ++ behind → ⊥
+cut_short : (m : Message) (behind after : List ℕ) → IsMessage m
+    → LacksBody (body_length (named_values m.head)) after → after ≡ m.body ++ behind → ⊥
 cut_short m behind after is lacks e =
     let short : length after < length m.body = subst (λ (o : Option ℕ). LacksBody o after) is.body lacks in
     let len = ap length e in
@@ -57,7 +64,8 @@ no_message Finished rest ends m behind is e =
     let len = ap length (sym ends ∙ e ∙ append_assoc (print_request m.head) m.body behind) in
     absurd (omega (arith, len, length-append (print_request m.head) (m.body ++ behind), head_some m.head is.head.head))
 no_message Closed rest ends m behind is e = absurd ends
-no_message No_head rest ends m behind is e = ends.1 m.head (m.body ++ behind) is.head (e ∙ append_assoc (print_request m.head) m.body behind)
+no_message No_head rest ends m behind is e =
+    ends.1 m.head (m.body ++ behind) is.head (e ∙ append_assoc (print_request m.head) m.body behind)
 no_message (No_body h) rest ends m behind is e =
     let same = request_unique rest h m.head ends.1.0 (m.body ++ behind) (ends.0.head, ends.1.1) (is.head.head, e ∙ append_assoc (print_request m.head) m.body behind) in
     cut_short m behind ends.1.0 is (subst (λ (k : RequestHead). LacksBody (body_length (named_values k)) ends.1.0) same.0 ends.1.2) same.1

@@ -26,24 +26,29 @@ texts_are : (ts : List Turn) → texts_of ts ≡ texts_of_all (messages_of ts)
 texts_are [] = refl
 texts_are (t ∷ ts) = ap (λ (x : List ℕ). text_in t ++ x) (texts_are ts)
 
-stays_all : (ts : List Turn) → AllByRecursion (λ (t : Turn). GoesOn t.message) ts → AllByRecursion GoesOn (messages_of ts)
+stays_all : (ts : List Turn) → AllByRecursion (λ (t : Turn). GoesOn t.message) ts
+    → AllByRecursion GoesOn (messages_of ts)
 stays_all [] all = tt
 stays_all (t ∷ ts) all = (all.0, stays_all ts all.1)
 
 taken_alone : (taken refused : List Turn) → refused ≡ [] → texts_of (taken ++ refused) ≡ texts_of taken
-taken_alone taken refused none = ap (λ (x : List Turn). texts_of (taken ++ x)) none ∙ ap texts_of (append-nil taken)
+taken_alone taken refused none =
+    ap (λ (x : List Turn). texts_of (taken ++ x)) none ∙ ap texts_of (append-nil taken)
 
-input_alone : (taken refused : List Turn) (rest : List ℕ) → refused ≡ [] → texts_of (taken ++ refused) ++ rest ≡ texts_of taken ++ rest
+input_alone : (taken refused : List Turn) (rest : List ℕ) → refused ≡ []
+    → texts_of (taken ++ refused) ++ rest ≡ texts_of taken ++ rest
 input_alone taken refused rest none = ap (λ (x : List ℕ). x ++ rest) (taken_alone taken refused none)
 
 text_with : (log : List Command) (ts : List Turn) (last other : List (List ℕ)) → last ≡ other
     → joined (answers_to log ts ++ last) ≡ joined (answers_behind log (messages_of ts) ++ other)
 text_with log ts last other e =
-    ap (λ (x : List (List ℕ)). joined (x ++ last)) (momentless log ts) ∙ ap (λ (x : List (List ℕ)). joined (answers_behind log (messages_of ts) ++ x)) e
+    ap (λ (x : List (List ℕ)). joined (x ++ last)) (momentless log ts)
+    ∙ ap (λ (x : List (List ℕ)). joined (answers_behind log (messages_of ts) ++ x)) e
 
 -- ---- the texts
 
-walked_text : {r' : Option (List ℕ)} (log : List Command) (taken refused : List Turn) (rest : List ℕ) (last : List (List ℕ)) → IsWalked r' taken refused rest last
+walked_text : {r' : Option (List ℕ)} (log : List Command) (taken refused : List Turn) (rest : List ℕ)
+    (last : List (List ℕ)) → IsWalked r' taken refused rest last
     → Answers log (texts_of (taken ++ refused) ++ rest) (joined (answers_to log taken ++ last))
 walked_text log taken refused rest last is = record {
   messages = messages_of taken;
@@ -53,44 +58,53 @@ walked_text log taken refused rest last is = record {
 }
 
 -- the message behind some others
-one_behind : (before : List Turn) (t : Turn) (rest : List ℕ) → texts_of (before ++ t ∷ []) ++ rest ≡ texts_of_all (messages_of before) ++ (message_text t.message ++ rest)
+one_behind : (before : List Turn) (t : Turn) (rest : List ℕ)
+    → texts_of (before ++ t ∷ []) ++ rest ≡ texts_of_all (messages_of before) ++ (message_text t.message ++ rest)
 one_behind before t rest =
     ap (λ (x : List ℕ). x ++ rest) (flat_map-append text_in before (t ∷ []) ∙ ap (λ (x : List ℕ). texts_of before ++ x) (append-nil (text_in t)))
-    ∙ append_assoc (texts_of before) (text_in t) rest ∙ ap (λ (x : List ℕ). x ++ (text_in t ++ rest)) (texts_are before)
+    ∙ append_assoc (texts_of before) (text_in t) rest
+    ∙ ap (λ (x : List ℕ). x ++ (text_in t ++ rest)) (texts_are before)
 
-broken_text : (log : List Command) (taken refused : List Turn) (rest : List ℕ) (last : List (List ℕ)) → IsBroken taken refused last
+broken_text : (log : List Command) (taken refused : List Turn) (rest : List ℕ) (last : List (List ℕ))
+    → IsBroken taken refused last
     → AnswersBroken log (texts_of (taken ++ refused) ++ rest) (joined (answers_to log taken ++ last))
 broken_text log taken refused rest last is = record {
   before = messages_of taken;
   message = is.turn.message;
   begins = record {
     rest = rest;
-    input_is = ap (λ (x : List Turn). texts_of (taken ++ x) ++ rest) is.refused_is ∙ one_behind taken is.turn rest;
+    input_is = ap (λ (x : List Turn). texts_of (taken ++ x) ++ rest) is.refused_is
+        ∙ one_behind taken is.turn rest;
     stays = stays_all taken is.stays;
     whole = is.whole;
   };
   text_is = text_with log taken last (unavailable (asked_by is.turn.message) ∷ []) is.last_is;
 }
 
-first_text : (log : List Command) (taken refused : List Turn) (rest : List ℕ) (last : List (List ℕ)) → IsAtMessage taken refused last
+first_text : (log : List Command) (taken refused : List Turn) (rest : List ℕ) (last : List (List ℕ))
+    → IsAtMessage taken refused last
     → AnswersFirst log (texts_of (taken ++ refused) ++ rest) (joined (answers_to log taken ++ last))
 first_text log taken refused rest last is = record {
   before = messages_of is.before;
   message = is.turn.message;
   begins = record {
     rest = rest;
-    input_is = input_alone taken refused rest is.none_refused ∙ ap (λ (x : List Turn). texts_of x ++ rest) is.taken_is ∙ one_behind is.before is.turn rest;
+    input_is = input_alone taken refused rest is.none_refused
+        ∙ ap (λ (x : List Turn). texts_of x ++ rest) is.taken_is ∙ one_behind is.before is.turn rest;
     stays = stays_all is.before is.stays;
     whole = is.whole;
   };
-  text_is = text_with log taken last [] is.nothing ∙ ap joined (append-nil (answers_behind log (messages_of taken)))
+  text_is = text_with log taken last [] is.nothing
+      ∙ ap joined (append-nil (answers_behind log (messages_of taken)))
       ∙ ap (λ (x : List Message). joined (answers_behind log x)) (ap messages_of is.taken_is ∙ map-append message_in is.before (is.turn ∷ []));
 }
 
 -- ---- by the result
 
-settled : {r' : Option (List ℕ)} (taken refused : List Turn) (rest : List ℕ) (last : List (List ℕ)) (is : IsWalked r' taken refused rest last)
-    → ((more : List ℕ) → Walks ((texts_of taken ++ rest) ++ more) (messages_of taken) is.ending) → IsSettled (texts_of (taken ++ refused) ++ rest)
+settled : {r' : Option (List ℕ)} (taken refused : List Turn) (rest : List ℕ) (last : List (List ℕ))
+    (is : IsWalked r' taken refused rest last)
+    → ((more : List ℕ) → Walks ((texts_of taken ++ rest) ++ more) (messages_of taken) is.ending)
+    → IsSettled (texts_of (taken ++ refused) ++ rest)
 settled taken refused rest last is always more log text a =
     let input = texts_of (taken ++ refused) ++ rest in
     let same = input_alone taken refused rest is.none_refused in
@@ -100,22 +114,26 @@ settled taken refused rest last is always more log text a =
       messages = messages_of taken;
       ending = is.ending;
       walks = subst (λ (x : List ℕ). Walks (x ++ more) (messages_of taken) is.ending) (sym same) (always more);
-      text_is = a.text_is ∙ ap (λ (ms : List Message). joined (answers_behind log ms ++ final_answer a.ending)) one.0
+      text_is = a.text_is
+          ∙ ap (λ (ms : List Message). joined (answers_behind log ms ++ final_answer a.ending)) one.0
           ∙ ap (λ (e : Ending). joined (answers_behind log (messages_of taken) ++ final_answer e)) one.1;
     }
 
-one_text_of : (log : List Command) (input text other : List ℕ) → Answers log input text → Answers log input other → text ≡ other
+one_text_of : (log : List Command) (input text other : List ℕ) → Answers log input text
+    → Answers log input other → text ≡ other
 one_text_of log input text other a b =
     let one = walk_unique input a.messages b.messages a.ending b.ending a.walks b.walks in
     a.text_is ∙ ap (λ (ms : List Message). joined (answers_behind log ms ++ final_answer a.ending)) one.0
     ∙ ap (λ (e : Ending). joined (answers_behind log b.messages ++ final_answer e)) one.1 ∙ sym b.text_is
 
-one_front_of : (log : List Command) (input text other : List ℕ) → AnswersWhole log input text → AnswersWhole log input other → text ≡ other
+one_front_of : (log : List Command) (input text other : List ℕ) → AnswersWhole log input text
+    → AnswersWhole log input other → text ≡ other
 one_front_of log input text other a b =
     a.text_is ∙ ap (λ (ms : List Message). joined (answers_behind log ms))
     (front_unique a.messages b.messages a.rest b.rest a.stays b.stays a.no_more b.no_more (sym a.input_is ∙ b.input_is)) ∙ sym b.text_is
 
-pub output_of : {C : Type 0} (seen : C → Seen) {r r' w w' k k' : Option (List ℕ)} (old new : C) (result : Result ℕ ServeFault)
+pub output_of : {C : Type 0} (seen : C → Seen) {r r' w w' k k' : Option (List ℕ)} (old new : C)
+    (result : Result ℕ ServeFault)
     → Serves seen r r' w w' k k' old new result → Outputs r r' w w' (seen old) (seen new) result
 output_of seen {w = w} {w' = w'} old new (Ok count) s =
     let input = texts_of (s.taken ++ s.refused) ++ s.rest in
@@ -145,10 +163,12 @@ output_of seen {w = w} {w' = w'} old new (Err Read) s =
         record {
           messages = messages_of s.taken;
           rest = s.rest;
-          input_is = input_alone s.taken s.refused s.rest is.none_refused ∙ ap (λ (x : List ℕ). x ++ s.rest) (texts_are s.taken);
+          input_is = input_alone s.taken s.refused s.rest is.none_refused
+              ∙ ap (λ (x : List ℕ). x ++ s.rest) (texts_are s.taken);
           stays = stays_all s.taken is.stays;
           no_more = is.no_more;
-          text_is = text_with log s.taken s.last [] is.nothing ∙ ap joined (append-nil (answers_behind log (messages_of s.taken)));
+          text_is = text_with log s.taken s.last [] is.nothing
+              ∙ ap joined (append-nil (answers_behind log (messages_of s.taken)));
         },
         subst (λ (x : List ℕ). Appends w w' x) (s.answers h log shows) s.wrote,
       );
@@ -197,7 +217,8 @@ output_of seen {w = w} {w' = w'} old new (Err Memory) s =
       writes = λ h log shows. (
         joined (answers_to log s.taken ++ s.last),
         (
-          input_alone s.taken s.refused s.rest is.none_refused ∙ ap (λ (x : List Turn). texts_of x ++ s.rest) is.none_taken ∙ is.no_rest,
+          input_alone s.taken s.refused s.rest is.none_refused
+              ∙ ap (λ (x : List Turn). texts_of x ++ s.rest) is.none_taken ∙ is.no_rest,
           ap (λ (x : List Turn). joined (answers_to log x ++ s.last)) is.none_taken ∙ ap joined is.nothing,
         ),
         subst (λ (x : List ℕ). Appends w w' x) (s.answers h log shows) s.wrote,
@@ -217,10 +238,12 @@ commands_of_first n ts =
     let len = ap length (sym split ∙ all) in
     omega (arith, len, length-append (commands_of (take n ts)) (commands_of (drop n ts)))
 
-at_least : (log cs : List Command) (n k : ℕ) (t : Tables) → k ≤ n → ShowsBeginning log cs n t → ShowsBeginning log cs k t
+at_least : (log cs : List Command) (n k : ℕ) (t : Tables) → k ≤ n → ShowsBeginning log cs n t
+    → ShowsBeginning log cs k t
 at_least log cs n k t le b = record { count = b.count; holds = omega (arith, b.holds); within = b.within; shows = b.shows }
 
-pub survives_of : {C : Type 0} (seen : C → Seen) {r r' w w' k k' : Option (List ℕ)} (old new : C) (result : Result ℕ ServeFault)
+pub survives_of : {C : Type 0} (seen : C → Seen) {r r' w w' k k' : Option (List ℕ)} (old new : C)
+    (result : Result ℕ ServeFault)
     → Serves seen r r' w w' k k' old new result → Survives r r' w w' (seen old) (seen new)
 survives_of seen old new result s = record {
   taken = s.taken;

@@ -41,9 +41,13 @@ status_words code = code_digits code ++ codes " " ++ unwrap_or (reason_phrase co
 abbrev pub plain : List ℕ → Answer
 plain body = record { code = 200; media = codes "text/plain"; allow = None; body = body }
 
+abbrev pub octets : List ℕ → Answer
+octets body = record { code = 200; media = codes "application/octet-stream"; allow = None; body = body }
+
 -- an answer that says no more than its code
 abbrev pub bare : ℕ → Answer
-bare code = record { code = code; media = codes "text/plain"; allow = None; body = status_words code ++ codes "\n" }
+bare code =
+    record { code = code; media = codes "text/plain"; allow = None; body = status_words code ++ codes "\n" }
 
 abbrev pub not_allowed : List ℕ → Answer
 not_allowed methods = record (bare 405) { allow = Some methods }
@@ -55,7 +59,7 @@ is_reading method = bytes_eq method (codes "GET") || bytes_eq method (codes "HEA
 abbrev pub posted_answer : List Command → List ℕ → Answer
 posted_answer log body =
     if length body == RECORD
-    then record { code = 200; media = codes "application/octet-stream"; allow = None; body = reply_spelling (reply log body) }
+    then octets (reply_spelling (reply log body))
     else bare 400
 
 -- the account that 1 to 12 digits name, the first not 0
@@ -63,7 +67,8 @@ abbrev pub is_account_long : List ℕ → Bool
 is_account_long id = nat_lt 0 (length id) && nat_le (length id) ACCOUNT_DIGITS && not (get_or id 0 0 == 48)
 
 abbrev pub account_named : List ℕ → Option ℕ
-account_named id = if is_account_long id then option_and_then (whole_within 1 MAX_ACCOUNT) (number_after 0 id) else None
+account_named id =
+    if is_account_long id then option_and_then (whole_within 1 MAX_ACCOUNT) (number_after 0 id) else None
 
 abbrev pub account_line : ℕ → ℤ → List ℕ
 account_line account balance =
@@ -87,7 +92,8 @@ right_in n text = spaces (n - length text) ++ text
 
 abbrev pub branch_line : ℕ → ℕ → ℤ → List ℕ
 branch_line branch accounts balance =
-    right_in 6 (decimal branch) ++ codes " " ++ right_in 7 (decimal accounts) ++ codes " " ++ right_in 14 (signed_decimal balance) ++ codes "\n"
+    right_in 6 (decimal branch) ++ codes " " ++ right_in 7 (decimal accounts) ++ codes " "
+    ++ right_in 14 (signed_decimal balance) ++ codes "\n"
 
 abbrev pub line_if_open : List Command → ℕ → Option ℕ → List ℕ
 line_if_open log branch None = []
@@ -103,9 +109,13 @@ branch_lines log = lines_up_to log LAST_BRANCH
 
 abbrev pub answer_on : List Command → Option Route → Asked → Answer
 answer_on log None asked = bare 404
-answer_on log (Some Posting) asked = if bytes_eq asked.method (codes "POST") then posted_answer log asked.body else not_allowed (codes "POST")
-answer_on log (Some Account) asked = if is_reading asked.method then account_answer log (account_named (account_in (path_of asked.target))) else not_allowed (codes "GET, HEAD")
-answer_on log (Some Branches) asked = if is_reading asked.method then plain (branch_lines log) else not_allowed (codes "GET, HEAD")
+answer_on log (Some Posting) asked =
+    if bytes_eq asked.method (codes "POST") then posted_answer log asked.body else not_allowed (codes "POST")
+answer_on log (Some Account) asked =
+    if is_reading asked.method then account_answer log (account_named (account_in (path_of asked.target)))
+    else not_allowed (codes "GET, HEAD")
+answer_on log (Some Branches) asked =
+    if is_reading asked.method then plain (branch_lines log) else not_allowed (codes "GET, HEAD")
 
 unfoldable pub answer_to : List Command → Asked → Answer
 answer_to log asked = answer_on log (route_of (path_of asked.target)) asked
@@ -139,7 +149,8 @@ body_if false body = []
 -- the bytes of an answer, with its body or without, and after which the connection ends or goes on
 unfoldable pub answer_text : Answer → Bool → Bool → List ℕ
 answer_text a shows closes =
-    codes "HTTP/1.1 " ++ status_words a.code ++ codes "\r\nContent-Type: " ++ a.media ++ codes "\r\nContent-Length: " ++ decimal (length a.body) ++ codes "\r\n"
+    codes "HTTP/1.1 " ++ status_words a.code ++ codes "\r\nContent-Type: " ++ a.media
+    ++ codes "\r\nContent-Length: " ++ decimal (length a.body) ++ codes "\r\n"
     ++ allow_line a.allow ++ close_line closes ++ codes "\r\n" ++ body_if shows a.body
 
 abbrev pub shows : Asked → Bool

@@ -1,4 +1,5 @@
--- What the fields of a head say of the body's length and of the connection. Names are compared without regard to ASCII case.
+-- What the fields of a head say of the body's length and of the connection. Names are compared without regard to
+-- ASCII case.
 use Rattle.std.specs.Prelude.{ℕ, List, [], ◌∷◌, Option, Some, None, Bool, ◌&&◌, ◌==◌, nat_lt, nat_le, length, map, filter, codes, bytes_eq, if◌then◌else◌}
 use Rattle.std.specs.List.{list_any, list_all, slice_split}
 use Rattle.std.specs.Char.{is_ascii_digit}
@@ -34,7 +35,8 @@ values_of name fields = map value_in (filter (is_named name) fields)
 
 -- one or more digits, of a value up to MAX_BODY
 abbrev pub is_length : List ℕ → Bool
-is_length digits = nat_lt 0 (length digits) && list_all is_ascii_digit digits && nat_le (digits_value 10 digits) MAX_BODY
+is_length digits =
+    nat_lt 0 (length digits) && list_all is_ascii_digit digits && nat_le (digits_value 10 digits) MAX_BODY
 
 abbrev pub stated_length : List ℕ → Option ℕ
 stated_length digits = if is_length digits then Some (digits_value 10 digits) else None
@@ -48,7 +50,8 @@ length_by (value ∷ other ∷ values) = None
 -- how long the body is; none where the fields can't say it, or name another coding
 abbrev pub body_length : List NamedValue → Option ℕ
 body_length fields =
-    if list_any (is_named (codes "transfer-encoding")) fields then None else length_by (values_of (codes "content-length") fields)
+    if list_any (is_named (codes "transfer-encoding")) fields then None
+    else length_by (values_of (codes "content-length") fields)
 
 -- ---- the end of a connection
 

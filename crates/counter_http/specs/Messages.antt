@@ -56,9 +56,12 @@ abbrev pub Ends : Ending → List ℕ → Type 0
 Ends Finished rest = rest ≡ []
 Ends Closed rest = ⊥
 Ends No_head rest = (rest ≢ []) × BeginsWithNoHead rest
-Ends (No_body h) rest = IsHead h × ((behind : List ℕ) × (rest ≡ print_request h ++ behind) × LacksBody (body_length (named_values h)) behind)
+Ends (No_body h) rest =
+    IsHead h
+    × ((behind : List ℕ) × (rest ≡ print_request h ++ behind) × LacksBody (body_length (named_values h)) behind)
 
--- the input is these messages, and then the walk ends so: after a message that closes the connection, whatever follows
+-- the input is these messages, and then the walk ends so: after a message that closes the connection, whatever
+-- follows
 abbrev pub Walks : List ℕ → List Message → Ending → Type 0
 Walks input [] ending = Ends ending input
 Walks input (m ∷ ms) ending =

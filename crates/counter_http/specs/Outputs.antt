@@ -1,4 +1,4 @@
--- What a connection writes, said of the bytes that it reads alone, however they were cut; and what a stop leaves of it.
+-- What a connection writes, said of the bytes that it reads alone, however they were cut, and what a stop leaves.
 use Rattle.std.specs.Prelude.{◌≡◌, ◌⊎◌, ℕ, List, [], ◌∷◌, ◌++◌, length, map, take, Option, Result, Ok, Err, OnOk}
 use Rattle.std.specs.List.{AllByRecursion, flat_map}
 use Rattle.std.specs.Io.KnownBytes.{Appends, Consumes, IsAtEnd}
@@ -69,7 +69,8 @@ pub record AnswersBroken (log : List Command) (input text : List ℕ) : Type 0 w
 abbrev pub IsTextFor : Result ℕ ServeFault → List Command → (input text : List ℕ) → Type 0
 IsTextFor (Ok count) log input text = Answers log input text
 IsTextFor (Err Read) log input text = AnswersWhole log input text
-IsTextFor (Err Write) log input text = Answers log input text ⊎ (AnswersFirst log input text ⊎ AnswersBroken log input text)
+IsTextFor (Err Write) log input text =
+    Answers log input text ⊎ (AnswersFirst log input text ⊎ AnswersBroken log input text)
 IsTextFor (Err (Bank fault)) log input text = AnswersBroken log input text
 IsTextFor (Err Memory) log input text = (input ≡ []) × (text ≡ [])
 
@@ -80,7 +81,9 @@ Writes _ w w' text = Appends w w' text
 
 -- what follows doesn't change the answers to an input
 abbrev pub IsSettled : List ℕ → Type 0
-IsSettled input = (more : List ℕ) (log : List Command) (text : List ℕ) → Answers log input text → Answers log (input ++ more) text
+IsSettled input =
+    (more : List ℕ) (log : List Command) (text : List ℕ) → Answers log input text
+    → Answers log (input ++ more) text
 
 pub record Outputs (r r' w w' : Option (List ℕ)) (c c' : Seen) (result : Result ℕ ServeFault) : Type 0 where
   pub input : List ℕ
@@ -90,18 +93,20 @@ pub record Outputs (r r' w w' : Option (List ℕ)) (c c' : Seen) (result : Resul
   -- the input ended, or what follows it changes nothing
   pub ended : OnOk result (IsAtEnd r' ⊎ IsSettled input)
   -- an input has one text of either kind
-  pub one_text : (log : List Command) (text other : List ℕ) → Answers log input text → Answers log input other → text ≡ other
+  pub one_text : (log : List Command) (text other : List ℕ)
+      → Answers log input text → Answers log input other → text ≡ other
   pub one_front : (log : List Command) (text other : List ℕ)
       → AnswersWhole log input text → AnswersWhole log input other → text ≡ other
 
 -- ---- what a stop leaves
 
--- how many records had a byte of their answer accepted, when so many bytes of the answers to these messages were
+-- how many records had a byte of their answer accepted, when so many bytes of the answers to these messages
+-- were
 abbrev pub acknowledged_records : List Command → List Turn → ℕ → ℕ
 acknowledged_records log turns n = length (commands_of (take (acknowledged (answers_to log turns) n) turns))
 
--- everything that a stop may leave shows the log and a beginning of what was submitted, which holds all records that
--- were acknowledged
+-- everything that a stop may leave shows the log and a beginning of what was submitted, which holds all records
+-- that were acknowledged
 pub record Survives (r r' w w' : Option (List ℕ)) (c c' : Seen) : Type 0 where
   -- the messages that the bank took, the one that it refused, and what was read behind them
   pub taken : List Turn
@@ -111,4 +116,5 @@ pub record Survives (r r' w w' : Option (List ℕ)) (c c' : Seen) : Type 0 where
   pub written : List ℕ
   pub wrote : Appends w w' written
   pub stop : c'.honest → (log : List Command) → StandsAt c log
-      → LeavesOnly c' (ShowsBeginning log (commands_of (taken ++ refused)) (acknowledged_records log taken (length written)))
+      → LeavesOnly c'
+      (ShowsBeginning log (commands_of (taken ++ refused)) (acknowledged_records log taken (length written)))

@@ -17,7 +17,8 @@ is_slash b = b == 47
 
 -- `/account/`, and behind it one part that isn't empty
 abbrev pub is_account_path : List ℕ → Bool
-is_account_path path = bytes_eq (take 9 path) (codes "/account/") && (nat_lt 9 (length path) && not (list_any is_slash (drop 9 path)))
+is_account_path path =
+    bytes_eq (take 9 path) (codes "/account/") && (nat_lt 9 (length path) && not (list_any is_slash (drop 9 path)))
 
 abbrev pub account_in : List ℕ → List ℕ
 account_in path = drop 9 path

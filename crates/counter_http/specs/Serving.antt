@@ -1,6 +1,6 @@
--- A connection, message by message: what is read, what is written, what the bank shows, and what a stop may leave.
--- The reader's known bytes before and after are r and r', the writer's w and w', the clock's known readings k and k'.
--- The bank is old before and new after, and seen tells what is seen of it.
+-- A connection, message by message: what is read, what is written, what the bank shows, what a stop may leave.
+-- The reader's known bytes before and after are r and r', the writer's w and w', the clock's known readings k and
+-- k'. The bank is old before and new after, and seen tells what is seen of it.
 use Rattle.std.specs.Prelude.{◌≡◌, ◌≢◌, ◌⊎◌, ℕ, ◌+◌, List, [], ◌∷◌, ◌++◌, length, take, Option, Result, Ok, Err, false}
 use Rattle.std.specs.List.{AllByRecursion}
 use Rattle.std.specs.Io.KnownBytes.{Appends, Consumes, IsAtEnd}
@@ -32,7 +32,8 @@ pub record IsWalked (r' : Option (List ℕ)) (taken refused : List Turn) (rest :
   pub ending : Ending
   pub walks : Walks (texts_of taken ++ rest) (messages_of taken) ending
   pub last_is : last ≡ final_answer ending
-  pub ended : IsAtEnd r' ⊎ ((more : List ℕ) → Walks ((texts_of taken ++ rest) ++ more) (messages_of taken) ending)
+  pub ended : IsAtEnd r'
+      ⊎ ((more : List ℕ) → Walks ((texts_of taken ++ rest) ++ more) (messages_of taken) ending)
   pub none_refused : refused ≡ []
 
 -- the whole messages that were read were answered
@@ -70,25 +71,32 @@ pub record IsUntouched (taken refused : List Turn) (rest : List ℕ) (last : Lis
 -- ---- how it ended: the bank took some messages, stood there, and refused one then or none
 
 -- an answer was begun, and the writer failed
-pub data IsUnwritten {C : Type 0} (seen : C → Seen) (r' : Option (List ℕ)) (stood new : C) (taken refused : List Turn)
-    (rest : List ℕ) (last : List (List ℕ)) : Type 0 where
+pub data IsUnwritten {C : Type 0} (seen : C → Seen) (r' : Option (List ℕ)) (stood new : C)
+    (taken refused : List Turn) (rest : List ℕ) (last : List (List ℕ)) : Type 0 where
   -- the answer to a message that the bank took
-  At_message : IsAtMessage taken refused last → new ≡ stood → IsUnwritten seen r' stood new taken refused rest last
+  At_message : IsAtMessage taken refused last → new ≡ stood
+      → IsUnwritten seen r' stood new taken refused rest last
   -- the 400 to what is no message
-  At_last : IsWalked r' taken refused rest last → new ≡ stood → IsUnwritten seen r' stood new taken refused rest last
+  At_last : IsWalked r' taken refused rest last → new ≡ stood
+      → IsUnwritten seen r' stood new taken refused rest last
   -- the 503 to a message that the bank refused
-  At_refusal : IsBroken taken refused last → (fault : Fault) → Refuses fault (seen stood) (seen new) (commands_of refused)
+  At_refusal : IsBroken taken refused last → (fault : Fault)
+      → Refuses fault (seen stood) (seen new) (commands_of refused)
       → IsUnwritten seen r' stood new taken refused rest last
 
-abbrev pub Exits : {C : Type 0} → (C → Seen) → Result ℕ ServeFault → (r' : Option (List ℕ)) → (old stood new : C)
+abbrev pub Exits : {C : Type 0} → (C → Seen) → Result ℕ ServeFault → (r' : Option (List ℕ))
+    → (old stood new : C)
     → (taken refused : List Turn) → (rest : List ℕ) → (last : List (List ℕ)) → Type 0
 Exits seen (Ok count) r' old stood new taken refused rest last =
     IsWalked r' taken refused rest last × (count ≡ length taken + length last) × (new ≡ stood)
-Exits seen (Err Read) r' old stood new taken refused rest last = IsCutOff taken refused rest last × (new ≡ stood)
-Exits seen (Err Write) r' old stood new taken refused rest last = IsUnwritten seen r' stood new taken refused rest last
+Exits seen (Err Read) r' old stood new taken refused rest last =
+    IsCutOff taken refused rest last × (new ≡ stood)
+Exits seen (Err Write) r' old stood new taken refused rest last =
+    IsUnwritten seen r' stood new taken refused rest last
 Exits seen (Err (Bank fault)) r' old stood new taken refused rest last =
     IsBroken taken refused last × Refuses fault (seen stood) (seen new) (commands_of refused)
-Exits seen (Err Memory) r' old stood new taken refused rest last = IsUntouched taken refused rest last × (new ≡ old)
+Exits seen (Err Memory) r' old stood new taken refused rest last =
+    IsUntouched taken refused rest last × (new ≡ old)
 
 -- what was written of the answers: a beginning where the writer failed, and all of them elsewhere
 abbrev pub IsWritten : Result ℕ ServeFault → List ℕ → List ℕ → Type 0
@@ -99,7 +107,7 @@ IsWritten _ written text = written ≡ text
 
 pub record Serves {C : Type 0} (seen : C → Seen) (r r' w w' k k' : Option (List ℕ)) (old new : C)
     (result : Result ℕ ServeFault) : Type 0 where
-  -- the messages that the bank took, the one that it refused, what was read behind them, and the answers to what
+  -- the messages that the bank took, the one that it refused, what was read behind them, and the answer to what
   -- is no message or was refused
   pub taken : List Turn
   pub refused : List Turn
@@ -122,4 +130,5 @@ pub record Serves {C : Type 0} (seen : C → Seen) (r r' w w' k k' : Option (Lis
       → IsWritten result written (joined (answers_to log taken ++ last))
   -- a stop leaves all that it took
   pub stop : (seen new).honest → (log : List Command) → StandsAt (seen old) log
-      → LeavesOnly (seen new) (ShowsBeginning log (commands_of (taken ++ refused)) (length (commands_of taken)))
+      → LeavesOnly (seen new)
+      (ShowsBeginning log (commands_of (taken ++ refused)) (length (commands_of taken)))

@@ -23,7 +23,8 @@ said r = record { code = r.status; media = r.media.now; allow = option_map now_o
 -- the bytes before the body's length, and those between it and the body
 unfoldable pub first_lines : Answer → List ℕ
 first_lines a =
-    codes "HTTP/1.1 " ++ status_words a.code ++ codes "\r\nContent-Type: " ++ a.media ++ codes "\r\nContent-Length: "
+    codes "HTTP/1.1 " ++ status_words a.code ++ codes "\r\nContent-Type: " ++ a.media
+    ++ codes "\r\nContent-Length: "
 
 unfoldable pub last_lines : Answer → Bool → List ℕ
 last_lines a closes = codes "\r\n" ++ allow_line a.allow ++ close_line closes ++ codes "\r\n"

@@ -24,7 +24,8 @@ use std::io::Write;
 
 /// Answers a 400, after which the connection ends.
 pub(crate) fn refuse<W: Write>(writer: &mut W, shows_body: bool) -> Result<(), ServeFault>
-    ensures written { IsWrittenTo (W.contents writer.old) (W.contents writer.new) (refusal shows_body) result }
+    ensures written { IsWrittenTo (W.contents writer.old) (W.contents writer.new)
+        (refusal shows_body) result }
     ensures fault { OnErr result (IsErrOf result ServeFault.Write) }
 {
     match tell(
@@ -71,7 +72,8 @@ fn say_text<W: Write>(message: &Whole<'_>, text: &[u8], writer: &mut W) -> Resul
 
 // Answers a 503, and tells the fault of the bank, or that of the writer.
 fn fail<W: Write>(message: &Whole<'_>, fault: Fault, writer: &mut W) -> ServeFault
-    ensures { (n : ℕ) × Appends (W.contents writer.old) (W.contents writer.new) (take n (unavailable (asked message.now)))
+    ensures { (n : ℕ) × Appends (W.contents writer.old) (W.contents writer.new)
+        (take n (unavailable (asked message.now)))
         × IsTellingOf fault result n (unavailable (asked message.now)) }
 {
     let response = bare(
@@ -94,8 +96,10 @@ fn answer_posting<W: Write, K: Clock, C: Counter>(
 ) -> Result<(), ServeFault>
     requires body { bytes.now ≡ message.now.body.now }
     requires posting { is_posting (asked message.now) ≡ true }
-    ensures answers { (moment : ℕ) × AreReadings (K.readings clock.old) (K.readings clock.new) (readings_for moment (asked message.now))
-        × IsDealtWith C.seen (W.contents writer.old) (W.contents writer.new) bank.old bank.new (asked message.now)
+    ensures answers { (moment : ℕ) × AreReadings (K.readings clock.old) (K.readings clock.new)
+        (readings_for moment (asked message.now))
+        × IsDealtWith C.seen (W.contents writer.old) (W.contents writer.new) bank.old bank.new
+        (asked message.now)
         (commands_for moment (asked message.now)) result }
     ensures honest { (C.seen bank.new).honest → (C.seen bank.old).honest }
 {
@@ -123,7 +127,8 @@ fn answer_account<W: Write, C: Counter>(
 ) -> Result<(), ServeFault>
     requires route { route_of (path_of message.now.target.now) ≡ Some Route.Account }
     requires reads { is_reading message.now.method.now ≡ true }
-    ensures answers { IsDealtWith C.seen (W.contents writer.old) (W.contents writer.new) bank.old bank.new (asked message.now) [] result }
+    ensures answers { IsDealtWith C.seen (W.contents writer.old) (W.contents writer.new) bank.old bank.new
+        (asked message.now) [] result }
     ensures honest { (C.seen bank.new).honest → (C.seen bank.old).honest }
 {
     let Some(account) = account_in(path_of(message.target)) else {
@@ -159,7 +164,8 @@ fn answer_branches<W: Write, C: Counter>(
 ) -> Result<(), ServeFault>
     requires route { route_of (path_of message.now.target.now) ≡ Some Route.Branches }
     requires reads { is_reading message.now.method.now ≡ true }
-    ensures answers { IsDealtWith C.seen (W.contents writer.old) (W.contents writer.new) bank.old bank.new (asked message.now) [] result }
+    ensures answers { IsDealtWith C.seen (W.contents writer.old) (W.contents writer.new) bank.old bank.new
+        (asked message.now) [] result }
     ensures honest { (C.seen bank.new).honest → (C.seen bank.old).honest }
 {
     match all_lines(alloc, bank) {
@@ -177,8 +183,10 @@ pub(crate) fn answer_message<W: Write, K: Clock, C: Counter>(
     clock: &mut K,
     bank: &mut C,
 ) -> Result<(), ServeFault>
-    ensures answers { (moment : ℕ) × AreReadings (K.readings clock.old) (K.readings clock.new) (readings_for moment (asked message.now))
-        × IsDealtWith C.seen (W.contents writer.old) (W.contents writer.new) bank.old bank.new (asked message.now)
+    ensures answers { (moment : ℕ) × AreReadings (K.readings clock.old) (K.readings clock.new)
+        (readings_for moment (asked message.now))
+        × IsDealtWith C.seen (W.contents writer.old) (W.contents writer.new) bank.old bank.new
+        (asked message.now)
         (commands_for moment (asked message.now)) result }
     ensures honest { (C.seen bank.new).honest → (C.seen bank.old).honest }
 {

@@ -9,7 +9,8 @@ pub enum ServeFault {
     Read,
     /// The writer failed, or took no byte. Of the answers a beginning was written.
     Write,
-    /// The bank refused a call. A 503 was written to the message that made it, behind the answers to those before.
+    /// The bank refused a call. A 503 was written to the message that made it, behind the answers to those
+    /// before.
     Bank(Fault),
     /// Memory was refused before anything was read, and nothing was done.
     Memory,

@@ -61,7 +61,8 @@ fn fixed_posting(message: &Whole<'_>) -> Option<Response<'static>>
 // What is answered without the bank where something is read.
 fn fixed_reading(message: &Whole<'_>) -> Option<Response<'static>>
     ensures { MatchOption result (is_reading message.now.method.now ≡ true)
-        (λ response. (is_reading message.now.method.now ≡ false) × (said response ≡ not_allowed (codes "GET, HEAD"))) }
+        (λ response. (is_reading message.now.method.now ≡ false) × (said response ≡ not_allowed
+        (codes "GET, HEAD"))) }
 {
     if message.method == b"GET".as_slice() || is_head(message.method) {
         return None;

@@ -36,7 +36,8 @@ fn serve<R: Read, W: Write, K: Clock, C: Counter>(
     buffer: &mut [u8],
 ) -> Result<Served, ServeFault>
     requires { length buffer.old ≡ BUFFER }
-    ensures { Serves C.seen (R.remaining reader.old) (R.remaining reader.new) (W.contents writer.old) (W.contents writer.new)
+    ensures { Serves C.seen (R.remaining reader.old) (R.remaining reader.new) (W.contents writer.old)
+        (W.contents writer.new)
         (K.readings clock.old) (K.readings clock.new) bank.old bank.new result }
 {
     let mut filled = 0;
@@ -80,11 +81,11 @@ fn serve<R: Read, W: Write, K: Clock, C: Counter>(
     Err(ServeFault::Read)
 }
 
-/// Serves a connection to the end of the walk over its messages, and tells how many answers were written. As soon as
-/// whole messages were read they are answered, in their order and before anything more is read; a record is submitted
-/// under one reading of the clock. An answer of at most 512 bytes is one write. An interrupted read or write is made
-/// again, and a reader that was asked 2^64 - 1 times counts as failed. The buffer and the routes are made before
-/// anything is read; after that only the bank and the body of a `GET` take memory.
+/// Serves a connection to the end of the walk over its messages, and tells how many answers were written. As soon
+/// as whole messages were read they are answered, in their order and before anything more is read; a record is
+/// submitted under one reading of the clock. An answer of at most 512 bytes is one write. An interrupted read or
+/// write is made again, and a reader that was asked 2^64 - 1 times counts as failed. The buffer and the routes are
+/// made before anything is read; after that only the bank and the body of a `GET` take memory.
 pub fn serve_connection<R: Read, W: Write, K: Clock, C: Counter>(
     alloc: Global,
     reader: &mut R,
@@ -92,11 +93,14 @@ pub fn serve_connection<R: Read, W: Write, K: Clock, C: Counter>(
     clock: &mut K,
     bank: &mut C,
 ) -> Result<Served, ServeFault>
-    ensures served { Serves C.seen (R.remaining reader.old) (R.remaining reader.new) (W.contents writer.old) (W.contents writer.new)
+    ensures served { Serves C.seen (R.remaining reader.old) (R.remaining reader.new) (W.contents writer.old)
+        (W.contents writer.new)
         (K.readings clock.old) (K.readings clock.new) bank.old bank.new result }
-    ensures output { Outputs (R.remaining reader.old) (R.remaining reader.new) (W.contents writer.old) (W.contents writer.new)
+    ensures output { Outputs (R.remaining reader.old) (R.remaining reader.new) (W.contents writer.old)
+        (W.contents writer.new)
         (C.seen bank.old) (C.seen bank.new) result }
-    ensures stop { Survives (R.remaining reader.old) (R.remaining reader.new) (W.contents writer.old) (W.contents writer.new)
+    ensures stop { Survives (R.remaining reader.old) (R.remaining reader.new) (W.contents writer.old)
+        (W.contents writer.new)
         (C.seen bank.old) (C.seen bank.new) }
     ensures honest { (C.seen bank.new).honest → (C.seen bank.old).honest }
 {

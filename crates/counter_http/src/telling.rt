@@ -22,10 +22,11 @@ pub(crate) struct Response<'a> {
     pub body: &'a [u8],
 }
 
-// Tells more of a text, where the writer took all of it so far, and answers whether it still does. What has no room is
-// written at once, behind what was held.
+// Tells more of a text, where the writer took all of it so far, and answers whether it still does. What has no
+// room is written at once, behind what was held.
 fn put<W: Write>(writer: &mut W, held: &mut ArrayVec<u8, HELD>, going: bool, bytes: &[u8]) -> bool
-    ensures { (before : Option (List ℕ)) (text : List ℕ) → IsTold before (W.contents writer.old) going held.old.items text
+    ensures { (before : Option (List ℕ)) (text : List ℕ) → IsTold before
+        (W.contents writer.old) going held.old.items text
         → IsTold before (W.contents writer.new) result held.new.items (text ++ bytes.now) }
 {
     if !going {
@@ -48,7 +49,8 @@ fn put_first<W: Write>(
     response: &Response<'_>,
 ) -> bool
     requires { held.old.items ≡ [] }
-    ensures { IsTold (W.contents writer.old) (W.contents writer.new) result held.new.items (first_lines (said response.now)) }
+    ensures { IsTold (W.contents writer.old) (W.contents writer.new) result held.new.items (first_lines
+        (said response.now)) }
 {
     let going = put(writer, held, true, b"HTTP/1.1 ");
     let going = put(writer, held, going, response.status.as_str().as_bytes());
@@ -68,7 +70,8 @@ fn put_last<W: Write>(
     response: &Response<'_>,
     closes: bool,
 ) -> bool
-    ensures { (before : Option (List ℕ)) (text : List ℕ) → IsTold before (W.contents writer.old) going held.old.items text
+    ensures { (before : Option (List ℕ)) (text : List ℕ) → IsTold before
+        (W.contents writer.old) going held.old.items text
         → IsTold before (W.contents writer.new) result held.new.items (text ++ last_lines (said response.now) closes) }
 {
     let going = put(writer, held, going, b"\r\n");
@@ -95,7 +98,8 @@ pub(crate) fn tell<W: Write>(
     shows_body: bool,
     closes: bool,
 ) -> Result<(), WriteFailed>
-    ensures { (n : ℕ) × Appends (W.contents writer.old) (W.contents writer.new) (take n (answer_text (said response.now) shows_body closes))
+    ensures { (n : ℕ) × Appends (W.contents writer.old) (W.contents writer.new) (take n (answer_text
+        (said response.now) shows_body closes))
         × OnOk result (n ≡ length (answer_text (said response.now) shows_body closes)) }
 {
     let mut held = ArrayVec::new();

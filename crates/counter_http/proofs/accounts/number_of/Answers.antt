@@ -53,4 +53,5 @@ returns-then-not-is_ascii_digit c =
     sym (c.loop-digit.invariant.states ∙ other c.loop-digit.number c.args.digits.now c.loop-digit.digit-index (omega arith) byte)
 
 pub returns : goal.returns
-returns c = sym (c.loop-digit.invariant.states ∙ done c.loop-digit.number c.args.digits.now c.loop-digit.digit-index (omega arith))
+returns c =
+    sym (c.loop-digit.invariant.states ∙ done c.loop-digit.number c.args.digits.now c.loop-digit.digit-index (omega arith))

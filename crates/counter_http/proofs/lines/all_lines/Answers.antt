@@ -57,7 +57,8 @@ loop-body-preserved g c =
           let next : IsNextBranch log c.loop-body.after (Some c.in-Some.line) =
           subst (λ (o : Option BranchLine). IsNextBranch log c.loop-body.after o) c.in-Some.is
           (c.in_ok-line.ensures.line h log (i.asking.takes.shows before log s)) in
-          c.in_ok-push_str.ensures.bytes ∙ ap (λ (t : List ℕ). t ++ c.as_str.result.now) (i.lines before log s)
+          c.in_ok-push_str.ensures.bytes
+          ∙ ap (λ (t : List ℕ). t ++ c.as_str.result.now) (i.lines before log s)
           ∙ ap (λ (t : List ℕ). lines_up_to log c.loop-body.after ++ t) (c.as_str.ensures.value ∙ c.in_ok-line_of_branch.ensures)
           ∙ sym (next_line log c.loop-body.after c.in-Some.line next);
     })

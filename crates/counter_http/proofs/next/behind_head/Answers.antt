@@ -64,6 +64,8 @@ returns c =
           (ap (take n) (between_to_end buf r.len (length buf) (omega arith)))
           (elim c.if-head-eq0.branch [
             | then-head-eq0 w ↦ w.result-is ∙ closes_old h r.version at.version w.if-head-eq0.true
-            | else-head-eq0 w ↦ w.result-is ∙ (w.ask_to_close.ensures ∙ fields_say asks_to_close buf headers r h at) ∙ closes_asked h r.version at.version w.if-head-eq0.false
+            | else-head-eq0 w ↦ w.result-is
+                ∙ (w.ask_to_close.ensures ∙ fields_say asks_to_close buf headers r h at)
+                ∙ closes_asked h r.version at.version w.if-head-eq0.false
           ]);
     }

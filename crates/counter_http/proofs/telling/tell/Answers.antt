@@ -11,7 +11,8 @@ returns-then-not-going g c =
     let w = g.W.Write.contents c.args.writer.now in
     let a = said c.args.response.now in
     let front = c.put_last-going.ensures w _ (c.put-going.ensures w _ c.put_first-going.ensures) in
-    let num : c.as_bytes.result.now ≡ decimal (length a.body) = c.as_bytes.ensures.value ∙ c.format-length.ensures.text in
+    let num : c.as_bytes.result.now ≡ decimal (length a.body) = c.as_bytes.ensures.value
+    ∙ c.format-length.ensures.text in
     let told : IsTold w (g.W.Write.contents c.if-shows_body.writer) c.if-shows_body.going c.if-shows_body.held.items (answer_text a c.args.shows_body c.args.closes) =
     elim c.if-shows_body.branch [
       | then-shows_body v ↦ rw (v.writer-is, v.held-is, v.going-is, v.if-shows_body.true)
@@ -27,7 +28,8 @@ returns g c =
     let w = g.W.Write.contents c.args.writer.now in
     let a = said c.args.response.now in
     let front = c.put_last-going.ensures w _ (c.put-going.ensures w _ c.put_first-going.ensures) in
-    let num : c.as_bytes.result.now ≡ decimal (length a.body) = c.as_bytes.ensures.value ∙ c.format-length.ensures.text in
+    let num : c.as_bytes.result.now ≡ decimal (length a.body) = c.as_bytes.ensures.value
+    ∙ c.format-length.ensures.text in
     let told : IsTold w (g.W.Write.contents c.if-shows_body.writer) c.if-shows_body.going c.if-shows_body.held.items (answer_text a c.args.shows_body c.args.closes) =
     elim c.if-shows_body.branch [
       | then-shows_body v ↦ rw (v.writer-is, v.held-is, v.going-is, v.if-shows_body.true)

@@ -1,0 +1,15 @@
+//! Tests of the counter over HTTP: the bytes of its answers, its limits, and ends and banks that fail at each byte.
+#![tactic(auto)]
+
+#[cfg(test)]
+mod bank;
+#[cfg(test)]
+mod ends;
+#[cfg(test)]
+mod failing;
+#[cfg(test)]
+mod messages;
+#[cfg(test)]
+mod refusals;
+#[cfg(test)]
+mod texts;
