@@ -10,7 +10,7 @@ use Rattle.sqlite.proofs.StateLemmas.{survives_then}
 use Rattle.posting_rules.specs.declared.fault.Fault.{Fault}
 use Rattle.posting_rules.specs.declared.fault.Fault.TheVariants as told
 use Rattle.posting_rules.specs.Commands.{Command, AreCommands}
-use Rattle.posting_rules.specs.Counter.{ShowsLog, ShowsBeginning, Takes, IsCutShort, IsDamaged, Refuses}
+use Rattle.posting_rules.specs.Counter.{ShowsLog, ShowsBeginning, Takes, IsCutShort, IsDamaged, Refuses, TellsDamage}
 use Rattle.posting_rules.specs.Runs.{behind}
 use Rattle.posting_rules.specs.Tables.{Tables}
 use Rattle.posting_rules.specs.Tables.{Shows as Show}
@@ -144,3 +144,12 @@ refuses {S} {X} {So} {after} {wanted} g old mid new holds cs is D e kept fault d
         (λ clean t shows sound. it.told (before clean) t shows sound)
         (λ clean. let same = went.2 clean in same.0.now_is ∙ (it.undone (before clean) same.0.was_open).1))
     by_fault (Damaged rule) it (inr went) = failed (Sqlite went.1.0) went.1.1 went.0
+
+-- where rows are told to be damaged, all that the file holds is as it was
+pub keeps_file : {S X : Type 0} {So : Tables → Type 0} {after : Tables → Tables} {wanted : Tables → X} (g : Ghosts S) (old mid new : Held S) (e : TableFault)
+    (kept : Option TableFault) (fault : Fault) → Transacts {X = X} g old mid So after wanted (Err e) → GoesDown (state g mid) (state g new) e kept fault
+    → Survives (state g mid) (state g new) (λ _. ⊥) → TellsDamage fault → HasCleanDisk (state g new) → (state g new).now ≡ (state g old).now
+keeps_file g old mid new (Sqlite error) kept fault does went quiet damage clean = absurd (subst TellsDamage went.1 damage)
+keeps_file g old mid new (Damaged rule) kept fault does (inl went) quiet damage clean =
+    let same = went.2 clean in same.0.now_is ∙ (does.undone (omega (arith, quiet.clean)) same.0.was_open).1
+keeps_file g old mid new (Damaged rule) kept fault does (inr went) quiet damage clean = absurd (subst TellsDamage went.0 damage)

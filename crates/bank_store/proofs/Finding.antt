@@ -1,5 +1,5 @@
 -- What is found of a bank, and that nothing is missed where a log is shown.
-use Rattle.std.proofs.Common.{◌≡◌, ◌≤◌, ℕ, ℤ, pos, List, [], ◌∷◌, map, Option, Some, None, Ok, Err, Result, refl, sym, ap, subst, ◌∙◌, inl, inr, arith}
+use Rattle.std.proofs.Common.{◌≡◌, ◌≤◌, ℕ, ℤ, pos, List, [], ◌∷◌, length, map, Option, Some, None, Ok, Err, Result, refl, sym, ap, subst, ◌∙◌, inl, inr, arith}
 use Rattle.std.specs.Prelude.{◌⊎◌, ◌<ℤ◌}
 use Rattle.std.proofs.lemmas.Int.{ints}
 use Rattle.sqlite.specs.Table.{Table}
@@ -26,9 +26,51 @@ use Rattle.bank_store.specs.Opening.{Lacks, IsPresent, IsAsBefore, IsOurs, IsOfV
 use Rattle.bank_store.specs.declared.probing.Presence.TheVariants.{Absent, Whole}
 use Rattle.bank_store.specs.declared.refused.OpenFault.{OpenFault}
 use Rattle.bank_store.specs.declared.refused.OpenFault.TheVariants.{Store, NotBlank, Blank, Foreign, Version, Damaged}
+use Rattle.store_rows.proofs.Checked.{one_at_most}
 use Rattle.store_rows.proofs.MetaRow.{has_one}
+use Rattle.store_rows.specs.declared.metas.TheConstants.{VERSION}
 use Rattle.bank_store.proofs.Probed.{as_before}
 use Rattle.posting_rules.specs.declared.limits.TheConstants.{MAX_DECIDED}
+
+-- ---- the row of the bank
+
+abbrev version_in : Option StoredMeta → ℤ
+version_in None = pos 0
+version_in (Some m) = m.version
+
+abbrev decided_in : Option StoredMeta → ℤ
+decided_in None = pos 0
+decided_in (Some m) = m.decided
+
+two_are : (a b : ℤ) (d : ℕ) → a ≡ VERSION → b ≡ pos d → (let it : Entry = record { key = pos 1; values = a ∷ b ∷ [] } in it) ≡ meta_entry d
+two_are a b d version decided = rw (version, decided) refl
+
+whole_row : (values : List ℤ) (d : ℕ) → length values ≡ 2
+    → meta_in (record { key = pos 1; values = values } ∷ []) ≡ Some (record { version = VERSION; decided = pos d })
+    → (let it : Entry = record { key = pos 1; values = values } in it) ≡ meta_entry d
+whole_row [] d wide told = absurd (omega arith)
+whole_row (a ∷ []) d wide told = absurd (omega arith)
+whole_row (a ∷ b ∷ []) d wide told = two_are a b d (ap version_in told) (ap decided_in told)
+whole_row (a ∷ b ∷ c ∷ more) d wide told = absurd (omega arith)
+
+one_row : (key : ℤ) (values : List ℤ) (d : ℕ) → key ≡ pos 1 → length values ≡ 2
+    → meta_in (record { key = key; values = values } ∷ []) ≡ Some (record { version = VERSION; decided = pos d })
+    → (let it : Entry = record { key = key; values = values } in it) ≡ meta_entry d
+one_row key values d is wide told =
+    ap (λ (k : ℤ). let it : Entry = record { key = k; values = values } in it) is
+    ∙ whole_row values d wide (subst (λ (k : ℤ). meta_in (record { key = k; values = values } ∷ []) ≡ Some (record { version = VERSION; decided = pos d })) is told)
+
+-- where it is ours, it is the one row of `meta`
+one_of_ours : (db : Database) (rows : List Entry) → HoldsRows db six.meta rows → IsOurs (meta_in rows)
+    → (decided : ℕ) × (rows ≡ meta_entry decided ∷ []) × (decided ≤ MAX_DECIDED)
+one_of_ours db rows has ours = elim (one_at_most db rows has) [
+  | inl none ↦ absurd (let told = rw none at ours.1 in cc)
+  | inr one ↦
+      let e = one.0 in
+      let wide : length e.values ≡ 2 = (subst (HoldsRows db six.meta) one.1 has).holds.rows.wide.0 in
+      let told = subst (λ (rs : List Entry). meta_in rs ≡ Some (record { version = VERSION; decided = pos ours.0 })) one.1 ours.1 in
+      (ours.0, one.1 ∙ ap (λ (r : Entry). r ∷ []) (one_row e.key e.values ours.0 one.2 wide told), ours.2)
+]
 
 -- the row wasn't read
 module _ (old mid new : State) (tables : IsPresent old.now six_probes Whole) (first : IsAsBefore old mid) where
@@ -63,7 +105,12 @@ module _ (old mid new : State) (stored : Option StoredMeta) (tables : IsPresent 
   same = as_before old mid new first then
 
   pub looked : (r : Result (Unit {0}) OpenFault) → ChecksMeta stored r → SeeksBank old new r
-  looked (Ok done) checks = record { tables = tables; meta = row_is IsOurs checks; same = same }
+  looked (Ok done) checks = record {
+    tables = tables;
+    meta = row_is IsOurs checks;
+    one = λ rows has. one_of_ours old.now rows has (row_is IsOurs checks rows has);
+    same = same;
+  }
   looked (Err Store) checks = absurd checks
   looked (Err NotBlank) checks = absurd checks
   looked (Err Blank) checks = absurd checks
@@ -95,14 +142,6 @@ no_bank db t absent shows = lacks_none db t shows probe.meta (inl refl) absent.0
 -- what meta holds of a log
 holds : (t : Tables) → IsUndamaged t → IsOurs (meta_in (meta_entry t.decided ∷ []))
 holds t sound = (t.decided, refl, sound.decided)
-
-abbrev version_in : Option StoredMeta → ℤ
-version_in None = pos 0
-version_in (Some m) = m.version
-
-abbrev decided_in : Option StoredMeta → ℤ
-decided_in None = pos 0
-decided_in (Some m) = m.decided
 
 not_other : (stored : Option StoredMeta) (n : ℤ) → IsOurs stored → IsOfVersion n stored → ⊥
 not_other stored n ours other = other.2 (sym (ap version_in other.1) ∙ ap version_in ours.1)

@@ -1,5 +1,5 @@
 -- What a connection is seen as before a bank is made in it or found there, and what either call tells.
-use Rattle.std.specs.Prelude.{◌≡◌, ◌≢◌, ◌⊎◌, ◌≤◌, ◌<ℤ◌, if◌then◌else◌, IsTrue, ℕ, ℤ, pos, Bool, true, false, List, ◌++◌, codes, Option, Some, None, Result, Ok, Err, ⊤}
+use Rattle.std.specs.Prelude.{◌≡◌, ◌≢◌, ◌⊎◌, ◌≤◌, ◌<ℤ◌, if◌then◌else◌, IsTrue, ℕ, ℤ, pos, Bool, true, false, List, [], ◌∷◌, ◌++◌, codes, Option, Some, None, Result, Ok, Err, ⊤}
 use Rattle.std.specs.Fmt.{decimal, signed_decimal}
 use Rattle.std.specs.List.{AllByRecursion}
 use Rattle.sqlite.specs.Table.{Table}
@@ -25,7 +25,7 @@ use Rattle.store_rows.specs.Probes.{IsNotUnderstood, six_probes}
 use Rattle.store_rows.specs.SixTables as six
 use Rattle.store_rows.specs.Statements.{HasOtherValue}
 use Rattle.sql_meanings.specs.Entries.{Entry}
-use Rattle.store_rows.specs.View.{HoldsRows, Shows, ShowsTrees}
+use Rattle.store_rows.specs.View.{HoldsRows, Shows, ShowsTrees, meta_entry}
 use Rattle.store_rows.specs.declared.metas.TheConstants.{VERSION}
 use Rattle.store_rows.specs.declared.metas.StoredMeta.{StoredMeta}
 use Rattle.store_rows.specs.declared.faults.TableFault.{TableFault}
@@ -150,10 +150,11 @@ IsReadOnly old new _ = IsAsBefore old new
 abbrev pub MetaIs : State → (Option StoredMeta → Type 0) → Type 0
 MetaIs s P = (rows : List Entry) → HoldsRows s.now six.meta rows → P (meta_in rows)
 
--- the six tables are there, with a row of our version, and everything is as it was
+-- the six tables are there, `meta` with its one row, of our version and with a count within its range, and everything is as it was
 pub record IsFound (old new : State) : Type 0 where
   pub tables : IsPresent old.now six_probes Whole
   pub meta : MetaIs old IsOurs
+  pub one : (rows : List Entry) → HoldsRows old.now six.meta rows → (decided : ℕ) × (rows ≡ meta_entry decided ∷ []) × (decided ≤ MAX_DECIDED)
   pub same : IsAsBefore old new
 
 -- why no bank is found, and everything is as it was

@@ -1,6 +1,7 @@
 -- What a bank in a file shows, and what a stop may leave of it.
 use Rattle.std.specs.Prelude.{Option, Some, None, IsSome}
 use Rattle.sqlite.specs.Tree.{Trees}
+use Rattle.sqlite.specs.Effect.{Database}
 use Rattle.sqlite.specs.State.{State, HasCleanDisk}
 use Rattle.sqlite.specs.Held.{Held, state}
 use Rattle.sqlite_trees.specs.declared.store.Store.{Ghosts}
@@ -28,6 +29,10 @@ connection_of bank = bank.conn
 
 abbrev pub bank_seen : {S : Type 0} (g : Ghosts S) → Bank S g → Seen
 bank_seen g bank = seen_in (state g bank.conn) (IsSome bank.fault)
+
+-- all that its file holds, as its connection shows it
+abbrev pub database_of : {S : Type 0} (g : Ghosts S) → Bank S g → Database
+database_of g bank = (state g bank.conn).now
 
 -- the error of `sqlite` that brought the bank down
 abbrev pub error_in : Option TableFault → Option Error

@@ -100,9 +100,15 @@ impl<S: Alter> Bank<S> {
 
 impl<S: Alter + Drop> Counter for Bank<S> {
     ghost use Rattle.bank_store.specs.NoneOrAll.{LeavesNoneOrAll};
-    ghost use Rattle.bank_store.specs.Seen.{bank_seen, cause_of};
+    ghost use Rattle.bank_store.specs.Seen.{bank_seen, cause_of, database_of};
+    ghost use Rattle.sqlite.specs.Effect.{Database};
+    ghost use Rattle.posting_rules.specs.Counter.{TellsDamage};
 
     ghost seen = { λ bank. bank_seen S.Store bank };
+
+    ghost Contents = { Database };
+
+    ghost contents = { λ bank. database_of S.Store bank };
 
     fn submit(&mut self, moment: Moment, bytes: &[u8; 100]) -> Result<[u8; 200], Fault>
         ensures reply { IfOk result (λ out. (bank_seen S.Store self.new).honest → (log : List Command) → ShowsLog (bank_seen S.Store self.old) log →
@@ -110,6 +116,8 @@ impl<S: Alter + Drop> Counter for Bank<S> {
         ensures done { OnOk result (Takes (bank_seen S.Store self.old) (bank_seen S.Store self.new) (Post moment bytes.now ∷ [])) }
         ensures up { OnOk result ((bank_seen S.Store self.new).is_down → ⊥) }
         ensures fault { IfErr result (λ fault. Refuses fault (bank_seen S.Store self.old) (bank_seen S.Store self.new) (Post moment bytes.now ∷ [])) }
+        ensures kept { IfErr result (λ fault. TellsDamage fault → (bank_seen S.Store self.new).honest
+            → database_of S.Store self.new ≡ database_of S.Store self.old) }
         ensures frugal { result ≢ Err fault.Memory }
         ensures cause { result ≡ Err fault.Store → IsSome (cause_of self.new) }
         ensures down { (bank_seen S.Store self.old).is_down → IsErrOf result Fault.Down }
@@ -141,6 +149,8 @@ impl<S: Alter + Drop> Counter for Bank<S> {
         ensures up { OnOk result ((bank_seen S.Store self.new).is_down → ⊥) }
         ensures fault { IfErr result (λ fault. Refuses fault (bank_seen S.Store self.old) (bank_seen S.Store self.new) (posts moment records.now)) }
         ensures none_or_all { LeavesNoneOrAll (bank_seen S.Store self.old) (bank_seen S.Store self.new) (posts moment records.now) }
+        ensures kept { IfErr result (λ fault. TellsDamage fault → (bank_seen S.Store self.new).honest
+            → database_of S.Store self.new ≡ database_of S.Store self.old) }
         ensures cause { result ≡ Err fault.Store → IsSome (cause_of self.new) }
         ensures down { (bank_seen S.Store self.old).is_down → IsErrOf result Fault.Down }
         ensures honest { (bank_seen S.Store self.new).honest → (bank_seen S.Store self.old).honest }
@@ -167,6 +177,8 @@ impl<S: Alter + Drop> Counter for Bank<S> {
         ensures done { OnOk result (Takes (bank_seen S.Store self.old) (bank_seen S.Store self.new) (Open branch count ∷ [])) }
         ensures up { OnOk result ((bank_seen S.Store self.new).is_down → ⊥) }
         ensures fault { IfErr result (λ fault. Refuses fault (bank_seen S.Store self.old) (bank_seen S.Store self.new) (Open branch count ∷ [])) }
+        ensures kept { IfErr result (λ fault. TellsDamage fault → (bank_seen S.Store self.new).honest
+            → database_of S.Store self.new ≡ database_of S.Store self.old) }
         ensures frugal { result ≢ Err fault.Memory }
         ensures cause { result ≡ Err fault.Store → IsSome (cause_of self.new) }
         ensures down { (bank_seen S.Store self.old).is_down → IsErrOf result Fault.Down }
@@ -190,6 +202,8 @@ impl<S: Alter + Drop> Counter for Bank<S> {
         ensures tables { OnOk result ((bank_seen S.Store self.new).honest → (t : Tables) → (bank_seen S.Store self.old).tables t → (bank_seen S.Store self.new).tables t) }
         ensures up { OnOk result ((bank_seen S.Store self.new).is_down → ⊥) }
         ensures fault { IfErr result (λ fault. Refuses fault (bank_seen S.Store self.old) (bank_seen S.Store self.new) []) }
+        ensures kept { IfErr result (λ fault. TellsDamage fault → (bank_seen S.Store self.new).honest
+            → database_of S.Store self.new ≡ database_of S.Store self.old) }
         ensures frugal { result ≢ Err fault.Memory }
         ensures cause { result ≡ Err fault.Store → IsSome (cause_of self.new) }
         ensures down { (bank_seen S.Store self.old).is_down → IsErrOf result Fault.Down }
@@ -214,6 +228,8 @@ impl<S: Alter + Drop> Counter for Bank<S> {
         ensures up { OnOk result ((bank_seen S.Store self.new).is_down → ⊥) }
         ensures fault { IfErr result (λ fault.
             Refuses fault (bank_seen S.Store self.old) (bank_seen S.Store self.new) []) }
+        ensures kept { IfErr result (λ fault. TellsDamage fault → (bank_seen S.Store self.new).honest
+            → database_of S.Store self.new ≡ database_of S.Store self.old) }
         ensures frugal { result ≢ Err fault.Memory }
         ensures cause { result ≡ Err fault.Store → IsSome (cause_of self.new) }
         ensures down { (bank_seen S.Store self.old).is_down → IsErrOf result Fault.Down }

@@ -22,9 +22,14 @@ pub struct FailingBank {
 
 impl Counter for FailingBank {
     ghost use Rattle.std.specs.Prelude.{◌≡◌, true};
-    ghost use Rattle.posting_core.specs.Plain.{plain_seen};
+    ghost use Rattle.posting_rules.specs.Tables.{Tables};
+    ghost use Rattle.posting_core.specs.Plain.{plain_seen, plain_tables};
 
     ghost seen = { λ b. record (plain_seen b.bank) { is_down = b.down ≡ true } };
+
+    ghost Contents = { Tables };
+
+    ghost contents = { λ b. plain_tables b.bank };
 
     fn submit(&mut self, moment: Moment, bytes: &[u8; 100]) -> Result<[u8; 200], Fault> {
         if self.down {

@@ -266,10 +266,14 @@ impl Counter for PlainBank {
     ghost use Rattle.posting_rules.specs.Branches.{IsNextBranch, IsLineAbove};
     ghost use Rattle.posting_rules.specs.Commands.{Command};
     ghost use Rattle.posting_rules.specs.Entries.{balance_behind};
-    ghost use Rattle.posting_rules.specs.Tables.{Shows};
+    ghost use Rattle.posting_rules.specs.Tables.{Shows, Tables};
     ghost use Rattle.posting_core.specs.Plain.{plain_seen, plain_tables};
 
     ghost seen = { plain_seen };
+
+    ghost Contents = { Tables };
+
+    ghost contents = { plain_tables };
 
     fn submit(&mut self, moment: Moment, bytes: &[u8; 100]) -> Result<[u8; 200], Fault> {
         // A moment is in its range.

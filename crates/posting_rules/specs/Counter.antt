@@ -1,5 +1,5 @@
 -- What a counter shows, what a stop may leave of it, and what a call does to both.
-use Rattle.std.specs.Prelude.{ℕ, ◌≤◌, List, length, take, Option, Some, None, ◌==◌, if◌then◌else◌}
+use Rattle.std.specs.Prelude.{⊤, ℕ, ◌≤◌, List, length, take, Option, Some, None, ◌==◌, if◌then◌else◌}
 use Rattle.posting_rules.specs.declared.fault.Fault.{Fault}
 use Rattle.posting_rules.specs.declared.fault.Fault.TheVariants.{Memory, Store, Down, Damaged}
 use Rattle.posting_rules.specs.declared.counter.Opening.{Opening}
@@ -93,6 +93,11 @@ Refuses Memory old new commands = IsUnchanged old new
 Refuses Store old new commands = IsCutShort old new commands
 Refuses Down old new commands = WasDown old new
 Refuses (Damaged rule) old new commands = IsDamaged old new
+
+-- it tells rows to be damaged
+abbrev pub TellsDamage : Fault → Type 0
+TellsDamage (Damaged rule) = ⊤
+TellsDamage _ = ⊥
 
 -- ---- the answer to an opening
 

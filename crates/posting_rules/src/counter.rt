@@ -6,7 +6,7 @@ ghost use Rattle.posting_rules.specs.Branches.{IsNextBranch, IsLineAbove};
 ghost use Rattle.posting_rules.specs.Commands.{Command, Open, Post};
 ghost use Rattle.posting_rules.specs.Entries.{reply, balance_behind};
 ghost use Rattle.posting_rules.specs.Tables.{Tables};
-ghost use Rattle.posting_rules.specs.Counter.{Seen, ShowsLog, Takes, Refuses, opening_behind};
+ghost use Rattle.posting_rules.specs.Counter.{Seen, ShowsLog, Takes, Refuses, TellsDamage, opening_behind};
 ghost use Rattle.posting_rules.specs.Runs.{posts, replies_to};
 
 use crate::fault::Fault;
@@ -55,6 +55,11 @@ pub trait Counter {
     /// Its tables, whether it is down, what a stop at this moment may leave, and whether the disk is honest.
     ghost seen: { Self → Seen };
 
+    /// All that it keeps, whether or not that is a bank: of a bank in a file its whole database.
+    ghost Contents: { Type 0 };
+
+    ghost contents: { Self → Contents };
+
     /// Submits the 100 bytes of a record, and answers the 200 bytes of the reply.
     fn submit(&mut self, moment: Moment, bytes: &[u8; 100]) -> Result<[u8; 200], Fault>
         ensures reply { IfOk result (λ out. (seen self.new).honest → (log : List Command) → ShowsLog (seen self.old) log →
@@ -62,6 +67,7 @@ pub trait Counter {
         ensures done { OnOk result (Takes (seen self.old) (seen self.new) (Post moment bytes.now ∷ [])) }
         ensures up { OnOk result ((seen self.new).is_down → ⊥) }
         ensures fault { IfErr result (λ fault. Refuses fault (seen self.old) (seen self.new) (Post moment bytes.now ∷ [])) }
+        ensures kept { IfErr result (λ fault. TellsDamage fault → (seen self.new).honest → contents self.new ≡ contents self.old) }
         ensures down { (seen self.old).is_down → IsErrOf result Fault.Down }
         ensures honest { (seen self.new).honest → (seen self.old).honest };
 
@@ -76,6 +82,7 @@ pub trait Counter {
         ensures done { OnOk result (Takes (seen self.old) (seen self.new) (posts moment records.now)) }
         ensures up { OnOk result ((seen self.new).is_down → ⊥) }
         ensures fault { IfErr result (λ fault. Refuses fault (seen self.old) (seen self.new) (posts moment records.now)) }
+        ensures kept { IfErr result (λ fault. TellsDamage fault → (seen self.new).honest → contents self.new ≡ contents self.old) }
         ensures down { (seen self.old).is_down → IsErrOf result Fault.Down }
         ensures honest { (seen self.new).honest → (seen self.old).honest };
 
@@ -89,6 +96,7 @@ pub trait Counter {
         ensures done { OnOk result (Takes (seen self.old) (seen self.new) (Open branch count ∷ [])) }
         ensures up { OnOk result ((seen self.new).is_down → ⊥) }
         ensures fault { IfErr result (λ fault. Refuses fault (seen self.old) (seen self.new) (Open branch count ∷ [])) }
+        ensures kept { IfErr result (λ fault. TellsDamage fault → (seen self.new).honest → contents self.new ≡ contents self.old) }
         ensures down { (seen self.old).is_down → IsErrOf result Fault.Down }
         ensures honest { (seen self.new).honest → (seen self.old).honest };
 
@@ -100,6 +108,7 @@ pub trait Counter {
         ensures tables { OnOk result ((seen self.new).honest → (t : Tables) → (seen self.old).tables t → (seen self.new).tables t) }
         ensures up { OnOk result ((seen self.new).is_down → ⊥) }
         ensures fault { IfErr result (λ fault. Refuses fault (seen self.old) (seen self.new) []) }
+        ensures kept { IfErr result (λ fault. TellsDamage fault → (seen self.new).honest → contents self.new ≡ contents self.old) }
         ensures down { (seen self.old).is_down → IsErrOf result Fault.Down }
         ensures honest { (seen self.new).honest → (seen self.old).honest };
 
@@ -115,6 +124,7 @@ pub trait Counter {
             → (t : Tables) → (seen self.old).tables t → (seen self.new).tables t) }
         ensures up { OnOk result ((seen self.new).is_down → ⊥) }
         ensures fault { IfErr result (λ fault. Refuses fault (seen self.old) (seen self.new) []) }
+        ensures kept { IfErr result (λ fault. TellsDamage fault → (seen self.new).honest → contents self.new ≡ contents self.old) }
         ensures down { (seen self.old).is_down → IsErrOf result Fault.Down }
         ensures honest { (seen self.new).honest → (seen self.old).honest };
 }

@@ -4,7 +4,7 @@ use Rattle.std.specs.Prelude.{IsSome}
 use Rattle.posting_rules.specs.Commands.{Open, AreCommands}
 use Rattle.posting_rules.proofs.Calls.{opens, answers}
 use Rattle.posting_rules.proofs.Stepping.{sound_tables}
-use Rattle.bank_store.proofs.Countered.{takes, refuses}
+use Rattle.bank_store.proofs.Countered.{keeps_file, takes, refuses}
 use Rattle.bank_store.proofs.bank.BankCounter.open_branch.Goals as goal
 
 pub returns-in-Ok-clause-answer : goal.returns-in-Ok-clause-answer
@@ -29,3 +29,8 @@ returns-in-Err-clause-fault g c =
     refuses g.S.Store c.args.self.now.conn c.open_branch.new.conn c.go_down.new.self.conn sound_tables (Open b count ∷ [])
     (opens b count above c.requires.few) (IsSome c.args.self.now.fault)
     c.in-Err.fault c.go_down.new.self.fault c.go_down.result c.in-Err.ensures c.go_down.ensures.down c.go_down.ensures.survives
+
+pub returns-in-Err-clause-kept : goal.returns-in-Err-clause-kept
+returns-in-Err-clause-kept g c damage clean =
+    keeps_file g.S.Store c.args.self.now.conn c.open_branch.new.conn c.go_down.new.self.conn c.in-Err.fault c.go_down.new.self.fault c.go_down.result
+    c.in-Err.ensures c.go_down.ensures.down c.go_down.ensures.survives damage clean

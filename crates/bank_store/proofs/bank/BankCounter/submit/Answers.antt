@@ -5,7 +5,7 @@ use Rattle.message_records.specs.Reading.{request_of}
 use Rattle.posting_rules.specs.Commands.{Post, AreCommands}
 use Rattle.posting_rules.proofs.Calls.{posts, replies}
 use Rattle.posting_rules.proofs.Stepping.{sound_tables}
-use Rattle.bank_store.proofs.Countered.{takes, refuses}
+use Rattle.bank_store.proofs.Countered.{keeps_file, takes, refuses}
 use Rattle.bank_store.proofs.bank.BankCounter.submit.Goals as goal
 
 pub returns-in-Ok-post-clause-reply : goal.returns-in-Ok-post-clause-reply
@@ -31,3 +31,8 @@ returns-in-Err-clause-fault g c =
     refuses g.S.Store c.args.self.now.conn c.post.new.conn c.go_down.new.self.conn sound_tables (Post m bytes ∷ [])
     (posts m bytes c.in-Ok.request read) (IsSome c.args.self.now.fault)
     c.in-Err.fault c.go_down.new.self.fault c.go_down.result c.in-Err.ensures c.go_down.ensures.down c.go_down.ensures.survives
+
+pub returns-in-Err-clause-kept : goal.returns-in-Err-clause-kept
+returns-in-Err-clause-kept g c damage clean =
+    keeps_file g.S.Store c.args.self.now.conn c.post.new.conn c.go_down.new.self.conn c.in-Err.fault c.go_down.new.self.fault c.go_down.result
+    c.in-Err.ensures c.go_down.ensures.down c.go_down.ensures.survives damage clean

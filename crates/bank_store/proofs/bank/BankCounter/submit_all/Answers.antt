@@ -6,7 +6,7 @@ use Rattle.posting_rules.specs.Commands.{AreCommands}
 use Rattle.posting_rules.specs.Runs.{posts}
 use Rattle.posting_rules.specs.Sound.{AreOfALog}
 use Rattle.posting_rules.proofs.Records.{all_replies, are_posts, posts_all}
-use Rattle.bank_store.proofs.Countered.{HoldsOfLogs, none_or_all, none_or_all_down, takes, refuses}
+use Rattle.bank_store.proofs.Countered.{HoldsOfLogs, keeps_file, none_or_all, none_or_all_down, takes, refuses}
 use Rattle.bank_store.proofs.bank.BankCounter.submit_all.Goals as goal
 
 of_logs : HoldsOfLogs AreOfALog
@@ -47,3 +47,8 @@ returns-in-Err-clause-none_or_all g c =
     let rs = c.args.records.now in
     none_or_all_down g.S.Store c.args.self.now.conn c.post_all.new.conn c.go_down.new.self.conn _ of_logs (posts m rs) (posts_all m rs)
     (IsSome c.args.self.now.fault) (IsSome c.go_down.new.self.fault) c.in-Err.ensures.says c.go_down.ensures.survives
+
+pub returns-in-Err-clause-kept : goal.returns-in-Err-clause-kept
+returns-in-Err-clause-kept g c damage clean =
+    keeps_file g.S.Store c.args.self.now.conn c.post_all.new.conn c.go_down.new.self.conn c.in-Err.fault c.go_down.new.self.fault c.go_down.result
+    c.in-Err.ensures.says c.go_down.ensures.down c.go_down.ensures.survives damage clean
