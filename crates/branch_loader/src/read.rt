@@ -3,7 +3,8 @@ ghost use Rattle.std.specs.Prelude.{◌≡◌, ◌<◌, ◌≤◌, ◌+◌, ◌�
 ghost use Rattle.posting_core.specs.Told.{EndsWith};
 ghost use Rattle.csv.specs.Records.{fields_of};
 ghost use Rattle.message_records.specs.Reading.{number_of};
-ghost use Rattle.branch_loader.specs.Plans.{IsToldSo, Tells, is_header, number_within, plan_of, plan_of_records, row_of_fields, two_of};
+ghost use Rattle.branch_loader.specs.Plans.{IsToldSo, Tells, plan_of, plan_of_records};
+ghost use Rattle.branch_loader.specs.Plans.{is_header, number_within, row_of_fields, two_of};
 ghost use Rattle.branch_loader.specs.Records.{IsRecord, IsSourceFailure, IsWantOfMemory, RecordTold, Records, Takes};
 
 use crate::fault::PlanFault;
@@ -95,8 +96,10 @@ fn next_record<S: RecordSource>(source: &mut S, fields: &mut ByteRecord) -> Resu
     ensures plain { OnOk result (S.is_plain source.new) }
     ensures takes { IfOk result (λ found. (rows : Records) → S.has_left source.old rows
         → Takes found (fields_of fields.new) rows (S.has_left source.new)) }
-    ensures found { IfOk result (λ found. found ≡ true → EndsWith IsRecord (S.told source.old) (S.told source.new)) }
-    ensures fault { IfErr result (λ fault. ((fault ≡ PlanFault.Csv) × EndsWith IsSourceFailure (S.told source.old) (S.told source.new))
+    ensures found { IfOk result (λ found. found ≡ true
+        → EndsWith IsRecord (S.told source.old) (S.told source.new)) }
+    ensures fault { IfErr result (λ fault.
+        ((fault ≡ PlanFault.Csv) × EndsWith IsSourceFailure (S.told source.old) (S.told source.new))
         ⊎ ((fault ≡ PlanFault.Memory) × EndsWith IsWantOfMemory (S.told source.old) (S.told source.new))) }
 {
     match source.next(fields) {
@@ -134,9 +137,9 @@ fn read_rows<S: RecordSource>(
 }
 
 /// Reads a plan to the end of the source, or to its first fault: the header `branch,accounts`, after a byte order
-/// mark or without one, and a record of a branch and its count of accounts for each branch. `Csv` comes only where the
-/// last that csv told was a failure of its source, `Memory` only where that was want of memory, or where it was a record
-/// and the room for its row was refused.
+/// mark or without one, and a record of a branch and its count of accounts for each branch. `Csv` comes only where
+/// the last that csv told was a failure of its source, `Memory` only where that was want of memory, or where it was
+/// a record and the room for its row was refused.
 pub fn read_plan<R: Read + Drop>(alloc: Global, reader: R) -> Result<Plan, PlanFault>
     ensures plan { IfSome (R.remaining reader) (λ text. Tells (plan_of text) result) }
     ensures told { (told : List RecordTold) × IsToldSo result (Some []) (Some told) }

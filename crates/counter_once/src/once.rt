@@ -34,9 +34,11 @@ pub fn answer_first<R: Source, W: Sink>(
 ) -> Result<(), OnceFault>
     ensures ok { OnOk result (IsAnswered (R.remaining reader.old) (R.remaining reader.new) (W.contents writer.old) (W.contents writer.new)) }
     ensures fault { IfErr result (λ fault. Leaves fault (R.remaining reader.old) (R.remaining reader.new) (W.contents writer.old) (W.contents writer.new)) }
-    ensures ended { IsErrOf result OnceFault.Short → EndsWith IsEndOfInput (R.told reader.old) (R.told reader.new) }
+    ensures ended { IsErrOf result OnceFault.Short
+        → EndsWith IsEndOfInput (R.told reader.old) (R.told reader.new) }
     ensures unread { IsErrOf result OnceFault.Read → HasReadFailed (R.told reader.old) (R.told reader.new) }
-    ensures unwritten { IsErrOf result OnceFault.Write → HasWriteFailed (W.told writer.old) (W.told writer.new) }
+    ensures unwritten { IsErrOf result OnceFault.Write
+        → HasWriteFailed (W.told writer.old) (W.told writer.new) }
     ensures flushed { OnOk result (EndsWith IsFlush (W.told writer.old) (W.told writer.new)) }
 {
     let mut bank = match two_branches(alloc) {

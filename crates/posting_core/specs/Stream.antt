@@ -103,8 +103,9 @@ pub record Outputs (r r' w w' : Option (List ℕ)) (c c' : Seen) (result : Resul
 
 -- ---- what the ends told: the source from r to r', and the sink from w to w'
 
--- a fault of an end comes where that end failed, and all that was written was flushed wherever the sink didn't fail
-abbrev pub EndsAs : Result ℕ StreamFault → Option (List ReadTold) → Option (List ReadTold) → Option (List WriteTold) → Option (List WriteTold) → Type 0
+-- a fault of an end comes where that end failed; all that was written was flushed, wherever the sink didn't fail
+abbrev pub EndsAs : Result ℕ StreamFault → Option (List ReadTold) → Option (List ReadTold)
+    → Option (List WriteTold) → Option (List WriteTold) → Type 0
 EndsAs (Ok count) r r' w w' = EndsWith IsEndOfInput r r' × IsThrough w w'
 EndsAs (Err (Truncated n)) r r' w w' = EndsWith IsEndOfInput r r' × IsThrough w w'
 EndsAs (Err Read) r r' w w' = HasReadFailed r r' × IsThrough w w'
@@ -161,7 +162,8 @@ IfBank (Bank fault) P = P fault
 IfBank _ P = ⊤
 
 -- the bank took some of the records that were read, stood there, and refused the next batch
-pub record IsRefusedBehind {C : Type 0} (seen : C → Seen) (old new : C) (r r' : Option (List ℕ)) (fault : Fault) : Type 0 where
+pub record IsRefusedBehind {C : Type 0} (seen : C → Seen) (old new : C) (r r' : Option (List ℕ))
+    (fault : Fault) : Type 0 where
   pub bytes : List ℕ
   pub read : Consumes r r' bytes
   pub taken : List Command

@@ -41,8 +41,9 @@ impl fmt::Display for OnceFault {
 
 impl std::error::Error for OnceFault {}
 
-/// Reads a record of 100 bytes, submits it, and writes and flushes the reply. What follows in the input is left unread.
-/// `Read` and `Write` come only where a read, a write or a flush of this call failed, or where 2^64 - 1 of them were made.
+/// Reads a record of 100 bytes, submits it, and writes and flushes the reply. What follows in the input is left
+/// unread. `Read` and `Write` come only where a read, a write or a flush of this call failed, where a write took
+/// no byte, or where 2^64 - 1 of them were made.
 pub fn answer_once<R: Source, W: Sink, C: Counter>(
     reader: &mut R,
     writer: &mut W,
@@ -53,9 +54,11 @@ pub fn answer_once<R: Source, W: Sink, C: Counter>(
         (C.seen bank.old) (C.seen bank.new) moment) }
     ensures fault { IfErr result (λ fault. Leaves fault (R.remaining reader.old) (R.remaining reader.new) (W.contents writer.old) (W.contents writer.new)
         (C.seen bank.old) (C.seen bank.new) moment) }
-    ensures ended { IsErrOf result OnceFault.Short → EndsWith IsEndOfInput (R.told reader.old) (R.told reader.new) }
+    ensures ended { IsErrOf result OnceFault.Short
+        → EndsWith IsEndOfInput (R.told reader.old) (R.told reader.new) }
     ensures unread { IsErrOf result OnceFault.Read → HasReadFailed (R.told reader.old) (R.told reader.new) }
-    ensures unwritten { IsErrOf result OnceFault.Write → HasWriteFailed (W.told writer.old) (W.told writer.new) }
+    ensures unwritten { IsErrOf result OnceFault.Write
+        → HasWriteFailed (W.told writer.old) (W.told writer.new) }
     ensures flushed { OnOk result (EndsWith IsFlush (W.told writer.old) (W.told writer.new)) }
     ensures honest { (C.seen bank.new).honest → (C.seen bank.old).honest }
 {

@@ -4,7 +4,8 @@ ghost use Rattle.std.specs.Result.{IsErrOf};
 ghost use Rattle.posting_core.specs.Clock.{IsReading};
 ghost use Rattle.posting_rules.specs.Runs.{posts};
 ghost use Rattle.posting_core.specs.Batches.{IsAnswered, BreaksOff};
-ghost use Rattle.posting_core.specs.Stream.{Streamed, Outputs, Survives, Resends, EndsAs, IfBank, IfTaken, IsRefusedBehind, UnlessDown};
+ghost use Rattle.posting_core.specs.Stream.{Streamed, Outputs, Survives, Resends, EndsAs};
+ghost use Rattle.posting_core.specs.Stream.{IfBank, IfTaken, IsRefusedBehind, UnlessDown};
 ghost use Rattle.posting_core.specs.Told.{EndsWith, HasWriteFailed, IsFlush};
 
 use crate::clock::Clock;
@@ -76,8 +77,10 @@ fn answer_batch<W: Sink, K: Clock, C: Counter>(
         (λ _. IsAnswered (W.contents writer.old) (W.contents writer.new) (C.seen bank.old) (C.seen bank.new) (posts moment records.now))
         (λ fault. BreaksOff fault (W.contents writer.old) (W.contents writer.new) (C.seen bank.old) (C.seen bank.new) (posts moment records.now)) }
     ensures flushed { OnOk result (EndsWith IsFlush (W.told writer.old) (W.told writer.new)) }
-    ensures unwritten { IsErrOf result StreamFault.Write → HasWriteFailed (W.told writer.old) (W.told writer.new) }
-    ensures unasked { IfErr result (λ fault. fault ≢ StreamFault.Write → W.told writer.new ≡ W.told writer.old) }
+    ensures unwritten { IsErrOf result StreamFault.Write
+        → HasWriteFailed (W.told writer.old) (W.told writer.new) }
+    ensures unasked { IfErr result (λ fault. fault ≢ StreamFault.Write
+        → W.told writer.new ≡ W.told writer.old) }
     ensures up { IfTaken result ((C.seen bank.new).is_down → ⊥) }
     ensures down { (C.seen bank.old).is_down → IsErrOf result (StreamFault.Bank Fault.Down) }
     ensures honest { (C.seen bank.new).honest → (C.seen bank.old).honest }
@@ -95,8 +98,9 @@ fn answer_batch<W: Sink, K: Clock, C: Counter>(
 
 /// Answers a stream of records of 100 bytes to the end of its input, and tells how many it answered. As soon as whole
 /// records were read, all of them are submitted under one reading of the clock, and their replies are written in order
-/// and flushed. An interrupted read or write is made again. `Read` and `Write` come only where a read, a write or a flush
-/// of this call failed, where a write took no byte, or where 2^64 - 1 of them were made. Only the bank takes memory.
+/// and flushed. An interrupted read or write is made again. `Read` and `Write` come only where a read, a write or a
+/// flush of this call failed, where a write took no byte, or where 2^64 - 1 of them were made. A fault of the bank
+/// says what it says of the batch that was refused behind those that were taken. Only the bank takes memory.
 pub fn post_stream<R: Source, W: Sink, K: Clock, C: Counter>(
     reader: &mut R,
     writer: &mut W,
@@ -113,7 +117,8 @@ pub fn post_stream<R: Source, W: Sink, K: Clock, C: Counter>(
     ensures refused { IfErr result (λ fault. IfBank fault
         (IsRefusedBehind C.seen bank.old bank.new (R.remaining reader.old) (R.remaining reader.new))) }
     ensures up { UnlessDown result ((C.seen bank.new).is_down → (C.seen bank.old).is_down) }
-    ensures ends { EndsAs result (R.told reader.old) (R.told reader.new) (W.told writer.old) (W.told writer.new) }
+    ensures ends { EndsAs result (R.told reader.old) (R.told reader.new)
+        (W.told writer.old) (W.told writer.new) }
 {
     let mut buffer = [0u8; BUFFER];
     let mut filled = 0;

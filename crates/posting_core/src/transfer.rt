@@ -1,7 +1,8 @@
 //! Bytes from a reader and to a writer, with what is known of both.
 ghost use Rattle.std.specs.Prelude.{◌≡◌, ◌≤◌, ◌<◌, ◌+◌, ◌++◌, ◌∷◌, [], ℕ, List, IfOk, OnOk, OnErr, length, take};
 ghost use Rattle.std.specs.Io.KnownBytes.{Keeps, Appends, Consumes, IsAtEnd};
-ghost use Rattle.posting_core.specs.Told.{Adds, EndsWith, HasMore, HasReadFailed, HasWriteFailed, IsEndOfInput, IsFlush, read_told};
+ghost use Rattle.posting_core.specs.Told.{Adds, EndsWith, HasMore, HasReadFailed, HasWriteFailed};
+ghost use Rattle.posting_core.specs.Told.{IsEndOfInput, IsFlush, read_told};
 
 use crate::ends::{Sink, Source};
 use std::io;
@@ -34,7 +35,8 @@ pub fn read_full<R: Source>(reader: &mut R, buffer: &mut [u8]) -> Result<usize, 
     ensures within { IfOk result (λ n. n ≤ length buffer.new) }
     ensures bytes { IfOk result (λ n. Consumes (R.remaining reader.old) (R.remaining reader.new) (take n buffer.new)) }
     ensures end { IfOk result (λ n. n < length buffer.new → IsAtEnd (R.remaining reader.new)) }
-    ensures ended { IfOk result (λ n. n < length buffer.new → EndsWith IsEndOfInput (R.told reader.old) (R.told reader.new)) }
+    ensures ended { IfOk result (λ n. n < length buffer.new
+        → EndsWith IsEndOfInput (R.told reader.old) (R.told reader.new)) }
     ensures failed { OnErr result (HasReadFailed (R.told reader.old) (R.told reader.new)) }
 {
     let mut filled = 0;
