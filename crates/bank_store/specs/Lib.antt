@@ -2,3 +2,5 @@
 pub mod Down
 pub mod Opening
 pub mod Seen
+pub mod Walking
+pub mod Walks
