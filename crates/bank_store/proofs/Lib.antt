@@ -5,3 +5,4 @@ pub mod Probed
 pub mod Reading
 pub mod Starting
 pub mod Taken
+pub mod WalkSteps

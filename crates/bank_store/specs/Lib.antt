@@ -3,3 +3,5 @@ pub mod Down
 pub mod Opening
 pub mod Seen
 pub mod NoneOrAll
+pub mod Walking
+pub mod Walks

@@ -12,7 +12,10 @@ ghost use Rattle.posting_rules.specs.Entries.{reply, balance_behind};
 ghost use Rattle.posting_rules.specs.Runs.{posts, replies_to};
 ghost use Rattle.posting_rules.specs.Tables.{Tables};
 
+use crate::walks::read_outside;
+use arrayvec::ArrayVec;
 use bank_transactions::{open_branch, post, post_all, read_balance, read_next_branch};
+use bank_walks::{AHEAD, WalkedRow};
 use message_records::{
     Account, Branch, Cents, Moment, Outcome, Reply, decode_request, encode_reply,
 };
@@ -95,6 +98,41 @@ impl<S: Alter> Bank<S> {
                 Fault::Store
             }
         }
+    }
+}
+
+impl<S: Alter> Bank<S> {
+    ghost use Rattle.std.specs.Prelude.{◌++◌, filter, is_some, map, MatchResult};
+    ghost use Rattle.sqlite.specs.State.{HasCleanDisk};
+    ghost use Rattle.sql_meanings.specs.Entries.{Entry};
+    ghost use Rattle.bank_walks.specs.Outcomes.{BreaksFirst};
+    ghost use Rattle.bank_walks.specs.Rows.{HasRows, rows_behind, rows_from};
+    ghost use Rattle.bank_store.specs.Walks.{IsStill, IsUndone};
+
+    pub(crate) fn is_down(&self) -> bool
+        ensures { result ≡ is_some self.now.fault }
+    {
+        self.fault.is_some()
+    }
+
+    // The rows from a key on. Its fault brings no bank down.
+    pub(crate) fn read_rows<R: WalkedRow>(
+        &mut self,
+        of: Option<Account>,
+        from: i64,
+        rows: &mut ArrayVec<R, AHEAD>,
+    ) -> Result<Option<i64>, TableFault>
+        ensures told { HasCleanDisk (state S.Store self.new.conn) → (all : List Entry) → HasRows (state S.Store self.old.conn).now R.StoredRow.table all
+            → let given = filter (R.StoredRow.is_given of) all in MatchResult result
+            (λ rest. rows_from from given ≡ map R.StoredRow.entry rows.new.items ++ rows_behind rest given)
+            (BreaksFirst R.StoredRow.is_broken (rows_from from given)) }
+        ensures ended { IfOk result (λ rest. rows.new.items ≡ [] → rest ≡ None) }
+        ensures same { HasCleanDisk (state S.Store self.new.conn) → OnOk result (IsStill (state S.Store self.old.conn) (state S.Store self.new.conn)) }
+        ensures undone { HasCleanDisk (state S.Store self.new.conn) → IsUndone (state S.Store self.old.conn) (state S.Store self.new.conn) }
+        ensures up { self.new.fault ≡ self.old.fault }
+        ensures survives { Survives (state S.Store self.old.conn) (state S.Store self.new.conn) (λ _. ⊥) }
+    {
+        read_outside(&mut self.conn, of, from, rows)
     }
 }
 

@@ -6,8 +6,10 @@ mod bank;
 mod creating;
 mod probing;
 mod refused;
+mod walks;
 
 pub use adopting::adopt;
 pub use bank::Bank;
 pub use creating::create;
 pub use refused::{OpenFault, Refused};
+pub use walks::{Walk, each_account, each_branch, each_teller, history_of};

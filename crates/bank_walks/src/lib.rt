@@ -11,6 +11,7 @@ mod requests;
 mod stored_row;
 mod tellers;
 mod texts;
+mod walked;
 
 pub use accounts::StoredAccount;
 pub use ahead::{AHEAD, Ahead, read_ahead};
@@ -20,3 +21,4 @@ pub use postings::StoredPosting;
 pub use requests::StoredRequest;
 pub use stored_row::StoredRow;
 pub use tellers::StoredTeller;
+pub use walked::WalkedRow;

@@ -1,0 +1,22 @@
+-- What a walk tells of a fault, and what stands after a step.
+use Rattle.std.specs.Prelude.{◌≡◌, IsTrue}
+use Rattle.sqlite.specs.State.{State}
+use Rattle.sqlite.specs.State.{Shows as StateShows}
+use Rattle.posting_rules.specs.declared.fault.Fault.{Fault}
+use Rattle.posting_rules.specs.declared.fault.Fault.TheVariants as told
+use Rattle.store_rows.specs.declared.faults.TableFault.{TableFault}
+use Rattle.store_rows.specs.declared.faults.TableFault.TheVariants.{Sqlite, Damaged}
+
+-- an error of the store, or the rule that is broken
+abbrev pub Tells : TableFault → Fault → Type 0
+Tells (Sqlite e) f = f ≡ told.Store
+Tells (Damaged rule) f = f ≡ told.Damaged rule
+
+-- as long as the store is open, everything is as it was
+abbrev pub IsUndone : State → State → Type 0
+IsUndone old new = IsTrue new.is_open → StateShows old new old.now old.committed old.in_transaction
+
+-- the connection sees what it saw
+abbrev pub IsStill : State → State → Type 0
+IsStill old new =
+    (new.now ≡ old.now) × (new.committed ≡ old.committed) × (new.in_transaction ≡ old.in_transaction) × (new.is_open ≡ old.is_open)
