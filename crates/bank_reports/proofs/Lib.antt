@@ -6,3 +6,4 @@ pub mod OfTables
 pub mod Joined
 pub mod Written
 pub mod OneMore
+pub mod OfRows

@@ -19,7 +19,7 @@ mod writing;
 pub use adding::audit_of_sums;
 pub use audit::{Audit, BranchLine, BranchLines};
 pub use branches::BranchSums;
-pub use laws::audit_tells_consistency;
+pub use laws::{audit_tells_consistency, rows_tell_of_tables};
 pub use limits::{LAST_ACCOUNT, LAST_TELLER, MOST_ROWS};
 pub use ordinals::OrdinalSums;
 pub use rows::{StoredAccount, StoredBranch, StoredPosting, StoredRequest, StoredTeller};
