@@ -7,3 +7,4 @@ pub mod Joined
 pub mod Written
 pub mod OneMore
 pub mod OfRows
+pub mod Examples

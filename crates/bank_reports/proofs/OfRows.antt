@@ -1,5 +1,5 @@
 -- The audit of the rows of tables, each beside the other of its ordinal, is the audit of the tables.
-use Rattle.std.proofs.Common.{◌≡◌, ◌+◌, ℕ, suc, Bool, true, false, List, [], ◌∷◌, ◌++◌, map, filter, length, refl, sym, ap, ◌∙◌, inl, inr, arith}
+use Rattle.std.proofs.Common.{◌≡◌, ◌+◌, ℕ, suc, Bool, List, [], ◌∷◌, map, filter, length, refl, ap, ◌∙◌, inl, inr, arith}
 use Rattle.std.specs.Prelude.{ℤ, Option}
 use Rattle.std.proofs.lemmas.Bool.{cases_Bool}
 use Rattle.std.proofs.lemmas.List.{length-append, length-map}
@@ -7,7 +7,6 @@ use Rattle.posting_rules.specs.Laws.{total}
 use Rattle.bank_reports.specs.declared.rows.StoredPosting.{StoredPosting}
 use Rattle.bank_reports.specs.declared.rows.StoredRequest.{StoredRequest}
 use Rattle.bank_reports.specs.declared.audit.Audit.{Audit}
-use Rattle.bank_reports.specs.Stored.{StoredTables}
 use Rattle.bank_reports.specs.Audit.{audit_of, delta_of, is_odd_request, is_odd_posting, request_ordinal, posting_ordinal, request_under, posting_under, unmatched}
 use Rattle.bank_reports.specs.Beside.{RowsTellOfTables, audit_of_rows, delta_in, is_alone, is_odd, rows_of}
 

@@ -1,5 +1,5 @@
 -- One more row.
-use Rattle.std.proofs.Common.{◌≡◌, ◌≤◌, ◌<◌, ◌+◌, ◌-◌, ◌/◌, ◌*◌, ℕ, zero, suc, replicate, Bool, true, false, not, cond, List, [], ◌∷◌, ◌++◌, map, filter, length, take, set, get_or, refl, sym, ap, subst, ◌∙◌, inl, inr, arith, append-nil, append_assoc, w64, to_z, of_z, FitsSigned}
+use Rattle.std.proofs.Common.{◌≡◌, ◌≤◌, ◌<◌, ◌+◌, ◌-◌, ◌/◌, ◌*◌, ℕ, zero, suc, replicate, Bool, true, false, not, List, [], ◌∷◌, ◌++◌, map, filter, length, take, set, get_or, refl, sym, ap, subst, ◌∙◌, inl, inr, arith, append-nil, w64, to_z, of_z, FitsSigned}
 use Rattle.std.specs.Prelude.{ℤ, pos, ◌+ℤ◌, nat_eq, nat_abs}
 use Rattle.std.specs.Prelude.{Option, is_some}
 use Rattle.std.specs.Ordering.{int_eq}
@@ -13,7 +13,7 @@ use Rattle.std.proofs.Math.IntN.{+ℤ_assoc}
 use Rattle.std.proofs.lemmas.Int.{ints, to_z-of_z}
 use Rattle.std.proofs.lemmas.Bool.{cases_Bool, eqb-true}
 use Rattle.std.proofs.lemmas.Bool.Decides.{nat_tests}
-use Rattle.std.proofs.lemmas.List.{length-append, map-append, length-map, get_or-set_other, get_or-set_same, set-get_or, take_more_set}
+use Rattle.std.proofs.lemmas.List.{length-append, map-append, get_or-set_other, get_or-set_same, set-get_or, take_more_set}
 use Rattle.std.proofs.lemmas.Grind.{get_or-set_at}
 use Rattle.bank_reports.specs.Sums.{AreSmall}
 use Rattle.std.proofs.lemmas.List.Elements.{filter-append}

@@ -1,5 +1,5 @@
 -- The rows that an audit is given, each request and each posting with what stands beside it, and the audit of these.
-use Rattle.std.specs.Prelude.{◌≡◌, ℕ, ℤ, pos, ◌+◌, Bool, not, List, [], length, map, filter, Option, Some, is_some}
+use Rattle.std.specs.Prelude.{◌≡◌, ℤ, ◌+◌, Bool, not, List, [], length, map, filter, Option, Some, is_some}
 use Rattle.posting_rules.specs.Laws.{total}
 use Rattle.bank_reports.specs.declared.rows.StoredBranch.{StoredBranch}
 use Rattle.bank_reports.specs.declared.rows.StoredTeller.{StoredTeller}

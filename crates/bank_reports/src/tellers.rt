@@ -9,7 +9,7 @@ use crate::limits::{BRANCHES, MOST_ROWS};
 use crate::rows::StoredTeller;
 use crate::sum::Sum;
 use message_records::Whole;
-use posting_rules::LAST_BRANCH;
+use posting_rules::{LAST_BRANCH, TELLERS_PER_BRANCH};
 use std::alloc::{AllocError, Global};
 
 /// What tellers add up to: all, and those of each branch. It has room for every branch from its beginning on.
@@ -41,7 +41,7 @@ impl TellerSums {
         requires room { (tellers : List StoredTeller) × HasTellers self.old tellers × (length tellers < MOST_ROWS) }
         ensures added { (tellers : List StoredTeller) → HasTellers self.old tellers → HasTellers self.new (tellers ++ teller ∷ []) }
     {
-        let place = ((teller.teller.get() - 1) / 10) as usize;
+        let place = ((teller.teller.get() - 1) / TELLERS_PER_BRANCH) as usize;
         let sum = self.by_branch[place];
         self.by_branch[place] = sum + i128::from(teller.balance);
         self.all = self.all.plus(teller.balance);

@@ -1,5 +1,5 @@
 -- One more branch.
-use Rattle.std.proofs.Common.{rules, ◌≡◌, ◌<◌, ◌∙◌, length, sym, arith, w64, FitsSigned}
+use Rattle.std.proofs.Common.{rules, ◌<◌, ◌∙◌, length, sym, arith, w64, FitsSigned}
 use Rattle.std.specs.Int.{w128}
 use Rattle.std.proofs.lemmas.Int.{to_z-of_z}
 use Rattle.std.proofs.lemmas.List.{length-map}

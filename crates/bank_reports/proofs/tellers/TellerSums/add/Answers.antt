@@ -1,7 +1,6 @@
 -- One more teller, under its branch.
-use Rattle.std.proofs.Common.{rules, ◌≡◌, ◌≤◌, ◌<◌, ◌+◌, ◌-◌, ◌/◌, ◌*◌, ℕ, length, get_or, ap, ◌∙◌, subst, sym, arith, w64, to_z, of_z, FitsSigned}
+use Rattle.std.proofs.Common.{rules, ◌≡◌, ◌≤◌, ◌<◌, ◌-◌, ◌/◌, ◌*◌, ℕ, length, get_or, ap, ◌∙◌, subst, sym, arith, w64, FitsSigned}
 use Rattle.std.specs.Prelude.{ℤ, pos, ◌+ℤ◌, nat_abs}
-use Rattle.std.specs.Int.{w128}
 use Rattle.bank_reports.specs.Audit.{teller_balance}
 use Rattle.bank_reports.proofs.OneMore.{any_default, sum_fits, sum_is, small_after, branches_after, sum_more_64}
 use Rattle.bank_reports.proofs.tellers.TellerSums.add.Goals as goal

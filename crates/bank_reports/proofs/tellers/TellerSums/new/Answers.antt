@@ -1,5 +1,5 @@
 -- Zeros, of which there is one for each branch.
-use Rattle.std.proofs.Common.{◌≡◌, ◌≤◌, ◌-◌, ◌*◌, ◌∙◌, ℕ, List, replicate, get_or, ap, subst, sym, arith}
+use Rattle.std.proofs.Common.{◌≡◌, ◌≤◌, ◌-◌, ◌*◌, ◌∙◌, List, get_or, ap, subst, sym, arith}
 use Rattle.std.specs.Prelude.{ℤ, pos, nat_abs}
 use Rattle.bank_reports.proofs.OneMore.{zeros}
 use Rattle.bank_reports.proofs.tellers.TellerSums.new.Goals as goal
