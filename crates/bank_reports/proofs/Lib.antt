@@ -1,7 +1,10 @@
 -- That the audit tells of the consistency condition.
 pub mod Lists
-pub mod Ordinals
+pub mod EachOrdinal
 pub mod Telling
 pub mod OfTables
 pub mod Joined
 pub mod Written
+pub mod OneMore
+pub mod OfRows
+pub mod Examples

@@ -11,7 +11,7 @@ use Rattle.bank_reports.specs.Stored.{StoredTables}
 use Rattle.bank_reports.specs.Audit.{is_matched, request_under, posting_under, is_odd_request, is_odd_posting, unmatched, lines_of, line_of, differs, teller_sum, request_ordinal, posting_ordinal, is_sound, audit_of}
 use Rattle.bank_reports.specs.Consistency.{TellsOfStored, IsSoundFile, HasOrdinals}
 use Rattle.bank_reports.proofs.Lists.{five, all_five, not_false, true_not, same_int, int_same, none_pass, pass_none, no_map, no_parts, empty_list}
-use Rattle.bank_reports.proofs.Ordinals.{found, each_found}
+use Rattle.bank_reports.proofs.EachOrdinal.{found, each_found}
 
 module _ (t : StoredTables) where
   -- ---- ordinals

@@ -6,3 +6,6 @@ pub mod Lines
 pub mod AuditText
 pub mod StatementText
 pub mod Written
+pub mod Sums
+pub mod Beside
+pub mod Added

@@ -9,6 +9,9 @@ use itoa::Buffer;
 // The length of a signed number of 128 bits.
 pub(crate) const NUMBER: usize = 40;
 
+// The same with its sign.
+const SIGNED: usize = NUMBER + 1;
+
 /// Appends a character so many times.
 pub(crate) fn push_repeated<const SIZE: usize>(
     line: &mut ArrayString<SIZE>,
@@ -57,12 +60,12 @@ pub(crate) fn push_number<const SIZE: usize>(
 
 /// Appends an amount with its sign, plus for zero, right in so many places.
 pub(crate) fn push_delta<const SIZE: usize>(line: &mut ArrayString<SIZE>, width: usize, delta: i64)
-    requires { length line.old.bytes + width + (NUMBER + 1) ≤ SIZE }
+    requires { length line.old.bytes + width + SIGNED ≤ SIZE }
     ensures bytes { line.new.bytes ≡ line.old.bytes ++ right_in width (with_sign delta) }
-    ensures len { length line.new.bytes ≤ length line.old.bytes + width + (NUMBER + 1) }
+    ensures len { length line.new.bytes ≤ length line.old.bytes + width + SIGNED }
 {
     let mut digits = Buffer::new();
-    let mut signed = ArrayString::<41>::new();
+    let mut signed = ArrayString::<SIGNED>::new();
     if delta >= 0 {
         signed.push_str("+");
     }

@@ -14,6 +14,9 @@ pub const STATEMENT_LINE: usize = 320;
 /// A line of a statement, with its end.
 pub type StatementLine = ArrayString<STATEMENT_LINE>;
 
+// How many digits an account has.
+const ACCOUNT: usize = 12;
+
 // The widths of the columns.
 const ORDINAL: usize = 13;
 
@@ -34,7 +37,7 @@ pub fn statement_heading(account: Account) -> StatementLine
     let mut digits = Buffer::new();
     let mut line = ArrayString::new();
     line.push_str("STATEMENT ACCOUNT ");
-    push_filled(&mut line, '0', 12, digits.format(account.get()));
+    push_filled(&mut line, '0', ACCOUNT, digits.format(account.get()));
     line.push_str("\n");
     line
 }

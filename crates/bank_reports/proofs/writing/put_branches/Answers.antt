@@ -1,5 +1,5 @@
 -- One line after another.
-use Rattle.std.proofs.Common.{List, ℕ, ◌+◌, ◌∙◌, sym, take, drop, map, get_or, pos}
+use Rattle.std.proofs.Common.{◌+◌, ◌∙◌, sym, take, drop, map, get_or, pos}
 use Rattle.std.proofs.KnownBytes.{Appends-trans}
 use Rattle.posting_core.proofs.Telling.{more_more}
 use Rattle.bank_reports.specs.declared.audit.BranchLine.{BranchLine}

@@ -1,13 +1,13 @@
 -- The numbers, the branches that differ, and the verdict.
-use Rattle.std.proofs.Common.{◌≡◌, ℕ, List, [], ◌∷◌, ◌++◌, map, sym, ap, ◌∙◌, append-nil, append_assoc}
+use Rattle.std.proofs.Common.{◌≡◌, ℕ, List, [], ◌∷◌, ◌++◌, map, sym, ap, ◌∙◌, append-nil}
 use Rattle.std.proofs.KnownBytes.{Appends-trans}
 use Rattle.std.specs.Io.KnownBytes.{Appends}
-use Rattle.posting_core.specs.Told.{HasMore, IsFlush}
+use Rattle.posting_core.specs.Told.{IsFlush}
 use Rattle.posting_core.proofs.Telling.{more_more, more_last}
 use Rattle.bank_reports.specs.declared.audit.BranchLine.{BranchLine}
 use Rattle.bank_reports.specs.declared.audit.Audit.{Audit}
 use Rattle.bank_reports.specs.Audit.{is_sound}
-use Rattle.bank_reports.specs.AuditText.{audit_text, audit_lines, branch_line, number_lines, verdict_line}
+use Rattle.bank_reports.specs.AuditText.{audit_text, branch_line, number_lines, verdict_line}
 use Rattle.bank_reports.specs.Lines.{text_of}
 use Rattle.bank_reports.specs.Written.{AppendsPart}
 use Rattle.bank_reports.proofs.Joined.{text_of-append}

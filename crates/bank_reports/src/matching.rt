@@ -1,0 +1,26 @@
+//! Requests and their postings.
+ghost use Rattle.std.specs.Prelude.{◌≡◌, Some};
+ghost use Rattle.bank_reports.specs.Audit.{is_matched as matches};
+
+use crate::rows::{StoredPosting, StoredRequest};
+
+// The code of the outcome that is posted.
+const POSTED: i64 = 0;
+
+/// Whether a request and the posting of its ordinal, if there is one, belong together: it is posted just where there is
+/// one, and then they agree.
+pub(crate) fn is_matched(request: &StoredRequest, posting: Option<StoredPosting>) -> bool
+    ensures { result ≡ matches (Some request.now) posting }
+{
+    let posted = request.outcome == POSTED;
+    match posting {
+        None => !posted,
+        Some(posting) => {
+            posted
+                && posting.account == request.account
+                && posting.teller == request.teller
+                && posting.branch == request.branch
+                && posting.delta == request.delta
+        }
+    }
+}
