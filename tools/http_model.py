@@ -1,0 +1,297 @@
+#!/usr/bin/env python3
+"""Serves random inputs by the built program and by a model of its own, and compares their bytes.
+
+    tools/http_model.py [COUNT] [SEED]
+
+The model walks over an input by the rules of the counter over HTTP, with a grammar of request heads of its own and a bank
+of two branches. It needs the built program (cd crates/http_stdio && rt run <stdin), and stands outside the gate.
+"""
+import os
+import random
+import subprocess
+import sys
+from concurrent.futures import ThreadPoolExecutor
+
+HERE = os.path.dirname(os.path.dirname(os.path.abspath(__file__)))
+PROGRAM = os.path.join(HERE, "crates", "http_stdio", "out", "http_stdio")
+
+MAX_HEAD, MAX_FIELDS, MAX_BODY = 8192, 32, 4096
+TOKEN = frozenset(b"!#$%&'*+-.^_`|~0123456789ABCDEFGHIJKLMNOPQRSTUVWXYZabcdefghijklmnopqrstuvwxyz")
+PHRASES = {200: b"OK", 400: b"Bad Request", 404: b"Not Found", 405: b"Method Not Allowed"}
+
+
+# ---- heads
+
+def line_end(data, at):
+    """The place behind a line's end, none where there is none."""
+    if data[at:at + 1] == b"\n":
+        return at + 1
+    return at + 2 if data[at:at + 2] == b"\r\n" else None
+
+
+def run_of(data, at, allowed):
+    while at < len(data) and allowed(data[at]):
+        at += 1
+    return at
+
+
+def head_at(data):
+    """The head at the front: method, target, minor version, fields and length; none where there is none."""
+    at = 0
+    while at < len(data) and data[at] in b"\r\n":
+        at = line_end(data, at)
+        if at is None:
+            return None
+    end = run_of(data, at, lambda b: b in TOKEN)
+    method = data[at:end]
+    if not method or data[end:end + 1] != b" ":
+        return None
+    at = end + 1
+    end = run_of(data, at, lambda b: 33 <= b <= 126 or b >= 128)
+    target = data[at:end]
+    if not target or data[end:end + 1] != b" ":
+        return None
+    try:
+        target.decode("utf-8")
+    except UnicodeDecodeError:
+        return None
+    at = end + 1
+    if data[at:at + 8] not in (b"HTTP/1.0", b"HTTP/1.1"):
+        return None
+    minor = data[at + 7] - 48
+    at = line_end(data, at + 8)
+    fields = []
+    while at is not None:
+        end = line_end(data, at)
+        if end is not None:
+            if len(fields) > MAX_FIELDS or end > MAX_HEAD:
+                return None
+            return method, target, minor, fields, end
+        colon = run_of(data, at, lambda b: b in TOKEN)
+        if colon == at or data[colon:colon + 1] != b":":
+            return None
+        start = run_of(data, colon + 1, lambda b: b in b" \t")
+        stop = run_of(data, start, lambda b: b == 9 or 32 <= b <= 126 or b >= 128)
+        fields.append((data[at:colon].lower(), data[start:stop].strip(b" \t")))
+        at = line_end(data, stop)
+    return None
+
+
+def body_length(fields):
+    """How long the body is, none where the fields can't say it."""
+    stated = [value for name, value in fields if name == b"content-length"]
+    if any(name == b"transfer-encoding" for name, _ in fields) or len(stated) > 1:
+        return None
+    if not stated:
+        return 0
+    if not stated[0] or any(not 48 <= b <= 57 for b in stated[0]) or int(stated[0]) > MAX_BODY:
+        return None
+    return int(stated[0])
+
+
+def asks_to_close(fields):
+    return any(name == b"connection" and any(part.strip(b" \t").lower() == b"close" for part in value.split(b","))
+               for name, value in fields)
+
+
+# ---- the bank
+
+class Bank:
+    """Branch 1 with three accounts and branch 2 with two."""
+
+    LIMIT = 999_999_999_999
+
+    def __init__(self):
+        self.accounts = {1: 3, 2: 2}
+        self.account, self.teller, self.branch, self.kept = {}, {}, {}, {}
+
+    def is_open(self, account):
+        branch, place = (account - 1) // 100_000 + 1, (account - 1) % 100_000 + 1
+        return account >= 1 and place <= self.accounts.get(branch, 0)
+
+    @staticmethod
+    def decode(record):
+        if record[:4] != b"DC01" or record[51:] != b" " * 49 or record[40] not in b"+-":
+            return None
+        digits = record[4:40] + record[41:51]
+        if any(not 48 <= b <= 57 for b in digits):
+            return None
+        account, teller, branch, number = (int(record[a:b]) for a, b in ((4, 16), (16, 24), (24, 30), (30, 40)))
+        delta = int(record[40:51])
+        if not (account and teller and branch and number) or (delta == 0 and record[40] == 45):
+            return None
+        return account, teller, branch, number, delta
+
+    def submit(self, record):
+        request = self.decode(record)
+        if request is None:
+            return reply(90, b"MALFORMED", b"0" * 36 + b"+0000000000", 0)
+        account, teller, branch, number, delta = request
+        echo = record[4:51]
+        home = (teller - 1) // 10 + 1
+        if home not in self.accounts:
+            return reply(11, b"NO TELLER", echo, 0)
+        kept = self.kept.get((teller, number))
+        if kept is not None:
+            return kept[1] if kept[0] == (account, branch, delta) else reply(15, b"REUSED NUMBER", echo, 0)
+        answer = self.decide(account, teller, branch, home, delta, echo)
+        self.kept[teller, number] = ((account, branch, delta), answer)
+        return answer
+
+    def decide(self, account, teller, branch, home, delta, echo):
+        if branch != home:
+            return reply(12, b"WRONG BRANCH", echo, 0)
+        if not self.is_open(account):
+            return reply(13, b"NO ACCOUNT", echo, 0)
+        balances = [(self.account, account), (self.teller, teller), (self.branch, branch)]
+        if any(abs(table.get(key, 0) + delta) > self.LIMIT for table, key in balances):
+            return reply(14, b"OVER LIMIT", echo, 0)
+        for table, key in balances:
+            table[key] = table.get(key, 0) + delta
+        return reply(0, b"POSTED", echo, self.account[account])
+
+
+def reply(code, name, echo, balance):
+    sign = b"-" if balance < 0 else b"+"
+    text = b"DR01%02d" % code + echo + sign + b"%012d" % abs(balance) + name.ljust(16)
+    return text.ljust(200)
+
+
+# ---- the walk
+
+def answer(code, media, body, allow=b"", closes=False, shows=True):
+    text = b"HTTP/1.1 %d %s\r\nContent-Type: %s\r\nContent-Length: %d\r\n" % (code, PHRASES[code], media, len(body))
+    if allow:
+        text += b"Allow: " + allow + b"\r\n"
+    if closes:
+        text += b"Connection: close\r\n"
+    return text + b"\r\n" + (body if shows else b"")
+
+
+def bare(code, allow=b""):
+    return code, b"text/plain", b"%d %s\n" % (code, PHRASES[code]), allow
+
+
+def route(bank, method, target, body):
+    path = target.split(b"?")[0]
+    try:
+        path.decode("utf-8")
+    except UnicodeDecodeError:
+        return bare(404)
+    if path == b"/post":
+        if method != b"POST":
+            return bare(405, b"POST")
+        if len(body) != 100:
+            return bare(400)
+        return 200, b"application/octet-stream", bank.submit(body), b""
+    name = path[9:] if path.startswith(b"/account/") else b""
+    is_account = bool(name) and b"/" not in name
+    if path != b"/branches" and not is_account:
+        return bare(404)
+    if method not in (b"GET", b"HEAD"):
+        return bare(405, b"GET, HEAD")
+    if path == b"/branches":
+        lines = [b"%6d %7d %14d\n" % (b, n, bank.branch.get(b, 0)) for b, n in sorted(bank.accounts.items())]
+        return 200, b"text/plain", b"".join(lines), b""
+    if len(name) > 12 or name[:1] == b"0" or any(not 48 <= b <= 57 for b in name) or not bank.is_open(int(name)):
+        return bare(404)
+    return 200, b"text/plain", b"account %s balance %d\n" % (name, bank.account.get(int(name), 0)), b""
+
+
+def walk(data):
+    """The answers to an input."""
+    bank, out = Bank(), b""
+    while data:
+        head = head_at(data)
+        if head is None:
+            code, media, body, allow = bare(400)
+            return out + answer(code, media, body, allow, True)
+        method, target, minor, fields, end = head
+        shows = method != b"HEAD"
+        length = body_length(fields)
+        if length is None or len(data) < end + length:
+            code, media, body, allow = bare(400)
+            return out + answer(code, media, body, allow, True, shows)
+        closes = minor == 0 or asks_to_close(fields)
+        code, media, body, allow = route(bank, method, target, data[end:end + length])
+        out += answer(code, media, body, allow, closes, shows)
+        if closes:
+            return out
+        data = data[end + length:]
+    return out
+
+
+# ---- random inputs
+
+def record(draw):
+    account = draw.choice([1] * 5 + [2, 3, 4, 100_001, 100_002, 100_003, 0])
+    teller, number = draw.choice([1] * 5 + [2, 11, 20, 21]), draw.choice([1, 1, 2, 3])
+    branch = (teller - 1) // 10 + 1 if draw.random() < 0.9 else draw.choice([1, 2, 3])
+    delta = draw.choice([500, 500, -700, 0, 9_999_999_999, -9_999_999_999])
+    sign = b"-" if delta < 0 else b"+"
+    text = b"DC01%012d%08d%06d%010d%s%010d" % (account, teller, branch, number, sign, abs(delta))
+    return damaged(draw, text.ljust(100), 0.1)
+
+
+def damaged(draw, text, chance):
+    while text and draw.random() < chance:
+        at = draw.randrange(len(text))
+        kind = draw.randrange(4)
+        byte = bytes([draw.choice(b"\0\t\r\n :/,?0159AZaz\x7f\x80\xc3\xa9\xff")])
+        text = (text[:at] + text[at + 1:], text[:at] + byte + text[at:], text[:at] + byte + text[at + 1:],
+                text[:at])[kind]
+    return text
+
+
+TARGETS = [b"/post", b"/account/1", b"/account/100001", b"/account/4", b"/account/01", b"/account/", b"/account/1/2",
+           b"/account/999999999999", b"/account/1000000000000", b"/account/x", b"/branches", b"/branches?x=/post",
+           b"/", b"/post/", b"*", b"/post?", "/caf\u00e9".encode()]
+FIELDS = [b"Host: a", b"Connection: close", b"connection: keep-alive, Close", b"Connection: closed", b"Accept:",
+          b"Transfer-Encoding: chunked", b"CONTENT-LENGTH: 4", b"X: \t y \t", b"Connection:\t,close\t"]
+
+
+def message(draw):
+    method = draw.choice([b"GET", b"GET", b"HEAD", b"POST", b"POST", b"PUT", b"get", b"A" * 20])
+    target = b"/post" if draw.random() < 0.5 else draw.choice(TARGETS)
+    body = b""
+    if target == b"/post" and draw.random() < 0.9:
+        method, body = b"POST", record(draw)
+    elif draw.random() < 0.1:
+        body = b"x" * draw.choice([1, 99, 101, 4096, 4097])
+    end = draw.choice([b"\r\n", b"\r\n", b"\r\n", b"\n"])
+    lines = [method + b" " + target + b" HTTP/1." + draw.choice([b"1"] * 12 + [b"0"])]
+    if body or draw.random() < 0.2:
+        lines.append(draw.choice([b"Content-Length: ", b"content-length:"]) + b"%d" % len(body))
+    for _ in range(draw.choice([0, 0, 0, 0, 1, 1, 2, 31, 32, 33])):
+        lines.append(draw.choice(FIELDS[:1] * 20 + FIELDS))
+    if draw.random() < 0.02:
+        lines.append(b"Long: " + b"y" * draw.randrange(7000, 9000))
+    front = draw.choice([b""] * 9 + [b"\r\n\n"])
+    return damaged(draw, front + end.join(lines) + end + end, 0.08) + body
+
+
+def an_input(draw):
+    text = b"".join(message(draw) for _ in range(draw.choice([0, 1, 1, 2, 3, 5])))
+    text = damaged(draw, text, 0.05)
+    return text[:draw.randrange(len(text) + 1)] if draw.random() < 0.15 else text
+
+
+def compare(text):
+    run = subprocess.run([PROGRAM], input=text, stdout=subprocess.PIPE, check=False)
+    return (run.stdout, run.returncode) == (walk(text), 0)
+
+
+def main():
+    count = int(sys.argv[1]) if len(sys.argv) > 1 else 100_000
+    draw = random.Random(int(sys.argv[2]) if len(sys.argv) > 2 else 1)
+    with ThreadPoolExecutor(2) as pool:
+        for first in range(0, count, 1000):
+            texts = [an_input(draw) for _ in range(min(1000, count - first))]
+            for text, same in zip(texts, pool.map(compare, texts)):
+                if not same:
+                    sys.exit("http_model: differs at the input %r" % text)
+    print("http_model: %d inputs, all alike" % count)
+
+
+if __name__ == "__main__":
+    main()
