@@ -125,12 +125,12 @@ does_for {S} {X} {g} {old} {new} {So} {So'} {after} {after'} {w} {w'} {r} part s
 
 -- ---- what the statements do
 
-looked : {X : Type 0} (old new : State) (t : Tables) (w : X) (r : Result X TableFault) → Shows old.now t → LooksUp old new w r → Answers new t w r
+pub looked : {X : Type 0} (old new : State) (t : Tables) (w : X) (r : Result X TableFault) → Shows old.now t → LooksUp old new w r → Answers new t w r
 looked old new t w (Ok x) shows told = (told.0, subst (λ (db : Database). Shows db t) (sym told.1.now) shows)
 looked old new t w (Err (Sqlite e)) shows told = tt
 looked old new t w (Err (Damaged rule)) shows told = told
 
-look_keeps : {X : Type 0} (old new : State) (r : Result X TableFault) → Looks old new r → Keeps old new r
+pub look_keeps : {X : Type 0} (old new : State) (r : Result X TableFault) → Looks old new r → Keeps old new r
 look_keeps old new (Ok x) looks = looks.goes_on
 look_keeps old new (Err e) looks = looks
 

@@ -17,8 +17,8 @@ use store_rows::{
     set_teller_balance,
 };
 
-// A row that is written was looked up, so it is there, or its rule is broken.
-fn expect_row(answer: Result<bool, Error>, rule: Rule) -> Result<(), TableFault>
+/// A row that is written was looked up, so it is there, or its rule is broken.
+pub fn expect_row(answer: Result<bool, Error>, rule: Rule) -> Result<(), TableFault>
     ensures { result ≡ expected answer rule }
 {
     match answer {

@@ -8,5 +8,7 @@ mod opening;
 mod posting;
 mod transactions;
 
+pub use applying::expect_row;
+pub use look_ups::{branch_at, decided, kept_request, place_of_account};
 pub use next_branch::read_next_branch;
 pub use transactions::{begin, open_branch, post, post_all, read_balance};

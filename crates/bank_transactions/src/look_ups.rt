@@ -5,7 +5,7 @@ ghost use Rattle.posting_rules.specs.LookUps.{teller_balances_in, account_balanc
 ghost use Rattle.posting_rules.specs.Tables.{row_at, branch_key};
 ghost use Rattle.bank_transactions.specs.Doing.{Reads};
 
-use message_records::{Account, Branch, Cents, Request, Teller};
+use message_records::{Account, Branch, Cents, Number, Request, Teller};
 use posting_rules::{
     ACCOUNTS_PER_BRANCH, BranchRow, Found, Kept, LAST_BRANCH, MAX_DECIDED, MOST_ACCOUNTS, Rule,
     branch_of_teller,
@@ -23,14 +23,14 @@ fn branch_of_account(account: Account) -> u64
 }
 
 /// The place of an account among those of its branch: 1..=100,000.
-fn place_of_account(account: Account) -> u64
+pub fn place_of_account(account: Account) -> u64
     ensures { result ≡ place_of_account account }
 {
     (account.get() - 1) % ACCOUNTS_PER_BRANCH + 1
 }
 
 /// The branch under a number, none where it isn't open.
-pub(crate) fn branch_at<S: Alter>(
+pub fn branch_at<S: Alter>(
     tx: &mut Transaction<'_, S>,
     number: u64,
 ) -> Result<Option<BranchRow>, TableFault>
@@ -83,14 +83,15 @@ pub(crate) fn open_balance<S: Alter>(
     Ok(balance)
 }
 
-/// The request that is kept under the teller and the number of this one.
-fn kept_request<S: Alter>(
+/// The request that is kept under a teller and a number.
+pub fn kept_request<S: Alter>(
     tx: &mut Transaction<'_, S>,
-    request: &Request,
+    teller: Teller,
+    number: Number,
 ) -> Result<Option<Kept>, TableFault>
-    ensures { Reads S.Store tx.old tx.new (λ tables. kept_in tables.requests request.now.teller request.now.number) result }
+    ensures { Reads S.Store tx.old tx.new (λ tables. kept_in tables.requests teller number) result }
 {
-    let Some(row) = find_request(tx, request.teller(), request.number())? else {
+    let Some(row) = find_request(tx, teller, number)? else {
         return Ok(None);
     };
     let kept = row.kept;
@@ -108,7 +109,7 @@ fn kept_request<S: Alter>(
 }
 
 /// How many requests are decided.
-fn decided<S: Alter>(tx: &mut Transaction<'_, S>) -> Result<u64, TableFault>
+pub fn decided<S: Alter>(tx: &mut Transaction<'_, S>) -> Result<u64, TableFault>
     ensures within { IfOk result (λ decided. decided ≤ MAX_DECIDED) }
     ensures says { Reads S.Store tx.old tx.new (λ tables. tables.decided) result }
 {
@@ -132,7 +133,7 @@ pub(crate) fn look_up<S: Alter>(
     Ok(Found {
         decided: decided(tx)?,
         teller: teller_balances(tx, request.teller())?,
-        kept: kept_request(tx, request)?,
+        kept: kept_request(tx, request.teller(), request.number())?,
         account: open_balance(tx, request.account())?,
     })
 }

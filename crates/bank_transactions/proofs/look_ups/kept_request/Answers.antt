@@ -16,9 +16,9 @@ returns-in_err-row g c = record {
       let before = state g.S.Store c.args.tx.now.conn.now in
       let after = state g.S.Store c.find_request.new.tx.conn.now in
       rw same
-      (err_found before after before after (request_in t c.teller.result c.number.result) IsNoRequest
-      (kept_in t.requests c.args.request.now.teller c.args.request.now.number) c.in_err-row.field-0.0
-      (λ r broken is breaks. request_unbroken t c.teller.result c.number.result r broken sound is breaks)
+      (err_found before after before after (request_in t c.args.teller c.args.number) IsNoRequest
+      (kept_in t.requests c.args.teller c.args.number) c.in_err-row.field-0.0
+      (λ r broken is breaks. request_unbroken t c.args.teller c.args.number r broken sound is breaks)
       (c.in_err-row.ensures.told clean t shows));
   same_reference = search rules;
   kept = search rules;
@@ -29,8 +29,8 @@ pub returns-then-is_none : goal.returns-then-is_none
 returns-then-is_none g c = record {
   told = λ clean t shows sound.
       let row = c.in-Some.row in
-      let found : request_in t c.teller.result c.number.result ≡ Some row = sym (c.in_ok-row.ensures.told clean t shows).0 ∙ c.in-Some.is in
-      let within : nat_abs row.kept.delta ≤ MAX_DELTA = (request_is t c.teller.result c.number.result row sound found).delta in
+      let found : request_in t c.args.teller c.args.number ≡ Some row = sym (c.in_ok-row.ensures.told clean t shows).0 ∙ c.in-Some.is in
+      let within : nat_abs row.kept.delta ≤ MAX_DELTA = (request_is t c.args.teller c.args.number row sound found).delta in
       is_a_request c.account.result row.teller c.branch-kept.result row.number c.delta.result
       (subst (λ z. nat_abs z ≤ MAX_DELTA) (sym c.delta.ensures) within)
       (ap is_some (sym c.new-stored.ensures) ∙ c.if-is_none.ensures);

@@ -1,0 +1,5 @@
+pub mod Both
+pub mod Loops
+pub mod Told
+pub mod Rows
+pub mod Whole

@@ -1,0 +1,11 @@
+-- The slots so far are filled.
+use Rattle.std.proofs.Common.{Ok}
+use Rattle.posting_rules.specs.Damage.{IsUndamaged}
+use Rattle.posting_batch.specs.Batch.{request_filled}
+use Rattle.bank_transactions.specs.Doing.{Does}
+use Rattle.bank_batches.proofs.Loops.{filled_so_far}
+use Rattle.bank_batches.proofs.filling.fill_kept.Given as goal
+
+abbrev pub invariant-loop-slot : goal.invariant-loop-slot
+invariant-loop-slot g l =
+    Does g.S.Store l.fn.tx l.tx (IsUndamaged) (λ t. t) (filled_so_far request_filled l.fn.slots l.slot-index) (Ok l.slots)

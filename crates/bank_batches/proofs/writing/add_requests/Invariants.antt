@@ -1,0 +1,12 @@
+-- The rows so far are there.
+use Rattle.std.proofs.Common.{Ok, take}
+use Rattle.posting_rules.specs.Tables.{request_key}
+use Rattle.posting_batch.specs.Batch.{PutsFree}
+use Rattle.posting_batch.specs.Overlay.{requests_put}
+use Rattle.bank_transactions.specs.Doing.{Does}
+use Rattle.bank_batches.proofs.writing.add_requests.Given as goal
+
+abbrev pub invariant-loop-row : goal.invariant-loop-row
+invariant-loop-row g l =
+    Does {X = Unit {0}} g.S.Store l.fn.tx l.tx (λ t. PutsFree request_key l.rows t.requests)
+    (λ t. requests_put (take l.row-index l.rows) t) (λ _. tt {0}) (Ok (tt {0}))

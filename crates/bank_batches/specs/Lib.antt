@@ -1,0 +1,3 @@
+-- A batch of records in one transaction.
+pub mod Filling
+pub mod Writing

@@ -1,0 +1,8 @@
+//! A batch of records in one transaction: each row that its records touch is read once, each row that they change is written once.
+#![tactic(auto)]
+
+mod filling;
+mod writing;
+
+pub use filling::fill;
+pub use writing::{add_postings, add_requests, write_accounts, write_branches, write_tellers};
