@@ -1,11 +1,13 @@
-//! The three commands.
-ghost use Rattle.std.specs.Prelude.{◌≡◌, ◌≢◌, IfErr, IfOk, OnOk};
+//! The four commands.
+ghost use Rattle.std.specs.Prelude.{◌≡◌, ◌≢◌, ◌≤◌, IfErr, IfOk, OnOk};
 ghost use Rattle.std.specs.Io.KnownBytes.{Appends, IsAtEnd, Keeps};
 ghost use Rattle.bank_endings.specs.Faults.{IsOfFile};
 ghost use Rattle.bank_endings.specs.Lines.{created_line, loaded_line};
+ghost use Rattle.bank_commands.specs.Running.{TellsDriven};
 
 use crate::files::{close, find_bank, make_bank, plan_in};
-use bank_endings::{CommandFault, print_created, print_loaded};
+use bank_driver::{MAX_DRIVEN, drive_records};
+use bank_endings::{CommandFault, print_created, print_driven, print_loaded};
 use branch_loader::{Loaded, load};
 use posting_core::{Clock, Count, Counter, post_stream};
 use sqlite::Start;
@@ -77,4 +79,27 @@ pub fn post<S: Start, R: Read, W: Write, K: Clock>(
     let posted = post_stream(input, output, clock, &mut bank);
     close(bank);
     Ok(posted?)
+}
+
+/// Posts the first `count` records of a seed over the open branches of the file's bank, and prints how many
+/// were posted.
+pub fn drive<S: Start, W: Write, K: Clock>(
+    rt: &HostRuntime,
+    start: S,
+    file: &str,
+    seed: u64,
+    count: u64,
+    output: &mut W,
+    clock: &mut K,
+) -> Result<(), CommandFault>
+    requires some { 1 ≤ count }
+    requires few { count ≤ MAX_DRIVEN }
+    ensures line { OnOk result (TellsDriven count (W.contents output.old) (W.contents output.new)) }
+    ensures silent { IfErr result
+        (λ fault. fault ≢ CommandFault.Write → Keeps (W.contents output.old) (W.contents output.new)) }
+{
+    let mut bank = find_bank(rt, start, file)?;
+    let driven = drive_records(rt.alloc(), &mut bank, clock, seed, count);
+    close(bank);
+    print_driven(count, driven?, output)
 }
