@@ -10,11 +10,11 @@ abbrev pub fault_of_look : ErrorKind → CommandFault
 fault_of_look kind.NotFound = NoBank
 fault_of_look kind.NotADirectory = NoBank
 fault_of_look kind.OutOfMemory = Memory
-fault_of_look other = Store
+fault_of_look _ = Store
 
 -- the fault is one of those
 abbrev pub IsOfLook : CommandFault → Type 0
 IsOfLook NoBank = ⊤
 IsOfLook Memory = ⊤
 IsOfLook Store = ⊤
-IsOfLook other = ⊥
+IsOfLook _ = ⊥
