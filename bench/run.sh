@@ -8,7 +8,8 @@ set -eu
 here=$(cd "$(dirname "$0")/.." && pwd)
 work=$(mktemp -d)
 trap 'rm -rf "$work"' EXIT
-below='message_records posting_rules posting_core sql_meanings store_rows bank_transactions bank_store'
+below='message_records posting_rules posting_core branch_loader load_driver sql_meanings store_rows bank_transactions'
+below="$below bank_store"
 mkdir -p "$work/crates/post/src"
 for crate in $below; do
     mkdir "$work/crates/$crate"
@@ -20,7 +21,7 @@ cp "$here/bench/post.rt.in" "$work/crates/post/src/main.rt"
 for crate in $below; do
     grep -E "^$crate:" "$here/crates.txt"
 done >"$work/crates.txt"
-echo 'post: message_records posting_core bank_store sqlite' >>"$work/crates.txt"
+echo 'post: message_records posting_core branch_loader load_driver bank_store sqlite' >>"$work/crates.txt"
 git -C "$work" init -q
 cd "$work/crates/post"
 rt run -- "${1:-20000}" "${2:-200000}"

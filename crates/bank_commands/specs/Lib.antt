@@ -1,1 +1,3 @@
+pub mod Working
+pub mod Looking
 pub mod Running

@@ -1,13 +1,14 @@
 -- How a run of the program ends, and what it prints, by its words.
-use Rattle.std.specs.Prelude.{◌≡◌, ◌≢◌, ℕ, List, [], Option}
+use Rattle.std.specs.Prelude.{◌≡◌, ◌≢◌, ◌+◌, ℕ, List, [], Option}
 use Rattle.std.specs.Io.KnownBytes.{Appends}
 use Rattle.clap.specs.Words.{IsAmong, Text, fault_of}
 use Rattle.clap.specs.declared.error.kind.ErrorKind.{ErrorKind}
+use Rattle.bank_driver.specs.declared.driving.Driven.{Driven}
 use Rattle.branch_loader.specs.declared.loading.Loaded.{Loaded}
 use Rattle.bank_words.specs.CommandLine.{bank_app}
 use Rattle.bank_words.specs.declared.reading.Command.{Command}
-use Rattle.bank_words.specs.declared.reading.Command.TheVariants.{Init, Load, Post}
-use Rattle.bank_endings.specs.Lines.{IsRequest, created_line, loaded_line}
+use Rattle.bank_words.specs.declared.reading.Command.TheVariants.{Drive, Init, Load, Post}
+use Rattle.bank_endings.specs.Lines.{IsRequest, created_line, driven_line, loaded_line}
 use Rattle.bank_endings.specs.Statuses.{status_of_loaded}
 use Rattle.bank_endings.specs.declared.status.Status.{Status}
 use Rattle.bank_endings.specs.declared.status.Status.TheVariants.{Done}
@@ -21,8 +22,14 @@ pub record AreRefused (words : List Text) : Type 0 where
 abbrev pub Tells : Status → Option (List ℕ) → Option (List ℕ) → Loaded → Type 0
 Tells status old new loaded = (status ≡ status_of_loaded loaded) × Appends old new (loaded_line loaded)
 
+-- so many records were driven, each was posted or not, and the line that says it was printed
+abbrev pub TellsDriven : ℕ → Option (List ℕ) → Option (List ℕ) → Type 0
+TellsDriven count old new =
+    (driven : Driven) × (driven.posted + driven.refused ≡ count) × Appends old new (driven_line count driven)
+
 -- what a command that did its work printed, and how the program ends
 abbrev pub Ends : Command → Status → Option (List ℕ) → Option (List ℕ) → Type 0
 Ends (Init file) status old new = (status ≡ Done) × Appends old new created_line
 Ends (Load file plan) status old new = (loaded : Loaded) × Tells status old new loaded
 Ends (Post file) status old new = status ≡ Done
+Ends (Drive file seed count) status old new = (status ≡ Done) × TellsDriven count old new

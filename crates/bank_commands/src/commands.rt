@@ -1,14 +1,18 @@
-//! The three commands.
-ghost use Rattle.std.specs.Prelude.{◌≡◌, ◌≢◌, IfErr, IfOk, OnOk};
+//! The four commands.
+ghost use Rattle.std.specs.Prelude.{◌≡◌, ◌≢◌, ◌≤◌, IfErr, IfOk, OnOk};
 ghost use Rattle.std.specs.Io.KnownBytes.{Appends, IsAtEnd, Keeps};
 ghost use Rattle.bank_endings.specs.Faults.{IsOfFile};
 ghost use Rattle.bank_endings.specs.Lines.{created_line, loaded_line};
+ghost use Rattle.bank_commands.specs.Running.{TellsDriven};
+ghost use Rattle.bank_commands.specs.Working.{DrivesAndTells, Loads};
 
 use crate::files::{close, find_bank, make_bank, plan_in};
-use bank_endings::{CommandFault, print_created, print_loaded};
+use bank_driver::{MAX_DRIVEN, drive_records};
+use bank_endings::{CommandFault, print_created, print_driven, print_loaded};
 use branch_loader::{Loaded, load};
 use posting_core::{Clock, Count, Counter, post_stream};
 use sqlite::Start;
+use std::alloc::Global;
 use std::io::{Read, Write};
 use std::rt::Files;
 
@@ -42,21 +46,28 @@ pub fn load_plan<S: Start, W: Write>(
         (λ fault. fault ≢ CommandFault.Write → Keeps (W.contents output.old) (W.contents output.new)) }
 {
     let mut bank = find_bank(rt, start, file)?;
-    let loaded = load_from(rt, plan, &mut bank);
+    let loaded = load_into(rt, plan, &mut bank, output);
     close(bank);
-    let loaded = loaded?;
-    print_loaded(loaded, output)?;
-    Ok(loaded)
+    loaded
 }
 
-// Opens the branches of the plan in a file.
-fn load_from<R: Files + AllocGlobal, C: Counter>(
+// Opens the branches of the plan in a file, and prints how many got each answer.
+fn load_into<R: Files + AllocGlobal, C: Counter, W: Write>(
     rt: &R,
     path: &str,
     bank: &mut C,
-) -> Result<Loaded, CommandFault> {
+    output: &mut W,
+) -> Result<Loaded, CommandFault>
+    ensures loads { IfOk result (Loads (C.seen bank.old) (C.seen bank.new)) }
+    ensures line { IfOk result
+        (λ loaded. Appends (W.contents output.old) (W.contents output.new) (loaded_line loaded)) }
+    ensures silent { IfErr result
+        (λ fault. fault ≢ CommandFault.Write → Keeps (W.contents output.old) (W.contents output.new)) }
+{
     let plan = plan_in(rt, path)?;
-    Ok(load(&plan, bank)?)
+    let loaded = load(&plan, bank)?;
+    print_loaded(loaded, output)?;
+    Ok(loaded)
 }
 
 /// Posts the records of the input to the file's bank, and writes their replies.
@@ -77,4 +88,48 @@ pub fn post<S: Start, R: Read, W: Write, K: Clock>(
     let posted = post_stream(input, output, clock, &mut bank);
     close(bank);
     Ok(posted?)
+}
+
+/// Posts the first `count` records of a seed over the open branches of the file's bank, and prints how many
+/// were posted.
+pub fn drive<S: Start, W: Write, K: Clock>(
+    rt: &HostRuntime,
+    start: S,
+    file: &str,
+    seed: u64,
+    count: u64,
+    output: &mut W,
+    clock: &mut K,
+) -> Result<(), CommandFault>
+    requires some { 1 ≤ count }
+    requires few { count ≤ MAX_DRIVEN }
+    ensures line { OnOk result (TellsDriven count (W.contents output.old) (W.contents output.new)) }
+    ensures silent { IfErr result
+        (λ fault. fault ≢ CommandFault.Write → Keeps (W.contents output.old) (W.contents output.new)) }
+{
+    let mut bank = find_bank(rt, start, file)?;
+    let driven = drive_into(rt.alloc(), &mut bank, seed, count, output, clock);
+    close(bank);
+    driven
+}
+
+// Posts the first `count` records of a seed over the open branches of a bank, and prints how many were posted.
+fn drive_into<C: Counter, W: Write, K: Clock>(
+    alloc: Global,
+    bank: &mut C,
+    seed: u64,
+    count: u64,
+    output: &mut W,
+    clock: &mut K,
+) -> Result<(), CommandFault>
+    requires some { 1 ≤ count }
+    requires few { count ≤ MAX_DRIVEN }
+    ensures drives { OnOk result (DrivesAndTells C.seen bank.old bank.new (K.readings clock.old)
+        (K.readings clock.new) seed count (W.contents output.old) (W.contents output.new)) }
+    ensures line { OnOk result (TellsDriven count (W.contents output.old) (W.contents output.new)) }
+    ensures silent { IfErr result
+        (λ fault. fault ≢ CommandFault.Write → Keeps (W.contents output.old) (W.contents output.new)) }
+{
+    let driven = drive_records(alloc, bank, clock, seed, count)?;
+    print_driven(count, driven, output)
 }

@@ -1,5 +1,6 @@
 //! The commands of the program over a bank in a file: `init` makes it, `load` opens its branches, `post`
-//! posts to it. A run goes from the words of the command line to the status that the program ends with.
+//! posts to it, and `drive` posts what the driver draws. A run goes from the words of the command line to the
+//! status that the program ends with.
 #![tactic(auto)]
 
 mod commands;

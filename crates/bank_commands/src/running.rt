@@ -5,10 +5,11 @@ ghost use Rattle.branch_loader.specs.declared.loading.Loaded.{Loaded};
 ghost use Rattle.clap.specs.Words.{fault_of};
 ghost use Rattle.bank_endings.specs.Lines.{created_line};
 ghost use Rattle.bank_words.specs.CommandLine.{bank_app};
-ghost use Rattle.bank_words.specs.Words.{AsksForHelp, AskToInit, AskToLoad, IsSpelled};
-ghost use Rattle.bank_commands.specs.Running.{AreRefused, Ends, Tells};
+ghost use Rattle.bank_words.specs.Words.{AreInRange, AsksForHelp, AskToDrive, AskToInit, AskToLoad, IsSpelled};
+ghost use Rattle.bank_words.specs.Words.{number_of};
+ghost use Rattle.bank_commands.specs.Running.{AreRefused, Ends, Tells, TellsDriven};
 
-use crate::commands::{init, load_plan, post};
+use crate::commands::{drive, init, load_plan, post};
 use bank_endings::{CommandFault, Status, explain, tell};
 use bank_words::{Command, read_words};
 use posting_core::Clock;
@@ -47,6 +48,8 @@ pub fn run<S: Start, T: AsStr, R: Read, W: Write, E: Write, K: Clock>(
     ensures loaded { AskToLoad (map T.text words.entry.now)
         → (result ≡ Status.Done) ⊎ (result ≡ Status.Differs)
         → (loaded : Loaded) × Tells result (W.contents output.old) (W.contents output.new) loaded }
+    ensures driven { (asked : AskToDrive (map T.text words.entry.now)) → result ≡ Status.Done
+        → TellsDriven (number_of asked.3) (W.contents output.old) (W.contents output.new) }
 {
     let command = match read_words(rt.alloc(), words) {
         Ok(command) => command,
@@ -67,6 +70,7 @@ fn perform<S: Start, R: Read, W: Write, K: Clock>(
     output: &mut W,
     clock: &mut K,
 ) -> Result<Status, CommandFault>
+    requires { AreInRange command }
     ensures { IfOk result
         (λ status. Ends command.entry status (W.contents output.old) (W.contents output.new)) }
 {
@@ -81,6 +85,10 @@ fn perform<S: Start, R: Read, W: Write, K: Clock>(
         }
         Command::Post { file } => {
             post(rt, start, file, input, output, clock)?;
+            Ok(Status::Done)
+        }
+        Command::Drive { file, seed, count } => {
+            drive(rt, start, file, seed, count, output, clock)?;
             Ok(Status::Done)
         }
     }

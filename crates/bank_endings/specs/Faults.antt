@@ -8,6 +8,8 @@ use Rattle.posting_core.specs.declared.stream.StreamFault.{StreamFault}
 use Rattle.posting_core.specs.declared.stream.StreamFault.TheVariants as stream
 use Rattle.branch_loader.specs.declared.fault.PlanFault.{PlanFault}
 use Rattle.branch_loader.specs.declared.fault.PlanFault.TheVariants as plan
+use Rattle.bank_driver.specs.declared.fault.DriveFault.{DriveFault}
+use Rattle.bank_driver.specs.declared.fault.DriveFault.TheVariants as drive
 use Rattle.bank_store.specs.declared.refused.OpenFault.{OpenFault}
 use Rattle.bank_store.specs.declared.refused.OpenFault.TheVariants as opening
 use Rattle.bank_endings.specs.declared.fault.CommandFault.{CommandFault}
@@ -28,6 +30,7 @@ status_of fault.AlreadyBank = Input
 status_of fault.NoBank = Input
 status_of fault.Foreign = Input
 status_of (fault.Version version) = Input
+status_of fault.NoBranches = Input
 
 -- the text of a fault; that of a plan's fault is its own
 abbrev pub fault_text : CommandFault → Option (List ℕ)
@@ -42,6 +45,7 @@ fault_text fault.AlreadyBank = Some (codes "already a bank")
 fault_text fault.NoBank = Some (codes "no bank")
 fault_text fault.Foreign = Some (codes "foreign tables")
 fault_text (fault.Version version) = Some (codes "version " ++ signed_decimal version)
+fault_text fault.NoBranches = Some (codes "no branches")
 
 abbrev pub fault_of_opening : OpenFault → CommandFault
 fault_of_opening opening.Store = fault.Store
@@ -67,6 +71,10 @@ fault_of_stream (stream.Truncated count) = fault.Truncated count
 fault_of_stream stream.Read = fault.Read
 fault_of_stream stream.Write = fault.Write
 fault_of_stream (stream.Bank cause) = fault_of_bank cause
+
+abbrev pub fault_of_drive : DriveFault → CommandFault
+fault_of_drive drive.NoBranches = fault.NoBranches
+fault_of_drive (drive.Bank cause) = fault_of_bank cause
 
 -- the file isn't there, or it isn't the bank's
 abbrev pub IsOfFile : CommandFault → Type 0

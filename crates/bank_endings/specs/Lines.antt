@@ -1,6 +1,7 @@
 -- The lines that the program prints, and how it ends where its words aren't a command.
 use Rattle.std.specs.Prelude.{◌≡◌, ◌⊎◌, ℕ, List, [], ◌∷◌, ◌++◌, codes}
 use Rattle.std.specs.Fmt.{decimal}
+use Rattle.bank_driver.specs.declared.driving.Driven.{Driven}
 use Rattle.branch_loader.specs.declared.loading.Loaded.{Loaded}
 use Rattle.clap.specs.declared.error.kind.ErrorKind.{ErrorKind}
 use Rattle.clap.specs.declared.error.kind.ErrorKind.TheVariants as kind
@@ -18,6 +19,12 @@ abbrev pub loaded_line : Loaded → List ℕ
 loaded_line loaded = line (codes "opened " ++ decimal loaded.opened
     ++ codes " already " ++ decimal loaded.already
     ++ codes " differs " ++ decimal loaded.differs)
+
+-- so many records were drawn, and so many got each answer
+abbrev pub driven_line : ℕ → Driven → List ℕ
+driven_line count driven = line (codes "records " ++ decimal count
+    ++ codes " posted " ++ decimal driven.posted
+    ++ codes " refused " ++ decimal driven.refused)
 
 -- help or the version was asked for
 abbrev pub IsRequest : ErrorKind → Type 0

@@ -1,9 +1,10 @@
 //! Why a command ends before its work is done.
 ghost use Rattle.std.specs.Prelude.{◌≡◌};
-ghost use Rattle.bank_endings.specs.Faults.{fault_of_bank, fault_of_opening, fault_of_plan, fault_of_stream};
-ghost use Rattle.bank_endings.specs.Faults.{status_of};
+ghost use Rattle.bank_endings.specs.Faults.{fault_of_bank, fault_of_drive, fault_of_opening, fault_of_plan};
+ghost use Rattle.bank_endings.specs.Faults.{fault_of_stream, status_of};
 
 use crate::status::Status;
+use bank_driver::DriveFault;
 use bank_store::OpenFault;
 use branch_loader::PlanFault;
 use posting_core::{Fault, Rule, StreamFault};
@@ -34,6 +35,8 @@ pub enum CommandFault {
     Foreign,
     /// The file has a bank of another version.
     Version(i64),
+    /// The bank has no branch to draw records over.
+    NoBranches,
 }
 
 impl CommandFault {
@@ -52,7 +55,8 @@ impl CommandFault {
             | CommandFault::AlreadyBank
             | CommandFault::NoBank
             | CommandFault::Foreign
-            | CommandFault::Version(_) => Status::Input,
+            | CommandFault::Version(_)
+            | CommandFault::NoBranches => Status::Input,
         }
     }
 }
@@ -78,6 +82,7 @@ impl fmt::Display for CommandFault {
             CommandFault::NoBank => write!(f, "no bank"),
             CommandFault::Foreign => write!(f, "foreign tables"),
             CommandFault::Version(version) => write!(f, "version {version}"),
+            CommandFault::NoBranches => write!(f, "no branches"),
         }
     }
 }
@@ -131,6 +136,17 @@ impl From<StreamFault> for CommandFault {
             StreamFault::Read => CommandFault::Read,
             StreamFault::Write => CommandFault::Write,
             StreamFault::Bank(fault) => CommandFault::from(fault),
+        }
+    }
+}
+
+impl From<DriveFault> for CommandFault {
+    ghost from_gives = { λ drive fault. fault ≡ fault_of_drive drive };
+
+    fn from(fault: DriveFault) -> CommandFault {
+        match fault {
+            DriveFault::NoBranches => CommandFault::NoBranches,
+            DriveFault::Bank(fault) => CommandFault::from(fault),
         }
     }
 }

@@ -3,10 +3,11 @@ ghost use Rattle.std.specs.Prelude.{◌≡◌, ◌⊎◌, IsOk, OnErr, OnOk, IsE
 ghost use Rattle.std.specs.Io.KnownBytes.{Appends, Keeps};
 ghost use Rattle.clap.specs.Words.{kind_of};
 ghost use Rattle.bank_endings.specs.Faults.{status_of};
-ghost use Rattle.bank_endings.specs.Lines.{IsRequest, IsShown, created_line, loaded_line};
+ghost use Rattle.bank_endings.specs.Lines.{IsRequest, IsShown, created_line, driven_line, loaded_line};
 
 use crate::fault::CommandFault;
 use crate::status::Status;
+use bank_driver::Driven;
 use branch_loader::Loaded;
 use clap::error::ErrorKind;
 use std::io;
@@ -36,6 +37,21 @@ pub fn print_loaded<W: Write>(loaded: Loaded, output: &mut W) -> Result<(), Comm
         output,
         "opened {opened} already {already} differs {differs}"
     );
+    finish(written, output)
+}
+
+/// Prints how many of so many records were posted, and how many were not.
+pub fn print_driven<W: Write>(
+    count: u64,
+    driven: Driven,
+    output: &mut W,
+) -> Result<(), CommandFault>
+    ensures line { OnOk result
+        (Appends (W.contents output.old) (W.contents output.new) (driven_line count driven)) }
+    ensures fault { OnErr result (IsErrOf result CommandFault.Write) }
+{
+    let Driven { posted, refused } = driven;
+    let written = writeln!(output, "records {count} posted {posted} refused {refused}");
     finish(written, output)
 }
 

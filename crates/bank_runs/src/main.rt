@@ -6,9 +6,12 @@
 //!
 //!   `# TEXT`            is a heading
 //!   `write FILE LINE..` writes a file of these lines
+//!   `put FILE TEXT`     writes a file of this text, which ends no line
 //!   `sql FILE TEXT`     runs SQL on a file
-//!   `look FILE`         tells whether the file is there
+//!   `ask FILE TEXT`     runs a query on a file, and prints the number that it gives
+//!   `look FILE`         tells how long the file is, if it is there
 //!   `record TEXT`       gives the next run a record, which spaces fill to 100 bytes
+//!   `line TEXT`         gives it a record and an end of line
 //!   `part TEXT`         gives the next run these bytes
 //!   `broken END`        gives the next run an `input` that fails, or an `output` that does
 //!   `bank WORD..`       runs the program on these words

@@ -41,11 +41,14 @@ impl Script {
         match word {
             "#" | "" => {}
             "write" => write_lines(rt, rest)?,
+            "put" => put(rt, rest)?,
             "sql" => execute(rt, rest)?,
+            "ask" => ask(rt, rest)?,
             "look" => look(rt, rest)?,
-            "record" => {
-                let record = padded(rt.alloc(), rest)?;
-                self.input.extend_from_slice(record.as_slice())?;
+            "record" => self.give(rt.alloc(), rest)?,
+            "line" => {
+                self.give(rt.alloc(), rest)?;
+                self.input.push(b'\n')?;
             }
             "part" => self.input.extend_from_slice(rest.as_bytes())?,
             "broken" if rest == "input" => self.fails = Fails::Input,
@@ -54,6 +57,12 @@ impl Script {
             _ => bail!("no such step: {line}"),
         }
         Ok(())
+    }
+
+    // Gives the next run a record of this text, which spaces fill to 100 bytes.
+    fn give(&mut self, alloc: Global, text: &str) -> Result<(), AllocError> {
+        let record = padded(alloc, text)?;
+        self.input.extend_from_slice(record.as_slice())
     }
 
     // Runs the program on the words of a line, with what the lines before it gave, and prints how it went.
@@ -100,14 +109,34 @@ fn write_lines(rt: &HostRuntime, rest: &str) -> Result<(), anyhow::Error> {
     Ok(())
 }
 
-// Tells whether a file is there.
+// Writes a file, whose name stands before its text.
+fn put(rt: &HostRuntime, rest: &str) -> io::Result<()> {
+    let (file, text) = rest.split_once(' ').unwrap_or((rest, ""));
+    fs::write(rt, file, text)
+}
+
+// Tells how long a file is, if it is there.
 fn look(rt: &HostRuntime, file: &str) -> io::Result<()> {
-    let found = if fs::exists(rt, file)? {
-        "there"
-    } else {
-        "not there"
-    };
-    println!(rt; "  {found}")
+    match fs::metadata(rt, file) {
+        Ok(found) => println!(rt; "  {} bytes", found.len()),
+        Err(_) => println!(rt; "  not there"),
+    }
+}
+
+// Runs a query on a file, whose name stands before it, and prints the number that it gives.
+fn ask(rt: &HostRuntime, rest: &str) -> Result<(), anyhow::Error> {
+    let (file, sql) = rest.split_once(' ').unwrap_or((rest, ""));
+    let number = number_of(rt, file, sql)?;
+    println!(rt; "  {number}")?;
+    Ok(())
+}
+
+// The number that a query gives.
+fn number_of(rt: &HostRuntime, file: &str, sql: &str) -> Result<i64, Error> {
+    let mut conn = Connection::open(rt, file)?;
+    let number = conn.query_row(sql, &[])?.get(0)?;
+    conn.close()?;
+    Ok(number)
 }
 
 // Runs SQL on a file, whose name stands before it.

@@ -1,7 +1,8 @@
 //! What a bank answers to a call, whatever keeps its tables.
 use crate::records::Record;
+use bank_driver::{MAX_DRIVEN, drive_records};
 use message_records::{Account, Branch, Moment};
-use posting_core::{Counter, Opening};
+use posting_core::{Counter, Opening, StoredClock};
 use std::alloc::{AllocError, Global};
 
 /// What separates the things that a step names, and what is answered to each.
@@ -21,17 +22,23 @@ pub enum Call {
     Batch(Moment),
     /// Asks for the balances of accounts.
     Balance,
+    /// Submits so many records of a seed over the open branches, each at the moment 0.
+    Drive { seed: u64 },
 }
 
 impl Call {
     /// The call that a step says, and the things that it names; none where it says no call.
     pub fn of<'a>(word: &str, rest: &'a str) -> Option<(Self, &'a str)> {
-        let (first, records) = rest.split_once(' ').unwrap_or((rest, ""));
+        let (first, list) = rest.split_once(' ').unwrap_or((rest, ""));
         match word {
             "open" => Some((Call::Open, rest)),
             "balance" => Some((Call::Balance, rest)),
-            "post" => Some((Call::Post(moment_of(first)?), records)),
-            "batch" => Some((Call::Batch(moment_of(first)?), records)),
+            "post" => Some((Call::Post(moment_of(first)?), list)),
+            "batch" => Some((Call::Batch(moment_of(first)?), list)),
+            "drive" => {
+                let seed = first.parse::<u64>().ok()?;
+                Some((Call::Drive { seed }, list))
+            }
             _ => None,
         }
     }
@@ -76,6 +83,7 @@ fn one_by_one<C: Counter>(
         Call::Open => opened(alloc, bank, item),
         Call::Post(moment) | Call::Batch(moment) => posted(alloc, bank, moment, item),
         Call::Balance => balance_of(alloc, bank, item),
+        Call::Drive { seed } => driven(alloc, bank, seed, item),
     }
 }
 
@@ -162,6 +170,23 @@ fn together<C: Counter>(
             }
             Ok(answers)
         }
+        Err(fault) => fault.to_string(alloc),
+    }
+}
+
+fn driven<C: Counter>(
+    alloc: Global,
+    bank: &mut C,
+    seed: u64,
+    item: &str,
+) -> Result<String, AllocError> {
+    let count = item.parse::<u64>().unwrap_or(0);
+    if count < 1 || count > MAX_DRIVEN {
+        return "out of range".to_string(alloc);
+    }
+    let mut clock = StoredClock::new(Vec::new(alloc));
+    match drive_records(alloc, bank, &mut clock, seed, count) {
+        Ok(driven) => format!(in alloc; "posted {} refused {}", driven.posted, driven.refused),
         Err(fault) => fault.to_string(alloc),
     }
 }

@@ -1,16 +1,20 @@
 -- What `get_str` gives, by the rows of clap's matches.
-use Rattle.std.proofs.Common.{◌≡◌, ◌∙◌, ◌∷◌, List, ℕ, Option, Some}
+use Rattle.std.proofs.Common.{◌≡◌, ◌≤◌, ◌==◌, ◌∙◌, ◌∷◌, List, ℕ, Option, Some}
 use Rattle.std.proofs.Common.{None, is_some, true, false, codes, inl, inr}
-use Rattle.std.proofs.Common.{arith, slice_index, IsSome, ap, ap₂, refl, sym}
+use Rattle.std.proofs.Common.{eq-eqb, slice_index, IsSome, Result, ap, ap₂, refl, subst, sym}
 use Rattle.std.specs.Prelude.{IsSomeAnd, option_map}
+use Rattle.std.specs.Str.Parse.{ExplainsUnsignedError, HasUnsignedDigitsIfOk, ParsesUnsigned}
+use Rattle.std.specs.declared.num.ParseIntError.{ParseIntError}
 use Rattle.std.specs.Borrow.{Bor}
-use Rattle.clap.specs.Words.{Row, Text, first_of, first_value, rows_of, subcommand_name_of}
-use Rattle.clap.specs.Words.{subcommand_rows_of}
+use Rattle.clap.specs.Words.{IsUnsignedIn, ReadsOne, Row, Text, first_of, first_value, one_of, one_text}
+use Rattle.clap.specs.Words.{rows_of, subcommand_name_of, subcommand_rows_of}
 use Rattle.clap.specs.declared.parser.matches.ArgMatches.{ArgMatches}
 use Rattle.clap.specs.declared.parser.matches.Found.{Found}
 use Rattle.clap.specs.declared.parser.matches.ArgMatches.TheViews.{out-ArgMatches}
-use Rattle.clap.proofs.WalkLemmas.{first_value-rows}
-use Rattle.bank_words.specs.Words.{IsComplete}
+use Rattle.clap.proofs.WalkLemmas.{first_value-rows, one_text-rows}
+use Rattle.bank_driver.specs.declared.driving.TheConstants.{MAX_DRIVEN}
+use Rattle.bank_words.specs.CommandLine.{MAX_SEED}
+use Rattle.bank_words.specs.Words.{HasNumber, IsComplete, IsNumber}
 
 -- an argument with a value gives one
 pub text_given : (o : Option (Bor Text)) (f : Found) (id : Text)
@@ -59,24 +63,71 @@ pub met_complete : (m : ArgMatches) (name : Text) (rows : List Row) → Some nam
     → IsComplete (name, rows)
 met_complete m name rows named met complete = rw (met_rows m name rows named met) at complete
 
+-- ---- the command that a name tells
+
 -- texts whose first bytes differ are two
-differ : (a b : ℕ) (s t : Text) → (a ≡ b → ⊥) → a ∷ s ≡ b ∷ t → ⊥
-differ a b s t apart same = apart (ap (λ (x : Text). slice_index x 0) same)
-
-pub init_is_not_load : codes "init" ≡ codes "load" → ⊥
-init_is_not_load = differ 105 108 _ _ (λ e. absurd (omega (arith, e)))
-
-pub post_is_not_load : codes "post" ≡ codes "load" → ⊥
-post_is_not_load = differ 112 108 _ _ (λ e. absurd (omega (arith, e)))
-
-pub post_is_not_init : codes "post" ≡ codes "init" → ⊥
-post_is_not_init = differ 112 105 _ _ (λ e. absurd (omega (arith, e)))
+pub apart : (a b : ℕ) (s t : Text) → (a == b) ≡ false → a ∷ s ≡ b ∷ t → ⊥
+apart a b s t other same =
+    let first : a ≡ b = ap (λ (x : Text). slice_index x 0) same in
+    let equal : (a == b) ≡ true = rw (← first) (eq-eqb a a refl) in
+    cc
 
 -- a complete `load` has its plan
 pub plan_of_load : (p : Text × List Row) → p.0 ≡ codes "load" → IsComplete p
     → is_some (first_of (codes "plan") p.1) ≡ true
 plan_of_load p name complete = elim complete.1 [
-  | inl init ↦ absurd (init_is_not_load (sym init ∙ name))
-  | inr (inl post) ↦ absurd (post_is_not_load (sym post ∙ name))
-  | inr (inr load) ↦ load.1
+  | inl init ↦ absurd (apart 105 108 _ _ refl (sym init ∙ name))
+  | inr (inl post) ↦ absurd (apart 112 108 _ _ refl (sym post ∙ name))
+  | inr (inr (inl load)) ↦ load.1
+  | inr (inr (inr drive)) ↦ absurd (apart 100 108 _ _ refl (sym drive.0 ∙ name))
 ]
+
+-- a complete `drive` has its numbers
+pub numbers_of_drive : (p : Text × List Row) → p.0 ≡ codes "drive" → IsComplete p
+    → HasNumber (codes "seed") 0 MAX_SEED p.1 × HasNumber (codes "count") 1 MAX_DRIVEN p.1
+numbers_of_drive p name complete = elim complete.1 [
+  | inl init ↦ absurd (apart 105 100 _ _ refl (sym init ∙ name))
+  | inr (inl post) ↦ absurd (apart 112 100 _ _ refl (sym post ∙ name))
+  | inr (inr (inl load)) ↦ absurd (apart 108 100 _ _ refl (sym load.0 ∙ name))
+  | inr (inr (inr drive)) ↦ (drive.1, drive.2)
+]
+
+-- ---- numbers
+
+-- a number in its range, which is the one that the argument's value spells
+abbrev pub IsRead : Found → Text → ℕ → ℕ → ℕ → Type 0
+IsRead f id least most n = IsNumber id (rows_of f) n × (least ≤ n) × (n ≤ most)
+
+-- what reading a `u64` says of a text
+abbrev pub Gives : Text → Result ℕ ParseIntError → Type 0
+Gives text r = ParsesUnsigned 64 10 text r × ExplainsUnsignedError 10 text r × HasUnsignedDigitsIfOk text r
+
+-- `get_one` gives the number of an argument that has one
+pub number_read : (f : Found) (id : Text) (least most : ℕ) (r : Option ℕ)
+    → ((t : Text) → one_text f id ≡ Some t → ReadsOne Gives t r)
+    → HasNumber id least most (rows_of f)
+    → (n : ℕ) × (r ≡ Some n) × IsRead f id least most n
+number_read f id least most r reads has = go (one_of id (rows_of f)) refl has
+  where
+    read : (t : Text) → one_of id (rows_of f) ≡ Some t → IsUnsignedIn least most t → (r : Option ℕ)
+        → ReadsOne Gives t r
+        → (n : ℕ) × (r ≡ Some n) × IsRead f id least most n
+    read t is in_range None given = absurd (given.1.0 (in_range.0, in_range.1))
+    read t is in_range (Some n) given =
+        let value = given.0.1 in
+        let spells : IsNumber id (rows_of f) n = rw is value in
+        (n, refl, (spells, rw value in_range.2, rw value in_range.3))
+
+    go : (o : Option Text) → one_of id (rows_of f) ≡ o → IsSomeAnd o (IsUnsignedIn least most)
+        → (n : ℕ) × (r ≡ Some n) × IsRead f id least most n
+    go None is has = absurd has
+    go (Some t) is has = read t is has r (reads t (one_text-rows f id ∙ is))
+
+-- and so what is unwrapped is that number
+pub number_unwrapped : (f : Found) (id : Text) (least most : ℕ) (r : Option ℕ) (value : ℕ)
+    → (n : ℕ) × (r ≡ Some n) × IsRead f id least most n
+    → r ≡ Some value → IsRead f id least most value
+number_unwrapped f id least most r value read is =
+    let same : Some read.0 ≡ Some value = sym read.1 ∙ is in
+    let equal : read.0 ≡ value = cc in
+    subst (IsRead f id least most) equal read.2

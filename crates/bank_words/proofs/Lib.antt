@@ -1,5 +1,6 @@
 pub mod Rows
-pub mod Filled
+pub mod Walked
+pub mod Stopped
 pub mod Complete
 pub mod Help
 pub mod Getters

@@ -1,109 +1,181 @@
--- Rows in which each argument has a value, and what one use of an argument makes of them.
-use Rattle.std.proofs.Common.{◌≡◌, ◌⊎◌, ◌<◌, ◌&&◌, ◌++◌, Bool, true, false, not, List, [], ◌∷◌, length}
-use Rattle.std.proofs.Common.{Some, is_some, refl, sym, subst, inl, inr, arith, length-append}
-use Rattle.std.specs.Prelude.{find, slice_get, if◌then◌else◌}
+-- Rows whose values pass the parsers of their arguments, and what one use of an argument makes of them.
+use Rattle.std.proofs.Common.{◌≡◌, ◌∙◌, ◌⊎◌, ◌<◌, ◌&&◌, ◌++◌, ◌==◌, ℕ, Bool, true, false, List, [], ◌∷◌}
+use Rattle.std.proofs.Common.{Option, Some, None, ap, refl, sym, subst, inl, inr, length, lt-ltb}
+use Rattle.std.specs.Prelude.{find, nat_lt, if◌then◌else◌}
 use Rattle.std.specs.Str.{bytes_eq}
-use Rattle.clap.specs.Walk.{Row, Rule, Text, action_of, first_of, more_values, reading_by, takes_values, used}
-use Rattle.clap.specs.Walk.{used_as, values_or_missing, with_values, without}
-use Rattle.clap.specs.Takes.{is_given}
+use Rattle.std.proofs.lemmas.Slice.Eq.{bytes_eq-Decides}
+use Rattle.clap.specs.Facts.{parser_of_value, unwrap_or_range}
+use Rattle.clap.specs.Faults.{action_fault, repeat_fault, use_fault, values_fault}
+use Rattle.clap.specs.Kinds.{Kinds, or_else, range_kinds, value_kinds, values_kinds}
+use Rattle.clap.specs.Takes.{is_given, value_passes}
+use Rattle.clap.specs.Values.{read_as, refused_kind}
+use Rattle.clap.specs.Walk.{Row, Rule, Text, action_of, arg_by_id, first_of, more_values, most_values, one_of}
+use Rattle.clap.specs.Walk.{reading_by, used, used_as, values_or_missing, with_values, without}
+use Rattle.clap.specs.declared.builder.action.ArgAction.{ArgAction}
 use Rattle.clap.specs.declared.builder.action.ArgAction.TheVariants.{Set, Help}
+use Rattle.clap.specs.declared.error.kind.ErrorKind.TheVariants as kind
 use Rattle.clap.specs.declared.parser.matches.ValueSource.{ValueSource}
 use Rattle.clap.specs.declared.parser.matches.ValueSource.TheVariants.{CommandLine}
-use Rattle.clap.specs.declared.builder.value_parser.Reading.{Reading}
 
--- ---- rows
+-- ---- faults
 
--- each row has a value
-abbrev pub AreFilled : List Row → Type 0
-AreFilled [] = Unit {0}
-AreFilled (r ∷ rs) = (0 < length r.values) × AreFilled rs
+pub no_first : (a b : Kinds) → or_else a b ≡ [] → a ≡ []
+no_first [] b none = refl
+no_first (k ∷ ks) b none = cc
 
--- values added to the row of an id
-more_filled : (id : Text) (how : Reading) (s : ValueSource) (v : Text) (vs : List Text) (rows : List Row)
-    → AreFilled rows
-    → AreFilled (with_values id how s (v ∷ vs) rows)
-more_filled id how s v vs [] all = (omega arith, tt)
-more_filled id how s v vs (r ∷ rs) all = go (bytes_eq r.id id) (more_filled id how s v vs rs all.1)
-  where
-    go : (b : Bool) → AreFilled (with_values id how s (v ∷ vs) rs)
-        → AreFilled (if b then more_values s (v ∷ vs) r ++ rs else r ∷ with_values id how s (v ∷ vs) rs)
-    go true rest = (omega (arith, length-append r.values (v ∷ vs)), all.1)
-    go false rest = (all.0, rest)
-
--- the row of an id taken out
-fewer_filled : (id : Text) (rows : List Row) → AreFilled rows → AreFilled (without id rows)
-fewer_filled id [] all = tt
-fewer_filled id (r ∷ rs) all = go (bytes_eq r.id id) (fewer_filled id rs all.1)
-  where
-    go : (b : Bool) → AreFilled (without id rs) → AreFilled (if b then rs else r ∷ without id rs)
-    go true rest = all.1
-    go false rest = (all.0, rest)
-
--- an argument that was given has a value
-pub given_value : (id : Text) (rows : List Row) → AreFilled rows → is_given id rows ≡ true
-    → is_some (first_of id rows) ≡ true
-given_value id [] all given = cc
-given_value id (r ∷ rs) all given = go (bytes_eq r.id id) refl (given_value id rs all.1)
-  where
-    some : (vs : List Text) → 0 < length vs → is_some (slice_get vs 0) ≡ true
-    some [] lt = absurd (omega arith)
-    some (v ∷ vs) lt = refl
-
-    go : (b : Bool) → bytes_eq r.id id ≡ b → (is_given id rs ≡ true → is_some (first_of id rs) ≡ true)
-        → is_some (first_of id (r ∷ rs)) ≡ true
-    go true same rest = rw same (some r.values all.0)
-    go false other rest = rw other (rest (rw other at given))
+pub no_second : (a b : Kinds) → or_else a b ≡ [] → b ≡ []
+no_second [] b none = none
+no_second (k ∷ ks) b none = cc
 
 -- ---- arguments
 
--- a positional that takes a value, and has no default
-abbrev pub IsOneValue : Rule → Type 0
-IsOneValue a = (action_of a ≡ Set) × (is_some a.index ≡ true) × (a.defaults ≡ [])
+-- an argument that wants a value, or asks for help; its id is its own, and it has no default
+abbrev pub IsPlainRule : List Rule → Rule → Type 0
+IsPlainRule c a = (((action_of a ≡ Set) × (0 < (unwrap_or_range a.range).start_inclusive)) ⊎ (action_of a ≡ Help))
+    × (arg_by_id c a.id ≡ Some a)
+    × (a.defaults ≡ [])
 
--- a flag that asks for help
-abbrev pub IsHelpFlag : Rule → Type 0
-IsHelpFlag a = (action_of a ≡ Help) × (takes_values a ≡ false) × (a.defaults ≡ [])
+-- some of the arguments c
+abbrev pub ArePlainRules : List Rule → List Rule → Type 0
+ArePlainRules c [] = Unit {0}
+ArePlainRules c (a ∷ rest) = IsPlainRule c a × ArePlainRules c rest
 
-abbrev pub IsPlainRule : Rule → Type 0
-IsPlainRule a = IsOneValue a ⊎ IsHelpFlag a
-
-abbrev pub ArePlainRules : List Rule → Type 0
-ArePlainRules [] = Unit {0}
-ArePlainRules (a ∷ rest) = IsPlainRule a × ArePlainRules rest
-
-pub found_plain : (p : Rule → Bool) (c : List Rule) (a : Rule) → ArePlainRules c → find p c ≡ Some a
-    → IsPlainRule a × (p a ≡ true)
-found_plain p [] a all found = cc
-found_plain p (x ∷ xs) a all found = go (p x) refl (found_plain p xs a all.1)
+pub found_plain : (c : List Rule) (p : Rule → Bool) (rules : List Rule) (a : Rule) → ArePlainRules c rules
+    → find p rules ≡ Some a
+    → IsPlainRule c a
+found_plain c p [] a all found = cc
+found_plain c p (x ∷ xs) a all found = go (p x) refl (found_plain c p xs a all.1)
   where
-    go : (b : Bool) → p x ≡ b → (find p xs ≡ Some a → IsPlainRule a × (p a ≡ true))
-        → IsPlainRule a × (p a ≡ true)
+    go : (b : Bool) → p x ≡ b → (find p xs ≡ Some a → IsPlainRule c a) → IsPlainRule c a
     go true t rest =
         let is : Some x ≡ Some a = rw t at found in
-        let same : x ≡ a = cc in (subst IsPlainRule same all.0, subst (λ y. p y ≡ true) same t)
+        let same : x ≡ a = cc in
+        subst (IsPlainRule c) same all.0
     go false t rest = rest (rw t at found)
 
--- a flag that was found by its name asks for help
-pub found_help : (q : Rule → Bool) (c : List Rule) (a : Rule) → ArePlainRules c
-    → find (λ x. not (is_some x.index) && q x) c ≡ Some a → IsHelpFlag a
-found_help q c a all found = go (found_plain (λ x. not (is_some x.index) && q x) c a all found)
+-- ---- rows
+
+-- the first value of the row passes the argument's parser, and is read as that says
+abbrev pub IsRowOf : Rule → Row → Type 0
+IsRowOf a r = (v : Text) × (vs : List Text) × (r.values ≡ v ∷ vs) × (value_passes a v ≡ true)
+    × (r.reading ≡ reading_by a)
+
+-- the row is that of the argument with its id
+abbrev pub IsSound : List Rule → Row → Type 0
+IsSound c r = (a : Rule) → arg_by_id c r.id ≡ Some a → IsRowOf a r
+
+abbrev pub AreSound : List Rule → List Row → Type 0
+AreSound c [] = Unit {0}
+AreSound c (r ∷ rs) = IsSound c r × AreSound c rs
+
+same_rule : (o : Option Rule) (a b : Rule) → o ≡ Some a → o ≡ Some b → a ≡ b
+same_rule o a b first second =
+    let same : Some a ≡ Some b = sym first ∙ second in
+    cc
+
+-- values added to the row of an argument
+more_sound : (c : List Rule) (a : Rule) (s : ValueSource) (v : Text) (vs : List Text) (rows : List Row)
+    → arg_by_id c a.id ≡ Some a → value_passes a v ≡ true → AreSound c rows
+    → AreSound c (with_values a.id (reading_by a) s (v ∷ vs) rows)
+more_sound c a s v vs [] own passes all = (
+  λ b found.
+      subst (λ (x : Rule). IsRowOf x (record {
+        id = a.id;
+        values = v ∷ vs;
+        count = None;
+        source = Some s;
+        reading = reading_by a;
+      })) (same_rule (arg_by_id c a.id) a b own found) (v, vs, refl, passes, refl),
+  tt,
+)
+more_sound c a s v vs (r ∷ rs) own passes all =
+    go (bytes_eq r.id a.id) (more_sound c a s v vs rs own passes all.1)
   where
-    go : IsPlainRule a × ((not (is_some a.index) && q a) ≡ true) → IsHelpFlag a
-    go (inl one, named) =
-        let bad : false ≡ true = rw one.1 at named in
-        cc
-    go (inr help, named) = help
+    go : (b : Bool) → AreSound c (with_values a.id (reading_by a) s (v ∷ vs) rs)
+        → AreSound c (if b then more_values s (v ∷ vs) r ++ rs
+        else r ∷ with_values a.id (reading_by a) s (v ∷ vs) rs)
+    go true rest = (
+      λ b found.
+          let was = all.0 b found in
+          (was.0, was.1 ++ v ∷ vs, ap (λ (xs : List Text). xs ++ v ∷ vs) was.2, was.3, was.4),
+      all.1,
+    )
+    go false rest = (all.0, rest)
+
+-- the row of an id taken out
+fewer_sound : (c : List Rule) (id : Text) (rows : List Row) → AreSound c rows → AreSound c (without id rows)
+fewer_sound c id [] all = tt
+fewer_sound c id (r ∷ rs) all = go (bytes_eq r.id id) (fewer_sound c id rs all.1)
+  where
+    go : (b : Bool) → AreSound c (without id rs) → AreSound c (if b then rs else r ∷ without id rs)
+    go true rest = all.1
+    go false rest = (all.0, rest)
+
+-- the argument has a value, which passes its parser
+abbrev pub HasValue : Rule → List Row → Type 0
+HasValue a rows = (v : Text) × (first_of a.id rows ≡ Some v)
+    × (one_of a.id rows ≡ Some (read_as (reading_by a) v))
+    × (value_passes a v ≡ true)
+
+-- an argument that was given has one
+pub given_value : (c : List Rule) (a : Rule) (rows : List Row) → arg_by_id c a.id ≡ Some a → AreSound c rows
+    → is_given a.id rows ≡ true
+    → HasValue a rows
+given_value c a [] own all given = cc
+given_value c a (r ∷ rs) own all given = go (bytes_eq r.id a.id) refl (given_value c a rs own all.1)
+  where
+    go : (b : Bool) → bytes_eq r.id a.id ≡ b → (is_given a.id rs ≡ true → HasValue a rs) → HasValue a (r ∷ rs)
+    go true same rest =
+        let id : r.id ≡ a.id = (bytes_eq-Decides r.id a.id).0 same in
+        let got = all.0 a (ap (arg_by_id c) id ∙ own) in
+        (got.0, rw (same, got.2) refl, rw (same, got.2, got.4) refl, got.3)
+    go false other rest =
+        let later = rest (rw other at given) in
+        (later.0, rw other later.1, rw other later.2, later.3)
 
 -- ---- one use of an argument
 
-pub used_filled : (a : Rule) (v : Text) (vs : List Text) (rows : List Row) → IsPlainRule a → AreFilled rows
-    → AreFilled (used a (v ∷ vs) rows)
-used_filled a v vs rows (inl one) all =
-    subst (λ x. AreFilled (used_as x a.id (reading_by a) (v ∷ vs) rows)) (sym one.0)
-    (more_filled a.id (reading_by a) CommandLine v vs (without a.id rows) (fewer_filled a.id rows all))
-used_filled a v vs rows (inr help) all =
-    subst (λ x. AreFilled (used_as x a.id (reading_by a) (v ∷ vs) rows)) (sym help.0) all
+no_values : (least most : ℕ) → 0 < least → range_kinds least most 0 ≡ [] → ⊥
+no_values least most some none = go (nat_lt 0 least) (lt-ltb 0 least some) none
+  where
+    go : (b : Bool) → b ≡ true → (if b && true then kind.InvalidValue ∷ []
+        else (if least == most then (if least == 0 then [] else kind.WrongNumberOfValues ∷ [])
+        else (if nat_lt 0 least then kind.TooFewValues ∷ []
+        else (if nat_lt most 0 then kind.TooManyValues ∷ [] else [])))) ≡ [] → ⊥
+    go true is none = cc
+    go false is none = cc
 
-pub help_filled : (a : Rule) (rows : List Row) → IsHelpFlag a → AreFilled rows → AreFilled (used a [] rows)
-help_filled a rows help all =
-    subst (λ x. AreFilled (used_as x a.id (reading_by a) (values_or_missing a []) rows)) (sym help.0) all
+passed : (a : Rule) (v : Text) → value_kinds a.ignore_case (parser_of_value a.parser) v ≡ [] → value_passes a v ≡ true
+passed a v none = go (value_passes a v) none
+  where
+    go : (b : Bool) → (if b then [] else refused_kind (parser_of_value a.parser) ∷ []) ≡ [] → b ≡ true
+    go true none = refl
+    go false none = cc
+
+-- a use with no fault leaves rows whose values pass
+pub used_sound : (c : List Rule) (again : Bool) (a : Rule) (values : List Text) (rows : List Row) → IsPlainRule c a
+    → AreSound c rows → use_fault again a values rows ≡ []
+    → AreSound c (used a values rows)
+used_sound c again a [] rows (inl one, own, plain) all none =
+    absurd (no_values (unwrap_or_range a.range).start_inclusive (most_values a) one.1
+    (no_first (range_kinds (unwrap_or_range a.range).start_inclusive (most_values a) 0)
+    (action_fault (action_of a) again a (values_or_missing a []) rows) none))
+used_sound c again a (v ∷ vs) rows (inl one, own, plain) all none =
+    let acts : action_fault (action_of a) again a (v ∷ vs) rows ≡ [] =
+    no_second (range_kinds (unwrap_or_range a.range).start_inclusive (most_values a) (length (v ∷ vs)))
+    (action_fault (action_of a) again a (v ∷ vs) rows) none in
+    let sets : action_fault Set again a (v ∷ vs) rows ≡ [] =
+    subst (λ (x : ArgAction). action_fault x again a (v ∷ vs) rows ≡ []) one.0 acts in
+    let first : value_kinds a.ignore_case (parser_of_value a.parser) v ≡ [] =
+    no_first (value_kinds a.ignore_case (parser_of_value a.parser) v)
+    (values_kinds a.ignore_case (parser_of_value a.parser) vs)
+    (no_second (repeat_fault again a.id rows) (values_fault a (v ∷ vs)) sets) in
+    subst (λ (x : ArgAction). AreSound c (used_as x a.id (reading_by a) (v ∷ vs) rows)) (sym one.0)
+    (more_sound c a CommandLine v vs (without a.id rows) own (passed a v first) (fewer_sound c a.id rows all))
+used_sound c again a values rows (inr help, own, plain) all none =
+    let acts : action_fault (action_of a) again a (values_or_missing a values) rows ≡ [] =
+    no_second (range_kinds (unwrap_or_range a.range).start_inclusive (most_values a) (length values))
+    (action_fault (action_of a) again a (values_or_missing a values) rows) none in
+    let asks : action_fault Help again a (values_or_missing a values) rows ≡ [] =
+    subst (λ (x : ArgAction). action_fault x again a (values_or_missing a values) rows ≡ []) help acts in
+    cc

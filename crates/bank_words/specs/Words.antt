@@ -1,19 +1,41 @@
 -- Which command the words of the command line tell, and which words tell one.
-use Rattle.std.specs.Prelude.{◌≡◌, ◌⊎◌, ◌==◌, Bool, List, [], ◌∷◌, Some, true, false, codes, drop, is_some}
-use Rattle.std.specs.Prelude.{IsSomeAnd}
-use Rattle.clap.specs.Words.{Row, Text, first_of, kind_of, subcommand_of}
+use Rattle.std.specs.Prelude.{◌≡◌, ◌⊎◌, ◌==◌, ◌≤◌, ⊤, ℕ, Bool, List, [], ◌∷◌, Some, true, false, codes, drop}
+use Rattle.std.specs.Prelude.{IsSomeAnd, is_some}
+use Rattle.std.specs.Str.Parse.{digits_value, without_leading_plus}
+use Rattle.clap.specs.Words.{IsUnsignedIn, Row, Text, first_of, kind_of, one_of, subcommand_of}
 use Rattle.clap.specs.declared.error.Error.{Error}
 use Rattle.clap.specs.declared.error.kind.ErrorKind.TheVariants as kind
-use Rattle.bank_words.specs.CommandLine.{bank_app}
+use Rattle.bank_driver.specs.declared.driving.TheConstants.{MAX_DRIVEN}
+use Rattle.bank_words.specs.CommandLine.{MAX_SEED, bank_app}
 use Rattle.bank_words.specs.declared.reading.Command.{Command}
-use Rattle.bank_words.specs.declared.reading.Command.TheVariants.{Init, Load, Post}
+use Rattle.bank_words.specs.declared.reading.Command.TheVariants.{Init, Load, Post, Drive}
 
--- the command has this name, and its files are the first values of its arguments
+-- the number that a text of digits spells; a plus may stand before them
+abbrev pub number_of : Text → ℕ
+number_of text = digits_value 10 (without_leading_plus text)
+
+-- the argument has a value, which spells a number in the range
+abbrev pub HasNumber : Text → ℕ → ℕ → List Row → Type 0
+HasNumber id least most rows = IsSomeAnd (one_of id rows) (IsUnsignedIn least most)
+
+-- the argument's value spells this number
+abbrev pub IsNumber : Text → List Row → ℕ → Type 0
+IsNumber id rows n = IsSomeAnd (one_of id rows) (λ text. n ≡ number_of text)
+
+-- the command has this name, and its files and numbers are the values of its arguments
 abbrev pub IsCommandOf : Text × List Row → Command → Type 0
 IsCommandOf p (Init file) = (p.0 ≡ codes "init") × (first_of (codes "file") p.1 ≡ Some file.now)
 IsCommandOf p (Load file plan) = (p.0 ≡ codes "load") × (first_of (codes "file") p.1 ≡ Some file.now)
     × (first_of (codes "plan") p.1 ≡ Some plan.now)
 IsCommandOf p (Post file) = (p.0 ≡ codes "post") × (first_of (codes "file") p.1 ≡ Some file.now)
+IsCommandOf p (Drive file seed count) = (p.0 ≡ codes "drive") × (first_of (codes "file") p.1 ≡ Some file.now)
+    × IsNumber (codes "seed") p.1 seed
+    × IsNumber (codes "count") p.1 count
+
+-- the command's numbers are in their ranges
+abbrev pub AreInRange : Command → Type 0
+AreInRange (Drive file seed count) = (seed ≤ MAX_SEED) × (1 ≤ count) × (count ≤ MAX_DRIVEN)
+AreInRange _ = ⊤
 
 -- clap matches the words to a subcommand of `bank` and to its values, and the command is that one
 abbrev pub IsReadFrom : List Text → Command → Type 0
@@ -23,7 +45,9 @@ IsReadFrom words command = IsSomeAnd (subcommand_of bank_app words) (λ p. IsCom
 abbrev pub IsComplete : Text × List Row → Type 0
 IsComplete p = (is_some (first_of (codes "file") p.1) ≡ true)
     × ((p.0 ≡ codes "init") ⊎ (p.0 ≡ codes "post")
-    ⊎ ((p.0 ≡ codes "load") × (is_some (first_of (codes "plan") p.1) ≡ true)))
+    ⊎ ((p.0 ≡ codes "load") × (is_some (first_of (codes "plan") p.1) ≡ true))
+    ⊎ ((p.0 ≡ codes "drive") × HasNumber (codes "seed") 0 MAX_SEED p.1
+    × HasNumber (codes "count") 1 MAX_DRIVEN p.1))
 
 -- a flag begins with a dash
 abbrev pub begins_with_dash : Text → Bool
@@ -45,15 +69,25 @@ abbrev pub AskToPost : List Text → Type 0
 AskToPost words = (program : Text) × (file : Text) × (begins_with_dash file ≡ false)
     × (words ≡ program ∷ codes "post" ∷ file ∷ [])
 
--- the words spell a command: its name and its files, of which none begins with a dash
+-- the words are `drive FILE --seed S --count N`, with a file that doesn't begin with a dash, and two numbers in
+-- their ranges
+abbrev pub AskToDrive : List Text → Type 0
+AskToDrive words = (program : Text) × (file : Text) × (seed : Text) × (count : Text)
+    × (begins_with_dash file ≡ false) × IsUnsignedIn 0 MAX_SEED seed × IsUnsignedIn 1 MAX_DRIVEN count
+    × (words ≡ program ∷ codes "drive" ∷ file ∷ codes "--seed" ∷ seed ∷ codes "--count" ∷ count ∷ [])
+
+-- the words spell a command: its name, its files, of which none begins with a dash, and its numbers
 abbrev pub IsSpelled : List Text → Type 0
-IsSpelled words = AskToInit words ⊎ AskToLoad words ⊎ AskToPost words
+IsSpelled words = AskToInit words ⊎ AskToLoad words ⊎ AskToPost words ⊎ AskToDrive words
 
 -- the words after the program's name are the command's own
 abbrev pub IsSpelledBy : List Text → Command → Type 0
 IsSpelledBy words (Init file) = drop 1 words ≡ codes "init" ∷ file.now ∷ []
 IsSpelledBy words (Load file plan) = drop 1 words ≡ codes "load" ∷ file.now ∷ plan.now ∷ []
 IsSpelledBy words (Post file) = drop 1 words ≡ codes "post" ∷ file.now ∷ []
+IsSpelledBy words (Drive file seed count) = (s : Text) × (n : Text)
+    × (drop 1 words ≡ codes "drive" ∷ file.now ∷ codes "--seed" ∷ s ∷ codes "--count" ∷ n ∷ [])
+    × (seed ≡ number_of s) × (count ≡ number_of n)
 
 -- memory ran out
 abbrev pub IsWantOfMemory : Error → Type 0
@@ -65,6 +99,7 @@ AsksForHelp words = ((program : Text) × (rest : List Text) × (words ≡ progra
     ⊎ ((program : Text) × (words ≡ program ∷ codes "init" ∷ codes "--help" ∷ []))
     ⊎ ((program : Text) × (words ≡ program ∷ codes "load" ∷ codes "--help" ∷ []))
     ⊎ ((program : Text) × (words ≡ program ∷ codes "post" ∷ codes "--help" ∷ []))
+    ⊎ ((program : Text) × (words ≡ program ∷ codes "drive" ∷ codes "--help" ∷ []))
 
 -- the error is the help, or memory ran out
 abbrev pub IsHelp : Error → Type 0

@@ -1,10 +1,13 @@
-//! The program's command line as clap is told of it: three commands, their arguments, and the texts of help.
+//! The program's command line as clap is told of it: four commands, their arguments, and the texts of help.
 ghost use Rattle.std.specs.Prelude.{◌≡◌, IfOk, false};
 ghost use Rattle.clap.specs.Words.{app_of, rule_of};
 ghost use Rattle.clap.specs.declared.builder.command.Command.TheViews.{out-Command as fields_of};
-ghost use Rattle.bank_words.specs.CommandLine.{bank_app, file_rule, init_app, load_app, plan_rule, post_app};
+ghost use Rattle.bank_words.specs.CommandLine.{bank_app, count_rule, drive_app, file_rule, init_app, load_app};
+ghost use Rattle.bank_words.specs.CommandLine.{plan_rule, post_app, seed_rule};
 
 use crate::texts;
+use bank_driver::MAX_DRIVEN;
+use clap::builder::ValueParser;
 use clap::{Arg, Command};
 use std::alloc::{AllocError, Global};
 
@@ -13,16 +16,17 @@ pub fn bank_command<'a>(alloc: Global) -> Result<Command<'a>, AllocError>
     ensures { IfOk result (λ bank. app_of bank ≡ bank_app) }
 {
     Command::new(alloc, "bank")
+        .version(texts::VERSION)
         .about(texts::BANK)
         .long_about(texts::BANK_AT_LENGTH)
         .after_help(texts::BANK_EXAMPLE)
         .after_long_help(texts::BANK_DETAILS)
         .subcommand_required(true)
         .arg_required_else_help(true)
-        .disable_help_subcommand(true)
         .subcommand(init_command(alloc)?)?
         .subcommand(load_command(alloc)?)?
-        .subcommand(post_command(alloc)?)
+        .subcommand(post_command(alloc)?)?
+        .subcommand(drive_command(alloc)?)
 }
 
 fn init_command<'a>(alloc: Global) -> Result<Command<'a>, AllocError>
@@ -59,6 +63,19 @@ fn post_command<'a>(alloc: Global) -> Result<Command<'a>, AllocError>
         .arg(file_argument(alloc))
 }
 
+fn drive_command<'a>(alloc: Global) -> Result<Command<'a>, AllocError>
+    ensures app { IfOk result (λ drive. app_of drive ≡ drive_app) }
+    ensures local { IfOk result (λ drive. (fields_of drive).has_globals ≡ false) }
+{
+    Command::new(alloc, "drive")
+        .about(texts::DRIVE)
+        .long_about(texts::DRIVE_AT_LENGTH)
+        .after_long_help(texts::DRIVE_DETAILS)
+        .arg(file_argument(alloc))?
+        .arg(seed_argument(alloc))?
+        .arg(count_argument(alloc))
+}
+
 fn file_argument<'a>(alloc: Global) -> Arg<'a>
     ensures rule { rule_of result ≡ file_rule }
     ensures local { result.global ≡ false }
@@ -77,4 +94,28 @@ fn plan_argument<'a>(alloc: Global) -> Arg<'a>
         .required(true)
         .value_name("CSV")
         .help(texts::PLAN)
+}
+
+fn seed_argument<'a>(alloc: Global) -> Arg<'a>
+    ensures rule { rule_of result ≡ seed_rule }
+    ensures local { result.global ≡ false }
+{
+    Arg::new(alloc, "seed")
+        .required(true)
+        .long("seed")
+        .value_name("S")
+        .value_parser(ValueParser::unsigned(0, u64::MAX))
+        .help(texts::SEED)
+}
+
+fn count_argument<'a>(alloc: Global) -> Arg<'a>
+    ensures rule { rule_of result ≡ count_rule }
+    ensures local { result.global ≡ false }
+{
+    Arg::new(alloc, "count")
+        .required(true)
+        .long("count")
+        .value_name("N")
+        .value_parser(ValueParser::unsigned(1, MAX_DRIVEN))
+        .help(texts::COUNT)
 }

@@ -3,8 +3,8 @@ ghost use Rattle.std.specs.Prelude.{◌≡◌, IfErr, IfOk, IsErrAnd, IsSomeAnd,
 ghost use Rattle.clap.specs.Words.{FailsBy, fault_of, found_of, kind_of, rows_of, subcommand_of};
 ghost use Rattle.clap.specs.Words.{subcommand_rows_of, takes};
 ghost use Rattle.bank_words.specs.CommandLine.{bank_app};
-ghost use Rattle.bank_words.specs.Words.{AsksForHelp, IsCommandOf, IsComplete, IsHelp, IsReadFrom};
-ghost use Rattle.bank_words.specs.Words.{IsSpelled, IsSpelledBy, IsWantOfMemory};
+ghost use Rattle.bank_words.specs.Words.{AreInRange, AsksForHelp, IsCommandOf, IsComplete, IsHelp};
+ghost use Rattle.bank_words.specs.Words.{IsReadFrom, IsSpelled, IsSpelledBy, IsWantOfMemory};
 
 use crate::command_line::bank_command;
 use clap::ArgMatches;
@@ -16,11 +16,24 @@ use std::convert::AsStr;
 #[derive(Clone, Copy, Debug, PartialEq, Eq)]
 pub enum Command<'a> {
     /// Make a new bank in the file.
-    Init { file: &'a str },
+    Init {
+        file: &'a str,
+    },
     /// Open the branches of a plan in the file's bank.
-    Load { file: &'a str, plan: &'a str },
+    Load {
+        file: &'a str,
+        plan: &'a str,
+    },
     /// Post the records of standard input to the file's bank.
-    Post { file: &'a str },
+    Post {
+        file: &'a str,
+    },
+    /// Post so many records that the driver draws, from this seed on, over the branches of the file's bank.
+    Drive {
+        file: &'a str,
+        seed: u64,
+        count: u64,
+    },
 }
 
 /// Reads the words of the command line, of which the first is the program's own name. The command is
@@ -28,6 +41,7 @@ pub enum Command<'a> {
 /// the text for the user. A request for help is such an error, of the kind `DisplayHelp`.
 pub fn read_words<'a, S: AsStr>(alloc: Global, words: &'a [S]) -> Result<Command<'a>, clap::Error>
     ensures command { IfOk result (IsReadFrom (map S.text words.entry.now)) }
+    ensures ranges { IfOk result AreInRange }
     ensures taken { IfErr result (λ error. takes bank_app (map S.text words.entry.now) ≡ true
         → kind_of error ≡ ErrorKind.OutOfMemory) }
     ensures fault { FailsBy (fault_of bank_app (map S.text words.entry.now)) result }
@@ -57,7 +71,8 @@ fn matches_of<'a, S: AsStr>(alloc: Global, words: &'a [S]) -> Result<ArgMatches<
 // The command that a subcommand's name and values tell.
 fn command_of<'a>(name: &str, values: &ArgMatches<'a>) -> Command<'a>
     requires { IsComplete (name.now, rows_of (found_of values.now)) }
-    ensures { IsCommandOf (name.now, rows_of (found_of values.now)) result }
+    ensures command { IsCommandOf (name.now, rows_of (found_of values.now)) result }
+    ensures ranges { AreInRange result }
 {
     let file = values.get_str("file").unwrap();
     match name {
@@ -67,6 +82,11 @@ fn command_of<'a>(name: &str, values: &ArgMatches<'a>) -> Command<'a>
             Command::Load { file, plan }
         }
         "post" => Command::Post { file },
+        "drive" => {
+            let seed = values.get_one::<u64>("seed").unwrap();
+            let count = values.get_one::<u64>("count").unwrap();
+            Command::Drive { file, seed, count }
+        }
         _ => unreachable!(),
     }
 }

@@ -1,5 +1,6 @@
-use Rattle.std.proofs.Common.{map}
+use Rattle.std.proofs.Common.{inr, map}
 use Rattle.clap.specs.Words.{kind_of}
+use Rattle.bank_commands.proofs.Driven.{driven_by}
 use Rattle.bank_commands.proofs.Endings.{help_ends, memory_ends, mistake_ends, mistake_keeps, not_asked}
 use Rattle.bank_commands.proofs.Endings.{system_is_not_usage}
 use Rattle.bank_commands.proofs.running.run.Goals as goal
@@ -37,3 +38,11 @@ returns-in-Ok-perform-clause-help g c asks = absurd (c.in-Ok.ensures.help asks)
 
 pub returns-in-Err-perform-clause-help : goal.returns-in-Err-perform-clause-help
 returns-in-Err-perform-clause-help g c asks = absurd (c.in-Ok.ensures.help asks)
+
+-- ---- words that ask to drive
+
+pub returns-in-Ok-perform-clause-driven : goal.returns-in-Ok-perform-clause-driven
+returns-in-Ok-perform-clause-driven g c asked done =
+    driven_by (map g.T.AsStr.text c.args.words.now) asked c.in-Ok.command c.in-Ok-perform.status
+    (g.W.Write.contents c.args.output.now) (g.W.Write.contents c.perform.new.output)
+    (c.in-Ok.ensures.spelled (inr (inr (inr asked)))) c.in-Ok-perform.ensures

@@ -1,6 +1,9 @@
-use Rattle.std.proofs.Common.{codes}
+use Rattle.std.proofs.Common.{codes, refl}
 use Rattle.clap.specs.Words.{found_of, rows_of}
-use Rattle.bank_words.proofs.Getters.{plan_of_load, text_first, text_given}
+use Rattle.bank_driver.specs.declared.driving.TheConstants.{MAX_DRIVEN}
+use Rattle.bank_words.specs.CommandLine.{MAX_SEED}
+use Rattle.bank_words.proofs.Getters.{number_read, number_unwrapped, numbers_of_drive, plan_of_load, text_first}
+use Rattle.bank_words.proofs.Getters.{text_given}
 use Rattle.bank_words.proofs.reading.command_of.Goals as goal
 
 pub unwrap-file-requires : goal.unwrap-file-requires
@@ -13,16 +16,16 @@ unwrap-plan-requires c =
     text_given c.get_str-in-load.result found (codes "plan") c.get_str-in-load.ensures
     (plan_of_load (c.args.name.now, rows_of found) c.in-load.is c.requires)
 
-pub returns-in-init : goal.returns-in-init
-returns-in-init c =
+pub returns-in-init-clause-command : goal.returns-in-init-clause-command
+returns-in-init-clause-command c =
     let found = found_of c.args.values.now in
     let file = c.unwrap-file.result in (
       c.in-init.is,
       text_first c.get_str.result file found (codes "file") c.get_str.ensures c.unwrap-file.ensures,
     )
 
-pub returns-in-load : goal.returns-in-load
-returns-in-load c =
+pub returns-in-load-clause-command : goal.returns-in-load-clause-command
+returns-in-load-clause-command c =
     let found = found_of c.args.values.now in
     let file = c.unwrap-file.result in
     let given = c.get_str-in-load in
@@ -32,10 +35,53 @@ returns-in-load c =
       text_first given.result plan found (codes "plan") given.ensures c.unwrap-plan.ensures,
     )
 
-pub returns-in-post : goal.returns-in-post
-returns-in-post c =
+pub returns-in-post-clause-command : goal.returns-in-post-clause-command
+returns-in-post-clause-command c =
     let found = found_of c.args.values.now in
     let file = c.unwrap-file.result in (
       c.in-post.is,
       text_first c.get_str.result file found (codes "file") c.get_str.ensures c.unwrap-file.ensures,
     )
+
+pub unwrap-seed-requires : goal.unwrap-seed-requires
+unwrap-seed-requires c =
+    let found = found_of c.args.values.now in
+    let numbers = numbers_of_drive (c.args.name.now, rows_of found) c.in-drive.is c.requires in
+    let read = number_read found (codes "seed") 0 MAX_SEED c.get_one.result c.get_one.ensures.value numbers.0 in
+    rw read.1 refl
+
+pub unwrap-count-requires : goal.unwrap-count-requires
+unwrap-count-requires c =
+    let found = found_of c.args.values.now in
+    let numbers = numbers_of_drive (c.args.name.now, rows_of found) c.in-drive.is c.requires in
+    let given = c.get_one-in-drive in
+    let read = number_read found (codes "count") 1 MAX_DRIVEN given.result given.ensures.value numbers.1 in
+    rw read.1 refl
+
+pub returns-in-drive-clause-command : goal.returns-in-drive-clause-command
+returns-in-drive-clause-command c =
+    let found = found_of c.args.values.now in
+    let numbers = numbers_of_drive (c.args.name.now, rows_of found) c.in-drive.is c.requires in
+    let given = c.get_one-in-drive in (
+      c.in-drive.is,
+      text_first c.get_str.result c.unwrap-file.result found (codes "file") c.get_str.ensures c.unwrap-file.ensures,
+      (number_unwrapped found (codes "seed") 0 MAX_SEED c.get_one.result c.unwrap-seed.result
+          (number_read found (codes "seed") 0 MAX_SEED c.get_one.result c.get_one.ensures.value numbers.0)
+          c.unwrap-seed.ensures).0,
+      (number_unwrapped found (codes "count") 1 MAX_DRIVEN given.result c.unwrap-count.result
+          (number_read found (codes "count") 1 MAX_DRIVEN given.result given.ensures.value numbers.1)
+          c.unwrap-count.ensures).0,
+    )
+
+pub returns-in-drive-clause-ranges : goal.returns-in-drive-clause-ranges
+returns-in-drive-clause-ranges c =
+    let found = found_of c.args.values.now in
+    let numbers = numbers_of_drive (c.args.name.now, rows_of found) c.in-drive.is c.requires in
+    let given = c.get_one-in-drive in
+    let seed = number_unwrapped found (codes "seed") 0 MAX_SEED c.get_one.result c.unwrap-seed.result
+    (number_read found (codes "seed") 0 MAX_SEED c.get_one.result c.get_one.ensures.value numbers.0)
+    c.unwrap-seed.ensures in
+    let count = number_unwrapped found (codes "count") 1 MAX_DRIVEN given.result c.unwrap-count.result
+    (number_read found (codes "count") 1 MAX_DRIVEN given.result given.ensures.value numbers.1)
+    c.unwrap-count.ensures in
+    (seed.2, count.1, count.2)

@@ -1,0 +1,57 @@
+-- What a run of `drive` printed, by its words.
+use Rattle.std.proofs.Common.{◌≡◌, ◌∙◌, ap, refl, subst, sym, ℕ, List, [], Option, Ok, OnOk, drop}
+use Rattle.std.proofs.Common.{Result, Err}
+use Rattle.std.specs.Prelude.{slice_get, unwrap_or}
+use Rattle.std.specs.Io.KnownBytes.{Appends}
+use Rattle.clap.specs.Words.{Text}
+use Rattle.posting_rules.specs.Counter.{Seen}
+use Rattle.bank_driver.specs.Drives.{Drives}
+use Rattle.bank_driver.specs.declared.driving.Driven.{Driven}
+use Rattle.bank_endings.specs.Lines.{driven_line}
+use Rattle.bank_endings.specs.declared.fault.CommandFault.{CommandFault}
+use Rattle.bank_endings.specs.declared.status.Status.{Status}
+use Rattle.bank_words.specs.Words.{AskToDrive, IsSpelledBy, number_of}
+use Rattle.bank_words.specs.declared.reading.Command.{Command}
+use Rattle.bank_words.specs.declared.reading.Command.TheVariants.{Drive, Init, Load, Post}
+use Rattle.bank_words.proofs.Getters.{apart}
+use Rattle.bank_commands.specs.Running.{Ends, TellsDriven}
+use Rattle.bank_commands.specs.Working.{DrivesAndTells}
+
+-- the line has the counts of the drive's replies
+pub told_all : {C : Type 0} (seen : C → Seen) (old new : C) (k k' : Option (List ℕ)) (seed count : ℕ)
+    (before after : Option (List ℕ)) (r : Result (Unit {0}) CommandFault) (driven : Driven)
+    → Drives seen old new k k' seed count (Ok driven)
+    → OnOk r (Appends before after (driven_line count driven))
+    → OnOk r (DrivesAndTells seen old new k k' seed count before after)
+told_all seen old new k k' seed count before after (Ok done) driven drives line = (driven, drives, line)
+told_all seen old new k k' seed count before after (Err fault) driven drives line = tt
+
+-- and each record was posted or not
+pub told_driven : {C : Type 0} (seen : C → Seen) (old new : C) (k k' : Option (List ℕ)) (seed count : ℕ)
+    (before after : Option (List ℕ)) (r : Result (Unit {0}) CommandFault) (driven : Driven)
+    → Drives seen old new k k' seed count (Ok driven)
+    → OnOk r (Appends before after (driven_line count driven))
+    → OnOk r (TellsDriven count before after)
+told_driven seen old new k k' seed count before after (Ok done) driven drives line =
+    (driven, drives.submits.ends.total, line)
+told_driven seen old new k k' seed count before after (Err fault) driven drives line = tt
+
+-- the word at a place
+abbrev word_at : ℕ → List Text → Text
+word_at place words = unwrap_or (slice_get words place) []
+
+-- words that ask to drive tell no other command, and the count that they spell
+pub driven_by : (words : List Text) (asked : AskToDrive words) (command : Command) (status : Status)
+    (old new : Option (List ℕ))
+    → IsSpelledBy words command → Ends command status old new
+    → TellsDriven (number_of asked.3) old new
+driven_by words asked (Init f) status old new spelled ends =
+    absurd (apart 100 105 _ _ refl (ap (word_at 0) (sym (ap (drop 1) asked.7) ∙ spelled)))
+driven_by words asked (Load f p) status old new spelled ends =
+    absurd (apart 100 108 _ _ refl (ap (word_at 0) (sym (ap (drop 1) asked.7) ∙ spelled)))
+driven_by words asked (Post f) status old new spelled ends =
+    absurd (apart 100 112 _ _ refl (ap (word_at 0) (sym (ap (drop 1) asked.7) ∙ spelled)))
+driven_by words asked (Drive f seed count) status old new spelled ends =
+    let same : spelled.1 ≡ asked.3 = ap (word_at 5) (sym spelled.2 ∙ ap (drop 1) asked.7) in
+    let is : count ≡ number_of asked.3 = spelled.4 ∙ ap number_of same in
+    subst (λ (n : ℕ). TellsDriven n old new) is ends.1

@@ -1,0 +1,20 @@
+-- What it says where the look for a bank's file fails.
+use Rattle.std.specs.Prelude.{⊤}
+use Rattle.std.specs.declared.io.ErrorKind.{ErrorKind}
+use Rattle.std.specs.declared.io.ErrorKind.TheVariants as kind
+use Rattle.bank_endings.specs.declared.fault.CommandFault.{CommandFault}
+use Rattle.bank_endings.specs.declared.fault.CommandFault.TheVariants.{Memory, NoBank, Store}
+
+-- a file that isn't there, or that stands below something that is no folder, is no bank
+abbrev pub fault_of_look : ErrorKind → CommandFault
+fault_of_look kind.NotFound = NoBank
+fault_of_look kind.NotADirectory = NoBank
+fault_of_look kind.OutOfMemory = Memory
+fault_of_look _ = Store
+
+-- the fault is one of those
+abbrev pub IsOfLook : CommandFault → Type 0
+IsOfLook NoBank = ⊤
+IsOfLook Memory = ⊤
+IsOfLook Store = ⊤
+IsOfLook _ = ⊥
