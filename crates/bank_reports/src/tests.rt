@@ -1,4 +1,4 @@
-//! An audit that finds damage, an empty one, and a statement, to the byte; and a writer that fails at each byte.
+//! An audit that finds damage and a statement to the byte, and a writer that fails at each byte.
 use crate::{
     Audit, BranchLine, BranchLines, StoredPosting, WriteFault, statement_closing,
     statement_heading, statement_line, statement_names, write_audit,
