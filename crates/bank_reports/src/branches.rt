@@ -46,9 +46,12 @@ impl BranchSums {
 
     /// Adds a branch, and compares it with its tellers.
     pub fn add(&mut self, branch: StoredBranch, sums: &TellerSums)
-        requires room { (tellers : List StoredTeller) × (branches : List StoredBranch) × HasBranches self.old tellers branches × (length branches < LAST_BRANCH) }
-        ensures added { (tellers : List StoredTeller) (branches : List StoredBranch) → HasTellers sums.now tellers
-            → HasBranches self.old tellers branches → HasBranches self.new tellers (branches ++ branch ∷ []) }
+        requires room { (tellers : List StoredTeller) × (branches : List StoredBranch)
+            × HasBranches self.old tellers branches
+            × (length branches < LAST_BRANCH) }
+        ensures added { (tellers : List StoredTeller) (branches : List StoredBranch)
+            → HasTellers sums.now tellers → HasBranches self.old tellers branches
+            → HasBranches self.new tellers (branches ++ branch ∷ []) }
     {
         let tellers = sums.of(branch.branch);
         let line = BranchLine {

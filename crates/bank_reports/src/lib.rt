@@ -30,3 +30,6 @@ pub use statement_text::{
 pub use sum::Sum;
 pub use tellers::TellerSums;
 pub use writing::{WriteFault, write_audit};
+
+#[cfg(test)]
+mod tests;

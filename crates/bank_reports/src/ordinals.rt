@@ -35,10 +35,13 @@ impl OrdinalSums {
 
     /// Adds a request with the posting of its ordinal, if there is one.
     pub fn add_request(&mut self, request: StoredRequest, posting: Option<StoredPosting>)
-        requires room { (requests : List (StoredRequest × Option StoredPosting)) × (history : List (StoredPosting × Option StoredRequest))
+        requires room { (requests : List (StoredRequest × Option StoredPosting))
+            × (history : List (StoredPosting × Option StoredRequest))
             × HasBeside self.old requests history × (length requests < MOST_ROWS) }
-        ensures added { (requests : List (StoredRequest × Option StoredPosting)) (history : List (StoredPosting × Option StoredRequest))
-            → HasBeside self.old requests history → HasBeside self.new (requests ++ (request, posting) ∷ []) history }
+        ensures added { (requests : List (StoredRequest × Option StoredPosting))
+            (history : List (StoredPosting × Option StoredRequest))
+            → HasBeside self.old requests history
+            → HasBeside self.new (requests ++ (request, posting) ∷ []) history }
     {
         let odd = u64::from(!is_matched(&request, posting));
         *self = OrdinalSums {
@@ -50,10 +53,13 @@ impl OrdinalSums {
 
     /// Adds a posting with the request of its ordinal, if there is one.
     pub fn add_posting(&mut self, posting: StoredPosting, request: Option<StoredRequest>)
-        requires room { (requests : List (StoredRequest × Option StoredPosting)) × (history : List (StoredPosting × Option StoredRequest))
+        requires room { (requests : List (StoredRequest × Option StoredPosting))
+            × (history : List (StoredPosting × Option StoredRequest))
             × HasBeside self.old requests history × (length history < MOST_ROWS) }
-        ensures added { (requests : List (StoredRequest × Option StoredPosting)) (history : List (StoredPosting × Option StoredRequest))
-            → HasBeside self.old requests history → HasBeside self.new requests (history ++ (posting, request) ∷ []) }
+        ensures added { (requests : List (StoredRequest × Option StoredPosting))
+            (history : List (StoredPosting × Option StoredRequest))
+            → HasBeside self.old requests history
+            → HasBeside self.new requests (history ++ (posting, request) ∷ []) }
     {
         let alone = u64::from(request.is_none());
         *self = OrdinalSums {

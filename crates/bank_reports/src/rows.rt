@@ -1,5 +1,5 @@
-//! The rows of a bank's tables as a file has them: keys, counts and moments within their ranges, and the other numbers,
-//! whatever they are.
+//! The rows of a bank's tables as a file has them: keys, counts and moments within their ranges, and the other
+//! numbers, whatever they are.
 use crate::limits::{LAST_ACCOUNT, LAST_TELLER};
 use message_records::{Moment, Whole};
 use posting_rules::{ACCOUNTS_PER_BRANCH, LAST_BRANCH, Ordinal};

@@ -38,8 +38,10 @@ impl TellerSums {
 
     /// Adds a teller.
     pub fn add(&mut self, teller: StoredTeller)
-        requires room { (tellers : List StoredTeller) × HasTellers self.old tellers × (length tellers < MOST_ROWS) }
-        ensures added { (tellers : List StoredTeller) → HasTellers self.old tellers → HasTellers self.new (tellers ++ teller ∷ []) }
+        requires room { (tellers : List StoredTeller) × HasTellers self.old tellers
+            × (length tellers < MOST_ROWS) }
+        ensures added { (tellers : List StoredTeller) → HasTellers self.old tellers
+            → HasTellers self.new (tellers ++ teller ∷ []) }
     {
         let place = ((teller.teller.get() - 1) / TELLERS_PER_BRANCH) as usize;
         let sum = self.by_branch[place];
@@ -49,7 +51,8 @@ impl TellerSums {
 
     /// The sum of the tellers of a branch.
     pub fn of(&self, branch: Whole<1, LAST_BRANCH>) -> i128
-        ensures { (tellers : List StoredTeller) → HasTellers self.now tellers → result ≡ teller_sum tellers branch }
+        ensures { (tellers : List StoredTeller) → HasTellers self.now tellers
+            → result ≡ teller_sum tellers branch }
     {
         self.by_branch[(branch.get() - 1) as usize]
     }

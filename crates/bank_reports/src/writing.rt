@@ -62,8 +62,10 @@ fn put_last<W: Sink>(writer: &mut W, text: &str) -> Result<(), WriteFault>
 
 // Writes the lines of branches.
 fn put_branches<W: Sink>(writer: &mut W, lines: &[BranchLine]) -> Result<(), WriteFault>
-    ensures ok { OnOk result (Appends (W.contents writer.old) (W.contents writer.new) (text_of (map branch_line lines.now))) }
-    ensures err { OnErr result (AppendsPart (W.contents writer.old) (W.contents writer.new) (text_of (map branch_line lines.now))) }
+    ensures ok { OnOk result
+        (Appends (W.contents writer.old) (W.contents writer.new) (text_of (map branch_line lines.now))) }
+    ensures err { OnErr result
+        (AppendsPart (W.contents writer.old) (W.contents writer.new) (text_of (map branch_line lines.now))) }
     ensures more { OnOk result (HasMore (W.told writer.old) (W.told writer.new)) }
     ensures failed { OnErr result (HasWriteFailed (W.told writer.old) (W.told writer.new)) }
 {
@@ -86,8 +88,10 @@ fn verdict_text(sound: bool) -> &'static str
 
 /// Writes the text of an audit and flushes. At a fault a beginning of the text was written. It takes no memory.
 pub fn write_audit<W: Sink>(audit: &Audit, writer: &mut W) -> Result<(), WriteFault>
-    ensures ok { OnOk result (Appends (W.contents writer.old) (W.contents writer.new) (audit_text audit.now)) }
-    ensures err { OnErr result (AppendsPart (W.contents writer.old) (W.contents writer.new) (audit_text audit.now)) }
+    ensures ok { OnOk result
+        (Appends (W.contents writer.old) (W.contents writer.new) (audit_text audit.now)) }
+    ensures err { OnErr result
+        (AppendsPart (W.contents writer.old) (W.contents writer.new) (audit_text audit.now)) }
     ensures flushed { OnOk result (EndsWith IsFlush (W.told writer.old) (W.told writer.new)) }
     // The last write or flush failed, or it was asked too often.
     ensures failed { OnErr result (HasWriteFailed (W.told writer.old) (W.told writer.new)) }

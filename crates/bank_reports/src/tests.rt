@@ -1,0 +1,131 @@
+//! An audit that finds damage and a statement to the byte, and a writer that fails at each byte.
+use crate::{
+    Audit, BranchLine, BranchLines, StoredPosting, WriteFault, statement_closing,
+    statement_heading, statement_line, statement_names, write_audit,
+};
+use message_records::{Account, Cents, Moment};
+use posting_rules::Ordinal;
+use std::alloc::{Alloc, Global};
+use std::io;
+use std::io::{ErrorKind, Write};
+use std::process::Abort;
+use std::test::Fail;
+
+const DAMAGE: &[u8] = b"branches                       2
+tellers                       20
+accounts                       5
+requests                       2
+history                        2
+account sum                 -200
+teller sum                  -200
+branch sum                  -200
+history sum                 -200
+unmatched                      0
+branch 1 tellers -300 balance -200
+branch 2 tellers 100 balance 0
+INCONSISTENT
+";
+
+const STATEMENT: &[u8] = b"STATEMENT ACCOUNT 000000000001
+      ordinal       moment   teller branch          delta        balance
+            1         1000        1      1           +500            500
+closing balance                                                      500
+";
+
+// Takes so many bytes, and then fails.
+#[derive(Drop)]
+struct CutWriter {
+    taken: Vec<u8>,
+    most: usize,
+}
+
+impl Write for CutWriter {
+    fn write(&mut self, buf: &[u8]) -> io::Result<usize> {
+        let room = self.most.saturating_sub(self.taken.len());
+        if room == 0 {
+            return Err(io::Error::from(ErrorKind::BrokenPipe));
+        }
+        let count = buf.len().min(room);
+        self.taken.extend_from_slice(&buf[..count])?;
+        Ok(count)
+    }
+
+    fn flush(&mut self) -> io::Result<()> {
+        Ok(())
+    }
+}
+
+// The audit of a bank whose teller 1 somebody set to -300, and teller 11 to 100.
+fn damaged(alloc: Global) -> Result<Audit, Fail> {
+    let first = BranchLine {
+        branch: 1,
+        tellers: -300,
+        balance: -200,
+    };
+    let second = BranchLine {
+        branch: 2,
+        tellers: 100,
+        balance: 0,
+    };
+    Ok(Audit {
+        branches: 2,
+        tellers: 20,
+        accounts: 5,
+        requests: 2,
+        history: 2,
+        account_sum: -200,
+        teller_sum: -200,
+        branch_sum: -200,
+        history_sum: -200,
+        unmatched: 0,
+        lines: BranchLines::new(vec![in alloc; first, second]?),
+    })
+}
+
+#[test]
+fn an_audit_that_finds_damage(rt: HostRuntime) -> Result<(), Fail> {
+    let mut output: Vec<u8> = Vec::new(rt.alloc());
+    let audit = damaged(rt.alloc())?;
+    assert_eq!(rt; write_audit(&audit, &mut output), Ok(()));
+    assert_eq!(rt; output.as_slice(), DAMAGE);
+    assert!(rt; !audit.is_consistent());
+    Ok(())
+}
+
+#[test]
+fn a_writer_that_fails_at_each_byte(rt: HostRuntime) -> Result<(), Fail> {
+    let audit = damaged(rt.alloc())?;
+    for most in 0..DAMAGE.len() {
+        let mut writer = CutWriter {
+            taken: Vec::new(rt.alloc()),
+            most,
+        };
+        assert_eq!(rt; write_audit(&audit, &mut writer), Err(WriteFault));
+        assert!(rt; writer.taken.as_slice() == &DAMAGE[..most]);
+    }
+    Ok(())
+}
+
+#[test]
+fn a_statement(rt: HostRuntime) -> Result<(), Fail> {
+    let balance = Cents::new(500).ok_or("balance")?;
+    let posting = StoredPosting {
+        ordinal: Ordinal::new(1).ok_or("ordinal")?,
+        account: 1,
+        teller: 1,
+        branch: 1,
+        delta: 500,
+        moment: Moment::new(1000).ok_or("moment")?,
+    };
+    let mut text: Vec<u8> = Vec::new(rt.alloc());
+    for line in [
+        statement_heading(Account::new(1).ok_or("account")?),
+        statement_names(),
+        statement_line(&posting, balance),
+        statement_closing(balance),
+    ] {
+        text.extend_from_slice(line.as_str().as_bytes())?;
+    }
+    assert!(rt; text.as_slice() == STATEMENT);
+    Ok(())
+}
