@@ -3,3 +3,4 @@ pub mod Loops
 pub mod Told
 pub mod Rows
 pub mod Whole
+pub mod Together

@@ -5,4 +5,6 @@ mod filling;
 mod writing;
 
 pub use filling::fill;
-pub use writing::{add_postings, add_requests, write_accounts, write_branches, write_tellers};
+pub use writing::{
+    add_postings, add_requests, write, write_accounts, write_branches, write_tellers,
+};

@@ -1,20 +1,22 @@
 //! What a batch has changed is written, each row once.
 ghost use Rattle.std.specs.Prelude.{◌≡◌, [], ◌∷◌, IsSome, IfSome};
 ghost use Rattle.std.specs.List.{AllByRecursion};
+ghost use Rattle.posting_rules.specs.Damage.{IsUndamaged};
 ghost use Rattle.posting_rules.specs.Tables.{row_at, HasKeys, branch_key, teller_key, account_key, history_key, request_key};
-ghost use Rattle.posting_batch.specs.Batch.{PutsFree};
-ghost use Rattle.posting_batch.specs.Overlay.{accounts_over, tellers_over, branches_over, history_put, requests_put};
+ghost use Rattle.posting_batch.specs.Batch.{HasRisingSlots, ChangesRows, AddsRows, PutsFree};
+ghost use Rattle.posting_batch.specs.Overlay.{accounts_over, tellers_over, branches_over, history_put, requests_put, tables_over};
 ghost use Rattle.posting_batch.specs.Slots.{account_slot_key, teller_slot_key, branch_slot_key};
+ghost use Rattle.posting_batch.specs.View.{view};
 ghost use Rattle.bank_transactions.specs.Doing.{Does};
 ghost use Rattle.bank_batches.specs.Writing.{IsNumberOfRow};
 
 use bank_transactions::expect_row;
 use message_records::Branch;
-use posting_batch::{AccountSlot, BranchSlot, TellerSlot};
+use posting_batch::{AccountSlot, BranchSlot, Overlay, TellerSlot};
 use posting_rules::{HistoryRow, RequestRow, Rule};
 use sqlite::{Alter, Transaction};
 use store_rows::{
-    TableFault, add_history, add_request, set_account_balance, set_branch_balance,
+    TableFault, add_history, add_request, set_account_balance, set_branch_balance, set_decided,
     set_teller_balance,
 };
 
@@ -137,4 +139,18 @@ pub fn add_requests<S: Alter>(
         add_request(tx, *row)?;
     }
     Ok(())
+}
+
+/// Writes what a batch has changed, each row once, and how many requests are decided.
+pub fn write<S: Alter>(tx: &mut Transaction<'_, S>, overlay: &Overlay) -> Result<(), TableFault>
+    ensures { Does S.Store tx.old tx.new
+        (λ tables. IsUndamaged tables × HasRisingSlots (view overlay.now) × ChangesRows (view overlay.now) tables × AddsRows (view overlay.now) tables)
+        (λ tables. tables_over (view overlay.now) tables) (λ _. tt) result }
+{
+    write_accounts(tx, &overlay.accounts)?;
+    write_tellers(tx, &overlay.tellers)?;
+    write_branches(tx, &overlay.branches)?;
+    add_postings(tx, &overlay.history)?;
+    add_requests(tx, &overlay.requests)?;
+    expect_row(set_decided(tx, overlay.decided), Rule::Meta)
 }
