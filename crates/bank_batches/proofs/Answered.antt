@@ -1,5 +1,5 @@
 -- A batch that is made of records, filled, judged and written.
-use Rattle.std.proofs.Common.{◌≡◌, ℕ, List, map, Result, Ok, refl, sym, ap, subst, ◌∙◌}
+use Rattle.std.proofs.Common.{◌≡◌, ℕ, List, map, Result, Ok, Err, refl, sym, ap, subst, ◌∙◌}
 use Rattle.sqlite.specs.Held.{state}
 use Rattle.sqlite.specs.declared.transaction.Transaction.{Transaction}
 use Rattle.sqlite_trees.specs.declared.store.Store.{Ghosts}
@@ -20,7 +20,6 @@ use Rattle.store_rows.specs.declared.faults.TableFault.{TableFault}
 use Rattle.bank_transactions.specs.Doing.{Does}
 use Rattle.bank_transactions.proofs.Chained.{does_for}
 use Rattle.bank_batches.proofs.Both.{does_both, does_but}
-use Rattle.std.specs.Prelude.{Err}
 
 -- the same, said in other words where the answer is known
 pub does_so : {S X Y : Type 0} {g : Ghosts S} {old new : Transaction S} {So : Tables → Type 0} {after after' : Tables → Tables}

@@ -1,8 +1,8 @@
 //! A batch is answered: filled, judged and written, and all in one transaction.
-ghost use Rattle.std.specs.Prelude.{◌≡◌, false};
+ghost use Rattle.std.specs.Prelude.{◌≡◌, ℕ, List, length, false, IfOk};
 ghost use Rattle.posting_rules.specs.Changes.{tables_past_all, replies_past_all};
 ghost use Rattle.posting_rules.specs.Sound.{AreOfALog};
-ghost use Rattle.posting_batch.specs.View.{IsMadeOf};
+ghost use Rattle.posting_batch.specs.View.{reads_of, IsMadeOf};
 ghost use Rattle.bank_transactions.specs.Doing.{Does, Transacts};
 ghost use Rattle.bank_batches.specs.Batches.{items_of};
 
@@ -18,12 +18,12 @@ use store_rows::{TableFault, commit};
 pub fn answer_batch<S: Alter>(
     tx: &mut Transaction<'_, S>,
     moment: Moment,
-    records: &[[u8; 100]],
     mut batch: Batch,
 ) -> Result<Vec<[u8; 200]>, TableFault>
-    requires { IsMadeOf batch records.now }
-    ensures { Does S.Store tx.old tx.new AreOfALog (λ tables. tables_past_all tables moment records.now)
-        (λ tables. replies_past_all tables moment records.now) (items_of result) }
+    ensures says { (records : List (List ℕ)) → IsMadeOf batch records
+        → Does S.Store tx.old tx.new AreOfALog (λ tables. tables_past_all tables moment records)
+        (λ tables. replies_past_all tables moment records) (items_of result) }
+    ensures count { IfOk result (λ replies. length replies.items ≡ length (reads_of batch)) }
 {
     fill(tx, &mut batch)?;
     let before = batch.overlay.decided;
@@ -38,16 +38,16 @@ pub fn answer_batch<S: Alter>(
 pub fn post_all<S: Alter>(
     conn: &mut Connection<S>,
     moment: Moment,
-    records: &[[u8; 100]],
     batch: Batch,
 ) -> Result<Vec<[u8; 200]>, TableFault>
-    requires mode { conn.old.in_transaction ≡ false }
-    requires made { IsMadeOf batch records.now }
-    ensures { Transacts S.Store conn.old conn.new AreOfALog (λ tables. tables_past_all tables moment records.now)
-        (λ tables. replies_past_all tables moment records.now) (items_of result) }
+    requires { conn.old.in_transaction ≡ false }
+    ensures says { (records : List (List ℕ)) → IsMadeOf batch records
+        → Transacts S.Store conn.old conn.new AreOfALog (λ tables. tables_past_all tables moment records)
+        (λ tables. replies_past_all tables moment records) (items_of result) }
+    ensures count { IfOk result (λ replies. length replies.items ≡ length (reads_of batch)) }
 {
     let mut tx = begin(conn);
-    let replies = answer_batch(&mut tx, moment, records, batch)?;
+    let replies = answer_batch(&mut tx, moment, batch)?;
     commit(tx)?;
     Ok(replies)
 }

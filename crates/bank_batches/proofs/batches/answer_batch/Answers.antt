@@ -6,14 +6,13 @@ use Rattle.bank_batches.proofs.Answered.{Judges, ready, answered_idle, answered_
 use Rattle.bank_batches.proofs.batches.answer_batch.Goals.{then-overlay-before+in_ok-write, else-overlay-before}
 use Rattle.bank_batches.proofs.batches.answer_batch.Goals as goal
 
-pub returns-in_err-fill : goal.returns-in_err-fill
-returns-in_err-fill g c =
+pub returns-in_err-fill-clause-says : goal.returns-in_err-fill-clause-says
+returns-in_err-fill-clause-says g c records made =
     let same : c.from_residual.result ≡ Err c.in_err-fill.field-0.0 = search rules in
-    rw same (does_err c.in_err-fill.ensures.says (ready c.args.batch c.args.records.now c.requires))
+    rw same (does_err c.in_err-fill.ensures.says (ready c.args.batch records made))
 
-pub returns-in_err-write : goal.returns-in_err-write
-returns-in_err-write g c =
-    let records = c.args.records.now in
+pub returns-in_err-write-clause-says : goal.returns-in_err-write-clause-says
+returns-in_err-write-clause-says g c records made =
     let judged = c.judge-overlay.ensures in
     let o = view c.judge-overlay.result.overlay in
     let items = c.judge-overlay.result.replies.items in
@@ -26,12 +25,11 @@ returns-in_err-write g c =
       idle = judged.idle;
     } in
     let same : c.from_residual-in_err-write.result ≡ Err c.in_err-write.field-0.0 = search rules in
-    rw same (answered_not {g = g.S.Store} c.args.batch c.fill.new.batch records c.args.moment o items c.requires c.in_ok-fill.ensures.reads judges
+    rw same (answered_not {g = g.S.Store} c.args.batch c.fill.new.batch records c.args.moment o items made c.in_ok-fill.ensures.reads judges
     c.in_ok-fill.ensures.says c.in_err-write.ensures)
 
-pub returns : goal.returns
-returns g c =
-    let records = c.args.records.now in
+pub returns-clause-says : goal.returns-clause-says
+returns-clause-says g c records made =
     let judged = c.judge-overlay.ensures in
     let o = view c.judge-overlay.result.overlay in
     let items = c.judge-overlay.result.replies.items in
@@ -45,9 +43,9 @@ returns g c =
     } in
     elim c.if-overlay-before.branch [
       | then-overlay-before+in_ok-write w ↦
-          rw w.tx-is (answered_written {g = g.S.Store} c.args.batch c.fill.new.batch records c.args.moment o items c.requires c.in_ok-fill.ensures.reads judges
+          rw w.tx-is (answered_written {g = g.S.Store} c.args.batch c.fill.new.batch records c.args.moment o items made c.in_ok-fill.ensures.reads judges
           c.in_ok-fill.ensures.says w.in_ok-write.ensures)
       | else-overlay-before w ↦
-          rw w.tx-is (answered_idle {g = g.S.Store} c.args.batch c.fill.new.batch records c.args.moment o items c.requires c.in_ok-fill.ensures.reads judges
+          rw w.tx-is (answered_idle {g = g.S.Store} c.args.batch c.fill.new.batch records c.args.moment o items made c.in_ok-fill.ensures.reads judges
           c.in_ok-fill.ensures.says (omega (arith, w.if-overlay-before.false)))
     ]
