@@ -4,3 +4,4 @@ pub mod Told
 pub mod Rows
 pub mod Whole
 pub mod Together
+pub mod Answered

@@ -1,3 +1,4 @@
 -- A batch of records in one transaction.
 pub mod Filling
 pub mod Writing
+pub mod Batches

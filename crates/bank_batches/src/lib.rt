@@ -1,9 +1,11 @@
 //! A batch of records in one transaction: each row that its records touch is read once, each row that they change is written once.
 #![tactic(auto)]
 
+mod batches;
 mod filling;
 mod writing;
 
+pub use batches::{answer_batch, post_all};
 pub use filling::fill;
 pub use writing::{
     add_postings, add_requests, write, write_accounts, write_branches, write_tellers,

@@ -1,0 +1,99 @@
+-- A batch that is made of records, filled, judged and written.
+use Rattle.std.proofs.Common.{◌≡◌, ℕ, List, map, Result, Ok, Err, refl, sym, ap, subst, ◌∙◌}
+use Rattle.sqlite.specs.Held.{state}
+use Rattle.sqlite.specs.declared.transaction.Transaction.{Transaction}
+use Rattle.sqlite_trees.specs.declared.store.Store.{Ghosts}
+use Rattle.message_records.specs.Reading.{request_of}
+use Rattle.posting_rules.specs.Changes.{tables_past_all, replies_past_all}
+use Rattle.posting_rules.specs.Commands.{Command}
+use Rattle.posting_rules.specs.Damage.{IsUndamaged}
+use Rattle.posting_rules.specs.Sound.{AreOfALog}
+use Rattle.posting_rules.specs.Tables.{Tables, Shows}
+use Rattle.posting_rules.proofs.Undamaged.{undamaged}
+use Rattle.posting_batch.specs.declared.batch.Batch.{Batch}
+use Rattle.posting_batch.specs.Batch.{HasHomes, HasRisingSlots, ChangesRows, AddsRows, filled}
+use Rattle.posting_batch.specs.Overlay.{Overlay, tables_over}
+use Rattle.posting_batch.specs.View.{view, reads_of, IsMadeOf, IsFilledFrom}
+use Rattle.posting_batch.proofs.Covered.{stands, homes_all}
+use Rattle.store_rows.specs.View as stored
+use Rattle.store_rows.specs.declared.faults.TableFault.{TableFault}
+use Rattle.bank_transactions.specs.Doing.{Does}
+use Rattle.bank_transactions.proofs.Chained.{does_for}
+use Rattle.bank_batches.proofs.Both.{does_both, does_but}
+
+-- the same, said in other words where the answer is known
+pub does_so : {S X Y : Type 0} {g : Ghosts S} {old new : Transaction S} {So : Tables → Type 0} {after after' : Tables → Tables}
+    {w : Tables → X} {w' : Tables → Y} {x : X} {y : Y} → Does g old new So after w (Ok x)
+    → ((t : Tables) → So t → x ≡ w t → (after t ≡ after' t) × (y ≡ w' t)) → Does g old new So after' w' (Ok y)
+does_so {S} {X} {Y} {g} {old} {new} part same = record {
+  says = record {
+    same_reference = part.says.same_reference;
+    told = λ clean live t shows so.
+        let it = part.says.told clean live t shows so in
+        let is = same t so it.0 in
+        (is.1, subst (λ (u : Tables). stored.Shows (state g new.conn.now).now u) is.0 it.1);
+    kept = part.says.kept;
+    survives = part.says.survives;
+  };
+}
+
+-- what judging a filled batch comes to
+pub record Judges (b : Batch) (m : ℕ) (records : List (List ℕ)) (o : Overlay) (items : List (List ℕ)) : Type 0 where
+  pub tables : (t : Tables) → IsFilledFrom b t records → tables_over o t ≡ tables_past_all t m records
+  pub replies : (t : Tables) → IsFilledFrom b t records → items ≡ replies_past_all t m records
+  pub changes : (t : Tables) → IsFilledFrom b t records → ChangesRows o t
+  pub rising : HasRisingSlots (view b.overlay) → HasRisingSlots o
+  pub adds : (t : Tables) → IsFilledFrom b t records → (log : List Command) → Shows t log → AddsRows o t
+  pub idle : o.decided ≡ b.overlay.decided → o ≡ view b.overlay
+
+abbrev pub Ready : Overlay → Tables → Type 0
+Ready o t = IsUndamaged t × HasHomes o
+
+abbrev pub Written : Overlay → Tables → Type 0
+Written o t = IsUndamaged t × HasRisingSlots o × ChangesRows o t × AddsRows o t
+
+sound : (t : Tables) → AreOfALog t → IsUndamaged t
+sound t it = undamaged t it.0 it.1 it.2
+
+pub ready : (b : Batch) (records : List (List ℕ)) → IsMadeOf b records → (t : Tables) → AreOfALog t → Ready (view b.overlay) t
+ready b records made t it = (sound t it, subst HasHomes (sym made.overlay) (homes_all (map request_of records)))
+
+module _ {S : Type 0} {g : Ghosts S} {old mid : Transaction S} (b b' : Batch) (records : List (List ℕ)) (m : ℕ) (o : Overlay) (items : List (List ℕ))
+    (made : IsMadeOf b records) (same : reads_of b' ≡ reads_of b) (judges : Judges b' m records o items)
+    (first : Does g old mid (Ready (view b.overlay)) (λ t. t) (λ t. filled t (view b.overlay)) (Ok (view b'.overlay))) where
+  is_filled : (t : Tables) → view b'.overlay ≡ filled t (view b.overlay) → IsFilledFrom b' t records
+  is_filled t e = record {
+    reads = same ∙ made.reads;
+    overlay = e ∙ ap (λ (p : Overlay). filled t p) made.overlay;
+  }
+
+  filled_so : Does g old mid AreOfALog (λ t. t) (λ t. filled t (view b.overlay)) (Ok (view b'.overlay))
+  filled_so = does_for first (λ t it. (ready b records made t it, refl, refl))
+
+  may_write : (t : Tables) → AreOfALog t → view b'.overlay ≡ filled t (view b.overlay) → Written o t
+  may_write t it e =
+      let is = is_filled t e in
+      let it_stands = stands t (map request_of records) in
+      (sound t it, judges.rising (subst HasRisingSlots (sym is.overlay) it_stands.rising), judges.changes t is, judges.adds t is it.0 it.2)
+
+  -- nothing is decided: nothing is written, and the tables are as they were
+  pub answered_idle : o.decided ≡ b'.overlay.decided → Does g old mid AreOfALog (λ t. tables_past_all t m records) (λ t. replies_past_all t m records) (Ok items)
+  answered_idle none = does_so filled_so (λ t it e.
+      let is = is_filled t e in
+      let kept : tables_over o t ≡ t = ap (λ (p : Overlay). tables_over p t) (judges.idle none ∙ is.overlay) ∙ (stands t (map request_of records)).same in
+      (sym kept ∙ judges.tables t is, judges.replies t is))
+
+  abbrev Knows : Tables → Type 0
+  Knows t = AreOfALog t × (view b'.overlay ≡ filled t (view b.overlay))
+
+  written_so : {new : Transaction S} {r : Result (Unit {0}) TableFault} → Does {X = Unit {0}} g mid new (Written o) (λ t. tables_over o t) (λ _. tt {0}) r
+      → Does {X = Unit {0}} g mid new Knows (λ t. tables_past_all t m records) (λ _. tt {0}) r
+  written_so second = does_for second (λ t so. (may_write t so.0 so.1, judges.tables t (is_filled t so.1), refl))
+
+  pub answered_written : {new : Transaction S} → Does {X = Unit {0}} g mid new (Written o) (λ t. tables_over o t) (λ _. tt {0}) (Ok (tt {0}))
+      → Does g old new AreOfALog (λ t. tables_past_all t m records) (λ t. replies_past_all t m records) (Ok items)
+  answered_written second = does_both filled_so (written_so second) (λ t it e. (it, e)) (λ t it e f. judges.replies t (is_filled t e))
+
+  pub answered_not : {new : Transaction S} {e : TableFault} → Does {X = Unit {0}} g mid new (Written o) (λ t. tables_over o t) (λ _. tt {0}) (Err e)
+      → Does {X = List (List ℕ)} g old new AreOfALog (λ t. tables_past_all t m records) (λ t. replies_past_all t m records) (Err e)
+  answered_not second = does_but filled_so (written_so second) (λ t it e. (it, e))

@@ -1,0 +1,53 @@
+//! A batch is answered: filled, judged and written, and all in one transaction.
+ghost use Rattle.std.specs.Prelude.{◌≡◌, ℕ, List, length, false, IfOk};
+ghost use Rattle.posting_rules.specs.Changes.{tables_past_all, replies_past_all};
+ghost use Rattle.posting_rules.specs.Sound.{AreOfALog};
+ghost use Rattle.posting_batch.specs.View.{reads_of, IsMadeOf};
+ghost use Rattle.bank_transactions.specs.Doing.{Does, Transacts};
+ghost use Rattle.bank_batches.specs.Batches.{items_of};
+
+use crate::filling::fill;
+use crate::writing::write;
+use bank_transactions::begin;
+use message_records::Moment;
+use posting_batch::{Batch, Judged};
+use sqlite::{Alter, Connection, Transaction};
+use store_rows::{TableFault, commit};
+
+/// Answers the records that a batch is made of, in order. A batch in which nothing is decided writes nothing.
+pub fn answer_batch<S: Alter>(
+    tx: &mut Transaction<'_, S>,
+    moment: Moment,
+    mut batch: Batch,
+) -> Result<Vec<[u8; 200]>, TableFault>
+    ensures says { (records : List (List ℕ)) → IsMadeOf batch records
+        → Does S.Store tx.old tx.new AreOfALog (λ tables. tables_past_all tables moment records)
+        (λ tables. replies_past_all tables moment records) (items_of result) }
+    ensures count { IfOk result (λ replies. length replies.items ≡ length (reads_of batch)) }
+{
+    fill(tx, &mut batch)?;
+    let before = batch.overlay.decided;
+    let Judged { overlay, replies } = batch.judge(moment);
+    if overlay.decided != before {
+        write(tx, &overlay)?;
+    }
+    Ok(replies)
+}
+
+/// Answers the records that a batch is made of, in order. They stand together or not at all.
+pub fn post_all<S: Alter>(
+    conn: &mut Connection<S>,
+    moment: Moment,
+    batch: Batch,
+) -> Result<Vec<[u8; 200]>, TableFault>
+    requires { conn.old.in_transaction ≡ false }
+    ensures says { (records : List (List ℕ)) → IsMadeOf batch records
+        → Transacts S.Store conn.old conn.new AreOfALog (λ tables. tables_past_all tables moment records)
+        (λ tables. replies_past_all tables moment records) (items_of result) }
+    ensures count { IfOk result (λ replies. length replies.items ≡ length (reads_of batch)) }
+{
+    let mut tx = begin(conn);
+    let replies = answer_batch(&mut tx, moment, batch)?;
+    commit(tx)?;
+    Ok(replies)
+}
