@@ -1,5 +1,5 @@
 -- What a step of a walk gives, of what was read ahead.
-use Rattle.std.proofs.Common.{◌≡◌, ◌≤◌, ◌<◌, ◌+◌, ℕ, ℤ, zero, suc, List, [], ◌∷◌, ◌++◌, map, drop, length, slice_get, Some, None, Option, Ok, Err, refl, sym, ap, subst, ◌∙◌, arith}
+use Rattle.std.proofs.Common.{◌≡◌, ◌≤◌, ◌+◌, ℕ, ℤ, zero, suc, List, [], ◌∷◌, ◌++◌, map, drop, length, slice_get, Some, None, Option, refl, sym, ap, ◌∙◌, arith}
 use Rattle.posting_rules.specs.declared.fault.Fault.{Fault}
 use Rattle.sql_meanings.specs.Entries.{Entry}
 use Rattle.store_rows.specs.declared.faults.TableFault.{TableFault}
@@ -7,7 +7,7 @@ use Rattle.store_rows.specs.declared.faults.TableFault.TheVariants.{Sqlite, Dama
 use Rattle.bank_walks.specs.Outcomes.{BreaksFirst}
 use Rattle.bank_walks.specs.Rows.{rows_behind, rows_from}
 use Rattle.bank_store.specs.Walks.{Tells}
-use Rattle.bank_store.specs.Walking.{IsTold, Steps, coming}
+use Rattle.bank_store.specs.Walking.{IsTold, coming}
 use Rattle.bank_store.specs.declared.walks.Stage.{Stage}
 use Rattle.bank_store.specs.declared.walks.Stage.TheVariants.{Going}
 

@@ -14,11 +14,13 @@ ghost use Rattle.posting_rules.specs.Tables.{Tables};
 
 use crate::walks::read_outside;
 use arrayvec::ArrayVec;
-use bank_transactions::{open_branch, post, post_all, read_balance, read_next_branch};
+use bank_batches::post_all;
+use bank_transactions::{open_branch, post, read_balance, read_next_branch};
 use bank_walks::{AHEAD, WalkedRow};
 use message_records::{
     Account, Branch, Cents, Moment, Outcome, Reply, decode_request, encode_reply,
 };
+use posting_batch::Batch;
 use posting_rules::{
     BranchLine, Counter, Fault, LAST_BRANCH, MOST_ACCOUNTS, Opening, RECORDS_PER_BATCH,
 };
@@ -176,7 +178,8 @@ impl<S: Alter + Drop> Counter for Bank<S> {
         }
     }
 
-    // Room is made for the replies before the store is asked for anything. The records stand together or not at all.
+    // All room is made before the store is asked for anything. Each row that the records touch is read once, and each that
+    // they change is written once; they stand together or not at all.
     fn submit_all(&mut self, moment: Moment, records: &[[u8; 100]]) -> Result<Vec<[u8; 200]>, Fault>
         requires some { 1 ≤ length records.now }
         requires few { length records.now ≤ RECORDS_PER_BATCH }
@@ -198,10 +201,9 @@ impl<S: Alter + Drop> Counter for Bank<S> {
         if self.fault.is_some() {
             return Err(Fault::Down);
         }
-        let mut replies = Vec::new(self.alloc);
-        replies.reserve(records.len())?;
-        match post_all(&mut self.conn, moment, records, &mut replies) {
-            Ok(()) => Ok(replies),
+        let batch = Batch::new(self.alloc, records)?;
+        match post_all(&mut self.conn, moment, batch) {
+            Ok(replies) => Ok(replies),
             Err(fault) => Err(self.go_down(fault)),
         }
     }

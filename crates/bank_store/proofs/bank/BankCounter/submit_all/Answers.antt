@@ -1,7 +1,6 @@
 -- What records come to.
-use Rattle.std.proofs.Common.{List, ℕ, ◌++◌, rules, arith, ap, ◌∙◌}
+use Rattle.std.proofs.Common.{rules, arith, ◌∙◌}
 use Rattle.std.specs.Prelude.{IsSome}
-use Rattle.posting_rules.specs.Changes.{replies_past_all}
 use Rattle.posting_rules.specs.Commands.{AreCommands}
 use Rattle.posting_rules.specs.Runs.{posts}
 use Rattle.posting_rules.specs.Sound.{AreOfALog}
@@ -14,9 +13,10 @@ of_logs t log are shows = (log, are, shows)
 
 pub returns-in-Ok-clause-replies : goal.returns-in-Ok-clause-replies
 returns-in-Ok-clause-replies g c clean log s =
-    c.in-Ok.ensures.replies clean s.tables s.are (of_logs s.tables log s.commands s.shows)
-    ∙ ap (λ (items : List (List ℕ)). items ++ replies_past_all s.tables c.args.moment c.args.records.now) (c.in_ok-reserve.ensures.items ∙ c.new-replies.ensures.items)
-    ∙ all_replies s.tables log c.args.moment c.args.records.now s.shows
+    let rs = c.args.records.now in
+    let says = c.in-Ok.ensures.says rs c.in_ok-batch.ensures.made in
+    (says.told clean s.tables s.are (of_logs s.tables log s.commands s.shows)).0
+    ∙ all_replies s.tables log c.args.moment rs s.shows
 
 pub returns-in-Ok-clause-done : goal.returns-in-Ok-clause-done
 returns-in-Ok-clause-done g c =
@@ -24,7 +24,7 @@ returns-in-Ok-clause-done g c =
     let rs = c.args.records.now in
     let are : AreCommands (posts m rs) = are_posts m rs (omega (arith, c.get-seconds.ensures.value, c.get-seconds.ensures.most)) c.told-records in
     let Down = IsSome c.args.self.now.fault in
-    takes of_logs (posts m rs) (posts_all m rs) are Down Down (search rules) c.in-Ok.ensures.says
+    takes of_logs (posts m rs) (posts_all m rs) are Down Down (search rules) (c.in-Ok.ensures.says rs c.in_ok-batch.ensures.made)
 
 pub returns-in-Err-clause-fault : goal.returns-in-Err-clause-fault
 returns-in-Err-clause-fault g c =
@@ -32,23 +32,24 @@ returns-in-Err-clause-fault g c =
     let rs = c.args.records.now in
     refuses g.S.Store c.args.self.now.conn c.post_all.new.conn c.go_down.new.self.conn of_logs (posts m rs) (posts_all m rs)
     (IsSome c.args.self.now.fault)
-    c.in-Err.fault c.go_down.new.self.fault c.go_down.result c.in-Err.ensures.says c.go_down.ensures.down c.go_down.ensures.survives
+    c.in-Err.fault c.go_down.new.self.fault c.go_down.result (c.in-Err.ensures.says rs c.in_ok-batch.ensures.made) c.go_down.ensures.down c.go_down.ensures.survives
 
 pub returns-in-Ok-clause-none_or_all : goal.returns-in-Ok-clause-none_or_all
 returns-in-Ok-clause-none_or_all g c =
     let m = c.args.moment in
     let rs = c.args.records.now in
     let Down = IsSome c.args.self.now.fault in
-    none_or_all of_logs (posts m rs) (posts_all m rs) c.in-Ok.ensures.says _ Down Down c.in-Ok.ensures.says.stop
+    none_or_all of_logs (posts m rs) (posts_all m rs) (c.in-Ok.ensures.says rs c.in_ok-batch.ensures.made) _ Down Down (c.in-Ok.ensures.says rs c.in_ok-batch.ensures.made).stop
 
 pub returns-in-Err-clause-none_or_all : goal.returns-in-Err-clause-none_or_all
 returns-in-Err-clause-none_or_all g c =
     let m = c.args.moment in
     let rs = c.args.records.now in
     none_or_all_down g.S.Store c.args.self.now.conn c.post_all.new.conn c.go_down.new.self.conn _ of_logs (posts m rs) (posts_all m rs)
-    (IsSome c.args.self.now.fault) (IsSome c.go_down.new.self.fault) c.in-Err.ensures.says c.go_down.ensures.survives
+    (IsSome c.args.self.now.fault) (IsSome c.go_down.new.self.fault) (c.in-Err.ensures.says rs c.in_ok-batch.ensures.made) c.go_down.ensures.survives
 
 pub returns-in-Err-clause-kept : goal.returns-in-Err-clause-kept
 returns-in-Err-clause-kept g c damage clean =
+    let rs = c.args.records.now in
     keeps_file g.S.Store c.args.self.now.conn c.post_all.new.conn c.go_down.new.self.conn c.in-Err.fault c.go_down.new.self.fault c.go_down.result
-    c.in-Err.ensures.says c.go_down.ensures.down c.go_down.ensures.survives damage clean
+    (c.in-Err.ensures.says rs c.in_ok-batch.ensures.made) c.go_down.ensures.down c.go_down.ensures.survives damage clean

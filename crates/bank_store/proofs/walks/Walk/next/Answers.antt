@@ -1,5 +1,5 @@
 -- What a step gives.
-use Rattle.std.proofs.Common.{◌≡◌, ◌<◌, filter, refl, sym, ◌∙◌, rules, arith}
+use Rattle.std.proofs.Common.{filter, refl, sym, ◌∙◌}
 use Rattle.bank_walks.specs.Rows.{rows_behind}
 use Rattle.bank_store.proofs.WalkSteps.{gives_next, none_to_come}
 use Rattle.bank_store.proofs.walks.Walk.next.Goals as goal

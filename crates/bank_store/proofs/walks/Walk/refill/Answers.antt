@@ -1,5 +1,5 @@
 -- What is read ahead is what was to come.
-use Rattle.std.proofs.Common.{◌≡◌, ◌≤◌, length, filter, refl, sym, subst, rules, arith, w64, to_z, of_z}
+use Rattle.std.proofs.Common.{◌≡◌, ◌≤◌, length, filter, subst, rules, arith, w64, to_z, of_z}
 use Rattle.std.proofs.lemmas.Int.{to_z-of_z}
 use Rattle.bank_walks.specs.Outcomes.{BreaksFirst}
 use Rattle.bank_store.proofs.WalkSteps.{from_rest, refilled, told_of}
