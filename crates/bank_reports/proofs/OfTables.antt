@@ -1,6 +1,6 @@
 -- The same of tables of a bank.
 use Rattle.std.proofs.Common.{◌≡◌, ℕ, pos, Bool, true, eqb, List, [], ◌∷◌, map, filter, Option, Some, None, refl, sym, ap, subst, ◌∙◌, inl, inr, arith}
-use Rattle.std.specs.Prelude.{ℤ, nat_eq, option_map}
+use Rattle.std.specs.Prelude.{ℤ, ◌&&◌, nat_eq, nat_le, option_map}
 use Rattle.std.specs.List.{AllByRecursion, IsDistinct}
 use Rattle.std.specs.Ordering.{int_eq}
 use Rattle.std.proofs.lemmas.Bool.{cases_Bool}
@@ -36,9 +36,9 @@ under : {X Y : Type 0} (f : X → Y) (v : Y → ℕ) (w : X → ℕ) → ((x : X
 under f v w same [] o = refl
 under f v w same (x ∷ xs) o = rw (same x) (elim (cases_Bool (eqb (w x) o)) [ inl t ↦ rw t refl | inr g ↦ rw g (under f v w same xs o) ])
 
-tellers_kept : (b : ℕ) (rows : List TellerRow) → filter (λ r. nat_eq (branch_of_teller r.teller) b) (map teller_stored rows) ≡ map teller_stored (tellers_of b rows)
+tellers_kept : (b : ℕ) (rows : List TellerRow) → filter (λ r. nat_le 1 r.teller && nat_eq (branch_of_teller r.teller) b) (map teller_stored rows) ≡ map teller_stored (tellers_of b rows)
 tellers_kept b [] = refl
-tellers_kept b (r ∷ rows) = elim (cases_Bool (nat_eq (branch_of_teller r.teller) b)) [ inl t ↦ rw t (ap (λ l. teller_stored r ∷ l) (tellers_kept b rows)) | inr f ↦ rw f (tellers_kept b rows) ]
+tellers_kept b (r ∷ rows) = elim (cases_Bool (nat_le 1 r.teller && nat_eq (branch_of_teller r.teller) b)) [ inl t ↦ rw t (ap (λ l. teller_stored r ∷ l) (tellers_kept b rows)) | inr f ↦ rw f (tellers_kept b rows) ]
 
 sum_is : (b : ℕ) (rows : List TellerRow) → teller_sum (map teller_stored rows) b ≡ total (map balance_of_teller (tellers_of b rows))
 sum_is b rows = ap (λ l. total (map teller_balance l)) (tellers_kept b rows) ∙ ap total (values teller_stored teller_balance balance_of_teller (λ x. refl) (tellers_of b rows))

@@ -1,6 +1,6 @@
 -- One more row.
 use Rattle.std.proofs.Common.{◌≡◌, ◌≤◌, ◌<◌, ◌+◌, ◌-◌, ◌/◌, ◌*◌, ℕ, zero, suc, replicate, Bool, true, false, not, List, [], ◌∷◌, ◌++◌, map, filter, length, take, set, get_or, refl, sym, ap, subst, ◌∙◌, inl, inr, arith, append-nil, w64, to_z, of_z, FitsSigned}
-use Rattle.std.specs.Prelude.{ℤ, pos, ◌+ℤ◌, nat_eq, nat_abs}
+use Rattle.std.specs.Prelude.{ℤ, ◌&&◌, pos, ◌+ℤ◌, nat_eq, nat_le, nat_abs}
 use Rattle.std.specs.Prelude.{Option, is_some}
 use Rattle.std.specs.Ordering.{int_eq}
 use Rattle.std.specs.Int.{w128}
@@ -11,7 +11,7 @@ use Rattle.bank_reports.specs.Beside.{is_alone}
 use Rattle.bank_reports.proofs.Lists.{same_int, int_same}
 use Rattle.std.proofs.Math.IntN.{+ℤ_assoc}
 use Rattle.std.proofs.lemmas.Int.{ints, to_z-of_z}
-use Rattle.std.proofs.lemmas.Bool.{cases_Bool, eqb-true}
+use Rattle.std.proofs.lemmas.Bool.{cases_Bool, eqb-true, le-leb}
 use Rattle.std.proofs.lemmas.Bool.Decides.{nat_tests}
 use Rattle.std.proofs.lemmas.List.{length-append, map-append, get_or-set_other, get_or-set_same, set-get_or, take_more_set}
 use Rattle.std.proofs.lemmas.Grind.{get_or-set_at}
@@ -57,15 +57,15 @@ filter_skips p xs x f = ap length (filter-append p xs (x ∷ [])) ∙ rw f (ap l
 
 -- ---- tellers
 
-pub teller_here : (ts : List StoredTeller) (t : StoredTeller) (b : ℕ) → nat_eq (branch_of_teller t.teller) b ≡ true → teller_sum (ts ++ t ∷ []) b ≡ teller_sum ts b +ℤ t.balance
+pub teller_here : (ts : List StoredTeller) (t : StoredTeller) (b : ℕ) → (nat_le 1 t.teller && nat_eq (branch_of_teller t.teller) b) ≡ true → teller_sum (ts ++ t ∷ []) b ≡ teller_sum ts b +ℤ t.balance
 teller_here ts t b is =
-    let p : StoredTeller → Bool = λ r. nat_eq (branch_of_teller r.teller) b in
+    let p : StoredTeller → Bool = λ r. nat_le 1 r.teller && nat_eq (branch_of_teller r.teller) b in
     ap (λ (l : List StoredTeller). total (map teller_balance l)) (filter-append p ts (t ∷ [])) ∙ rw is
     (ap total (map-append teller_balance (filter p ts) (t ∷ [])) ∙ total-snoc (map teller_balance (filter p ts)) t.balance)
 
-pub teller_elsewhere : (ts : List StoredTeller) (t : StoredTeller) (b : ℕ) → nat_eq (branch_of_teller t.teller) b ≡ false → teller_sum (ts ++ t ∷ []) b ≡ teller_sum ts b
+pub teller_elsewhere : (ts : List StoredTeller) (t : StoredTeller) (b : ℕ) → (nat_le 1 t.teller && nat_eq (branch_of_teller t.teller) b) ≡ false → teller_sum (ts ++ t ∷ []) b ≡ teller_sum ts b
 teller_elsewhere ts t b is =
-    let p : StoredTeller → Bool = λ r. nat_eq (branch_of_teller r.teller) b in
+    let p : StoredTeller → Bool = λ r. nat_le 1 r.teller && nat_eq (branch_of_teller r.teller) b in
     ap (λ (l : List StoredTeller). total (map teller_balance l)) (filter-append p ts (t ∷ [])) ∙ rw is (ap (λ (l : List StoredTeller). total (map teller_balance l)) (append-nil (filter p ts)))
 
 -- ---- branches
@@ -126,17 +126,17 @@ small_after sums p count count' x b small is fit more low i = elim (cases_Bool (
 away : (p b : ℕ) → 1 ≤ b → nat_eq (p + 1) b ≡ false → b - 1 ≡ p → ⊥
 away p b some h same = grind (arith, nat_tests)
 
-pub branches_after : (sums : List ℤ) (ts : List StoredTeller) (t : StoredTeller) (p : ℕ) (x : ℤ) → p ≡ (t.teller - 1) / 10 → p < length sums → x ≡ get_or sums p (pos 0) +ℤ t.balance
+pub branches_after : (sums : List ℤ) (ts : List StoredTeller) (t : StoredTeller) (p : ℕ) (x : ℤ) → 1 ≤ t.teller → p ≡ (t.teller - 1) / 10 → p < length sums → x ≡ get_or sums p (pos 0) +ℤ t.balance
     → ((b : ℕ) → 1 ≤ b → b ≤ 9999 → get_or sums (b - 1) (pos 0) ≡ teller_sum ts b)
     → (b : ℕ) → 1 ≤ b → b ≤ 9999 → get_or (set sums p x) (b - 1) (pos 0) ≡ teller_sum (ts ++ t ∷ []) b
-branches_after sums ts t p x place low is h b some few = elim (cases_Bool (nat_eq ((t.teller - 1) / 10 + 1) b)) [
+branches_after sums ts t p x one place low is h b some few = elim (cases_Bool (nat_eq ((t.teller - 1) / 10 + 1) b)) [
   | inl e ↦
       let same : (t.teller - 1) / 10 + 1 ≡ b = eqb-true ((t.teller - 1) / 10 + 1) b e in
       let at : b - 1 ≡ p = omega (arith, same, place) in
       get_or-set_at sums p (b - 1) x (pos 0) at low ∙ is
-      ∙ ap (λ (z : ℤ). z +ℤ t.balance) (ap (λ (i : ℕ). get_or sums i (pos 0)) (sym at) ∙ h b some few) ∙ sym (teller_here ts t b e)
+      ∙ ap (λ (z : ℤ). z +ℤ t.balance) (ap (λ (i : ℕ). get_or sums i (pos 0)) (sym at) ∙ h b some few) ∙ sym (teller_here ts t b (rw (le-leb 1 t.teller one, e) refl))
   | inr e ↦
-      get_or-set_other sums p (b - 1) x (pos 0) (λ same. away ((t.teller - 1) / 10) b some e (same ∙ place)) ∙ h b some few ∙ sym (teller_elsewhere ts t b e)
+      get_or-set_other sums p (b - 1) x (pos 0) (λ same. away ((t.teller - 1) / 10) b some e (same ∙ place)) ∙ h b some few ∙ sym (teller_elsewhere ts t b (rw (le-leb 1 t.teller one, e) refl))
 ]
 
 -- ---- the line of a branch

@@ -1,5 +1,5 @@
 -- The ten numbers and the branch lines of an audit, and whether they are those of consistent tables.
-use Rattle.std.specs.Prelude.{ℕ, ℤ, pos, Bool, true, false, not, ◌&&◌, ◌==◌, List, ◌++◌, length, map, filter, Option, Some, None, is_some}
+use Rattle.std.specs.Prelude.{ℕ, ℤ, pos, nat_le, Bool, true, false, not, ◌&&◌, ◌==◌, List, ◌++◌, length, map, filter, Option, Some, None, is_some}
 use Rattle.std.specs.Ordering.{int_eq}
 use Rattle.posting_rules.specs.Commands.{branch_of_teller}
 use Rattle.posting_rules.specs.Laws.{total}
@@ -35,7 +35,7 @@ request_ordinal r = r.ordinal
 
 -- the balances of the tellers that a branch's number gives, added up
 abbrev pub teller_sum : List StoredTeller → ℕ → ℤ
-teller_sum tellers b = total (map teller_balance (filter (λ r. branch_of_teller r.teller == b) tellers))
+teller_sum tellers b = total (map teller_balance (filter (λ r. nat_le 1 r.teller && (branch_of_teller r.teller == b)) tellers))
 
 -- what is said of a branch
 abbrev pub line_of : List StoredTeller → StoredBranch → BranchLine

@@ -18,13 +18,13 @@ returns-then-is_err g c before text t =
     let going : c.args.going ≡ true = cc c.if-not-going.false in
     let same = on_err_true c.try_extend_from_slice.result c.try_extend_from_slice.ensures.err (sym c.is_ok.ensures.value ∙ c.if-is_ok.false) in
     let held : c.args.held.now.items ≡ c.as_slice.result.now = cc (same, c.as_slice.ensures.value) in
-    told_failed _ _ text c.args.bytes.now (told_sent _ text c.write_each.result (holding held (telling going t)) c.write_each.ensures).1
+    told_failed _ _ text c.args.bytes.now (told_sent _ text c.write_each.result (holding held (telling going t)) c.write_each.ensures.written).1
 
 pub returns : goal.returns
 returns g c before text t =
     let going : c.args.going ≡ true = cc c.if-not-going.false in
     let same = on_err_true c.try_extend_from_slice.result c.try_extend_from_slice.ensures.err (sym c.is_ok.ensures.value ∙ c.if-is_ok.false) in
     let held : c.args.held.now.items ≡ c.as_slice.result.now = cc (same, c.as_slice.ensures.value) in
-    let sent = (told_sent _ text c.write_each.result (holding held (telling going t)) c.write_each.ensures).0
+    let sent = (told_sent _ text c.write_each.result (holding held (telling going t)) c.write_each.ensures.written).0
     (c.is_err.ensures.negation ∙ ap not c.if-is_err.false) in
-    holding (sym c.clear.ensures) (told_more text c.args.bytes.now _ c.write_each-2.result sent c.write_each-2.ensures c.is_ok-2.ensures.value)
+    holding (sym c.clear.ensures) (told_more text c.args.bytes.now _ c.write_each-2.result sent c.write_each-2.ensures.written c.is_ok-2.ensures.value)

@@ -38,4 +38,4 @@ returns g c =
           (told_as _ _ (ap (λ (d : List ℕ). (first_lines a ++ d) ++ last_lines a c.args.closes) num ∙ text_hidden a c.args.closes) front)
     ] in
     let going : c.if-shows_body.going ≡ true = cc c.if-not-going.false in
-    told_all w _ _ _ (answer_text a c.args.shows_body c.args.closes) c.write_out.result (holding (sym c.as_slice.ensures.value) (telling going told)) c.write_out.ensures
+    told_all w _ _ _ (answer_text a c.args.shows_body c.args.closes) c.write_out.result (holding (sym c.as_slice.ensures.value) (telling going told)) c.write_out.ensures.written

@@ -40,11 +40,12 @@ returns c =
     let stands : v ≡ get_or s.by_branch.items p (pos 0) = c.index-sum.ensures ∙ any_default s.by_branch.items p (pos 0) v low in
     let small : nat_abs v ≤ 9223372036854775808 * s.all.count = subst (λ (z : ℤ). nat_abs z ≤ 9223372036854775808 * s.all.count) (sym stands) (s.small p) in
     let fit : FitsSigned w64 c.args.teller.balance = search rules in
+    let one : 1 ≤ c.args.teller.teller = omega (arith, c.get.ensures.value, c.get.ensures.least) in
     let place : p ≡ (c.args.teller.teller - 1) / 10 = ap (λ (n : ℕ). (n - 1) / 10) c.get.ensures.value in
     record {
       added = λ tellers h. record {
         all = sum_more_64 teller_balance s.all c.plus-self.result tellers c.args.teller fit h.all c.plus-self.ensures.count c.plus-self.ensures.sum;
-        by_branch = branches_after s.by_branch.items tellers c.args.teller p _ place low
+        by_branch = branches_after s.by_branch.items tellers c.args.teller p _ one place low
             (sum_is v c.args.teller.balance c.from.result s.all.count fit c.from.ensures small s.all.few ∙ ap (λ (z : ℤ). z +ℤ c.args.teller.balance) stands) h.by_branch;
       };
     }
