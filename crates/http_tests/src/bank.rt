@@ -39,9 +39,14 @@ pub struct FullBank {
 }
 
 impl Counter for FullBank {
-    ghost use Rattle.posting_core.specs.Plain.{plain_seen};
+    ghost use Rattle.posting_rules.specs.Tables.{Tables};
+    ghost use Rattle.posting_core.specs.Plain.{plain_seen, plain_tables};
 
     ghost seen = { λ b. plain_seen b.bank };
+
+    ghost Contents = { Tables };
+
+    ghost contents = { λ b. plain_tables b.bank };
 
     fn submit(&mut self, moment: Moment, bytes: &[u8; 100]) -> Result<[u8; 200], Fault> {
         if self.left == 0 {
