@@ -1,27 +1,97 @@
-#!/bin/sh
-# Measures postings a second to a bank in a real file: one and 64 in a transaction, on a new bank of two branches with
-# 1,000 accounts each, and again once history has many rows. The figure to hold beside them is that of the C library with
-# prepared statements, which posts to the same tables with a log and full syncs.
-# It takes two arguments: the postings of a measurement, and the rows of the large bank. TMPDIR picks the disk. It needs
-# `rt` on the path, stands outside the gate, and proves what it runs: what is kept in the crates here is copied first.
+#!/usr/bin/env bash
+# Measures postings a second to a bank in a real file beside the C library's (`peer.c`) and PostgreSQL's own TPC-B script, in
+# rounds that go from one to the other, so that all of them meet the same disk. It takes two arguments: how many rounds, and
+# how many postings a measurement has. Each figure goes to `measured.csv` in the folder that it was called in, from which
+# `chart.py` makes the table and the picture.
+#
+# It needs `rt`, a C compiler and SQLite's headers; without PostgreSQL its part is left out. TMPDIR picks the disk,
+# and /dev/shm stands for none. It stands outside the gate, and proves what it runs: what is kept in the crates here is copied first.
 set -eu
 here=$(cd "$(dirname "$0")/.." && pwd)
+rounds=${1:-7}
+count=${2:-20000}
+out=$PWD/measured.csv
 work=$(mktemp -d)
-trap 'rm -rf "$work"' EXIT
-below='message_records posting_rules posting_core branch_loader load_driver sql_meanings store_rows bank_transactions'
-below="$below bank_store"
-mkdir -p "$work/crates/post/src"
-for crate in $below; do
-    mkdir "$work/crates/$crate"
-    for part in specs src proofs out; do
-        test ! -d "$here/crates/$crate/$part" || cp -a "$here/crates/$crate/$part" "$work/crates/$crate/$part"
+bare=$(mktemp -d -p /dev/shm)
+trap 'rm -rf "$work" "$bare"' EXIT
+below='message_records posting_rules posting_batch posting_core branch_loader load_driver sql_meanings store_rows'
+below="$below bank_transactions bank_walks bank_batches bank_store"
+
+# The bench as a crate of its own, above copies of those that it measures.
+build() {
+    mkdir -p "$work/crates/post/src"
+    for crate in $below; do
+        mkdir "$work/crates/$crate"
+        for part in specs src proofs out; do
+            test ! -d "$here/crates/$crate/$part" || cp -a "$here/crates/$crate/$part" "$work/crates/$crate/$part"
+        done
+        grep -E "^$crate:" "$here/crates.txt" >>"$work/crates.txt"
     done
+    cp "$here/bench/post.rt.in" "$work/crates/post/src/main.rt"
+    echo 'post: message_records posting_core branch_loader load_driver bank_store sqlite' >>"$work/crates.txt"
+    git -C "$work" init -q
+    (cd "$work/crates/post" && rt check && { rt run || test -x out/post; })
+    cc -O2 -o "$work/peer" "$here/bench/peer.c" -lsqlite3
+}
+
+# One measurement of a system: what is measured, its name, the folder, and the arguments behind the file.
+measure() {
+    what=$1 system=$2 folder=$3
+    shift 3
+    rm -f "$folder"/bench.db*
+    case $system in
+        ours) program=$work/crates/post/out/post ;;
+        *) program=$work/peer ;;
+    esac
+    echo "$what,$system,$("$program" "$folder/bench.db" "$@")" >>"$out"
+    rm -f "$folder"/bench.db*
+}
+
+# Both systems on the same work.
+both() {
+    measure "$1" ours "${@:2}"
+    measure "$1" sqlite "${@:2}"
+}
+
+# A server of PostgreSQL with its own TPC-B tables, two branches of 100,000 accounts.
+start_postgres() {
+    postgres=$(ls -d /usr/lib/postgresql/*/bin | tail -n 1)
+    mkdir "$work/pg"
+    chmod 755 "$work"
+    chown postgres "$work/pg"
+    as_postgres initdb -D "$work/pg/data" -A trust
+    as_postgres pg_ctl -D "$work/pg/data" -w -o "-k $work/pg -h '' -p 5499" -l "$work/pg/log" start
+    trap 'as_postgres pg_ctl -D "$work/pg/data" -m fast -w stop; rm -rf "$work" "$bare"' EXIT
+    as_postgres createdb -h "$work/pg" -p 5499 bank
+    as_postgres pgbench -h "$work/pg" -p 5499 -i -s 2 -q bank
+}
+
+as_postgres() {
+    (cd "$work/pg" && runuser -u postgres -- "$postgres/$1" "${@:2}") >"$work/asked" 2>&1
+}
+
+# Its TPC-B script by one client, with prepared statements.
+ask_postgres() {
+    as_postgres pgbench -h "$work/pg" -p 5499 -c 1 -T 5 -M prepared bank
+    echo "one,postgres,$(sed -n 's/^tps = \([0-9]*\).*/\1/p' "$work/asked")" >>"$out"
+}
+
+build
+has_postgres=
+if ls -d /usr/lib/postgresql/*/bin >"$work/asked" 2>&1; then
+    start_postgres
+    has_postgres=1
+fi
+rm -f "$out"
+for _ in $(seq "$rounds"); do
+    both one "$work" 2 1000 0 "$count" 1
+    test -z "$has_postgres" || ask_postgres
+    both batch "$work" 2 1000 0 "$count" 64
+    both many-rows-one "$work" 2 1000 200000 "$count" 1
+    both many-rows-batch "$work" 2 1000 200000 "$count" 64
+    both large-one "$work" 10 100000 0 "$count" 1
+    both large-batch "$work" 10 100000 0 "$count" 64
+    both bare-one "$bare" 2 1000 0 "$count" 1
+    both bare-batch "$bare" 2 1000 0 "$count" 64
 done
-cp "$here/bench/post.rt.in" "$work/crates/post/src/main.rt"
-for crate in $below; do
-    grep -E "^$crate:" "$here/crates.txt"
-done >"$work/crates.txt"
-echo 'post: message_records posting_core branch_loader load_driver bank_store sqlite' >>"$work/crates.txt"
-git -C "$work" init -q
-cd "$work/crates/post"
-rt run -- "${1:-20000}" "${2:-200000}"
+python3 "$here/bench/chart.py" "$out" "$PWD/speed.svg"
