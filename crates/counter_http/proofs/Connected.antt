@@ -1,7 +1,7 @@
 -- A connection, step by step: a read, a message, and each way to end.
 use Rattle.std.proofs.Common.{◌≡◌, ◌≢◌, ℕ, ◌+◌, ◌<◌, ◌≤◌, ◌-◌, inl, inr, slice_range, drop-drop, length-drop, Bool, true, false, List, [], ◌∷◌, ◌++◌, length, take, drop, Option, Result, Ok, Err, refl, sym, ap, subst, ◌∙◌, append_assoc, append-nil, arith}
 use Rattle.std.specs.List.{AllByRecursion}
-use Rattle.std.specs.Io.KnownBytes.{Keeps, Appends, Consumes, IsAtEnd}
+use Rattle.std.specs.Io.KnownBytes.{Keeps, Appends, Consumes}
 use Rattle.std.proofs.KnownBytes.{Appends-trans, Appends-nil, Consumes-trans, Consumes-nil, Consumes-kept}
 use Rattle.std.proofs.Math.Seq.{take-append-add}
 use Rattle.std.proofs.lemmas.List.{length-append, take_all, length-take-le, drop-take, nil_from_length}
@@ -13,12 +13,14 @@ use Rattle.posting_rules.specs.Tables.{Shows}
 use Rattle.posting_rules.specs.Counter.{Seen, LeavesOnly, StandsAt, ShowsBeginning, Takes, Refuses}
 use Rattle.posting_rules.specs.Runs.{behind}
 use Rattle.posting_core.specs.Clock.{AreReadings}
+use Rattle.posting_core.specs.Told.{ReadTold}
 use Rattle.posting_rules.proofs.Remaining.{leaves_still, leaves_weaker}
 use Rattle.posting_rules.proofs.Sequence.{behind-append}
 use Rattle.httparse.specs.Grammar.{print_request}
 use Rattle.counter_http.specs.declared.fault.ServeFault.{ServeFault}
 use Rattle.counter_http.specs.declared.fault.ServeFault.TheVariants.{Read, Write, Bank, Memory}
 use Rattle.counter_http.specs.declared.next.Whole.{Whole}
+use Rattle.counter_http.specs.Ends.{HasEnded}
 use Rattle.counter_http.specs.Messages.{message_text, IsMessage, closes, Finished, Closed, Ends, Walks}
 use Rattle.counter_http.specs.Next.{asked, IsWhole, IsUnfinished, IsHopeless}
 use Rattle.counter_http.specs.Answers.{Asked, asked_by, answer_of, unavailable, refusal}
@@ -135,13 +137,13 @@ stop_all c log cs ds e s = leaves_weaker c (λ t. Shows t (behind log ds)) (Show
     s.stop
 
 -- the messages were answered, and then so much was written
-end_with : {C : Type 0} (seen : C → Seen) {r r' w w' w'' k k' : Option (List ℕ)} (old new : C)
+end_with : {C : Type 0} (seen : C → Seen) {r r' w w' w'' k k' : Option (List ℕ)} {q q' : Option (List ReadTold)} (old new : C)
     (result : Result ℕ ServeFault) (ts : List Turn) (rest : List ℕ) (last : List (List ℕ)) (more : List ℕ)
     → Consumes r r' (texts_of ts ++ rest) → AreAnswered w w' k k' (seen old) (seen new) ts
     → Appends w' w'' more
-    → Exits seen result r' old new new ts [] rest last
+    → Exits seen result (HasEnded r' q q') old new new ts [] rest last
     → ((text : List ℕ) → IsWritten result (text ++ more) (text ++ joined last))
-    → Serves seen r r' w w'' k k' old new result
+    → Serves seen r r' q q' w w'' k k' old new result
 end_with seen {r = r} {r' = r'} {w = w} {w' = w'} {w'' = w''} {k = k} {k' = k'} old new result ts rest last more read a wrote exits writes =
     let none : ts ++ [] ≡ ts = append-nil ts in
     record {
@@ -165,10 +167,10 @@ end_with seen {r = r} {r' = r'} {w = w} {w' = w'} {w'' = w''} {k = k} {k' = k'} 
     }
 
 -- nothing remains
-pub end_finished : {C : Type 0} (seen : C → Seen) {r r' w w' k k' : Option (List ℕ)} (old new : C) {count : ℕ}
+pub end_finished : {C : Type 0} (seen : C → Seen) {r r' w w' k k' : Option (List ℕ)} {q q' : Option (List ReadTold)} (old new : C) {count : ℕ}
     (rest : List ℕ)
-    → Going r r' w w' k k' (seen old) (seen new) rest count → IsAtEnd r' → rest ≡ []
-    → Serves seen r r' w w' k k' old new (Ok count)
+    → Going r r' w w' k k' (seen old) (seen new) rest count → HasEnded r' q q' → rest ≡ []
+    → Serves seen r r' q q' w w' k k' old new (Ok count)
 end_finished seen {w' = w'} old new {count = count} rest g ended none =
     end_with seen old new (Ok count) g.turns rest [] [] g.read g.answered (Appends-nil w') (
       record { ending = Finished; walks = walks_end g.turns rest Finished g.stays none; last_is = refl; ended = inl ended; none_refused = refl },
@@ -177,22 +179,22 @@ end_finished seen {w' = w'} old new {count = count} rest g ended none =
     ) (λ text. refl)
 
 -- the reader failed
-pub end_unread : {C : Type 0} (seen : C → Seen) {r r' w w' k k' : Option (List ℕ)} (old new : C) {count : ℕ}
+pub end_unread : {C : Type 0} (seen : C → Seen) {r r' w w' k k' : Option (List ℕ)} {q q' : Option (List ReadTold)} (old new : C) {count : ℕ}
     (rest : List ℕ)
     → Going r r' w w' k k' (seen old) (seen new) rest count → BeginsWithNoMessage rest
-    → Serves seen r r' w w' k k' old new (Err Read)
+    → Serves seen r r' q q' w w' k k' old new (Err Read)
 end_unread seen {w' = w'} old new rest g none =
     end_with seen old new (Err Read) g.turns rest [] [] g.read g.answered (Appends-nil w')
     (record { stays = g.stays; no_more = none; none_refused = refl; nothing = refl }, refl) (λ text. refl)
 
 -- the answer to a message was the last
-pub end_closed : {C : Type 0} (seen : C → Seen) {r r' w w' w'' k k' k'' : Option (List ℕ)} (old now new : C)
+pub end_closed : {C : Type 0} (seen : C → Seen) {r r' w w' w'' k k' k'' : Option (List ℕ)} {q q' : Option (List ReadTold)} (old now new : C)
     {count : ℕ} (m : ℕ) (all : List ℕ) (count' : ℕ) (p : Whole)
     → Going r r' w w' k k' (seen old) (seen now) all count → (is : IsWhole all p) → p.closes ≡ true
     → count' ≡ count + 1
     → AreReadings k' k'' (readings_for m (asked p)) → ((seen new).honest → (seen now).honest)
     → IsAnswered w' w'' (seen now) (seen new) (asked p) (commands_for m (asked p))
-    → Serves seen r r' w w'' k k'' old new (Ok count')
+    → Serves seen r r' q q' w w'' k k'' old new (Ok count')
 end_closed seen {r = r} {r' = r'} {w'' = w''} old now new m all count' p g is last n reading honest a =
     let t : Turn = turn_of m is in
     let ts = g.turns ++ t ∷ [] in
@@ -218,16 +220,16 @@ end_closed seen {r = r} {r' = r'} {w'' = w''} old now new m all count' p g is la
 -- ---- a 400
 
 -- what remains is answered by a 400, since no more comes
-pub short_walk : {r r' w w' k k' : Option (List ℕ)} {c c' : Seen} {count : ℕ} {shown : Bool} (rest : List ℕ)
-    (g : Going r r' w w' k k' c c' rest count) → IsUnfinished rest shown
-    → IsAtEnd r' → rest ≢ [] → IsWalked r' g.turns [] rest (refusal shown ∷ [])
+pub short_walk : {r r' w w' k k' : Option (List ℕ)} {c c' : Seen} {count : ℕ} {shown : Bool} {has_ended : Type 0}
+    (rest : List ℕ) (g : Going r r' w w' k k' c c' rest count) → IsUnfinished rest shown
+    → has_ended → rest ≢ [] → IsWalked has_ended g.turns [] rest (refusal shown ∷ [])
 short_walk rest g is ended some =
     record { ending = is.ending; walks = walks_end g.turns rest is.ending g.stays (is.ends some); last_is = sym is.told; ended = inl ended; none_refused = refl }
 
 -- whatever comes
 pub hopeless_walk : {r r' w w' k k' : Option (List ℕ)} {c c' : Seen} {count : ℕ} {shown : Bool}
-    (rest : List ℕ) (g : Going r r' w w' k k' c c' rest count) → IsHopeless rest shown
-    → IsWalked r' g.turns [] rest (refusal shown ∷ [])
+    {has_ended : Type 0} (rest : List ℕ) (g : Going r r' w w' k k' c c' rest count) → IsHopeless rest shown
+    → IsWalked has_ended g.turns [] rest (refusal shown ∷ [])
 hopeless_walk rest g is =
     record {
       ending = is.ending;
@@ -238,12 +240,12 @@ hopeless_walk rest g is =
     }
 
 -- it was written
-pub end_told : {C : Type 0} (seen : C → Seen) {r r' w w' w'' k k' : Option (List ℕ)} (old new : C) {count : ℕ}
+pub end_told : {C : Type 0} (seen : C → Seen) {r r' w w' w'' k k' : Option (List ℕ)} {q q' : Option (List ReadTold)} (old new : C) {count : ℕ}
     (shown : Bool) (count' : ℕ) (rest : List ℕ)
     (g : Going r r' w w' k k' (seen old) (seen new) rest count)
-    → IsWalked r' g.turns [] rest (refusal shown ∷ [])
+    → IsWalked (HasEnded r' q q') g.turns [] rest (refusal shown ∷ [])
     → ((n : ℕ) × Appends w' w'' (take n (refusal shown)) × (n ≡ length (refusal shown))) → count' ≡ count + 1
-    → Serves seen r r' w w'' k k' old new (Ok count')
+    → Serves seen r r' q q' w w'' k k' old new (Ok count')
 end_told seen {w' = w'} {w'' = w''} old new shown count' rest g walked told one =
     end_with seen old new (Ok count') g.turns rest (refusal shown ∷ []) (refusal shown) g.read g.answered
     (subst (λ (x : List ℕ). Appends w' w'' x) (take_all told.0 (refusal shown) (omega (arith, told.2))) told.1)
@@ -256,11 +258,11 @@ written_part a b t u ea eb =
     ∙ ap (λ (j : ℕ). take j (t ++ u)) (ap (λ (x : List ℕ). length x + length b) (sym ea) ∙ sym (length-append a b))
 
 -- it was written in part
-pub end_untold : {C : Type 0} (seen : C → Seen) {r r' w w' w'' k k' : Option (List ℕ)} (old new : C)
+pub end_untold : {C : Type 0} (seen : C → Seen) {r r' w w' w'' k k' : Option (List ℕ)} {q q' : Option (List ReadTold)} (old new : C)
     {count : ℕ} (shown : Bool) (n : ℕ) (rest : List ℕ)
     (g : Going r r' w w' k k' (seen old) (seen new) rest count)
-    → IsWalked r' g.turns [] rest (refusal shown ∷ []) → Appends w' w'' (take n (refusal shown))
-    → Serves seen r r' w w'' k k' old new (Err Write)
+    → IsWalked (HasEnded r' q q') g.turns [] rest (refusal shown ∷ []) → Appends w' w'' (take n (refusal shown))
+    → Serves seen r r' q q' w w'' k k' old new (Err Write)
 end_untold seen old new shown n rest g walked wrote =
     end_with seen old new (Err Write) g.turns rest (refusal shown ∷ []) (take n (refusal shown)) g.read g.answered wrote (At_last walked refl)
     (λ text. written_part text (take n (refusal shown)) text (refusal shown ++ []) refl
@@ -269,13 +271,13 @@ end_untold seen old new shown n rest g walked wrote =
 -- ---- ends at a message
 
 -- its answer was written in part
-answer_begun : {C : Type 0} (seen : C → Seen) {r r' w w' w'' k k' k'' : Option (List ℕ)} (old now new : C)
+answer_begun : {C : Type 0} (seen : C → Seen) {r r' w w' w'' k k' k'' : Option (List ℕ)} {q q' : Option (List ReadTold)} (old now new : C)
     {count : ℕ} (t : Turn) (all rest : List ℕ)
     → Going r r' w w' k k' (seen old) (seen now) all count → IsMessage t.message → all ≡ text_in t ++ rest
     → AreReadings k' k'' (moments_in t)
     → ((seen new).honest → (seen now).honest)
     → IsAnsweredInPart w' w'' (seen now) (seen new) (asked_by t.message) (commands_in t)
-    → Serves seen r r' w w'' k k'' old new (Err Write)
+    → Serves seen r r' q q' w w'' k k'' old new (Err Write)
 answer_begun seen {r = r} {r' = r'} {w = w} {w' = w'} {w'' = w''} {k = k} {k' = k'} {k'' = k''} old now new t all rest g is front reading honest a =
     let before = g.turns in
     let ts = before ++ t ∷ [] in
@@ -343,14 +345,14 @@ refused_stop bank.Down c c' log cs u h s = absurd (s.up u.before)
 refused_stop (bank.Damaged rule) c c' log cs u h s = absurd (u.never_shown h log s.shows)
 
 -- the bank refused it, and so much was written
-bank_failed : {C : Type 0} (seen : C → Seen) {r r' w w' w'' k k' k'' : Option (List ℕ)} (old now new : C)
+bank_failed : {C : Type 0} (seen : C → Seen) {r r' w w' w'' k k' k'' : Option (List ℕ)} {q q' : Option (List ReadTold)} (old now new : C)
     {count : ℕ} (result : Result ℕ ServeFault) (t : Turn) (all rest : List ℕ) (more : List ℕ)
     (fault : Fault) (g : Going r r' w w' k k' (seen old) (seen now) all count) → all ≡ text_in t ++ rest
     → AreReadings k' k'' (moments_in t)
     → Appends w' w'' more → (b : IsRefusedAt seen now new fault (commands_in t))
-    → Exits seen result r' old b.stood new g.turns (t ∷ []) rest (unavailable (asked_by t.message) ∷ [])
+    → Exits seen result (HasEnded r' q q') old b.stood new g.turns (t ∷ []) rest (unavailable (asked_by t.message) ∷ [])
     → ((text : List ℕ) → IsWritten result (text ++ more) (text ++ (unavailable (asked_by t.message) ++ [])))
-    → Serves seen r r' w w'' k k'' old new result
+    → Serves seen r r' q q' w w'' k k'' old new result
 bank_failed seen {r = r} {r' = r'} {w = w} {w' = w'} {w'' = w''} {k = k} {k' = k'} {k'' = k''} old now new result t all rest more fault g front reading wrote b exits writes =
     let before = g.turns in
     let last = unavailable (asked_by t.message) ∷ [] in
@@ -389,13 +391,13 @@ bank_failed seen {r = r} {r' = r'} {w = w} {w' = w'} {w'' = w''} {k = k} {k' = k
 one_commands : (t : Turn) → commands_in t ≡ commands_of (t ∷ [])
 one_commands t = sym (append-nil (commands_in t))
 
-broken_at : {C : Type 0} (seen : C → Seen) (fault : ServeFault) {r r' w w' w'' k k' k'' : Option (List ℕ)}
+broken_at : {C : Type 0} (seen : C → Seen) (fault : ServeFault) {r r' w w' w'' k k' k'' : Option (List ℕ)} {q q' : Option (List ReadTold)}
     (old now new : C) {count : ℕ} (t : Turn) (all rest : List ℕ)
     → Going r r' w w' k k' (seen old) (seen now) all count → IsMessage t.message → all ≡ text_in t ++ rest
     → AreReadings k' k'' (moments_in t)
     → ((seen new).honest → (seen now).honest)
     → BreaksOff seen fault w' w'' now new (asked_by t.message) (commands_in t)
-    → Serves seen r r' w w'' k k'' old new (Err fault)
+    → Serves seen r r' q q' w w'' k k'' old new (Err fault)
 broken_at seen Write old now new t all rest g is front reading honest (inl a) = answer_begun seen old now new t all rest g is front reading honest a
 broken_at seen Write old now new t all rest g is front reading honest (inr a) =
     bank_failed seen old now new (Err Write) t all rest a.written a.fault g front reading a.wrote a.refused
@@ -413,13 +415,13 @@ broken_at seen Read old now new t all rest g is front reading honest a = absurd 
 broken_at seen Memory old now new t all rest g is front reading honest a = absurd a
 
 pub end_broken : {C : Type 0} (seen : C → Seen) (fault : ServeFault)
-    {r r' w w' w'' k k' k'' : Option (List ℕ)} (old now new : C) {count : ℕ} (m : ℕ) (all : List ℕ)
+    {r r' w w' w'' k k' k'' : Option (List ℕ)} {q q' : Option (List ReadTold)} (old now new : C) {count : ℕ} (m : ℕ) (all : List ℕ)
     (p : Whole)
     → Going r r' w w' k k' (seen old) (seen now) all count → IsWhole all p
     → AreReadings k' k'' (readings_for m (asked p))
     → ((seen new).honest → (seen now).honest)
     → BreaksOff seen fault w' w'' now new (asked p) (commands_for m (asked p))
-    → Serves seen r r' w w'' k k'' old new (Err fault)
+    → Serves seen r r' q q' w w'' k k'' old new (Err fault)
 end_broken seen fault {w' = w'} {w'' = w''} {k' = k'} {k'' = k''} old now new m all p g is reading honest a =
     broken_at seen fault old now new (turn_of m is) all (drop p.length all) g is.whole is.front
     (subst (λ (x : Asked). AreReadings k' k'' (readings_for m x)) is.asks reading) honest
@@ -464,8 +466,9 @@ message_long {all = all} {p = p} is =
     )
 
 -- memory was refused before anything was read
-pub untouched : {C : Type 0} (seen : C → Seen) {r w k : Option (List ℕ)} (c : C)
-    → Serves seen r r w w k k c c (Err Memory)
+pub untouched : {C : Type 0} (seen : C → Seen) {r : Option (List ℕ)} {q : Option (List ReadTold)}
+    {w k : Option (List ℕ)} (c : C)
+    → Serves seen r r q q w w k k c c (Err Memory)
 untouched seen {r = r} {w = w} c =
     end_with seen c c (Err Memory) [] [] [] [] (Consumes-nil r) answered_none (Appends-nil w)
     (record { none_taken = refl; none_refused = refl; no_rest = refl; nothing = refl }, refl) (λ text. refl)

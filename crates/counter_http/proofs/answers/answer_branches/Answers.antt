@@ -15,4 +15,4 @@ returns-in-Ok-clause-answers g c =
 pub returns-in-Err-clause-answers : goal.returns-in-Err-clause-answers
 returns-in-Err-clause-answers g c =
     told_refused g.C.Counter.seen c.in-Err.fault c.fail.result _ _ c.args.bank.now c.all_lines.new.bank (asked c.args.message.now) []
-    c.fail.ensures.0 c.in-Err.ensures.fault c.fail.ensures.1 c.fail.ensures.2
+    c.fail.ensures.written.0 c.in-Err.ensures.fault c.fail.ensures.written.1 c.fail.ensures.written.2

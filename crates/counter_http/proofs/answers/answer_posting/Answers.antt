@@ -32,9 +32,9 @@ returns-in-Err-clause-answers g c =
     let new = c.submit.new.self in (
       m,
       posting_readings _ _ a m c.requires.posting c.now-moment.ensures,
-      told_refused seen c.in-Err.fault c.fail.result _ _ old new a _ c.fail.ensures.0
+      told_refused seen c.in-Err.fault c.fail.result _ _ old new a _ c.fail.ensures.written.0
           (refused_first seen old new c.in-Err.fault _
           (refuses_posting c.in-Err.fault (seen old) (seen new) a m _ c.requires.posting c.requires.body c.in-Err.ensures.fault)
           c.in-Err.ensures.honest)
-          c.fail.ensures.1 c.fail.ensures.2,
+          c.fail.ensures.written.1 c.fail.ensures.written.2,
     )
