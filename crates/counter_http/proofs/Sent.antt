@@ -9,13 +9,16 @@ use Rattle.posting_core.proofs.Streaming.{at_ok}
 use Rattle.posting_core.proofs.Through.{through_more}
 use Rattle.counter_http.specs.declared.fault.ServeFault.{ServeFault}
 use Rattle.counter_http.specs.declared.fault.ServeFault.TheVariants.{Read, Write, Bank, Memory}
-use Rattle.counter_http.specs.Ends.{HasEnded, HasTaken, SendsAs, EndsAs}
+use Rattle.counter_http.specs.Ends.{HasEnded, HasSent, HasTaken, SendsAs, EndsAs}
 
 -- the input ended
-pub ended_at : {remaining : Option (List ℕ)} {a b c : Option (List ReadTold)} {count : ℕ} (r : Result ℕ Error) (n : ℕ)
-    → HasMade a b count → Adds b c (read_told r ∷ []) → r ≡ Ok n → n ≡ 0 → IfOk r (λ m. m ≡ 0 → IsAtEnd remaining)
+pub ended_at : {remaining : Option (List ℕ)} {a b c : Option (List ReadTold)} {count : ℕ} (r : Result ℕ Error)
+    (n : ℕ)
+    → HasMade a b count → Adds b c (read_told r ∷ []) → r ≡ Ok n → n ≡ 0
+    → IfOk r (λ m. m ≡ 0 → IsAtEnd remaining)
     → HasEnded remaining a c
-ended_at r n made tells is none end = record { none = at_ok _ r n is end none; told = read_ended r n made tells is none }
+ended_at r n made tells is none end = record
+    { none = at_ok _ r n is end none; told = read_ended r n made tells is none }
 
 -- ---- within an answer
 
@@ -30,20 +33,16 @@ taken_each a b c done (Ok x) h more failed e = rw e (more_more h more)
 taken_each a b c done (Err x) h more failed e = rw e (more_failed IsWriteFailure h failed)
 
 -- the rest is written and flushed
-pub flushed_behind : {A E : Type 0} (a b c : Option (List WriteTold)) (r : Result A E) → HasMore a b
-    → OnOk r (EndsWith IsFlush b c) → OnOk r (EndsWith IsFlush a c)
-flushed_behind a b c (Ok x) h e = more_last IsFlush h e
-flushed_behind a b c (Err x) h e = tt
-
-pub failed_behind : {A E : Type 0} (a b c : Option (List WriteTold)) (r : Result A E) → HasMore a b
-    → OnErr r (HasWriteFailed b c) → OnErr r (HasWriteFailed a c)
-failed_behind a b c (Ok x) h e = tt
-failed_behind a b c (Err x) h e = more_failed IsWriteFailure h e
+pub sent_behind : {E : Type 0} (a b c : Option (List WriteTold)) (r : Result (Unit {0}) E) → HasMore a b
+    → OnOk r (EndsWith IsFlush b c) → OnErr r (HasWriteFailed b c) → HasSent r a c
+sent_behind a b c (Ok x) h flushed failed = more_last IsFlush h flushed
+sent_behind a b c (Err x) h flushed failed = more_failed IsWriteFailure h failed
 
 -- ---- answers one after another
 
 -- a fault behind them
-pub sent_broken : (fault : ServeFault) (r r' : Option (List ReadTold)) (w w' w'' : Option (List WriteTold)) → IsThrough w w'
+pub sent_broken : (fault : ServeFault) (r r' : Option (List ReadTold)) (w w' w'' : Option (List WriteTold))
+    → IsThrough w w'
     → SendsAs (Err fault) w' w'' → EndsAs (Err fault) r r' w w''
 sent_broken Write r r' w w' w'' h a = more_failed IsWriteFailure (through_more h) a
 sent_broken (Bank fault) r r' w w' w'' h a = more_last IsFlush (through_more h) a

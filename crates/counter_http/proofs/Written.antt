@@ -54,15 +54,18 @@ walked_text : {has_ended : Type 0} (log : List Command) (taken refused : List Tu
 walked_text log taken refused rest last is = record {
   messages = messages_of taken;
   ending = is.ending;
-  walks = subst (λ (x : List ℕ). Walks x (messages_of taken) is.ending) (sym (input_alone taken refused rest is.none_refused)) is.walks;
+  walks = subst (λ (x : List ℕ). Walks x (messages_of taken) is.ending)
+      (sym (input_alone taken refused rest is.none_refused)) is.walks;
   text_is = text_with log taken last (final_answer is.ending) is.last_is;
 }
 
 -- the message behind some others
 one_behind : (before : List Turn) (t : Turn) (rest : List ℕ)
-    → texts_of (before ++ t ∷ []) ++ rest ≡ texts_of_all (messages_of before) ++ (message_text t.message ++ rest)
+    → texts_of (before ++ t ∷ []) ++ rest ≡ texts_of_all (messages_of before)
+    ++ (message_text t.message ++ rest)
 one_behind before t rest =
-    ap (λ (x : List ℕ). x ++ rest) (flat_map-append text_in before (t ∷ []) ∙ ap (λ (x : List ℕ). texts_of before ++ x) (append-nil (text_in t)))
+    ap (λ (x : List ℕ). x ++ rest) (flat_map-append text_in before (t ∷ [])
+    ∙ ap (λ (x : List ℕ). texts_of before ++ x) (append-nil (text_in t)))
     ∙ append_assoc (texts_of before) (text_in t) rest
     ∙ ap (λ (x : List ℕ). x ++ (text_in t ++ rest)) (texts_are before)
 
@@ -97,7 +100,8 @@ first_text log taken refused rest last is = record {
   };
   text_is = text_with log taken last [] is.nothing
       ∙ ap joined (append-nil (answers_behind log (messages_of taken)))
-      ∙ ap (λ (x : List Message). joined (answers_behind log x)) (ap messages_of is.taken_is ∙ map-append message_in is.before (is.turn ∷ []));
+      ∙ ap (λ (x : List Message). joined (answers_behind log x))
+      (ap messages_of is.taken_is ∙ map-append message_in is.before (is.turn ∷ []));
 }
 
 -- ---- by the result
@@ -114,7 +118,8 @@ settled taken refused rest last is always more log text a =
     record {
       messages = messages_of taken;
       ending = is.ending;
-      walks = subst (λ (x : List ℕ). Walks (x ++ more) (messages_of taken) is.ending) (sym same) (always more);
+      walks = subst (λ (x : List ℕ). Walks (x ++ more) (messages_of taken) is.ending) (sym same)
+          (always more);
       text_is = a.text_is
           ∙ ap (λ (ms : List Message). joined (answers_behind log ms ++ final_answer a.ending)) one.0
           ∙ ap (λ (e : Ending). joined (answers_behind log (messages_of taken) ++ final_answer e)) one.1;
@@ -131,7 +136,8 @@ one_front_of : (log : List Command) (input text other : List ℕ) → AnswersWho
     → AnswersWhole log input other → text ≡ other
 one_front_of log input text other a b =
     a.text_is ∙ ap (λ (ms : List Message). joined (answers_behind log ms))
-    (front_unique a.messages b.messages a.rest b.rest a.stays b.stays a.no_more b.no_more (sym a.input_is ∙ b.input_is)) ∙ sym b.text_is
+    (front_unique a.messages b.messages a.rest b.rest a.stays b.stays a.no_more b.no_more
+    (sym a.input_is ∙ b.input_is)) ∙ sym b.text_is
 
 pub output_of : {C : Type 0} (seen : C → Seen) {r r' : Option (List ℕ)} {q q' : Option (List ReadTold)}
     {w w' k k' : Option (List ℕ)} (old new : C) (result : Result ℕ ServeFault)
@@ -241,7 +247,8 @@ commands_of_first n ts =
 
 at_least : (log cs : List Command) (n k : ℕ) (t : Tables) → k ≤ n → ShowsBeginning log cs n t
     → ShowsBeginning log cs k t
-at_least log cs n k t le b = record { count = b.count; holds = omega (arith, b.holds); within = b.within; shows = b.shows }
+at_least log cs n k t le b = record
+    { count = b.count; holds = omega (arith, b.holds); within = b.within; shows = b.shows }
 
 pub survives_of : {C : Type 0} (seen : C → Seen) {r r' : Option (List ℕ)} {q q' : Option (List ReadTold)}
     {w w' k k' : Option (List ℕ)} (old new : C) (result : Result ℕ ServeFault)

@@ -15,6 +15,12 @@ abbrev pub HasTaken : Bool → Option (List WriteTold) → Option (List WriteTol
 HasTaken true w w' = HasMore w w'
 HasTaken false w w' = HasWriteFailed w w'
 
+-- one answer was flushed, or the writer failed
+abbrev pub HasSent : {E : Type 0} → Result (Unit {0}) E → Option (List WriteTold) → Option (List WriteTold)
+    → Type 0
+HasSent (Ok done) w w' = EndsWith IsFlush w w'
+HasSent (Err e) w w' = HasWriteFailed w w'
+
 -- one answer was flushed, that of a fault of the bank too, or the writer failed
 abbrev pub SendsAs : Result (Unit {0}) ServeFault → Option (List WriteTold) → Option (List WriteTold)
     → Type 0

@@ -1,9 +1,9 @@
 //! The bytes of an answer, which leave in one write where they are few: a client then waits for one packet.
-ghost use Rattle.std.specs.Prelude.{◌≡◌, ◌++◌, ℕ, List, [], Option, length, take, OnOk, OnErr};
+ghost use Rattle.std.specs.Prelude.{◌≡◌, ◌++◌, ℕ, List, [], Option, length, take, OnOk};
 ghost use Rattle.std.specs.Io.KnownBytes.{Appends};
-ghost use Rattle.posting_core.specs.Told.{WriteTold, EndsWith, HasWriteFailed, IsFlush};
+ghost use Rattle.posting_core.specs.Told.{WriteTold};
 ghost use Rattle.counter_http.specs.Answers.{answer_text};
-ghost use Rattle.counter_http.specs.Ends.{HasTaken};
+ghost use Rattle.counter_http.specs.Ends.{HasSent, HasTaken};
 ghost use Rattle.counter_http.specs.Telling.{IsTold, said, first_lines, last_lines};
 
 use arrayvec::ArrayVec;
@@ -98,6 +98,20 @@ fn put_last<W: Sink>(
     put(writer, held, going, b"\r\n")
 }
 
+// Sends what is held, where the writer took all before it, and flushes it.
+fn send<W: Sink>(writer: &mut W, held: &ArrayVec<u8, HELD>, going: bool) -> Result<(), WriteFailed>
+    ensures text { (before : Option (List ℕ)) (text : List ℕ) → IsTold before
+        (W.contents writer.old) going held.now.items text
+        → (n : ℕ) × Appends before (W.contents writer.new) (take n text) × OnOk result (n ≡ length text) }
+    ensures ends { (before : Option (List WriteTold)) → HasTaken going before (W.told writer.old)
+        → HasSent result before (W.told writer.new) }
+{
+    if !going {
+        return Err(WriteFailed);
+    }
+    write_out(writer, held.as_slice())
+}
+
 /// Writes an answer, with its body or without, after which the connection ends or goes on, and flushes it.
 pub(crate) fn tell<W: Sink>(
     writer: &mut W,
@@ -108,8 +122,7 @@ pub(crate) fn tell<W: Sink>(
     ensures written { (n : ℕ) × Appends (W.contents writer.old) (W.contents writer.new) (take n (answer_text
         (said response.now) shows_body closes))
         × OnOk result (n ≡ length (answer_text (said response.now) shows_body closes)) }
-    ensures flushed { OnOk result (EndsWith IsFlush (W.told writer.old) (W.told writer.new)) }
-    ensures failed { OnErr result (HasWriteFailed (W.told writer.old) (W.told writer.new)) }
+    ensures ends { HasSent result (W.told writer.old) (W.told writer.new) }
 {
     let mut held = ArrayVec::new();
     let going = put_first(writer, &mut held, response);
@@ -122,8 +135,5 @@ pub(crate) fn tell<W: Sink>(
     } else {
         going
     };
-    if !going {
-        return Err(WriteFailed);
-    }
-    write_out(writer, held.as_slice())
+    send(writer, &held, going)
 }

@@ -11,11 +11,14 @@ returns-in_default-clause-served g c = untouched g.C.Counter.seen c.args.bank.no
 
 pub returns-in_default-clause-output : goal.returns-in_default-clause-output
 returns-in_default-clause-output g c =
-    output_of g.C.Counter.seen {k = g.K.Clock.readings c.args.clock.now} c.args.bank.now c.args.bank.now (Err Memory) (untouched g.C.Counter.seen c.args.bank.now)
+    output_of g.C.Counter.seen {k = g.K.Clock.readings c.args.clock.now} c.args.bank.now c.args.bank.now
+    (Err Memory) (untouched g.C.Counter.seen c.args.bank.now)
 
 pub returns-in_default-clause-stop : goal.returns-in_default-clause-stop
 returns-in_default-clause-stop g c =
-    survives_of g.C.Counter.seen {q = g.R.Source.told c.args.reader.now} {k = g.K.Clock.readings c.args.clock.now} c.args.bank.now c.args.bank.now (Err Memory) (untouched g.C.Counter.seen c.args.bank.now)
+    survives_of g.C.Counter.seen {q = g.R.Source.told c.args.reader.now}
+    {k = g.K.Clock.readings c.args.clock.now} c.args.bank.now c.args.bank.now (Err Memory)
+    (untouched g.C.Counter.seen c.args.bank.now)
 
 pub returns-in_default-clause-ends : goal.returns-in_default-clause-ends
 returns-in_default-clause-ends g c = (adds-none _, adds-none _)
@@ -26,21 +29,26 @@ returns-in_default-vec-clause-served g c = untouched g.C.Counter.seen c.args.ban
 
 pub returns-in_default-vec-clause-output : goal.returns-in_default-vec-clause-output
 returns-in_default-vec-clause-output g c =
-    output_of g.C.Counter.seen {k = g.K.Clock.readings c.args.clock.now} c.args.bank.now c.args.bank.now (Err Memory) (untouched g.C.Counter.seen c.args.bank.now)
+    output_of g.C.Counter.seen {k = g.K.Clock.readings c.args.clock.now} c.args.bank.now c.args.bank.now
+    (Err Memory) (untouched g.C.Counter.seen c.args.bank.now)
 
 pub returns-in_default-vec-clause-stop : goal.returns-in_default-vec-clause-stop
 returns-in_default-vec-clause-stop g c =
-    survives_of g.C.Counter.seen {q = g.R.Source.told c.args.reader.now} {k = g.K.Clock.readings c.args.clock.now} c.args.bank.now c.args.bank.now (Err Memory) (untouched g.C.Counter.seen c.args.bank.now)
+    survives_of g.C.Counter.seen {q = g.R.Source.told c.args.reader.now}
+    {k = g.K.Clock.readings c.args.clock.now} c.args.bank.now c.args.bank.now (Err Memory)
+    (untouched g.C.Counter.seen c.args.bank.now)
 
 pub returns-in_default-vec-clause-ends : goal.returns-in_default-vec-clause-ends
 returns-in_default-vec-clause-ends g c = (adds-none _, adds-none _)
 
 -- messages were answered
 pub returns-clause-output : goal.returns-clause-output
-returns-clause-output g c = output_of g.C.Counter.seen c.args.bank.now c.serve.new.bank c.serve.result c.serve.ensures.served
+returns-clause-output g c =
+    output_of g.C.Counter.seen c.args.bank.now c.serve.new.bank c.serve.result c.serve.ensures.served
 
 pub returns-clause-stop : goal.returns-clause-stop
-returns-clause-stop g c = survives_of g.C.Counter.seen c.args.bank.now c.serve.new.bank c.serve.result c.serve.ensures.served
+returns-clause-stop g c =
+    survives_of g.C.Counter.seen c.args.bank.now c.serve.new.bank c.serve.result c.serve.ensures.served
 
 pub returns-clause-honest : goal.returns-clause-honest
 returns-clause-honest g c = λ h. c.serve.ensures.served.honest_first (c.serve.ensures.served.honest h)

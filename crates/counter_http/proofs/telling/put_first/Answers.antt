@@ -15,7 +15,8 @@ returns-clause-text g c =
     let h = c.put-going-6.ensures.text w _ f in
     let i = c.put.ensures.text w _ h in
     told_as _ _ (first_is (said c.args.response.now) _ _ (c.as_bytes.ensures.value ∙ c.as_str.ensures)
-    (c.as_bytes-2.ensures.value ∙ ap now_of c.unwrap_or-phrase.ensures ∙ phrase_is now_of c.canonical_reason.result _ _ refl c.canonical_reason.ensures.value)) i
+    (c.as_bytes-2.ensures.value ∙ ap now_of c.unwrap_or-phrase.ensures
+    ∙ phrase_is now_of c.canonical_reason.result _ _ refl c.canonical_reason.ensures.value)) i
 
 pub returns-clause-ends : goal.returns-clause-ends
 returns-clause-ends g c =
