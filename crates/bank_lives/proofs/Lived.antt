@@ -7,13 +7,9 @@ use Rattle.posting_rules.specs.Counter.{Seen, StandsAt, LeavesOnly, ShowsBeginni
 use Rattle.posting_rules.specs.Runs.{behind}
 use Rattle.posting_rules.specs.Tables.{Tables}
 use Rattle.posting_rules.proofs.Remaining.{leaves_still, leaves_weaker}
-use Rattle.posting_rules.proofs.Sequence.{behind-append}
+use Rattle.posting_rules.proofs.Sequence.{behind-append, commands_both}
 use Rattle.bank_lives.specs.Lives.{IsCall, Life, begins, goes_on, reached}
 use Rattle.bank_lives.proofs.Calls.{all_shown}
-
-commands_both : (cs ds : List Command) → AreCommands cs → AreCommands ds → AreCommands (cs ++ ds)
-commands_both [] ds all more = more
-commands_both (c ∷ cs) ds all more = (all.0, commands_both cs ds all.1 more)
 
 -- all that was given before, and a beginning of one call more
 one_call_more : (log given commands : List Command) (least n : ℕ) (t : Tables) → least ≤ length given

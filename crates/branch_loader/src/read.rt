@@ -2,7 +2,6 @@
 ghost use Rattle.std.specs.Prelude.{◌≡◌, ◌<◌, ◌≤◌, ◌+◌, ◌⊎◌, ℕ, List, [], true, length, option_map, IfOk, IfErr, IfSome, OnOk};
 ghost use Rattle.posting_core.specs.Told.{EndsWith};
 ghost use Rattle.csv.specs.Records.{fields_of};
-ghost use Rattle.message_records.specs.Reading.{number_of};
 ghost use Rattle.branch_loader.specs.Plans.{IsToldSo, Tells, plan_of, plan_of_records};
 ghost use Rattle.branch_loader.specs.Plans.{is_header, number_within, row_of_fields, two_of};
 ghost use Rattle.branch_loader.specs.Records.{IsRecord, IsSourceFailure, IsWantOfMemory, RecordTold, Records, Takes};
@@ -11,25 +10,10 @@ use crate::fault::PlanFault;
 use crate::plan::{Plan, row_of};
 use crate::records::RecordSource;
 use csv::{ByteRecord, ErrorKind, ReaderBuilder};
-use message_records::Branch;
+use message_records::{Branch, read_digits};
 use posting_core::{LAST_BRANCH, MOST_ACCOUNTS};
 use std::alloc::Global;
 use std::io::Read;
-
-// The number that at most 9 digits write.
-fn number_of(field: &[u8]) -> Option<u32>
-    requires { length field.now ≤ 9 }
-    ensures { result ≡ number_of field.now }
-{
-    let mut value = 0u32;
-    for digit in field {
-        if !digit.is_ascii_digit() {
-            return None;
-        }
-        value = value * 10 + u32::from(*digit - b'0');
-    }
-    Some(value)
-}
 
 // The number from 1 to `most` that a field of 1 to 9 digits writes.
 fn number_within(field: &[u8], most: u32) -> Option<u32>
@@ -38,9 +22,9 @@ fn number_within(field: &[u8], most: u32) -> Option<u32>
     if field.is_empty() || field.len() > 9 {
         return None;
     }
-    let value = number_of(field)?;
-    if value >= 1 && value <= most {
-        Some(value)
+    let value = read_digits(field)?;
+    if value >= 1 && value <= u64::from(most) {
+        Some(value as u32)
     } else {
         None
     }

@@ -28,7 +28,13 @@ pub told_refused : {C : Type 0} (seen : C → Seen) (fault : Fault) (result : Se
     → IsTellingOf fault result n (unavailable a)
     → BreaksOff seen result w w' old new a cs
 told_refused seen fault told.Write w w' old new a cs n refused wrote is =
-    inr (record { written = take n (unavailable a); wrote = wrote; told = front_of n (unavailable a); fault = fault; refused = refused })
+    inr (record {
+      written = take n (unavailable a);
+      wrote = wrote;
+      told = front_of n (unavailable a);
+      fault = fault;
+      refused = refused;
+    })
 told_refused seen fault (told.Bank f) w w' old new a cs n refused wrote is =
     record {
       wrote = subst (λ (x : List ℕ). Appends w w' x) (take_all n (unavailable a) (omega (arith, is.1))) wrote;
@@ -42,7 +48,14 @@ pub refused_first : {C : Type 0} (seen : C → Seen) (old new : C) (fault : Faul
     → Refuses fault (seen old) (seen new) cs
     → ((seen new).honest → (seen old).honest) → IsRefusedAt seen old new fault cs
 refused_first seen old new fault cs refuses honest =
-    record { stood = old; honest_first = λ h. h; honest = honest; up = λ d. d; takes = record { shows = λ h log s. s; stands = λ h log s. s }; refuses = refuses }
+    record {
+      stood = old;
+      honest_first = λ h. h;
+      honest = honest;
+      up = λ d. d;
+      takes = record { shows = λ h log s. s; stands = λ h log s. s };
+      refuses = refuses;
+    }
 
 -- the bank took the commands, and the answer was told
 pub told_answer : {C : Type 0} (seen : C → Seen) (w w' : Option (List ℕ)) (old new : C) (a : Asked)
@@ -54,7 +67,8 @@ pub told_answer : {C : Type 0} (seen : C → Seen) (w w' : Option (List ℕ)) (o
 told_answer seen w w' old new a cs x (Ok u) takes up is t err =
     record {
       written = answer_text x (shows a) a.closes;
-      wrote = subst (λ (y : List ℕ). Appends w w' y) (take_all t.0 (answer_text x (shows a) a.closes) (omega (arith, t.2))) t.1;
+      wrote = subst (λ (y : List ℕ). Appends w w' y)
+          (take_all t.0 (answer_text x (shows a) a.closes) (omega (arith, t.2))) t.1;
       up = up;
       takes = takes;
       answer = λ h log s. ap (λ (y : Answer). answer_text y (shows a) a.closes) (is h log s);
@@ -67,7 +81,8 @@ told_answer seen w w' old new a cs x (Err e) takes up is t err =
       up = up;
       takes = takes;
       answer = λ h log s. front_of t.0 (answer_text x (shows a) a.closes)
-          ∙ ap (λ (y : Answer). take (length (take t.0 (answer_text x (shows a) a.closes))) (answer_text y (shows a) a.closes)) (is h log s);
+          ∙ ap (λ (y : Answer). take (length (take t.0 (answer_text x (shows a) a.closes)))
+          (answer_text y (shows a) a.closes)) (is h log s);
     }))
 
 -- ---- a posting
@@ -104,13 +119,15 @@ posting_answer log a e = posting_on log a (route_of (path_of a.target)) e
 pub takes_posting : (c c' : Seen) (a : Asked) (m : ℕ) (bytes : List ℕ) → is_posting a ≡ true → bytes ≡ a.body
     → Takes c c' (Post m bytes ∷ []) → Takes c c' (commands_for m a)
 takes_posting c c' a m bytes e b t =
-    subst (λ (cs : List Command). Takes c c' cs) (ap (λ (x : List ℕ). Post m x ∷ []) b ∙ sym (posting_commands a m e)) t
+    subst (λ (cs : List Command). Takes c c' cs)
+    (ap (λ (x : List ℕ). Post m x ∷ []) b ∙ sym (posting_commands a m e)) t
 
 pub refuses_posting : (fault : Fault) (c c' : Seen) (a : Asked) (m : ℕ) (bytes : List ℕ) → is_posting a ≡ true
     → bytes ≡ a.body → Refuses fault c c' (Post m bytes ∷ [])
     → Refuses fault c c' (commands_for m a)
 refuses_posting fault c c' a m bytes e b t =
-    subst (λ (cs : List Command). Refuses fault c c' cs) (ap (λ (x : List ℕ). Post m x ∷ []) b ∙ sym (posting_commands a m e)) t
+    subst (λ (cs : List Command). Refuses fault c c' cs)
+    (ap (λ (x : List ℕ). Post m x ∷ []) b ∙ sym (posting_commands a m e)) t
 
 pub no_service : bare_of 503 (codes "503 Service Unavailable\n") ≡ bare 503
 unfolding status_words
@@ -132,12 +149,15 @@ unfolding answer_to
 answer_by log a o e = ap (λ (r : Option Route). answer_on log r a) e
 
 pub not_a_record : (a : Asked) → bytes_eq a.method (codes "POST") ≡ false
-    → (is_record a ≡ false) × ((log : List Command) → answer_on log (Some Posting) a ≡ not_allowed (codes "POST"))
+    → (is_record a ≡ false) × ((log : List Command)
+    → answer_on log (Some Posting) a ≡ not_allowed (codes "POST"))
 not_a_record a n = (rw n refl, λ log. rw n refl)
 
 pub not_as_long : (a : Asked) → bytes_eq a.method (codes "POST") ≡ true → (length a.body ≡ 100 → ⊥)
     → (is_record a ≡ false) × ((log : List Command) → answer_on log (Some Posting) a ≡ bare 400)
-not_as_long a t n = let long : eqb (length a.body) 100 ≡ false = ne_eqb (length a.body) 100 n in (rw (t, long) refl, λ log. rw (t, long) refl)
+not_as_long a t n =
+    let long : eqb (length a.body) 100 ≡ false =
+    ne_eqb (length a.body) 100 n in (rw (t, long) refl, λ log. rw (t, long) refl)
 
 pub a_record : (a : Asked) → bytes_eq a.method (codes "POST") ≡ true → length a.body ≡ 100
     → is_record a ≡ true
@@ -146,33 +166,46 @@ a_record a t e = let long : eqb (length a.body) 100 ≡ true = eq-eqb (length a.
 pub too_few : (a : Asked) → is_posting a ≡ true → route_of (path_of a.target) ≡ Some Posting
     → length a.body ≡ 100
 too_few a p e =
-    eqb-true (length a.body) 100 ((and_parts (bytes_eq a.method (codes "POST")) (eqb (length a.body) 100) (sym (submits_by a (Some Posting) e) ∙ p)).1)
+    eqb-true (length a.body) 100 ((and_parts (bytes_eq a.method (codes "POST")) (eqb (length a.body) 100)
+    (sym (submits_by a (Some Posting) e) ∙ p)).1)
 
 -- nothing is submitted, and the bank is left alone
 pub fixed : {C : Type 0} (seen : C → Seen) (w w' k : Option (List ℕ)) (c : C) (a : Asked) (x : Answer)
     (result : Result (Unit {0}) ServeFault)
     → is_posting a ≡ false × ((log : List Command) → answer_to log a ≡ x)
     → IsWrittenTo w w' (answer_text x (shows a) a.closes) result → OnErr result (result ≡ Err told.Write)
-    → (moment : ℕ) × AreReadings k k (readings_for moment a) × IsDealtWith seen w w' c c a (commands_for moment a) result
+    → (moment : ℕ) × AreReadings k k (readings_for moment a)
+    × IsDealtWith seen w w' c c a (commands_for moment a) result
 fixed seen w w' k c a x result is t err =
     let none : Takes (seen c) (seen c) (commands_for 0 a) =
-    subst (λ (cs : List Command). Takes (seen c) (seen c) cs) (sym (idle_commands a 0 is.0)) (record { shows = λ h log s. s; stands = λ h log s. s }) in
-    (0, idle_readings k a 0 is.0, told_answer seen w w' c c a (commands_for 0 a) x result none (λ d. d) (λ h log s. sym (is.1 log)) t err)
+    subst (λ (cs : List Command). Takes (seen c) (seen c) cs) (sym (idle_commands a 0 is.0))
+    (record { shows = λ h log s. s; stands = λ h log s. s }) in (
+      0,
+      idle_readings k a 0 is.0,
+      told_answer seen w w' c c a (commands_for 0 a) x result none (λ d. d)
+          (λ h log s. sym (is.1 log)) t err,
+    )
 
 -- something is read of the bank
 pub read_alone : {C : Type 0} (seen : C → Seen) (w w' k : Option (List ℕ)) (old new : C) (a : Asked)
     (result : Result (Unit {0}) ServeFault) → is_posting a ≡ false
     → IsDealtWith seen w w' old new a [] result
-    → (moment : ℕ) × AreReadings k k (readings_for moment a) × IsDealtWith seen w w' old new a (commands_for moment a) result
-read_alone seen w w' k old new a result idle m =
-    (0, idle_readings k a 0 idle, subst (λ (cs : List Command). IsDealtWith seen w w' old new a cs result) (sym (idle_commands a 0 idle)) m)
+    → (moment : ℕ) × AreReadings k k (readings_for moment a)
+    × IsDealtWith seen w w' old new a (commands_for moment a) result
+read_alone seen w w' k old new a result idle m = (
+  0,
+  idle_readings k a 0 idle,
+  subst (λ (cs : List Command). IsDealtWith seen w w' old new a cs result)
+      (sym (idle_commands a 0 idle)) m,
+)
 
 abbrev IsFixed : Asked → Response → Type 0
 IsFixed a response = (is_posting a ≡ false) × ((log : List Command) → answer_to log a ≡ said response)
 
 pub by_posting : (a : Asked) (o : Option Route) (r : Option Response) → route_of (path_of a.target) ≡ o
     → o ≡ Some Posting
-    → MatchOption r (is_record a ≡ true) (λ x. (is_record a ≡ false) × ((log : List Command) → answer_on log (Some Posting) a ≡ said x))
+    → MatchOption r (is_record a ≡ true)
+    (λ x. (is_record a ≡ false) × ((log : List Command) → answer_on log (Some Posting) a ≡ said x))
     → MatchOption r (IsForBank a o) (IsFixed a)
 by_posting a o None e f h =
     subst (λ (p : Option Route). IsForBank a p) (sym f) (submits_by a (Some Posting) (e ∙ f) ∙ h)
@@ -181,9 +214,11 @@ by_posting a o (Some x) e f h =
 
 reading_by : (a : Asked) (o : Option Route) (v : Route) (r : Option Response)
     → route_of (path_of a.target) ≡ o → o ≡ Some v → submits (Some v) a ≡ false
-    → ((log : List Command) → is_reading a.method ≡ false → answer_on log (Some v) a ≡ not_allowed (codes "GET, HEAD"))
+    → ((log : List Command) → is_reading a.method ≡ false
+    → answer_on log (Some v) a ≡ not_allowed (codes "GET, HEAD"))
     → (is_reading a.method ≡ true → is_posting a ≡ false → IsForBank a (Some v))
-    → MatchOption r (is_reading a.method ≡ true) (λ x. (is_reading a.method ≡ false) × (said x ≡ not_allowed (codes "GET, HEAD")))
+    → MatchOption r (is_reading a.method ≡ true)
+    (λ x. (is_reading a.method ≡ false) × (said x ≡ not_allowed (codes "GET, HEAD")))
     → MatchOption r (IsForBank a o) (IsFixed a)
 reading_by a o v None e f idle other bank h =
     subst (λ (p : Option Route). IsForBank a p) (sym f) (bank h (submits_by a (Some v) (e ∙ f) ∙ idle))
@@ -192,13 +227,15 @@ reading_by a o v (Some x) e f idle other bank h =
 
 pub by_account : (a : Asked) (o : Option Route) (r : Option Response) → route_of (path_of a.target) ≡ o
     → o ≡ Some Account
-    → MatchOption r (is_reading a.method ≡ true) (λ x. (is_reading a.method ≡ false) × (said x ≡ not_allowed (codes "GET, HEAD")))
+    → MatchOption r (is_reading a.method ≡ true)
+    (λ x. (is_reading a.method ≡ false) × (said x ≡ not_allowed (codes "GET, HEAD")))
     → MatchOption r (IsForBank a o) (IsFixed a)
 by_account a o r e f h = reading_by a o Account r e f refl (λ log n. rw n refl) (λ t n. (t, n)) h
 
 pub by_branches : (a : Asked) (o : Option Route) (r : Option Response) → route_of (path_of a.target) ≡ o
     → o ≡ Some Branches
-    → MatchOption r (is_reading a.method ≡ true) (λ x. (is_reading a.method ≡ false) × (said x ≡ not_allowed (codes "GET, HEAD")))
+    → MatchOption r (is_reading a.method ≡ true)
+    (λ x. (is_reading a.method ≡ false) × (said x ≡ not_allowed (codes "GET, HEAD")))
     → MatchOption r (IsForBank a o) (IsFixed a)
 by_branches a o r e f h = reading_by a o Branches r e f refl (λ log n. rw n refl) (λ t n. (t, n)) h
 

@@ -23,14 +23,24 @@ few_fields : (buf : List ℕ) (headers : List HeaderSpan) (count : ℕ) (h : Req
     → length h.fields ≡ count
 few_fields buf headers count h are fits =
     let len = ap length are in
-    omega (arith, len, length-map (take count headers) (header_bytes buf), length-map h.fields name_and_value, length-take count headers)
+    omega (
+      arith,
+      len,
+      length-map (take count headers) (header_bytes buf),
+      length-map h.fields name_and_value,
+      length-take count headers,
+    )
 
 pub head_is : (buf : List ℕ) (headers : List HeaderSpan) (r : RequestSpans) (h : RequestHead)
     → length headers ≡ 32 → IsRequestWithin buf headers r
     → IsRequestAt buf headers r h → r.len ≤ 8192 → IsHead h
 head_is buf headers r h room within at long = record {
   head = at.reads.0;
-  fields = omega (arith, few_fields buf headers r.headers h at.fields within.section.count_fits, within.section.count_fits);
+  fields = omega (
+    arith,
+    few_fields buf headers r.headers h at.fields within.section.count_fits,
+    within.section.count_fits,
+  );
   bytes = omega (arith, at.len);
 }
 
@@ -42,7 +52,8 @@ too_long buf headers r within found long more = (
   some_more buf more (omega (arith, within.section.len_fits)),
   λ h behind is e.
       let same = request_prefix_free buf more found.0 h (drop r.len buf) behind found.1.reads (is.head, e) in
-      let len : length (print_request found.0) ≡ length (print_request h) = ap (λ (x : RequestHead). length (print_request x)) same.0 in
+      let len : length (print_request found.0) ≡ length (print_request h) =
+      ap (λ (x : RequestHead). length (print_request x)) same.0 in
       absurd (omega (arith, is.bytes, found.1.len, len)),
 )
 
@@ -55,7 +66,11 @@ too_far buf none long more = (
       let fits : length text ≤ length buf = omega (arith, is.bytes) in
       let front : take (length text) buf ≡ text = sym (take-append-le (length text) buf more fits)
       ∙ ap (take (length text)) e ∙ take-append_seam text behind in
-      none h (drop (length text) buf) (is.head, sym (take-append-drop (length text) buf) ∙ ap (λ (t : List ℕ). t ++ drop (length text) buf) front),
+      none h (drop (length text) buf) (
+        is.head,
+        sym (take-append-drop (length text) buf)
+            ∙ ap (λ (t : List ℕ). t ++ drop (length text) buf) front,
+      ),
 )
 
 -- every head that could stand there has too many fields

@@ -34,7 +34,8 @@ digit_is c t =
     omega (arith, digit_value_digit c (low, high))
 
 read_from : (n : ℕ) (cs : List ℕ)
-    → length_from (min n 4097) cs ≡ cond (list_all is_ascii_digit cs && leb (digits_value_after 10 n cs) 4096) (Some (digits_value_after 10 n cs)) None
+    → length_from (min n 4097) cs ≡ cond (list_all is_ascii_digit cs && leb (digits_value_after 10 n cs) 4096)
+    (Some (digits_value_after 10 n cs)) None
 read_from n [] = capped n
 read_from n (c ∷ cs) = elim (cases_Bool (is_ascii_digit c)) [
   | inl t ↦
@@ -58,7 +59,8 @@ abbrev pub length_behind : Option ℕ → List NamedValue → Option ℕ
 length_behind stated [] = Some (unwrap_or stated 0)
 length_behind stated (f ∷ fs) =
     cond (is_named (codes "transfer-encoding") f) None
-    (cond (is_named (codes "content-length") f) (on_stated stated (stated_length f.1) (λ o. length_behind o fs)) (length_behind stated fs))
+    (cond (is_named (codes "content-length") f)
+    (on_stated stated (stated_length f.1) (λ o. length_behind o fs)) (length_behind stated fs))
 
 abbrev only : ℕ → List (List ℕ) → Option ℕ
 only n [] = Some n
@@ -157,9 +159,11 @@ few_length fs = rw (length_is fs) (few_behind None fs tt)
 
 pub field_there : (buf : List ℕ) (fields : List HeaderSpan) (i : ℕ) (f : HeaderSpan) → i < length fields
     → f ≡ get_or fields i f
-    → map (header_bytes buf) (drop i fields) ≡ header_bytes buf f ∷ map (header_bytes buf) (drop (i + 1) fields)
+    → map (header_bytes buf) (drop i fields) ≡ header_bytes buf f
+    ∷ map (header_bytes buf) (drop (i + 1) fields)
 field_there buf fields i f lt is =
-    let there : drop i fields ≡ f ∷ drop (i + 1) fields = rw add-one (drop-cons fields i f lt ∙ ap (λ (x : HeaderSpan). x ∷ drop (suc i) fields) (sym is)) in
+    let there : drop i fields ≡ f ∷ drop (i + 1) fields =
+    rw add-one (drop-cons fields i f lt ∙ ap (λ (x : HeaderSpan). x ∷ drop (suc i) fields) (sym is)) in
     ap (λ (t : List HeaderSpan). map (header_bytes buf) t) there
 
 pub names_coding : (stated : Option ℕ) (f : NamedValue) (fs : List NamedValue)

@@ -28,7 +28,11 @@ pub record Asking {C : Type 0} (seen : C → Seen) (old now : C) : Type 0 where
   pub takes : Takes (seen old) (seen now) []
 
 pub asking_first : {C : Type 0} (seen : C → Seen) (c : C) → Asking seen c c
-asking_first seen c = record { honest = λ h. h; up = λ d. d; takes = record { shows = λ h log s. s; stands = λ h log s. s } }
+asking_first seen c = record {
+  honest = λ h. h;
+  up = λ d. d;
+  takes = record { shows = λ h log s. s; stands = λ h log s. s };
+}
 
 -- one call more
 pub asking_more : {C : Type 0} (seen : C → Seen) (old now new : C) → Asking seen old now
@@ -48,7 +52,14 @@ pub asking_refused : {C : Type 0} (seen : C → Seen) (old now new : C) (fault :
     → Refuses fault (seen now) (seen new) [] → ((seen new).honest → (seen now).honest)
     → IsRefusedAt seen old new fault []
 asking_refused seen old now new fault a refuses honest =
-    record { stood = now; honest_first = a.honest; honest = honest; up = a.up; takes = a.takes; refuses = refuses }
+    record {
+      stood = now;
+      honest_first = a.honest;
+      honest = honest;
+      up = a.up;
+      takes = a.takes;
+      refuses = refuses;
+    }
 
 -- memory for what it answered was refused
 pub asking_full : {C : Type 0} (seen : C → Seen) (old now : C) → Asking seen old now
@@ -90,7 +101,8 @@ at_branch log (suc m) accounts balance some e z =
     ∙ ap (λ (k : ℕ). lines_up_to log k ++ branch_line (suc m) accounts balance) less
 
 pub next_line : (log : List Command) (after : ℕ) (line : BranchLine) → IsNextBranch log after (Some line)
-    → lines_up_to log line.branch ≡ lines_up_to log after ++ branch_line line.branch line.accounts line.balance
+    → lines_up_to log line.branch ≡ lines_up_to log after
+    ++ branch_line line.branch line.accounts line.balance
 next_line log after line is =
     let low : after < line.branch = is.above in
     at_branch log line.branch line.accounts line.balance (omega arith) is.accounts is.balance
@@ -100,7 +112,8 @@ next_line log after line is =
 pub all_listed : (log : List Command) (after : ℕ) → IsNextBranch log after None → after ≤ LAST_BRANCH
     → lines_up_to log after ≡ branch_lines log
 unfolding branch_lines
-all_listed log after none le = sym (skipped log after (suc LAST_BRANCH) LAST_BRANCH (λ b low high. none b low) le (omega arith))
+all_listed log after none le =
+    sym (skipped log after (suc LAST_BRANCH) LAST_BRANCH (λ b low high. none b low) le (omega arith))
 
 -- ---- a number, right in so many places
 
@@ -116,14 +129,16 @@ lay : (d s : List ℕ) (m m' z : ℕ) → m' ≡ m → z ≡ 0
 lay d s m m' z e f = rw (e, f, filled m) (simp (append_assoc, append-nil))
 
 right : (n k : ℕ)
-    → padded_integral (format_spec 32 3 0 n 18446744073709551615) false [] (decimal k) ≡ right_in n (decimal k)
+    → padded_integral (format_spec 32 3 0 n 18446744073709551615) false [] (decimal k)
+    ≡ right_in n (decimal k)
 unfolding padded_integral char_count
 right n k =
     let d = length (decimal k) in
     lay (decimal k) [] (n - d) (n - d - 0 - 0) (n - d - 0 - 0 - (n - d - 0 - 0)) (omega arith) (omega arith)
 
 right_signed : (n : ℕ) (z : ℤ)
-    → padded_integral (format_spec 32 3 0 n 18446744073709551615) (is_negative z) [] (decimal (nat_abs z)) ≡ right_in n (signed_decimal z)
+    → padded_integral (format_spec 32 3 0 n 18446744073709551615) (is_negative z) [] (decimal (nat_abs z))
+    ≡ right_in n (signed_decimal z)
 unfolding padded_integral char_count
 right_signed n (pos k) =
     let plus : is_negative (pos k) ≡ false = le-ltb k 0 (omega arith) in
@@ -131,21 +146,27 @@ right_signed n (pos k) =
     ∙ right n k
 right_signed n (negsuc k) =
     let d = length (decimal (suc k)) in
-    lay (decimal (suc k)) (45 ∷ []) (n - suc d) (n - d - 1 - 0) (n - d - 1 - 0 - (n - d - 1 - 0)) (omega arith) (omega arith)
+    lay (decimal (suc k)) (45 ∷ []) (n - suc d) (n - d - 1 - 0) (n - d - 1 - 0 - (n - d - 1 - 0))
+    (omega arith) (omega arith)
 
 pub line_text : (b a : ℕ) (z y : ℤ) → y ≡ z
     → padded_integral (format_spec 32 3 0 6 18446744073709551615) false [] (decimal b)
     ++ (32 ∷ (padded_integral (format_spec 32 3 0 7 18446744073709551615) false [] (decimal a)
-    ++ (32 ∷ (padded_integral (format_spec 32 3 0 14 18446744073709551615) (is_negative y) [] (decimal (nat_abs y)) ++ (10 ∷ []))))) ≡ branch_line b a z
+    ++ (32 ∷ (padded_integral (format_spec 32 3 0 14 18446744073709551615) (is_negative y) []
+    (decimal (nat_abs y)) ++ (10 ∷ []))))) ≡ branch_line b a z
 line_text b a z y e =
-    rw (e, right 6 b, right 7 a, right_signed 14 z) (six (right_in 6 (decimal b)) (32 ∷ []) (right_in 7 (decimal a)) (32 ∷ []) (right_in 14 (signed_decimal z)) (10 ∷ []))
+    rw (e, right 6 b, right 7 a, right_signed 14 z)
+    (six (right_in 6 (decimal b)) (32 ∷ []) (right_in 7 (decimal a)) (32 ∷ [])
+    (right_in 14 (signed_decimal z)) (10 ∷ []))
   where
     six : (p s q u r l : List ℕ) → p ++ (s ++ (q ++ (u ++ (r ++ l)))) ≡ p ++ s ++ q ++ u ++ r ++ l
     six p s q u r l = simp append_assoc
 
 pub account_text : (a b : ℕ) (z y : ℤ) → b ≡ a → y ≡ z
-    → codes "account " ++ (decimal b ++ (codes " balance " ++ (signed_decimal y ++ codes "\n"))) ≡ account_line a z
-account_text a b z y f e = rw (f, e) (four (codes "account ") (decimal a) (codes " balance ") (signed_decimal z) (codes "\n"))
+    → codes "account " ++ (decimal b ++ (codes " balance " ++ (signed_decimal y ++ codes "\n")))
+    ≡ account_line a z
+account_text a b z y f e =
+    rw (f, e) (four (codes "account ") (decimal a) (codes " balance ") (signed_decimal z) (codes "\n"))
   where
     four : (p d q s l : List ℕ) → p ++ (d ++ (q ++ (s ++ l))) ≡ p ++ d ++ q ++ s ++ l
     four p d q s l = simp append_assoc

@@ -40,7 +40,8 @@ balance_alike a b account h =
     sym (sum_zeroed (λ r. eqb r.account account) (decided a))
     ∙ ap (λ (es : List Entry). account_balance es account) h.entries
     ∙ sum_zeroed (λ r. eqb r.account account) (decided b) in
-    ap (λ (o : Opened). cond (is_account_open o account) (Some (account_balance (decided a) account)) None) h.opens
+    ap (λ (o : Opened). cond (is_account_open o account) (Some (account_balance (decided a) account)) None)
+    h.opens
     ∙ ap (λ (z : ℤ). cond (is_account_open (λ n. opened b n) account) (Some z) None) sum
 
 line_alike : (a b : List Command) (branch : ℕ) (o : Option ℕ) → IsAlike a b
@@ -48,7 +49,8 @@ line_alike : (a b : List Command) (branch : ℕ) (o : Option ℕ) → IsAlike a 
 line_alike a b branch None h = refl
 line_alike a b branch (Some accounts) h =
     ap (branch_line branch accounts)
-    (sym (sum_zeroed (λ r. eqb r.branch branch) (decided a)) ∙ ap (λ (es : List Entry). branch_balance es branch) h.entries
+    (sym (sum_zeroed (λ r. eqb r.branch branch) (decided a))
+    ∙ ap (λ (es : List Entry). branch_balance es branch) h.entries
     ∙ sum_zeroed (λ r. eqb r.branch branch) (decided b))
 
 lines_alike : (a b : List Command) (n : ℕ) → IsAlike a b → lines_up_to a n ≡ lines_up_to b n
@@ -56,7 +58,8 @@ lines_alike a b zero h = refl
 lines_alike a b (suc n) h =
     ap (λ (t : List ℕ). t ++ line_if_open a (suc n) (opened a (suc n))) (lines_alike a b n h)
     ∙ ap (λ (t : List ℕ). lines_up_to b n ++ t)
-    (line_alike a b (suc n) (opened a (suc n)) h ∙ ap (λ (o : Opened). line_if_open b (suc n) (o (suc n))) h.opens)
+    (line_alike a b (suc n) (opened a (suc n)) h
+    ∙ ap (λ (o : Opened). line_if_open b (suc n) (o (suc n))) h.opens)
 
 branches_alike : (a b : List Command) → IsAlike a b → branch_lines a ≡ branch_lines b
 unfolding branch_lines
@@ -72,18 +75,22 @@ on_alike : (a b : List Command) (o : Option Route) (asked : Asked) → IsAlike a
 on_alike a b None asked h = refl
 on_alike a b (Some Posting) asked h =
     ap (λ (r : ReplyFields). cond (bytes_eq asked.method (codes "POST"))
-    (cond (eqb (length asked.body) 100) (record { code = 200; media = codes "application/octet-stream"; allow = None; body = reply_spelling r }) (bare 400))
+    (cond (eqb (length asked.body) 100)
+    (record { code = 200; media = codes "application/octet-stream"; allow = None; body = reply_spelling r })
+    (bare 400))
     (not_allowed (codes "POST"))) (reply_alike a b asked.body h)
 on_alike a b (Some Account) asked h =
     ap (λ (x : Answer). cond (is_reading asked.method) x (not_allowed (codes "GET, HEAD")))
     (account_alike a b (account_named (account_in (path_of asked.target))) h)
 on_alike a b (Some Branches) asked h =
-    ap (λ (x : List ℕ). cond (is_reading asked.method) (plain x) (not_allowed (codes "GET, HEAD"))) (branches_alike a b h)
+    ap (λ (x : List ℕ). cond (is_reading asked.method) (plain x) (not_allowed (codes "GET, HEAD")))
+    (branches_alike a b h)
 
 answer_alike : (a b : List Command) (asked : Asked) → IsAlike a b → answer_of a asked ≡ answer_of b asked
 unfolding answer_to
 answer_alike a b asked h =
-    ap (λ (x : Answer). answer_text x (shows asked) asked.closes) (on_alike a b (route_of (path_of asked.target)) asked h)
+    ap (λ (x : Answer). answer_text x (shows asked) asked.closes)
+    (on_alike a b (route_of (path_of asked.target)) asked h)
 
 -- ---- what stands behind
 

@@ -30,7 +30,8 @@ made h k x y eh ex = rw (eh, ex) refl
 same_message : (m n : Message) (a b : List ℕ) → IsMessage m → IsMessage n
     → message_text m ++ a ≡ message_text n ++ b → (m ≡ n) × (a ≡ b)
 same_message m n a b im jn e =
-    let same = request_unique (message_text m ++ a) m.head n.head (m.body ++ a) (n.body ++ b) (im.head.head, append_assoc (print_request m.head) m.body a)
+    let same = request_unique (message_text m ++ a) m.head n.head (m.body ++ a) (n.body ++ b)
+    (im.head.head, append_assoc (print_request m.head) m.body a)
     (jn.head.head, e ∙ append_assoc (print_request n.head) n.body b) in
     let lengths : Some (length m.body) ≡ Some (length n.body) = sym im.body
     ∙ ap (λ (h : RequestHead). body_length (named_values h)) same.0 ∙ jn.body in
@@ -41,7 +42,13 @@ same_message m n a b im jn e =
 some_text : (m : Message) (a : List ℕ) → IsMessage m → message_text m ++ a ≢ []
 some_text m a im e =
     let len = ap length e in
-    absurd (omega (arith, len, length-append (message_text m) a, length-append (print_request m.head) m.body, head_some m.head im.head.head))
+    absurd (omega (
+      arith,
+      len,
+      length-append (message_text m) a,
+      length-append (print_request m.head) m.body,
+      head_some m.head im.head.head,
+    ))
 
 ends_unique : (e f : Ending) (rest : List ℕ) → Ends e rest → Ends f rest → e ≡ f
 ends_unique Finished Finished rest x y = refl
@@ -60,7 +67,9 @@ ends_unique (No_body h) Finished rest x y =
     absurd (omega (arith, len, length-append (print_request h) x.1.0, head_some h x.0.head))
 ends_unique (No_body h) Closed rest x y = absurd y
 ends_unique (No_body h) No_head rest x y = absurd (y.1 h x.1.0 x.0 x.1.1)
-ends_unique (No_body h) (No_body k) rest x y = ap (λ (j : RequestHead). No_body j) (request_unique rest h k x.1.0 y.1.0 (x.0.head, x.1.1) (y.0.head, y.1.1)).0
+ends_unique (No_body h) (No_body k) rest x y =
+    ap (λ (j : RequestHead). No_body j)
+    (request_unique rest h k x.1.0 y.1.0 (x.0.head, x.1.1) (y.0.head, y.1.1)).0
 
 more : (m n : Message) (ms ns : List Message) → m ≡ n → ms ≡ ns → m ∷ ms ≡ n ∷ ns
 more m n ms ns e es = rw (e, es) refl
@@ -80,7 +89,8 @@ walk_unique input (m ∷ ms) (n ∷ ns) e f x y =
           (more m n ms ns same.0 (a.0 ∙ sym b.0), a.1 ∙ sym b.1)
       | inr o ↦
           let a = x.1.3 o in
-          let b : Walks x.1.0 ns f = subst (λ (r : List ℕ). Walks r ns f) (sym same.1) (y.1.3 (sym ends ∙ o)) in
+          let b : Walks x.1.0 ns f =
+          subst (λ (r : List ℕ). Walks r ns f) (sym same.1) (y.1.3 (sym ends ∙ o)) in
           let rest = walk_unique x.1.0 ms ns e f a b in
           (more m n ms ns same.0 rest.0, rest.1)
     ]
@@ -92,8 +102,10 @@ front_unique [] [] a b im jn none none' e = refl
 front_unique [] (n ∷ ns) a b im jn none none' e =
     absurd (none n (texts_of_all ns ++ b) jn.0.whole (e ∙ append_assoc (message_text n) (texts_of_all ns) b))
 front_unique (m ∷ ms) [] a b im jn none none' e =
-    absurd (none' m (texts_of_all ms ++ a) im.0.whole (sym e ∙ append_assoc (message_text m) (texts_of_all ms) a))
+    absurd (none' m (texts_of_all ms ++ a) im.0.whole
+    (sym e ∙ append_assoc (message_text m) (texts_of_all ms) a))
 front_unique (m ∷ ms) (n ∷ ns) a b im jn none none' e =
     let same = same_message m n (texts_of_all ms ++ a) (texts_of_all ns ++ b) im.0.whole jn.0.whole
-    (sym (append_assoc (message_text m) (texts_of_all ms) a) ∙ e ∙ append_assoc (message_text n) (texts_of_all ns) b) in
+    (sym (append_assoc (message_text m) (texts_of_all ms) a) ∙ e
+    ∙ append_assoc (message_text n) (texts_of_all ns) b) in
     more m n ms ns same.0 (front_unique ms ns a b im.1 jn.1 none none' same.1)

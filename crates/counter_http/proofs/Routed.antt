@@ -53,7 +53,8 @@ literal_step : (rs : Rs) (b : ℕ) (path : List ℕ) → step 256 rs ≡ no_rows
     → seek 0 rs (b ∷ path) ≡ seek 0 (step b rs) path
 unfolding seek
 literal_step rs b path e f =
-    rw (e, f, param_none (b ∷ path), seek_none ((param_step no_rows (b ∷ path)).0 - 1) path) (or_none (seek 0 (step b rs) path))
+    rw (e, f, param_none (b ∷ path), seek_none ((param_step no_rows (b ∷ path)).0 - 1) path)
+    (or_none (seek 0 (step b rs) path))
 
 -- ---- one row of bytes
 
@@ -80,7 +81,8 @@ seek_row [] k [] all = refl
 seek_row [] k (b ∷ path) all = literal_step (row [] k) b path refl refl ∙ seek_none 0 path
 seek_row (x ∷ text) k [] all = refl
 seek_row (x ∷ text) k (b ∷ path) all =
-    literal_step (row (x ∷ text) k) b path (step_other x 256 text k (apart x 256 all.0)) (step_other x 257 text k (apart x 257 (omega (arith, all.0))))
+    literal_step (row (x ∷ text) k) b path (step_other x 256 text k (apart x 256 all.0))
+    (step_other x 257 text k (apart x 257 (omega (arith, all.0))))
     ∙ elim (cases_Bool (eqb x b)) [
       | inl t ↦ let u : eqb b x ≡ true = eqb_sym b x ∙ t in rw (t, u) (seek_row text k path all.1)
       | inr f ↦ let u : eqb b x ≡ false = eqb_sym b x ∙ f in rw (f, u) (seek_none 0 path)
@@ -124,7 +126,9 @@ param_first k b path byte =
     rw (other, seek_none 0 path) (param_row (has_slash (b ∷ path)) (length path) k path refl)
 
 abbrev leads : List ℕ → List ℕ → Bool
-leads lit path = bytes_eq (take (length lit) path) lit && (ltb (length lit) (length path) && not (list_any is_slash (drop (length lit) path)))
+leads lit path =
+    bytes_eq (take (length lit) path) lit &&
+    (ltb (length lit) (length path) && not (list_any is_slash (drop (length lit) path)))
 
 seek_account : (lit : List ℕ) (k : RouteOf Route) (path : List ℕ) → AreBytes lit → AreBytes path
     → seek 0 (row (lit ++ 256 ∷ []) k) path ≡ cond (leads lit path) (Some k) None
@@ -135,7 +139,8 @@ seek_account [] k (b ∷ path) all bytes =
     rw (some, slash_same (b ∷ path)) (param_first k b path bytes.0)
 seek_account (x ∷ lit) k [] all bytes = refl
 seek_account (x ∷ lit) k (b ∷ path) all bytes =
-    literal_step (row (x ∷ (lit ++ 256 ∷ [])) k) b path (step_other x 256 _ k (apart x 256 all.0)) (step_other x 257 _ k (apart x 257 (omega (arith, all.0))))
+    literal_step (row (x ∷ (lit ++ 256 ∷ [])) k) b path (step_other x 256 _ k (apart x 256 all.0))
+    (step_other x 257 _ k (apart x 257 (omega (arith, all.0))))
     ∙ elim (cases_Bool (eqb x b)) [
       | inl t ↦ let u : eqb b x ≡ true = eqb_sym b x
           ∙ t in rw (t, u, ltb_suc (length lit) (length path)) (seek_account lit k path all.1 bytes.1)
@@ -153,7 +158,9 @@ mapped true k = refl
 mapped false k = refl
 
 abbrev behind_slash : Rs
-behind_slash = (codes "account/" ++ 256 ∷ [], account_row.1) ∷ (codes "branches", (fixed (codes "/branches") Branches).1) ∷ (codes "post", (fixed (codes "/post") Posting).1) ∷ []
+behind_slash = (codes "account/" ++ 256 ∷ [], account_row.1)
+    ∷ (codes "branches", (fixed (codes "/branches") Branches).1)
+    ∷ (codes "post", (fixed (codes "/post") Posting).1) ∷ []
 
 ltb_nine : (n : ℕ) → ltb 9 (suc (suc n)) ≡ ltb 7 n
 ltb_nine n = ltb_suc 8 (suc n) ∙ ltb_suc 7 n
@@ -161,18 +168,23 @@ ltb_nine n = ltb_suc 8 (suc n) ∙ ltb_suc 7 n
 second_account : (q : List ℕ) → AreBytes q
     → option_map value_in (seek 0 behind_slash (97 ∷ q)) ≡ route_named (47 ∷ 97 ∷ q)
 second_account q bytes =
-    ap (option_map value_in) (literal_step behind_slash 97 q refl refl ∙ seek_account (codes "ccount/") account_row.1 q (lit< tt, (lit< tt, (lit< tt, (lit< tt, (lit< tt, (lit< tt, (lit< tt, tt))))))) bytes)
+    ap (option_map value_in) (literal_step behind_slash 97 q refl refl
+    ∙ seek_account (codes "ccount/") account_row.1 q
+    (lit< tt, (lit< tt, (lit< tt, (lit< tt, (lit< tt, (lit< tt, (lit< tt, tt))))))) bytes)
     ∙ mapped (leads (codes "ccount/") q) account_row.1 ∙ (rw ltb_nine refl)
 
 second_branches : (q : List ℕ)
     → option_map value_in (seek 0 behind_slash (98 ∷ q)) ≡ route_named (47 ∷ 98 ∷ q)
 second_branches q =
-    ap (option_map value_in) (literal_step behind_slash 98 q refl refl ∙ seek_row (codes "ranches") (fixed (codes "/branches") Branches).1 q (lit< tt, (lit< tt, (lit< tt, (lit< tt, (lit< tt, (lit< tt, (lit< tt, tt))))))))
+    ap (option_map value_in) (literal_step behind_slash 98 q refl refl
+    ∙ seek_row (codes "ranches") (fixed (codes "/branches") Branches).1 q
+    (lit< tt, (lit< tt, (lit< tt, (lit< tt, (lit< tt, (lit< tt, (lit< tt, tt))))))))
     ∙ mapped (bytes_eq q (codes "ranches")) (fixed (codes "/branches") Branches).1
 
 second_post : (q : List ℕ) → option_map value_in (seek 0 behind_slash (112 ∷ q)) ≡ route_named (47 ∷ 112 ∷ q)
 second_post q =
-    ap (option_map value_in) (literal_step behind_slash 112 q refl refl ∙ seek_row (codes "ost") (fixed (codes "/post") Posting).1 q (lit< tt, (lit< tt, (lit< tt, tt))))
+    ap (option_map value_in) (literal_step behind_slash 112 q refl refl
+    ∙ seek_row (codes "ost") (fixed (codes "/post") Posting).1 q (lit< tt, (lit< tt, (lit< tt, tt))))
     ∙ mapped (bytes_eq q (codes "ost")) (fixed (codes "/post") Posting).1
 
 second_other : (c : ℕ) (q : List ℕ) → eqb c 97 ≡ false → eqb c 98 ≡ false → eqb c 112 ≡ false
@@ -182,18 +194,22 @@ second_other c q a b p =
     let b' : eqb 98 c ≡ false = eqb_sym 98 c ∙ b in
     let p' : eqb 112 c ≡ false = eqb_sym 112 c ∙ p in
     let none : step c behind_slash ≡ no_rows = rw (a', b', p') refl in
-    ap (option_map value_in) (literal_step behind_slash c q refl refl ∙ ap (λ (rs : Rs). seek 0 rs q) none ∙ seek_none 0 q)
+    ap (option_map value_in) (literal_step behind_slash c q refl refl ∙ ap (λ (rs : Rs). seek 0 rs q) none
+    ∙ seek_none 0 q)
     ∙ (rw (a, b, p) refl)
 
 second : (p : List ℕ) → AreBytes p → option_map value_in (seek 0 behind_slash p) ≡ route_named (47 ∷ p)
 unfolding seek
 second [] bytes = refl
 second (c ∷ q) bytes = elim (cases_eq c 97) [
-  | inl e ↦ subst (λ (x : ℕ). option_map value_in (seek 0 behind_slash (x ∷ q)) ≡ route_named (47 ∷ x ∷ q)) (sym e) (second_account q bytes.1)
+  | inl e ↦ subst (λ (x : ℕ). option_map value_in (seek 0 behind_slash (x ∷ q)) ≡ route_named (47 ∷ x ∷ q))
+      (sym e) (second_account q bytes.1)
   | inr a ↦ elim (cases_eq c 98) [
-    | inl e ↦ subst (λ (x : ℕ). option_map value_in (seek 0 behind_slash (x ∷ q)) ≡ route_named (47 ∷ x ∷ q)) (sym e) (second_branches q)
+    | inl e ↦ subst (λ (x : ℕ). option_map value_in (seek 0 behind_slash (x ∷ q)) ≡ route_named (47 ∷ x ∷ q))
+        (sym e) (second_branches q)
     | inr b ↦ elim (cases_eq c 112) [
-      | inl e ↦ subst (λ (x : ℕ). option_map value_in (seek 0 behind_slash (x ∷ q)) ≡ route_named (47 ∷ x ∷ q)) (sym e) (second_post q)
+      | inl e ↦ subst (λ (x : ℕ). option_map value_in (seek 0 behind_slash (x ∷ q))
+          ≡ route_named (47 ∷ x ∷ q)) (sym e) (second_post q)
       | inr p ↦ second_other c q (ne_eqb c 97 a) (ne_eqb c 98 b) (ne_eqb c 112 p)
     ]
   ]
@@ -209,7 +225,8 @@ routed (b ∷ p) bytes = elim (cases_eq b 47) [
       let u : eqb b 47 ≡ false = ne_eqb b 47 n in
       let v : eqb 47 b ≡ false = eqb_sym 47 b ∙ u in
       let none : step b all_routes ≡ no_rows = rw v refl in
-      ap (option_map value_in) (literal_step all_routes b p refl refl ∙ ap (λ (rs : Rs). seek 0 rs p) none ∙ seek_none 0 p) ∙ (rw u refl)
+      ap (option_map value_in) (literal_step all_routes b p refl refl ∙ ap (λ (rs : Rs). seek 0 rs p) none
+      ∙ seek_none 0 p) ∙ (rw u refl)
 ]
 
 -- ---- the route of a target

@@ -60,12 +60,14 @@ told_held held held' text more e t = record {
 -- what is taken of a text is a beginning of it
 pub front_of : (n : ℕ) (xs : List ℕ) → take n xs ≡ take (length (take n xs)) xs
 front_of n xs =
-    sym (ap (take (length (take n xs))) (sym (take-append-drop n xs)) ∙ take-append_seam (take n xs) (drop n xs))
+    sym (ap (take (length (take n xs))) (sym (take-append-drop n xs))
+    ∙ take-append_seam (take n xs) (drop n xs))
 
 -- a beginning of what was held was written
 front_take : (n : ℕ) (a b : List ℕ) → n ≤ length b → a ++ take n b ≡ take (length (a ++ take n b)) (a ++ b)
 front_take n a b fits =
-    let len : length (a ++ take n b) ≡ length a + n = omega (arith, length-append a (take n b), length-take-le n b fits) in
+    let len : length (a ++ take n b) ≡ length a + n =
+    omega (arith, length-append a (take n b), length-take-le n b fits) in
     sym (ap (λ (k : ℕ). take k (a ++ b)) len ∙ take-append-add a b n)
 
 pub told_sent : {A E : Type 0} {a b c : Option (List ℕ)} (held text : List ℕ) (r : Result A E)
@@ -102,7 +104,8 @@ told_more {a = a} {b = b} {c = c} text more done r t w e =
       begins = front_take w.0 t.written more w.1
           ∙ ap (λ (x : List ℕ). take (length both) (x ++ more)) (sym all);
       whole = λ yes.
-          let whole : take w.0 more ≡ more = take_all w.0 more (omega (arith, on_ok_true r w.3 (sym e ∙ yes))) in
+          let whole : take w.0 more ≡ more =
+          take_all w.0 more (omega (arith, on_ok_true r w.3 (sym e ∙ yes))) in
           ap (λ (x : List ℕ). x ++ more) all ∙ ap (λ (x : List ℕ). t.written ++ x) (sym whole)
           ∙ sym (append-nil both);
     }
@@ -110,12 +113,14 @@ told_more {a = a} {b = b} {c = c} text more done r t w e =
 -- one text in place of another, and one that holds the same
 pub told_as : {a b : Option (List ℕ)} {going : Bool} {held : List ℕ} (text other : List ℕ) → text ≡ other
     → IsTold a b going held text → IsTold a b going held other
-told_as {a = a} {b = b} {going = going} {held = held} text other e t = subst (λ (x : List ℕ). IsTold a b going held x) e t
+told_as {a = a} {b = b} {going = going} {held = held} text other e t =
+    subst (λ (x : List ℕ). IsTold a b going held x) e t
 
 pub holding : {a b : Option (List ℕ)} {going : Bool} {held held' text : List ℕ} → held ≡ held'
     → IsTold a b going held text
     → IsTold a b going held' text
-holding {a = a} {b = b} {going = going} {text = text} e t = subst (λ (x : List ℕ). IsTold a b going x text) e t
+holding {a = a} {b = b} {going = going} {text = text} e t =
+    subst (λ (x : List ℕ). IsTold a b going x text) e t
 
 pub telling : {a b : Option (List ℕ)} {going going' : Bool} {held text : List ℕ} → going ≡ going'
     → IsTold a b going held text
@@ -128,10 +133,12 @@ front_four a b c d = ap (λ (x : List ℕ). x ++ d) (append_assoc a b c) ∙ app
 
 pub first_is : (a : Answer) (digits phrase : List ℕ) → digits ≡ code_digits a.code
     → phrase ≡ unwrap_or (reason_phrase a.code) []
-    → ((((((([] ++ codes "HTTP/1.1 ") ++ digits) ++ codes " ") ++ phrase) ++ codes "\r\nContent-Type: ") ++ a.media) ++ codes "\r\nContent-Length: ") ≡ first_lines a
+    → ((((((([] ++ codes "HTTP/1.1 ") ++ digits) ++ codes " ") ++ phrase) ++ codes "\r\nContent-Type: ")
+    ++ a.media) ++ codes "\r\nContent-Length: ") ≡ first_lines a
 unfolding first_lines status_words
 first_is a digits phrase d p =
-    rw (d, p) (ap (λ (x : List ℕ). ((x ++ codes "\r\nContent-Type: ") ++ a.media) ++ codes "\r\nContent-Length: ")
+    rw (d, p) (ap (λ (x : List ℕ). ((x ++ codes "\r\nContent-Type: ") ++ a.media)
+    ++ codes "\r\nContent-Length: ")
     (front_four (codes "HTTP/1.1 ") (code_digits a.code) (codes " ") (unwrap_or (reason_phrase a.code) [])))
 
 -- the reason phrase, where there is one
@@ -141,15 +148,18 @@ phrase_is f None x r none e = none ∙ ap (λ (q : Option (List ℕ)). unwrap_or
 phrase_is f (Some y) x r none e = ap (λ (q : Option (List ℕ)). unwrap_or q []) e
 
 regroup : (h s i m j d q a l r b : List ℕ)
-    → (((h ++ s ++ i ++ m ++ j) ++ d) ++ (q ++ a ++ l ++ r)) ++ b ≡ h ++ s ++ i ++ m ++ j ++ d ++ q ++ a ++ l ++ r ++ b
+    → (((h ++ s ++ i ++ m ++ j) ++ d) ++ (q ++ a ++ l ++ r)) ++ b ≡ h ++ s ++ i ++ m ++ j ++ d ++ q ++ a ++ l
+    ++ r ++ b
 regroup h s i m j d q a l r b = simp append_assoc
 
 -- the text of an answer
 pub text_shown : (a : Answer) (closes : Bool)
-    → ((first_lines a ++ decimal (length a.body)) ++ last_lines a closes) ++ a.body ≡ answer_text a true closes
+    → ((first_lines a ++ decimal (length a.body)) ++ last_lines a closes) ++ a.body
+    ≡ answer_text a true closes
 unfolding first_lines last_lines answer_text
 text_shown a closes =
-    regroup (codes "HTTP/1.1 ") (status_words a.code) (codes "\r\nContent-Type: ") a.media (codes "\r\nContent-Length: ") (decimal (length a.body))
+    regroup (codes "HTTP/1.1 ") (status_words a.code) (codes "\r\nContent-Type: ") a.media
+    (codes "\r\nContent-Length: ") (decimal (length a.body))
     (codes "\r\n") (allow_line a.allow) (close_line closes) (codes "\r\n") a.body
 
 pub text_hidden : (a : Answer) (closes : Bool)
@@ -157,7 +167,8 @@ pub text_hidden : (a : Answer) (closes : Bool)
 unfolding first_lines last_lines answer_text
 text_hidden a closes =
     sym (append-nil _)
-    ∙ regroup (codes "HTTP/1.1 ") (status_words a.code) (codes "\r\nContent-Type: ") a.media (codes "\r\nContent-Length: ") (decimal (length a.body))
+    ∙ regroup (codes "HTTP/1.1 ") (status_words a.code) (codes "\r\nContent-Type: ") a.media
+    (codes "\r\nContent-Length: ") (decimal (length a.body))
     (codes "\r\n") (allow_line a.allow) (close_line closes) (codes "\r\n") []
 
 -- the writer failed
@@ -178,7 +189,8 @@ told_all a b c held text r t w =
     let len : length text ≡ length t.written + length held = ap length (t.whole refl)
     ∙ length-append t.written held in (
       length t.written + w.0,
-      subst (λ (x : List ℕ). Appends a c x) begins (Appends-trans a b c t.written (take w.0 held) t.wrote w.2),
+      subst (λ (x : List ℕ). Appends a c x) begins
+          (Appends-trans a b c t.written (take w.0 held) t.wrote w.2),
       on_ok_also r w.3 (λ e. omega (arith, e, len)),
     )
 
@@ -198,7 +210,8 @@ pub last_is : (a : Answer) (text allow close : List ℕ) (closes : Bool) → all
     → close ≡ close_line closes
     → (((text ++ codes "\r\n") ++ allow) ++ close) ++ codes "\r\n" ≡ text ++ last_lines a closes
 unfolding last_lines
-last_is a text allow close closes e f = rw (e, f) (four text (codes "\r\n") (allow_line a.allow) (close_line closes) (codes "\r\n"))
+last_is a text allow close closes e f =
+    rw (e, f) (four text (codes "\r\n") (allow_line a.allow) (close_line closes) (codes "\r\n"))
   where
     four : (t q a l r : List ℕ) → (((t ++ q) ++ a) ++ l) ++ r ≡ t ++ (q ++ a ++ l ++ r)
     four t q a l r = simp append_assoc

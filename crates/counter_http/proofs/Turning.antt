@@ -20,10 +20,13 @@ readings_append k k' k'' (x ∷ xs) ys e more = (e.0, readings_append (after_one
 pub takes_append : (c c' c'' : Seen) (cs ds : List Command) → (c''.honest → c'.honest) → Takes c c' cs
     → Takes c' c'' ds → Takes c c'' (cs ++ ds)
 takes_append c c' c'' cs ds honest a b =
-    let same : (log : List Command) → behind (behind log cs) ds ≡ behind log (cs ++ ds) = λ log. sym (behind-append log cs ds) in
+    let same : (log : List Command)
+    → behind (behind log cs) ds ≡ behind log (cs ++ ds) = λ log. sym (behind-append log cs ds) in
     record {
-      shows = λ h log s. subst (λ (l : List Command). ShowsLog c'' l) (same log) (b.shows h (behind log cs) (a.shows (honest h) log s));
-      stands = λ h log s. subst (λ (l : List Command). StandsAt c'' l) (same log) (b.stands h (behind log cs) (a.stands (honest h) log s));
+      shows = λ h log s. subst (λ (l : List Command). ShowsLog c'' l) (same log)
+          (b.shows h (behind log cs) (a.shows (honest h) log s));
+      stands = λ h log s. subst (λ (l : List Command). StandsAt c'' l) (same log)
+          (b.stands h (behind log cs) (a.stands (honest h) log s));
     }
 
 pub answers-append : (log : List Command) (ts us : List Turn)
@@ -32,7 +35,8 @@ answers-append log [] us = refl
 answers-append log (t ∷ ts) us =
     ap (λ (xs : List (List ℕ)). answer_of log (asked_by t.message) ∷ xs)
     (answers-append (behind log (commands_in t)) ts us
-    ∙ ap (λ (l : List Command). answers_to (behind log (commands_in t)) ts ++ answers_to l us) (sym (behind-append log (commands_in t) (commands_of ts))))
+    ∙ ap (λ (l : List Command). answers_to (behind log (commands_in t)) ts ++ answers_to l us)
+    (sym (behind-append log (commands_in t) (commands_of ts))))
 
 pub answered_none : {w k : Option (List ℕ)} {c : Seen} → AreAnswered w w k k c c []
 answered_none {w = w} = record {
@@ -49,31 +53,37 @@ answered_none {w = w} = record {
 pub answered_more : {w w' w'' k k' k'' : Option (List ℕ)} {c c' c'' : Seen} (ts us : List Turn)
     → AreAnswered w w' k k' c c' ts → AreAnswered w' w'' k' k'' c' c'' us
     → AreAnswered w w'' k k'' c c'' (ts ++ us)
-answered_more {w = w} {w' = w'} {w'' = w''} {k = k} {k' = k'} {k'' = k''} {c = c} {c' = c'} {c'' = c''} ts us a b = record {
-  clock = subst (λ (xs : List ℕ). AreReadings k k'' xs) (sym (flat_map-append moments_in ts us)) (readings_append k k' k'' (moments_of ts) (moments_of us) a.clock b.clock);
-  written = a.written ++ b.written;
-  wrote = Appends-trans w w' w'' a.written b.written a.wrote b.wrote;
-  honest = λ h. a.honest (b.honest h);
-  up = λ d. a.up (b.up d);
-  takes = subst (λ (cs : List Command). Takes c c'' cs) (sym (flat_map-append commands_in ts us)) (takes_append c c' c'' (commands_of ts) (commands_of us) b.honest a.takes b.takes);
-  answers = λ h log s.
-      ap (λ (t : List ℕ). t ++ b.written) (a.answers (b.honest h) log s)
-      ∙ ap (λ (t : List ℕ). joined (answers_to log ts) ++ t) (b.answers h (behind log (commands_of ts)) (a.takes.shows (b.honest h) log s))
-      ∙ sym (joined-append (answers_to log ts) (answers_to (behind log (commands_of ts)) us))
-      ∙ ap joined (sym (answers-append log ts us));
-}
+answered_more {w = w} {w' = w'} {w'' = w''} {k = k} {k' = k'} {k'' = k''} {c = c} {c' = c'} {c'' = c''} ts us
+    a b = record {
+      clock = subst (λ (xs : List ℕ). AreReadings k k'' xs) (sym (flat_map-append moments_in ts us))
+          (readings_append k k' k'' (moments_of ts) (moments_of us) a.clock b.clock);
+      written = a.written ++ b.written;
+      wrote = Appends-trans w w' w'' a.written b.written a.wrote b.wrote;
+      honest = λ h. a.honest (b.honest h);
+      up = λ d. a.up (b.up d);
+      takes = subst (λ (cs : List Command). Takes c c'' cs) (sym (flat_map-append commands_in ts us))
+          (takes_append c c' c'' (commands_of ts) (commands_of us) b.honest a.takes b.takes);
+      answers = λ h log s.
+          ap (λ (t : List ℕ). t ++ b.written) (a.answers (b.honest h) log s)
+          ∙ ap (λ (t : List ℕ). joined (answers_to log ts) ++ t)
+          (b.answers h (behind log (commands_of ts)) (a.takes.shows (b.honest h) log s))
+          ∙ sym (joined-append (answers_to log ts) (answers_to (behind log (commands_of ts)) us))
+          ∙ ap joined (sym (answers-append log ts us));
+    }
 
 -- one message
 pub answered_one : {w w' k k' : Option (List ℕ)} {c c' : Seen} (t : Turn) (a : Asked) → a ≡ asked_by t.message
     → AreReadings k k' (readings_for t.moment a) → (c'.honest → c.honest)
     → IsAnswered w w' c c' a (commands_for t.moment a) → AreAnswered w w' k k' c c' (t ∷ [])
 answered_one {k = k} {k' = k'} {c = c} {c' = c'} t a e clock honest is = record {
-  clock = subst (λ (ms : List ℕ). AreReadings k k' ms) (ap (readings_for t.moment) e ∙ sym (append-nil (moments_in t))) clock;
+  clock = subst (λ (ms : List ℕ). AreReadings k k' ms)
+      (ap (readings_for t.moment) e ∙ sym (append-nil (moments_in t))) clock;
   written = is.written;
   wrote = is.wrote;
   honest = honest;
   up = is.up;
-  takes = subst (λ (cs : List Command). Takes c c' cs) (ap (commands_for t.moment) e ∙ sym (append-nil (commands_in t))) is.takes;
+  takes = subst (λ (cs : List Command). Takes c c' cs)
+      (ap (commands_for t.moment) e ∙ sym (append-nil (commands_in t))) is.takes;
   answers = λ h log s. is.answer h log s ∙ ap (answer_of log) e
       ∙ sym (append-nil (answer_of log (asked_by t.message)));
 }

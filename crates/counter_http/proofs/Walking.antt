@@ -30,14 +30,16 @@ pub walks_end : (ts : List Turn) (rest : List ℕ) (ending : Ending)
     → AllByRecursion (λ (u : Turn). GoesOn u.message) ts → Ends ending rest
     → Walks (texts_of ts ++ rest) (messages_of ts) ending
 walks_end ts rest ending all ends =
-    subst (λ (us : List Turn). Walks (texts_of ts ++ rest) (messages_of us) ending) (append-nil ts) (walks_behind ts [] rest ending all ends)
+    subst (λ (us : List Turn). Walks (texts_of ts ++ rest) (messages_of us) ending) (append-nil ts)
+    (walks_behind ts [] rest ending all ends)
 
 -- whatever follows
 pub walks_always : (ts : List Turn) (rest : List ℕ) (ending : Ending)
     → AllByRecursion (λ (u : Turn). GoesOn u.message) ts → AlwaysEnds ending rest
     → (more : List ℕ) → Walks ((texts_of ts ++ rest) ++ more) (messages_of ts) ending
 walks_always ts rest ending all ends more =
-    subst (λ (input : List ℕ). Walks input (messages_of ts) ending) (sym (append_assoc (texts_of ts) rest more)) (walks_end ts (rest ++ more) ending all (ends more))
+    subst (λ (input : List ℕ). Walks input (messages_of ts) ending)
+    (sym (append_assoc (texts_of ts) rest more)) (walks_end ts (rest ++ more) ending all (ends more))
 
 -- a walk that ends with a message
 pub walks_closed : (t : Turn) (behind : List ℕ) → IsMessage t.message → closes t.message.head ≡ true
@@ -62,10 +64,18 @@ cut_short m behind after is lacks e =
 pub no_message : (ending : Ending) (rest : List ℕ) → Ends ending rest → BeginsWithNoMessage rest
 no_message Finished rest ends m behind is e =
     let len = ap length (sym ends ∙ e ∙ append_assoc (print_request m.head) m.body behind) in
-    absurd (omega (arith, len, length-append (print_request m.head) (m.body ++ behind), head_some m.head is.head.head))
+    absurd (omega (
+      arith,
+      len,
+      length-append (print_request m.head) (m.body ++ behind),
+      head_some m.head
+          is.head.head,
+    ))
 no_message Closed rest ends m behind is e = absurd ends
 no_message No_head rest ends m behind is e =
     ends.1 m.head (m.body ++ behind) is.head (e ∙ append_assoc (print_request m.head) m.body behind)
 no_message (No_body h) rest ends m behind is e =
-    let same = request_unique rest h m.head ends.1.0 (m.body ++ behind) (ends.0.head, ends.1.1) (is.head.head, e ∙ append_assoc (print_request m.head) m.body behind) in
-    cut_short m behind ends.1.0 is (subst (λ (k : RequestHead). LacksBody (body_length (named_values k)) ends.1.0) same.0 ends.1.2) same.1
+    let same = request_unique rest h m.head ends.1.0 (m.body ++ behind) (ends.0.head, ends.1.1)
+    (is.head.head, e ∙ append_assoc (print_request m.head) m.body behind) in
+    cut_short m behind ends.1.0 is (subst
+    (λ (k : RequestHead). LacksBody (body_length (named_values k)) ends.1.0) same.0 ends.1.2) same.1

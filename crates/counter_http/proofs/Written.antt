@@ -10,6 +10,7 @@ use Rattle.posting_rules.specs.Counter.{Seen, ShowsBeginning}
 use Rattle.posting_rules.proofs.Remaining.{leaves_weaker}
 use Rattle.posting_core.specs.Batches.{joined}
 use Rattle.posting_core.specs.Stream.{acknowledged}
+use Rattle.posting_core.specs.Told.{ReadTold}
 use Rattle.counter_http.specs.declared.fault.ServeFault.{ServeFault}
 use Rattle.counter_http.specs.declared.fault.ServeFault.TheVariants.{Read, Write, Bank, Memory}
 use Rattle.counter_http.specs.Messages.{Message, message_text, Ending, Walks}
@@ -47,21 +48,24 @@ text_with log ts last other e =
 
 -- ---- the texts
 
-walked_text : {r' : Option (List ℕ)} (log : List Command) (taken refused : List Turn) (rest : List ℕ)
-    (last : List (List ℕ)) → IsWalked r' taken refused rest last
+walked_text : {has_ended : Type 0} (log : List Command) (taken refused : List Turn) (rest : List ℕ)
+    (last : List (List ℕ)) → IsWalked has_ended taken refused rest last
     → Answers log (texts_of (taken ++ refused) ++ rest) (joined (answers_to log taken ++ last))
 walked_text log taken refused rest last is = record {
   messages = messages_of taken;
   ending = is.ending;
-  walks = subst (λ (x : List ℕ). Walks x (messages_of taken) is.ending) (sym (input_alone taken refused rest is.none_refused)) is.walks;
+  walks = subst (λ (x : List ℕ). Walks x (messages_of taken) is.ending)
+      (sym (input_alone taken refused rest is.none_refused)) is.walks;
   text_is = text_with log taken last (final_answer is.ending) is.last_is;
 }
 
 -- the message behind some others
 one_behind : (before : List Turn) (t : Turn) (rest : List ℕ)
-    → texts_of (before ++ t ∷ []) ++ rest ≡ texts_of_all (messages_of before) ++ (message_text t.message ++ rest)
+    → texts_of (before ++ t ∷ []) ++ rest ≡ texts_of_all (messages_of before)
+    ++ (message_text t.message ++ rest)
 one_behind before t rest =
-    ap (λ (x : List ℕ). x ++ rest) (flat_map-append text_in before (t ∷ []) ∙ ap (λ (x : List ℕ). texts_of before ++ x) (append-nil (text_in t)))
+    ap (λ (x : List ℕ). x ++ rest) (flat_map-append text_in before (t ∷ [])
+    ∙ ap (λ (x : List ℕ). texts_of before ++ x) (append-nil (text_in t)))
     ∙ append_assoc (texts_of before) (text_in t) rest
     ∙ ap (λ (x : List ℕ). x ++ (text_in t ++ rest)) (texts_are before)
 
@@ -96,13 +100,14 @@ first_text log taken refused rest last is = record {
   };
   text_is = text_with log taken last [] is.nothing
       ∙ ap joined (append-nil (answers_behind log (messages_of taken)))
-      ∙ ap (λ (x : List Message). joined (answers_behind log x)) (ap messages_of is.taken_is ∙ map-append message_in is.before (is.turn ∷ []));
+      ∙ ap (λ (x : List Message). joined (answers_behind log x))
+      (ap messages_of is.taken_is ∙ map-append message_in is.before (is.turn ∷ []));
 }
 
 -- ---- by the result
 
-settled : {r' : Option (List ℕ)} (taken refused : List Turn) (rest : List ℕ) (last : List (List ℕ))
-    (is : IsWalked r' taken refused rest last)
+settled : {has_ended : Type 0} (taken refused : List Turn) (rest : List ℕ) (last : List (List ℕ))
+    (is : IsWalked has_ended taken refused rest last)
     → ((more : List ℕ) → Walks ((texts_of taken ++ rest) ++ more) (messages_of taken) is.ending)
     → IsSettled (texts_of (taken ++ refused) ++ rest)
 settled taken refused rest last is always more log text a =
@@ -113,7 +118,8 @@ settled taken refused rest last is always more log text a =
     record {
       messages = messages_of taken;
       ending = is.ending;
-      walks = subst (λ (x : List ℕ). Walks (x ++ more) (messages_of taken) is.ending) (sym same) (always more);
+      walks = subst (λ (x : List ℕ). Walks (x ++ more) (messages_of taken) is.ending) (sym same)
+          (always more);
       text_is = a.text_is
           ∙ ap (λ (ms : List Message). joined (answers_behind log ms ++ final_answer a.ending)) one.0
           ∙ ap (λ (e : Ending). joined (answers_behind log (messages_of taken) ++ final_answer e)) one.1;
@@ -130,11 +136,12 @@ one_front_of : (log : List Command) (input text other : List ℕ) → AnswersWho
     → AnswersWhole log input other → text ≡ other
 one_front_of log input text other a b =
     a.text_is ∙ ap (λ (ms : List Message). joined (answers_behind log ms))
-    (front_unique a.messages b.messages a.rest b.rest a.stays b.stays a.no_more b.no_more (sym a.input_is ∙ b.input_is)) ∙ sym b.text_is
+    (front_unique a.messages b.messages a.rest b.rest a.stays b.stays a.no_more b.no_more
+    (sym a.input_is ∙ b.input_is)) ∙ sym b.text_is
 
-pub output_of : {C : Type 0} (seen : C → Seen) {r r' w w' k k' : Option (List ℕ)} (old new : C)
-    (result : Result ℕ ServeFault)
-    → Serves seen r r' w w' k k' old new result → Outputs r r' w w' (seen old) (seen new) result
+pub output_of : {C : Type 0} (seen : C → Seen) {r r' : Option (List ℕ)} {q q' : Option (List ReadTold)}
+    {w w' k k' : Option (List ℕ)} (old new : C) (result : Result ℕ ServeFault)
+    → Serves seen r r' q q' w w' k k' old new result → Outputs r r' q q' w w' (seen old) (seen new) result
 output_of seen {w = w} {w' = w'} old new (Ok count) s =
     let input = texts_of (s.taken ++ s.refused) ++ s.rest in
     record {
@@ -240,11 +247,12 @@ commands_of_first n ts =
 
 at_least : (log cs : List Command) (n k : ℕ) (t : Tables) → k ≤ n → ShowsBeginning log cs n t
     → ShowsBeginning log cs k t
-at_least log cs n k t le b = record { count = b.count; holds = omega (arith, b.holds); within = b.within; shows = b.shows }
+at_least log cs n k t le b = record
+    { count = b.count; holds = omega (arith, b.holds); within = b.within; shows = b.shows }
 
-pub survives_of : {C : Type 0} (seen : C → Seen) {r r' w w' k k' : Option (List ℕ)} (old new : C)
-    (result : Result ℕ ServeFault)
-    → Serves seen r r' w w' k k' old new result → Survives r r' w w' (seen old) (seen new)
+pub survives_of : {C : Type 0} (seen : C → Seen) {r r' : Option (List ℕ)} {q q' : Option (List ReadTold)}
+    {w w' k k' : Option (List ℕ)} (old new : C) (result : Result ℕ ServeFault)
+    → Serves seen r r' q q' w w' k k' old new result → Survives r r' w w' (seen old) (seen new)
 survives_of seen old new result s = record {
   taken = s.taken;
   refused = s.refused;

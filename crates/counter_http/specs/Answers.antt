@@ -5,7 +5,7 @@ use Rattle.std.specs.Fmt.{decimal, signed_decimal}
 use Rattle.http.specs.StatusCode.{reason_phrase, code_digits}
 use Rattle.message_records.specs.declared.limits.TheConstants.{MAX_ACCOUNT}
 use Rattle.message_records.specs.Ranges.{whole_within}
-use Rattle.message_records.specs.Reading.{number_after}
+use Rattle.message_records.specs.Reading.{number_of}
 use Rattle.message_records.specs.Spelling.{reply_spelling}
 use Rattle.posting_rules.specs.declared.limits.TheConstants.{LAST_BRANCH}
 use Rattle.posting_rules.specs.Commands.{Command, opened}
@@ -68,7 +68,7 @@ is_account_long id = nat_lt 0 (length id) && nat_le (length id) ACCOUNT_DIGITS &
 
 abbrev pub account_named : List ℕ → Option ℕ
 account_named id =
-    if is_account_long id then option_and_then (whole_within 1 MAX_ACCOUNT) (number_after 0 id) else None
+    if is_account_long id then option_and_then (whole_within 1 MAX_ACCOUNT) (number_of id) else None
 
 abbrev pub account_line : ℕ → ℤ → List ℕ
 account_line account balance =

@@ -1,4 +1,5 @@
 pub mod Faults
+pub mod Ends
 pub mod Fields
 pub mod Messages
 pub mod Next

@@ -1,13 +1,15 @@
 -- What a connection writes, said of the bytes that it reads alone, however they were cut, and what a stop leaves.
 use Rattle.std.specs.Prelude.{◌≡◌, ◌⊎◌, ℕ, List, [], ◌∷◌, ◌++◌, length, map, take, Option, Result, Ok, Err, OnOk}
 use Rattle.std.specs.List.{AllByRecursion, flat_map}
-use Rattle.std.specs.Io.KnownBytes.{Appends, Consumes, IsAtEnd}
+use Rattle.std.specs.Io.KnownBytes.{Appends, Consumes}
 use Rattle.posting_rules.specs.Commands.{Command}
 use Rattle.posting_rules.specs.Counter.{Seen, ShowsLog, StandsAt, LeavesOnly, ShowsBeginning}
 use Rattle.posting_core.specs.Batches.{joined}
 use Rattle.posting_core.specs.Stream.{acknowledged}
+use Rattle.posting_core.specs.Told.{ReadTold}
 use Rattle.counter_http.specs.declared.fault.ServeFault.{ServeFault}
 use Rattle.counter_http.specs.declared.fault.ServeFault.TheVariants.{Read, Write, Bank, Memory}
+use Rattle.counter_http.specs.Ends.{HasEnded}
 use Rattle.counter_http.specs.Messages.{Message, message_text, IsMessage, Ending, Walks}
 use Rattle.counter_http.specs.Answers.{asked_by, unavailable, final_answer}
 use Rattle.counter_http.specs.Turns.{Turn, commands_of, texts_of, answers_to}
@@ -85,13 +87,15 @@ IsSettled input =
     (more : List ℕ) (log : List Command) (text : List ℕ) → Answers log input text
     → Answers log (input ++ more) text
 
-pub record Outputs (r r' w w' : Option (List ℕ)) (c c' : Seen) (result : Result ℕ ServeFault) : Type 0 where
+-- what the reads told is q before and q' after
+pub record Outputs (r r' : Option (List ℕ)) (q q' : Option (List ReadTold)) (w w' : Option (List ℕ))
+    (c c' : Seen) (result : Result ℕ ServeFault) : Type 0 where
   pub input : List ℕ
   pub read : Consumes r r' input
   pub writes : c'.honest → (log : List Command) → ShowsLog c log
       → (text : List ℕ) × IsTextFor result log input text × Writes result w w' text
   -- the input ended, or what follows it changes nothing
-  pub ended : OnOk result (IsAtEnd r' ⊎ IsSettled input)
+  pub ended : OnOk result (HasEnded r' q q' ⊎ IsSettled input)
   -- an input has one text of either kind
   pub one_text : (log : List Command) (text other : List ℕ)
       → Answers log input text → Answers log input other → text ≡ other

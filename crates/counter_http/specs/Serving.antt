@@ -1,16 +1,19 @@
 -- A connection, message by message: what is read, what is written, what the bank shows, what a stop may leave.
--- The reader's known bytes before and after are r and r', the writer's w and w', the clock's known readings k and
--- k'. The bank is old before and new after, and seen tells what is seen of it.
+-- The reader's known bytes before and after are r and r', what its reads told q and q', the writer's known bytes
+-- w and w', the clock's known readings k and k'. The bank is old before and new after, and seen tells what is seen
+-- of it.
 use Rattle.std.specs.Prelude.{◌≡◌, ◌≢◌, ◌⊎◌, ℕ, ◌+◌, List, [], ◌∷◌, ◌++◌, length, take, Option, Result, Ok, Err, false}
 use Rattle.std.specs.List.{AllByRecursion}
-use Rattle.std.specs.Io.KnownBytes.{Appends, Consumes, IsAtEnd}
+use Rattle.std.specs.Io.KnownBytes.{Appends, Consumes}
 use Rattle.posting_rules.specs.declared.fault.Fault.{Fault}
 use Rattle.posting_rules.specs.Commands.{Command}
 use Rattle.posting_rules.specs.Counter.{Seen, ShowsLog, StandsAt, LeavesOnly, ShowsBeginning, Takes, Refuses}
 use Rattle.posting_core.specs.Batches.{joined}
 use Rattle.posting_core.specs.Clock.{AreReadings}
+use Rattle.posting_core.specs.Told.{ReadTold}
 use Rattle.counter_http.specs.declared.fault.ServeFault.{ServeFault}
 use Rattle.counter_http.specs.declared.fault.ServeFault.TheVariants.{Read, Write, Bank, Memory}
+use Rattle.counter_http.specs.Ends.{HasEnded}
 use Rattle.counter_http.specs.Messages.{Message, message_text, IsMessage, closes, Ending, Walks}
 use Rattle.counter_http.specs.Answers.{asked_by, unavailable, final_answer}
 use Rattle.counter_http.specs.Turns.{Turn, commands_of, moments_of, messages_of, texts_of, answers_to}
@@ -26,13 +29,13 @@ BeginsWithNoMessage rest = (m : Message) (behind : List ℕ) → IsMessage m →
 
 -- ---- what was answered last
 
--- the walk ended, with the input or whatever bytes follow
-pub record IsWalked (r' : Option (List ℕ)) (taken refused : List Turn) (rest : List ℕ) (last : List (List ℕ))
+-- the walk ended, with an input that has ended or whatever bytes follow
+pub record IsWalked (has_ended : Type 0) (taken refused : List Turn) (rest : List ℕ) (last : List (List ℕ))
     : Type 0 where
   pub ending : Ending
   pub walks : Walks (texts_of taken ++ rest) (messages_of taken) ending
   pub last_is : last ≡ final_answer ending
-  pub ended : IsAtEnd r'
+  pub ended : has_ended
       ⊎ ((more : List ℕ) → Walks ((texts_of taken ++ rest) ++ more) (messages_of taken) ending)
   pub none_refused : refused ≡ []
 
@@ -71,31 +74,31 @@ pub record IsUntouched (taken refused : List Turn) (rest : List ℕ) (last : Lis
 -- ---- how it ended: the bank took some messages, stood there, and refused one then or none
 
 -- an answer was begun, and the writer failed
-pub data IsUnwritten {C : Type 0} (seen : C → Seen) (r' : Option (List ℕ)) (stood new : C)
+pub data IsUnwritten {C : Type 0} (seen : C → Seen) (has_ended : Type 0) (stood new : C)
     (taken refused : List Turn) (rest : List ℕ) (last : List (List ℕ)) : Type 0 where
   -- the answer to a message that the bank took
   At_message : IsAtMessage taken refused last → new ≡ stood
-      → IsUnwritten seen r' stood new taken refused rest last
+      → IsUnwritten seen has_ended stood new taken refused rest last
   -- the 400 to what is no message
-  At_last : IsWalked r' taken refused rest last → new ≡ stood
-      → IsUnwritten seen r' stood new taken refused rest last
+  At_last : IsWalked has_ended taken refused rest last → new ≡ stood
+      → IsUnwritten seen has_ended stood new taken refused rest last
   -- the 503 to a message that the bank refused
   At_refusal : IsBroken taken refused last → (fault : Fault)
       → Refuses fault (seen stood) (seen new) (commands_of refused)
-      → IsUnwritten seen r' stood new taken refused rest last
+      → IsUnwritten seen has_ended stood new taken refused rest last
 
-abbrev pub Exits : {C : Type 0} → (C → Seen) → Result ℕ ServeFault → (r' : Option (List ℕ))
+abbrev pub Exits : {C : Type 0} → (C → Seen) → Result ℕ ServeFault → (has_ended : Type 0)
     → (old stood new : C)
     → (taken refused : List Turn) → (rest : List ℕ) → (last : List (List ℕ)) → Type 0
-Exits seen (Ok count) r' old stood new taken refused rest last =
-    IsWalked r' taken refused rest last × (count ≡ length taken + length last) × (new ≡ stood)
-Exits seen (Err Read) r' old stood new taken refused rest last =
+Exits seen (Ok count) has_ended old stood new taken refused rest last =
+    IsWalked has_ended taken refused rest last × (count ≡ length taken + length last) × (new ≡ stood)
+Exits seen (Err Read) has_ended old stood new taken refused rest last =
     IsCutOff taken refused rest last × (new ≡ stood)
-Exits seen (Err Write) r' old stood new taken refused rest last =
-    IsUnwritten seen r' stood new taken refused rest last
-Exits seen (Err (Bank fault)) r' old stood new taken refused rest last =
+Exits seen (Err Write) has_ended old stood new taken refused rest last =
+    IsUnwritten seen has_ended stood new taken refused rest last
+Exits seen (Err (Bank fault)) has_ended old stood new taken refused rest last =
     IsBroken taken refused last × Refuses fault (seen stood) (seen new) (commands_of refused)
-Exits seen (Err Memory) r' old stood new taken refused rest last =
+Exits seen (Err Memory) has_ended old stood new taken refused rest last =
     IsUntouched taken refused rest last × (new ≡ old)
 
 -- what was written of the answers: a beginning where the writer failed, and all of them elsewhere
@@ -105,8 +108,8 @@ IsWritten _ written text = written ≡ text
 
 -- ---- what a call did, whatever its result
 
-pub record Serves {C : Type 0} (seen : C → Seen) (r r' w w' k k' : Option (List ℕ)) (old new : C)
-    (result : Result ℕ ServeFault) : Type 0 where
+pub record Serves {C : Type 0} (seen : C → Seen) (r r' : Option (List ℕ)) (q q' : Option (List ReadTold))
+    (w w' k k' : Option (List ℕ)) (old new : C) (result : Result ℕ ServeFault) : Type 0 where
   -- the messages that the bank took, the one that it refused, what was read behind them, and the answer to what
   -- is no message or was refused
   pub taken : List Turn
@@ -124,7 +127,7 @@ pub record Serves {C : Type 0} (seen : C → Seen) (r r' w w' k k' : Option (Lis
   pub honest : (seen new).honest → (seen stood).honest
   pub up : (seen stood).is_down → (seen old).is_down
   pub takes : Takes (seen old) (seen stood) (commands_of taken)
-  pub exits : Exits seen result r' old stood new taken refused rest last
+  pub exits : Exits seen result (HasEnded r' q q') old stood new taken refused rest last
   -- the answers are those to what the bank took
   pub answers : (seen new).honest → (log : List Command) → ShowsLog (seen old) log
       → IsWritten result written (joined (answers_to log taken ++ last))

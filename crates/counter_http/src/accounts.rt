@@ -1,29 +1,13 @@
 //! Which account a path names.
-ghost use Rattle.std.specs.Prelude.{◌≡◌, ◌≤◌, length};
-ghost use Rattle.message_records.specs.Reading.{number_after};
+ghost use Rattle.std.specs.Prelude.{◌≡◌};
 ghost use Rattle.counter_http.specs.Answers.{account_named};
 ghost use Rattle.counter_http.specs.Paths.{account_in};
 
 use crate::limits::ACCOUNT_DIGITS;
-use message_records::Account;
+use message_records::{Account, read_digits};
 
 // Where the account stands in its path, behind `/account/`.
 const ID_START: usize = 9;
-
-// The number that so few digits write.
-fn number_of(digits: &[u8]) -> Option<u64>
-    requires { length digits.now ≤ ACCOUNT_DIGITS }
-    ensures { result ≡ number_after 0 digits.now }
-{
-    let mut number = 0u64;
-    for digit in digits {
-        if !digit.is_ascii_digit() {
-            return None;
-        }
-        number = number * 10 + u64::from(*digit - b'0');
-    }
-    Some(number)
-}
 
 // The account that 1 to 12 digits name, the first not 0.
 fn account_named(id: &[u8]) -> Option<Account>
@@ -32,7 +16,7 @@ fn account_named(id: &[u8]) -> Option<Account>
     if id.is_empty() || id.len() > ACCOUNT_DIGITS || id[0] == b'0' {
         return None;
     }
-    Account::new(number_of(id)?)
+    Account::new(read_digits(id)?)
 }
 
 /// The account that the path of an account names.

@@ -1,9 +1,10 @@
 //! The answer to each message.
-ghost use Rattle.std.specs.Prelude.{◌≡◌, ℕ, take, OnErr, true, Some, []};
+ghost use Rattle.std.specs.Prelude.{◌≡◌, ℕ, take, OnErr, true, Some, [], Err};
 ghost use Rattle.std.specs.Result.{IsErrOf};
 ghost use Rattle.std.specs.Io.KnownBytes.{Appends};
 ghost use Rattle.posting_core.specs.Clock.{AreReadings};
 ghost use Rattle.counter_http.specs.Answers.{refusal, answer_text, shows, unavailable, is_posting, is_reading, plain};
+ghost use Rattle.counter_http.specs.Ends.{SendsAs};
 ghost use Rattle.counter_http.specs.Next.{asked};
 ghost use Rattle.counter_http.specs.Paths.{route_of, path_of};
 ghost use Rattle.counter_http.specs.Telling.{said};
@@ -18,15 +19,15 @@ use crate::next::{Whole, is_head};
 use crate::routes::{Route, Routes, path_of};
 use crate::telling::{Response, tell};
 use http::StatusCode;
-use posting_core::{Clock, Counter, Fault};
+use posting_core::{Clock, Counter, Fault, Sink};
 use std::alloc::Global;
-use std::io::Write;
 
 /// Answers a 400, after which the connection ends.
-pub(crate) fn refuse<W: Write>(writer: &mut W, shows_body: bool) -> Result<(), ServeFault>
+pub(crate) fn refuse<W: Sink>(writer: &mut W, shows_body: bool) -> Result<(), ServeFault>
     ensures written { IsWrittenTo (W.contents writer.old) (W.contents writer.new)
         (refusal shows_body) result }
     ensures fault { OnErr result (IsErrOf result ServeFault.Write) }
+    ensures ends { SendsAs result (W.told writer.old) (W.told writer.new) }
 {
     match tell(
         writer,
@@ -40,7 +41,7 @@ pub(crate) fn refuse<W: Write>(writer: &mut W, shows_body: bool) -> Result<(), S
 }
 
 // Answers a message.
-fn say<W: Write>(
+fn say<W: Sink>(
     message: &Whole<'_>,
     response: &Response<'_>,
     writer: &mut W,
@@ -48,6 +49,7 @@ fn say<W: Write>(
     ensures written { IsWrittenTo (W.contents writer.old) (W.contents writer.new)
         (answer_text (said response.now) (shows (asked message.now)) message.now.closes) result }
     ensures fault { OnErr result (IsErrOf result ServeFault.Write) }
+    ensures ends { SendsAs result (W.told writer.old) (W.told writer.new) }
 {
     match tell(writer, response, !is_head(message.method), message.closes) {
         Ok(()) => Ok(()),
@@ -56,10 +58,11 @@ fn say<W: Write>(
 }
 
 // Answers with a text.
-fn say_text<W: Write>(message: &Whole<'_>, text: &[u8], writer: &mut W) -> Result<(), ServeFault>
+fn say_text<W: Sink>(message: &Whole<'_>, text: &[u8], writer: &mut W) -> Result<(), ServeFault>
     ensures written { IsWrittenTo (W.contents writer.old) (W.contents writer.new)
         (answer_text (plain text.now) (shows (asked message.now)) message.now.closes) result }
     ensures fault { OnErr result (IsErrOf result ServeFault.Write) }
+    ensures ends { SendsAs result (W.told writer.old) (W.told writer.new) }
 {
     let response = Response {
         status: StatusCode::OK,
@@ -71,10 +74,11 @@ fn say_text<W: Write>(message: &Whole<'_>, text: &[u8], writer: &mut W) -> Resul
 }
 
 // Answers a 503, and tells the fault of the bank, or that of the writer.
-fn fail<W: Write>(message: &Whole<'_>, fault: Fault, writer: &mut W) -> ServeFault
-    ensures { (n : ℕ) × Appends (W.contents writer.old) (W.contents writer.new)
+fn fail<W: Sink>(message: &Whole<'_>, fault: Fault, writer: &mut W) -> ServeFault
+    ensures written { (n : ℕ) × Appends (W.contents writer.old) (W.contents writer.new)
         (take n (unavailable (asked message.now)))
         × IsTellingOf fault result n (unavailable (asked message.now)) }
+    ensures ends { SendsAs (Err result) (W.told writer.old) (W.told writer.new) }
 {
     let response = bare(
         b"503 Service Unavailable\n",
@@ -87,7 +91,7 @@ fn fail<W: Write>(message: &Whole<'_>, fault: Fault, writer: &mut W) -> ServeFau
 }
 
 // Submits the record of a message, and answers with the reply.
-fn answer_posting<W: Write, K: Clock, C: Counter>(
+fn answer_posting<W: Sink, K: Clock, C: Counter>(
     message: &Whole<'_>,
     bytes: &[u8; RECORD],
     writer: &mut W,
@@ -102,6 +106,7 @@ fn answer_posting<W: Write, K: Clock, C: Counter>(
         (asked message.now)
         (commands_for moment (asked message.now)) result }
     ensures honest { (C.seen bank.new).honest → (C.seen bank.old).honest }
+    ensures ends { SendsAs result (W.told writer.old) (W.told writer.new) }
 {
     let moment = clock.now();
     match bank.submit(moment, bytes) {
@@ -119,7 +124,7 @@ fn answer_posting<W: Write, K: Clock, C: Counter>(
 }
 
 // Answers with the balance of the account that the path names.
-fn answer_account<W: Write, C: Counter>(
+fn answer_account<W: Sink, C: Counter>(
     alloc: Global,
     message: &Whole<'_>,
     writer: &mut W,
@@ -130,6 +135,7 @@ fn answer_account<W: Write, C: Counter>(
     ensures answers { IsDealtWith C.seen (W.contents writer.old) (W.contents writer.new) bank.old bank.new
         (asked message.now) [] result }
     ensures honest { (C.seen bank.new).honest → (C.seen bank.old).honest }
+    ensures ends { SendsAs result (W.told writer.old) (W.told writer.new) }
 {
     let Some(account) = account_in(path_of(message.target)) else {
         return say(
@@ -156,7 +162,7 @@ fn answer_account<W: Write, C: Counter>(
 }
 
 // Answers with the open branches.
-fn answer_branches<W: Write, C: Counter>(
+fn answer_branches<W: Sink, C: Counter>(
     alloc: Global,
     message: &Whole<'_>,
     writer: &mut W,
@@ -167,6 +173,7 @@ fn answer_branches<W: Write, C: Counter>(
     ensures answers { IsDealtWith C.seen (W.contents writer.old) (W.contents writer.new) bank.old bank.new
         (asked message.now) [] result }
     ensures honest { (C.seen bank.new).honest → (C.seen bank.old).honest }
+    ensures ends { SendsAs result (W.told writer.old) (W.told writer.new) }
 {
     match all_lines(alloc, bank) {
         Ok(lines) => say_text(message, lines.as_bytes(), writer),
@@ -175,7 +182,7 @@ fn answer_branches<W: Write, C: Counter>(
 }
 
 /// Answers a message, before anything more is read. A record is submitted under one reading of the clock.
-pub(crate) fn answer_message<W: Write, K: Clock, C: Counter>(
+pub(crate) fn answer_message<W: Sink, K: Clock, C: Counter>(
     alloc: Global,
     message: &Whole<'_>,
     routes: &Routes,
@@ -189,6 +196,7 @@ pub(crate) fn answer_message<W: Write, K: Clock, C: Counter>(
         (asked message.now)
         (commands_for moment (asked message.now)) result }
     ensures honest { (C.seen bank.new).honest → (C.seen bank.old).honest }
+    ensures ends { SendsAs result (W.told writer.old) (W.told writer.new) }
 {
     let route = routes.find(message.target);
     if let Some(response) = fixed_answer(message, route) {

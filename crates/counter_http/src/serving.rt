@@ -1,5 +1,6 @@
 //! A connection, from its first byte to its last answer.
 ghost use Rattle.std.specs.Prelude.{◌≡◌, ◌≤◌, ◌-◌, length, take, drop};
+ghost use Rattle.counter_http.specs.Ends.{EndsAs};
 ghost use Rattle.counter_http.specs.Outputs.{Outputs, Survives};
 ghost use Rattle.counter_http.specs.Serving.{Serves};
 
@@ -9,9 +10,9 @@ use crate::limits::BUFFER;
 use crate::next::{Next, next_message};
 use crate::routes::Routes;
 use posting_core::transfer::fill;
-use posting_core::{Clock, Counter};
+use posting_core::{Clock, Counter, Sink, Source};
 use std::alloc::Global;
-use std::io::{ErrorKind, Read, Write};
+use std::io::ErrorKind;
 
 /// How many answers were written.
 pub type Served = u128;
@@ -26,7 +27,7 @@ fn move_to_front(buffer: &mut [u8], from: usize, to: usize)
 }
 
 // The loop of `serve_connection`.
-fn serve<R: Read, W: Write, K: Clock, C: Counter>(
+fn serve<R: Source, W: Sink, K: Clock, C: Counter>(
     alloc: Global,
     reader: &mut R,
     writer: &mut W,
@@ -36,9 +37,11 @@ fn serve<R: Read, W: Write, K: Clock, C: Counter>(
     buffer: &mut [u8],
 ) -> Result<Served, ServeFault>
     requires { length buffer.old ≡ BUFFER }
-    ensures { Serves C.seen (R.remaining reader.old) (R.remaining reader.new) (W.contents writer.old)
-        (W.contents writer.new)
+    ensures served { Serves C.seen (R.remaining reader.old) (R.remaining reader.new)
+        (R.told reader.old) (R.told reader.new) (W.contents writer.old) (W.contents writer.new)
         (K.readings clock.old) (K.readings clock.new) bank.old bank.new result }
+    ensures ends { EndsAs result (R.told reader.old) (R.told reader.new)
+        (W.told writer.old) (W.told writer.new) }
 {
     let mut filled = 0;
     let mut served = 0;
@@ -81,27 +84,30 @@ fn serve<R: Read, W: Write, K: Clock, C: Counter>(
     Err(ServeFault::Read)
 }
 
-/// Serves a connection to the end of the walk over its messages, and tells how many answers were written. As soon
-/// as whole messages were read they are answered, in their order and before anything more is read; a record is
-/// submitted under one reading of the clock. An answer of at most 512 bytes is one write. An interrupted read or
-/// write is made again, and a reader that was asked 2^64 - 1 times counts as failed. The buffer and the routes are
-/// made before anything is read; after that only the bank and the body of a `GET` take memory.
-pub fn serve_connection<R: Read, W: Write, K: Clock, C: Counter>(
+/// Serves a connection to the end of the walk over its messages, and tells how many answers were written. As
+/// soon as whole messages were read they are answered, in their order and before anything more is read; a record
+/// is submitted under one reading of the clock. An answer of at most 512 bytes is one write, and each is flushed.
+/// An interrupted read or write is made again. `Read` and `Write` come only where a read, a write or a flush of
+/// this call failed, where a write took no byte, or where 2^64 - 1 of them were made. The buffer and the routes
+/// are made before anything is read; after that only the bank and the body of a `GET` take memory.
+pub fn serve_connection<R: Source, W: Sink, K: Clock, C: Counter>(
     alloc: Global,
     reader: &mut R,
     writer: &mut W,
     clock: &mut K,
     bank: &mut C,
 ) -> Result<Served, ServeFault>
-    ensures served { Serves C.seen (R.remaining reader.old) (R.remaining reader.new) (W.contents writer.old)
-        (W.contents writer.new)
+    ensures served { Serves C.seen (R.remaining reader.old) (R.remaining reader.new)
+        (R.told reader.old) (R.told reader.new) (W.contents writer.old) (W.contents writer.new)
         (K.readings clock.old) (K.readings clock.new) bank.old bank.new result }
-    ensures output { Outputs (R.remaining reader.old) (R.remaining reader.new) (W.contents writer.old)
-        (W.contents writer.new)
+    ensures output { Outputs (R.remaining reader.old) (R.remaining reader.new)
+        (R.told reader.old) (R.told reader.new) (W.contents writer.old) (W.contents writer.new)
         (C.seen bank.old) (C.seen bank.new) result }
     ensures stop { Survives (R.remaining reader.old) (R.remaining reader.new) (W.contents writer.old)
         (W.contents writer.new)
         (C.seen bank.old) (C.seen bank.new) }
+    ensures ends { EndsAs result (R.told reader.old) (R.told reader.new)
+        (W.told writer.old) (W.told writer.new) }
     ensures honest { (C.seen bank.new).honest → (C.seen bank.old).honest }
 {
     let Ok(routes) = Routes::new(alloc) else {

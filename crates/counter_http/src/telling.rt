@@ -1,13 +1,15 @@
 //! The bytes of an answer, which leave in one write where they are few: a client then waits for one packet.
 ghost use Rattle.std.specs.Prelude.{◌≡◌, ◌++◌, ℕ, List, [], Option, length, take, OnOk};
 ghost use Rattle.std.specs.Io.KnownBytes.{Appends};
+ghost use Rattle.posting_core.specs.Told.{WriteTold};
 ghost use Rattle.counter_http.specs.Answers.{answer_text};
+ghost use Rattle.counter_http.specs.Ends.{HasSent, HasTaken};
 ghost use Rattle.counter_http.specs.Telling.{IsTold, said, first_lines, last_lines};
 
 use arrayvec::ArrayVec;
 use http::StatusCode;
+use posting_core::Sink;
 use posting_core::transfer::{WriteFailed, write_each, write_out};
-use std::io::Write;
 
 // How many bytes are held before they are written: more than a head and a reply have together.
 const HELD: usize = 512;
@@ -24,10 +26,12 @@ pub(crate) struct Response<'a> {
 
 // Tells more of a text, where the writer took all of it so far, and answers whether it still does. What has no
 // room is written at once, behind what was held.
-fn put<W: Write>(writer: &mut W, held: &mut ArrayVec<u8, HELD>, going: bool, bytes: &[u8]) -> bool
-    ensures { (before : Option (List ℕ)) (text : List ℕ) → IsTold before
+fn put<W: Sink>(writer: &mut W, held: &mut ArrayVec<u8, HELD>, going: bool, bytes: &[u8]) -> bool
+    ensures text { (before : Option (List ℕ)) (text : List ℕ) → IsTold before
         (W.contents writer.old) going held.old.items text
         → IsTold before (W.contents writer.new) result held.new.items (text ++ bytes.now) }
+    ensures ends { (before : Option (List WriteTold)) → HasTaken going before (W.told writer.old)
+        → HasTaken result before (W.told writer.new) }
 {
     if !going {
         return false;
@@ -43,14 +47,15 @@ fn put<W: Write>(writer: &mut W, held: &mut ArrayVec<u8, HELD>, going: bool, byt
 }
 
 // Tells the lines before a body's length.
-fn put_first<W: Write>(
+fn put_first<W: Sink>(
     writer: &mut W,
     held: &mut ArrayVec<u8, HELD>,
     response: &Response<'_>,
 ) -> bool
     requires { held.old.items ≡ [] }
-    ensures { IsTold (W.contents writer.old) (W.contents writer.new) result held.new.items (first_lines
+    ensures text { IsTold (W.contents writer.old) (W.contents writer.new) result held.new.items (first_lines
         (said response.now)) }
+    ensures ends { HasTaken result (W.told writer.old) (W.told writer.new) }
 {
     let going = put(writer, held, true, b"HTTP/1.1 ");
     let going = put(writer, held, going, response.status.as_str().as_bytes());
@@ -63,16 +68,18 @@ fn put_first<W: Write>(
 }
 
 // Tells the lines behind a body's length, where the writer took all before them.
-fn put_last<W: Write>(
+fn put_last<W: Sink>(
     writer: &mut W,
     held: &mut ArrayVec<u8, HELD>,
     going: bool,
     response: &Response<'_>,
     closes: bool,
 ) -> bool
-    ensures { (before : Option (List ℕ)) (text : List ℕ) → IsTold before
+    ensures text { (before : Option (List ℕ)) (text : List ℕ) → IsTold before
         (W.contents writer.old) going held.old.items text
         → IsTold before (W.contents writer.new) result held.new.items (text ++ last_lines (said response.now) closes) }
+    ensures ends { (before : Option (List WriteTold)) → HasTaken going before (W.told writer.old)
+        → HasTaken result before (W.told writer.new) }
 {
     let going = put(writer, held, going, b"\r\n");
     let going = match response.allow {
@@ -91,16 +98,31 @@ fn put_last<W: Write>(
     put(writer, held, going, b"\r\n")
 }
 
-/// Writes an answer, with its body or without, after which the connection ends or goes on.
-pub(crate) fn tell<W: Write>(
+// Sends what is held, where the writer took all before it, and flushes it.
+fn send<W: Sink>(writer: &mut W, held: &ArrayVec<u8, HELD>, going: bool) -> Result<(), WriteFailed>
+    ensures text { (before : Option (List ℕ)) (text : List ℕ) → IsTold before
+        (W.contents writer.old) going held.now.items text
+        → (n : ℕ) × Appends before (W.contents writer.new) (take n text) × OnOk result (n ≡ length text) }
+    ensures ends { (before : Option (List WriteTold)) → HasTaken going before (W.told writer.old)
+        → HasSent result before (W.told writer.new) }
+{
+    if !going {
+        return Err(WriteFailed);
+    }
+    write_out(writer, held.as_slice())
+}
+
+/// Writes an answer, with its body or without, after which the connection ends or goes on, and flushes it.
+pub(crate) fn tell<W: Sink>(
     writer: &mut W,
     response: &Response<'_>,
     shows_body: bool,
     closes: bool,
 ) -> Result<(), WriteFailed>
-    ensures { (n : ℕ) × Appends (W.contents writer.old) (W.contents writer.new) (take n (answer_text
+    ensures written { (n : ℕ) × Appends (W.contents writer.old) (W.contents writer.new) (take n (answer_text
         (said response.now) shows_body closes))
         × OnOk result (n ≡ length (answer_text (said response.now) shows_body closes)) }
+    ensures ends { HasSent result (W.told writer.old) (W.told writer.new) }
 {
     let mut held = ArrayVec::new();
     let going = put_first(writer, &mut held, response);
@@ -113,8 +135,5 @@ pub(crate) fn tell<W: Write>(
     } else {
         going
     };
-    if !going {
-        return Err(WriteFailed);
-    }
-    write_out(writer, held.as_slice())
+    send(writer, &held, going)
 }

@@ -5,8 +5,6 @@
 #[cfg(test)]
 mod banks;
 #[cfg(test)]
-mod ends;
-#[cfg(test)]
 mod judging;
 #[cfg(test)]
 mod streams;

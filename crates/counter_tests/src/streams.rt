@@ -1,6 +1,6 @@
 //! Streams over ends and a bank that fail, at every byte.
 use crate::banks::{FailingBank, fresh};
-use crate::ends::{CutReader, CutWriter};
+use failing_ends::{CutReader, CutWriter};
 use message_records::{Account, Moment};
 use posting_core::{Clock, Count, Counter, Fault, StoredClock, StreamFault, post_stream};
 use std::alloc::{Alloc, Global};
@@ -162,6 +162,7 @@ fn written_in_part(
         taken: Vec::new(rt.alloc()),
         most,
         fault,
+        writes: 0,
     };
     let input = truncated_input(rt)?;
     let ended = streamed(rt, &mut input.as_slice(), &mut writer)?;

@@ -1,8 +1,8 @@
 //! Ends and a bank that fail.
 use crate::bank::{FullBank, balance_of, fresh, served};
-use crate::ends::{CutReader, CutWriter};
 use crate::texts::{FIRST, FIRST_REPLY, REMOTE, joined, posted, posting};
 use counter_http::ServeFault;
+use failing_ends::{CutReader, CutWriter};
 use posting_core::Fault;
 use std::alloc::{Alloc, Global};
 use std::io::ErrorKind;

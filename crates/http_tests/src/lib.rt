@@ -4,8 +4,6 @@
 #[cfg(test)]
 mod bank;
 #[cfg(test)]
-mod ends;
-#[cfg(test)]
 mod failing;
 #[cfg(test)]
 mod messages;

@@ -1,7 +1,7 @@
 //! Messages and their answers.
 use crate::bank::{balance_of, fresh, served};
-use crate::ends::{CutReader, CutWriter};
 use crate::texts::{BAD, FIRST, FIRST_REPLY, REMOTE, joined, posted, posting};
+use failing_ends::{CutReader, CutWriter};
 use std::alloc::{Alloc, Global};
 use std::process::Abort;
 use std::test::Fail;

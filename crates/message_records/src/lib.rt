@@ -16,7 +16,7 @@ pub use limits::{
     MAX_ACCOUNT, MAX_BALANCE, MAX_BRANCH, MAX_DELTA, MAX_MOMENT, MAX_NUMBER, MAX_TELLER,
 };
 pub use numbers::{Account, Branch, Cents, Moment, Number, Teller, Whole};
-pub use reading::{decode_reply, decode_request};
+pub use reading::{decode_reply, decode_request, read_digits};
 pub use records::{Outcome, Reply, Request};
 pub use writing::{encode_reply, encode_request};
 

@@ -191,8 +191,8 @@ fn read_number<const MOST: u64>(digits: &[u8]) -> Option<Whole<1, MOST>>
     Whole::new(read_digits(digits)?)
 }
 
-// The number that up to twelve digits write.
-fn read_digits(digits: &[u8]) -> Option<u64>
+/// The number that up to twelve digits write, none where a byte is no digit. No byte at all writes 0.
+pub fn read_digits(digits: &[u8]) -> Option<u64>
     requires { length digits.now ≤ 12 }
     ensures value { result ≡ number_of digits.now }
     ensures below { IfSome result (λ n. n < 10 ^ length digits.now) }

@@ -13,7 +13,7 @@ use Rattle.posting_core.proofs.Telling.{adds-none, last_some, more_failed, more_
 pub through_first : (w : Option (List WriteTold)) → IsThrough w w
 through_first w = inl (adds-none w)
 
-through_more : {w w' : Option (List WriteTold)} → IsThrough w w' → HasMore w w'
+pub through_more : {w w' : Option (List WriteTold)} → IsThrough w w' → HasMore w w'
 through_more (inl none) = record { calls = _; made = none }
 through_more (inr flushed) = last_some IsFlush flushed
 

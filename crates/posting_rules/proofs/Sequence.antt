@@ -22,7 +22,7 @@ pub commands_apart : (log cs : List Command) → AreCommands (behind log cs) →
 commands_apart log [] are = (are, tt)
 commands_apart log (c ∷ cs) are = let each = commands_apart (c ∷ log) cs are in (each.0.1, (each.0.0, each.1))
 
-commands_both : (cs ds : List Command) → AreCommands cs → AreCommands ds → AreCommands (cs ++ ds)
+pub commands_both : (cs ds : List Command) → AreCommands cs → AreCommands ds → AreCommands (cs ++ ds)
 commands_both [] ds all more = more
 commands_both (c ∷ cs) ds all more = (all.0, commands_both cs ds all.1 more)
 

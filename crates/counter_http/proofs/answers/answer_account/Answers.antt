@@ -13,7 +13,8 @@ returns-in_default-clause-answers g c =
     let named = c.account_in.ensures ∙ ap (λ (p : List ℕ). account_named (account_in p)) c.path_of.ensures in
     told_answer g.C.Counter.seen _ _ c.args.bank.now c.args.bank.now a [] (said c.bare.result) c.say.result
     (record { shows = λ h log s. s; stands = λ h log s. s }) (λ d. d)
-    (λ h log s. no_account log a c.account_in.result _ c.requires.route c.requires.reads named c.in_default.is c.bare.ensures)
+    (λ h log s. no_account log a c.account_in.result _ c.requires.route c.requires.reads named c.in_default.is
+    c.bare.ensures)
     c.say.ensures.written c.say.ensures.fault
 
 -- it isn't open
@@ -21,9 +22,11 @@ pub returns-in-Ok-None-clause-answers : goal.returns-in-Ok-None-clause-answers
 returns-in-Ok-None-clause-answers g c =
     let a = asked c.args.message.now in
     let named = c.account_in.ensures ∙ ap (λ (p : List ℕ). account_named (account_in p)) c.path_of.ensures in
-    told_answer g.C.Counter.seen _ _ c.args.bank.now c.balance.new.self a [] (said c.bare-in-Ok-None.result) c.say-in-Ok-None.result
+    told_answer g.C.Counter.seen _ _ c.args.bank.now c.balance.new.self a [] (said c.bare-in-Ok-None.result)
+    c.say-in-Ok-None.result
     c.in-Ok-None.ensures.done (λ d. absurd (c.in-Ok-None.ensures.up d))
-    (λ h log s. account_closed log a c.account_in.result c.in-Some.account c.in-Ok-None.field-0 _ c.requires.route c.requires.reads
+    (λ h log s. account_closed log a c.account_in.result c.in-Some.account c.in-Ok-None.field-0 _
+    c.requires.route c.requires.reads
     named c.in-Some.is (c.in-Ok-None.ensures.value h log s) c.in-Ok-None.field-0-is c.bare-in-Ok-None.ensures)
     c.say-in-Ok-None.ensures.written c.say-in-Ok-None.ensures.fault
 
@@ -32,9 +35,12 @@ pub returns-in-Ok-clause-answers : goal.returns-in-Ok-clause-answers
 returns-in-Ok-clause-answers g c =
     let a = asked c.args.message.now in
     let named = c.account_in.ensures ∙ ap (λ (p : List ℕ). account_named (account_in p)) c.path_of.ensures in
-    told_answer g.C.Counter.seen _ _ c.args.bank.now c.balance.new.self a [] (plain c.as_bytes.result.now) c.say_text.result
+    told_answer g.C.Counter.seen _ _ c.args.bank.now c.balance.new.self a [] (plain c.as_bytes.result.now)
+    c.say_text.result
     c.in-Ok-Some.ensures.done (λ d. absurd (c.in-Ok-Some.ensures.up d))
-    (λ h log s. account_told log a c.account_in.result c.in-Some.account c.in-Ok-Some.field-0 (Some c.in-Ok-Some.balance) _
-    c.requires.route c.requires.reads named c.in-Some.is (c.in-Ok-Some.ensures.value h log s) c.in-Ok-Some.field-0-is
+    (λ h log s. account_told log a c.account_in.result c.in-Some.account c.in-Ok-Some.field-0
+    (Some c.in-Ok-Some.balance) _
+    c.requires.route c.requires.reads named c.in-Some.is (c.in-Ok-Some.ensures.value h log s)
+    c.in-Ok-Some.field-0-is
     (ap plain (c.as_bytes.ensures.value ∙ c.in-Ok.ensures)))
     c.say_text.ensures.written c.say_text.ensures.fault

@@ -7,12 +7,15 @@ use Rattle.counter_http.proofs.answers.answer_branches.Goals as goal
 pub returns-in-Ok-clause-answers : goal.returns-in-Ok-clause-answers
 returns-in-Ok-clause-answers g c =
     let a = asked c.args.message.now in
-    told_answer g.C.Counter.seen _ _ c.args.bank.now c.all_lines.new.bank a [] (plain c.as_bytes.result.now) c.say_text.result
+    told_answer g.C.Counter.seen _ _ c.args.bank.now c.all_lines.new.bank a [] (plain c.as_bytes.result.now)
+    c.say_text.result
     c.in-Ok.ensures.done c.in-Ok.ensures.up
     (λ h log s. ap plain (c.as_bytes.ensures.value ∙ c.in-Ok.ensures.lines h log s)
-    ∙ sym (branches_answer log a c.requires.route c.requires.reads)) c.say_text.ensures.written c.say_text.ensures.fault
+    ∙ sym (branches_answer log a c.requires.route c.requires.reads)) c.say_text.ensures.written
+    c.say_text.ensures.fault
 
 pub returns-in-Err-clause-answers : goal.returns-in-Err-clause-answers
 returns-in-Err-clause-answers g c =
-    told_refused g.C.Counter.seen c.in-Err.fault c.fail.result _ _ c.args.bank.now c.all_lines.new.bank (asked c.args.message.now) []
-    c.fail.ensures.0 c.in-Err.ensures.fault c.fail.ensures.1 c.fail.ensures.2
+    told_refused g.C.Counter.seen c.in-Err.fault c.fail.result _ _ c.args.bank.now c.all_lines.new.bank
+    (asked c.args.message.now) []
+    c.fail.ensures.written.0 c.in-Err.ensures.fault c.fail.ensures.written.1 c.fail.ensures.written.2

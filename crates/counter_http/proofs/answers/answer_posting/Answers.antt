@@ -19,7 +19,8 @@ returns-in-Ok-clause-answers g c =
           (takes_posting (seen old) (seen new) a m _ c.requires.posting c.requires.body c.in-Ok.ensures.done)
           (λ d. absurd (c.in-Ok.ensures.up d))
           (λ h log s. ap octets (c.in-Ok.ensures.reply h log s
-          ∙ ap (λ (b : List ℕ). reply_spelling (reply log b)) c.requires.body) ∙ sym (posting_answer log a c.requires.posting))
+          ∙ ap (λ (b : List ℕ). reply_spelling (reply log b)) c.requires.body)
+          ∙ sym (posting_answer log a c.requires.posting))
           c.say.ensures.written c.say.ensures.fault,
     )
 
@@ -32,9 +33,10 @@ returns-in-Err-clause-answers g c =
     let new = c.submit.new.self in (
       m,
       posting_readings _ _ a m c.requires.posting c.now-moment.ensures,
-      told_refused seen c.in-Err.fault c.fail.result _ _ old new a _ c.fail.ensures.0
+      told_refused seen c.in-Err.fault c.fail.result _ _ old new a _ c.fail.ensures.written.0
           (refused_first seen old new c.in-Err.fault _
-          (refuses_posting c.in-Err.fault (seen old) (seen new) a m _ c.requires.posting c.requires.body c.in-Err.ensures.fault)
+          (refuses_posting c.in-Err.fault (seen old) (seen new) a m _ c.requires.posting c.requires.body
+          c.in-Err.ensures.fault)
           c.in-Err.ensures.honest)
-          c.fail.ensures.1 c.fail.ensures.2,
+          c.fail.ensures.written.1 c.fail.ensures.written.2,
     )

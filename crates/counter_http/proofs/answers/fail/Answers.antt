@@ -5,18 +5,26 @@ use Rattle.counter_http.specs.Answers.{Answer, answer_text, bare}
 use Rattle.counter_http.proofs.Answered.{no_service}
 use Rattle.counter_http.proofs.answers.fail.Goals as goal
 
-pub returns-in-Ok : goal.returns-in-Ok
-returns-in-Ok g c =
-    let same = ap (λ (a : Answer). answer_text a (not c.is_head.result) true) (c.bare-response.ensures ∙ no_service) ∙ ap (λ (b : Bool). answer_text (bare 503) (not b) true) c.is_head.ensures in (
-      c.in-Ok.ensures.0,
-      subst (λ (z : List ℕ). Appends (g.W.Write.contents c.args.writer.now) (g.W.Write.contents c.tell.new.writer) (take c.in-Ok.ensures.0 z)) same c.in-Ok.ensures.1,
-      (refl, c.in-Ok.ensures.2 ∙ ap length same),
+pub returns-in-Ok-clause-written : goal.returns-in-Ok-clause-written
+returns-in-Ok-clause-written g c =
+    let same = ap (λ (a : Answer). answer_text a (not c.is_head.result) true)
+    (c.bare-response.ensures ∙ no_service)
+    ∙ ap (λ (b : Bool). answer_text (bare 503) (not b) true) c.is_head.ensures in (
+      c.in-Ok.ensures.written.0,
+      subst (λ (z : List ℕ). Appends (g.W.Sink.contents c.args.writer.now)
+          (g.W.Sink.contents c.tell.new.writer) (take c.in-Ok.ensures.written.0 z)) same
+          c.in-Ok.ensures.written.1,
+      (refl, c.in-Ok.ensures.written.2 ∙ ap length same),
     )
 
-pub returns-in-Err : goal.returns-in-Err
-returns-in-Err g c =
-    let same = ap (λ (a : Answer). answer_text a (not c.is_head.result) true) (c.bare-response.ensures ∙ no_service) ∙ ap (λ (b : Bool). answer_text (bare 503) (not b) true) c.is_head.ensures in (
-      c.in-Err.ensures.0,
-      subst (λ (z : List ℕ). Appends (g.W.Write.contents c.args.writer.now) (g.W.Write.contents c.tell.new.writer) (take c.in-Err.ensures.0 z)) same c.in-Err.ensures.1,
+pub returns-in-Err-clause-written : goal.returns-in-Err-clause-written
+returns-in-Err-clause-written g c =
+    let same = ap (λ (a : Answer). answer_text a (not c.is_head.result) true)
+    (c.bare-response.ensures ∙ no_service)
+    ∙ ap (λ (b : Bool). answer_text (bare 503) (not b) true) c.is_head.ensures in (
+      c.in-Err.ensures.written.0,
+      subst (λ (z : List ℕ). Appends (g.W.Sink.contents c.args.writer.now)
+          (g.W.Sink.contents c.tell.new.writer) (take c.in-Err.ensures.written.0 z)) same
+          c.in-Err.ensures.written.1,
       tt,
     )

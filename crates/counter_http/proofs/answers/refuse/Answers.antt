@@ -6,8 +6,10 @@ use Rattle.counter_http.proofs.answers.refuse.Goals as goal
 
 pub returns-in-Ok-clause-written : goal.returns-in-Ok-clause-written
 returns-in-Ok-clause-written g c =
-    told_text _ _ _ _ (Ok tt) (ap (λ (a : Answer). answer_text a c.args.shows_body true) (c.bare.ensures ∙ bad_request)) c.in-Ok.ensures
+    told_text _ _ _ _ (Ok tt) (ap (λ (a : Answer). answer_text a c.args.shows_body true)
+    (c.bare.ensures ∙ bad_request)) c.in-Ok.ensures.written
 
 pub returns-in-Err-clause-written : goal.returns-in-Err-clause-written
 returns-in-Err-clause-written g c =
-    told_text _ _ _ _ (Err Write) (ap (λ (a : Answer). answer_text a c.args.shows_body true) (c.bare.ensures ∙ bad_request)) c.in-Err.ensures
+    told_text _ _ _ _ (Err Write) (ap (λ (a : Answer). answer_text a c.args.shows_body true)
+    (c.bare.ensures ∙ bad_request)) c.in-Err.ensures.written

@@ -6,4 +6,5 @@ use Rattle.counter_http.proofs.fields.length_of_body.Given as goal
 
 abbrev pub invariant-loop-field : goal.invariant-loop-field
 invariant-loop-field l =
-    body_length (map (header_bytes l.buf) l.fields) ≡ length_behind l.stated (map (header_bytes l.buf) (drop l.field-index l.fields))
+    body_length (map (header_bytes l.buf) l.fields)
+    ≡ length_behind l.stated (map (header_bytes l.buf) (drop l.field-index l.fields))

@@ -17,21 +17,26 @@ returns-in_err-line-clause-fault g c =
 -- memory was refused
 pub returns-in_err-line_of_branch-clause-fault : goal.returns-in_err-line_of_branch-clause-fault
 returns-in_err-line_of_branch-clause-fault g c =
-    let p = err_from_is_err_and c.from_residual-in_err-line_of_branch.result c.from_residual-in_err-line_of_branch.ensures.1 in
+    let p = err_from_is_err_and c.from_residual-in_err-line_of_branch.result
+    c.from_residual-in_err-line_of_branch.ensures.1 in
     rw (p.1, p.2) (asking_full g.C.Counter.seen c.args.bank.now c.next_branch.new.self
-    (asking_more g.C.Counter.seen c.args.bank.now c.loop-body.bank c.next_branch.new.self c.loop-body.invariant.asking
+    (asking_more g.C.Counter.seen c.args.bank.now c.loop-body.bank c.next_branch.new.self
+    c.loop-body.invariant.asking
     c.in_ok-line.ensures.done c.in_ok-line.ensures.up c.in_ok-line.ensures.honest))
 
 pub returns-in_err-push_str-clause-fault : goal.returns-in_err-push_str-clause-fault
 returns-in_err-push_str-clause-fault g c =
-    let p = err_from_is_err_and c.from_residual-in_err-push_str.result c.from_residual-in_err-push_str.ensures.1 in
+    let p = err_from_is_err_and c.from_residual-in_err-push_str.result
+    c.from_residual-in_err-push_str.ensures.1 in
     rw (p.1, p.2) (asking_full g.C.Counter.seen c.args.bank.now c.next_branch.new.self
-    (asking_more g.C.Counter.seen c.args.bank.now c.loop-body.bank c.next_branch.new.self c.loop-body.invariant.asking
+    (asking_more g.C.Counter.seen c.args.bank.now c.loop-body.bank c.next_branch.new.self
+    c.loop-body.invariant.asking
     c.in_ok-line.ensures.done c.in_ok-line.ensures.up c.in_ok-line.ensures.honest))
 
 pub returns-clause-done : goal.returns-clause-done
 returns-clause-done g c =
-    (asking_more g.C.Counter.seen c.args.bank.now c.loop-body.bank c.next_branch.new.self c.loop-body.invariant.asking
+    (asking_more g.C.Counter.seen c.args.bank.now c.loop-body.bank c.next_branch.new.self
+    c.loop-body.invariant.asking
     c.in_ok-line.ensures.done c.in_ok-line.ensures.up c.in_ok-line.ensures.honest).takes
 
 pub returns-clause-lines : goal.returns-clause-lines
@@ -47,7 +52,8 @@ pub loop-body-preserved : goal.loop-body-preserved
 loop-body-preserved g c =
     let i = c.loop-body.invariant in
     let above : IsLineAbove c.loop-body.after c.in-Some.line =
-    subst (λ (o : Option BranchLine). IfSome o (IsLineAbove c.loop-body.after)) c.in-Some.is c.in_ok-line.ensures.within in
+    subst (λ (o : Option BranchLine). IfSome o (IsLineAbove c.loop-body.after)) c.in-Some.is
+    c.in_ok-line.ensures.within in
     rw c.get-after.ensures.value (record {
       within = above.branch;
       asking = asking_more g.C.Counter.seen c.args.bank.now c.loop-body.bank c.next_branch.new.self i.asking
@@ -59,6 +65,7 @@ loop-body-preserved g c =
           (c.in_ok-line.ensures.line h log (i.asking.takes.shows before log s)) in
           c.in_ok-push_str.ensures.bytes
           ∙ ap (λ (t : List ℕ). t ++ c.as_str.result.now) (i.lines before log s)
-          ∙ ap (λ (t : List ℕ). lines_up_to log c.loop-body.after ++ t) (c.as_str.ensures.value ∙ c.in_ok-line_of_branch.ensures)
+          ∙ ap (λ (t : List ℕ). lines_up_to log c.loop-body.after ++ t)
+          (c.as_str.ensures.value ∙ c.in_ok-line_of_branch.ensures)
           ∙ sym (next_line log c.loop-body.after c.in-Some.line next);
     })

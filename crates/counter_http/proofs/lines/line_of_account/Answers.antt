@@ -9,4 +9,5 @@ use Rattle.counter_http.proofs.lines.line_of_account.Goals as goal
 pub returns : goal.returns
 returns c = IfOk-weaker c.format.result _ _ (λ s h.
     h ∙ account_text c.args.account _ c.args.balance _ c.get-number.ensures.value
-    (let fits : SFits w64 c.get-cents.result = search rules in to_z-of_z w64 c.get-cents.result fits ∙ c.get-cents.ensures.value)) c.format.ensures.ok
+    (let fits : SFits w64 c.get-cents.result = search rules in to_z-of_z w64 c.get-cents.result fits
+    ∙ c.get-cents.ensures.value)) c.format.ensures.ok

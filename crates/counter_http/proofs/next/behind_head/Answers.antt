@@ -18,8 +18,11 @@ returns-in_default c =
     let is = head_is buf headers r h c.requires.room c.requires.within at c.requires.bytes in
     record {
       ending = No_body h;
-      ends = no_length buf r h is at.reads (sym (fields_say body_length buf headers r h at) ∙ sym c.in_default.ensures.length);
-      told = ap (λ (b : Bool). refusal (not b) ∷ []) (sym (c.is_head-shows_body.ensures ∙ ap (λ (m : List ℕ). bytes_eq m (codes "HEAD")) (c.of-method.ensures ∙ at.method)));
+      ends = no_length buf r h is at.reads
+          (sym (fields_say body_length buf headers r h at) ∙ sym c.in_default.ensures.length);
+      told = ap (λ (b : Bool). refusal (not b) ∷ [])
+          (sym (c.is_head-shows_body.ensures
+          ∙ ap (λ (m : List ℕ). bytes_eq m (codes "HEAD")) (c.of-method.ensures ∙ at.method)));
     }
 
 pub returns-then-behind-length : goal.returns-then-behind-length
@@ -34,11 +37,15 @@ returns-then-behind-length c =
     let few : n ≤ 4096 = c.in-Some.ensures.few in
     let fits : r.len ≤ length buf = c.requires.within.section.len_fits in
     let short : length (drop r.len buf) < n =
-    subst (λ (t : List ℕ). length t < n) (between_to_end buf r.len (length buf) (omega arith)) c.if-behind-length.true in
+    subst (λ (t : List ℕ). length t < n) (between_to_end buf r.len (length buf) (omega arith))
+    c.if-behind-length.true in
     record {
       ending = No_body h;
-      ends = λ some. short_body buf r h n is at.reads (sym (fields_say body_length buf headers r h at) ∙ sym c.in-Some.ensures.length) short;
-      told = ap (λ (b : Bool). refusal (not b) ∷ []) (sym (c.is_head-shows_body.ensures ∙ ap (λ (m : List ℕ). bytes_eq m (codes "HEAD")) (c.of-method.ensures ∙ at.method)));
+      ends = λ some. short_body buf r h n is at.reads
+          (sym (fields_say body_length buf headers r h at) ∙ sym c.in-Some.ensures.length) short;
+      told = ap (λ (b : Bool). refusal (not b) ∷ [])
+          (sym (c.is_head-shows_body.ensures
+          ∙ ap (λ (m : List ℕ). bytes_eq m (codes "HEAD")) (c.of-method.ensures ∙ at.method)));
       room = omega (arith, c.requires.bytes, length-drop r.len buf);
     }
 
@@ -53,14 +60,17 @@ returns c =
     let is = head_is buf headers r h c.requires.room c.requires.within at c.requires.bytes in
     let fits : r.len ≤ length buf = c.requires.within.section.len_fits in
     let long : n ≤ length (drop r.len buf) =
-    subst (λ (t : List ℕ). n ≤ length t) (between_to_end buf r.len (length buf) (omega arith)) c.if-behind-length.false in
-    let w = whole_message buf r h n is at.reads at.len (sym (fields_say body_length buf headers r h at) ∙ sym c.in-Some.ensures.length) long in
+    subst (λ (t : List ℕ). n ≤ length t) (between_to_end buf r.len (length buf) (omega arith))
+    c.if-behind-length.false in
+    let w = whole_message buf r h n is at.reads at.len
+    (sym (fields_say body_length buf headers r h at) ∙ sym c.in-Some.ensures.length) long in
     record {
       message = record { head = h; body = take n (drop r.len buf) };
       whole = w.0;
       front = w.1;
       long = w.2;
-      asks = asks_alike _ h.method _ h.target _ _ _ (closes h) (c.of-method.ensures ∙ at.method) (c.of.ensures ∙ at.path)
+      asks = asks_alike _ h.method _ h.target _ _ _ (closes h) (c.of-method.ensures ∙ at.method)
+          (c.of.ensures ∙ at.path)
           (ap (take n) (between_to_end buf r.len (length buf) (omega arith)))
           (elim c.if-head-eq0.branch [
             | then-head-eq0 w ↦ w.result-is ∙ closes_old h r.version at.version w.if-head-eq0.true

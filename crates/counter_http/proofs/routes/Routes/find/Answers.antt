@@ -12,7 +12,8 @@ returns-in-Ok-at c =
     let target = c.args.target.now in
     let path = c.in-Ok.path.now in
     let cut : c.in-Ok.path.now ≡ path_of c.args.target.now = c.in-Ok.ensures.cases.0 ∙ c.path_of.ensures in
-    find_text c.in-Ok.path.now _ (path_bytes target path (path_end target) (λ i. omega (arith, c.type_inv.target i)) cut) (IsUtf8-of c.in-Ok.ensures.cases.0 c.in-Ok.ensures.cases.1)
+    find_text c.in-Ok.path.now _ (path_bytes target path (path_end target)
+    (λ i. omega (arith, c.type_inv.target i)) cut) (IsUtf8-of c.in-Ok.ensures.cases.0 c.in-Ok.ensures.cases.1)
     (at_rows c.args.self.now.rows path _ c.in-Ok-at.ensures.found) ∙ ap route_of cut
 
 pub returns-in-Err : goal.returns-in-Err
@@ -20,5 +21,7 @@ returns-in-Err c =
     let target = c.args.target.now in
     let path = c.in-Ok.path.now in
     let cut : c.in-Ok.path.now ≡ path_of c.args.target.now = c.in-Ok.ensures.cases.0 ∙ c.path_of.ensures in
-    find_text c.in-Ok.path.now None (path_bytes target path (path_end target) (λ i. omega (arith, c.type_inv.target i)) cut) (IsUtf8-of c.in-Ok.ensures.cases.0 c.in-Ok.ensures.cases.1)
+    find_text c.in-Ok.path.now None
+    (path_bytes target path (path_end target) (λ i. omega (arith, c.type_inv.target i)) cut)
+    (IsUtf8-of c.in-Ok.ensures.cases.0 c.in-Ok.ensures.cases.1)
     (at_rows c.args.self.now.rows path _ c.in-Err.ensures.missing) ∙ ap route_of cut

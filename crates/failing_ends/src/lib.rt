@@ -1,8 +1,10 @@
-//! Readers and writers that fail.
+//! Readers and writers that cut, fail, or count, for tests.
+#![tactic(auto)]
+
 use std::io;
 use std::io::{ErrorKind, Read, Write};
 
-/// Gives some bytes, then fails once, and then gives others.
+/// Gives some bytes, then fails once if it has a fault, and then gives others.
 #[derive(Drop)]
 pub struct CutReader<'a> {
     pub before: &'a [u8],
@@ -22,16 +24,18 @@ impl<'a> Read for CutReader<'a> {
     }
 }
 
-/// Takes so many bytes, and then fails, or takes none.
+/// Takes so many bytes, and then fails, or takes none. It counts the writes that it is asked for.
 #[derive(Drop)]
 pub struct CutWriter {
     pub taken: Vec<u8>,
     pub most: usize,
     pub fault: Option<ErrorKind>,
+    pub writes: u64,
 }
 
 impl Write for CutWriter {
     fn write(&mut self, buf: &[u8]) -> io::Result<usize> {
+        self.writes = self.writes.saturating_add(1);
         let room = self.most.saturating_sub(self.taken.len());
         match self.fault {
             Some(kind) if room == 0 => Err(io::Error::from(kind)),

@@ -1,0 +1,222 @@
+-- A connection that ends at a message whose answer was written in part or not at all.
+use Rattle.std.proofs.Common.{◌≡◌, ℕ, ◌+◌, ◌-◌, inl, inr, List, [], ◌∷◌, ◌++◌, length, take, drop, Option, Result, Err, refl, sym, ap, subst, ◌∙◌, append-nil, arith}
+use Rattle.std.specs.Io.KnownBytes.{Appends, Consumes}
+use Rattle.std.proofs.KnownBytes.{Appends-trans}
+use Rattle.std.proofs.Math.Seq.{take-append-add}
+use Rattle.std.proofs.lemmas.List.{length-append}
+use Rattle.std.proofs.lemmas.List.Concat.{flat_map-append}
+use Rattle.posting_rules.specs.declared.fault.Fault.{Fault}
+use Rattle.posting_rules.specs.declared.fault.Fault.TheVariants as bank
+use Rattle.posting_rules.specs.Commands.{Command}
+use Rattle.posting_rules.specs.Tables.{Shows}
+use Rattle.posting_rules.specs.Counter.{Seen, LeavesOnly, StandsAt, ShowsBeginning, Takes, Refuses}
+use Rattle.posting_rules.specs.Runs.{behind}
+use Rattle.posting_core.specs.Clock.{AreReadings}
+use Rattle.posting_core.specs.Told.{ReadTold}
+use Rattle.posting_rules.proofs.Remaining.{leaves_still, leaves_weaker}
+use Rattle.posting_rules.proofs.Sequence.{behind-append}
+use Rattle.counter_http.specs.declared.fault.ServeFault.{ServeFault}
+use Rattle.counter_http.specs.declared.fault.ServeFault.TheVariants.{Read, Write, Bank, Memory}
+use Rattle.counter_http.specs.declared.next.Whole.{Whole}
+use Rattle.counter_http.specs.Ends.{HasEnded}
+use Rattle.counter_http.specs.Messages.{IsMessage}
+use Rattle.counter_http.specs.Next.{asked, IsWhole}
+use Rattle.counter_http.specs.Answers.{Asked, asked_by, answer_of, unavailable}
+use Rattle.counter_http.specs.Turns.{Turn, commands_for, readings_for, commands_in, moments_in, text_in, commands_of, moments_of, texts_of, answers_to, IsAnsweredInPart, IsRefusedAt, BreaksOff}
+use Rattle.posting_core.specs.Batches.{joined}
+use Rattle.posting_core.proofs.Batched.{joined-append}
+use Rattle.counter_http.specs.Serving.{At_message, At_refusal, Exits, IsWritten, Serves}
+use Rattle.counter_http.proofs.Turning.{readings_append, takes_append, answers-append}
+use Rattle.counter_http.proofs.Connected.{stop_all, written_part}
+use Rattle.counter_http.proofs.Going.{Going, turn_of, read_one_more}
+
+-- ---- ends at a message
+
+-- its answer was written in part
+answer_begun : {C : Type 0} (seen : C → Seen) {r r' w w' w'' k k' k'' : Option (List ℕ)}
+    {q q' : Option (List ReadTold)} (old now new : C)
+    {count : ℕ} (t : Turn) (all rest : List ℕ)
+    → Going r r' w w' k k' (seen old) (seen now) all count → IsMessage t.message → all ≡ text_in t ++ rest
+    → AreReadings k' k'' (moments_in t)
+    → ((seen new).honest → (seen now).honest)
+    → IsAnsweredInPart w' w'' (seen now) (seen new) (asked_by t.message) (commands_in t)
+    → Serves seen r r' q q' w w'' k k'' old new (Err Write)
+answer_begun seen {r = r} {r' = r'} {w = w} {w' = w'} {w'' = w''} {k = k} {k' = k'} {k'' = k''} old now new t
+    all rest g is front reading honest a =
+    let before = g.turns in
+    let ts = before ++ t ∷ [] in
+    let none : ts ++ [] ≡ ts = append-nil ts in
+    let commands : commands_of ts ≡ commands_of before ++ commands_in t =
+    flat_map-append commands_in before (t ∷ [])
+    ∙ ap (λ (x : List Command). commands_of before ++ x) (append-nil (commands_in t)) in
+    let moments : moments_of ts ≡ moments_of before ++ moments_in t =
+    flat_map-append moments_in before (t ∷ [])
+    ∙ ap (λ (x : List ℕ). moments_of before ++ x) (append-nil (moments_in t)) in
+    let takes : Takes (seen old) (seen new) (commands_of ts) =
+    subst (λ (x : List Command). Takes (seen old) (seen new) x) (sym commands)
+    (takes_append (seen old) (seen now) (seen new) (commands_of before) (commands_in t) honest
+    g.answered.takes a.takes) in
+    record {
+      taken = ts;
+      refused = [];
+      rest = rest;
+      last = [];
+      read = subst (λ (us : List Turn). Consumes r r' (texts_of us ++ rest)) (sym none)
+          (read_one_more r r' before t all rest g.read front);
+      clock = subst (λ (us : List Turn). AreReadings k k'' (moments_of us)) (sym none)
+          (subst (λ (x : List ℕ). AreReadings k k'' x) (sym moments)
+          (readings_append k k' k'' (moments_of before) (moments_in t) g.answered.clock reading));
+      written = g.answered.written ++ a.written;
+      wrote = Appends-trans w w' w'' g.answered.written a.written g.answered.wrote a.wrote;
+      stood = new;
+      honest_first = λ h. g.answered.honest (honest h);
+      honest = λ h. h;
+      up = λ d. g.answered.up (a.up d);
+      takes = takes;
+      exits = At_message (record {
+        before = before;
+        turn = t;
+        taken_is = refl;
+        stays = g.stays;
+        whole = is;
+        none_refused = refl;
+        nothing = refl;
+      }) refl;
+      answers = λ h log s.
+          written_part g.answered.written a.written _ _ (g.answered.answers (honest h) log s)
+          (a.answer h (behind log (commands_of before)) (g.answered.takes.shows (honest h) log s))
+          ∙ ap (λ (x : List ℕ). take (length (g.answered.written ++ a.written)) x)
+          (ap (λ (x : List ℕ). joined (answers_to log before) ++ x)
+          (sym (append-nil (answer_of (behind log (commands_of before)) (asked_by t.message))))
+          ∙ sym (joined-append (answers_to log before)
+          (answers_to (behind log (commands_of before)) (t ∷ [])))
+          ∙ ap joined (sym (answers-append log before (t ∷ [])) ∙ sym (append-nil (answers_to log ts))));
+      stop = λ h log s. stop_all (seen new) log (commands_of (ts ++ [])) (commands_of ts)
+          (ap commands_of none) (takes.stands h log s);
+    }
+
+-- what a stop leaves where the last commands were refused
+stop_part : (c : Seen) (log cs ds es : List Command) → es ≡ cs ++ ds
+    → LeavesOnly c (ShowsBeginning (behind log cs) ds 0)
+    → LeavesOnly c (ShowsBeginning log es (length cs))
+stop_part c log cs ds es e stop =
+    leaves_weaker c (ShowsBeginning (behind log cs) ds 0) (ShowsBeginning log es (length cs))
+    (λ t b.
+    let begins : take (length cs + b.count) es ≡ cs ++ take b.count ds = ap (take (length cs + b.count)) e
+    ∙ take-append-add cs ds b.count in
+    record {
+      count = length cs + b.count;
+      holds = omega arith;
+      within = omega (arith, b.within, length-append cs ds, ap length e);
+      shows = subst (λ (l : List Command). Shows t l)
+          (sym (ap (behind log) begins ∙ behind-append log cs (take b.count ds))) b.shows;
+    })
+    stop
+
+-- what a stop leaves of a counter that refused commands
+refused_stop : (fault : Fault) (c c' : Seen) (log cs : List Command) → Refuses fault c c' cs → c'.honest
+    → StandsAt c log
+    → LeavesOnly c' (ShowsBeginning log cs 0)
+refused_stop bank.Memory c c' log cs u h s = leaves_weaker c' (λ t. Shows t log) (ShowsBeginning log cs 0)
+    (λ t shown. record { count = 0; holds = omega arith; within = omega arith; shows = shown })
+    (leaves_still c c' (λ t. Shows t log) u.left s.stop)
+refused_stop bank.Store c c' log cs u h s = u.stop h log s
+refused_stop bank.Down c c' log cs u h s = absurd (s.up u.before)
+refused_stop (bank.Damaged rule) c c' log cs u h s = absurd (u.never_shown h log s.shows)
+
+-- the bank refused it, and so much was written
+bank_failed : {C : Type 0} (seen : C → Seen) {r r' w w' w'' k k' k'' : Option (List ℕ)}
+    {q q' : Option (List ReadTold)} (old now new : C)
+    {count : ℕ} (result : Result ℕ ServeFault) (t : Turn) (all rest : List ℕ) (more : List ℕ)
+    (fault : Fault) (g : Going r r' w w' k k' (seen old) (seen now) all count) → all ≡ text_in t ++ rest
+    → AreReadings k' k'' (moments_in t)
+    → Appends w' w'' more → (b : IsRefusedAt seen now new fault (commands_in t))
+    → Exits seen result (HasEnded r' q q') old b.stood new g.turns (t ∷ []) rest
+    (unavailable (asked_by t.message) ∷ [])
+    → ((text : List ℕ) → IsWritten result (text ++ more) (text ++ (unavailable (asked_by t.message) ++ [])))
+    → Serves seen r r' q q' w w'' k k'' old new result
+bank_failed seen {r = r} {r' = r'} {w = w} {w' = w'} {w'' = w''} {k = k} {k' = k'} {k'' = k''} old now new
+    result t all rest more fault g front reading wrote b exits writes =
+    let before = g.turns in
+    let last = unavailable (asked_by t.message) ∷ [] in
+    let commands : commands_of (before ++ t ∷ []) ≡ commands_of before ++ commands_in t =
+    flat_map-append commands_in before (t ∷ [])
+    ∙ ap (λ (x : List Command). commands_of before ++ x) (append-nil (commands_in t)) in
+    let moments : moments_of (before ++ t ∷ []) ≡ moments_of before ++ moments_in t =
+    flat_map-append moments_in before (t ∷ [])
+    ∙ ap (λ (x : List ℕ). moments_of before ++ x) (append-nil (moments_in t)) in
+    let takes : Takes (seen old) (seen b.stood) (commands_of before) =
+    subst (λ (x : List Command). Takes (seen old) (seen b.stood) x) (append-nil (commands_of before))
+    (takes_append (seen old) (seen now) (seen b.stood) (commands_of before) [] b.honest_first g.answered.takes
+    b.takes) in
+    let honest : (seen new).honest → (seen now).honest = λ h. b.honest_first (b.honest h) in
+    record {
+      taken = before;
+      refused = t ∷ [];
+      rest = rest;
+      last = last;
+      read = read_one_more r r' before t all rest g.read front;
+      clock = subst (λ (x : List ℕ). AreReadings k k'' x) (sym moments)
+          (readings_append k k' k'' (moments_of before) (moments_in t) g.answered.clock reading);
+      written = g.answered.written ++ more;
+      wrote = Appends-trans w w' w'' g.answered.written more g.answered.wrote wrote;
+      stood = b.stood;
+      honest_first = λ h. g.answered.honest (b.honest_first h);
+      honest = b.honest;
+      up = λ d. g.answered.up (b.up d);
+      takes = takes;
+      exits = exits;
+      answers = λ h log s. subst (λ (x : List ℕ). IsWritten result (g.answered.written ++ more) x)
+          (ap (λ (x : List ℕ). x ++ joined last) (g.answered.answers (honest h) log s)
+          ∙ sym (joined-append (answers_to log before) last)) (writes g.answered.written);
+      stop = λ h log s. stop_part (seen new) log (commands_of before) (commands_in t)
+          (commands_of (before ++ t ∷ [])) commands
+          (refused_stop fault (seen b.stood) (seen new) (behind log (commands_of before)) (commands_in t)
+          b.refuses h (takes.stands (b.honest h) log s));
+    }
+
+-- the one message's commands
+one_commands : (t : Turn) → commands_in t ≡ commands_of (t ∷ [])
+one_commands t = sym (append-nil (commands_in t))
+
+broken_at : {C : Type 0} (seen : C → Seen) (fault : ServeFault) {r r' w w' w'' k k' k'' : Option (List ℕ)}
+    {q q' : Option (List ReadTold)}
+    (old now new : C) {count : ℕ} (t : Turn) (all rest : List ℕ)
+    → Going r r' w w' k k' (seen old) (seen now) all count → IsMessage t.message → all ≡ text_in t ++ rest
+    → AreReadings k' k'' (moments_in t)
+    → ((seen new).honest → (seen now).honest)
+    → BreaksOff seen fault w' w'' now new (asked_by t.message) (commands_in t)
+    → Serves seen r r' q q' w w'' k k'' old new (Err fault)
+broken_at seen Write old now new t all rest g is front reading honest (inl a) =
+    answer_begun seen old now new t all rest g is front reading honest a
+broken_at seen Write old now new t all rest g is front reading honest (inr a) =
+    bank_failed seen old now new (Err Write) t all rest a.written a.fault g front reading a.wrote a.refused
+    (At_refusal (record { stays = g.stays; turn = t; whole = is; refused_is = refl; last_is = refl }) a.fault
+    (subst (λ (cs : List Command). Refuses a.fault (seen a.refused.stood) (seen new) cs) (one_commands t)
+    a.refused.refuses))
+    (λ text. written_part text a.written text (unavailable (asked_by t.message) ++ []) refl
+    (a.told ∙ ap (take (length a.written)) (sym (append-nil (unavailable (asked_by t.message))))))
+broken_at seen (Bank fault) old now new t all rest g is front reading honest a =
+    bank_failed seen old now new (Err (Bank fault)) t all rest (unavailable (asked_by t.message)) fault g
+    front reading a.wrote a.refused (
+      record { stays = g.stays; turn = t; whole = is; refused_is = refl; last_is = refl },
+      subst (λ (cs : List Command). Refuses fault (seen a.refused.stood) (seen new) cs) (one_commands t)
+          a.refused.refuses,
+    )
+    (λ text. ap (λ (x : List ℕ). text ++ x) (sym (append-nil (unavailable (asked_by t.message)))))
+broken_at seen Read old now new t all rest g is front reading honest a = absurd a
+broken_at seen Memory old now new t all rest g is front reading honest a = absurd a
+
+pub end_broken : {C : Type 0} (seen : C → Seen) (fault : ServeFault)
+    {r r' w w' w'' k k' k'' : Option (List ℕ)} {q q' : Option (List ReadTold)} (old now new : C) {count : ℕ}
+    (m : ℕ) (all : List ℕ)
+    (p : Whole)
+    → Going r r' w w' k k' (seen old) (seen now) all count → IsWhole all p
+    → AreReadings k' k'' (readings_for m (asked p))
+    → ((seen new).honest → (seen now).honest)
+    → BreaksOff seen fault w' w'' now new (asked p) (commands_for m (asked p))
+    → Serves seen r r' q q' w w'' k k'' old new (Err fault)
+end_broken seen fault {w' = w'} {w'' = w''} {k' = k'} {k'' = k''} old now new m all p g is reading honest a =
+    broken_at seen fault old now new (turn_of m is) all (drop p.length all) g is.whole is.front
+    (subst (λ (x : Asked). AreReadings k' k'' (readings_for m x)) is.asks reading) honest
+    (subst (λ (x : Asked). BreaksOff seen fault w' w'' now new x (commands_for m x)) is.asks a)

@@ -1,0 +1,41 @@
+-- What the ends of a connection told: the reader from r to r', and the writer from w to w'.
+use Rattle.std.specs.Prelude.{ℕ, List, [], Option, Bool, true, false, Result, Ok, Err}
+use Rattle.std.specs.Io.KnownBytes.{IsAtEnd}
+use Rattle.posting_core.specs.Told.{ReadTold, WriteTold, Adds, EndsWith, HasMore, HasReadFailed, HasWriteFailed, IsEndOfInput, IsFlush, IsThrough}
+use Rattle.counter_http.specs.declared.fault.ServeFault.{ServeFault}
+use Rattle.counter_http.specs.declared.fault.ServeFault.TheVariants.{Read, Write, Bank, Memory}
+
+-- the input ended: no known byte remains, and the last read told its end
+pub record HasEnded (remaining : Option (List ℕ)) (r r' : Option (List ReadTold)) : Type 0 where
+  pub none : IsAtEnd remaining
+  pub told : EndsWith IsEndOfInput r r'
+
+-- what was to be written was taken or is held, or the writer failed
+abbrev pub HasTaken : Bool → Option (List WriteTold) → Option (List WriteTold) → Type 0
+HasTaken true w w' = HasMore w w'
+HasTaken false w w' = HasWriteFailed w w'
+
+-- one answer was flushed, or the writer failed
+abbrev pub HasSent : {E : Type 0} → Result (Unit {0}) E → Option (List WriteTold) → Option (List WriteTold)
+    → Type 0
+HasSent (Ok done) w w' = EndsWith IsFlush w w'
+HasSent (Err e) w w' = HasWriteFailed w w'
+
+-- one answer was flushed, that of a fault of the bank too, or the writer failed
+abbrev pub SendsAs : Result (Unit {0}) ServeFault → Option (List WriteTold) → Option (List WriteTold)
+    → Type 0
+SendsAs (Ok done) w w' = EndsWith IsFlush w w'
+SendsAs (Err Write) w w' = HasWriteFailed w w'
+SendsAs (Err (Bank fault)) w w' = EndsWith IsFlush w w'
+SendsAs (Err Read) w w' = ⊥
+SendsAs (Err Memory) w w' = ⊥
+
+-- a fault of an end comes where that end failed; every answer was flushed, wherever the writer didn't fail;
+-- neither was asked for anything where memory was refused
+abbrev pub EndsAs : Result ℕ ServeFault → Option (List ReadTold) → Option (List ReadTold)
+    → Option (List WriteTold) → Option (List WriteTold) → Type 0
+EndsAs (Ok count) r r' w w' = IsThrough w w'
+EndsAs (Err Read) r r' w w' = HasReadFailed r r' × IsThrough w w'
+EndsAs (Err Write) r r' w w' = HasWriteFailed w w'
+EndsAs (Err (Bank fault)) r r' w w' = EndsWith IsFlush w w'
+EndsAs (Err Memory) r r' w w' = Adds r r' [] × Adds w w' []
