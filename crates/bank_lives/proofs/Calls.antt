@@ -10,17 +10,18 @@ use Rattle.posting_rules.specs.Tables.{Shows}
 use Rattle.posting_rules.proofs.Remaining.{leaves_still, leaves_weaker}
 use Rattle.bank_lives.specs.Lives.{IsCall, given_to}
 
--- whatever shows the log with all the commands shows the longest beginning
-pub all_shown : (c : Seen) (log commands : List Command) → LeavesOnly c (λ t. Shows t (behind log commands))
+-- what stands at the log with all the commands leaves the longest beginning
+pub all_shown : (c : Seen) (log commands : List Command) → StandsAt c (behind log commands)
     → LeavesOnly c (ShowsBeginning log commands (length commands))
-all_shown c log commands left =
+all_shown c log commands stands =
     leaves_weaker c (λ t. Shows t (behind log commands)) (ShowsBeginning log commands (length commands))
     (λ t shown. record {
       count = length commands;
       holds = omega arith;
       within = omega arith;
+      are = rw (take-length commands) stands.shows.commands;
       shows = rw (take-length commands) shown;
-    }) left
+    }) stands.stop
 
 -- it was answered
 pub taken_is_call : (old new : Seen) (commands : List Command) → AreCommands commands → Takes old new commands
@@ -29,7 +30,7 @@ taken_is_call old new commands are takes up honest = record {
   are = are;
   within = omega arith;
   honest = honest;
-  stop = λ h log stood. all_shown new log commands (takes.stands h log stood).stop;
+  stop = λ h log stood. all_shown new log commands (takes.stands h log stood);
   stands = λ h log stood. inl (takes.stands h log stood);
   down = λ down. absurd (up down);
 }
@@ -52,7 +53,7 @@ refused_is_call Memory old new commands are refuses up honest =
       are = tt;
       within = omega arith;
       honest = honest;
-      stop = λ h log stood. all_shown new log [] (stands h log stood).stop;
+      stop = λ h log stood. all_shown new log [] (stands h log stood);
       stands = λ h log stood. inl (stands h log stood);
       down = λ down. absurd (let e = up down in cc);
     }

@@ -18,6 +18,7 @@ one_call_more log given commands least n t some b = record {
   count = length given + b.count;
   holds = by n b.holds;
   within = let most = b.within in omega (arith, length-append given commands);
+  are = rw (take-append-add given commands b.count, behind-append log given (take b.count commands)) b.are;
   shows = rw (take-append-add given commands b.count, behind-append log given (take b.count commands)) b.shows;
 }
   where
@@ -33,6 +34,7 @@ no_more log given commands least zero t none b = record {
   count = b.count;
   holds = b.holds;
   within = let most = b.within in omega (arith, length-append given commands);
+  are = rw (take-append-le b.count given commands b.within) b.are;
   shows = rw (take-append-le b.count given commands b.within) b.shows;
 }
 
@@ -86,7 +88,7 @@ module _ {C : Type 0} (seen : C → Seen) (first : C) where
       let some = (life_given now given least life).0 in
       elim (life_lives now given least life h log stood) [
         | inl stands ↦ leaves_weaker (seen now) (ShowsBeginning log given (length given)) (ShowsBeginning log given least)
-            (λ t b. record { count = b.count; holds = let all = b.holds in omega arith; within = b.within; shows = b.shows })
-            (all_shown (seen now) log given stands.stop)
+            (λ t b. record { count = b.count; holds = let all = b.holds in omega arith; within = b.within; are = b.are; shows = b.shows })
+            (all_shown (seen now) log given stands)
         | inr cut ↦ cut.1
       ]

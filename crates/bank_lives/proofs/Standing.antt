@@ -1,5 +1,5 @@
 -- A connection that was opened on what a stop left.
-use Rattle.std.proofs.Common.{◌≡◌, ◌≤◌, ◌∙◌, ℕ, zero, suc, List, [], ◌∷◌, length, take, Result, Ok, Err, sym, ap, subst}
+use Rattle.std.proofs.Common.{◌≡◌, ◌≤◌, ◌∙◌, ℕ, List, length, take, Result, Ok, Err, sym, ap, subst}
 use Rattle.std.specs.Prelude.{IfOk}
 use Rattle.sqlite.specs.State.{State, Opens}
 use Rattle.sqlite.specs.Tree.{Trees}
@@ -9,7 +9,6 @@ use Rattle.posting_rules.specs.Counter.{Seen, StandsAt, ShowsBeginning}
 use Rattle.posting_rules.specs.Runs.{behind}
 use Rattle.posting_rules.specs.Tables.{Tables}
 use Rattle.posting_rules.specs.Tables.{Shows as Show}
-use Rattle.posting_rules.proofs.Sequence.{commands_behind}
 use Rattle.store_rows.specs.View.{Shows, ShowsTrees}
 use Rattle.bank_store.specs.Seen.{seen_in}
 use Rattle.posting_rules.specs.Laws.{IsConsistent, NoneShares, TablesAreConsistent}
@@ -27,15 +26,6 @@ stands_opened s D up opens settled t log are left shown shows = record {
       (t, subst (λ (trees : Trees). ShowsTrees trees t) (sym same) left, shows);
 }
 
-commands_taken : (n : ℕ) (cs : List Command) → AreCommands cs → AreCommands (take n cs)
-commands_taken zero cs are = tt
-commands_taken (suc n) [] are = tt
-commands_taken (suc n) (c ∷ cs) are = (are.0, commands_taken n cs are.1)
-
--- the log of a beginning is one of the bank's commands
-commands_begun : (log given : List Command) (n : ℕ) → AreCommands log → AreCommands given → AreCommands (behind log (take n given))
-commands_begun log given n are all = commands_behind log (take n given) are (commands_taken n given all)
-
 -- the beginning that a connection stands at
 pub record Begins (seen : Seen) (log given : List Command) (least : ℕ) : Type 0 where
   pub count : ℕ
@@ -45,14 +35,13 @@ pub record Begins (seen : Seen) (log given : List Command) (least : ℕ) : Type 
 
 -- one that was opened on trees which show a beginning stands there
 pub begins_opened : (s : State) (log given : List Command) (least : ℕ) → Opens s → ((db : Trees) → s.may_leave db → db ≡ s.committed.trees)
-    → ((t : Tables) → ShowsTrees s.now.trees t → Shows s.now t) → AreCommands log → AreCommands given
+    → ((t : Tables) → ShowsTrees s.now.trees t → Shows s.now t)
     → (t : Tables) × ShowsTrees s.now.trees t × ShowsBeginning log given least t → Begins (seen_in s ⊥) log given least
-begins_opened s log given least opens settled finds are all (t, left, b) = record {
+begins_opened s log given least opens settled finds (t, left, b) = record {
   count = b.count;
   holds = b.holds;
   within = b.within;
-  stands = stands_opened s ⊥ (λ none. none) opens settled t (behind log (take b.count given)) (commands_begun log given b.count are all)
-      left (finds t left) b.shows;
+  stands = stands_opened s ⊥ (λ none. none) opens settled t (behind log (take b.count given)) b.are left (finds t left) b.shows;
 }
 
 -- a bank that stands at a beginning

@@ -1,12 +1,19 @@
 //! Laws of a counter's life. Each is a function that does nothing: its contract is the law.
 ghost use Rattle.std.specs.Prelude.{◌≡◌, ◌≤◌, ℕ, List, length};
+ghost use Rattle.sqlite.specs.Held.{state};
+ghost use Rattle.sqlite.specs.State.{Opens};
 ghost use Rattle.posting_rules.specs.declared.fault.Fault.{Fault as Told};
 ghost use Rattle.posting_rules.specs.declared.fault.Fault.TheVariants.{Down};
 ghost use Rattle.posting_rules.specs.Commands.{Command, AreCommands};
 ghost use Rattle.posting_rules.specs.Counter.{Takes, Refuses, StandsAt, LeavesOnly, ShowsBeginning};
+ghost use Rattle.posting_rules.specs.Tables.{Tables, Shows};
+ghost use Rattle.store_rows.specs.View.{ShowsTrees};
+ghost use Rattle.bank_store.specs.Opening.{conn_seen};
 ghost use Rattle.bank_lives.specs.Lives.{IsCall, Life, given_to};
 
 use posting_rules::Counter;
+use sqlite::{Alter, Connection};
+use store_rows::trees_law;
 
 /// Each call of a counter, by what the trait says of it, is a call of its life.
 pub fn calls_law<C: Counter>(_counter: &C)
@@ -27,4 +34,17 @@ pub fn life_law<C: Counter>(counter: &C)
     ensures left { (first : _) (log given : List Command) (least : ℕ) → Life C.seen first counter.now given least
         → StandsAt (C.seen first) log → (C.seen counter.now).honest
         → LeavesOnly (C.seen counter.now) (ShowsBeginning log given least) }
+    // And a stop leaves something, so that there are such tables.
+    ensures something { (first : _) (log given : List Command) (least : ℕ) → Life C.seen first counter.now given least
+        → StandsAt (C.seen first) log → (C.seen counter.now).honest
+        → ∥ ((tables : Tables) × ShowsBeginning log given least tables) ∥₁ }
 {}
+
+/// A connection that was opened stands at whatever log its trees show.
+pub fn opened_law<S: Alter>(conn: &Connection<S>)
+    ensures { Opens (state S.Store conn.now) → (tables : Tables) (log : List Command) → AreCommands log
+        → ShowsTrees (state S.Store conn.now).now.trees tables → Shows tables log
+        → StandsAt (conn_seen S.Store conn.now) log }
+{
+    trees_law(conn);
+}

@@ -25,16 +25,17 @@ use Rattle.bank_store.specs.NoneOrAll.{LeavesNoneOrAll}
 use Rattle.bank_store.specs.Seen.{seen_in}
 
 -- what the commands lead to is a beginning of them, and so is what was there
-all_of_them : (t : Tables) (log cs : List Command) → Show t (behind log cs) → ShowsBeginning log cs 0 t
-all_of_them t log cs shows = record {
+all_of_them : (t : Tables) (log cs : List Command) → AreCommands (behind log cs) → Show t (behind log cs) → ShowsBeginning log cs 0 t
+all_of_them t log cs are shows = record {
   count = length cs;
   holds = omega arith;
   within = omega arith;
+  are = subst (λ ds. AreCommands (behind log ds)) (sym (take-length cs)) are;
   shows = subst (λ ds. Show t (behind log ds)) (sym (take-length cs)) shows;
 }
 
-none_of_them : (t : Tables) (log cs : List Command) → Show t log → ShowsBeginning log cs 0 t
-none_of_them t log cs shows = record { count = 0; holds = omega arith; within = omega arith; shows = shows }
+none_of_them : (t : Tables) (log cs : List Command) → AreCommands log → Show t log → ShowsBeginning log cs 0 t
+none_of_them t log cs are shows = record { count = 0; holds = omega arith; within = omega arith; are = are; shows = shows }
 
 -- the tables of every log are so
 abbrev pub HoldsOfLogs : (Tables → Type 0) → Type 0
@@ -43,17 +44,18 @@ HoldsOfLogs Sound = (t : Tables) (log : List Command) → AreCommands log → Sh
 module _ {S X : Type 0} {So : Tables → Type 0} {after : Tables → Tables} {wanted : Tables → X} {g : Ghosts S} {old new : Held S} {r : Result X TableFault}
     (holds : HoldsOfLogs So) (cs : List Command) (is : IsChange after cs) (does : Transacts g old new So after wanted r) where
   -- a call that a fault ended: what a stop leaves is what it could leave before, or all of the call
-  pub cut_short : (end : State) (D E : Type 0) → E → Survives (state g old) end (Leaves (state g old) So after) → IsCutShort (seen_in (state g old) D) (seen_in end E) cs
-  cut_short end D E down survives = record {
+  pub cut_short : AreCommands cs → (end : State) (D E : Type 0) → E → Survives (state g old) end (Leaves (state g old) So after)
+      → IsCutShort (seen_in (state g old) D) (seen_in end E) cs
+  cut_short are end D E down survives = record {
     down = down;
     stop = λ clean log at trees may.
         let s = at.shows in
         elim (survives.crash clean trees may) [
-          | inl before ↦ (let it = at.stop trees before in (it.0, it.1, none_of_them it.0 log cs it.2))
+          | inl before ↦ (let it = at.stop trees before in (it.0, it.1, none_of_them it.0 log cs s.commands it.2))
           | inr made ↦ (
             after s.tables,
             made s.tables s.are (holds s.tables log s.commands s.shows),
-            all_of_them (after s.tables) log cs (is s.tables log s.shows),
+            all_of_them (after s.tables) log cs (commands_behind log cs s.commands are) (is s.tables log s.shows),
           )
         ];
   }
@@ -118,10 +120,10 @@ kept_down kept fault e = subst (λ (o : Option TableFault). IsSome o) (sym e) re
 
 -- a call that a fault ended, and that brought the bank down
 pub refuses : {S X : Type 0} {So : Tables → Type 0} {after : Tables → Tables} {wanted : Tables → X} (g : Ghosts S) (old mid new : Held S) (holds : HoldsOfLogs So)
-    (cs : List Command) (is : IsChange after cs) (D : Type 0) (e : TableFault) (kept : Option TableFault) (fault : Fault)
+    (cs : List Command) (is : IsChange after cs) → AreCommands cs → (D : Type 0) (e : TableFault) (kept : Option TableFault) (fault : Fault)
     → Transacts {X = X} g old mid So after wanted (Err e) → GoesDown (state g mid) (state g new) e kept fault → Survives (state g mid) (state g new) (λ _. ⊥)
     → Refuses fault (seen_in (state g old) D) (seen_in (state g new) (IsSome kept)) cs
-refuses {S} {X} {So} {after} {wanted} g old mid new holds cs is D e kept fault does down quiet = by_fault e does down
+refuses {S} {X} {So} {after} {wanted} g old mid new holds cs is are D e kept fault does down quiet = by_fault e does down
   where
     before : HasCleanDisk (state g new) → HasCleanDisk (state g mid)
     before clean = omega (arith, quiet.clean)
@@ -132,7 +134,7 @@ refuses {S} {X} {So} {after} {wanted} g old mid new holds cs is D e kept fault d
     failed : (f : TableFault) → kept ≡ Some f → fault ≡ told.Store → Refused fault
     failed f keeps same =
         subst Refused (sym same)
-        (cut_short holds cs is does (state g new) D (IsSome kept) (kept_down kept f keeps)
+        (cut_short holds cs is does are (state g new) D (IsSome kept) (kept_down kept f keeps)
         (survives_then (state g old) (state g mid) (state g new) (Leaves (state g old) So after) (λ _. ⊥) (Leaves (state g old) So after)
         (λ clean db h. h) (λ clean db none. absurd none) does.stop quiet))
 

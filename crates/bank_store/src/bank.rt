@@ -150,6 +150,9 @@ impl<S: Alter + Drop> Counter for Bank<S> {
 
     ghost contents = { λ bank. database_of S.Store bank };
 
+    // What a crash of the store leaves.
+    ghost leaves_something = { λ bank honest. S.Store.survives bank.conn.store honest };
+
     fn submit(&mut self, moment: Moment, bytes: &[u8; 100]) -> Result<[u8; 200], Fault>
         ensures reply { IfOk result (λ out. (bank_seen S.Store self.new).honest → (log : List Command) → ShowsLog (bank_seen S.Store self.old) log →
             out ≡ reply_spelling (reply log bytes.now)) }

@@ -4,7 +4,7 @@ use Rattle.std.specs.Prelude.{count_by, cond, sum_by}
 use Rattle.std.proofs.Math.Seq.{take-append-add, take-append_seam, take-length}
 use Rattle.std.proofs.lemmas.List.{drop-map, drop_more, length-append, length-map, length-take-le, map-append, take-append-drop, take-map}
 use Rattle.std.proofs.lemmas.List.Sums.{sum_by-append}
-use Rattle.posting_rules.specs.Commands.{Command, Open}
+use Rattle.posting_rules.specs.Commands.{Command, Open, AreCommands}
 use Rattle.posting_rules.specs.Counter.{Seen, ShowsLog, ShowsBeginning, Takes, Refuses, opening_behind}
 use Rattle.posting_rules.specs.Runs.{behind}
 use Rattle.posting_rules.specs.Tables.{Tables, Shows}
@@ -71,7 +71,13 @@ with_answer-total loaded Differs = omega arith
 pub left-all : (old new : Seen) (commands : List Command) → Takes old new commands → LeavesBeginning old new commands (length commands)
 left-all old new commands taken h log stood =
     leaves_weaker new (λ t. Shows t (behind log commands)) (ShowsBeginning log commands (length commands))
-    (λ t shown. record { count = length commands; holds = omega arith; within = omega arith; shows = rw (take-length commands) shown })
+    (λ t shown. record {
+      count = length commands;
+      holds = omega arith;
+      within = omega arith;
+      are = rw (take-length commands) (taken.stands h log stood).shows.commands;
+      shows = rw (take-length commands) shown;
+    })
     (taken.stands h log stood).stop
 
 -- a beginning of one command more
@@ -81,13 +87,17 @@ one_more log xs rest c t b = record {
   count = length xs + b.count;
   holds = omega arith;
   within = let most = b.within in omega (arith, length-append xs (c ∷ rest));
-  shows = rw (take-append-add xs (c ∷ rest) b.count, behind-append log xs (take b.count (c ∷ rest))) (by b.count b.within b.shows);
+  are = rw (take-append-add xs (c ∷ rest) b.count, behind-append log xs (take b.count (c ∷ rest)))
+      (by AreCommands b.count b.within b.are);
+  shows = rw (take-append-add xs (c ∷ rest) b.count, behind-append log xs (take b.count (c ∷ rest)))
+      (by (λ cs. Shows t cs) b.count b.within b.shows);
 }
   where
-    by : (k : ℕ) → k ≤ 1 → Shows t (behind (behind log xs) (take k (c ∷ []))) → Shows t (behind (behind log xs) (take k (c ∷ rest)))
-    by zero small shown = shown
-    by (suc zero) small shown = shown
-    by (suc (suc k)) small shown = absurd (omega arith)
+    by : (P : List Command → Type 0) (k : ℕ) → k ≤ 1 → P (behind (behind log xs) (take k (c ∷ [])))
+        → P (behind (behind log xs) (take k (c ∷ rest)))
+    by P zero small holds = holds
+    by P (suc zero) small holds = holds
+    by P (suc (suc k)) small holds = absurd (omega arith)
 
 -- where the next command was refused it leaves them, or them and that command
 pub left-refused : (fault : Fault) (old now new : Seen) (xs : List Command) (c : Command) (rest : List Command)
@@ -97,6 +107,7 @@ left-refused Memory old now new xs c rest taken refused honest h log stood =
       count = length xs;
       holds = omega arith;
       within = omega (arith, length-append xs (c ∷ rest));
+      are = rw (take-append_seam xs (c ∷ rest)) (taken.stands (honest h) log stood).shows.commands;
       shows = rw (take-append_seam xs (c ∷ rest)) shown;
     })
     (leaves_still now new (λ t. Shows t (behind log xs)) refused.left (taken.stands (honest h) log stood).stop)

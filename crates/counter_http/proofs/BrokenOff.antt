@@ -7,7 +7,7 @@ use Rattle.std.proofs.lemmas.List.{length-append}
 use Rattle.std.proofs.lemmas.List.Concat.{flat_map-append}
 use Rattle.posting_rules.specs.declared.fault.Fault.{Fault}
 use Rattle.posting_rules.specs.declared.fault.Fault.TheVariants as bank
-use Rattle.posting_rules.specs.Commands.{Command}
+use Rattle.posting_rules.specs.Commands.{Command, AreCommands}
 use Rattle.posting_rules.specs.Tables.{Shows}
 use Rattle.posting_rules.specs.Counter.{Seen, LeavesOnly, StandsAt, ShowsBeginning, Takes, Refuses}
 use Rattle.posting_rules.specs.Runs.{behind}
@@ -104,12 +104,14 @@ stop_part c log cs ds es e stop =
     (λ t b.
     let begins : take (length cs + b.count) es ≡ cs ++ take b.count ds = ap (take (length cs + b.count)) e
     ∙ take-append-add cs ds b.count in
+    let same : behind log (take (length cs + b.count) es) ≡ behind (behind log cs) (take b.count ds) =
+    ap (behind log) begins ∙ behind-append log cs (take b.count ds) in
     record {
       count = length cs + b.count;
       holds = omega arith;
       within = omega (arith, b.within, length-append cs ds, ap length e);
-      shows = subst (λ (l : List Command). Shows t l)
-          (sym (ap (behind log) begins ∙ behind-append log cs (take b.count ds))) b.shows;
+      are = subst AreCommands (sym same) b.are;
+      shows = subst (λ (l : List Command). Shows t l) (sym same) b.shows;
     })
     stop
 
@@ -118,7 +120,8 @@ refused_stop : (fault : Fault) (c c' : Seen) (log cs : List Command) → Refuses
     → StandsAt c log
     → LeavesOnly c' (ShowsBeginning log cs 0)
 refused_stop bank.Memory c c' log cs u h s = leaves_weaker c' (λ t. Shows t log) (ShowsBeginning log cs 0)
-    (λ t shown. record { count = 0; holds = omega arith; within = omega arith; shows = shown })
+    (λ t shown.
+    record { count = 0; holds = omega arith; within = omega arith; are = s.shows.commands; shows = shown })
     (leaves_still c c' (λ t. Shows t log) u.left s.stop)
 refused_stop bank.Store c c' log cs u h s = u.stop h log s
 refused_stop bank.Down c c' log cs u h s = absurd (s.up u.before)

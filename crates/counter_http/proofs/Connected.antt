@@ -4,7 +4,7 @@ use Rattle.std.specs.Io.KnownBytes.{Appends, Consumes}
 use Rattle.std.proofs.KnownBytes.{Appends-trans, Appends-nil, Consumes-nil}
 use Rattle.std.proofs.Math.Seq.{take-append-add}
 use Rattle.std.proofs.lemmas.List.{length-take-le, length-append, take_all}
-use Rattle.posting_rules.specs.Commands.{Command}
+use Rattle.posting_rules.specs.Commands.{Command, AreCommands}
 use Rattle.posting_rules.specs.Tables.{Shows}
 use Rattle.posting_rules.specs.Counter.{Seen, LeavesOnly, StandsAt, ShowsBeginning}
 use Rattle.posting_rules.specs.Runs.{behind}
@@ -32,12 +32,14 @@ use Rattle.counter_http.proofs.Going.{Going, turn_of, read_one_more, texts_one_m
 pub stop_all : (c : Seen) (log cs ds : List Command) → cs ≡ ds → StandsAt c (behind log ds)
     → LeavesOnly c (ShowsBeginning log cs (length ds))
 stop_all c log cs ds e s = leaves_weaker c (λ t. Shows t (behind log ds)) (ShowsBeginning log cs (length ds))
-    (λ t shown. record {
+    (λ t shown.
+    let all : take (length ds) cs ≡ ds = ap (take (length ds)) e ∙ take_all (length ds) ds (omega arith) in
+    record {
       count = length ds;
       holds = omega arith;
       within = omega (arith, ap length e);
-      shows = subst (λ (l : List Command). Shows t (behind log l))
-          (sym (ap (take (length ds)) e ∙ take_all (length ds) ds (omega arith))) shown;
+      are = subst (λ (l : List Command). AreCommands (behind log l)) (sym all) s.shows.commands;
+      shows = subst (λ (l : List Command). Shows t (behind log l)) (sym all) shown;
     })
     s.stop
 

@@ -248,7 +248,7 @@ commands_of_first n ts =
 at_least : (log cs : List Command) (n k : ℕ) (t : Tables) → k ≤ n → ShowsBeginning log cs n t
     → ShowsBeginning log cs k t
 at_least log cs n k t le b = record
-    { count = b.count; holds = omega (arith, b.holds); within = b.within; shows = b.shows }
+    { count = b.count; holds = omega (arith, b.holds); within = b.within; are = b.are; shows = b.shows }
 
 pub survives_of : {C : Type 0} (seen : C → Seen) {r r' : Option (List ℕ)} {q q' : Option (List ReadTold)}
     {w w' k k' : Option (List ℕ)} (old new : C) (result : Result ℕ ServeFault)

@@ -21,7 +21,7 @@ pub struct FailingBank {
 }
 
 impl Counter for FailingBank {
-    ghost use Rattle.std.specs.Prelude.{◌≡◌, true};
+    ghost use Rattle.std.specs.Prelude.{◌≡◌, true, refl};
     ghost use Rattle.posting_rules.specs.Tables.{Tables};
     ghost use Rattle.posting_core.specs.Plain.{plain_seen, plain_tables};
 
@@ -30,6 +30,8 @@ impl Counter for FailingBank {
     ghost Contents = { Tables };
 
     ghost contents = { λ b. plain_tables b.bank };
+
+    ghost leaves_something = { λ b _. ∣ (plain_tables b.bank, refl) ∣₁ };
 
     fn submit(&mut self, moment: Moment, bytes: &[u8; 100]) -> Result<[u8; 200], Fault> {
         if self.down {

@@ -39,6 +39,7 @@ pub struct FullBank {
 }
 
 impl Counter for FullBank {
+    ghost use Rattle.std.specs.Prelude.{refl};
     ghost use Rattle.posting_rules.specs.Tables.{Tables};
     ghost use Rattle.posting_core.specs.Plain.{plain_seen, plain_tables};
 
@@ -47,6 +48,8 @@ impl Counter for FullBank {
     ghost Contents = { Tables };
 
     ghost contents = { λ b. plain_tables b.bank };
+
+    ghost leaves_something = { λ b _. ∣ (plain_tables b.bank, refl) ∣₁ };
 
     fn submit(&mut self, moment: Moment, bytes: &[u8; 100]) -> Result<[u8; 200], Fault> {
         if self.left == 0 {

@@ -127,7 +127,7 @@ acknowledged_taken log bs refused n le =
     (subst (λ (k : ℕ). acknowledged (first ++ rest) n ≤ k) each (few_acknowledged first rest n le))
 
 at_least : (log cs : List Command) (n k : ℕ) (t : Tables) → k ≤ n → ShowsBeginning log cs n t → ShowsBeginning log cs k t
-at_least log cs n k t le b = record { count = b.count; holds = omega (arith, b.holds); within = b.within; shows = b.shows }
+at_least log cs n k t le b = record { count = b.count; holds = omega (arith, b.holds); within = b.within; are = b.are; shows = b.shows }
 
 pub survives_of : {r r' w w' k k' : Option (List ℕ)} {c c' : Seen} (result : Result ℕ StreamFault) → Streamed r r' w w' k k' c c' result
     → Survives r r' w w' c c'

@@ -11,7 +11,7 @@ use Rattle.posting_rules.specs.declared.fault.Fault.TheVariants.{Memory, Store, 
 use Rattle.posting_core.specs.declared.stream.TheConstants.{BUFFER}
 use Rattle.posting_core.specs.declared.stream.StreamFault.{StreamFault}
 use Rattle.posting_core.specs.declared.stream.StreamFault.TheVariants.{Truncated, Read, Write, Bank}
-use Rattle.posting_rules.specs.Commands.{Command}
+use Rattle.posting_rules.specs.Commands.{Command, AreCommands}
 use Rattle.posting_rules.specs.Tables.{Shows}
 use Rattle.posting_rules.specs.Counter.{Seen, ShowsLog, LeavesOnly, StandsAt, ShowsBeginning, Takes, Refuses, IsUnchanged}
 use Rattle.posting_rules.specs.Runs.{behind, posts, replies_to}
@@ -162,11 +162,14 @@ going_batch {r = r} {r' = r'} {w = w} {w' = w'} {w'' = w''} {k = k} {k' = k'} {k
 -- a stop leaves all that was taken
 pub stop_all : (c : Seen) (log cs ds : List Command) → cs ≡ ds → StandsAt c (behind log ds) → LeavesOnly c (ShowsBeginning log cs (length ds))
 stop_all c log cs ds e s = leaves_weaker c (λ t. Shows t (behind log ds)) (ShowsBeginning log cs (length ds))
-    (λ t shown. record {
+    (λ t shown.
+    let all : take (length ds) cs ≡ ds = ap (take (length ds)) e ∙ take_all (length ds) ds (omega arith) in
+    record {
       count = length ds;
       holds = omega arith;
       within = omega (arith, ap length e);
-      shows = subst (λ (l : List Command). Shows t (behind log l)) (sym (ap (take (length ds)) e ∙ take_all (length ds) ds (omega arith))) shown;
+      are = subst (λ (l : List Command). AreCommands (behind log l)) (sym all) s.shows.commands;
+      shows = subst (λ (l : List Command). Shows t (behind log l)) (sym all) shown;
     })
     s.stop
 
@@ -225,18 +228,21 @@ pub stop_part : (c : Seen) (log cs ds es : List Command) → es ≡ cs ++ ds →
 stop_part c log cs ds es e stop = leaves_weaker c (ShowsBeginning (behind log cs) ds 0) (ShowsBeginning log es (length cs))
     (λ t b.
     let begins : take (length cs + b.count) es ≡ cs ++ take b.count ds = ap (take (length cs + b.count)) e ∙ take-append-add cs ds b.count in
+    let same : behind log (take (length cs + b.count) es) ≡ behind (behind log cs) (take b.count ds) =
+    ap (behind log) begins ∙ behind-append log cs (take b.count ds) in
     record {
       count = length cs + b.count;
       holds = omega arith;
       within = omega (arith, b.within, length-append cs ds, ap length e);
-      shows = subst (λ (l : List Command). Shows t l) (sym (ap (behind log) begins ∙ behind-append log cs (take b.count ds))) b.shows;
+      are = subst AreCommands (sym same) b.are;
+      shows = subst (λ (l : List Command). Shows t l) (sym same) b.shows;
     })
     stop
 
 -- refused commands leave a beginning of them
 pub refused_stop : (fault : Fault) (c c' : Seen) (log cs : List Command) → Refuses fault c c' cs → c'.honest → StandsAt c log → LeavesOnly c' (ShowsBeginning log cs 0)
 refused_stop Memory c c' log cs u h s = leaves_weaker c' (λ t. Shows t log) (ShowsBeginning log cs 0)
-    (λ t shown. record { count = 0; holds = omega arith; within = omega arith; shows = shown })
+    (λ t shown. record { count = 0; holds = omega arith; within = omega arith; are = s.shows.commands; shows = shown })
     (leaves_still c c' (λ t. Shows t log) u.left s.stop)
 refused_stop Store c c' log cs u h s = u.stop h log s
 refused_stop Down c c' log cs u h s = absurd (s.up u.before)

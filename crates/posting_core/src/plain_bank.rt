@@ -262,7 +262,7 @@ impl PlainBank {
 }
 
 impl Counter for PlainBank {
-    ghost use Rattle.std.specs.Prelude.{IsOk, IfOk, IfSome};
+    ghost use Rattle.std.specs.Prelude.{IsOk, IfOk, IfSome, refl};
     ghost use Rattle.posting_rules.specs.Branches.{IsNextBranch, IsLineAbove};
     ghost use Rattle.posting_rules.specs.Commands.{Command};
     ghost use Rattle.posting_rules.specs.Entries.{balance_behind};
@@ -274,6 +274,8 @@ impl Counter for PlainBank {
     ghost Contents = { Tables };
 
     ghost contents = { plain_tables };
+
+    ghost leaves_something = { λ bank _. ∣ (plain_tables bank, refl) ∣₁ };
 
     fn submit(&mut self, moment: Moment, bytes: &[u8; 100]) -> Result<[u8; 200], Fault> {
         // A moment is in its range.

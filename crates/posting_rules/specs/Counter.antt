@@ -30,6 +30,10 @@ pub record ShowsLog (seen : Seen) (log : List Command) : Type 0 where
   pub are : seen.tables tables
   pub shows : Shows tables log
 
+-- where it is honest, a stop leaves something
+abbrev pub LeavesSomething : Seen → Type 0
+LeavesSomething seen = seen.honest → ∥ ((remains : seen.Remains) × seen.left remains) ∥₁
+
 -- everything that a stop may leave is a bank, of whose tables P holds
 abbrev pub LeavesOnly : Seen → (Tables → Type 0) → Type 0
 LeavesOnly seen P = (remains : seen.Remains) → seen.left remains → (t : Tables) × seen.found remains t × P t
@@ -45,11 +49,12 @@ pub record StandsAt (seen : Seen) (log : List Command) : Type 0 where
   pub up : seen.is_down → ⊥
   pub stop : LeavesOnly seen (λ t. Shows t log)
 
--- the tables show the log and then a beginning of the commands, so many of them at least
+-- the tables show the log and then a beginning of the commands, so many of them at least, all of them the bank's
 pub record ShowsBeginning (log commands : List Command) (least : ℕ) (tables : Tables) : Type 0 where
   pub count : ℕ
   pub holds : least ≤ count
   pub within : count ≤ length commands
+  pub are : AreCommands (behind log (take count commands))
   pub shows : Shows tables (behind log (take count commands))
 
 -- ---- what a call that was given some commands did

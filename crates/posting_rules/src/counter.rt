@@ -6,7 +6,7 @@ ghost use Rattle.posting_rules.specs.Branches.{IsNextBranch, IsLineAbove};
 ghost use Rattle.posting_rules.specs.Commands.{Command, Open, Post};
 ghost use Rattle.posting_rules.specs.Entries.{reply, balance_behind};
 ghost use Rattle.posting_rules.specs.Tables.{Tables};
-ghost use Rattle.posting_rules.specs.Counter.{Seen, ShowsLog, Takes, Refuses, TellsDamage, opening_behind};
+ghost use Rattle.posting_rules.specs.Counter.{Seen, ShowsLog, Takes, LeavesSomething, Refuses, TellsDamage, opening_behind};
 ghost use Rattle.posting_rules.specs.Runs.{posts, replies_to};
 
 use crate::fault::Fault;
@@ -127,4 +127,7 @@ pub trait Counter {
         ensures kept { IfErr result (λ fault. TellsDamage fault → (seen self.new).honest → contents self.new ≡ contents self.old) }
         ensures down { (seen self.old).is_down → IsErrOf result Fault.Down }
         ensures honest { (seen self.new).honest → (seen self.old).honest };
+
+    // What is said of everything that a stop may leave is said of something.
+    ghost leaves_something: { (counter : Self) → LeavesSomething (seen counter) };
 }

@@ -8,10 +8,9 @@ use Rattle.bank_lives.proofs.reopening.reopen.Goals as goal
 pub returns-clause-found : goal.returns-clause-found
 returns-clause-found g c =
     if_ok _ _ (λ bank stands honest opens stopped left first log given least stood life.
-    let given_is = c.life_law.ensures.given first given least life in
     let it = begins_opened (state g.T.Store c.args.conn) log given least opens
     (λ db may. g.met.T.Store.settled c.args.conn.store db opens.is_open may)
-    (λ t shown. c.trees_law.ensures.finds opens.is_open t shown) stood.shows.commands given_is.1
+    (λ t shown. c.trees_law.ensures.finds opens.is_open t shown)
     (c.life_law.ensures.left first log given least life stood stopped (g.T.Store.view c.args.conn.store).trees left) in
     let at = stands honest _ it.stands in
     found_at (bank_seen g.T.Store bank) log given least it.count it.holds it.within c.each_request_once.ensures
@@ -22,9 +21,8 @@ returns-clause-found g c =
 pub returns-clause-missed : goal.returns-clause-missed
 returns-clause-missed g c =
     if_err _ _ (λ refused known clean opens stopped left first log given least stood life.
-    let given_is = c.life_law.ensures.given first given least life in
     let it = begins_opened (state g.T.Store c.args.conn) log given least opens
     (λ db may. g.met.T.Store.settled c.args.conn.store db opens.is_open may)
-    (λ t shown. c.trees_law.ensures.finds opens.is_open t shown) stood.shows.commands given_is.1
+    (λ t shown. c.trees_law.ensures.finds opens.is_open t shown)
     (c.life_law.ensures.left first log given least life stood stopped (g.T.Store.view c.args.conn.store).trees left) in
     known clean _ it.stands.shows) c.adopt.result c.adopt.ensures.known

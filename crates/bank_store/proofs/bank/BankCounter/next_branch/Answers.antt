@@ -27,7 +27,7 @@ returns-in-Ok-clause-done g c =
 
 pub returns-in-Err-clause-fault : goal.returns-in-Err-clause-fault
 returns-in-Err-clause-fault g c =
-    refuses g.S.Store c.args.self.now.conn c.read_next_branch.new.conn c.go_down.new.self.conn sound_tables [] stays (IsSome c.args.self.now.fault)
+    refuses g.S.Store c.args.self.now.conn c.read_next_branch.new.conn c.go_down.new.self.conn sound_tables [] stays tt (IsSome c.args.self.now.fault)
     c.in-Err.fault c.go_down.new.self.fault c.go_down.result c.in-Err.ensures.says c.go_down.ensures.down c.go_down.ensures.survives
 
 pub returns-in-Err-clause-kept : goal.returns-in-Err-clause-kept

@@ -26,8 +26,9 @@ returns-in-Err-clause-fault g c =
     let b = c.args.branch in
     let count = c.args.count in
     let above : 1 ≤ b = omega (arith, c.get-number.ensures.value, c.get-number.ensures.least) in
+    let are : AreCommands (Open b count ∷ []) = ((above, c.requires.branch, c.requires.some, c.requires.few), tt) in
     refuses g.S.Store c.args.self.now.conn c.open_branch.new.conn c.go_down.new.self.conn sound_tables (Open b count ∷ [])
-    (opens b count above c.requires.few) (IsSome c.args.self.now.fault)
+    (opens b count above c.requires.few) are (IsSome c.args.self.now.fault)
     c.in-Err.fault c.go_down.new.self.fault c.go_down.result c.in-Err.ensures c.go_down.ensures.down c.go_down.ensures.survives
 
 pub returns-in-Err-clause-kept : goal.returns-in-Err-clause-kept

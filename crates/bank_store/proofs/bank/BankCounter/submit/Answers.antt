@@ -28,8 +28,9 @@ returns-in-Err-clause-fault g c =
     let m = c.args.moment in
     let bytes = c.args.bytes.now in
     let read : request_of bytes ≡ Ok c.in-Ok.request = search rules in
+    let are : AreCommands (Post m bytes ∷ []) = ((omega (arith, c.get-seconds.ensures.value, c.get-seconds.ensures.most), search rules), tt) in
     refuses g.S.Store c.args.self.now.conn c.post.new.conn c.go_down.new.self.conn sound_tables (Post m bytes ∷ [])
-    (posts m bytes c.in-Ok.request read) (IsSome c.args.self.now.fault)
+    (posts m bytes c.in-Ok.request read) are (IsSome c.args.self.now.fault)
     c.in-Err.fault c.go_down.new.self.fault c.go_down.result c.in-Err.ensures c.go_down.ensures.down c.go_down.ensures.survives
 
 pub returns-in-Err-clause-kept : goal.returns-in-Err-clause-kept

@@ -30,7 +30,8 @@ pub returns-in-Err-clause-fault : goal.returns-in-Err-clause-fault
 returns-in-Err-clause-fault g c =
     let m = c.args.moment in
     let rs = c.args.records.now in
-    refuses g.S.Store c.args.self.now.conn c.post_all.new.conn c.go_down.new.self.conn of_logs (posts m rs) (posts_all m rs)
+    let are : AreCommands (posts m rs) = are_posts m rs (omega (arith, c.get-seconds.ensures.value, c.get-seconds.ensures.most)) c.told-records in
+    refuses g.S.Store c.args.self.now.conn c.post_all.new.conn c.go_down.new.self.conn of_logs (posts m rs) (posts_all m rs) are
     (IsSome c.args.self.now.fault)
     c.in-Err.fault c.go_down.new.self.fault c.go_down.result (c.in-Err.ensures.says rs c.in_ok-batch.ensures.made) c.go_down.ensures.down c.go_down.ensures.survives
 

@@ -19,5 +19,6 @@ returns-then-self-eq0-clause-fault c = record {
         stop = at.stop;
       }) in
       leaves_weaker (plain_seen c.submit.new.self) (λ t. Shows t (post ∷ log)) (ShowsBeginning log (post ∷ []) 0)
-      (λ t shows. record { count = 1; holds = omega arith; within = omega arith; shows = shows }) after.stop;
+      (λ t shows. record { count = 1; holds = omega arith; within = omega arith; are = after.shows.commands; shows = shows })
+      after.stop;
 }
