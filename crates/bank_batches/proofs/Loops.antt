@@ -9,7 +9,8 @@ use Rattle.posting_rules.specs.Tables.{Tables}
 use Rattle.store_rows.specs.declared.faults.TableFault.{TableFault}
 use Rattle.bank_transactions.specs.Doing.{Does}
 use Rattle.bank_transactions.proofs.Chained.{does_then, does_for}
-use Rattle.bank_batches.proofs.Both.{does_both}
+use Rattle.bank_batches.specs.Filling.{ReadsWhere}
+use Rattle.bank_batches.proofs.Reading.{reads_both}
 
 -- ---- places of a list
 
@@ -39,11 +40,10 @@ next_is {A} fill P xs ys i x t lt so_far all =
 
 -- one more is filled
 pub fill_more : {S A : Type 0} {g : Ghosts S} {old mid new : Transaction S} {So So' : Tables → Type 0} (fill : Tables → A → A) (xs ys : List A) (i : ℕ) (x y : A)
-    → i < length xs → x ≡ get_or ys i x → Does g old mid So (λ t. t) (filled_so_far fill xs i) (Ok ys)
-    → Does g mid new So' (λ t. t) (λ t. fill t (get_or ys i x)) (Ok y)
-    → ((t : Tables) → So t → ys ≡ filled_so_far fill xs i t → So' t) → Does g old new So (λ t. t) (filled_so_far fill xs (i + 1)) (Ok (set ys i y))
+    → i < length xs → x ≡ get_or ys i x → ReadsWhere g old mid So (filled_so_far fill xs i) (Ok ys) → ReadsWhere g mid new So' (λ t. fill t (get_or ys i x)) (Ok y)
+    → ((t : Tables) → So t → ys ≡ filled_so_far fill xs i t → So' t) → ReadsWhere g old new So (filled_so_far fill xs (i + 1)) (Ok (set ys i y))
 fill_more {S} {A} fill xs ys i x y lt is before one ready =
-    does_both before one ready (λ t so first last.
+    reads_both before one ready (λ t so first last.
     ap (λ (s : A). set ys i s) (last ∙ ap (fill t) (sym is)) ∙ map_over_more (fill t) xs ys i x lt first is)
 
 all_taken : {A : Type 0} (f : A → A) (xs : List A) → map f (take (length xs) xs) ++ drop (length xs) xs ≡ map f xs
