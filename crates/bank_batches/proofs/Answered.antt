@@ -19,6 +19,7 @@ use Rattle.store_rows.specs.View as stored
 use Rattle.store_rows.specs.declared.faults.TableFault.{TableFault}
 use Rattle.bank_transactions.specs.Doing.{Does}
 use Rattle.bank_transactions.proofs.Chained.{does_for}
+use Rattle.bank_batches.specs.Batches.{DecidesNone}
 use Rattle.bank_batches.proofs.Both.{does_both, does_but}
 
 -- the same, said in other words where the answer is known
@@ -76,12 +77,19 @@ module _ {S : Type 0} {g : Ghosts S} {old mid : Transaction S} (b b' : Batch) (r
       let it_stands = stands t (map request_of records) in
       (sound t it, judges.rising (subst HasRisingSlots (sym is.overlay) it_stands.rising), judges.changes t is, judges.adds t is it.0 it.2)
 
-  -- nothing is decided: nothing is written, and the tables are as they were
-  pub answered_idle : o.decided ≡ b'.overlay.decided → Does g old mid AreOfALog (λ t. tables_past_all t m records) (λ t. replies_past_all t m records) (Ok items)
-  answered_idle none = does_so filled_so (λ t it e.
+  -- where nothing is decided, the records lead to the tables that were there
+  pub leads_back : o.decided ≡ b'.overlay.decided → (t : Tables) → view b'.overlay ≡ filled t (view b.overlay) → tables_past_all t m records ≡ t
+  leads_back none t e =
       let is = is_filled t e in
-      let kept : tables_over o t ≡ t = ap (λ (p : Overlay). tables_over p t) (judges.idle none ∙ is.overlay) ∙ (stands t (map request_of records)).same in
-      (sym kept ∙ judges.tables t is, judges.replies t is))
+      sym (judges.tables t is) ∙ ap (λ (p : Overlay). tables_over p t) (judges.idle none ∙ is.overlay) ∙ (stands t (map request_of records)).same
+
+  -- and then the count is the one that was read
+  pub counts_none : (t : Tables) → view b'.overlay ≡ filled t (view b.overlay) → DecidesNone t m records → o.decided ≡ b'.overlay.decided
+  counts_none t e none = ap (λ (u : Tables). u.decided) (judges.tables t (is_filled t e)) ∙ none ∙ sym (ap (λ (p : Overlay). p.decided) e)
+
+  -- nothing is written, and the tables are as they were
+  pub answered_idle : o.decided ≡ b'.overlay.decided → Does g old mid AreOfALog (λ t. tables_past_all t m records) (λ t. replies_past_all t m records) (Ok items)
+  answered_idle none = does_so filled_so (λ t it e. (sym (leads_back none t e), judges.replies t (is_filled t e)))
 
   abbrev Knows : Tables → Type 0
   Knows t = AreOfALog t × (view b'.overlay ≡ filled t (view b.overlay))

@@ -8,8 +8,7 @@ use Rattle.posting_rules.specs.Tables.{Tables}
 use Rattle.store_rows.specs.declared.faults.TableFault.{TableFault}
 use Rattle.store_rows.specs.declared.faults.TableFault.TheVariants.{Sqlite, Damaged}
 use Rattle.bank_transactions.specs.Doing.{Answers, Does}
-use Rattle.bank_transactions.proofs.Chained.{does_then, does_for, looked, look_keeps}
-use Rattle.bank_batches.specs.Filling.{ReadsWhere}
+use Rattle.bank_transactions.proofs.Chained.{does_then, does_for}
 
 -- no damage of a part is none of the whole
 same_fault : {X Y : Type 0} (new end : State) (one two : Tables) (x : X) (y : Y) (e : TableFault) → Answers new one x (Err e) → Answers end two y (Err e)
@@ -61,15 +60,3 @@ does_but {S} {X} {Y} {Z} {g} {old} {mid} {new} {So} {So'} {after} {after'} {afte
         survives = both.says.survives;
       };
     }
-
--- a look-up in tables that are so leaves them
-pub does_look : {S X : Type 0} {g : Ghosts S} {old new : Transaction S} {So : Tables → Type 0} {w : Tables → X} {r : Result X TableFault} → ReadsWhere g old new So w r
-    → Does g old new So (λ t. t) w r
-does_look {S} {X} {g} {old} {new} {So} {w} {r} reads = record {
-  says = record {
-    same_reference = reads.same_reference;
-    told = λ clean live t shows so. looked (state g old.conn.now) (state g new.conn.now) t (w t) r shows (reads.told clean t shows so);
-    kept = λ clean live. look_keeps (state g old.conn.now) (state g new.conn.now) r (reads.kept clean);
-    survives = reads.survives;
-  };
-}

@@ -1,4 +1,5 @@
 pub mod Both
+pub mod Reading
 pub mod Loops
 pub mod Told
 pub mod Rows

@@ -9,7 +9,7 @@ use Rattle.posting_batch.specs.Batch.{branch_filled}
 use Rattle.posting_batch.specs.Slots.{in_slot, row_of_slot, branch_slot_key}
 use Rattle.posting_batch.proofs.Covered.{filled_at}
 use Rattle.posting_batch.proofs.KeptSlots.{find-map}
-use Rattle.bank_batches.specs.Filling.{TellsBranch, TellsBranches}
+use Rattle.bank_batches.specs.Filling.{TellsBranch}
 use Rattle.std.proofs.Common.{eqb}
 
 tells : (t : Tables) (slots : List BranchSlot) (n : ℕ) → IsSome (row_at branch_slot_key slots n) → TellsBranch (map (branch_filled t) slots) t n
@@ -28,6 +28,6 @@ tells t slots n there =
 
 -- so they tell those that other slots give
 pub tells_all : {A : Type 0} (branch_of : A → ℕ) (t : Tables) (slots : List BranchSlot) (others : List A)
-    → AllByRecursion (λ s. IsSome (row_at branch_slot_key slots (branch_of s))) others → TellsBranches branch_of (map (branch_filled t) slots) t others
+    → AllByRecursion (λ s. IsSome (row_at branch_slot_key slots (branch_of s))) others → AllByRecursion (λ s. TellsBranch (map (branch_filled t) slots) t (branch_of s)) others
 tells_all branch_of t slots [] all = tt
 tells_all branch_of t slots (x ∷ others) all = (tells t slots (branch_of x) all.0, tells_all branch_of t slots others all.1)

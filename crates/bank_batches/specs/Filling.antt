@@ -1,6 +1,5 @@
 -- What the parts of filling a batch say.
 use Rattle.std.specs.Prelude.{◌≡◌, ℕ, List, Result, Ok, Err}
-use Rattle.std.specs.List.{AllByRecursion}
 use Rattle.sqlite.specs.declared.transaction.Transaction.{Transaction}
 use Rattle.sqlite_trees.specs.declared.store.Store.{Ghosts}
 use Rattle.posting_rules.specs.Tables.{Tables, row_at, branch_key}
@@ -16,15 +15,10 @@ abbrev pub handing : {X Y : Type 0} → Y → Result X TableFault → Result Y T
 handing y (Ok x) = Ok y
 handing y (Err e) = Err e
 
--- in tables that are so, the answer is what was looked for
-abbrev pub ReadsWhere : {S X : Type 0} → Ghosts S → Transaction S → Transaction S → (Tables → Type 0) → (Tables → X) → Result X TableFault → Type 0
-ReadsWhere g old new So wanted result =
-    Says g old new (OfTables (λ before now tables. So tables → LooksUp before now (wanted tables) result)) (λ before now. Looks before now result)
+-- In tables that are so, the answer is what was looked for. Whatever the rows, nothing has changed after `Ok`.
+pub record ReadsWhere {S X : Type 0} (g : Ghosts S) (old new : Transaction S) (So : Tables → Type 0) (wanted : Tables → X) (result : Result X TableFault) : Type 0 where
+  pub says : Says g old new (OfTables (λ before now tables. So tables → LooksUp before now (wanted tables) result)) (λ before now. Looks before now result)
 
 -- the slot under a number tells the row of that branch
 abbrev pub TellsBranch : List BranchSlot → Tables → ℕ → Type 0
 TellsBranch slots t n = in_slot row_of_slot (row_at branch_slot_key slots n) ≡ row_at branch_key t.branches n
-
--- so it is for the branch that each of other slots gives
-abbrev pub TellsBranches : {A : Type 0} → (A → ℕ) → List BranchSlot → Tables → List A → Type 0
-TellsBranches branch_of slots t others = AllByRecursion (λ s. TellsBranch slots t (branch_of s)) others

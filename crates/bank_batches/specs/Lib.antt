@@ -1,4 +1,5 @@
 -- A batch of records in one transaction.
 pub mod Filling
 pub mod Writing
+pub mod InTurn
 pub mod Batches

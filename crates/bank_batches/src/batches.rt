@@ -1,10 +1,14 @@
 //! A batch is answered: filled, judged and written, and all in one transaction.
-ghost use Rattle.std.specs.Prelude.{◌≡◌, ℕ, List, length, false, IfOk};
+ghost use Rattle.std.specs.Prelude.{◌≡◌, ℕ, List, length, false, IfOk, OnOk};
+ghost use Rattle.sqlite.specs.State.{HasCleanDisk};
+ghost use Rattle.sqlite.specs.Held.{state};
 ghost use Rattle.posting_rules.specs.Changes.{tables_past_all, replies_past_all};
 ghost use Rattle.posting_rules.specs.Sound.{AreOfALog};
+ghost use Rattle.posting_rules.specs.Tables.{Tables};
 ghost use Rattle.posting_batch.specs.View.{reads_of, IsMadeOf};
+ghost use Rattle.store_rows.specs.View.{Shows};
 ghost use Rattle.bank_transactions.specs.Doing.{Does, Transacts};
-ghost use Rattle.bank_batches.specs.Batches.{items_of};
+ghost use Rattle.bank_batches.specs.Batches.{items_of, DecidesNone, WritesNothing, HasOnly};
 
 use crate::filling::fill;
 use crate::writing::write;
@@ -24,6 +28,9 @@ pub fn answer_batch<S: Alter>(
         → Does S.Store tx.old tx.new AreOfALog (λ tables. tables_past_all tables moment records)
         (λ tables. replies_past_all tables moment records) (items_of result) }
     ensures count { IfOk result (λ replies. length replies.items ≡ length (reads_of batch)) }
+    ensures idle { OnOk result (HasCleanDisk (state S.Store tx.new.conn.now) → (records : List (List ℕ)) → IsMadeOf batch records
+        → (tables : Tables) → Shows (state S.Store tx.old.conn.now).now tables → AreOfALog tables → DecidesNone tables moment records
+        → WritesNothing (state S.Store tx.old.conn.now) (state S.Store tx.new.conn.now) tables moment records) }
 {
     fill(tx, &mut batch)?;
     let before = batch.overlay.decided;
@@ -34,7 +41,8 @@ pub fn answer_batch<S: Alter>(
     Ok(replies)
 }
 
-/// Answers the records that a batch is made of, in order. They stand together or not at all.
+/// Answers the records that a batch is made of, in order. They stand together or not at all. Where none of them is decided, the
+/// tables are as they were, and a stop leaves nothing else.
 pub fn post_all<S: Alter>(
     conn: &mut Connection<S>,
     moment: Moment,
@@ -45,6 +53,9 @@ pub fn post_all<S: Alter>(
         → Transacts S.Store conn.old conn.new AreOfALog (λ tables. tables_past_all tables moment records)
         (λ tables. replies_past_all tables moment records) (items_of result) }
     ensures count { IfOk result (λ replies. length replies.items ≡ length (reads_of batch)) }
+    ensures idle { OnOk result (HasCleanDisk (state S.Store conn.new) → (records : List (List ℕ)) → IsMadeOf batch records
+        → (tables : Tables) → Shows (state S.Store conn.old).now tables → AreOfALog tables → DecidesNone tables moment records
+        → HasOnly (state S.Store conn.new) tables) }
 {
     let mut tx = begin(conn);
     let replies = answer_batch(&mut tx, moment, batch)?;

@@ -1,14 +1,15 @@
 //! The slots of a batch are filled from the tables, each key read once.
-ghost use Rattle.std.specs.Prelude.{◌≡◌, map};
+ghost use Rattle.std.specs.Prelude.{◌≡◌, ⊤, List, map};
+ghost use Rattle.std.specs.List.{AllByRecursion};
+ghost use Rattle.std.specs.Option.{option_map};
 ghost use Rattle.posting_rules.specs.Commands.{branch_of_teller, branch_of_account};
 ghost use Rattle.posting_rules.specs.Damage.{IsUndamaged};
 ghost use Rattle.posting_rules.specs.LookUps.{account_balance_in, balance_of_teller};
-ghost use Rattle.posting_rules.specs.Tables.{row_at, branch_key, teller_key};
-ghost use Rattle.std.specs.Option.{option_map};
-ghost use Rattle.posting_batch.specs.Batch.{HasHomes, branch_filled, teller_filled, account_filled, request_filled, filled};
+ghost use Rattle.posting_rules.specs.Tables.{Tables, row_at, branch_key, teller_key};
+ghost use Rattle.posting_batch.specs.declared.slots.BranchSlot.{BranchSlot};
+ghost use Rattle.posting_batch.specs.Batch.{HasHomes, filled};
 ghost use Rattle.posting_batch.specs.View.{view, reads_of};
-ghost use Rattle.bank_transactions.specs.Doing.{Reads, Does};
-ghost use Rattle.bank_batches.specs.Filling.{handing, ReadsWhere, TellsBranch, TellsBranches};
+ghost use Rattle.bank_batches.specs.Filling.{handing, ReadsWhere};
 
 use bank_transactions::{branch_at, decided, kept_request, place_of_account};
 use message_records::{Account, Cents, Teller};
@@ -19,32 +20,42 @@ use posting_rules::{BranchRow, Rule, branch_of_teller};
 use sqlite::{Alter, Transaction};
 use store_rows::{TableFault, account_balance, teller_balance};
 
-// The slot of a branch, filled.
-fn filled_branch<S: Alter>(
-    tx: &mut Transaction<'_, S>,
-    slot: BranchSlot,
-) -> Result<BranchSlot, TableFault>
-    ensures { Reads S.Store tx.old tx.new (λ tables. branch_filled tables slot) result }
-{
-    Ok(BranchSlot {
-        branch: slot.branch,
-        stored: branch_at(tx, slot.branch)?,
-        changed: slot.changed,
-    })
+/// A slot, and what is in the tables under its key.
+trait Slot: Copy {
+    /// The slot with what is in the tables under its key.
+    ghost filled_from: { Tables → Self → Self };
+
+    /// What slots of branches tell of the branch that its key gives, where it gives one.
+    ghost Knows: { List BranchSlot → Tables → Self → Type 0 };
+
+    /// Fills it, by the slots of branches.
+    fn fill<S: Alter>(
+        self,
+        tx: &mut Transaction<'_, S>,
+        branches: &[BranchSlot],
+    ) -> Result<Self, TableFault>
+        ensures { ReadsWhere S.Store tx.old tx.new (λ tables. IsUndamaged tables × Knows branches.now tables self)
+            (λ tables. filled_from tables self) result };
 }
 
-// Fills the slots of branches.
-fn fill_branches<S: Alter>(
-    tx: &mut Transaction<'_, S>,
-    slots: &mut [BranchSlot],
-) -> Result<(), TableFault>
-    ensures { Does S.Store tx.old tx.new IsUndamaged (λ tables. tables)
-        (λ tables. map (branch_filled tables) slots.old) (handing slots.new result) }
-{
-    for slot in slots.iter_mut() {
-        *slot = filled_branch(tx, *slot)?;
+impl Slot for BranchSlot {
+    ghost use Rattle.posting_batch.specs.Batch.{branch_filled};
+
+    ghost filled_from = { branch_filled };
+
+    ghost Knows = { λ _ _ _. ⊤ };
+
+    fn fill<S: Alter>(
+        self,
+        tx: &mut Transaction<'_, S>,
+        _branches: &[BranchSlot],
+    ) -> Result<Self, TableFault> {
+        Ok(BranchSlot {
+            branch: self.branch,
+            stored: branch_at(tx, self.branch)?,
+            changed: self.changed,
+        })
     }
-    Ok(())
 }
 
 // The balance of a teller, none where it isn't open, by the row of its branch.
@@ -64,38 +75,26 @@ fn teller_within<S: Alter>(
     Ok(balance)
 }
 
-// The slot of a teller, filled, by the slots of branches.
-fn filled_teller<S: Alter>(
-    tx: &mut Transaction<'_, S>,
-    slot: TellerSlot,
-    branches: &[BranchSlot],
-) -> Result<TellerSlot, TableFault>
-    ensures { ReadsWhere S.Store tx.old tx.new
-        (λ tables. IsUndamaged tables × TellsBranch branches.now tables (branch_of_teller slot.teller))
-        (λ tables. teller_filled tables slot) result }
-{
-    let branch = stored_branch(branches, branch_of_teller(slot.teller));
-    Ok(TellerSlot {
-        teller: slot.teller,
-        stored: teller_within(tx, slot.teller, branch)?,
-        changed: slot.changed,
-    })
-}
+impl Slot for TellerSlot {
+    ghost use Rattle.posting_batch.specs.Batch.{teller_filled};
+    ghost use Rattle.bank_batches.specs.Filling.{TellsBranch};
 
-// Fills the slots of tellers, by those of their branches.
-fn fill_tellers<S: Alter>(
-    tx: &mut Transaction<'_, S>,
-    slots: &mut [TellerSlot],
-    branches: &[BranchSlot],
-) -> Result<(), TableFault>
-    ensures { Does S.Store tx.old tx.new
-        (λ tables. IsUndamaged tables × TellsBranches (λ s. branch_of_teller s.teller) branches.now tables slots.old) (λ tables. tables)
-        (λ tables. map (teller_filled tables) slots.old) (handing slots.new result) }
-{
-    for slot in slots.iter_mut() {
-        *slot = filled_teller(tx, *slot, branches)?;
+    ghost filled_from = { teller_filled };
+
+    ghost Knows = { λ slots tables slot. TellsBranch slots tables (branch_of_teller slot.teller) };
+
+    fn fill<S: Alter>(
+        self,
+        tx: &mut Transaction<'_, S>,
+        branches: &[BranchSlot],
+    ) -> Result<Self, TableFault> {
+        let branch = stored_branch(branches, branch_of_teller(self.teller));
+        Ok(TellerSlot {
+            teller: self.teller,
+            stored: teller_within(tx, self.teller, branch)?,
+            changed: self.changed,
+        })
     }
-    Ok(())
 }
 
 // The balance of an account, none where it isn't open, by the row of its branch.
@@ -119,64 +118,59 @@ fn account_within<S: Alter>(
     Ok(balance)
 }
 
-// The slot of an account, filled, by the slots of branches.
-fn filled_account<S: Alter>(
-    tx: &mut Transaction<'_, S>,
-    slot: AccountSlot,
-    branches: &[BranchSlot],
-) -> Result<AccountSlot, TableFault>
-    ensures { ReadsWhere S.Store tx.old tx.new
-        (λ tables. IsUndamaged tables × TellsBranch branches.now tables (branch_of_account slot.account))
-        (λ tables. account_filled tables slot) result }
-{
-    let branch = stored_branch(branches, branch_of_account(slot.account));
-    Ok(AccountSlot {
-        account: slot.account,
-        stored: account_within(tx, slot.account, branch)?,
-        changed: slot.changed,
-    })
-}
+impl Slot for AccountSlot {
+    ghost use Rattle.posting_batch.specs.Batch.{account_filled};
+    ghost use Rattle.bank_batches.specs.Filling.{TellsBranch};
 
-// Fills the slots of accounts, by those of their branches.
-fn fill_accounts<S: Alter>(
-    tx: &mut Transaction<'_, S>,
-    slots: &mut [AccountSlot],
-    branches: &[BranchSlot],
-) -> Result<(), TableFault>
-    ensures { Does S.Store tx.old tx.new
-        (λ tables. IsUndamaged tables × TellsBranches (λ s. branch_of_account s.account) branches.now tables slots.old) (λ tables. tables)
-        (λ tables. map (account_filled tables) slots.old) (handing slots.new result) }
-{
-    for slot in slots.iter_mut() {
-        *slot = filled_account(tx, *slot, branches)?;
+    ghost filled_from = { account_filled };
+
+    ghost Knows = { λ slots tables slot. TellsBranch slots tables (branch_of_account slot.account) };
+
+    fn fill<S: Alter>(
+        self,
+        tx: &mut Transaction<'_, S>,
+        branches: &[BranchSlot],
+    ) -> Result<Self, TableFault> {
+        let branch = stored_branch(branches, branch_of_account(self.account));
+        Ok(AccountSlot {
+            account: self.account,
+            stored: account_within(tx, self.account, branch)?,
+            changed: self.changed,
+        })
     }
-    Ok(())
 }
 
-// The slot of a teller and a number, filled.
-fn filled_request<S: Alter>(
-    tx: &mut Transaction<'_, S>,
-    slot: RequestSlot,
-) -> Result<RequestSlot, TableFault>
-    ensures { Reads S.Store tx.old tx.new (λ tables. request_filled tables slot) result }
-{
-    Ok(RequestSlot {
-        teller: slot.teller,
-        number: slot.number,
-        kept: kept_request(tx, slot.teller, slot.number)?,
-    })
+impl Slot for RequestSlot {
+    ghost use Rattle.posting_batch.specs.Batch.{request_filled};
+
+    ghost filled_from = { request_filled };
+
+    ghost Knows = { λ _ _ _. ⊤ };
+
+    fn fill<S: Alter>(
+        self,
+        tx: &mut Transaction<'_, S>,
+        _branches: &[BranchSlot],
+    ) -> Result<Self, TableFault> {
+        Ok(RequestSlot {
+            teller: self.teller,
+            number: self.number,
+            kept: kept_request(tx, self.teller, self.number)?,
+        })
+    }
 }
 
-// Fills the slots of kept requests.
-fn fill_kept<S: Alter>(
+// Fills slots, by those of branches.
+fn fill_all<S: Alter, T: Slot>(
     tx: &mut Transaction<'_, S>,
-    slots: &mut [RequestSlot],
+    slots: &mut [T],
+    branches: &[BranchSlot],
 ) -> Result<(), TableFault>
-    ensures { Does S.Store tx.old tx.new IsUndamaged (λ tables. tables)
-        (λ tables. map (request_filled tables) slots.old) (handing slots.new result) }
+    ensures { ReadsWhere S.Store tx.old tx.new (λ tables. IsUndamaged tables × AllByRecursion (T.Knows branches.now tables) slots.old)
+        (λ tables. map (T.filled_from tables) slots.old) (handing slots.new result) }
 {
     for slot in slots.iter_mut() {
-        *slot = filled_request(tx, *slot)?;
+        *slot = (*slot).fill(tx, branches)?;
     }
     Ok(())
 }
@@ -184,13 +178,13 @@ fn fill_kept<S: Alter>(
 /// Fills a batch: each slot with what is in the tables under its key, and how many requests are decided.
 pub fn fill<S: Alter>(tx: &mut Transaction<'_, S>, batch: &mut Batch) -> Result<(), TableFault>
     ensures reads { reads_of batch.new ≡ reads_of batch.old }
-    ensures says { Does S.Store tx.old tx.new (λ tables. IsUndamaged tables × HasHomes (view batch.old.overlay)) (λ tables. tables)
+    ensures says { ReadsWhere S.Store tx.old tx.new (λ tables. IsUndamaged tables × HasHomes (view batch.old.overlay))
         (λ tables. filled tables (view batch.old.overlay)) (handing (view batch.new.overlay) result) }
 {
     batch.overlay.decided = decided(tx)?;
-    fill_branches(tx, &mut batch.overlay.branches)?;
-    fill_tellers(tx, &mut batch.overlay.tellers, &batch.overlay.branches)?;
-    fill_accounts(tx, &mut batch.overlay.accounts, &batch.overlay.branches)?;
-    fill_kept(tx, &mut batch.overlay.kept)?;
+    fill_all(tx, &mut batch.overlay.branches, &[])?;
+    fill_all(tx, &mut batch.overlay.tellers, &batch.overlay.branches)?;
+    fill_all(tx, &mut batch.overlay.accounts, &batch.overlay.branches)?;
+    fill_all(tx, &mut batch.overlay.kept, &[])?;
     Ok(())
 }

@@ -7,6 +7,4 @@ mod writing;
 
 pub use batches::{answer_batch, post_all};
 pub use filling::fill;
-pub use writing::{
-    add_postings, add_requests, write, write_accounts, write_branches, write_tellers,
-};
+pub use writing::write;

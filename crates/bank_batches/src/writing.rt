@@ -1,14 +1,11 @@
 //! What a batch has changed is written, each row once.
-ghost use Rattle.std.specs.Prelude.{◌≡◌, [], ◌∷◌, IsSome, IfSome};
-ghost use Rattle.std.specs.List.{AllByRecursion};
+ghost use Rattle.std.specs.Prelude.{◌≡◌, [], ◌∷◌, ◌++◌, List};
 ghost use Rattle.posting_rules.specs.Damage.{IsUndamaged};
-ghost use Rattle.posting_rules.specs.Tables.{row_at, HasKeys, branch_key, teller_key, account_key, history_key, request_key};
-ghost use Rattle.posting_batch.specs.Batch.{HasRisingSlots, ChangesRows, AddsRows, PutsFree};
-ghost use Rattle.posting_batch.specs.Overlay.{accounts_over, tellers_over, branches_over, history_put, requests_put, tables_over};
-ghost use Rattle.posting_batch.specs.Slots.{account_slot_key, teller_slot_key, branch_slot_key};
+ghost use Rattle.posting_rules.specs.Tables.{Tables};
+ghost use Rattle.posting_batch.specs.Batch.{HasRisingSlots, ChangesRows, AddsRows};
+ghost use Rattle.posting_batch.specs.Overlay.{tables_over};
 ghost use Rattle.posting_batch.specs.View.{view};
 ghost use Rattle.bank_transactions.specs.Doing.{Does};
-ghost use Rattle.bank_batches.specs.Writing.{IsNumberOfRow};
 
 use bank_transactions::expect_row;
 use message_records::Branch;
@@ -20,123 +17,144 @@ use store_rows::{
     set_teller_balance,
 };
 
-// Writes the balance of an account, where it is changed.
-fn write_account<S: Alter>(
-    tx: &mut Transaction<'_, S>,
-    slot: &AccountSlot,
-) -> Result<(), TableFault>
-    ensures { Does S.Store tx.old tx.new
-        (λ tables. IfSome slot.now.changed (λ z. IsSome (row_at account_key tables.accounts slot.now.account)))
-        (λ tables. accounts_over (slot.now ∷ []) tables) (λ _. tt) result }
-{
-    match slot.changed {
-        Some(balance) => expect_row(
-            set_account_balance(tx, slot.account, balance),
-            Rule::Account,
-        ),
-        None => Ok(()),
+/// A change of one table: a slot with what it has changed, or a row that is new.
+trait Change {
+    /// The tables with these changes made.
+    ghost made: { List Self → Tables → Tables };
+
+    /// These changes may be made to the tables.
+    ghost May: { List Self → Tables → Type 0 };
+
+    /// Makes it.
+    fn make<S: Alter>(&self, tx: &mut Transaction<'_, S>) -> Result<(), TableFault>
+        ensures { Does S.Store tx.old tx.new (May (self.now ∷ [])) (made (self.now ∷ [])) (λ _. tt) result };
+
+    /// No change leaves the tables as they were.
+    ghost none: { (t : Tables) → t ≡ made [] t };
+
+    /// Changes that may be made together may be made one after another, and come to the same.
+    ghost next: { (front : List Self) (change : Self) (rest : List Self) (t : Tables) → May (front ++ change ∷ rest) t
+        → May (change ∷ []) (made front t) × (made (change ∷ []) (made front t) ≡ made (front ++ change ∷ []) t) };
+}
+
+impl Change for AccountSlot {
+    ghost use Rattle.posting_batch.specs.Overlay.{accounts_over};
+    ghost use Rattle.bank_batches.specs.Writing.{MayChangeAccounts};
+    ghost use Rattle.bank_batches.specs.InTurn.{no_accounts, accounts_next};
+
+    ghost made = { accounts_over };
+
+    ghost May = { MayChangeAccounts };
+
+    fn make<S: Alter>(&self, tx: &mut Transaction<'_, S>) -> Result<(), TableFault> {
+        match self.changed {
+            Some(balance) => expect_row(
+                set_account_balance(tx, self.account, balance),
+                Rule::Account,
+            ),
+            None => Ok(()),
+        }
     }
+
+    ghost none = { no_accounts };
+
+    ghost next = { accounts_next };
 }
 
-/// Writes the changed balances of accounts.
-pub fn write_accounts<S: Alter>(
-    tx: &mut Transaction<'_, S>,
-    slots: &[AccountSlot],
-) -> Result<(), TableFault>
-    ensures { Does S.Store tx.old tx.new
-        (λ tables. HasKeys account_slot_key slots.now
-        × AllByRecursion (λ s. IfSome s.changed (λ z. IsSome (row_at account_key tables.accounts s.account))) slots.now)
-        (λ tables. accounts_over slots.now tables) (λ _. tt) result }
-{
-    for slot in slots {
-        write_account(tx, slot)?;
+impl Change for TellerSlot {
+    ghost use Rattle.posting_batch.specs.Overlay.{tellers_over};
+    ghost use Rattle.bank_batches.specs.Writing.{MayChangeTellers};
+    ghost use Rattle.bank_batches.specs.InTurn.{no_tellers, tellers_next};
+
+    ghost made = { tellers_over };
+
+    ghost May = { MayChangeTellers };
+
+    fn make<S: Alter>(&self, tx: &mut Transaction<'_, S>) -> Result<(), TableFault> {
+        match self.changed {
+            Some(balance) => {
+                expect_row(set_teller_balance(tx, self.teller, balance), Rule::Teller)
+            }
+            None => Ok(()),
+        }
     }
-    Ok(())
+
+    ghost none = { no_tellers };
+
+    ghost next = { tellers_next };
 }
 
-// Writes the balance of a teller, where it is changed.
-fn write_teller<S: Alter>(tx: &mut Transaction<'_, S>, slot: &TellerSlot) -> Result<(), TableFault>
-    ensures { Does S.Store tx.old tx.new
-        (λ tables. IfSome slot.now.changed (λ z. IsSome (row_at teller_key tables.tellers slot.now.teller)))
-        (λ tables. tellers_over (slot.now ∷ []) tables) (λ _. tt) result }
-{
-    match slot.changed {
-        Some(balance) => expect_row(set_teller_balance(tx, slot.teller, balance), Rule::Teller),
-        None => Ok(()),
+impl Change for BranchSlot {
+    ghost use Rattle.posting_batch.specs.Overlay.{branches_over};
+    ghost use Rattle.bank_batches.specs.Writing.{MayChangeBranches};
+    ghost use Rattle.bank_batches.specs.InTurn.{no_branches, branches_next};
+
+    ghost made = { branches_over };
+
+    ghost May = { MayChangeBranches };
+
+    fn make<S: Alter>(&self, tx: &mut Transaction<'_, S>) -> Result<(), TableFault> {
+        let Some(balance) = self.changed else {
+            return Ok(());
+        };
+        let Some(branch) = Branch::new(self.branch) else {
+            return Err(TableFault::Damaged(Rule::Value));
+        };
+        expect_row(set_branch_balance(tx, branch, balance), Rule::Teller)
     }
+
+    ghost none = { no_branches };
+
+    ghost next = { branches_next };
 }
 
-/// Writes the changed balances of tellers.
-pub fn write_tellers<S: Alter>(
-    tx: &mut Transaction<'_, S>,
-    slots: &[TellerSlot],
-) -> Result<(), TableFault>
-    ensures { Does S.Store tx.old tx.new
-        (λ tables. HasKeys teller_slot_key slots.now
-        × AllByRecursion (λ s. IfSome s.changed (λ z. IsSome (row_at teller_key tables.tellers s.teller))) slots.now)
-        (λ tables. tellers_over slots.now tables) (λ _. tt) result }
-{
-    for slot in slots {
-        write_teller(tx, slot)?;
+impl Change for HistoryRow {
+    ghost use Rattle.std.proofs.Common.{refl};
+    ghost use Rattle.posting_batch.specs.Overlay.{history_put};
+    ghost use Rattle.bank_batches.specs.Writing.{MayAddPostings};
+    ghost use Rattle.bank_batches.specs.InTurn.{postings_next};
+
+    ghost made = { history_put };
+
+    ghost May = { MayAddPostings };
+
+    fn make<S: Alter>(&self, tx: &mut Transaction<'_, S>) -> Result<(), TableFault> {
+        add_history(tx, *self)
     }
-    Ok(())
+
+    ghost none = { λ t. refl };
+
+    ghost next = { postings_next };
 }
 
-// Writes the balance of a branch, where it is changed.
-fn write_branch<S: Alter>(tx: &mut Transaction<'_, S>, slot: &BranchSlot) -> Result<(), TableFault>
-    ensures { Does S.Store tx.old tx.new
-        (λ tables. IfSome slot.now.changed (λ z. IsNumberOfRow tables slot.now.branch))
-        (λ tables. branches_over (slot.now ∷ []) tables) (λ _. tt) result }
-{
-    let Some(balance) = slot.changed else {
-        return Ok(());
-    };
-    let Some(branch) = Branch::new(slot.branch) else {
-        return Err(TableFault::Damaged(Rule::Value));
-    };
-    expect_row(set_branch_balance(tx, branch, balance), Rule::Teller)
-}
+impl Change for RequestRow {
+    ghost use Rattle.std.proofs.Common.{refl};
+    ghost use Rattle.posting_batch.specs.Overlay.{requests_put};
+    ghost use Rattle.bank_batches.specs.Writing.{MayAddRequests};
+    ghost use Rattle.bank_batches.specs.InTurn.{requests_next};
 
-/// Writes the changed balances of branches.
-pub fn write_branches<S: Alter>(
-    tx: &mut Transaction<'_, S>,
-    slots: &[BranchSlot],
-) -> Result<(), TableFault>
-    ensures { Does S.Store tx.old tx.new
-        (λ tables. HasKeys branch_slot_key slots.now
-        × AllByRecursion (λ s. IfSome s.changed (λ z. IsNumberOfRow tables s.branch)) slots.now)
-        (λ tables. branches_over slots.now tables) (λ _. tt) result }
-{
-    for slot in slots {
-        write_branch(tx, slot)?;
+    ghost made = { requests_put };
+
+    ghost May = { MayAddRequests };
+
+    fn make<S: Alter>(&self, tx: &mut Transaction<'_, S>) -> Result<(), TableFault> {
+        add_request(tx, *self)
     }
-    Ok(())
+
+    ghost none = { λ t. refl };
+
+    ghost next = { requests_next };
 }
 
-/// Puts postings in.
-pub fn add_postings<S: Alter>(
+// Makes changes, one after another.
+fn make_all<S: Alter, C: Change>(
     tx: &mut Transaction<'_, S>,
-    rows: &[HistoryRow],
+    changes: &[C],
 ) -> Result<(), TableFault>
-    ensures { Does S.Store tx.old tx.new (λ tables. PutsFree history_key rows.now tables.history)
-        (λ tables. history_put rows.now tables) (λ _. tt) result }
+    ensures { Does S.Store tx.old tx.new (C.May changes.now) (C.made changes.now) (λ _. tt) result }
 {
-    for row in rows {
-        add_history(tx, *row)?;
-    }
-    Ok(())
-}
-
-/// Puts decided requests in.
-pub fn add_requests<S: Alter>(
-    tx: &mut Transaction<'_, S>,
-    rows: &[RequestRow],
-) -> Result<(), TableFault>
-    ensures { Does S.Store tx.old tx.new (λ tables. PutsFree request_key rows.now tables.requests)
-        (λ tables. requests_put rows.now tables) (λ _. tt) result }
-{
-    for row in rows {
-        add_request(tx, *row)?;
+    for change in changes {
+        change.make(tx)?;
     }
     Ok(())
 }
@@ -147,10 +165,10 @@ pub fn write<S: Alter>(tx: &mut Transaction<'_, S>, overlay: &Overlay) -> Result
         (λ tables. IsUndamaged tables × HasRisingSlots (view overlay.now) × ChangesRows (view overlay.now) tables × AddsRows (view overlay.now) tables)
         (λ tables. tables_over (view overlay.now) tables) (λ _. tt) result }
 {
-    write_accounts(tx, &overlay.accounts)?;
-    write_tellers(tx, &overlay.tellers)?;
-    write_branches(tx, &overlay.branches)?;
-    add_postings(tx, &overlay.history)?;
-    add_requests(tx, &overlay.requests)?;
+    make_all(tx, &overlay.accounts)?;
+    make_all(tx, &overlay.tellers)?;
+    make_all(tx, &overlay.branches)?;
+    make_all(tx, &overlay.history)?;
+    make_all(tx, &overlay.requests)?;
     expect_row(set_decided(tx, overlay.decided), Rule::Meta)
 }

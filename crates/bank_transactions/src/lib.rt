@@ -1,4 +1,4 @@
-//! What a bank does to its tables: a request, records, an opening and a look-up, each in one transaction.
+//! What a bank does to its tables: a request, an opening and a look-up, each in one transaction.
 #![tactic(auto)]
 
 mod applying;
@@ -11,4 +11,4 @@ mod transactions;
 pub use applying::expect_row;
 pub use look_ups::{branch_at, decided, kept_request, place_of_account};
 pub use next_branch::read_next_branch;
-pub use transactions::{begin, open_branch, post, post_all, read_balance};
+pub use transactions::{begin, open_branch, post, read_balance};

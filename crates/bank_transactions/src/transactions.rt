@@ -1,18 +1,18 @@
 //! Each call is one transaction. A commit writes nothing where nothing was changed.
-ghost use Rattle.std.specs.Prelude.{◌≡◌, ◌≤◌, ◌+◌, ◌++◌, length, vec_len, vec_capacity, IsTrue, OnOk, true, false};
+ghost use Rattle.std.specs.Prelude.{◌≡◌, ◌≤◌, IsTrue, OnOk, true, false};
 ghost use Rattle.sqlite.specs.State.{HasCleanDisk};
 ghost use Rattle.sqlite.specs.Held.{state};
-ghost use Rattle.posting_rules.specs.Changes.{reply_bytes, replies_past_all, tables_with, tables_past_all, tables_with_branch};
+ghost use Rattle.posting_rules.specs.Changes.{reply_bytes, tables_with, tables_with_branch};
 ghost use Rattle.posting_rules.specs.Counter.{opening_for};
 ghost use Rattle.posting_rules.specs.LookUps.{account_balance_in, count_in};
-ghost use Rattle.posting_rules.specs.Sound.{AreSound, AreOfALog};
+ghost use Rattle.posting_rules.specs.Sound.{AreSound};
 ghost use Rattle.posting_rules.specs.Tables.{Tables};
 ghost use Rattle.store_rows.specs.View.{Shows};
 ghost use Rattle.bank_transactions.specs.Doing.{Transacts};
 
 use crate::look_ups::open_balance;
 use crate::opening::open_inside;
-use crate::posting::{answer, answer_all};
+use crate::posting::answer;
 use message_records::{Account, Branch, Cents, Moment, Request};
 use posting_rules::{LAST_BRANCH, MOST_ACCOUNTS, Opening};
 use sqlite::{Alter, Connection, Transaction};
@@ -43,27 +43,6 @@ pub fn post<S: Alter>(
     let reply = answer(&mut tx, moment, request)?;
     commit(tx)?;
     Ok(reply)
-}
-
-/// Answers records in order, for whose replies there is room. They stand together or not at all.
-pub fn post_all<S: Alter>(
-    conn: &mut Connection<S>,
-    moment: Moment,
-    records: &[[u8; 100]],
-    replies: &mut Vec<[u8; 200]>,
-) -> Result<(), TableFault>
-    requires mode { conn.old.in_transaction ≡ false }
-    requires room { vec_len replies.old + length records.now ≤ vec_capacity replies.old }
-    ensures says { Transacts S.Store conn.old conn.new AreOfALog (λ tables. tables_past_all tables moment records.now) (λ _. tt) result }
-    ensures replies { HasCleanDisk (state S.Store conn.new) → (tables : Tables)
-        → Shows (state S.Store conn.old).now tables → AreOfALog tables
-        → OnOk result (replies.new.items ≡ replies.old.items ++ replies_past_all tables moment records.now) }
-    ensures count { OnOk result (length replies.new.items ≡ length replies.old.items + length records.now) }
-{
-    let mut tx = begin(conn);
-    answer_all(&mut tx, moment, records, replies)?;
-    commit(tx)?;
-    Ok(())
 }
 
 /// Opens a branch, unless it is open.

@@ -1,6 +1,10 @@
 -- What a stop may leave of the transaction.
-use Rattle.std.proofs.Common.{rules}
+use Rattle.std.proofs.Common.{◌≡◌, rules, arith}
+use Rattle.sqlite.specs.State.{HasCleanDisk}
+use Rattle.sqlite.specs.Held.{state}
+use Rattle.posting_rules.specs.Changes.{tables_past_all}
 use Rattle.bank_transactions.proofs.Transacted.{stopped}
+use Rattle.bank_batches.specs.Batches.{HasOnly}
 use Rattle.bank_batches.proofs.batches.post_all.Goals as goal
 
 pub returns-in_err-commit-clause-says : goal.returns-in_err-commit-clause-says
@@ -24,3 +28,12 @@ returns-clause-says g c records made =
           does c.commit.ensures.survives (search rules);
       mode = search rules;
     }
+
+pub returns-clause-idle : goal.returns-clause-idle
+returns-clause-idle g c clean records made t shows so none =
+    let same : c.commit.new.tx.0 ≡ c.conn-2-1.given.0 = search rules in
+    let ended : HasCleanDisk (state g.S.Store c.commit.new.tx.0) = rw same clean in
+    let before : HasCleanDisk (state g.S.Store c.answer_batch.new.tx.conn.now) = omega (arith, c.commit.ensures.survives.clean) in
+    let back = (c.in_ok-replies.ensures.idle before records made t (rw c.begin-tx.ensures.begun shows) so none).leads in
+    let done = (returns-clause-says g c records made).told clean t shows so in
+    rw back at (let it : HasOnly (state g.S.Store c.conn-2-1.given.0) (tables_past_all t c.args.moment records) = record { shows = done.1; stop = done.2 } in it)

@@ -8,14 +8,16 @@ use Rattle.bank_batches.proofs.filling.teller_within.Goals as goal
 
 pub returns-in_err-balance : goal.returns-in_err-balance
 returns-in_err-balance g c = record {
-  told = λ clean t shows so.
-      let same : c.from_residual.result ≡ Err c.in_err-balance.field-0.0 = search rules in
-      let before = state g.S.Store c.args.tx.now.conn.now in
-      let after = state g.S.Store c.teller_balance.new.tx.conn.now in
-      rw same
-      (err_found before after before after (teller_balance_in t c.args.teller) IsNoBalance (teller_balance_in t c.args.teller) c.in_err-balance.field-0.0
-      (λ z broken is breaks. teller_unbroken t c.args.teller z broken so.0 is breaks) (c.in_err-balance.ensures.told clean t shows));
-  same_reference = search rules;
-  kept = search rules;
-  survives = search rules;
+  says = record {
+    told = λ clean t shows so.
+        let same : c.from_residual.result ≡ Err c.in_err-balance.field-0.0 = search rules in
+        let before = state g.S.Store c.args.tx.now.conn.now in
+        let after = state g.S.Store c.teller_balance.new.tx.conn.now in
+        rw same
+        (err_found before after before after (teller_balance_in t c.args.teller) IsNoBalance (teller_balance_in t c.args.teller) c.in_err-balance.field-0.0
+        (λ z broken is breaks. teller_unbroken t c.args.teller z broken so.0 is breaks) (c.in_err-balance.ensures.told clean t shows));
+    same_reference = search rules;
+    kept = search rules;
+    survives = search rules;
+  };
 }

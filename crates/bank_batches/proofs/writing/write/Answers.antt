@@ -4,67 +4,68 @@ use Rattle.std.specs.Prelude.{⊤}
 use Rattle.posting_rules.specs.declared.fault.Rule.TheVariants.{Meta}
 use Rattle.posting_rules.specs.Changes.{with_decided}
 use Rattle.posting_rules.specs.Tables.{Tables}
-use Rattle.posting_batch.specs.Overlay.{decided_put}
+use Rattle.posting_batch.specs.Overlay.{decided_put, accounts_over, tellers_over, branches_over, history_put, requests_put}
 use Rattle.posting_batch.specs.View.{view}
 use Rattle.store_rows.specs.SixTables.{meta}
-use Rattle.bank_transactions.proofs.Chained.{does_then, does_err, does_for, does_write}
-use Rattle.bank_batches.proofs.Together.{step1, step2, step3, step4, step5}
+use Rattle.bank_transactions.proofs.Chained.{does_none, does_then, does_err, does_for, does_write}
+use Rattle.bank_batches.specs.Writing.{MayChangeAccounts, MayChangeTellers, MayChangeBranches, MayAddPostings, MayAddRequests}
+use Rattle.bank_batches.proofs.Together.{So, step, accounts_may, tellers_may, branches_may}
 use Rattle.bank_batches.proofs.writing.write.Goals as goal
 
 counted : (n : ℕ) (t : Tables) → with_decided n t ≡ decided_put n t
 unfolding with_decided
 counted n t = refl
 
-pub returns-in_err-write_accounts : goal.returns-in_err-write_accounts
-returns-in_err-write_accounts g c =
+pub returns-in_err-make_all : goal.returns-in_err-make_all
+returns-in_err-make_all g c =
     let o = view c.args.overlay.now in
-    let same : c.from_residual.result ≡ Err c.in_err-write_accounts.field-0.0 = search rules in
-    rw same (does_err (step1 {g = g.S.Store} o c.deref.result.now c.deref.ensures.value c.in_err-write_accounts.ensures) (λ t so. so))
+    let same : c.from_residual.result ≡ Err c.in_err-make_all.field-0.0 = search rules in
+    rw same (does_err (step {g = g.S.Store} o accounts_over MayChangeAccounts _ c.deref.result.now o.accounts c.deref.ensures.value (does_none {So = So o} (search rules)) c.in_err-make_all.ensures (accounts_may o)) (λ t so. so))
 
-pub returns-in_err-write_tellers : goal.returns-in_err-write_tellers
-returns-in_err-write_tellers g c =
+pub returns-in_err-make_all-2 : goal.returns-in_err-make_all-2
+returns-in_err-make_all-2 g c =
     let o = view c.args.overlay.now in
-    let same : c.from_residual-in_err-write_tellers.result ≡ Err c.in_err-write_tellers.field-0.0 = search rules in
-    let s1 = step1 {g = g.S.Store} o c.deref.result.now c.deref.ensures.value c.in_ok-write_accounts.ensures in
-    rw same (does_err (step2 {g = g.S.Store} o c.deref-2.result.now c.deref-2.ensures.value s1 c.in_err-write_tellers.ensures) (λ t so. so))
+    let same : c.from_residual-in_err-make_all-2.result ≡ Err c.in_err-make_all-2.field-0.0 = search rules in
+    let s1 = step {g = g.S.Store} o accounts_over MayChangeAccounts _ c.deref.result.now o.accounts c.deref.ensures.value (does_none {So = So o} (search rules)) c.in_ok-make_all.ensures (accounts_may o) in
+    rw same (does_err (step {g = g.S.Store} o tellers_over MayChangeTellers _ c.deref-2.result.now o.tellers c.deref-2.ensures.value s1 c.in_err-make_all-2.ensures (λ t so. tellers_may o t so)) (λ t so. so))
 
-pub returns-in_err-write_branches : goal.returns-in_err-write_branches
-returns-in_err-write_branches g c =
+pub returns-in_err-make_all-3 : goal.returns-in_err-make_all-3
+returns-in_err-make_all-3 g c =
     let o = view c.args.overlay.now in
-    let same : c.from_residual-in_err-write_branches.result ≡ Err c.in_err-write_branches.field-0.0 = search rules in
-    let s1 = step1 {g = g.S.Store} o c.deref.result.now c.deref.ensures.value c.in_ok-write_accounts.ensures in
-    let s2 = step2 {g = g.S.Store} o c.deref-2.result.now c.deref-2.ensures.value s1 c.in_ok-write_tellers.ensures in
-    rw same (does_err (step3 {g = g.S.Store} o c.deref-3.result.now c.deref-3.ensures.value s2 c.in_err-write_branches.ensures) (λ t so. so))
+    let same : c.from_residual-in_err-make_all-3.result ≡ Err c.in_err-make_all-3.field-0.0 = search rules in
+    let s1 = step {g = g.S.Store} o accounts_over MayChangeAccounts _ c.deref.result.now o.accounts c.deref.ensures.value (does_none {So = So o} (search rules)) c.in_ok-make_all.ensures (accounts_may o) in
+    let s2 = step {g = g.S.Store} o tellers_over MayChangeTellers _ c.deref-2.result.now o.tellers c.deref-2.ensures.value s1 c.in_ok-make_all-2.ensures (λ t so. tellers_may o t so) in
+    rw same (does_err (step {g = g.S.Store} o branches_over MayChangeBranches _ c.deref-3.result.now o.branches c.deref-3.ensures.value s2 c.in_err-make_all-3.ensures (λ t so. branches_may o t so)) (λ t so. so))
 
-pub returns-in_err-add_postings : goal.returns-in_err-add_postings
-returns-in_err-add_postings g c =
+pub returns-in_err-make_all-4 : goal.returns-in_err-make_all-4
+returns-in_err-make_all-4 g c =
     let o = view c.args.overlay.now in
-    let same : c.from_residual-in_err-add_postings.result ≡ Err c.in_err-add_postings.field-0.0 = search rules in
-    let s1 = step1 {g = g.S.Store} o c.deref.result.now c.deref.ensures.value c.in_ok-write_accounts.ensures in
-    let s2 = step2 {g = g.S.Store} o c.deref-2.result.now c.deref-2.ensures.value s1 c.in_ok-write_tellers.ensures in
-    let s3 = step3 {g = g.S.Store} o c.deref-3.result.now c.deref-3.ensures.value s2 c.in_ok-write_branches.ensures in
-    rw same (does_err (step4 {g = g.S.Store} o c.deref-4.result.now c.deref-4.ensures.value s3 c.in_err-add_postings.ensures) (λ t so. so))
+    let same : c.from_residual-in_err-make_all-4.result ≡ Err c.in_err-make_all-4.field-0.0 = search rules in
+    let s1 = step {g = g.S.Store} o accounts_over MayChangeAccounts _ c.deref.result.now o.accounts c.deref.ensures.value (does_none {So = So o} (search rules)) c.in_ok-make_all.ensures (accounts_may o) in
+    let s2 = step {g = g.S.Store} o tellers_over MayChangeTellers _ c.deref-2.result.now o.tellers c.deref-2.ensures.value s1 c.in_ok-make_all-2.ensures (λ t so. tellers_may o t so) in
+    let s3 = step {g = g.S.Store} o branches_over MayChangeBranches _ c.deref-3.result.now o.branches c.deref-3.ensures.value s2 c.in_ok-make_all-3.ensures (λ t so. branches_may o t so) in
+    rw same (does_err (step {g = g.S.Store} o history_put MayAddPostings _ c.deref-4.result.now o.history c.deref-4.ensures.value s3 c.in_err-make_all-4.ensures (λ t so. so.3.history)) (λ t so. so))
 
-pub returns-in_err-add_requests : goal.returns-in_err-add_requests
-returns-in_err-add_requests g c =
+pub returns-in_err-make_all-5 : goal.returns-in_err-make_all-5
+returns-in_err-make_all-5 g c =
     let o = view c.args.overlay.now in
-    let same : c.from_residual-in_err-add_requests.result ≡ Err c.in_err-add_requests.field-0.0 = search rules in
-    let s1 = step1 {g = g.S.Store} o c.deref.result.now c.deref.ensures.value c.in_ok-write_accounts.ensures in
-    let s2 = step2 {g = g.S.Store} o c.deref-2.result.now c.deref-2.ensures.value s1 c.in_ok-write_tellers.ensures in
-    let s3 = step3 {g = g.S.Store} o c.deref-3.result.now c.deref-3.ensures.value s2 c.in_ok-write_branches.ensures in
-    let s4 = step4 {g = g.S.Store} o c.deref-4.result.now c.deref-4.ensures.value s3 c.in_ok-add_postings.ensures in
-    rw same (does_err (step5 {g = g.S.Store} o c.deref-5.result.now c.deref-5.ensures.value s4 c.in_err-add_requests.ensures) (λ t so. so))
+    let same : c.from_residual-in_err-make_all-5.result ≡ Err c.in_err-make_all-5.field-0.0 = search rules in
+    let s1 = step {g = g.S.Store} o accounts_over MayChangeAccounts _ c.deref.result.now o.accounts c.deref.ensures.value (does_none {So = So o} (search rules)) c.in_ok-make_all.ensures (accounts_may o) in
+    let s2 = step {g = g.S.Store} o tellers_over MayChangeTellers _ c.deref-2.result.now o.tellers c.deref-2.ensures.value s1 c.in_ok-make_all-2.ensures (λ t so. tellers_may o t so) in
+    let s3 = step {g = g.S.Store} o branches_over MayChangeBranches _ c.deref-3.result.now o.branches c.deref-3.ensures.value s2 c.in_ok-make_all-3.ensures (λ t so. branches_may o t so) in
+    let s4 = step {g = g.S.Store} o history_put MayAddPostings _ c.deref-4.result.now o.history c.deref-4.ensures.value s3 c.in_ok-make_all-4.ensures (λ t so. so.3.history) in
+    rw same (does_err (step {g = g.S.Store} o requests_put MayAddRequests _ c.deref-5.result.now o.requests c.deref-5.ensures.value s4 c.in_err-make_all-5.ensures (λ t so. so.3.requests)) (λ t so. so))
 
 pub returns : goal.returns
 returns g c =
     let o = view c.args.overlay.now in
     let count = c.set_decided.ensures in
-    let s1 = step1 {g = g.S.Store} o c.deref.result.now c.deref.ensures.value c.in_ok-write_accounts.ensures in
-    let s2 = step2 {g = g.S.Store} o c.deref-2.result.now c.deref-2.ensures.value s1 c.in_ok-write_tellers.ensures in
-    let s3 = step3 {g = g.S.Store} o c.deref-3.result.now c.deref-3.ensures.value s2 c.in_ok-write_branches.ensures in
-    let s4 = step4 {g = g.S.Store} o c.deref-4.result.now c.deref-4.ensures.value s3 c.in_ok-add_postings.ensures in
-    let s5 = step5 {g = g.S.Store} o c.deref-5.result.now c.deref-5.ensures.value s4 c.in_ok-add_requests.ensures in
-    does_for (does_then s5 (does_write {So = λ t. ⊤} g.S.Store c.add_requests.new.tx c.set_decided.new.tx meta (λ t. true) (λ t. with_decided o.decided t)
+    let s1 = step {g = g.S.Store} o accounts_over MayChangeAccounts _ c.deref.result.now o.accounts c.deref.ensures.value (does_none {So = So o} (search rules)) c.in_ok-make_all.ensures (accounts_may o) in
+    let s2 = step {g = g.S.Store} o tellers_over MayChangeTellers _ c.deref-2.result.now o.tellers c.deref-2.ensures.value s1 c.in_ok-make_all-2.ensures (λ t so. tellers_may o t so) in
+    let s3 = step {g = g.S.Store} o branches_over MayChangeBranches _ c.deref-3.result.now o.branches c.deref-3.ensures.value s2 c.in_ok-make_all-3.ensures (λ t so. branches_may o t so) in
+    let s4 = step {g = g.S.Store} o history_put MayAddPostings _ c.deref-4.result.now o.history c.deref-4.ensures.value s3 c.in_ok-make_all-4.ensures (λ t so. so.3.history) in
+    let s5 = step {g = g.S.Store} o requests_put MayAddRequests _ c.deref-5.result.now o.requests c.deref-5.ensures.value s4 c.in_ok-make_all-5.ensures (λ t so. so.3.requests) in
+    does_for (does_then s5 (does_write {So = λ t. ⊤} g.S.Store c.make_all-5.new.tx c.set_decided.new.tx meta (λ t. true) (λ t. with_decided o.decided t)
     c.set_decided.result Meta c.expect_row.result c.expect_row.ensures
     (record { same_reference = count.same_reference; told = count.told; kept = count.kept; survives = count.survives }) (λ t so. refl)) (λ t so. tt))
     (λ t so. (so, counted o.decided _, refl))
