@@ -18,7 +18,8 @@ use Rattle.posting_rules.specs.declared.limits.TheConstants.{LAST_BRANCH, MOST_A
 
 -- ---- rows that are a plan
 
-within : (most n : ℕ) → 1 ≤ n → n ≤ most → whole_within 1 most n ≡ Some n
+-- a number in its range is one of the type with that range
+pub within : (most n : ℕ) → 1 ≤ n → n ≤ most → whole_within 1 most n ≡ Some n
 within most n low high = let test : (leb 1 n && leb n most) ≡ true = grind (arith, nat_tests) in rw test refl
 
 -- a row in its ranges, of a branch that no row before names

@@ -31,6 +31,8 @@ status_of fault.NoBank = Input
 status_of fault.Foreign = Input
 status_of (fault.Version version) = Input
 status_of fault.NoBranches = Input
+status_of (fault.NoAccount account) = Input
+status_of fault.Network = System
 
 -- the text of a fault; that of a plan's fault is its own
 abbrev pub fault_text : CommandFault → Option (List ℕ)
@@ -46,6 +48,8 @@ fault_text fault.NoBank = Some (codes "no bank")
 fault_text fault.Foreign = Some (codes "foreign tables")
 fault_text (fault.Version version) = Some (codes "version " ++ signed_decimal version)
 fault_text fault.NoBranches = Some (codes "no branches")
+fault_text (fault.NoAccount account) = Some (codes "no account " ++ decimal account)
+fault_text fault.Network = Some (codes "network failed")
 
 abbrev pub fault_of_opening : OpenFault → CommandFault
 fault_of_opening opening.Store = fault.Store

@@ -1,6 +1,8 @@
 -- The lines that the program prints, and how it ends where its words aren't a command.
 use Rattle.std.specs.Prelude.{◌≡◌, ◌⊎◌, ℕ, List, [], ◌∷◌, ◌++◌, codes}
 use Rattle.std.specs.Fmt.{decimal}
+use Rattle.std.specs.Net.Text.{socket_text}
+use Rattle.std.specs.declared.net.socket_addr.SocketAddr.{SocketAddr}
 use Rattle.bank_driver.specs.declared.driving.Driven.{Driven}
 use Rattle.branch_loader.specs.declared.loading.Loaded.{Loaded}
 use Rattle.clap.specs.declared.error.kind.ErrorKind.{ErrorKind}
@@ -25,6 +27,10 @@ abbrev pub driven_line : ℕ → Driven → List ℕ
 driven_line count driven = line (codes "records " ++ decimal count
     ++ codes " posted " ++ decimal driven.posted
     ++ codes " refused " ++ decimal driven.refused)
+
+-- where the counter listens
+abbrev pub listening_line : SocketAddr → List ℕ
+listening_line address = line (codes "listening " ++ socket_text address)
 
 -- help or the version was asked for
 abbrev pub IsRequest : ErrorKind → Type 0

@@ -7,6 +7,7 @@ use crate::status::Status;
 use bank_driver::DriveFault;
 use bank_store::OpenFault;
 use branch_loader::PlanFault;
+use message_records::Account;
 use posting_core::{Fault, Rule, StreamFault};
 use std::fmt;
 
@@ -37,6 +38,10 @@ pub enum CommandFault {
     Version(i64),
     /// The bank has no branch to draw records over.
     NoBranches,
+    /// The account isn't open.
+    NoAccount(Account),
+    /// The address can't be bound, or a connection can't be taken.
+    Network,
 }
 
 impl CommandFault {
@@ -49,14 +54,16 @@ impl CommandFault {
             | CommandFault::Memory
             | CommandFault::Damaged(_)
             | CommandFault::Read
-            | CommandFault::Write => Status::System,
+            | CommandFault::Write
+            | CommandFault::Network => Status::System,
             CommandFault::Truncated(_)
             | CommandFault::Plan(_)
             | CommandFault::AlreadyBank
             | CommandFault::NoBank
             | CommandFault::Foreign
             | CommandFault::Version(_)
-            | CommandFault::NoBranches => Status::Input,
+            | CommandFault::NoBranches
+            | CommandFault::NoAccount(_) => Status::Input,
         }
     }
 }
@@ -83,6 +90,8 @@ impl fmt::Display for CommandFault {
             CommandFault::Foreign => write!(f, "foreign tables"),
             CommandFault::Version(version) => write!(f, "version {version}"),
             CommandFault::NoBranches => write!(f, "no branches"),
+            CommandFault::NoAccount(account) => write!(f, "no account {account}"),
+            CommandFault::Network => write!(f, "network failed"),
         }
     }
 }

@@ -3,7 +3,8 @@ ghost use Rattle.std.specs.Prelude.{◌≡◌, ◌⊎◌, IsOk, OnErr, OnOk, IsE
 ghost use Rattle.std.specs.Io.KnownBytes.{Appends, Keeps};
 ghost use Rattle.clap.specs.Words.{kind_of};
 ghost use Rattle.bank_endings.specs.Faults.{status_of};
-ghost use Rattle.bank_endings.specs.Lines.{IsRequest, IsShown, created_line, driven_line, loaded_line};
+ghost use Rattle.bank_endings.specs.Lines.{IsRequest, IsShown, created_line, driven_line, listening_line};
+ghost use Rattle.bank_endings.specs.Lines.{loaded_line};
 
 use crate::fault::CommandFault;
 use crate::status::Status;
@@ -12,6 +13,7 @@ use branch_loader::Loaded;
 use clap::error::ErrorKind;
 use std::io;
 use std::io::Write;
+use std::net::SocketAddr;
 
 /// Prints that a bank was made.
 pub fn print_created<W: Write>(output: &mut W) -> Result<(), CommandFault>
@@ -52,6 +54,16 @@ pub fn print_driven<W: Write>(
 {
     let Driven { posted, refused } = driven;
     let written = writeln!(output, "records {count} posted {posted} refused {refused}");
+    finish(written, output)
+}
+
+/// Prints the address, with its port, at which the counter listens.
+pub fn print_listening<W: Write>(address: SocketAddr, output: &mut W) -> Result<(), CommandFault>
+    ensures line { OnOk result
+        (Appends (W.contents output.old) (W.contents output.new) (listening_line address)) }
+    ensures fault { OnErr result (IsErrOf result CommandFault.Write) }
+{
+    let written = writeln!(output, "listening {address}");
     finish(written, output)
 }
 

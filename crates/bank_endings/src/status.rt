@@ -13,12 +13,14 @@ pub enum Status {
     Done,
     /// The words aren't a command.
     Usage,
-    /// Memory, the store, a read or a write failed, or rows are damaged.
+    /// Memory, the store, the network, a read or a write failed, or rows are damaged.
     System,
     /// What came in, or the file, isn't what the command takes.
     Input,
     /// A branch of the plan is open with another count of accounts.
     Differs,
+    /// The audit found a bank whose books don't agree.
+    Inconsistent,
 }
 
 /// How the program ends after a plan was loaded.
@@ -43,7 +45,7 @@ impl From<Status> for ExitCode {
             Status::Usage => 2,
             Status::System => 3,
             Status::Input => 4,
-            Status::Differs => 5,
+            Status::Differs | Status::Inconsistent => 5,
         })
     }
 }

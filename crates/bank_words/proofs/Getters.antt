@@ -6,6 +6,8 @@ use Rattle.std.specs.Prelude.{IsSomeAnd, option_map}
 use Rattle.std.specs.Str.Parse.{ExplainsUnsignedError, HasUnsignedDigitsIfOk, ParsesUnsigned}
 use Rattle.std.specs.declared.num.ParseIntError.{ParseIntError}
 use Rattle.std.specs.Borrow.{Bor}
+use Rattle.std.specs.Str.{bytes_eq}
+use Rattle.std.proofs.lemmas.Slice.Eq.{bytes_eq-Decides}
 use Rattle.clap.specs.Words.{IsUnsignedIn, ReadsOne, Row, Text, first_of, first_value, one_of, one_text}
 use Rattle.clap.specs.Words.{rows_of, subcommand_name_of, subcommand_rows_of}
 use Rattle.clap.specs.declared.parser.matches.ArgMatches.{ArgMatches}
@@ -14,7 +16,11 @@ use Rattle.clap.specs.declared.parser.matches.ArgMatches.TheViews.{out-ArgMatche
 use Rattle.clap.proofs.WalkLemmas.{first_value-rows, one_text-rows}
 use Rattle.bank_driver.specs.declared.driving.TheConstants.{MAX_DRIVEN}
 use Rattle.bank_words.specs.CommandLine.{MAX_SEED}
-use Rattle.bank_words.specs.Words.{HasNumber, IsComplete, IsNumber}
+use Rattle.message_records.specs.Ranges.{whole_within}
+use Rattle.bank_driver.proofs.Listed.{within}
+use Rattle.message_records.specs.declared.limits.TheConstants.{MAX_ACCOUNT}
+use Rattle.bank_words.specs.declared.limits.TheConstants.{MAX_CONNECTIONS}
+use Rattle.bank_words.specs.Words.{HasNumber, HasText, IsComplete, IsNumber}
 
 -- an argument with a value gives one
 pub text_given : (o : Option (Bor Text)) (f : Found) (id : Text)
@@ -65,31 +71,62 @@ met_complete m name rows named met complete = rw (met_rows m name rows named met
 
 -- ---- the command that a name tells
 
--- texts whose first bytes differ are two
-pub apart : (a b : ℕ) (s t : Text) → (a == b) ≡ false → a ∷ s ≡ b ∷ t → ⊥
-apart a b s t other same =
-    let first : a ≡ b = ap (λ (x : Text). slice_index x 0) same in
-    let equal : (a == b) ≡ true = rw (← first) (eq-eqb a a refl) in
+-- texts that differ are two
+pub apart : {s t : Text} → s ≡ t → bytes_eq s t ≡ false → ⊥
+apart {s = s} {t = t} same other =
+    let equal : bytes_eq s t ≡ true = (bytes_eq-Decides s t).1 same in
     cc
 
 -- a complete `load` has its plan
 pub plan_of_load : (p : Text × List Row) → p.0 ≡ codes "load" → IsComplete p
-    → is_some (first_of (codes "plan") p.1) ≡ true
+    → HasText (codes "plan") p.1
 plan_of_load p name complete = elim complete.1 [
-  | inl init ↦ absurd (apart 105 108 _ _ refl (sym init ∙ name))
-  | inr (inl post) ↦ absurd (apart 112 108 _ _ refl (sym post ∙ name))
-  | inr (inr (inl load)) ↦ load.1
-  | inr (inr (inr drive)) ↦ absurd (apart 100 108 _ _ refl (sym drive.0 ∙ name))
+  | inl init ↦ absurd (apart (sym init ∙ name) refl)
+  | inr (inl post) ↦ absurd (apart (sym post ∙ name) refl)
+  | inr (inr (inl audit)) ↦ absurd (apart (sym audit ∙ name) refl)
+  | inr (inr (inr (inl load))) ↦ load.1
+  | inr (inr (inr (inr (inl drive)))) ↦ absurd (apart (sym drive.0 ∙ name) refl)
+  | inr (inr (inr (inr (inr (inl statement))))) ↦ absurd (apart (sym statement.0 ∙ name) refl)
+  | inr (inr (inr (inr (inr (inr serve))))) ↦ absurd (apart (sym serve.0 ∙ name) refl)
 ]
 
 -- a complete `drive` has its numbers
 pub numbers_of_drive : (p : Text × List Row) → p.0 ≡ codes "drive" → IsComplete p
     → HasNumber (codes "seed") 0 MAX_SEED p.1 × HasNumber (codes "count") 1 MAX_DRIVEN p.1
 numbers_of_drive p name complete = elim complete.1 [
-  | inl init ↦ absurd (apart 105 100 _ _ refl (sym init ∙ name))
-  | inr (inl post) ↦ absurd (apart 112 100 _ _ refl (sym post ∙ name))
-  | inr (inr (inl load)) ↦ absurd (apart 108 100 _ _ refl (sym load.0 ∙ name))
-  | inr (inr (inr drive)) ↦ (drive.1, drive.2)
+  | inl init ↦ absurd (apart (sym init ∙ name) refl)
+  | inr (inl post) ↦ absurd (apart (sym post ∙ name) refl)
+  | inr (inr (inl audit)) ↦ absurd (apart (sym audit ∙ name) refl)
+  | inr (inr (inr (inl load))) ↦ absurd (apart (sym load.0 ∙ name) refl)
+  | inr (inr (inr (inr (inl drive)))) ↦ (drive.1, drive.2)
+  | inr (inr (inr (inr (inr (inl statement))))) ↦ absurd (apart (sym statement.0 ∙ name) refl)
+  | inr (inr (inr (inr (inr (inr serve))))) ↦ absurd (apart (sym serve.0 ∙ name) refl)
+]
+
+-- a complete `statement` has the number of an account
+pub account_of_statement : (p : Text × List Row) → p.0 ≡ codes "statement" → IsComplete p
+    → HasNumber (codes "account") 1 MAX_ACCOUNT p.1
+account_of_statement p name complete = elim complete.1 [
+  | inl init ↦ absurd (apart (sym init ∙ name) refl)
+  | inr (inl post) ↦ absurd (apart (sym post ∙ name) refl)
+  | inr (inr (inl audit)) ↦ absurd (apart (sym audit ∙ name) refl)
+  | inr (inr (inr (inl load))) ↦ absurd (apart (sym load.0 ∙ name) refl)
+  | inr (inr (inr (inr (inl drive)))) ↦ absurd (apart (sym drive.0 ∙ name) refl)
+  | inr (inr (inr (inr (inr (inl statement))))) ↦ statement.1
+  | inr (inr (inr (inr (inr (inr serve))))) ↦ absurd (apart (sym serve.0 ∙ name) refl)
+]
+
+-- a complete `serve` has its address and its number
+pub values_of_serve : (p : Text × List Row) → p.0 ≡ codes "serve" → IsComplete p
+    → HasText (codes "address") p.1 × HasNumber (codes "connections") 1 MAX_CONNECTIONS p.1
+values_of_serve p name complete = elim complete.1 [
+  | inl init ↦ absurd (apart (sym init ∙ name) refl)
+  | inr (inl post) ↦ absurd (apart (sym post ∙ name) refl)
+  | inr (inr (inl audit)) ↦ absurd (apart (sym audit ∙ name) refl)
+  | inr (inr (inr (inl load))) ↦ absurd (apart (sym load.0 ∙ name) refl)
+  | inr (inr (inr (inr (inl drive)))) ↦ absurd (apart (sym drive.0 ∙ name) refl)
+  | inr (inr (inr (inr (inr (inl statement))))) ↦ absurd (apart (sym statement.0 ∙ name) refl)
+  | inr (inr (inr (inr (inr (inr serve))))) ↦ (serve.1, serve.2)
 ]
 
 -- ---- numbers
@@ -131,3 +168,11 @@ number_unwrapped f id least most r value read is =
     let same : Some read.0 ≡ Some value = sym read.1 ∙ is in
     let equal : read.0 ≡ value = cc in
     subst (IsRead f id least most) equal read.2
+
+-- a number in its range, which is one of the type with that range
+pub within_same : (most n value : ℕ) (o : Option ℕ) → 1 ≤ n → n ≤ most → o ≡ whole_within 1 most n
+    → o ≡ Some value
+    → n ≡ value
+within_same most n value o low high made is =
+    let same : Some n ≡ Some value = sym (within most n low high) ∙ (sym made ∙ is) in
+    cc

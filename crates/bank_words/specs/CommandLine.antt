@@ -1,8 +1,10 @@
 -- The program's command line as clap's specification sees it: which commands there are, and what each takes.
-use Rattle.std.specs.Prelude.{ℕ, Some, true, codes}
+use Rattle.std.specs.Prelude.{ℕ, List, [], ◌∷◌, Some, true, codes, fold}
 use Rattle.clap.specs.Words.{App, Rule, Text, new_app, new_rule, with_rule, with_subcommand}
 use Rattle.clap.specs.declared.builder.value_parser.ValueParser.TheVariants.{Unsigned}
 use Rattle.bank_driver.specs.declared.driving.TheConstants.{MAX_DRIVEN}
+use Rattle.bank_words.specs.declared.limits.TheConstants.{MAX_CONNECTIONS}
+use Rattle.message_records.specs.declared.limits.TheConstants.{MAX_ACCOUNT}
 
 -- a required positional argument, which takes one value and has a name in help
 abbrev pub required_rule : Text → Rule
@@ -15,6 +17,14 @@ file_rule = required_rule (codes "file")
 -- CSV, the plan of branches
 abbrev pub plan_rule : Rule
 plan_rule = required_rule (codes "plan")
+
+-- ADDR, where the counter listens
+abbrev pub address_rule : Rule
+address_rule = required_rule (codes "address")
+
+-- ACCOUNT, the number of one
+abbrev pub account_rule : Rule
+account_rule = record (required_rule (codes "account")) { parser = Some (Unsigned 1 MAX_ACCOUNT) }
 
 -- a required option `--NAME N`, for a whole number in a range
 abbrev pub number_rule : Text → ℕ → ℕ → Rule
@@ -33,6 +43,10 @@ seed_rule = number_rule (codes "seed") 0 MAX_SEED
 abbrev pub count_rule : Rule
 count_rule = number_rule (codes "count") 1 MAX_DRIVEN
 
+-- `--connections N`, how many connections are served
+abbrev pub connections_rule : Rule
+connections_rule = number_rule (codes "connections") 1 MAX_CONNECTIONS
+
 -- `init FILE`
 abbrev pub init_app : App
 init_app = with_rule (new_app (codes "init")) file_rule
@@ -49,6 +63,19 @@ post_app = with_rule (new_app (codes "post")) file_rule
 abbrev pub drive_app : App
 drive_app = with_rule (with_rule (with_rule (new_app (codes "drive")) file_rule) seed_rule) count_rule
 
+-- `audit FILE`
+abbrev pub audit_app : App
+audit_app = with_rule (new_app (codes "audit")) file_rule
+
+-- `statement FILE ACCOUNT`
+abbrev pub statement_app : App
+statement_app = with_rule (with_rule (new_app (codes "statement")) file_rule) account_rule
+
+-- `serve FILE ADDR --connections N`
+abbrev pub serve_app : App
+serve_app =
+    with_rule (with_rule (with_rule (new_app (codes "serve")) file_rule) address_rule) connections_rule
+
 -- `bank` before it has its commands: it wants one, and shows its help where no word follows its name
 abbrev pub bank_alone : App
 bank_alone = let bank = new_app (codes "bank") in record bank {
@@ -59,8 +86,10 @@ bank_alone = let bank = new_app (codes "bank") in record bank {
   };
 }
 
--- `bank` with its four commands; clap adds the command `help`
+-- the commands of `bank`, in the order of its help
+abbrev pub bank_commands : List App
+bank_commands = init_app ∷ load_app ∷ post_app ∷ drive_app ∷ audit_app ∷ statement_app ∷ serve_app ∷ []
+
+-- `bank` with its commands; clap adds the command `help`
 abbrev pub bank_app : App
-bank_app = with_subcommand
-    (with_subcommand (with_subcommand (with_subcommand bank_alone init_app.top) load_app.top) post_app.top)
-    drive_app.top
+bank_app = fold (λ bank command. with_subcommand bank command.top) bank_alone bank_commands

@@ -6,17 +6,29 @@ use Rattle.clap.specs.Words.{IsUnsignedIn, Row, Text, first_of, kind_of, one_of,
 use Rattle.clap.specs.declared.error.Error.{Error}
 use Rattle.clap.specs.declared.error.kind.ErrorKind.TheVariants as kind
 use Rattle.bank_driver.specs.declared.driving.TheConstants.{MAX_DRIVEN}
+use Rattle.message_records.specs.declared.limits.TheConstants.{MAX_ACCOUNT}
 use Rattle.bank_words.specs.CommandLine.{MAX_SEED, bank_app}
+use Rattle.bank_words.specs.declared.limits.TheConstants.{MAX_CONNECTIONS}
 use Rattle.bank_words.specs.declared.reading.Command.{Command}
-use Rattle.bank_words.specs.declared.reading.Command.TheVariants.{Init, Load, Post, Drive}
+use Rattle.bank_words.specs.declared.reading.Command.TheVariants.{Audit, Drive, Init, Load, Post, Serve, Statement}
 
 -- the number that a text of digits spells; a plus may stand before them
 abbrev pub number_of : Text → ℕ
 number_of text = digits_value 10 (without_leading_plus text)
 
+-- ---- what clap matched
+
+-- the argument has a value
+abbrev pub HasText : Text → List Row → Type 0
+HasText id rows = is_some (first_of id rows) ≡ true
+
 -- the argument has a value, which spells a number in the range
 abbrev pub HasNumber : Text → ℕ → ℕ → List Row → Type 0
 HasNumber id least most rows = IsSomeAnd (one_of id rows) (IsUnsignedIn least most)
+
+-- the argument's value is this text
+abbrev pub IsText : Text → List Row → Text → Type 0
+IsText id rows text = first_of id rows ≡ Some text
 
 -- the argument's value spells this number
 abbrev pub IsNumber : Text → List Row → ℕ → Type 0
@@ -24,17 +36,25 @@ IsNumber id rows n = IsSomeAnd (one_of id rows) (λ text. n ≡ number_of text)
 
 -- the command has this name, and its files and numbers are the values of its arguments
 abbrev pub IsCommandOf : Text × List Row → Command → Type 0
-IsCommandOf p (Init file) = (p.0 ≡ codes "init") × (first_of (codes "file") p.1 ≡ Some file.now)
-IsCommandOf p (Load file plan) = (p.0 ≡ codes "load") × (first_of (codes "file") p.1 ≡ Some file.now)
-    × (first_of (codes "plan") p.1 ≡ Some plan.now)
-IsCommandOf p (Post file) = (p.0 ≡ codes "post") × (first_of (codes "file") p.1 ≡ Some file.now)
-IsCommandOf p (Drive file seed count) = (p.0 ≡ codes "drive") × (first_of (codes "file") p.1 ≡ Some file.now)
+IsCommandOf p (Init file) = (p.0 ≡ codes "init") × IsText (codes "file") p.1 file.now
+IsCommandOf p (Load file plan) = (p.0 ≡ codes "load") × IsText (codes "file") p.1 file.now
+    × IsText (codes "plan") p.1 plan.now
+IsCommandOf p (Post file) = (p.0 ≡ codes "post") × IsText (codes "file") p.1 file.now
+IsCommandOf p (Drive file seed count) = (p.0 ≡ codes "drive") × IsText (codes "file") p.1 file.now
     × IsNumber (codes "seed") p.1 seed
     × IsNumber (codes "count") p.1 count
+IsCommandOf p (Audit file) = (p.0 ≡ codes "audit") × IsText (codes "file") p.1 file.now
+IsCommandOf p (Statement file account) = (p.0 ≡ codes "statement") × IsText (codes "file") p.1 file.now
+    × IsNumber (codes "account") p.1 account
+IsCommandOf p (Serve file address connections) = (p.0 ≡ codes "serve") × IsText (codes "file") p.1 file.now
+    × IsText (codes "address") p.1 address.now
+    × IsNumber (codes "connections") p.1 connections
 
 -- the command's numbers are in their ranges
 abbrev pub AreInRange : Command → Type 0
 AreInRange (Drive file seed count) = (seed ≤ MAX_SEED) × (1 ≤ count) × (count ≤ MAX_DRIVEN)
+AreInRange (Statement file account) = (1 ≤ account) × (account ≤ MAX_ACCOUNT)
+AreInRange (Serve file address connections) = (1 ≤ connections) × (connections ≤ MAX_CONNECTIONS)
 AreInRange _ = ⊤
 
 -- clap matches the words to a subcommand of `bank` and to its values, and the command is that one
@@ -43,31 +63,37 @@ IsReadFrom words command = IsSomeAnd (subcommand_of bank_app words) (λ p. IsCom
 
 -- the name is that of a command, and each of its arguments has a value
 abbrev pub IsComplete : Text × List Row → Type 0
-IsComplete p = (is_some (first_of (codes "file") p.1) ≡ true)
-    × ((p.0 ≡ codes "init") ⊎ (p.0 ≡ codes "post")
-    ⊎ ((p.0 ≡ codes "load") × (is_some (first_of (codes "plan") p.1) ≡ true))
+IsComplete p = HasText (codes "file") p.1
+    × ((p.0 ≡ codes "init") ⊎ (p.0 ≡ codes "post") ⊎ (p.0 ≡ codes "audit")
+    ⊎ ((p.0 ≡ codes "load") × HasText (codes "plan") p.1)
     ⊎ ((p.0 ≡ codes "drive") × HasNumber (codes "seed") 0 MAX_SEED p.1
-    × HasNumber (codes "count") 1 MAX_DRIVEN p.1))
+    × HasNumber (codes "count") 1 MAX_DRIVEN p.1)
+    ⊎ ((p.0 ≡ codes "statement") × HasNumber (codes "account") 1 MAX_ACCOUNT p.1)
+    ⊎ ((p.0 ≡ codes "serve") × HasText (codes "address") p.1
+    × HasNumber (codes "connections") 1 MAX_CONNECTIONS p.1))
+
+-- ---- words that spell a command
 
 -- a flag begins with a dash
 abbrev pub begins_with_dash : Text → Bool
 begins_with_dash [] = false
 begins_with_dash (byte ∷ rest) = byte == 45
 
--- the words are `init FILE`, behind the program's name, with a file that doesn't begin with a dash
+-- the words are `NAME FILE`, behind the program's name, with a file that doesn't begin with a dash
+abbrev pub AskWithFile : Text → List Text → Type 0
+AskWithFile name words = (program : Text) × (file : Text) × (begins_with_dash file ≡ false)
+    × (words ≡ program ∷ name ∷ file ∷ [])
+
 abbrev pub AskToInit : List Text → Type 0
-AskToInit words = (program : Text) × (file : Text) × (begins_with_dash file ≡ false)
-    × (words ≡ program ∷ codes "init" ∷ file ∷ [])
+AskToInit words = AskWithFile (codes "init") words
 
 -- the words are `load FILE CSV`, with files that don't begin with a dash
 abbrev pub AskToLoad : List Text → Type 0
 AskToLoad words = (program : Text) × (file : Text) × (plan : Text) × (begins_with_dash file ≡ false)
     × (begins_with_dash plan ≡ false) × (words ≡ program ∷ codes "load" ∷ file ∷ plan ∷ [])
 
--- the words are `post FILE`, with a file that doesn't begin with a dash
 abbrev pub AskToPost : List Text → Type 0
-AskToPost words = (program : Text) × (file : Text) × (begins_with_dash file ≡ false)
-    × (words ≡ program ∷ codes "post" ∷ file ∷ [])
+AskToPost words = AskWithFile (codes "post") words
 
 -- the words are `drive FILE --seed S --count N`, with a file that doesn't begin with a dash, and two numbers in
 -- their ranges
@@ -76,9 +102,27 @@ AskToDrive words = (program : Text) × (file : Text) × (seed : Text) × (count 
     × (begins_with_dash file ≡ false) × IsUnsignedIn 0 MAX_SEED seed × IsUnsignedIn 1 MAX_DRIVEN count
     × (words ≡ program ∷ codes "drive" ∷ file ∷ codes "--seed" ∷ seed ∷ codes "--count" ∷ count ∷ [])
 
+abbrev pub AskToAudit : List Text → Type 0
+AskToAudit words = AskWithFile (codes "audit") words
+
+-- the words are `statement FILE ACCOUNT`, with a file that doesn't begin with a dash, and the number of an account
+abbrev pub AskForStatement : List Text → Type 0
+AskForStatement words = (program : Text) × (file : Text) × (account : Text) × (begins_with_dash file ≡ false)
+    × IsUnsignedIn 1 MAX_ACCOUNT account
+    × (words ≡ program ∷ codes "statement" ∷ file ∷ account ∷ [])
+
+-- the words are `serve FILE ADDR --connections N`, with a file and an address that don't begin with a dash, and a
+-- number in its range
+abbrev pub AskToServe : List Text → Type 0
+AskToServe words = (program : Text) × (file : Text) × (address : Text) × (connections : Text)
+    × (begins_with_dash file ≡ false) × (begins_with_dash address ≡ false)
+    × IsUnsignedIn 1 MAX_CONNECTIONS connections
+    × (words ≡ program ∷ codes "serve" ∷ file ∷ address ∷ codes "--connections" ∷ connections ∷ [])
+
 -- the words spell a command: its name, its files, of which none begins with a dash, and its numbers
 abbrev pub IsSpelled : List Text → Type 0
-IsSpelled words = AskToInit words ⊎ AskToLoad words ⊎ AskToPost words ⊎ AskToDrive words
+IsSpelled words = AskToInit words ⊎ AskToLoad words ⊎ AskToPost words ⊎ AskToDrive words ⊎ AskToAudit words
+    ⊎ AskForStatement words ⊎ AskToServe words
 
 -- the words after the program's name are the command's own
 abbrev pub IsSpelledBy : List Text → Command → Type 0
@@ -88,18 +132,33 @@ IsSpelledBy words (Post file) = drop 1 words ≡ codes "post" ∷ file.now ∷ [
 IsSpelledBy words (Drive file seed count) = (s : Text) × (n : Text)
     × (drop 1 words ≡ codes "drive" ∷ file.now ∷ codes "--seed" ∷ s ∷ codes "--count" ∷ n ∷ [])
     × (seed ≡ number_of s) × (count ≡ number_of n)
+IsSpelledBy words (Audit file) = drop 1 words ≡ codes "audit" ∷ file.now ∷ []
+IsSpelledBy words (Statement file account) = (n : Text)
+    × (drop 1 words ≡ codes "statement" ∷ file.now ∷ n ∷ []) × (account ≡ number_of n)
+IsSpelledBy words (Serve file address connections) = (n : Text)
+    × (drop 1 words ≡ codes "serve" ∷ file.now ∷ address.now ∷ codes "--connections" ∷ n ∷ [])
+    × (connections ≡ number_of n)
 
 -- memory ran out
 abbrev pub IsWantOfMemory : Error → Type 0
 IsWantOfMemory error = kind_of error ≡ kind.OutOfMemory
 
+-- ---- words that ask for help
+
+-- the words are `bank COMMAND --help`
+abbrev pub AsksForHelpOn : Text → List Text → Type 0
+AsksForHelpOn name words = (program : Text) × (words ≡ program ∷ name ∷ codes "--help" ∷ [])
+
 -- the words ask for help: `bank --help ..`, or `bank COMMAND --help`
 abbrev pub AsksForHelp : List Text → Type 0
 AsksForHelp words = ((program : Text) × (rest : List Text) × (words ≡ program ∷ codes "--help" ∷ rest))
-    ⊎ ((program : Text) × (words ≡ program ∷ codes "init" ∷ codes "--help" ∷ []))
-    ⊎ ((program : Text) × (words ≡ program ∷ codes "load" ∷ codes "--help" ∷ []))
-    ⊎ ((program : Text) × (words ≡ program ∷ codes "post" ∷ codes "--help" ∷ []))
-    ⊎ ((program : Text) × (words ≡ program ∷ codes "drive" ∷ codes "--help" ∷ []))
+    ⊎ AsksForHelpOn (codes "init") words
+    ⊎ AsksForHelpOn (codes "load") words
+    ⊎ AsksForHelpOn (codes "post") words
+    ⊎ AsksForHelpOn (codes "drive") words
+    ⊎ AsksForHelpOn (codes "audit") words
+    ⊎ AsksForHelpOn (codes "statement") words
+    ⊎ AsksForHelpOn (codes "serve") words
 
 -- the error is the help, or memory ran out
 abbrev pub IsHelp : Error → Type 0

@@ -2,7 +2,9 @@
 #![tactic(auto)]
 
 mod command_line;
+mod limits;
 mod reading;
 mod texts;
 
+pub use limits::MAX_CONNECTIONS;
 pub use reading::{Command, read_words};

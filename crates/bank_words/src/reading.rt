@@ -9,6 +9,7 @@ ghost use Rattle.bank_words.specs.Words.{IsReadFrom, IsSpelled, IsSpelledBy, IsW
 use crate::command_line::bank_command;
 use clap::ArgMatches;
 use clap::error::ErrorKind;
+use message_records::Account;
 use std::alloc::Global;
 use std::convert::AsStr;
 
@@ -33,6 +34,21 @@ pub enum Command<'a> {
         file: &'a str,
         seed: u64,
         count: u64,
+    },
+    /// Audit the file's bank.
+    Audit {
+        file: &'a str,
+    },
+    /// Write the statement of an account of the file's bank.
+    Statement {
+        file: &'a str,
+        account: Account,
+    },
+    /// Serve the file's bank over HTTP at this address, to so many connections, one after another.
+    Serve {
+        file: &'a str,
+        address: &'a str,
+        connections: u64,
     },
 }
 
@@ -86,6 +102,21 @@ fn command_of<'a>(name: &str, values: &ArgMatches<'a>) -> Command<'a>
             let seed = values.get_one::<u64>("seed").unwrap();
             let count = values.get_one::<u64>("count").unwrap();
             Command::Drive { file, seed, count }
+        }
+        "audit" => Command::Audit { file },
+        "statement" => {
+            let number = values.get_one::<u64>("account").unwrap();
+            let account = Account::new(number).unwrap();
+            Command::Statement { file, account }
+        }
+        "serve" => {
+            let address = values.get_str("address").unwrap();
+            let connections = values.get_one::<u64>("connections").unwrap();
+            Command::Serve {
+                file,
+                address,
+                connections,
+            }
         }
         _ => unreachable!(),
     }

@@ -1,14 +1,18 @@
-use Rattle.std.proofs.Common.{rules, ap, map, ◌∙◌}
+use Rattle.std.proofs.Common.{ap, map, ◌∙◌}
 use Rattle.std.proofs.lemmas.Result.{IfErr-weaker}
 use Rattle.clap.specs.Words.{App, app_of, takes}
-use Rattle.bank_words.proofs.Complete.{matches_complete}
+use Rattle.bank_words.proofs.Complete.{matches_complete, matches_fail, matches_told}
 use Rattle.bank_words.proofs.reading.matches_of.Goals as goal
 
 pub returns-clause-matches : goal.returns-clause-matches
-returns-clause-matches g c = search rules
+returns-clause-matches g c =
+    matches_told c.try_get_matches_from.result (app_of c.in_ok-bank_command.field-0)
+    (map g.S.AsStr.text c.args.words.now) c.in_ok-bank_command.ensures c.try_get_matches_from.ensures.matches
 
 pub returns-clause-fault : goal.returns-clause-fault
-returns-clause-fault g c = search rules
+returns-clause-fault g c =
+    matches_fail c.try_get_matches_from.result (app_of c.in_ok-bank_command.field-0)
+    (map g.S.AsStr.text c.args.words.now) c.in_ok-bank_command.ensures c.try_get_matches_from.ensures.kinds
 
 pub returns-clause-complete : goal.returns-clause-complete
 returns-clause-complete g c =
