@@ -1,11 +1,11 @@
 -- Two audits and a statement, worked out to the byte.
 use Rattle.std.specs.Prelude.{◌≡◌, ◌++◌, ℕ, ℤ, pos, negsuc, [], ◌∷◌, refl, codes}
 use Rattle.std.specs.Fmt.{digits}
-use Rattle.bank_reports.specs.declared.rows.StoredPosting.{StoredPosting}
-use Rattle.bank_reports.specs.declared.rows.StoredRequest.{StoredRequest}
-use Rattle.bank_reports.specs.declared.rows.StoredTeller.{StoredTeller}
-use Rattle.bank_reports.specs.declared.rows.StoredAccount.{StoredAccount}
-use Rattle.bank_reports.specs.declared.rows.StoredBranch.{StoredBranch}
+use Rattle.bank_walks.specs.declared.postings.StoredPosting.{StoredPosting}
+use Rattle.bank_walks.specs.declared.requests.StoredRequest.{StoredRequest}
+use Rattle.bank_walks.specs.declared.tellers.StoredTeller.{StoredTeller}
+use Rattle.bank_walks.specs.declared.accounts.StoredAccount.{StoredAccount}
+use Rattle.bank_walks.specs.declared.branches.StoredBranch.{StoredBranch}
 use Rattle.bank_reports.specs.declared.audit.Audit.{Audit}
 use Rattle.bank_reports.specs.Stored.{StoredTables}
 use Rattle.bank_reports.specs.Audit.{audit_of}

@@ -4,8 +4,8 @@ use Rattle.std.specs.Prelude.{ℤ, Option}
 use Rattle.std.proofs.lemmas.Bool.{cases_Bool}
 use Rattle.std.proofs.lemmas.List.{length-append, length-map}
 use Rattle.posting_rules.specs.Laws.{total}
-use Rattle.bank_reports.specs.declared.rows.StoredPosting.{StoredPosting}
-use Rattle.bank_reports.specs.declared.rows.StoredRequest.{StoredRequest}
+use Rattle.bank_walks.specs.declared.postings.StoredPosting.{StoredPosting}
+use Rattle.bank_walks.specs.declared.requests.StoredRequest.{StoredRequest}
 use Rattle.bank_reports.specs.declared.audit.Audit.{Audit}
 use Rattle.bank_reports.specs.Audit.{audit_of, delta_of, is_odd_request, is_odd_posting, request_ordinal, posting_ordinal, request_under, posting_under, unmatched}
 use Rattle.bank_reports.specs.Beside.{RowsTellOfTables, audit_of_rows, delta_in, is_alone, is_odd, rows_of}

@@ -5,8 +5,8 @@ use Rattle.std.specs.Prelude.{Option, is_some}
 use Rattle.std.specs.Ordering.{int_eq}
 use Rattle.std.specs.Int.{w128}
 use mir.Val.{bool_byte}
-use Rattle.bank_reports.specs.declared.rows.StoredPosting.{StoredPosting}
-use Rattle.bank_reports.specs.declared.rows.StoredRequest.{StoredRequest}
+use Rattle.bank_walks.specs.declared.postings.StoredPosting.{StoredPosting}
+use Rattle.bank_walks.specs.declared.requests.StoredRequest.{StoredRequest}
 use Rattle.bank_reports.specs.Beside.{is_alone}
 use Rattle.bank_reports.proofs.Lists.{same_int, int_same}
 use Rattle.std.proofs.Math.IntN.{+ℤ_assoc}
@@ -19,8 +19,8 @@ use Rattle.bank_reports.specs.Sums.{AreSmall}
 use Rattle.std.proofs.lemmas.List.Elements.{filter-append}
 use Rattle.posting_rules.specs.Commands.{branch_of_teller}
 use Rattle.posting_rules.specs.Laws.{total}
-use Rattle.bank_reports.specs.declared.rows.StoredBranch.{StoredBranch}
-use Rattle.bank_reports.specs.declared.rows.StoredTeller.{StoredTeller}
+use Rattle.bank_walks.specs.declared.branches.StoredBranch.{StoredBranch}
+use Rattle.bank_walks.specs.declared.tellers.StoredTeller.{StoredTeller}
 use Rattle.bank_reports.specs.declared.sum.Sum.{Sum}
 use Rattle.bank_reports.specs.declared.audit.BranchLine.{BranchLine}
 use Rattle.bank_reports.specs.Audit.{teller_sum, teller_balance, lines_of, line_of, differs}

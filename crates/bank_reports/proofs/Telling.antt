@@ -3,9 +3,9 @@ use Rattle.std.proofs.Common.{◌≡◌, ℕ, true, false, not, List, [], ◌∷
 use Rattle.std.specs.Prelude.{is_some, nat_eq}
 use Rattle.std.specs.Ordering.{int_eq}
 use Rattle.std.specs.List.{AllByRecursion}
-use Rattle.bank_reports.specs.declared.rows.StoredBranch.{StoredBranch}
-use Rattle.bank_reports.specs.declared.rows.StoredPosting.{StoredPosting}
-use Rattle.bank_reports.specs.declared.rows.StoredRequest.{StoredRequest}
+use Rattle.bank_walks.specs.declared.branches.StoredBranch.{StoredBranch}
+use Rattle.bank_walks.specs.declared.postings.StoredPosting.{StoredPosting}
+use Rattle.bank_walks.specs.declared.requests.StoredRequest.{StoredRequest}
 use Rattle.bank_reports.specs.declared.audit.Audit.{Audit}
 use Rattle.bank_reports.specs.Stored.{StoredTables}
 use Rattle.bank_reports.specs.Audit.{is_matched, request_under, posting_under, is_odd_request, is_odd_posting, unmatched, lines_of, line_of, differs, teller_sum, request_ordinal, posting_ordinal, is_sound, audit_of}

@@ -2,10 +2,10 @@
 use Rattle.std.specs.Prelude.{◌≡◌, ℕ, ℤ, pos, ◌+◌, ◌-◌, ◌≤◌, List, length, map, filter, take, Option, slice_index_or}
 use Rattle.posting_rules.specs.declared.limits.TheConstants.{LAST_BRANCH}
 use Rattle.posting_rules.specs.Laws.{total}
-use Rattle.bank_reports.specs.declared.rows.StoredBranch.{StoredBranch}
-use Rattle.bank_reports.specs.declared.rows.StoredTeller.{StoredTeller}
-use Rattle.bank_reports.specs.declared.rows.StoredPosting.{StoredPosting}
-use Rattle.bank_reports.specs.declared.rows.StoredRequest.{StoredRequest}
+use Rattle.bank_walks.specs.declared.branches.StoredBranch.{StoredBranch}
+use Rattle.bank_walks.specs.declared.tellers.StoredTeller.{StoredTeller}
+use Rattle.bank_walks.specs.declared.postings.StoredPosting.{StoredPosting}
+use Rattle.bank_walks.specs.declared.requests.StoredRequest.{StoredRequest}
 use Rattle.bank_reports.specs.declared.sum.Sum.{Sum}
 use Rattle.bank_reports.specs.declared.tellers.TellerSums.{TellerSums}
 use Rattle.bank_reports.specs.declared.branches.BranchSums.{BranchSums}

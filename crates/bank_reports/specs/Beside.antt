@@ -1,11 +1,11 @@
 -- The rows that an audit is given, each request and each posting with what stands beside it, and the audit of these.
 use Rattle.std.specs.Prelude.{◌≡◌, ℤ, ◌+◌, Bool, not, List, [], length, map, filter, Option, Some, is_some}
 use Rattle.posting_rules.specs.Laws.{total}
-use Rattle.bank_reports.specs.declared.rows.StoredBranch.{StoredBranch}
-use Rattle.bank_reports.specs.declared.rows.StoredTeller.{StoredTeller}
-use Rattle.bank_reports.specs.declared.rows.StoredAccount.{StoredAccount}
-use Rattle.bank_reports.specs.declared.rows.StoredPosting.{StoredPosting}
-use Rattle.bank_reports.specs.declared.rows.StoredRequest.{StoredRequest}
+use Rattle.bank_walks.specs.declared.branches.StoredBranch.{StoredBranch}
+use Rattle.bank_walks.specs.declared.tellers.StoredTeller.{StoredTeller}
+use Rattle.bank_walks.specs.declared.accounts.StoredAccount.{StoredAccount}
+use Rattle.bank_walks.specs.declared.postings.StoredPosting.{StoredPosting}
+use Rattle.bank_walks.specs.declared.requests.StoredRequest.{StoredRequest}
 use Rattle.bank_reports.specs.declared.audit.Audit.{Audit}
 use Rattle.bank_reports.specs.Stored.{StoredTables}
 use Rattle.bank_reports.specs.Audit.{audit_of, is_matched, lines_of, request_under, posting_under, branch_balance, teller_balance, account_balance}

@@ -1,7 +1,7 @@
 -- The text of a statement of an account, over its postings by ordinal.
 use Rattle.std.specs.Prelude.{ℕ, ℤ, pos, ◌+ℤ◌, List, [], ◌∷◌, ◌++◌, codes, decimal}
 use Rattle.std.specs.Fmt.{signed_decimal}
-use Rattle.bank_reports.specs.declared.rows.StoredPosting.{StoredPosting}
+use Rattle.bank_walks.specs.declared.postings.StoredPosting.{StoredPosting}
 use Rattle.bank_reports.specs.Lines.{line, filled_to, left_in, right_in, with_sign, text_of}
 
 -- the account in twelve digits

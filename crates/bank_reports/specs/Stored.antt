@@ -7,11 +7,11 @@ use Rattle.posting_rules.specs.declared.rows.AccountRow.{AccountRow}
 use Rattle.posting_rules.specs.declared.rows.HistoryRow.{HistoryRow}
 use Rattle.posting_rules.specs.declared.rows.RequestRow.{RequestRow}
 use Rattle.posting_rules.specs.Tables.{Tables}
-use Rattle.bank_reports.specs.declared.rows.StoredBranch.{StoredBranch}
-use Rattle.bank_reports.specs.declared.rows.StoredTeller.{StoredTeller}
-use Rattle.bank_reports.specs.declared.rows.StoredAccount.{StoredAccount}
-use Rattle.bank_reports.specs.declared.rows.StoredPosting.{StoredPosting}
-use Rattle.bank_reports.specs.declared.rows.StoredRequest.{StoredRequest}
+use Rattle.bank_walks.specs.declared.branches.StoredBranch.{StoredBranch}
+use Rattle.bank_walks.specs.declared.tellers.StoredTeller.{StoredTeller}
+use Rattle.bank_walks.specs.declared.accounts.StoredAccount.{StoredAccount}
+use Rattle.bank_walks.specs.declared.postings.StoredPosting.{StoredPosting}
+use Rattle.bank_walks.specs.declared.requests.StoredRequest.{StoredRequest}
 
 pub record StoredTables : Type 0 where
   pub branches : List StoredBranch

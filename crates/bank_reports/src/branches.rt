@@ -1,14 +1,14 @@
 //! The branches, and those that aren't the sums of their tellers.
 ghost use Rattle.std.specs.Prelude.{◌≡◌, ◌<◌, ◌≤◌, ◌++◌, ◌∷◌, [], IfOk, List, length, take};
 ghost use Rattle.bank_reports.specs.declared.limits.TheConstants.{BRANCHES};
-ghost use Rattle.bank_reports.specs.declared.rows.StoredBranch.{StoredBranch};
-ghost use Rattle.bank_reports.specs.declared.rows.StoredTeller.{StoredTeller};
+ghost use Rattle.bank_walks.specs.declared.branches.StoredBranch.{StoredBranch};
+ghost use Rattle.bank_walks.specs.declared.tellers.StoredTeller.{StoredTeller};
 
 use crate::audit::{BranchLine, BranchLines};
 use crate::limits::BRANCHES;
-use crate::rows::StoredBranch;
 use crate::sum::Sum;
 use crate::tellers::TellerSums;
+use bank_walks::StoredBranch;
 use posting_rules::LAST_BRANCH;
 use std::alloc::{AllocError, Global};
 

@@ -10,7 +10,6 @@ mod limits;
 mod lines;
 mod matching;
 mod ordinals;
-mod rows;
 mod statement_text;
 mod sum;
 mod tellers;
@@ -20,16 +19,15 @@ pub use adding::audit_of_sums;
 pub use audit::{Audit, BranchLine, BranchLines};
 pub use branches::BranchSums;
 pub use laws::{audit_tells_consistency, rows_tell_of_tables};
-pub use limits::{LAST_ACCOUNT, LAST_TELLER, MOST_ROWS};
+pub use limits::MOST_ROWS;
 pub use ordinals::OrdinalSums;
-pub use rows::{StoredAccount, StoredBranch, StoredPosting, StoredRequest, StoredTeller};
 pub use statement_text::{
     STATEMENT_LINE, StatementLine, statement_closing, statement_heading, statement_line,
     statement_names,
 };
 pub use sum::Sum;
 pub use tellers::TellerSums;
-pub use writing::{WriteFault, write_audit};
+pub use writing::{WriteFault, put, put_last, write_audit};
 
 #[cfg(test)]
 mod tests;

@@ -2,7 +2,7 @@
 ghost use Rattle.std.specs.Prelude.{◌≡◌, Some};
 ghost use Rattle.bank_reports.specs.Audit.{is_matched as matches};
 
-use crate::rows::{StoredPosting, StoredRequest};
+use bank_walks::{StoredPosting, StoredRequest};
 
 // The code of the outcome that is posted.
 const POSTED: i64 = 0;

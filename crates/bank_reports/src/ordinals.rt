@@ -1,13 +1,13 @@
 //! The ordinals that aren't matched.
 ghost use Rattle.std.specs.Prelude.{◌≡◌, ◌<◌, ◌≤◌, ◌+◌, ◌++◌, ◌∷◌, [], List, Option, length};
 ghost use Rattle.bank_reports.specs.declared.limits.TheConstants.{MOST_ROWS};
-ghost use Rattle.bank_reports.specs.declared.rows.StoredPosting.{StoredPosting};
-ghost use Rattle.bank_reports.specs.declared.rows.StoredRequest.{StoredRequest};
+ghost use Rattle.bank_walks.specs.declared.postings.StoredPosting.{StoredPosting};
+ghost use Rattle.bank_walks.specs.declared.requests.StoredRequest.{StoredRequest};
 
 use crate::limits::MOST_ROWS;
 use crate::matching::is_matched;
-use crate::rows::{StoredPosting, StoredRequest};
 use crate::sum::Sum;
+use bank_walks::{StoredPosting, StoredRequest};
 
 /// How many requests and postings there are, what the postings add up to, and how many ordinals aren't matched.
 #[derive(Clone, Copy, Debug, PartialEq, Eq)]

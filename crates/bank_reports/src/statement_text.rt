@@ -3,8 +3,8 @@ ghost use Rattle.std.specs.Prelude.{◌≡◌, ◌≤◌, ◌+◌, ◌++◌, len
 ghost use Rattle.bank_reports.specs.StatementText.{heading_line, names_line, posting_line, closing_line};
 
 use crate::lines::{push_delta, push_filled, push_number};
-use crate::rows::StoredPosting;
 use arrayvec::ArrayString;
+use bank_walks::StoredPosting;
 use itoa::Buffer;
 use message_records::{Account, Cents};
 

@@ -2,12 +2,12 @@
 ghost use Rattle.std.specs.Prelude.{◌≡◌, ◌<◌, ◌≤◌, ◌++◌, ◌∷◌, [], IfOk, List, length};
 ghost use Rattle.bank_reports.specs.Audit.{teller_sum};
 ghost use Rattle.bank_reports.specs.declared.limits.TheConstants.{BRANCHES};
-ghost use Rattle.bank_reports.specs.declared.rows.StoredTeller.{StoredTeller};
+ghost use Rattle.bank_walks.specs.declared.tellers.StoredTeller.{StoredTeller};
 ghost use Rattle.bank_reports.specs.Sums.{AreSmall};
 
 use crate::limits::{BRANCHES, MOST_ROWS};
-use crate::rows::StoredTeller;
 use crate::sum::Sum;
+use bank_walks::StoredTeller;
 use message_records::Whole;
 use posting_rules::{LAST_BRANCH, TELLERS_PER_BRANCH};
 use std::alloc::{AllocError, Global};

@@ -1,8 +1,9 @@
 //! An audit that finds damage and a statement to the byte, and a writer that fails at each byte.
 use crate::{
-    Audit, BranchLine, BranchLines, StoredPosting, WriteFault, statement_closing,
-    statement_heading, statement_line, statement_names, write_audit,
+    Audit, BranchLine, BranchLines, WriteFault, statement_closing, statement_heading,
+    statement_line, statement_names, write_audit,
 };
+use bank_walks::StoredPosting;
 use message_records::{Account, Cents, Moment};
 use posting_rules::Ordinal;
 use std::alloc::{Alloc, Global};

@@ -34,8 +34,8 @@ impl From<WriteFailed> for WriteFault {
     }
 }
 
-// Writes a text.
-fn put<W: Sink>(writer: &mut W, text: &str) -> Result<(), WriteFault>
+/// Writes a text.
+pub fn put<W: Sink>(writer: &mut W, text: &str) -> Result<(), WriteFault>
     ensures ok { OnOk result (Appends (W.contents writer.old) (W.contents writer.new) text.now) }
     ensures err { OnErr result (AppendsPart (W.contents writer.old) (W.contents writer.new) text.now) }
     ensures more { OnOk result (HasMore (W.told writer.old) (W.told writer.new)) }
@@ -47,8 +47,8 @@ fn put<W: Sink>(writer: &mut W, text: &str) -> Result<(), WriteFault>
     }
 }
 
-// Writes a text, and sends on all that was written.
-fn put_last<W: Sink>(writer: &mut W, text: &str) -> Result<(), WriteFault>
+/// Writes a text, and sends on all that was written.
+pub fn put_last<W: Sink>(writer: &mut W, text: &str) -> Result<(), WriteFault>
     ensures ok { OnOk result (Appends (W.contents writer.old) (W.contents writer.new) text.now) }
     ensures err { OnErr result (AppendsPart (W.contents writer.old) (W.contents writer.new) text.now) }
     ensures flushed { OnOk result (EndsWith IsFlush (W.told writer.old) (W.told writer.new)) }

@@ -1,0 +1,10 @@
+-- What the proofs of reports share.
+pub mod RisingRows
+pub mod LogHistory
+pub mod Lined
+pub mod Further
+pub mod OnLogs
+pub mod Kept
+pub mod Sections
+pub mod Told
+pub mod Standing

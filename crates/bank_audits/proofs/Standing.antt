@@ -1,0 +1,80 @@
+-- What a report leaves of a bank that stands at a log.
+use Rattle.std.proofs.Common.{◌≡◌, ℕ, zero, suc, List, [], take, Ok, Err, Result, refl, sym, subst, inl, inr, arith}
+use Rattle.std.specs.Prelude.{OnErr, OnOk}
+use Rattle.sqlite.specs.Effect.{Database}
+use Rattle.sqlite.specs.State.{State, HasCleanDisk, Survives}
+use Rattle.posting_rules.specs.declared.fault.Fault.{Fault}
+use Rattle.posting_rules.specs.declared.fault.Fault.TheVariants.{Memory, Store, Down, Damaged}
+use Rattle.posting_rules.specs.Commands.{Command}
+use Rattle.posting_rules.specs.Counter.{Seen, ShowsLog, StandsAt, Takes, Refuses, LeavesNoMore, LeavesOnly}
+use Rattle.posting_rules.specs.Runs.{behind}
+use Rattle.posting_rules.specs.Tables.{Shows}
+use Rattle.store_rows.specs.View.{Shows as ShowsIn}
+use Rattle.bank_store.specs.Seen.{seen_in}
+use Rattle.bank_store.specs.Walks.{IsStill}
+use Rattle.bank_audits.specs.declared.fault.ReportFault.{ReportFault}
+use Rattle.bank_audits.specs.declared.fault.ReportFault.TheVariants.{NoAccount, Write, Bank}
+use Rattle.bank_audits.specs.Postings.{HasAnswered, HasWritten}
+
+pub of_ok : {E P : Type 0} (r : Result (Unit {0}) E) → (r ≡ Ok tt → P) → OnOk r P
+of_ok (Ok x) f = f refl
+of_ok (Err e) f = tt
+
+pub of_err : {E P : Type 0} (r : Result (Unit {0}) E) → ((e : E) → r ≡ Err e → P) → OnErr r P
+of_err (Ok x) f = tt
+of_err (Err e) f = f e refl
+
+-- what was answered for an open account
+pub written_of : (r : Result (Unit {0}) ReportFault) → (r ≡ Err NoAccount → ⊥) → HasAnswered r → HasWritten r
+written_of (Ok done) found answered = tt
+written_of (Err NoAccount) found answered = absurd (found refl)
+written_of (Err Write) found answered = tt
+written_of (Err (Bank fault)) found answered = absurd answered
+
+leaves_same : (old new : Seen) (log : List Command) → LeavesNoMore old new → LeavesOnly old (λ t. Shows t log) → LeavesOnly new (λ t. Shows t log)
+leaves_same old new log no_more only remains left =
+    let before = no_more remains left in
+    let it = only before.0 before.1 in
+    (it.0, before.2 it.0 it.1, it.2)
+
+none_taken : (n : ℕ) → take n (let none : List Command = [] in none) ≡ []
+none_taken zero = refl
+none_taken (suc n) = refl
+
+-- a call of no commands that was refused leaves what shows the log
+pub refused_leaves : (fault : Fault) (old new : Seen) → Refuses fault old new [] → new.honest → (log : List Command) → StandsAt old log
+    → LeavesOnly new (λ t. Shows t log)
+refused_leaves Memory old new refused honest log at = leaves_same old new log refused.left at.stop
+refused_leaves Store old new refused honest log at = λ remains left.
+    let it = refused.stop honest log at remains left in
+    (it.0, it.1, subst (λ cs. Shows it.0 (behind log cs)) (none_taken it.2.count) it.2.shows)
+refused_leaves Down old new refused honest log at = leaves_same old new log refused.left at.stop
+refused_leaves (Damaged rule) old new refused honest log at = absurd (refused.never_shown honest log at.shows)
+
+-- where the connection sees what it saw, all stands as it stood
+pub takes_then : (old mid new : State) (D E F : Type 0) → Takes (seen_in old D) (seen_in mid E) [] → (HasCleanDisk new → IsStill mid new)
+    → Survives mid new (λ _. ⊥) → (F → E) → Takes (seen_in old D) (seen_in new F) []
+takes_then old mid new D E F takes still quiet up = record {
+  shows = λ clean log s. shown clean log (takes.shows (before clean) log s);
+  stands = λ clean log at.
+      let mine = takes.stands (before clean) log at in
+      record {
+        shows = shown clean log mine.shows;
+        up = λ down. mine.up (up down);
+        stop = λ trees may. elim (quiet.crash clean trees may) [
+          | inl earlier ↦ mine.stop trees earlier
+          | inr none ↦ absurd none
+        ];
+      };
+}
+  where
+    before : HasCleanDisk new → HasCleanDisk mid
+    before clean = omega (arith, quiet.clean)
+
+    shown : HasCleanDisk new → (log : List Command) → ShowsLog (seen_in mid E) log → ShowsLog (seen_in new F) log
+    shown clean log s = record {
+      commands = s.commands;
+      tables = s.tables;
+      are = subst (λ (db : Database). ShowsIn db s.tables) (sym (still clean).0) s.are;
+      shows = s.shows;
+    }

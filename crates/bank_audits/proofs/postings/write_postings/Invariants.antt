@@ -1,0 +1,28 @@
+-- The lines of the postings that the walk gave were written.
+use Rattle.std.proofs.Common.{◌≡◌, List, Some, filter}
+use Rattle.sqlite.specs.State.{HasCleanDisk, Survives}
+use Rattle.sqlite.specs.Held.{state}
+use Rattle.posting_core.specs.Told.{HasMore}
+use Rattle.sql_meanings.specs.Entries.{Entry}
+use Rattle.store_rows.specs.SixTables.{history as history_table}
+use Rattle.bank_walks.specs.Rows.{HasRows}
+use Rattle.bank_walks.specs.Stored.{is_of, posting_entry}
+use Rattle.bank_store.specs.Walks.{IsStill}
+use Rattle.bank_store.specs.Walking.{to_come}
+use Rattle.bank_audits.proofs.Further.{IsFar}
+use Rattle.bank_audits.proofs.postings.write_postings.Given as goal
+
+abbrev pub invariant-lines : goal.invariant-lines
+invariant-lines g l =
+    let old = state g.S.Store l.fn.bank.conn in
+    let now = state g.S.Store l.walk.bank.now.conn in
+    record {
+      reference : l.walk.bank.ghost_name ≡ l.initial.walk.bank.ghost_name;
+      survives : Survives old now (λ _. ⊥);
+      up : l.walk.bank.now.fault ≡ l.fn.bank.fault;
+      still : HasCleanDisk now → IsStill old now;
+      more : HasMore (g.W.Sink.told l.fn.writer) (g.W.Sink.told l.writer);
+      far : HasCleanDisk now → (rows : List Entry) → HasRows old.now history_table rows
+          → IsFar (filter (is_of (Some l.fn.account)) rows) (to_come posting_entry is_of rows l.walk)
+          (g.W.Sink.contents l.fn.writer) (g.W.Sink.contents l.writer) l.balance l.counter;
+    }

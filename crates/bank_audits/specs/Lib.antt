@@ -1,0 +1,4 @@
+-- What reports of a bank in a file write.
+pub mod Faults
+pub mod Postings
+pub mod Behind

@@ -1,0 +1,39 @@
+//! The line of one posting.
+ghost use Rattle.std.specs.Prelude.{◌≡◌, ◌<◌, ◌+ℤ◌, nat_abs, Err, IfNone, IfSome, OnOk};
+ghost use Rattle.message_records.specs.declared.limits.TheConstants.{MAX_BALANCE};
+ghost use Rattle.posting_core.specs.Told.{HasMore, HasWriteFailed};
+ghost use Rattle.bank_audits.specs.declared.fault.ReportFault.TheVariants.{Write};
+ghost use Rattle.bank_audits.specs.Postings.{WritesLine};
+
+use crate::fault::ReportFault;
+use bank_reports::{put, statement_line};
+use bank_walks::StoredPosting;
+use message_records::Cents;
+use posting_core::Sink;
+use posting_rules::{Fault, Rule};
+
+// The balance behind one more posting, none where it is out of its limits.
+fn with_delta(before: Cents, delta: i64) -> Option<Cents>
+    ensures within { IfSome result (λ after. after ≡ before +ℤ delta) }
+    ensures beyond { IfNone result (MAX_BALANCE < nat_abs (before +ℤ delta)) }
+{
+    let after = before.get().checked_add(delta)?;
+    Cents::new(after)
+}
+
+/// Writes the line of a posting, and gives the running balance behind it.
+pub(crate) fn write_line<W: Sink>(
+    row: &StoredPosting,
+    before: Cents,
+    writer: &mut W,
+) -> Result<Cents, ReportFault>
+    ensures written { WritesLine row.now before (W.contents writer.old) (W.contents writer.new) result }
+    ensures more { OnOk result (HasMore (W.told writer.old) (W.told writer.new)) }
+    ensures failed { result ≡ Err Write → HasWriteFailed (W.told writer.old) (W.told writer.new) }
+{
+    let Some(after) = with_delta(before, row.delta) else {
+        return Err(ReportFault::Bank(Fault::Damaged(Rule::Balance)));
+    };
+    put(writer, statement_line(row, after).as_str())?;
+    Ok(after)
+}

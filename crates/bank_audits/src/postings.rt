@@ -1,0 +1,60 @@
+//! The lines of an account's postings.
+ghost use Rattle.std.specs.Prelude.{◌≡◌, ◌≢◌, List, Err, OnOk, Some, filter};
+ghost use Rattle.sqlite.specs.State.{HasCleanDisk, Survives};
+ghost use Rattle.sqlite.specs.Held.{state};
+ghost use Rattle.posting_core.specs.Told.{HasMore, HasWriteFailed};
+ghost use Rattle.sql_meanings.specs.Entries.{Entry};
+ghost use Rattle.store_rows.specs.SixTables.{history as history_table};
+ghost use Rattle.bank_walks.specs.Rows.{HasRows};
+ghost use Rattle.bank_walks.specs.Stored.{is_of};
+ghost use Rattle.bank_store.specs.Seen.{bank_seen, connection_of, database_of};
+ghost use Rattle.bank_store.specs.Walks.{IsStill, IsUndone};
+ghost use Rattle.bank_audits.specs.declared.fault.ReportFault.TheVariants.{NoAccount, Write};
+ghost use Rattle.bank_audits.specs.Postings.{HasWritten, WritesPostings};
+
+use crate::fault::ReportFault;
+use crate::lines::write_line;
+use bank_store::{Bank, history_of};
+use message_records::{Account, Cents};
+use posting_core::Sink;
+use posting_rules::{Fault, Rule};
+use sqlite::Alter;
+
+// An account opens at zero.
+fn nothing() -> Cents
+    ensures { result ≡ pos 0 }
+{
+    Cents::new(0).unwrap()
+}
+
+ghost use Rattle.std.specs.Prelude.{pos};
+
+/// Writes the lines of an account's postings, by their ordinals. A fault of the rows leaves the bank as it was.
+pub(crate) fn write_postings<S: Alter, W: Sink>(
+    bank: &mut Bank<S>,
+    account: Account,
+    writer: &mut W,
+) -> Result<(), ReportFault>
+    ensures told { HasCleanDisk (state S.Store (connection_of bank.new)) → (rows : List Entry)
+        → HasRows (database_of S.Store bank.old) history_table rows
+        → WritesPostings (filter (is_of (Some account)) rows) (W.contents writer.old) (W.contents writer.new) result }
+    ensures found { result ≢ Err NoAccount }
+    ensures more { OnOk result (HasMore (W.told writer.old) (W.told writer.new)) }
+    ensures failed { result ≡ Err Write → HasWriteFailed (W.told writer.old) (W.told writer.new) }
+    ensures still { HasCleanDisk (state S.Store (connection_of bank.new)) → HasWritten result
+        → IsStill (state S.Store (connection_of bank.old)) (state S.Store (connection_of bank.new)) }
+    ensures undone { HasCleanDisk (state S.Store (connection_of bank.new))
+        → IsUndone (state S.Store (connection_of bank.old)) (state S.Store (connection_of bank.new)) }
+    ensures up { (bank_seen S.Store bank.new).is_down → (bank_seen S.Store bank.old).is_down }
+    ensures survives { Survives (state S.Store (connection_of bank.old)) (state S.Store (connection_of bank.new)) (λ _. ⊥) }
+{
+    let mut walk = history_of(bank, account)?;
+    let mut balance = nothing();
+    'lines: for _ in 0..u64::MAX {
+        let Some(row) = walk.next()? else {
+            return Ok(());
+        };
+        balance = write_line(&row, balance, writer)?;
+    }
+    Err(ReportFault::Bank(Fault::Damaged(Rule::Value)))
+}

@@ -1,0 +1,103 @@
+//! The statement of an account.
+ghost use Rattle.std.specs.Prelude.{◌≡◌, ◌≢◌, [], List, Err, None, OnErr, OnOk, Some, IsSome, IsTrue, filter};
+ghost use Rattle.std.specs.Io.KnownBytes.{Appends};
+ghost use Rattle.sqlite.specs.State.{HasCleanDisk, Survives};
+ghost use Rattle.sqlite.specs.Held.{state};
+ghost use Rattle.posting_rules.specs.declared.fault.Fault.TheVariants.{Damaged, Down, Memory};
+ghost use Rattle.posting_rules.specs.declared.fault.Rule.{Rule as Broken};
+ghost use Rattle.posting_rules.specs.Commands.{Command as Given};
+ghost use Rattle.posting_rules.specs.Counter.{LeavesOnly, ShowsLog, StandsAt, Takes};
+ghost use Rattle.posting_rules.specs.Entries.{balance_behind};
+ghost use Rattle.posting_rules.specs.Tables.{Shows};
+ghost use Rattle.posting_core.specs.Told.{EndsWith, HasWriteFailed, IsFlush};
+ghost use Rattle.sql_meanings.specs.Entries.{Entry};
+ghost use Rattle.store_rows.specs.SixTables.{history as history_table};
+ghost use Rattle.bank_walks.specs.Rows.{HasRows};
+ghost use Rattle.bank_walks.specs.Stored.{is_of};
+ghost use Rattle.bank_reports.specs.Written.{AppendsPart};
+ghost use Rattle.bank_store.specs.Seen.{bank_seen, connection_of, database_of};
+ghost use Rattle.bank_store.specs.Walks.{IsStill, IsUndone};
+ghost use Rattle.bank_audits.specs.declared.fault.ReportFault.TheVariants.{Bank as OfBank, NoAccount, Write};
+ghost use Rattle.bank_audits.specs.Behind.{statement_behind};
+ghost use Rattle.bank_audits.specs.Postings.{HasAnswered, HasWritten, WritesStatement};
+
+use crate::fault::ReportFault;
+use crate::postings::write_postings;
+use bank_reports::{put, put_last, statement_closing, statement_heading, statement_names};
+use bank_store::Bank;
+use message_records::{Account, Cents};
+use posting_core::Sink;
+use posting_rules::Counter;
+use sqlite::Alter;
+
+// Writes the statement of an account that has this balance.
+fn write_lines<S: Alter, W: Sink>(
+    bank: &mut Bank<S>,
+    account: Account,
+    balance: Cents,
+    writer: &mut W,
+) -> Result<(), ReportFault>
+    ensures told { HasCleanDisk (state S.Store (connection_of bank.new)) → (rows : List Entry)
+        → HasRows (database_of S.Store bank.old) history_table rows
+        → WritesStatement account balance (filter (is_of (Some account)) rows) (W.contents writer.old) (W.contents writer.new) result }
+    ensures found { result ≢ Err NoAccount }
+    ensures flushed { OnOk result (EndsWith IsFlush (W.told writer.old) (W.told writer.new)) }
+    ensures failed { result ≡ Err Write → HasWriteFailed (W.told writer.old) (W.told writer.new) }
+    ensures still { HasCleanDisk (state S.Store (connection_of bank.new)) → HasWritten result
+        → IsStill (state S.Store (connection_of bank.old)) (state S.Store (connection_of bank.new)) }
+    ensures undone { HasCleanDisk (state S.Store (connection_of bank.new))
+        → IsUndone (state S.Store (connection_of bank.old)) (state S.Store (connection_of bank.new)) }
+    ensures up { (bank_seen S.Store bank.new).is_down → (bank_seen S.Store bank.old).is_down }
+    ensures survives { Survives (state S.Store (connection_of bank.old)) (state S.Store (connection_of bank.new)) (λ _. ⊥) }
+{
+    put(writer, statement_heading(account).as_str())?;
+    put(writer, statement_names().as_str())?;
+    write_postings(bank, account, writer)?;
+    put_last(writer, statement_closing(balance).as_str())?;
+    Ok(())
+}
+
+/// Writes the statement of an account: its postings by their ordinals, each with the running balance, and its balance at the
+/// end. At a fault a beginning of the text was written, and where the account isn't open nothing was. A balance of the
+/// account beyond its limits is a fault of the bank's `balance`, and brings it down; a running balance beyond them, and any
+/// other fault of the rows, leaves the bank as it was.
+pub fn write_statement<S: Alter + Drop, W: Sink>(
+    bank: &mut Bank<S>,
+    account: Account,
+    writer: &mut W,
+) -> Result<(), ReportFault>
+    ensures text { OnOk result ((bank_seen S.Store bank.new).honest → (log : List Given)
+        → ShowsLog (bank_seen S.Store bank.old) log
+        → Appends (W.contents writer.old) (W.contents writer.new) (statement_behind log account)) }
+    ensures found { OnOk result ((bank_seen S.Store bank.new).honest → (log : List Given)
+        → ShowsLog (bank_seen S.Store bank.old) log → IsSome (balance_behind log account)) }
+    ensures missing { result ≡ Err NoAccount → (bank_seen S.Store bank.new).honest → (log : List Given)
+        → ShowsLog (bank_seen S.Store bank.old) log → balance_behind log account ≡ None }
+    ensures silent { result ≡ Err NoAccount → writer.new ≡ writer.old }
+    ensures part { OnErr result ((bank_seen S.Store bank.new).honest → (log : List Given)
+        → ShowsLog (bank_seen S.Store bank.old) log
+        → AppendsPart (W.contents writer.old) (W.contents writer.new) (statement_behind log account)) }
+    ensures flushed { OnOk result (EndsWith IsFlush (W.told writer.old) (W.told writer.new)) }
+    // The last write or flush failed, or it was asked too often.
+    ensures failed { result ≡ Err Write → HasWriteFailed (W.told writer.old) (W.told writer.new) }
+    // A bank that shows a log is never told to be damaged.
+    ensures sound { (rule : Broken) → result ≡ Err (OfBank (Damaged rule)) → (bank_seen S.Store bank.new).honest
+        → (log : List Given) → ShowsLog (bank_seen S.Store bank.old) log → ⊥ }
+    ensures frugal { result ≡ Err (OfBank Memory) → (bank_seen S.Store bank.new).honest
+        → (log : List Given) → ShowsLog (bank_seen S.Store bank.old) log → ⊥ }
+    ensures down { (bank_seen S.Store bank.old).is_down → (result ≡ Err (OfBank Down)) × (writer.new ≡ writer.old) }
+    // Whatever it answers, a stop leaves what shows the log.
+    ensures left { (bank_seen S.Store bank.new).honest → (log : List Given) → StandsAt (bank_seen S.Store bank.old) log
+        → LeavesOnly (bank_seen S.Store bank.new) (λ t. Shows t log) }
+    ensures done { HasAnswered result → Takes (bank_seen S.Store bank.old) (bank_seen S.Store bank.new) [] }
+    // As long as the store is open, a bank that isn't down stands where it stood.
+    ensures stands { (bank_seen S.Store bank.new).honest → ((bank_seen S.Store bank.new).is_down → ⊥)
+        → IsTrue (state S.Store (connection_of bank.new)).is_open → (log : List Given)
+        → StandsAt (bank_seen S.Store bank.old) log → StandsAt (bank_seen S.Store bank.new) log }
+    ensures honest { (bank_seen S.Store bank.new).honest → (bank_seen S.Store bank.old).honest }
+{
+    let Some(balance) = bank.balance(account)? else {
+        return Err(ReportFault::NoAccount);
+    };
+    write_lines(bank, account, balance, writer)
+}
