@@ -21,6 +21,11 @@ pub enum PlanFault {
 }
 
 impl fmt::Display for PlanFault {
+    ghost use Rattle.std.specs.Prelude.{Some};
+    ghost use Rattle.branch_loader.specs.Faults.{plan_text};
+
+    ghost output = { λ fault. Some (plan_text fault) };
+
     fn fmt<W: fmt::Write>(&self, f: &mut fmt::Formatter<W>) -> fmt::Result {
         match self {
             PlanFault::Header => write!(f, "plan header"),

@@ -1,6 +1,7 @@
 -- What a connection did, said of what was read and written alone, and what a stop leaves of it.
 use Rattle.std.proofs.Common.{◌≡◌, ℕ, ◌≤◌, inl, inr, List, [], ◌∷◌, ◌++◌, length, take, drop, Option, Result, Ok, Err, refl, sym, ap, subst, ◌∙◌, append_assoc, append-nil, arith}
 use Rattle.std.specs.List.{AllByRecursion}
+use Rattle.std.specs.Prelude.{◌⊎◌, OnOk}
 use Rattle.std.specs.Io.KnownBytes.{Appends}
 use Rattle.std.proofs.lemmas.List.{length-append, map-append, take-append-drop}
 use Rattle.std.proofs.lemmas.List.Concat.{flat_map-append}
@@ -13,11 +14,12 @@ use Rattle.posting_core.specs.Stream.{acknowledged}
 use Rattle.posting_core.specs.Told.{ReadTold}
 use Rattle.counter_http.specs.declared.fault.ServeFault.{ServeFault}
 use Rattle.counter_http.specs.declared.fault.ServeFault.TheVariants.{Read, Write, Bank, Memory}
+use Rattle.counter_http.specs.Ends.{HasEnded}
 use Rattle.counter_http.specs.Messages.{Message, message_text, Ending, Walks}
 use Rattle.counter_http.specs.Answers.{asked_by, unavailable, final_answer}
 use Rattle.counter_http.specs.Turns.{Turn, message_in, text_in, commands_in, commands_of, messages_of, texts_of, answers_to}
-use Rattle.counter_http.specs.Serving.{GoesOn, IsWalked, IsBroken, IsAtMessage, At_message, At_last, At_refusal, Serves}
-use Rattle.counter_http.specs.Outputs.{texts_of_all, answers_behind, Answers, AnswersWhole, AnswersFirst, AnswersBroken, IsSettled, Outputs, Survives}
+use Rattle.counter_http.specs.Serving.{GoesOn, IsWritten, IsWalked, IsBroken, IsAtMessage, At_message, At_last, At_refusal, Serves}
+use Rattle.counter_http.specs.Outputs.{texts_of_all, answers_behind, Answers, AnswersWhole, AnswersFirst, AnswersBroken, IsTextFor, Writes, IsSettled, Outputs, Survives}
 use Rattle.counter_http.proofs.Momentless.{momentless}
 use Rattle.counter_http.proofs.OneWalk.{walk_unique, front_unique}
 
@@ -139,98 +141,73 @@ one_front_of log input text other a b =
     (front_unique a.messages b.messages a.rest b.rest a.stays b.stays a.no_more b.no_more
     (sym a.input_is ∙ b.input_is)) ∙ sym b.text_is
 
+-- the text that the result speaks of
+text_for : {C : Type 0} (seen : C → Seen) {r r' : Option (List ℕ)} {q q' : Option (List ReadTold)}
+    {w w' k k' : Option (List ℕ)} (old new : C) (result : Result ℕ ServeFault)
+    (s : Serves seen r r' q q' w w' k k' old new result) (log : List Command)
+    → IsTextFor result log (texts_of (s.taken ++ s.refused) ++ s.rest) (joined (answers_to log s.taken ++ s.last))
+text_for seen old new (Ok count) s log = walked_text log s.taken s.refused s.rest s.last s.exits.0
+text_for seen old new (Err Read) s log =
+    let is = s.exits.0 in
+    record {
+      messages = messages_of s.taken;
+      rest = s.rest;
+      input_is = input_alone s.taken s.refused s.rest is.none_refused
+          ∙ ap (λ (x : List ℕ). x ++ s.rest) (texts_are s.taken);
+      stays = stays_all s.taken is.stays;
+      no_more = is.no_more;
+      text_is = text_with log s.taken s.last [] is.nothing
+          ∙ ap joined (append-nil (answers_behind log (messages_of s.taken)));
+    }
+text_for seen old new (Err Write) s log =
+    elim (s.exits) [
+      | At_message is stays ↦ inr (inl (first_text log s.taken s.refused s.rest s.last is))
+      | At_last is stays ↦ inl (walked_text log s.taken s.refused s.rest s.last is)
+      | At_refusal is fault refuses ↦ inr (inr (broken_text log s.taken s.refused s.rest s.last is))
+    ]
+text_for seen old new (Err (Bank fault)) s log = broken_text log s.taken s.refused s.rest s.last s.exits.0
+text_for seen old new (Err Memory) s log =
+    let is = s.exits.0 in (
+      input_alone s.taken s.refused s.rest is.none_refused
+          ∙ ap (λ (x : List Turn). texts_of x ++ s.rest) is.none_taken ∙ is.no_rest,
+      ap (λ (x : List Turn). joined (answers_to log x ++ s.last)) is.none_taken ∙ ap joined is.nothing,
+    )
+
+-- what was written of it
+written_for : (result : Result ℕ ServeFault) (w w' : Option (List ℕ)) (written text : List ℕ)
+    → Appends w w' written → IsWritten result written text → Writes result w w' text
+written_for (Ok count) w w' written text wrote is = subst (λ (x : List ℕ). Appends w w' x) is wrote
+written_for (Err Read) w w' written text wrote is = subst (λ (x : List ℕ). Appends w w' x) is wrote
+written_for (Err Write) w w' written text wrote is =
+    (length written, subst (λ (x : List ℕ). Appends w w' x) is wrote)
+written_for (Err (Bank fault)) w w' written text wrote is = subst (λ (x : List ℕ). Appends w w' x) is wrote
+written_for (Err Memory) w w' written text wrote is = subst (λ (x : List ℕ). Appends w w' x) is wrote
+
+ended_for : {C : Type 0} (seen : C → Seen) {r r' : Option (List ℕ)} {q q' : Option (List ReadTold)}
+    {w w' k k' : Option (List ℕ)} (old new : C) (result : Result ℕ ServeFault)
+    (s : Serves seen r r' q q' w w' k k' old new result)
+    → OnOk result (HasEnded r' q q' ⊎ IsSettled (texts_of (s.taken ++ s.refused) ++ s.rest))
+ended_for seen old new (Ok count) s =
+    elim (s.exits.0.ended) [
+      | inl e ↦ inl e
+      | inr always ↦ inr (settled s.taken s.refused s.rest s.last s.exits.0 always)
+    ]
+ended_for seen old new (Err fault) s = tt
+
 pub output_of : {C : Type 0} (seen : C → Seen) {r r' : Option (List ℕ)} {q q' : Option (List ReadTold)}
     {w w' k k' : Option (List ℕ)} (old new : C) (result : Result ℕ ServeFault)
     → Serves seen r r' q q' w w' k k' old new result → Outputs r r' q q' w w' (seen old) (seen new) result
-output_of seen {w = w} {w' = w'} old new (Ok count) s =
+output_of seen {w = w} {w' = w'} old new result s =
     let input = texts_of (s.taken ++ s.refused) ++ s.rest in
     record {
       input = input;
       read = s.read;
       writes = λ h log shows. (
         joined (answers_to log s.taken ++ s.last),
-        walked_text log s.taken s.refused s.rest s.last s.exits.0,
-        subst (λ (x : List ℕ). Appends w w' x) (s.answers h log shows) s.wrote,
+        text_for seen old new result s log,
+        written_for result w w' s.written _ s.wrote (s.answers h log shows),
       );
-      ended = elim (s.exits.0.ended) [
-        | inl e ↦ inl e
-        | inr always ↦ inr (settled s.taken s.refused s.rest s.last s.exits.0 always)
-      ];
-      one_text = λ log text other a b. one_text_of log input text other a b;
-      one_front = λ log text other a b. one_front_of log input text other a b;
-    }
-output_of seen {w = w} {w' = w'} old new (Err Read) s =
-    let input = texts_of (s.taken ++ s.refused) ++ s.rest in
-    let is = s.exits.0 in
-    record {
-      input = input;
-      read = s.read;
-      writes = λ h log shows. (
-        joined (answers_to log s.taken ++ s.last),
-        record {
-          messages = messages_of s.taken;
-          rest = s.rest;
-          input_is = input_alone s.taken s.refused s.rest is.none_refused
-              ∙ ap (λ (x : List ℕ). x ++ s.rest) (texts_are s.taken);
-          stays = stays_all s.taken is.stays;
-          no_more = is.no_more;
-          text_is = text_with log s.taken s.last [] is.nothing
-              ∙ ap joined (append-nil (answers_behind log (messages_of s.taken)));
-        },
-        subst (λ (x : List ℕ). Appends w w' x) (s.answers h log shows) s.wrote,
-      );
-      ended = tt;
-      one_text = λ log text other a b. one_text_of log input text other a b;
-      one_front = λ log text other a b. one_front_of log input text other a b;
-    }
-output_of seen {w = w} {w' = w'} old new (Err Write) s =
-    let input = texts_of (s.taken ++ s.refused) ++ s.rest in
-    record {
-      input = input;
-      read = s.read;
-      writes = λ h log shows. (
-        joined (answers_to log s.taken ++ s.last),
-        elim (s.exits) [
-          | At_message is stays ↦ inr (inl (first_text log s.taken s.refused s.rest s.last is))
-          | At_last is stays ↦ inl (walked_text log s.taken s.refused s.rest s.last is)
-          | At_refusal is fault refuses ↦ inr (inr (broken_text log s.taken s.refused s.rest s.last is))
-        ],
-        (length s.written, subst (λ (x : List ℕ). Appends w w' x) (s.answers h log shows) s.wrote),
-      );
-      ended = tt;
-      one_text = λ log text other a b. one_text_of log input text other a b;
-      one_front = λ log text other a b. one_front_of log input text other a b;
-    }
-output_of seen {w = w} {w' = w'} old new (Err (Bank fault)) s =
-    let input = texts_of (s.taken ++ s.refused) ++ s.rest in
-    record {
-      input = input;
-      read = s.read;
-      writes = λ h log shows. (
-        joined (answers_to log s.taken ++ s.last),
-        broken_text log s.taken s.refused s.rest s.last s.exits.0,
-        subst (λ (x : List ℕ). Appends w w' x) (s.answers h log shows) s.wrote,
-      );
-      ended = tt;
-      one_text = λ log text other a b. one_text_of log input text other a b;
-      one_front = λ log text other a b. one_front_of log input text other a b;
-    }
-output_of seen {w = w} {w' = w'} old new (Err Memory) s =
-    let input = texts_of (s.taken ++ s.refused) ++ s.rest in
-    let is = s.exits.0 in
-    record {
-      input = input;
-      read = s.read;
-      writes = λ h log shows. (
-        joined (answers_to log s.taken ++ s.last),
-        (
-          input_alone s.taken s.refused s.rest is.none_refused
-              ∙ ap (λ (x : List Turn). texts_of x ++ s.rest) is.none_taken ∙ is.no_rest,
-          ap (λ (x : List Turn). joined (answers_to log x ++ s.last)) is.none_taken ∙ ap joined is.nothing,
-        ),
-        subst (λ (x : List ℕ). Appends w w' x) (s.answers h log shows) s.wrote,
-      );
-      ended = tt;
+      ended = ended_for seen old new result s;
       one_text = λ log text other a b. one_text_of log input text other a b;
       one_front = λ log text other a b. one_front_of log input text other a b;
     }
