@@ -1,2 +1,4 @@
 pub mod Driven
 pub mod Endings
+pub mod Loaded
+pub mod Served

@@ -5,11 +5,12 @@ ghost use Rattle.branch_loader.specs.declared.loading.Loaded.{Loaded};
 ghost use Rattle.clap.specs.Words.{fault_of};
 ghost use Rattle.bank_endings.specs.Lines.{created_line};
 ghost use Rattle.bank_words.specs.CommandLine.{bank_app};
-ghost use Rattle.bank_words.specs.Words.{AreInRange, AsksForHelp, AskToDrive, AskToInit, AskToLoad, IsSpelled};
-ghost use Rattle.bank_words.specs.Words.{number_of};
-ghost use Rattle.bank_commands.specs.Running.{AreRefused, Ends, Tells, TellsDriven};
+ghost use Rattle.bank_words.specs.Words.{AreInRange, AsksForHelp, AskToDrive, AskToInit, AskToLoad, AskToServe};
+ghost use Rattle.bank_words.specs.Words.{IsSpelled, number_of};
+ghost use Rattle.bank_commands.specs.Running.{AreRefused, Ends, Tells, TellsDriven, TellsListening};
 
 use crate::commands::{drive, init, load_plan, post};
+use crate::serving::serve;
 use bank_endings::{CommandFault, Status, explain, tell};
 use bank_words::{Command, read_words};
 use posting_core::Clock;
@@ -50,6 +51,8 @@ pub fn run<S: Start, T: AsStr, R: Read, W: Write, E: Write, K: Clock>(
         → (loaded : Loaded) × Tells result (W.contents output.old) (W.contents output.new) loaded }
     ensures driven { (asked : AskToDrive (map T.text words.entry.now)) → result ≡ Status.Done
         → TellsDriven (number_of asked.3) (W.contents output.old) (W.contents output.new) }
+    ensures served { AskToServe (map T.text words.entry.now) → result ≡ Status.Done
+        → TellsListening (W.contents output.old) (W.contents output.new) }
 {
     let command = match read_words(rt.alloc(), words) {
         Ok(command) => command,
@@ -89,6 +92,15 @@ fn perform<S: Start, R: Read, W: Write, K: Clock>(
         }
         Command::Drive { file, seed, count } => {
             drive(rt, start, file, seed, count, output, clock)?;
+            Ok(Status::Done)
+        }
+        Command::Audit { .. } | Command::Statement { .. } => Err(CommandFault::Store),
+        Command::Serve {
+            file,
+            address,
+            connections,
+        } => {
+            serve(rt, start, file, address, connections, output, clock)?;
             Ok(Status::Done)
         }
     }

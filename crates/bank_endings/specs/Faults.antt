@@ -10,6 +10,8 @@ use Rattle.branch_loader.specs.declared.fault.PlanFault.{PlanFault}
 use Rattle.branch_loader.specs.declared.fault.PlanFault.TheVariants as plan
 use Rattle.bank_driver.specs.declared.fault.DriveFault.{DriveFault}
 use Rattle.bank_driver.specs.declared.fault.DriveFault.TheVariants as drive
+use Rattle.counter_tcp.specs.declared.fault.ListenFault.{ListenFault}
+use Rattle.counter_tcp.specs.declared.fault.ListenFault.TheVariants as listen
 use Rattle.bank_store.specs.declared.refused.OpenFault.{OpenFault}
 use Rattle.bank_store.specs.declared.refused.OpenFault.TheVariants as opening
 use Rattle.bank_endings.specs.declared.fault.CommandFault.{CommandFault}
@@ -79,6 +81,10 @@ fault_of_stream (stream.Bank cause) = fault_of_bank cause
 abbrev pub fault_of_drive : DriveFault → CommandFault
 fault_of_drive drive.NoBranches = fault.NoBranches
 fault_of_drive (drive.Bank cause) = fault_of_bank cause
+
+abbrev pub fault_of_serving : ListenFault → CommandFault
+fault_of_serving listen.Network = fault.Network
+fault_of_serving (listen.Bank cause) = fault_of_bank cause
 
 -- the file isn't there, or it isn't the bank's
 abbrev pub IsOfFile : CommandFault → Type 0

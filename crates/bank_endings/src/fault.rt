@@ -1,12 +1,13 @@
 //! Why a command ends before its work is done.
 ghost use Rattle.std.specs.Prelude.{◌≡◌};
 ghost use Rattle.bank_endings.specs.Faults.{fault_of_bank, fault_of_drive, fault_of_opening, fault_of_plan};
-ghost use Rattle.bank_endings.specs.Faults.{fault_of_stream, status_of};
+ghost use Rattle.bank_endings.specs.Faults.{fault_of_serving, fault_of_stream, status_of};
 
 use crate::status::Status;
 use bank_driver::DriveFault;
 use bank_store::OpenFault;
 use branch_loader::PlanFault;
+use counter_tcp::ListenFault;
 use message_records::Account;
 use posting_core::{Fault, Rule, StreamFault};
 use std::fmt;
@@ -156,6 +157,17 @@ impl From<DriveFault> for CommandFault {
         match fault {
             DriveFault::NoBranches => CommandFault::NoBranches,
             DriveFault::Bank(fault) => CommandFault::from(fault),
+        }
+    }
+}
+
+impl From<ListenFault> for CommandFault {
+    ghost from_gives = { λ serving fault. fault ≡ fault_of_serving serving };
+
+    fn from(fault: ListenFault) -> CommandFault {
+        match fault {
+            ListenFault::Network => CommandFault::Network,
+            ListenFault::Bank(fault) => CommandFault::from(fault),
         }
     }
 }

@@ -7,5 +7,7 @@ mod printing;
 mod status;
 
 pub use fault::CommandFault;
-pub use printing::{explain, print_created, print_driven, print_listening, print_loaded, tell, tell_no_words};
+pub use printing::{
+    explain, print_created, print_driven, print_listening, print_loaded, tell, tell_no_words,
+};
 pub use status::Status;

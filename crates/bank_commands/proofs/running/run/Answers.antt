@@ -1,8 +1,10 @@
-use Rattle.std.proofs.Common.{inr, map}
+use Rattle.std.proofs.Common.{inl, inr, map}
 use Rattle.clap.specs.Words.{kind_of}
 use Rattle.bank_commands.proofs.Driven.{driven_by}
 use Rattle.bank_commands.proofs.Endings.{help_ends, memory_ends, mistake_ends, mistake_keeps, not_asked}
 use Rattle.bank_commands.proofs.Endings.{system_is_not_usage}
+use Rattle.bank_commands.proofs.Loaded.{loaded_by}
+use Rattle.bank_commands.proofs.Served.{served_by}
 use Rattle.bank_commands.proofs.running.run.Goals as goal
 
 -- ---- words that are refused
@@ -39,10 +41,26 @@ returns-in-Ok-perform-clause-help g c asks = absurd (c.in-Ok.ensures.help asks)
 pub returns-in-Err-perform-clause-help : goal.returns-in-Err-perform-clause-help
 returns-in-Err-perform-clause-help g c asks = absurd (c.in-Ok.ensures.help asks)
 
+-- ---- words that ask to load
+
+pub returns-in-Ok-perform-clause-loaded : goal.returns-in-Ok-perform-clause-loaded
+returns-in-Ok-perform-clause-loaded g c asked done =
+    loaded_by (map g.T.AsStr.text c.args.words.now) asked c.in-Ok.command c.in-Ok-perform.status
+    (g.W.Write.contents c.args.output.now) (g.W.Write.contents c.perform.new.output)
+    (c.in-Ok.ensures.spelled (inr (inl asked))) c.in-Ok-perform.ensures
+
 -- ---- words that ask to drive
 
 pub returns-in-Ok-perform-clause-driven : goal.returns-in-Ok-perform-clause-driven
 returns-in-Ok-perform-clause-driven g c asked done =
     driven_by (map g.T.AsStr.text c.args.words.now) asked c.in-Ok.command c.in-Ok-perform.status
     (g.W.Write.contents c.args.output.now) (g.W.Write.contents c.perform.new.output)
-    (c.in-Ok.ensures.spelled (inr (inr (inr asked)))) c.in-Ok-perform.ensures
+    (c.in-Ok.ensures.spelled (inr (inr (inr (inl asked))))) c.in-Ok-perform.ensures
+
+-- ---- words that ask to serve
+
+pub returns-in-Ok-perform-clause-served : goal.returns-in-Ok-perform-clause-served
+returns-in-Ok-perform-clause-served g c asked done =
+    served_by (map g.T.AsStr.text c.args.words.now) asked c.in-Ok.command c.in-Ok-perform.status
+    (g.W.Write.contents c.args.output.now) (g.W.Write.contents c.perform.new.output)
+    (c.in-Ok.ensures.spelled (inr (inr (inr (inr (inr (inr asked))))))) c.in-Ok-perform.ensures

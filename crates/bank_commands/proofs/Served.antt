@@ -1,0 +1,52 @@
+-- What a run of `serve` printed, by its words.
+use Rattle.std.proofs.Common.{◌≡◌, ◌≢◌, ◌∙◌, ap, inr, refl, sym, ℕ, List, [], Option, codes, drop, false}
+use Rattle.std.proofs.Common.{Result, Ok, Err, OnOk, IfErr}
+use Rattle.std.specs.Prelude.{slice_get, unwrap_or}
+use Rattle.std.specs.Io.KnownBytes.{Appends}
+use Rattle.std.specs.Str.{bytes_eq}
+use Rattle.std.specs.declared.net.socket_addr.SocketAddr.{SocketAddr}
+use Rattle.clap.specs.Words.{Text}
+use Rattle.bank_endings.specs.Lines.{listening_line}
+use Rattle.bank_endings.specs.declared.fault.CommandFault.{CommandFault}
+use Rattle.bank_endings.specs.declared.fault.CommandFault.TheVariants.{Write}
+use Rattle.bank_endings.specs.declared.status.Status.{Status}
+use Rattle.bank_words.specs.Words.{AskToServe, IsSpelledBy}
+use Rattle.bank_words.specs.declared.reading.Command.{Command}
+use Rattle.bank_words.specs.declared.reading.Command.TheVariants.{Audit, Drive, Init, Load, Post, Serve, Statement}
+use Rattle.bank_words.proofs.Getters.{apart}
+use Rattle.bank_commands.specs.Running.{Ends, MayTellListening, TellsListening}
+
+-- the first word
+abbrev pub first_word : List Text → Text
+first_word words = unwrap_or (slice_get words 0) []
+
+others : (words : List Text) (asked : AskToServe words) (spelled : List Text) → drop 1 words ≡ spelled
+    → bytes_eq (codes "serve") (first_word spelled) ≡ false → ⊥
+others words asked spelled are other = apart (ap first_word (sym (ap (drop 1) asked.7) ∙ are)) other
+
+-- words that ask to serve tell no other command
+pub served_by : (words : List Text) (asked : AskToServe words) (command : Command) (status : Status)
+    (old new : Option (List ℕ))
+    → IsSpelledBy words command → Ends command status old new
+    → TellsListening old new
+served_by words asked (Init f) status old new spelled ends = absurd (others words asked _ spelled refl)
+served_by words asked (Load f p) status old new spelled ends = absurd (others words asked _ spelled refl)
+served_by words asked (Post f) status old new spelled ends = absurd (others words asked _ spelled refl)
+served_by words asked (Audit f) status old new spelled ends = absurd (others words asked _ spelled refl)
+served_by words asked (Statement f n) status old new spelled ends = absurd (others words asked _ spelled.1 refl)
+served_by words asked (Drive f s n) status old new spelled ends = absurd (others words asked _ spelled.2 refl)
+served_by words asked (Serve f a n) status old new spelled ends = ends.1
+
+-- ---- the line, whatever address it tells
+
+pub told_at : (r : Result (Unit {0}) CommandFault) (bound : SocketAddr) (old new : Option (List ℕ))
+    → OnOk r (Appends old new (listening_line bound))
+    → OnOk r (TellsListening old new)
+told_at (Ok done) bound old new line = (bound, line)
+told_at (Err fault) bound old new line = tt
+
+pub may_tell : (r : Result (Unit {0}) CommandFault) (bound : SocketAddr) (old new : Option (List ℕ))
+    → IfErr r (λ fault. fault ≢ Write → Appends old new (listening_line bound))
+    → IfErr r (λ fault. fault ≢ Write → MayTellListening old new)
+may_tell (Ok done) bound old new told = tt
+may_tell (Err fault) bound old new told = λ other. inr (bound, told other)

@@ -1,0 +1,75 @@
+-- Connections that are served one after another by a bank, which is old before them and new after them. What is seen
+-- of it is told by seen, and the clock's known readings are k before and k' after.
+use Rattle.std.specs.Prelude.{◌≡◌, ◌<◌, ◌≤◌, ℕ, List, [], ◌∷◌, ◌++◌, length, Option, Result, Ok, Err}
+use Rattle.std.specs.List.{AllByRecursion}
+use Rattle.posting_rules.specs.Commands.{Command}
+use Rattle.posting_rules.specs.Counter.{LeavesOnly, Seen, ShowsBeginning, StandsAt}
+use Rattle.posting_rules.specs.Runs.{ArePosts, behind}
+use Rattle.counter_http.specs.Outputs.{Outputs, Survives}
+use Rattle.counter_http.specs.Serving as http
+use Rattle.counter_http.specs.declared.fault.ServeFault.{ServeFault}
+use Rattle.counter_http.specs.declared.fault.ServeFault.TheVariants.{Write}
+use Rattle.counter_tcp.specs.declared.fault.ListenFault.{ListenFault}
+use Rattle.counter_tcp.specs.declared.fault.ListenFault.TheVariants.{Network, Bank}
+use Rattle.counter_tcp.specs.Faults.{after_connection}
+
+-- ---- one connection
+
+pub record Connection (C : Type 0) : Type 0 where
+  -- the bank and the clock's known readings
+  pub before : C
+  pub after : C
+  pub clock : Option (List ℕ)
+  pub clock_after : Option (List ℕ)
+  -- the known bytes of its reader and of its writer
+  pub reader : Option (List ℕ)
+  pub reader_after : Option (List ℕ)
+  pub writer : Option (List ℕ)
+  pub writer_after : Option (List ℕ)
+  pub result : Result ℕ ServeFault
+
+-- it was served as a connection over HTTP is
+pub record IsServed {C : Type 0} (seen : C → Seen) (c : Connection C) : Type 0 where
+  pub served : http.Serves seen c.reader c.reader_after c.writer c.writer_after c.clock c.clock_after c.before c.after
+      c.result
+  pub output : Outputs c.reader c.reader_after c.writer c.writer_after (seen c.before) (seen c.after) c.result
+  pub stop : Survives c.reader c.reader_after c.writer c.writer_after (seen c.before) (seen c.after)
+  pub honest : (seen c.after).honest → (seen c.before).honest
+
+-- a connection was served, and ended so
+pub record ServesOne {C : Type 0} (seen : C → Seen) (k k' : Option (List ℕ)) (old new : C)
+    (result : Result ℕ ServeFault) : Type 0 where
+  pub connection : Connection C
+  pub is_served : IsServed seen connection
+  pub clock_is : connection.clock ≡ k
+  pub clock_after_is : connection.clock_after ≡ k'
+  pub before_is : connection.before ≡ old
+  pub after_is : connection.after ≡ new
+  pub result_is : connection.result ≡ result
+
+-- ---- one after another
+
+-- nothing happens to the bank or the clock between two of them
+abbrev pub AreServed : {C : Type 0} → (C → Seen) → List (Connection C) → (k k' : Option (List ℕ)) → (old new : C)
+    → Type 0
+AreServed seen [] k k' old new = (k' ≡ k) × (new ≡ old)
+AreServed seen (c ∷ cs) k k' old new =
+    (c.clock ≡ k) × (c.before ≡ old) × IsServed seen c × AreServed seen cs c.clock_after k' c.after new
+
+-- after each of them the next one is served
+abbrev pub AllGoOn : {C : Type 0} → List (Connection C) → Type 0
+AllGoOn cs = AllByRecursion (λ c. after_connection c.result ≡ Ok tt) cs
+
+-- how many there were, and what the last one met
+abbrev pub EndsAs : {C : Type 0} → Result (Unit {0}) ListenFault → ℕ → List (Connection C) → Type 0
+EndsAs (Ok done) n cs = (length cs ≡ n) × AllGoOn cs
+EndsAs (Err Network) n cs = (length cs < n) × AllGoOn cs
+EndsAs {C = C} (Err (Bank fault)) n cs = (before : List (Connection C)) × (last : Connection C)
+    × (cs ≡ before ++ last ∷ []) × (length cs ≤ n) × AllGoOn before
+    × (after_connection last.result ≡ Err (Bank fault))
+
+pub record Serves {C : Type 0} (seen : C → Seen) (k k' : Option (List ℕ)) (old new : C) (n : ℕ)
+    (result : Result (Unit {0}) ListenFault) : Type 0 where
+  pub connections : List (Connection C)
+  pub are_served : AreServed seen connections k k' old new
+  pub ends : EndsAs result n connections

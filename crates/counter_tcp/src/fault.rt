@@ -1,0 +1,28 @@
+//! Why the serving of connections ends.
+use posting_core::Fault;
+use std::fmt;
+
+/// Why no more connections were served.
+#[derive(Clone, Copy, Debug, PartialEq, Eq)]
+pub enum ListenFault {
+    /// The listener gave no connection.
+    Network,
+    /// The bank refused a call for another cause than memory.
+    Bank(Fault),
+}
+
+impl fmt::Display for ListenFault {
+    ghost use Rattle.std.specs.Prelude.{Some};
+    ghost use Rattle.counter_tcp.specs.Faults.{fault_text};
+
+    ghost output = { λ fault. Some (fault_text fault) };
+
+    fn fmt<W: fmt::Write>(&self, f: &mut fmt::Formatter<W>) -> fmt::Result {
+        match self {
+            ListenFault::Network => write!(f, "network failed"),
+            ListenFault::Bank(fault) => write!(f, "{fault}"),
+        }
+    }
+}
+
+impl std::error::Error for ListenFault {}
