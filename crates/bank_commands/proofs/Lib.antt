@@ -1,2 +1,4 @@
+pub mod Asked
 pub mod Driven
 pub mod Endings
+pub mod Found
