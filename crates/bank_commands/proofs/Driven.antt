@@ -38,7 +38,7 @@ told_driven seen old new k k' seed count before after (Ok done) driven drives li
 told_driven seen old new k k' seed count before after (Err fault) driven drives line = tt
 
 -- the word at a place
-abbrev word_at : ℕ → List Text → Text
+abbrev pub word_at : ℕ → List Text → Text
 word_at place words = unwrap_or (slice_get words place) []
 
 -- their first word is the command's

@@ -1,4 +1,5 @@
+pub mod Asked
 pub mod Driven
 pub mod Endings
-pub mod Loaded
+pub mod Found
 pub mod Served

@@ -1,3 +1,4 @@
+pub mod InFile
 pub mod Working
 pub mod Looking
 pub mod Running

@@ -1,9 +1,9 @@
--- What it says where the look for a bank's file fails.
+-- What is said where the look for a bank's file fails, and where a plan isn't read.
 use Rattle.std.specs.Prelude.{⊤}
 use Rattle.std.specs.declared.io.ErrorKind.{ErrorKind}
 use Rattle.std.specs.declared.io.ErrorKind.TheVariants as kind
 use Rattle.bank_endings.specs.declared.fault.CommandFault.{CommandFault}
-use Rattle.bank_endings.specs.declared.fault.CommandFault.TheVariants.{Memory, NoBank, Store}
+use Rattle.bank_endings.specs.declared.fault.CommandFault.TheVariants.{Memory, NoBank, Plan, Store}
 
 -- a file that isn't there, or that stands below something that is no folder, is no bank
 abbrev pub fault_of_look : ErrorKind → CommandFault
@@ -18,3 +18,9 @@ IsOfLook NoBank = ⊤
 IsOfLook Memory = ⊤
 IsOfLook Store = ⊤
 IsOfLook _ = ⊥
+
+-- the fault is one of a plan, or want of memory
+abbrev pub IsOfPlan : CommandFault → Type 0
+IsOfPlan Memory = ⊤
+IsOfPlan (Plan fault) = ⊤
+IsOfPlan _ = ⊥

@@ -1,9 +1,12 @@
 -- How a run of the program ends, and what it prints, by its words.
-use Rattle.std.specs.Prelude.{◌≡◌, ◌≢◌, ◌⊎◌, ◌+◌, ℕ, List, [], Option}
+use Rattle.std.specs.Prelude.{◌≡◌, ◌≢◌, ◌⊎◌, ◌+◌, ℕ, List, [], Option, Result, Ok, Err, IfOk, OnOk, IsErr, ⊤}
 use Rattle.std.specs.Io.KnownBytes.{Appends, Keeps}
 use Rattle.std.specs.declared.net.socket_addr.SocketAddr.{SocketAddr}
 use Rattle.clap.specs.Words.{IsAmong, Text, fault_of}
 use Rattle.clap.specs.declared.error.kind.ErrorKind.{ErrorKind}
+use Rattle.sqlite_wal.specs.Recovery.{Image}
+use Rattle.posting_rules.specs.Counter.{Seen}
+use Rattle.posting_core.specs.declared.stream.StreamFault.{StreamFault}
 use Rattle.bank_driver.specs.declared.driving.Driven.{Driven}
 use Rattle.branch_loader.specs.declared.loading.Loaded.{Loaded}
 use Rattle.bank_words.specs.CommandLine.{bank_app}
@@ -12,8 +15,12 @@ use Rattle.bank_words.specs.declared.reading.Command.TheVariants.{Audit, Drive, 
 use Rattle.bank_endings.specs.Lines.{IsRequest, created_line, driven_line, listening_line}
 use Rattle.bank_endings.specs.Lines.{loaded_line}
 use Rattle.bank_endings.specs.Statuses.{status_of_loaded}
+use Rattle.bank_endings.specs.Faults.{fault_of_stream, status_of}
+use Rattle.bank_endings.specs.declared.fault.CommandFault.{CommandFault}
 use Rattle.bank_endings.specs.declared.status.Status.{Status}
 use Rattle.bank_endings.specs.declared.status.Status.TheVariants.{Done, Inconsistent}
+use Rattle.bank_commands.specs.InFile.{IsNewIn, WorksIn}
+use Rattle.bank_commands.specs.Working.{DrivesAndTells, Loads, PostsIn}
 
 -- clap takes the words for no command, and not for a call for help either
 pub record AreRefused (words : List Text) : Type 0 where
@@ -46,3 +53,43 @@ Ends (Drive file seed count) status old new = (status ≡ Done) × TellsDriven c
 Ends (Audit file) status old new = (status ≡ Done) ⊎ (status ≡ Inconsistent)
 Ends (Statement file account) status old new = status ≡ Done
 Ends (Serve file address connections) status old new = (status ≡ Done) × TellsListening old new
+
+-- ---- what a command did to the bank in its files; r and r' are the known bytes of the input before and after, w
+-- and w' those of the output, k and k' the clock's known readings
+
+-- how a stream ends the command, and the program
+abbrev pub ended_by : Result ℕ StreamFault → Result Status CommandFault
+ended_by (Ok count) = Ok Done
+ended_by (Err fault) = Err (fault_of_stream fault)
+
+abbrev pub status_after : Result Status CommandFault → Status
+status_after (Ok status) = status
+status_after (Err fault) = status_of fault
+
+-- a new bank was made there
+abbrev pub MakesIn : {C : Type 0} → (C → Seen) → Image → Type 0
+MakesIn {C} seen image = (made : C) × IsNewIn image (seen made)
+
+-- the openings of a plan were taken, and the line that was printed has the counts of their answers
+abbrev pub LoadsIn : {C : Type 0} → (C → Seen) → Image → Status → Option (List ℕ) → Option (List ℕ) → Type 0
+LoadsIn seen image status w w' = (loaded : Loaded) × Tells status w w' loaded
+    × WorksIn seen image (λ old new. Loads (seen old) (seen new) loaded)
+
+-- so many records of a seed were taken, and the line that was printed has the counts of their replies
+abbrev pub DrivesIn : {C : Type 0} → (C → Seen) → Image → (k k' w w' : Option (List ℕ)) → (seed count : ℕ)
+    → Type 0
+DrivesIn seen image k k' w w' seed count =
+    WorksIn seen image (λ old new. DrivesAndTells seen old new k k' seed count w w')
+
+abbrev pub Does : {C : Type 0} → (C → Seen) → Image → (r r' w w' k k' : Option (List ℕ)) → Command
+    → Result Status CommandFault → Type 0
+Does seen image r r' w w' k k' (Init file) result = OnOk result (MakesIn seen image)
+Does seen image r r' w w' k k' (Load file plan) result =
+    IfOk result (λ status. LoadsIn seen image status w w')
+Does seen image r r' w w' k k' (Post file) result =
+    PostsIn seen image r r' w w' k k' (IsErr result) (λ told. result ≡ ended_by told)
+Does seen image r r' w w' k k' (Drive file seed count) result =
+    OnOk result (DrivesIn seen image k k' w w' seed count)
+Does seen image r r' w w' k k' (Audit file) result = ⊤
+Does seen image r r' w w' k k' (Statement file account) result = ⊤
+Does seen image r r' w w' k k' (Serve file address connections) result = ⊤

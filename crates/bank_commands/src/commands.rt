@@ -1,17 +1,21 @@
 //! The four commands.
-ghost use Rattle.std.specs.Prelude.{◌≡◌, ◌≢◌, ◌≤◌, IfErr, IfOk, OnOk};
+ghost use Rattle.std.specs.Prelude.{◌≡◌, ◌≢◌, ◌≤◌, IfErr, IfOk, IsErr, OnOk};
 ghost use Rattle.std.specs.Io.KnownBytes.{Appends, IsAtEnd, Keeps};
+ghost use Rattle.sqlite_wal.specs.Files.{image_at};
+ghost use Rattle.bank_store.specs.Seen.{bank_seen};
 ghost use Rattle.bank_endings.specs.Faults.{IsOfFile};
 ghost use Rattle.bank_endings.specs.Lines.{created_line, loaded_line};
-ghost use Rattle.bank_commands.specs.Running.{TellsDriven};
-ghost use Rattle.bank_commands.specs.Working.{DrivesAndTells, Loads};
+ghost use Rattle.bank_commands.specs.InFile.{WorksIn};
+ghost use Rattle.bank_commands.specs.Running.{DrivesIn, MakesIn, TellsDriven};
+ghost use Rattle.bank_commands.specs.Working.{DrivesAndTells, Loads, PostsIn, PostsTo, said_of};
 
 use crate::files::{close, find_bank, make_bank, plan_in};
 use bank_driver::{MAX_DRIVEN, drive_records};
 use bank_endings::{CommandFault, print_created, print_driven, print_loaded};
 use branch_loader::{Loaded, load};
 use posting_core::{Clock, Count, Counter, post_stream};
-use sqlite::Start;
+use sqlite::{FileFrom, FileStore, Start};
+use sqlite_trees::store::Store;
 use std::alloc::Global;
 use std::io::{Read, Write};
 use std::rt::Files;
@@ -23,6 +27,7 @@ pub fn init<S: Start, W: Write>(
     file: &str,
     output: &mut W,
 ) -> Result<(), CommandFault>
+    ensures made { OnOk result (MakesIn (bank_seen ⟦<FileStore<FileFrom<S>> as Store>⟧) (image_at S.Start)) }
     ensures line { OnOk result (Appends (W.contents output.old) (W.contents output.new) created_line) }
     ensures silent { IfErr result
         (λ fault. fault ≢ CommandFault.Write → Keeps (W.contents output.old) (W.contents output.new)) }
@@ -40,6 +45,8 @@ pub fn load_plan<S: Start, W: Write>(
     plan: &str,
     output: &mut W,
 ) -> Result<Loaded, CommandFault>
+    ensures loads { IfOk result (λ loaded. let seen = bank_seen ⟦<FileStore<FileFrom<S>> as Store>⟧ in
+        WorksIn seen (image_at S.Start) (λ old new. Loads (seen old) (seen new) loaded)) }
     ensures line { IfOk result
         (λ loaded. Appends (W.contents output.old) (W.contents output.new) (loaded_line loaded)) }
     ensures silent { IfErr result
@@ -79,6 +86,9 @@ pub fn post<S: Start, R: Read, W: Write, K: Clock>(
     output: &mut W,
     clock: &mut K,
 ) -> Result<Count, CommandFault>
+    ensures posts { PostsIn (bank_seen ⟦<FileStore<FileFrom<S>> as Store>⟧) (image_at S.Start)
+        (R.remaining input.old) (R.remaining input.new) (W.contents output.old) (W.contents output.new)
+        (K.readings clock.old) (K.readings clock.new) (IsErr result) (λ told. result ≡ said_of told) }
     ensures ended { OnOk result (IsAtEnd (R.remaining input.new)) }
     ensures unread { IfErr result (λ fault. IsOfFile fault → R.remaining input.new ≡ R.remaining input.old) }
     ensures silent { IfErr result
@@ -103,6 +113,9 @@ pub fn drive<S: Start, W: Write, K: Clock>(
 ) -> Result<(), CommandFault>
     requires some { 1 ≤ count }
     requires few { count ≤ MAX_DRIVEN }
+    ensures drives { OnOk result (DrivesIn (bank_seen ⟦<FileStore<FileFrom<S>> as Store>⟧) (image_at S.Start)
+        (K.readings clock.old) (K.readings clock.new)
+        (W.contents output.old) (W.contents output.new) seed count) }
     ensures line { OnOk result (TellsDriven count (W.contents output.old) (W.contents output.new)) }
     ensures silent { IfErr result
         (λ fault. fault ≢ CommandFault.Write → Keeps (W.contents output.old) (W.contents output.new)) }

@@ -1,15 +1,30 @@
 //! The file of a bank.
-ghost use Rattle.std.specs.Prelude.{◌≡◌, IfErr, IfOk, OnErr, IsErrOf, false};
+ghost use Rattle.std.specs.Prelude.{◌≡◌, List, IfErr, IfOk, IfSome, OnErr, IsErrOf, false};
 ghost use Rattle.std.specs.IoError.{error_kind};
-ghost use Rattle.bank_commands.specs.Looking.{IsOfLook, fault_of_look};
+ghost use Rattle.sqlite.specs.Files.{file_state, over_files};
+ghost use Rattle.sqlite.specs.Held.{state};
+ghost use Rattle.sqlite.specs.State.{HasCleanDisk};
+ghost use Rattle.sqlite_wal.specs.Files.{image_at, outcomes};
+ghost use Rattle.sqlite_wal.specs.Reads.{AreClean};
+ghost use Rattle.sqlite_wal.specs.Recovery.{Image};
+ghost use Rattle.posting_rules.specs.Commands.{Command};
+ghost use Rattle.posting_rules.specs.Counter.{StandsAt};
+ghost use Rattle.bank_store.specs.Seen.{bank_seen};
+ghost use Rattle.bank_endings.specs.Faults.{fault_of_opening};
+ghost use Rattle.bank_commands.specs.InFile.{HoldsLog, IsFoundIn, IsMadeOver, IsNewIn, IsOpenedOn, IsTakenUp};
+ghost use Rattle.bank_commands.specs.Looking.{IsOfLook, IsOfPlan, fault_of_look};
 
 use bank_endings::CommandFault;
-use bank_store::{Bank, OpenFault, Refused, adopt, create};
+use bank_lives::opened_law;
+use bank_store::{Bank, Refused, adopt, create};
 use branch_loader::{Plan, PlanFault, read_plan};
-use sqlite::{Connection, FileFrom, FileStore, Start};
+use sqlite::{Alter, Connection, FileFrom, FileStore, Files, Start};
+use sqlite_disk::Disk;
+use std::alloc::Global;
 use std::fs::{self, Metadata};
 use std::io::{self, ErrorKind};
-use std::rt::Files;
+use std::rt::Files as FileSystem;
+use store_rows::trees_law;
 
 /// The least length of a file that a bank can be in alone. One that is shorter is made a database when it is
 /// opened, unless there is a log beside it.
@@ -20,12 +35,11 @@ pub fn make_bank<S: Start>(
     rt: &HostRuntime,
     start: S,
     file: &str,
-) -> Result<Bank<FileStore<FileFrom<S>>>, CommandFault> {
+) -> Result<Bank<FileStore<FileFrom<S>>>, CommandFault>
+    ensures { IfOk result (λ bank. IsNewIn (image_at S.Start) (bank_seen over_files bank)) }
+{
     let conn = connect(rt, start, file)?;
-    match create(rt.alloc(), conn) {
-        Ok(bank) => Ok(bank),
-        Err(refused) => Err(CommandFault::from(fault_of(refused))),
-    }
+    create_over(rt.alloc(), conn)
 }
 
 /// Takes up the bank in the file. Where no bank can be there, no file is made or written.
@@ -33,18 +47,41 @@ pub fn find_bank<S: Start>(
     rt: &HostRuntime,
     start: S,
     file: &str,
-) -> Result<Bank<FileStore<FileFrom<S>>>, CommandFault> {
+) -> Result<Bank<FileStore<FileFrom<S>>>, CommandFault>
+    ensures { IfOk result (λ bank. IsFoundIn (image_at S.Start) (bank_seen over_files bank)) }
+{
     look_for(rt, file)?;
     let conn = connect(rt, start, file)?;
-    match adopt(rt.alloc(), conn) {
+    take_up(rt.alloc(), conn)
+}
+
+// Makes a bank over a connection, which is dropped where that is refused.
+fn create_over<S: Alter + Drop>(alloc: Global, conn: Connection<S>) -> Result<Bank<S>, CommandFault>
+    requires { conn.in_transaction ≡ false }
+    ensures { IfOk result (λ bank. IsMadeOver (state S.Store conn) (bank_seen S.Store bank)) }
+{
+    trees_law(&conn);
+    match create(alloc, conn) {
         Ok(bank) => Ok(bank),
-        Err(refused) => Err(CommandFault::from(fault_of(refused))),
+        Err(refused) => Err(fault_of(refused)),
+    }
+}
+
+// Takes up the bank that a connection finds, which is dropped where there is none.
+fn take_up<S: Alter + Drop>(alloc: Global, conn: Connection<S>) -> Result<Bank<S>, CommandFault>
+    requires { conn.in_transaction ≡ false }
+    ensures { IfOk result (λ bank. IsTakenUp (state S.Store conn) (bank_seen S.Store bank)) }
+{
+    opened_law(&conn);
+    match adopt(alloc, conn) {
+        Ok(bank) => Ok(bank),
+        Err(refused) => Err(fault_of(refused)),
     }
 }
 
 // Looks whether a bank can be in the file: the file is there, and it holds more than a byte, or there is a log
 // beside it that holds something.
-fn look_for<R: Files + AllocGlobal>(rt: &R, file: &str) -> Result<(), CommandFault>
+fn look_for<R: FileSystem + AllocGlobal>(rt: &R, file: &str) -> Result<(), CommandFault>
     ensures { IfErr result IsOfLook }
 {
     if find_file(rt, file)?.len() >= LEAST_LENGTH {
@@ -60,7 +97,7 @@ fn look_for<R: Files + AllocGlobal>(rt: &R, file: &str) -> Result<(), CommandFau
 }
 
 // What the system tells of a file.
-fn find_file<R: Files>(rt: &R, path: &str) -> Result<Metadata, CommandFault>
+fn find_file<R: FileSystem>(rt: &R, path: &str) -> Result<Metadata, CommandFault>
     ensures { IfErr result IsOfLook }
 {
     match fs::metadata(rt, path) {
@@ -89,6 +126,8 @@ fn connect<S: Start>(
     file: &str,
 ) -> Result<Connection<FileStore<FileFrom<S>>>, CommandFault>
     ensures outside { IfOk result (λ conn. conn.in_transaction ≡ false) }
+    ensures opened { IfOk result (λ conn. HasCleanDisk (file_state conn)
+        → IsOpenedOn (image_at S.Start) (file_state conn)) }
     ensures fault { OnErr result (IsErrOf result CommandFault.Store) }
 {
     match Connection::open_from(rt, file, false, start) {
@@ -98,25 +137,41 @@ fn connect<S: Start>(
 }
 
 // Why the connection was refused. It is dropped.
-fn fault_of<S: Start>(refused: Refused<FileStore<FileFrom<S>>>) -> OpenFault
-    ensures { result ≡ refused.fault }
+fn fault_of<S: Alter + Drop>(refused: Refused<S>) -> CommandFault
+    ensures { result ≡ fault_of_opening refused.fault }
 {
     let Refused { fault, conn } = refused;
     drop(conn);
-    fault
+    CommandFault::from(fault)
 }
 
-/// Closes the bank's file. What was committed stands where this fails too, so that no fault is told.
-pub fn close<S: Start>(bank: Bank<FileStore<FileFrom<S>>>) {
-    let _ = bank.release().close();
+/// Closes the bank's files, and gives them back where they can be closed: then all that a stop may leave of them
+/// holds the bank. What was committed stands where this fails too, so that no fault is told.
+pub fn close<D: Disk + Drop>(bank: Bank<FileStore<D>>) -> Option<Files<D>>
+    ensures { IfSome result (λ files. AreClean D.Disk files.log files.db → (log : List Command)
+        → StandsAt (bank_seen over_files bank) log → (image : Image)
+        → outcomes D.Disk files.log files.db image → ∥ HoldsLog image log ∥₁) }
+{
+    let conn = bank.release();
+    let _idle = conn.is_autocommit();
+    trees_law(&conn);
+    match conn.close_files() {
+        Ok(files) => Some(files),
+        Err((_, store)) => {
+            drop(store.close());
+            None
+        }
+    }
 }
 
-/// Reads the plan of a file.
-pub fn plan_in<R: Files + AllocGlobal>(rt: &R, path: &str) -> Result<Plan, CommandFault> {
+/// Reads the plan of a file. A fault is one of the plan, or want of memory.
+pub fn plan_in<R: FileSystem + AllocGlobal>(rt: &R, path: &str) -> Result<Plan, CommandFault>
+    ensures { IfErr result IsOfPlan }
+{
     let file = match fs::open(rt, path) {
         Ok(file) => file,
         Err(e) if e.kind() == ErrorKind::OutOfMemory => return Err(CommandFault::Memory),
-        Err(_) => return Err(CommandFault::from(PlanFault::Csv)),
+        Err(_) => return Err(CommandFault::Plan(PlanFault::Csv)),
     };
     Ok(read_plan(rt.alloc(), file)?)
 }

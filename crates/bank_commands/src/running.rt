@@ -1,20 +1,24 @@
 //! A run of the program, from its words to its status.
 ghost use Rattle.std.specs.Prelude.{◌≡◌, ◌≢◌, ◌⊎◌, [], map, IfOk};
 ghost use Rattle.std.specs.Io.KnownBytes.{Appends, Keeps};
-ghost use Rattle.branch_loader.specs.declared.loading.Loaded.{Loaded};
+ghost use Rattle.sqlite_wal.specs.Files.{image_at};
+ghost use Rattle.bank_store.specs.Seen.{bank_seen};
 ghost use Rattle.clap.specs.Words.{fault_of};
 ghost use Rattle.bank_endings.specs.Lines.{created_line};
 ghost use Rattle.bank_words.specs.CommandLine.{bank_app};
-ghost use Rattle.bank_words.specs.Words.{AreInRange, AsksForHelp, AskToDrive, AskToInit, AskToLoad, AskToServe};
-ghost use Rattle.bank_words.specs.Words.{IsSpelled, number_of};
-ghost use Rattle.bank_commands.specs.Running.{AreRefused, Ends, Tells, TellsDriven, TellsListening};
+ghost use Rattle.bank_words.specs.Words.{AreInRange, AsksForHelp, IsSpelled, number_of};
+ghost use Rattle.bank_words.specs.Words.{AskToDrive, AskToInit, AskToLoad, AskToPost, AskToServe};
+ghost use Rattle.bank_commands.specs.Running.{AreRefused, Does, Ends, TellsDriven, TellsListening};
+ghost use Rattle.bank_commands.specs.Running.{DrivesIn, LoadsIn, MakesIn, ended_by, status_after};
+ghost use Rattle.bank_commands.specs.Working.{PostsIn};
 
 use crate::commands::{drive, init, load_plan, post};
 use crate::serving::serve;
 use bank_endings::{CommandFault, Status, explain, tell};
 use bank_words::{Command, read_words};
 use posting_core::Clock;
-use sqlite::Start;
+use sqlite::{FileFrom, FileStore, Start};
+use sqlite_trees::store::Store;
 use std::convert::AsStr;
 use std::io::{Read, Write};
 use std::rt::Env;
@@ -46,13 +50,25 @@ pub fn run<S: Start, T: AsStr, R: Read, W: Write, E: Write, K: Clock>(
     ensures taken { IsSpelled (map T.text words.entry.now) → result ≢ Status.Usage }
     ensures created { AskToInit (map T.text words.entry.now) → result ≡ Status.Done
         → Appends (W.contents output.old) (W.contents output.new) created_line }
+    ensures made { AskToInit (map T.text words.entry.now) → result ≡ Status.Done
+        → MakesIn (bank_seen ⟦<FileStore<FileFrom<S>> as Store>⟧) (image_at S.Start) }
     ensures loaded { AskToLoad (map T.text words.entry.now)
         → (result ≡ Status.Done) ⊎ (result ≡ Status.Differs)
-        → (loaded : Loaded) × Tells result (W.contents output.old) (W.contents output.new) loaded }
+        → LoadsIn (bank_seen ⟦<FileStore<FileFrom<S>> as Store>⟧) (image_at S.Start) result
+        (W.contents output.old) (W.contents output.new) }
+    ensures posted { AskToPost (map T.text words.entry.now)
+        → PostsIn (bank_seen ⟦<FileStore<FileFrom<S>> as Store>⟧) (image_at S.Start)
+        (R.remaining input.old) (R.remaining input.new) (W.contents output.old) (W.contents output.new)
+        (K.readings clock.old) (K.readings clock.new) (result ≢ Status.Done)
+        (λ told. result ≡ status_after (ended_by told)) }
     ensures driven { (asked : AskToDrive (map T.text words.entry.now)) → result ≡ Status.Done
         → TellsDriven (number_of asked.3) (W.contents output.old) (W.contents output.new) }
     ensures served { AskToServe (map T.text words.entry.now) → result ≡ Status.Done
         → TellsListening (W.contents output.old) (W.contents output.new) }
+    ensures drives { (asked : AskToDrive (map T.text words.entry.now)) → result ≡ Status.Done
+        → DrivesIn (bank_seen ⟦<FileStore<FileFrom<S>> as Store>⟧) (image_at S.Start)
+        (K.readings clock.old) (K.readings clock.new) (W.contents output.old) (W.contents output.new)
+        (number_of asked.2) (number_of asked.3) }
 {
     let command = match read_words(rt.alloc(), words) {
         Ok(command) => command,
@@ -74,8 +90,11 @@ fn perform<S: Start, R: Read, W: Write, K: Clock>(
     clock: &mut K,
 ) -> Result<Status, CommandFault>
     requires { AreInRange command }
-    ensures { IfOk result
+    ensures ends { IfOk result
         (λ status. Ends command.entry status (W.contents output.old) (W.contents output.new)) }
+    ensures does { Does (bank_seen ⟦<FileStore<FileFrom<S>> as Store>⟧) (image_at S.Start)
+        (R.remaining input.old) (R.remaining input.new) (W.contents output.old) (W.contents output.new)
+        (K.readings clock.old) (K.readings clock.new) command.entry result }
 {
     match command {
         Command::Init { file } => {

@@ -1,9 +1,10 @@
-use Rattle.std.proofs.Common.{inl, inr, map}
+use Rattle.std.proofs.Common.{◌∙◌, inl, inr, map, sym, Ok, Err}
 use Rattle.clap.specs.Words.{kind_of}
+use Rattle.bank_commands.proofs.Asked.{driven_in, loaded_by, made_by, posted_by}
+use Rattle.bank_commands.proofs.Asked.{not_done, nothing_loaded, nothing_posted}
 use Rattle.bank_commands.proofs.Driven.{driven_by}
 use Rattle.bank_commands.proofs.Endings.{help_ends, memory_ends, mistake_ends, mistake_keeps, not_asked}
 use Rattle.bank_commands.proofs.Endings.{system_is_not_usage}
-use Rattle.bank_commands.proofs.Loaded.{loaded_by}
 use Rattle.bank_commands.proofs.Served.{served_by}
 use Rattle.bank_commands.proofs.running.run.Goals as goal
 
@@ -41,21 +42,13 @@ returns-in-Ok-perform-clause-help g c asks = absurd (c.in-Ok.ensures.help asks)
 pub returns-in-Err-perform-clause-help : goal.returns-in-Err-perform-clause-help
 returns-in-Err-perform-clause-help g c asks = absurd (c.in-Ok.ensures.help asks)
 
--- ---- words that ask to load
-
-pub returns-in-Ok-perform-clause-loaded : goal.returns-in-Ok-perform-clause-loaded
-returns-in-Ok-perform-clause-loaded g c asked done =
-    loaded_by (map g.T.AsStr.text c.args.words.now) asked c.in-Ok.command c.in-Ok-perform.status
-    (g.W.Write.contents c.args.output.now) (g.W.Write.contents c.perform.new.output)
-    (c.in-Ok.ensures.spelled (inr (inl asked))) c.in-Ok-perform.ensures
-
 -- ---- words that ask to drive
 
 pub returns-in-Ok-perform-clause-driven : goal.returns-in-Ok-perform-clause-driven
 returns-in-Ok-perform-clause-driven g c asked done =
     driven_by (map g.T.AsStr.text c.args.words.now) asked c.in-Ok.command c.in-Ok-perform.status
     (g.W.Write.contents c.args.output.now) (g.W.Write.contents c.perform.new.output)
-    (c.in-Ok.ensures.spelled (inr (inr (inr (inl asked))))) c.in-Ok-perform.ensures
+    (c.in-Ok.ensures.spelled (inr (inr (inr (inl asked))))) c.in-Ok-perform.ensures.ends
 
 -- ---- words that ask to serve
 
@@ -63,4 +56,93 @@ pub returns-in-Ok-perform-clause-served : goal.returns-in-Ok-perform-clause-serv
 returns-in-Ok-perform-clause-served g c asked done =
     served_by (map g.T.AsStr.text c.args.words.now) asked c.in-Ok.command c.in-Ok-perform.status
     (g.W.Write.contents c.args.output.now) (g.W.Write.contents c.perform.new.output)
-    (c.in-Ok.ensures.spelled (inr (inr (inr (inr (inr (inr asked))))))) c.in-Ok-perform.ensures
+    (c.in-Ok.ensures.spelled (inr (inr (inr (inr (inr (inr asked))))))) c.in-Ok-perform.ensures.ends
+
+-- ---- what the run did to its bank
+
+pub returns-in-Ok-perform-clause-made : goal.returns-in-Ok-perform-clause-made
+returns-in-Ok-perform-clause-made g c asked done =
+    made_by _ _ (g.R.Read.remaining c.args.input.now) (g.R.Read.remaining c.perform.new.input)
+    (g.W.Write.contents c.args.output.now) (g.W.Write.contents c.perform.new.output)
+    (g.K.Clock.readings c.args.clock.now) (g.K.Clock.readings c.perform.new.clock)
+    (map g.T.AsStr.text c.args.words.now)
+    asked c.in-Ok.command (Ok c.in-Ok-perform.status) (c.in-Ok.ensures.spelled (inl asked)) c.in-Ok-perform.ensures.does done
+
+pub returns-in-Ok-perform-clause-loaded : goal.returns-in-Ok-perform-clause-loaded
+returns-in-Ok-perform-clause-loaded g c asked done =
+    loaded_by _ _ (g.R.Read.remaining c.args.input.now) (g.R.Read.remaining c.perform.new.input)
+    (g.W.Write.contents c.args.output.now) (g.W.Write.contents c.perform.new.output)
+    (g.K.Clock.readings c.args.clock.now) (g.K.Clock.readings c.perform.new.clock)
+    (map g.T.AsStr.text c.args.words.now)
+    asked c.in-Ok.command (Ok c.in-Ok-perform.status) (c.in-Ok.ensures.spelled (inr (inl asked))) c.in-Ok-perform.ensures.does done
+
+pub returns-in-Ok-perform-clause-posted : goal.returns-in-Ok-perform-clause-posted
+returns-in-Ok-perform-clause-posted g c asked =
+    posted_by _ _ (g.R.Read.remaining c.args.input.now) (g.R.Read.remaining c.perform.new.input)
+    (g.W.Write.contents c.args.output.now) (g.W.Write.contents c.perform.new.output)
+    (g.K.Clock.readings c.args.clock.now) (g.K.Clock.readings c.perform.new.clock)
+    (map g.T.AsStr.text c.args.words.now)
+    asked c.in-Ok.command (Ok c.in-Ok-perform.status) (c.in-Ok.ensures.spelled (inr (inr (inl asked)))) c.in-Ok-perform.ensures.does
+
+pub returns-in-Ok-perform-clause-drives : goal.returns-in-Ok-perform-clause-drives
+returns-in-Ok-perform-clause-drives g c asked done =
+    driven_in _ _ (g.R.Read.remaining c.args.input.now) (g.R.Read.remaining c.perform.new.input)
+    (g.W.Write.contents c.args.output.now) (g.W.Write.contents c.perform.new.output)
+    (g.K.Clock.readings c.args.clock.now) (g.K.Clock.readings c.perform.new.clock)
+    (map g.T.AsStr.text c.args.words.now)
+    asked c.in-Ok.command (Ok c.in-Ok-perform.status) (c.in-Ok.ensures.spelled (inr (inr (inr (inl asked))))) c.in-Ok-perform.ensures.does done
+
+pub returns-in-Err-perform-clause-made : goal.returns-in-Err-perform-clause-made
+returns-in-Err-perform-clause-made g c asked done =
+    made_by _ _ (g.R.Read.remaining c.args.input.now) (g.R.Read.remaining c.perform.new.input)
+    (g.W.Write.contents c.args.output.now) (g.W.Write.contents c.perform.new.output)
+    (g.K.Clock.readings c.args.clock.now) (g.K.Clock.readings c.perform.new.clock)
+    (map g.T.AsStr.text c.args.words.now)
+    asked c.in-Ok.command (Err c.in-Err-perform.fault) (c.in-Ok.ensures.spelled (inl asked)) c.in-Err-perform.ensures.does (sym c.tell.ensures ∙ done)
+
+pub returns-in-Err-perform-clause-loaded : goal.returns-in-Err-perform-clause-loaded
+returns-in-Err-perform-clause-loaded g c asked done =
+    rw c.tell.ensures (loaded_by _ _ (g.R.Read.remaining c.args.input.now) (g.R.Read.remaining c.perform.new.input)
+    (g.W.Write.contents c.args.output.now) (g.W.Write.contents c.perform.new.output)
+    (g.K.Clock.readings c.args.clock.now) (g.K.Clock.readings c.perform.new.clock)
+    (map g.T.AsStr.text c.args.words.now)
+    asked c.in-Ok.command (Err c.in-Err-perform.fault) (c.in-Ok.ensures.spelled (inr (inl asked))) c.in-Err-perform.ensures.does
+    (rw c.tell.ensures at done))
+
+pub returns-in-Err-perform-clause-posted : goal.returns-in-Err-perform-clause-posted
+returns-in-Err-perform-clause-posted g c asked =
+    rw c.tell.ensures (posted_by _ _ (g.R.Read.remaining c.args.input.now) (g.R.Read.remaining c.perform.new.input)
+    (g.W.Write.contents c.args.output.now) (g.W.Write.contents c.perform.new.output)
+    (g.K.Clock.readings c.args.clock.now) (g.K.Clock.readings c.perform.new.clock)
+    (map g.T.AsStr.text c.args.words.now)
+    asked c.in-Ok.command (Err c.in-Err-perform.fault) (c.in-Ok.ensures.spelled (inr (inr (inl asked)))) c.in-Err-perform.ensures.does)
+
+pub returns-in-Err-perform-clause-drives : goal.returns-in-Err-perform-clause-drives
+returns-in-Err-perform-clause-drives g c asked done =
+    driven_in _ _ (g.R.Read.remaining c.args.input.now) (g.R.Read.remaining c.perform.new.input)
+    (g.W.Write.contents c.args.output.now) (g.W.Write.contents c.perform.new.output)
+    (g.K.Clock.readings c.args.clock.now) (g.K.Clock.readings c.perform.new.clock)
+    (map g.T.AsStr.text c.args.words.now)
+    asked c.in-Ok.command (Err c.in-Err-perform.fault) (c.in-Ok.ensures.spelled (inr (inr (inr (inl asked))))) c.in-Err-perform.ensures.does (sym c.tell.ensures ∙ done)
+
+-- ---- where memory ran out before the command was read
+
+pub returns-in-Err-clause-made : goal.returns-in-Err-clause-made
+returns-in-Err-clause-made g c asked done =
+    absurd (not_done (kind_of c.in-Err.error) c.explain.result (c.in-Err.ensures.spelled (inl asked)) c.explain.ensures.status done)
+
+pub returns-in-Err-clause-loaded : goal.returns-in-Err-clause-loaded
+returns-in-Err-clause-loaded g c asked done =
+    absurd (nothing_loaded (kind_of c.in-Err.error) c.explain.result (c.in-Err.ensures.spelled (inr (inl asked)))
+    c.explain.ensures.status done)
+
+pub returns-in-Err-clause-posted : goal.returns-in-Err-clause-posted
+returns-in-Err-clause-posted g c asked =
+    nothing_posted _ _ _ (g.W.Write.contents c.args.output.now) (g.W.Write.contents c.explain.new.output) _
+    (kind_of c.in-Err.error) c.explain.result (c.in-Err.ensures.spelled (inr (inr (inl asked)))) c.explain.ensures.status
+    c.explain.ensures.silent
+
+pub returns-in-Err-clause-drives : goal.returns-in-Err-clause-drives
+returns-in-Err-clause-drives g c asked done =
+    absurd (not_done (kind_of c.in-Err.error) c.explain.result (c.in-Err.ensures.spelled (inr (inr (inr (inl asked)))))
+    c.explain.ensures.status done)

@@ -1,0 +1,110 @@
+-- What is known of a bank that is found or made in files, by what they held.
+use Rattle.std.proofs.Common.{◌≡◌, ◌∙◌, sym, ap, refl, subst, inl, inr, ℕ, List, Option}
+use Rattle.std.proofs.Math.Logic.{∥∥₁_map}
+use Rattle.std.specs.Prelude.{Result, Ok, Err, IsErr, OnOk}
+use Rattle.sqlite.specs.Effect.{Database}
+use Rattle.sqlite.specs.Closing.{IsCopied}
+use Rattle.sqlite.specs.Files.{file_state, over_files}
+use Rattle.sqlite.specs.Held.{Held}
+use Rattle.sqlite.specs.State.{State, HasCleanDisk}
+use Rattle.sqlite_disk.specs.declared.Disk as disk
+use Rattle.sqlite_disk.specs.declared.Files.{Files}
+use Rattle.sqlite_store.specs.declared.store.FileStore.{FileStore}
+use Rattle.sqlite_trees.specs.Tree.{Trees}
+use Rattle.sqlite_wal.specs.Files.{outcomes}
+use Rattle.sqlite_wal.specs.Recovery.{Image}
+use Rattle.posting_rules.specs.Commands.{Command}
+use Rattle.posting_rules.specs.Counter.{Seen, StandsAt}
+use Rattle.posting_rules.specs.Tables.{Tables}
+use Rattle.posting_core.specs.Stream.{Streamed, Outputs, Survives, Resends}
+use Rattle.posting_core.specs.declared.stream.StreamFault.{StreamFault}
+use Rattle.store_rows.specs.View.{Shows, ShowsTrees}
+use Rattle.bank_store.specs.Opening.{conn_seen}
+use Rattle.bank_endings.specs.declared.fault.CommandFault.{CommandFault}
+use Rattle.bank_endings.specs.declared.status.Status.{Status}
+use Rattle.bank_endings.specs.declared.status.Status.TheVariants.{Done}
+use Rattle.bank_commands.specs.InFile.{HoldsLog, IsFoundIn, IsMadeOver, IsNewIn, IsOpenedOn, IsTakenUp}
+use Rattle.bank_commands.specs.Running.{ended_by}
+use Rattle.bank_commands.specs.Working.{PostsIn, said_of}
+
+-- the connection's trees show what the files held
+left_in : (image : Image) (s : State) (log : List Command) → IsOpenedOn image s → (holds : HoldsLog image log)
+    → ShowsTrees s.now.trees holds.tables
+left_in image s log opened holds =
+    let same : s.now.trees ≡ holds.trees =
+    ap (λ (db : Database). db.trees) opened.opens.clean ∙ opened.found.holds holds.trees holds.holds in
+    subst (λ (trees : Trees). ShowsTrees trees holds.tables) (sym same) holds.are
+
+pub found_in : (image : Image) (s : State) (seen : Seen) → (HasCleanDisk s → IsOpenedOn image s) → IsTakenUp s seen
+    → IsFoundIn image seen
+found_in image s seen opened taken honest log holds =
+    let it = opened (taken.clean honest) in
+    taken.stands honest it.opens holds.tables log holds.commands (left_in image s log it holds) holds.shows
+
+pub new_in : (image : Image) (s : State) (seen : Seen) → (HasCleanDisk s → IsOpenedOn image s) → IsMadeOver s seen
+    → IsNewIn image seen
+new_in image s seen opened made = record {
+  stands = made.stands;
+  fresh = λ honest log holds.
+      let it = opened (made.clean honest) in
+      made.fresh honest it.opens holds.tables (left_in image s log it holds);
+}
+
+pub on_ok : {X E : Type 0} {P : Type 0} (r : Result X E) → P → OnOk r P
+on_ok (Ok x) h = h
+on_ok (Err e) h = tt
+
+-- files that were closed hold what the connection showed
+pub closed_holds : {D : Type 0} {g : disk.Ghosts D} (conn : Held (FileStore D g)) (files : Files D) (image : Image)
+    (log : List Command) → StandsAt (conn_seen over_files conn) log → IsCopied conn files
+    → (file_state conn).now ≡ (file_state conn).committed
+    → ((t : Tables) → Shows (file_state conn).now t → ShowsTrees (file_state conn).now.trees t)
+    → outcomes g files.log files.db image → ∥ HoldsLog image log ∥₁
+closed_holds conn files image log stood copied settled leaves left =
+    ∥∥₁_map (copied.left image left).both (λ holds.
+    let it : HoldsLog image log = record {
+      commands = stood.shows.commands;
+      trees = (file_state conn).committed.trees;
+      holds = holds;
+      tables = stood.shows.tables;
+      are = subst (λ (db : Database). ShowsTrees db.trees stood.shows.tables) settled
+          (leaves stood.shows.tables stood.shows.are);
+      shows = stood.shows.shows;
+    } in
+    it)
+
+-- ---- what is posted
+
+module _ {C : Type 0} (seen : C → Seen) (image : Image) (r r' w w' k k' : Option (List ℕ)) where
+  -- a stream that was posted to the bank that was found
+  pub posted : (first last : C) (told : Result ℕ StreamFault) (result : Result ℕ CommandFault) (None : Type 0)
+      → result ≡ said_of told → IsFoundIn image (seen first)
+      → Streamed r r' w w' k k' (seen first) (seen last) told → Outputs r r' w w' (seen first) (seen last) told
+      → Survives r r' w w' (seen first) (seen last) → Resends r r' (seen first) (seen last) told
+      → PostsIn seen image r r' w w' k k' None (λ t. result ≡ said_of t)
+  posted first last told result None is found stream output stop resend =
+      inr (
+        told,
+        is,
+        record {
+          first = first;
+          last = last;
+          found = found;
+          works = record { stream = stream; output = output; stop = stop; resend = resend };
+        },
+      )
+
+  -- how the command ends that posted it
+  abbrev pub done_of : Result ℕ CommandFault → Result Status CommandFault
+  done_of (Ok count) = Ok Done
+  done_of (Err f) = Err f
+
+  done_as : (told : Result ℕ StreamFault) → done_of (said_of told) ≡ ended_by told
+  done_as (Ok count) = refl
+  done_as (Err f) = refl
+
+  pub posts_done : (result : Result ℕ CommandFault) → PostsIn seen image r r' w w' k k' (IsErr result) (λ told. result ≡ said_of told)
+      → PostsIn seen image r r' w w' k k' (IsErr (done_of result)) (λ told. done_of result ≡ ended_by told)
+  posts_done (Ok count) (inl none) = inl none
+  posts_done (Err f) (inl none) = inl none
+  posts_done result (inr (told, is, works)) = inr (told, ap done_of is ∙ done_as told, works)

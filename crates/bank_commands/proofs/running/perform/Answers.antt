@@ -1,0 +1,28 @@
+-- What each command did is what the run did.
+use Rattle.std.proofs.Common.{◌≡◌, rules, Ok, Err}
+use Rattle.bank_commands.proofs.Found.{posts_done}
+use Rattle.bank_commands.proofs.running.perform.Goals as goal
+
+pub returns-in_err-post-in-Post-clause-does : goal.returns-in_err-post-in-Post-clause-does
+returns-in_err-post-in-Post-clause-does g c =
+    let f = c.in_err-post-in-Post.field-0.0 in
+    let same : c.from_residual-in_err-post-in-Post.result ≡ Err f = search rules in
+    rw (c.in-Post.is, same) (posts_done _ _ (g.R.Read.remaining c.args.input.now) (g.R.Read.remaining c.post.new.input)
+    (g.W.Write.contents c.args.output.now) (g.W.Write.contents c.post.new.output)
+    (g.K.Clock.readings c.args.clock.now) (g.K.Clock.readings c.post.new.clock)
+    (Err f) c.in_err-post-in-Post.ensures.posts)
+
+pub returns-in_ok-post-in-Post-clause-does : goal.returns-in_ok-post-in-Post-clause-does
+returns-in_ok-post-in-Post-clause-does g c =
+    rw c.in-Post.is (posts_done _ _ (g.R.Read.remaining c.args.input.now) (g.R.Read.remaining c.post.new.input)
+    (g.W.Write.contents c.args.output.now) (g.W.Write.contents c.post.new.output)
+    (g.K.Clock.readings c.args.clock.now) (g.K.Clock.readings c.post.new.clock)
+    (Ok c.in_ok-post-in-Post.field-0) c.in_ok-post-in-Post.ensures.posts)
+
+pub returns-in_ok-loaded-in-Load-clause-does : goal.returns-in_ok-loaded-in-Load-clause-does
+returns-in_ok-loaded-in-Load-clause-does g c =
+    let it = c.in_ok-loaded-in-Load in
+    rw c.in-Load.is (it.loaded, (c.from.ensures, it.ensures.line), it.ensures.loads)
+
+pub returns-in_ok-drive-in-Drive-clause-does : goal.returns-in_ok-drive-in-Drive-clause-does
+returns-in_ok-drive-in-Drive-clause-does g c = rw c.in-Drive.is c.in_ok-drive-in-Drive.ensures.drives
