@@ -139,10 +139,12 @@ impl<S: Alter> Bank<S> {
 }
 
 impl<S: Alter + Drop> Counter for Bank<S> {
-    ghost use Rattle.bank_store.specs.NoneOrAll.{LeavesNoneOrAll};
+    ghost use Rattle.bank_store.specs.NoneOrAll.{LeavesNoneOrAll, HasOnly};
+    ghost use Rattle.bank_batches.specs.Batches.{DecidesNone};
     ghost use Rattle.bank_store.specs.Seen.{bank_seen, cause_of, database_of};
     ghost use Rattle.sqlite.specs.Effect.{Database};
     ghost use Rattle.posting_rules.specs.Counter.{TellsDamage};
+    ghost use Rattle.posting_rules.specs.Sound.{AreOfALog};
 
     ghost seen = { λ bank. bank_seen S.Store bank };
 
@@ -182,7 +184,8 @@ impl<S: Alter + Drop> Counter for Bank<S> {
     }
 
     // All room is made before the store is asked for anything. Each row that the records touch is read once, and each that
-    // they change is written once; they stand together or not at all.
+    // they change is written once; they stand together or not at all. Where none is decided, no table changes, and a stop leaves
+    // nothing else.
     fn submit_all(&mut self, moment: Moment, records: &[[u8; 100]]) -> Result<Vec<[u8; 200]>, Fault>
         requires some { 1 ≤ length records.now }
         requires few { length records.now ≤ RECORDS_PER_BATCH }
@@ -193,6 +196,8 @@ impl<S: Alter + Drop> Counter for Bank<S> {
         ensures up { OnOk result ((bank_seen S.Store self.new).is_down → ⊥) }
         ensures fault { IfErr result (λ fault. Refuses fault (bank_seen S.Store self.old) (bank_seen S.Store self.new) (posts moment records.now)) }
         ensures none_or_all { LeavesNoneOrAll (bank_seen S.Store self.old) (bank_seen S.Store self.new) (posts moment records.now) }
+        ensures idle { OnOk result ((bank_seen S.Store self.new).honest → (t : Tables) → (bank_seen S.Store self.old).tables t → AreOfALog t
+            → DecidesNone t moment records.now → HasOnly (bank_seen S.Store self.new) t) }
         ensures kept { IfErr result (λ fault. TellsDamage fault → (bank_seen S.Store self.new).honest
             → database_of S.Store self.new ≡ database_of S.Store self.old) }
         ensures cause { result ≡ Err fault.Store → IsSome (cause_of self.new) }

@@ -1,5 +1,5 @@
 -- What records come to.
-use Rattle.std.proofs.Common.{rules, arith, ◌∙◌}
+use Rattle.std.proofs.Common.{rules, arith, refl, ◌∙◌}
 use Rattle.std.specs.Prelude.{IsSome}
 use Rattle.posting_rules.specs.Commands.{AreCommands}
 use Rattle.posting_rules.specs.Runs.{posts}
@@ -54,3 +54,8 @@ returns-in-Err-clause-kept g c damage clean =
     let rs = c.args.records.now in
     keeps_file g.S.Store c.args.self.now.conn c.post_all.new.conn c.go_down.new.self.conn c.in-Err.fault c.go_down.new.self.fault c.go_down.result
     (c.in-Err.ensures.says rs c.in_ok-batch.ensures.made) c.go_down.ensures.down c.go_down.ensures.survives damage clean
+
+pub returns-in-Ok-clause-idle : goal.returns-in-Ok-clause-idle
+returns-in-Ok-clause-idle g c clean t shows so none =
+    let it = c.in-Ok.ensures.idle clean c.args.records.now c.in_ok-batch.ensures.made t shows so none in
+    record { tables = it.shows; stop = λ trees may. (t, it.stop trees may, refl) }
