@@ -42,3 +42,7 @@ error_in (Some (Damaged rule)) = None
 
 abbrev pub cause_of : {S : Type 0} {g : Ghosts S} → Bank S g → Option Error
 cause_of bank = error_in bank.fault
+
+-- what brought it down
+abbrev pub fault_of : {S : Type 0} {g : Ghosts S} → Bank S g → Option TableFault
+fault_of bank = bank.fault

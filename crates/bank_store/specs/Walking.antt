@@ -1,24 +1,62 @@
 -- What a walk has yet to give, and what a step of it gives.
-use Rattle.std.specs.Prelude.{◌≡◌, ◌++◌, ℕ, Bool, List, [], ◌∷◌, map, drop, filter, Option, Some, None, Result, Ok, Err, ⊤}
+use Rattle.std.specs.Prelude.{◌≡◌, ◌++◌, ◌≤ℤ◌, ◌+ℤ◌, pos, ℕ, ℤ, Bool, List, [], ◌∷◌, map, drop, filter, Option, Some, None, Result, Ok, Err, ⊤}
+use Rattle.std.specs.Borrow.{GName}
 use Rattle.sqlite_trees.specs.declared.store.Store.{Ghosts}
+use Rattle.sqlite.specs.Held.{state}
+use Rattle.sqlite.specs.State.{State}
+use Rattle.sqlite.specs.declared.error.Error.{Error}
 use Rattle.posting_rules.specs.declared.fault.Fault.{Fault}
 use Rattle.posting_rules.specs.declared.fault.Fault.TheVariants as told
 use Rattle.posting_rules.specs.declared.fault.Rule.TheVariants as rule
 use Rattle.sql_meanings.specs.Entries.{Entry}
-use Rattle.bank_walks.specs.Rows.{rows_behind}
+use Rattle.sql_meanings.specs.Outcomes.{IsStoreError}
+use Rattle.bank_walks.specs.Rising.{RisesFrom}
+use Rattle.bank_walks.specs.Rows.{entry_key, items_behind}
+use Rattle.bank_store.specs.Seen.{connection_of}
+use Rattle.bank_store.specs.declared.bank.Bank.{Bank}
 use Rattle.bank_store.specs.declared.walks.Walk.{Walk}
 use Rattle.bank_store.specs.declared.walks.Stage.{Stage}
 use Rattle.bank_store.specs.declared.walks.Stage.TheVariants.{Going, Ended, Failed}
 
+-- ---- what a walk borrows
+
+-- the bank, as it is
+abbrev pub lent : {S R : Type 0} {g : Ghosts S} → Walk S R g → Bank S g
+lent w = w.bank.now
+
+-- the name of the loan
+abbrev pub loan_of : {S R : Type 0} {g : Ghosts S} → Walk S R g → GName
+loan_of w = w.bank.ghost_name
+
+-- what the bank's connection shows
+abbrev pub lent_state : {S R : Type 0} (g : Ghosts S) → Walk S R g → State
+lent_state g w = state g (connection_of (lent w))
+
+-- ---- how far it is
+
 -- none are to come where all were given
-abbrev pub coming : Stage → List Entry → List Entry
-coming Going rows = rows
-coming Ended rows = []
-coming Failed rows = rows
+abbrev pub coming : {X : Type 0} → Stage → List X → List X
+coming Going items = items
+coming Ended items = []
+coming Failed items = items
 
 -- those that were read ahead and not given yet, and those behind them
+abbrev pub items_to_come : {S R X : Type 0} {g : Ghosts S} → (X → ℤ) → (R → X) → (Option ℕ → X → Bool) → List X → Walk S R g → List X
+items_to_come key item is_given items w =
+    coming w.stage (map item (drop w.given w.rows.items) ++ items_behind key w.rest (filter (is_given w.of) items))
+
+-- the same of the rows of one table
 abbrev pub to_come : {S R : Type 0} {g : Ghosts S} → (R → Entry) → (Option ℕ → Entry → Bool) → List Entry → Walk S R g → List Entry
-to_come entry is_given rows w = coming w.stage (map entry (drop w.given w.rows.items) ++ rows_behind w.rest (filter (is_given w.of) rows))
+to_come = items_to_come entry_key
+
+-- the keys of those to come rise from a number on
+abbrev pub ComesFrom : {S R : Type 0} {g : Ghosts S} → (R → ℤ) → ℤ → Walk S R g → Type 0
+ComesFrom key from w = RisesFrom from (map key (drop w.given w.rows.items)) w.rest
+
+-- it has a key from a number on, and the keys of those to come are above it
+abbrev pub GivesFrom : {S R : Type 0} {g : Ghosts S} → (R → ℤ) → ℤ → Walk S R g → Option R → Type 0
+GivesFrom key from w None = ⊤
+GivesFrom key from w (Some r) = (from ≤ℤ key r) × ComesFrom key (key r +ℤ pos 1) w
 
 -- all rows were given
 abbrev pub IsEnded : {S R : Type 0} {g : Ghosts S} → Walk S R g → Type 0
@@ -28,18 +66,24 @@ IsEnded w = w.stage ≡ Ended
 abbrev pub HasFailed : {S R : Type 0} {g : Ghosts S} → Walk S R g → Type 0
 HasFailed w = w.stage ≡ Failed
 
--- The first row to come was given; or there is none; or a number of the first row to come is out of its range.
-abbrev pub Steps : {R : Type 0} → (R → Entry) → (Entry → Type 0) → List Entry → List Entry → Result (Option R) Fault → Type 0
-Steps entry Breaks old new (Ok (Some r)) = old ≡ entry r ∷ new
-Steps entry Breaks old new (Ok None) = (old ≡ []) × (new ≡ [])
-Steps entry Breaks old new (Err (told.Damaged broken)) = (broken ≡ rule.Value) × ((e : Entry) × (more : List Entry) × (old ≡ e ∷ more) × Breaks e)
-Steps entry Breaks old new (Err told.Store) = ⊤
-Steps entry Breaks old new (Err told.Down) = new ≡ old
-Steps entry Breaks old new (Err told.Memory) = ⊥
+-- ---- a step
 
--- a fault is told: of the store, or a number of the first row to come is out of its range
-abbrev pub IsTold : (Entry → Type 0) → List Entry → Fault → Type 0
-IsTold Breaks old (told.Damaged broken) = (broken ≡ rule.Value) × ((e : Entry) × (more : List Entry) × (old ≡ e ∷ more) × Breaks e)
-IsTold Breaks old told.Store = ⊤
-IsTold Breaks old told.Down = ⊥
-IsTold Breaks old told.Memory = ⊥
+-- The first row to come was given; or there is none; or a number of the first row to come is out of its range.
+abbrev pub Steps : {R X : Type 0} → (R → X) → (X → Type 0) → List X → List X → Result (Option R) Fault → Type 0
+Steps item Breaks old new (Ok (Some r)) = old ≡ item r ∷ new
+Steps item Breaks old new (Ok None) = (old ≡ []) × (new ≡ [])
+Steps {R} {X} item Breaks old new (Err (told.Damaged broken)) = (broken ≡ rule.Value) × ((e : X) × (more : List X) × (old ≡ e ∷ more) × Breaks e)
+Steps item Breaks old new (Err told.Store) = ⊤
+Steps item Breaks old new (Err told.Down) = new ≡ old
+Steps item Breaks old new (Err told.Memory) = ⊥
+
+-- the store failed, or refused memory or steps
+abbrev pub StoreFailed : State → State → Type 0
+StoreFailed old new = (e : Error) × IsStoreError old new e
+
+-- a fault is told: of the store, with an error of which this holds, or a number of the first to come is out of its range
+abbrev pub IsTold : {X : Type 0} → (Error → Type 0) → (X → Type 0) → List X → Fault → Type 0
+IsTold {X} Because Breaks old (told.Damaged broken) = (broken ≡ rule.Value) × ((e : X) × (more : List X) × (old ≡ e ∷ more) × Breaks e)
+IsTold Because Breaks old told.Store = (e : Error) × Because e
+IsTold Because Breaks old told.Down = ⊥
+IsTold Because Breaks old told.Memory = ⊥

@@ -106,9 +106,10 @@ impl<S: Alter> Bank<S> {
 impl<S: Alter> Bank<S> {
     ghost use Rattle.std.specs.Prelude.{◌++◌, filter, is_some, map, MatchResult};
     ghost use Rattle.sqlite.specs.State.{HasCleanDisk};
-    ghost use Rattle.sql_meanings.specs.Entries.{Entry};
+    ghost use Rattle.sql_meanings.specs.Outcomes.{IsStoreError};
     ghost use Rattle.bank_walks.specs.Outcomes.{BreaksFirst};
-    ghost use Rattle.bank_walks.specs.Rows.{HasRows, rows_behind, rows_from};
+    ghost use Rattle.bank_walks.specs.Rising.{RisesFrom};
+    ghost use Rattle.bank_walks.specs.Rows.{items_behind, items_from};
     ghost use Rattle.bank_store.specs.Walks.{IsStill, IsUndone};
 
     pub(crate) fn is_down(&self) -> bool
@@ -124,11 +125,12 @@ impl<S: Alter> Bank<S> {
         from: i64,
         rows: &mut ArrayVec<R, AHEAD>,
     ) -> Result<Option<i64>, TableFault>
-        ensures told { HasCleanDisk (state S.Store self.new.conn) → (all : List Entry) → HasRows (state S.Store self.old.conn).now R.StoredRow.table all
-            → let given = filter (R.StoredRow.is_given of) all in MatchResult result
-            (λ rest. rows_from from given ≡ map R.StoredRow.entry rows.new.items ++ rows_behind rest given)
-            (BreaksFirst R.StoredRow.is_broken (rows_from from given)) }
+        ensures told { HasCleanDisk (state S.Store self.new.conn) → (all : List R.WalkedRow.Item) → R.WalkedRow.HasItems (state S.Store self.old.conn).now all
+            → let given = filter (R.WalkedRow.is_given of) all in MatchResult result
+            (λ rest. items_from R.WalkedRow.key from given ≡ map R.WalkedRow.item rows.new.items ++ items_behind R.WalkedRow.key rest given)
+            (BreaksFirst (IsStoreError (state S.Store self.old.conn) (state S.Store self.new.conn)) R.WalkedRow.is_broken (items_from R.WalkedRow.key from given)) }
         ensures ended { IfOk result (λ rest. rows.new.items ≡ [] → rest ≡ None) }
+        ensures rises { IfOk result (λ rest. RisesFrom from (map (λ r. R.WalkedRow.key (R.WalkedRow.item r)) rows.new.items) rest) }
         ensures same { HasCleanDisk (state S.Store self.new.conn) → OnOk result (IsStill (state S.Store self.old.conn) (state S.Store self.new.conn)) }
         ensures undone { HasCleanDisk (state S.Store self.new.conn) → IsUndone (state S.Store self.old.conn) (state S.Store self.new.conn) }
         ensures up { self.new.fault ≡ self.old.fault }

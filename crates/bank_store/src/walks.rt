@@ -1,13 +1,15 @@
 //! Walks over the rows of a bank, one row a step, by rising keys.
-ghost use Rattle.std.specs.Prelude.{◌≡◌, ◌≢◌, ◌<◌, ◌≤◌, OnSome, slice_get, [], List, false, None, Ok, Err, IfOk, IfErr, IsSome, OnOk, MatchResult, filter, map, ◌++◌, drop, length};
+ghost use Rattle.std.specs.Prelude.{◌≡◌, ◌≢◌, ◌<◌, ◌≤◌, OnSome, slice_get, [], List, false, None, Ok, Err, IfOk, IfErr, OnOk, MatchResult, filter, map, ◌++◌, drop, length, ℤ};
 ghost use Rattle.std.specs.Borrow.{sem, RestsIfErr};
 ghost use Rattle.std.specs.Result.{IsErrOf};
 ghost use Rattle.sqlite.specs.State.{HasCleanDisk, Survives};
 ghost use Rattle.sqlite.specs.Held.{state};
 ghost use Rattle.posting_rules.specs.declared.fault.Fault.TheVariants as fault;
 ghost use Rattle.sql_meanings.specs.Entries.{Entry};
+ghost use Rattle.sql_meanings.specs.Outcomes.{IsStoreError};
 ghost use Rattle.bank_walks.specs.Outcomes.{BreaksFirst};
-ghost use Rattle.bank_walks.specs.Rows.{HasRows, rows_behind, rows_from};
+ghost use Rattle.bank_walks.specs.Rising.{RisesFrom};
+ghost use Rattle.bank_walks.specs.Rows.{items_behind, items_from};
 ghost use Rattle.bank_store.specs.Walks.{IsStill, IsUndone, Tells};
 
 use crate::bank::Bank;
@@ -72,11 +74,12 @@ pub(crate) fn read_outside<S: Alter, R: WalkedRow>(
     rows: &mut ArrayVec<R, AHEAD>,
 ) -> Result<Option<i64>, TableFault>
     requires { conn.old.in_transaction ≡ false }
-    ensures told { HasCleanDisk (state S.Store conn.new) → (all : List Entry) → HasRows (state S.Store conn.old).now R.StoredRow.table all
-        → let given = filter (R.StoredRow.is_given of) all in MatchResult result
-        (λ rest. rows_from from given ≡ map R.StoredRow.entry rows.new.items ++ rows_behind rest given)
-        (BreaksFirst R.StoredRow.is_broken (rows_from from given)) }
+    ensures told { HasCleanDisk (state S.Store conn.new) → (all : List R.WalkedRow.Item) → R.WalkedRow.HasItems (state S.Store conn.old).now all
+        → let given = filter (R.WalkedRow.is_given of) all in MatchResult result
+        (λ rest. items_from R.WalkedRow.key from given ≡ map R.WalkedRow.item rows.new.items ++ items_behind R.WalkedRow.key rest given)
+        (BreaksFirst (IsStoreError (state S.Store conn.old) (state S.Store conn.new)) R.WalkedRow.is_broken (items_from R.WalkedRow.key from given)) }
     ensures ended { IfOk result (λ rest. rows.new.items ≡ [] → rest ≡ None) }
+    ensures rises { IfOk result (λ rest. RisesFrom from (map (λ r. R.WalkedRow.key (R.WalkedRow.item r)) rows.new.items) rest) }
     ensures same { HasCleanDisk (state S.Store conn.new) → OnOk result (IsStill (state S.Store conn.old) (state S.Store conn.new)) }
     ensures undone { HasCleanDisk (state S.Store conn.new) → IsUndone (state S.Store conn.old) (state S.Store conn.new) }
     ensures mode { conn.new.in_transaction ≡ false }
@@ -87,14 +90,16 @@ pub(crate) fn read_outside<S: Alter, R: WalkedRow>(
 }
 
 impl<'bank, S: Alter, R: WalkedRow> Walk<'bank, S, R> {
-    ghost use Rattle.bank_store.specs.Walking.{HasFailed, IsEnded, IsTold, Steps, to_come};
+    ghost use Rattle.bank_store.specs.Seen.{database_of, fault_of};
+    ghost use Rattle.bank_store.specs.Walking.{ComesFrom, GivesFrom, HasFailed, IsEnded, IsTold, Steps, StoreFailed, items_to_come, lent, lent_state, loan_of};
     ghost use Rattle.bank_store.specs.declared.walks.Stage.TheVariants.{Going};
 
     fn over(bank: &'bank mut Bank<S>, of: Option<Account>) -> Walk<'bank, S, R>
-        ensures same_reference { result.bank.ghost_name ≡ bank.entry.ghost_name }
-        ensures same { result.bank.now ≡ bank.old }
-        ensures all { (rows : List Entry) → HasRows (state S.Store bank.old.conn).now R.StoredRow.table rows
-            → to_come R.StoredRow.entry R.StoredRow.is_given rows result ≡ filter (R.StoredRow.is_given of) rows }
+        ensures same_reference { loan_of result ≡ bank.entry.ghost_name }
+        ensures same { lent result ≡ bank.old }
+        ensures all { (all : List R.WalkedRow.Item) → R.WalkedRow.HasItems (database_of S.Store bank.old) all
+            → items_to_come R.WalkedRow.key R.WalkedRow.item R.WalkedRow.is_given all result ≡ filter (R.WalkedRow.is_given of) all }
+        ensures rises { ComesFrom (λ r. R.WalkedRow.key (R.WalkedRow.item r)) LEAST result }
     {
         Walk {
             bank,
@@ -117,16 +122,17 @@ impl<'bank, S: Alter, R: WalkedRow> Walk<'bank, S, R> {
     // Reads ahead, where all was given that was read.
     fn refill(&mut self) -> Result<(), Fault>
         requires { self.old.stage ≡ Going }
-        ensures same_reference { self.new.bank.ghost_name ≡ self.old.bank.ghost_name }
-        ensures told { HasCleanDisk (state S.Store self.new.bank.now.conn) → (rows : List Entry) → HasRows (state S.Store self.old.bank.now.conn).now R.StoredRow.table rows
+        ensures same_reference { loan_of self.new ≡ loan_of self.old }
+        ensures told { HasCleanDisk (lent_state S.Store self.new) → (all : List R.WalkedRow.Item) → R.WalkedRow.HasItems (lent_state S.Store self.old).now all
             → MatchResult result
-            (λ _. to_come R.StoredRow.entry R.StoredRow.is_given rows self.new ≡ to_come R.StoredRow.entry R.StoredRow.is_given rows self.old)
-            (IsTold R.StoredRow.is_broken (to_come R.StoredRow.entry R.StoredRow.is_given rows self.old)) }
+            (λ _. items_to_come R.WalkedRow.key R.WalkedRow.item R.WalkedRow.is_given all self.new ≡ items_to_come R.WalkedRow.key R.WalkedRow.item R.WalkedRow.is_given all self.old)
+            (IsTold (IsStoreError (lent_state S.Store self.old) (lent_state S.Store self.new)) R.WalkedRow.is_broken (items_to_come R.WalkedRow.key R.WalkedRow.item R.WalkedRow.is_given all self.old)) }
+        ensures rises { (k : ℤ) → ComesFrom (λ r. R.WalkedRow.key (R.WalkedRow.item r)) k self.old → OnOk result (ComesFrom (λ r. R.WalkedRow.key (R.WalkedRow.item r)) k self.new) }
         ensures left { OnOk result (length self.new.rows.items ≤ self.new.given → self.new.rest ≡ None) }
-        ensures same { HasCleanDisk (state S.Store self.new.bank.now.conn) → OnOk result (IsStill (state S.Store self.old.bank.now.conn) (state S.Store self.new.bank.now.conn)) }
-        ensures undone { HasCleanDisk (state S.Store self.new.bank.now.conn) → IsUndone (state S.Store self.old.bank.now.conn) (state S.Store self.new.bank.now.conn) }
+        ensures same { HasCleanDisk (lent_state S.Store self.new) → OnOk result (IsStill (lent_state S.Store self.old) (lent_state S.Store self.new)) }
+        ensures undone { HasCleanDisk (lent_state S.Store self.new) → IsUndone (lent_state S.Store self.old) (lent_state S.Store self.new) }
         ensures up { self.new.bank.now.fault ≡ self.old.bank.now.fault }
-        ensures survives { Survives (state S.Store self.old.bank.now.conn) (state S.Store self.new.bank.now.conn) (λ _. ⊥) }
+        ensures survives { Survives (lent_state S.Store self.old) (lent_state S.Store self.new) (λ _. ⊥) }
         ensures going { OnOk result (self.new.stage ≡ Going) }
         ensures failed { IfErr result (λ f. HasFailed self.new × (f ≢ fault.Down)) }
     {
@@ -152,14 +158,18 @@ impl<'bank, S: Alter, R: WalkedRow> Walk<'bank, S, R> {
 
     /// The next row, none behind the last. After a fault it answers `Down`.
     pub fn next(&mut self) -> Result<Option<R>, Fault>
-        ensures same_reference { self.new.bank.ghost_name ≡ self.old.bank.ghost_name }
-        ensures told { HasCleanDisk (state S.Store self.new.bank.now.conn) → (rows : List Entry) → HasRows (state S.Store self.old.bank.now.conn).now R.StoredRow.table rows
-            → Steps R.StoredRow.entry R.StoredRow.is_broken (to_come R.StoredRow.entry R.StoredRow.is_given rows self.old)
-            (to_come R.StoredRow.entry R.StoredRow.is_given rows self.new) result }
-        ensures same { HasCleanDisk (state S.Store self.new.bank.now.conn) → OnOk result (IsStill (state S.Store self.old.bank.now.conn) (state S.Store self.new.bank.now.conn)) }
-        ensures undone { HasCleanDisk (state S.Store self.new.bank.now.conn) → IsUndone (state S.Store self.old.bank.now.conn) (state S.Store self.new.bank.now.conn) }
-        ensures up { self.new.bank.now.fault ≡ self.old.bank.now.fault }
-        ensures survives { Survives (state S.Store self.old.bank.now.conn) (state S.Store self.new.bank.now.conn) (λ _. ⊥) }
+        ensures same_reference { loan_of self.new ≡ loan_of self.old }
+        ensures told { HasCleanDisk (lent_state S.Store self.new) → (all : List R.WalkedRow.Item) → R.WalkedRow.HasItems (lent_state S.Store self.old).now all
+            → Steps R.WalkedRow.item R.WalkedRow.is_broken (items_to_come R.WalkedRow.key R.WalkedRow.item R.WalkedRow.is_given all self.old)
+            (items_to_come R.WalkedRow.key R.WalkedRow.item R.WalkedRow.is_given all self.new) result }
+        ensures store { HasCleanDisk (lent_state S.Store self.new) → (all : List R.WalkedRow.Item) → R.WalkedRow.HasItems (lent_state S.Store self.old).now all
+            → result ≡ Err fault.Store → StoreFailed (lent_state S.Store self.old) (lent_state S.Store self.new) }
+        // Each key is above those before it.
+        ensures rises { (k : ℤ) → ComesFrom (λ r. R.WalkedRow.key (R.WalkedRow.item r)) k self.old → IfOk result (λ row. GivesFrom (λ r. R.WalkedRow.key (R.WalkedRow.item r)) k self.new row) }
+        ensures same { HasCleanDisk (lent_state S.Store self.new) → OnOk result (IsStill (lent_state S.Store self.old) (lent_state S.Store self.new)) }
+        ensures undone { HasCleanDisk (lent_state S.Store self.new) → IsUndone (lent_state S.Store self.old) (lent_state S.Store self.new) }
+        ensures up { fault_of (lent self.new) ≡ fault_of (lent self.old) }
+        ensures survives { Survives (lent_state S.Store self.old) (lent_state S.Store self.new) (λ _. ⊥) }
         ensures ended { result ≡ Ok None → IsEnded self.new }
         ensures again { IsEnded self.old → (result ≡ Ok None) × (self.new ≡ self.old) }
         ensures failed { IfErr result (λ _. HasFailed self.new) }
@@ -187,19 +197,22 @@ impl<'bank, S: Alter, R: WalkedRow> Walk<'bank, S, R> {
 
 ghost use Rattle.std.specs.Prelude.{true};
 ghost use Rattle.bank_store.specs.contracts.bank.Bank.{the_row};
-ghost use Rattle.bank_store.specs.Walking.{to_come};
+ghost use Rattle.bank_store.specs.Seen.{bank_seen, database_of};
+ghost use Rattle.bank_store.specs.Walking.{ComesFrom, lent, loan_of, to_come};
+ghost use Rattle.bank_walks.specs.Rows.{HasRows, LEAST, entry_key};
 ghost use Rattle.bank_walks.specs.Stored.{account_entry, branch_entry, is_of, posting_entry, teller_entry};
 ghost use Rattle.store_rows.specs.SixTables.{account as account_table, branch as branch_table, history as history_table, teller as teller_table};
 ghost use Rattle.std.specs.Prelude.{Some};
 
 /// Begins a walk over the branches.
 pub fn each_branch<S: Alter>(bank: &mut Bank<S>) -> Result<Walk<'_, S, StoredBranch>, Fault>
-    ensures* refused { sem 𝓛 (RestsIfErr (the_row S.row S.Store) bank.entry (λ it. it.bank.ghost_name) result (λ last. last ≡ bank.old)) }
-    ensures same_reference { IfOk result (λ it. it.bank.ghost_name ≡ bank.entry.ghost_name) }
-    ensures same { IfOk result (λ it. it.bank.now ≡ bank.old) }
-    ensures all { IfOk result (λ it. (rows : List Entry) → HasRows (state S.Store bank.old.conn).now branch_table rows
-        → to_come branch_entry (λ of e. true) rows it ≡ filter (λ e. true) rows) }
-    ensures fault { IfErr result (λ f. (f ≡ fault.Down) × IsSome bank.old.fault) }
+    ensures* refused { sem 𝓛 (RestsIfErr (the_row S.row S.Store) bank.entry loan_of result (λ last. last ≡ bank.old)) }
+    ensures same_reference { IfOk result (λ it. loan_of it ≡ bank.entry.ghost_name) }
+    ensures same { IfOk result (λ it. lent it ≡ bank.old) }
+    ensures all { IfOk result (λ it. (rows : List Entry) → HasRows (database_of S.Store bank.old) branch_table rows
+        → to_come branch_entry (λ of e. true) rows it ≡ rows) }
+    ensures rises { IfOk result (λ it. ComesFrom (λ r. entry_key (branch_entry r)) LEAST it) }
+    ensures fault { IfErr result (λ f. (f ≡ fault.Down) × (bank_seen S.Store bank.old).is_down) }
 {
     if bank.is_down() {
         return Err(Fault::Down);
@@ -209,12 +222,13 @@ pub fn each_branch<S: Alter>(bank: &mut Bank<S>) -> Result<Walk<'_, S, StoredBra
 
 /// Begins a walk over the tellers.
 pub fn each_teller<S: Alter>(bank: &mut Bank<S>) -> Result<Walk<'_, S, StoredTeller>, Fault>
-    ensures* refused { sem 𝓛 (RestsIfErr (the_row S.row S.Store) bank.entry (λ it. it.bank.ghost_name) result (λ last. last ≡ bank.old)) }
-    ensures same_reference { IfOk result (λ it. it.bank.ghost_name ≡ bank.entry.ghost_name) }
-    ensures same { IfOk result (λ it. it.bank.now ≡ bank.old) }
-    ensures all { IfOk result (λ it. (rows : List Entry) → HasRows (state S.Store bank.old.conn).now teller_table rows
-        → to_come teller_entry (λ of e. true) rows it ≡ filter (λ e. true) rows) }
-    ensures fault { IfErr result (λ f. (f ≡ fault.Down) × IsSome bank.old.fault) }
+    ensures* refused { sem 𝓛 (RestsIfErr (the_row S.row S.Store) bank.entry loan_of result (λ last. last ≡ bank.old)) }
+    ensures same_reference { IfOk result (λ it. loan_of it ≡ bank.entry.ghost_name) }
+    ensures same { IfOk result (λ it. lent it ≡ bank.old) }
+    ensures all { IfOk result (λ it. (rows : List Entry) → HasRows (database_of S.Store bank.old) teller_table rows
+        → to_come teller_entry (λ of e. true) rows it ≡ rows) }
+    ensures rises { IfOk result (λ it. ComesFrom (λ r. entry_key (teller_entry r)) LEAST it) }
+    ensures fault { IfErr result (λ f. (f ≡ fault.Down) × (bank_seen S.Store bank.old).is_down) }
 {
     if bank.is_down() {
         return Err(Fault::Down);
@@ -224,12 +238,13 @@ pub fn each_teller<S: Alter>(bank: &mut Bank<S>) -> Result<Walk<'_, S, StoredTel
 
 /// Begins a walk over the accounts.
 pub fn each_account<S: Alter>(bank: &mut Bank<S>) -> Result<Walk<'_, S, StoredAccount>, Fault>
-    ensures* refused { sem 𝓛 (RestsIfErr (the_row S.row S.Store) bank.entry (λ it. it.bank.ghost_name) result (λ last. last ≡ bank.old)) }
-    ensures same_reference { IfOk result (λ it. it.bank.ghost_name ≡ bank.entry.ghost_name) }
-    ensures same { IfOk result (λ it. it.bank.now ≡ bank.old) }
-    ensures all { IfOk result (λ it. (rows : List Entry) → HasRows (state S.Store bank.old.conn).now account_table rows
-        → to_come account_entry (λ of e. true) rows it ≡ filter (λ e. true) rows) }
-    ensures fault { IfErr result (λ f. (f ≡ fault.Down) × IsSome bank.old.fault) }
+    ensures* refused { sem 𝓛 (RestsIfErr (the_row S.row S.Store) bank.entry loan_of result (λ last. last ≡ bank.old)) }
+    ensures same_reference { IfOk result (λ it. loan_of it ≡ bank.entry.ghost_name) }
+    ensures same { IfOk result (λ it. lent it ≡ bank.old) }
+    ensures all { IfOk result (λ it. (rows : List Entry) → HasRows (database_of S.Store bank.old) account_table rows
+        → to_come account_entry (λ of e. true) rows it ≡ rows) }
+    ensures rises { IfOk result (λ it. ComesFrom (λ r. entry_key (account_entry r)) LEAST it) }
+    ensures fault { IfErr result (λ f. (f ≡ fault.Down) × (bank_seen S.Store bank.old).is_down) }
 {
     if bank.is_down() {
         return Err(Fault::Down);
@@ -242,12 +257,13 @@ pub fn history_of<S: Alter>(
     bank: &mut Bank<S>,
     account: Account,
 ) -> Result<Walk<'_, S, StoredPosting>, Fault>
-    ensures* refused { sem 𝓛 (RestsIfErr (the_row S.row S.Store) bank.entry (λ it. it.bank.ghost_name) result (λ last. last ≡ bank.old)) }
-    ensures same_reference { IfOk result (λ it. it.bank.ghost_name ≡ bank.entry.ghost_name) }
-    ensures same { IfOk result (λ it. it.bank.now ≡ bank.old) }
-    ensures all { IfOk result (λ it. (rows : List Entry) → HasRows (state S.Store bank.old.conn).now history_table rows
+    ensures* refused { sem 𝓛 (RestsIfErr (the_row S.row S.Store) bank.entry loan_of result (λ last. last ≡ bank.old)) }
+    ensures same_reference { IfOk result (λ it. loan_of it ≡ bank.entry.ghost_name) }
+    ensures same { IfOk result (λ it. lent it ≡ bank.old) }
+    ensures all { IfOk result (λ it. (rows : List Entry) → HasRows (database_of S.Store bank.old) history_table rows
         → to_come posting_entry is_of rows it ≡ filter (is_of (Some account)) rows) }
-    ensures fault { IfErr result (λ f. (f ≡ fault.Down) × IsSome bank.old.fault) }
+    ensures rises { IfOk result (λ it. ComesFrom (λ r. entry_key (posting_entry r)) LEAST it) }
+    ensures fault { IfErr result (λ f. (f ≡ fault.Down) × (bank_seen S.Store bank.old).is_down) }
 {
     if bank.is_down() {
         return Err(Fault::Down);

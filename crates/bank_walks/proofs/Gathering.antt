@@ -13,7 +13,7 @@ use Rattle.sql_meanings.proofs.EntryLists.{Above}
 use Rattle.store_rows.proofs.Lookups.{as_integer}
 use Rattle.store_rows.specs.declared.faults.TableFault.{TableFault}
 use Rattle.store_rows.specs.declared.faults.TableFault.TheVariants.{Sqlite, Damaged}
-use Rattle.bank_walks.specs.Outcomes.{BreaksFirst, ReadsNext, all_numbers, shown}
+use Rattle.bank_walks.specs.Outcomes.{BreaksFirst, IsRefusedMemory, ReadsNext, all_numbers, shown}
 use Rattle.bank_walks.specs.Rows.{IsWide, rows_from}
 
 -- ---- how the rows that are yet to come grow fewer
@@ -30,7 +30,7 @@ still a b k low from = grind (arith, ints)
 below_both : (a b k : ℤ) → is_ge (int_cmp a k) ≡ false → is_ge (int_cmp b k) ≡ true → is_ge (int_cmp a (b +ℤ pos 1)) ≡ false
 below_both a b k low from = grind (arith, ints)
 
-all_from : (k : ℤ) (x : Entry) (es : List Entry) → Above x es → ((y : Entry) → int_cmp x.key y.key ≡ Less → is_from k y ≡ true)
+pub all_from : (k : ℤ) (x : Entry) (es : List Entry) → Above x es → ((y : Entry) → int_cmp x.key y.key ≡ Less → is_from k y ≡ true)
     → filter (is_from k) es ≡ es
 all_from k x [] above each = refl
 all_from k x (y ∷ ys) above each = rw (each y above.0) (ap (λ l. y ∷ l) (all_from k x ys above.1 each))
@@ -53,11 +53,6 @@ first_left k (x ∷ xs) e rise some = elim (cases_Bool (is_from k x)) [
       rw (away, low) (first_left k xs e rise.1 later)
 ]
 
--- from the least number on all are to come
-pub all_left : (k : ℤ) (es : List Entry) → AllByRecursion (λ e. is_from k e ≡ true) es → rows_from k es ≡ es
-all_left k [] all = refl
-all_left k (e ∷ es) all = rw all.0 (ap (λ l. e ∷ l) (all_left k es all.1))
-
 fits : (a : ℕ) → a ≤ 1_000_000_000_000 → FitsSigned w64 (pos a +ℤ pos 1)
 fits a low = omega (arith, ints)
 
@@ -74,7 +69,7 @@ none_there (x ∷ xs) h = absurd (grind (arith, nat_tests))
 
 -- ---- a row of those that were found
 
-found_of : (p : Entry → Bool) (es : List Entry) (e : Entry) (more : List Entry) → filter p es ≡ e ∷ more → find p es ≡ Some e
+pub found_of : (p : Entry → Bool) (es : List Entry) (e : Entry) (more : List Entry) → filter p es ≡ e ∷ more → find p es ≡ Some e
 found_of p [] e more is = absurd (cc)
 found_of p (x ∷ xs) e more is = elim (cases_Bool (p x)) [
   | inl here ↦ rw here (ap Some (let it = rw here at is in cc))
@@ -130,8 +125,8 @@ module _ {R : Type 0} (entry : R → Entry) (Breaks : Entry → Type 0) (width m
 
     -- a number of it is out of its range, and none was gathered before it
     pub gathers_none : (fault : TableFault) → done ≡ [] → ReadsNext {R = R} width entry Breaks next row (Err fault)
-        → BreaksFirst Breaks (rows_from from rows) fault
-    gathers_none (Sqlite e) none read = tt
+        → BreaksFirst IsRefusedMemory Breaks (rows_from from rows) fault
+    gathers_none (Sqlite e) none read = let it = next_is in read it.0 it.2 it.3
     gathers_none (Damaged broken) none read =
         let it = next_is in
         let broke = read it.0 it.2 it.3 (found_passes (is_from next) rows it.0 it.1) in (

@@ -1,7 +1,10 @@
 -- What the walks read.
 pub mod EntriesRead
 pub mod Gathering
+pub mod Keys
 pub mod NumbersRead
+pub mod Rises
+pub mod Shown
 pub mod Shows
 pub mod Sought
 pub mod WalkTexts

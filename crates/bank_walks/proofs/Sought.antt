@@ -1,6 +1,6 @@
 -- What the statement of a walk tells, and what stands after it.
 use Rattle.std.proofs.Common.{◌≡◌, inl, inr, zero, suc, ℕ, ℤ, List, [], ◌∷◌, map, filter, take, cond, Bool, true, false, length, Ok, Err, Result, refl, sym, ap, ◌∙◌}
-use Rattle.std.specs.Prelude.{IfOk, IfErr}
+use Rattle.std.specs.Prelude.{IfOk, IfErr, MatchResult}
 use Rattle.std.specs.List.{AllByRecursion}
 use Rattle.std.proofs.lemmas.Bool.{cases_Bool}
 use Rattle.sqlite.specs.Order.{Row}
@@ -11,12 +11,14 @@ use Rattle.sqlite.specs.State.{State, FailsToQuery, IsUnchanged, Shown}
 use Rattle.sqlite.specs.declared.error.Error.{Error}
 use Rattle.sqlite.specs.declared.types.Value.TheVariants.{Int}
 use Rattle.sql_meanings.specs.Entries.{Entry, numbers, stored}
-use Rattle.sql_meanings.specs.Outcomes.{OnlyShows, WriteFails}
+use Rattle.sql_meanings.specs.Outcomes.{IsStoreError, OnlyShows, ReadFails, WriteFails}
 use Rattle.sql_meanings.specs.Seeks.{begins, is_from, is_of_from, next_from, next_of_from}
 use Rattle.sql_meanings.specs.Tables.{width_of}
 use Rattle.sql_meanings.proofs.ReadSeeks.{kept_all, reads_from, reads_of_from}
 use Rattle.sql_meanings.proofs.ReadTables.{ReadsAs}
-use Rattle.bank_walks.specs.Outcomes.{all_numbers, shown}
+use Rattle.store_rows.specs.declared.faults.TableFault.{TableFault}
+use Rattle.store_rows.specs.declared.faults.TableFault.TheVariants.{Sqlite, Damaged}
+use Rattle.bank_walks.specs.Outcomes.{BreaksFirst, IsRefusedMemory, all_numbers, shown}
 use Rattle.bank_walks.specs.Rows.{HasRows, IsWide, rows_from}
 use Rattle.bank_walks.specs.declared.ahead.TheConstants.{AHEAD}
 
@@ -31,21 +33,14 @@ wide_filter width p (e ∷ es) all = go (p e) (wide_filter width p es all.1)
     go true more = (all.0, more)
     go false more = more
 
--- their keys are as great
-pub least_filter : (k : ℤ) (p : Entry → Bool) (es : List Entry) → AllByRecursion (λ e. is_from k e ≡ true) es
-    → AllByRecursion (λ e. is_from k e ≡ true) (filter p es)
-least_filter k p [] all = all
-least_filter k p (e ∷ es) all = go (p e) (least_filter k p es all.1)
-  where
-    go : (b : Bool) → AllByRecursion (λ x. is_from k x ≡ true) (filter p es)
-        → AllByRecursion (λ x. is_from k x ≡ true) (cond b (e ∷ filter p es) (filter p es))
-    go true more = (all.0, more)
-    go false more = more
+-- each passes
+pub all_pass : {X : Type 0} (p : X → Bool) → ((x : X) → p x ≡ true) → (xs : List X) → filter p xs ≡ xs
+all_pass p each [] = refl
+all_pass p each (x ∷ xs) = rw (each x) (ap (λ l. x ∷ l) (all_pass p each xs))
 
 -- any row passes
-pub all_given : (es : List Entry) → filter (λ _. true) es ≡ es
-all_given [] = refl
-all_given (e ∷ es) = ap (λ l. e ∷ l) (all_given es)
+pub all_given : {X : Type 0} (xs : List X) → filter (λ _. true) xs ≡ xs
+all_given = all_pass (λ _. true) (λ _. refl)
 
 -- two tests, one after the other
 both_given : (one k : ℤ) (es : List Entry) → filter (is_of_from one k) es ≡ filter (is_from k) (filter (λ e. begins one e.values) es)
@@ -73,29 +68,39 @@ same_shown width f same (e ∷ es) all = rw (same e all.0) (ap (λ l. numbers (a
 
 -- ---- what is told
 
+-- why a seek fails is an error of the store
+store_error : (old new : State) (e : Error) → ReadFails old new e → IsStoreError old new e
+store_error old new e (inl fails) = inl fails
+store_error old new e (inr limit) = inr (inr (limit.0, limit.1), limit.2)
+
 module _ (old new : State) (table : Table) (free : table.references ≡ []) (rows : List Entry) (has : HasRows old.now table rows)
-    (text : List ℕ) (project : List Term) where
+    (text : List ℕ) (project : List Term) {V : Type 0} (items : V → List Row) where
   -- the rows from a number on
   pub tells_from : (k : ℤ) → ReadsAs table text (Int k ∷ []) (λ t. next_from AHEAD t project)
       → ((e : Entry) → length e.values ≡ width_of table → eval_all project ((Int k ∷ []) ∷ stored e ∷ []) ≡ numbers (all_numbers e))
-      → (found : List Row) → Shown text (Int k ∷ []) old new found
-      → found ≡ shown (take AHEAD (rows_from k (filter (λ _. true) rows)))
-  tells_from k reads whole found h =
-      let told = reads_from old new table free has.sound rows has.holds text AHEAD project k reads (Ok found) h in
+      → (r : Result V Error) → IfOk r (λ v. Shown text (Int k ∷ []) old new (items v)) → IfErr r (FailsToQuery text (Int k ∷ []) old new)
+      → MatchResult r (λ v. items v ≡ shown (take AHEAD (rows_from k (filter (λ _. true) rows)))) (IsStoreError old new)
+  tells_from k reads whole (Ok v) ok err =
+      let told = reads_from old new table free has.sound rows has.holds text AHEAD project k reads (Ok (items v)) ok in
       told.0 ∙ ap (take AHEAD) (same_shown (width_of table) _ whole (filter (is_from k) rows) (wide_filter _ (is_from k) rows has.holds.rows.wide))
       ∙ taken (λ e. numbers (all_numbers e)) AHEAD (filter (is_from k) rows)
       ∙ ap (λ es. shown (take AHEAD (rows_from k es))) (sym (all_given rows))
+  tells_from k reads whole (Err e) ok err =
+      store_error old new e (reads_from old new table free has.sound rows has.holds text AHEAD project k reads (Err e) err)
 
   -- the same of those with a number behind their keys
   pub tells_of_from : (one k : ℤ) → ReadsAs table text (Int one ∷ Int k ∷ []) (λ t. next_of_from AHEAD t project)
       → ((e : Entry) → length e.values ≡ width_of table → eval_all project ((Int one ∷ Int k ∷ []) ∷ stored e ∷ []) ≡ numbers (all_numbers e))
-      → (found : List Row) → Shown text (Int one ∷ Int k ∷ []) old new found
-      → found ≡ shown (take AHEAD (rows_from k (filter (λ e. begins one e.values) rows)))
-  tells_of_from one k reads whole found h =
-      let told = reads_of_from old new table free has.sound rows has.holds text AHEAD project one k reads (Ok found) h in
+      → (r : Result V Error) → IfOk r (λ v. Shown text (Int one ∷ Int k ∷ []) old new (items v))
+      → IfErr r (FailsToQuery text (Int one ∷ Int k ∷ []) old new)
+      → MatchResult r (λ v. items v ≡ shown (take AHEAD (rows_from k (filter (λ e. begins one e.values) rows)))) (IsStoreError old new)
+  tells_of_from one k reads whole (Ok v) ok err =
+      let told = reads_of_from old new table free has.sound rows has.holds text AHEAD project one k reads (Ok (items v)) ok in
       told.0 ∙ ap (take AHEAD) (same_shown (width_of table) _ whole (filter (is_of_from one k) rows) (wide_filter _ (is_of_from one k) rows has.holds.rows.wide))
       ∙ taken (λ e. numbers (all_numbers e)) AHEAD (filter (is_of_from one k) rows)
       ∙ ap (λ es. shown (take AHEAD es)) (both_given one k rows)
+  tells_of_from one k reads whole (Err e) ok err =
+      store_error old new e (reads_of_from old new table free has.sound rows has.holds text AHEAD project one k reads (Err e) err)
 
 module _ (old new : State) (text : List ℕ) (params : Row) (only : OnlyShows text (length params) (understood old.now.schema text)) where
   -- an answer has changed nothing
@@ -115,3 +120,14 @@ if_ok P Q (Err e) f p = p
 pub if_err : {X E : Type 0} (P Q : E → Type 0) (r : Result X E) → ((e : E) → P e → Q e) → IfErr r P → IfErr r Q
 if_err P Q (Ok x) f p = p
 if_err P Q (Err e) f p = f e p
+
+-- an answer with a fault told in other words
+pub match_err : {X E : Type 0} (P : X → Type 0) (Q T : E → Type 0) (r : Result X E) → ((e : E) → Q e → T e) → MatchResult r P Q → MatchResult r P T
+match_err P Q T (Ok x) f h = h
+match_err P Q T (Err e) f h = f e h
+
+-- memory was refused, and nothing has changed
+pub refused_memory : (old new : State) (Breaks : Entry → Type 0) (rows : List Entry) → IsUnchanged old new → (fault : TableFault)
+    → BreaksFirst IsRefusedMemory Breaks rows fault → BreaksFirst (IsStoreError old new) Breaks rows fault
+refused_memory old new Breaks rows same (Sqlite e) refused = inr (inl refused, same)
+refused_memory old new Breaks rows same (Damaged broken) broke = broke

@@ -1,6 +1,7 @@
 -- What is read of a row, and what a step of a walk meets.
-use Rattle.std.specs.Prelude.{◌≡◌, ℕ, ℤ, pos, true, List, [], ◌∷◌, length, map, Option, Some, None, Result, Ok, Err, ⊤}
+use Rattle.std.specs.Prelude.{◌≡◌, ℕ, ℤ, pos, true, List, [], ◌∷◌, length, map, Option, Some, None, Result, Ok, Err}
 use Rattle.sqlite.specs.Order.{Row}
+use Rattle.sqlite.specs.declared.error.Error.{Error}
 use Rattle.sqlite.specs.declared.error.Error.TheVariants.{SqliteFailure}
 use Rattle.sqlite.specs.declared.error.ErrorCode.TheVariants.{OutOfMemory}
 use Rattle.posting_rules.specs.declared.fault.Rule.TheVariants as rule
@@ -8,6 +9,10 @@ use Rattle.sql_meanings.specs.Entries.{Entry, numbers}
 use Rattle.sql_meanings.specs.Seeks.{is_from}
 use Rattle.store_rows.specs.declared.faults.TableFault.{TableFault}
 use Rattle.store_rows.specs.declared.faults.TableFault.TheVariants.{Sqlite, Damaged}
+
+-- memory for what is read was refused
+abbrev pub IsRefusedMemory : Error → Type 0
+IsRefusedMemory e = e ≡ SqliteFailure OutOfMemory
 
 -- all numbers of a row, its key first
 abbrev pub all_numbers : Entry → List ℤ
@@ -27,7 +32,7 @@ Stores entry Breaks ns None = Breaks (entry_of ns)
 abbrev pub ReadsEntry : {R : Type 0} → ℕ → (R → Entry) → (Entry → Type 0) → Row → Result R TableFault → Type 0
 ReadsEntry width entry Breaks row (Ok r) = (e : Entry) → row ≡ numbers (all_numbers e) → length e.values ≡ width → entry r ≡ e
 ReadsEntry width entry Breaks row (Err (Sqlite x)) =
-    (e : Entry) → row ≡ numbers (all_numbers e) → length e.values ≡ width → x ≡ SqliteFailure OutOfMemory
+    (e : Entry) → row ≡ numbers (all_numbers e) → length e.values ≡ width → IsRefusedMemory x
 ReadsEntry width entry Breaks row (Err (Damaged broken)) =
     (e : Entry) → row ≡ numbers (all_numbers e) → length e.values ≡ width → (broken ≡ rule.Value) × Breaks e
 
@@ -39,11 +44,12 @@ shown = map (λ e. numbers (all_numbers e))
 abbrev pub ReadsNext : {R : Type 0} → ℕ → (R → Entry) → (Entry → Type 0) → ℤ → Row → Result R TableFault → Type 0
 ReadsNext width entry Breaks next row (Ok r) =
     ((e : Entry) → row ≡ numbers (all_numbers e) → length e.values ≡ width → entry r ≡ e) × (is_from next (entry r) ≡ true)
-ReadsNext width entry Breaks next row (Err (Sqlite x)) = ⊤
+ReadsNext width entry Breaks next row (Err (Sqlite x)) =
+    (e : Entry) → row ≡ numbers (all_numbers e) → length e.values ≡ width → IsRefusedMemory x
 ReadsNext width entry Breaks next row (Err (Damaged broken)) =
     (e : Entry) → row ≡ numbers (all_numbers e) → length e.values ≡ width → is_from next e ≡ true → (broken ≡ rule.Value) × Breaks e
 
--- an error of the store, or a number of the first row to come is out of its range
-abbrev pub BreaksFirst : {X : Type 0} → (X → Type 0) → List X → TableFault → Type 0
-BreaksFirst Breaks to_come (Sqlite e) = ⊤
-BreaksFirst {X} Breaks to_come (Damaged broken) = (broken ≡ rule.Value) × ((x : X) × (more : List X) × (to_come ≡ x ∷ more) × Breaks x)
+-- an error of the store of which this holds, or a number of the first to come is out of its range
+abbrev pub BreaksFirst : {X : Type 0} → (Error → Type 0) → (X → Type 0) → List X → TableFault → Type 0
+BreaksFirst Failed Breaks to_come (Sqlite e) = Failed e
+BreaksFirst {X} Failed Breaks to_come (Damaged broken) = (broken ≡ rule.Value) × ((x : X) × (more : List X) × (to_come ≡ x ∷ more) × Breaks x)

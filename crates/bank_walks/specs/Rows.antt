@@ -1,28 +1,53 @@
 -- The rows of a table in a database, as walks speak of them: of any sound file, whatever its numbers.
-use Rattle.std.specs.Prelude.{◌≡◌, ◌^◌, ◌-◌, ℤ, negsuc, true, ℕ, List, [], length, filter, Option, Some, None}
+use Rattle.std.specs.Prelude.{◌≡◌, ◌^◌, ◌-◌, ℤ, negsuc, true, ℕ, List, [], length, map, filter, Option, Some, None}
 use Rattle.std.specs.List.{AllByRecursion}
+use Rattle.std.specs.Ordering.{int_cmp, is_ge}
 use Rattle.sqlite.specs.Table.{Table}
 use Rattle.sqlite.specs.Effect.{Database, IsDatabase}
 use Rattle.sql_meanings.specs.Entries.{Entry}
 use Rattle.sql_meanings.specs.Seeks.{is_from}
 use Rattle.sql_meanings.specs.Tables.{Holds}
 
+-- the least number of 64 bits
+abbrev pub LEAST : ℤ
+LEAST = negsuc (2 ^ 63 - 1)
+
 -- a sound database has this table, with these rows by rising keys
 pub record HasRows (db : Database) (table : Table) (rows : List Entry) : Type 0 where
   pub sound : ∥ IsDatabase db ∥₁
   pub holds : Holds db table rows
   -- each key is a number of 64 bits
-  pub least : AllByRecursion (λ e. is_from (negsuc (2 ^ 63 - 1)) e ≡ true) rows
-
--- the rows with keys from a number on
-abbrev pub rows_from : ℤ → List Entry → List Entry
-rows_from k rows = filter (is_from k) rows
+  pub least : AllByRecursion (λ e. is_from LEAST e ≡ true) rows
 
 -- each row has so many numbers behind its key
 abbrev pub IsWide : ℕ → List Entry → Type 0
 IsWide width = AllByRecursion (λ e. length e.values ≡ width)
 
+-- ---- what has keys
+
+module _ {X : Type 0} (key : X → ℤ) where
+  -- those with keys from a number on
+  abbrev pub items_from : ℤ → List X → List X
+  items_from k items = filter (λ x. is_ge (int_cmp (key x) k)) items
+
+  -- those with keys from a number on, none where there is no number
+  abbrev pub items_behind : Option ℤ → List X → List X
+  items_behind None items = []
+  items_behind (Some k) items = items_from k items
+
+  -- each has a key of 64 bits
+  abbrev pub HaveKeys : List X → Type 0
+  HaveKeys = AllByRecursion (λ x. is_ge (int_cmp (key x) LEAST) ≡ true)
+
+-- ---- rows
+
+abbrev pub entry_key : Entry → ℤ
+entry_key e = e.key
+
+-- the rows with keys from a number on
+abbrev pub rows_from : ℤ → List Entry → List Entry
+rows_from = items_from entry_key
+
 -- the rows with keys from a number on, none where there is no number
 abbrev pub rows_behind : Option ℤ → List Entry → List Entry
-rows_behind None rows = []
-rows_behind (Some k) rows = rows_from k rows
+rows_behind = items_behind entry_key

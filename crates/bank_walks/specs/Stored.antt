@@ -1,11 +1,11 @@
 -- The stored rows: keys, counts and moments within their ranges, and the other numbers whatever they are.
 use Rattle.std.specs.Prelude.{◌⊎◌, ℕ, pos, ℤ, List, [], ◌∷◌, slice_index_or, Bool, true, Option, Some, None}
 use Rattle.message_records.specs.declared.limits.TheConstants.{MAX_MOMENT}
-use Rattle.posting_rules.specs.declared.limits.TheConstants.{ACCOUNTS_PER_BRANCH, LAST_BRANCH, MAX_DECIDED}
+use Rattle.posting_rules.specs.declared.limits.TheConstants.{LAST_BRANCH, MAX_DECIDED}
 use Rattle.sql_meanings.specs.Entries.{Entry}
 use Rattle.sql_meanings.specs.Seeks.{begins}
 use Rattle.bank_walks.specs.Reading.{IsOutside}
-use Rattle.bank_walks.specs.declared.limits.TheConstants.{LAST_ACCOUNT, LAST_TELLER}
+use Rattle.bank_walks.specs.declared.limits.TheConstants.{LAST_ACCOUNT, LAST_TELLER, MOST_COUNTED}
 use Rattle.bank_walks.specs.declared.branches.StoredBranch.{StoredBranch}
 use Rattle.bank_walks.specs.declared.tellers.StoredTeller.{StoredTeller}
 use Rattle.bank_walks.specs.declared.accounts.StoredAccount.{StoredAccount}
@@ -22,7 +22,7 @@ branch_entry r = record { key = pos r.branch; values = pos r.accounts ∷ r.bala
 
 -- no branch has this number, or it can't have so many accounts
 abbrev pub IsNoBranch : Entry → Type 0
-IsNoBranch e = IsOutside 1 LAST_BRANCH e.key ⊎ IsOutside 1 ACCOUNTS_PER_BRANCH (number_behind 0 e)
+IsNoBranch e = IsOutside 1 LAST_BRANCH e.key ⊎ IsOutside 1 MOST_COUNTED (number_behind 0 e)
 
 -- a row of `teller`
 abbrev pub teller_entry : StoredTeller → Entry

@@ -40,7 +40,7 @@ impl Default for StoredAccount {
 }
 
 impl StoredRow for StoredAccount {
-    ghost use Rattle.std.specs.Prelude.{true};
+    ghost use Rattle.std.specs.Prelude.{true, refl};
     ghost use Rattle.bank_walks.specs.Stored.{account_entry, IsNoAccount};
     ghost use Rattle.store_rows.specs.SixTables.{account as the_table};
 
@@ -51,6 +51,8 @@ impl StoredRow for StoredAccount {
     ghost is_broken = { IsNoAccount };
 
     ghost is_given = { λ of e. true };
+
+    ghost all_given = { λ e. refl };
 
     fn read(row: &Row) -> Result<Self, TableFault> {
         Self::of(numbers(row)?).ok_or(TableFault::Damaged(Rule::Value))

@@ -1,17 +1,18 @@
 //! The rows of `branch`.
+use crate::limits::MOST_COUNTED;
 use crate::numbers::{numbers, whole};
 use crate::stored_row::StoredRow;
 use crate::texts::BRANCHES_FROM;
 use message_records::{Account, Whole};
-use posting_rules::{ACCOUNTS_PER_BRANCH, LAST_BRANCH, Rule};
+use posting_rules::{LAST_BRANCH, Rule};
 use sqlite::{Alter, Connection, Error, Row, params};
 use store_rows::TableFault;
 
-/// A row of `branch`: 1..=`LAST_BRANCH`, how many accounts it has, 1..=`ACCOUNTS_PER_BRANCH`, and its balance, whatever it is.
+/// A row of `branch`: 1..=`LAST_BRANCH`, how many accounts it has, 1..=`MOST_COUNTED`, and its balance, whatever it is.
 #[derive(Clone, Copy, Debug, PartialEq, Eq)]
 pub struct StoredBranch {
     pub branch: Whole<1, LAST_BRANCH>,
-    pub accounts: Whole<1, ACCOUNTS_PER_BRANCH>,
+    pub accounts: Whole<1, MOST_COUNTED>,
     pub balance: i64,
 }
 
@@ -42,7 +43,7 @@ impl Default for StoredBranch {
 }
 
 impl StoredRow for StoredBranch {
-    ghost use Rattle.std.specs.Prelude.{true};
+    ghost use Rattle.std.specs.Prelude.{true, refl};
     ghost use Rattle.bank_walks.specs.Stored.{branch_entry, IsNoBranch};
     ghost use Rattle.store_rows.specs.SixTables.{branch as the_table};
 
@@ -53,6 +54,8 @@ impl StoredRow for StoredBranch {
     ghost is_broken = { IsNoBranch };
 
     ghost is_given = { λ of e. true };
+
+    ghost all_given = { λ e. refl };
 
     fn read(row: &Row) -> Result<Self, TableFault> {
         Self::of(numbers(row)?).ok_or(TableFault::Damaged(Rule::Value))

@@ -14,9 +14,9 @@ mod texts;
 mod walked;
 
 pub use accounts::StoredAccount;
-pub use ahead::{AHEAD, Ahead, read_ahead};
+pub use ahead::AHEAD;
 pub use branches::StoredBranch;
-pub use limits::{LAST_ACCOUNT, LAST_TELLER};
+pub use limits::{LAST_ACCOUNT, LAST_TELLER, MOST_COUNTED};
 pub use postings::StoredPosting;
 pub use requests::StoredRequest;
 pub use stored_row::StoredRow;

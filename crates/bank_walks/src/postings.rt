@@ -51,7 +51,7 @@ impl Default for StoredPosting {
 }
 
 impl StoredRow for StoredPosting {
-    ghost use Rattle.std.specs.Prelude.{true};
+    ghost use Rattle.std.specs.Prelude.{true, refl};
     ghost use Rattle.bank_walks.specs.Stored.{posting_entry, IsNoPosting, is_of};
     ghost use Rattle.store_rows.specs.SixTables.{history as the_table};
 
@@ -62,6 +62,8 @@ impl StoredRow for StoredPosting {
     ghost is_broken = { IsNoPosting };
 
     ghost is_given = { is_of };
+
+    ghost all_given = { λ e. refl };
 
     fn read(row: &Row) -> Result<Self, TableFault> {
         Self::of(numbers(row)?).ok_or(TableFault::Damaged(Rule::Value))

@@ -57,7 +57,7 @@ impl Default for StoredRequest {
 }
 
 impl StoredRow for StoredRequest {
-    ghost use Rattle.std.specs.Prelude.{true};
+    ghost use Rattle.std.specs.Prelude.{true, refl};
     ghost use Rattle.bank_walks.specs.Stored.{request_entry, IsNoRequest};
     ghost use Rattle.store_rows.specs.SixTables.{request as the_table};
 
@@ -68,6 +68,8 @@ impl StoredRow for StoredRequest {
     ghost is_broken = { IsNoRequest };
 
     ghost is_given = { λ of e. true };
+
+    ghost all_given = { λ e. refl };
 
     fn read(row: &Row) -> Result<Self, TableFault> {
         Self::of(numbers(row)?).ok_or(TableFault::Damaged(Rule::Value))

@@ -1,10 +1,10 @@
 //! What a row of one table is, as it is stored.
-ghost use Rattle.std.specs.Prelude.{◌≡◌, ◌≤◌, pos, false, Bool, ℕ, List, Option, IfOk, IfErr, OnOk, filter, take};
+ghost use Rattle.std.specs.Prelude.{◌≡◌, ◌≤◌, pos, true, false, Bool, ℕ, List, Option, None, IfErr, MatchResult, OnOk, filter, take};
 ghost use Rattle.sqlite.specs.State.{HasCleanDisk, IsUnchanged, Survives};
 ghost use Rattle.sqlite.specs.Held.{state};
 ghost use Rattle.sqlite.specs.Table.{Table};
 ghost use Rattle.sql_meanings.specs.Entries.{Entry};
-ghost use Rattle.sql_meanings.specs.Outcomes.{WriteFails};
+ghost use Rattle.sql_meanings.specs.Outcomes.{IsStoreError, WriteFails};
 ghost use Rattle.sql_meanings.specs.Tables.{width_of};
 ghost use Rattle.bank_walks.specs.Outcomes.{ReadsEntry, shown};
 ghost use Rattle.bank_walks.specs.Rows.{HasRows, rows_from};
@@ -37,7 +37,8 @@ pub trait StoredRow: Copy + Default {
         from: i64,
     ) -> Result<Vec<Row>, Error>
         ensures told { HasCleanDisk (state S.Store conn.new) → (rows : List Entry) → HasRows (state S.Store conn.old).now table rows
-            → IfOk result (λ found. found.items ≡ shown (take AHEAD (rows_from from (filter (is_given of) rows)))) }
+            → MatchResult result (λ found. found.items ≡ shown (take AHEAD (rows_from from (filter (is_given of) rows))))
+            (IsStoreError (state S.Store conn.old) (state S.Store conn.new)) }
         ensures same { HasCleanDisk (state S.Store conn.new) → OnOk result (IsUnchanged (state S.Store conn.old) (state S.Store conn.new)) }
         ensures err { HasCleanDisk (state S.Store conn.new) → IfErr result (λ _. WriteFails (state S.Store conn.old) (state S.Store conn.new)) }
         ensures mode { conn.old.in_transaction ≡ false → conn.new.in_transaction ≡ false }
@@ -47,4 +48,7 @@ pub trait StoredRow: Copy + Default {
     fn key(&self) -> u64
         ensures key { (entry self.now).key ≡ pos result }
         ensures most { result ≤ MAX_DECIDED };
+
+    /// Where no account is named, any row is one.
+    ghost all_given: { (e : Entry) → is_given None e ≡ true };
 }

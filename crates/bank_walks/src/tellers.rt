@@ -40,7 +40,7 @@ impl Default for StoredTeller {
 }
 
 impl StoredRow for StoredTeller {
-    ghost use Rattle.std.specs.Prelude.{true};
+    ghost use Rattle.std.specs.Prelude.{true, refl};
     ghost use Rattle.bank_walks.specs.Stored.{teller_entry, IsNoTeller};
     ghost use Rattle.store_rows.specs.SixTables.{teller as the_table};
 
@@ -51,6 +51,8 @@ impl StoredRow for StoredTeller {
     ghost is_broken = { IsNoTeller };
 
     ghost is_given = { λ of e. true };
+
+    ghost all_given = { λ e. refl };
 
     fn read(row: &Row) -> Result<Self, TableFault> {
         Self::of(numbers(row)?).ok_or(TableFault::Damaged(Rule::Value))

@@ -1,127 +1,211 @@
-//! Rows that are read ahead into room that is there.
-ghost use Rattle.std.specs.Prelude.{◌≡◌, ◌++◌, [], List, filter, map, None, false, IfOk, IfErr, OnOk, MatchResult};
+//! Rows that a walk gives.
+ghost use Rattle.std.specs.Prelude.{◌≡◌, ◌++◌, [], ℕ, ℤ, Bool, Option, List, filter, map, None, false, IfOk, IfErr, OnOk, MatchResult};
 ghost use Rattle.sqlite.specs.State.{HasCleanDisk, IsUnchanged, Survives};
 ghost use Rattle.sqlite.specs.Held.{state};
-ghost use Rattle.sql_meanings.specs.Entries.{Entry};
-ghost use Rattle.sql_meanings.specs.Outcomes.{WriteFails};
+ghost use Rattle.sqlite.specs.Effect.{Database};
+ghost use Rattle.sql_meanings.specs.Outcomes.{IsStoreError, WriteFails};
 ghost use Rattle.bank_walks.specs.Outcomes.{BreaksFirst};
-ghost use Rattle.bank_walks.specs.Rows.{HasRows, rows_behind, rows_from};
+ghost use Rattle.bank_walks.specs.Rising.{RisesFrom};
+ghost use Rattle.bank_walks.specs.Rows.{HaveKeys, items_behind, items_from};
 
 use crate::accounts::StoredAccount;
-use crate::ahead::{AHEAD, Ahead, read_ahead};
+use crate::ahead::{AHEAD, read_ahead};
 use crate::branches::StoredBranch;
 use crate::postings::StoredPosting;
 use crate::requests::StoredRequest;
-use crate::stored_row::StoredRow;
 use crate::tellers::StoredTeller;
 use arrayvec::ArrayVec;
 use message_records::Account;
 use sqlite::{Alter, Connection};
 use store_rows::TableFault;
 
-/// A row that a walk gives. Each type of them says the same, since only of a type that is known is it known how much room
-/// its rows take.
-pub trait WalkedRow: StoredRow {
-    /// Puts the rows with the least keys from one on in place of those in `rows`, up to one that can't be read, if it isn't
-    /// the first, and tells from which key on the others follow.
+/// A row that a walk gives: one of a table, or one with what stands beside it in another table.
+pub trait WalkedRow: Copy + Default {
+    /// What a file has of it.
+    ghost Item: { Type 0 };
+
+    ghost item: { Self → Item };
+    /// By which the walk goes.
+    ghost key: { Item → ℤ };
+    /// A number of it is out of its range.
+    ghost is_broken: { Item → Type 0 };
+    /// It is one of an account's, or any where none is named.
+    ghost is_given: { Option ℕ → Item → Bool };
+    /// A database has these, by rising keys.
+    ghost HasItems: { Database → List Item → Type 0 };
+
+    /// Puts the rows with the least keys from one on, those of an account where one is named, in place of those in `rows`, up
+    /// to one that can't be read, if it isn't the first, and tells from which key on the others follow.
     fn fill<S: Alter>(
         conn: &mut Connection<S>,
         of: Option<Account>,
         from: i64,
         rows: &mut ArrayVec<Self, AHEAD>,
     ) -> Result<Option<i64>, TableFault>
-        ensures told { HasCleanDisk (state S.Store conn.new) → (all : List Entry) → HasRows (state S.Store conn.old).now Self.StoredRow.table all
-            → let given = filter (Self.StoredRow.is_given of) all in MatchResult result
-            (λ rest. rows_from from given ≡ map Self.StoredRow.entry rows.new.items ++ rows_behind rest given)
-            (BreaksFirst Self.StoredRow.is_broken (rows_from from given)) }
+        ensures told { HasCleanDisk (state S.Store conn.new) → (all : List Item) → HasItems (state S.Store conn.old).now all
+            → let given = filter (is_given of) all in MatchResult result
+            (λ rest. items_from key from given ≡ map item rows.new.items ++ items_behind key rest given)
+            (BreaksFirst (IsStoreError (state S.Store conn.old) (state S.Store conn.new)) is_broken (items_from key from given)) }
         ensures ended { IfOk result (λ rest. rows.new.items ≡ [] → rest ≡ None) }
+        ensures rises { IfOk result (λ rest. RisesFrom from (map (λ r. key (item r)) rows.new.items) rest) }
         ensures same { HasCleanDisk (state S.Store conn.new) → OnOk result (IsUnchanged (state S.Store conn.old) (state S.Store conn.new)) }
         ensures err { HasCleanDisk (state S.Store conn.new) → IfErr result (λ _. WriteFails (state S.Store conn.old) (state S.Store conn.new)) }
         ensures mode { conn.old.in_transaction ≡ false → conn.new.in_transaction ≡ false }
         ensures survives { Survives (state S.Store conn.old) (state S.Store conn.new) (λ _. ⊥) };
+
+    ghost have_keys: { (db : Database) (all : List Item) → HasItems db all → HaveKeys key all };
 }
 
 impl WalkedRow for StoredAccount {
+    ghost use Rattle.sql_meanings.specs.Entries.{Entry};
+    ghost use Rattle.bank_walks.specs.Rows.{HasRows, entry_key};
+    ghost use Rattle.bank_walks.specs.Stored.{account_entry, IsNoAccount};
+    ghost use Rattle.store_rows.specs.SixTables.{account as the_table};
+    ghost use Rattle.std.specs.Prelude.{true};
+
+    ghost Item = { Entry };
+
+    ghost item = { account_entry };
+
+    ghost key = { entry_key };
+
+    ghost is_broken = { IsNoAccount };
+
+    ghost is_given = { λ of e. true };
+
+    ghost HasItems = { λ db rows. HasRows db the_table rows };
+
+    ghost have_keys = { λ db rows has. has.least };
+
     fn fill<S: Alter>(
         conn: &mut Connection<S>,
         of: Option<Account>,
         from: i64,
         rows: &mut ArrayVec<Self, AHEAD>,
     ) -> Result<Option<i64>, TableFault> {
-        match read_ahead::<S, Self>(conn, of, from) {
-            Ok(Ahead { rows: read, rest }) => {
-                *rows = read;
-                Ok(rest)
-            }
-            Err(fault) => Err(fault),
-        }
+        read_ahead::<S, Self>(conn, of, from, rows)
     }
 }
 
 impl WalkedRow for StoredBranch {
+    ghost use Rattle.sql_meanings.specs.Entries.{Entry};
+    ghost use Rattle.bank_walks.specs.Rows.{HasRows, entry_key};
+    ghost use Rattle.bank_walks.specs.Stored.{branch_entry, IsNoBranch};
+    ghost use Rattle.store_rows.specs.SixTables.{branch as the_table};
+    ghost use Rattle.std.specs.Prelude.{true};
+
+    ghost Item = { Entry };
+
+    ghost item = { branch_entry };
+
+    ghost key = { entry_key };
+
+    ghost is_broken = { IsNoBranch };
+
+    ghost is_given = { λ of e. true };
+
+    ghost HasItems = { λ db rows. HasRows db the_table rows };
+
+    ghost have_keys = { λ db rows has. has.least };
+
     fn fill<S: Alter>(
         conn: &mut Connection<S>,
         of: Option<Account>,
         from: i64,
         rows: &mut ArrayVec<Self, AHEAD>,
     ) -> Result<Option<i64>, TableFault> {
-        match read_ahead::<S, Self>(conn, of, from) {
-            Ok(Ahead { rows: read, rest }) => {
-                *rows = read;
-                Ok(rest)
-            }
-            Err(fault) => Err(fault),
-        }
+        read_ahead::<S, Self>(conn, of, from, rows)
     }
 }
 
 impl WalkedRow for StoredPosting {
+    ghost use Rattle.sql_meanings.specs.Entries.{Entry};
+    ghost use Rattle.bank_walks.specs.Rows.{HasRows, entry_key};
+    ghost use Rattle.bank_walks.specs.Stored.{posting_entry, IsNoPosting, is_of};
+    ghost use Rattle.store_rows.specs.SixTables.{history as the_table};
+
+    ghost Item = { Entry };
+
+    ghost item = { posting_entry };
+
+    ghost key = { entry_key };
+
+    ghost is_broken = { IsNoPosting };
+
+    ghost is_given = { is_of };
+
+    ghost HasItems = { λ db rows. HasRows db the_table rows };
+
+    ghost have_keys = { λ db rows has. has.least };
+
     fn fill<S: Alter>(
         conn: &mut Connection<S>,
         of: Option<Account>,
         from: i64,
         rows: &mut ArrayVec<Self, AHEAD>,
     ) -> Result<Option<i64>, TableFault> {
-        match read_ahead::<S, Self>(conn, of, from) {
-            Ok(Ahead { rows: read, rest }) => {
-                *rows = read;
-                Ok(rest)
-            }
-            Err(fault) => Err(fault),
-        }
+        read_ahead::<S, Self>(conn, of, from, rows)
     }
 }
 
 impl WalkedRow for StoredRequest {
+    ghost use Rattle.sql_meanings.specs.Entries.{Entry};
+    ghost use Rattle.bank_walks.specs.Rows.{HasRows, entry_key};
+    ghost use Rattle.bank_walks.specs.Stored.{request_entry, IsNoRequest};
+    ghost use Rattle.store_rows.specs.SixTables.{request as the_table};
+    ghost use Rattle.std.specs.Prelude.{true};
+
+    ghost Item = { Entry };
+
+    ghost item = { request_entry };
+
+    ghost key = { entry_key };
+
+    ghost is_broken = { IsNoRequest };
+
+    ghost is_given = { λ of e. true };
+
+    ghost HasItems = { λ db rows. HasRows db the_table rows };
+
+    ghost have_keys = { λ db rows has. has.least };
+
     fn fill<S: Alter>(
         conn: &mut Connection<S>,
         of: Option<Account>,
         from: i64,
         rows: &mut ArrayVec<Self, AHEAD>,
     ) -> Result<Option<i64>, TableFault> {
-        match read_ahead::<S, Self>(conn, of, from) {
-            Ok(Ahead { rows: read, rest }) => {
-                *rows = read;
-                Ok(rest)
-            }
-            Err(fault) => Err(fault),
-        }
+        read_ahead::<S, Self>(conn, of, from, rows)
     }
 }
 
 impl WalkedRow for StoredTeller {
+    ghost use Rattle.sql_meanings.specs.Entries.{Entry};
+    ghost use Rattle.bank_walks.specs.Rows.{HasRows, entry_key};
+    ghost use Rattle.bank_walks.specs.Stored.{teller_entry, IsNoTeller};
+    ghost use Rattle.store_rows.specs.SixTables.{teller as the_table};
+    ghost use Rattle.std.specs.Prelude.{true};
+
+    ghost Item = { Entry };
+
+    ghost item = { teller_entry };
+
+    ghost key = { entry_key };
+
+    ghost is_broken = { IsNoTeller };
+
+    ghost is_given = { λ of e. true };
+
+    ghost HasItems = { λ db rows. HasRows db the_table rows };
+
+    ghost have_keys = { λ db rows has. has.least };
+
     fn fill<S: Alter>(
         conn: &mut Connection<S>,
         of: Option<Account>,
         from: i64,
         rows: &mut ArrayVec<Self, AHEAD>,
     ) -> Result<Option<i64>, TableFault> {
-        match read_ahead::<S, Self>(conn, of, from) {
-            Ok(Ahead { rows: read, rest }) => {
-                *rows = read;
-                Ok(rest)
-            }
-            Err(fault) => Err(fault),
-        }
+        read_ahead::<S, Self>(conn, of, from, rows)
     }
 }

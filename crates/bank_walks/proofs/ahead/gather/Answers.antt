@@ -2,9 +2,10 @@
 use Rattle.std.proofs.Common.{◌≡◌, ◌<◌, ◌+ℤ◌, ◌++◌, ℕ, ℤ, pos, [], List, map, length, get_or, refl, sym, ap, subst, ◌∙◌, rules, arith, w64, to_z, of_z}
 use Rattle.std.proofs.lemmas.Int.{to_z-of_z}
 use Rattle.sql_meanings.specs.Tables.{width_of}
-use Rattle.bank_walks.specs.Rows.{rows_from}
+use Rattle.bank_walks.specs.Rows.{entry_key, rows_from}
 use Rattle.bank_walks.specs.declared.ahead.TheConstants.{AHEAD}
 use Rattle.bank_walks.proofs.Gathering.{behind_key, gathers_on, gathers_none, none_there}
+use Rattle.bank_walks.proofs.Rises.{le_from, one_more}
 use Rattle.bank_walks.proofs.ahead.gather.Goals as goal
 
 pub loop-row-preserved : goal.loop-row-preserved
@@ -18,6 +19,10 @@ loop-row-preserved g c =
     c.row-item.is ∙ ap (λ n. get_or c.args.found.now n c.row-item.result) (sym c.loop-row.invariant.count) in
     rw same record {
       count = omega (arith, c.push.ensures.len, c.loop-row.invariant.count);
+      rises =
+          rw (c.push.ensures.items, key)
+          (one_more (λ r. entry_key (entry r)) from c.loop-row.rows.items c.in-Ok.read (to_z w64 c.loop-row.next-bits)
+          (rw same at c.loop-row.invariant.rises) (le_from _ _ c.in-Ok.ensures.1));
       told = λ rows rise wide is.
           rw (c.push.ensures.items, key)
           (gathers_on entry g.R.StoredRow.is_broken (width_of g.R.StoredRow.table) AHEAD c.args.found.now from rows rise wide is

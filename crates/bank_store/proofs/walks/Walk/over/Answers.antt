@@ -1,10 +1,15 @@
--- From the least number on all rows are to come.
-use Rattle.std.proofs.Common.{negsuc, ◌^◌, ◌-◌, filter}
-use Rattle.bank_walks.proofs.Gathering.{all_left}
-use Rattle.bank_walks.proofs.Sought.{least_filter}
+-- From the least number on all are to come.
+use Rattle.std.proofs.Common.{filter}
+use Rattle.bank_walks.proofs.Keys.{all_left, keys_filter}
+use Rattle.bank_walks.proofs.Rises.{le_itself}
+use Rattle.bank_walks.specs.Rows.{LEAST}
 use Rattle.bank_store.proofs.walks.Walk.over.Goals as goal
 
 pub returns-clause-all : goal.returns-clause-all
-returns-clause-all g c rows has =
-    let given = g.R.StoredRow.is_given c.args.of in
-    rw c.new.ensures (all_left (negsuc (2 ^ 63 - 1)) (filter given rows) (least_filter (negsuc (2 ^ 63 - 1)) given rows has.least))
+returns-clause-all g c all has =
+    let row = g.R.WalkedRow in
+    let given = row.is_given c.args.of in
+    rw c.new.ensures (all_left row.key (filter given all) (keys_filter row.key given all (g.met.R.WalkedRow.have_keys _ all has)))
+
+pub returns-clause-rises : goal.returns-clause-rises
+returns-clause-rises g c = rw c.new.ensures (le_itself LEAST)

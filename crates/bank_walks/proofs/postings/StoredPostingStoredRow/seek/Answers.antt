@@ -16,9 +16,10 @@ pub returns-in-None-clause-told : goal.returns-in-None-clause-told
 returns-in-None-clause-told g c clean rows has =
     let old = state g.S.Store c.args.conn.now in
     let new = state g.S.Store c.query_all.new.self in
-    rw c.in-None.is (if_ok _ _ c.query_all.result
-    (λ found h. tells_from old new history refl rows has _ _ c.args.from (reads_postings c.args.from) (λ e. shows_five (Int c.args.from ∷ []) e) found.items h)
-    (rw (c.params-to_sql.ensures, to_z-of_z w64 c.args.from c.ranges.from) at (c.query_all.ensures.ok clean)))
+    rw c.in-None.is
+    (tells_from old new history refl rows has _ _ (λ v. v.items) c.args.from (reads_postings c.args.from) (λ e. shows_five (Int c.args.from ∷ []) e) c.query_all.result
+    (rw (c.params-to_sql.ensures, to_z-of_z w64 c.args.from c.ranges.from) at (c.query_all.ensures.ok clean))
+    (rw (c.params-to_sql.ensures, to_z-of_z w64 c.args.from c.ranges.from) at (c.query_all.ensures.err clean)))
 
 pub returns-in-None-clause-same : goal.returns-in-None-clause-same
 returns-in-None-clause-same g c clean =
@@ -44,15 +45,12 @@ returns-in-Some-clause-told g c clean rows has =
     let old = state g.S.Store c.args.conn.now in
     let new = state g.S.Store c.query_all-in-Some.new.self in
     let one = pos c.in-Some.account in
-    rw c.in-Some.is (if_ok _ _ c.query_all-in-Some.result
-    (λ found h. tells_of_from old new history refl rows has _ _ one c.args.from (reads_postings_of one c.args.from)
-    (λ e. shows_five (Int one ∷ Int c.args.from ∷ []) e) found.items h)
-    (rw (
-      c.params-to_sql-in-Some.ensures,
-      c.params-to_sql-in-Some-2.ensures,
-      as_integer c.get-account.result c.in-Some.account c.get-account.ensures.value (omega arith),
-      to_z-of_z w64 c.args.from c.ranges.from,
-    ) at (c.query_all-in-Some.ensures.ok clean)))
+    let account = as_integer c.get-account.result c.in-Some.account c.get-account.ensures.value (omega arith) in
+    rw c.in-Some.is
+    (tells_of_from old new history refl rows has _ _ (λ v. v.items) one c.args.from (reads_postings_of one c.args.from)
+    (λ e. shows_five (Int one ∷ Int c.args.from ∷ []) e) c.query_all-in-Some.result
+    (rw (c.params-to_sql-in-Some.ensures, c.params-to_sql-in-Some-2.ensures, account, to_z-of_z w64 c.args.from c.ranges.from) at (c.query_all-in-Some.ensures.ok clean))
+    (rw (c.params-to_sql-in-Some.ensures, c.params-to_sql-in-Some-2.ensures, account, to_z-of_z w64 c.args.from c.ranges.from) at (c.query_all-in-Some.ensures.err clean)))
 
 pub returns-in-Some-clause-same : goal.returns-in-Some-clause-same
 returns-in-Some-clause-same g c clean =

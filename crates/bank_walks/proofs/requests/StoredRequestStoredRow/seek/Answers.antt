@@ -15,9 +15,9 @@ pub returns-clause-told : goal.returns-clause-told
 returns-clause-told g c clean rows has =
     let old = state g.S.Store c.args.conn.now in
     let new = state g.S.Store c.query_all.new.self in
-    if_ok _ _ c.query_all.result
-    (λ found h. tells_from old new request refl rows has _ _ c.args.from (reads_requests c.args.from) (λ e. shows_seven (Int c.args.from ∷ []) e) found.items h)
+    tells_from old new request refl rows has _ _ (λ v. v.items) c.args.from (reads_requests c.args.from) (λ e. shows_seven (Int c.args.from ∷ []) e) c.query_all.result
     (rw (c.params-to_sql.ensures, to_z-of_z w64 c.args.from c.ranges.from) at (c.query_all.ensures.ok clean))
+    (rw (c.params-to_sql.ensures, to_z-of_z w64 c.args.from c.ranges.from) at (c.query_all.ensures.err clean))
 
 pub returns-clause-same : goal.returns-clause-same
 returns-clause-same g c clean =
