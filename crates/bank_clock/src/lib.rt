@@ -1,8 +1,10 @@
 //! The clock that the program stamps postings with: the system's time, as a moment.
 #![tactic(auto)]
 
-ghost use Rattle.std.specs.Prelude.{◌≡◌, ◌/◌, MatchResult, min};
-ghost use Rattle.std.specs.Time.{system_time_nanos};
+ghost use Rattle.std.specs.Prelude.{◌≡◌, ℕ, List, [], ◌∷◌, Option, None};
+ghost use Rattle.posting_core.specs.Clock.{IsReading};
+ghost use Rattle.posting_core.specs.Told.{Adds};
+ghost use Rattle.bank_clock.specs.Readings.{Reading, moment_at, reading_of, source_of};
 
 #[cfg(test)]
 mod tests;
@@ -13,30 +15,53 @@ use std::io;
 use std::rt::Clock as TimeSource;
 use std::time::{SystemTime, UNIX_EPOCH};
 
-/// The clock of the system, in whole seconds since 1970-01-01T00:00:00Z.
-#[derive(Drop)]
-pub struct SystemClock<'a, T: TimeSource> {
-    source: &'a T,
+/// What tells the time. Every clock of the standard library does. A type of its own may also know what its
+/// readings told.
+pub trait TimeTeller {
+    /// What each reading told so far, where it is known.
+    ghost told: { Self → Option (List Reading) } = { λ _. None };
+
+    /// One reading of the time.
+    fn tell(&mut self) -> io::Result<SystemTime>
+        ensures { Adds (told self.old) (told self.new) (reading_of result ∷ []) };
 }
 
-impl<'a, T: TimeSource> SystemClock<'a, T> {
+impl<T: TimeSource> TimeTeller for T {
+    fn tell(&mut self) -> io::Result<SystemTime> {
+        SystemTime::now(self)
+    }
+}
+
+/// The clock of the system, in whole seconds since 1970-01-01T00:00:00Z.
+#[derive(Drop)]
+pub struct SystemClock<T> {
+    source: T,
+}
+
+impl<T: TimeTeller> SystemClock<T> {
     /// The clock that reads this source.
-    pub fn new(source: &'a T) -> Self {
+    pub fn new(source: T) -> Self
+        ensures { source_of result ≡ source }
+    {
         SystemClock { source }
     }
 }
 
-impl<'a, T: TimeSource> Clock for SystemClock<'a, T> {
-    fn now(&mut self) -> Moment {
-        moment_of(SystemTime::now(self.source))
+impl<T: TimeTeller> Clock for SystemClock<T> {
+    // It reads its source once, and answers the moment of that reading.
+    fn now(&mut self) -> Moment
+        ensures reading { IsReading None None result }
+        ensures told { (reading : Reading) × (result ≡ moment_at reading)
+            × Adds (T.told (source_of self.old)) (T.told (source_of self.new)) (reading ∷ []) }
+    {
+        moment_of(self.source.tell())
     }
 }
 
 /// The moment of a reading: the last one where the time is later, and 0 where there is no time, as
 /// before 1970.
 pub fn moment_of(reading: io::Result<SystemTime>) -> Moment
-    ensures { MatchResult reading
-        (λ time. result ≡ min (system_time_nanos time / 1_000_000_000) MAX_MOMENT) (λ _. result ≡ 0) }
+    ensures { result ≡ moment_at (reading_of reading) }
 {
     let Ok(time) = reading else {
         return Moment::new(0).unwrap();
