@@ -1,0 +1,84 @@
+"""What the scripts around `bank serve` share: a bank with a plan, a running server, records, and a connection to it."""
+import os
+import socket
+import subprocess
+import sys
+
+HERE = os.path.dirname(os.path.dirname(os.path.abspath(__file__)))
+BANK = os.path.join(HERE, "crates/bank/out/bank")
+
+
+def need_program():
+    if not os.access(BANK, os.X_OK):
+        sys.exit("build the program first: (cd crates/bank && rt run -- --help)")
+
+
+def make_bank(file, plan):
+    """A new bank in the file, with the branches of a plan: (branch, accounts) one after another."""
+    with open(file + ".csv", "w") as csv:
+        csv.write("branch,accounts\n" + "".join(f"{branch},{accounts}\n" for branch, accounts in plan))
+    subprocess.run([BANK, "init", file], check=True, stdout=subprocess.DEVNULL)
+    subprocess.run([BANK, "load", file, file + ".csv"], check=True, stdout=subprocess.DEVNULL)
+
+
+def record(account, teller, branch, number, delta):
+    """A request of 100 bytes."""
+    sign = "-" if delta < 0 else "+"
+    return f"DC01{account:012d}{teller:08d}{branch:06d}{number:010d}{sign}{abs(delta):010d}{'':49}".encode()
+
+
+class Server:
+    """A running `bank serve` on a port of loopback that the system picks."""
+
+    def __init__(self, file, connections):
+        self.process = subprocess.Popen(
+            [BANK, "serve", file, "127.0.0.1:0", "--connections", str(connections)],
+            stdout=subprocess.PIPE, stderr=subprocess.PIPE)
+        line = self.process.stdout.readline().decode()
+        word, _, address = line.strip().partition(" ")
+        if word != "listening":
+            sys.exit(f"serve said {line!r}, {self.process.stderr.read().decode()!r}")
+        self.port = int(address.rpartition(":")[2])
+
+    def connect(self):
+        connection = socket.create_connection(("127.0.0.1", self.port), timeout=20)
+        connection.setsockopt(socket.IPPROTO_TCP, socket.TCP_NODELAY, 1)
+        return connection
+
+    def kill(self):
+        self.process.kill()
+        self.end()
+
+    def end(self):
+        """Waits for the server to end, and gives its status."""
+        status = self.process.wait(timeout=60)
+        self.process.stdout.close()
+        self.process.stderr.close()
+        return status
+
+
+def post(body, close=False):
+    """The message that posts a record."""
+    last = b"Connection: close\r\n" if close else b""
+    return b"POST /post HTTP/1.1\r\nHost: bank\r\nContent-Length: %d\r\n%s\r\n" % (len(body), last) + body
+
+
+def read_answer(connection, buffered):
+    """The next answer's status and body, and what was read behind it; none where the connection ends first."""
+    while b"\r\n\r\n" not in buffered:
+        piece = connection.recv(65536)
+        if not piece:
+            return None
+        buffered += piece
+    head, _, rest = buffered.partition(b"\r\n\r\n")
+    length = 0
+    for line in head.split(b"\r\n")[1:]:
+        name, _, value = line.partition(b":")
+        if name.lower() == b"content-length":
+            length = int(value)
+    while len(rest) < length:
+        piece = connection.recv(65536)
+        if not piece:
+            return None
+        rest += piece
+    return int(head[9:12]), rest[:length], rest[length:]
