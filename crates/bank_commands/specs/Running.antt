@@ -11,14 +11,14 @@ use Rattle.bank_driver.specs.declared.driving.Driven.{Driven}
 use Rattle.branch_loader.specs.declared.loading.Loaded.{Loaded}
 use Rattle.bank_words.specs.CommandLine.{bank_app}
 use Rattle.bank_words.specs.declared.reading.Command.{Command}
-use Rattle.bank_words.specs.declared.reading.Command.TheVariants.{Audit, Drive, Init, Load, Post, Serve, Statement}
+use Rattle.bank_words.specs.declared.reading.Command.TheVariants.{Drive, Init, Load, Post, Serve, Statement}
 use Rattle.bank_endings.specs.Lines.{IsRequest, created_line, driven_line, listening_line}
 use Rattle.bank_endings.specs.Lines.{loaded_line}
 use Rattle.bank_endings.specs.Statuses.{status_of_loaded}
 use Rattle.bank_endings.specs.Faults.{fault_of_stream, status_of}
 use Rattle.bank_endings.specs.declared.fault.CommandFault.{CommandFault}
 use Rattle.bank_endings.specs.declared.status.Status.{Status}
-use Rattle.bank_endings.specs.declared.status.Status.TheVariants.{Done, Inconsistent}
+use Rattle.bank_endings.specs.declared.status.Status.TheVariants.{Done}
 use Rattle.bank_commands.specs.InFile.{IsNewIn, WorksIn}
 use Rattle.bank_commands.specs.Working.{DrivesAndTells, Loads, PostsIn}
 
@@ -50,7 +50,6 @@ Ends (Init file) status old new = (status ≡ Done) × Appends old new created_l
 Ends (Load file plan) status old new = (loaded : Loaded) × Tells status old new loaded
 Ends (Post file) status old new = status ≡ Done
 Ends (Drive file seed count) status old new = (status ≡ Done) × TellsDriven count old new
-Ends (Audit file) status old new = (status ≡ Done) ⊎ (status ≡ Inconsistent)
 Ends (Statement file account) status old new = status ≡ Done
 Ends (Serve file address connections) status old new = (status ≡ Done) × TellsListening old new
 
@@ -90,6 +89,5 @@ Does seen image r r' w w' k k' (Post file) result =
     PostsIn seen image r r' w w' k k' (IsErr result) (λ told. result ≡ ended_by told)
 Does seen image r r' w w' k k' (Drive file seed count) result =
     OnOk result (DrivesIn seen image k k' w w' seed count)
-Does seen image r r' w w' k k' (Audit file) result = ⊤
 Does seen image r r' w w' k k' (Statement file account) result = ⊤
 Does seen image r r' w w' k k' (Serve file address connections) result = ⊤

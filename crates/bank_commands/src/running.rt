@@ -113,7 +113,7 @@ fn perform<S: Start, R: Read, W: Write, K: Clock>(
             drive(rt, start, file, seed, count, output, clock)?;
             Ok(Status::Done)
         }
-        Command::Audit { .. } | Command::Statement { .. } => Err(CommandFault::Store),
+        Command::Statement { .. } => Err(CommandFault::Store),
         Command::Serve {
             file,
             address,

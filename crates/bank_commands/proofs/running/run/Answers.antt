@@ -56,7 +56,7 @@ pub returns-in-Ok-perform-clause-served : goal.returns-in-Ok-perform-clause-serv
 returns-in-Ok-perform-clause-served g c asked done =
     served_by (map g.T.AsStr.text c.args.words.now) asked c.in-Ok.command c.in-Ok-perform.status
     (g.W.Write.contents c.args.output.now) (g.W.Write.contents c.perform.new.output)
-    (c.in-Ok.ensures.spelled (inr (inr (inr (inr (inr (inr asked))))))) c.in-Ok-perform.ensures.ends
+    (c.in-Ok.ensures.spelled (inr (inr (inr (inr (inr asked)))))) c.in-Ok-perform.ensures.ends
 
 -- ---- what the run did to its bank
 
