@@ -3,6 +3,8 @@ use Rattle.std.proofs.Common.{◌≡◌, ◌<◌, ◌≤◌, ◌+◌, ℕ, List,
 use Rattle.std.proofs.Common.{refl, sym, subst, ap, ◌∙◌, arith, length-append}
 use Rattle.std.specs.List.{AllByRecursion}
 use Rattle.posting_rules.specs.Counter.{Seen}
+use Rattle.posting_core.specs.Told.{ReadTold, WriteTold}
+use Rattle.counter_http.specs.Ends as http_ends
 use Rattle.counter_http.specs.Outputs.{Outputs, Survives}
 use Rattle.counter_http.specs.Serving as http
 use Rattle.counter_http.specs.declared.fault.ServeFault.{ServeFault}
@@ -13,12 +15,13 @@ use Rattle.counter_tcp.specs.declared.fault.ListenFault.{ListenFault}
 use Rattle.counter_tcp.specs.declared.fault.ListenFault.TheVariants.{Network, Bank}
 use Rattle.counter_tcp.specs.Faults.{after_connection}
 
-pub one_served : {C : Type 0} (seen : C → Seen) (r r' w w' k k' : Option (List ℕ)) (old new : C)
-    (result : Result ℕ ServeFault)
-    → http.Serves seen r r' w w' k k' old new result → Outputs r r' w w' (seen old) (seen new) result
-    → Survives r r' w w' (seen old) (seen new) → ((seen new).honest → (seen old).honest)
+pub one_served : {C : Type 0} (seen : C → Seen) (r r' w w' k k' : Option (List ℕ)) (q q' : Option (List ReadTold))
+    (p p' : Option (List WriteTold)) (old new : C) (result : Result ℕ ServeFault)
+    → http.Serves seen r r' q q' w w' k k' old new result → Outputs r r' q q' w w' (seen old) (seen new) result
+    → Survives r r' w w' (seen old) (seen new) → http_ends.EndsAs result q q' p p'
+    → ((seen new).honest → (seen old).honest)
     → ServesOne seen k k' old new result
-one_served {C = C} seen r r' w w' k k' old new result served output stop honest =
+one_served {C = C} seen r r' w w' k k' q q' p p' old new result served output stop ended honest =
     let c : Connection C = record {
       before = old;
       after = new;
@@ -28,11 +31,15 @@ one_served {C = C} seen r r' w w' k k' old new result served output stop honest 
       reader_after = r';
       writer = w;
       writer_after = w';
+      reads = q;
+      reads_after = q';
+      writes = p;
+      writes_after = p';
       result = result;
     } in
     record {
       connection = c;
-      is_served = record { served = served; output = output; stop = stop; honest = honest };
+      is_served = record { served = served; output = output; stop = stop; ended = ended; honest = honest };
       clock_is = refl;
       clock_after_is = refl;
       before_is = refl;

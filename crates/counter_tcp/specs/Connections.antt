@@ -5,6 +5,8 @@ use Rattle.std.specs.List.{AllByRecursion}
 use Rattle.posting_rules.specs.Commands.{Command}
 use Rattle.posting_rules.specs.Counter.{LeavesOnly, Seen, ShowsBeginning, StandsAt}
 use Rattle.posting_rules.specs.Runs.{ArePosts, behind}
+use Rattle.posting_core.specs.Told.{ReadTold, WriteTold}
+use Rattle.counter_http.specs.Ends as ends
 use Rattle.counter_http.specs.Outputs.{Outputs, Survives}
 use Rattle.counter_http.specs.Serving as http
 use Rattle.counter_http.specs.declared.fault.ServeFault.{ServeFault}
@@ -26,14 +28,21 @@ pub record Connection (C : Type 0) : Type 0 where
   pub reader_after : Option (List ℕ)
   pub writer : Option (List ℕ)
   pub writer_after : Option (List ℕ)
+  -- what the calls of its reader and of its writer told
+  pub reads : Option (List ReadTold)
+  pub reads_after : Option (List ReadTold)
+  pub writes : Option (List WriteTold)
+  pub writes_after : Option (List WriteTold)
   pub result : Result ℕ ServeFault
 
 -- it was served as a connection over HTTP is
 pub record IsServed {C : Type 0} (seen : C → Seen) (c : Connection C) : Type 0 where
-  pub served : http.Serves seen c.reader c.reader_after c.writer c.writer_after c.clock c.clock_after c.before c.after
-      c.result
-  pub output : Outputs c.reader c.reader_after c.writer c.writer_after (seen c.before) (seen c.after) c.result
+  pub served : http.Serves seen c.reader c.reader_after c.reads c.reads_after c.writer c.writer_after c.clock
+      c.clock_after c.before c.after c.result
+  pub output : Outputs c.reader c.reader_after c.reads c.reads_after c.writer c.writer_after (seen c.before)
+      (seen c.after) c.result
   pub stop : Survives c.reader c.reader_after c.writer c.writer_after (seen c.before) (seen c.after)
+  pub ended : ends.EndsAs c.result c.reads c.reads_after c.writes c.writes_after
   pub honest : (seen c.after).honest → (seen c.before).honest
 
 -- a connection was served, and ended so
