@@ -1,14 +1,22 @@
 -- The parts of a batch that are filled one after another.
-use Rattle.std.proofs.Common.{◌≡◌, [], Ok, Err, length, rules, arith, sym, ap, subst, ◌∙◌}
+use Rattle.std.proofs.Common.{◌≡◌, [], Ok, Err, length, rules, arith, refl, sym, ap, subst, ◌∙◌}
 use Rattle.std.specs.Vec.{with_items}
 use Rattle.std.proofs.lemmas.List.{with_items_is}
 use Rattle.bank_transactions.specs.Doing.{Does}
 use Rattle.posting_batch.specs.Batch.{filled}
 use Rattle.posting_batch.specs.Overlay.{Overlay}
 use Rattle.posting_batch.specs.View.{view}
-use Rattle.bank_batches.proofs.Both.{does_look, does_but}
+use Rattle.bank_transactions.proofs.Chained.{does_but, does_for}
+use Rattle.bank_batches.proofs.Both.{does_look}
 use Rattle.bank_batches.proofs.Whole.{part2, part3, part4, part5, now2, now3, So, same_now, for_tellers, for_accounts}
 use Rattle.bank_batches.proofs.filling.fill.Goals as goal
+
+pub returns-in_err-fill_branches-clause-says : goal.returns-in_err-fill_branches-clause-says
+returns-in_err-fill_branches-clause-says g c =
+    let count = c.in_ok-batch.ensures.says in
+    let first = does_look (record { same_reference = count.same_reference; told = count.told; kept = count.kept; survives = count.survives }) in
+    let same : c.from_residual-in_err-fill_branches.result ≡ Err c.in_err-fill_branches.field-0.0 = search rules in
+    rw same (does_but {So = So (view c.args.batch.now.overlay)} (does_for first (λ t so. (so.0, refl, refl))) c.in_err-fill_branches.ensures (λ t so e. so.0))
 
 pub returns-in_err-fill_tellers-clause-says : goal.returns-in_err-fill_tellers-clause-says
 returns-in_err-fill_tellers-clause-says g c =

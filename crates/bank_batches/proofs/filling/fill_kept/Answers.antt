@@ -2,8 +2,8 @@
 use Rattle.std.proofs.Common.{◌<◌, Err, ◌≡◌, length, rules, arith, refl, get_or}
 use Rattle.posting_batch.specs.declared.slots.RequestSlot.{RequestSlot}
 use Rattle.posting_batch.specs.Batch.{request_filled}
-use Rattle.bank_transactions.proofs.Chained.{does_for}
-use Rattle.bank_batches.proofs.Both.{does_look, does_but}
+use Rattle.bank_transactions.proofs.Chained.{does_but, does_for}
+use Rattle.bank_batches.proofs.Both.{does_look}
 use Rattle.bank_batches.proofs.Loops.{fill_more, all_filled}
 use Rattle.bank_batches.proofs.filling.fill_kept.Goals as goal
 

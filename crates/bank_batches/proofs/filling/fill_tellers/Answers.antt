@@ -3,9 +3,9 @@ use Rattle.std.proofs.Common.{◌<◌, Err, ◌≡◌, length, rules, arith, ref
 use Rattle.posting_rules.specs.Commands.{branch_of_teller}
 use Rattle.posting_batch.specs.declared.slots.TellerSlot.{TellerSlot}
 use Rattle.posting_batch.specs.Batch.{teller_filled}
-use Rattle.bank_transactions.proofs.Chained.{does_for}
+use Rattle.bank_transactions.proofs.Chained.{does_but, does_for}
 use Rattle.bank_batches.specs.Filling.{TellsBranch}
-use Rattle.bank_batches.proofs.Both.{does_look, does_but}
+use Rattle.bank_batches.proofs.Both.{does_look}
 use Rattle.bank_batches.proofs.Loops.{fill_more, all_filled, next_is}
 use Rattle.bank_batches.proofs.filling.fill_tellers.Goals as goal
 
