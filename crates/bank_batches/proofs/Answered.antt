@@ -18,9 +18,9 @@ use Rattle.posting_batch.proofs.Covered.{stands, homes_all}
 use Rattle.store_rows.specs.View as stored
 use Rattle.store_rows.specs.declared.faults.TableFault.{TableFault}
 use Rattle.bank_transactions.specs.Doing.{Does}
-use Rattle.bank_transactions.proofs.Chained.{does_for}
+use Rattle.bank_transactions.proofs.Chained.{does_but, does_for}
 use Rattle.bank_batches.specs.Batches.{DecidesNone}
-use Rattle.bank_batches.proofs.Both.{does_both, does_but}
+use Rattle.bank_batches.proofs.Both.{does_both}
 
 -- the same, said in other words where the answer is known
 pub does_so : {S X Y : Type 0} {g : Ghosts S} {old new : Transaction S} {So : Tables → Type 0} {after after' : Tables → Tables}

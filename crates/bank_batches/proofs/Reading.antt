@@ -11,18 +11,9 @@ use Rattle.store_rows.specs.View.{Shows}
 use Rattle.store_rows.specs.declared.faults.TableFault.{TableFault}
 use Rattle.store_rows.specs.declared.faults.TableFault.TheVariants.{Sqlite, Damaged}
 use Rattle.bank_transactions.specs.Doing.{Stays, Looks, LooksUp, Does}
-use Rattle.bank_transactions.proofs.Chained.{looked, look_keeps}
+use Rattle.bank_transactions.proofs.Chained.{blames_after, comes, looked, look_keeps}
+use Rattle.bank_transactions.proofs.Reading.{stays_then}
 use Rattle.bank_batches.specs.Filling.{ReadsWhere}
-
-stays_then : (old mid new : State) → Stays old mid → Stays mid new → Stays old new
-stays_then old mid new one two = record {
-  goes_on = record {
-    opened = λ h. one.goes_on.opened (two.goes_on.opened h);
-    committed = two.goes_on.committed ∙ one.goes_on.committed;
-    mode = two.goes_on.mode ∙ one.goes_on.mode;
-  };
-  now = two.now ∙ one.now;
-}
 
 looks_then : {X : Type 0} (old mid new : State) (r : Result X TableFault) → Stays old mid → Looks mid new r → Looks old new r
 looks_then old mid new (Ok x) one two = stays_then old mid new one two
@@ -48,7 +39,7 @@ reads_none stays is = record {
   says = record {
     same_reference = refl;
     told = λ clean t shows so. (is t so, record { goes_on = record { opened = λ h. h; committed = refl; mode = refl }; now = refl });
-    kept = λ clean. record { goes_on = record { opened = λ h. h; committed = refl; mode = refl }; now = refl };
+    kept = λ clean. (record { goes_on = record { opened = λ h. h; committed = refl; mode = refl }; now = refl }, tt);
     survives = stays;
   };
 }
@@ -77,9 +68,9 @@ module _ {S X Y : Type 0} {g : Ghosts S} {old mid new : Transaction S} {So So' :
         says = says_then g old mid new one.says two.says
             (λ told kept told' t shows so.
             let first = (told t shows so).0 in
-            let then = told' t (subst (λ (db : Database). Shows db t) (sym kept.now) shows) (ready t so first) in
-            (joins t so first then.0, stays_then a b c kept then.1))
-            (λ kept kept'. stays_then a b c kept kept');
+            let then = told' t (subst (λ (db : Database). Shows db t) (sym kept.0.now) shows) (ready t so first) in
+            (joins t so first then.0, stays_then a b c kept.0 then.1))
+            (λ kept kept'. (stays_then a b c kept.0 kept'.0, tt));
       }
 
   -- an error of the second is that of both
@@ -94,9 +85,9 @@ module _ {S X Y : Type 0} {g : Ghosts S} {old mid new : Transaction S} {So So' :
         says = says_then g old mid new one.says two.says
             (λ told kept told' t shows so.
             let first = (told t shows so).0 in
-            let then = told' t (subst (λ (db : Database). Shows db t) (sym kept.now) shows) (ready t so first) in
-            same_fault a c (w' t) (w'' t) e (looked_then a b c (w' t) r kept then))
-            (λ kept kept'. looks_then a b c r kept kept');
+            let then = told' t (subst (λ (db : Database). Shows db t) (sym kept.0.now) shows) (ready t so first) in
+            same_fault a c (w' t) (w'' t) e (looked_then a b c (w' t) r kept.0 then))
+            (λ kept kept'. (looks_then a b c r kept.0 kept'.0, blames_after g old.conn.now mid.conn.now new.conn.now r (comes one.says.survives) kept'.1));
       }
 
 -- a look-up leaves the tables
@@ -106,7 +97,7 @@ does_look {S} {X} {g} {old} {new} {So} {w} {r} reads = record {
   says = record {
     same_reference = reads.says.same_reference;
     told = λ clean live t shows so. looked (state g old.conn.now) (state g new.conn.now) t (w t) r shows (reads.says.told clean t shows so);
-    kept = λ clean live. look_keeps (state g old.conn.now) (state g new.conn.now) r (reads.says.kept clean);
+    kept = λ clean live. let it = reads.says.kept clean in (look_keeps (state g old.conn.now) (state g new.conn.now) r it.0, it.1);
     survives = reads.says.survives;
   };
 }

@@ -3,6 +3,7 @@ use Rattle.std.proofs.Common.{◌≡◌, List, length, Option, Some, Result, Ok,
 use Rattle.std.specs.Prelude.{IsSome}
 use Rattle.std.proofs.Math.Seq.{take-length}
 use Rattle.sqlite.specs.Effect.{Database}
+use Rattle.sqlite.specs.declared.error.Error.{Error}
 use Rattle.sqlite.specs.State.{State, HasCleanDisk, Survives}
 use Rattle.sqlite.specs.Held.{Held, state}
 use Rattle.sqlite_trees.specs.declared.store.Store.{Ghosts}
@@ -19,10 +20,12 @@ use Rattle.posting_rules.proofs.Sequence.{commands_behind}
 use Rattle.store_rows.specs.View.{Shows}
 use Rattle.store_rows.specs.declared.faults.TableFault.{TableFault}
 use Rattle.store_rows.specs.declared.faults.TableFault.TheVariants.{Sqlite, Damaged}
-use Rattle.bank_transactions.specs.Doing.{Leaves, Transacts}
-use Rattle.bank_store.specs.Down.{GoesDown}
+use Rattle.store_rows.specs.Failures.{Committing}
+use Rattle.bank_transactions.specs.Doing.{HasFailedBetween, Leaves, Transacts}
+use Rattle.bank_transactions.proofs.Chained.{comes, fault_within, same_moment}
+use Rattle.bank_store.specs.Down.{GoesDown, TellsFailure}
 use Rattle.bank_store.specs.NoneOrAll.{LeavesNoneOrAll}
-use Rattle.bank_store.specs.Seen.{seen_in}
+use Rattle.bank_store.specs.Seen.{error_in, seen_in}
 
 -- what the commands lead to is a beginning of them, and so is what was there
 all_of_them : (t : Tables) (log cs : List Command) → AreCommands (behind log cs) → Show t (behind log cs) → ShowsBeginning log cs 0 t
@@ -155,3 +158,32 @@ keeps_file g old mid new (Sqlite error) kept fault does went quiet damage clean 
 keeps_file g old mid new (Damaged rule) kept fault does (inl went) quiet damage clean =
     let same = went.2 clean in same.0.now_is ∙ (does.undone (omega (arith, quiet.clean)) same.0.was_open).1
 keeps_file g old mid new (Damaged rule) kept fault does (inr went) quiet damage clean = absurd (subst TellsDamage went.0 damage)
+
+same_error : (kept : Option TableFault) (x e : Error) → kept ≡ Some (Sqlite e) → error_in kept ≡ Some x → e ≡ x
+same_error kept x e is says = let it = rw is at says in cc
+
+-- the error that is kept is one with which a call of `sqlite` failed
+module _ {S X : Type 0} {So : Tables → Type 0} {after : Tables → Tables} {wanted : Tables → X} (g : Ghosts S) (old mid new : Held S) (kept : Option TableFault)
+    (fault : Fault) (quiet : Survives (state g mid) (state g new) (λ _. ⊥)) where
+  pub failed_between : (e : TableFault) → Transacts {X = X} g old mid So after wanted (Err e) → GoesDown (state g mid) (state g new) e kept fault
+      → HasCleanDisk (state g new) → (x : Error) → error_in kept ≡ Some x → HasFailedBetween g old new x
+  failed_between (Sqlite error) does went clean x says =
+      subst (HasFailedBetween g old new) (same_error kept x error went.0 says)
+      (fault_within g old old mid new (Sqlite error) (same_moment (state g old)) (comes quiet) (does.cause (omega (arith, quiet.clean))))
+  failed_between (Damaged rule) does (inl went) clean x says = absurd (let it = rw went.0 at says in cc)
+  failed_between (Damaged rule) does (inr went) clean x says =
+      subst (HasFailedBetween g old new) (same_error kept x went.1.0 went.1.1 says)
+      (record {
+        at = mid;
+        then = new;
+        before = comes does.stop;
+        failed = Committing (inl (went.1.2 clean));
+        after = same_moment (state g new);
+      })
+
+-- and it is there
+pub kept_error : (old new : State) (kept : Option TableFault) (fault : Fault) (e : TableFault) → GoesDown old new e kept fault → TellsFailure fault
+    → IsSome (error_in kept)
+kept_error old new kept fault (Sqlite error) went tells = rw went.0 refl
+kept_error old new kept fault (Damaged rule) (inl went) tells = absurd (subst TellsFailure went.1 tells)
+kept_error old new kept fault (Damaged rule) (inr went) tells = rw went.1.1 refl

@@ -1,17 +1,35 @@
--- How a bank goes down.
-use Rattle.std.specs.Prelude.{◌≡◌, ◌⊎◌, Option, Some}
-use Rattle.sqlite.specs.State.{State, HasCleanDisk, IsUnchanged}
+-- How a bank goes down, and the error that it keeps.
+use Rattle.std.specs.Prelude.{◌≡◌, ◌⊎◌, Option, Some, IsSome, ⊤}
+use Rattle.sqlite.specs.Held.{state}
+use Rattle.sqlite.specs.State.{State, Fails, HasCleanDisk, IsUnchanged}
 use Rattle.sqlite.specs.declared.error.Error.{Error}
+use Rattle.sqlite_trees.specs.declared.store.Store.{Ghosts}
 use Rattle.posting_rules.specs.declared.fault.Fault.{Fault}
 use Rattle.posting_rules.specs.declared.fault.Fault.TheVariants as told
 use Rattle.store_rows.specs.declared.faults.TableFault.{TableFault}
 use Rattle.store_rows.specs.declared.faults.TableFault.TheVariants.{Sqlite, Damaged}
+use Rattle.bank_transactions.specs.Doing.{HasFailedBetween}
+use Rattle.bank_store.specs.Seen.{cause_of, connection_of}
+use Rattle.bank_store.specs.declared.bank.Bank.{Bank}
 
 -- the store failed, and its error is kept
-abbrev pub HasFailed : Option TableFault → Fault → Type 0
-HasFailed kept fault = (fault ≡ told.Store) × ((e : Error) × (kept ≡ Some (Sqlite e)))
+abbrev pub HasFailed : State → State → Option TableFault → Fault → Type 0
+HasFailed old new kept fault = (fault ≡ told.Store) × ((e : Error) × (kept ≡ Some (Sqlite e)) × (HasCleanDisk new → Fails old new ⊥ e))
 
 -- an error of the store is kept; damage is told where the store still answers, and nothing has changed
 abbrev pub GoesDown : State → State → TableFault → Option TableFault → Fault → Type 0
 GoesDown old new (Sqlite e) kept fault = (kept ≡ Some (Sqlite e)) × (fault ≡ told.Store)
-GoesDown old new (Damaged rule) kept fault = ((kept ≡ Some (Damaged rule)) × (fault ≡ told.Damaged rule) × (HasCleanDisk new → IsUnchanged old new)) ⊎ HasFailed kept fault
+GoesDown old new (Damaged rule) kept fault =
+    ((kept ≡ Some (Damaged rule)) × (fault ≡ told.Damaged rule) × (HasCleanDisk new → IsUnchanged old new)) ⊎ HasFailed old new kept fault
+
+-- it tells that the store failed
+abbrev pub TellsFailure : Fault → Type 0
+TellsFailure told.Store = ⊤
+TellsFailure _ = ⊥
+
+-- The bank has an error for its cause. On an honest disk a call of `sqlite` failed with that error in between: no error is made up, none
+-- says that a row isn't there, and none says that the key of a new row is taken.
+pub record KeepsCause {S : Type 0} (g : Ghosts S) (old new : Bank S g) : Type 0 where
+  pub kept : IsSome (cause_of new)
+  pub failed : HasCleanDisk (state g (connection_of new)) → (e : Error) → cause_of new ≡ Some e
+      → HasFailedBetween g (connection_of old) (connection_of new) e

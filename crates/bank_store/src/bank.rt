@@ -1,6 +1,6 @@
 //! A bank in a file, or in whatever store.
 ghost use Rattle.posting_rules.specs.declared.fault.Fault.TheVariants as fault;
-ghost use Rattle.std.specs.Prelude.{◌≡◌, ◌≢◌, ◌≤◌, [], ◌∷◌, List, length, Err, IfOk, OnOk, IfErr, IfSome, IsSome, None, false};
+ghost use Rattle.std.specs.Prelude.{◌≡◌, ◌≢◌, ◌≤◌, [], ◌∷◌, List, length, Err, IfOk, OnOk, IfErr, IfSome, None, false};
 ghost use Rattle.std.specs.Result.{IsErrOf};
 ghost use Rattle.sqlite.specs.State.{Survives};
 ghost use Rattle.sqlite.specs.Held.{state};
@@ -141,9 +141,10 @@ impl<S: Alter> Bank<S> {
 }
 
 impl<S: Alter + Drop> Counter for Bank<S> {
-    ghost use Rattle.bank_store.specs.NoneOrAll.{LeavesNoneOrAll, HasOnly};
     ghost use Rattle.bank_batches.specs.Batches.{DecidesNone};
-    ghost use Rattle.bank_store.specs.Seen.{bank_seen, cause_of, database_of};
+    ghost use Rattle.bank_store.specs.Down.{KeepsCause, TellsFailure};
+    ghost use Rattle.bank_store.specs.NoneOrAll.{LeavesNoneOrAll, HasOnly};
+    ghost use Rattle.bank_store.specs.Seen.{bank_seen, database_of};
     ghost use Rattle.sqlite.specs.Effect.{Database};
     ghost use Rattle.posting_rules.specs.Counter.{TellsDamage};
     ghost use Rattle.posting_rules.specs.Sound.{AreOfALog};
@@ -166,7 +167,7 @@ impl<S: Alter + Drop> Counter for Bank<S> {
         ensures kept { IfErr result (λ fault. TellsDamage fault → (bank_seen S.Store self.new).honest
             → database_of S.Store self.new ≡ database_of S.Store self.old) }
         ensures frugal { result ≢ Err fault.Memory }
-        ensures cause { result ≡ Err fault.Store → IsSome (cause_of self.new) }
+        ensures cause { IfErr result (λ fault. TellsFailure fault → KeepsCause S.Store self.old self.new) }
         ensures down { (bank_seen S.Store self.old).is_down → IsErrOf result Fault.Down }
         ensures honest { (bank_seen S.Store self.new).honest → (bank_seen S.Store self.old).honest }
     {
@@ -202,7 +203,7 @@ impl<S: Alter + Drop> Counter for Bank<S> {
             → DecidesNone t moment records.now → HasOnly (bank_seen S.Store self.new) t) }
         ensures kept { IfErr result (λ fault. TellsDamage fault → (bank_seen S.Store self.new).honest
             → database_of S.Store self.new ≡ database_of S.Store self.old) }
-        ensures cause { result ≡ Err fault.Store → IsSome (cause_of self.new) }
+        ensures cause { IfErr result (λ fault. TellsFailure fault → KeepsCause S.Store self.old self.new) }
         ensures down { (bank_seen S.Store self.old).is_down → IsErrOf result Fault.Down }
         ensures honest { (bank_seen S.Store self.new).honest → (bank_seen S.Store self.old).honest }
     {
@@ -230,7 +231,7 @@ impl<S: Alter + Drop> Counter for Bank<S> {
         ensures kept { IfErr result (λ fault. TellsDamage fault → (bank_seen S.Store self.new).honest
             → database_of S.Store self.new ≡ database_of S.Store self.old) }
         ensures frugal { result ≢ Err fault.Memory }
-        ensures cause { result ≡ Err fault.Store → IsSome (cause_of self.new) }
+        ensures cause { IfErr result (λ fault. TellsFailure fault → KeepsCause S.Store self.old self.new) }
         ensures down { (bank_seen S.Store self.old).is_down → IsErrOf result Fault.Down }
         ensures honest { (bank_seen S.Store self.new).honest → (bank_seen S.Store self.old).honest }
     {
@@ -255,7 +256,7 @@ impl<S: Alter + Drop> Counter for Bank<S> {
         ensures kept { IfErr result (λ fault. TellsDamage fault → (bank_seen S.Store self.new).honest
             → database_of S.Store self.new ≡ database_of S.Store self.old) }
         ensures frugal { result ≢ Err fault.Memory }
-        ensures cause { result ≡ Err fault.Store → IsSome (cause_of self.new) }
+        ensures cause { IfErr result (λ fault. TellsFailure fault → KeepsCause S.Store self.old self.new) }
         ensures down { (bank_seen S.Store self.old).is_down → IsErrOf result Fault.Down }
         ensures honest { (bank_seen S.Store self.new).honest → (bank_seen S.Store self.old).honest }
     {
@@ -281,7 +282,7 @@ impl<S: Alter + Drop> Counter for Bank<S> {
         ensures kept { IfErr result (λ fault. TellsDamage fault → (bank_seen S.Store self.new).honest
             → database_of S.Store self.new ≡ database_of S.Store self.old) }
         ensures frugal { result ≢ Err fault.Memory }
-        ensures cause { result ≡ Err fault.Store → IsSome (cause_of self.new) }
+        ensures cause { IfErr result (λ fault. TellsFailure fault → KeepsCause S.Store self.old self.new) }
         ensures down { (bank_seen S.Store self.old).is_down → IsErrOf result Fault.Down }
         ensures honest { (bank_seen S.Store self.new).honest → (bank_seen S.Store self.old).honest }
     {

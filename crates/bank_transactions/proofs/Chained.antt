@@ -1,24 +1,25 @@
 -- The parts of a call one after another.
-use Rattle.std.proofs.Common.{◌≡◌, false, true, Ok, Err, Result, refl, sym, subst, ◌∙◌, inl, inr}
+use Rattle.std.proofs.Common.{◌≡◌, false, true, Ok, Err, Result, refl, sym, subst, ◌∙◌, inl, inr, arith}
 use Rattle.std.specs.Prelude.{IsTrue, Bool}
 use Rattle.sqlite.specs.Effect.{Database}
-use Rattle.sqlite.specs.State.{State, Survives}
-use Rattle.sqlite.specs.Held.{state}
+use Rattle.sqlite.specs.State.{State, HasCleanDisk, Survives}
+use Rattle.sqlite.specs.Held.{Held, state}
 use Rattle.sqlite.specs.Table.{Table}
+use Rattle.sqlite.specs.Tree.{Trees}
 use Rattle.sqlite.specs.declared.error.Error.{Error}
 use Rattle.sqlite.specs.declared.transaction.Transaction.{Transaction}
 use Rattle.sqlite_trees.specs.declared.store.Store.{Ghosts}
 use Rattle.posting_rules.specs.Damage.{IsUndamaged}
 use Rattle.posting_rules.specs.Tables.{Tables}
 use Rattle.sql_meanings.specs.Calls.{Says, Inside}
-use Rattle.sql_meanings.specs.Outcomes.{WriteKept}
 use Rattle.sql_meanings.proofs.Saying.{says_then}
 use Rattle.store_rows.specs.Calls.{OfTables}
+use Rattle.store_rows.specs.Failures.{Changes, HasFailed, HasReason, Puts}
 use Rattle.store_rows.specs.Outcomes.{Adds, Writes}
 use Rattle.store_rows.specs.View.{Shows}
 use Rattle.store_rows.specs.declared.faults.TableFault.{TableFault}
 use Rattle.store_rows.specs.declared.faults.TableFault.TheVariants.{Sqlite, Damaged}
-use Rattle.bank_transactions.specs.Doing.{GoesOn, Keeps, Looks, LooksUp, Answers, Reads, Does, expected}
+use Rattle.bank_transactions.specs.Doing.{GoesOn, IsBefore, HasFailedBetween, IsFault, Blames, Keeps, Looks, LooksUp, Answers, Reads, Does, expected}
 use Rattle.posting_rules.specs.declared.fault.Rule.{Rule}
 
 -- ---- what goes on
@@ -38,11 +39,53 @@ keeps_then old mid new (Err e) on then = record {
   committed = λ h. then.committed h ∙ on.committed;
 }
 
--- whatever a statement writes, as long as the transaction goes on
-write_keeps : (old new : State) (r : Result (Unit {0}) TableFault) → IsTrue old.in_transaction → WriteKept old new r → Keeps old new r
+-- a row that is put in, as long as the transaction goes on
+write_keeps : (old new : State) (r : Result (Unit {0}) TableFault) → IsTrue old.in_transaction → Puts old new r → Keeps old new r
 write_keeps old new (Ok done) live kept = record { opened = λ h. kept.was_open; committed = kept.committed_is; mode = kept.mode ∙ sym live }
-write_keeps old new (Err e) live (inl same) = record { was_open = λ h. same.0.was_open; committed = λ h. same.0.committed_is }
-write_keeps old new (Err e) live (inr undone) = record { was_open = undone.was_open; committed = λ h. (undone.undone h).1 }
+write_keeps old new (Err e) live (inl same, why) = record { was_open = λ h. same.0.was_open; committed = λ h. same.0.committed_is }
+write_keeps old new (Err e) live (inr undone, why) = record { was_open = undone.was_open; committed = λ h. (undone.undone h).1 }
+
+-- ---- why a part failed
+
+-- nothing is forgotten by a call
+pub comes : {P : Trees → Type 0} {old new : State} → Survives old new P → IsBefore old new
+comes s = record { faults = s.counts; limit = s.limit }
+
+pub same_moment : (s : State) → IsBefore s s
+same_moment s = record { faults = omega arith; limit = refl }
+
+then_moment : (old mid new : State) → IsBefore old mid → IsBefore mid new → IsBefore old new
+then_moment old mid new one two = record { faults = let a = one.faults in let b = two.faults in omega arith; limit = two.limit ∙ one.limit }
+
+-- the failing call is the whole part
+pub failed_here : {S : Type 0} (g : Ghosts S) (old new : Held S) (e : Error) → HasFailed (state g old) (state g new) e → HasFailedBetween g old new e
+failed_here g old new e failed = record { at = old; then = new; before = same_moment (state g old); failed = failed; after = same_moment (state g new) }
+
+-- a part that failed, behind others and before others
+pub fault_within : {S : Type 0} (g : Ghosts S) (old mid end new : Held S) (fault : TableFault) → IsBefore (state g old) (state g mid)
+    → IsBefore (state g end) (state g new) → IsFault g mid end fault → IsFault g old new fault
+fault_within g old mid end new (Sqlite e) one two it = record {
+  at = it.at;
+  then = it.then;
+  before = then_moment (state g old) (state g mid) (state g it.at) one it.before;
+  failed = it.failed;
+  after = then_moment (state g it.then) (state g end) (state g new) it.after two;
+}
+fault_within g old mid end new (Damaged rule) one two it = tt
+
+pub blames_after : {S X : Type 0} (g : Ghosts S) (old mid new : Held S) (r : Result X TableFault) → IsBefore (state g old) (state g mid) → Blames g mid new r
+    → Blames g old new r
+blames_after g old mid new (Ok x) one it = tt
+blames_after g old mid new (Err fault) one it = fault_within g old mid new new fault one (same_moment (state g new)) it
+
+-- what a statement of the tables says of its failure
+pub fault_here : {S : Type 0} (g : Ghosts S) (old new : Held S) (fault : TableFault) → HasReason (state g old) (state g new) fault → IsFault g old new fault
+fault_here g old new (Sqlite e) why = failed_here g old new e why
+fault_here g old new (Damaged rule) why = tt
+
+blames_put : {S : Type 0} (g : Ghosts S) (old new : Held S) (r : Result (Unit {0}) TableFault) → Puts (state g old) (state g new) r → Blames g old new r
+blames_put g old new (Ok done) kept = tt
+blames_put g old new (Err fault) kept = fault_here g old new fault kept.1
 
 -- ---- what is told
 
@@ -60,7 +103,7 @@ does_none stays = record {
   says = record {
     same_reference = refl;
     told = λ clean live t shows so. (refl, shows);
-    kept = λ clean live. record { opened = λ h. h; committed = refl; mode = refl };
+    kept = λ clean live. (record { opened = λ h. h; committed = refl; mode = refl }, tt);
     survives = stays;
   };
 }
@@ -72,9 +115,13 @@ pub does_then : {S X Y : Type 0} {g : Ghosts S} {old mid new : Transaction S} {S
 does_then {S} {X} {Y} {g} {old} {mid} {new} {So} {So'} {after} {after'} {w} {w'} {x} {r} one two ready = record {
   says = says_then g old mid new one.says two.says
       (λ told kept told' live t shows so.
-      told' (still_in (state g old.conn.now) (state g mid.conn.now) (kept live) live) (after t) (told live t shows so).1 (ready t so))
-      (λ kept kept' live. keeps_then (state g old.conn.now) (state g mid.conn.now) (state g new.conn.now) r (kept live)
-      (kept' (still_in (state g old.conn.now) (state g mid.conn.now) (kept live) live)));
+      told' (still_in (state g old.conn.now) (state g mid.conn.now) (kept live).0 live) (after t) (told live t shows so).1 (ready t so))
+      (λ kept kept' live.
+      let on = (kept live).0 in
+      let last = kept' (still_in (state g old.conn.now) (state g mid.conn.now) on live) in (
+        keeps_then (state g old.conn.now) (state g mid.conn.now) (state g new.conn.now) r on last.0,
+        blames_after g old.conn.now mid.conn.now new.conn.now r (comes one.says.survives) last.1,
+      ));
 }
 
 -- an error of a part is that of the whole
@@ -123,6 +170,34 @@ does_for {S} {X} {g} {old} {new} {So} {So'} {after} {after'} {w} {w'} {r} part s
   };
 }
 
+-- ---- where the answer of the first part counts too
+
+module _ {S X Y : Type 0} {g : Ghosts S} {old mid new : Transaction S} {So So' : Tables → Type 0} {after after' : Tables → Tables}
+    {w : Tables → X} {w' : Tables → Y} {x : X} {r : Result Y TableFault} (one : Does g old mid So after w (Ok x)) (two : Does g mid new So' after' w' r)
+    (ready : (t : Tables) → So t → x ≡ w t → So' (after t)) where
+  -- one part, and then another, for tables of which the first answer is known
+  pub knowing : Does g old new (λ t. So t × (x ≡ w t)) (λ t. after' (after t)) (λ t. w' (after t)) r
+  knowing = does_then (does_for one (λ t so. (so.0, refl, refl))) two (λ t so. ready t so.0 so.1)
+
+-- an error of the second is that of both
+pub does_but : {S X Y Z : Type 0} {g : Ghosts S} {old mid new : Transaction S} {So So' : Tables → Type 0} {after after' after'' : Tables → Tables}
+    {w : Tables → X} {w' : Tables → Y} {w'' : Tables → Z} {x : X} {e : TableFault} → Does g old mid So after w (Ok x) → Does g mid new So' after' w' (Err e)
+    → ((t : Tables) → So t → x ≡ w t → So' (after t)) → Does g old new So after'' w'' (Err e)
+does_but {S} {X} {Y} {Z} {g} {old} {mid} {new} {So} {So'} {after} {after'} {after''} {w} {w'} {w''} {x} {e} one two ready =
+    let both = knowing one two ready in
+    record {
+      says = record {
+        same_reference = both.says.same_reference;
+        told = λ clean live t shows so.
+            let before : HasCleanDisk (state g mid.conn.now) = omega (arith, two.says.survives.clean) in
+            let first = (one.says.told before live t shows so).0 in
+            same_fault (state g new.conn.now) (state g new.conn.now) (after' (after t)) (after'' t) (w' (after t)) (w'' t) e
+            (both.says.told clean live t shows (so, first));
+        kept = both.says.kept;
+        survives = both.says.survives;
+      };
+    }
+
 -- ---- what the statements do
 
 pub looked : {X : Type 0} (old new : State) (t : Tables) (w : X) (r : Result X TableFault) → Shows old.now t → LooksUp old new w r → Answers new t w r
@@ -141,7 +216,7 @@ does_read g old new w r reads = record {
   says = record {
     same_reference = reads.same_reference;
     told = λ clean live t shows so. looked (state g old.conn.now) (state g new.conn.now) t (w t) r shows (reads.told clean t shows so);
-    kept = λ clean live. look_keeps (state g old.conn.now) (state g new.conn.now) r (reads.kept clean);
+    kept = λ clean live. let it = reads.kept clean in (look_keeps (state g old.conn.now) (state g new.conn.now) r it.0, it.1);
     survives = reads.survives;
   };
 }
@@ -155,14 +230,14 @@ added old new table taken after (Err (Damaged rule)) free adds = let is = adds.1
 -- a row is put in under a key that is free
 pub does_add : {S : Type 0} {So : Tables → Type 0} (g : Ghosts S) (old new : Transaction S) (table : Table) (taken : Tables → Bool) (more : Tables → Tables)
     (r : Result (Unit {0}) TableFault)
-    → Says g old new (Inside (OfTables (λ before now t. Adds before now table (taken t) (more t) r))) (Inside (λ before now. WriteKept before now r))
+    → Says g old new (Inside (OfTables (λ before now t. Adds before now table (taken t) (more t) r))) (Inside (λ before now. Puts before now r))
     → ((t : Tables) → So t → taken t ≡ false) → Does g old new So more (λ _. tt) r
 does_add g old new table taken more r says free = record {
   says = record {
     same_reference = says.same_reference;
     told = λ clean live t shows so.
         added (state g old.conn.now) (state g new.conn.now) table (taken t) (more t) r (free t so) (says.told clean live t shows);
-    kept = λ clean live. write_keeps (state g old.conn.now) (state g new.conn.now) r live (says.kept clean live);
+    kept = λ clean live. let it = says.kept clean live in (write_keeps (state g old.conn.now) (state g new.conn.now) r live it, blames_put g old.conn.now new.conn.now r it);
     survives = says.survives;
   };
 }
@@ -173,15 +248,21 @@ written old new table there after (Ok true) rule is writes = (refl, writes.1)
 written old new table there after (Ok false) rule is writes = let no = writes.0 in cc
 written old new table there after (Err e) rule is writes = tt
 
-written_keeps : (old new : State) (r : Result Bool Error) (rule : Rule) → IsTrue old.in_transaction → WriteKept old new r → Keeps old new (expected r rule)
+written_keeps : (old new : State) (r : Result Bool Error) (rule : Rule) → IsTrue old.in_transaction → Changes old new r → Keeps old new (expected r rule)
 written_keeps old new (Ok true) rule live kept = write_keeps old new (Ok tt) live kept
 written_keeps old new (Ok false) rule live kept = record { was_open = λ h. kept.was_open; committed = λ h. kept.committed_is }
 written_keeps old new (Err e) rule live kept = write_keeps old new (Err (Sqlite e)) live kept
 
+blames_changed : {S : Type 0} (g : Ghosts S) (old new : Held S) (r : Result Bool Error) (rule : Rule) → Changes (state g old) (state g new) r
+    → Blames g old new (expected r rule)
+blames_changed g old new (Ok true) rule kept = tt
+blames_changed g old new (Ok false) rule kept = tt
+blames_changed g old new (Err e) rule kept = failed_here g old new e kept.1
+
 -- a row that is there is written
 pub does_write : {S : Type 0} {So : Tables → Type 0} (g : Ghosts S) (old new : Transaction S) (table : Table) (there : Tables → Bool) (after : Tables → Tables)
     (answer : Result Bool Error) (rule : Rule) (r : Result (Unit {0}) TableFault) → r ≡ expected answer rule
-    → Says g old new (Inside (OfTables (λ before now t. Writes before now table (there t) (after t) answer))) (Inside (λ before now. WriteKept before now answer))
+    → Says g old new (Inside (OfTables (λ before now t. Writes before now table (there t) (after t) answer))) (Inside (λ before now. Changes before now answer))
     → ((t : Tables) → So t → IsTrue (there t)) → Does g old new So after (λ _. tt) r
 does_write {S} {So} g old new table there after answer rule r is says so =
     subst (λ (x : Result (Unit {0}) TableFault). Does g old new So after (λ _. tt) x) (sym is) (record {
@@ -189,7 +270,9 @@ does_write {S} {So} g old new table there after answer rule r is says so =
         same_reference = says.same_reference;
         told = λ clean live t shows it.
             written (state g old.conn.now) (state g new.conn.now) table (there t) (after t) answer rule (so t it) (says.told clean live t shows);
-        kept = λ clean live. written_keeps (state g old.conn.now) (state g new.conn.now) answer rule live (says.kept clean live);
+        kept = λ clean live.
+            let it = says.kept clean live in
+            (written_keeps (state g old.conn.now) (state g new.conn.now) answer rule live it, blames_changed g old.conn.now new.conn.now answer rule it);
         survives = says.survives;
       };
     })

@@ -2,5 +2,6 @@
 pub mod Chained
 pub mod NextRow
 pub mod Opened
+pub mod Reading
 pub mod SoundRows
 pub mod Transacted

@@ -1,7 +1,9 @@
--- What a stop may leave of a transaction: what could be left before, or the tables that its commit found.
-use Rattle.std.proofs.Common.{◌≡◌, Ok, refl, subst, arith}
-use Rattle.std.specs.Prelude.{true}
-use Rattle.sqlite.specs.State.{Survives}
+-- What a stop may leave of a transaction: what could be left before, or the tables that its commit found. And why it failed.
+use Rattle.std.proofs.Common.{◌≡◌, Ok, Err, refl, sym, subst, arith}
+use Rattle.std.specs.Prelude.{true, IsTrue}
+use Rattle.sqlite.specs.State.{HasCleanDisk, Survives}
+use Rattle.sqlite.specs.Steps.{FailsToCommit}
+use Rattle.sqlite.specs.declared.error.Error.{Error}
 use Rattle.sqlite.specs.Held.{Held, state}
 use Rattle.sqlite.specs.declared.transaction.Transaction.{Transaction}
 use Rattle.sqlite_trees.specs.declared.store.Store.{Ghosts}
@@ -9,7 +11,10 @@ use Rattle.sqlite.proofs.Callers.{survives_begin}
 use Rattle.sqlite.proofs.StateLemmas.{survives_then}
 use Rattle.posting_rules.specs.Tables.{Tables}
 use Rattle.store_rows.specs.View.{Shows, ShowsTrees}
-use Rattle.bank_transactions.specs.Doing.{Does, Leaves}
+use Rattle.store_rows.specs.Failures.{Committing}
+use Rattle.store_rows.specs.declared.faults.TableFault.{TableFault}
+use Rattle.bank_transactions.specs.Doing.{Does, HasFailedBetween, IsBefore, IsFault, Leaves}
+use Rattle.bank_transactions.proofs.Chained.{comes, fault_within, same_moment}
 
 -- the connection, the transaction as it begins and before its commit, the connection after it
 pub stopped : {S X : Type 0} {So : Tables → Type 0} {after : Tables → Tables} {w : Tables → X} {x : X} (g : Ghosts S) (old : Held S) (begun mid : Transaction S)
@@ -25,3 +30,32 @@ stopped {S} {X} {So} {after} g old begun mid end new is does commit same =
     (λ clean db none. absurd none)
     (λ clean db made t shows so. made (after t) (does.says.told (omega (arith, commit.clean)) (rw is refl) t (rw is shows) so).1)
     does.says.survives commit)))
+
+-- the connection, the transaction as it begins and as a part of it failed, the connection after it
+pub blamed : {S X : Type 0} {So : Tables → Type 0} {after : Tables → Tables} {w : Tables → X} {fault : TableFault} (g : Ghosts S) (old : Held S) (begun mid : Transaction S)
+    (end new : Held S) → begun.conn.now ≡ record old { in_transaction = true } → Does g begun mid So after w (Err fault)
+    → Survives (state g mid.conn.now) (state g end) (λ _. ⊥) → end ≡ new → HasCleanDisk (state g new) → IsFault g old new fault
+blamed {S} {X} {So} {after} {w} {fault} g old begun mid end new is does quiet same clean =
+    let start : Held S = record old { in_transaction = true } in
+    let now : HasCleanDisk (state g end) = subst (λ (h : Held S). HasCleanDisk (state g h)) (sym same) clean in
+    let before : HasCleanDisk (state g mid.conn.now) = omega (arith, quiet.clean) in
+    let it = (does.says.kept before (subst (λ (h : Held S). IsTrue h.in_transaction) (sym is) refl)).1 in
+    fault_within g old start mid.conn.now new fault (record { faults = omega arith; limit = refl })
+    (subst (λ (h : Held S). IsBefore (state g mid.conn.now) (state g h)) same (comes quiet))
+    (subst (λ (h : Held S). IsFault g h mid.conn.now fault) is it)
+
+-- the same where the commit failed
+pub uncommitted : {S X : Type 0} {So : Tables → Type 0} {after : Tables → Tables} {w : Tables → X} {x : X} (g : Ghosts S) (old : Held S)
+    (begun mid : Transaction S) (end new : Held S) (e : Error) → begun.conn.now ≡ record old { in_transaction = true } → Does g begun mid So after w (Ok x)
+    → (HasCleanDisk (state g end) → FailsToCommit (state g mid.conn.now) (state g end) e) → end ≡ new → HasCleanDisk (state g new) → HasFailedBetween g old new e
+uncommitted {S} {X} {So} {after} {w} {x} g old begun mid end new e is does fails same clean =
+    let now : HasCleanDisk (state g end) = subst (λ (h : Held S). HasCleanDisk (state g h)) (sym same) clean in
+    let begins : IsBefore (state g (let h : Held S = record old { in_transaction = true } in h)) (state g mid.conn.now) =
+    subst (λ (h : Held S). IsBefore (state g h) (state g mid.conn.now)) is (comes does.says.survives) in
+    subst (λ (h : Held S). HasFailedBetween g old h e) same (record {
+      at = mid.conn.now;
+      then = end;
+      before = record { faults = begins.faults; limit = begins.limit };
+      failed = Committing (fails now);
+      after = same_moment (state g end);
+    })

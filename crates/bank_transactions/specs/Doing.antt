@@ -1,5 +1,5 @@
 -- What the parts of a call do to the tables, and what a whole transaction does.
-use Rattle.std.specs.Prelude.{◌≡◌, IsTrue, Bool, true, false, Result, Ok, Err, ⊤}
+use Rattle.std.specs.Prelude.{◌≡◌, ◌≤◌, IsTrue, Bool, true, false, Result, Ok, Err, ⊤}
 use Rattle.sqlite.specs.Tree.{Trees}
 use Rattle.sqlite.specs.State.{State, KeepsCommit, HasCleanDisk, Survives}
 use Rattle.sqlite.specs.Held.{Held, state}
@@ -11,6 +11,7 @@ use Rattle.posting_rules.specs.Tables.{Tables}
 use Rattle.posting_rules.specs.declared.fault.Rule.{Rule}
 use Rattle.sql_meanings.specs.Calls.{Says, Inside}
 use Rattle.store_rows.specs.Calls.{OfTables}
+use Rattle.store_rows.specs.Failures.{HasFailed}
 use Rattle.store_rows.specs.View.{Shows, ShowsTrees}
 use Rattle.store_rows.specs.declared.faults.TableFault.{TableFault}
 use Rattle.store_rows.specs.declared.faults.TableFault.TheVariants.{Sqlite, Damaged}
@@ -25,6 +26,31 @@ pub record GoesOn (old new : State) : Type 0 where
 pub record Stays (old new : State) : Type 0 where
   pub goes_on : GoesOn old new
   pub now : new.now ≡ old.now
+
+-- ---- why a part failed
+
+-- the second state came after the first: no fault of the disk was forgotten, and the limit on steps is the same
+pub record IsBefore (first second : State) : Type 0 where
+  pub faults : first.faults ≤ second.faults
+  pub limit : second.step_limit ≡ first.step_limit
+
+-- between these two moments of a connection a call of `sqlite` failed with this error
+pub record HasFailedBetween {S : Type 0} (g : Ghosts S) (old new : Held S) (e : Error) : Type 0 where
+  -- the connection before that call and after it
+  pub at : Held S
+  pub then : Held S
+  pub before : IsBefore (state g old) (state g at)
+  pub failed : HasFailed (state g at) (state g then) e
+  pub after : IsBefore (state g then) (state g new)
+
+abbrev pub IsFault : {S : Type 0} → Ghosts S → Held S → Held S → TableFault → Type 0
+IsFault g old new (Sqlite e) = HasFailedBetween g old new e
+IsFault g old new (Damaged rule) = ⊤
+
+-- an error of `sqlite` is one with which a call of it failed
+abbrev pub Blames : {S X : Type 0} → Ghosts S → Held S → Held S → Result X TableFault → Type 0
+Blames g old new (Ok x) = ⊤
+Blames g old new (Err fault) = IsFault g old new fault
 
 -- ---- a part that reads
 
@@ -43,7 +69,7 @@ LooksUp old new wanted (Err (Damaged rule)) = ⊥
 abbrev pub Reads : {S X : Type 0} → Ghosts S → Transaction S → Transaction S → (Tables → X) → Result X TableFault → Type 0
 Reads g old new wanted result =
     Says g old new (OfTables (λ before now tables. IsUndamaged tables → LooksUp before now (wanted tables) result))
-    (λ before now. Looks before now result)
+    (λ before now. Looks before now result × Blames g old.conn.now new.conn.now result)
 
 -- ---- a part that writes
 
@@ -68,7 +94,7 @@ expected (Err e) rule = Err (Sqlite e)
 pub record Does {S X : Type 0} (g : Ghosts S) (old new : Transaction S) (So : Tables → Type 0) (after : Tables → Tables) (wanted : Tables → X)
     (result : Result X TableFault) : Type 0 where
   pub says : Says g old new (Inside (OfTables (λ before now tables. So tables → Answers now (after tables) (wanted tables) result)))
-      (Inside (λ before now. Keeps before now result))
+      (Inside (λ before now. Keeps before now result × Blames g old.conn.now new.conn.now result))
 
 -- ---- a transaction
 
@@ -88,11 +114,12 @@ abbrev pub Leaves : State → (Tables → Type 0) → (Tables → Tables) → Tr
 Leaves old So after left = (tables : Tables) → Shows old.now tables → So tables → ShowsTrees left (after tables)
 
 -- Tables that are so become these, and the answer is this one. Damage undoes all. A stop leaves what it could leave before, or what the
--- transaction leaves. No transaction goes on.
+-- transaction leaves. An error of `sqlite` is one with which a call of it failed. No transaction goes on.
 pub record Transacts {S X : Type 0} (g : Ghosts S) (old new : Held S) (So : Tables → Type 0) (after : Tables → Tables) (wanted : Tables → X)
     (result : Result X TableFault) : Type 0 where
   pub told : HasCleanDisk (state g new) → (tables : Tables) → Shows (state g old).now tables → So tables
       → Completes (state g new) (after tables) (wanted tables) result
   pub undone : HasCleanDisk (state g new) → Undoes (state g old) (state g new) result
   pub stop : Survives (state g old) (state g new) (Leaves (state g old) So after)
+  pub cause : HasCleanDisk (state g new) → Blames g old new result
   pub mode : new.in_transaction ≡ false

@@ -13,7 +13,7 @@ use Rattle.sqlite.specs.declared.error.Error.{Error}
 use Rattle.sqlite_sql.specs.Ops.{fits_i64}
 use Rattle.posting_rules.specs.Tables.{Tables, row_at}
 use Rattle.sql_meanings.specs.Entries.{Entry, Rise, put}
-use Rattle.sql_meanings.specs.Outcomes.{Forbids, PutFails, WriteKept, is_taken_key}
+use Rattle.sql_meanings.specs.Outcomes.{Forbids, PutFails, WriteFails, is_taken_key}
 use Rattle.sql_meanings.specs.Tables.{Holds}
 use Rattle.sql_meanings.proofs.Changes.{found_all, found_passes}
 use Rattle.sql_meanings.proofs.Failures.{other_error, put_fails_as}
@@ -23,6 +23,7 @@ use Rattle.posting_rules.specs.declared.fault.Rule.TheVariants.{Key}
 use Rattle.store_rows.specs.declared.faults.TableFault.{TableFault}
 use Rattle.store_rows.specs.declared.faults.TableFault.TheVariants.{Sqlite, Damaged}
 use Rattle.posting_rules.specs.Changes.{row_put}
+use Rattle.store_rows.specs.Failures.{Putting, Puts}
 use Rattle.store_rows.specs.Outcomes.{Adds, IsForbidden}
 use Rattle.store_rows.specs.Faults.{added}
 use Rattle.store_rows.specs.View.{Shows}
@@ -106,11 +107,14 @@ adds_err old new table there taken P after e same then (inr fails) =
     rw (other_error old new table P e fails) (put_fails_as old new table P e (IsForbidden old.now.schema table after) then fails)
 
 -- whatever the rows, what an INSERT leaves
-pub kept_added : (old new : State) (text : List ℕ) (params : Row) (answer : Result ℕ Error) → ExecutesInside 0 text params old new answer
-    → WriteKept old new (added answer)
-kept_added old new text params (Ok count) h = h.1
-kept_added old new text params (Err e) h = go (is_taken_key e)
+pub puts_added : (old new : State) (text : List ℕ) (params : Row) (answer : Result ℕ Error) → ExecutesInside 0 text params old new answer
+    → Puts old new (added answer)
+puts_added old new text params (Ok count) h = h.1
+puts_added old new text params (Err e) h = go (is_taken_key e) refl
   where
-    go : (b : Bool) → WriteKept {X = Unit {0}} {E = TableFault} old new (cond b (Err (Damaged Key)) (Err (Sqlite e)))
-    go true = kept_inside old new text params (Err e) h
-    go false = kept_inside old new text params (Err e) h
+    fails : WriteFails old new
+    fails = kept_inside old new text params (Err e) h
+
+    go : (b : Bool) → is_taken_key e ≡ b → Puts {X = Unit {0}} old new (cond b (Err (Damaged Key)) (Err (Sqlite e)))
+    go true taken = (fails, tt)
+    go false free = (fails, Putting text params h free)

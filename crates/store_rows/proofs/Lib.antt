@@ -16,6 +16,7 @@ pub mod NextBranch
 pub mod OtherValue
 pub mod Probing
 pub mod Puts
+pub mod Reasons
 pub mod RowLists
 pub mod RowsUnder
 pub mod Setting

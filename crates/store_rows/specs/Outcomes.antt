@@ -20,7 +20,7 @@ use Rattle.sqlite.specs.Schema.{Schema}
 use Rattle.sqlite.specs.Table.{Table}
 use Rattle.sqlite.specs.Tree.{Trees}
 use Rattle.sql_meanings.specs.Making.{SparesStanding, SparesTables}
-use Rattle.sql_meanings.specs.Outcomes.{IsStoreError, GoesOn, PutFails, SetFails, WriteFails, has_unique}
+use Rattle.sql_meanings.specs.Outcomes.{IsStoreError, GoesOn, PutFails, SetFails, has_unique}
 use Rattle.store_rows.specs.declared.faults.TableFault.{TableFault}
 use Rattle.store_rows.specs.declared.faults.TableFault.TheVariants.{Sqlite, Damaged}
 use Rattle.store_rows.specs.Columns.{request_shown}
@@ -34,11 +34,6 @@ abbrev pub Finds : {X : Type 0} → State → State → Option X → (X → Rule
 Finds old new wanted Breaks (Ok found) = (found ≡ wanted) × IsUnchanged old new
 Finds old new wanted Breaks (Err (Sqlite e)) = IsStoreError old new e
 Finds {X} old new wanted Breaks (Err (Damaged broken)) = ((x : X) × (wanted ≡ Some x) × Breaks x broken) × IsUnchanged old new
-
--- whatever the rows: a read leaves everything as it was, or the transaction is rolled back
-abbrev pub Looks : {X E : Type 0} → State → State → Result X E → Type 0
-Looks old new (Ok x) = IsUnchanged old new
-Looks old new (Err e) = WriteFails old new
 
 -- the balance is outside the limits
 abbrev pub IsNoBalance : ℤ → Rule → Type 0

@@ -3,10 +3,10 @@ ghost use Rattle.std.specs.Prelude.{is_some};
 ghost use Rattle.posting_rules.specs.Tables.{row_at, account_key};
 ghost use Rattle.posting_rules.specs.Changes.{with_account, with_account_balance};
 ghost use Rattle.sql_meanings.specs.Calls.{Says, Inside};
-ghost use Rattle.sql_meanings.specs.Outcomes.{WriteKept};
 ghost use Rattle.store_rows.specs.Calls.{OfTables};
 ghost use Rattle.store_rows.specs.Columns.{account_balance_in};
-ghost use Rattle.store_rows.specs.Outcomes.{Finds, IsNoBalance, Looks, Writes, Adds};
+ghost use Rattle.store_rows.specs.Failures.{Changes, Looks, Puts};
+ghost use Rattle.store_rows.specs.Outcomes.{Finds, IsNoBalance, Writes, Adds};
 ghost use Rattle.store_rows.specs.SixTables.{account as table};
 
 use crate::faults::TableFault;
@@ -37,7 +37,7 @@ pub fn set_account_balance<S: Alter>(
     ensures { Says S.Store tx.old tx.new
         (Inside (OfTables (λ old new tables. Writes old new table (is_some (row_at account_key tables.accounts account))
         (with_account_balance account balance tables) result)))
-        (Inside (λ old new. WriteKept old new result)) }
+        (Inside (λ old new. Changes old new result)) }
 {
     write_under(tx, SET_ACCOUNT, account.get(), balance.get())
 }
@@ -47,7 +47,7 @@ pub fn add_account<S: Alter>(tx: &mut Transaction<'_, S>, row: AccountRow) -> Re
     ensures { Says S.Store tx.old tx.new
         (Inside (OfTables (λ old new tables. Adds old new table (is_some (row_at account_key tables.accounts row.account))
         (with_account row tables) result)))
-        (Inside (λ old new. WriteKept old new result)) }
+        (Inside (λ old new. Puts old new result)) }
 {
     let key = row.account.get() as i64;
     let balance = row.balance.get();

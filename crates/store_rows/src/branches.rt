@@ -1,12 +1,13 @@
 //! The table of branches.
-ghost use Rattle.std.specs.Prelude.{is_some, option_map};
+ghost use Rattle.std.specs.Prelude.{is_some, option_map, IfErr};
 ghost use Rattle.posting_rules.specs.Tables.{row_at, branch_key};
 ghost use Rattle.posting_rules.specs.Changes.{with_branch, with_branch_balance};
 ghost use Rattle.sql_meanings.specs.Calls.{Says, Inside};
-ghost use Rattle.sql_meanings.specs.Outcomes.{ReadKept, TellsRow, WriteKept};
+ghost use Rattle.sql_meanings.specs.Outcomes.{TellsRow};
 ghost use Rattle.store_rows.specs.Calls.{OfTables};
 ghost use Rattle.store_rows.specs.Columns.{branch_shown, branch_above};
-ghost use Rattle.store_rows.specs.Outcomes.{Finds, IsNoBranch, Looks, ReadsRow, Writes, Adds};
+ghost use Rattle.store_rows.specs.Failures.{Asks, Changes, IsUnreadable, Looks, Puts};
+ghost use Rattle.store_rows.specs.Outcomes.{Finds, IsNoBranch, ReadsRow, Writes, Adds};
 ghost use Rattle.store_rows.specs.SixTables.{branch as table};
 
 use crate::columns::{cents_at, count_at, whole_at};
@@ -19,7 +20,8 @@ use sqlite::{Alter, Error, Row, Transaction, params};
 
 // The branch that a row shows.
 fn branch_from(row: &Row) -> Result<BranchRow, TableFault>
-    ensures { ReadsRow branch_shown IsNoBranch row.now result }
+    ensures reads { ReadsRow branch_shown IsNoBranch row.now result }
+    ensures failed { IfErr result IsUnreadable }
 {
     Ok(BranchRow {
         branch: whole_at(row, 0, Rule::Value)?,
@@ -32,7 +34,7 @@ fn branch_from(row: &Row) -> Result<BranchRow, TableFault>
 fn branch_row<S: Alter>(tx: &mut Transaction<'_, S>, branch: Branch) -> Result<Row, Error>
     ensures { Says S.Store tx.old tx.new
         (OfTables (λ old new tables. TellsRow old new (option_map branch_shown (row_at branch_key tables.branches branch)) result))
-        (λ old new. ReadKept old new result) }
+        (λ old new. Asks old new result) }
 {
     row_under(tx, GET_BRANCH, branch.get())
 }
@@ -57,7 +59,7 @@ pub fn find_branch<S: Alter>(
 fn next_row<S: Alter>(tx: &mut Transaction<'_, S>, after: u32) -> Result<Row, Error>
     ensures { Says S.Store tx.old tx.new
         (OfTables (λ old new tables. TellsRow old new (option_map branch_shown (branch_above tables after)) result))
-        (λ old new. ReadKept old new result) }
+        (λ old new. Asks old new result) }
 {
     row_under(tx, NEXT_BRANCH, u64::from(after))
 }
@@ -87,7 +89,7 @@ pub fn set_branch_balance<S: Alter>(
     ensures { Says S.Store tx.old tx.new
         (Inside (OfTables (λ old new tables. Writes old new table (is_some (row_at branch_key tables.branches branch))
         (with_branch_balance branch balance tables) result)))
-        (Inside (λ old new. WriteKept old new result)) }
+        (Inside (λ old new. Changes old new result)) }
 {
     write_under(tx, SET_BRANCH, branch.get(), balance.get())
 }
@@ -97,7 +99,7 @@ pub fn add_branch<S: Alter>(tx: &mut Transaction<'_, S>, row: BranchRow) -> Resu
     ensures { Says S.Store tx.old tx.new
         (Inside (OfTables (λ old new tables. Adds old new table (is_some (row_at branch_key tables.branches row.branch))
         (with_branch row tables) result)))
-        (Inside (λ old new. WriteKept old new result)) }
+        (Inside (λ old new. Puts old new result)) }
 {
     let key = row.branch.get() as i64;
     let accounts = i64::from(row.accounts);

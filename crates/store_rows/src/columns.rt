@@ -1,5 +1,7 @@
 //! Stored numbers as the types that they stand for.
+ghost use Rattle.std.specs.Prelude.{IfErr};
 ghost use Rattle.sqlite.specs.Order.{column};
+ghost use Rattle.store_rows.specs.Failures.{IsUnreadable};
 ghost use Rattle.store_rows.specs.Outcomes.{ReadsCents, ReadsInteger, ReadsOutcome, ReadsWhole};
 
 use crate::faults::TableFault;
@@ -9,7 +11,8 @@ use sqlite::{Error, Row};
 
 // The integer in a column. A value of another type is damage.
 pub(crate) fn integer_at(row: &Row, at: usize) -> Result<i64, TableFault>
-    ensures { ReadsInteger (column row.now at) result }
+    ensures reads { ReadsInteger (column row.now at) result }
+    ensures failed { IfErr result IsUnreadable }
 {
     match row.get(at) {
         Ok(value) => Ok(value),
@@ -24,7 +27,8 @@ pub(crate) fn whole_at<const LEAST: u64, const MOST: u64>(
     at: usize,
     rule: Rule,
 ) -> Result<Whole<LEAST, MOST>, TableFault>
-    ensures { ReadsWhole LEAST MOST rule (column row.now at) result }
+    ensures reads { ReadsWhole LEAST MOST rule (column row.now at) result }
+    ensures failed { IfErr result IsUnreadable }
 {
     let value = integer_at(row, at)?;
     if value < 0 {
@@ -35,7 +39,8 @@ pub(crate) fn whole_at<const LEAST: u64, const MOST: u64>(
 
 // The count in a column, or the rule that it breaks outside the range.
 pub(crate) fn count_at(row: &Row, at: usize, rule: Rule) -> Result<u32, TableFault>
-    ensures { ReadsWhole 0 4_294_967_295 rule (column row.now at) result }
+    ensures reads { ReadsWhole 0 4_294_967_295 rule (column row.now at) result }
+    ensures failed { IfErr result IsUnreadable }
 {
     let value = integer_at(row, at)?;
     if value < 0 || value > 4_294_967_295 {
@@ -46,7 +51,8 @@ pub(crate) fn count_at(row: &Row, at: usize, rule: Rule) -> Result<u32, TableFau
 
 // The amount in a column, or the rule that it breaks outside the limits.
 pub(crate) fn cents_at(row: &Row, at: usize, rule: Rule) -> Result<Cents, TableFault>
-    ensures { ReadsCents rule (column row.now at) result }
+    ensures reads { ReadsCents rule (column row.now at) result }
+    ensures failed { IfErr result IsUnreadable }
 {
     let value = integer_at(row, at)?;
     Cents::new(value).ok_or(TableFault::Damaged(rule))
@@ -54,7 +60,8 @@ pub(crate) fn cents_at(row: &Row, at: usize, rule: Rule) -> Result<Cents, TableF
 
 // The outcome whose code is in a column.
 pub(crate) fn outcome_at(row: &Row, at: usize) -> Result<Outcome, TableFault>
-    ensures { ReadsOutcome (column row.now at) result }
+    ensures reads { ReadsOutcome (column row.now at) result }
+    ensures failed { IfErr result IsUnreadable }
 {
     let value = integer_at(row, at)?;
     match value {

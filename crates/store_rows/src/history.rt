@@ -3,8 +3,8 @@ ghost use Rattle.std.specs.Prelude.{is_some};
 ghost use Rattle.posting_rules.specs.Tables.{row_at, history_key};
 ghost use Rattle.posting_rules.specs.Changes.{with_history};
 ghost use Rattle.sql_meanings.specs.Calls.{Says, Inside};
-ghost use Rattle.sql_meanings.specs.Outcomes.{WriteKept};
 ghost use Rattle.store_rows.specs.Calls.{OfTables};
+ghost use Rattle.store_rows.specs.Failures.{Puts};
 ghost use Rattle.store_rows.specs.Outcomes.{Adds};
 ghost use Rattle.store_rows.specs.SixTables.{history as table};
 
@@ -19,7 +19,7 @@ pub fn add_history<S: Alter>(tx: &mut Transaction<'_, S>, row: HistoryRow) -> Re
     ensures { Says S.Store tx.old tx.new
         (Inside (OfTables (λ old new tables. Adds old new table (is_some (row_at history_key tables.history row.ordinal))
         (with_history row tables) result)))
-        (Inside (λ old new. WriteKept old new result)) }
+        (Inside (λ old new. Puts old new result)) }
 {
     let key = row.ordinal.get() as i64;
     let account = row.account.get() as i64;

@@ -2,13 +2,14 @@
 ghost use Rattle.std.specs.Prelude.{◌≤◌, ◌∷◌, [], pos, true, option_map, IfOk, IfErr};
 ghost use Rattle.posting_rules.specs.Changes.{with_decided};
 ghost use Rattle.sql_meanings.specs.Calls.{Says, Inside};
-ghost use Rattle.sql_meanings.specs.Outcomes.{ReadKept, TellsRow, WriteKept};
+ghost use Rattle.sql_meanings.specs.Outcomes.{TellsRow};
 ghost use Rattle.store_rows.specs.Calls.{OfMeta, OfTables};
 ghost use Rattle.sqlite.specs.Held.{state};
 ghost use Rattle.sqlite.specs.State.{HasCleanDisk};
 ghost use Rattle.sqlite.specs.declared.types.Value.TheVariants.{Int};
 ghost use Rattle.store_rows.specs.Columns.{meta_in, meta_shown};
-ghost use Rattle.store_rows.specs.Outcomes.{Finds, Looks, Never, ReadsRow, Writes};
+ghost use Rattle.store_rows.specs.Failures.{Asks, Changes, IsUnreadable, Looks};
+ghost use Rattle.store_rows.specs.Outcomes.{Finds, Never, ReadsRow, Writes};
 ghost use Rattle.store_rows.specs.SixTables.{meta as table};
 ghost use Rattle.store_rows.specs.Statements.{ShowsFirst, TellsOther};
 ghost use Rattle.store_rows.specs.declared.metas.TheConstants.{META_ID as id};
@@ -38,7 +39,8 @@ pub struct StoredMeta {
 
 // What the row of the bank shows.
 fn meta_from(row: &Row) -> Result<StoredMeta, TableFault>
-    ensures { ReadsRow meta_shown Never row.now result }
+    ensures reads { ReadsRow meta_shown Never row.now result }
+    ensures failed { IfErr result IsUnreadable }
 {
     Ok(StoredMeta {
         version: integer_at(row, 0)?,
@@ -50,7 +52,7 @@ fn meta_from(row: &Row) -> Result<StoredMeta, TableFault>
 fn meta_row<S: Alter>(tx: &mut Transaction<'_, S>) -> Result<Row, Error>
     ensures { Says S.Store tx.old tx.new
         (OfMeta (λ old new rows. TellsRow old new (option_map meta_shown (meta_in rows)) result))
-        (λ old new. ReadKept old new result × IfOk result (ShowsFirst text.now (Int (pos id) ∷ []) old.now)) }
+        (λ old new. Asks old new result × IfOk result (ShowsFirst text.now (Int (pos id) ∷ []) old.now)) }
 {
     row_under(tx, GET_META, META_ID)
 }
@@ -74,7 +76,7 @@ pub fn set_decided<S: Alter>(tx: &mut Transaction<'_, S>, decided: u64) -> Resul
     requires { decided ≤ MAX_DECIDED }
     ensures { Says S.Store tx.old tx.new
         (Inside (OfTables (λ old new tables. Writes old new table true (with_decided decided tables) result)))
-        (Inside (λ old new. WriteKept old new result)) }
+        (Inside (λ old new. Changes old new result)) }
 {
     write_under(tx, SET_META, META_ID, decided as i64)
 }

@@ -1,12 +1,13 @@
 //! The table of decided requests.
-ghost use Rattle.std.specs.Prelude.{◌≡◌, pos, [], ◌∷◌, is_some, option_map};
+ghost use Rattle.std.specs.Prelude.{◌≡◌, pos, [], ◌∷◌, is_some, option_map, IfErr};
 ghost use Rattle.posting_rules.specs.Tables.{row_at, request_key};
 ghost use Rattle.posting_rules.specs.Changes.{with_request};
 ghost use Rattle.sql_meanings.specs.Calls.{Says, Inside};
-ghost use Rattle.sql_meanings.specs.Outcomes.{ReadKept, TellsRow, WriteKept};
+ghost use Rattle.sql_meanings.specs.Outcomes.{TellsRow};
 ghost use Rattle.store_rows.specs.Calls.{OfTables};
 ghost use Rattle.store_rows.specs.Columns.{request_in, request_shown};
-ghost use Rattle.store_rows.specs.Outcomes.{Finds, IsNoRequest, Looks, ReadsKept, ReadsRow, Adds};
+ghost use Rattle.store_rows.specs.Failures.{Asks, IsUnreadable, Looks, Puts};
+ghost use Rattle.store_rows.specs.Outcomes.{Finds, IsNoRequest, ReadsKept, ReadsRow, Adds};
 ghost use Rattle.store_rows.specs.SixTables.{request as table};
 
 use crate::columns::{cents_at, outcome_at, whole_at};
@@ -19,7 +20,8 @@ use sqlite::{Alter, Error, Row, Transaction, params};
 
 // What a row keeps of a request.
 fn kept_from(row: &Row) -> Result<Kept, TableFault>
-    ensures { ReadsKept row.now result }
+    ensures reads { ReadsKept row.now result }
+    ensures failed { IfErr result IsUnreadable }
 {
     let account = whole_at(row, 3, Rule::Request)?;
     let branch = whole_at(row, 4, Rule::Request)?;
@@ -31,7 +33,8 @@ fn kept_from(row: &Row) -> Result<Kept, TableFault>
 
 // The request that a row shows.
 fn request_from(row: &Row) -> Result<RequestRow, TableFault>
-    ensures { ReadsRow request_shown IsNoRequest row.now result }
+    ensures reads { ReadsRow request_shown IsNoRequest row.now result }
+    ensures failed { IfErr result IsUnreadable }
 {
     Ok(RequestRow {
         ordinal: whole_at(row, 0, Rule::Value)?,
@@ -49,7 +52,7 @@ fn request_row<S: Alter>(
 ) -> Result<Row, Error>
     ensures { Says S.Store tx.old tx.new
         (OfTables (λ old new tables. TellsRow old new (option_map request_shown (request_in tables teller number)) result))
-        (λ old new. ReadKept old new result) }
+        (λ old new. Asks old new result) }
 {
     let first = teller.get() as i64;
     let second = number.get() as i64;
@@ -78,7 +81,7 @@ pub fn add_request<S: Alter>(tx: &mut Transaction<'_, S>, row: RequestRow) -> Re
     ensures { Says S.Store tx.old tx.new
         (Inside (OfTables (λ old new tables. Adds old new table (is_some (row_at request_key tables.requests row.ordinal))
         (with_request row tables) result)))
-        (Inside (λ old new. WriteKept old new result)) }
+        (Inside (λ old new. Puts old new result)) }
 {
     let key = row.ordinal.get() as i64;
     let teller = row.teller.get() as i64;

@@ -8,9 +8,10 @@ ghost use Rattle.sqlite.specs.declared.error.Error.{Error as Failure};
 ghost use Rattle.sqlite.specs.declared.types.Value.TheVariants.{Int};
 ghost use Rattle.std.specs.Prelude.{ℤ};
 ghost use Rattle.sql_meanings.specs.Calls.{Says, Inside};
-ghost use Rattle.sql_meanings.specs.Outcomes.{OnlyShows, ReadKept, TellsRow, WriteKept};
+ghost use Rattle.sql_meanings.specs.Outcomes.{OnlyShows, TellsRow};
 ghost use Rattle.store_rows.specs.Columns.{balance_shown};
-ghost use Rattle.store_rows.specs.Outcomes.{Finds, IsNoBalance, Looks};
+ghost use Rattle.store_rows.specs.Failures.{Asks, Changes, Looks, Puts};
+ghost use Rattle.store_rows.specs.Outcomes.{Finds, IsNoBalance};
 ghost use Rattle.store_rows.specs.Statements.{MeetsOne, PutsIn};
 
 use crate::columns::cents_at;
@@ -32,7 +33,7 @@ pub(crate) fn row_under<S: Alter>(
     requires { key ≤ MAX_KEY }
     ensures { Says S.Store tx.old tx.new
         (λ old new. QueriesRowInside text.now (Int (pos key) ∷ []) old new result)
-        (λ old new. OnlyShows text.now 1 (understood old.now.schema text.now) → ReadKept old new result) }
+        (λ old new. OnlyShows text.now 1 (understood old.now.schema text.now) → Asks old new result) }
 {
     let key = key as i64;
     tx.query_row(text, params![key])
@@ -68,7 +69,7 @@ pub(crate) fn write_under<S: Alter>(
     requires { key ≤ MAX_KEY }
     ensures { Says S.Store tx.old tx.new
         (Inside (λ old new. MeetsOne text.now (Int (pos key) ∷ Int number ∷ []) old new result))
-        (Inside (λ old new. WriteKept old new result)) }
+        (Inside (λ old new. Changes old new result)) }
 {
     let key = key as i64;
     let count = tx.execute(text, params![key, number])?;
@@ -83,7 +84,7 @@ pub(crate) fn put_in<S: Alter>(
 ) -> Result<(), TableFault>
     ensures { Says S.Store tx.old tx.new
         (Inside (λ old new. PutsIn text.now (bound values.now) old new result))
-        (Inside (λ old new. WriteKept old new result)) }
+        (Inside (λ old new. Puts old new result)) }
 {
     let answer = tx.execute(text, values);
     added(answer)

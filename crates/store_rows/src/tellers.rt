@@ -3,10 +3,10 @@ ghost use Rattle.std.specs.Prelude.{is_some};
 ghost use Rattle.posting_rules.specs.Tables.{row_at, teller_key};
 ghost use Rattle.posting_rules.specs.Changes.{with_teller, with_teller_balance};
 ghost use Rattle.sql_meanings.specs.Calls.{Says, Inside};
-ghost use Rattle.sql_meanings.specs.Outcomes.{WriteKept};
 ghost use Rattle.store_rows.specs.Calls.{OfTables};
 ghost use Rattle.store_rows.specs.Columns.{teller_balance_in};
-ghost use Rattle.store_rows.specs.Outcomes.{Finds, IsNoBalance, Looks, Writes, Adds};
+ghost use Rattle.store_rows.specs.Failures.{Changes, Looks, Puts};
+ghost use Rattle.store_rows.specs.Outcomes.{Finds, IsNoBalance, Writes, Adds};
 ghost use Rattle.store_rows.specs.SixTables.{teller as table};
 
 use crate::faults::TableFault;
@@ -37,7 +37,7 @@ pub fn set_teller_balance<S: Alter>(
     ensures { Says S.Store tx.old tx.new
         (Inside (OfTables (λ old new tables. Writes old new table (is_some (row_at teller_key tables.tellers teller))
         (with_teller_balance teller balance tables) result)))
-        (Inside (λ old new. WriteKept old new result)) }
+        (Inside (λ old new. Changes old new result)) }
 {
     write_under(tx, SET_TELLER, teller.get(), balance.get())
 }
@@ -47,7 +47,7 @@ pub fn add_teller<S: Alter>(tx: &mut Transaction<'_, S>, row: TellerRow) -> Resu
     ensures { Says S.Store tx.old tx.new
         (Inside (OfTables (λ old new tables. Adds old new table (is_some (row_at teller_key tables.tellers row.teller))
         (with_teller row tables) result)))
-        (Inside (λ old new. WriteKept old new result)) }
+        (Inside (λ old new. Puts old new result)) }
 {
     let key = row.teller.get() as i64;
     let balance = row.balance.get();

@@ -1,9 +1,10 @@
 -- What a stop may leave of the transaction.
-use Rattle.std.proofs.Common.{◌≡◌, rules, arith}
+use Rattle.std.proofs.Common.{◌≡◌, Err, rules, arith}
 use Rattle.sqlite.specs.State.{HasCleanDisk}
 use Rattle.sqlite.specs.Held.{state}
 use Rattle.posting_rules.specs.Changes.{tables_past_all}
-use Rattle.bank_transactions.proofs.Transacted.{stopped}
+use Rattle.store_rows.specs.declared.faults.TableFault.TheVariants.{Sqlite}
+use Rattle.bank_transactions.proofs.Transacted.{blamed, stopped, uncommitted}
 use Rattle.bank_batches.specs.Batches.{HasOnly}
 use Rattle.bank_batches.proofs.batches.post_all.Goals as goal
 
@@ -15,6 +16,10 @@ returns-in_err-commit-clause-says g c records made =
       undone = search rules;
       stop = stopped g.S.Store c.args.conn.now c.begin-tx.result c.answer_batch.new.tx c.commit.new.tx.0 c.conn-2-1.given.0 c.begin-tx.ensures.begun
           does c.commit.ensures.survives (search rules);
+      cause = λ clean.
+          let same : c.from_residual-in_err-commit.result ≡ Err (Sqlite c.in_err-commit.field-0.0) = search rules in
+          rw same (uncommitted g.S.Store c.args.conn.now c.begin-tx.result c.answer_batch.new.tx c.commit.new.tx.0 c.conn-2-1.given.0 c.in_err-commit.field-0.0
+          c.begin-tx.ensures.begun does c.in_err-commit.ensures.cause (search rules) clean);
       mode = search rules;
     }
 
@@ -26,6 +31,21 @@ returns-clause-says g c records made =
       undone = search rules;
       stop = stopped g.S.Store c.args.conn.now c.begin-tx.result c.answer_batch.new.tx c.commit.new.tx.0 c.conn-2-1.given.0 c.begin-tx.ensures.begun
           does c.commit.ensures.survives (search rules);
+      cause = λ clean. tt;
+      mode = search rules;
+    }
+
+pub returns-in_err-replies-clause-says : goal.returns-in_err-replies-clause-says
+returns-in_err-replies-clause-says g c records made =
+    let does = c.in_err-replies.ensures.says records made in
+    record {
+      told = search rules;
+      undone = search rules;
+      stop = search rules;
+      cause = λ clean.
+          let same : c.from_residual.result ≡ Err c.in_err-replies.field-0.0 = search rules in
+          rw same (blamed g.S.Store c.args.conn.now c.begin-tx.result c.answer_batch.new.tx c.drop-tx.new.self.0 c.conn-1.given.0 c.begin-tx.ensures.begun
+          does c.drop-tx.ensures.survives (search rules) clean);
       mode = search rules;
     }
 

@@ -9,6 +9,12 @@ use Rattle.bank_batches.proofs.Reading.{reads_but, reads_so}
 use Rattle.bank_batches.proofs.Whole.{counted, part, with_count, with_branches, with_tellers, with_accounts, with_kept, same_now, nothing_asked, for_tellers, for_accounts}
 use Rattle.bank_batches.proofs.filling.fill.Goals as goal
 
+pub returns-in_err-fill_all-clause-says : goal.returns-in_err-fill_all-clause-says
+returns-in_err-fill_all-clause-says g c =
+    let p1 = counted {g = g.S.Store} (view c.args.batch.now.overlay) c.in_ok-batch.field-0 c.in_ok-batch.ensures.says in
+    let same : c.from_residual-in_err-fill_all.result ≡ Err c.in_err-fill_all.field-0.0 = search rules in
+    rw same (reads_but p1 c.in_err-fill_all.ensures (λ t so e. (so.0, nothing_asked c.deref_mut.result.now)))
+
 pub returns-in_err-fill_all-2-clause-says : goal.returns-in_err-fill_all-2-clause-says
 returns-in_err-fill_all-2-clause-says g c =
     let o = view c.args.batch.now.overlay in

@@ -3,6 +3,7 @@ use Rattle.std.proofs.Common.{◌≡◌, Err, rules}
 use Rattle.sqlite.specs.Held.{state}
 use Rattle.store_rows.specs.Columns.{teller_balance_in}
 use Rattle.store_rows.specs.Outcomes.{IsNoBalance}
+use Rattle.bank_transactions.proofs.Reading.{read_failed}
 use Rattle.bank_transactions.proofs.SoundRows.{err_found, teller_unbroken}
 use Rattle.bank_batches.proofs.filling.teller_within.Goals as goal
 
@@ -17,7 +18,9 @@ returns-in_err-balance g c = record {
         (err_found before after before after (teller_balance_in t c.args.teller) IsNoBalance (teller_balance_in t c.args.teller) c.in_err-balance.field-0.0
         (λ z broken is breaks. teller_unbroken t c.args.teller z broken so.0 is breaks) (c.in_err-balance.ensures.told clean t shows));
     same_reference = search rules;
-    kept = search rules;
+    kept = λ clean.
+        let same : c.from_residual.result ≡ Err c.in_err-balance.field-0.0 = search rules in
+        rw same (read_failed g.S.Store c.args.tx.now.conn.now c.teller_balance.new.tx.conn.now c.in_err-balance.field-0.0 (c.in_err-balance.ensures.kept clean));
     survives = search rules;
   };
 }

@@ -33,6 +33,15 @@ moved_is : (t : Tables) (r : RequestFields) (a te b ordinal moment : ℕ) (accou
     ≡ tables_moved t ordinal (posted_entry moment r account) teller branch
 moved_is t r a te b ordinal moment account teller branch row same_a same_t same_b its same = rw (same, same_a, same_t, same_b, its) refl
 
+pub returns-in_err-expect_row : goal.returns-in_err-expect_row
+returns-in_err-expect_row g c =
+    let e = c.in_err-expect_row.field-0.0 in
+    let same : c.from_residual.result ≡ Err e = search rules in
+    rw same (does_err (does_write g.S.Store c.args.tx.now c.set_account_balance.new.tx account (λ t. is_some (row_at account_key t.accounts c.account.result)) (with_account_balance c.account.result c.args.account)
+    c.set_account_balance.result Account (Err e) c.in_err-expect_row.ensures
+    (record { same_reference = c.set_account_balance.ensures.same_reference; told = c.set_account_balance.ensures.told; kept = c.set_account_balance.ensures.kept; survives = c.set_account_balance.ensures.survives }) (λ t there. there))
+    (λ t so. subst (λ n. IsSome (row_at account_key t.accounts n)) (sym c.account.ensures) so.0.account))
+
 pub returns-in_err-expect_row-2 : goal.returns-in_err-expect_row-2
 returns-in_err-expect_row-2 g c =
     let e = c.in_err-expect_row-2.field-0.0 in

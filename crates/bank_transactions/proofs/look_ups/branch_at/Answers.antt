@@ -3,6 +3,7 @@ use Rattle.std.proofs.Common.{◌≡◌, Err, Some, rules, sym, ◌∙◌, inl, 
 use Rattle.sqlite.specs.Held.{state}
 use Rattle.posting_rules.specs.Tables.{row_at, branch_key}
 use Rattle.store_rows.specs.Outcomes.{IsNoBranch}
+use Rattle.bank_transactions.proofs.Reading.{read_failed}
 use Rattle.bank_transactions.proofs.SoundRows.{err_found, no_branch_beyond, branch_is, branch_unbroken}
 use Rattle.bank_transactions.proofs.look_ups.branch_at.Goals as goal
 
@@ -28,7 +29,9 @@ returns-in_err-row g c = record {
       (λ r broken is breaks. branch_unbroken t c.in-Some.branch r broken sound is breaks)
       (c.in_err-row.ensures.told clean t shows));
   same_reference = search rules;
-  kept = search rules;
+  kept = λ clean.
+      let same : c.from_residual.result ≡ Err c.in_err-row.field-0.0 = search rules in
+      rw same (read_failed g.S.Store c.args.tx.now.conn.now c.find_branch.new.tx.conn.now c.in_err-row.field-0.0 (c.in_err-row.ensures.kept clean));
   survives = search rules;
 }
 

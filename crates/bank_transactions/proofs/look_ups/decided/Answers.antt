@@ -9,6 +9,7 @@ use Rattle.store_rows.specs.Outcomes.{Never}
 use Rattle.store_rows.specs.View.{meta_entry}
 use Rattle.store_rows.specs.declared.metas.StoredMeta.{StoredMeta}
 use Rattle.store_rows.proofs.MetaRow.{has_one}
+use Rattle.bank_transactions.proofs.Reading.{read_failed}
 use Rattle.bank_transactions.proofs.SoundRows.{err_found}
 use mir.Val.{to_z, of_z}
 use mir.Syntax.{w64}
@@ -32,7 +33,9 @@ returns-in_err-meta-clause-says g c = record {
       (err_found before after before after (meta_in (meta_entry t.decided ∷ [])) Never t.decided c.in_err-meta.field-0.0 (λ m broken is breaks. breaks)
       (c.in_err-meta.ensures.says.told clean (meta_entry t.decided ∷ []) (has_one before.now t shows)));
   same_reference = search rules;
-  kept = search rules;
+  kept = λ clean.
+      let same : c.from_residual.result ≡ Err c.in_err-meta.field-0.0 = search rules in
+      rw same (read_failed g.S.Store c.args.tx.now.conn.now c.read_meta.new.tx.conn.now c.in_err-meta.field-0.0 (c.in_err-meta.ensures.says.kept clean));
   survives = search rules;
 }
 

@@ -5,6 +5,7 @@ use Rattle.sqlite.specs.Held.{state}
 use Rattle.posting_rules.specs.LookUps.{kept_in}
 use Rattle.store_rows.specs.Columns.{request_in}
 use Rattle.store_rows.specs.Outcomes.{IsNoRequest}
+use Rattle.bank_transactions.proofs.Reading.{read_failed}
 use Rattle.bank_transactions.proofs.SoundRows.{err_found, is_a_request, request_is, request_unbroken}
 use Rattle.message_records.specs.declared.limits.TheConstants.{MAX_DELTA}
 use Rattle.bank_transactions.proofs.look_ups.kept_request.Goals as goal
@@ -21,7 +22,9 @@ returns-in_err-row g c = record {
       (λ r broken is breaks. request_unbroken t c.args.teller c.args.number r broken sound is breaks)
       (c.in_err-row.ensures.told clean t shows));
   same_reference = search rules;
-  kept = search rules;
+  kept = λ clean.
+      let same : c.from_residual.result ≡ Err c.in_err-row.field-0.0 = search rules in
+      rw same (read_failed g.S.Store c.args.tx.now.conn.now c.find_request.new.tx.conn.now c.in_err-row.field-0.0 (c.in_err-row.ensures.kept clean));
   survives = search rules;
 }
 

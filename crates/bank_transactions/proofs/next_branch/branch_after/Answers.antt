@@ -4,6 +4,7 @@ use Rattle.sqlite.specs.Held.{state}
 use Rattle.store_rows.specs.Columns.{branch_above}
 use Rattle.store_rows.specs.Outcomes.{IsNoBranch}
 use Rattle.bank_transactions.proofs.NextRow.{next_sound, next_unbroken}
+use Rattle.bank_transactions.proofs.Reading.{read_failed}
 use Rattle.bank_transactions.proofs.SoundRows.{err_found}
 use Rattle.bank_transactions.proofs.next_branch.branch_after.Goals as goal
 
@@ -18,7 +19,9 @@ returns-in_err-row-clause-says g c = record {
       c.in_err-row.field-0.0 (λ r broken is breaks. next_unbroken t c.args.after r broken sound is breaks)
       (c.in_err-row.ensures.told clean t shows));
   same_reference = search rules;
-  kept = search rules;
+  kept = λ clean.
+      let same : c.from_residual.result ≡ Err c.in_err-row.field-0.0 = search rules in
+      rw same (read_failed g.S.Store c.args.tx.now.conn.now c.next_branch.new.tx.conn.now c.in_err-row.field-0.0 (c.in_err-row.ensures.kept clean));
   survives = search rules;
 }
 

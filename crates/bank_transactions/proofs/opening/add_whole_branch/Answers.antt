@@ -11,6 +11,16 @@ use Rattle.bank_transactions.proofs.Opened.{opened_is, next_teller, next_account
 use Rattle.posting_rules.specs.declared.limits.TheConstants.{ACCOUNTS_PER_BRANCH}
 use Rattle.bank_transactions.proofs.opening.add_whole_branch.Goals as goal
 
+pub returns-in_err-add_branch : goal.returns-in_err-add_branch
+returns-in_err-add_branch g c =
+    let b = c.args.branch in
+    let row : BranchRow = record { branch = b; accounts = c.args.count; balance = c.unwrap.result } in
+    let e = c.in_err-add_branch.field-0.0 in
+    let same : c.from_residual.result ≡ Err e = search rules in
+    rw same (does_err (does_add g.S.Store c.args.tx.now c.add_branch.new.tx branch (λ t. is_some (row_at branch_key t.branches b)) (λ t. with_branch row t) (Err e)
+    (record { same_reference = c.in_err-add_branch.ensures.same_reference; told = c.in_err-add_branch.ensures.told; kept = c.in_err-add_branch.ensures.kept; survives = c.in_err-add_branch.ensures.survives })
+    (λ t free. free)) (λ t so. ap is_some so.1))
+
 pub returns-in_err-add_rows : goal.returns-in_err-add_rows
 returns-in_err-add_rows g c =
     let b = c.args.branch in

@@ -1,12 +1,12 @@
 -- What the answer of an INSERT tells.
 use Rattle.std.proofs.Common.{rules}
-use Rattle.store_rows.proofs.Failing.{kept_added}
+use Rattle.store_rows.proofs.Failing.{puts_added}
 use Rattle.store_rows.proofs.statements.put_in.Goals as goal
 
 pub returns : goal.returns
 returns g c = record {
   told = λ clean live. (c.execute-answer.result, c.execute-answer.ensures.runs clean live, c.added.ensures);
-  kept = λ clean live. rw c.added.ensures (kept_added _ _ _ _ c.execute-answer.result (c.execute-answer.ensures.runs clean live));
+  kept = λ clean live. rw c.added.ensures (puts_added _ _ _ _ c.execute-answer.result (c.execute-answer.ensures.runs clean live));
   same_reference = search rules;
   survives = search rules;
 }

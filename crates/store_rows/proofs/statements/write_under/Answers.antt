@@ -2,6 +2,8 @@
 use Rattle.std.proofs.Common.{◌≡◌, Err, rules, arith, refl}
 use Rattle.std.proofs.lemmas.Int.{to_z-of_z}
 use Rattle.std.proofs.Common.{w64}
+use Rattle.sql_meanings.proofs.Makings.{kept_inside}
+use Rattle.store_rows.specs.Failures.{Changing}
 use Rattle.store_rows.proofs.Lookups.{as_integer}
 use Rattle.store_rows.proofs.statements.write_under.Goals as goal
 
@@ -33,7 +35,7 @@ returns-in_err-count g c =
         as_integer c.args.key c.args.key refl (omega arith),
         to_z-of_z w64 c.args.number c.ranges.number,
       ) at (e.ensures.runs clean live));
-      kept = search rules;
+      kept = λ clean live. rw same (kept_inside _ _ _ _ (Err e.field-0.0) (e.ensures.runs clean live), Changing _ _ (e.ensures.runs clean live));
       same_reference = search rules;
       survives = search rules;
     }

@@ -5,7 +5,7 @@ use Rattle.message_records.specs.Reading.{request_of}
 use Rattle.posting_rules.specs.Commands.{Post, AreCommands}
 use Rattle.posting_rules.proofs.Calls.{posts, replies}
 use Rattle.posting_rules.proofs.Stepping.{sound_tables}
-use Rattle.bank_store.proofs.Countered.{keeps_file, takes, refuses}
+use Rattle.bank_store.proofs.Countered.{failed_between, keeps_file, kept_error, refuses, takes}
 use Rattle.bank_store.proofs.bank.BankCounter.submit.Goals as goal
 
 pub returns-in-Ok-post-clause-reply : goal.returns-in-Ok-post-clause-reply
@@ -37,3 +37,13 @@ pub returns-in-Err-clause-kept : goal.returns-in-Err-clause-kept
 returns-in-Err-clause-kept g c damage clean =
     keeps_file g.S.Store c.args.self.now.conn c.post.new.conn c.go_down.new.self.conn c.in-Err.fault c.go_down.new.self.fault c.go_down.result
     c.in-Err.ensures c.go_down.ensures.down c.go_down.ensures.survives damage clean
+
+pub returns-in-Err-clause-cause : goal.returns-in-Err-clause-cause
+returns-in-Err-clause-cause g c tells =
+    let down = c.go_down.ensures.down in
+    let quiet = c.go_down.ensures.survives in
+    record {
+      kept = kept_error _ _ c.go_down.new.self.fault c.go_down.result c.in-Err.fault down tells;
+      failed = failed_between g.S.Store c.args.self.now.conn c.post.new.conn c.go_down.new.self.conn c.go_down.new.self.fault c.go_down.result quiet
+          c.in-Err.fault c.in-Err.ensures down;
+    }

@@ -5,7 +5,7 @@ use Rattle.posting_rules.specs.Commands.{AreCommands}
 use Rattle.posting_rules.specs.Runs.{posts}
 use Rattle.posting_rules.specs.Sound.{AreOfALog}
 use Rattle.posting_rules.proofs.Records.{all_replies, are_posts, posts_all}
-use Rattle.bank_store.proofs.Countered.{HoldsOfLogs, keeps_file, none_or_all, none_or_all_down, takes, refuses}
+use Rattle.bank_store.proofs.Countered.{HoldsOfLogs, failed_between, keeps_file, kept_error, none_or_all, none_or_all_down, refuses, takes}
 use Rattle.bank_store.proofs.bank.BankCounter.submit_all.Goals as goal
 
 of_logs : HoldsOfLogs AreOfALog
@@ -59,3 +59,14 @@ pub returns-in-Ok-clause-idle : goal.returns-in-Ok-clause-idle
 returns-in-Ok-clause-idle g c clean t shows so none =
     let it = c.in-Ok.ensures.idle clean c.args.records.now c.in_ok-batch.ensures.made t shows so none in
     record { tables = it.shows; stop = λ trees may. (t, it.stop trees may, refl) }
+
+pub returns-in-Err-clause-cause : goal.returns-in-Err-clause-cause
+returns-in-Err-clause-cause g c tells =
+    let rs = c.args.records.now in
+    let down = c.go_down.ensures.down in
+    let quiet = c.go_down.ensures.survives in
+    record {
+      kept = kept_error _ _ c.go_down.new.self.fault c.go_down.result c.in-Err.fault down tells;
+      failed = failed_between g.S.Store c.args.self.now.conn c.post_all.new.conn c.go_down.new.self.conn c.go_down.new.self.fault c.go_down.result quiet
+          c.in-Err.fault (c.in-Err.ensures.says rs c.in_ok-batch.ensures.made) down;
+    }

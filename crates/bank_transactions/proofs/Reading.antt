@@ -1,0 +1,84 @@
+-- Reads one after another, and reads that fail.
+use Rattle.std.proofs.Common.{◌≡◌, Ok, Err, sym, subst, ◌∙◌, inl, inr}
+use Rattle.sqlite.specs.Effect.{Database}
+use Rattle.sqlite.specs.State.{State, KeepsCommit, IsUnchanged}
+use Rattle.sqlite.specs.Held.{Held, state}
+use Rattle.sqlite.specs.declared.transaction.Transaction.{Transaction}
+use Rattle.sqlite_trees.specs.declared.store.Store.{Ghosts}
+use Rattle.posting_rules.specs.Tables.{Tables}
+use Rattle.sql_meanings.specs.Outcomes.{WriteFails}
+use Rattle.sql_meanings.proofs.Saying.{says_then}
+use Rattle.store_rows.specs.Failures.{HasReason}
+use Rattle.store_rows.specs.View.{Shows}
+use Rattle.store_rows.specs.declared.faults.TableFault.{TableFault}
+use Rattle.store_rows.specs.declared.faults.TableFault.TheVariants.{Sqlite, Damaged}
+use Rattle.bank_transactions.specs.Doing.{IsBefore, IsFault, LooksUp, Reads, Stays}
+use Rattle.bank_transactions.proofs.Chained.{comes, fault_here, fault_within, same_moment}
+
+-- ---- a read that failed
+
+not_committed : (old new : State) → WriteFails old new → KeepsCommit old new
+not_committed old new (inl same) = record { was_open = λ h. same.0.was_open; committed = λ h. same.0.committed_is }
+not_committed old new (inr undone) = record { was_open = undone.was_open; committed = λ h. (undone.undone h).1 }
+
+-- one statement
+pub read_failed : {S : Type 0} (g : Ghosts S) (old new : Held S) (fault : TableFault)
+    → WriteFails (state g old) (state g new) × HasReason (state g old) (state g new) fault
+    → KeepsCommit (state g old) (state g new) × IsFault g old new fault
+read_failed g old new fault it = (not_committed (state g old) (state g new) it.0, fault_here g old new fault it.1)
+
+behind : {S : Type 0} (g : Ghosts S) (old mid new : Held S) (fault : TableFault) → IsBefore (state g old) (state g mid) → IsFault g mid new fault
+    → IsFault g old new fault
+behind g old mid new fault one it = fault_within g old mid new new fault one (same_moment (state g new)) it
+
+-- the second of two
+pub second_failed : {S : Type 0} (g : Ghosts S) (old mid new : Held S) (fault : TableFault) → IsBefore (state g old) (state g mid)
+    → IsUnchanged (state g old) (state g mid) → KeepsCommit (state g mid) (state g new) × IsFault g mid new fault
+    → KeepsCommit (state g old) (state g new) × IsFault g old new fault
+second_failed g old mid new fault one same it = (
+  record { was_open = λ h. same.0.was_open; committed = λ h. it.0.committed h ∙ same.0.committed_is },
+  behind g old mid new fault one it.1,
+)
+
+-- ---- two reads
+
+pub stays_then : (old mid new : State) → Stays old mid → Stays mid new → Stays old new
+stays_then old mid new one two = record {
+  goes_on = record {
+    opened = λ h. one.goes_on.opened (two.goes_on.opened h);
+    committed = two.goes_on.committed ∙ one.goes_on.committed;
+    mode = two.goes_on.mode ∙ one.goes_on.mode;
+  };
+  now = two.now ∙ one.now;
+}
+
+pair : {X Y : Type 0} {a x : X} {b y : Y} → a ≡ x → b ≡ y → ◌≡◌ {A = X × Y} (a, b) (x, y)
+pair e f = cc
+
+-- both answers
+pub reads_both : {S X Y : Type 0} {g : Ghosts S} {old mid new : Transaction S} {w : Tables → X} {w' : Tables → Y} {x : X} {y : Y} → Reads g old mid w (Ok x)
+    → Reads g mid new w' (Ok y) → Reads {X = X × Y} g old new (λ t. (w t, w' t)) (Ok (x, y))
+reads_both {S} {X} {Y} {g} {old} {mid} {new} {w} {w'} {x} {y} one two =
+    says_then g old mid new one two
+    (λ told kept told' t shows sound.
+    let first = told t shows sound in
+    let last = told' t (subst (λ (db : Database). Shows db t) (sym first.1.now) shows) sound in
+    (pair first.0 last.0, stays_then (state g old.conn.now) (state g mid.conn.now) (state g new.conn.now) first.1 last.1))
+    (λ kept kept'. (stays_then (state g old.conn.now) (state g mid.conn.now) (state g new.conn.now) kept.0 kept'.0, tt))
+
+still_fails : (old mid new : State) (e : TableFault) → LooksUp {X = Unit {0}} mid new tt (Err e) → LooksUp {X = Unit {0}} old new tt (Err e)
+still_fails old mid new (Sqlite e) it = tt
+still_fails old mid new (Damaged rule) it = it
+
+-- the second failed, whatever it looked for
+pub reads_but : {S X : Type 0} {g : Ghosts S} {old mid new : Transaction S} {w : Tables → X} {x : X} (e : TableFault) → Reads g old mid w (Ok x)
+    → Reads {X = Unit {0}} g mid new (λ t. tt {0}) (Err e) → Reads {X = Unit {0}} g old new (λ t. tt {0}) (Err e)
+reads_but {S} {X} {g} {old} {mid} {new} {w} {x} e one two =
+    says_then g old mid new one two
+    (λ told kept told' t shows sound.
+    still_fails (state g old.conn.now) (state g mid.conn.now) (state g new.conn.now) e
+    (told' t (subst (λ (db : Database). Shows db t) (sym (told t shows sound).1.now) shows) sound))
+    (λ kept kept'. (
+      record { was_open = λ h. kept.0.goes_on.opened (kept'.0.was_open h); committed = λ h. kept'.0.committed h ∙ kept.0.goes_on.committed },
+      behind g old.conn.now mid.conn.now new.conn.now e (comes one.survives) kept'.1,
+    ))

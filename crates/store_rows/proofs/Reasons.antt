@@ -1,0 +1,27 @@
+-- What a call that failed leaves, and why it did.
+use Rattle.std.proofs.Common.{◌≡◌, ◌≢◌, ℕ, List, Result, Ok, Err, inl, inr}
+use Rattle.sqlite.specs.Order.{Row}
+use Rattle.sqlite.specs.State.{State, ExecutesInside, IsUnchanged, QueriesRowInside}
+use Rattle.sqlite.specs.declared.error.Error.{Error}
+use Rattle.sqlite.specs.declared.error.Error.TheVariants.{QueryReturnedNoRows}
+use Rattle.sql_meanings.specs.Outcomes.{ReadKept, WriteFails}
+use Rattle.store_rows.specs.Failures.{Asking, Reading, Asks, HasReason, IsUnreadable}
+use Rattle.store_rows.specs.declared.faults.TableFault.{TableFault}
+use Rattle.store_rows.specs.declared.faults.TableFault.TheVariants.{Sqlite, Damaged}
+
+-- a query that was made
+pub asked : (old new : State) (text : List ℕ) (params : Row) (r : Result Row Error) → QueriesRowInside text params old new r → ReadKept old new r
+    → Asks old new r
+asked old new text params (Ok row) h kept = kept
+asked old new text params (Err e) h kept = (kept, λ more. Asking text params h more)
+
+module _ (old new : State) where
+  -- a query that failed is a read that failed
+  pub looks_asked : (e : Error) → Asks old new (Err e) → e ≢ QueryReturnedNoRows → WriteFails old new × HasReason old new (Sqlite e)
+  looks_asked e (inl fails, why) more = (inr fails.3, why more)
+  looks_asked e (inr same, why) more = (inl same, why more)
+
+  -- and so is a value that can't be read
+  pub looks_unread : (fault : TableFault) → IsUnchanged old new → IsUnreadable fault → WriteFails old new × HasReason old new fault
+  looks_unread (Sqlite e) same it = (inl same, Reading it.0 it.1 it.2)
+  looks_unread (Damaged rule) same it = (inl same, tt)

@@ -1,0 +1,58 @@
+-- A call of `sqlite` that failed, and the error with which it did.
+use Rattle.std.specs.Prelude.{◌≡◌, ◌≢◌, ◌⊎◌, ℕ, List, true, false, Bool, Result, Ok, Err, ⊤}
+use Rattle.sqlite.specs.Order.{Row}
+use Rattle.sqlite.specs.Reading.{IsReadError}
+use Rattle.sqlite.specs.State.{State, ExecutesInside, QueriesRowInside}
+use Rattle.sqlite.specs.State.{Shows as StateShows, Fails, IsUnchanged}
+use Rattle.sqlite.specs.Steps.{FailsToCommit}
+use Rattle.sqlite.specs.declared.error.Error.{Error}
+use Rattle.sqlite.specs.declared.error.Error.TheVariants.{QueryReturnedNoRows}
+use Rattle.sqlite.specs.declared.types.Value.{Value}
+use Rattle.sql_meanings.specs.Outcomes.{WriteFails, is_taken_key}
+use Rattle.store_rows.specs.declared.faults.TableFault.{TableFault}
+use Rattle.store_rows.specs.declared.faults.TableFault.TheVariants.{Sqlite, Damaged}
+
+-- the call of `sqlite` that led from one state to the other answered this error
+pub data HasFailed (old new : State) (e : Error) : Type 0 where
+  -- a query failed: that it finds no row is no failure
+  Asking : (text : List ℕ) (params : Row) → QueriesRowInside text params old new (Err e) → e ≢ QueryReturnedNoRows → HasFailed old new e
+  -- a row couldn't be changed
+  Changing : (text : List ℕ) (params : Row) → ExecutesInside 0 text params old new (Err e) → HasFailed old new e
+  -- a row couldn't be put in: that its key is taken is no failure
+  Putting : (text : List ℕ) (params : Row) → ExecutesInside 0 text params old new (Err e) → is_taken_key e ≡ false → HasFailed old new e
+  -- a value of a row couldn't be read
+  Reading : (at : ℕ) (value : Value) → IsReadError at value e → HasFailed old new e
+  -- a commit failed, or the store did
+  Committing : FailsToCommit old new e → HasFailed old new e
+
+-- the error of a fault is one with which a call of `sqlite` failed
+abbrev pub HasReason : State → State → TableFault → Type 0
+HasReason old new (Sqlite e) = HasFailed old new e
+HasReason old new (Damaged rule) = ⊤
+
+-- an error of `sqlite` is one with which a value couldn't be read
+abbrev pub IsUnreadable : TableFault → Type 0
+IsUnreadable (Sqlite e) = (at : ℕ) × (value : Value) × IsReadError at value e
+IsUnreadable (Damaged rule) = ⊤
+
+-- ---- whatever the rows
+
+-- a query leaves everything as it was, or the store failed and the transaction is rolled back; what else than no row it tells is a failure
+abbrev pub Asks : State → State → Result Row Error → Type 0
+Asks old new (Ok row) = IsUnchanged old new
+Asks old new (Err e) = (Fails old new ⊥ e ⊎ IsUnchanged old new) × (e ≢ QueryReturnedNoRows → HasFailed old new e)
+
+-- a read leaves everything as it was, or the transaction is rolled back
+abbrev pub Looks : {X : Type 0} → State → State → Result X TableFault → Type 0
+Looks old new (Ok x) = IsUnchanged old new
+Looks old new (Err fault) = WriteFails old new × HasReason old new fault
+
+-- a change of a row: the transaction goes on, or an error leaves it as it was or rolls it back
+abbrev pub Changes : State → State → Result Bool Error → Type 0
+Changes old new (Ok there) = StateShows old new new.now old.committed true
+Changes old new (Err e) = WriteFails old new × HasFailed old new e
+
+-- the same of a row that is put in
+abbrev pub Puts : {X : Type 0} → State → State → Result X TableFault → Type 0
+Puts old new (Ok done) = StateShows old new new.now old.committed true
+Puts old new (Err fault) = WriteFails old new × HasReason old new fault
