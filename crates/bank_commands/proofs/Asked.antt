@@ -52,7 +52,7 @@ input_is_not_done status is done = let bad : Input ≡ Done = sym is ∙ done in
 input_is_not_differs : (status : Status) → status ≡ Input → status ≢ Differs
 input_is_not_differs status is done = let bad : Input ≡ Differs = sym is ∙ done in cc
 
-fault_is_not_done : (f : CommandFault) → status_of f ≢ Done
+pub fault_is_not_done : (f : CommandFault) → status_of f ≢ Done
 fault_is_not_done f done = elim (fault_ends f) [
   | inl system ↦ system_is_not_done (status_of f) system done
   | inr input ↦ input_is_not_done (status_of f) input done
@@ -67,10 +67,10 @@ fault_is_not_differs f done = elim (fault_ends f) [
 -- ---- words of one command spell no other
 
 -- the first letter of the first word
-abbrev letter : List Text → ℕ
+abbrev pub letter : List Text → ℕ
 letter words = unwrap_or (slice_get (unwrap_or (slice_get words 0) []) 0) 0
 
-abbrev letter_for : Command → ℕ
+abbrev pub letter_for : Command → ℕ
 letter_for (Init file) = 105
 letter_for (Load file plan) = 108
 letter_for (Post file) = 112
@@ -78,7 +78,7 @@ letter_for (Drive file seed count) = 100
 letter_for (Statement file account) = 115
 letter_for (Serve file address connections) = 115
 
-letter_of : (words : List Text) (command : Command) → IsSpelledBy words command → letter (drop 1 words) ≡ letter_for command
+pub letter_of : (words : List Text) (command : Command) → IsSpelledBy words command → letter (drop 1 words) ≡ letter_for command
 letter_of words (Init file) spelled = ap letter spelled
 letter_of words (Load file plan) spelled = ap letter spelled
 letter_of words (Post file) spelled = ap letter spelled
@@ -165,7 +165,7 @@ module _ {C : Type 0} (seen : C → Seen) (image : Image) (r r' w w' k k' : Opti
 
 -- ---- where memory ran out before the command was read
 
-memory_is_no_request : (kind : ErrorKind) → kind ≡ OutOfMemory → IsRequest kind → ⊥
+pub memory_is_no_request : (kind : ErrorKind) → kind ≡ OutOfMemory → IsRequest kind → ⊥
 memory_is_no_request kind memory (inl asked) = let bad : OutOfMemory ≡ DisplayHelp = sym memory ∙ asked in cc
 memory_is_no_request kind memory (inr asked) = let bad : OutOfMemory ≡ DisplayVersion = sym memory ∙ asked in cc
 

@@ -3,3 +3,4 @@ pub mod Driven
 pub mod Endings
 pub mod Found
 pub mod Served
+pub mod Stated

@@ -1,4 +1,5 @@
 pub mod InFile
 pub mod Working
+pub mod Stating
 pub mod Looking
 pub mod Running

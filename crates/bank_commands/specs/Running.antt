@@ -19,7 +19,9 @@ use Rattle.bank_endings.specs.Faults.{fault_of_stream, status_of}
 use Rattle.bank_endings.specs.declared.fault.CommandFault.{CommandFault}
 use Rattle.bank_endings.specs.declared.status.Status.{Status}
 use Rattle.bank_endings.specs.declared.status.Status.TheVariants.{Done}
+use Rattle.bank_audits.specs.declared.fault.ReportFault.{ReportFault}
 use Rattle.bank_commands.specs.InFile.{IsNewIn, WorksIn}
+use Rattle.bank_commands.specs.Stating.{StatesIn, said_of_statement}
 use Rattle.bank_commands.specs.Working.{DrivesAndTells, Loads, PostsIn}
 
 -- clap takes the words for no command, and not for a call for help either
@@ -56,10 +58,19 @@ Ends (Serve file address connections) status old new = (status ≡ Done) × Tell
 -- ---- what a command did to the bank in its files; r and r' are the known bytes of the input before and after, w
 -- and w' those of the output, k and k' the clock's known readings
 
+-- how the program ends where the command has nothing to say of its work
+abbrev pub done_after : Result (Unit {0}) CommandFault → Result Status CommandFault
+done_after (Ok done) = Ok Done
+done_after (Err fault) = Err fault
+
 -- how a stream ends the command, and the program
 abbrev pub ended_by : Result ℕ StreamFault → Result Status CommandFault
 ended_by (Ok count) = Ok Done
 ended_by (Err fault) = Err (fault_of_stream fault)
+
+-- how a statement of this account ends them
+abbrev pub stated_by : ℕ → Result (Unit {0}) ReportFault → Result Status CommandFault
+stated_by account told = done_after (said_of_statement account told)
 
 abbrev pub status_after : Result Status CommandFault → Status
 status_after (Ok status) = status
@@ -89,5 +100,6 @@ Does seen image r r' w w' k k' (Post file) result =
     PostsIn seen image r r' w w' k k' (IsErr result) (λ told. result ≡ ended_by told)
 Does seen image r r' w w' k k' (Drive file seed count) result =
     OnOk result (DrivesIn seen image k k' w w' seed count)
-Does seen image r r' w w' k k' (Statement file account) result = ⊤
+Does seen image r r' w w' k k' (Statement file account) result =
+    StatesIn seen image account w w' (IsErr result) (λ told. result ≡ stated_by account told)
 Does seen image r r' w w' k k' (Serve file address connections) result = ⊤

@@ -7,13 +7,15 @@ ghost use Rattle.clap.specs.Words.{fault_of};
 ghost use Rattle.bank_endings.specs.Lines.{created_line};
 ghost use Rattle.bank_words.specs.CommandLine.{bank_app};
 ghost use Rattle.bank_words.specs.Words.{AreInRange, AsksForHelp, IsSpelled, number_of};
-ghost use Rattle.bank_words.specs.Words.{AskToDrive, AskToInit, AskToLoad, AskToPost, AskToServe};
+ghost use Rattle.bank_words.specs.Words.{AskForStatement, AskToDrive, AskToInit, AskToLoad, AskToPost, AskToServe};
 ghost use Rattle.bank_commands.specs.Running.{AreRefused, Does, Ends, TellsDriven, TellsListening};
-ghost use Rattle.bank_commands.specs.Running.{DrivesIn, LoadsIn, MakesIn, ended_by, status_after};
+ghost use Rattle.bank_commands.specs.Running.{DrivesIn, LoadsIn, MakesIn, ended_by, stated_by, status_after};
+ghost use Rattle.bank_commands.specs.Stating.{StatesIn};
 ghost use Rattle.bank_commands.specs.Working.{PostsIn};
 
 use crate::commands::{drive, init, load_plan, post};
 use crate::serving::serve;
+use crate::statement::statement;
 use bank_endings::{CommandFault, Status, explain, tell};
 use bank_words::{Command, read_words};
 use posting_core::Clock;
@@ -69,6 +71,10 @@ pub fn run<S: Start, T: AsStr, R: Read, W: Write, E: Write, K: Clock>(
         → DrivesIn (bank_seen ⟦<FileStore<FileFrom<S>> as Store>⟧) (image_at S.Start)
         (K.readings clock.old) (K.readings clock.new) (W.contents output.old) (W.contents output.new)
         (number_of asked.2) (number_of asked.3) }
+    ensures stated { (asked : AskForStatement (map T.text words.entry.now))
+        → StatesIn (bank_seen ⟦<FileStore<FileFrom<S>> as Store>⟧) (image_at S.Start) (number_of asked.2)
+        (W.contents output.old) (W.contents output.new) (result ≢ Status.Done)
+        (λ told. result ≡ status_after (stated_by (number_of asked.2) told)) }
 {
     let command = match read_words(rt.alloc(), words) {
         Ok(command) => command,
@@ -113,7 +119,10 @@ fn perform<S: Start, R: Read, W: Write, K: Clock>(
             drive(rt, start, file, seed, count, output, clock)?;
             Ok(Status::Done)
         }
-        Command::Statement { .. } => Err(CommandFault::Store),
+        Command::Statement { file, account } => {
+            statement(rt, start, file, account, output)?;
+            Ok(Status::Done)
+        }
         Command::Serve {
             file,
             address,

@@ -1,6 +1,7 @@
 -- What each command did is what the run did.
 use Rattle.std.proofs.Common.{◌≡◌, rules, Ok, Err}
 use Rattle.bank_commands.proofs.Found.{posts_done}
+use Rattle.bank_commands.proofs.Stated.{states_done}
 use Rattle.bank_commands.proofs.running.perform.Goals as goal
 
 pub returns-in_err-post-in-Post-clause-does : goal.returns-in_err-post-in-Post-clause-does
@@ -26,3 +27,15 @@ returns-in_ok-loaded-in-Load-clause-does g c =
 
 pub returns-in_ok-drive-in-Drive-clause-does : goal.returns-in_ok-drive-in-Drive-clause-does
 returns-in_ok-drive-in-Drive-clause-does g c = rw c.in-Drive.is c.in_ok-drive-in-Drive.ensures.drives
+
+pub returns-in_err-statement-in-Statement-clause-does : goal.returns-in_err-statement-in-Statement-clause-does
+returns-in_err-statement-in-Statement-clause-does g c =
+    let f = c.in_err-statement-in-Statement.field-0.0 in
+    let same : c.from_residual-in_err-statement-in-Statement.result ≡ Err f = search rules in
+    rw (c.in-Statement.is, same) (states_done _ _ c.in-Statement.account (g.W.Write.contents c.args.output.now)
+    (g.W.Write.contents c.statement.new.output) (Err f) c.in_err-statement-in-Statement.ensures)
+
+pub returns-in_ok-statement-in-Statement-clause-does : goal.returns-in_ok-statement-in-Statement-clause-does
+returns-in_ok-statement-in-Statement-clause-does g c =
+    rw c.in-Statement.is (states_done _ _ c.in-Statement.account (g.W.Write.contents c.args.output.now)
+    (g.W.Write.contents c.statement.new.output) (Ok tt) c.in_ok-statement-in-Statement.ensures)

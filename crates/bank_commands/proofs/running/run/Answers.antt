@@ -6,6 +6,7 @@ use Rattle.bank_commands.proofs.Driven.{driven_by}
 use Rattle.bank_commands.proofs.Endings.{help_ends, memory_ends, mistake_ends, mistake_keeps, not_asked}
 use Rattle.bank_commands.proofs.Endings.{system_is_not_usage}
 use Rattle.bank_commands.proofs.Served.{served_by}
+use Rattle.bank_commands.proofs.Stated.{nothing_stated, stated_in}
 use Rattle.bank_commands.proofs.running.run.Goals as goal
 
 -- ---- words that are refused
@@ -125,6 +126,22 @@ returns-in-Err-perform-clause-drives g c asked done =
     (map g.T.AsStr.text c.args.words.now)
     asked c.in-Ok.command (Err c.in-Err-perform.fault) (c.in-Ok.ensures.spelled (inr (inr (inr (inl asked))))) c.in-Err-perform.ensures.does (sym c.tell.ensures ∙ done)
 
+pub returns-in-Ok-perform-clause-stated : goal.returns-in-Ok-perform-clause-stated
+returns-in-Ok-perform-clause-stated g c asked =
+    stated_in _ _ (g.R.Read.remaining c.args.input.now) (g.R.Read.remaining c.perform.new.input)
+    (g.W.Write.contents c.args.output.now) (g.W.Write.contents c.perform.new.output)
+    (g.K.Clock.readings c.args.clock.now) (g.K.Clock.readings c.perform.new.clock)
+    (map g.T.AsStr.text c.args.words.now)
+    asked c.in-Ok.command (Ok c.in-Ok-perform.status) (c.in-Ok.ensures.spelled (inr (inr (inr (inr (inl asked)))))) c.in-Ok-perform.ensures.does
+
+pub returns-in-Err-perform-clause-stated : goal.returns-in-Err-perform-clause-stated
+returns-in-Err-perform-clause-stated g c asked =
+    rw c.tell.ensures (stated_in _ _ (g.R.Read.remaining c.args.input.now) (g.R.Read.remaining c.perform.new.input)
+    (g.W.Write.contents c.args.output.now) (g.W.Write.contents c.perform.new.output)
+    (g.K.Clock.readings c.args.clock.now) (g.K.Clock.readings c.perform.new.clock)
+    (map g.T.AsStr.text c.args.words.now)
+    asked c.in-Ok.command (Err c.in-Err-perform.fault) (c.in-Ok.ensures.spelled (inr (inr (inr (inr (inl asked)))))) c.in-Err-perform.ensures.does)
+
 -- ---- where memory ran out before the command was read
 
 pub returns-in-Err-clause-made : goal.returns-in-Err-clause-made
@@ -146,3 +163,9 @@ pub returns-in-Err-clause-drives : goal.returns-in-Err-clause-drives
 returns-in-Err-clause-drives g c asked done =
     absurd (not_done (kind_of c.in-Err.error) c.explain.result (c.in-Err.ensures.spelled (inr (inr (inr (inl asked)))))
     c.explain.ensures.status done)
+
+pub returns-in-Err-clause-stated : goal.returns-in-Err-clause-stated
+returns-in-Err-clause-stated g c asked =
+    nothing_stated _ _ _ (g.W.Write.contents c.args.output.now) (g.W.Write.contents c.explain.new.output)
+    (kind_of c.in-Err.error) c.explain.result (c.in-Err.ensures.spelled (inr (inr (inr (inr (inl asked))))))
+    c.explain.ensures.status c.explain.ensures.silent
