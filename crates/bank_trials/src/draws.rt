@@ -2,9 +2,6 @@
 use crate::records::bytes_of;
 use anyhow::{Context, Result};
 
-/// How many records are drawn together.
-const GROUP: u16 = 25;
-
 /// A generator of numbers, which shifts a word that isn't zero.
 #[derive(Drop)]
 pub struct Draws {
@@ -19,8 +16,8 @@ impl Draws {
         }
     }
 
-    // A number below the bound, or 0.
-    fn below(&mut self, bound: u32) -> u32 {
+    /// A number below the bound, or 0.
+    pub fn below(&mut self, bound: u32) -> u32 {
         self.word ^= self.word << 13;
         self.word ^= self.word >> 7;
         self.word ^= self.word << 17;
@@ -95,10 +92,10 @@ fn again(draws: &mut Draws, sent: &[[u8; 100]]) -> Option<[u8; 100]> {
     Some(bytes)
 }
 
-/// Puts a group of records behind those that were sent.
-pub fn draw_group(draws: &mut Draws, group: u16, sent: &mut Vec<[u8; 100]>) -> Result<()> {
-    for place in 1..=GROUP {
-        let number = u64::from(group) * u64::from(GROUP) + u64::from(place);
+/// Puts a group of so many records behind those that were sent.
+pub fn draw_group(draws: &mut Draws, count: u32, sent: &mut Vec<[u8; 100]>) -> Result<()> {
+    for _ in 0..count {
+        let number = (sent.len() as u64).saturating_add(1);
         let fresh = request_by(draws, number).context("a request")?;
         let chosen = if draws.is_one_of(4) {
             again(draws, sent.as_slice()).unwrap_or(fresh)

@@ -14,14 +14,35 @@ const GROUPS: u16 = 20;
 /// The branches that the records name, and how many accounts each has.
 const BRANCHES: [(u64, u32); 3] = [(1, 3), (2, 2), (9999, 1000)];
 
+/// How many records a group has, unless its size is drawn.
+const GROUP: u32 = 25;
+
 /// How the records of a group are submitted.
 #[derive(Clone, Copy, PartialEq, Eq)]
 pub enum Way {
     OneByOne,
     InBatches,
+    /// One by one to the bank in memory, and in batches of 1 to 64 to the bank in tables.
+    Beside,
 }
 
-/// A run of 500 records.
+impl Way {
+    fn in_memory(self) -> Self {
+        match self {
+            Way::Beside => Way::OneByOne,
+            way => way,
+        }
+    }
+
+    fn in_tables(self) -> Self {
+        match self {
+            Way::Beside => Way::InBatches,
+            way => way,
+        }
+    }
+}
+
+/// A run of 20 groups of records.
 #[derive(Clone, Copy)]
 pub struct Run {
     pub seed: u64,
@@ -29,7 +50,8 @@ pub struct Run {
 }
 
 impl Run {
-    /// The run that a step says, as `mixed 1 one by one` or `mixed 2 in batches`, none where it says no run.
+    /// The run that a step says, as `mixed 1 one by one`, `mixed 2 in batches` or `mixed 5 in batches beside one by one`,
+    /// none where it says no run.
     pub fn of(word: &str, rest: &str) -> Option<Self> {
         if word != "mixed" {
             return None;
@@ -38,6 +60,7 @@ impl Run {
         let way = match way {
             "one by one" => Way::OneByOne,
             "in batches" => Way::InBatches,
+            "in batches beside one by one" => Way::Beside,
             _ => return None,
         };
         Some(Run {
@@ -99,9 +122,9 @@ fn submit_group<S: Alter + Drop>(
     records: &[[u8; 100]],
     way: Way,
 ) -> Result<(Connection<S>, Vec<[u8; 200]>)> {
-    let wanted = replies_of(alloc, plain, group, records, way)?;
+    let wanted = replies_of(alloc, plain, group, records, way.in_memory())?;
     let mut bank = found(alloc, conn)?;
-    let replies = replies_of(alloc, &mut bank, group, records, way)?;
+    let replies = replies_of(alloc, &mut bank, group, records, way.in_tables())?;
     ensure!(
         replies.as_slice() == wanted.as_slice(),
         "other replies to group {group}"
@@ -175,7 +198,11 @@ pub fn play_run<S: Alter + Drop>(
     let mut outcomes = Vec::new(alloc);
     for group in 0..GROUPS {
         let before = sent.len();
-        draw_group(&mut draws, group, &mut sent)?;
+        let count = match run.way {
+            Way::Beside => draws.below(64).saturating_add(1),
+            _ => GROUP,
+        };
+        draw_group(&mut draws, count, &mut sent)?;
         let records = sent.get(before..).context("a group")?;
         let (left, replies) = submit_group(alloc, plain, conn, group, records, run.way)?;
         note(&mut outcomes, replies.as_slice())?;

@@ -12,11 +12,26 @@ const RECORD: &str = "DC01000000000001000000010000010000000001+0000000500";
 
 const REPLY: &str = "DR0100000000000001000000010000010000000001+0000000500+000000000500POSTED";
 
+// Three records on two tellers and two accounts, and their replies.
+const RECORDS: [&str; 3] = [
+    "DC01000000000001000000010000010000000001+0000000001",
+    "DC01000000000002000000020000010000000001+0000000001",
+    "DC01000000000001000000020000010000000002+0000000001",
+];
+
+const REPLIES: [&str; 3] = [
+    "DR0100000000000001000000010000010000000001+0000000001+000000000001POSTED",
+    "DR0100000000000002000000020000010000000001+0000000001+000000000001POSTED",
+    "DR0100000000000001000000020000010000000002+0000000001+000000000002POSTED",
+];
+
 /// The call in which the machine stops.
 #[derive(Clone, Copy)]
 pub enum Call {
     /// The first posting.
     Post,
+    /// Three postings together.
+    Batch,
     /// Branch 3 is opened with two accounts.
     OpenBranch,
 }
@@ -33,6 +48,7 @@ const ADDED: [&str; 4] = [
 fn whole(call: Call) -> [i64; 4] {
     match call {
         Call::Post => [1, 0, 0, 0],
+        Call::Batch => [3, 0, 0, 0],
         Call::OpenBranch => [0, 1, 10, 2],
     }
 }
@@ -73,6 +89,21 @@ fn make<C: Counter>(rt: &impl Abort, bank: &mut C, call: Call) -> Result<(), Fau
             let moment = Moment::new(1000).expect(rt, "moment");
             let reply = bank.submit(moment, &padded(RECORD))?;
             assert_eq!(rt; reply, padded::<200>(REPLY));
+        }
+        Call::Batch => {
+            let moment = Moment::new(1000).expect(rt, "moment");
+            let replies = bank.submit_all(
+                moment,
+                &[
+                    padded::<100>(RECORDS[0]),
+                    padded::<100>(RECORDS[1]),
+                    padded::<100>(RECORDS[2]),
+                ],
+            )?;
+            assert_eq!(rt; replies.len(), REPLIES.len());
+            for (reply, text) in replies.iter().zip(REPLIES) {
+                assert_eq!(rt; *reply, padded::<200>(text));
+            }
         }
         Call::OpenBranch => {
             let opening = open(rt, bank, 3, 2)?;

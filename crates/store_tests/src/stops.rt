@@ -138,6 +138,16 @@ fn a_posting_stops_at_the_log(rt: HostRuntime) -> Result<(), Fail> {
 }
 
 #[test]
+fn a_batch_stops_at_the_database_file(rt: HostRuntime) -> Result<(), Fail> {
+    stop_in(&rt, Call::Batch, true)
+}
+
+#[test]
+fn a_batch_stops_at_the_log(rt: HostRuntime) -> Result<(), Fail> {
+    stop_in(&rt, Call::Batch, false)
+}
+
+#[test]
 fn an_opening_stops_at_the_database_file(rt: HostRuntime) -> Result<(), Fail> {
     stop_in(&rt, Call::OpenBranch, true)
 }
