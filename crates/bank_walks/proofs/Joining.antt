@@ -17,7 +17,7 @@ use Rattle.sql_meanings.proofs.Afterwards.{fails_since, rolled_since}
 use Rattle.store_rows.specs.declared.faults.TableFault.{TableFault}
 use Rattle.store_rows.specs.declared.faults.TableFault.TheVariants.{Sqlite, Damaged}
 use Rattle.bank_walks.specs.Outcomes.{BreaksFirst}
-use Rattle.bank_walks.specs.Pairs.{BreaksPair, BreaksUnder, IsDecided, Pair, pair_key, pair_of, pair_with, paired, row_under}
+use Rattle.bank_walks.specs.Pairs.{AreJoined, BreaksPair, BreaksUnder, IsDecided, Pair, pair_key, pair_of, pair_with, paired, row_under}
 use Rattle.bank_walks.specs.Rows.{items_behind, items_from, rows_behind, rows_from}
 use Rattle.bank_walks.specs.declared.joined.Joined.{Joined}
 use Rattle.bank_walks.proofs.Gathering.{first_left, found_of}
@@ -86,14 +86,13 @@ same_rest : (x y : Entry) (xs ys : List Entry) → x ∷ xs ≡ y ∷ ys → xs 
 same_rest x y xs ys e = cc
 
 module _ {R O : Type 0} (entry : R → Entry) (other : O → Entry) (others base : List Entry) (rise : Rise base) (start : ℤ) where
-  -- so many were joined, and from a number on the others follow
-  abbrev pub AreJoined : List (Joined R O) → ℤ → Type 0
-  AreJoined done next = paired others (rows_from start base) ≡ map (pair_of entry other) done ++ paired others (rows_from next base)
+  abbrev SoFar : List (Joined R O) → ℤ → Type 0
+  SoFar done next = AreJoined entry other others base start done (Some next)
 
   -- one more
-  pub joins_on : (done : List (Joined R O)) (next : ℤ) (r : R) (o : Option O) (more : List Entry) → AreJoined done next
+  pub joins_on : (done : List (Joined R O)) (next : ℤ) (r : R) (o : Option O) (more : List Entry) → SoFar done next
       → rows_from next base ≡ entry r ∷ more → option_map other o ≡ row_under others (entry r).key
-      → (rows_from ((entry r).key +ℤ pos 1) base ≡ more) × AreJoined (done ++ record { stored = r; beside = o } ∷ []) ((entry r).key +ℤ pos 1)
+      → (rows_from ((entry r).key +ℤ pos 1) base ≡ more) × SoFar (done ++ record { stored = r; beside = o } ∷ []) ((entry r).key +ℤ pos 1)
   joins_on done next r o more so_far is found =
       let left = first_left next base (entry r) rise (found_of (is_from next) base (entry r) more is) in
       let after = rows_from ((entry r).key +ℤ pos 1) base in (
@@ -109,50 +108,7 @@ module _ {R O : Type 0} (entry : R → Entry) (other : O → Entry) (others base
       behind [] ps = refl
       behind (x ∷ xs) ps = ap (λ l. pair_of entry other x ∷ l) (behind xs ps)
 
--- ---- what is filled
-
-module _ (others rows : List Entry) (q : Entry → Bool) (pairs : List Pair) (are : pairs ≡ paired others rows) where
-  abbrev base : List Entry
-  base = filter q rows
-
-  abbrev given : List Pair
-  given = filter (λ p. q p.entry) pairs
-
-  -- as far as they were joined
-  pub filled : (from start : ℤ) → rows_from from base ≡ rows_from start base → (done : List Pair) (rest : Option ℤ)
-      → paired others (rows_from start base) ≡ done ++ paired others (rows_behind rest base)
-      → items_from pair_key from given ≡ done ++ items_behind pair_key rest given
-  filled from start same done rest told =
-      pairs_from others rows q pairs are from ∙ ap (paired others) same ∙ told ∙ ap (λ l. done ++ l) (sym (pairs_behind others rows q pairs are rest))
-
-  module _ (Because : Error → Type 0) (Breaks BreaksOther : Entry → Type 0) (from : ℤ) where
-    -- the first row can't be read
-    pub breaks_own : (fault : TableFault) → BreaksFirst Because Breaks (rows_from from base) fault
-        → BreaksFirst Because (BreaksPair Breaks BreaksOther) (items_from pair_key from given) fault
-    breaks_own (Sqlite e) h = h
-    breaks_own (Damaged broken) h =
-        (h.0, (pair_with others h.1.0, paired others h.1.1, pairs_from others rows q pairs are from ∙ ap (paired others) h.1.2, inl h.1.3))
-
-    -- the one beside it can't be read
-    pub breaks_beside : (Before : Error → Type 0) → ((e : Error) → Before e → Because e) → (e : Entry) (more : List Entry)
-        → rows_from from base ≡ e ∷ more → (start : ℤ) → start ≡ e.key
-        → (fault : TableFault) → BreaksUnder Before BreaksOther start others fault
-        → BreaksFirst Because (BreaksPair Breaks BreaksOther) (items_from pair_key from given) fault
-    breaks_beside Before then e more is start at (Sqlite x) h = then x h
-    breaks_beside Before then e more is start at (Damaged broken) h =
-        (
-          h.0,
-          (
-            pair_with others e,
-            paired others more,
-            pairs_from others rows q pairs are from ∙ ap (paired others) is,
-            inr (subst (λ k. IsSomeAnd (row_under others k) BreaksOther) at h.1),
-          ),
-        )
-
--- those that were read ahead begin with a row
-pub first_is : {R : Type 0} (rs : List R) (r : R) → 0 < length rs → r ≡ get_or rs 0 r → rs ≡ r ∷ drop 1 rs
-first_is rs r low at = drop-cons rs 0 r low ∙ ap (λ x. x ∷ drop 1 rs) (sym at)
+-- ---- ends
 
 -- all were given
 pub none_left : {R : Type 0} (n : ℕ) (rs : List R) → length rs ≤ n → drop n rs ≡ []
@@ -164,46 +120,3 @@ none_left (suc n) (r ∷ rs) low = none_left n rs (omega arith)
 pub decided_by : (behind : Option ℤ) (k : ℤ) → IfSome behind (λ b. k <ℤ b) → IsDecided behind k
 decided_by None k h = tt
 decided_by (Some b) k h = h
-
--- ---- two reads, one after the other
-
-module _ (a b c : State) (same : IsUnchanged a b) where
-  pub unchanged_both : IsUnchanged b c → IsUnchanged a c
-  unchanged_both more = (
-    record {
-      was_open = same.0.was_open;
-      is_open = more.0.is_open;
-      now_is = more.0.now_is ∙ same.0.now_is;
-      committed_is = more.0.committed_is ∙ same.0.committed_is;
-      mode = more.0.mode ∙ same.0.mode;
-    },
-    record { changes = more.1.changes ∙ same.1.changes; last_rowid = more.1.last_rowid ∙ same.1.last_rowid },
-    more.2 ∙ same.2,
-  )
-
-  shows_mid : StateShows a b b.now a.committed a.in_transaction
-  shows_mid = record {
-    was_open = same.0.was_open;
-    is_open = same.0.is_open;
-    now_is = refl;
-    committed_is = same.0.committed_is;
-    mode = same.0.mode;
-  }
-
-  pub fails_both : WriteFails b c → WriteFails a c
-  fails_both (inl more) = inl (unchanged_both more)
-  fails_both (inr back) = inr (rolled_since a b c a.in_transaction shows_mid same.1 back)
-
-  pub store_both : Survives a b (λ _. ⊥) → (e : Error) → IsStoreError b c e → IsStoreError a c e
-  store_both survives e (inl fails) = inl (fails_since a b c ⊥ ⊥ (λ x. x) e a.in_transaction shows_mid same.1 survives.counts fails)
-  store_both survives e (inr kept) = inr (why kept.0, unchanged_both kept.1)
-    where
-      why : ((e ≡ SqliteFailure OutOfMemory) ⊎ ((e ≡ SqliteFailure OperationInterrupted) × IsSome b.step_limit))
-          → ((e ≡ SqliteFailure OutOfMemory) ⊎ ((e ≡ SqliteFailure OperationInterrupted) × IsSome a.step_limit))
-      why (inl memory) = inl memory
-      why (inr steps) = inr (steps.0, subst IsSome survives.limit steps.1)
-
-pub match_both : {X E : Type 0} (P P' : X → Type 0) (Q Q' : E → Type 0) (r : Result X E) → ((x : X) → P x → P' x) → ((e : E) → Q e → Q' e)
-    → MatchResult r P Q → MatchResult r P' Q'
-match_both P P' Q Q' (Ok x) f h m = f x m
-match_both P P' Q Q' (Err e) f h m = h e m

@@ -1,5 +1,6 @@
 -- What the walks read.
 pub mod EntriesRead
+pub mod Filling
 pub mod Gathering
 pub mod Joining
 pub mod Keys

@@ -1,6 +1,5 @@
 -- Rows of a table, each with the row of another one under its key, if there is one.
-use Rattle.std.specs.Prelude.{◌≡◌, ◌⊎◌, ◌<ℤ◌, ℤ, List, [], ◌∷◌, map, find, true, Option, Some, None, Result, Ok, Err, IsSomeAnd, option_map, ⊤}
-use Rattle.std.specs.List.{AllByRecursion}
+use Rattle.std.specs.Prelude.{◌≡◌, ◌⊎◌, ◌++◌, ◌<ℤ◌, ℤ, List, [], ◌∷◌, map, find, Option, Some, None, Result, Ok, Err, IsSomeAnd, option_map, ⊤}
 use Rattle.std.proofs.Common.{sym, subst}
 use Rattle.sqlite.specs.declared.error.Error.{Error}
 use Rattle.sqlite.specs.Table.{Table}
@@ -10,7 +9,7 @@ use Rattle.posting_rules.specs.declared.fault.Rule.TheVariants as rule
 use Rattle.store_rows.specs.declared.faults.TableFault.{TableFault}
 use Rattle.store_rows.specs.declared.faults.TableFault.TheVariants.{Sqlite, Damaged}
 use Rattle.bank_walks.specs.Outcomes.{IsRefusedMemory}
-use Rattle.bank_walks.specs.Rows.{HasRows, HaveKeys, LEAST, entry_key}
+use Rattle.bank_walks.specs.Rows.{HasRows, HaveKeys, entry_key, rows_behind, rows_from}
 use Rattle.bank_walks.specs.declared.joined.Joined.{Joined}
 
 pub record Pair : Type 0 where
@@ -43,6 +42,11 @@ pub record HasPairs (db : Database) (table other : Table) (pairs : List Pair) : 
 -- how a file holds them
 abbrev pub pair_of : {R O : Type 0} → (R → Entry) → (O → Entry) → Joined R O → Pair
 pair_of entry other j = record { entry = entry j.stored; beside = option_map other j.beside }
+
+-- these are the pairs of the rows from a number on, up to those that follow
+abbrev pub AreJoined : {R O : Type 0} → (R → Entry) → (O → Entry) → List Entry → List Entry → ℤ → List (Joined R O) → Option ℤ → Type 0
+AreJoined entry other others rows from done rest =
+    paired others (rows_from from rows) ≡ map (pair_of entry other) done ++ paired others (rows_behind rest rows)
 
 -- a number of the row, or of the one beside it, is out of its range
 abbrev pub BreaksPair : (Entry → Type 0) → (Entry → Type 0) → Pair → Type 0

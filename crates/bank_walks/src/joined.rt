@@ -1,12 +1,12 @@
 //! Rows with what stands beside them in another table.
-ghost use Rattle.std.specs.Prelude.{◌≡◌, ◌≤◌, ◌++◌, [], ◌∷◌, List, filter, length, map, None, false, IfOk, IfErr, OnOk, MatchResult};
+ghost use Rattle.std.specs.Prelude.{◌≡◌, ◌≤◌, ◌++◌, [], ◌∷◌, ℤ, List, filter, length, map, None, false, IfOk, IfErr, IsTrue, OnOk, MatchResult};
 ghost use Rattle.std.specs.Bool.{OnFalse, OnTrue};
 ghost use Rattle.sqlite.specs.State.{HasCleanDisk, IsUnchanged, Survives};
 ghost use Rattle.sqlite.specs.Held.{state};
 ghost use Rattle.sql_meanings.specs.Entries.{Entry, Rise};
 ghost use Rattle.sql_meanings.specs.Outcomes.{IsStoreError, WriteFails};
 ghost use Rattle.bank_walks.specs.Outcomes.{BreaksFirst};
-ghost use Rattle.bank_walks.specs.Pairs.{BreaksPair, BreaksUnder, HasPairs, IsDecided, Pair, pair_key, pair_of, paired};
+ghost use Rattle.bank_walks.specs.Pairs.{AreJoined, BreaksPair, BreaksUnder, HasPairs, IsDecided, Pair, pair_key, pair_of, paired};
 ghost use Rattle.bank_walks.specs.Rising.{RisesFrom};
 ghost use Rattle.bank_walks.specs.Rows.{HasRows, entry_key, items_behind, items_from, rows_behind, rows_from};
 
@@ -63,7 +63,7 @@ fn join<R: StoredRow, O: StoredRow>(
     ensures told { (base others : List Entry) → Rise base
         → rows_from start base ≡ map R.StoredRow.entry own.now ++ rows_behind rest base
         → rows_from start others ≡ map O.StoredRow.entry beside.now ++ rows_behind behind others
-        → paired others (rows_from start base) ≡ map (pair_of R.StoredRow.entry O.StoredRow.entry) rows.new.items ++ paired others (rows_behind result base) }
+        → AreJoined R.StoredRow.entry O.StoredRow.entry others base start rows.new.items result }
     ensures rises { RisesFrom start (map (λ j. entry_key (R.StoredRow.entry j.stored)) rows.new.items) result }
     ensures some { (r : R) (more : List R) → own.now ≡ r ∷ more → IsDecided behind (entry_key (R.StoredRow.entry r)) → rows.new.items ≡ [] → ⊥ }
 {
@@ -97,8 +97,7 @@ fn join_ahead<S: Alter, R: StoredRow, O: StoredRow>(
     ensures told { HasCleanDisk (state S.Store conn.new) → (base others : List Entry) → Rise base
         → HasRows (state S.Store conn.old).now O.StoredRow.table others
         → rows_from start base ≡ map R.StoredRow.entry own.now ++ rows_behind rest base
-        → MatchResult result
-        (λ rest. paired others (rows_from start base) ≡ map (pair_of R.StoredRow.entry O.StoredRow.entry) rows.new.items ++ paired others (rows_behind rest base))
+        → MatchResult result (AreJoined R.StoredRow.entry O.StoredRow.entry others base start rows.new.items)
         (BreaksUnder (IsStoreError (state S.Store conn.old) (state S.Store conn.new)) O.StoredRow.is_broken start others) }
     ensures rises { IfOk result (λ rest. RisesFrom start (map (λ j. entry_key (R.StoredRow.entry j.stored)) rows.new.items) rest) }
     ensures some { (r : R) (more : List R) → own.now ≡ r ∷ more → start ≡ entry_key (R.StoredRow.entry r) → OnOk result (rows.new.items ≡ [] → ⊥) }
@@ -109,6 +108,43 @@ fn join_ahead<S: Alter, R: StoredRow, O: StoredRow>(
 {
     let behind = read_beside::<S, O>(conn, start, beside)?;
     Ok(join(own, rest, beside.as_slice(), behind, start, rows))
+}
+
+// The same, from where the first of these begins.
+fn join_first<S: Alter, R: StoredRow, O: StoredRow>(
+    conn: &mut Connection<S>,
+    own: &[R],
+    rest: Option<i64>,
+    beside: &mut ArrayVec<O, AHEAD>,
+    rows: &mut ArrayVec<Joined<R, O>, AHEAD>,
+) -> Result<Option<i64>, TableFault>
+    requires few { length own.now ≤ AHEAD }
+    requires ended { own.now ≡ [] → rest ≡ None }
+    requires rises { (from : ℤ) × RisesFrom from (map (λ r. entry_key (R.StoredRow.entry r)) own.now) rest }
+    ensures told { HasCleanDisk (state S.Store conn.new) → (base others : List Entry) → Rise base
+        → HasRows (state S.Store conn.old).now O.StoredRow.table others
+        → (from : ℤ) → rows_from from base ≡ map R.StoredRow.entry own.now ++ rows_behind rest base
+        → MatchResult result (AreJoined R.StoredRow.entry O.StoredRow.entry others base from rows.new.items)
+        (BreaksFirst (IsStoreError (state S.Store conn.old) (state S.Store conn.new)) (BreaksPair R.StoredRow.is_broken O.StoredRow.is_broken)
+        (paired others (rows_from from base))) }
+    ensures ended { IfOk result (λ next. rows.new.items ≡ [] → next ≡ None) }
+    ensures rises { (from : ℤ) → RisesFrom from (map (λ r. entry_key (R.StoredRow.entry r)) own.now) rest
+        → IfOk result (λ next. RisesFrom from (map (λ j. entry_key (R.StoredRow.entry j.stored)) rows.new.items) next) }
+    ensures same { HasCleanDisk (state S.Store conn.new) → IsTrue (state S.Store conn.old).is_open → OnOk result (IsUnchanged (state S.Store conn.old) (state S.Store conn.new)) }
+    ensures err { HasCleanDisk (state S.Store conn.new) → IfErr result (λ _. WriteFails (state S.Store conn.old) (state S.Store conn.new)) }
+    ensures mode { conn.old.in_transaction ≡ false → conn.new.in_transaction ≡ false }
+    ensures survives { Survives (state S.Store conn.old) (state S.Store conn.new) (λ _. ⊥) }
+{
+    match own.first() {
+        Some(first) => {
+            let start = first.key() as i64;
+            join_ahead::<S, R, O>(conn, own, rest, start, beside, rows)
+        }
+        None => {
+            rows.clear();
+            Ok(None)
+        }
+    }
 }
 
 // Fills the room of a walk, with room for the rows of each table. Only of known types is it known how much room that is, so
@@ -132,14 +168,10 @@ fn fill_joined<S: Alter, R: StoredRow, O: StoredRow>(
     ensures mode { conn.old.in_transaction ≡ false → conn.new.in_transaction ≡ false }
     ensures survives { Survives (state S.Store conn.old) (state S.Store conn.new) (λ _. ⊥) }
 {
-    let rest = read_ahead(conn, of, from, own)?;
-    if own.is_empty() {
-        rows.clear();
-        return Ok(None);
+    match read_ahead(conn, of, from, own) {
+        Ok(rest) => join_first::<S, R, O>(conn, own.as_slice(), rest, beside, rows),
+        Err(fault) => Err(fault),
     }
-    let first = own.as_slice()[0];
-    let start = first.key() as i64;
-    join_ahead::<S, R, O>(conn, own.as_slice(), rest, start, beside, rows)
 }
 
 impl WalkedRow for Joined<StoredRequest, StoredPosting> {

@@ -1,6 +1,6 @@
 use Rattle.std.proofs.Common.{◌≡◌, ◌≤ℤ◌, ◌++◌, ℤ, List, map, drop, length, Some}
 use Rattle.sql_meanings.specs.Entries.{Entry, Rise}
-use Rattle.bank_walks.specs.Pairs.{pair_of, paired}
+use Rattle.bank_walks.specs.Pairs.{AreJoined}
 use Rattle.bank_walks.specs.Rising.{RisesFrom}
 use Rattle.bank_walks.specs.Rows.{entry_key, rows_behind, rows_from}
 use Rattle.bank_walks.proofs.joined.join.Given as goal
@@ -14,5 +14,5 @@ invariant-loop-row g l = record {
   told : (base others : List Entry) → Rise base → rows_from l.fn.start base ≡ map g.R.StoredRow.entry l.fn.own ++ rows_behind l.fn.rest base
       → rows_from l.fn.start others ≡ map g.O.StoredRow.entry l.fn.beside ++ rows_behind l.fn.behind others
       → (rows_from l.next base ≡ map g.R.StoredRow.entry (drop l.row-index l.fn.own) ++ rows_behind l.fn.rest base)
-      × (paired others (rows_from l.fn.start base) ≡ map (pair_of g.R.StoredRow.entry g.O.StoredRow.entry) l.rows.items ++ paired others (rows_from l.next base));
+      × AreJoined g.R.StoredRow.entry g.O.StoredRow.entry others base l.fn.start l.rows.items (Some l.next);
 }
