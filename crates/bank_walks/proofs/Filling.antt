@@ -1,5 +1,5 @@
 -- Room that is filled with rows and what stands beside them.
-use Rattle.std.proofs.Common.{◌≡◌, ◌⊎◌, ◌<◌, ◌≤ℤ◌, ◌+ℤ◌, zero, suc, drop, slice_get, Ok, Err, Result, ℤ, pos, List, [], ◌∷◌, ◌++◌, map, filter, Bool, Some, None, Option, refl, sym, ap, subst, ◌∙◌, inl, inr, arith}
+use Rattle.std.proofs.Common.{◌≡◌, ◌⊎◌, ◌≤ℤ◌, ◌+ℤ◌, drop, slice_get, Ok, Err, Result, ℤ, pos, List, [], ◌∷◌, ◌++◌, map, filter, Bool, Some, None, Option, refl, sym, ap, subst, ◌∙◌, inl, inr}
 use Rattle.std.specs.Prelude.{IfOk, IsSome, OnOk, IsSomeAnd, MatchResult}
 use Rattle.sqlite.specs.State.{State, IsUnchanged, Survives}
 use Rattle.sqlite.specs.State.{Shows as StateShows}

@@ -1,23 +1,12 @@
 -- Rows with what stands beside them in another table.
-use Rattle.std.proofs.Common.{◌≡◌, ◌⊎◌, ◌<◌, ◌≤◌, ℕ, zero, suc, drop, length, get_or, Ok, Err, Result, ◌<ℤ◌, ◌≤ℤ◌, ◌+ℤ◌, ℤ, pos, List, [], ◌∷◌, ◌++◌, map, filter, find, cond, Bool, true, false, Some, None, Option, int_cmp, refl, sym, ap, subst, ◌∙◌, inl, inr, arith, append_assoc}
-use Rattle.std.specs.Prelude.{IfSome, IsSome, IsSomeAnd, MatchResult, option_map}
-use Rattle.std.proofs.Math.Seq.{drop-cons}
+use Rattle.std.proofs.Common.{◌≡◌, ◌≤◌, ℕ, zero, suc, drop, length, ◌<ℤ◌, ◌≤ℤ◌, ◌+ℤ◌, ℤ, pos, List, [], ◌∷◌, ◌++◌, map, filter, find, cond, Bool, true, false, Some, None, Option, int_cmp, refl, sym, ap, ◌∙◌, inl, inr, arith}
+use Rattle.std.specs.Prelude.{IfSome, option_map}
 use Rattle.std.specs.Ordering.{int_eq, is_ge}
 use Rattle.std.proofs.lemmas.Bool.{cases_Bool}
 use Rattle.std.proofs.lemmas.Int.{ints}
-use Rattle.sqlite.specs.State.{State, IsUnchanged, Survives}
-use Rattle.sqlite.specs.State.{Shows as StateShows}
-use Rattle.sqlite.specs.declared.error.Error.{Error}
-use Rattle.sqlite.specs.declared.error.Error.TheVariants.{SqliteFailure}
-use Rattle.sqlite.specs.declared.error.ErrorCode.TheVariants.{OperationInterrupted, OutOfMemory}
 use Rattle.sql_meanings.specs.Entries.{Entry, Rise, has_key}
-use Rattle.sql_meanings.specs.Outcomes.{IsStoreError, WriteFails}
 use Rattle.sql_meanings.specs.Seeks.{is_from}
-use Rattle.sql_meanings.proofs.Afterwards.{fails_since, rolled_since}
-use Rattle.store_rows.specs.declared.faults.TableFault.{TableFault}
-use Rattle.store_rows.specs.declared.faults.TableFault.TheVariants.{Sqlite, Damaged}
-use Rattle.bank_walks.specs.Outcomes.{BreaksFirst}
-use Rattle.bank_walks.specs.Pairs.{AreJoined, BreaksPair, BreaksUnder, IsDecided, Pair, pair_key, pair_of, pair_with, paired, row_under}
+use Rattle.bank_walks.specs.Pairs.{AreJoined, IsDecided, Pair, pair_key, pair_of, pair_with, paired, row_under}
 use Rattle.bank_walks.specs.Rows.{items_behind, items_from, rows_behind, rows_from}
 use Rattle.bank_walks.specs.declared.joined.Joined.{Joined}
 use Rattle.bank_walks.proofs.Gathering.{first_left, found_of}

@@ -1,5 +1,5 @@
 -- The first of the rows that were found beside others.
-use Rattle.std.proofs.Common.{◌≡◌, ◌<ℤ◌, ◌≤ℤ◌, ◌+ℤ◌, ◌<◌, ℕ, suc, ℤ, pos, List, [], ◌∷◌, map, filter, find, cond, drop, length, get_or, Err, Bool, true, false, Some, None, Option, int_cmp, refl, sym, ap, subst, ◌∙◌, inl, inr, arith}
+use Rattle.std.proofs.Common.{◌≡◌, ◌<ℤ◌, ◌≤ℤ◌, ◌+ℤ◌, ◌<◌, ℕ, suc, ℤ, pos, List, [], ◌∷◌, map, find, drop, length, get_or, Err, true, false, Some, None, Option, int_cmp, refl, sym, ap, subst, ◌∙◌, inl, inr, arith}
 use Rattle.std.specs.Prelude.{IfSome}
 use Rattle.std.specs.Ordering.{int_eq, is_ge}
 use Rattle.std.proofs.Math.Seq.{drop-cons}

@@ -1,5 +1,5 @@
 -- The stored rows: keys, counts and moments within their ranges, and the other numbers whatever they are.
-use Rattle.std.specs.Prelude.{◌⊎◌, ℕ, pos, ℤ, List, [], ◌∷◌, slice_index_or, Bool, true, Option, Some, None}
+use Rattle.std.specs.Prelude.{◌⊎◌, ℕ, pos, ℤ, [], ◌∷◌, slice_index_or, Bool, true, Option, Some, None}
 use Rattle.message_records.specs.declared.limits.TheConstants.{MAX_MOMENT}
 use Rattle.posting_rules.specs.declared.limits.TheConstants.{LAST_BRANCH, MAX_DECIDED}
 use Rattle.sql_meanings.specs.Entries.{Entry}

@@ -181,11 +181,17 @@ impl WalkedRow for Joined<StoredRequest, StoredPosting> {
     ghost use Rattle.store_rows.specs.SixTables.{history, request};
 
     ghost Item = { Pair };
+
     ghost item = { asked_pair };
+
     ghost key = { pair_key };
+
     ghost is_broken = { IsNoAsked };
+
     ghost is_given = { λ of p. true };
+
     ghost HasItems = { λ db pairs. HasPairs db request history pairs };
+
     ghost have_keys = { λ db pairs has. pairs_have_keys db request history pairs has };
 
     fn fill<S: Alter>(
@@ -207,11 +213,17 @@ impl WalkedRow for Joined<StoredPosting, StoredRequest> {
     ghost use Rattle.store_rows.specs.SixTables.{history, request};
 
     ghost Item = { Pair };
+
     ghost item = { posted_pair };
+
     ghost key = { pair_key };
+
     ghost is_broken = { IsNoPosted };
+
     ghost is_given = { λ of p. true };
+
     ghost HasItems = { λ db pairs. HasPairs db history request pairs };
+
     ghost have_keys = { λ db pairs has. pairs_have_keys db history request pairs has };
 
     fn fill<S: Alter>(

@@ -1,7 +1,7 @@
 -- What is gathered beside other rows.
-use Rattle.std.proofs.Common.{◌≡◌, ◌≤ℤ◌, [], ◌++◌, Err, map, take, refl, sym, ap, subst, ◌∙◌, rules, arith, w64, to_z, of_z}
+use Rattle.std.proofs.Common.{◌≡◌, ◌≤ℤ◌, Err, take, sym, ap, subst, ◌∙◌, rules, w64, to_z, of_z}
 use Rattle.std.specs.Prelude.{IsSomeAnd}
-use Rattle.std.proofs.lemmas.Int.{ints, to_z-of_z}
+use Rattle.std.proofs.lemmas.Int.{to_z-of_z}
 use Rattle.bank_walks.specs.Outcomes.{IsRefusedMemory, shown}
 use Rattle.bank_walks.specs.Rows.{entry_key, rows_from}
 use Rattle.bank_walks.specs.declared.ahead.TheConstants.{AHEAD}

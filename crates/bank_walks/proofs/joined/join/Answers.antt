@@ -1,5 +1,5 @@
 -- Rows are joined one by one.
-use Rattle.std.proofs.Common.{◌≡◌, ◌≤ℤ◌, ◌≤◌, ◌<◌, ◌+◌, ◌+ℤ◌, ◌++◌, ℤ, suc, pos, [], ◌∷◌, map, drop, get_or, length, refl, sym, ap, subst, ◌∙◌, rules, arith, w64, to_z, of_z}
+use Rattle.std.proofs.Common.{◌≡◌, ◌≤ℤ◌, ◌≤◌, ◌<◌, ◌+◌, ◌++◌, suc, ◌∷◌, map, drop, length, refl, sym, ap, subst, ◌∙◌, rules, arith, w64, to_z, of_z}
 use Rattle.std.proofs.Math.Seq.{drop-cons}
 use Rattle.std.proofs.lemmas.Int.{ints, to_z-of_z}
 use Rattle.store_rows.proofs.Lookups.{as_integer}

@@ -1,4 +1,4 @@
-use Rattle.std.proofs.Common.{◌≡◌, ◌≤ℤ◌, ◌++◌, ℤ, List, map, drop, length, Some}
+use Rattle.std.proofs.Common.{◌≡◌, ◌≤ℤ◌, ◌++◌, List, map, drop, length, Some}
 use Rattle.sql_meanings.specs.Entries.{Entry, Rise}
 use Rattle.bank_walks.specs.Pairs.{AreJoined}
 use Rattle.bank_walks.specs.Rising.{RisesFrom}

@@ -1,5 +1,5 @@
 -- What is joined with the others that were read.
-use Rattle.std.proofs.Common.{◌≡◌, rules, subst, sym, w64, to_z, of_z}
+use Rattle.std.proofs.Common.{◌≡◌, rules, subst, w64, to_z, of_z}
 use Rattle.std.proofs.lemmas.Int.{to_z-of_z}
 use Rattle.bank_walks.specs.Pairs.{IsDecided}
 use Rattle.bank_walks.proofs.Joining.{decided_by}

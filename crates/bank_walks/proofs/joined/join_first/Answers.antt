@@ -1,10 +1,10 @@
 -- The others are read from where the first row is.
-use Rattle.std.proofs.Common.{◌≡◌, [], ◌∷◌, ◌++◌, ℤ, map, drop, Ok, Err, refl, sym, ap, subst, ◌∙◌, rules, w64, to_z}
+use Rattle.std.proofs.Common.{◌≡◌, ◌++◌, map, drop, refl, sym, ap, ◌∙◌, rules, w64, to_z}
 use Rattle.sqlite.proofs.StateLemmas.{unchanged}
 use Rattle.sqlite.specs.Held.{state}
 use Rattle.store_rows.proofs.Lookups.{as_integer}
 use Rattle.sql_meanings.specs.Outcomes.{IsStoreError}
-use Rattle.bank_walks.specs.Rows.{entry_key, rows_behind, rows_from}
+use Rattle.bank_walks.specs.Rows.{entry_key, rows_behind}
 use Rattle.bank_walks.proofs.Filling.{breaks_first, first_is, from_first, joined_first, match_both, none_joined, rises_itself, rises_too}
 use Rattle.bank_walks.proofs.joined.join_first.Goals as goal
 
