@@ -15,7 +15,8 @@ ghost use Rattle.bank_store.specs.Walks.{IsStill, IsUndone, Tells};
 use crate::bank::Bank;
 use arrayvec::ArrayVec;
 use bank_walks::{
-    AHEAD, Joined, StoredAccount, StoredBranch, StoredPosting, StoredRequest, StoredTeller, WalkedRow,
+    AHEAD, Joined, StoredAccount, StoredBranch, StoredPosting, StoredRequest, StoredTeller,
+    WalkedRow,
 };
 use message_records::Account;
 use posting_rules::Fault;
