@@ -2,7 +2,6 @@
 pub mod Above
 pub mod Actions
 pub mod Afterwards
-pub mod AtOrAbove
 pub mod AtOrAboveOf
 pub mod ByKey
 pub mod Casting
