@@ -10,9 +10,6 @@ use Rattle.sqlite_catalog.specs.Listing.{IsSound, IsTableRow}
 use Rattle.sqlite.specs.Effect.{Database}
 use Rattle.sqlite.specs.Does.{MakesTable, MakesSequence, lacks_sequence, sequence_text}
 
-ok_same : {B E : Type 0} {a b : B} → ◌≡◌ {A = Result B E} (Ok a) (Ok b) → a ≡ b
-ok_same e = cc
-
 zipped : {X Y : Type 0} (R : X → Y → Type 0) (xs : List X) (ys : List Y) (y : Y) → AllZip R xs ys → Has ys y → (x : X) × R x y
 zipped R [] [] y all h = absurd h
 zipped R [] (z ∷ ys) y all h = absurd all

@@ -53,5 +53,4 @@ pub mod Tests
 pub mod Texts
 pub mod Trees
 pub mod TwoColumns
-pub mod Typed
 pub mod Writing

@@ -122,18 +122,8 @@ not_run old new text e only (inl (inr (c, is, inr (inl many)), same)) = absurd (
 not_run old new text e only (inl (inr (c, is, inr (inr clock)), same)) = absurd (clock.0 (only c is).timeless)
 not_run old new text e only (inr fails) = inr fails
 
--- a text that was prepared is understood
-pub outlined : (r : Result Compiled CompileError) (s : Outline) → Outlines r s → (c : Compiled) × (r ≡ Ok c)
-outlined (Ok c) s h = (c, refl)
-outlined (Err e) s h = absurd h
-
 -- what `prepare` tells, by its three answers
 module _ (old new : State) (text : List ℕ) (only : OnlyShows text 0 (understood old.now.schema text)) where
-  -- a text that is prepared
-  pub accepts_text : (s : Outline) → Outlines (understood old.now.schema text) s → IsUnchanged old new
-      → TellsUnderstood old new text (Ok true)
-  accepts_text s is same = (outlined (understood old.now.schema text) s is, same)
-
   not_stored : (cause : StoreError) → is_refusal (store_error cause) ≡ false
   not_stored OutOfMemory = refl
   not_stored Io = refl
