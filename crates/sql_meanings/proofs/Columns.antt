@@ -1,5 +1,5 @@
 -- Columns of one table, as a statement over that table alone names them.
-use Rattle.std.proofs.Common.{◌≡◌, ℕ, List, [], ◌∷◌, Ok, Some, None, option_map, slice_get, Bool, true}
+use Rattle.std.proofs.Common.{◌≡◌, ℕ, List, [], ◌∷◌, Ok, Some, None, slice_get, Bool, true}
 use Rattle.sqlite_schema.specs.Names.{column_named, place_of}
 use Rattle.sqlite_schema.specs.declared.schema.Column.{Column}
 use Rattle.sqlite.specs.Term.{col}

@@ -1,11 +1,11 @@
 -- What the ways to fail have in common.
-use Rattle.std.proofs.Common.{◌≡◌, ℕ, List, inl, inr, false, refl, ap, ◌∙◌}
+use Rattle.std.proofs.Common.{◌≡◌, inl, inr, false, refl, ap, ◌∙◌}
 use Rattle.sqlite.specs.Table.{Table}
 use Rattle.sqlite.specs.State.{State, store_error}
 use Rattle.sqlite.specs.declared.error.Error.{Error}
 use Rattle.sqlite_trees.specs.declared.error.StoreError.{StoreError}
 use Rattle.sqlite_trees.specs.declared.error.StoreError.TheVariants.{OutOfMemory, Io, Corrupt, Full, Broken, Unstorable}
-use Rattle.sql_meanings.specs.Outcomes.{MakeFails, PutFails, SetFails, WriteFails, is_taken_key}
+use Rattle.sql_meanings.specs.Outcomes.{PutFails, SetFails, is_taken_key}
 
 store_other : (cause : StoreError) → is_taken_key (store_error cause) ≡ false
 store_other OutOfMemory = refl

@@ -41,7 +41,7 @@ use Rattle.sqlite.specs.Query.{Query, Join, IsAnswerAs, matches_as, page, inner,
 use Rattle.sqlite_sql.proofs.QueryLemmas.{output_cmp_total}
 use Rattle.sqlite_trees.proofs.ListLemmas.{map-map}
 use Rattle.sql_meanings.specs.Entries.{Entry, IsTree, Rise, is_above, listed, stored}
-use Rattle.sql_meanings.specs.Queries.{no_limit, ascending, above, key_above, query}
+use Rattle.sql_meanings.specs.Queries.{ascending, above, key_above, query}
 use Rattle.sql_meanings.proofs.EntryLists.{Above}
 use Rattle.sql_meanings.proofs.TestedAnswers.{passing}
 use Rattle.sql_meanings.proofs.RisingOrder.{sorted_is}

@@ -40,7 +40,6 @@ use Rattle.sqlite_schema.specs.declared.program.Table.{Table as Let}
 use Rattle.sqlite_resolve.specs.declared.error.CompileError.{CompileError}
 use Rattle.sqlite_resolve.specs.declared.error.CompileError.TheVariants.{NoSuchTable}
 use Rattle.sqlite_resolve.specs.declared.state.Carried.{Carried}
-use Rattle.sqlite_resolve.specs.declared.compiled.Compiled.{Compiled}
 use Rattle.sqlite_resolve.specs.Lowering.{nothing, take_slot}
 use Rattle.sqlite_resolve.specs.Scope.{Name}
 use Rattle.sqlite_resolve.specs.Terms.{number}
@@ -52,8 +51,6 @@ use Rattle.sqlite.specs.Listing.{understood, listing_schema}
 use Rattle.sqlite.specs.declared.error.Error.{Error}
 use Rattle.sqlite.specs.declared.error.Error.TheVariants.{SqlInputError}
 use Rattle.sqlite.specs.State.{State, Fails, IsUnchanged, IsNotRun, store_error}
-use Rattle.sqlite.specs.Outline.{Outline}
-use Rattle.sqlite.specs.Steps.{Outlines}
 use Rattle.sqlite.specs.Effect.{Database, IsDatabase}
 use Rattle.sql_meanings.specs.Outcomes.{is_refusal, IsThere, IsUnderstood, OnlyShows, TellsProbe, TellsUnderstood}
 use Rattle.sql_meanings.specs.Tables.{Defines, placed_at, tree_of}

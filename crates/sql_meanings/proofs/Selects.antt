@@ -1,5 +1,5 @@
 -- Whole SELECTs over one table, and those of the bank.
-use Rattle.std.proofs.Common.{◌≡◌, ℕ, ◌-◌, List, [], ◌∷◌, map, Ok, Some, None, Option, slice_get, refl, true, false, nat_lt, ap, ◌∙◌}
+use Rattle.std.proofs.Common.{◌≡◌, ℕ, ◌-◌, List, [], ◌∷◌, map, Ok, Some, None, Option, slice_get, refl, true, false, nat_lt, ap}
 use Rattle.sqlite_value.specs.declared.keys.Collation.TheVariants.{Binary}
 use Rattle.sqlite_value.specs.declared.keys.Key.{Key}
 use Rattle.sqlite_sql.specs.declared.ops.BinaryOp.TheVariants.{Compare}
@@ -26,7 +26,7 @@ use Rattle.sqlite_resolve.specs.declared.compare.Affinity.TheVariants as affinit
 use Rattle.sqlite_resolve.specs.declared.scope.Output.{Output}
 use Rattle.sqlite_resolve.specs.declared.state.Carried.{Carried}
 use Rattle.sqlite_resolve.specs.Lowering.{nothing, alone}
-use Rattle.sqlite_resolve.specs.Scope.{Name, Context, declared, alias_of}
+use Rattle.sqlite_resolve.specs.Scope.{Name, Context, alias_of}
 use Rattle.sqlite_resolve.specs.Body.{tests, outputs}
 use Rattle.sqlite_resolve.specs.Order as order
 use Rattle.sqlite_resolve.specs.Order.{sorts}
@@ -36,8 +36,8 @@ use Rattle.sqlite_resolve.specs.Select.{ungrouped}
 use Rattle.sqlite_resolve.specs.Expr.{lower}
 use Rattle.sqlite_resolve.specs.Program as prog
 use Rattle.sqlite_resolve.specs.Compile.{compiled, first, with_command}
-use Rattle.sql_meanings.proofs.Columns.{bound_to, over_one, column_is}
-use Rattle.sql_meanings.proofs.Expressions.{st, lower_column, lower_and}
+use Rattle.sql_meanings.proofs.Columns.{bound_to, over_one}
+use Rattle.sql_meanings.proofs.Expressions.{st, lower_and}
 use Rattle.sql_meanings.proofs.Statements.{HasTable, compiled_select}
 use Rattle.sql_meanings.proofs.ByKey.{Tests, key_test}
 use Rattle.sql_meanings.specs.Queries.{no_limit}
