@@ -21,6 +21,7 @@ use Rattle.counter_http.specs.Answers.{Asked, refusal}
 use Rattle.counter_http.specs.Turns.{Turn, commands_for, readings_for, text_in, commands_of, moments_of, messages_of, texts_of, answers_to, AreAnswered, IsAnswered}
 use Rattle.posting_core.specs.Batches.{joined}
 use Rattle.posting_core.proofs.Batched.{joined-append}
+use Rattle.posting_core.proofs.Stops.{stop_all, written_part}
 use Rattle.counter_http.specs.Serving.{BeginsWithNoMessage, IsWalked, At_last, Exits, IsWritten, Serves}
 use Rattle.counter_http.proofs.Walking.{walks_behind, walks_end, walks_always, walks_closed}
 use Rattle.counter_http.proofs.Told.{front_of}
@@ -28,20 +29,6 @@ use Rattle.counter_http.proofs.Turning.{answered_none, answered_more, answered_o
 use Rattle.counter_http.proofs.Going.{Going, turn_of, read_one_more, texts_one_more, same_front, going_filled}
 
 -- ---- ends where the bank took all that it was given
-
-pub stop_all : (c : Seen) (log cs ds : List Command) → cs ≡ ds → StandsAt c (behind log ds)
-    → LeavesOnly c (ShowsBeginning log cs (length ds))
-stop_all c log cs ds e s = leaves_weaker c (λ t. Shows t (behind log ds)) (ShowsBeginning log cs (length ds))
-    (λ t shown.
-    let all : take (length ds) cs ≡ ds = ap (take (length ds)) e ∙ take_all (length ds) ds (omega arith) in
-    record {
-      count = length ds;
-      holds = omega arith;
-      within = omega (arith, ap length e);
-      are = subst (λ (l : List Command). AreCommands (behind log l)) (sym all) s.shows.commands;
-      shows = subst (λ (l : List Command). Shows t (behind log l)) (sym all) shown;
-    })
-    s.stop
 
 -- the messages were answered, and then so much was written
 end_with : {C : Type 0} (seen : C → Seen) {r r' w w' w'' k k' : Option (List ℕ)}
@@ -205,14 +192,6 @@ end_told seen {w' = w'} {w'' = w''} old new shown count' rest g walked told one 
     told.1)
     (walked, omega (arith, one, g.count_is), refl)
     (λ text. ap (λ (x : List ℕ). text ++ x) (sym (append-nil (refusal shown))))
-
--- all of one text and a beginning of the next are a beginning of both
-pub written_part : (a b t u : List ℕ) → a ≡ t → b ≡ take (length b) u
-    → a ++ b ≡ take (length (a ++ b)) (t ++ u)
-written_part a b t u ea eb =
-    ap (λ (x : List ℕ). x ++ b) ea ∙ ap (λ (x : List ℕ). t ++ x) eb ∙ sym (take-append-add t u (length b))
-    ∙ ap (λ (j : ℕ). take j (t ++ u))
-    (ap (λ (x : List ℕ). length x + length b) (sym ea) ∙ sym (length-append a b))
 
 -- it was written in part
 pub end_untold : {C : Type 0} (seen : C → Seen) {r r' w w' w'' k k' : Option (List ℕ)}
