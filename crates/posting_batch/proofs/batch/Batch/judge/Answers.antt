@@ -52,7 +52,6 @@ returns-clause-shows c t records is log shows =
     subst (λ (u : Tables). Shows u (behind log (posts c.args.moment records))) (sym (returns-clause-tables c t records is))
     (all_past t log c.args.moment records shows)
 
-
 pub returns-clause-changes : goal.returns-clause-changes
 returns-clause-changes c t records is =
     let m = c.args.moment in
