@@ -1,6 +1,8 @@
 -- A connection that ends where the bank took all that it was given.
 use Rattle.std.proofs.Common.{◌≡◌, ◌<◌, ◌≤◌, ◌≢◌, ℕ, ◌+◌, ◌-◌, inl, inr, Bool, true, List, [], ◌∷◌, ◌++◌, length, take, drop, Option, Result, Ok, Err, refl, sym, ap, subst, ◌∙◌, append_assoc, append-nil, arith}
-use Rattle.std.specs.Io.KnownBytes.{Appends, Consumes}
+use Rattle.std.specs.Prelude.{IfOk}
+use Rattle.std.specs.Io.KnownBytes.{Appends, Consumes, IsAtEnd}
+use Rattle.std.specs.declared.io.Error.{Error}
 use Rattle.std.proofs.KnownBytes.{Appends-trans, Appends-nil, Consumes-nil}
 use Rattle.std.proofs.Math.Seq.{take-append-add}
 use Rattle.std.proofs.lemmas.List.{length-take-le, length-append, take_all}
@@ -9,7 +11,7 @@ use Rattle.posting_rules.specs.Tables.{Shows}
 use Rattle.posting_rules.specs.Counter.{Seen, LeavesOnly, StandsAt, ShowsBeginning}
 use Rattle.posting_rules.specs.Runs.{behind}
 use Rattle.posting_core.specs.Clock.{AreReadings}
-use Rattle.posting_core.specs.Told.{ReadTold}
+use Rattle.posting_core.specs.Told.{ReadTold, Adds, read_told}
 use Rattle.posting_rules.proofs.Remaining.{leaves_weaker}
 use Rattle.counter_http.specs.declared.fault.ServeFault.{ServeFault}
 use Rattle.counter_http.specs.declared.fault.ServeFault.TheVariants.{Read, Write, Memory}
@@ -21,9 +23,12 @@ use Rattle.counter_http.specs.Answers.{Asked, refusal}
 use Rattle.counter_http.specs.Turns.{Turn, commands_for, readings_for, text_in, commands_of, moments_of, messages_of, texts_of, answers_to, AreAnswered, IsAnswered}
 use Rattle.posting_core.specs.Batches.{joined}
 use Rattle.posting_core.proofs.Batched.{joined-append}
+use Rattle.posting_core.proofs.Streaming.{at_ok}
+use Rattle.posting_core.proofs.Telling.{HasMade}
 use Rattle.posting_core.proofs.Stops.{stop_all, written_part}
 use Rattle.counter_http.specs.Serving.{BeginsWithNoMessage, IsWalked, At_last, Exits, IsWritten, Serves}
 use Rattle.counter_http.proofs.Walking.{walks_behind, walks_end, walks_always, walks_closed}
+use Rattle.counter_http.proofs.Sent.{ended_at}
 use Rattle.counter_http.proofs.Told.{front_of}
 use Rattle.counter_http.proofs.Turning.{answered_none, answered_more, answered_one}
 use Rattle.counter_http.proofs.Going.{Going, turn_of, read_one_more, texts_one_more, same_front, going_filled}
@@ -177,6 +182,20 @@ short_front {shown = shown} old new filled n going got none many fits fits' wait
       short_walk (take filled new) g (subst (λ (t : List ℕ). IsUnfinished t shown) (sym same) waits) ended
           some,
     )
+
+-- the input ended behind what stands at the front of the buffer
+pub short_read : {r r' r'' w w' k k' : Option (List ℕ)} {q q' q'' : Option (List ReadTold)} {c c' : Seen}
+    {count calls : ℕ} {shown : Bool} (old new : List ℕ) (filled n : ℕ) (told : Result ℕ Error)
+    → Going r r' w w' k k' c c' (take filled old) count → told ≡ Ok n → n ≡ 0
+    → IfOk told (λ m. (bytes : List ℕ) × (take (filled + m) new ≡ take filled old ++ bytes) × Consumes r' r'' bytes)
+    → IfOk told (λ m. m ≡ 0 → IsAtEnd r'')
+    → HasMade q q' calls → Adds q' q'' (read_told told ∷ [])
+    → 0 < filled → filled ≤ length old → length old ≡ length new → IsUnfinished (take filled old) shown
+    → (g : Going r r'' w w' k k' c c' (take filled new) count)
+    × IsWalked (HasEnded r'' q q'') g.turns [] (take filled new) (refusal shown ∷ [])
+short_read old new filled n told going is none ok end made tells some fits long waits =
+    short_front old new filled n going (at_ok _ told n is ok) none some fits (omega (arith, fits, long)) waits
+    (ended_at told n made tells is none end)
 
 -- it was written
 pub end_told : {C : Type 0} (seen : C → Seen) {r r' w w' w'' k k' : Option (List ℕ)}
