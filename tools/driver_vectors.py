@@ -15,7 +15,6 @@ import sys
 
 MASK32 = 2**32 - 1
 MASK64 = 2**64 - 1
-MASK128 = 2**128 - 1
 MULTIPLIER_64 = 6364136223846793005
 MULTIPLIER_128 = 0x2360ED051FC65DA44385DF649FCCF645
 
@@ -38,18 +37,28 @@ def seed_bytes(number, length):
     return out[:length]
 
 
-class Pcg32:
-    """The word is taken of the state before it goes on."""
+class Pcg:
+    """A state that goes on by a multiplier and an increment; both are seeded."""
 
     def __init__(self, number):
-        seed = seed_bytes(number, 16)
-        state = int.from_bytes(seed[:8], "little")
-        self.increment = int.from_bytes(seed[8:], "little") | 1
-        self.state = state + self.increment & MASK64
+        seed = seed_bytes(number, self.BITS // 4)
+        state = int.from_bytes(seed[: self.BITS // 8], "little")
+        self.increment = int.from_bytes(seed[self.BITS // 8 :], "little") | 1
+        self.state = state + self.increment & self.mask()
         self.step()
 
+    def mask(self):
+        return 2**self.BITS - 1
+
     def step(self):
-        self.state = (self.state * MULTIPLIER_64 + self.increment) & MASK64
+        self.state = (self.state * self.MULTIPLIER + self.increment) & self.mask()
+
+
+class Pcg32(Pcg):
+    """The word is taken of the state before it goes on."""
+
+    BITS = 64
+    MULTIPLIER = MULTIPLIER_64
 
     def next_u32(self):
         word = xsh_rr(self.state)
@@ -61,18 +70,11 @@ class Pcg32:
         return self.next_u32() << 32 | low
 
 
-class Pcg64:
+class Pcg64(Pcg):
     """The word is taken of the state after it goes on."""
 
-    def __init__(self, number):
-        seed = seed_bytes(number, 32)
-        state = int.from_bytes(seed[:16], "little")
-        self.increment = int.from_bytes(seed[16:], "little") | 1
-        self.state = state + self.increment & MASK128
-        self.step()
-
-    def step(self):
-        self.state = (self.state * MULTIPLIER_128 + self.increment) & MASK128
+    BITS = 128
+    MULTIPLIER = MULTIPLIER_128
 
     def next_u64(self):
         self.step()

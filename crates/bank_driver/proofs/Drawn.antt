@@ -18,14 +18,6 @@ pub drawn_more : (rows : Rows) (seed from n : ℕ)
 unfolding drawn
 drawn_more rows seed from n = ap (drawn rows seed from) (add-one n)
 
-pub length-drawn : (rows : Rows) (seed from n : ℕ) → length (drawn rows seed from n) ≡ n
-unfolding drawn
-length-drawn rows seed from zero = refl
-length-drawn rows seed from (suc n) =
-    let before = length-drawn rows seed from n in
-    let last = request_spelling (request_at rows seed (from + n)) ∷ [] in
-    omega (arith, length-append (drawn rows seed from n) last, before)
-
 suc_plus : (m n : ℕ) → m + suc n ≡ suc (m + n)
 suc_plus m n = omega arith
 

@@ -14,7 +14,7 @@ use Rattle.posting_rules.proofs.Resends.{shows_log_left_out}
 use Rattle.posting_rules.proofs.SoundEntries.{open_within}
 use Rattle.posting_core.specs.Batches.{Batch, posts_of, records_of}
 use Rattle.posting_core.proofs.Batched.{all_posts, posted_is}
-use Rattle.posting_core.proofs.Streaming.{refused_stop, stop_all}
+use Rattle.posting_core.proofs.Stops.{refused_stop, stop_all}
 use Rattle.branch_loader.specs.Plans.{Row, Rows}
 use Rattle.branch_loader.proofs.Openings.{Takes-append}
 use Rattle.load_driver.specs.Requests.{IsAscending}

@@ -1,9 +1,9 @@
 -- How a drive goes on by a batch, and how it ends.
-use Rattle.std.proofs.Common.{◌≡◌, ◌≤◌, ◌<◌, ◌+◌, ◌-◌, ℕ, List, [], ◌∷◌, ◌++◌, length, Option, Ok, Err, refl}
+use Rattle.std.proofs.Common.{◌≡◌, ◌≤◌, ◌<◌, ◌+◌, ◌-◌, ℕ, List, [], ◌∷◌, ◌++◌, length, take, Option, Ok, Err, refl}
 use Rattle.std.proofs.Common.{sym, ap, subst, ◌∙◌, arith, append-nil}
 use Rattle.std.specs.Prelude.{min}
 use Rattle.std.specs.List.{AllByRecursion}
-use Rattle.std.proofs.lemmas.List.{length-append}
+use Rattle.std.proofs.lemmas.List.{length-append, length-take-le}
 use Rattle.posting_rules.specs.declared.fault.Fault.{Fault}
 use Rattle.posting_rules.specs.Commands.{Command}
 use Rattle.posting_rules.specs.Counter.{Seen, ShowsLog, Takes, Refuses}
@@ -11,7 +11,8 @@ use Rattle.posting_rules.specs.Runs.{behind, posts}
 use Rattle.posting_core.specs.Batches.{Batch, moments_of, posts_of, records_of}
 use Rattle.posting_core.specs.Clock.{AreReadings, IsReading}
 use Rattle.posting_core.proofs.Batched.{posts_of_one_more, records_one_more}
-use Rattle.posting_core.proofs.Streaming.{clock_batch, refused_stop, stop_all, stop_part, takes_batch}
+use Rattle.posting_core.proofs.Stops.{refused_stop, stop_all, stop_part}
+use Rattle.posting_core.proofs.Streaming.{clock_batch, takes_batch}
 use Rattle.branch_loader.specs.Plans.{Rows}
 use Rattle.load_driver.specs.Counts.{Driving}
 use Rattle.bank_driver.specs.declared.driving.Driven.{Driven}
@@ -200,6 +201,27 @@ end_done seen old now k k' first driver count left driven g none =
     }
 
 -- the size of a batch, where some records are left
-pub size_of : (left size : ℕ) → 0 < left → size ≡ min left 64
-    → (1 ≤ size) × (size ≤ 64) × (size ≤ left) × (size < left → size ≡ 64)
-size_of left size some is = (omega arith, omega arith, omega arith, λ lt. omega arith)
+-- a batch that is drawn to the head of a buffer of 64 records
+pub record Part (driver : Driving) (left size : ℕ) (buffer records : List (List ℕ)) : Type 0 where
+  pub some : 1 ≤ size
+  pub few : size ≤ 64
+  pub within : size ≤ left
+  pub full : size < left → size ≡ 64
+  pub room : length (take size buffer) ≡ size
+  pub is : records ≡ drawn driver.rows driver.seed driver.given size
+  pub long : length records ≡ size
+
+pub part_of : (driver : Driving) (left size : ℕ) (buffer records : List (List ℕ)) → 0 < left → size ≡ min left 64
+    → length buffer ≡ 64 → records ≡ drawn driver.rows driver.seed driver.given (length (take size buffer))
+    → length records ≡ length (take size buffer) → Part driver left size buffer records
+part_of driver left size buffer records some is long drew same =
+    let room : length (take size buffer) ≡ size = length-take-le size buffer (omega arith) in
+    record {
+      some = omega arith;
+      few = omega arith;
+      within = omega arith;
+      full = λ lt. omega arith;
+      room = room;
+      is = drew ∙ ap (drawn driver.rows driver.seed driver.given) room;
+      long = same ∙ room;
+    }

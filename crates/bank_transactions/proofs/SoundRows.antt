@@ -128,9 +128,9 @@ request_is t teller number r sound e = sound.each_request r (found_within _ t.re
 
 can_be_kept : (r : RequestRow) → IsSoundRequest r → CanBeKept r.kept
 can_be_kept r is = record {
-  account = within_range 1 MAX_ACCOUNT r.kept.account is.account_above is.account;
-  branch = within_range 1 MAX_BRANCH r.kept.branch is.branch_above is.branch;
-  delta = cents_inside MAX_BALANCE r.kept.delta (let le = is.delta in omega arith);
+  account = within_range 1 MAX_ACCOUNT r.kept.account is.fields.account_above is.fields.account;
+  branch = within_range 1 MAX_BRANCH r.kept.branch is.fields.branch_above is.fields.branch;
+  delta = cents_inside MAX_BALANCE r.kept.delta (let le = is.fields.delta in omega arith);
   balance = cents_inside MAX_BALANCE r.kept.balance is.balance;
   outcome = is.kept;
 }
@@ -141,7 +141,7 @@ request_unbroken t teller number r broken sound e breaks =
     elim breaks [
       | inl value ↦ not_outside 1 MAX_DECIDED r.ordinal is.ordinal_above is.ordinal value.1
       | inr request ↦ elim request.1 [
-        | inl who ↦ not_outside 1 MAX_TELLER r.teller is.teller_above is.teller who
+        | inl who ↦ not_outside 1 MAX_TELLER r.teller is.fields.teller_above is.fields.teller who
         | inr rest ↦ elim rest [
           | inl which ↦ not_outside 1 MAX_NUMBER r.number is.number_above is.number which
           | inr kept ↦ kept (can_be_kept r is)

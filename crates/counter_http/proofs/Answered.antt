@@ -148,20 +148,11 @@ pub answer_by : (log : List Command) (a : Asked) (o : Option Route) → route_of
 unfolding answer_to
 answer_by log a o e = ap (λ (r : Option Route). answer_on log r a) e
 
-pub not_a_record : (a : Asked) → bytes_eq a.method (codes "POST") ≡ false
-    → (is_record a ≡ false) × ((log : List Command)
-    → answer_on log (Some Posting) a ≡ not_allowed (codes "POST"))
-not_a_record a n = (rw n refl, λ log. rw n refl)
-
 pub not_as_long : (a : Asked) → bytes_eq a.method (codes "POST") ≡ true → (length a.body ≡ 100 → ⊥)
     → (is_record a ≡ false) × ((log : List Command) → answer_on log (Some Posting) a ≡ bare 400)
 not_as_long a t n =
     let long : eqb (length a.body) 100 ≡ false =
     ne_eqb (length a.body) 100 n in (rw (t, long) refl, λ log. rw (t, long) refl)
-
-pub a_record : (a : Asked) → bytes_eq a.method (codes "POST") ≡ true → length a.body ≡ 100
-    → is_record a ≡ true
-a_record a t e = let long : eqb (length a.body) 100 ≡ true = eq-eqb (length a.body) 100 e in rw (t, long) refl
 
 pub too_few : (a : Asked) → is_posting a ≡ true → route_of (path_of a.target) ≡ Some Posting
     → length a.body ≡ 100
@@ -185,19 +176,6 @@ fixed seen w w' k c a x result is t err =
       told_answer seen w w' c c a (commands_for 0 a) x result none (λ d. d)
           (λ h log s. sym (is.1 log)) t err,
     )
-
--- something is read of the bank
-pub read_alone : {C : Type 0} (seen : C → Seen) (w w' k : Option (List ℕ)) (old new : C) (a : Asked)
-    (result : Result (Unit {0}) ServeFault) → is_posting a ≡ false
-    → IsDealtWith seen w w' old new a [] result
-    → (moment : ℕ) × AreReadings k k (readings_for moment a)
-    × IsDealtWith seen w w' old new a (commands_for moment a) result
-read_alone seen w w' k old new a result idle m = (
-  0,
-  idle_readings k a 0 idle,
-  subst (λ (cs : List Command). IsDealtWith seen w w' old new a cs result)
-      (sym (idle_commands a 0 idle)) m,
-)
 
 abbrev IsFixed : Asked → Response → Type 0
 IsFixed a response = (is_posting a ≡ false) × ((log : List Command) → answer_to log a ≡ said response)

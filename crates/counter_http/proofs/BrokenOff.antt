@@ -27,7 +27,7 @@ use Rattle.posting_core.specs.Batches.{joined}
 use Rattle.posting_core.proofs.Batched.{joined-append}
 use Rattle.counter_http.specs.Serving.{At_message, At_refusal, Exits, IsWritten, Serves}
 use Rattle.counter_http.proofs.Turning.{readings_append, takes_append, answers-append}
-use Rattle.counter_http.proofs.Connected.{stop_all, written_part}
+use Rattle.posting_core.proofs.Stops.{stop_all, written_part}
 use Rattle.counter_http.proofs.Going.{Going, turn_of, read_one_more}
 
 -- ---- ends at a message

@@ -1,6 +1,8 @@
 -- A connection that ends where the bank took all that it was given.
 use Rattle.std.proofs.Common.{◌≡◌, ◌<◌, ◌≤◌, ◌≢◌, ℕ, ◌+◌, ◌-◌, inl, inr, Bool, true, List, [], ◌∷◌, ◌++◌, length, take, drop, Option, Result, Ok, Err, refl, sym, ap, subst, ◌∙◌, append_assoc, append-nil, arith}
-use Rattle.std.specs.Io.KnownBytes.{Appends, Consumes}
+use Rattle.std.specs.Prelude.{IfOk}
+use Rattle.std.specs.Io.KnownBytes.{Appends, Consumes, IsAtEnd}
+use Rattle.std.specs.declared.io.Error.{Error}
 use Rattle.std.proofs.KnownBytes.{Appends-trans, Appends-nil, Consumes-nil}
 use Rattle.std.proofs.Math.Seq.{take-append-add}
 use Rattle.std.proofs.lemmas.List.{length-take-le, length-append, take_all}
@@ -9,7 +11,7 @@ use Rattle.posting_rules.specs.Tables.{Shows}
 use Rattle.posting_rules.specs.Counter.{Seen, LeavesOnly, StandsAt, ShowsBeginning}
 use Rattle.posting_rules.specs.Runs.{behind}
 use Rattle.posting_core.specs.Clock.{AreReadings}
-use Rattle.posting_core.specs.Told.{ReadTold}
+use Rattle.posting_core.specs.Told.{ReadTold, Adds, read_told}
 use Rattle.posting_rules.proofs.Remaining.{leaves_weaker}
 use Rattle.counter_http.specs.declared.fault.ServeFault.{ServeFault}
 use Rattle.counter_http.specs.declared.fault.ServeFault.TheVariants.{Read, Write, Memory}
@@ -21,27 +23,17 @@ use Rattle.counter_http.specs.Answers.{Asked, refusal}
 use Rattle.counter_http.specs.Turns.{Turn, commands_for, readings_for, text_in, commands_of, moments_of, messages_of, texts_of, answers_to, AreAnswered, IsAnswered}
 use Rattle.posting_core.specs.Batches.{joined}
 use Rattle.posting_core.proofs.Batched.{joined-append}
+use Rattle.posting_core.proofs.Streaming.{at_ok}
+use Rattle.posting_core.proofs.Telling.{HasMade}
+use Rattle.posting_core.proofs.Stops.{stop_all, written_part}
 use Rattle.counter_http.specs.Serving.{BeginsWithNoMessage, IsWalked, At_last, Exits, IsWritten, Serves}
 use Rattle.counter_http.proofs.Walking.{walks_behind, walks_end, walks_always, walks_closed}
+use Rattle.counter_http.proofs.Sent.{ended_at}
 use Rattle.counter_http.proofs.Told.{front_of}
 use Rattle.counter_http.proofs.Turning.{answered_none, answered_more, answered_one}
 use Rattle.counter_http.proofs.Going.{Going, turn_of, read_one_more, texts_one_more, same_front, going_filled}
 
 -- ---- ends where the bank took all that it was given
-
-pub stop_all : (c : Seen) (log cs ds : List Command) → cs ≡ ds → StandsAt c (behind log ds)
-    → LeavesOnly c (ShowsBeginning log cs (length ds))
-stop_all c log cs ds e s = leaves_weaker c (λ t. Shows t (behind log ds)) (ShowsBeginning log cs (length ds))
-    (λ t shown.
-    let all : take (length ds) cs ≡ ds = ap (take (length ds)) e ∙ take_all (length ds) ds (omega arith) in
-    record {
-      count = length ds;
-      holds = omega arith;
-      within = omega (arith, ap length e);
-      are = subst (λ (l : List Command). AreCommands (behind log l)) (sym all) s.shows.commands;
-      shows = subst (λ (l : List Command). Shows t (behind log l)) (sym all) shown;
-    })
-    s.stop
 
 -- the messages were answered, and then so much was written
 end_with : {C : Type 0} (seen : C → Seen) {r r' w w' w'' k k' : Option (List ℕ)}
@@ -191,6 +183,20 @@ short_front {shown = shown} old new filled n going got none many fits fits' wait
           some,
     )
 
+-- the input ended behind what stands at the front of the buffer
+pub short_read : {r r' r'' w w' k k' : Option (List ℕ)} {q q' q'' : Option (List ReadTold)} {c c' : Seen}
+    {count calls : ℕ} {shown : Bool} (old new : List ℕ) (filled n : ℕ) (told : Result ℕ Error)
+    → Going r r' w w' k k' c c' (take filled old) count → told ≡ Ok n → n ≡ 0
+    → IfOk told (λ m. (bytes : List ℕ) × (take (filled + m) new ≡ take filled old ++ bytes) × Consumes r' r'' bytes)
+    → IfOk told (λ m. m ≡ 0 → IsAtEnd r'')
+    → HasMade q q' calls → Adds q' q'' (read_told told ∷ [])
+    → 0 < filled → filled ≤ length old → length old ≡ length new → IsUnfinished (take filled old) shown
+    → (g : Going r r'' w w' k k' c c' (take filled new) count)
+    × IsWalked (HasEnded r'' q q'') g.turns [] (take filled new) (refusal shown ∷ [])
+short_read old new filled n told going is none ok end made tells some fits long waits =
+    short_front old new filled n going (at_ok _ told n is ok) none some fits (omega (arith, fits, long)) waits
+    (ended_at told n made tells is none end)
+
 -- it was written
 pub end_told : {C : Type 0} (seen : C → Seen) {r r' w w' w'' k k' : Option (List ℕ)}
     {q q' : Option (List ReadTold)} (old new : C) {count : ℕ}
@@ -205,14 +211,6 @@ end_told seen {w' = w'} {w'' = w''} old new shown count' rest g walked told one 
     told.1)
     (walked, omega (arith, one, g.count_is), refl)
     (λ text. ap (λ (x : List ℕ). text ++ x) (sym (append-nil (refusal shown))))
-
--- all of one text and a beginning of the next are a beginning of both
-pub written_part : (a b t u : List ℕ) → a ≡ t → b ≡ take (length b) u
-    → a ++ b ≡ take (length (a ++ b)) (t ++ u)
-written_part a b t u ea eb =
-    ap (λ (x : List ℕ). x ++ b) ea ∙ ap (λ (x : List ℕ). t ++ x) eb ∙ sym (take-append-add t u (length b))
-    ∙ ap (λ (j : ℕ). take j (t ++ u))
-    (ap (λ (x : List ℕ). length x + length b) (sym ea) ∙ sym (length-append a b))
 
 -- it was written in part
 pub end_untold : {C : Type 0} (seen : C → Seen) {r r' w w' w'' k k' : Option (List ℕ)}

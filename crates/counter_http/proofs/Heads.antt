@@ -80,10 +80,6 @@ too_many buf over some more = (
   λ h behind is e. absurd (omega (arith, is.fields, over more h behind (is.head, e))),
 )
 
--- the input ends where no head stands
-pub no_head_yet : (buf : List ℕ) → HasNoRequest buf → buf ≢ [] → Ends No_head buf
-no_head_yet buf none some = (some, λ h behind is e. none h behind (is.head, e))
-
 -- ---- a head, and what stands behind it
 
 -- what the fields say is read off their spans

@@ -27,13 +27,6 @@ pub record Asking {C : Type 0} (seen : C → Seen) (old now : C) : Type 0 where
   pub up : (seen now).is_down → (seen old).is_down
   pub takes : Takes (seen old) (seen now) []
 
-pub asking_first : {C : Type 0} (seen : C → Seen) (c : C) → Asking seen c c
-asking_first seen c = record {
-  honest = λ h. h;
-  up = λ d. d;
-  takes = record { shows = λ h log s. s; stands = λ h log s. s };
-}
-
 -- one call more
 pub asking_more : {C : Type 0} (seen : C → Seen) (old now new : C) → Asking seen old now
     → Takes (seen now) (seen new) []

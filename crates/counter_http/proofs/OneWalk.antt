@@ -39,17 +39,6 @@ same_message m n a b im jn e =
     let rest = front_same m.body n.body a b len same.1 in
     (made m.head n.head m.body n.body same.0 rest.0, rest.1)
 
-some_text : (m : Message) (a : List ℕ) → IsMessage m → message_text m ++ a ≢ []
-some_text m a im e =
-    let len = ap length e in
-    absurd (omega (
-      arith,
-      len,
-      length-append (message_text m) a,
-      length-append (print_request m.head) m.body,
-      head_some m.head im.head.head,
-    ))
-
 ends_unique : (e f : Ending) (rest : List ℕ) → Ends e rest → Ends f rest → e ≡ f
 ends_unique Finished Finished rest x y = refl
 ends_unique Finished Closed rest x y = absurd y

@@ -12,6 +12,7 @@ use Rattle.posting_rules.proofs.Remaining.{leaves_weaker}
 use Rattle.posting_core.specs.Batches.{joined}
 use Rattle.posting_core.specs.Stream.{acknowledged}
 use Rattle.posting_core.specs.Told.{ReadTold}
+use Rattle.posting_core.proofs.Stops.{at_least}
 use Rattle.counter_http.specs.declared.fault.ServeFault.{ServeFault}
 use Rattle.counter_http.specs.declared.fault.ServeFault.TheVariants.{Read, Write, Bank, Memory}
 use Rattle.counter_http.specs.Ends.{HasEnded}
@@ -221,11 +222,6 @@ commands_of_first n ts =
     let all = ap commands_of (take-append-drop n ts) in
     let len = ap length (sym split ∙ all) in
     omega (arith, len, length-append (commands_of (take n ts)) (commands_of (drop n ts)))
-
-at_least : (log cs : List Command) (n k : ℕ) (t : Tables) → k ≤ n → ShowsBeginning log cs n t
-    → ShowsBeginning log cs k t
-at_least log cs n k t le b = record
-    { count = b.count; holds = omega (arith, b.holds); within = b.within; are = b.are; shows = b.shows }
 
 pub survives_of : {C : Type 0} (seen : C → Seen) {r r' : Option (List ℕ)} {q q' : Option (List ReadTold)}
     {w w' k k' : Option (List ℕ)} (old new : C) (result : Result ℕ ServeFault)

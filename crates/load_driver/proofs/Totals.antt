@@ -146,13 +146,6 @@ elsewhere branch (p ∷ rows) place all within =
         let left : place - p.1 < count_of (others branch rows) = omega (arith, count-cons p (others branch rows)) in
         rw (at-behind branch p rows place other large) (elsewhere-more p rows branch _ (more (place - p.1) left))
 
--- an account of the teller's branch
-pub home-for : (rows : Rows) (home : Row) (test : Bool) (k : ℕ) → IsPlan rows → Contains rows home → test ≡ true → k < home.1
-    → IsAccountFor rows home test (first_account home.0 + k)
-home-for rows home test k plan there is small =
-    let within = within-row home k (All-contains IsRow rows home plan.in_range there) small in
-    record { row = home; planned = there; within = within; at_home = (λ t. within.branch, λ e. is) }
-
 -- an account of another branch
 pub remote-for : (rows : Rows) (home : Row) (test : Bool) (place : ℕ) → IsPlan rows → test ≡ false → place < count_of (others home.0 rows)
     → IsAccountFor rows home test (get_or (remote_accounts home.0 rows) place 0)

@@ -1,41 +1,10 @@
 -- A slot is placed where its rank is.
-use Rattle.std.proofs.Common.{◌≡◌, ℕ, zero, suc, ◌+◌, ◌<◌, ◌≤◌, Bool, true, false, List, [], ◌∷◌, length, drop, get_or, refl, sym, ap, ◌∙◌, arith, inl, inr}
+use Rattle.std.proofs.Common.{◌≡◌, ℕ, zero, suc, ◌<◌, ◌≤◌, Bool, true, false, List, [], ◌∷◌, length, get_or, refl, sym, ap, ◌∙◌, arith, inl, inr}
 use Rattle.std.specs.List.{insert}
 use Rattle.posting_rules.proofs.Keyed.{by_test}
 use Rattle.posting_batch.specs.Placed.{placed, rank}
 
 module _ {S : Type 0} (below same : S → S → Bool) (e : S) where
-  -- the rank is the place of the first slot that is not below
-  pub rank_here : (xs : List S) (i : ℕ) (x : S) → i < length xs → x ≡ get_or xs i x → below x e ≡ false → rank below e xs ≡ i + rank below e (drop i xs)
-      → rank below e xs ≡ i
-  rank_here [] i x lt is stops so_far = absurd (omega arith)
-  rank_here (y ∷ ys) zero x lt is stops so_far =
-      let here : x ≡ y = is in
-      let f : below y e ≡ false = ap (λ (s : S). below s e) (sym here) ∙ stops in
-      rw f refl
-  rank_here (y ∷ ys) (suc i) x lt is stops so_far =
-      elim (by_test (below y e)) [
-        | inl t ↦ rw t (ap suc (rank_here ys i x (omega arith) is stops (let h = rw t at so_far in omega arith)))
-        | inr f ↦ absurd (let h = rw f at so_far in omega arith)
-      ]
-
-  -- it is beyond each one that is
-  pub rank_more : (xs : List S) (i : ℕ) (x : S) → i < length xs → x ≡ get_or xs i x → below x e ≡ true → rank below e xs ≡ i + rank below e (drop i xs)
-      → rank below e xs ≡ suc i + rank below e (drop (suc i) xs)
-  rank_more [] i x lt is goes so_far = absurd (omega arith)
-  rank_more (y ∷ ys) zero x lt is goes so_far =
-      let here : x ≡ y = is in
-      let t : below y e ≡ true = ap (λ (s : S). below s e) (sym here) ∙ goes in
-      rw t (omega arith)
-  rank_more (y ∷ ys) (suc i) x lt is goes so_far =
-      elim (by_test (below y e)) [
-        | inl t ↦
-            let h : rank below e ys ≡ suc i + rank below e (drop (suc i) ys) =
-            rank_more ys i x (omega arith) is goes (let g = rw t at so_far in omega arith) in
-            rw t (omega arith)
-        | inr f ↦ absurd (let h = rw f at so_far in omega arith)
-      ]
-
   -- the slot at the rank has the key: all stay
   pub placed_hit : (xs : List S) (b : ℕ) (x : S) → b ≡ rank below e xs → b < length xs → x ≡ get_or xs b x → same x e ≡ true → xs ≡ placed below same e xs
   placed_hit [] b x at lt is hit = absurd (omega arith)

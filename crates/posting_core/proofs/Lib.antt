@@ -5,6 +5,7 @@ pub mod InMemory
 pub mod Transferred
 pub mod Timeless
 pub mod Batched
+pub mod Stops
 pub mod Streaming
 pub mod Through
 pub mod Refused

@@ -16,6 +16,7 @@ use Rattle.posting_core.specs.Batches.{Batch, IsRecord, joined, records_of, post
 use Rattle.posting_core.specs.Stream.{replies_text, acknowledged, IfTaken, Streamed, Outputs, Survives, Resends}
 use Rattle.posting_rules.proofs.Sequence.{replies_to-append, one_reply_each}
 use Rattle.posting_rules.proofs.Resends.{shows_log_left_out}
+use Rattle.posting_core.proofs.Stops.{at_least}
 use Rattle.posting_core.proofs.Timeless.{timeless}
 use Rattle.posting_core.proofs.Batched.{joined-append, all_posts, posted_is, whole_records_are}
 use Rattle.posting_rules.proofs.Remaining.{leaves_weaker}
@@ -125,9 +126,6 @@ acknowledged_taken log bs refused n le =
     let each : length first ≡ length (posts_of bs) = one_reply_each log (posts_of bs) (all_posts bs) in
     subst (λ (rs : List (List ℕ)). acknowledged rs n ≤ length (posts_of bs)) (sym (replies_split log bs refused))
     (subst (λ (k : ℕ). acknowledged (first ++ rest) n ≤ k) each (few_acknowledged first rest n le))
-
-at_least : (log cs : List Command) (n k : ℕ) (t : Tables) → k ≤ n → ShowsBeginning log cs n t → ShowsBeginning log cs k t
-at_least log cs n k t le b = record { count = b.count; holds = omega (arith, b.holds); within = b.within; are = b.are; shows = b.shows }
 
 pub survives_of : {r r' w w' k k' : Option (List ℕ)} {c c' : Seen} (result : Result ℕ StreamFault) → Streamed r r' w w' k k' c c' result
     → Survives r r' w w' c c'

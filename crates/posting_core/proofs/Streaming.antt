@@ -1,5 +1,5 @@
 -- A stream of records, step by step: a read, a batch, and each way to end.
-use Rattle.std.proofs.Common.{◌≡◌, ℕ, ◌+◌, ◌<◌, ◌≤◌, List, [], ◌∷◌, ◌++◌, length, take, Option, Result, Ok, Err, refl, sym, ap, subst, ◌∙◌, append_assoc, append-nil, arith}
+use Rattle.std.proofs.Common.{◌≡◌, ◌⊎◌, inl, inr, ℕ, ◌+◌, ◌<◌, ◌≤◌, List, [], ◌∷◌, ◌++◌, length, take, Option, Result, Ok, Err, refl, sym, ap, subst, ◌∙◌, append_assoc, append-nil, arith}
 use Rattle.std.specs.Prelude.{IfOk}
 use Rattle.std.specs.List.{AllByRecursion}
 use Rattle.std.specs.Io.KnownBytes.{Keeps, Appends, Consumes, IsAtEnd}
@@ -20,6 +20,7 @@ use Rattle.posting_core.specs.Batches.{Batch, IsRecord, joined, moment_of, momen
 use Rattle.posting_core.specs.Stream.{Ends, IsWritten, IfUp, UnlessDown, Streamed}
 use Rattle.posting_rules.proofs.Remaining.{leaves_still, leaves_weaker}
 use Rattle.posting_rules.proofs.Sequence.{behind-append}
+use Rattle.posting_core.proofs.Stops.{refused_stop, stop_all, stop_part, written_part}
 use Rattle.posting_core.proofs.Batched.{joined_one_more, records_one_more, posts_of_one_more, replies_of_one_more}
 
 -- ---- where the loop stands
@@ -88,6 +89,18 @@ pub going_unread : {r r' r'' w w' k k' : Option (List ℕ)} {c c' : Seen} {count
 going_unread {r' = r'} {r'' = r''} old new filled filled' g kept e =
     going_read (take filled old) [] (take filled' new) g (Consumes-kept r' r' r'' [] (Consumes-nil r') kept.0)
     (ap (λ (j : ℕ). take j new) e ∙ kept.1 ∙ sym (append-nil (take filled old)))
+
+-- a read that came back: it read some, or it failed and read nothing
+pub going_on : {r r' r'' w w' k k' : Option (List ℕ)} {c c' : Seen} {count : ℕ} (old new : List ℕ) (filled filled' : ℕ)
+    → Going r r' w w' k k' c c' (take filled old) count → filled < 100 → length new ≡ BUFFER
+    → ((n : ℕ) × ((bytes : List ℕ) × (take (filled + n) new ≡ take filled old ++ bytes) × Consumes r' r'' bytes)
+    × (filled + n ≤ length new) × (filled' ≡ filled + n))
+    ⊎ ((Keeps r' r'' × (take filled new ≡ take filled old)) × (filled' ≡ filled))
+    → Going r r'' w w' k k' c c' (take filled' new) count × (filled' ≤ length new)
+going_on old new filled filled' g few long (inl (n, got, fits, is)) =
+    (going_filled old new filled filled' n g got is, omega (arith, fits, is))
+going_on old new filled filled' g few long (inr (kept, is)) =
+    (going_unread old new filled filled' g kept is, omega (arith, few, long, is))
 
 -- less than a record is left over
 pub few_left : (filled : ℕ) (buffer : List ℕ) → filled < 100 → length buffer ≡ BUFFER → length (take filled buffer) < 100
@@ -159,20 +172,6 @@ going_batch {r = r} {r' = r'} {w = w} {w' = w'} {w'' = w''} {k = k} {k' = k'} {k
 
 -- ---- ends where all that was read was taken
 
--- a stop leaves all that was taken
-pub stop_all : (c : Seen) (log cs ds : List Command) → cs ≡ ds → StandsAt c (behind log ds) → LeavesOnly c (ShowsBeginning log cs (length ds))
-stop_all c log cs ds e s = leaves_weaker c (λ t. Shows t (behind log ds)) (ShowsBeginning log cs (length ds))
-    (λ t shown.
-    let all : take (length ds) cs ≡ ds = ap (take (length ds)) e ∙ take_all (length ds) ds (omega arith) in
-    record {
-      count = length ds;
-      holds = omega arith;
-      within = omega (arith, ap length e);
-      are = subst (λ (l : List Command). AreCommands (behind log l)) (sym all) s.shows.commands;
-      shows = subst (λ (l : List Command). Shows t (behind log l)) (sym all) shown;
-    })
-    s.stop
-
 -- whatever the result says of what was written, it says it here
 pub record FitsAll (result : Result ℕ StreamFault) : Type 1 where
   pub written : (t s : List ℕ) → t ≡ s → IsWritten result t s
@@ -222,32 +221,6 @@ end_unread rest g few = end_of (Err Read) g (record { written = λ t s e. e; up 
 
 -- ---- ends at a batch
 
--- what a stop leaves where the last commands were refused
-pub stop_part : (c : Seen) (log cs ds es : List Command) → es ≡ cs ++ ds → LeavesOnly c (ShowsBeginning (behind log cs) ds 0)
-    → LeavesOnly c (ShowsBeginning log es (length cs))
-stop_part c log cs ds es e stop = leaves_weaker c (ShowsBeginning (behind log cs) ds 0) (ShowsBeginning log es (length cs))
-    (λ t b.
-    let begins : take (length cs + b.count) es ≡ cs ++ take b.count ds = ap (take (length cs + b.count)) e ∙ take-append-add cs ds b.count in
-    let same : behind log (take (length cs + b.count) es) ≡ behind (behind log cs) (take b.count ds) =
-    ap (behind log) begins ∙ behind-append log cs (take b.count ds) in
-    record {
-      count = length cs + b.count;
-      holds = omega arith;
-      within = omega (arith, b.within, length-append cs ds, ap length e);
-      are = subst AreCommands (sym same) b.are;
-      shows = subst (λ (l : List Command). Shows t l) (sym same) b.shows;
-    })
-    stop
-
--- refused commands leave a beginning of them
-pub refused_stop : (fault : Fault) (c c' : Seen) (log cs : List Command) → Refuses fault c c' cs → c'.honest → StandsAt c log → LeavesOnly c' (ShowsBeginning log cs 0)
-refused_stop Memory c c' log cs u h s = leaves_weaker c' (λ t. Shows t log) (ShowsBeginning log cs 0)
-    (λ t shown. record { count = 0; holds = omega arith; within = omega arith; are = s.shows.commands; shows = shown })
-    (leaves_still c c' (λ t. Shows t log) u.left s.stop)
-refused_stop Store c c' log cs u h s = u.stop h log s
-refused_stop Down c c' log cs u h s = absurd (s.up u.before)
-refused_stop (Damaged rule) c c' log cs u h s = absurd (u.never_shown h log s.shows)
-
 -- an unchanged bank shows what it showed
 unchanged_shows : (c c' : Seen) (log : List Command) → IsUnchanged c c' → ShowsLog c log → ShowsLog c' log
 unchanged_shows c c' log u s = record { commands = s.commands; tables = s.tables; are = u.tables s.tables s.are; shows = s.shows }
@@ -267,12 +240,6 @@ refused_stands Memory c c' log cs u s = record {
 refused_stands Store c c' log cs u s = tt
 refused_stands Down c c' log cs u s = tt
 refused_stands (Damaged rule) c c' log cs u s = tt
-
--- all of one text and a beginning of the next are a beginning of both
-written_part : (a b t u : List ℕ) → a ≡ t → b ≡ take (length b) u → a ++ b ≡ take (length (a ++ b)) (t ++ u)
-written_part a b t u ea eb =
-    ap (λ (x : List ℕ). x ++ b) ea ∙ ap (λ (x : List ℕ). t ++ x) eb ∙ sym (take-append-add t u (length b))
-    ∙ ap (λ (j : ℕ). take j (t ++ u)) (ap (λ (x : List ℕ). length x + length b) (sym ea) ∙ sym (length-append a b))
 
 -- a batch broke off
 pub end_broken : (fault : StreamFault) {r r' w w' w'' k k' k'' : Option (List ℕ)} {c c' c'' : Seen} {count : ℕ} (m : ℕ) (all rest : List ℕ) (rs : List (List ℕ))

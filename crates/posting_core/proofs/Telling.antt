@@ -47,9 +47,6 @@ made_last P {a = a} {b = b} {c = c} x h y p = record { earlier = h.calls; last =
 pub made_many : {A : Type 0} {a b : Option (List A)} {count : ℕ} → HasMade a b count → 2 ^ 64 - 1 ≤ count → IsWornOut a b
 made_many h le = record { calls = h.calls; made = h.made; many = omega (arith, h.count_is) }
 
-pub made_some : {A : Type 0} {a b : Option (List A)} {count : ℕ} → HasMade a b count → HasMore a b
-made_some h = record { calls = h.calls; made = h.made }
-
 -- ---- behind calls that were made before
 
 pub more_none : {A : Type 0} (a : Option (List A)) → HasMore a a

@@ -1,10 +1,9 @@
 -- The row with the least number above one is that of the next open branch.
-use Rattle.std.proofs.Common.{◌≡◌, ℕ, suc, ◌<◌, ◌≤◌, List, [], ◌∷◌, ◌++◌, refl, sym, ap, ◌∙◌, arith, inl, inr}
-use Rattle.std.specs.Prelude.{Bool, All, Option, Some, None, nat_eq, option_map}
+use Rattle.std.proofs.Common.{◌≡◌, ℕ, suc, ◌<◌, ◌≤◌, List, [], ◌∷◌, refl, sym, ap, ◌∙◌, arith, inl, inr}
+use Rattle.std.specs.Prelude.{Bool, Option, Some, None, nat_eq, option_map}
 use Rattle.std.specs.List.{Contains, find}
 use Rattle.std.proofs.lemmas.Bool.{eqb-true}
-use Rattle.std.proofs.lemmas.List.Elements.{All-append, All-contains, All-from_recursion}
-use Rattle.std.proofs.lemmas.List.Elements.{Contains-append_left, Contains-append_right}
+use Rattle.std.proofs.lemmas.List.Elements.{All-contains}
 use Rattle.posting_rules.specs.declared.rows.BranchRow.{BranchRow}
 use Rattle.posting_rules.specs.Branches.{IsNextIn, IsNextBranch, line_of}
 use Rattle.posting_rules.specs.Commands.{Command, opened}
@@ -14,56 +13,6 @@ use Rattle.posting_rules.specs.Tables.{Tables, Shows, row_at, branch_key, branch
 use Rattle.posting_rules.proofs.Keyed.{by_test, found_passes}
 use Rattle.posting_rules.proofs.Looked.{count_shown}
 use Rattle.posting_rules.proofs.Undamaged.{row_at-contained}
-
--- ---- one row more is looked at
-
--- what holds of all rows, and of one more
-pub all_more : (P : BranchRow → Type 0) (rows : List BranchRow) (row : BranchRow) → All P rows → P row
-    → All P (rows ++ row ∷ [])
-all_more P rows row all one = All-append P rows (row ∷ []) all (All-from_recursion P (row ∷ []) (one, tt))
-
--- it isn't above the number
-pub next_still : (rows : List BranchRow) (after : ℕ) (next : Option BranchRow) (row : BranchRow)
-    → IsNextIn rows after next → row.branch ≤ after → IsNextIn (rows ++ row ∷ []) after next
-next_still rows after None row is low = all_more (λ r. r.branch ≤ after) rows row is low
-next_still rows after (Some found) row is low = record {
-  stands = Contains-append_left rows (row ∷ []) found is.stands;
-  above = is.above;
-  least = all_more (λ r. after < r.branch → found.branch ≤ r.branch) rows row is.least (λ high. omega arith);
-}
-
--- it is no nearer than what was found
-pub next_stays : (rows : List BranchRow) (after : ℕ) (found row : BranchRow)
-    → IsNextIn rows after (Some found)
-    → found.branch ≤ row.branch → IsNextIn (rows ++ row ∷ []) after (Some found)
-next_stays rows after found row is le = record {
-  stands = Contains-append_left rows (row ∷ []) found is.stands;
-  above = is.above;
-  least = all_more (λ r. after < r.branch → found.branch ≤ r.branch) rows row is.least (λ high. le);
-}
-
--- it is the first above the number
-pub next_first : (rows : List BranchRow) (after : ℕ) (row : BranchRow) → IsNextIn rows after None
-    → after < row.branch → IsNextIn (rows ++ row ∷ []) after (Some row)
-next_first rows after row is above = record {
-  stands = Contains-append_right rows (row ∷ []) row (0, omega arith, refl);
-  above = above;
-  least =
-      all_more (λ r. after < r.branch → row.branch ≤ r.branch) rows row
-      (λ k d within high. let low = is k d within in absurd (omega arith)) (λ high. omega arith);
-}
-
--- it is nearer than what was found
-pub next_nearer : (rows : List BranchRow) (after : ℕ) (found row : BranchRow)
-    → IsNextIn rows after (Some found)
-    → after < row.branch → row.branch < found.branch → IsNextIn (rows ++ row ∷ []) after (Some row)
-next_nearer rows after found row is above lt = record {
-  stands = Contains-append_right rows (row ∷ []) row (0, omega arith, refl);
-  above = above;
-  least =
-      all_more (λ r. after < r.branch → row.branch ≤ r.branch) rows row
-      (λ k d within high. let le = is.least k d within high in omega arith) (λ high. omega arith);
-}
 
 -- ---- the rows of a log
 

@@ -1,6 +1,5 @@
 -- Records one after another: the tables that they lead to are those of the log with them behind it.
-use Rattle.std.proofs.Common.{◌≡◌, ℕ, suc, ◌+◌, ◌<◌, ◌≤◌, List, [], ◌∷◌, ◌++◌, length, take, get_or, Ok, Err, Result, refl, sym, ap, append_assoc, ◌∙◌, arith}
-use Rattle.std.proofs.lemmas.List.{take_more}
+use Rattle.std.proofs.Common.{◌≡◌, ℕ, suc, ◌<◌, ◌≤◌, List, [], ◌∷◌, length, get_or, Ok, Err, Result, refl, sym, ap, ◌∙◌, arith}
 use Rattle.message_records.specs.declared.faults.Bad.{Bad}
 use Rattle.message_records.specs.Records.{RequestFields}
 use Rattle.message_records.specs.Reading.{request_of}
@@ -8,7 +7,6 @@ use Rattle.message_records.specs.Spelling.{reply_spelling}
 use Rattle.posting_rules.specs.Commands.{Command, Post, AreCommands, opened}
 use Rattle.posting_rules.specs.Entries.{reply, reply_to, decided}
 use Rattle.posting_rules.specs.Runs.{behind, posts, replies_to}
-use Rattle.posting_rules.specs.Sound.{AreOfALog}
 use Rattle.posting_rules.specs.Tables.{Tables}
 use Rattle.posting_rules.specs.Tables.{Shows as Show}
 use Rattle.posting_rules.proofs.Stepped.{malformed_shown}
@@ -50,33 +48,6 @@ all_replies t log m (bytes ∷ records) shows =
     (all_replies (tables_past t m bytes) (Post m bytes ∷ log) m records (past_shown t log m bytes shows))
 
 -- ---- one record more
-
--- the tables are still those of a log
-pub stays_of_a_log : (t : Tables) (m : ℕ) (bytes : List ℕ) → m ≤ 253_402_300_799 → length bytes ≡ 100 → AreOfALog t → AreOfALog (tables_past t m bytes)
-stays_of_a_log t m bytes late whole (log, are, shows) = (Post m bytes ∷ log, ((late, whole), are), past_shown t log m bytes shows)
-
-past_all-append : (t : Tables) (m : ℕ) (xs ys : List (List ℕ)) → tables_past_all t m (xs ++ ys) ≡ tables_past_all (tables_past_all t m xs) m ys
-past_all-append t m [] ys = refl
-past_all-append t m (x ∷ xs) ys = past_all-append (tables_past t m x) m xs ys
-
-pub past_one_more : (t : Tables) (m : ℕ) (rs : List (List ℕ)) (i : ℕ) → i < length rs
-    → tables_past_all t m (take (i + 1) rs) ≡ tables_past (tables_past_all t m (take i rs)) m (get_or rs i [])
-past_one_more t m rs i lt = ap (tables_past_all t m) (take_more rs i [] lt) ∙ past_all-append t m (take i rs) (get_or rs i [] ∷ [])
-
-replies_past-append : (t : Tables) (m : ℕ) (xs ys : List (List ℕ))
-    → replies_past_all t m (xs ++ ys) ≡ replies_past_all t m xs ++ replies_past_all (tables_past_all t m xs) m ys
-replies_past-append t m [] ys = refl
-replies_past-append t m (x ∷ xs) ys = ap (λ (rest : List (List ℕ)). reply_past t x ∷ rest) (replies_past-append (tables_past t m x) m xs ys)
-
--- the replies behind others, with the reply to it
-pub replies_past_one_more : (t : Tables) (m : ℕ) (rs : List (List ℕ)) (i : ℕ) (others old new : List (List ℕ)) (out : List ℕ) → i < length rs
-    → old ≡ others ++ replies_past_all t m (take i rs) → out ≡ reply_past (tables_past_all t m (take i rs)) (get_or rs i []) → new ≡ old ++ out ∷ []
-    → new ≡ others ++ replies_past_all t m (take (i + 1) rs)
-replies_past_one_more t m rs i others old new out lt so_far is put =
-    put ∙ ap (λ (xs : List (List ℕ)). xs ++ out ∷ []) so_far ∙ ap (λ (x : List ℕ). (others ++ replies_past_all t m (take i rs)) ++ x ∷ []) is
-    ∙ append_assoc others (replies_past_all t m (take i rs)) (reply_past (tables_past_all t m (take i rs)) (get_or rs i []) ∷ [])
-    ∙ ap (λ (xs : List (List ℕ)). others ++ xs)
-    (sym (ap (replies_past_all t m) (take_more rs i [] lt) ∙ replies_past-append t m (take i rs) (get_or rs i [] ∷ [])))
 
 -- records of 100 bytes at a moment are commands of the bank
 pub are_posts : (m : ℕ) (rs : List (List ℕ)) → m ≤ 253_402_300_799 → ((i : ℕ) → i < length rs → length (get_or rs i []) ≡ 100) → AreCommands (posts m rs)

@@ -55,10 +55,6 @@ both_true false b e = absurd cc
 pair_same : (a b : ℕ) → ((eqb a a) && (eqb b b)) ≡ true
 pair_same a b = let p : eqb a a ≡ true = eq-eqb a a refl in let q : eqb b b ≡ true = eq-eqb b b refl in rw (p, q) refl
 
-map_none : {A B : Type 0} (f : A → B) (o : Option A) → option_map f o ≡ None → o ≡ None
-map_none f None e = refl
-map_none f (Some x) e = absurd cc
-
 -- ---- the law
 
 -- a request that none of the entries is kept under shares with none of them

@@ -7,6 +7,7 @@ use Rattle.std.proofs.lemmas.Bool.{eqb-true, leb-true}
 use Rattle.std.proofs.lemmas.List.Elements.{All-contains, All-from_recursion}
 use Rattle.posting_rules.specs.declared.limits.TheConstants.{MAX_DECIDED, LAST_BRANCH, ACCOUNTS_PER_BRANCH, TELLERS_PER_BRANCH}
 use Rattle.message_records.specs.declared.limits.TheConstants.{MAX_BALANCE}
+use Rattle.message_records.specs.Records.{RequestFields, IsRequest}
 use Rattle.posting_rules.specs.declared.rows.BranchRow.{BranchRow}
 use Rattle.posting_rules.specs.declared.rows.TellerRow.{TellerRow}
 use Rattle.posting_rules.specs.declared.rows.AccountRow.{AccountRow}
@@ -15,7 +16,7 @@ use Rattle.posting_rules.specs.declared.rows.RequestRow.{RequestRow}
 use Rattle.posting_rules.specs.Commands.{Command, Open, IsCommand, AreCommands, opened, branch_of_teller, branch_of_account, place_of_account, is_within, is_teller_open, is_account_open}
 use Rattle.posting_rules.specs.Entries.{Entry, is_posted, account_balance, teller_balance, branch_balance, decided}
 use Rattle.posting_rules.specs.Tables.{Tables, Shows, HasKeys, row_at, branch_key, teller_key, account_key, history_key, request_key, branch_row_of, teller_row_of, account_row_of, history_row, history_row_of, request_row, request_row_of}
-use Rattle.posting_rules.specs.Damage.{IsSoundBranch, IsSoundTeller, IsSoundAccount, IsSoundRequest, IsSoundPosting, IsUndamaged}
+use Rattle.posting_rules.specs.Damage.{IsSoundBranch, IsSoundTeller, IsSoundAccount, IsSoundRequest, IsSoundPosting, AreInRange, IsUndamaged}
 use Rattle.posting_rules.proofs.Keyed.{by_test}
 use Rattle.posting_rules.proofs.Verdicts.{when}
 use Rattle.posting_rules.proofs.Opened.{both, some_within}
@@ -77,41 +78,33 @@ account_sound opened n z r open_ limit e =
 
 -- ---- requests and history
 
+-- a request's account, teller, branch and amount are in their ranges
+in_range : (r : RequestFields) → IsRequest r → AreInRange r.account r.teller r.branch r.delta
+in_range r is = record {
+  account_above = is.account_above;
+  account = is.account;
+  teller_above = is.teller_above;
+  teller = is.teller;
+  branch_above = is.branch_above;
+  branch = is.branch;
+  delta = is.delta;
+}
+
 -- the rows of a decided request, under an ordinal that a bank may decide
 request_row_sound : (o : ℕ) (e : Entry) → IsSoundEntry e → 1 ≤ o → o ≤ MAX_DECIDED → IsSoundRequest (request_row_of o e)
-request_row_sound o e h least most =
-    let r = h.request in
-    record {
-      ordinal_above = least;
-      ordinal = most;
-      teller_above = r.teller_above;
-      teller = r.teller;
-      number_above = r.number_above;
-      number = r.number;
-      account_above = r.account_above;
-      account = r.account;
-      branch_above = r.branch_above;
-      branch = r.branch;
-      delta = r.delta;
-      kept = h.kept;
-      balance = h.balance;
-    }
+request_row_sound o e h least most = record {
+  ordinal_above = least;
+  ordinal = most;
+  fields = in_range e.request h.request;
+  number_above = h.request.number_above;
+  number = h.request.number;
+  kept = h.kept;
+  balance = h.balance;
+}
 
 posting_row_sound : (o : ℕ) (e : Entry) → IsSoundEntry e → 1 ≤ o → o ≤ MAX_DECIDED → IsSoundPosting (history_row_of o e)
 posting_row_sound o e h least most =
-    let r = h.request in
-    record {
-      ordinal_above = least;
-      ordinal = most;
-      account_above = r.account_above;
-      account = r.account;
-      teller_above = r.teller_above;
-      teller = r.teller;
-      branch_above = r.branch_above;
-      branch = r.branch;
-      delta = r.delta;
-      moment = h.moment;
-    }
+    record { ordinal_above = least; ordinal = most; fields = in_range e.request h.request; moment = h.moment }
 
 -- the ordinal of a decided request, by how many were decided before it
 ordinal_within : (n o : ℕ) → eqb (n + 1) o ≡ true → n < MAX_DECIDED → (1 ≤ o) × (o ≤ MAX_DECIDED)

@@ -1,5 +1,5 @@
 -- What holds of all tables that a log leads to. Tables of which it doesn't hold are damaged.
-use Rattle.std.specs.Prelude.{◌≡◌, ◌≤◌, ℕ, ◌+◌, ◌*◌, nat_abs, List, None, is_some, IsTrue}
+use Rattle.std.specs.Prelude.{ℤ, ◌≡◌, ◌≤◌, ℕ, ◌+◌, ◌*◌, nat_abs, List, None, is_some, IsTrue}
 use Rattle.std.specs.List.{Contains}
 use Rattle.posting_rules.specs.declared.limits.TheConstants.{MAX_DECIDED, LAST_BRANCH, MOST_ACCOUNTS, ACCOUNTS_PER_BRANCH, TELLERS_PER_BRANCH}
 use Rattle.message_records.specs.declared.limits.TheConstants.{MAX_ACCOUNT, MAX_TELLER, MAX_BRANCH, MAX_NUMBER, MAX_MOMENT, MAX_BALANCE, MAX_DELTA}
@@ -42,21 +42,25 @@ pub record IsSoundAccount (r : AccountRow) : Type 0 where
   -- its balance is within the limit (TPC-B 1.2)
   pub balance : nat_abs r.balance ≤ MAX_BALANCE
 
+-- account, teller, branch and amount of a request are in their ranges
+pub record AreInRange (account' teller' branch' : ℕ) (delta' : ℤ) : Type 0 where
+  pub account_above : 1 ≤ account'
+  pub account : account' ≤ MAX_ACCOUNT
+  pub teller_above : 1 ≤ teller'
+  pub teller : teller' ≤ MAX_TELLER
+  pub branch_above : 1 ≤ branch'
+  pub branch : branch' ≤ MAX_BRANCH
+  pub delta : nat_abs delta' ≤ MAX_DELTA
+
 -- a request whose fields are in their ranges, and whose outcome is one that is kept with its balance
 pub record IsSoundRequest (r : RequestRow) : Type 0 where
   -- its ordinal is one of those that a bank may decide
   pub ordinal_above : 1 ≤ r.ordinal
   pub ordinal : r.ordinal ≤ MAX_DECIDED
   -- each field of the request is in its range
-  pub teller_above : 1 ≤ r.teller
-  pub teller : r.teller ≤ MAX_TELLER
+  pub fields : AreInRange r.kept.account r.teller r.kept.branch r.kept.delta
   pub number_above : 1 ≤ r.number
   pub number : r.number ≤ MAX_NUMBER
-  pub account_above : 1 ≤ r.kept.account
-  pub account : r.kept.account ≤ MAX_ACCOUNT
-  pub branch_above : 1 ≤ r.kept.branch
-  pub branch : r.kept.branch ≤ MAX_BRANCH
-  pub delta : nat_abs r.kept.delta ≤ MAX_DELTA
   -- its outcome is one that is kept, and only a posting has a balance
   pub kept : IsTrue (is_kept_with r.kept.outcome r.kept.balance)
   -- that balance is within the limit (TPC-B 1.2)
@@ -68,13 +72,7 @@ pub record IsSoundPosting (r : HistoryRow) : Type 0 where
   pub ordinal_above : 1 ≤ r.ordinal
   pub ordinal : r.ordinal ≤ MAX_DECIDED
   -- each field of its request is in its range
-  pub account_above : 1 ≤ r.account
-  pub account : r.account ≤ MAX_ACCOUNT
-  pub teller_above : 1 ≤ r.teller
-  pub teller : r.teller ≤ MAX_TELLER
-  pub branch_above : 1 ≤ r.branch
-  pub branch : r.branch ≤ MAX_BRANCH
-  pub delta : nat_abs r.delta ≤ MAX_DELTA
+  pub fields : AreInRange r.account r.teller r.branch r.delta
   -- its moment is within its range
   pub moment : r.moment ≤ MAX_MOMENT
 

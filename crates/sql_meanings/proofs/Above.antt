@@ -1,8 +1,9 @@
--- The next row above a key, under any schema.
+-- The next rows above a key, or from it on, under any schema.
 use Rattle.std.proofs.Common.{◌≡◌, ℕ, suc, ◌-◌, List, [], ◌∷◌, map, Ok, Some, None, Option, refl, true, false, nat_lt, ap, ◌∙◌}
 use Rattle.sqlite_value.specs.declared.keys.Collation.{Collation}
 use Rattle.sqlite_value.specs.declared.keys.Collation.TheVariants.{Binary}
 use Rattle.sqlite_sql.specs.declared.ops.BinaryOp.TheVariants as by
+use Rattle.sqlite_sql.specs.declared.ops.CompareOp.{CompareOp}
 use Rattle.sqlite_sql.specs.declared.ops.CompareOp.TheVariants as compare
 use Rattle.sqlite_schema.specs.declared.program.Program.{Program}
 use Rattle.sqlite_schema.specs.declared.program.Table.{Table as Let}
@@ -13,6 +14,7 @@ use Rattle.sqlite.specs.Schema.{Schema}
 use Rattle.sqlite.specs.Table.{Table}
 use Rattle.sqlite_ast.specs.declared.Expr.{Expr, out-Expr}
 use Rattle.sqlite_ast.specs.declared.Expr.TheOpen.{Expr-F}
+use Rattle.sqlite_ast.specs.declared.Binary.{Binary as Operator}
 use Rattle.sqlite_ast.specs.declared.Binary.TheVariants as binary
 use Rattle.sqlite_ast.specs.declared.Statement.TheVariants as written
 use Rattle.sqlite_ast.specs.declared.Select as written_select
@@ -64,18 +66,36 @@ lower_integer : (cx : Context) (e : Expr) (text : List ℕ) (v : Value) (d next 
 unfolding lower_to node spend begin opened finish passes
 lower_integer cx e text v d next budget l is value enough = rw (is, enough, value)
 
-lower_above : (cx : Context) (e a b : Expr) (x y : Term) (p q : Carried) (d next budget b1 b2 : ℕ) (l : Carried)
-    → out-Expr e ≡ Expr-F.Binary binary.Gt a b → nat_lt 1 budget ≡ true
+-- where the rows begin: above a key, or at it
+pub data Start : Type 0 where
+  Beyond : Start
+  Onwards : Start
+
+abbrev pub written_as : Start → Operator
+written_as Beyond = binary.Gt
+written_as Onwards = binary.Ge
+
+abbrev pub compared_by : Start → CompareOp
+compared_by Beyond = compare.Gt
+compared_by Onwards = compare.Ge
+
+pub lower_start : (k : Start) (cx : Context) (e a b : Expr) (x y : Term) (p q : Carried) (d next budget b1 b2 : ℕ) (l : Carried)
+    → out-Expr e ≡ Expr-F.Binary (written_as k) a b → nat_lt 1 budget ≡ true
     → lower_to d cx a (st next (budget - 1) nothing) ≡ Ok (x, st next b1 p)
     → lower_to d cx b (st next b1 p) ≡ Ok (y, st next b2 q)
-    → lower_to (suc d) cx e (st next budget l) ≡ Ok (compared cx (by.Compare compare.Gt (chosen p q)) x y, st next b2 nothing)
+    → lower_to (suc d) cx e (st next budget l)
+    ≡ Ok (compared cx (by.Compare (compared_by k) (chosen p q)) x y, st next b2 nothing)
 unfolding lower_to node spend begin opened finish passes operation both wanted_truth tests_truth tests_alias combine
-lower_above cx e a b x y p q d next budget b1 b2 l is enough left right = rw (is, enough, left, right)
+lower_start Beyond cx e a b x y p q d next budget b1 b2 l is enough left right = rw (is, enough, left, right)
+lower_start Onwards cx e a b x y p q d next budget b1 b2 l is enough left right = rw (is, enough, left, right)
 
-compared_above : (cx : Context) (at m : ℕ) → affinity_of cx (col 1 at) ≡ affinity.Numeric → affinity_of cx (col 0 m) ≡ affinity.None
-    → compared cx (by.Compare compare.Gt Binary) (col 1 at) (col 0 m) ≡ op2 (by.Compare compare.Gt Binary) (col 1 at) (col 0 m)
+pub compared_start : (k : Start) (cx : Context) (at m : ℕ)
+    → affinity_of cx (col 1 at) ≡ affinity.Numeric → affinity_of cx (col 0 m) ≡ affinity.None
+    → compared cx (by.Compare (compared_by k) Binary) (col 1 at) (col 0 m)
+    ≡ op2 (by.Compare (compared_by k) Binary) (col 1 at) (col 0 m)
 unfolding compared converted may_be_text
-compared_above cx at m left right = rw (left, right)
+compared_start Beyond cx at m left right = rw (left, right)
+compared_start Onwards cx at m left right = rw (left, right)
 
 module _ (schema : Schema) where
   -- a LIMIT by an integer
@@ -102,15 +122,15 @@ module _ (schema : Schema) where
       rw (is, one, origin, cap, viewing_is core order (most, number 0) 63 shown [] made)
 
 module _ (schema : Schema) (name : Name) (p : ℕ) (table : Table) (has : HasTable schema name p table) where
-  -- SELECT columns FROM table WHERE key > ?m ORDER BY key LIMIT n
-  pub select_above : (text : List ℕ) (P : Parsed) (s : written_select.Select) (core : Core) (source : From) (shown : List Shown)
+  -- SELECT columns FROM table WHERE key > ?m ORDER BY key LIMIT n, and the same with >=
+  pub select_rising : (k : Start) (text : List ℕ) (P : Parsed) (s : written_select.Select) (core : Core) (source : From) (shown : List Shown)
       (test a b e limit : Expr) (sort : Sort) (wanted most : Name) (v : Value) (at m : ℕ) (t : Tests table wanted at) (os : List Output)
       (q : Program)
       → first text ≡ Ok P → P.statement ≡ written.Select s → P.formats ≡ []
       → out-Select s ≡ record { with = []; first = core; others = []; order = sort ∷ []; limit = Some limit; offset = None }
       → out-Core core ≡ record { distinct = false; shown = shown; from = source ∷ []; filter = Some test; group = []; having = None }
       → one_table name source
-      → out-Expr test ≡ Expr-F.Binary binary.Gt a b → out-Expr a ≡ Expr-F.Column None wanted → out-Expr b ≡ Expr-F.Parameter m
+      → out-Expr test ≡ Expr-F.Binary (written_as k) a b → out-Expr a ≡ Expr-F.Column None wanted → out-Expr b ≡ Expr-F.Parameter m
       → out-Sort sort ≡ record { key = e; descending = false; nulls_first = None } → out-Expr e ≡ Expr-F.Column None wanted
       → alias_of wanted os ≡ None
       → out-Expr limit ≡ Expr-F.Integer most → integer false most ≡ Ok v
@@ -120,10 +140,10 @@ module _ (schema : Schema) (name : Name) (p : ℕ) (table : Table) (has : HasTab
       ≡ true) (r3 : nat_lt 1 (spent 100000 os - 1 - 1 - 1) ≡ true)
       → alone (declared table t.place t.column) ≡ Binary
       → prog.program schema [] (ungrouped (Inner table.tree ∷ [])
-      (op2 (by.Compare compare.Gt Binary) (col 1 at) (col 0 (m - 1)) ∷ []) os false
+      (op2 (by.Compare (compared_by k) Binary) (col 1 at) (col 0 (m - 1)) ∷ []) os false
       ((col 1 at, record { collation = Binary; descending = false }) ∷ []) (lit v) (number 0)) ≡ Ok q
       → compiled schema text ≡ Ok (with_command P ([], (Select q (map (λ o. o.name) os), None)))
-  select_above text P s core source shown test a b e limit sort wanted most v at m t os q parsed is plain select body from above left
+  select_rising k text P s core source shown test a b e limit sort wanted most v at m t os q parsed is plain select body from above left
       right sorts e_is none cap value shows room number r0 r1 r2 r3 bytes typed =
       let cx = over_one schema name p os false in
       let B = spent 100000 os in
@@ -131,10 +151,10 @@ module _ (schema : Schema) (name : Name) (p : ℕ) (table : Table) (has : HasTab
       let x = lower_column cx a wanted _ _ 698 2 (B - 1) nothing left r1 here in
       let y = lower_parameter cx b m 698 2 (B - 1 - 1) (declared table t.place t.column) right r2 in
       let low : lower cx test (st 2 B (last_of nothing os)) ≡ Ok (
-        op2 (by.Compare compare.Gt Binary) (col 1 at) (col 0 (m - 1)),
+        op2 (by.Compare (compared_by k) Binary) (col 1 at) (col 0 (m - 1)),
         st 2 (B - 1 - 1 - 1) nothing,
-      ) = lower_above cx test a b _ _ _ _ 699 2 B _ _ (last_of nothing os) above r0 x y
-      ∙ rw (t.by_bytes, t.is_at, compared_above cx at (m - 1) number (parameter_at schema name p os false (m - 1))) in
+      ) = lower_start k cx test a b _ _ _ _ 699 2 B _ _ (last_of nothing os) above r0 x y
+      ∙ rw (t.by_bytes, t.is_at, compared_start k cx at (m - 1) number (parameter_at schema name p os false (m - 1))) in
       let there = column_is schema p table has.listed name os false wanted t.place t.column
       (st 2 (B - 1 - 1 - 1 - 1) nothing) t.named t.there in
       let z = lower_column cx e wanted _ _ 699 2 (B - 1 - 1 - 1) nothing e_is r3 (there

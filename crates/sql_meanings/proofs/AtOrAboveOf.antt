@@ -41,8 +41,7 @@ use Rattle.sql_meanings.proofs.ByKey.{Tests, parameter_at, key_test}
 use Rattle.sql_meanings.proofs.OneTable.{parts_are, read_is}
 use Rattle.sql_meanings.proofs.ShownColumns.{Shows, HasRoom, spent, last_of}
 use Rattle.sql_meanings.proofs.Selects.{one_table, one_test, one_order, outputs_are_all}
-use Rattle.sql_meanings.proofs.Above.{constant_is, paged_is}
-use Rattle.sql_meanings.proofs.AtOrAbove.{lower_from, compared_from}
+use Rattle.sql_meanings.proofs.Above.{Onwards, compared_start, constant_is, lower_start, paged_is}
 
 module _ (schema : Schema) (p : ℕ) (table : Table) (name : Name) (shown : List Output) (may : Bool) (has : HasTable schema name p table) where
   -- the test that a column is a parameter or above it
@@ -57,8 +56,8 @@ module _ (schema : Schema) (p : ℕ) (table : Table) (name : Name) (shown : List
       let here = column_is schema p table has.listed name shown may wanted t.place t.column (st next (budget - 1 - 1) nothing) t.named t.there in
       let x = lower_column cx a wanted _ _ d next (budget - 1) nothing left two here in
       let y = lower_parameter cx b m d next (budget - 1 - 1) (declared table t.place t.column) right three in
-      lower_from cx e a b _ _ _ _ (suc d) next budget _ _ l is one x y
-      ∙ rw (t.by_bytes, t.is_at, compared_from cx at (m - 1) number (parameter_at schema name p shown may (m - 1)))
+      lower_start Onwards cx e a b _ _ _ _ (suc d) next budget _ _ l is one x y
+      ∙ rw (t.by_bytes, t.is_at, compared_start Onwards cx at (m - 1) number (parameter_at schema name p shown may (m - 1)))
 
 module _ (schema : Schema) (name : Name) (p : ℕ) (table : Table) (has : HasTable schema name p table) where
   -- SELECT columns FROM table WHERE other = ?m AND key >= ?n ORDER BY key LIMIT 1

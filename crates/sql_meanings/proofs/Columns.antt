@@ -1,5 +1,5 @@
 -- Columns of one table, as a statement over that table alone names them.
-use Rattle.std.proofs.Common.{◌≡◌, ℕ, List, [], ◌∷◌, Ok, Some, None, option_map, slice_get, Bool, true}
+use Rattle.std.proofs.Common.{◌≡◌, ℕ, List, [], ◌∷◌, Ok, Some, None, slice_get, Bool, true}
 use Rattle.sqlite_schema.specs.Names.{column_named, place_of}
 use Rattle.sqlite_schema.specs.declared.schema.Column.{Column}
 use Rattle.sqlite.specs.Term.{col}
@@ -38,12 +38,6 @@ over_one schema name p shown may = record {
 }
 
 module _ (schema : Schema) (p : ℕ) (table : Table) (at : slice_get schema.tables p ≡ Some table) where
-  -- a name is looked up among the table's columns
-  pub column_in_is : (wanted : Name) (b : Bound) → b.table ≡ p
-      → column_in schema wanted b ≡ option_map (found.Column b.slot p) (column_named table wanted)
-  unfolding column_in
-  column_in_is wanted b same = rw (same, at)
-
   -- the term of a column
   pub column_at_is : (slot k : ℕ) (c : Column) → slice_get table.columns k ≡ Some c
       → column_at schema slot p k ≡ Ok (col slot (place_of table k), declared table k c)

@@ -117,10 +117,6 @@ none_above : (k : ℤ) (e : Entry) (es : List Entry) → Above e es → has_key 
 none_above k e [] above here = refl
 none_above k e (x ∷ xs) above here = rw (less_apart e.key x.key k above.0 here) (none_above k e xs above.1 here)
 
-all_above : (k : ℤ) (e : Entry) (es : List Entry) → Above e es → has_key k e ≡ true → without k es ≡ es
-all_above k e [] above here = refl
-all_above k e (x ∷ xs) above here = rw (less_apart e.key x.key k above.0 here) (ap (λ l. x ∷ l) (all_above k e xs above.1 here))
-
 at_most_one : (k : ℤ) (e : Entry) (es : List Entry) → (has_key k e ≡ true → filter (has_key k) es ≡ [])
     → filter (has_key k) es ≡ listed (find (has_key k) es) → (b : Bool) → has_key k e ≡ b
     → cond b (e ∷ filter (has_key k) es) (filter (has_key k) es) ≡ listed (cond b (Some e) (find (has_key k) es))
@@ -196,31 +192,3 @@ rise_put_by new e es h more Greater is = ((flip e.key new.key is, move_below e n
 pub rise_put : (new : Entry) (es : List Entry) → Rise es → Rise (put new es)
 rise_put new [] h = (h, h)
 rise_put new (e ∷ es) h = rise_put_by new e es h (rise_put new es h.1) (int_cmp e.key new.key) refl
-
-found_less : {X : Type 0} (b n : Bool) (old new rest more : X) → (b ≡ true → n ≡ false) → more ≡ cond n new rest
-    → cond b old more ≡ cond n new (cond b old rest)
-found_less true n old new rest more apart is = rw (apart refl)
-found_less false n old new rest more apart is = is
-
-found_same : {X : Type 0} (b n : Bool) (old new rest : X) → b ≡ n → cond n new rest ≡ cond n new (cond b old rest)
-found_same b true old new rest is = refl
-found_same b false old new rest is = rw is
-
-same_key : (a b k : ℤ) → int_cmp a b ≡ Equal → is_eq (int_cmp a k) ≡ is_eq (int_cmp b k)
-same_key a b k h = grind (arith, ints)
-
-find_put_by : (k : ℤ) (new e : Entry) (es : List Entry)
-    → find (has_key k) (put new es) ≡ cond (has_key k new) (Some new) (find (has_key k) es) → (o : Ordering) → int_cmp e.key new.key ≡ o
-    → find (has_key k) (match_ordering o (e ∷ put new es) (new ∷ es) (new ∷ e ∷ es))
-    ≡ cond (has_key k new) (Some new) (cond (has_key k e) (Some e) (find (has_key k) es))
-find_put_by k new e es more Less is = found_less (has_key k e) (has_key k new) (Some e) (Some new) (find (has_key k) es)
-    (find (has_key k) (put new es)) (less_apart e.key new.key k is) more
-find_put_by k new e es more Equal is = found_same (has_key k e) (has_key k new) (Some e) (Some new) (find (has_key k) es)
-    (same_key e.key new.key k is)
-find_put_by k new e es more Greater is = refl
-
--- the entry is found under its key, and each other as before
-pub find_put : (k : ℤ) (new : Entry) (es : List Entry)
-    → find (has_key k) (put new es) ≡ cond (has_key k new) (Some new) (find (has_key k) es)
-find_put k new [] = refl
-find_put k new (e ∷ es) = find_put_by k new e es (find_put k new es) (int_cmp e.key new.key) refl

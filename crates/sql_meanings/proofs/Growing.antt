@@ -1,5 +1,5 @@
 -- How a schema grows: its trees are numbered low, and the table of AUTOINCREMENT may come first.
-use Rattle.std.proofs.Common.{◌≡◌, ◌<◌, List, [], ◌∷◌, Ok, Result, sym, subst, inl, inr, ◌⊎◌}
+use Rattle.std.proofs.Common.{◌≡◌, ◌<◌, List, [], ◌∷◌, Ok, sym, subst, inl, inr, ◌⊎◌}
 use Rattle.std.specs.List.{AllZip}
 use Rattle.std.proofs.lemmas.Bool.{cases_Bool}
 use Rattle.sqlite.specs.Schema.{Schema}
@@ -9,9 +9,6 @@ use Rattle.sqlite_rules.specs.Lists.{Has}
 use Rattle.sqlite_catalog.specs.Listing.{IsSound, IsTableRow}
 use Rattle.sqlite.specs.Effect.{Database}
 use Rattle.sqlite.specs.Does.{MakesTable, MakesSequence, lacks_sequence, sequence_text}
-
-ok_same : {B E : Type 0} {a b : B} → ◌≡◌ {A = Result B E} (Ok a) (Ok b) → a ≡ b
-ok_same e = cc
 
 zipped : {X Y : Type 0} (R : X → Y → Type 0) (xs : List X) (ys : List Y) (y : Y) → AllZip R xs ys → Has ys y → (x : X) × R x y
 zipped R [] [] y all h = absurd h

@@ -2,7 +2,6 @@
 pub mod Above
 pub mod Actions
 pub mod Afterwards
-pub mod AtOrAbove
 pub mod AtOrAboveOf
 pub mod ByKey
 pub mod Casting
@@ -54,5 +53,4 @@ pub mod Tests
 pub mod Texts
 pub mod Trees
 pub mod TwoColumns
-pub mod Typed
 pub mod Writing

@@ -18,7 +18,13 @@ use Rattle.sqlite_sql.specs.Catalog.{entry_of}
 use Rattle.sqlite_schema.specs.Rules.{are_typed, are_present, index_reals, real_bits, table_reals}
 use Rattle.sql_meanings.specs.Entries.{Entry, numbers, stored}
 use Rattle.sql_meanings.specs.Plain.{key_column, number_column}
-use Rattle.sql_meanings.proofs.Typed.{drop_head}
+
+-- the first of what is left
+drop_head : (n : ℕ) (row : Row) (v : Value) (vs : Row) → drop n row ≡ v ∷ vs → (column row n ≡ v) × (drop (suc n) row ≡ vs)
+drop_head zero [] v vs h = absurd cc
+drop_head zero (x ∷ row) v vs h = let e : x ≡ v = cc in let f : row ≡ vs = cc in (e, f)
+drop_head (suc n) [] v vs h = absurd cc
+drop_head (suc n) (x ∷ row) v vs h = drop_head n row v vs h
 
 -- only the first column is the key's
 not_key : (at : ℕ) → (0 == suc at) ≡ false

@@ -41,7 +41,7 @@ use Rattle.sqlite.specs.Query.{Query, Join, IsAnswerAs, matches_as, page, inner,
 use Rattle.sqlite_sql.proofs.QueryLemmas.{output_cmp_total}
 use Rattle.sqlite_trees.proofs.ListLemmas.{map-map}
 use Rattle.sql_meanings.specs.Entries.{Entry, IsTree, Rise, is_above, listed, stored}
-use Rattle.sql_meanings.specs.Queries.{no_limit, ascending, above, key_above, query}
+use Rattle.sql_meanings.specs.Queries.{ascending, above, key_above, query}
 use Rattle.sql_meanings.proofs.EntryLists.{Above}
 use Rattle.sql_meanings.proofs.TestedAnswers.{passing}
 use Rattle.sql_meanings.proofs.RisingOrder.{sorted_is}
@@ -95,20 +95,6 @@ rise_filter p (e ∷ es) up = go (p e) (rise_filter p es up.1)
     go false more = more
 
 -- ---- one table
-
--- all rows, by rising keys
-pub whole_table : (lost : Value) {width : ℕ} (t : ℕ) (project : List Term) (db : Trees) (params : Row) (rows : List Row)
-    (es : List Entry) → IsTree width (db t) es
-    → IsAnswerAs lost (query (inner t end) [] project ascending no_limit) db params rows
-    → rows ≡ map (λ e. eval_all project (params ∷ stored e ∷ [])) es
-whole_table lost t project db params rows es tree =
-    ordered_answer (inner t end) [] project no_limit (λ e. params ∷ stored e ∷ []) (λ e. refl) lost db params rows es tree.rise
-    (ap (flat_map (λ r. matches_as lost db [] end (params ∷ r ∷ []))) tree.are ∙ all_met es)
-  where
-    all_met : (es : List Entry) → flat_map (λ r. matches_as lost db [] end (params ∷ r ∷ [])) (map stored es)
-        ≡ map (λ e. params ∷ stored e ∷ []) es
-    all_met [] = refl
-    all_met (e ∷ es) = ap (λ l. (params ∷ stored e ∷ []) ∷ l) (all_met es)
 
 truth_back : (b : Bool) → is_true (from_truth (Some b)) ≡ b
 truth_back true = refl

@@ -40,7 +40,6 @@ use Rattle.sqlite_schema.specs.declared.program.Table.{Table as Let}
 use Rattle.sqlite_resolve.specs.declared.error.CompileError.{CompileError}
 use Rattle.sqlite_resolve.specs.declared.error.CompileError.TheVariants.{NoSuchTable}
 use Rattle.sqlite_resolve.specs.declared.state.Carried.{Carried}
-use Rattle.sqlite_resolve.specs.declared.compiled.Compiled.{Compiled}
 use Rattle.sqlite_resolve.specs.Lowering.{nothing, take_slot}
 use Rattle.sqlite_resolve.specs.Scope.{Name}
 use Rattle.sqlite_resolve.specs.Terms.{number}
@@ -52,8 +51,6 @@ use Rattle.sqlite.specs.Listing.{understood, listing_schema}
 use Rattle.sqlite.specs.declared.error.Error.{Error}
 use Rattle.sqlite.specs.declared.error.Error.TheVariants.{SqlInputError}
 use Rattle.sqlite.specs.State.{State, Fails, IsUnchanged, IsNotRun, store_error}
-use Rattle.sqlite.specs.Outline.{Outline}
-use Rattle.sqlite.specs.Steps.{Outlines}
 use Rattle.sqlite.specs.Effect.{Database, IsDatabase}
 use Rattle.sql_meanings.specs.Outcomes.{is_refusal, IsThere, IsUnderstood, OnlyShows, TellsProbe, TellsUnderstood}
 use Rattle.sql_meanings.specs.Tables.{Defines, placed_at, tree_of}
@@ -122,18 +119,8 @@ not_run old new text e only (inl (inr (c, is, inr (inl many)), same)) = absurd (
 not_run old new text e only (inl (inr (c, is, inr (inr clock)), same)) = absurd (clock.0 (only c is).timeless)
 not_run old new text e only (inr fails) = inr fails
 
--- a text that was prepared is understood
-pub outlined : (r : Result Compiled CompileError) (s : Outline) → Outlines r s → (c : Compiled) × (r ≡ Ok c)
-outlined (Ok c) s h = (c, refl)
-outlined (Err e) s h = absurd h
-
 -- what `prepare` tells, by its three answers
 module _ (old new : State) (text : List ℕ) (only : OnlyShows text 0 (understood old.now.schema text)) where
-  -- a text that is prepared
-  pub accepts_text : (s : Outline) → Outlines (understood old.now.schema text) s → IsUnchanged old new
-      → TellsUnderstood old new text (Ok true)
-  accepts_text s is same = (outlined (understood old.now.schema text) s is, same)
-
   not_stored : (cause : StoreError) → is_refusal (store_error cause) ≡ false
   not_stored OutOfMemory = refl
   not_stored Io = refl

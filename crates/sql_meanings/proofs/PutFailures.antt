@@ -81,7 +81,7 @@ use Rattle.sql_meanings.proofs.Referring.{asks_none, refers_after}
 use Rattle.sql_meanings.proofs.Refusals.{EditStops, IsFit, edit_stops, forbids}
 use Rattle.sql_meanings.proofs.Steps.{Standing, standing}
 use Rattle.sql_meanings.proofs.Stopping.{Stops, fails_for, stops}
-use Rattle.sql_meanings.proofs.TableWrites.{IsOfNumbers}
+use Rattle.sql_meanings.proofs.TableWrites.{IsOfNumbers, numbers_at}
 use Rattle.sql_meanings.proofs.PuttingIn.{key_taken, never, none_in, put_in_applies, stopped}
 use Rattle.sql_meanings.proofs.Writing.{same_value, uncounted, went}
 
@@ -110,15 +110,7 @@ module _ (old new : State) (t : Table) (is : IsOfNumbers (uncounted t)) (sound :
   at = standing old.now table is.free sound holds.defined
 
   numbered : IsOfNumbers here
-  numbered = record {
-    free = is.free;
-    keyed = is.keyed;
-    uncomputed = is.uncomputed;
-    narrow = is.narrow;
-    key = is.key;
-    names = is.names;
-    columns = is.columns;
-  }
+  numbered = numbers_at table tree is
 
   -- ---- what is put in
 

@@ -22,7 +22,7 @@ use Rattle.sqlite_typing.specs.Types.{accepts_program}
 use Rattle.sql_meanings.specs.Queries.{ascending}
 use Rattle.sql_meanings.specs.Seeks.{key_from, next_from, next_of_from, of_from}
 use Rattle.sql_meanings.specs.Tables.{placed_at}
-use Rattle.sql_meanings.proofs.AtOrAbove.{select_from}
+use Rattle.sql_meanings.proofs.Above.{Onwards, select_rising}
 use Rattle.sql_meanings.proofs.AtOrAboveOf.{select_two_from}
 use Rattle.sql_meanings.proofs.ByKey.{Tests, key_at}
 use Rattle.sql_meanings.proofs.Columns.{over_one}
@@ -54,7 +54,7 @@ module _ (table : Table) (text : List ℕ) (places : List ℕ) (most : ℕ) (ter
         let os = outputs_at (placed_at table tree) places in
         let low = many (placed_at table tree) places is.few in
         let rest = left_over (placed_at table tree) places is.few in
-        means schema text 1 _ _ (select_from schema table.name p (placed_at table tree) has text is.P is.s is.core is.source is.shown test a b e cap
+        means schema text 1 _ _ (select_rising schema table.name p (placed_at table tree) has Onwards text is.P is.s is.core is.source is.shown test a b e cap
         sort key most_text (Int (pos most)) 0 1 (keys tree) os _ is.parsed is.statement is.plain (rw (ordered, limited) at is.select)
         (rw filtered at is.body) is.from above left right sorts by_key (unnamed tree) capped value (shows_named _ _ _ (is.shows tree))
         (has_room 100000 _ (omega arith)) (key_at schema table.name p os false) (grind arith) (grind arith) (grind arith) (grind arith)

@@ -1,5 +1,5 @@
 -- Whole SELECTs over one table, and those of the bank.
-use Rattle.std.proofs.Common.{◌≡◌, ℕ, ◌-◌, List, [], ◌∷◌, map, Ok, Some, None, Option, slice_get, refl, true, false, nat_lt, ap, ◌∙◌}
+use Rattle.std.proofs.Common.{◌≡◌, ℕ, ◌-◌, List, [], ◌∷◌, map, Ok, Some, None, Option, slice_get, refl, true, false, nat_lt, ap}
 use Rattle.sqlite_value.specs.declared.keys.Collation.TheVariants.{Binary}
 use Rattle.sqlite_value.specs.declared.keys.Key.{Key}
 use Rattle.sqlite_sql.specs.declared.ops.BinaryOp.TheVariants.{Compare}
@@ -26,7 +26,7 @@ use Rattle.sqlite_resolve.specs.declared.compare.Affinity.TheVariants as affinit
 use Rattle.sqlite_resolve.specs.declared.scope.Output.{Output}
 use Rattle.sqlite_resolve.specs.declared.state.Carried.{Carried}
 use Rattle.sqlite_resolve.specs.Lowering.{nothing, alone}
-use Rattle.sqlite_resolve.specs.Scope.{Name, Context, declared, alias_of}
+use Rattle.sqlite_resolve.specs.Scope.{Name, Context, alias_of}
 use Rattle.sqlite_resolve.specs.Body.{tests, outputs}
 use Rattle.sqlite_resolve.specs.Order as order
 use Rattle.sqlite_resolve.specs.Order.{sorts}
@@ -36,8 +36,8 @@ use Rattle.sqlite_resolve.specs.Select.{ungrouped}
 use Rattle.sqlite_resolve.specs.Expr.{lower}
 use Rattle.sqlite_resolve.specs.Program as prog
 use Rattle.sqlite_resolve.specs.Compile.{compiled, first, with_command}
-use Rattle.sql_meanings.proofs.Columns.{bound_to, over_one, column_is}
-use Rattle.sql_meanings.proofs.Expressions.{st, lower_column, lower_and}
+use Rattle.sql_meanings.proofs.Columns.{bound_to, over_one}
+use Rattle.sql_meanings.proofs.Expressions.{st, lower_and}
 use Rattle.sql_meanings.proofs.Statements.{HasTable, compiled_select}
 use Rattle.sql_meanings.proofs.ByKey.{Tests, key_test}
 use Rattle.sql_meanings.specs.Queries.{no_limit}
@@ -177,33 +177,6 @@ module _ (schema : Schema) (name : Name) (p : ℕ) (table : Table) (has : HasTab
       let whole = lower_and cx both test test' _ _ _ _ 699 2 B _ _ (last_of nothing os) and r0 low low' in
       select_is text P s core source shown (Some both) [] os _ [] _ _ _ _ q parsed is plain select body from shows room
       (one_test cx both _ _ _ _ _ whole) (no_order cx os _ _) typed
-
-  -- SELECT columns FROM table ORDER BY column
-  pub select_in_order : (text : List ℕ) (P : Parsed) (s : written_select.Select) (core : Core) (source : From) (shown : List Shown)
-      (sort : Sort) (e : Expr) (wanted : Name) (at : ℕ) (t : Tests table wanted at) (os : List Output) (q : Program)
-      → first text ≡ Ok P → P.statement ≡ written.Select s → P.formats ≡ []
-      → out-Select s ≡ record { with = []; first = core; others = []; order = sort ∷ []; limit = None; offset = None }
-      → out-Core core ≡ record { distinct = false; shown = shown; from = source ∷ []; filter = None; group = []; having = None }
-      → one_table name source
-      → out-Sort sort ≡ record { key = e; descending = false; nulls_first = None } → out-Expr e ≡ Expr-F.Column None wanted
-      → alias_of wanted os ≡ None
-      → Shows table shown os → HasRoom 100000 os
-      → nat_lt 1 (spent 100000 os) ≡ true
-      → alone (declared table t.place t.column) ≡ Binary
-      → prog.program schema [] (ungrouped (Inner table.tree ∷ []) [] os false
-      ((col 1 at, record { collation = Binary; descending = false }) ∷ []) no_limit (number 0)) ≡ Ok q
-      → compiled schema text ≡ Ok (with_command P ([], (Select q (map (λ o. o.name) os), None)))
-  select_in_order text P s core source shown sort e wanted at t os q parsed is plain select body from sorts e_is none shows room r0 bytes
-      typed =
-      let cx = over_one schema name p os false in
-      let column = column_is schema p table has.listed name os false wanted t.place t.column
-      (st 2 (spent 100000 os - 1) nothing) t.named t.there in
-      let low = lower_column cx e wanted _ _ 699 2 (spent 100000 os) (last_of nothing os) e_is r0 (column
-      ∙ ap (λ k. Ok (col 1 k, st 2 (spent 100000 os - 1) (declared table t.place t.column))) t.is_at) in
-      let by = one_order cx os sort e wanted at _ _ _ _ (ap (λ x. x.key) sorts) (ap (λ x. x.descending) sorts)
-      (ap (λ x. x.nulls_first) sorts) e_is none low in
-      select_is text P s core source shown None (sort ∷ []) os [] _ _ _ _ _ q parsed is plain select body from shows room
-      (no_test cx _ _) (rw bytes at by) typed
 
   -- SELECT columns FROM table
   pub select_all : (text : List ℕ) (P : Parsed) (s : written_select.Select) (core : Core) (source : From) (shown : List Shown)

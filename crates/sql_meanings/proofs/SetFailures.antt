@@ -52,7 +52,7 @@ use Rattle.sql_meanings.proofs.Refusals.{EditStops, IsFit, edit_stops, forbids}
 use Rattle.sql_meanings.proofs.SetRows.{ChangesAs, set_rows}
 use Rattle.sql_meanings.proofs.Steps.{Standing, standing}
 use Rattle.sql_meanings.proofs.Stopping.{Stops, fails_for, fails_split, stops}
-use Rattle.sql_meanings.proofs.TableWrites.{IsOfNumbers}
+use Rattle.sql_meanings.proofs.TableWrites.{IsOfNumbers, numbers_at}
 use Rattle.sql_meanings.proofs.PuttingIn.{never, stopped}
 use Rattle.sql_meanings.proofs.Writing.{same_value, went}
 
@@ -85,15 +85,7 @@ module _ (old new : State) (table : Table) (is : IsOfNumbers table) (sound : ∥
     at = standing old.now table is.free sound holds.defined
 
     numbered : IsOfNumbers here
-    numbered = record {
-      free = is.free;
-      keyed = is.keyed;
-      uncomputed = is.uncomputed;
-      narrow = is.narrow;
-      key = is.key;
-      names = is.names;
-      columns = is.columns;
-    }
+    numbered = numbers_at table tree is
 
     -- ---- what is written
 

@@ -7,7 +7,7 @@ use Rattle.sqlite.specs.Effect.{IsDatabase}
 use Rattle.sqlite.specs.State.{State}
 use Rattle.sql_meanings.specs.Entries.{Entry, IsTree}
 use Rattle.sql_meanings.specs.Making.{SparesStanding, Stands}
-use Rattle.sql_meanings.specs.Tables.{tree_of, width_of}
+use Rattle.sql_meanings.specs.Tables.{placed_at, tree_of, width_of}
 use Rattle.sql_meanings.specs.Plain.{key_column, number_column}
 use Rattle.sql_meanings.proofs.Steps.{Steps}
 use Rattle.sql_meanings.proofs.Writing.{Wrote}
@@ -29,6 +29,18 @@ pub record IsOfNumbers (table : Table) : Type 0 where
   pub key : List ℕ
   pub names : List (List ℕ)
   pub columns : table.columns ≡ key_column key ∷ map number_column names
+
+-- so is the same table in another tree
+pub numbers_at : (table : Table) (tree : ℕ) → IsOfNumbers table → IsOfNumbers (placed_at table tree)
+numbers_at table tree is = record {
+  free = is.free;
+  keyed = is.keyed;
+  uncomputed = is.uncomputed;
+  narrow = is.narrow;
+  key = is.key;
+  names = is.names;
+  columns = is.columns;
+}
 
 -- what a write that is done leaves of every table
 pub steps_by : (old new : State) (edit : Edit) (count : ℕ) (name : List ℕ) → edit.table.tree ≡ tree_of old.now.schema name

@@ -25,7 +25,7 @@ use Rattle.sql_meanings.proofs.ByKey.{Tests, key_at}
 use Rattle.sql_meanings.proofs.Means.{Means, means}
 use Rattle.sql_meanings.proofs.ReadRows.{reads_next}
 use Rattle.sql_meanings.proofs.ReadTables.{ReadsAs}
-use Rattle.sql_meanings.proofs.Above.{select_above}
+use Rattle.sql_meanings.proofs.Above.{Beyond, select_rising}
 use Rattle.sql_meanings.proofs.ShownColumns.{outputs_at, shows_named}
 use Rattle.sql_meanings.proofs.Statements.{HasTable}
 use Rattle.sql_meanings.proofs.Texts.{IsSelect, only_reads, select_of}
@@ -61,7 +61,7 @@ module _ (schema : Schema) (p tree : ℕ) (has : HasTable schema (codes "branch"
   meant : Means schema NEXT_BRANCH.now 1 (Select (record { lets = []; body = next_above tree project }) (codes "bid" ∷ codes "accounts" ∷ codes "balance" ∷ []))
   unfolding everything is_next by_id
   meant =
-      means schema NEXT_BRANCH.now 1 _ _ (select_above schema (codes "branch") p (placed_at branch tree) has NEXT_BRANCH.now is_next.P is_next.s is_next.core is_next.source is_next.shown _ _ _ _ _ _ (codes "bid") _ _ 0 1 (by_id tree) (outputs tree) _
+      means schema NEXT_BRANCH.now 1 _ _ (select_rising schema (codes "branch") p (placed_at branch tree) has Beyond NEXT_BRANCH.now is_next.P is_next.s is_next.core is_next.source is_next.shown _ _ _ _ _ _ (codes "bid") _ _ 0 1 (by_id tree) (outputs tree) _
       refl refl refl refl refl refl refl refl refl refl refl refl refl refl (shows_named (placed_at branch tree) is_next.shown (outputs tree) (is_next.shows tree))
       (refl, (refl, (refl, tt)))
       (key_at schema (codes "branch") p (outputs tree) false) refl refl refl refl refl

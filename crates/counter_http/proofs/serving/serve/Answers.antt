@@ -8,7 +8,7 @@ use Rattle.counter_http.specs.declared.fault.ServeFault.TheVariants.{Write}
 use Rattle.counter_http.specs.Messages.{No_head}
 use Rattle.counter_http.specs.Next.{IsUnfinished}
 use Rattle.counter_http.proofs.Going.{Going, going_first, going_filled, going_unread, going_message, unfinished_none, range_all, range_next, range_long, message_long}
-use Rattle.counter_http.proofs.Connected.{end_finished, end_unread, end_closed, short_front, hopeless_walk, end_told, end_untold}
+use Rattle.counter_http.proofs.Connected.{end_finished, end_unread, end_closed, short_read, hopeless_walk, end_told, end_untold}
 use Rattle.counter_http.proofs.BrokenOff.{end_broken}
 use Rattle.counter_http.proofs.Sent.{ended_at, sent_broken}
 use Rattle.counter_http.proofs.serving.serve.Goals as goal
@@ -54,34 +54,24 @@ returns-in-Ok-eq0-clause-served g c =
 
 pub returns-in-Ok-eq0-2-clause-served : goal.returns-in-Ok-eq0-2-clause-served
 returns-in-Ok-eq0-2-clause-served g c =
-    let n = c.in-Ok-eq0.field-0 in
-    let none : c.in-Ok-eq0.field-0 ≡ 0 = c.in-Ok-eq0.field-0-test in
-    let fits : c.reads.filled ≤ length c.reads.buffer =
-    omega (arith, c.reads.invariant.few, c.reads.invariant.room) in
     let short =
-    short_front c.reads.buffer c.fill.new.buffer c.reads.filled n c.reads.invariant.going
-    (at_ok _ c.fill.result n c.in-Ok-eq0.is c.fill.ensures.ok) none (omega (arith, c.if-filled-eq0.false))
-    fits
-    (omega (arith, fits, c.fill.auto.buffer)) c.reads.invariant.waits
-    (ended_at c.fill.result n c.reads.invariant.made c.fill.ensures.tells c.in-Ok-eq0.is none
-    c.fill.ensures.end) in
+    short_read c.reads.buffer c.fill.new.buffer c.reads.filled c.in-Ok-eq0.field-0 c.fill.result c.reads.invariant.going
+    c.in-Ok-eq0.is c.in-Ok-eq0.field-0-test c.fill.ensures.ok c.fill.ensures.end c.reads.invariant.made
+    c.fill.ensures.tells (omega (arith, c.if-filled-eq0.false))
+    (omega (arith, c.reads.invariant.few, c.reads.invariant.room)) (omega (arith, c.fill.auto.buffer))
+    c.reads.invariant.waits in
     end_told g.C.Counter.seen c.args.bank.now c.reads.bank c.reads.shows_body _
     (take c.reads.filled c.fill.new.buffer)
     short.0 short.1 c.in_ok-refuse-in-Ok-eq0-2.ensures.written refl
 
 pub returns-in_err-refuse-in-Ok-eq0-2-clause-served : goal.returns-in_err-refuse-in-Ok-eq0-2-clause-served
 returns-in_err-refuse-in-Ok-eq0-2-clause-served g c =
-    let n = c.in-Ok-eq0.field-0 in
-    let none : c.in-Ok-eq0.field-0 ≡ 0 = c.in-Ok-eq0.field-0-test in
-    let fits : c.reads.filled ≤ length c.reads.buffer =
-    omega (arith, c.reads.invariant.few, c.reads.invariant.room) in
     let short =
-    short_front c.reads.buffer c.fill.new.buffer c.reads.filled n c.reads.invariant.going
-    (at_ok _ c.fill.result n c.in-Ok-eq0.is c.fill.ensures.ok) none (omega (arith, c.if-filled-eq0.false))
-    fits
-    (omega (arith, fits, c.fill.auto.buffer)) c.reads.invariant.waits
-    (ended_at c.fill.result n c.reads.invariant.made c.fill.ensures.tells c.in-Ok-eq0.is none
-    c.fill.ensures.end) in
+    short_read c.reads.buffer c.fill.new.buffer c.reads.filled c.in-Ok-eq0.field-0 c.fill.result c.reads.invariant.going
+    c.in-Ok-eq0.is c.in-Ok-eq0.field-0-test c.fill.ensures.ok c.fill.ensures.end c.reads.invariant.made
+    c.fill.ensures.tells (omega (arith, c.if-filled-eq0.false))
+    (omega (arith, c.reads.invariant.few, c.reads.invariant.room)) (omega (arith, c.fill.auto.buffer))
+    c.reads.invariant.waits in
     let told = err_from_is_err_and c.from_residual.result c.from_residual.ensures.1 in
     let w = c.in_err-refuse-in-Ok-eq0-2.ensures.written in
     let write : c.in_err-refuse-in-Ok-eq0-2.field-0.0 ≡ Write =

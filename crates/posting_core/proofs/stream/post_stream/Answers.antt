@@ -1,10 +1,10 @@
-use Rattle.std.proofs.Common.{◌≡◌, ◌≤◌, inr, refl, ap, Err, arith, length, take}
+use Rattle.std.proofs.Common.{◌≡◌, ◌≤◌, inl, inr, refl, ap, Err, arith, length, take}
 use Rattle.std.proofs.lemmas.List.{length-take-le}
 use Rattle.std.proofs.lemmas.Result.{err_from_is_err_and}
 use Rattle.posting_core.specs.declared.stream.TheConstants.{BUFFER}
 use Rattle.posting_core.proofs.Batched.{cut_into, cut_and_moved}
 use Rattle.posting_core.proofs.Output.{output_of, survives_of, resends_of}
-use Rattle.posting_core.proofs.Streaming.{Going, going_first, going_filled, going_unread, going_batch, end_whole, end_in_record, end_unread, end_broken, at_ok, few_left}
+use Rattle.posting_core.proofs.Streaming.{going_first, going_filled, going_on, going_unread, going_batch, end_whole, end_in_record, end_unread, end_broken, at_ok, few_left}
 use Rattle.posting_core.proofs.Telling.{made_many, made_none, made_one, other_kind, read_ended, read_failed}
 use Rattle.posting_core.proofs.Refused.{refused_broken, up_broken}
 use Rattle.posting_core.proofs.Through.{ends_broken, through_batch, through_first}
@@ -94,30 +94,24 @@ returns-in_err-answer_batch g c =
     let fault = c.in_err-answer_batch.field-0.0 in
     let told = err_from_is_err_and c.from_residual.result c.from_residual.ensures.1 in
     let a = c.in_err-answer_batch.ensures.answers in
-    let going : Going (g.R.Source.remaining c.args.reader.now) (g.R.Source.remaining c.fill.new.reader) (g.W.Sink.contents c.args.writer.now) (g.W.Sink.contents c.reads.writer)
-    (g.K.Clock.readings c.args.clock.now) (g.K.Clock.readings c.reads.clock) (g.C.Counter.seen c.args.bank.now) (g.C.Counter.seen c.reads.bank)
-    (take c.match-fill.filled c.fill.new.buffer) c.reads.count =
-    elim c.match-fill.branch [
-      | in-Ok w ↦ going_filled c.reads.buffer c.fill.new.buffer c.reads.filled c.match-fill.filled w.in-Ok.n c.reads.invariant.going w.in-Ok.ensures.ok w.filled-is
-      | in-Err w ↦ going_unread c.reads.buffer c.fill.new.buffer c.reads.filled c.match-fill.filled c.reads.invariant.going w.in-Err.ensures.err w.filled-is
-    ] in
     let long : length c.fill.new.buffer ≡ BUFFER = omega (arith, c.fill.auto.buffer, c.reads.invariant.room) in
-    let within : c.match-fill.filled ≤ length c.fill.new.buffer =
-    elim c.match-fill.branch [
-      | in-Ok w ↦ omega (arith, w.in-Ok.ensures.fits, w.filled-is)
-      | in-Err w ↦ omega (arith, c.reads.invariant.few, w.filled-is, long)
-    ] in
-    let len : length (take c.match-fill.filled c.fill.new.buffer) ≡ c.match-fill.filled = length-take-le c.match-fill.filled c.fill.new.buffer within in
+    let on =
+    going_on c.reads.buffer c.fill.new.buffer c.reads.filled c.match-fill.filled c.reads.invariant.going c.reads.invariant.few long
+    (elim c.match-fill.branch [
+      | in-Ok w ↦ inl (w.in-Ok.n, w.in-Ok.ensures.ok, omega (arith, w.in-Ok.ensures.fits), w.filled-is)
+      | in-Err w ↦ inr (w.in-Err.ensures.err, w.filled-is)
+    ]) in
+    let len : length (take c.match-fill.filled c.fill.new.buffer) ≡ c.match-fill.filled = length-take-le c.match-fill.filled c.fill.new.buffer on.1 in
     let cut = cut_into (take c.match-fill.filled c.fill.new.buffer) c.as_chunks.result.0.now c.as_chunks.result.1.now c.as_chunks.ensures.front c.as_chunks.ensures.back in
     let s =
-    end_broken fault a.0 (take c.match-fill.filled c.fill.new.buffer) c.as_chunks.result.1.now c.as_chunks.result.0.now going cut
+    end_broken fault a.0 (take c.match-fill.filled c.fill.new.buffer) c.as_chunks.result.1.now c.as_chunks.result.0.now on.0 cut
     (omega (arith, c.as_chunks.ensures.back_len)) a.1 c.in_err-answer_batch.ensures.honest a.2 in
     rw (told.1, told.2) (record {
       stream = s;
       output = output_of _ s;
       stop = survives_of _ s;
       resend = resends_of _ s;
-      refused = refused_broken g.C.Counter.seen c.args.bank.now c.reads.bank c.answer_batch.new.bank _ _ fault a.0 _ _ c.as_chunks.result.0.now going cut
+      refused = refused_broken g.C.Counter.seen c.args.bank.now c.reads.bank c.answer_batch.new.bank _ _ fault a.0 _ _ c.as_chunks.result.0.now on.0 cut
           (omega (arith, c.as_chunks.ensures.back_len)) (omega (arith, c.as_chunks.ensures.front_len, len)) (omega (arith, c.as_chunks.ensures.front_len, len)) c.reads.invariant.first c.reads.invariant.up c.in_err-answer_batch.ensures.honest a.2
           (λ down. let e = c.in_err-answer_batch.ensures.down down in cc e);
       up = up_broken _ _ (g.C.Counter.seen c.args.bank.now) (g.C.Counter.seen c.reads.bank) (g.C.Counter.seen c.answer_batch.new.bank) _ fault a.2 c.in_err-answer_batch.ensures.up (λ down. (c.reads.invariant.up down).0);
@@ -127,27 +121,21 @@ returns-in_err-answer_batch g c =
 
 pub reads-preserved : goal.reads-preserved
 reads-preserved g c =
-    let going : Going (g.R.Source.remaining c.args.reader.now) (g.R.Source.remaining c.fill.new.reader) (g.W.Sink.contents c.args.writer.now) (g.W.Sink.contents c.reads.writer)
-    (g.K.Clock.readings c.args.clock.now) (g.K.Clock.readings c.reads.clock) (g.C.Counter.seen c.args.bank.now) (g.C.Counter.seen c.reads.bank)
-    (take c.match-fill.filled c.fill.new.buffer) c.reads.count =
-    elim c.match-fill.branch [
-      | in-Ok w ↦ going_filled c.reads.buffer c.fill.new.buffer c.reads.filled c.match-fill.filled w.in-Ok.n c.reads.invariant.going w.in-Ok.ensures.ok w.filled-is
-      | in-Err w ↦ going_unread c.reads.buffer c.fill.new.buffer c.reads.filled c.match-fill.filled c.reads.invariant.going w.in-Err.ensures.err w.filled-is
-    ] in
     let long : length c.fill.new.buffer ≡ BUFFER = omega (arith, c.fill.auto.buffer, c.reads.invariant.room) in
-    let within : c.match-fill.filled ≤ length c.fill.new.buffer =
-    elim c.match-fill.branch [
-      | in-Ok w ↦ omega (arith, w.in-Ok.ensures.fits, w.filled-is)
-      | in-Err w ↦ omega (arith, c.reads.invariant.few, w.filled-is, long)
-    ] in
+    let on =
+    going_on c.reads.buffer c.fill.new.buffer c.reads.filled c.match-fill.filled c.reads.invariant.going c.reads.invariant.few long
+    (elim c.match-fill.branch [
+      | in-Ok w ↦ inl (w.in-Ok.n, w.in-Ok.ensures.ok, omega (arith, w.in-Ok.ensures.fits), w.filled-is)
+      | in-Err w ↦ inr (w.in-Err.ensures.err, w.filled-is)
+    ]) in
     elim c.if-filled-ge-RECORD.branch [
       | then-filled-ge-RECORD+in_ok-answer_batch w ↦
           let a = w.in_ok-answer_batch.ensures.answers in
           let rs = w.as_chunks.result.0.now in
           let left = length w.as_chunks.result.1.now in
           let after = w.move_to_front.new.buffer in
-          let len : length (take c.match-fill.filled c.fill.new.buffer) ≡ c.match-fill.filled = length-take-le c.match-fill.filled c.fill.new.buffer within in
-          let cut = cut_and_moved c.fill.new.buffer after c.match-fill.filled left rs within w.as_chunks.ensures.front w.as_chunks.ensures.back_len w.move_to_front.ensures in
+          let len : length (take c.match-fill.filled c.fill.new.buffer) ≡ c.match-fill.filled = length-take-le c.match-fill.filled c.fill.new.buffer on.1 in
+          let cut = cut_and_moved c.fill.new.buffer after c.match-fill.filled left rs on.1 w.as_chunks.ensures.front w.as_chunks.ensures.back_len w.move_to_front.ensures in
           rw (w.writer-is, w.clock-is, w.bank-is, w.buffer-is, w.filled-is, w.count-is) (record {
             few = omega (arith, w.as_chunks.ensures.back_len);
             room = w.move_to_front.array_long;
@@ -156,7 +144,7 @@ reads-preserved g c =
             up = λ down. absurd (w.in_ok-answer_batch.ensures.up down);
             made = made_one _ _ c.reads.invariant.made c.fill.ensures.tells refl;
             through = through_batch c.reads.invariant.through w.in_ok-answer_batch.ensures.flushed;
-            going = going_batch a.0 (take c.match-fill.filled c.fill.new.buffer) (take left after) _ rs going cut refl a.1 w.in_ok-answer_batch.ensures.honest a.2;
+            going = going_batch a.0 (take c.match-fill.filled c.fill.new.buffer) (take left after) _ rs on.0 cut refl a.1 w.in_ok-answer_batch.ensures.honest a.2;
           })
       | else-filled-ge-RECORD w ↦
           let low = w.if-filled-ge-RECORD.false in
@@ -164,7 +152,7 @@ reads-preserved g c =
             few = omega arith;
             room = long;
             bound = omega (arith, c.reads.invariant.bound);
-            going = going;
+            going = on.0;
             first = c.reads.invariant.first;
             up = c.reads.invariant.up;
             made = made_one _ _ c.reads.invariant.made c.fill.ensures.tells refl;

@@ -45,29 +45,12 @@ returns-clause-replies c t records is =
 
 pub returns-clause-answers : goal.returns-clause-answers
 returns-clause-answers c t records is log shows =
-    let m = c.args.moment in
-    let reads : List (Result RequestFields Bad) = map request_of records in
-    let old = filled t (covering_all no_slots reads) in
-    let it = stands t reads in
-    let told : c.answer_all.new.replies.items ≡ replies_past_all t m records =
-    c.answer_all.ensures.replies
-    ∙ ap (λ (items : List (List ℕ)). items ++ map reply_spelling (replies_over (view c.args.self.overlay) m c.deref.result.now)) c.args.self.fresh
-    ∙ ap (λ (rs : List (Result RequestFields Bad)). map reply_spelling (replies_over (view c.args.self.overlay) m rs)) (c.deref.ensures.value ∙ is.reads)
-    ∙ ap (λ (o : Overlay). map reply_spelling (replies_over o m reads)) is.overlay
-    ∙ all_replies old t m records it.fits it.covers ∙ ap (λ (u : Tables). replies_past_all u m records) it.same in
-    told ∙ past.all_replies t log m records shows
+    returns-clause-replies c t records is ∙ past.all_replies t log c.args.moment records shows
 
 pub returns-clause-shows : goal.returns-clause-shows
 returns-clause-shows c t records is log shows =
-    let m = c.args.moment in
-    let reads : List (Result RequestFields Bad) = map request_of records in
-    let old = filled t (covering_all no_slots reads) in
-    let it = stands t reads in
-    let after : view c.answer_all.new.self ≡ overlay_with_all old m reads =
-    c.answer_all.ensures.overlay ∙ ap (λ (rs : List (Result RequestFields Bad)). overlay_with_all (view c.args.self.overlay) m rs) (c.deref.ensures.value ∙ is.reads)
-    ∙ ap (λ (o : Overlay). overlay_with_all o m reads) is.overlay in
-    let same = ap (λ (o : Overlay). tables_over o t) after ∙ all_tables old t m records it.fits it.covers ∙ ap (λ (u : Tables). tables_past_all u m records) it.same in
-    subst (λ (u : Tables). Shows u (behind log (posts m records))) (sym same) (all_past t log m records shows)
+    subst (λ (u : Tables). Shows u (behind log (posts c.args.moment records))) (sym (returns-clause-tables c t records is))
+    (all_past t log c.args.moment records shows)
 
 pub returns-clause-changes : goal.returns-clause-changes
 returns-clause-changes c t records is =

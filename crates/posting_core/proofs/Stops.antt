@@ -1,0 +1,68 @@
+-- What a stop leaves of commands that were given, and what a text holds of others.
+use Rattle.std.proofs.Common.{◌≡◌, ℕ, ◌+◌, ◌≤◌, List, ◌++◌, length, take, sym, ap, subst, ◌∙◌, arith}
+use Rattle.std.proofs.Math.Seq.{take-append-add}
+use Rattle.std.proofs.lemmas.List.{length-append, take_all}
+use Rattle.posting_rules.specs.declared.fault.Fault.{Fault}
+use Rattle.posting_rules.specs.declared.fault.Fault.TheVariants.{Memory, Store, Down, Damaged}
+use Rattle.posting_rules.specs.Commands.{Command, AreCommands}
+use Rattle.posting_rules.specs.Tables.{Tables, Shows}
+use Rattle.posting_rules.specs.Counter.{Seen, LeavesOnly, StandsAt, ShowsBeginning, Refuses}
+use Rattle.posting_rules.specs.Runs.{behind}
+use Rattle.posting_rules.proofs.Remaining.{leaves_still, leaves_weaker}
+use Rattle.posting_rules.proofs.Sequence.{behind-append}
+
+-- a stop leaves all that was taken
+pub stop_all : (c : Seen) (log cs ds : List Command) → cs ≡ ds → StandsAt c (behind log ds) → LeavesOnly c (ShowsBeginning log cs (length ds))
+stop_all c log cs ds e s = leaves_weaker c (λ t. Shows t (behind log ds)) (ShowsBeginning log cs (length ds))
+    (λ t shown.
+    let all : take (length ds) cs ≡ ds = ap (take (length ds)) e ∙ take_all (length ds) ds (omega arith) in
+    record {
+      count = length ds;
+      holds = omega arith;
+      within = omega (arith, ap length e);
+      are = subst (λ (l : List Command). AreCommands (behind log l)) (sym all) s.shows.commands;
+      shows = subst (λ (l : List Command). Shows t (behind log l)) (sym all) shown;
+    })
+    s.stop
+
+-- who finds so many of the commands finds fewer too
+pub at_least : (log cs : List Command) (n k : ℕ) (t : Tables) → k ≤ n → ShowsBeginning log cs n t → ShowsBeginning log cs k t
+at_least log cs n k t le b = record {
+  count = b.count;
+  holds = omega (arith, b.holds);
+  within = b.within;
+  are = b.are;
+  shows = b.shows;
+}
+
+-- what a stop leaves where the last commands were refused
+pub stop_part : (c : Seen) (log cs ds es : List Command) → es ≡ cs ++ ds → LeavesOnly c (ShowsBeginning (behind log cs) ds 0)
+    → LeavesOnly c (ShowsBeginning log es (length cs))
+stop_part c log cs ds es e stop = leaves_weaker c (ShowsBeginning (behind log cs) ds 0) (ShowsBeginning log es (length cs))
+    (λ t b.
+    let begins : take (length cs + b.count) es ≡ cs ++ take b.count ds = ap (take (length cs + b.count)) e ∙ take-append-add cs ds b.count in
+    let same : behind log (take (length cs + b.count) es) ≡ behind (behind log cs) (take b.count ds) =
+    ap (behind log) begins ∙ behind-append log cs (take b.count ds) in
+    record {
+      count = length cs + b.count;
+      holds = omega arith;
+      within = omega (arith, b.within, length-append cs ds, ap length e);
+      are = subst AreCommands (sym same) b.are;
+      shows = subst (λ (l : List Command). Shows t l) (sym same) b.shows;
+    })
+    stop
+
+-- refused commands leave a beginning of them
+pub refused_stop : (fault : Fault) (c c' : Seen) (log cs : List Command) → Refuses fault c c' cs → c'.honest → StandsAt c log → LeavesOnly c' (ShowsBeginning log cs 0)
+refused_stop Memory c c' log cs u h s = leaves_weaker c' (λ t. Shows t log) (ShowsBeginning log cs 0)
+    (λ t shown. record { count = 0; holds = omega arith; within = omega arith; are = s.shows.commands; shows = shown })
+    (leaves_still c c' (λ t. Shows t log) u.left s.stop)
+refused_stop Store c c' log cs u h s = u.stop h log s
+refused_stop Down c c' log cs u h s = absurd (s.up u.before)
+refused_stop (Damaged rule) c c' log cs u h s = absurd (u.never_shown h log s.shows)
+
+-- all of one text and a beginning of the next are a beginning of both
+pub written_part : (a b t u : List ℕ) → a ≡ t → b ≡ take (length b) u → a ++ b ≡ take (length (a ++ b)) (t ++ u)
+written_part a b t u ea eb =
+    ap (λ (x : List ℕ). x ++ b) ea ∙ ap (λ (x : List ℕ). t ++ x) eb ∙ sym (take-append-add t u (length b))
+    ∙ ap (λ (j : ℕ). take j (t ++ u)) (ap (λ (x : List ℕ). length x + length b) (sym ea) ∙ sym (length-append a b))
