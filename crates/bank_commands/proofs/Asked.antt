@@ -13,7 +13,7 @@ use Rattle.bank_endings.specs.Lines.{IsRequest, IsShown}
 use Rattle.bank_endings.specs.declared.fault.CommandFault.{CommandFault}
 use Rattle.bank_endings.specs.declared.fault.CommandFault.TheVariants as fault
 use Rattle.bank_endings.specs.declared.status.Status.{Status}
-use Rattle.bank_endings.specs.declared.status.Status.TheVariants.{Done, Differs, Input, System}
+use Rattle.bank_endings.specs.declared.status.Status.TheVariants.{Done, Input, System}
 use Rattle.bank_words.specs.Words.{AskToDrive, AskToInit, AskToLoad, AskToPost, IsSpelledBy, number_of}
 use Rattle.bank_words.specs.declared.reading.Command.{Command}
 use Rattle.bank_words.specs.declared.reading.Command.TheVariants.{Drive, Init, Load, Post, Serve, Statement}
@@ -21,6 +21,7 @@ use Rattle.bank_commands.specs.Running.{Does, DrivesIn, LoadsIn, MakesIn, ended_
 use Rattle.bank_commands.specs.Working.{IsUntouched, PostsIn}
 use Rattle.bank_commands.proofs.Driven.{word_at}
 use Rattle.bank_commands.proofs.Endings.{memory_ends, mistake_keeps}
+use Rattle.bank_commands.proofs.Worked.{drives_lift, loads_lift}
 
 -- ---- after a fault the work isn't done
 
@@ -43,25 +44,13 @@ fault_ends fault.Network = inl refl
 system_is_not_done : (status : Status) → status ≡ System → status ≢ Done
 system_is_not_done status is done = let bad : System ≡ Done = sym is ∙ done in cc
 
-system_is_not_differs : (status : Status) → status ≡ System → status ≢ Differs
-system_is_not_differs status is done = let bad : System ≡ Differs = sym is ∙ done in cc
-
 input_is_not_done : (status : Status) → status ≡ Input → status ≢ Done
 input_is_not_done status is done = let bad : Input ≡ Done = sym is ∙ done in cc
-
-input_is_not_differs : (status : Status) → status ≡ Input → status ≢ Differs
-input_is_not_differs status is done = let bad : Input ≡ Differs = sym is ∙ done in cc
 
 pub fault_is_not_done : (f : CommandFault) → status_of f ≢ Done
 fault_is_not_done f done = elim (fault_ends f) [
   | inl system ↦ system_is_not_done (status_of f) system done
   | inr input ↦ input_is_not_done (status_of f) input done
-]
-
-fault_is_not_differs : (f : CommandFault) → status_of f ≢ Differs
-fault_is_not_differs f done = elim (fault_ends f) [
-  | inl system ↦ system_is_not_differs (status_of f) system done
-  | inr input ↦ input_is_not_differs (status_of f) input done
 ]
 
 -- ---- words of one command spell no other
@@ -103,20 +92,19 @@ module _ {C : Type 0} (seen : C → Seen) (image : Image) (r r' w w' k k' : Opti
       absurd (omega (arith, letter_of words (Serve file address connections) spelled, ap letter (ap (drop 1) asked.3)))
 
   pub loaded_by : AskToLoad words → (command : Command) (result : Result Status CommandFault) → IsSpelledBy words command
-      → Does seen image r r' w w' k k' command result → (status_after result ≡ Done) ⊎ (status_after result ≡ Differs)
-      → LoadsIn seen image (status_after result) w w'
-  loaded_by asked (Load file plan) (Ok status) spelled does done = does
-  loaded_by asked (Load file plan) (Err f) spelled does (inl done) = absurd (fault_is_not_done f done)
-  loaded_by asked (Load file plan) (Err f) spelled does (inr done) = absurd (fault_is_not_differs f done)
-  loaded_by asked (Init file) result spelled does done =
+      → Does seen image r r' w w' k k' command result
+      → LoadsIn seen image w w' (λ end. status_after result ≡ status_after end)
+  loaded_by asked (Load file plan) result spelled does =
+      loads_lift result seen image k k' w w' does
+  loaded_by asked (Init file) result spelled does =
       absurd (omega (arith, letter_of words (Init file) spelled, ap letter (ap (drop 1) asked.5)))
-  loaded_by asked (Post file) result spelled does done =
+  loaded_by asked (Post file) result spelled does =
       absurd (omega (arith, letter_of words (Post file) spelled, ap letter (ap (drop 1) asked.5)))
-  loaded_by asked (Drive file seed count) result spelled does done =
+  loaded_by asked (Drive file seed count) result spelled does =
       absurd (omega (arith, letter_of words (Drive file seed count) spelled, ap letter (ap (drop 1) asked.5)))
-  loaded_by asked (Statement file account) result spelled does done =
+  loaded_by asked (Statement file account) result spelled does =
       absurd (omega (arith, letter_of words (Statement file account) spelled, ap letter (ap (drop 1) asked.5)))
-  loaded_by asked (Serve file address connections) result spelled does done =
+  loaded_by asked (Serve file address connections) result spelled does =
       absurd (omega (arith, letter_of words (Serve file address connections) spelled, ap letter (ap (drop 1) asked.5)))
 
   -- a run says what its command says
@@ -143,24 +131,25 @@ module _ {C : Type 0} (seen : C → Seen) (image : Image) (r r' w w' k k' : Opti
       absurd (omega (arith, letter_of words (Serve file address connections) spelled, ap letter (ap (drop 1) asked.3)))
 
   pub driven_in : (asked : AskToDrive words) (command : Command) (result : Result Status CommandFault) → IsSpelledBy words command
-      → Does seen image r r' w w' k k' command result → status_after result ≡ Done
-      → DrivesIn seen image k k' w w' (number_of asked.2) (number_of asked.3)
-  driven_in asked (Drive file seed count) (Ok status) spelled does done =
+      → Does seen image r r' w w' k k' command result
+      → DrivesIn seen image k k' w w' (number_of asked.2) (number_of asked.3) (λ end. status_after result ≡ status_after end)
+  driven_in asked (Drive file seed count) result spelled does =
       let words_are = sym spelled.2 ∙ ap (drop 1) asked.7 in
       let seeds : seed ≡ number_of asked.2 = spelled.3 ∙ ap number_of (ap (word_at 3) words_are) in
       let counts : count ≡ number_of asked.3 = spelled.4 ∙ ap number_of (ap (word_at 5) words_are) in
-      subst (λ (n : ℕ). DrivesIn seen image k k' w w' (number_of asked.2) n) counts
-      (subst (λ (n : ℕ). DrivesIn seen image k k' w w' n count) seeds does)
-  driven_in asked (Drive file seed count) (Err f) spelled does done = absurd (fault_is_not_done f done)
-  driven_in asked (Init file) result spelled does done =
+      let Ends : Result Status CommandFault → Type 0 = λ end. status_after result ≡ status_after end in
+      subst (λ (n : ℕ). DrivesIn seen image k k' w w' (number_of asked.2) n Ends) counts
+      (subst (λ (n : ℕ). DrivesIn seen image k k' w w' n count Ends) seeds
+      (drives_lift result seen image k k' w w' seed count does))
+  driven_in asked (Init file) result spelled does =
       absurd (omega (arith, letter_of words (Init file) spelled, ap letter (ap (drop 1) asked.7)))
-  driven_in asked (Load file plan) result spelled does done =
+  driven_in asked (Load file plan) result spelled does =
       absurd (omega (arith, letter_of words (Load file plan) spelled, ap letter (ap (drop 1) asked.7)))
-  driven_in asked (Post file) result spelled does done =
+  driven_in asked (Post file) result spelled does =
       absurd (omega (arith, letter_of words (Post file) spelled, ap letter (ap (drop 1) asked.7)))
-  driven_in asked (Statement file account) result spelled does done =
+  driven_in asked (Statement file account) result spelled does =
       absurd (omega (arith, letter_of words (Statement file account) spelled, ap letter (ap (drop 1) asked.7)))
-  driven_in asked (Serve file address connections) result spelled does done =
+  driven_in asked (Serve file address connections) result spelled does =
       absurd (omega (arith, letter_of words (Serve file address connections) spelled, ap letter (ap (drop 1) asked.7)))
 
 -- ---- where memory ran out before the command was read
@@ -171,11 +160,6 @@ memory_is_no_request kind memory (inr asked) = let bad : OutOfMemory ≡ Display
 
 pub not_done : (kind : ErrorKind) (status : Status) → kind ≡ OutOfMemory → IsShown kind status → status ≢ Done
 not_done kind status memory shown = system_is_not_done status (memory_ends kind status memory shown)
-
-pub nothing_loaded : (kind : ErrorKind) (status : Status) → kind ≡ OutOfMemory → IsShown kind status
-    → (status ≡ Done) ⊎ (status ≡ Differs) → ⊥
-nothing_loaded kind status memory shown (inl done) = system_is_not_done status (memory_ends kind status memory shown) done
-nothing_loaded kind status memory shown (inr done) = system_is_not_differs status (memory_ends kind status memory shown) done
 
 pub nothing_posted : {C : Type 0} (seen : C → Seen) (image : Image) (r w w' k : Option (List ℕ)) (kind : ErrorKind) (status : Status)
     → kind ≡ OutOfMemory → IsShown kind status → Keeps w w' ⊎ IsRequest kind

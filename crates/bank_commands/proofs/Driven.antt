@@ -16,18 +16,8 @@ use Rattle.bank_words.specs.declared.reading.Command.{Command}
 use Rattle.bank_words.specs.declared.reading.Command.TheVariants.{Drive, Init, Load, Post, Serve, Statement}
 use Rattle.bank_words.proofs.Getters.{apart}
 use Rattle.bank_commands.specs.Running.{Ends, TellsDriven}
-use Rattle.bank_commands.specs.Working.{DrivesAndTells}
 
--- the line has the counts of the drive's replies
-pub told_all : {C : Type 0} (seen : C → Seen) (old new : C) (k k' : Option (List ℕ)) (seed count : ℕ)
-    (before after : Option (List ℕ)) (r : Result (Unit {0}) CommandFault) (driven : Driven)
-    → Drives seen old new k k' seed count (Ok driven)
-    → OnOk r (Appends before after (driven_line count driven))
-    → OnOk r (DrivesAndTells seen old new k k' seed count before after)
-told_all seen old new k k' seed count before after (Ok done) driven drives line = (driven, drives, line)
-told_all seen old new k k' seed count before after (Err fault) driven drives line = tt
-
--- and each record was posted or not
+-- the line has the counts of the drive's replies, and each record was posted or not
 pub told_driven : {C : Type 0} (seen : C → Seen) (old new : C) (k k' : Option (List ℕ)) (seed count : ℕ)
     (before after : Option (List ℕ)) (r : Result (Unit {0}) CommandFault) (driven : Driven)
     → Drives seen old new k k' seed count (Ok driven)

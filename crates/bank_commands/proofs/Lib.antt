@@ -1,6 +1,7 @@
 pub mod Asked
 pub mod Driven
 pub mod Endings
+pub mod Worked
 pub mod Found
 pub mod Served
 pub mod Stated

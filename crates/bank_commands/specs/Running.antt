@@ -1,5 +1,5 @@
 -- How a run of the program ends, and what it prints, by its words.
-use Rattle.std.specs.Prelude.{◌≡◌, ◌≢◌, ◌⊎◌, ◌+◌, ℕ, List, [], Option, Result, Ok, Err, IfOk, OnOk, IsErr, ⊤}
+use Rattle.std.specs.Prelude.{◌≡◌, ◌≢◌, ◌⊎◌, ◌+◌, ℕ, List, [], Option, Result, Ok, Err, OnOk, IsErr}
 use Rattle.std.specs.Io.KnownBytes.{Appends, Keeps}
 use Rattle.std.specs.declared.net.socket_addr.SocketAddr.{SocketAddr}
 use Rattle.clap.specs.Words.{IsAmong, Text, fault_of}
@@ -7,8 +7,10 @@ use Rattle.clap.specs.declared.error.kind.ErrorKind.{ErrorKind}
 use Rattle.sqlite_wal.specs.Recovery.{Image}
 use Rattle.posting_rules.specs.Counter.{Seen}
 use Rattle.posting_core.specs.declared.stream.StreamFault.{StreamFault}
+use Rattle.bank_driver.specs.Drives.{Drives}
 use Rattle.bank_driver.specs.declared.driving.Driven.{Driven}
 use Rattle.branch_loader.specs.declared.loading.Loaded.{Loaded}
+use Rattle.counter_tcp.specs.Connections.{Serves}
 use Rattle.bank_words.specs.CommandLine.{bank_app}
 use Rattle.bank_words.specs.declared.reading.Command.{Command}
 use Rattle.bank_words.specs.declared.reading.Command.TheVariants.{Drive, Init, Load, Post, Serve, Statement}
@@ -20,9 +22,9 @@ use Rattle.bank_endings.specs.declared.fault.CommandFault.{CommandFault}
 use Rattle.bank_endings.specs.declared.status.Status.{Status}
 use Rattle.bank_endings.specs.declared.status.Status.TheVariants.{Done}
 use Rattle.bank_audits.specs.declared.fault.ReportFault.{ReportFault}
-use Rattle.bank_commands.specs.InFile.{IsNewIn, WorksIn}
+use Rattle.bank_commands.specs.InFile.{IsNewIn}
 use Rattle.bank_commands.specs.Stating.{StatesIn, said_of_statement}
-use Rattle.bank_commands.specs.Working.{DrivesAndTells, Loads, PostsIn}
+use Rattle.bank_commands.specs.Working.{EndsInFault, LoadsAs, PostsIn, RunsIn, TellsDrive, TellsLoad, TellsServing}
 
 -- clap takes the words for no command, and not for a call for help either
 pub record AreRefused (words : List Text) : Type 0 where
@@ -80,26 +82,42 @@ status_after (Err fault) = status_of fault
 abbrev pub MakesIn : {C : Type 0} → (C → Seen) → Image → Type 0
 MakesIn {C} seen image = (made : C) × IsNewIn image (seen made)
 
--- the openings of a plan were taken, and the line that was printed has the counts of their answers
-abbrev pub LoadsIn : {C : Type 0} → (C → Seen) → Image → Status → Option (List ℕ) → Option (List ℕ) → Type 0
-LoadsIn seen image status w w' = (loaded : Loaded) × Tells status w w' loaded
-    × WorksIn seen image (λ old new. Loads (seen old) (seen new) loaded)
+-- how the program ends after a plan was loaded
+abbrev pub ended_by_load : Result Loaded CommandFault → Result Status CommandFault
+ended_by_load (Ok loaded) = Ok (status_of_loaded loaded)
+ended_by_load (Err fault) = Err fault
 
--- so many records of a seed were taken, and the line that was printed has the counts of their replies
+-- a plan's openings were taken, or the first of them, and the line that was printed has the counts of their answers
+abbrev pub LoadsIn : {C : Type 0} → (C → Seen) → Image → (w w' : Option (List ℕ))
+    → (Ends : Result Status CommandFault → Type 0) → Type 0
+LoadsIn seen image w w' Ends =
+    RunsIn seen image (EndsInFault Ends × Keeps w w') (TellsLoad Ends w w') (LoadsAs seen)
+
+-- so many records of a seed were taken, or the first of them, and the line that was printed has the counts of their
+-- replies
 abbrev pub DrivesIn : {C : Type 0} → (C → Seen) → Image → (k k' w w' : Option (List ℕ)) → (seed count : ℕ)
-    → Type 0
-DrivesIn seen image k k' w w' seed count =
-    WorksIn seen image (λ old new. DrivesAndTells seen old new k k' seed count w w')
+    → (Ends : Result Status CommandFault → Type 0) → Type 0
+DrivesIn seen image k k' w w' seed count Ends =
+    RunsIn seen image (EndsInFault Ends × Keeps w w' × (k' ≡ k)) (TellsDrive Ends w w' count)
+    (λ told old new. Drives seen old new k k' seed count told)
+
+-- so many connections were served by the bank, or as many as it and the network let
+abbrev pub ServesIn : {C : Type 0} → (C → Seen) → Image → (k k' : Option (List ℕ)) → (count : ℕ)
+    → (Ends : Result Status CommandFault → Type 0) → Type 0
+ServesIn seen image k k' count Ends =
+    RunsIn seen image (EndsInFault Ends × (k' ≡ k)) (TellsServing Ends)
+    (λ told old new. Serves seen k k' old new count told)
 
 abbrev pub Does : {C : Type 0} → (C → Seen) → Image → (r r' w w' k k' : Option (List ℕ)) → Command
     → Result Status CommandFault → Type 0
 Does seen image r r' w w' k k' (Init file) result = OnOk result (MakesIn seen image)
 Does seen image r r' w w' k k' (Load file plan) result =
-    IfOk result (λ status. LoadsIn seen image status w w')
+    LoadsIn seen image w w' (λ end. result ≡ end)
 Does seen image r r' w w' k k' (Post file) result =
     PostsIn seen image r r' w w' k k' (IsErr result) (λ told. result ≡ ended_by told)
 Does seen image r r' w w' k k' (Drive file seed count) result =
-    OnOk result (DrivesIn seen image k k' w w' seed count)
+    DrivesIn seen image k k' w w' seed count (λ end. result ≡ end)
 Does seen image r r' w w' k k' (Statement file account) result =
     StatesIn seen image account w w' (IsErr result) (λ told. result ≡ stated_by account told)
-Does seen image r r' w w' k k' (Serve file address connections) result = ⊤
+Does seen image r r' w w' k k' (Serve file address connections) result =
+    ServesIn seen image k k' connections (λ end. result ≡ end)

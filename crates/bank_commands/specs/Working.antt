@@ -2,21 +2,25 @@
 use Rattle.std.specs.Prelude.{◌≡◌, ◌⊎◌, ℕ, List, Option, Result, Ok, Err, length}
 use Rattle.std.specs.Io.KnownBytes.{Appends, Keeps}
 use Rattle.sqlite_wal.specs.Recovery.{Image}
+use Rattle.posting_rules.specs.declared.fault.Fault.{Fault}
 use Rattle.posting_rules.specs.Commands.{Command}
 use Rattle.posting_rules.specs.Counter.{Seen, ShowsLog, Takes}
 use Rattle.posting_core.specs.Stream.{Streamed, Outputs, Survives, Resends}
 use Rattle.posting_core.specs.declared.stream.StreamFault.{StreamFault}
-use Rattle.branch_loader.specs.Loading.{answers, counted, total}
+use Rattle.branch_loader.specs.Loading.{IsRefusedAfter, answers, counted, total}
 use Rattle.branch_loader.specs.Plans.{Rows, openings}
 use Rattle.branch_loader.specs.declared.loading.Loaded.{Loaded}
-use Rattle.bank_driver.specs.Drives.{Drives}
 use Rattle.bank_driver.specs.declared.driving.Driven.{Driven}
+use Rattle.bank_driver.specs.declared.fault.DriveFault.{DriveFault}
 use Rattle.counter_tcp.specs.Connections.{Serves}
 use Rattle.counter_tcp.specs.declared.fault.ListenFault.{ListenFault}
-use Rattle.bank_endings.specs.Faults.{fault_of_serving, fault_of_stream}
-use Rattle.bank_endings.specs.Lines.{driven_line}
+use Rattle.bank_endings.specs.Faults.{fault_of_bank, fault_of_drive, fault_of_serving, fault_of_stream}
+use Rattle.bank_endings.specs.Lines.{driven_line, loaded_line}
+use Rattle.bank_endings.specs.Statuses.{status_of_loaded}
 use Rattle.bank_endings.specs.declared.fault.CommandFault.{CommandFault}
-use Rattle.bank_endings.specs.declared.fault.CommandFault.TheVariants.{Network}
+use Rattle.bank_endings.specs.declared.fault.CommandFault.TheVariants.{Write}
+use Rattle.bank_endings.specs.declared.status.Status.{Status}
+use Rattle.bank_endings.specs.declared.status.Status.TheVariants.{Done}
 use Rattle.bank_commands.specs.InFile.{WorksIn}
 
 -- the bank took the openings of a plan, and they were answered so many times in each way
@@ -26,33 +30,64 @@ pub record Loads (old new : Seen) (loaded : Loaded) : Type 0 where
   pub all : total loaded ≡ length rows
   pub counts : new.honest → (log : List Command) → ShowsLog old log → loaded ≡ counted (answers log rows)
 
--- the bank took so many records of a seed, and the line that was printed has the counts of their replies
-abbrev pub DrivesAndTells : {C : Type 0} → (C → Seen) → (old new : C) → (k k' : Option (List ℕ)) → (seed count : ℕ)
-    → (before after : Option (List ℕ))
-    → Type 0
-DrivesAndTells seen old new k k' seed count before after =
-    (driven : Driven) × Drives seen old new k k' seed count (Ok driven)
-    × Appends before after (driven_line count driven)
+-- the openings of a plan were taken; or some were, and the bank refused the next one
+abbrev pub LoadsAs : {C : Type 0} → (C → Seen) → Result Loaded Fault → (old new : C) → Type 0
+LoadsAs seen (Ok loaded) old new = Loads (seen old) (seen new) loaded
+LoadsAs seen (Err fault) old new = (rows : Rows) × (answered : ℕ)
+    × IsRefusedAfter seen old new (openings rows) fault answered
 
--- a serving ends the command so
-abbrev pub result_of_serving : Result (Unit {0}) ListenFault → Result (Unit {0}) CommandFault
-result_of_serving (Ok done) = Ok done
-result_of_serving (Err fault) = Err (fault_of_serving fault)
+-- ---- how a command ends that worked with a bank, and what it printed: w and w' are the known bytes of the output, and
+-- Ends says of a result whether the command ends with it
 
--- so many connections were served by the bank, or as many as it and the network let
-abbrev pub ServesAs : {C : Type 0} → (C → Seen) → (k k' : Option (List ℕ)) → (old new : C) → ℕ
-    → Result (Unit {0}) CommandFault
-    → Type 0
-ServesAs seen k k' old new count result =
-    (served : Result (Unit {0}) ListenFault) × Serves seen k k' old new count served
-    × (result ≡ result_of_serving served)
+abbrev pub EndsInFault : (Ends : Result Status CommandFault → Type 0) → Type 0
+EndsInFault Ends = (fault : CommandFault) × Ends (Err fault)
 
--- or the address couldn't be bound, and none was
-abbrev pub MayServe : {C : Type 0} → (C → Seen) → (k k' : Option (List ℕ)) → (old new : C) → ℕ
-    → Result (Unit {0}) CommandFault
+-- with a line of what it did, or with a fault where that couldn't be written
+abbrev pub EndsWithLine : (Ends : Result Status CommandFault → Type 0) → (w w' : Option (List ℕ)) → Status → List ℕ
     → Type 0
-MayServe seen k k' old new count result = ServesAs seen k k' old new count result
-    ⊎ ((result ≡ Err Network) × (new ≡ old) × (k' ≡ k))
+EndsWithLine Ends w w' status line = (Ends (Ok status) × Appends w w' line) ⊎ Ends (Err Write)
+
+-- with a fault, and nothing was printed
+abbrev pub EndsSilently : (Ends : Result Status CommandFault → Type 0) → (w w' : Option (List ℕ)) → CommandFault
+    → Type 0
+EndsSilently Ends w w' fault = Ends (Err fault) × Keeps w w'
+
+abbrev pub TellsLoad : (Ends : Result Status CommandFault → Type 0) → (w w' : Option (List ℕ))
+    → Result Loaded Fault → Type 0
+TellsLoad Ends w w' (Ok loaded) = EndsWithLine Ends w w' (status_of_loaded loaded) (loaded_line loaded)
+TellsLoad Ends w w' (Err fault) = EndsSilently Ends w w' (fault_of_bank fault)
+
+abbrev pub TellsDrive : (Ends : Result Status CommandFault → Type 0) → (w w' : Option (List ℕ)) → (count : ℕ)
+    → Result Driven DriveFault → Type 0
+TellsDrive Ends w w' count (Ok driven) = EndsWithLine Ends w w' Done (driven_line count driven)
+TellsDrive Ends w w' count (Err fault) = EndsSilently Ends w w' (fault_of_drive fault)
+
+abbrev pub TellsServing : (Ends : Result Status CommandFault → Type 0) → Result (Unit {0}) ListenFault → Type 0
+TellsServing Ends (Ok done) = Ends (Ok Done)
+TellsServing Ends (Err fault) = Ends (Err (fault_of_serving fault))
+
+-- ---- the work of such a command
+
+-- nothing was done with the bank, and Idle holds; or what was done with it was told
+abbrev pub Works : {C X : Type 0} → (Idle : Type 0) → (Tells : X → Type 0) → (Did : X → C → C → Type 0)
+    → (old new : C) → Type 0
+Works {C} {X} Idle Tells Did old new = (Idle × (new ≡ old)) ⊎ ((told : X) × Tells told × Did told old new)
+
+-- a plan was loaded into a bank, or it couldn't be read
+abbrev pub LoadsOver : {C : Type 0} → (C → Seen) → (w w' : Option (List ℕ))
+    → (Ends : Result Status CommandFault → Type 0) → (old new : C) → Type 0
+LoadsOver seen w w' Ends = Works (EndsInFault Ends × Keeps w w') (TellsLoad Ends w w') (LoadsAs seen)
+
+-- so many connections were served by a bank, or as many as it and the network let; or the address couldn't be had
+abbrev pub ServesOver : {C : Type 0} → (C → Seen) → (k k' : Option (List ℕ)) → (count : ℕ)
+    → (Ends : Result Status CommandFault → Type 0) → (old new : C) → Type 0
+ServesOver seen k k' count Ends =
+    Works (EndsInFault Ends × (k' ≡ k)) (TellsServing Ends) (λ told old new. Serves seen k k' old new count told)
+
+-- no bank was found in the files, and Idle holds; or so it was with the bank that was
+abbrev pub RunsIn : {C X : Type 0} → (C → Seen) → Image → (Idle : Type 0) → (Tells : X → Type 0)
+    → (Did : X → C → C → Type 0) → Type 0
+RunsIn seen image Idle Tells Did = Idle ⊎ WorksIn seen image (Works Idle Tells Did)
 
 -- ---- posting; r and r' are the known bytes of the input before and after, w and w' those of the output, k and k'
 -- the clock's known readings

@@ -1,13 +1,15 @@
 //! The four commands.
-ghost use Rattle.std.specs.Prelude.{◌≡◌, ◌≢◌, ◌≤◌, IfErr, IfOk, IsErr, OnOk};
+ghost use Rattle.std.specs.Prelude.{◌≡◌, ◌≢◌, ◌≤◌, IfErr, IfOk, IsErr, OnOk, Result};
 ghost use Rattle.std.specs.Io.KnownBytes.{Appends, IsAtEnd, Keeps};
 ghost use Rattle.sqlite_wal.specs.Files.{image_at};
 ghost use Rattle.bank_store.specs.Seen.{bank_seen};
 ghost use Rattle.bank_endings.specs.Faults.{IsOfFile};
 ghost use Rattle.bank_endings.specs.Lines.{created_line, loaded_line};
-ghost use Rattle.bank_commands.specs.InFile.{WorksIn};
-ghost use Rattle.bank_commands.specs.Running.{DrivesIn, MakesIn, TellsDriven};
-ghost use Rattle.bank_commands.specs.Working.{DrivesAndTells, Loads, PostsIn, PostsTo, said_of};
+ghost use Rattle.bank_driver.specs.Drives.{Drives};
+ghost use Rattle.bank_driver.specs.declared.driving.Driven.{Driven};
+ghost use Rattle.bank_driver.specs.declared.fault.DriveFault.{DriveFault};
+ghost use Rattle.bank_commands.specs.Running.{DrivesIn, LoadsIn, MakesIn, TellsDriven, done_after, ended_by_load};
+ghost use Rattle.bank_commands.specs.Working.{LoadsOver, PostsIn, TellsDrive, said_of};
 
 use crate::files::{close, find_bank, make_bank, plan_in};
 use bank_driver::{MAX_DRIVEN, drive_records};
@@ -45,8 +47,8 @@ pub fn load_plan<S: Start, W: Write>(
     plan: &str,
     output: &mut W,
 ) -> Result<Loaded, CommandFault>
-    ensures loads { IfOk result (λ loaded. let seen = bank_seen ⟦<FileStore<FileFrom<S>> as Store>⟧ in
-        WorksIn seen (image_at S.Start) (λ old new. Loads (seen old) (seen new) loaded)) }
+    ensures loads { LoadsIn (bank_seen ⟦<FileStore<FileFrom<S>> as Store>⟧) (image_at S.Start)
+        (W.contents output.old) (W.contents output.new) (λ end. ended_by_load result ≡ end) }
     ensures line { IfOk result
         (λ loaded. Appends (W.contents output.old) (W.contents output.new) (loaded_line loaded)) }
     ensures silent { IfErr result
@@ -65,7 +67,8 @@ fn load_into<R: Files + AllocGlobal, C: Counter, W: Write>(
     bank: &mut C,
     output: &mut W,
 ) -> Result<Loaded, CommandFault>
-    ensures loads { IfOk result (Loads (C.seen bank.old) (C.seen bank.new)) }
+    ensures loads { LoadsOver C.seen (W.contents output.old) (W.contents output.new)
+        (λ end. ended_by_load result ≡ end) bank.old bank.new }
     ensures line { IfOk result
         (λ loaded. Appends (W.contents output.old) (W.contents output.new) (loaded_line loaded)) }
     ensures silent { IfErr result
@@ -113,9 +116,9 @@ pub fn drive<S: Start, W: Write, K: Clock>(
 ) -> Result<(), CommandFault>
     requires some { 1 ≤ count }
     requires few { count ≤ MAX_DRIVEN }
-    ensures drives { OnOk result (DrivesIn (bank_seen ⟦<FileStore<FileFrom<S>> as Store>⟧) (image_at S.Start)
+    ensures drives { DrivesIn (bank_seen ⟦<FileStore<FileFrom<S>> as Store>⟧) (image_at S.Start)
         (K.readings clock.old) (K.readings clock.new)
-        (W.contents output.old) (W.contents output.new) seed count) }
+        (W.contents output.old) (W.contents output.new) seed count (λ end. done_after result ≡ end) }
     ensures line { OnOk result (TellsDriven count (W.contents output.old) (W.contents output.new)) }
     ensures silent { IfErr result
         (λ fault. fault ≢ CommandFault.Write → Keeps (W.contents output.old) (W.contents output.new)) }
@@ -137,8 +140,9 @@ fn drive_into<C: Counter, W: Write, K: Clock>(
 ) -> Result<(), CommandFault>
     requires some { 1 ≤ count }
     requires few { count ≤ MAX_DRIVEN }
-    ensures drives { OnOk result (DrivesAndTells C.seen bank.old bank.new (K.readings clock.old)
-        (K.readings clock.new) seed count (W.contents output.old) (W.contents output.new)) }
+    ensures drives { (told : Result Driven DriveFault)
+        × TellsDrive (λ end. done_after result ≡ end) (W.contents output.old) (W.contents output.new) count told
+        × Drives C.seen bank.old bank.new (K.readings clock.old) (K.readings clock.new) seed count told }
     ensures line { OnOk result (TellsDriven count (W.contents output.old) (W.contents output.new)) }
     ensures silent { IfErr result
         (λ fault. fault ≢ CommandFault.Write → Keeps (W.contents output.old) (W.contents output.new)) }

@@ -9,7 +9,7 @@ ghost use Rattle.bank_words.specs.CommandLine.{bank_app};
 ghost use Rattle.bank_words.specs.Words.{AreInRange, AsksForHelp, IsSpelled, number_of};
 ghost use Rattle.bank_words.specs.Words.{AskForStatement, AskToDrive, AskToInit, AskToLoad, AskToPost, AskToServe};
 ghost use Rattle.bank_commands.specs.Running.{AreRefused, Does, Ends, TellsDriven, TellsListening};
-ghost use Rattle.bank_commands.specs.Running.{DrivesIn, LoadsIn, MakesIn, ended_by, stated_by, status_after};
+ghost use Rattle.bank_commands.specs.Running.{DrivesIn, LoadsIn, MakesIn, ServesIn, ended_by, stated_by, status_after};
 ghost use Rattle.bank_commands.specs.Stating.{StatesIn};
 ghost use Rattle.bank_commands.specs.Working.{PostsIn};
 
@@ -55,9 +55,8 @@ pub fn run<S: Start, T: AsStr, R: Read, W: Write, E: Write, K: Clock>(
     ensures made { AskToInit (map T.text words.entry.now) → result ≡ Status.Done
         → MakesIn (bank_seen ⟦<FileStore<FileFrom<S>> as Store>⟧) (image_at S.Start) }
     ensures loaded { AskToLoad (map T.text words.entry.now)
-        → (result ≡ Status.Done) ⊎ (result ≡ Status.Differs)
-        → LoadsIn (bank_seen ⟦<FileStore<FileFrom<S>> as Store>⟧) (image_at S.Start) result
-        (W.contents output.old) (W.contents output.new) }
+        → LoadsIn (bank_seen ⟦<FileStore<FileFrom<S>> as Store>⟧) (image_at S.Start)
+        (W.contents output.old) (W.contents output.new) (λ end. result ≡ status_after end) }
     ensures posted { AskToPost (map T.text words.entry.now)
         → PostsIn (bank_seen ⟦<FileStore<FileFrom<S>> as Store>⟧) (image_at S.Start)
         (R.remaining input.old) (R.remaining input.new) (W.contents output.old) (W.contents output.new)
@@ -67,10 +66,13 @@ pub fn run<S: Start, T: AsStr, R: Read, W: Write, E: Write, K: Clock>(
         → TellsDriven (number_of asked.3) (W.contents output.old) (W.contents output.new) }
     ensures served { AskToServe (map T.text words.entry.now) → result ≡ Status.Done
         → TellsListening (W.contents output.old) (W.contents output.new) }
-    ensures drives { (asked : AskToDrive (map T.text words.entry.now)) → result ≡ Status.Done
+    ensures drives { (asked : AskToDrive (map T.text words.entry.now))
         → DrivesIn (bank_seen ⟦<FileStore<FileFrom<S>> as Store>⟧) (image_at S.Start)
         (K.readings clock.old) (K.readings clock.new) (W.contents output.old) (W.contents output.new)
-        (number_of asked.2) (number_of asked.3) }
+        (number_of asked.2) (number_of asked.3) (λ end. result ≡ status_after end) }
+    ensures serves { (asked : AskToServe (map T.text words.entry.now))
+        → ServesIn (bank_seen ⟦<FileStore<FileFrom<S>> as Store>⟧) (image_at S.Start)
+        (K.readings clock.old) (K.readings clock.new) (number_of asked.3) (λ end. result ≡ status_after end) }
     ensures stated { (asked : AskForStatement (map T.text words.entry.now))
         → StatesIn (bank_seen ⟦<FileStore<FileFrom<S>> as Store>⟧) (image_at S.Start) (number_of asked.2)
         (W.contents output.old) (W.contents output.new) (result ≢ Status.Done)

@@ -1,15 +1,18 @@
 //! The command that serves the counter over HTTP.
-ghost use Rattle.std.specs.Prelude.{◌≡◌, ◌≢◌, IfErr, IsErrOf, OnOk};
+ghost use Rattle.std.specs.Prelude.{◌≡◌, ◌≢◌, IfErr, OnOk};
 ghost use Rattle.std.specs.Io.KnownBytes.{Appends};
+ghost use Rattle.sqlite_wal.specs.Files.{image_at};
+ghost use Rattle.bank_store.specs.Seen.{bank_seen};
 ghost use Rattle.bank_endings.specs.Lines.{listening_line};
-ghost use Rattle.bank_commands.specs.Running.{MayTellListening, TellsListening};
-ghost use Rattle.bank_commands.specs.Working.{MayServe, ServesAs};
+ghost use Rattle.bank_commands.specs.Running.{MayTellListening, ServesIn, TellsListening, done_after};
+ghost use Rattle.bank_commands.specs.Working.{ServesOver};
 
 use crate::files::{close, find_bank};
 use bank_endings::{CommandFault, print_listening};
 use counter_tcp::serve_connections;
 use posting_core::{Clock, Counter};
-use sqlite::Start;
+use sqlite::{FileFrom, FileStore, Start};
+use sqlite_trees::store::Store;
 use std::alloc::Global;
 use std::io::Write;
 use std::net::{SocketAddr, TcpListener};
@@ -24,6 +27,8 @@ pub fn serve<S: Start, W: Write, K: Clock>(
     output: &mut W,
     clock: &mut K,
 ) -> Result<(), CommandFault>
+    ensures serves { ServesIn (bank_seen ⟦<FileStore<FileFrom<S>> as Store>⟧) (image_at S.Start)
+        (K.readings clock.old) (K.readings clock.new) connections (λ end. done_after result ≡ end) }
     ensures line { OnOk result (TellsListening (W.contents output.old) (W.contents output.new)) }
     ensures silent { IfErr result (λ fault. fault ≢ CommandFault.Write
         → MayTellListening (W.contents output.old) (W.contents output.new)) }
@@ -46,9 +51,8 @@ fn listen<C: Counter, W: Write, K: Clock>(
     ensures line { OnOk result (TellsListening (W.contents output.old) (W.contents output.new)) }
     ensures silent { IfErr result (λ fault. fault ≢ CommandFault.Write
         → MayTellListening (W.contents output.old) (W.contents output.new)) }
-    ensures serves { (result ≢ Err CommandFault.Write)
-        → MayServe C.seen (K.readings clock.old) (K.readings clock.new) bank.old bank.new connections result }
-    ensures unserved { IsErrOf result CommandFault.Write → bank.new ≡ bank.old }
+    ensures serves { ServesOver C.seen (K.readings clock.old) (K.readings clock.new) connections
+        (λ end. done_after result ≡ end) bank.old bank.new }
 {
     let (listener, bound) = bind(rt, address)?;
     serve_at(
@@ -89,9 +93,8 @@ fn serve_at<C: Counter, W: Write, K: Clock>(
         (Appends (W.contents output.old) (W.contents output.new) (listening_line bound)) }
     ensures told { IfErr result (λ fault. fault ≢ CommandFault.Write
         → Appends (W.contents output.old) (W.contents output.new) (listening_line bound)) }
-    ensures serves { (result ≢ Err CommandFault.Write)
-        → ServesAs C.seen (K.readings clock.old) (K.readings clock.new) bank.old bank.new connections result }
-    ensures unserved { IsErrOf result CommandFault.Write → bank.new ≡ bank.old }
+    ensures serves { ServesOver C.seen (K.readings clock.old) (K.readings clock.new) connections
+        (λ end. done_after result ≡ end) bank.old bank.new }
 {
     print_listening(bound, output)?;
     serve_connections(alloc, listener, connections, clock, bank)?;

@@ -1,10 +1,5 @@
-use Rattle.bank_commands.proofs.Driven.{told_all, told_driven}
+use Rattle.bank_commands.proofs.Driven.{told_driven}
 use Rattle.bank_commands.proofs.commands.drive_into.Goals as goal
-
-pub returns-clause-drives : goal.returns-clause-drives
-returns-clause-drives g c =
-    told_all g.C.Counter.seen _ _ _ _ c.args.seed c.args.count _ _ c.print_driven.result c.in_ok-driven.driven
-    c.in_ok-driven.ensures.drives c.print_driven.ensures.line
 
 pub returns-clause-line : goal.returns-clause-line
 returns-clause-line g c =

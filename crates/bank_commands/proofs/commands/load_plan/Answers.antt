@@ -1,13 +1,15 @@
 -- The bank that was found is the one that the plan was loaded into.
-use Rattle.std.proofs.lemmas.Result.{IfOk-weaker}
+use Rattle.std.proofs.Common.{◌≡◌, refl, rules, inl, Err}
+use Rattle.std.proofs.KnownBytes.{Keeps-refl}
+use Rattle.bank_commands.proofs.Worked.{runs}
 use Rattle.bank_commands.proofs.commands.load_plan.Goals as goal
+
+pub returns-in_err-bank-clause-loads : goal.returns-in_err-bank-clause-loads
+returns-in_err-bank-clause-loads g c =
+    let f = c.in_err-bank.field-0.0 in
+    let same : c.from_residual.result ≡ Err f = search rules in
+    rw same (inl ((f, refl), Keeps-refl (g.W.Write.contents c.args.output.now)))
 
 pub returns-clause-loads : goal.returns-clause-loads
 returns-clause-loads g c =
-    IfOk-weaker c.load_into-loaded.result _ _ (λ loaded loads. record {
-      first = c.in_ok-bank.bank;
-      last = c.load_into-loaded.new.bank;
-      found = c.in_ok-bank.ensures;
-      works = loads;
-    })
-    c.load_into-loaded.ensures.loads
+    runs _ _ _ _ _ c.in_ok-bank.bank c.load_into-loaded.new.bank c.in_ok-bank.ensures c.load_into-loaded.ensures.loads

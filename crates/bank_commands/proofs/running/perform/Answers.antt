@@ -20,13 +20,33 @@ returns-in_ok-post-in-Post-clause-does g c =
     (g.K.Clock.readings c.args.clock.now) (g.K.Clock.readings c.post.new.clock)
     (Ok c.in_ok-post-in-Post.field-0) c.in_ok-post-in-Post.ensures.posts)
 
+pub returns-in_err-loaded-in-Load-clause-does : goal.returns-in_err-loaded-in-Load-clause-does
+returns-in_err-loaded-in-Load-clause-does g c =
+    let f = c.in_err-loaded-in-Load.field-0.0 in
+    let same : c.from_residual-in_err-loaded-in-Load.result ≡ Err f = search rules in
+    rw (c.in-Load.is, same) c.in_err-loaded-in-Load.ensures.loads
+
 pub returns-in_ok-loaded-in-Load-clause-does : goal.returns-in_ok-loaded-in-Load-clause-does
 returns-in_ok-loaded-in-Load-clause-does g c =
-    let it = c.in_ok-loaded-in-Load in
-    rw c.in-Load.is (it.loaded, (c.from.ensures, it.ensures.line), it.ensures.loads)
+    rw (c.in-Load.is, c.from.ensures) c.in_ok-loaded-in-Load.ensures.loads
+
+pub returns-in_err-drive-in-Drive-clause-does : goal.returns-in_err-drive-in-Drive-clause-does
+returns-in_err-drive-in-Drive-clause-does g c =
+    let f = c.in_err-drive-in-Drive.field-0.0 in
+    let same : c.from_residual-in_err-drive-in-Drive.result ≡ Err f = search rules in
+    rw (c.in-Drive.is, same) c.in_err-drive-in-Drive.ensures.drives
 
 pub returns-in_ok-drive-in-Drive-clause-does : goal.returns-in_ok-drive-in-Drive-clause-does
 returns-in_ok-drive-in-Drive-clause-does g c = rw c.in-Drive.is c.in_ok-drive-in-Drive.ensures.drives
+
+pub returns-in_err-serve-in-Serve-clause-does : goal.returns-in_err-serve-in-Serve-clause-does
+returns-in_err-serve-in-Serve-clause-does g c =
+    let f = c.in_err-serve-in-Serve.field-0.0 in
+    let same : c.from_residual-in_err-serve-in-Serve.result ≡ Err f = search rules in
+    rw (c.in-Serve.is, same) c.in_err-serve-in-Serve.ensures.serves
+
+pub returns-in_ok-serve-in-Serve-clause-does : goal.returns-in_ok-serve-in-Serve-clause-does
+returns-in_ok-serve-in-Serve-clause-does g c = rw c.in-Serve.is c.in_ok-serve-in-Serve.ensures.serves
 
 pub returns-in_err-statement-in-Statement-clause-does : goal.returns-in_err-statement-in-Statement-clause-does
 returns-in_err-statement-in-Statement-clause-does g c =

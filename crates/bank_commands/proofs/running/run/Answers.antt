@@ -1,12 +1,13 @@
-use Rattle.std.proofs.Common.{◌∙◌, inl, inr, map, sym, Ok, Err}
+use Rattle.std.proofs.Common.{◌∙◌, inl, inr, map, refl, sym, Ok, Err}
 use Rattle.clap.specs.Words.{kind_of}
 use Rattle.bank_commands.proofs.Asked.{driven_in, loaded_by, made_by, posted_by}
-use Rattle.bank_commands.proofs.Asked.{not_done, nothing_loaded, nothing_posted}
+use Rattle.bank_commands.proofs.Asked.{memory_is_no_request, not_done, nothing_posted}
 use Rattle.bank_commands.proofs.Driven.{driven_by}
 use Rattle.bank_commands.proofs.Endings.{help_ends, memory_ends, mistake_ends, mistake_keeps, not_asked}
 use Rattle.bank_commands.proofs.Endings.{system_is_not_usage}
-use Rattle.bank_commands.proofs.Served.{served_by}
+use Rattle.bank_commands.proofs.Served.{served_by, served_in}
 use Rattle.bank_commands.proofs.Stated.{nothing_stated, stated_in}
+use Rattle.bank_commands.proofs.Worked.{none_run}
 use Rattle.bank_commands.proofs.running.run.Goals as goal
 
 -- ---- words that are refused
@@ -70,12 +71,12 @@ returns-in-Ok-perform-clause-made g c asked done =
     asked c.in-Ok.command (Ok c.in-Ok-perform.status) (c.in-Ok.ensures.spelled (inl asked)) c.in-Ok-perform.ensures.does done
 
 pub returns-in-Ok-perform-clause-loaded : goal.returns-in-Ok-perform-clause-loaded
-returns-in-Ok-perform-clause-loaded g c asked done =
+returns-in-Ok-perform-clause-loaded g c asked =
     loaded_by _ _ (g.R.Read.remaining c.args.input.now) (g.R.Read.remaining c.perform.new.input)
     (g.W.Write.contents c.args.output.now) (g.W.Write.contents c.perform.new.output)
     (g.K.Clock.readings c.args.clock.now) (g.K.Clock.readings c.perform.new.clock)
     (map g.T.AsStr.text c.args.words.now)
-    asked c.in-Ok.command (Ok c.in-Ok-perform.status) (c.in-Ok.ensures.spelled (inr (inl asked))) c.in-Ok-perform.ensures.does done
+    asked c.in-Ok.command (Ok c.in-Ok-perform.status) (c.in-Ok.ensures.spelled (inr (inl asked))) c.in-Ok-perform.ensures.does
 
 pub returns-in-Ok-perform-clause-posted : goal.returns-in-Ok-perform-clause-posted
 returns-in-Ok-perform-clause-posted g c asked =
@@ -86,12 +87,12 @@ returns-in-Ok-perform-clause-posted g c asked =
     asked c.in-Ok.command (Ok c.in-Ok-perform.status) (c.in-Ok.ensures.spelled (inr (inr (inl asked)))) c.in-Ok-perform.ensures.does
 
 pub returns-in-Ok-perform-clause-drives : goal.returns-in-Ok-perform-clause-drives
-returns-in-Ok-perform-clause-drives g c asked done =
+returns-in-Ok-perform-clause-drives g c asked =
     driven_in _ _ (g.R.Read.remaining c.args.input.now) (g.R.Read.remaining c.perform.new.input)
     (g.W.Write.contents c.args.output.now) (g.W.Write.contents c.perform.new.output)
     (g.K.Clock.readings c.args.clock.now) (g.K.Clock.readings c.perform.new.clock)
     (map g.T.AsStr.text c.args.words.now)
-    asked c.in-Ok.command (Ok c.in-Ok-perform.status) (c.in-Ok.ensures.spelled (inr (inr (inr (inl asked))))) c.in-Ok-perform.ensures.does done
+    asked c.in-Ok.command (Ok c.in-Ok-perform.status) (c.in-Ok.ensures.spelled (inr (inr (inr (inl asked))))) c.in-Ok-perform.ensures.does
 
 pub returns-in-Err-perform-clause-made : goal.returns-in-Err-perform-clause-made
 returns-in-Err-perform-clause-made g c asked done =
@@ -102,13 +103,12 @@ returns-in-Err-perform-clause-made g c asked done =
     asked c.in-Ok.command (Err c.in-Err-perform.fault) (c.in-Ok.ensures.spelled (inl asked)) c.in-Err-perform.ensures.does (sym c.tell.ensures ∙ done)
 
 pub returns-in-Err-perform-clause-loaded : goal.returns-in-Err-perform-clause-loaded
-returns-in-Err-perform-clause-loaded g c asked done =
+returns-in-Err-perform-clause-loaded g c asked =
     rw c.tell.ensures (loaded_by _ _ (g.R.Read.remaining c.args.input.now) (g.R.Read.remaining c.perform.new.input)
     (g.W.Write.contents c.args.output.now) (g.W.Write.contents c.perform.new.output)
     (g.K.Clock.readings c.args.clock.now) (g.K.Clock.readings c.perform.new.clock)
     (map g.T.AsStr.text c.args.words.now)
-    asked c.in-Ok.command (Err c.in-Err-perform.fault) (c.in-Ok.ensures.spelled (inr (inl asked))) c.in-Err-perform.ensures.does
-    (rw c.tell.ensures at done))
+    asked c.in-Ok.command (Err c.in-Err-perform.fault) (c.in-Ok.ensures.spelled (inr (inl asked))) c.in-Err-perform.ensures.does)
 
 pub returns-in-Err-perform-clause-posted : goal.returns-in-Err-perform-clause-posted
 returns-in-Err-perform-clause-posted g c asked =
@@ -119,12 +119,30 @@ returns-in-Err-perform-clause-posted g c asked =
     asked c.in-Ok.command (Err c.in-Err-perform.fault) (c.in-Ok.ensures.spelled (inr (inr (inl asked)))) c.in-Err-perform.ensures.does)
 
 pub returns-in-Err-perform-clause-drives : goal.returns-in-Err-perform-clause-drives
-returns-in-Err-perform-clause-drives g c asked done =
-    driven_in _ _ (g.R.Read.remaining c.args.input.now) (g.R.Read.remaining c.perform.new.input)
+returns-in-Err-perform-clause-drives g c asked =
+    rw c.tell.ensures (driven_in _ _ (g.R.Read.remaining c.args.input.now) (g.R.Read.remaining c.perform.new.input)
     (g.W.Write.contents c.args.output.now) (g.W.Write.contents c.perform.new.output)
     (g.K.Clock.readings c.args.clock.now) (g.K.Clock.readings c.perform.new.clock)
     (map g.T.AsStr.text c.args.words.now)
-    asked c.in-Ok.command (Err c.in-Err-perform.fault) (c.in-Ok.ensures.spelled (inr (inr (inr (inl asked))))) c.in-Err-perform.ensures.does (sym c.tell.ensures ∙ done)
+    asked c.in-Ok.command (Err c.in-Err-perform.fault) (c.in-Ok.ensures.spelled (inr (inr (inr (inl asked))))) c.in-Err-perform.ensures.does)
+
+pub returns-in-Ok-perform-clause-serves : goal.returns-in-Ok-perform-clause-serves
+returns-in-Ok-perform-clause-serves g c asked =
+    served_in _ _ (g.R.Read.remaining c.args.input.now) (g.R.Read.remaining c.perform.new.input)
+    (g.W.Write.contents c.args.output.now) (g.W.Write.contents c.perform.new.output)
+    (g.K.Clock.readings c.args.clock.now) (g.K.Clock.readings c.perform.new.clock)
+    (map g.T.AsStr.text c.args.words.now)
+    asked c.in-Ok.command (Ok c.in-Ok-perform.status) (c.in-Ok.ensures.spelled (inr (inr (inr (inr (inr asked))))))
+    c.in-Ok-perform.ensures.does
+
+pub returns-in-Err-perform-clause-serves : goal.returns-in-Err-perform-clause-serves
+returns-in-Err-perform-clause-serves g c asked =
+    rw c.tell.ensures (served_in _ _ (g.R.Read.remaining c.args.input.now) (g.R.Read.remaining c.perform.new.input)
+    (g.W.Write.contents c.args.output.now) (g.W.Write.contents c.perform.new.output)
+    (g.K.Clock.readings c.args.clock.now) (g.K.Clock.readings c.perform.new.clock)
+    (map g.T.AsStr.text c.args.words.now)
+    asked c.in-Ok.command (Err c.in-Err-perform.fault) (c.in-Ok.ensures.spelled (inr (inr (inr (inr (inr asked))))))
+    c.in-Err-perform.ensures.does)
 
 pub returns-in-Ok-perform-clause-stated : goal.returns-in-Ok-perform-clause-stated
 returns-in-Ok-perform-clause-stated g c asked =
@@ -149,9 +167,14 @@ returns-in-Err-clause-made g c asked done =
     absurd (not_done (kind_of c.in-Err.error) c.explain.result (c.in-Err.ensures.spelled (inl asked)) c.explain.ensures.status done)
 
 pub returns-in-Err-clause-loaded : goal.returns-in-Err-clause-loaded
-returns-in-Err-clause-loaded g c asked done =
-    absurd (nothing_loaded (kind_of c.in-Err.error) c.explain.result (c.in-Err.ensures.spelled (inr (inl asked)))
-    c.explain.ensures.status done)
+returns-in-Err-clause-loaded g c asked =
+    let kind = kind_of c.in-Err.error in
+    let memory = c.in-Err.ensures.spelled (inr (inl asked)) in
+    inl (
+      none_run kind c.explain.result memory c.explain.ensures.status,
+      mistake_keeps kind (g.W.Write.contents c.args.output.now) (g.W.Write.contents c.explain.new.output)
+          (memory_is_no_request kind memory) c.explain.ensures.silent,
+    )
 
 pub returns-in-Err-clause-posted : goal.returns-in-Err-clause-posted
 returns-in-Err-clause-posted g c asked =
@@ -160,9 +183,21 @@ returns-in-Err-clause-posted g c asked =
     c.explain.ensures.silent
 
 pub returns-in-Err-clause-drives : goal.returns-in-Err-clause-drives
-returns-in-Err-clause-drives g c asked done =
-    absurd (not_done (kind_of c.in-Err.error) c.explain.result (c.in-Err.ensures.spelled (inr (inr (inr (inl asked)))))
-    c.explain.ensures.status done)
+returns-in-Err-clause-drives g c asked =
+    let kind = kind_of c.in-Err.error in
+    let memory = c.in-Err.ensures.spelled (inr (inr (inr (inl asked)))) in
+    inl (
+      none_run kind c.explain.result memory c.explain.ensures.status,
+      mistake_keeps kind (g.W.Write.contents c.args.output.now) (g.W.Write.contents c.explain.new.output)
+          (memory_is_no_request kind memory) c.explain.ensures.silent,
+      refl,
+    )
+
+pub returns-in-Err-clause-serves : goal.returns-in-Err-clause-serves
+returns-in-Err-clause-serves g c asked =
+    let kind = kind_of c.in-Err.error in
+    let memory = c.in-Err.ensures.spelled (inr (inr (inr (inr (inr asked))))) in
+    inl (none_run kind c.explain.result memory c.explain.ensures.status, refl)
 
 pub returns-in-Err-clause-stated : goal.returns-in-Err-clause-stated
 returns-in-Err-clause-stated g c asked =
