@@ -116,5 +116,5 @@ puts_added old new text params (Err e) h = go (is_taken_key e) refl
     fails = kept_inside old new text params (Err e) h
 
     go : (b : Bool) → is_taken_key e ≡ b → Puts {X = Unit {0}} old new (cond b (Err (Damaged Key)) (Err (Sqlite e)))
-    go true taken = (fails, tt)
+    go true taken = (fails, (text, params, e, h, taken))
     go false free = (fails, Putting text params h free)
