@@ -1,8 +1,9 @@
 -- The rows of the six tables as a file holds them, whatever numbers they are, and the seven rules that the rows of a bank keep.
-use Rattle.std.specs.Prelude.{◌≡◌, ◌≤◌, ◌<◌, ◌≤ℤ◌, ℕ, ℤ, pos, nat_abs, nat_le, List, [], ◌∷◌, find, Option, Some, None, IsSome, IsTrue, if◌then◌else◌, ⊤}
+use Rattle.std.specs.Prelude.{◌≡◌, ◌≤◌, ◌<◌, ◌≤ℤ◌, ℕ, ℤ, pos, nat_abs, List, [], ◌∷◌, find, Option, Some, None, option_and_then, IsSome, IsTrue, ⊤}
 use Rattle.std.specs.List.{AllByRecursion}
 use Rattle.sqlite.specs.Effect.{Database, IsDatabase}
 use Rattle.message_records.specs.Outcomes.{code_of}
+use Rattle.message_records.specs.Ranges.{whole_within}
 use Rattle.message_records.specs.declared.records.Outcome.{Outcome}
 use Rattle.message_records.specs.declared.limits.TheConstants.{MAX_ACCOUNT, MAX_BALANCE, MAX_BRANCH, MAX_DELTA, MAX_MOMENT, MAX_NUMBER, MAX_TELLER}
 use Rattle.posting_rules.specs.Commands.{branch_of_teller, branch_of_account, place_of_account}
@@ -40,9 +41,9 @@ pub record HoldsBank (db : Database) (rows : StoredRows) : Type 0 where
 abbrev pub row_under : List Entry → ℕ → Option Entry
 row_under rows n = find (has_key (pos n)) rows
 
--- the row of a branch: a number beyond those of branches has none
+-- the row of a branch: a number that is none of branches has none
 abbrev pub branch_under : StoredRows → ℕ → Option Entry
-branch_under rows n = if nat_le n MAX_BRANCH then row_under rows.branches n else None
+branch_under rows n = option_and_then (row_under rows.branches) (whole_within 1 MAX_BRANCH n)
 
 -- ---- a row that keeps a rule
 
