@@ -68,6 +68,8 @@ fn teller_beside<S: Alter>(
 ) -> Result<Option<Cents>, TableFault>
     ensures { Reads S.Store tx.old tx.new (λ tables. option_map balance_of_teller (row_at teller_key tables.tellers teller)) result }
 {
+    // A teller is in its range.
+    let _number = teller.get();
     match teller_balances(tx, teller)? {
         Some((balance, _)) => Ok(Some(balance)),
         None => Ok(None),

@@ -6,6 +6,7 @@ use Rattle.store_rows.specs.Outcomes.{IsNoBalance}
 use Rattle.bank_transactions.proofs.Broken.{account_broken}
 use Rattle.bank_transactions.proofs.Reading.{read_failed}
 use Rattle.bank_transactions.proofs.SoundRows.{err_found, account_unbroken}
+use Rattle.bank_batches.proofs.Reading.{looks_again}
 use Rattle.bank_batches.proofs.filling.account_within.Goals as goal
 
 pub returns-in_err-balance : goal.returns-in_err-balance
@@ -26,3 +27,11 @@ returns-in_err-balance g c = record {
     survives = search rules;
   };
 }
+
+-- both rows are looked up again
+pub returns-then-is_some-is_open : goal.returns-then-is_some-is_open
+returns-then-is_some-is_open g c =
+    let one = c.in_ok-balance.ensures in
+    looks_again {Told = λ a b. Unit {0}}
+    (record { same_reference = one.same_reference; told = λ clean. tt; kept = λ clean. (one.kept clean).0; survives = one.survives })
+    c.open_balance.ensures (λ t so. so.0)
