@@ -1,5 +1,5 @@
 -- Why a part of a call failed, and what its damage says.
-use Rattle.std.proofs.Common.{◌≡◌, Ok, Err, Result, refl, ◌∙◌, arith, inl, inr}
+use Rattle.std.proofs.Common.{Ok, Err, Result, refl, ◌∙◌, arith}
 use Rattle.sqlite.specs.State.{State, Survives}
 use Rattle.sqlite.specs.Held.{Held, state}
 use Rattle.sqlite.specs.Tree.{Trees}

@@ -1,12 +1,10 @@
 -- What is told to be damaged, and that the rows that the file holds break that rule.
-use Rattle.std.proofs.Common.{◌≡◌, ◌≤◌, ◌<◌, ℕ, ℤ, pos, Bool, true, false, find, List, [], ◌∷◌, Option, Some, None, Result, Ok, Err, refl, sym, ap, subst, ◌∙◌, arith}
-use Rattle.std.specs.Prelude.{◌≤ℤ◌, nat_abs, nat_le, is_some, IsSome}
-use Rattle.std.proofs.lemmas.Bool.Decides.{nat_tests}
+use Rattle.std.proofs.Common.{◌≡◌, ◌≤◌, ◌<◌, ℕ, ℤ, pos, Bool, true, find, List, Option, Some, Ok, Err, refl, sym, ap, subst, ◌∙◌, arith}
+use Rattle.std.specs.Prelude.{nat_abs}
 use Rattle.std.proofs.lemmas.Int.{ints}
 use Rattle.sqlite.specs.Effect.{Database}
 use Rattle.sqlite.specs.State.{State}
-use Rattle.message_records.specs.declared.limits.TheConstants.{MAX_ACCOUNT, MAX_DELTA, MAX_TELLER}
-use Rattle.posting_rules.specs.Commands.{branch_of_teller, branch_of_account, place_of_account}
+use Rattle.message_records.specs.declared.limits.TheConstants.{MAX_DELTA}
 use Rattle.posting_rules.specs.declared.fault.Rule.{Rule}
 use Rattle.posting_rules.specs.declared.fault.Rule.TheVariants.{Meta, Teller, Account, Balance, Request, Value, Key}
 use Rattle.posting_rules.specs.declared.limits.TheConstants.{LAST_BRANCH, MAX_DECIDED, MOST_ACCOUNTS}
@@ -16,10 +14,10 @@ use Rattle.sql_meanings.specs.Entries.{Entry, has_key, has_two, is_above}
 use Rattle.std.specs.Ordering.{int_cmp, is_gt}
 use Rattle.sql_meanings.proofs.Changes.{found_all, found_key, found_passes}
 use Rattle.store_rows.specs.Calls.{OfMeta}
-use Rattle.store_rows.specs.Columns.{meta_in, number_at}
+use Rattle.store_rows.specs.Columns.{meta_in}
 use Rattle.store_rows.specs.Outcomes.{Finds, Never}
-use Rattle.store_rows.specs.Rules.{HoldsBank, IsBroken, IsCounted, IsFrom, Keeps, OfRows, StoredRows, HasDecided}
-use Rattle.store_rows.specs.Rules.{BranchKeeps, TellerKeeps, AccountKeeps, RequestKeeps, branch_under, row_under}
+use Rattle.store_rows.specs.Rules.{HoldsBank, IsBroken, Keeps, OfRows, StoredRows, HasDecided}
+use Rattle.store_rows.specs.Rules.{BranchKeeps, TellerKeeps, AccountKeeps, RequestKeeps, row_under}
 use Rattle.store_rows.specs.SixTables as six
 use Rattle.store_rows.specs.Stored.{BalanceKeeps, FindsStored, IsBalance, IsBranch, IsRequest}
 use Rattle.store_rows.specs.View.{HoldsRows}

@@ -5,7 +5,6 @@ use Rattle.sqlite.specs.Effect.{Database}
 use Rattle.sqlite.specs.State.{State, HasCleanDisk, Survives}
 use Rattle.sqlite.specs.Held.{Held, state}
 use Rattle.sqlite.specs.Table.{Table}
-use Rattle.sqlite.specs.Tree.{Trees}
 use Rattle.sqlite.specs.declared.error.Error.{Error}
 use Rattle.sqlite.specs.declared.transaction.Transaction.{Transaction}
 use Rattle.sqlite_trees.specs.declared.store.Store.{Ghosts}
@@ -244,8 +243,7 @@ does_write {S} {So} g old new table there after answer rule r text of is says so
         told = λ clean live t shows it.
             written (state g old.conn.now) (state g new.conn.now) table (there t) (after t) answer rule (so t it) (says.told clean live t shows);
         kept = λ clean live.
-            let it = says.kept clean live in
-            (
+            let it = says.kept clean live in (
               written_keeps (state g old.conn.now) (state g new.conn.now) text answer rule live it,
               blames_changed g old.conn.now new.conn.now text answer rule of it,
             );

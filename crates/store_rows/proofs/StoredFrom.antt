@@ -6,7 +6,6 @@ use Rattle.message_records.specs.Outcomes.{code_of}
 use Rattle.message_records.specs.declared.records.Outcome.{Outcome}
 use Rattle.posting_rules.specs.Kept.{KeptFields, is_kept_with, kept_from}
 use Rattle.posting_rules.specs.declared.fault.Rule.TheVariants.{Request}
-use Rattle.sql_meanings.specs.Entries.{Entry}
 use Rattle.store_rows.specs.Columns.{number_at}
 use Rattle.store_rows.specs.Outcomes.{ReadsCents, ReadsOutcome}
 use Rattle.store_rows.specs.Rules.{RequestKeeps}
@@ -46,6 +45,6 @@ module _ (row : Row) (account branch : ℕ) (delta : ℤ) (outcome : Outcome) (b
           let same : o.0 ≡ outcome = same_code o.0 outcome (sym o.1 ∙ code) in
           let amount : balance ≡ number_at 6 r = five (number_at 6 r) (ap (λ x. column x 7) shown) in
           let no : is_kept_with o.0 (number_at 6 r) ≡ false =
-              ap (λ x. is_kept_with x (number_at 6 r)) same ∙ ap (is_kept_with outcome) (sym amount) ∙ is in
+          ap (λ x. is_kept_with x (number_at 6 r)) same ∙ ap (is_kept_with outcome) (sym amount) ∙ is in
           let yes : is_kept_with o.0 (number_at 6 r) ≡ true = o.2 in
           absurd cc

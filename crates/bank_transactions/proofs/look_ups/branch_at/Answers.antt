@@ -56,11 +56,9 @@ returns-then-number-gt-LAST_BRANCH-clause-says g c = record {
       ];
   same_reference = search rules;
   kept = λ clean.
-      let looked = c.in_ok-row.ensures.kept clean in
-      (
+      let looked = c.in_ok-row.ensures.kept clean in (
         record { was_open = λ h. looked.0.0.was_open; committed = λ h. looked.0.0.committed_is },
         count_broken _ c.in-Some.branch c.in-Some-2.row (rw c.in-Some-2.is at looked.1) (λ is.
-            
             let most = is.0 in
             let few = is.1 in
             let many = is.2 in
@@ -79,8 +77,7 @@ returns-then-number-gt-LAST_BRANCH-clause-stored g c = λ clean rows has.
     let finds = rw c.in-Some-2.is at (c.in_ok-row.ensures.kept clean).1 in
     let it = finds rows has in
     let under : branch_under rows c.args.number ≡ row_under rows.branches c.in-Some.branch =
-        ap (option_and_then (row_under rows.branches)) (sym c.new.ensures ∙ c.in-Some.is) in
-    (
+    ap (option_and_then (row_under rows.branches)) (sym c.new.ensures ∙ c.in-Some.is) in (
       it.0,
       under ∙ it.1,
       λ keeps.

@@ -51,8 +51,7 @@ returns-in_default-clause-says g c = record {
       none_is _ t.decided (c.in_ok-meta.ensures.says.told clean (meta_entry t.decided ∷ []) (has_one _ t shows)).0 c.in_default.is;
   same_reference = search rules;
   kept = λ clean.
-      let looked = c.in_ok-meta.ensures.says.kept clean in
-      (
+      let looked = c.in_ok-meta.ensures.says.kept clean in (
         record { was_open = λ h. looked.0.was_open; committed = λ h. looked.0.committed_is },
         meta_broken _ _ None (rw c.in_default.is at (c.in_ok-meta.ensures.says.told clean)) (λ n version is most. let no = is in cc),
       );
@@ -80,8 +79,7 @@ returns-then-meta-lt0-clause-says g c = record {
   same_reference = search rules;
   kept = λ clean.
       let m = c.in-Some.meta in
-      let looked = c.in_ok-meta.ensures.says.kept clean in
-      (
+      let looked = c.in_ok-meta.ensures.says.kept clean in (
         record { was_open = λ h. looked.0.was_open; committed = λ h. looked.0.committed_is },
         meta_broken _ _ (Some m) (rw c.in-Some.is at (c.in_ok-meta.ensures.says.told clean)) (λ n version found most.
             let same : to_z w64 (of_z w64 m.decided) ≡ m.decided = search rules in

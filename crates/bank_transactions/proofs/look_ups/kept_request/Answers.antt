@@ -42,8 +42,7 @@ returns-then-is_none g c = record {
   same_reference = search rules;
   kept = λ clean.
       let row = c.in-Some.row in
-      let looked = c.in_ok-row.ensures.kept clean in
-      (
+      let looked = c.in_ok-row.ensures.kept clean in (
         record { was_open = λ h. looked.0.0.was_open; committed = λ h. looked.0.0.committed_is },
         delta_broken _ c.args.teller c.args.number row (rw c.in-Some.is at looked.1) (λ le.
             is_a_request c.account.result row.teller c.branch-kept.result row.number c.delta.result

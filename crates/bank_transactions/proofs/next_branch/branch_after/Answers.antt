@@ -44,8 +44,7 @@ returns-then-number-from-clause-says g c = record {
       ];
   same_reference = search rules;
   kept = λ clean.
-      let looked = c.in_ok-row.ensures.kept clean in
-      (
+      let looked = c.in_ok-row.ensures.kept clean in (
         record { was_open = λ h. looked.0.0.was_open; committed = λ h. looked.0.0.committed_is },
         above_broken _ c.args.after c.in-Some.row (rw c.in-Some.is at looked.1) (λ above most.
             elim c.then-number-from.either [
@@ -68,8 +67,7 @@ returns-then-row-lt1-clause-says g c = record {
       elim c.then-row-lt1.either [ inl none ↦ omega arith | inr over ↦ (let gt = over.1 in omega arith) ];
   same_reference = search rules;
   kept = λ clean.
-      let looked = c.in_ok-row.ensures.kept clean in
-      (
+      let looked = c.in_ok-row.ensures.kept clean in (
         record { was_open = λ h. looked.0.0.was_open; committed = λ h. looked.0.0.committed_is },
         range_broken _ (is_above (pos c.args.after)) c.in-Some.row (rw c.in-Some.is at looked.1) (λ is.
             let few = is.1 in

@@ -17,8 +17,7 @@ returns g c = record {
         as_integer c.get-second.result c.args.number c.get-second.ensures.value (omega arith),
       ) at (c.query_row.ensures.row clean));
   kept = λ clean.
-      let ran = c.query_row.ensures.row clean in
-      (
+      let ran = c.query_row.ensures.row clean in (
         asked _ _ _ _ c.query_row.result ran (kept_reading _ _ _ _ c.query_row.result (only c.args.tx.now.conn.now.schema) ran),
         λ rows has. stored_request _ _ rows has c.args.teller c.args.number c.query_row.result
             (rw (
