@@ -17,15 +17,15 @@ use Rattle.posting_batch.specs.View.{view, reads_of, IsMadeOf, IsFilledFrom}
 use Rattle.posting_batch.proofs.Covered.{stands, homes_all}
 use Rattle.store_rows.specs.View as stored
 use Rattle.store_rows.specs.declared.faults.TableFault.{TableFault}
-use Rattle.bank_transactions.specs.Doing.{Does}
-use Rattle.bank_transactions.proofs.Chained.{does_but, does_for}
+use Rattle.bank_transactions.specs.Doing.{Acts, Damage, Does, DoesBy, IsFirstBroken}
+use Rattle.bank_transactions.proofs.Chained.{acts_read, acts_wrote, does_but, does_for}
 use Rattle.bank_batches.specs.Batches.{DecidesNone}
 use Rattle.bank_batches.proofs.Both.{does_both}
 
 -- the same, said in other words where the answer is known
 pub does_so : {S X Y : Type 0} {g : Ghosts S} {old new : Transaction S} {So : Tables → Type 0} {after after' : Tables → Tables}
-    {w : Tables → X} {w' : Tables → Y} {x : X} {y : Y} → Does g old new So after w (Ok x)
-    → ((t : Tables) → So t → x ≡ w t → (after t ≡ after' t) × (y ≡ w' t)) → Does g old new So after' w' (Ok y)
+    {w : Tables → X} {w' : Tables → Y} {x : X} {y : Y} {Met : Damage S} → DoesBy Met g old new So after w (Ok x)
+    → ((t : Tables) → So t → x ≡ w t → (after t ≡ after' t) × (y ≡ w' t)) → DoesBy Met g old new So after' w' (Ok y)
 does_so {S} {X} {Y} {g} {old} {new} part same = record {
   says = record {
     same_reference = part.says.same_reference;
@@ -61,14 +61,14 @@ ready b records made t it = (sound t it, subst HasHomes (sym made.overlay) (home
 
 module _ {S : Type 0} {g : Ghosts S} {old mid : Transaction S} (b b' : Batch) (records : List (List ℕ)) (m : ℕ) (o : Overlay) (items : List (List ℕ))
     (made : IsMadeOf b records) (same : reads_of b' ≡ reads_of b) (judges : Judges b' m records o items)
-    (first : Does g old mid (Ready (view b.overlay)) (λ t. t) (λ t. filled t (view b.overlay)) (Ok (view b'.overlay))) where
+    (first : DoesBy (IsFirstBroken g) g old mid (Ready (view b.overlay)) (λ t. t) (λ t. filled t (view b.overlay)) (Ok (view b'.overlay))) where
   is_filled : (t : Tables) → view b'.overlay ≡ filled t (view b.overlay) → IsFilledFrom b' t records
   is_filled t e = record {
     reads = same ∙ made.reads;
     overlay = e ∙ ap (λ (p : Overlay). filled t p) made.overlay;
   }
 
-  filled_so : Does g old mid AreOfALog (λ t. t) (λ t. filled t (view b.overlay)) (Ok (view b'.overlay))
+  filled_so : DoesBy (IsFirstBroken g) g old mid AreOfALog (λ t. t) (λ t. filled t (view b.overlay)) (Ok (view b'.overlay))
   filled_so = does_for first (λ t it. (ready b records made t it, refl, refl))
 
   may_write : (t : Tables) → AreOfALog t → view b'.overlay ≡ filled t (view b.overlay) → Written o t
@@ -88,8 +88,8 @@ module _ {S : Type 0} {g : Ghosts S} {old mid : Transaction S} (b b' : Batch) (r
   counts_none t e none = ap (λ (u : Tables). u.decided) (judges.tables t (is_filled t e)) ∙ none ∙ sym (ap (λ (p : Overlay). p.decided) e)
 
   -- nothing is written, and the tables are as they were
-  pub answered_idle : o.decided ≡ b'.overlay.decided → Does g old mid AreOfALog (λ t. tables_past_all t m records) (λ t. replies_past_all t m records) (Ok items)
-  answered_idle none = does_so filled_so (λ t it e. (sym (leads_back none t e), judges.replies t (is_filled t e)))
+  pub answered_idle : o.decided ≡ b'.overlay.decided → Acts g old mid AreOfALog (λ t. tables_past_all t m records) (λ t. replies_past_all t m records) (Ok items)
+  answered_idle none = acts_read (does_so filled_so (λ t it e. (sym (leads_back none t e), judges.replies t (is_filled t e))))
 
   abbrev Knows : Tables → Type 0
   Knows t = AreOfALog t × (view b'.overlay ≡ filled t (view b.overlay))
@@ -99,9 +99,9 @@ module _ {S : Type 0} {g : Ghosts S} {old mid : Transaction S} (b b' : Batch) (r
   written_so second = does_for second (λ t so. (may_write t so.0 so.1, judges.tables t (is_filled t so.1), refl))
 
   pub answered_written : {new : Transaction S} → Does {X = Unit {0}} g mid new (Written o) (λ t. tables_over o t) (λ _. tt {0}) (Ok (tt {0}))
-      → Does g old new AreOfALog (λ t. tables_past_all t m records) (λ t. replies_past_all t m records) (Ok items)
-  answered_written second = does_both filled_so (written_so second) (λ t it e. (it, e)) (λ t it e f. judges.replies t (is_filled t e))
+      → Acts g old new AreOfALog (λ t. tables_past_all t m records) (λ t. replies_past_all t m records) (Ok items)
+  answered_written second = acts_wrote (does_both filled_so (written_so second) (λ t it e. (it, e)) (λ t it e f. judges.replies t (is_filled t e)))
 
   pub answered_not : {new : Transaction S} {e : TableFault} → Does {X = Unit {0}} g mid new (Written o) (λ t. tables_over o t) (λ _. tt {0}) (Err e)
-      → Does {X = List (List ℕ)} g old new AreOfALog (λ t. tables_past_all t m records) (λ t. replies_past_all t m records) (Err e)
-  answered_not second = does_but filled_so (written_so second) (λ t it e. (it, e))
+      → Acts {X = List (List ℕ)} g old new AreOfALog (λ t. tables_past_all t m records) (λ t. replies_past_all t m records) (Err e)
+  answered_not second = acts_wrote (does_but filled_so (written_so second) (λ t it e. (it, e)))

@@ -1,17 +1,21 @@
 -- Look-ups one after another.
 use Rattle.std.proofs.Common.{◌≡◌, Ok, Err, Result, refl, sym, subst, ◌∙◌}
 use Rattle.sqlite.specs.Effect.{Database}
-use Rattle.sqlite.specs.State.{State, Survives}
+use Rattle.sqlite.specs.State.{State, IsUnchanged, Survives}
 use Rattle.sqlite.specs.Held.{state}
 use Rattle.sqlite.specs.declared.transaction.Transaction.{Transaction}
 use Rattle.sqlite_trees.specs.declared.store.Store.{Ghosts}
+use Rattle.sql_meanings.specs.Calls.{Says}
+use Rattle.posting_rules.specs.Damage.{IsUndamaged}
 use Rattle.sql_meanings.proofs.Saying.{says_then}
 use Rattle.posting_rules.specs.Tables.{Tables}
 use Rattle.store_rows.specs.View.{Shows}
 use Rattle.store_rows.specs.declared.faults.TableFault.{TableFault}
 use Rattle.store_rows.specs.declared.faults.TableFault.TheVariants.{Sqlite, Damaged}
-use Rattle.bank_transactions.specs.Doing.{Stays, Looks, LooksUp, Does}
-use Rattle.bank_transactions.proofs.Chained.{blames_after, comes, looked, look_keeps}
+use Rattle.store_rows.specs.Rules.{IsBroken}
+use Rattle.bank_transactions.specs.Doing.{DoesBy, IsFirstBroken, Looks, LooksUp, Reads, Stays}
+use Rattle.bank_transactions.proofs.Blamed.{blames_after, comes}
+use Rattle.bank_transactions.proofs.Chained.{looked, look_keeps}
 use Rattle.bank_transactions.proofs.Reading.{stays_then}
 use Rattle.bank_batches.specs.Filling.{ReadsWhere}
 
@@ -87,12 +91,38 @@ module _ {S X Y : Type 0} {g : Ghosts S} {old mid new : Transaction S} {So So' :
             let first = (told t shows so).0 in
             let then = told' t (subst (λ (db : Database). Shows db t) (sym kept.0.now) shows) (ready t so first) in
             same_fault a c (w' t) (w'' t) e (looked_then a b c (w' t) r kept.0 then))
-            (λ kept kept'. (looks_then a b c r kept.0 kept'.0, blames_after g old.conn.now mid.conn.now new.conn.now r (comes one.says.survives) kept'.1));
+            (λ kept kept'. (looks_then a b c r kept.0 kept'.0, 
+              blames_after (IsFirstBroken g) g old.conn.now mid.conn.now new.conn.now r (λ rule. subst (IsBroken rule) kept.0.now) (comes one.says.survives) kept'.1));
       }
+
+-- a statement that changed nothing
+stays_of : (old new : State) → IsUnchanged old new → Stays old new
+stays_of old new same = record {
+  goes_on = record { opened = λ h. same.0.was_open; committed = same.0.committed_is; mode = same.0.mode };
+  now = same.0.now_is;
+}
+
+-- after a statement that changed nothing all is looked up again
+pub looks_again : {S X : Type 0} {g : Ghosts S} {old mid new : Transaction S} {So : Tables → Type 0} {Told : State → State → Type 0}
+    {w : Tables → X} {r : Result X TableFault} → Says g old mid Told IsUnchanged → Reads g mid new w r
+    → ((t : Tables) → So t → IsUndamaged t) → ReadsWhere g old new So w r
+looks_again {S} {X} {g} {old} {mid} {new} {So} {Told} {w} {r} one two sound =
+    let a = state g old.conn.now in
+    let b = state g mid.conn.now in
+    let c = state g new.conn.now in
+    record {
+      says = says_then g old mid new one two
+          (λ told same told' t shows so.
+          looked_then a b c (w t) r (stays_of a b same) (told' t (subst (λ (db : Database). Shows db t) (sym same.0.now_is) shows) (sound t so)))
+          (λ same kept'. (
+            looks_then a b c r (stays_of a b same) kept'.0,
+            blames_after (IsFirstBroken g) g old.conn.now mid.conn.now new.conn.now r (λ rule. subst (IsBroken rule) same.0.now_is) (comes one.survives) kept'.1,
+          ));
+    }
 
 -- a look-up leaves the tables
 pub does_look : {S X : Type 0} {g : Ghosts S} {old new : Transaction S} {So : Tables → Type 0} {w : Tables → X} {r : Result X TableFault} → ReadsWhere g old new So w r
-    → Does g old new So (λ t. t) w r
+    → DoesBy (IsFirstBroken g) g old new So (λ t. t) w r
 does_look {S} {X} {g} {old} {new} {So} {w} {r} reads = record {
   says = record {
     same_reference = reads.says.same_reference;

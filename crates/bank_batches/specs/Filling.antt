@@ -8,17 +8,18 @@ use Rattle.posting_batch.specs.Slots.{in_slot, row_of_slot, branch_slot_key}
 use Rattle.sql_meanings.specs.Calls.{Says}
 use Rattle.store_rows.specs.Calls.{OfTables}
 use Rattle.store_rows.specs.declared.faults.TableFault.{TableFault}
-use Rattle.bank_transactions.specs.Doing.{Blames, LooksUp, Looks}
+use Rattle.bank_transactions.specs.Doing.{Blames, IsFirstBroken, LooksUp, Looks}
 
 -- this is the answer, where the call was answered
 abbrev pub handing : {X Y : Type 0} → Y → Result X TableFault → Result Y TableFault
 handing y (Ok x) = Ok y
 handing y (Err e) = Err e
 
--- In tables that are so, the answer is what was looked for. Whatever the rows, nothing has changed after `Ok`.
+-- In tables that are so, the answer is what was looked for. Whatever the rows, nothing has changed after `Ok`,
+-- and damage is of the rows that were there.
 pub record ReadsWhere {S X : Type 0} (g : Ghosts S) (old new : Transaction S) (So : Tables → Type 0) (wanted : Tables → X) (result : Result X TableFault) : Type 0 where
   pub says : Says g old new (OfTables (λ before now tables. So tables → LooksUp before now (wanted tables) result))
-      (λ before now. Looks before now result × Blames g old.conn.now new.conn.now result)
+      (λ before now. Looks before now result × Blames (IsFirstBroken g) g old.conn.now new.conn.now result)
 
 -- the slot under a number tells the row of that branch
 abbrev pub TellsBranch : List BranchSlot → Tables → ℕ → Type 0

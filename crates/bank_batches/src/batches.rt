@@ -7,7 +7,7 @@ ghost use Rattle.posting_rules.specs.Sound.{AreOfALog};
 ghost use Rattle.posting_rules.specs.Tables.{Tables};
 ghost use Rattle.posting_batch.specs.View.{reads_of, IsMadeOf};
 ghost use Rattle.store_rows.specs.View.{Shows};
-ghost use Rattle.bank_transactions.specs.Doing.{Does, Transacts};
+ghost use Rattle.bank_transactions.specs.Doing.{Acts, Transacts};
 ghost use Rattle.bank_batches.specs.Batches.{items_of, DecidesNone, WritesNothing, HasOnly};
 
 use crate::filling::fill;
@@ -25,7 +25,7 @@ pub fn answer_batch<S: Alter>(
     mut batch: Batch,
 ) -> Result<Vec<[u8; 200]>, TableFault>
     ensures says { (records : List (List ℕ)) → IsMadeOf batch records
-        → Does S.Store tx.old tx.new AreOfALog (λ tables. tables_past_all tables moment records)
+        → Acts S.Store tx.old tx.new AreOfALog (λ tables. tables_past_all tables moment records)
         (λ tables. replies_past_all tables moment records) (items_of result) }
     ensures count { IfOk result (λ replies. length replies.items ≡ length (reads_of batch)) }
     ensures idle { OnOk result (HasCleanDisk (state S.Store tx.new.conn.now) → (records : List (List ℕ)) → IsMadeOf batch records

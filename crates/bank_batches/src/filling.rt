@@ -9,14 +9,17 @@ ghost use Rattle.posting_rules.specs.Tables.{Tables, row_at, branch_key, teller_
 ghost use Rattle.posting_batch.specs.declared.slots.BranchSlot.{BranchSlot};
 ghost use Rattle.posting_batch.specs.Batch.{HasHomes, filled};
 ghost use Rattle.posting_batch.specs.View.{view, reads_of};
+ghost use Rattle.bank_transactions.specs.Doing.{Reads};
 ghost use Rattle.bank_batches.specs.Filling.{handing, ReadsWhere};
 
-use bank_transactions::{branch_at, decided, kept_request, place_of_account};
+use bank_transactions::{
+    branch_at, decided, kept_request, open_balance, place_of_account, teller_balances,
+};
 use message_records::{Account, Cents, Teller};
 use posting_batch::{
     AccountSlot, Batch, BranchSlot, RequestSlot, TellerSlot, branch_of_account, stored_branch,
 };
-use posting_rules::{BranchRow, Rule, branch_of_teller};
+use posting_rules::{BranchRow, branch_of_teller};
 use sqlite::{Alter, Transaction};
 use store_rows::{TableFault, account_balance, teller_balance};
 
@@ -58,7 +61,23 @@ impl Slot for BranchSlot {
     }
 }
 
-// The balance of a teller, none where it isn't open, by the row of its branch.
+// The balance of a teller, none where it isn't open, looked up together with the row of its branch.
+fn teller_beside<S: Alter>(
+    tx: &mut Transaction<'_, S>,
+    teller: Teller,
+) -> Result<Option<Cents>, TableFault>
+    ensures { Reads S.Store tx.old tx.new (λ tables. option_map balance_of_teller (row_at teller_key tables.tellers teller)) result }
+{
+    // A teller is in its range.
+    let _number = teller.get();
+    match teller_balances(tx, teller)? {
+        Some((balance, _)) => Ok(Some(balance)),
+        None => Ok(None),
+    }
+}
+
+// The balance of a teller, none where it isn't open, by the row of its branch. Where the two don't belong together, both are
+// looked up again: they are told to be damaged.
 fn teller_within<S: Alter>(
     tx: &mut Transaction<'_, S>,
     teller: Teller,
@@ -70,7 +89,7 @@ fn teller_within<S: Alter>(
 {
     let balance = teller_balance(tx, teller)?;
     if balance.is_some() != branch.is_some() {
-        return Err(TableFault::Damaged(Rule::Teller));
+        return teller_beside(tx, teller);
     }
     Ok(balance)
 }
@@ -97,7 +116,8 @@ impl Slot for TellerSlot {
     }
 }
 
-// The balance of an account, none where it isn't open, by the row of its branch.
+// The balance of an account, none where it isn't open, by the row of its branch. Where the two don't belong together, both are
+// looked up again: they are told to be damaged.
 fn account_within<S: Alter>(
     tx: &mut Transaction<'_, S>,
     account: Account,
@@ -113,7 +133,7 @@ fn account_within<S: Alter>(
         None => false,
     };
     if balance.is_some() != is_open {
-        return Err(TableFault::Damaged(Rule::Account));
+        return open_balance(tx, account);
     }
     Ok(balance)
 }

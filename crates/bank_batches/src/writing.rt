@@ -97,8 +97,9 @@ impl Change for BranchSlot {
         let Some(balance) = self.changed else {
             return Ok(());
         };
+        // A number that is none of branches has no row, and so none that has changed.
         let Some(branch) = Branch::new(self.branch) else {
-            return Err(TableFault::Damaged(Rule::Value));
+            return Ok(());
         };
         expect_row(set_branch_balance(tx, branch, balance), Rule::Teller)
     }

@@ -1,3 +1,4 @@
 pub mod Calls
 pub mod Lived
 pub mod Standing
+pub mod Rules

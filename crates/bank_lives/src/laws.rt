@@ -7,7 +7,10 @@ ghost use Rattle.posting_rules.specs.declared.fault.Fault.TheVariants.{Down};
 ghost use Rattle.posting_rules.specs.Commands.{Command, AreCommands};
 ghost use Rattle.posting_rules.specs.Counter.{Takes, Refuses, StandsAt, LeavesOnly, ShowsBeginning};
 ghost use Rattle.posting_rules.specs.Tables.{Tables, Shows};
+ghost use Rattle.posting_rules.specs.declared.fault.Rule.{Rule};
+ghost use Rattle.store_rows.specs.Rules.{Keeps};
 ghost use Rattle.store_rows.specs.View.{ShowsTrees};
+ghost use Rattle.bank_lives.specs.Rules.{stored_rows};
 ghost use Rattle.bank_store.specs.Opening.{conn_seen};
 ghost use Rattle.bank_lives.specs.Lives.{IsCall, Life, given_to};
 
@@ -48,3 +51,8 @@ pub fn opened_law<S: Alter>(conn: &Connection<S>)
 {
     trees_law(conn);
 }
+
+/// The tables of every log of the bank's commands keep each of the seven rules: a file that breaks one holds no bank.
+pub fn rules_law()
+    ensures { (tables : Tables) (log : List Command) → AreCommands log → Shows tables log → (rule : Rule) → Keeps rule (stored_rows tables) }
+{}

@@ -21,8 +21,8 @@ use Rattle.store_rows.specs.View.{Shows}
 use Rattle.store_rows.specs.declared.faults.TableFault.{TableFault}
 use Rattle.store_rows.specs.declared.faults.TableFault.TheVariants.{Sqlite, Damaged}
 use Rattle.store_rows.specs.Failures.{Committing}
-use Rattle.bank_transactions.specs.Doing.{HasFailedBetween, Leaves, Transacts}
-use Rattle.bank_transactions.proofs.Chained.{comes, fault_within, same_moment}
+use Rattle.bank_transactions.specs.Doing.{Damage, HasFailedBetween, Leaves, TransactsBy}
+use Rattle.bank_transactions.proofs.Blamed.{comes, failed_within, same_moment}
 use Rattle.bank_store.specs.Down.{GoesDown, TellsFailure}
 use Rattle.bank_store.specs.NoneOrAll.{LeavesNoneOrAll}
 use Rattle.bank_store.specs.Seen.{error_in, seen_in}
@@ -44,8 +44,8 @@ none_of_them t log cs are shows = record { count = 0; holds = omega arith; withi
 abbrev pub HoldsOfLogs : (Tables → Type 0) → Type 0
 HoldsOfLogs Sound = (t : Tables) (log : List Command) → AreCommands log → Show t log → Sound t
 
-module _ {S X : Type 0} {So : Tables → Type 0} {after : Tables → Tables} {wanted : Tables → X} {g : Ghosts S} {old new : Held S} {r : Result X TableFault}
-    (holds : HoldsOfLogs So) (cs : List Command) (is : IsChange after cs) (does : Transacts g old new So after wanted r) where
+module _ {S X : Type 0} {So : Tables → Type 0} {after : Tables → Tables} {wanted : Tables → X} {g : Ghosts S} {old new : Held S} {r : Result X TableFault} {Met : Damage S}
+    (holds : HoldsOfLogs So) (cs : List Command) (is : IsChange after cs) (does : TransactsBy Met g old new So after wanted r) where
   -- a call that a fault ended: what a stop leaves is what it could leave before, or all of the call
   pub cut_short : AreCommands cs → (end : State) (D E : Type 0) → E → Survives (state g old) end (Leaves (state g old) So after)
       → IsCutShort (seen_in (state g old) D) (seen_in end E) cs
@@ -74,9 +74,9 @@ module _ {S X : Type 0} {So : Tables → Type 0} {after : Tables → Tables} {wa
       ]
 
 -- the same after a fault that brought the bank down
-pub none_or_all_down : {S X : Type 0} {So : Tables → Type 0} {after : Tables → Tables} {wanted : Tables → X} (g : Ghosts S) (old mid new : Held S)
+pub none_or_all_down : {S X : Type 0} {So : Tables → Type 0} {after : Tables → Tables} {wanted : Tables → X} {Met : Damage S} (g : Ghosts S) (old mid new : Held S)
     (r : Result X TableFault) (holds : HoldsOfLogs So) (cs : List Command) (is : IsChange after cs) (D E : Type 0)
-    → Transacts {X = X} g old mid So after wanted r → Survives (state g mid) (state g new) (λ _. ⊥)
+    → TransactsBy {X = X} Met g old mid So after wanted r → Survives (state g mid) (state g new) (λ _. ⊥)
     → LeavesNoneOrAll (seen_in (state g old) D) (seen_in (state g new) E) cs
 none_or_all_down {S} {X} {So} {after} {wanted} g old mid new r holds cs is D E does quiet =
     none_or_all holds cs is does (state g new) D E
@@ -88,10 +88,11 @@ pub none_left : (s : State) (D E : Type 0) (cs : List Command) → LeavesNoneOrA
 none_left s D E cs = λ clean log at trees may. let it = at.stop trees may in (it.0, it.1, inl it.2)
 
 -- a call that was answered
-pub takes : {S X : Type 0} {So : Tables → Type 0} {after : Tables → Tables} {wanted : Tables → X} {g : Ghosts S} {old new : Held S} {x : X} (holds : HoldsOfLogs So)
-    (cs : List Command) → IsChange after cs → AreCommands cs → (D E : Type 0) → (E → ⊥) → Transacts g old new So after wanted (Ok x)
+pub takes : {S X : Type 0} {So : Tables → Type 0} {after : Tables → Tables} {wanted : Tables → X} {g : Ghosts S} {old new : Held S} {x : X}
+    {Met : Damage S} (holds : HoldsOfLogs So)
+    (cs : List Command) → IsChange after cs → AreCommands cs → (D E : Type 0) → (E → ⊥) → TransactsBy Met g old new So after wanted (Ok x)
     → Takes (seen_in (state g old) D) (seen_in (state g new) E) cs
-takes {S} {X} {So} {after} {wanted} {g} {old} {new} {x} holds cs is are D E up does =
+takes {S} {X} {So} {after} {wanted} {g} {old} {new} {x} {Met} holds cs is are D E up does =
     let told = λ (clean : HasCleanDisk (state g new)) (log : List Command) (s : ShowsLog (seen_in (state g old) D) log).
     does.told clean s.tables s.are (holds s.tables log s.commands s.shows) in
     let shows = λ (clean : HasCleanDisk (state g new)) (log : List Command) (s : ShowsLog (seen_in (state g old) D) log).
@@ -122,11 +123,11 @@ kept_down : (kept : Option TableFault) (fault : TableFault) → kept ≡ Some fa
 kept_down kept fault e = subst (λ (o : Option TableFault). IsSome o) (sym e) refl
 
 -- a call that a fault ended, and that brought the bank down
-pub refuses : {S X : Type 0} {So : Tables → Type 0} {after : Tables → Tables} {wanted : Tables → X} (g : Ghosts S) (old mid new : Held S) (holds : HoldsOfLogs So)
+pub refuses : {S X : Type 0} {So : Tables → Type 0} {after : Tables → Tables} {wanted : Tables → X} {Met : Damage S} (g : Ghosts S) (old mid new : Held S) (holds : HoldsOfLogs So)
     (cs : List Command) (is : IsChange after cs) → AreCommands cs → (D : Type 0) (e : TableFault) (kept : Option TableFault) (fault : Fault)
-    → Transacts {X = X} g old mid So after wanted (Err e) → GoesDown (state g mid) (state g new) e kept fault → Survives (state g mid) (state g new) (λ _. ⊥)
+    → TransactsBy {X = X} Met g old mid So after wanted (Err e) → GoesDown (state g mid) (state g new) e kept fault → Survives (state g mid) (state g new) (λ _. ⊥)
     → Refuses fault (seen_in (state g old) D) (seen_in (state g new) (IsSome kept)) cs
-refuses {S} {X} {So} {after} {wanted} g old mid new holds cs is are D e kept fault does down quiet = by_fault e does down
+refuses {S} {X} {So} {after} {wanted} {Met} g old mid new holds cs is are D e kept fault does down quiet = by_fault e does down
   where
     before : HasCleanDisk (state g new) → HasCleanDisk (state g mid)
     before clean = omega (arith, quiet.clean)
@@ -141,7 +142,7 @@ refuses {S} {X} {So} {after} {wanted} g old mid new holds cs is are D e kept fau
         (survives_then (state g old) (state g mid) (state g new) (Leaves (state g old) So after) (λ _. ⊥) (Leaves (state g old) So after)
         (λ clean db h. h) (λ clean db none. absurd none) does.stop quiet))
 
-    by_fault : (f : TableFault) → Transacts {X = X} g old mid So after wanted (Err f) → GoesDown (state g mid) (state g new) f kept fault → Refused fault
+    by_fault : (f : TableFault) → TransactsBy {X = X} Met g old mid So after wanted (Err f) → GoesDown (state g mid) (state g new) f kept fault → Refused fault
     by_fault (Sqlite error) it went = failed (Sqlite error) went.0 went.1
     by_fault (Damaged rule) it (inl went) =
         subst Refused (sym went.1)
@@ -151,8 +152,8 @@ refuses {S} {X} {So} {after} {wanted} g old mid new holds cs is are D e kept fau
     by_fault (Damaged rule) it (inr went) = failed (Sqlite went.1.0) went.1.1 went.0
 
 -- where rows are told to be damaged, all that the file holds is as it was
-pub keeps_file : {S X : Type 0} {So : Tables → Type 0} {after : Tables → Tables} {wanted : Tables → X} (g : Ghosts S) (old mid new : Held S) (e : TableFault)
-    (kept : Option TableFault) (fault : Fault) → Transacts {X = X} g old mid So after wanted (Err e) → GoesDown (state g mid) (state g new) e kept fault
+pub keeps_file : {S X : Type 0} {So : Tables → Type 0} {after : Tables → Tables} {wanted : Tables → X} {Met : Damage S} (g : Ghosts S) (old mid new : Held S) (e : TableFault)
+    (kept : Option TableFault) (fault : Fault) → TransactsBy {X = X} Met g old mid So after wanted (Err e) → GoesDown (state g mid) (state g new) e kept fault
     → Survives (state g mid) (state g new) (λ _. ⊥) → TellsDamage fault → HasCleanDisk (state g new) → (state g new).now ≡ (state g old).now
 keeps_file g old mid new (Sqlite error) kept fault does went quiet damage clean = absurd (subst TellsDamage went.1 damage)
 keeps_file g old mid new (Damaged rule) kept fault does (inl went) quiet damage clean =
@@ -163,13 +164,13 @@ same_error : (kept : Option TableFault) (x e : Error) → kept ≡ Some (Sqlite 
 same_error kept x e is says = let it = rw is at says in cc
 
 -- the error that is kept is one with which a call of `sqlite` failed
-module _ {S X : Type 0} {So : Tables → Type 0} {after : Tables → Tables} {wanted : Tables → X} (g : Ghosts S) (old mid new : Held S) (kept : Option TableFault)
+module _ {S X : Type 0} {So : Tables → Type 0} {after : Tables → Tables} {wanted : Tables → X} {Met : Damage S} (g : Ghosts S) (old mid new : Held S) (kept : Option TableFault)
     (fault : Fault) (quiet : Survives (state g mid) (state g new) (λ _. ⊥)) where
-  pub failed_between : (e : TableFault) → Transacts {X = X} g old mid So after wanted (Err e) → GoesDown (state g mid) (state g new) e kept fault
+  pub failed_between : (e : TableFault) → TransactsBy {X = X} Met g old mid So after wanted (Err e) → GoesDown (state g mid) (state g new) e kept fault
       → HasCleanDisk (state g new) → (x : Error) → error_in kept ≡ Some x → HasFailedBetween g old new x
   failed_between (Sqlite error) does went clean x says =
       subst (HasFailedBetween g old new) (same_error kept x error went.0 says)
-      (fault_within g old old mid new (Sqlite error) (same_moment (state g old)) (comes quiet) (does.cause (omega (arith, quiet.clean))))
+      (failed_within g old old mid new error (same_moment (state g old)) (comes quiet) (does.cause (omega (arith, quiet.clean))))
   failed_between (Damaged rule) does (inl went) clean x says = absurd (let it = rw went.0 at says in cc)
   failed_between (Damaged rule) does (inr went) clean x says =
       subst (HasFailedBetween g old new) (same_error kept x went.1.0 went.1.1 says)

@@ -1,4 +1,5 @@
 -- What the proofs of the calls share.
+pub mod Broke
 pub mod Countered
 pub mod Finding
 pub mod Probed

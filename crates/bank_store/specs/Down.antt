@@ -6,10 +6,12 @@ use Rattle.sqlite.specs.declared.error.Error.{Error}
 use Rattle.sqlite_trees.specs.declared.store.Store.{Ghosts}
 use Rattle.posting_rules.specs.declared.fault.Fault.{Fault}
 use Rattle.posting_rules.specs.declared.fault.Fault.TheVariants as told
+use Rattle.posting_rules.specs.declared.fault.Rule.{Rule}
 use Rattle.store_rows.specs.declared.faults.TableFault.{TableFault}
 use Rattle.store_rows.specs.declared.faults.TableFault.TheVariants.{Sqlite, Damaged}
-use Rattle.bank_transactions.specs.Doing.{HasFailedBetween}
-use Rattle.bank_store.specs.Seen.{cause_of, connection_of}
+use Rattle.store_rows.specs.Rules.{IsBroken}
+use Rattle.bank_transactions.specs.Doing.{HasFailedBetween, IsBrokenOrMet}
+use Rattle.bank_store.specs.Seen.{cause_of, connection_of, database_of}
 use Rattle.bank_store.specs.declared.bank.Bank.{Bank}
 
 -- the store failed, and its error is kept
@@ -33,3 +35,18 @@ pub record KeepsCause {S : Type 0} (g : Ghosts S) (old new : Bank S g) : Type 0 
   pub kept : IsSome (cause_of new)
   pub failed : HasCleanDisk (state g (connection_of new)) → (e : Error) → cause_of new ≡ Some e
       → HasFailedBetween g (connection_of old) (connection_of new) e
+
+-- ---- the rule that is told to be broken
+
+-- where damage is told, this holds of its rule
+abbrev pub OfDamage : Fault → (Rule → Type 0) → Type 0
+OfDamage (told.Damaged rule) P = P rule
+OfDamage _ P = ⊤
+
+-- on an honest disk the rows that the file held before the call break the rule
+abbrev pub WasBroken : {S : Type 0} (g : Ghosts S) → Bank S g → Bank S g → Rule → Type 0
+WasBroken g old new rule = HasCleanDisk (state g (connection_of new)) → IsBroken rule (database_of g old)
+
+-- they do; or a statement of the call met it as it wrote, which is of a key that is taken, or of a row that isn't there
+abbrev pub WasBrokenOrMet : {S : Type 0} (g : Ghosts S) → Bank S g → Bank S g → Rule → Type 0
+WasBrokenOrMet g old new rule = HasCleanDisk (state g (connection_of new)) → IsBrokenOrMet g (connection_of old) (connection_of new) rule

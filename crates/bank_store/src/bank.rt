@@ -142,7 +142,7 @@ impl<S: Alter> Bank<S> {
 
 impl<S: Alter + Drop> Counter for Bank<S> {
     ghost use Rattle.bank_batches.specs.Batches.{DecidesNone};
-    ghost use Rattle.bank_store.specs.Down.{KeepsCause, TellsFailure};
+    ghost use Rattle.bank_store.specs.Down.{KeepsCause, OfDamage, TellsFailure, WasBroken, WasBrokenOrMet};
     ghost use Rattle.bank_store.specs.NoneOrAll.{LeavesNoneOrAll, HasOnly};
     ghost use Rattle.bank_store.specs.Seen.{bank_seen, database_of};
     ghost use Rattle.sqlite.specs.Effect.{Database};
@@ -168,6 +168,7 @@ impl<S: Alter + Drop> Counter for Bank<S> {
             → database_of S.Store self.new ≡ database_of S.Store self.old) }
         ensures frugal { result ≢ Err fault.Memory }
         ensures cause { IfErr result (λ fault. TellsFailure fault → KeepsCause S.Store self.old self.new) }
+        ensures broken { IfErr result (λ fault. OfDamage fault (WasBrokenOrMet S.Store self.old self.new)) }
         ensures down { (bank_seen S.Store self.old).is_down → IsErrOf result Fault.Down }
         ensures honest { (bank_seen S.Store self.new).honest → (bank_seen S.Store self.old).honest }
     {
@@ -204,6 +205,7 @@ impl<S: Alter + Drop> Counter for Bank<S> {
         ensures kept { IfErr result (λ fault. TellsDamage fault → (bank_seen S.Store self.new).honest
             → database_of S.Store self.new ≡ database_of S.Store self.old) }
         ensures cause { IfErr result (λ fault. TellsFailure fault → KeepsCause S.Store self.old self.new) }
+        ensures broken { IfErr result (λ fault. OfDamage fault (WasBrokenOrMet S.Store self.old self.new)) }
         ensures down { (bank_seen S.Store self.old).is_down → IsErrOf result Fault.Down }
         ensures honest { (bank_seen S.Store self.new).honest → (bank_seen S.Store self.old).honest }
     {
@@ -232,6 +234,7 @@ impl<S: Alter + Drop> Counter for Bank<S> {
             → database_of S.Store self.new ≡ database_of S.Store self.old) }
         ensures frugal { result ≢ Err fault.Memory }
         ensures cause { IfErr result (λ fault. TellsFailure fault → KeepsCause S.Store self.old self.new) }
+        ensures broken { IfErr result (λ fault. OfDamage fault (WasBrokenOrMet S.Store self.old self.new)) }
         ensures down { (bank_seen S.Store self.old).is_down → IsErrOf result Fault.Down }
         ensures honest { (bank_seen S.Store self.new).honest → (bank_seen S.Store self.old).honest }
     {
@@ -257,6 +260,7 @@ impl<S: Alter + Drop> Counter for Bank<S> {
             → database_of S.Store self.new ≡ database_of S.Store self.old) }
         ensures frugal { result ≢ Err fault.Memory }
         ensures cause { IfErr result (λ fault. TellsFailure fault → KeepsCause S.Store self.old self.new) }
+        ensures broken { IfErr result (λ fault. OfDamage fault (WasBroken S.Store self.old self.new)) }
         ensures down { (bank_seen S.Store self.old).is_down → IsErrOf result Fault.Down }
         ensures honest { (bank_seen S.Store self.new).honest → (bank_seen S.Store self.old).honest }
     {
@@ -283,6 +287,7 @@ impl<S: Alter + Drop> Counter for Bank<S> {
             → database_of S.Store self.new ≡ database_of S.Store self.old) }
         ensures frugal { result ≢ Err fault.Memory }
         ensures cause { IfErr result (λ fault. TellsFailure fault → KeepsCause S.Store self.old self.new) }
+        ensures broken { IfErr result (λ fault. OfDamage fault (WasBroken S.Store self.old self.new)) }
         ensures down { (bank_seen S.Store self.old).is_down → IsErrOf result Fault.Down }
         ensures honest { (bank_seen S.Store self.new).honest → (bank_seen S.Store self.old).honest }
     {

@@ -1,11 +1,10 @@
 -- The parts of a call one after another.
 use Rattle.std.proofs.Common.{◌≡◌, false, true, Ok, Err, Result, refl, sym, subst, ◌∙◌, inl, inr, arith}
-use Rattle.std.specs.Prelude.{IsTrue, Bool}
+use Rattle.std.specs.Prelude.{IsTrue, Bool, List, ℕ}
 use Rattle.sqlite.specs.Effect.{Database}
 use Rattle.sqlite.specs.State.{State, HasCleanDisk, Survives}
 use Rattle.sqlite.specs.Held.{Held, state}
 use Rattle.sqlite.specs.Table.{Table}
-use Rattle.sqlite.specs.Tree.{Trees}
 use Rattle.sqlite.specs.declared.error.Error.{Error}
 use Rattle.sqlite.specs.declared.transaction.Transaction.{Transaction}
 use Rattle.sqlite_trees.specs.declared.store.Store.{Ghosts}
@@ -14,13 +13,16 @@ use Rattle.posting_rules.specs.Tables.{Tables}
 use Rattle.sql_meanings.specs.Calls.{Says, Inside}
 use Rattle.sql_meanings.proofs.Saying.{says_then}
 use Rattle.store_rows.specs.Calls.{OfTables}
-use Rattle.store_rows.specs.Failures.{Changes, HasFailed, HasReason, Puts}
+use Rattle.store_rows.specs.Failures.{Changes, HasMet, IsUpdateOf, MeetsNone, Puts}
 use Rattle.store_rows.specs.Outcomes.{Adds, Writes}
 use Rattle.store_rows.specs.View.{Shows}
 use Rattle.store_rows.specs.declared.faults.TableFault.{TableFault}
 use Rattle.store_rows.specs.declared.faults.TableFault.TheVariants.{Sqlite, Damaged}
-use Rattle.bank_transactions.specs.Doing.{GoesOn, IsBefore, HasFailedBetween, IsFault, Blames, Keeps, Looks, LooksUp, Answers, Reads, Does, expected}
+use Rattle.bank_transactions.proofs.Blamed.{blames_put, broken_or_met, comes, failed_here, met_after, met_here}
+use Rattle.bank_transactions.specs.Doing.{GoesOn, HasMetBetween, Damage, IsFirstBroken, IsBrokenOrMet, Blames}
+use Rattle.bank_transactions.specs.Doing.{Keeps, Looks, LooksUp, Answers, Reads, DoesBy, Does, Acts, expected}
 use Rattle.posting_rules.specs.declared.fault.Rule.{Rule}
+use Rattle.posting_rules.specs.declared.fault.Rule.TheVariants.{Meta, Teller, Account, Balance, Request, Value, Key}
 
 -- ---- what goes on
 
@@ -45,48 +47,6 @@ write_keeps old new (Ok done) live kept = record { opened = λ h. kept.was_open;
 write_keeps old new (Err e) live (inl same, why) = record { was_open = λ h. same.0.was_open; committed = λ h. same.0.committed_is }
 write_keeps old new (Err e) live (inr undone, why) = record { was_open = undone.was_open; committed = λ h. (undone.undone h).1 }
 
--- ---- why a part failed
-
--- nothing is forgotten by a call
-pub comes : {P : Trees → Type 0} {old new : State} → Survives old new P → IsBefore old new
-comes s = record { faults = s.counts; limit = s.limit }
-
-pub same_moment : (s : State) → IsBefore s s
-same_moment s = record { faults = omega arith; limit = refl }
-
-then_moment : (old mid new : State) → IsBefore old mid → IsBefore mid new → IsBefore old new
-then_moment old mid new one two = record { faults = let a = one.faults in let b = two.faults in omega arith; limit = two.limit ∙ one.limit }
-
--- the failing call is the whole part
-pub failed_here : {S : Type 0} (g : Ghosts S) (old new : Held S) (e : Error) → HasFailed (state g old) (state g new) e → HasFailedBetween g old new e
-failed_here g old new e failed = record { at = old; then = new; before = same_moment (state g old); failed = failed; after = same_moment (state g new) }
-
--- a part that failed, behind others and before others
-pub fault_within : {S : Type 0} (g : Ghosts S) (old mid end new : Held S) (fault : TableFault) → IsBefore (state g old) (state g mid)
-    → IsBefore (state g end) (state g new) → IsFault g mid end fault → IsFault g old new fault
-fault_within g old mid end new (Sqlite e) one two it = record {
-  at = it.at;
-  then = it.then;
-  before = then_moment (state g old) (state g mid) (state g it.at) one it.before;
-  failed = it.failed;
-  after = then_moment (state g it.then) (state g end) (state g new) it.after two;
-}
-fault_within g old mid end new (Damaged rule) one two it = tt
-
-pub blames_after : {S X : Type 0} (g : Ghosts S) (old mid new : Held S) (r : Result X TableFault) → IsBefore (state g old) (state g mid) → Blames g mid new r
-    → Blames g old new r
-blames_after g old mid new (Ok x) one it = tt
-blames_after g old mid new (Err fault) one it = fault_within g old mid new new fault one (same_moment (state g new)) it
-
--- what a statement of the tables says of its failure
-pub fault_here : {S : Type 0} (g : Ghosts S) (old new : Held S) (fault : TableFault) → HasReason (state g old) (state g new) fault → IsFault g old new fault
-fault_here g old new (Sqlite e) why = failed_here g old new e why
-fault_here g old new (Damaged rule) why = tt
-
-blames_put : {S : Type 0} (g : Ghosts S) (old new : Held S) (r : Result (Unit {0}) TableFault) → Puts (state g old) (state g new) r → Blames g old new r
-blames_put g old new (Ok done) kept = tt
-blames_put g old new (Err fault) kept = fault_here g old new fault kept.1
-
 -- ---- what is told
 
 -- no damage of a part is none of the whole
@@ -110,9 +70,9 @@ does_none stays = record {
 
 -- one part, and then another
 pub does_then : {S X Y : Type 0} {g : Ghosts S} {old mid new : Transaction S} {So So' : Tables → Type 0} {after after' : Tables → Tables}
-    {w : Tables → X} {w' : Tables → Y} {x : X} {r : Result Y TableFault} → Does g old mid So after w (Ok x) → Does g mid new So' after' w' r
-    → ((t : Tables) → So t → So' (after t)) → Does g old new So (λ t. after' (after t)) (λ t. w' (after t)) r
-does_then {S} {X} {Y} {g} {old} {mid} {new} {So} {So'} {after} {after'} {w} {w'} {x} {r} one two ready = record {
+    {w : Tables → X} {w' : Tables → Y} {x : X} {r : Result Y TableFault} {Met : Damage S} → DoesBy Met g old mid So after w (Ok x)
+    → Does g mid new So' after' w' r → ((t : Tables) → So t → So' (after t)) → Does g old new So (λ t. after' (after t)) (λ t. w' (after t)) r
+does_then {S} {X} {Y} {g} {old} {mid} {new} {So} {So'} {after} {after'} {w} {w'} {x} {r} {Met} one two ready = record {
   says = says_then g old mid new one.says two.says
       (λ told kept told' live t shows so.
       told' (still_in (state g old.conn.now) (state g mid.conn.now) (kept live).0 live) (after t) (told live t shows so).1 (ready t so))
@@ -120,15 +80,15 @@ does_then {S} {X} {Y} {g} {old} {mid} {new} {So} {So'} {after} {after'} {w} {w'}
       let on = (kept live).0 in
       let last = kept' (still_in (state g old.conn.now) (state g mid.conn.now) on live) in (
         keeps_then (state g old.conn.now) (state g mid.conn.now) (state g new.conn.now) r on last.0,
-        blames_after g old.conn.now mid.conn.now new.conn.now r (comes one.says.survives) last.1,
+        met_after g old.conn.now mid.conn.now new.conn.now r (comes one.says.survives) last.1,
       ));
 }
 
 -- an error of a part is that of the whole
 pub does_err : {S X Y : Type 0} {g : Ghosts S} {old new : Transaction S} {So So' : Tables → Type 0} {after after' : Tables → Tables}
-    {w : Tables → X} {w' : Tables → Y} {e : TableFault} → Does g old new So after w (Err e) → ((t : Tables) → So' t → So t)
-    → Does g old new So' after' w' (Err e)
-does_err {S} {X} {Y} {g} {old} {new} {So} {So'} {after} {after'} {w} {w'} {e} part so = record {
+    {w : Tables → X} {w' : Tables → Y} {e : TableFault} {Met : Damage S} → DoesBy Met g old new So after w (Err e) → ((t : Tables) → So' t → So t)
+    → DoesBy Met g old new So' after' w' (Err e)
+does_err {S} {X} {Y} {g} {old} {new} {So} {So'} {after} {after'} {w} {w'} {e} {Met} part so = record {
   says = record {
     same_reference = part.says.same_reference;
     told = λ clean live t shows it. same_fault (state g new.conn.now) (state g new.conn.now) (after t) (after' t) (w t) (w' t) e
@@ -140,8 +100,8 @@ does_err {S} {X} {Y} {g} {old} {new} {So} {So'} {after} {after'} {w} {w'} {e} pa
 
 -- the same, said in other words, with another answer
 pub does_as : {S X Y : Type 0} {g : Ghosts S} {old new : Transaction S} {So So' : Tables → Type 0} {after after' : Tables → Tables}
-    {w : Tables → X} {w' : Tables → Y} {x : X} {y : Y} → Does g old new So after w (Ok x)
-    → ((t : Tables) → So' t → So t × (after t ≡ after' t) × (x ≡ w t → y ≡ w' t)) → Does g old new So' after' w' (Ok y)
+    {w : Tables → X} {w' : Tables → Y} {x : X} {y : Y} {Met : Damage S} → DoesBy Met g old new So after w (Ok x)
+    → ((t : Tables) → So' t → So t × (after t ≡ after' t) × (x ≡ w t → y ≡ w' t)) → DoesBy Met g old new So' after' w' (Ok y)
 does_as {S} {X} {Y} {g} {old} {new} part same = record {
   says = record {
     same_reference = part.says.same_reference;
@@ -156,8 +116,8 @@ does_as {S} {X} {Y} {g} {old} {new} part same = record {
 
 -- the same, whatever the answer
 pub does_for : {S X : Type 0} {g : Ghosts S} {old new : Transaction S} {So So' : Tables → Type 0} {after after' : Tables → Tables}
-    {w w' : Tables → X} {r : Result X TableFault} → Does g old new So after w r
-    → ((t : Tables) → So' t → So t × (after t ≡ after' t) × (w t ≡ w' t)) → Does g old new So' after' w' r
+    {w w' : Tables → X} {r : Result X TableFault} {Met : Damage S} → DoesBy Met g old new So after w r
+    → ((t : Tables) → So' t → So t × (after t ≡ after' t) × (w t ≡ w' t)) → DoesBy Met g old new So' after' w' r
 does_for {S} {X} {g} {old} {new} {So} {So'} {after} {after'} {w} {w'} {r} part same = record {
   says = record {
     same_reference = part.says.same_reference;
@@ -173,7 +133,7 @@ does_for {S} {X} {g} {old} {new} {So} {So'} {after} {after'} {w} {w'} {r} part s
 -- ---- where the answer of the first part counts too
 
 module _ {S X Y : Type 0} {g : Ghosts S} {old mid new : Transaction S} {So So' : Tables → Type 0} {after after' : Tables → Tables}
-    {w : Tables → X} {w' : Tables → Y} {x : X} {r : Result Y TableFault} (one : Does g old mid So after w (Ok x)) (two : Does g mid new So' after' w' r)
+    {w : Tables → X} {w' : Tables → Y} {x : X} {r : Result Y TableFault} {Met : Damage S} (one : DoesBy Met g old mid So after w (Ok x)) (two : Does g mid new So' after' w' r)
     (ready : (t : Tables) → So t → x ≡ w t → So' (after t)) where
   -- one part, and then another, for tables of which the first answer is known
   pub knowing : Does g old new (λ t. So t × (x ≡ w t)) (λ t. after' (after t)) (λ t. w' (after t)) r
@@ -181,9 +141,10 @@ module _ {S X Y : Type 0} {g : Ghosts S} {old mid new : Transaction S} {So So' :
 
 -- an error of the second is that of both
 pub does_but : {S X Y Z : Type 0} {g : Ghosts S} {old mid new : Transaction S} {So So' : Tables → Type 0} {after after' after'' : Tables → Tables}
-    {w : Tables → X} {w' : Tables → Y} {w'' : Tables → Z} {x : X} {e : TableFault} → Does g old mid So after w (Ok x) → Does g mid new So' after' w' (Err e)
+    {w : Tables → X} {w' : Tables → Y} {w'' : Tables → Z} {x : X} {e : TableFault} {Met : Damage S} → DoesBy Met g old mid So after w (Ok x)
+    → Does g mid new So' after' w' (Err e)
     → ((t : Tables) → So t → x ≡ w t → So' (after t)) → Does g old new So after'' w'' (Err e)
-does_but {S} {X} {Y} {Z} {g} {old} {mid} {new} {So} {So'} {after} {after'} {after''} {w} {w'} {w''} {x} {e} one two ready =
+does_but {S} {X} {Y} {Z} {g} {old} {mid} {new} {So} {So'} {after} {after'} {after''} {w} {w'} {w''} {x} {e} {Met} one two ready =
     let both = knowing one two ready in
     record {
       says = record {
@@ -211,7 +172,7 @@ look_keeps old new (Err e) looks = looks
 
 -- a look-up leaves the tables
 pub does_read : {S X : Type 0} (g : Ghosts S) (old new : Transaction S) (w : Tables → X) (r : Result X TableFault) → Reads g old new w r
-    → Does g old new IsUndamaged (λ t. t) w r
+    → DoesBy (IsFirstBroken g) g old new IsUndamaged (λ t. t) w r
 does_read g old new w r reads = record {
   says = record {
     same_reference = reads.same_reference;
@@ -248,31 +209,69 @@ written old new table there after (Ok true) rule is writes = (refl, writes.1)
 written old new table there after (Ok false) rule is writes = let no = writes.0 in cc
 written old new table there after (Err e) rule is writes = tt
 
-written_keeps : (old new : State) (r : Result Bool Error) (rule : Rule) → IsTrue old.in_transaction → Changes old new r → Keeps old new (expected r rule)
-written_keeps old new (Ok true) rule live kept = write_keeps old new (Ok tt) live kept
-written_keeps old new (Ok false) rule live kept = record { was_open = λ h. kept.was_open; committed = λ h. kept.committed_is }
-written_keeps old new (Err e) rule live kept = write_keeps old new (Err (Sqlite e)) live kept
+written_keeps : (old new : State) (text : List ℕ) (r : Result Bool Error) (rule : Rule) → IsTrue old.in_transaction → Changes text old new r
+    → Keeps old new (expected r rule)
+written_keeps old new text (Ok true) rule live kept = write_keeps old new (Ok tt) live kept.0
+written_keeps old new text (Ok false) rule live kept = record { was_open = λ h. kept.0.was_open; committed = λ h. kept.0.committed_is }
+written_keeps old new text (Err e) rule live kept = write_keeps old new (Err (Sqlite e)) live kept
 
-blames_changed : {S : Type 0} (g : Ghosts S) (old new : Held S) (r : Result Bool Error) (rule : Rule) → Changes (state g old) (state g new) r
-    → Blames g old new (expected r rule)
-blames_changed g old new (Ok true) rule kept = tt
-blames_changed g old new (Ok false) rule kept = tt
-blames_changed g old new (Err e) rule kept = failed_here g old new e kept.1
+has_met : (old new : State) (rule : Rule) (text : List ℕ) → IsUpdateOf rule text → MeetsNone text old new → HasMet old new rule
+has_met old new Meta text of none = (text, of, none)
+has_met old new Teller text of none = (text, of, none)
+has_met old new Account text of none = (text, of, none)
+has_met old new Balance text of none = absurd of
+has_met old new Request text of none = absurd of
+has_met old new Value text of none = absurd of
+has_met old new Key text of none = absurd of
+
+blames_changed : {S : Type 0} (g : Ghosts S) (old new : Held S) (text : List ℕ) (r : Result Bool Error) (rule : Rule) → IsUpdateOf rule text
+    → Changes text (state g old) (state g new) r → Blames (HasMetBetween g) g old new (expected r rule)
+blames_changed g old new text (Ok true) rule of kept = tt
+blames_changed g old new text (Ok false) rule of kept =
+    met_here g old new rule (has_met (state g old) (state g new) rule text of (kept.1 refl))
+blames_changed g old new text (Err e) rule of kept = failed_here g old new e kept.1
 
 -- a row that is there is written
 pub does_write : {S : Type 0} {So : Tables → Type 0} (g : Ghosts S) (old new : Transaction S) (table : Table) (there : Tables → Bool) (after : Tables → Tables)
-    (answer : Result Bool Error) (rule : Rule) (r : Result (Unit {0}) TableFault) → r ≡ expected answer rule
-    → Says g old new (Inside (OfTables (λ before now t. Writes before now table (there t) (after t) answer))) (Inside (λ before now. Changes before now answer))
+    (answer : Result Bool Error) (rule : Rule) (r : Result (Unit {0}) TableFault) (text : List ℕ) → IsUpdateOf rule text → r ≡ expected answer rule
+    → Says g old new (Inside (OfTables (λ before now t. Writes before now table (there t) (after t) answer))) (Inside (λ before now. Changes text before now answer))
     → ((t : Tables) → So t → IsTrue (there t)) → Does g old new So after (λ _. tt) r
-does_write {S} {So} g old new table there after answer rule r is says so =
+does_write {S} {So} g old new table there after answer rule r text of is says so =
     subst (λ (x : Result (Unit {0}) TableFault). Does g old new So after (λ _. tt) x) (sym is) (record {
       says = record {
         same_reference = says.same_reference;
         told = λ clean live t shows it.
             written (state g old.conn.now) (state g new.conn.now) table (there t) (after t) answer rule (so t it) (says.told clean live t shows);
         kept = λ clean live.
-            let it = says.kept clean live in
-            (written_keeps (state g old.conn.now) (state g new.conn.now) answer rule live it, blames_changed g old.conn.now new.conn.now answer rule it);
+            let it = says.kept clean live in (
+              written_keeps (state g old.conn.now) (state g new.conn.now) text answer rule live it,
+              blames_changed g old.conn.now new.conn.now text answer rule of it,
+            );
         survives = says.survives;
       };
     })
+
+-- ---- a part that reads and then writes
+
+acts_as : {S X : Type 0} {Met : Damage S} {g : Ghosts S} {old new : Transaction S} {So : Tables → Type 0} {after : Tables → Tables}
+    {w : Tables → X} {r : Result X TableFault} → ((rule : Rule) → Met old.conn.now new.conn.now rule → IsBrokenOrMet g old.conn.now new.conn.now rule)
+    → DoesBy Met g old new So after w r → Acts g old new So after w r
+acts_as {S} {X} {Met} {g} {old} {new} {So} {after} {w} {r} weaker part = record {
+  says = record {
+    same_reference = part.says.same_reference;
+    told = part.says.told;
+    kept = λ clean live.
+        let it = part.says.kept clean live in (it.0, broken_or_met Met g old.conn.now new.conn.now r weaker it.1);
+    survives = part.says.survives;
+  };
+}
+
+-- it only read so far
+pub acts_read : {S X : Type 0} {g : Ghosts S} {old new : Transaction S} {So : Tables → Type 0} {after : Tables → Tables} {w : Tables → X}
+    {r : Result X TableFault} → DoesBy (IsFirstBroken g) g old new So after w r → Acts g old new So after w r
+acts_read part = acts_as (λ rule it. inl it) part
+
+-- it wrote
+pub acts_wrote : {S X : Type 0} {g : Ghosts S} {old new : Transaction S} {So : Tables → Type 0} {after : Tables → Tables} {w : Tables → X}
+    {r : Result X TableFault} → Does g old new So after w r → Acts g old new So after w r
+acts_wrote part = acts_as (λ rule it. inr it) part

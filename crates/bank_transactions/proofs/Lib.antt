@@ -1,4 +1,6 @@
 -- What the proofs of the transactions share.
+pub mod Blamed
+pub mod Broken
 pub mod Chained
 pub mod NextRow
 pub mod Opened

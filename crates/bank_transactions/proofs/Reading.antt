@@ -12,8 +12,10 @@ use Rattle.store_rows.specs.Failures.{HasReason}
 use Rattle.store_rows.specs.View.{Shows}
 use Rattle.store_rows.specs.declared.faults.TableFault.{TableFault}
 use Rattle.store_rows.specs.declared.faults.TableFault.TheVariants.{Sqlite, Damaged}
-use Rattle.bank_transactions.specs.Doing.{IsBefore, IsFault, LooksUp, Reads, Stays}
-use Rattle.bank_transactions.proofs.Chained.{comes, fault_here, fault_within, same_moment}
+use Rattle.store_rows.specs.Rules.{IsBroken}
+use Rattle.bank_transactions.specs.Doing.{IsBefore, IsFault, IsFirstBroken, LooksUp, Reads, Stays}
+use Rattle.bank_transactions.proofs.Blamed.{comes, failed_here, fault_within, same_moment}
+use Rattle.bank_transactions.proofs.Broken.{IsOf}
 
 -- ---- a read that failed
 
@@ -21,23 +23,30 @@ not_committed : (old new : State) → WriteFails old new → KeepsCommit old new
 not_committed old new (inl same) = record { was_open = λ h. same.0.was_open; committed = λ h. same.0.committed_is }
 not_committed old new (inr undone) = record { was_open = undone.was_open; committed = λ h. (undone.undone h).1 }
 
--- one statement
-pub read_failed : {S : Type 0} (g : Ghosts S) (old new : Held S) (fault : TableFault)
-    → WriteFails (state g old) (state g new) × HasReason (state g old) (state g new) fault
-    → KeepsCommit (state g old) (state g new) × IsFault g old new fault
-read_failed g old new fault it = (not_committed (state g old) (state g new) it.0, fault_here g old new fault it.1)
+-- what a fault says: damage is of the rows that were there
+first_fault : {S : Type 0} (g : Ghosts S) (old new : Held S) (fault : TableFault) → IsOf (state g old).now fault
+    → HasReason (state g old) (state g new) fault → IsFault (IsFirstBroken g) g old new fault
+first_fault g old new (Sqlite e) of why = failed_here g old new e why
+first_fault g old new (Damaged rule) of why = of
 
-behind : {S : Type 0} (g : Ghosts S) (old mid new : Held S) (fault : TableFault) → IsBefore (state g old) (state g mid) → IsFault g mid new fault
-    → IsFault g old new fault
-behind g old mid new fault one it = fault_within g old mid new new fault one (same_moment (state g new)) it
+-- one statement
+pub read_failed : {S : Type 0} (g : Ghosts S) (old new : Held S) (fault : TableFault) → IsOf (state g old).now fault
+    → WriteFails (state g old) (state g new) × HasReason (state g old) (state g new) fault
+    → KeepsCommit (state g old) (state g new) × IsFault (IsFirstBroken g) g old new fault
+read_failed g old new fault of it = (not_committed (state g old) (state g new) it.0, first_fault g old new fault of it.1)
+
+pub behind : {S : Type 0} (g : Ghosts S) (old mid new : Held S) (fault : TableFault) → IsBefore (state g old) (state g mid)
+    → (state g mid).now ≡ (state g old).now → IsFault (IsFirstBroken g) g mid new fault → IsFault (IsFirstBroken g) g old new fault
+behind g old mid new fault one same it =
+    fault_within (IsFirstBroken g) g old mid new new fault (λ rule. subst (IsBroken rule) same) one (same_moment (state g new)) it
 
 -- the second of two
 pub second_failed : {S : Type 0} (g : Ghosts S) (old mid new : Held S) (fault : TableFault) → IsBefore (state g old) (state g mid)
-    → IsUnchanged (state g old) (state g mid) → KeepsCommit (state g mid) (state g new) × IsFault g mid new fault
-    → KeepsCommit (state g old) (state g new) × IsFault g old new fault
+    → IsUnchanged (state g old) (state g mid) → KeepsCommit (state g mid) (state g new) × IsFault (IsFirstBroken g) g mid new fault
+    → KeepsCommit (state g old) (state g new) × IsFault (IsFirstBroken g) g old new fault
 second_failed g old mid new fault one same it = (
   record { was_open = λ h. same.0.was_open; committed = λ h. it.0.committed h ∙ same.0.committed_is },
-  behind g old mid new fault one it.1,
+  behind g old mid new fault one same.0.now_is it.1,
 )
 
 -- ---- two reads
@@ -80,5 +89,5 @@ reads_but {S} {X} {g} {old} {mid} {new} {w} {x} e one two =
     (told' t (subst (λ (db : Database). Shows db t) (sym (told t shows sound).1.now) shows) sound))
     (λ kept kept'. (
       record { was_open = λ h. kept.0.goes_on.opened (kept'.0.was_open h); committed = λ h. kept'.0.committed h ∙ kept.0.goes_on.committed },
-      behind g old.conn.now mid.conn.now new.conn.now e (comes one.survives) kept'.1,
+      behind g old.conn.now mid.conn.now new.conn.now e (comes one.survives) kept.0.now kept'.1,
     ))

@@ -1,5 +1,5 @@
 -- What the parts of a call do to the tables, and what a whole transaction does.
-use Rattle.std.specs.Prelude.{◌≡◌, ◌≤◌, IsTrue, Bool, true, false, Result, Ok, Err, ⊤}
+use Rattle.std.specs.Prelude.{◌≡◌, ◌≤◌, ◌⊎◌, IsTrue, Bool, true, false, Result, Ok, Err, ⊤}
 use Rattle.sqlite.specs.Tree.{Trees}
 use Rattle.sqlite.specs.State.{State, KeepsCommit, HasCleanDisk, Survives}
 use Rattle.sqlite.specs.Held.{Held, state}
@@ -11,7 +11,8 @@ use Rattle.posting_rules.specs.Tables.{Tables}
 use Rattle.posting_rules.specs.declared.fault.Rule.{Rule}
 use Rattle.sql_meanings.specs.Calls.{Says, Inside}
 use Rattle.store_rows.specs.Calls.{OfTables}
-use Rattle.store_rows.specs.Failures.{HasFailed}
+use Rattle.store_rows.specs.Failures.{HasFailed, HasMet}
+use Rattle.store_rows.specs.Rules.{IsBroken}
 use Rattle.store_rows.specs.View.{Shows, ShowsTrees}
 use Rattle.store_rows.specs.declared.faults.TableFault.{TableFault}
 use Rattle.store_rows.specs.declared.faults.TableFault.TheVariants.{Sqlite, Damaged}
@@ -43,14 +44,36 @@ pub record HasFailedBetween {S : Type 0} (g : Ghosts S) (old new : Held S) (e : 
   pub failed : HasFailed (state g at) (state g then) e
   pub after : IsBefore (state g then) (state g new)
 
-abbrev pub IsFault : {S : Type 0} → Ghosts S → Held S → Held S → TableFault → Type 0
-IsFault g old new (Sqlite e) = HasFailedBetween g old new e
-IsFault g old new (Damaged rule) = ⊤
+-- between these two moments of a connection a statement met, as it wrote, that the rule is broken
+pub record HasMetBetween {S : Type 0} (g : Ghosts S) (old new : Held S) (rule : Rule) : Type 0 where
+  -- the connection before that statement and after it
+  pub at : Held S
+  pub then : Held S
+  pub before : IsBefore (state g old) (state g at)
+  pub met : HasMet (state g at) (state g then) rule
+  pub after : IsBefore (state g then) (state g new)
 
--- an error of `sqlite` is one with which a call of it failed
-abbrev pub Blames : {S X : Type 0} → Ghosts S → Held S → Held S → Result X TableFault → Type 0
-Blames g old new (Ok x) = ⊤
-Blames g old new (Err fault) = IsFault g old new fault
+-- what damage says between two moments
+abbrev pub Damage : Type 0 → Type 1
+Damage S = Held S → Held S → Rule → Type 0
+
+-- the rows that the file held at first break the rule
+abbrev pub IsFirstBroken : {S : Type 0} → Ghosts S → Damage S
+IsFirstBroken g old new rule = IsBroken rule (state g old).now
+
+-- they do, or a statement met it as it wrote
+abbrev pub IsBrokenOrMet : {S : Type 0} → Ghosts S → Damage S
+IsBrokenOrMet g old new rule = IsBroken rule (state g old).now ⊎ HasMetBetween g old new rule
+
+-- an error of `sqlite` is one with which a call of it failed, and damage says this
+abbrev pub IsFault : {S : Type 0} → Damage S → Ghosts S → Held S → Held S → TableFault → Type 0
+IsFault Says g old new (Sqlite e) = HasFailedBetween g old new e
+IsFault Says g old new (Damaged rule) = Says old new rule
+
+-- the same of an answer
+abbrev pub Blames : {S X : Type 0} → Damage S → Ghosts S → Held S → Held S → Result X TableFault → Type 0
+Blames Says g old new (Ok x) = ⊤
+Blames Says g old new (Err fault) = IsFault Says g old new fault
 
 -- ---- a part that reads
 
@@ -65,11 +88,11 @@ LooksUp old new wanted (Ok found) = (found ≡ wanted) × Stays old new
 LooksUp old new wanted (Err (Sqlite e)) = ⊤
 LooksUp old new wanted (Err (Damaged rule)) = ⊥
 
--- in undamaged tables it is what was looked for
+-- in undamaged tables it is what was looked for; damage is of the rows that were there
 abbrev pub Reads : {S X : Type 0} → Ghosts S → Transaction S → Transaction S → (Tables → X) → Result X TableFault → Type 0
 Reads g old new wanted result =
     Says g old new (OfTables (λ before now tables. IsUndamaged tables → LooksUp before now (wanted tables) result))
-    (λ before now. Looks before now result × Blames g old.conn.now new.conn.now result)
+    (λ before now. Looks before now result × Blames (IsFirstBroken g) g old.conn.now new.conn.now result)
 
 -- ---- a part that writes
 
@@ -90,11 +113,21 @@ expected (Ok true) rule = Ok tt
 expected (Ok false) rule = Err (Damaged rule)
 expected (Err e) rule = Err (Sqlite e)
 
--- tables that are so become these, and the answer is this one
-pub record Does {S X : Type 0} (g : Ghosts S) (old new : Transaction S) (So : Tables → Type 0) (after : Tables → Tables) (wanted : Tables → X)
-    (result : Result X TableFault) : Type 0 where
+-- tables that are so become these, and the answer is this one; damage says this
+pub record DoesBy {S X : Type 0} (Met : Damage S) (g : Ghosts S) (old new : Transaction S) (So : Tables → Type 0) (after : Tables → Tables)
+    (wanted : Tables → X) (result : Result X TableFault) : Type 0 where
   pub says : Says g old new (Inside (OfTables (λ before now tables. So tables → Answers now (after tables) (wanted tables) result)))
-      (Inside (λ before now. Keeps before now result × Blames g old.conn.now new.conn.now result))
+      (Inside (λ before now. Keeps before now result × Blames Met g old.conn.now new.conn.now result))
+
+-- a part that only writes: damage was met by a statement as it wrote
+abbrev pub Does : {S X : Type 0} → Ghosts S → Transaction S → Transaction S → (Tables → Type 0) → (Tables → Tables) → (Tables → X)
+    → Result X TableFault → Type 0
+Does g = DoesBy (HasMetBetween g) g
+
+-- a part that reads and then writes: damage is of the rows that were there, or was met as it wrote
+abbrev pub Acts : {S X : Type 0} → Ghosts S → Transaction S → Transaction S → (Tables → Type 0) → (Tables → Tables) → (Tables → X)
+    → Result X TableFault → Type 0
+Acts g = DoesBy (IsBrokenOrMet g) g
 
 -- ---- a transaction
 
@@ -114,12 +147,21 @@ abbrev pub Leaves : State → (Tables → Type 0) → (Tables → Tables) → Tr
 Leaves old So after left = (tables : Tables) → Shows old.now tables → So tables → ShowsTrees left (after tables)
 
 -- Tables that are so become these, and the answer is this one. Damage undoes all. A stop leaves what it could leave before, or what the
--- transaction leaves. An error of `sqlite` is one with which a call of it failed. No transaction goes on.
-pub record Transacts {S X : Type 0} (g : Ghosts S) (old new : Held S) (So : Tables → Type 0) (after : Tables → Tables) (wanted : Tables → X)
-    (result : Result X TableFault) : Type 0 where
+-- transaction leaves. An error of `sqlite` is one with which a call of it failed, and damage says this. No transaction goes on.
+pub record TransactsBy {S X : Type 0} (Met : Damage S) (g : Ghosts S) (old new : Held S) (So : Tables → Type 0) (after : Tables → Tables)
+    (wanted : Tables → X) (result : Result X TableFault) : Type 0 where
   pub told : HasCleanDisk (state g new) → (tables : Tables) → Shows (state g old).now tables → So tables
       → Completes (state g new) (after tables) (wanted tables) result
   pub undone : HasCleanDisk (state g new) → Undoes (state g old) (state g new) result
   pub stop : Survives (state g old) (state g new) (Leaves (state g old) So after)
-  pub cause : HasCleanDisk (state g new) → Blames g old new result
+  pub cause : HasCleanDisk (state g new) → Blames Met g old new result
   pub mode : new.in_transaction ≡ false
+
+-- damage is of the rows that the file held as the transaction began, or a statement met it as it wrote
+abbrev pub Transacts : {S X : Type 0} → Ghosts S → Held S → Held S → (Tables → Type 0) → (Tables → Tables) → (Tables → X)
+    → Result X TableFault → Type 0
+Transacts g = TransactsBy (IsBrokenOrMet g) g
+
+-- a transaction that only reads: damage is of the rows that the file held as it began
+abbrev pub Consults : {S X : Type 0} → Ghosts S → Held S → Held S → (Tables → Type 0) → (Tables → X) → Result X TableFault → Type 0
+Consults g old new So = TransactsBy (IsFirstBroken g) g old new So (λ tables. tables)

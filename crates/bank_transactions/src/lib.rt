@@ -9,6 +9,8 @@ mod posting;
 mod transactions;
 
 pub use applying::expect_row;
-pub use look_ups::{branch_at, decided, kept_request, place_of_account};
+pub use look_ups::{
+    branch_at, decided, kept_request, open_balance, place_of_account, teller_balances,
+};
 pub use next_branch::read_next_branch;
 pub use transactions::{begin, open_branch, post, read_balance};

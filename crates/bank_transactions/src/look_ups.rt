@@ -3,6 +3,10 @@ ghost use Rattle.std.specs.Prelude.{◌≡◌, ◌≤◌, IfOk};
 ghost use Rattle.posting_rules.specs.Commands.{branch_of_account, place_of_account};
 ghost use Rattle.posting_rules.specs.LookUps.{teller_balances_in, account_balance_in, kept_in, found_in};
 ghost use Rattle.posting_rules.specs.Tables.{row_at, branch_key};
+ghost use Rattle.sqlite.specs.Held.{state};
+ghost use Rattle.sqlite.specs.State.{HasCleanDisk};
+ghost use Rattle.store_rows.specs.Rules.{branch_under, BranchKeeps, OfRows};
+ghost use Rattle.store_rows.specs.Stored.{FindsStored, IsBranch};
 ghost use Rattle.bank_transactions.specs.Doing.{Reads};
 
 use message_records::{Account, Branch, Cents, Number, Request, Teller};
@@ -34,7 +38,9 @@ pub fn branch_at<S: Alter>(
     tx: &mut Transaction<'_, S>,
     number: u64,
 ) -> Result<Option<BranchRow>, TableFault>
-    ensures { Reads S.Store tx.old tx.new (λ tables. row_at branch_key tables.branches number) result }
+    ensures says { Reads S.Store tx.old tx.new (λ tables. row_at branch_key tables.branches number) result }
+    ensures stored { HasCleanDisk (state S.Store tx.new.conn.now)
+        → OfRows (λ rows. FindsStored (branch_under rows number) IsBranch BranchKeeps result) (state S.Store tx.old.conn.now).now }
 {
     let Some(branch) = Branch::new(number) else {
         return Ok(None);
@@ -49,7 +55,7 @@ pub fn branch_at<S: Alter>(
 }
 
 /// The balances of a teller and of its branch, none where the teller isn't open.
-fn teller_balances<S: Alter>(
+pub fn teller_balances<S: Alter>(
     tx: &mut Transaction<'_, S>,
     teller: Teller,
 ) -> Result<Option<(Cents, Cents)>, TableFault>
@@ -65,7 +71,7 @@ fn teller_balances<S: Alter>(
 }
 
 /// The balance of an account, none where it isn't open.
-pub(crate) fn open_balance<S: Alter>(
+pub fn open_balance<S: Alter>(
     tx: &mut Transaction<'_, S>,
     account: Account,
 ) -> Result<Option<Cents>, TableFault>

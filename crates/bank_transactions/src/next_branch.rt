@@ -7,7 +7,7 @@ ghost use Rattle.posting_rules.specs.Sound.{AreSound};
 ghost use Rattle.posting_rules.specs.Tables.{Tables};
 ghost use Rattle.store_rows.specs.Columns.{branch_above};
 ghost use Rattle.store_rows.specs.View.{Shows};
-ghost use Rattle.bank_transactions.specs.Doing.{Reads, Transacts};
+ghost use Rattle.bank_transactions.specs.Doing.{Consults, Reads};
 
 use crate::transactions::begin;
 use posting_rules::{BranchRow, LAST_BRANCH, MOST_ACCOUNTS, Rule};
@@ -41,7 +41,7 @@ pub fn read_next_branch<S: Alter>(
     after: u32,
 ) -> Result<Option<BranchRow>, TableFault>
     requires { conn.old.in_transaction ≡ false }
-    ensures says { Transacts S.Store conn.old conn.new AreSound (λ tables. tables) (λ tables. branch_above tables after) result }
+    ensures says { Consults S.Store conn.old conn.new AreSound (λ tables. branch_above tables after) result }
     ensures within { IfOk result (λ next. IfSome next (λ row. IsLineAbove after (line_of row))) }
     ensures same { HasCleanDisk (state S.Store conn.new) → (tables : Tables)
         → Shows (state S.Store conn.old).now tables → OnOk result (Shows (state S.Store conn.new).now tables) }

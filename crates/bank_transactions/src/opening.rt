@@ -5,7 +5,7 @@ ghost use Rattle.posting_rules.specs.Counter.{opening_for};
 ghost use Rattle.posting_rules.specs.LookUps.{count_in};
 ghost use Rattle.posting_rules.specs.Sound.{AreSound};
 ghost use Rattle.posting_rules.specs.Tables.{row_at, branch_key};
-ghost use Rattle.bank_transactions.specs.Doing.{Does};
+ghost use Rattle.bank_transactions.specs.Doing.{Acts, Does};
 ghost use Rattle.bank_transactions.specs.NewRows.{with_new, with_new_rows, is_taken, last_of};
 
 use crate::look_ups::branch_at;
@@ -98,7 +98,7 @@ pub(crate) fn open_inside<S: Alter>(
 ) -> Result<Opening, TableFault>
     requires branch { branch ≤ LAST_BRANCH }
     requires few { count ≤ MOST_ACCOUNTS }
-    ensures { Does S.Store tx.old tx.new AreSound (λ tables. tables_with_branch tables branch count)
+    ensures { Acts S.Store tx.old tx.new AreSound (λ tables. tables_with_branch tables branch count)
         (λ tables. opening_for (count_in tables branch) count) result }
 {
     if let Some(row) = branch_at(tx, branch.get())? {

@@ -1,7 +1,7 @@
 //! A request is judged by what is looked up, and what changes is written.
 ghost use Rattle.posting_rules.specs.Changes.{tables_with, reply_bytes};
 ghost use Rattle.posting_rules.specs.Sound.{AreSound};
-ghost use Rattle.bank_transactions.specs.Doing.{Does};
+ghost use Rattle.bank_transactions.specs.Doing.{Acts};
 
 use crate::applying::apply;
 use crate::look_ups::look_up;
@@ -16,7 +16,7 @@ pub(crate) fn answer<S: Alter>(
     moment: Moment,
     request: &Request,
 ) -> Result<[u8; 200], TableFault>
-    ensures { Does S.Store tx.old tx.new AreSound (λ tables. tables_with tables moment request.now)
+    ensures { Acts S.Store tx.old tx.new AreSound (λ tables. tables_with tables moment request.now)
         (λ tables. reply_bytes tables request.now) result }
 {
     let found = look_up(tx, request)?;

@@ -8,7 +8,7 @@ ghost use Rattle.posting_rules.specs.LookUps.{account_balance_in, count_in};
 ghost use Rattle.posting_rules.specs.Sound.{AreSound};
 ghost use Rattle.posting_rules.specs.Tables.{Tables};
 ghost use Rattle.store_rows.specs.View.{Shows};
-ghost use Rattle.bank_transactions.specs.Doing.{Transacts};
+ghost use Rattle.bank_transactions.specs.Doing.{Consults, Transacts};
 
 use crate::look_ups::open_balance;
 use crate::opening::open_inside;
@@ -69,7 +69,7 @@ pub fn read_balance<S: Alter>(
     account: Account,
 ) -> Result<Option<Cents>, TableFault>
     requires { conn.old.in_transaction ≡ false }
-    ensures says { Transacts S.Store conn.old conn.new AreSound (λ tables. tables) (λ tables. account_balance_in tables account) result }
+    ensures says { Consults S.Store conn.old conn.new AreSound (λ tables. account_balance_in tables account) result }
     ensures same { HasCleanDisk (state S.Store conn.new) → (tables : Tables)
         → Shows (state S.Store conn.old).now tables → OnOk result (Shows (state S.Store conn.new).now tables) }
 {

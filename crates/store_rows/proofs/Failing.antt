@@ -20,7 +20,6 @@ use Rattle.sql_meanings.proofs.Failures.{other_error, put_fails_as}
 use Rattle.sql_meanings.proofs.Makings.{kept_inside}
 use Rattle.sql_meanings.proofs.PuttingIn.{key_taken}
 use Rattle.posting_rules.specs.declared.fault.Rule.TheVariants.{Key}
-use Rattle.store_rows.specs.declared.faults.TableFault.{TableFault}
 use Rattle.store_rows.specs.declared.faults.TableFault.TheVariants.{Sqlite, Damaged}
 use Rattle.posting_rules.specs.Changes.{row_put}
 use Rattle.store_rows.specs.Failures.{Putting, Puts}
@@ -116,5 +115,5 @@ puts_added old new text params (Err e) h = go (is_taken_key e) refl
     fails = kept_inside old new text params (Err e) h
 
     go : (b : Bool) → is_taken_key e ≡ b → Puts {X = Unit {0}} old new (cond b (Err (Damaged Key)) (Err (Sqlite e)))
-    go true taken = (fails, tt)
+    go true taken = (fails, (text, params, e, h, taken))
     go false free = (fails, Putting text params h free)

@@ -12,7 +12,7 @@ use Rattle.store_rows.specs.declared.faults.TableFault.TheVariants.{Sqlite, Dama
 use Rattle.store_rows.specs.Columns.{balance_shown}
 use Rattle.store_rows.specs.Outcomes.{Finds, IsNoBalance, ReadsCents, ReadsRow}
 
-the_row : {a b : Row} → Some a ≡ Some b → b ≡ a
+pub the_row : {a b : Row} → Some a ≡ Some b → b ≡ a
 the_row e = cc
 
 module _ {X : Type 0} (old new : State) (shown : X → Row) (Breaks : X → Rule → Type 0) (row : Row) where

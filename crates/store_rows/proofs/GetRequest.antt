@@ -49,7 +49,7 @@ by_number tree = record { place = 2; column = number_column (codes "number"); na
 abbrev outputs : ℕ → List Output
 outputs tree = outputs_at (placed_at request tree) (0 ∷ 1 ∷ 2 ∷ 3 ∷ 4 ∷ 5 ∷ 6 ∷ 7 ∷ [])
 
-abbrev project : List Term
+abbrev pub project : List Term
 project = col 1 0 ∷ col 1 2 ∷ col 1 3 ∷ col 1 4 ∷ col 1 5 ∷ col 1 6 ∷ col 1 7 ∷ col 1 8 ∷ []
 
 is_get : IsSelect request GET_REQUEST.now 2 (0 ∷ 1 ∷ 2 ∷ 3 ∷ 4 ∷ 5 ∷ 6 ∷ 7 ∷ [])
@@ -79,7 +79,7 @@ module _ (schema : Schema) (p tree : ℕ) (has : HasTable schema (codes "request
   unfolding everything
   accepts a b = rw (has.low, has.found)
 
-reads : (a b : ℤ) → ReadsAs request GET_REQUEST.now (Int a ∷ Int b ∷ []) (λ t. by_two 2 3 t project)
+pub reads : (a b : ℤ) → ReadsAs request GET_REQUEST.now (Int a ∷ Int b ∷ []) (λ t. by_two 2 3 t project)
 reads a b = record { names = codes "ordinal" ∷ codes "tid" ∷ codes "number" ∷ codes "aid" ∷ codes "bid" ∷ codes "delta" ∷ codes "outcome" ∷ codes "balance" ∷ []; means = meant; accepts = λ schema p tree has. accepts schema p tree has a b; unfolded = λ _. refl; ungrouped = λ _. refl }
 
 has_both : (a b : ℕ) (r : RequestRow) → has_two (pos a) (pos b) (request_entry r) ≡ ((r.teller == a) && (r.number == b))

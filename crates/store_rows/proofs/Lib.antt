@@ -21,4 +21,7 @@ pub mod RowLists
 pub mod RowsUnder
 pub mod Setting
 pub mod ShownOnce
+pub mod StoredFrom
+pub mod StoredReads
+pub mod StoredRows
 pub mod TheTables

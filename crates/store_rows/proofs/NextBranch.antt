@@ -44,7 +44,7 @@ by_id tree = record { place = 0; column = key_column (codes "bid"); named = refl
 abbrev outputs : ℕ → List Output
 outputs tree = outputs_at (placed_at branch tree) (0 ∷ 1 ∷ 2 ∷ [])
 
-abbrev project : List Term
+abbrev pub project : List Term
 project = col 1 0 ∷ col 1 2 ∷ col 1 3 ∷ []
 
 is_next : IsSelect branch NEXT_BRANCH.now 1 (0 ∷ 1 ∷ 2 ∷ [])
@@ -71,7 +71,7 @@ module _ (schema : Schema) (p tree : ℕ) (has : HasTable schema (codes "branch"
   unfolding everything
   accepts k = rw (has.low, has.found)
 
-reads : (k : ℤ) → ReadsAs branch NEXT_BRANCH.now (Int k ∷ []) (λ t. next_above t project)
+pub reads : (k : ℤ) → ReadsAs branch NEXT_BRANCH.now (Int k ∷ []) (λ t. next_above t project)
 reads k = record { names = codes "bid" ∷ codes "accounts" ∷ codes "balance" ∷ []; means = meant; accepts = λ schema p tree has. accepts schema p tree has k; unfolded = λ _. refl; ungrouped = λ _. refl }
 
 -- it tells the row with the least key above

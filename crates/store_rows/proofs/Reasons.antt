@@ -1,7 +1,7 @@
 -- What a call that failed leaves, and why it did.
-use Rattle.std.proofs.Common.{◌≡◌, ◌≢◌, ℕ, List, Result, Ok, Err, inl, inr}
+use Rattle.std.proofs.Common.{◌≢◌, ℕ, List, Result, Ok, Err, inl, inr}
 use Rattle.sqlite.specs.Order.{Row}
-use Rattle.sqlite.specs.State.{State, ExecutesInside, IsUnchanged, QueriesRowInside}
+use Rattle.sqlite.specs.State.{State, IsUnchanged, QueriesRowInside}
 use Rattle.sqlite.specs.declared.error.Error.{Error}
 use Rattle.sqlite.specs.declared.error.Error.TheVariants.{QueryReturnedNoRows}
 use Rattle.sql_meanings.specs.Outcomes.{ReadKept, WriteFails}

@@ -1,5 +1,5 @@
 -- A call of `sqlite` that failed, and the error with which it did.
-use Rattle.std.specs.Prelude.{◌≡◌, ◌≢◌, ◌⊎◌, ℕ, List, true, false, Bool, Result, Ok, Err, ⊤}
+use Rattle.std.specs.Prelude.{◌≡◌, ◌≢◌, ◌⊎◌, ℕ, List, nat_eq, true, false, Bool, Result, Ok, Err, ⊤}
 use Rattle.sqlite.specs.Order.{Row}
 use Rattle.sqlite.specs.Reading.{IsReadError}
 use Rattle.sqlite.specs.State.{State, ExecutesInside, QueriesRowInside}
@@ -8,7 +8,10 @@ use Rattle.sqlite.specs.Steps.{FailsToCommit}
 use Rattle.sqlite.specs.declared.error.Error.{Error}
 use Rattle.sqlite.specs.declared.error.Error.TheVariants.{QueryReturnedNoRows}
 use Rattle.sqlite.specs.declared.types.Value.{Value}
+use Rattle.posting_rules.specs.declared.fault.Rule.{Rule}
+use Rattle.posting_rules.specs.declared.fault.Rule.TheVariants.{Account, Key, Meta, Teller}
 use Rattle.sql_meanings.specs.Outcomes.{WriteFails, is_taken_key}
+use Rattle.store_rows.specs.declared.texts.TheConstants.{SET_ACCOUNT, SET_BRANCH, SET_META, SET_TELLER}
 use Rattle.store_rows.specs.declared.faults.TableFault.{TableFault}
 use Rattle.store_rows.specs.declared.faults.TableFault.TheVariants.{Sqlite, Damaged}
 
@@ -30,6 +33,33 @@ abbrev pub HasReason : State → State → TableFault → Type 0
 HasReason old new (Sqlite e) = HasFailed old new e
 HasReason old new (Damaged rule) = ⊤
 
+-- ---- damage that a statement meets as it writes
+
+-- a row was to be put in, and its key is taken
+abbrev pub TakesKey : State → State → Type 0
+TakesKey old new = (text : List ℕ) × (params : Row) × (e : Error) × ExecutesInside 0 text params old new (Err e) × (is_taken_key e ≡ true)
+
+-- the text was to change one row, and did not
+abbrev pub MeetsNone : List ℕ → State → State → Type 0
+MeetsNone text old new = (params : Row) × (count : ℕ) × ExecutesInside 0 text params old new (Ok count) × (nat_eq count 1 ≡ false)
+
+-- the text changes a row that the rule wants
+abbrev pub IsUpdateOf : Rule → List ℕ → Type 0
+IsUpdateOf Meta text = text ≡ SET_META.now
+IsUpdateOf Teller text = (text ≡ SET_TELLER.now) ⊎ (text ≡ SET_BRANCH.now)
+IsUpdateOf Account text = text ≡ SET_ACCOUNT.now
+IsUpdateOf _ text = ⊥
+
+-- the statement that led from one state to the other met that the rule is broken: a key is taken, or a row isn't there
+abbrev pub HasMet : State → State → Rule → Type 0
+HasMet old new Key = TakesKey old new
+HasMet old new rule = (text : List ℕ) × IsUpdateOf rule text × MeetsNone text old new
+
+-- the same, of the fault of a row that is put in
+abbrev pub HasPutReason : State → State → TableFault → Type 0
+HasPutReason old new (Sqlite e) = HasFailed old new e
+HasPutReason old new (Damaged rule) = HasMet old new rule
+
 -- an error of `sqlite` is one with which a value couldn't be read
 abbrev pub IsUnreadable : TableFault → Type 0
 IsUnreadable (Sqlite e) = (at : ℕ) × (value : Value) × IsReadError at value e
@@ -48,11 +78,11 @@ Looks old new (Ok x) = IsUnchanged old new
 Looks old new (Err fault) = WriteFails old new × HasReason old new fault
 
 -- a change of a row: the transaction goes on, or an error leaves it as it was or rolls it back
-abbrev pub Changes : State → State → Result Bool Error → Type 0
-Changes old new (Ok there) = StateShows old new new.now old.committed true
-Changes old new (Err e) = WriteFails old new × HasFailed old new e
+abbrev pub Changes : List ℕ → State → State → Result Bool Error → Type 0
+Changes text old new (Ok there) = StateShows old new new.now old.committed true × (there ≡ false → MeetsNone text old new)
+Changes text old new (Err e) = WriteFails old new × HasFailed old new e
 
 -- the same of a row that is put in
 abbrev pub Puts : {X : Type 0} → State → State → Result X TableFault → Type 0
 Puts old new (Ok done) = StateShows old new new.now old.committed true
-Puts old new (Err fault) = WriteFails old new × HasReason old new fault
+Puts old new (Err fault) = WriteFails old new × HasPutReason old new fault

@@ -7,6 +7,9 @@ ghost use Rattle.store_rows.specs.Calls.{OfTables};
 ghost use Rattle.store_rows.specs.Columns.{account_balance_in};
 ghost use Rattle.store_rows.specs.Failures.{Changes, Looks, Puts};
 ghost use Rattle.store_rows.specs.Outcomes.{Finds, IsNoBalance, Writes, Adds};
+ghost use Rattle.store_rows.specs.Rules.{OfRows, row_under};
+ghost use Rattle.store_rows.specs.Stored.{BalanceKeeps, FindsStored, IsBalance};
+ghost use Rattle.store_rows.specs.declared.texts.TheConstants.{SET_ACCOUNT};
 ghost use Rattle.store_rows.specs.SixTables.{account as table};
 
 use crate::faults::TableFault;
@@ -23,7 +26,8 @@ pub fn account_balance<S: Alter>(
 ) -> Result<Option<Cents>, TableFault>
     ensures { Says S.Store tx.old tx.new
         (OfTables (λ old new tables. Finds old new (account_balance_in tables account) IsNoBalance result))
-        (λ old new. Looks old new result) }
+        (λ old new. Looks old new result
+        × OfRows (λ rows. FindsStored (row_under rows.accounts account) IsBalance BalanceKeeps result) old.now) }
 {
     balance_under(tx, GET_ACCOUNT, account.get())
 }
@@ -37,7 +41,7 @@ pub fn set_account_balance<S: Alter>(
     ensures { Says S.Store tx.old tx.new
         (Inside (OfTables (λ old new tables. Writes old new table (is_some (row_at account_key tables.accounts account))
         (with_account_balance account balance tables) result)))
-        (Inside (λ old new. Changes old new result)) }
+        (Inside (λ old new. Changes SET_ACCOUNT.now old new result)) }
 {
     write_under(tx, SET_ACCOUNT, account.get(), balance.get())
 }

@@ -1,5 +1,8 @@
 //! The table of branches.
-ghost use Rattle.std.specs.Prelude.{is_some, option_map, IfErr};
+ghost use Rattle.std.specs.Prelude.{find, is_some, option_map, pos, IfErr};
+ghost use Rattle.sql_meanings.specs.Entries.{is_above};
+ghost use Rattle.store_rows.specs.Rules.{BranchKeeps, OfRows, row_under};
+ghost use Rattle.store_rows.specs.Stored.{branch_stored, FindsStored, IsBranch, ReadsStored};
 ghost use Rattle.posting_rules.specs.Tables.{row_at, branch_key};
 ghost use Rattle.posting_rules.specs.Changes.{with_branch, with_branch_balance};
 ghost use Rattle.sql_meanings.specs.Calls.{Says, Inside};
@@ -8,6 +11,7 @@ ghost use Rattle.store_rows.specs.Calls.{OfTables};
 ghost use Rattle.store_rows.specs.Columns.{branch_shown, branch_above};
 ghost use Rattle.store_rows.specs.Failures.{Asks, Changes, IsUnreadable, Looks, Puts};
 ghost use Rattle.store_rows.specs.Outcomes.{Finds, IsNoBranch, ReadsRow, Writes, Adds};
+ghost use Rattle.store_rows.specs.declared.texts.TheConstants.{SET_BRANCH};
 ghost use Rattle.store_rows.specs.SixTables.{branch as table};
 
 use crate::columns::{cents_at, count_at, whole_at};
@@ -21,6 +25,7 @@ use sqlite::{Alter, Error, Row, Transaction, params};
 // The branch that a row shows.
 fn branch_from(row: &Row) -> Result<BranchRow, TableFault>
     ensures reads { ReadsRow branch_shown IsNoBranch row.now result }
+    ensures stored { ReadsStored branch_stored IsBranch BranchKeeps row.now result }
     ensures failed { IfErr result IsUnreadable }
 {
     Ok(BranchRow {
@@ -34,7 +39,8 @@ fn branch_from(row: &Row) -> Result<BranchRow, TableFault>
 fn branch_row<S: Alter>(tx: &mut Transaction<'_, S>, branch: Branch) -> Result<Row, Error>
     ensures { Says S.Store tx.old tx.new
         (OfTables (λ old new tables. TellsRow old new (option_map branch_shown (row_at branch_key tables.branches branch)) result))
-        (λ old new. Asks old new result) }
+        (λ old new. Asks old new result
+        × OfRows (λ rows. TellsRow old new (option_map branch_stored (row_under rows.branches branch)) result) old.now) }
 {
     row_under(tx, GET_BRANCH, branch.get())
 }
@@ -46,7 +52,8 @@ pub fn find_branch<S: Alter>(
 ) -> Result<Option<BranchRow>, TableFault>
     ensures { Says S.Store tx.old tx.new
         (OfTables (λ old new tables. Finds old new (row_at branch_key tables.branches branch) IsNoBranch result))
-        (λ old new. Looks old new result) }
+        (λ old new. Looks old new result
+        × OfRows (λ rows. FindsStored (row_under rows.branches branch) IsBranch BranchKeeps result) old.now) }
 {
     match branch_row(tx, branch) {
         Ok(row) => Ok(Some(branch_from(&row)?)),
@@ -59,7 +66,8 @@ pub fn find_branch<S: Alter>(
 fn next_row<S: Alter>(tx: &mut Transaction<'_, S>, after: u32) -> Result<Row, Error>
     ensures { Says S.Store tx.old tx.new
         (OfTables (λ old new tables. TellsRow old new (option_map branch_shown (branch_above tables after)) result))
-        (λ old new. Asks old new result) }
+        (λ old new. Asks old new result
+        × OfRows (λ rows. TellsRow old new (option_map branch_stored (find (is_above (pos after)) rows.branches)) result) old.now) }
 {
     row_under(tx, NEXT_BRANCH, u64::from(after))
 }
@@ -71,7 +79,8 @@ pub fn next_branch<S: Alter>(
 ) -> Result<Option<BranchRow>, TableFault>
     ensures { Says S.Store tx.old tx.new
         (OfTables (λ old new tables. Finds old new (branch_above tables after) IsNoBranch result))
-        (λ old new. Looks old new result) }
+        (λ old new. Looks old new result
+        × OfRows (λ rows. FindsStored (find (is_above (pos after)) rows.branches) IsBranch BranchKeeps result) old.now) }
 {
     match next_row(tx, after) {
         Ok(row) => Ok(Some(branch_from(&row)?)),
@@ -89,7 +98,7 @@ pub fn set_branch_balance<S: Alter>(
     ensures { Says S.Store tx.old tx.new
         (Inside (OfTables (λ old new tables. Writes old new table (is_some (row_at branch_key tables.branches branch))
         (with_branch_balance branch balance tables) result)))
-        (Inside (λ old new. Changes old new result)) }
+        (Inside (λ old new. Changes SET_BRANCH.now old new result)) }
 {
     write_under(tx, SET_BRANCH, branch.get(), balance.get())
 }

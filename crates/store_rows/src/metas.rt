@@ -10,6 +10,7 @@ ghost use Rattle.sqlite.specs.declared.types.Value.TheVariants.{Int};
 ghost use Rattle.store_rows.specs.Columns.{meta_in, meta_shown};
 ghost use Rattle.store_rows.specs.Failures.{Asks, Changes, IsUnreadable, Looks};
 ghost use Rattle.store_rows.specs.Outcomes.{Finds, Never, ReadsRow, Writes};
+ghost use Rattle.store_rows.specs.declared.texts.TheConstants.{SET_META};
 ghost use Rattle.store_rows.specs.SixTables.{meta as table};
 ghost use Rattle.store_rows.specs.Statements.{ShowsFirst, TellsOther};
 ghost use Rattle.store_rows.specs.declared.metas.TheConstants.{META_ID as id};
@@ -76,7 +77,7 @@ pub fn set_decided<S: Alter>(tx: &mut Transaction<'_, S>, decided: u64) -> Resul
     requires { decided ≤ MAX_DECIDED }
     ensures { Says S.Store tx.old tx.new
         (Inside (OfTables (λ old new tables. Writes old new table true (with_decided decided tables) result)))
-        (Inside (λ old new. Changes old new result)) }
+        (Inside (λ old new. Changes SET_META.now old new result)) }
 {
     write_under(tx, SET_META, META_ID, decided as i64)
 }

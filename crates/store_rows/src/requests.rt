@@ -1,5 +1,8 @@
 //! The table of decided requests.
-ghost use Rattle.std.specs.Prelude.{◌≡◌, pos, [], ◌∷◌, is_some, option_map, IfErr};
+ghost use Rattle.std.specs.Prelude.{◌≡◌, pos, [], ◌∷◌, find, is_some, option_map, IfErr};
+ghost use Rattle.sql_meanings.specs.Entries.{has_two};
+ghost use Rattle.store_rows.specs.Rules.{OfRows, RequestKeeps};
+ghost use Rattle.store_rows.specs.Stored.{FindsStored, IsKept, IsRequest, ReadsStored, request_stored};
 ghost use Rattle.posting_rules.specs.Tables.{row_at, request_key};
 ghost use Rattle.posting_rules.specs.Changes.{with_request};
 ghost use Rattle.sql_meanings.specs.Calls.{Says, Inside};
@@ -21,6 +24,7 @@ use sqlite::{Alter, Error, Row, Transaction, params};
 // What a row keeps of a request.
 fn kept_from(row: &Row) -> Result<Kept, TableFault>
     ensures reads { ReadsKept row.now result }
+    ensures stored { ReadsStored request_stored IsKept RequestKeeps row.now result }
     ensures failed { IfErr result IsUnreadable }
 {
     let account = whole_at(row, 3, Rule::Request)?;
@@ -34,6 +38,7 @@ fn kept_from(row: &Row) -> Result<Kept, TableFault>
 // The request that a row shows.
 fn request_from(row: &Row) -> Result<RequestRow, TableFault>
     ensures reads { ReadsRow request_shown IsNoRequest row.now result }
+    ensures stored { ReadsStored request_stored IsRequest RequestKeeps row.now result }
     ensures failed { IfErr result IsUnreadable }
 {
     Ok(RequestRow {
@@ -52,7 +57,8 @@ fn request_row<S: Alter>(
 ) -> Result<Row, Error>
     ensures { Says S.Store tx.old tx.new
         (OfTables (λ old new tables. TellsRow old new (option_map request_shown (request_in tables teller number)) result))
-        (λ old new. Asks old new result) }
+        (λ old new. Asks old new result
+        × OfRows (λ rows. TellsRow old new (option_map request_stored (find (has_two (pos teller) (pos number)) rows.requests)) result) old.now) }
 {
     let first = teller.get() as i64;
     let second = number.get() as i64;
@@ -67,7 +73,8 @@ pub fn find_request<S: Alter>(
 ) -> Result<Option<RequestRow>, TableFault>
     ensures { Says S.Store tx.old tx.new
         (OfTables (λ old new tables. Finds old new (request_in tables teller number) IsNoRequest result))
-        (λ old new. Looks old new result) }
+        (λ old new. Looks old new result
+        × OfRows (λ rows. FindsStored (find (has_two (pos teller) (pos number)) rows.requests) IsRequest RequestKeeps result) old.now) }
 {
     match request_row(tx, teller, number) {
         Ok(row) => Ok(Some(request_from(&row)?)),

@@ -8,6 +8,8 @@ ghost use Rattle.sqlite.specs.declared.error.Error.{Error as Failure};
 ghost use Rattle.sqlite.specs.declared.types.Value.TheVariants.{Int};
 ghost use Rattle.std.specs.Prelude.{ℤ};
 ghost use Rattle.sql_meanings.specs.Calls.{Says, Inside};
+ghost use Rattle.sql_meanings.specs.Entries.{Entry};
+ghost use Rattle.store_rows.specs.Stored.{balance_stored, BalanceKeeps, FindsStored, IsBalance};
 ghost use Rattle.sql_meanings.specs.Outcomes.{OnlyShows, TellsRow};
 ghost use Rattle.store_rows.specs.Columns.{balance_shown};
 ghost use Rattle.store_rows.specs.Failures.{Asks, Changes, Looks, Puts};
@@ -50,7 +52,10 @@ pub(crate) fn balance_under<S: Alter>(
         (λ old new. (wanted : Option ℤ)
         → ((row : Result Shown Failure) → QueriesRowInside text.now (Int (pos key) ∷ []) old new row
         → TellsRow old new (option_map balance_shown wanted) row) → Finds old new wanted IsNoBalance result)
-        (λ old new. OnlyShows text.now 1 (understood old.now.schema text.now) → Looks old new result) }
+        (λ old new. (OnlyShows text.now 1 (understood old.now.schema text.now) → Looks old new result)
+        × ((stored : Option Entry)
+        → ((row : Result Shown Failure) → QueriesRowInside text.now (Int (pos key) ∷ []) old new row
+        → TellsRow old new (option_map balance_stored stored) row) → FindsStored stored IsBalance BalanceKeeps result)) }
 {
     match row_under(tx, text, key) {
         Ok(row) => Ok(Some(cents_at(&row, 0, Rule::Balance)?)),
@@ -69,7 +74,7 @@ pub(crate) fn write_under<S: Alter>(
     requires { key ≤ MAX_KEY }
     ensures { Says S.Store tx.old tx.new
         (Inside (λ old new. MeetsOne text.now (Int (pos key) ∷ Int number ∷ []) old new result))
-        (Inside (λ old new. Changes old new result)) }
+        (Inside (λ old new. Changes text.now old new result)) }
 {
     let key = key as i64;
     let count = tx.execute(text, params![key, number])?;

@@ -7,6 +7,9 @@ ghost use Rattle.store_rows.specs.Calls.{OfTables};
 ghost use Rattle.store_rows.specs.Columns.{teller_balance_in};
 ghost use Rattle.store_rows.specs.Failures.{Changes, Looks, Puts};
 ghost use Rattle.store_rows.specs.Outcomes.{Finds, IsNoBalance, Writes, Adds};
+ghost use Rattle.store_rows.specs.Rules.{OfRows, row_under};
+ghost use Rattle.store_rows.specs.Stored.{BalanceKeeps, FindsStored, IsBalance};
+ghost use Rattle.store_rows.specs.declared.texts.TheConstants.{SET_TELLER};
 ghost use Rattle.store_rows.specs.SixTables.{teller as table};
 
 use crate::faults::TableFault;
@@ -23,7 +26,8 @@ pub fn teller_balance<S: Alter>(
 ) -> Result<Option<Cents>, TableFault>
     ensures { Says S.Store tx.old tx.new
         (OfTables (λ old new tables. Finds old new (teller_balance_in tables teller) IsNoBalance result))
-        (λ old new. Looks old new result) }
+        (λ old new. Looks old new result
+        × OfRows (λ rows. FindsStored (row_under rows.tellers teller) IsBalance BalanceKeeps result) old.now) }
 {
     balance_under(tx, GET_TELLER, teller.get())
 }
@@ -37,7 +41,7 @@ pub fn set_teller_balance<S: Alter>(
     ensures { Says S.Store tx.old tx.new
         (Inside (OfTables (λ old new tables. Writes old new table (is_some (row_at teller_key tables.tellers teller))
         (with_teller_balance teller balance tables) result)))
-        (Inside (λ old new. Changes old new result)) }
+        (Inside (λ old new. Changes SET_TELLER.now old new result)) }
 {
     write_under(tx, SET_TELLER, teller.get(), balance.get())
 }

@@ -3,7 +3,7 @@ use Rattle.std.proofs.Common.{◌≡◌, Err, rules, arith}
 use Rattle.sqlite.specs.State.{HasCleanDisk}
 use Rattle.sqlite.specs.Held.{state}
 use Rattle.posting_batch.specs.View.{view}
-use Rattle.bank_transactions.proofs.Chained.{does_err}
+use Rattle.bank_transactions.proofs.Chained.{acts_read, does_err}
 use Rattle.bank_batches.proofs.Answered.{Judges, ready, leads_back, counts_none, answered_idle, answered_written, answered_not}
 use Rattle.bank_batches.proofs.Reading.{does_look}
 use Rattle.bank_batches.proofs.batches.answer_batch.Goals.{then-overlay-before+in_ok-write, else-overlay-before}
@@ -12,7 +12,7 @@ use Rattle.bank_batches.proofs.batches.answer_batch.Goals as goal
 pub returns-in_err-fill-clause-says : goal.returns-in_err-fill-clause-says
 returns-in_err-fill-clause-says g c records made =
     let same : c.from_residual.result ≡ Err c.in_err-fill.field-0.0 = search rules in
-    rw same (does_err (does_look c.in_err-fill.ensures.says) (ready c.args.batch records made))
+    rw same (acts_read (does_err (does_look c.in_err-fill.ensures.says) (ready c.args.batch records made)))
 
 pub returns-in_err-write-clause-says : goal.returns-in_err-write-clause-says
 returns-in_err-write-clause-says g c records made =

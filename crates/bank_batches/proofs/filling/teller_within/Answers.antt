@@ -3,8 +3,10 @@ use Rattle.std.proofs.Common.{◌≡◌, Err, rules}
 use Rattle.sqlite.specs.Held.{state}
 use Rattle.store_rows.specs.Columns.{teller_balance_in}
 use Rattle.store_rows.specs.Outcomes.{IsNoBalance}
+use Rattle.bank_transactions.proofs.Broken.{teller_broken}
 use Rattle.bank_transactions.proofs.Reading.{read_failed}
 use Rattle.bank_transactions.proofs.SoundRows.{err_found, teller_unbroken}
+use Rattle.bank_batches.proofs.Reading.{looks_again}
 use Rattle.bank_batches.proofs.filling.teller_within.Goals as goal
 
 pub returns-in_err-balance : goal.returns-in_err-balance
@@ -20,7 +22,16 @@ returns-in_err-balance g c = record {
     same_reference = search rules;
     kept = λ clean.
         let same : c.from_residual.result ≡ Err c.in_err-balance.field-0.0 = search rules in
-        rw same (read_failed g.S.Store c.args.tx.now.conn.now c.teller_balance.new.tx.conn.now c.in_err-balance.field-0.0 (c.in_err-balance.ensures.kept clean));
+        rw same (read_failed g.S.Store c.args.tx.now.conn.now c.teller_balance.new.tx.conn.now c.in_err-balance.field-0.0
+        (teller_broken _ c.args.teller c.in_err-balance.field-0.0 (c.in_err-balance.ensures.kept clean).1) (c.in_err-balance.ensures.kept clean).0);
     survives = search rules;
   };
 }
+
+-- both rows are looked up again
+pub returns-then-is_some : goal.returns-then-is_some
+returns-then-is_some g c =
+    let one = c.in_ok-balance.ensures in
+    looks_again {Told = λ a b. Unit {0}}
+    (record { same_reference = one.same_reference; told = λ clean. tt; kept = λ clean. (one.kept clean).0; survives = one.survives })
+    c.teller_beside.ensures (λ t so. so.0)

@@ -66,6 +66,6 @@ returns g c =
     let s4 = step {g = g.S.Store} o history_put MayAddPostings _ c.deref-4.result.now o.history c.deref-4.ensures.value s3 c.in_ok-make_all-4.ensures (λ t so. so.3.history) in
     let s5 = step {g = g.S.Store} o requests_put MayAddRequests _ c.deref-5.result.now o.requests c.deref-5.ensures.value s4 c.in_ok-make_all-5.ensures (λ t so. so.3.requests) in
     does_for (does_then s5 (does_write {So = λ t. ⊤} g.S.Store c.make_all-5.new.tx c.set_decided.new.tx meta (λ t. true) (λ t. with_decided o.decided t)
-    c.set_decided.result Meta c.expect_row.result c.expect_row.ensures
+    c.set_decided.result Meta c.expect_row.result _ refl c.expect_row.ensures
     (record { same_reference = count.same_reference; told = count.told; kept = count.kept; survives = count.survives }) (λ t so. refl)) (λ t so. tt))
     (λ t so. (so, counted o.decided _, refl))

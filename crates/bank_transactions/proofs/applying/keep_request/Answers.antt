@@ -32,7 +32,7 @@ returns g c =
     (does_add g.S.Store c.args.tx.now c.add_request.new.tx request (λ t. is_some (row_at request_key t.requests ordinal)) (λ t. with_request row t) (Ok tt)
     (record { same_reference = add.same_reference; told = add.told; kept = add.kept; survives = add.survives }) (λ t so. ap is_some so))
     (does_write {So = λ t. ⊤} g.S.Store c.add_request.new.tx c.set_decided.new.tx meta (λ t. true) (λ t. with_decided c.get.result t)
-    c.set_decided.result Meta c.expect_row.result c.expect_row.ensures
+    c.set_decided.result Meta c.expect_row.result _ refl c.expect_row.ensures
     (record { same_reference = count.same_reference; told = count.told; kept = count.kept; survives = count.survives }) (λ t so. refl))
     (λ t so. tt))
     (λ t so. (so, ap (λ n. with_decided n (with_request row t)) c.get.ensures.value ∙ ap (λ r. with_decided ordinal (with_request r t)) is, refl))

@@ -1,5 +1,5 @@
 -- What the balances of a posting leave.
-use Rattle.std.proofs.Common.{◌≡◌, Ok, Err, rules, refl, sym, ap, subst, ℕ, None}
+use Rattle.std.proofs.Common.{◌≡◌, Ok, Err, rules, refl, sym, ap, subst, inl, inr, ℕ, None}
 use Rattle.std.specs.Prelude.{ℤ, is_some, IsSome}
 use Rattle.message_records.specs.Records.{RequestFields}
 use Rattle.posting_rules.specs.declared.fault.Rule.TheVariants.{Account, Teller}
@@ -38,7 +38,7 @@ returns-in_err-expect_row g c =
     let e = c.in_err-expect_row.field-0.0 in
     let same : c.from_residual.result ≡ Err e = search rules in
     rw same (does_err (does_write g.S.Store c.args.tx.now c.set_account_balance.new.tx account (λ t. is_some (row_at account_key t.accounts c.account.result)) (with_account_balance c.account.result c.args.account)
-    c.set_account_balance.result Account (Err e) c.in_err-expect_row.ensures
+    c.set_account_balance.result Account (Err e) _ refl c.in_err-expect_row.ensures
     (record { same_reference = c.set_account_balance.ensures.same_reference; told = c.set_account_balance.ensures.told; kept = c.set_account_balance.ensures.kept; survives = c.set_account_balance.ensures.survives }) (λ t there. there))
     (λ t so. subst (λ n. IsSome (row_at account_key t.accounts n)) (sym c.account.ensures) so.0.account))
 
@@ -47,10 +47,10 @@ returns-in_err-expect_row-2 g c =
     let e = c.in_err-expect_row-2.field-0.0 in
     let same : c.from_residual-in_err-expect_row-2.result ≡ Err e = search rules in
     rw same (does_err (does_then (does_write g.S.Store c.args.tx.now c.set_account_balance.new.tx account (λ t. is_some (row_at account_key t.accounts c.account.result)) (with_account_balance c.account.result c.args.account)
-    c.set_account_balance.result Account (Ok tt) c.in_ok-expect_row.ensures
+    c.set_account_balance.result Account (Ok tt) _ refl c.in_ok-expect_row.ensures
     (record { same_reference = c.set_account_balance.ensures.same_reference; told = c.set_account_balance.ensures.told; kept = c.set_account_balance.ensures.kept; survives = c.set_account_balance.ensures.survives }) (λ t so. subst (λ n. IsSome (row_at account_key t.accounts n)) (sym c.account.ensures) so.0.account))
     (does_write g.S.Store c.set_account_balance.new.tx c.set_teller_balance.new.tx teller (λ t. is_some (row_at teller_key t.tellers c.teller.result)) (with_teller_balance c.teller.result c.args.teller)
-    c.set_teller_balance.result Teller (Err e) c.in_err-expect_row-2.ensures
+    c.set_teller_balance.result Teller (Err e) _ (inl refl) c.in_err-expect_row-2.ensures
     (record { same_reference = c.set_teller_balance.ensures.same_reference; told = c.set_teller_balance.ensures.told; kept = c.set_teller_balance.ensures.kept; survives = c.set_teller_balance.ensures.survives }) (λ t there. there))
     (λ t so. teller_there t c.account.result c.teller.result c.args.account
     (subst (λ n. IsSome (row_at teller_key t.tellers n)) (sym c.teller.ensures) so.0.teller))) (λ t so. so))
@@ -60,15 +60,15 @@ returns-in_err-expect_row-3 g c =
     let e = c.in_err-expect_row-3.field-0.0 in
     let same : c.from_residual-in_err-expect_row-3.result ≡ Err e = search rules in
     rw same (does_err (does_then (does_then (does_write g.S.Store c.args.tx.now c.set_account_balance.new.tx account (λ t. is_some (row_at account_key t.accounts c.account.result)) (with_account_balance c.account.result c.args.account)
-    c.set_account_balance.result Account (Ok tt) c.in_ok-expect_row.ensures
+    c.set_account_balance.result Account (Ok tt) _ refl c.in_ok-expect_row.ensures
     (record { same_reference = c.set_account_balance.ensures.same_reference; told = c.set_account_balance.ensures.told; kept = c.set_account_balance.ensures.kept; survives = c.set_account_balance.ensures.survives }) (λ t so. subst (λ n. IsSome (row_at account_key t.accounts n)) (sym c.account.ensures) so.0.account))
     (does_write g.S.Store c.set_account_balance.new.tx c.set_teller_balance.new.tx teller (λ t. is_some (row_at teller_key t.tellers c.teller.result)) (with_teller_balance c.teller.result c.args.teller)
-    c.set_teller_balance.result Teller (Ok tt) c.in_ok-expect_row-2.ensures
+    c.set_teller_balance.result Teller (Ok tt) _ (inl refl) c.in_ok-expect_row-2.ensures
     (record { same_reference = c.set_teller_balance.ensures.same_reference; told = c.set_teller_balance.ensures.told; kept = c.set_teller_balance.ensures.kept; survives = c.set_teller_balance.ensures.survives }) (λ t there. there))
     (λ t so. teller_there t c.account.result c.teller.result c.args.account
     (subst (λ n. IsSome (row_at teller_key t.tellers n)) (sym c.teller.ensures) so.0.teller)))
     (does_write g.S.Store c.set_teller_balance.new.tx c.set_branch_balance.new.tx branch (λ t. is_some (row_at branch_key t.branches c.branch-request.result)) (with_branch_balance c.branch-request.result c.args.branch)
-    c.set_branch_balance.result Teller (Err e) c.in_err-expect_row-3.ensures
+    c.set_branch_balance.result Teller (Err e) _ (inr refl) c.in_err-expect_row-3.ensures
     (record { same_reference = c.set_branch_balance.ensures.same_reference; told = c.set_branch_balance.ensures.told; kept = c.set_branch_balance.ensures.kept; survives = c.set_branch_balance.ensures.survives }) (λ t there. there))
     (λ t so. branch_there t c.account.result c.teller.result c.branch-request.result c.args.account c.args.teller
     (subst (λ n. IsSome (row_at branch_key t.branches n)) (sym c.branch-request.ensures) so.0.branch))) (λ t so. so))
@@ -85,15 +85,15 @@ returns g c =
     } in
     let is : row ≡ history_row_of c.args.ordinal (posted_entry c.args.moment c.args.request.now c.args.account) = search rules in
     does_for (does_then (does_then (does_then (does_write g.S.Store c.args.tx.now c.set_account_balance.new.tx account (λ t. is_some (row_at account_key t.accounts c.account.result)) (with_account_balance c.account.result c.args.account)
-    c.set_account_balance.result Account (Ok tt) c.in_ok-expect_row.ensures
+    c.set_account_balance.result Account (Ok tt) _ refl c.in_ok-expect_row.ensures
     (record { same_reference = c.set_account_balance.ensures.same_reference; told = c.set_account_balance.ensures.told; kept = c.set_account_balance.ensures.kept; survives = c.set_account_balance.ensures.survives }) (λ t so. subst (λ n. IsSome (row_at account_key t.accounts n)) (sym c.account.ensures) so.0.account))
     (does_write g.S.Store c.set_account_balance.new.tx c.set_teller_balance.new.tx teller (λ t. is_some (row_at teller_key t.tellers c.teller.result)) (with_teller_balance c.teller.result c.args.teller)
-    c.set_teller_balance.result Teller (Ok tt) c.in_ok-expect_row-2.ensures
+    c.set_teller_balance.result Teller (Ok tt) _ (inl refl) c.in_ok-expect_row-2.ensures
     (record { same_reference = c.set_teller_balance.ensures.same_reference; told = c.set_teller_balance.ensures.told; kept = c.set_teller_balance.ensures.kept; survives = c.set_teller_balance.ensures.survives }) (λ t there. there))
     (λ t so. teller_there t c.account.result c.teller.result c.args.account
     (subst (λ n. IsSome (row_at teller_key t.tellers n)) (sym c.teller.ensures) so.0.teller)))
     (does_write g.S.Store c.set_teller_balance.new.tx c.set_branch_balance.new.tx branch (λ t. is_some (row_at branch_key t.branches c.branch-request.result)) (with_branch_balance c.branch-request.result c.args.branch)
-    c.set_branch_balance.result Teller (Ok tt) c.in_ok-expect_row-3.ensures
+    c.set_branch_balance.result Teller (Ok tt) _ (inr refl) c.in_ok-expect_row-3.ensures
     (record { same_reference = c.set_branch_balance.ensures.same_reference; told = c.set_branch_balance.ensures.told; kept = c.set_branch_balance.ensures.kept; survives = c.set_branch_balance.ensures.survives }) (λ t there. there))
     (λ t so. branch_there t c.account.result c.teller.result c.branch-request.result c.args.account c.args.teller
     (subst (λ n. IsSome (row_at branch_key t.branches n)) (sym c.branch-request.ensures) so.0.branch)))

@@ -1,14 +1,17 @@
 -- What the row of a branch tells.
-use Rattle.std.proofs.Common.{◌≡◌, Err, Some, rules, sym, ◌∙◌, inl, inr, arith}
+use Rattle.std.proofs.Common.{◌≡◌, ap, Err, Some, rules, sym, ◌∙◌, inl, inr, arith}
 use Rattle.sqlite.specs.Held.{state}
 use Rattle.posting_rules.specs.Tables.{row_at, branch_key}
 use Rattle.store_rows.specs.Outcomes.{IsNoBranch}
+use Rattle.std.specs.Prelude.{option_and_then}
+use Rattle.store_rows.specs.Rules.{branch_under, row_under}
+use Rattle.bank_transactions.proofs.Broken.{branch_broken, count_broken, openable_under}
 use Rattle.bank_transactions.proofs.Reading.{read_failed}
 use Rattle.bank_transactions.proofs.SoundRows.{err_found, no_branch_beyond, branch_is, branch_unbroken}
 use Rattle.bank_transactions.proofs.look_ups.branch_at.Goals as goal
 
-pub returns-in_default : goal.returns-in_default
-returns-in_default g c = record {
+pub returns-in_default-clause-says : goal.returns-in_default-clause-says
+returns-in_default-clause-says g c = record {
   told = λ clean t shows sound.
       (no_branch_beyond t c.args.number sound (sym c.new.ensures ∙ c.in_default.is), search rules);
   same_reference = search rules;
@@ -16,8 +19,8 @@ returns-in_default g c = record {
   survives = search rules;
 }
 
-pub returns-in_err-row : goal.returns-in_err-row
-returns-in_err-row g c = record {
+pub returns-in_err-row-clause-says : goal.returns-in_err-row-clause-says
+returns-in_err-row-clause-says g c = record {
   told = λ clean t shows sound.
       let same : c.from_residual.result ≡ Err c.in_err-row.field-0.0 = search rules in
       let key : c.in-Some.branch ≡ c.args.number = search rules in
@@ -31,12 +34,13 @@ returns-in_err-row g c = record {
   same_reference = search rules;
   kept = λ clean.
       let same : c.from_residual.result ≡ Err c.in_err-row.field-0.0 = search rules in
-      rw same (read_failed g.S.Store c.args.tx.now.conn.now c.find_branch.new.tx.conn.now c.in_err-row.field-0.0 (c.in_err-row.ensures.kept clean));
+      rw same (read_failed g.S.Store c.args.tx.now.conn.now c.find_branch.new.tx.conn.now c.in_err-row.field-0.0
+      (branch_broken _ c.in-Some.branch c.in_err-row.field-0.0 (c.in_err-row.ensures.kept clean).1) (c.in_err-row.ensures.kept clean).0);
   survives = search rules;
 }
 
-pub returns-then-number-gt-LAST_BRANCH : goal.returns-then-number-gt-LAST_BRANCH
-returns-then-number-gt-LAST_BRANCH g c = record {
+pub returns-then-number-gt-LAST_BRANCH-clause-says : goal.returns-then-number-gt-LAST_BRANCH-clause-says
+returns-then-number-gt-LAST_BRANCH-clause-says g c = record {
   told = λ clean t shows sound.
       let told = (c.in_ok-row.ensures.told clean t shows).0 in
       let found : row_at branch_key t.branches c.in-Some.branch ≡ Some c.in-Some-2.row = sym told ∙ c.in-Some-2.is in
@@ -51,6 +55,38 @@ returns-then-number-gt-LAST_BRANCH g c = record {
         | inr count ↦ elim count [ inl none ↦ (let lt = none.1 in omega arith) | inr over ↦ (let lt = over.2 in omega arith) ]
       ];
   same_reference = search rules;
-  kept = search rules;
+  kept = λ clean.
+      let looked = c.in_ok-row.ensures.kept clean in (
+        record { was_open = λ h. looked.0.0.was_open; committed = λ h. looked.0.0.committed_is },
+        count_broken _ c.in-Some.branch c.in-Some-2.row (rw c.in-Some-2.is at looked.1) (λ is.
+            let most = is.0 in
+            let few = is.1 in
+            let many = is.2 in
+            elim c.then-number-gt-LAST_BRANCH.either [
+              | inl above ↦ (let key : c.in-Some.branch ≡ c.args.number = search rules in omega arith)
+              | inr count ↦ elim count [ inl none ↦ (let lt = none.1 in omega arith) | inr over ↦ (let lt = over.2 in omega arith) ]
+            ]),
+      );
   survives = search rules;
 }
+
+-- ---- of the stored row
+
+pub returns-then-number-gt-LAST_BRANCH-clause-stored : goal.returns-then-number-gt-LAST_BRANCH-clause-stored
+returns-then-number-gt-LAST_BRANCH-clause-stored g c = λ clean rows has.
+    let finds = rw c.in-Some-2.is at (c.in_ok-row.ensures.kept clean).1 in
+    let it = finds rows has in
+    let under : branch_under rows c.args.number ≡ row_under rows.branches c.in-Some.branch =
+    ap (option_and_then (row_under rows.branches)) (sym c.new.ensures ∙ c.in-Some.is) in (
+      it.0,
+      under ∙ it.1,
+      λ keeps.
+          let is = openable_under rows.branches c.in-Some.branch c.in-Some-2.row it.0 it.1 it.2 keeps in
+          let most = is.0 in
+          let few = is.1 in
+          let many = is.2 in
+          elim c.then-number-gt-LAST_BRANCH.either [
+            | inl above ↦ (let key : c.in-Some.branch ≡ c.args.number = search rules in omega arith)
+            | inr count ↦ elim count [ inl none ↦ (let lt = none.1 in omega arith) | inr over ↦ (let lt = over.2 in omega arith) ]
+          ],
+    )

@@ -9,6 +9,7 @@ use Rattle.store_rows.specs.Outcomes.{Never}
 use Rattle.store_rows.specs.View.{meta_entry}
 use Rattle.store_rows.specs.declared.metas.StoredMeta.{StoredMeta}
 use Rattle.store_rows.proofs.MetaRow.{has_one}
+use Rattle.bank_transactions.proofs.Broken.{meta_broken, never_broken}
 use Rattle.bank_transactions.proofs.Reading.{read_failed}
 use Rattle.bank_transactions.proofs.SoundRows.{err_found}
 use mir.Val.{to_z, of_z}
@@ -19,6 +20,10 @@ use Rattle.bank_transactions.proofs.look_ups.decided.Goals as goal
 -- the row that was told is the one row of these tables
 row_is : (m : StoredMeta) (n : ℕ) → Some m ≡ meta_in (meta_entry n ∷ []) → m.decided ≡ pos n
 row_is m n is = cc
+
+-- the count of a row with this count
+decided_of : (m : StoredMeta) (n : ℕ) (version : ℤ) → Some m ≡ Some (record { version = version; decided = pos n }) → m.decided ≡ pos n
+decided_of m n version is = cc
 
 none_is : (o : Option StoredMeta) (n : ℕ) → o ≡ meta_in (meta_entry n ∷ []) → o ≡ None → ⊥
 none_is o n is none = let both = sym none ∙ is in cc
@@ -35,7 +40,8 @@ returns-in_err-meta-clause-says g c = record {
   same_reference = search rules;
   kept = λ clean.
       let same : c.from_residual.result ≡ Err c.in_err-meta.field-0.0 = search rules in
-      rw same (read_failed g.S.Store c.args.tx.now.conn.now c.read_meta.new.tx.conn.now c.in_err-meta.field-0.0 (c.in_err-meta.ensures.says.kept clean));
+      rw same (read_failed g.S.Store c.args.tx.now.conn.now c.read_meta.new.tx.conn.now c.in_err-meta.field-0.0
+      (never_broken _ _ c.in_err-meta.field-0.0 (c.in_err-meta.ensures.says.told clean)) (c.in_err-meta.ensures.says.kept clean));
   survives = search rules;
 }
 
@@ -44,7 +50,11 @@ returns-in_default-clause-says g c = record {
   told = λ clean t shows sound.
       none_is _ t.decided (c.in_ok-meta.ensures.says.told clean (meta_entry t.decided ∷ []) (has_one _ t shows)).0 c.in_default.is;
   same_reference = search rules;
-  kept = search rules;
+  kept = λ clean.
+      let looked = c.in_ok-meta.ensures.says.kept clean in (
+        record { was_open = λ h. looked.0.was_open; committed = λ h. looked.0.committed_is },
+        meta_broken _ _ None (rw c.in_default.is at (c.in_ok-meta.ensures.says.told clean)) (λ n version is most. let no = is in cc),
+      );
   survives = search rules;
 }
 
@@ -67,7 +77,18 @@ returns-then-meta-lt0-clause-says g c = record {
         | then-meta-lt0-via-else-meta-lt0+then-meta-gt-MAX_DECIDED w ↦ not_beyond _ t.decided is sound.decided w.if-meta-gt-MAX_DECIDED.true
       ];
   same_reference = search rules;
-  kept = search rules;
+  kept = λ clean.
+      let m = c.in-Some.meta in
+      let looked = c.in_ok-meta.ensures.says.kept clean in (
+        record { was_open = λ h. looked.0.was_open; committed = λ h. looked.0.committed_is },
+        meta_broken _ _ (Some m) (rw c.in-Some.is at (c.in_ok-meta.ensures.says.told clean)) (λ n version found most.
+            let same : to_z w64 (of_z w64 m.decided) ≡ m.decided = search rules in
+            let is : to_z w64 (of_z w64 m.decided) ≡ pos n = same ∙ decided_of m n version found in
+            elim c.then-meta-lt0.branch [
+              | then-meta-lt0-via-then-meta-lt0 w ↦ not_negative _ n is w.if-meta-lt0.true
+              | then-meta-lt0-via-else-meta-lt0+then-meta-gt-MAX_DECIDED w ↦ not_beyond _ n is most w.if-meta-gt-MAX_DECIDED.true
+            ]),
+      );
   survives = search rules;
 }
 

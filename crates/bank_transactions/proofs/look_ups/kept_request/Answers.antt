@@ -5,6 +5,7 @@ use Rattle.sqlite.specs.Held.{state}
 use Rattle.posting_rules.specs.LookUps.{kept_in}
 use Rattle.store_rows.specs.Columns.{request_in}
 use Rattle.store_rows.specs.Outcomes.{IsNoRequest}
+use Rattle.bank_transactions.proofs.Broken.{delta_broken, request_broken}
 use Rattle.bank_transactions.proofs.Reading.{read_failed}
 use Rattle.bank_transactions.proofs.SoundRows.{err_found, is_a_request, request_is, request_unbroken}
 use Rattle.message_records.specs.declared.limits.TheConstants.{MAX_DELTA}
@@ -24,7 +25,8 @@ returns-in_err-row g c = record {
   same_reference = search rules;
   kept = λ clean.
       let same : c.from_residual.result ≡ Err c.in_err-row.field-0.0 = search rules in
-      rw same (read_failed g.S.Store c.args.tx.now.conn.now c.find_request.new.tx.conn.now c.in_err-row.field-0.0 (c.in_err-row.ensures.kept clean));
+      rw same (read_failed g.S.Store c.args.tx.now.conn.now c.find_request.new.tx.conn.now c.in_err-row.field-0.0
+      (request_broken _ c.args.teller c.args.number c.in_err-row.field-0.0 (c.in_err-row.ensures.kept clean).1) (c.in_err-row.ensures.kept clean).0);
   survives = search rules;
 }
 
@@ -38,6 +40,14 @@ returns-then-is_none g c = record {
       (subst (λ z. nat_abs z ≤ MAX_DELTA) (sym c.delta.ensures) within)
       (ap is_some (sym c.new-stored.ensures) ∙ c.if-is_none.ensures);
   same_reference = search rules;
-  kept = search rules;
+  kept = λ clean.
+      let row = c.in-Some.row in
+      let looked = c.in_ok-row.ensures.kept clean in (
+        record { was_open = λ h. looked.0.0.was_open; committed = λ h. looked.0.0.committed_is },
+        delta_broken _ c.args.teller c.args.number row (rw c.in-Some.is at looked.1) (λ le.
+            is_a_request c.account.result row.teller c.branch-kept.result row.number c.delta.result
+            (subst (λ z. nat_abs z ≤ MAX_DELTA) (sym c.delta.ensures) le)
+            (ap is_some (sym c.new-stored.ensures) ∙ c.if-is_none.ensures)),
+      );
   survives = search rules;
 }

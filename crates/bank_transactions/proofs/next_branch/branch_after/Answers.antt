@@ -4,6 +4,9 @@ use Rattle.sqlite.specs.Held.{state}
 use Rattle.store_rows.specs.Columns.{branch_above}
 use Rattle.store_rows.specs.Outcomes.{IsNoBranch}
 use Rattle.bank_transactions.proofs.NextRow.{next_sound, next_unbroken}
+use Rattle.sql_meanings.specs.Entries.{is_above}
+use Rattle.std.specs.Prelude.{pos}
+use Rattle.bank_transactions.proofs.Broken.{above_broken, next_broken, range_broken}
 use Rattle.bank_transactions.proofs.Reading.{read_failed}
 use Rattle.bank_transactions.proofs.SoundRows.{err_found}
 use Rattle.bank_transactions.proofs.next_branch.branch_after.Goals as goal
@@ -21,7 +24,8 @@ returns-in_err-row-clause-says g c = record {
   same_reference = search rules;
   kept = λ clean.
       let same : c.from_residual.result ≡ Err c.in_err-row.field-0.0 = search rules in
-      rw same (read_failed g.S.Store c.args.tx.now.conn.now c.next_branch.new.tx.conn.now c.in_err-row.field-0.0 (c.in_err-row.ensures.kept clean));
+      rw same (read_failed g.S.Store c.args.tx.now.conn.now c.next_branch.new.tx.conn.now c.in_err-row.field-0.0
+      (next_broken _ c.args.after c.in_err-row.field-0.0 (c.in_err-row.ensures.kept clean).1) (c.in_err-row.ensures.kept clean).0);
   survives = search rules;
 }
 
@@ -39,7 +43,15 @@ returns-then-number-from-clause-says g c = record {
         | inr high ↦ (let lt = high.1 in omega (arith, lt, c.get-number.ensures.value))
       ];
   same_reference = search rules;
-  kept = search rules;
+  kept = λ clean.
+      let looked = c.in_ok-row.ensures.kept clean in (
+        record { was_open = λ h. looked.0.0.was_open; committed = λ h. looked.0.0.committed_is },
+        above_broken _ c.args.after c.in-Some.row (rw c.in-Some.is at looked.1) (λ above most.
+            elim c.then-number-from.either [
+              | inl low ↦ omega (arith, low, c.from.ensures, c.get-number.ensures.value)
+              | inr high ↦ (let lt = high.1 in omega (arith, lt, c.get-number.ensures.value))
+            ]),
+      );
   survives = search rules;
 }
 
@@ -54,6 +66,13 @@ returns-then-row-lt1-clause-says g c = record {
       let many = is.many in
       elim c.then-row-lt1.either [ inl none ↦ omega arith | inr over ↦ (let gt = over.1 in omega arith) ];
   same_reference = search rules;
-  kept = search rules;
+  kept = λ clean.
+      let looked = c.in_ok-row.ensures.kept clean in (
+        record { was_open = λ h. looked.0.0.was_open; committed = λ h. looked.0.0.committed_is },
+        range_broken _ (is_above (pos c.args.after)) c.in-Some.row (rw c.in-Some.is at looked.1) (λ is.
+            let few = is.1 in
+            let many = is.2 in
+            elim c.then-row-lt1.either [ inl none ↦ omega arith | inr over ↦ (let gt = over.1 in omega arith) ]),
+      );
   survives = search rules;
 }

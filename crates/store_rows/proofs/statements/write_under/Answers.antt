@@ -1,5 +1,5 @@
 -- The text is run with the key and the number.
-use Rattle.std.proofs.Common.{◌≡◌, Err, rules, arith, refl}
+use Rattle.std.proofs.Common.{◌≡◌, Ok, Err, rules, arith, refl}
 use Rattle.std.proofs.lemmas.Int.{to_z-of_z}
 use Rattle.std.proofs.Common.{w64}
 use Rattle.sql_meanings.proofs.Makings.{kept_inside}
@@ -19,7 +19,9 @@ returns g c = record {
     ) at (c.in_ok-count.ensures.runs clean live),
     refl,
   );
-  kept = search rules;
+  kept = λ clean live.
+      let ran = c.in_ok-count.ensures.runs clean live in
+      (kept_inside _ _ _ _ (Ok c.in_ok-count.count) ran, λ none. (_, c.in_ok-count.count, ran, none));
   same_reference = search rules;
   survives = search rules;
 }

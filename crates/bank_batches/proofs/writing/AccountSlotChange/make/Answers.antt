@@ -16,7 +16,7 @@ returns-in-Some g c =
     let is : s.changed ≡ Some z = c.in-Some.is in
     let set = c.set_account_balance.ensures in
     does_for (does_write {So = λ t. IsSome (row_at account_key t.accounts s.account)} g.S.Store c.args.tx.now c.set_account_balance.new.tx account (λ t. is_some (row_at account_key t.accounts s.account))
-    (λ t. with_account_balance s.account z t) c.set_account_balance.result Account c.expect_row.result c.expect_row.ensures
+    (λ t. with_account_balance s.account z t) c.set_account_balance.result Account c.expect_row.result _ refl c.expect_row.ensures
     (record { same_reference = set.same_reference; told = set.told; kept = set.kept; survives = set.survives }) (λ t so. so))
     (λ t so. (subst (λ (o : Option ℤ). IfSome o (λ y. IsSome (row_at account_key t.accounts s.account))) is so.1.0, account_written s t z is, refl))
 

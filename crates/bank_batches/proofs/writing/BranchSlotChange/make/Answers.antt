@@ -1,5 +1,5 @@
 -- The changed balance of one slot.
-use Rattle.std.proofs.Common.{◌≡◌, ℕ, [], ◌∷◌, Some, Option, rules, refl, sym, ap, subst, ◌∙◌}
+use Rattle.std.proofs.Common.{◌≡◌, ℕ, [], ◌∷◌, Some, Option, rules, inl, inr, refl, sym, ap, subst, ◌∙◌}
 use Rattle.std.specs.Prelude.{ℤ, is_some, IsSome, IfSome}
 use Rattle.message_records.specs.Ranges.{whole_within}
 use Rattle.message_records.specs.declared.limits.TheConstants.{MAX_BRANCH}
@@ -38,7 +38,7 @@ returns g c =
     let same : (t : Tables) → MayChangeBranches (s ∷ []) t → b ≡ s.branch =
     λ t so. same_number s.branch b c.new.result c.in-Some-new.is c.new.ensures (number_of s z t is so) in
     does_for (does_write {So = MayChangeBranches (s ∷ [])} g.S.Store c.args.tx.now c.set_branch_balance.new.tx branch
-    (λ t. is_some (row_at branch_key t.branches b)) (λ t. with_branch_balance b z t) c.set_branch_balance.result Teller c.expect_row.result c.expect_row.ensures
+    (λ t. is_some (row_at branch_key t.branches b)) (λ t. with_branch_balance b z t) c.set_branch_balance.result Teller c.expect_row.result _ (inr refl) c.expect_row.ensures
     (record { same_reference = set.same_reference; told = set.told; kept = set.kept; survives = set.survives })
     (λ t so. subst (λ (n : ℕ). IsSome (row_at branch_key t.branches n)) (sym (same t so)) (row_of s z t is so)))
     (λ t so. (so, ap (λ (n : ℕ). with_branch_balance n z t) (same t so) ∙ branch_written s t z is, refl))

@@ -1,5 +1,5 @@
 -- The changed balance of one slot.
-use Rattle.std.proofs.Common.{◌≡◌, Some, Option, rules, refl, subst}
+use Rattle.std.proofs.Common.{◌≡◌, Some, Option, rules, inl, inr, refl, subst}
 use Rattle.std.specs.Prelude.{ℤ, is_some, IsSome, IfSome}
 use Rattle.posting_rules.specs.declared.fault.Rule.TheVariants.{Teller}
 use Rattle.posting_rules.specs.Changes.{with_teller_balance}
@@ -16,7 +16,7 @@ returns-in-Some g c =
     let is : s.changed ≡ Some z = c.in-Some.is in
     let set = c.set_teller_balance.ensures in
     does_for (does_write {So = λ t. IsSome (row_at teller_key t.tellers s.teller)} g.S.Store c.args.tx.now c.set_teller_balance.new.tx teller (λ t. is_some (row_at teller_key t.tellers s.teller))
-    (λ t. with_teller_balance s.teller z t) c.set_teller_balance.result Teller c.expect_row.result c.expect_row.ensures
+    (λ t. with_teller_balance s.teller z t) c.set_teller_balance.result Teller c.expect_row.result _ (inl refl) c.expect_row.ensures
     (record { same_reference = set.same_reference; told = set.told; kept = set.kept; survives = set.survives }) (λ t so. so))
     (λ t so. (subst (λ (o : Option ℤ). IfSome o (λ y. IsSome (row_at teller_key t.tellers s.teller))) is so.1.0, teller_written s t z is, refl))
 

@@ -4,6 +4,7 @@ use Rattle.std.specs.Prelude.{IsSome}
 use Rattle.posting_rules.proofs.Calls.{stays}
 use Rattle.posting_rules.proofs.Looked.{balance_shown}
 use Rattle.posting_rules.proofs.Stepping.{sound_tables}
+use Rattle.bank_store.proofs.Broke.{consulted}
 use Rattle.bank_store.proofs.Countered.{failed_between, keeps_file, kept_error, refuses, takes}
 use Rattle.bank_store.proofs.bank.BankCounter.balance.Goals as goal
 
@@ -38,3 +39,8 @@ returns-in-Err-clause-cause g c tells =
       failed = failed_between g.S.Store c.args.self.now.conn c.read_balance.new.conn c.go_down.new.self.conn c.go_down.new.self.fault c.go_down.result quiet
           c.in-Err.fault c.in-Err.ensures.says down;
     }
+
+pub returns-in-Err-clause-broken : goal.returns-in-Err-clause-broken
+returns-in-Err-clause-broken g c =
+    consulted g.S.Store c.args.self.now.conn c.read_balance.new.conn c.go_down.new.self.conn c.go_down.new.self.fault c.go_down.result c.go_down.ensures.survives
+    c.in-Err.fault c.in-Err.ensures.says c.go_down.ensures.down

@@ -6,6 +6,7 @@ use Rattle.posting_rules.proofs.Calls.{stays}
 use Rattle.posting_rules.proofs.NextBranch.{next_shown}
 use Rattle.posting_rules.proofs.Stepping.{sound_tables}
 use Rattle.store_rows.specs.Columns.{branch_above}
+use Rattle.bank_store.proofs.Broke.{consulted}
 use Rattle.bank_store.proofs.Countered.{failed_between, keeps_file, kept_error, refuses, takes}
 use Rattle.bank_transactions.proofs.NextRow.{next_is}
 use Rattle.bank_store.proofs.bank.BankCounter.next_branch.Goals as goal
@@ -44,3 +45,8 @@ returns-in-Err-clause-cause g c tells =
       failed = failed_between g.S.Store c.args.self.now.conn c.read_next_branch.new.conn c.go_down.new.self.conn c.go_down.new.self.fault c.go_down.result quiet
           c.in-Err.fault c.in-Err.ensures.says down;
     }
+
+pub returns-in-Err-clause-broken : goal.returns-in-Err-clause-broken
+returns-in-Err-clause-broken g c =
+    consulted g.S.Store c.args.self.now.conn c.read_next_branch.new.conn c.go_down.new.self.conn c.go_down.new.self.fault c.go_down.result c.go_down.ensures.survives
+    c.in-Err.fault c.in-Err.ensures.says c.go_down.ensures.down

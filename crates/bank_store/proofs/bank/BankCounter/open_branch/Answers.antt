@@ -4,6 +4,7 @@ use Rattle.std.specs.Prelude.{IsSome}
 use Rattle.posting_rules.specs.Commands.{Open, AreCommands}
 use Rattle.posting_rules.proofs.Calls.{opens, answers}
 use Rattle.posting_rules.proofs.Stepping.{sound_tables}
+use Rattle.bank_store.proofs.Broke.{transacted}
 use Rattle.bank_store.proofs.Countered.{failed_between, keeps_file, kept_error, refuses, takes}
 use Rattle.bank_store.proofs.bank.BankCounter.open_branch.Goals as goal
 
@@ -45,3 +46,8 @@ returns-in-Err-clause-cause g c tells =
       failed = failed_between g.S.Store c.args.self.now.conn c.open_branch.new.conn c.go_down.new.self.conn c.go_down.new.self.fault c.go_down.result quiet
           c.in-Err.fault c.in-Err.ensures down;
     }
+
+pub returns-in-Err-clause-broken : goal.returns-in-Err-clause-broken
+returns-in-Err-clause-broken g c =
+    transacted g.S.Store c.args.self.now.conn c.open_branch.new.conn c.go_down.new.self.conn c.go_down.new.self.fault c.go_down.result c.go_down.ensures.survives
+    c.in-Err.fault c.in-Err.ensures c.go_down.ensures.down

@@ -5,6 +5,7 @@ use Rattle.message_records.specs.Reading.{request_of}
 use Rattle.posting_rules.specs.Commands.{Post, AreCommands}
 use Rattle.posting_rules.proofs.Calls.{posts, replies}
 use Rattle.posting_rules.proofs.Stepping.{sound_tables}
+use Rattle.bank_store.proofs.Broke.{transacted}
 use Rattle.bank_store.proofs.Countered.{failed_between, keeps_file, kept_error, refuses, takes}
 use Rattle.bank_store.proofs.bank.BankCounter.submit.Goals as goal
 
@@ -47,3 +48,8 @@ returns-in-Err-clause-cause g c tells =
       failed = failed_between g.S.Store c.args.self.now.conn c.post.new.conn c.go_down.new.self.conn c.go_down.new.self.fault c.go_down.result quiet
           c.in-Err.fault c.in-Err.ensures down;
     }
+
+pub returns-in-Err-clause-broken : goal.returns-in-Err-clause-broken
+returns-in-Err-clause-broken g c =
+    transacted g.S.Store c.args.self.now.conn c.post.new.conn c.go_down.new.self.conn c.go_down.new.self.fault c.go_down.result c.go_down.ensures.survives
+    c.in-Err.fault c.in-Err.ensures c.go_down.ensures.down

@@ -5,6 +5,7 @@ use Rattle.posting_rules.specs.Commands.{AreCommands}
 use Rattle.posting_rules.specs.Runs.{posts}
 use Rattle.posting_rules.specs.Sound.{AreOfALog}
 use Rattle.posting_rules.proofs.Records.{all_replies, are_posts, posts_all}
+use Rattle.bank_store.proofs.Broke.{transacted}
 use Rattle.bank_store.proofs.Countered.{HoldsOfLogs, failed_between, keeps_file, kept_error, none_or_all, none_or_all_down, refuses, takes}
 use Rattle.bank_store.proofs.bank.BankCounter.submit_all.Goals as goal
 
@@ -70,3 +71,8 @@ returns-in-Err-clause-cause g c tells =
       failed = failed_between g.S.Store c.args.self.now.conn c.post_all.new.conn c.go_down.new.self.conn c.go_down.new.self.fault c.go_down.result quiet
           c.in-Err.fault (c.in-Err.ensures.says rs c.in_ok-batch.ensures.made) down;
     }
+
+pub returns-in-Err-clause-broken : goal.returns-in-Err-clause-broken
+returns-in-Err-clause-broken g c =
+    transacted g.S.Store c.args.self.now.conn c.post_all.new.conn c.go_down.new.self.conn c.go_down.new.self.fault c.go_down.result c.go_down.ensures.survives
+    c.in-Err.fault (c.in-Err.ensures.says c.args.records.now c.in_ok-batch.ensures.made) c.go_down.ensures.down

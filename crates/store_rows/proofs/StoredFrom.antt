@@ -1,0 +1,50 @@
+-- What is kept of a stored request, whatever numbers its row has.
+use Rattle.std.proofs.Common.{◌≡◌, pos, Bool, true, false, cond, ℕ, ℤ, Some, None, Ok, Err, refl, sym, ap, subst, ◌∙◌}
+use Rattle.std.specs.Option.{ok_or}
+use Rattle.sqlite.specs.Order.{Row, column}
+use Rattle.message_records.specs.Outcomes.{code_of}
+use Rattle.message_records.specs.declared.records.Outcome.{Outcome}
+use Rattle.posting_rules.specs.Kept.{KeptFields, is_kept_with, kept_from}
+use Rattle.posting_rules.specs.declared.fault.Rule.TheVariants.{Request}
+use Rattle.store_rows.specs.Columns.{number_at}
+use Rattle.store_rows.specs.Outcomes.{ReadsCents, ReadsOutcome}
+use Rattle.store_rows.specs.Rules.{RequestKeeps}
+use Rattle.store_rows.specs.Stored.{IsKept, ReadsStored, request_stored}
+use Rattle.store_rows.specs.declared.faults.TableFault.{TableFault}
+use Rattle.store_rows.specs.declared.faults.TableFault.TheVariants.{Sqlite, Damaged}
+use Rattle.store_rows.proofs.KeptRows.{same_outcome}
+
+-- a code that is none breaks the rule
+pub no_outcome : (row : Row) (fault : TableFault) → ReadsOutcome (column row 6) (Err fault)
+    → ReadsStored {X = KeptFields} request_stored IsKept RequestKeeps row (Err fault)
+no_outcome row (Sqlite e) read = tt
+no_outcome row (Damaged rule) read = λ r is kept.
+    let out = read (number_at 5 r) (ap (λ x. column x 6) is) in
+    let request = subst (λ x. RequestKeeps x r) out.0 kept in
+    out.1 request.outcome.0 request.outcome.1
+
+same_code : (a b : Outcome) → ◌≡◌ {A = ℤ} (pos (code_of a)) (pos (code_of b)) → a ≡ b
+same_code a b same = same_outcome a b (let n : code_of a ≡ code_of b = cc in n)
+
+module _ (row : Row) (account branch : ℕ) (delta : ℤ) (outcome : Outcome) (balance : ℤ)
+    (three : ReadsCents Request (column row 5) (Ok delta)) (four : ReadsOutcome (column row 6) (Ok outcome))
+    (five : ReadsCents Request (column row 7) (Ok balance)) where
+  abbrev fields : KeptFields
+  fields = record { account = account; branch = branch; delta = delta; outcome = outcome; balance = balance }
+
+  -- what belongs together is what is kept, and what doesn't breaks the rule
+  pub keeps_stored : ReadsStored request_stored IsKept RequestKeeps row (ok_or (kept_from account branch delta outcome balance) (Damaged Request))
+  keeps_stored = go (is_kept_with outcome balance) refl
+    where
+      go : (b : Bool) → is_kept_with outcome balance ≡ b
+          → ReadsStored request_stored IsKept RequestKeeps row (ok_or (cond b (Some fields) None) (Damaged Request))
+      go true is = λ r shown. sym (three (number_at 4 r) (ap (λ x. column x 5) shown))
+      go false is = λ r shown request.
+          let o = request.outcome in
+          let code = four (number_at 5 r) (ap (λ x. column x 6) shown) in
+          let same : o.0 ≡ outcome = same_code o.0 outcome (sym o.1 ∙ code) in
+          let amount : balance ≡ number_at 6 r = five (number_at 6 r) (ap (λ x. column x 7) shown) in
+          let no : is_kept_with o.0 (number_at 6 r) ≡ false =
+          ap (λ x. is_kept_with x (number_at 6 r)) same ∙ ap (is_kept_with outcome) (sym amount) ∙ is in
+          let yes : is_kept_with o.0 (number_at 6 r) ≡ true = o.2 in
+          absurd cc

@@ -1,0 +1,124 @@
+-- What each look-up tells of the rows that a file holds, whatever numbers they have.
+use Rattle.std.proofs.Common.{◌≡◌, ℕ, ℤ, pos, List, [], ◌∷◌, find, length, slice_get, Some, None, Option, option_map, Result, refl, ap, subst, arith}
+use Rattle.sqlite.specs.Effect.{Database}
+use Rattle.sqlite.specs.Order.{Row}
+use Rattle.sqlite.specs.State.{State, QueriesRowInside}
+use Rattle.sqlite.specs.Table.{Table}
+use Rattle.sqlite.specs.Term.{Term, col, eval_all}
+use Rattle.sqlite.specs.declared.error.Error.{Error}
+use Rattle.sqlite.specs.declared.types.Value.TheVariants.{Int}
+use Rattle.sql_meanings.specs.Entries.{Entry, has_key, is_above, has_two, stored}
+use Rattle.sql_meanings.specs.Outcomes.{TellsRow}
+use Rattle.sql_meanings.specs.Tables.{Holds}
+use Rattle.sql_meanings.proofs.Changes.{found_all}
+use Rattle.sql_meanings.proofs.Contents.{held}
+use Rattle.sql_meanings.proofs.ReadRows.{reads_key, reads_next, reads_two}
+use Rattle.store_rows.specs.Rules.{HoldsBank, StoredRows, row_under, six_lists}
+use Rattle.store_rows.specs.SixTables as six
+use Rattle.store_rows.specs.SixTables.{bank_tables}
+use Rattle.store_rows.specs.Stored.{balance_stored, branch_stored, request_stored}
+use Rattle.store_rows.specs.declared.texts.TheConstants.{GET_ACCOUNT, GET_BRANCH, GET_REQUEST, GET_TELLER, NEXT_BRANCH}
+use Rattle.store_rows.proofs.GetRequest as request
+use Rattle.store_rows.proofs.Getting.{reads_account, reads_branch, reads_teller}
+use Rattle.store_rows.proofs.NextBranch as next
+
+-- the rows of one table
+pub holds_list : (db : Database) (rows : StoredRows) → HoldsBank db rows → (at : ℕ) (t : Table) (es : List Entry)
+    → slice_get bank_tables at ≡ Some t → slice_get (six_lists rows) at ≡ Some es → Holds db t es
+holds_list db rows has at t es is are = held db bank_tables (six_lists rows) has.each at t es is are
+
+-- what is shown of a row that is found
+same_shown : (width : ℕ) (show shown : Entry → Row) → ((r : Entry) → length r.values ≡ width → show r ≡ shown r) → (o : Option Entry)
+    → ((r : Entry) → o ≡ Some r → length r.values ≡ width) → option_map show o ≡ option_map shown o
+same_shown width show shown same None wide = refl
+same_shown width show shown same (Some r) wide = ap Some (same r (wide r refl))
+
+-- ---- balances
+
+one_number : (k key : ℤ) (values : List ℤ) → length values ≡ 1
+    → eval_all (col 1 2 ∷ []) ((Int k ∷ []) ∷ stored (record { key = key; values = values }) ∷ [])
+    ≡ balance_stored (record { key = key; values = values })
+one_number k key [] wide = absurd (omega arith)
+one_number k key (a ∷ []) wide = refl
+one_number k key (a ∷ b ∷ more) wide = absurd (omega arith)
+
+-- of a teller
+pub stored_teller : (old new : State) (rows : StoredRows) → HoldsBank old.now rows → (k : ℕ) (r : Result Row Error)
+    → QueriesRowInside GET_TELLER.now (Int (pos k) ∷ []) old new r → TellsRow old new (option_map balance_stored (row_under rows.tellers k)) r
+stored_teller old new rows has k r h =
+    let holds = holds_list old.now rows has 2 six.teller rows.tellers refl refl in
+    subst (λ o. TellsRow old new o r)
+    (same_shown 1 _ balance_stored (λ e wide. one_number (pos k) e.key e.values wide) (row_under rows.tellers k)
+    (λ e found. found_all (λ x. length x.values ≡ 1) (has_key (pos k)) rows.tellers e holds.rows.wide found))
+    (reads_key old new six.teller refl has.sound rows.tellers holds GET_TELLER.now (col 1 2 ∷ []) (pos k) (reads_teller (pos k)) r h)
+
+-- of an account
+pub stored_account : (old new : State) (rows : StoredRows) → HoldsBank old.now rows → (k : ℕ) (r : Result Row Error)
+    → QueriesRowInside GET_ACCOUNT.now (Int (pos k) ∷ []) old new r → TellsRow old new (option_map balance_stored (row_under rows.accounts k)) r
+stored_account old new rows has k r h =
+    let holds = holds_list old.now rows has 3 six.account rows.accounts refl refl in
+    subst (λ o. TellsRow old new o r)
+    (same_shown 1 _ balance_stored (λ e wide. one_number (pos k) e.key e.values wide) (row_under rows.accounts k)
+    (λ e found. found_all (λ x. length x.values ≡ 1) (has_key (pos k)) rows.accounts e holds.rows.wide found))
+    (reads_key old new six.account refl has.sound rows.accounts holds GET_ACCOUNT.now (col 1 2 ∷ []) (pos k) (reads_account (pos k)) r h)
+
+-- ---- branches
+
+abbrev branch_project : List Term
+branch_project = col 1 0 ∷ col 1 2 ∷ col 1 3 ∷ []
+
+two_numbers : (k key : ℤ) (values : List ℤ) → length values ≡ 2
+    → eval_all branch_project ((Int k ∷ []) ∷ stored (record { key = key; values = values }) ∷ [])
+    ≡ branch_stored (record { key = key; values = values })
+two_numbers k key [] wide = absurd (omega arith)
+two_numbers k key (a ∷ []) wide = absurd (omega arith)
+two_numbers k key (a ∷ b ∷ []) wide = refl
+two_numbers k key (a ∷ b ∷ c ∷ more) wide = absurd (omega arith)
+
+-- the branch under a number
+pub stored_branch : (old new : State) (rows : StoredRows) → HoldsBank old.now rows → (k : ℕ) (r : Result Row Error)
+    → QueriesRowInside GET_BRANCH.now (Int (pos k) ∷ []) old new r → TellsRow old new (option_map branch_stored (row_under rows.branches k)) r
+stored_branch old new rows has k r h =
+    let holds = holds_list old.now rows has 1 six.branch rows.branches refl refl in
+    subst (λ o. TellsRow old new o r)
+    (same_shown 2 _ branch_stored (λ e wide. two_numbers (pos k) e.key e.values wide) (row_under rows.branches k)
+    (λ e found. found_all (λ x. length x.values ≡ 2) (has_key (pos k)) rows.branches e holds.rows.wide found))
+    (reads_key old new six.branch refl has.sound rows.branches holds GET_BRANCH.now branch_project (pos k) (reads_branch (pos k)) r h)
+
+-- the branch with the least number above one
+pub stored_next : (old new : State) (rows : StoredRows) → HoldsBank old.now rows → (k : ℕ) (r : Result Row Error)
+    → QueriesRowInside NEXT_BRANCH.now (Int (pos k) ∷ []) old new r
+    → TellsRow old new (option_map branch_stored (find (is_above (pos k)) rows.branches)) r
+stored_next old new rows has k r h =
+    let holds = holds_list old.now rows has 1 six.branch rows.branches refl refl in
+    subst (λ o. TellsRow old new o r)
+    (same_shown 2 _ branch_stored (λ e wide. two_numbers (pos k) e.key e.values wide) (find (is_above (pos k)) rows.branches)
+    (λ e found. found_all (λ x. length x.values ≡ 2) (is_above (pos k)) rows.branches e holds.rows.wide found))
+    (reads_next old new six.branch refl has.sound rows.branches holds NEXT_BRANCH.now branch_project (pos k) (next.reads (pos k)) r h)
+
+-- ---- requests
+
+seven_numbers : (a b key : ℤ) (values : List ℤ) → length values ≡ 7
+    → eval_all request.project ((Int a ∷ Int b ∷ []) ∷ stored (record { key = key; values = values }) ∷ [])
+    ≡ request_stored (record { key = key; values = values })
+seven_numbers a b key [] wide = absurd (omega arith)
+seven_numbers a b key (c ∷ []) wide = absurd (omega arith)
+seven_numbers a b key (c ∷ d ∷ []) wide = absurd (omega arith)
+seven_numbers a b key (c ∷ d ∷ e ∷ []) wide = absurd (omega arith)
+seven_numbers a b key (c ∷ d ∷ e ∷ f ∷ []) wide = absurd (omega arith)
+seven_numbers a b key (c ∷ d ∷ e ∷ f ∷ g ∷ []) wide = absurd (omega arith)
+seven_numbers a b key (c ∷ d ∷ e ∷ f ∷ g ∷ h ∷ []) wide = absurd (omega arith)
+seven_numbers a b key (c ∷ d ∷ e ∷ f ∷ g ∷ h ∷ i ∷ []) wide = refl
+seven_numbers a b key (c ∷ d ∷ e ∷ f ∷ g ∷ h ∷ i ∷ j ∷ more) wide = absurd (omega arith)
+
+-- the request of a teller under its number
+pub stored_request : (old new : State) (rows : StoredRows) → HoldsBank old.now rows → (a b : ℕ) (r : Result Row Error)
+    → QueriesRowInside GET_REQUEST.now (Int (pos a) ∷ Int (pos b) ∷ []) old new r
+    → TellsRow old new (option_map request_stored (find (has_two (pos a) (pos b)) rows.requests)) r
+stored_request old new rows has a b r h =
+    let holds = holds_list old.now rows has 5 six.request rows.requests refl refl in
+    subst (λ o. TellsRow old new o r)
+    (same_shown 7 _ request_stored (λ e wide. seven_numbers (pos a) (pos b) e.key e.values wide) (find (has_two (pos a) (pos b)) rows.requests)
+    (λ e found. found_all (λ x. length x.values ≡ 7) (has_two (pos a) (pos b)) rows.requests e holds.rows.wide found))
+    (reads_two old new six.request refl has.sound rows.requests holds GET_REQUEST.now request.project (pos a) (pos b) refl refl
+    (request.reads (pos a) (pos b)) r h)

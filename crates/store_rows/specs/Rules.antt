@@ -1,0 +1,146 @@
+-- The rows of the six tables as a file holds them, whatever numbers they are, and the seven rules that the rows of a bank keep.
+use Rattle.std.specs.Prelude.{◌≡◌, ◌≤◌, ◌<◌, ◌≤ℤ◌, ℕ, ℤ, pos, nat_abs, List, [], ◌∷◌, find, Option, Some, None, option_and_then, IsSome, IsTrue, ⊤}
+use Rattle.std.specs.List.{AllByRecursion}
+use Rattle.sqlite.specs.Effect.{Database, IsDatabase}
+use Rattle.message_records.specs.Outcomes.{code_of}
+use Rattle.message_records.specs.Ranges.{whole_within}
+use Rattle.message_records.specs.declared.records.Outcome.{Outcome}
+use Rattle.message_records.specs.declared.limits.TheConstants.{MAX_ACCOUNT, MAX_BALANCE, MAX_BRANCH, MAX_DELTA, MAX_MOMENT, MAX_NUMBER, MAX_TELLER}
+use Rattle.posting_rules.specs.Commands.{branch_of_teller, branch_of_account, place_of_account}
+use Rattle.posting_rules.specs.Kept.{is_kept_with}
+use Rattle.posting_rules.specs.declared.fault.Rule.{Rule}
+use Rattle.posting_rules.specs.declared.fault.Rule.TheVariants.{Meta, Teller, Account, Balance, Request, Value, Key}
+use Rattle.posting_rules.specs.declared.limits.TheConstants.{LAST_BRANCH, MAX_DECIDED, MOST_ACCOUNTS}
+use Rattle.sql_meanings.specs.Contents.{HoldsEach}
+use Rattle.sql_meanings.specs.Entries.{Entry, has_key}
+use Rattle.store_rows.specs.Columns.{number_at}
+use Rattle.store_rows.specs.SixTables.{bank_tables}
+use Rattle.store_rows.specs.declared.metas.TheConstants.{META_ID}
+
+-- ---- what a file holds
+
+-- the rows of each table, whatever numbers they are
+pub record StoredRows : Type 0 where
+  pub meta : List Entry
+  pub branches : List Entry
+  pub tellers : List Entry
+  pub accounts : List Entry
+  pub history : List Entry
+  pub requests : List Entry
+
+-- in the order of the tables
+abbrev pub six_lists : StoredRows → List (List Entry)
+six_lists rows = rows.meta ∷ rows.branches ∷ rows.tellers ∷ rows.accounts ∷ rows.history ∷ rows.requests ∷ []
+
+-- a sound database defines the tables of a bank and holds these rows by rising keys, whatever else it has
+pub record HoldsBank (db : Database) (rows : StoredRows) : Type 0 where
+  pub sound : ∥ IsDatabase db ∥₁
+  pub each : HoldsEach db bank_tables (six_lists rows)
+
+-- the row under a number
+abbrev pub row_under : List Entry → ℕ → Option Entry
+row_under rows n = find (has_key (pos n)) rows
+
+-- the row of a branch: a number that is none of branches has none
+abbrev pub branch_under : StoredRows → ℕ → Option Entry
+branch_under rows n = option_and_then (row_under rows.branches) (whole_within 1 MAX_BRANCH n)
+
+-- ---- a row that keeps a rule
+
+-- the number is from least to most
+abbrev pub IsFrom : ℕ → ℕ → ℤ → Type 0
+IsFrom least most z = (n : ℕ) × (z ≡ pos n) × (least ≤ n) × (n ≤ most)
+
+-- a branch: its balance is within the limits; its number and its count of accounts are in their ranges
+abbrev pub BranchKeeps : Rule → Entry → Type 0
+BranchKeeps Balance r = nat_abs (number_at 1 r) ≤ MAX_BALANCE
+BranchKeeps Value r = IsFrom 1 LAST_BRANCH r.key × IsFrom 1 MOST_ACCOUNTS (number_at 0 r)
+BranchKeeps _ r = ⊤
+
+-- a teller: its balance is within the limits, and its number in its range
+abbrev pub TellerKeeps : Rule → Entry → Type 0
+TellerKeeps Balance r = nat_abs (number_at 0 r) ≤ MAX_BALANCE
+TellerKeeps Value r = IsFrom 1 MAX_TELLER r.key
+TellerKeeps _ r = ⊤
+
+-- an account: the same
+abbrev pub AccountKeeps : Rule → Entry → Type 0
+AccountKeeps Balance r = nat_abs (number_at 0 r) ≤ MAX_BALANCE
+AccountKeeps Value r = IsFrom 1 MAX_ACCOUNT r.key
+AccountKeeps _ r = ⊤
+
+-- a posting: its ordinal and its moment are in their ranges
+abbrev pub PostingKeeps : Rule → Entry → Type 0
+PostingKeeps Value r = IsFrom 1 MAX_DECIDED r.key × IsFrom 0 MAX_MOMENT (number_at 4 r)
+PostingKeeps _ r = ⊤
+
+-- the row is of a request that can be kept: each field is in its range, and the outcome is kept with such a balance
+pub record IsOfARequest (r : Entry) : Type 0 where
+  pub teller : IsFrom 1 MAX_TELLER (number_at 0 r)
+  pub number : IsFrom 1 MAX_NUMBER (number_at 1 r)
+  pub account : IsFrom 1 MAX_ACCOUNT (number_at 2 r)
+  pub branch : IsFrom 1 MAX_BRANCH (number_at 3 r)
+  pub delta : nat_abs (number_at 4 r) ≤ MAX_DELTA
+  pub outcome : (o : Outcome) × (number_at 5 r ≡ pos (code_of o)) × IsTrue (is_kept_with o (number_at 6 r))
+  pub balance : nat_abs (number_at 6 r) ≤ MAX_BALANCE
+
+-- a kept request: it is one that can be kept, and its ordinal is in its range
+abbrev pub RequestKeeps : Rule → Entry → Type 0
+RequestKeeps Request r = IsOfARequest r
+RequestKeeps Value r = IsFrom 1 MAX_DECIDED r.key
+RequestKeeps _ r = ⊤
+
+-- ---- rows that keep a rule
+
+-- each row does
+abbrev pub EachKeeps : Rule → StoredRows → Type 0
+EachKeeps rule rows =
+    AllByRecursion (BranchKeeps rule) rows.branches × AllByRecursion (TellerKeeps rule) rows.tellers
+    × AllByRecursion (AccountKeeps rule) rows.accounts × AllByRecursion (PostingKeeps rule) rows.history
+    × AllByRecursion (RequestKeeps rule) rows.requests
+
+-- `meta` has exactly one row, and this many requests are decided
+abbrev pub HasDecided : StoredRows → ℕ → Type 0
+HasDecided rows decided = (version : ℤ) × (rows.meta ≡ record { key = pos META_ID; values = version ∷ pos decided ∷ [] } ∷ [])
+
+-- the place of an account is within its branch's count
+abbrev pub IsCounted : StoredRows → ℕ → Type 0
+IsCounted rows n = (branch : Entry) × (branch_under rows (branch_of_account n) ≡ Some branch) × (pos (place_of_account n) ≤ℤ number_at 0 branch)
+
+-- a teller has a row just where its branch has one
+abbrev pub TellersFit : StoredRows → Type 0
+TellersFit rows = (n : ℕ) → 1 ≤ n → n ≤ MAX_TELLER
+    → (IsSome (row_under rows.tellers n) → IsSome (branch_under rows (branch_of_teller n)))
+    × (IsSome (branch_under rows (branch_of_teller n)) → IsSome (row_under rows.tellers n))
+
+-- an account has a row just where its place is within its branch's count
+abbrev pub AccountsFit : StoredRows → Type 0
+AccountsFit rows = (n : ℕ) → 1 ≤ n → n ≤ MAX_ACCOUNT
+    → (IsSome (row_under rows.accounts n) → IsCounted rows n) × (IsCounted rows n → IsSome (row_under rows.accounts n))
+
+-- no ordinal above those that are decided is taken, and no teller and no account of a branch that isn't there
+pub record AreFree (rows : StoredRows) : Type 0 where
+  pub requests : (decided n : ℕ) → HasDecided rows decided → decided < n → row_under rows.requests n ≡ None
+  pub postings : (decided n : ℕ) → HasDecided rows decided → decided < n → row_under rows.history n ≡ None
+  pub tellers : (n : ℕ) → 1 ≤ n → branch_under rows (branch_of_teller n) ≡ None → row_under rows.tellers n ≡ None
+  pub accounts : (n : ℕ) → 1 ≤ n → branch_under rows (branch_of_account n) ≡ None → row_under rows.accounts n ≡ None
+
+-- the seven rules
+abbrev pub Keeps : Rule → StoredRows → Type 0
+Keeps Meta rows = (decided : ℕ) × HasDecided rows decided × (decided ≤ MAX_DECIDED)
+Keeps Teller rows = TellersFit rows
+Keeps Account rows = AccountsFit rows
+Keeps Balance rows = EachKeeps Balance rows
+Keeps Request rows = EachKeeps Request rows
+Keeps Value rows = EachKeeps Value rows
+Keeps Key rows = AreFree rows
+
+-- ---- a file that breaks a rule
+
+-- of whatever rows a file holds
+abbrev pub OfRows : (StoredRows → Type 0) → Database → Type 0
+OfRows P db = (rows : StoredRows) → HoldsBank db rows → P rows
+
+-- the rows that the file holds don't keep the rule
+abbrev pub IsBroken : Rule → Database → Type 0
+IsBroken rule db = OfRows (λ rows. ¬ Keeps rule rows) db

@@ -1,0 +1,68 @@
+-- What is told of a stored row, whatever numbers it has.
+use Rattle.std.specs.Prelude.{◌≡◌, ◌≤◌, ℤ, pos, nat_abs, [], ◌∷◌, Option, Some, None, Result, Ok, Err, ⊤}
+use Rattle.sqlite.specs.Order.{Row}
+use Rattle.sqlite.specs.declared.types.Value.TheVariants.{Int}
+use Rattle.message_records.specs.declared.limits.TheConstants.{MAX_BALANCE}
+use Rattle.posting_rules.specs.Kept.{KeptFields}
+use Rattle.posting_rules.specs.declared.fault.Rule.{Rule}
+use Rattle.posting_rules.specs.declared.fault.Rule.TheVariants.{Balance}
+use Rattle.posting_rules.specs.declared.rows.BranchRow.{BranchRow}
+use Rattle.posting_rules.specs.declared.rows.RequestRow.{RequestRow}
+use Rattle.sql_meanings.specs.Entries.{Entry}
+use Rattle.store_rows.specs.Columns.{number_at}
+use Rattle.store_rows.specs.declared.faults.TableFault.{TableFault}
+use Rattle.store_rows.specs.declared.faults.TableFault.TheVariants.{Sqlite, Damaged}
+
+-- ---- what the statements show
+
+-- balance
+abbrev pub balance_stored : Entry → Row
+balance_stored r = Int (number_at 0 r) ∷ []
+
+-- bid, accounts, balance
+abbrev pub branch_stored : Entry → Row
+branch_stored r = Int r.key ∷ Int (number_at 0 r) ∷ Int (number_at 1 r) ∷ []
+
+-- ordinal, tid, number, aid, bid, delta, outcome, balance
+abbrev pub request_stored : Entry → Row
+request_stored r =
+    Int r.key ∷ Int (number_at 0 r) ∷ Int (number_at 1 r) ∷ Int (number_at 2 r) ∷ Int (number_at 3 r) ∷ Int (number_at 4 r)
+    ∷ Int (number_at 5 r) ∷ Int (number_at 6 r) ∷ []
+
+-- ---- what was made of a row
+
+-- this is its balance
+abbrev pub IsBalance : ℤ → Entry → Type 0
+IsBalance z r = number_at 0 r ≡ z
+
+-- it is of this branch, with this count of accounts
+abbrev pub IsBranch : BranchRow → Entry → Type 0
+IsBranch b r = (r.key ≡ pos b.branch) × (number_at 0 r ≡ pos b.accounts)
+
+-- it keeps this
+abbrev pub IsKept : KeptFields → Entry → Type 0
+IsKept kept r = number_at 4 r ≡ kept.delta
+
+-- it is of this request
+abbrev pub IsRequest : RequestRow → Entry → Type 0
+IsRequest request r = IsKept request.kept r
+
+-- a row of one balance: that is within the limits
+abbrev pub BalanceKeeps : Rule → Entry → Type 0
+BalanceKeeps Balance r = nat_abs (number_at 0 r) ≤ MAX_BALANCE
+BalanceKeeps _ r = ⊤
+
+-- ---- what is told
+
+-- what is shown of a row is read so; or the row doesn't keep the rule; or memory was refused
+abbrev pub ReadsStored : {X : Type 0} → (Entry → Row) → (X → Entry → Type 0) → (Rule → Entry → Type 0) → Row → Result X TableFault → Type 0
+ReadsStored shown Is Keeps row (Ok x) = (r : Entry) → row ≡ shown r → Is x r
+ReadsStored shown Is Keeps row (Err (Sqlite e)) = ⊤
+ReadsStored shown Is Keeps row (Err (Damaged rule)) = (r : Entry) → row ≡ shown r → ¬ Keeps rule r
+
+-- the stored row is told, and that there is none; or it doesn't keep the rule; or the store failed
+abbrev pub FindsStored : {X : Type 0} → Option Entry → (X → Entry → Type 0) → (Rule → Entry → Type 0) → Result (Option X) TableFault → Type 0
+FindsStored stored Is Keeps (Ok None) = stored ≡ None
+FindsStored stored Is Keeps (Ok (Some x)) = (r : Entry) × (stored ≡ Some r) × Is x r
+FindsStored stored Is Keeps (Err (Sqlite e)) = ⊤
+FindsStored stored Is Keeps (Err (Damaged rule)) = (r : Entry) × (stored ≡ Some r) × ¬ Keeps rule r
