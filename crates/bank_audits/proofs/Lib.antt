@@ -8,3 +8,4 @@ pub mod Kept
 pub mod Sections
 pub mod Told
 pub mod Standing
+pub mod Gathered

@@ -2,3 +2,5 @@
 pub mod Faults
 pub mod Postings
 pub mod Behind
+pub mod Files
+pub mod Adding

@@ -2,9 +2,12 @@
 #![tactic(auto)]
 
 mod fault;
+mod gathering;
 mod lines;
+mod passes;
 mod postings;
 mod statement;
+mod sums;
 
 pub use fault::ReportFault;
 pub use statement::write_statement;
