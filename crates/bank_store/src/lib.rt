@@ -12,4 +12,6 @@ pub use adopting::adopt;
 pub use bank::Bank;
 pub use creating::create;
 pub use refused::{OpenFault, Refused};
-pub use walks::{Walk, each_account, each_branch, each_teller, history_of};
+pub use walks::{
+    Walk, each_account, each_branch, each_history, each_request, each_teller, history_of,
+};

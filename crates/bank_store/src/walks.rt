@@ -14,7 +14,9 @@ ghost use Rattle.bank_store.specs.Walks.{IsStill, IsUndone, Tells};
 
 use crate::bank::Bank;
 use arrayvec::ArrayVec;
-use bank_walks::{AHEAD, StoredAccount, StoredBranch, StoredPosting, StoredTeller, WalkedRow};
+use bank_walks::{
+    AHEAD, Joined, StoredAccount, StoredBranch, StoredPosting, StoredRequest, StoredTeller, WalkedRow,
+};
 use message_records::Account;
 use posting_rules::Fault;
 use sqlite::{Alter, Connection};
@@ -199,10 +201,11 @@ impl<'bank, S: Alter, R: WalkedRow> Walk<'bank, S, R> {
 ghost use Rattle.std.specs.Prelude.{true};
 ghost use Rattle.bank_store.specs.contracts.bank.Bank.{the_row};
 ghost use Rattle.bank_store.specs.Seen.{bank_seen, database_of};
-ghost use Rattle.bank_store.specs.Walking.{ComesFrom, lent, loan_of, to_come};
+ghost use Rattle.bank_store.specs.Walking.{ComesFrom, items_to_come, lent, loan_of, to_come};
+ghost use Rattle.bank_walks.specs.Pairs.{HasPairs, Pair, pair_key};
 ghost use Rattle.bank_walks.specs.Rows.{HasRows, LEAST, entry_key};
-ghost use Rattle.bank_walks.specs.Stored.{account_entry, branch_entry, is_of, posting_entry, teller_entry};
-ghost use Rattle.store_rows.specs.SixTables.{account as account_table, branch as branch_table, history as history_table, teller as teller_table};
+ghost use Rattle.bank_walks.specs.Stored.{account_entry, asked_pair, branch_entry, is_of, posted_pair, posting_entry, teller_entry};
+ghost use Rattle.store_rows.specs.SixTables.{account as account_table, branch as branch_table, history as history_table, request as request_table, teller as teller_table};
 ghost use Rattle.std.specs.Prelude.{Some};
 
 /// Begins a walk over the branches.
@@ -270,4 +273,40 @@ pub fn history_of<S: Alter>(
         return Err(Fault::Down);
     }
     Ok(Walk::over(bank, Some(account)))
+}
+
+/// Begins a walk over the requests, each with the posting of its ordinal, if there is one.
+pub fn each_request<S: Alter>(
+    bank: &mut Bank<S>,
+) -> Result<Walk<'_, S, Joined<StoredRequest, StoredPosting>>, Fault>
+    ensures* refused { sem 𝓛 (RestsIfErr (the_row S.row S.Store) bank.entry loan_of result (λ last. last ≡ bank.old)) }
+    ensures same_reference { IfOk result (λ it. loan_of it ≡ bank.entry.ghost_name) }
+    ensures same { IfOk result (λ it. lent it ≡ bank.old) }
+    ensures all { IfOk result (λ it. (pairs : List Pair) → HasPairs (database_of S.Store bank.old) request_table history_table pairs
+        → items_to_come pair_key asked_pair (λ of p. true) pairs it ≡ pairs) }
+    ensures rises { IfOk result (λ it. ComesFrom (λ j. pair_key (asked_pair j)) LEAST it) }
+    ensures fault { IfErr result (λ f. (f ≡ fault.Down) × (bank_seen S.Store bank.old).is_down) }
+{
+    if bank.is_down() {
+        return Err(Fault::Down);
+    }
+    Ok(Walk::over(bank, None))
+}
+
+/// Begins a walk over the postings, each with the request of its ordinal, if there is one.
+pub fn each_history<S: Alter>(
+    bank: &mut Bank<S>,
+) -> Result<Walk<'_, S, Joined<StoredPosting, StoredRequest>>, Fault>
+    ensures* refused { sem 𝓛 (RestsIfErr (the_row S.row S.Store) bank.entry loan_of result (λ last. last ≡ bank.old)) }
+    ensures same_reference { IfOk result (λ it. loan_of it ≡ bank.entry.ghost_name) }
+    ensures same { IfOk result (λ it. lent it ≡ bank.old) }
+    ensures all { IfOk result (λ it. (pairs : List Pair) → HasPairs (database_of S.Store bank.old) history_table request_table pairs
+        → items_to_come pair_key posted_pair (λ of p. true) pairs it ≡ pairs) }
+    ensures rises { IfOk result (λ it. ComesFrom (λ j. pair_key (posted_pair j)) LEAST it) }
+    ensures fault { IfErr result (λ f. (f ≡ fault.Down) × (bank_seen S.Store bank.old).is_down) }
+{
+    if bank.is_down() {
+        return Err(Fault::Down);
+    }
+    Ok(Walk::over(bank, None))
 }

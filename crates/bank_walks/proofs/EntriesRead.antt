@@ -1,9 +1,8 @@
 -- A row that was read, and the entry that it is.
-use Rattle.std.proofs.Common.{◌≡◌, ℤ, pos, List, [], ◌∷◌, length, Some, None, Ok, Err, Result, Option, refl, sym, ap, subst, ◌∙◌, ℕ, ◌+◌, arith}
+use Rattle.std.proofs.Common.{ℤ, List, Some, None, Ok, Err, Option, refl, ap, subst, ◌∙◌, ℕ, ◌+◌, arith}
 use Rattle.std.specs.Option.{ok_or}
 use Rattle.sqlite.specs.Order.{Row}
-use Rattle.sql_meanings.specs.Entries.{Entry, numbers}
-use Rattle.posting_rules.specs.declared.fault.Rule.{Rule}
+use Rattle.sql_meanings.specs.Entries.{Entry}
 use Rattle.posting_rules.specs.declared.fault.Rule.TheVariants.{Value}
 use Rattle.store_rows.specs.declared.faults.TableFault.{TableFault}
 use Rattle.store_rows.specs.declared.faults.TableFault.TheVariants.{Sqlite, Damaged}

@@ -1,6 +1,5 @@
 -- What is gathered of the rows that were found.
-use Rattle.std.proofs.Common.{◌≡◌, ◌<◌, ◌≤◌, ◌^◌, ℕ, zero, suc, ℤ, pos, ◌+ℤ◌, List, [], ◌∷◌, ◌++◌, map, filter, find, take, cond, length, get_or, nat_eq, Bool, true, false, Some, None, Option, Ok, Err, refl, sym, ap, subst, ◌∙◌, inl, inr, int_cmp, Less, arith, append_assoc, w64, to_z, of_z, FitsSigned}
-use Rattle.std.specs.List.{AllByRecursion}
+use Rattle.std.proofs.Common.{◌≡◌, ◌<◌, ◌≤◌, ℕ, zero, suc, ℤ, pos, ◌+ℤ◌, List, [], ◌∷◌, ◌++◌, map, filter, find, take, length, get_or, nat_eq, Bool, true, false, Some, Ok, Err, refl, sym, ap, ◌∙◌, inl, inr, int_cmp, Less, arith, append_assoc, w64, to_z, of_z, FitsSigned}
 use Rattle.std.specs.Ordering.{is_ge}
 use Rattle.std.proofs.lemmas.Bool.{cases_Bool}
 use Rattle.std.proofs.lemmas.Bool.Decides.{nat_tests}

@@ -1,11 +1,14 @@
 -- What the walks read.
 pub mod EntriesRead
+pub mod Filling
 pub mod Gathering
+pub mod Joining
 pub mod Keys
 pub mod NumbersRead
 pub mod Rises
 pub mod Shown
 pub mod Shows
 pub mod Sought
+pub mod Under
 pub mod WalkTexts
 pub mod Widths

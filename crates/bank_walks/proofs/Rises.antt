@@ -1,5 +1,5 @@
 -- Keys that rise.
-use Rattle.std.proofs.Common.{◌≡◌, ◌≤ℤ◌, ◌+ℤ◌, ℤ, pos, List, [], ◌∷◌, ◌++◌, map, true, false, Some, None, Option, int_cmp, arith}
+use Rattle.std.proofs.Common.{◌≡◌, ◌≤ℤ◌, ◌+ℤ◌, ℤ, pos, List, [], ◌∷◌, ◌++◌, map, true, Some, None, Option, int_cmp, arith}
 use Rattle.std.specs.Ordering.{is_ge}
 use Rattle.std.proofs.lemmas.Int.{ints}
 use Rattle.bank_walks.specs.Rising.{RisesFrom}

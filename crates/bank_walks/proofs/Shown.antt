@@ -1,5 +1,5 @@
 -- What the tables hold of a bank that shows tables.
-use Rattle.std.proofs.Common.{◌≡◌, ℕ, ℤ, pos, List, [], ◌∷◌, map, true, refl, subst}
+use Rattle.std.proofs.Common.{◌≡◌, ℕ, pos, List, [], ◌∷◌, map, refl}
 use Rattle.sqlite.specs.Effect.{Database}
 use Rattle.posting_rules.specs.Tables.{Tables}
 use Rattle.sql_meanings.specs.Entries.{Entry}
@@ -7,6 +7,7 @@ use Rattle.store_rows.specs.SixTables as six
 use Rattle.store_rows.specs.View.{Shows, account_entry, branch_entry, history_entry, request_entry, teller_entry}
 use Rattle.store_rows.proofs.BankTables.{holds}
 use Rattle.store_rows.proofs.TheTables as the
+use Rattle.bank_walks.specs.Pairs.{HasPairs, paired}
 use Rattle.bank_walks.specs.Rows.{HasRows, HaveKeys, entry_key}
 
 -- keys of a bank's rows are numbers of 64 bits
@@ -30,3 +31,11 @@ module _ (db : Database) (t : Tables) (shows : Shows db t) where
 
   pub has_requests : HasRows db six.request (map request_entry t.requests)
   has_requests = record { sound = shows.sound; holds = holds the.requests db t shows; least = whole_keys request_entry (λ r. r.ordinal) (λ r. refl) t.requests }
+
+  -- each request with the posting of its ordinal
+  pub has_asked : HasPairs db six.request six.history (paired (map history_entry t.history) (map request_entry t.requests))
+  has_asked = record { rows = map request_entry t.requests; others = map history_entry t.history; has = has_requests; has_others = has_history; are = refl }
+
+  -- each posting with the request of its ordinal
+  pub has_posted : HasPairs db six.history six.request (paired (map request_entry t.requests) (map history_entry t.history))
+  has_posted = record { rows = map history_entry t.history; others = map request_entry t.requests; has = has_history; has_others = has_requests; are = refl }

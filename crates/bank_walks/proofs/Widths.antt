@@ -1,5 +1,5 @@
 -- Rows of six and of eight numbers.
-use Rattle.std.proofs.Common.{◌≡◌, ℕ, ℤ, pos, List, [], ◌∷◌, length, get_or, refl, sym, ap, ◌∙◌, arith}
+use Rattle.std.proofs.Common.{◌≡◌, ℕ, ℤ, pos, List, [], ◌∷◌, length, get_or, refl, sym, ap, arith}
 use Rattle.sql_meanings.specs.Entries.{Entry}
 use Rattle.bank_walks.specs.Outcomes.{entry_of}
 

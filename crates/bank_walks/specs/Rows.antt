@@ -1,5 +1,5 @@
 -- The rows of a table in a database, as walks speak of them: of any sound file, whatever its numbers.
-use Rattle.std.specs.Prelude.{◌≡◌, ◌^◌, ◌-◌, ℤ, negsuc, true, ℕ, List, [], length, map, filter, Option, Some, None}
+use Rattle.std.specs.Prelude.{◌≡◌, ◌^◌, ◌-◌, ℤ, negsuc, true, ℕ, List, [], length, filter, Option, Some, None}
 use Rattle.std.specs.List.{AllByRecursion}
 use Rattle.std.specs.Ordering.{int_cmp, is_ge}
 use Rattle.sqlite.specs.Table.{Table}

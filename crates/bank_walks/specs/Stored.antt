@@ -1,9 +1,10 @@
 -- The stored rows: keys, counts and moments within their ranges, and the other numbers whatever they are.
-use Rattle.std.specs.Prelude.{◌⊎◌, ℕ, pos, ℤ, List, [], ◌∷◌, slice_index_or, Bool, true, Option, Some, None}
+use Rattle.std.specs.Prelude.{◌⊎◌, ℕ, pos, ℤ, [], ◌∷◌, slice_index_or, Bool, true, Option, Some, None}
 use Rattle.message_records.specs.declared.limits.TheConstants.{MAX_MOMENT}
 use Rattle.posting_rules.specs.declared.limits.TheConstants.{LAST_BRANCH, MAX_DECIDED}
 use Rattle.sql_meanings.specs.Entries.{Entry}
 use Rattle.sql_meanings.specs.Seeks.{begins}
+use Rattle.bank_walks.specs.Pairs.{BreaksPair, Pair, pair_of}
 use Rattle.bank_walks.specs.Reading.{IsOutside}
 use Rattle.bank_walks.specs.declared.limits.TheConstants.{LAST_ACCOUNT, LAST_TELLER, MOST_COUNTED}
 use Rattle.bank_walks.specs.declared.branches.StoredBranch.{StoredBranch}
@@ -11,6 +12,7 @@ use Rattle.bank_walks.specs.declared.tellers.StoredTeller.{StoredTeller}
 use Rattle.bank_walks.specs.declared.accounts.StoredAccount.{StoredAccount}
 use Rattle.bank_walks.specs.declared.postings.StoredPosting.{StoredPosting}
 use Rattle.bank_walks.specs.declared.requests.StoredRequest.{StoredRequest}
+use Rattle.bank_walks.specs.declared.joined.Joined.{Joined}
 
 -- one of the numbers behind the key
 abbrev pub number_behind : ℕ → Entry → ℤ
@@ -60,3 +62,19 @@ IsNoRequest e = IsOutside 1 MAX_DECIDED e.key
 abbrev pub is_of : Option ℕ → Entry → Bool
 is_of None e = true
 is_of (Some account) e = begins (pos account) e.values
+
+-- ---- rows with what stands beside them
+
+-- a row of `request`, with the one of `history` under its ordinal
+abbrev pub asked_pair : Joined StoredRequest StoredPosting → Pair
+asked_pair = pair_of request_entry posting_entry
+
+abbrev pub IsNoAsked : Pair → Type 0
+IsNoAsked = BreaksPair IsNoRequest IsNoPosting
+
+-- a row of `history`, with the one of `request` under its ordinal
+abbrev pub posted_pair : Joined StoredPosting StoredRequest → Pair
+posted_pair = pair_of posting_entry request_entry
+
+abbrev pub IsNoPosted : Pair → Type 0
+IsNoPosted = BreaksPair IsNoPosting IsNoRequest

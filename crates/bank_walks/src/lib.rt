@@ -3,7 +3,9 @@
 
 mod accounts;
 mod ahead;
+mod beside;
 mod branches;
+mod joined;
 mod limits;
 mod numbers;
 mod postings;
@@ -16,6 +18,7 @@ mod walked;
 pub use accounts::StoredAccount;
 pub use ahead::AHEAD;
 pub use branches::StoredBranch;
+pub use joined::Joined;
 pub use limits::{LAST_ACCOUNT, LAST_TELLER, MOST_COUNTED};
 pub use postings::StoredPosting;
 pub use requests::StoredRequest;

@@ -9,7 +9,7 @@ use sqlite::{Error, Row};
 use store_rows::TableFault;
 
 // The number in a column. A value of another type is damage.
-fn number_at(row: &Row, at: usize) -> Result<i64, TableFault>
+pub(crate) fn number_at(row: &Row, at: usize) -> Result<i64, TableFault>
     ensures { ReadsNumber (column row.now at) result }
 {
     match row.get(at) {

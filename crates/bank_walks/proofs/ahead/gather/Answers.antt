@@ -1,8 +1,8 @@
 -- What is gathered, row by row.
-use Rattle.std.proofs.Common.{◌≡◌, ◌<◌, ◌+ℤ◌, ◌++◌, ℕ, ℤ, pos, [], List, map, length, get_or, refl, sym, ap, subst, ◌∙◌, rules, arith, w64, to_z, of_z}
+use Rattle.std.proofs.Common.{◌≡◌, ◌<◌, [], length, get_or, sym, ap, ◌∙◌, rules, arith, w64, to_z, of_z}
 use Rattle.std.proofs.lemmas.Int.{to_z-of_z}
 use Rattle.sql_meanings.specs.Tables.{width_of}
-use Rattle.bank_walks.specs.Rows.{entry_key, rows_from}
+use Rattle.bank_walks.specs.Rows.{entry_key}
 use Rattle.bank_walks.specs.declared.ahead.TheConstants.{AHEAD}
 use Rattle.bank_walks.proofs.Gathering.{behind_key, gathers_on, gathers_none, none_there}
 use Rattle.bank_walks.proofs.Rises.{le_from, one_more}

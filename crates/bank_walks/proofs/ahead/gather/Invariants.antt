@@ -1,4 +1,4 @@
-use Rattle.std.proofs.Common.{◌≡◌, ℕ, ℤ, List, ◌++◌, map, take, length, Some}
+use Rattle.std.proofs.Common.{◌≡◌, List, ◌++◌, map, take, length, Some}
 use Rattle.sql_meanings.specs.Entries.{Entry, Rise}
 use Rattle.sql_meanings.specs.Tables.{width_of}
 use Rattle.bank_walks.specs.Outcomes.{shown}

@@ -1,8 +1,7 @@
 -- Each number is that of its column.
-use Rattle.std.proofs.Common.{◌≡◌, ◌<◌, ◌≢◌, ℕ, pos, Err, rules, refl, sym, ap, ◌∙◌, arith, length, get_or, get_or-set_other, get_or-set_same, below_more, w64, to_z, of_z}
+use Rattle.std.proofs.Common.{◌≡◌, ◌<◌, ◌≢◌, Err, rules, ◌∙◌, arith, length, get_or-set_other, get_or-set_same, below_more, w64, to_z, of_z}
 use Rattle.std.proofs.Math.ListN.{length-set}
 use Rattle.std.proofs.lemmas.Int.{to_z-of_z}
-use Rattle.sqlite.specs.declared.types.Value.TheVariants.{Int}
 use Rattle.bank_walks.proofs.NumbersRead.{numbers_are, number_fails}
 use Rattle.bank_walks.proofs.numbers.numbers.Goals as goal
 

@@ -1,5 +1,5 @@
 -- The row is these numbers.
-use Rattle.std.proofs.Common.{◌≡◌, ℕ, ℤ, pos, refl, sym, ◌∙◌, rules, get_or, length, w64, to_z, of_z}
+use Rattle.std.proofs.Common.{◌≡◌, pos, sym, ◌∙◌, rules, get_or, length, w64, to_z, of_z}
 use Rattle.std.proofs.lemmas.Int.{to_z-of_z}
 use Rattle.bank_walks.proofs.Widths.{six_are}
 use Rattle.bank_walks.proofs.postings.StoredPosting.of.Goals as goal

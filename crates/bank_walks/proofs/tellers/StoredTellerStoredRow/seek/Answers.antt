@@ -1,5 +1,5 @@
 -- What the statement shows, and what stands after it.
-use Rattle.std.proofs.Common.{[], ◌∷◌, refl, rules, w64}
+use Rattle.std.proofs.Common.{[], ◌∷◌, refl, w64}
 use Rattle.std.proofs.lemmas.Int.{to_z-of_z}
 use Rattle.sqlite.specs.Held.{state}
 use Rattle.sqlite.specs.declared.types.Value.TheVariants.{Int}

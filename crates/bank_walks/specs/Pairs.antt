@@ -1,0 +1,77 @@
+-- Rows of a table, each with the row of another one under its key, if there is one.
+use Rattle.std.specs.Prelude.{◌≡◌, ◌⊎◌, ◌++◌, ◌<ℤ◌, ℤ, List, [], ◌∷◌, map, find, Option, Some, None, Result, Ok, Err, IsSomeAnd, option_map, ⊤}
+use Rattle.std.proofs.Common.{sym, subst}
+use Rattle.sqlite.specs.declared.error.Error.{Error}
+use Rattle.sqlite.specs.Table.{Table}
+use Rattle.sqlite.specs.Effect.{Database}
+use Rattle.sql_meanings.specs.Entries.{Entry, has_key}
+use Rattle.posting_rules.specs.declared.fault.Rule.TheVariants as rule
+use Rattle.store_rows.specs.declared.faults.TableFault.{TableFault}
+use Rattle.store_rows.specs.declared.faults.TableFault.TheVariants.{Sqlite, Damaged}
+use Rattle.bank_walks.specs.Outcomes.{IsRefusedMemory}
+use Rattle.bank_walks.specs.Rows.{HasRows, HaveKeys, entry_key, rows_behind, rows_from}
+use Rattle.bank_walks.specs.declared.joined.Joined.{Joined}
+
+pub record Pair : Type 0 where
+  pub entry : Entry
+  pub beside : Option Entry
+
+abbrev pub pair_key : Pair → ℤ
+pair_key p = p.entry.key
+
+-- the row under a key
+abbrev pub row_under : List Entry → ℤ → Option Entry
+row_under rows k = find (has_key k) rows
+
+-- a row with the one of these that is under its key
+abbrev pub pair_with : List Entry → Entry → Pair
+pair_with others e = record { entry = e; beside = row_under others e.key }
+
+-- each row with the one of the others that is under its key
+abbrev pub paired : List Entry → List Entry → List Pair
+paired others = map (pair_with others)
+
+-- a sound database has both tables, and these are the pairs of them
+pub record HasPairs (db : Database) (table other : Table) (pairs : List Pair) : Type 0 where
+  pub rows : List Entry
+  pub others : List Entry
+  pub has : HasRows db table rows
+  pub has_others : HasRows db other others
+  pub are : pairs ≡ paired others rows
+
+-- how a file holds them
+abbrev pub pair_of : {R O : Type 0} → (R → Entry) → (O → Entry) → Joined R O → Pair
+pair_of entry other j = record { entry = entry j.stored; beside = option_map other j.beside }
+
+-- these are the pairs of the rows from a number on, up to those that follow
+abbrev pub AreJoined : {R O : Type 0} → (R → Entry) → (O → Entry) → List Entry → List Entry → ℤ → List (Joined R O) → Option ℤ → Type 0
+AreJoined entry other others rows from done rest =
+    paired others (rows_from from rows) ≡ map (pair_of entry other) done ++ paired others (rows_behind rest rows)
+
+-- a number of the row, or of the one beside it, is out of its range
+abbrev pub BreaksPair : (Entry → Type 0) → (Entry → Type 0) → Pair → Type 0
+BreaksPair Breaks BreaksOther p = Breaks p.entry ⊎ IsSomeAnd p.beside BreaksOther
+
+-- an error of the store of which this holds, or a number of the row under the key is out of its range
+abbrev pub BreaksUnder : (Error → Type 0) → (Entry → Type 0) → ℤ → List Entry → TableFault → Type 0
+BreaksUnder Failed Breaks key others (Sqlite e) = Failed e
+BreaksUnder Failed Breaks key others (Damaged broken) = (broken ≡ rule.Value) × IsSomeAnd (row_under others key) Breaks
+
+-- the key of a row; or memory for it was refused
+abbrev pub TellsKey : Entry → Result ℤ TableFault → Type 0
+TellsKey e (Ok key) = key ≡ e.key
+TellsKey e (Err (Sqlite x)) = IsRefusedMemory x
+TellsKey e (Err (Damaged broken)) = ⊥
+
+-- the others are decided up to a key and with it
+abbrev pub IsDecided : Option ℤ → ℤ → Type 0
+IsDecided None key = ⊤
+IsDecided (Some behind) key = key <ℤ behind
+
+keys_of_pairs : (others rows : List Entry) → HaveKeys entry_key rows → HaveKeys pair_key (paired others rows)
+keys_of_pairs others [] all = all
+keys_of_pairs others (e ∷ rows) all = (all.0, keys_of_pairs others rows all.1)
+
+-- their keys are those of the rows
+pub pairs_have_keys : (db : Database) (table other : Table) (pairs : List Pair) → HasPairs db table other pairs → HaveKeys pair_key pairs
+pairs_have_keys db table other pairs has = subst (HaveKeys pair_key) (sym has.are) (keys_of_pairs has.others has.rows has.has.least)

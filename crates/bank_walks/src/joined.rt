@@ -1,0 +1,239 @@
+//! Rows with what stands beside them in another table.
+ghost use Rattle.std.specs.Prelude.{◌≡◌, ◌≤◌, ◌++◌, [], ◌∷◌, ℤ, List, filter, length, map, None, false, IfOk, IfErr, IsTrue, OnOk, MatchResult};
+ghost use Rattle.std.specs.Bool.{OnFalse, OnTrue};
+ghost use Rattle.sqlite.specs.State.{HasCleanDisk, IsUnchanged, Survives};
+ghost use Rattle.sqlite.specs.Held.{state};
+ghost use Rattle.sql_meanings.specs.Entries.{Entry, Rise};
+ghost use Rattle.sql_meanings.specs.Outcomes.{IsStoreError, WriteFails};
+ghost use Rattle.bank_walks.specs.Outcomes.{BreaksFirst};
+ghost use Rattle.bank_walks.specs.Pairs.{AreJoined, BreaksPair, BreaksUnder, HasPairs, IsDecided, Pair, pair_key, pair_of, paired};
+ghost use Rattle.bank_walks.specs.Rising.{RisesFrom};
+ghost use Rattle.bank_walks.specs.Rows.{HasRows, entry_key, items_behind, items_from, rows_behind, rows_from};
+
+use crate::ahead::{AHEAD, read_ahead};
+use crate::beside::{read_beside, row_with};
+use crate::postings::StoredPosting;
+use crate::requests::StoredRequest;
+use crate::stored_row::StoredRow;
+use crate::walked::WalkedRow;
+use arrayvec::ArrayVec;
+use message_records::Account;
+use sqlite::{Alter, Connection};
+use store_rows::TableFault;
+
+/// A row of one table, with the row of another one under the same key, if there is one.
+#[derive(Clone, Copy, Debug, PartialEq, Eq)]
+pub struct Joined<R, O> {
+    pub stored: R,
+    pub beside: Option<O>,
+}
+
+impl<R: Default, O> Default for Joined<R, O> {
+    fn default() -> Self {
+        Joined {
+            stored: R::default(),
+            beside: None,
+        }
+    }
+}
+
+// The row under the key isn't decided by those that were read ahead.
+fn is_beyond(behind: Option<i64>, key: i64) -> bool
+    ensures decided { OnFalse result (IsDecided behind key) }
+    ensures beyond { OnTrue result (IsDecided behind key → ⊥) }
+{
+    match behind {
+        Some(behind) => behind <= key,
+        None => false,
+    }
+}
+
+// Puts these rows, each with the one of the others that is under its key, in place of those in `rows`, as far as the others
+// are known, and tells from which key on the next follow.
+fn join<R: StoredRow, O: StoredRow>(
+    own: &[R],
+    rest: Option<i64>,
+    beside: &[O],
+    behind: Option<i64>,
+    start: i64,
+    rows: &mut ArrayVec<Joined<R, O>, AHEAD>,
+) -> Option<i64>
+    requires few { length own.now ≤ AHEAD }
+    requires rises { RisesFrom start (map (λ r. entry_key (R.StoredRow.entry r)) own.now) rest }
+    ensures told { (base others : List Entry) → Rise base
+        → rows_from start base ≡ map R.StoredRow.entry own.now ++ rows_behind rest base
+        → rows_from start others ≡ map O.StoredRow.entry beside.now ++ rows_behind behind others
+        → AreJoined R.StoredRow.entry O.StoredRow.entry others base start rows.new.items result }
+    ensures rises { RisesFrom start (map (λ j. entry_key (R.StoredRow.entry j.stored)) rows.new.items) result }
+    ensures some { (r : R) (more : List R) → own.now ≡ r ∷ more → IsDecided behind (entry_key (R.StoredRow.entry r)) → rows.new.items ≡ [] → ⊥ }
+{
+    rows.clear();
+    let mut next = start;
+    for row in own {
+        let key = row.key();
+        if is_beyond(behind, key as i64) {
+            return Some(next);
+        }
+        rows.push(Joined {
+            stored: *row,
+            beside: row_with(beside, key),
+        });
+        next = key as i64 + 1;
+    }
+    rest
+}
+
+// The same, with the others read from where these begin.
+fn join_ahead<S: Alter, R: StoredRow, O: StoredRow>(
+    conn: &mut Connection<S>,
+    own: &[R],
+    rest: Option<i64>,
+    start: i64,
+    beside: &mut ArrayVec<O, AHEAD>,
+    rows: &mut ArrayVec<Joined<R, O>, AHEAD>,
+) -> Result<Option<i64>, TableFault>
+    requires few { length own.now ≤ AHEAD }
+    requires rises { RisesFrom start (map (λ r. entry_key (R.StoredRow.entry r)) own.now) rest }
+    ensures told { HasCleanDisk (state S.Store conn.new) → (base others : List Entry) → Rise base
+        → HasRows (state S.Store conn.old).now O.StoredRow.table others
+        → rows_from start base ≡ map R.StoredRow.entry own.now ++ rows_behind rest base
+        → MatchResult result (AreJoined R.StoredRow.entry O.StoredRow.entry others base start rows.new.items)
+        (BreaksUnder (IsStoreError (state S.Store conn.old) (state S.Store conn.new)) O.StoredRow.is_broken start others) }
+    ensures rises { IfOk result (λ rest. RisesFrom start (map (λ j. entry_key (R.StoredRow.entry j.stored)) rows.new.items) rest) }
+    ensures some { (r : R) (more : List R) → own.now ≡ r ∷ more → start ≡ entry_key (R.StoredRow.entry r) → OnOk result (rows.new.items ≡ [] → ⊥) }
+    ensures same { HasCleanDisk (state S.Store conn.new) → OnOk result (IsUnchanged (state S.Store conn.old) (state S.Store conn.new)) }
+    ensures err { HasCleanDisk (state S.Store conn.new) → IfErr result (λ _. WriteFails (state S.Store conn.old) (state S.Store conn.new)) }
+    ensures mode { conn.old.in_transaction ≡ false → conn.new.in_transaction ≡ false }
+    ensures survives { Survives (state S.Store conn.old) (state S.Store conn.new) (λ _. ⊥) }
+{
+    let behind = read_beside::<S, O>(conn, start, beside)?;
+    Ok(join(own, rest, beside.as_slice(), behind, start, rows))
+}
+
+// The same, from where the first of these begins.
+fn join_first<S: Alter, R: StoredRow, O: StoredRow>(
+    conn: &mut Connection<S>,
+    own: &[R],
+    rest: Option<i64>,
+    beside: &mut ArrayVec<O, AHEAD>,
+    rows: &mut ArrayVec<Joined<R, O>, AHEAD>,
+) -> Result<Option<i64>, TableFault>
+    requires few { length own.now ≤ AHEAD }
+    requires ended { own.now ≡ [] → rest ≡ None }
+    requires rises { (from : ℤ) × RisesFrom from (map (λ r. entry_key (R.StoredRow.entry r)) own.now) rest }
+    ensures told { HasCleanDisk (state S.Store conn.new) → (base others : List Entry) → Rise base
+        → HasRows (state S.Store conn.old).now O.StoredRow.table others
+        → (from : ℤ) → rows_from from base ≡ map R.StoredRow.entry own.now ++ rows_behind rest base
+        → MatchResult result (AreJoined R.StoredRow.entry O.StoredRow.entry others base from rows.new.items)
+        (BreaksFirst (IsStoreError (state S.Store conn.old) (state S.Store conn.new)) (BreaksPair R.StoredRow.is_broken O.StoredRow.is_broken)
+        (paired others (rows_from from base))) }
+    ensures ended { IfOk result (λ next. rows.new.items ≡ [] → next ≡ None) }
+    ensures rises { (from : ℤ) → RisesFrom from (map (λ r. entry_key (R.StoredRow.entry r)) own.now) rest
+        → IfOk result (λ next. RisesFrom from (map (λ j. entry_key (R.StoredRow.entry j.stored)) rows.new.items) next) }
+    ensures same { HasCleanDisk (state S.Store conn.new) → IsTrue (state S.Store conn.old).is_open → OnOk result (IsUnchanged (state S.Store conn.old) (state S.Store conn.new)) }
+    ensures err { HasCleanDisk (state S.Store conn.new) → IfErr result (λ _. WriteFails (state S.Store conn.old) (state S.Store conn.new)) }
+    ensures mode { conn.old.in_transaction ≡ false → conn.new.in_transaction ≡ false }
+    ensures survives { Survives (state S.Store conn.old) (state S.Store conn.new) (λ _. ⊥) }
+{
+    match own.first() {
+        Some(first) => {
+            let start = first.key() as i64;
+            join_ahead::<S, R, O>(conn, own, rest, start, beside, rows)
+        }
+        None => {
+            rows.clear();
+            Ok(None)
+        }
+    }
+}
+
+// Fills the room of a walk, with room for the rows of each table. Only of known types is it known how much room that is, so
+// it is handed in.
+fn fill_joined<S: Alter, R: StoredRow, O: StoredRow>(
+    conn: &mut Connection<S>,
+    of: Option<Account>,
+    from: i64,
+    own: &mut ArrayVec<R, AHEAD>,
+    beside: &mut ArrayVec<O, AHEAD>,
+    rows: &mut ArrayVec<Joined<R, O>, AHEAD>,
+) -> Result<Option<i64>, TableFault>
+    ensures told { HasCleanDisk (state S.Store conn.new) → (all : List Pair) → HasPairs (state S.Store conn.old).now R.StoredRow.table O.StoredRow.table all
+        → let given = filter (λ p. R.StoredRow.is_given of p.entry) all in MatchResult result
+        (λ rest. items_from pair_key from given ≡ map (pair_of R.StoredRow.entry O.StoredRow.entry) rows.new.items ++ items_behind pair_key rest given)
+        (BreaksFirst (IsStoreError (state S.Store conn.old) (state S.Store conn.new)) (BreaksPair R.StoredRow.is_broken O.StoredRow.is_broken) (items_from pair_key from given)) }
+    ensures ended { IfOk result (λ rest. rows.new.items ≡ [] → rest ≡ None) }
+    ensures rises { IfOk result (λ rest. RisesFrom from (map (λ j. entry_key (R.StoredRow.entry j.stored)) rows.new.items) rest) }
+    ensures same { HasCleanDisk (state S.Store conn.new) → OnOk result (IsUnchanged (state S.Store conn.old) (state S.Store conn.new)) }
+    ensures err { HasCleanDisk (state S.Store conn.new) → IfErr result (λ _. WriteFails (state S.Store conn.old) (state S.Store conn.new)) }
+    ensures mode { conn.old.in_transaction ≡ false → conn.new.in_transaction ≡ false }
+    ensures survives { Survives (state S.Store conn.old) (state S.Store conn.new) (λ _. ⊥) }
+{
+    match read_ahead(conn, of, from, own) {
+        Ok(rest) => join_first::<S, R, O>(conn, own.as_slice(), rest, beside, rows),
+        Err(fault) => Err(fault),
+    }
+}
+
+impl WalkedRow for Joined<StoredRequest, StoredPosting> {
+    ghost use Rattle.std.specs.Prelude.{true};
+    ghost use Rattle.bank_walks.specs.Pairs.{pairs_have_keys};
+    ghost use Rattle.bank_walks.specs.Stored.{asked_pair, IsNoAsked};
+    ghost use Rattle.store_rows.specs.SixTables.{history, request};
+
+    ghost Item = { Pair };
+
+    ghost item = { asked_pair };
+
+    ghost key = { pair_key };
+
+    ghost is_broken = { IsNoAsked };
+
+    ghost is_given = { λ of p. true };
+
+    ghost HasItems = { λ db pairs. HasPairs db request history pairs };
+
+    ghost have_keys = { λ db pairs has. pairs_have_keys db request history pairs has };
+
+    fn fill<S: Alter>(
+        conn: &mut Connection<S>,
+        _of: Option<Account>,
+        from: i64,
+        rows: &mut ArrayVec<Self, AHEAD>,
+    ) -> Result<Option<i64>, TableFault> {
+        let mut own = ArrayVec::<StoredRequest, AHEAD>::new();
+        let mut beside = ArrayVec::<StoredPosting, AHEAD>::new();
+        fill_joined(conn, None, from, &mut own, &mut beside, rows)
+    }
+}
+
+impl WalkedRow for Joined<StoredPosting, StoredRequest> {
+    ghost use Rattle.std.specs.Prelude.{true};
+    ghost use Rattle.bank_walks.specs.Pairs.{pairs_have_keys};
+    ghost use Rattle.bank_walks.specs.Stored.{posted_pair, IsNoPosted};
+    ghost use Rattle.store_rows.specs.SixTables.{history, request};
+
+    ghost Item = { Pair };
+
+    ghost item = { posted_pair };
+
+    ghost key = { pair_key };
+
+    ghost is_broken = { IsNoPosted };
+
+    ghost is_given = { λ of p. true };
+
+    ghost HasItems = { λ db pairs. HasPairs db history request pairs };
+
+    ghost have_keys = { λ db pairs has. pairs_have_keys db history request pairs has };
+
+    fn fill<S: Alter>(
+        conn: &mut Connection<S>,
+        _of: Option<Account>,
+        from: i64,
+        rows: &mut ArrayVec<Self, AHEAD>,
+    ) -> Result<Option<i64>, TableFault> {
+        let mut own = ArrayVec::<StoredPosting, AHEAD>::new();
+        let mut beside = ArrayVec::<StoredRequest, AHEAD>::new();
+        fill_joined(conn, None, from, &mut own, &mut beside, rows)
+    }
+}
