@@ -9,3 +9,6 @@ pub mod Sections
 pub mod Told
 pub mod Standing
 pub mod Gathered
+pub mod Read
+pub mod Passed
+pub mod Broken

@@ -5,6 +5,9 @@ use Rattle.posting_rules.specs.declared.fault.Fault.{Fault}
 use Rattle.bank_walks.specs.declared.accounts.StoredAccount.{StoredAccount}
 use Rattle.bank_walks.specs.declared.branches.StoredBranch.{StoredBranch}
 use Rattle.bank_walks.specs.declared.tellers.StoredTeller.{StoredTeller}
+use Rattle.bank_walks.specs.declared.postings.StoredPosting.{StoredPosting}
+use Rattle.bank_walks.specs.declared.requests.StoredRequest.{StoredRequest}
+use Rattle.bank_walks.specs.declared.joined.Joined.{Joined}
 use Rattle.bank_reports.specs.Added.{IsSum, HasBeside, HasBranches, HasTellers}
 use Rattle.bank_reports.specs.Audit.{account_balance}
 use Rattle.bank_reports.specs.Beside.{AuditRows}
@@ -29,6 +32,18 @@ with_branches rows branches = record rows { branches = branches }
 
 abbrev pub with_accounts : AuditRows → List StoredAccount → AuditRows
 with_accounts rows accounts = record rows { accounts = accounts }
+
+-- a row and what stands beside it
+abbrev pub both : {R O : Type 0} → Joined R O → R × Option O
+both j = (j.stored, j.beside)
+
+-- each with the posting of its ordinal
+abbrev pub with_requests : AuditRows → List (Joined StoredRequest StoredPosting) → AuditRows
+with_requests rows asked = record rows { requests = map both asked }
+
+-- each with the request of its ordinal
+abbrev pub with_history : AuditRows → List (Joined StoredPosting StoredRequest) → AuditRows
+with_history rows posted = record rows { history = map both posted }
 
 -- where there are so many rows with lesser keys, all of them above 0, a row with this key is behind them
 abbrev pub IsBehind : ℕ → ℤ → Type 0

@@ -4,3 +4,4 @@ pub mod Postings
 pub mod Behind
 pub mod Files
 pub mod Adding
+pub mod Differing

@@ -1,6 +1,7 @@
 //! The audit of a bank in a file, and the statement of one of its accounts.
 #![tactic(auto)]
 
+mod adding;
 mod fault;
 mod gathering;
 mod lines;

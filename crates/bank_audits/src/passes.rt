@@ -6,20 +6,24 @@ ghost use Rattle.posting_rules.specs.declared.fault.Fault.TheVariants.{Damaged, 
 ghost use Rattle.posting_rules.specs.declared.fault.Rule.{Rule as Broken};
 ghost use Rattle.posting_rules.specs.declared.fault.Rule.TheVariants as rule;
 ghost use Rattle.sql_meanings.specs.Entries.{Entry};
-ghost use Rattle.store_rows.specs.SixTables.{account as account_table, branch as branch_table, teller as teller_table};
+ghost use Rattle.store_rows.specs.SixTables.{account as account_table, branch as branch_table, history as history_table, request as request_table, teller as teller_table};
+ghost use Rattle.bank_walks.specs.Pairs.{HasPairs, Pair};
 ghost use Rattle.bank_walks.specs.Rows.{HasRows};
-ghost use Rattle.bank_walks.specs.Stored.{account_entry, branch_entry, teller_entry, IsNoAccount, IsNoBranch, IsNoTeller};
+ghost use Rattle.bank_walks.specs.Stored.{account_entry, asked_pair, branch_entry, posted_pair, teller_entry, IsNoAccount, IsNoAsked, IsNoBranch, IsNoPosted, IsNoTeller};
 ghost use Rattle.bank_walks.specs.declared.accounts.StoredAccount.{StoredAccount as ReadAccount};
 ghost use Rattle.bank_walks.specs.declared.branches.StoredBranch.{StoredBranch as ReadBranch};
 ghost use Rattle.bank_walks.specs.declared.tellers.StoredTeller.{StoredTeller as ReadTeller};
+ghost use Rattle.bank_walks.specs.declared.postings.StoredPosting.{StoredPosting as ReadPosting};
+ghost use Rattle.bank_walks.specs.declared.requests.StoredRequest.{StoredRequest as ReadRequest};
+ghost use Rattle.bank_walks.specs.declared.joined.Joined.{Joined as Beside};
 ghost use Rattle.bank_reports.specs.Beside.{AuditRows};
 ghost use Rattle.bank_store.specs.Seen.{connection_of, database_of, fault_of};
-ghost use Rattle.bank_audits.specs.Adding.{Adds, HasSums, IsPassed, with_accounts, with_branches, with_tellers};
+ghost use Rattle.bank_audits.specs.Adding.{Adds, HasSums, IsPassed, with_accounts, with_branches, with_history, with_requests, with_tellers};
 ghost use Rattle.bank_audits.specs.Files.{HasBroken};
 
 use crate::gathering::add_rows;
 use crate::sums::Sums;
-use bank_store::{Bank, each_account, each_branch, each_teller};
+use bank_store::{Bank, each_account, each_branch, each_history, each_request, each_teller};
 use posting_rules::Fault;
 use sqlite::Alter;
 
@@ -71,5 +75,39 @@ pub(crate) fn add_accounts<S: Alter>(bank: &mut Bank<S>, sums: &mut Sums) -> Res
     ensures up { fault_of bank.new ≡ fault_of bank.old }
 {
     let mut walk = each_account(bank)?;
+    add_rows(&mut walk, sums)
+}
+
+/// Adds the requests, each with the posting of its ordinal, if there is one.
+pub(crate) fn add_requests<S: Alter>(bank: &mut Bank<S>, sums: &mut Sums) -> Result<(), Fault>
+    requires { (rows : AuditRows) × HasSums sums.old (with_requests rows []) }
+    ensures added { IfOk result (λ _. (given : List (Beside ReadRequest ReadPosting)) × Adds with_requests sums.old sums.new given
+        × (HasCleanDisk (state S.Store (connection_of bank.new)) → (pairs : List Pair)
+        → HasPairs (database_of S.Store bank.old) request_table history_table pairs → map asked_pair given ≡ pairs)) }
+    ensures damaged { (broken : Broken) → result ≡ Err (Damaged broken)
+        → HasCleanDisk (state S.Store (connection_of bank.new)) → (pairs : List Pair)
+        → HasPairs (database_of S.Store bank.old) request_table history_table pairs → (broken ≡ rule.Value) × HasBroken IsNoAsked pairs }
+    ensures frugal { result ≢ Err Memory }
+    ensures passed { IsPassed (state S.Store (connection_of bank.old)) (state S.Store (connection_of bank.new)) result }
+    ensures up { fault_of bank.new ≡ fault_of bank.old }
+{
+    let mut walk = each_request(bank)?;
+    add_rows(&mut walk, sums)
+}
+
+/// Adds the postings, each with the request of its ordinal, if there is one.
+pub(crate) fn add_history<S: Alter>(bank: &mut Bank<S>, sums: &mut Sums) -> Result<(), Fault>
+    requires { (rows : AuditRows) × HasSums sums.old (with_history rows []) }
+    ensures added { IfOk result (λ _. (given : List (Beside ReadPosting ReadRequest)) × Adds with_history sums.old sums.new given
+        × (HasCleanDisk (state S.Store (connection_of bank.new)) → (pairs : List Pair)
+        → HasPairs (database_of S.Store bank.old) history_table request_table pairs → map posted_pair given ≡ pairs)) }
+    ensures damaged { (broken : Broken) → result ≡ Err (Damaged broken)
+        → HasCleanDisk (state S.Store (connection_of bank.new)) → (pairs : List Pair)
+        → HasPairs (database_of S.Store bank.old) history_table request_table pairs → (broken ≡ rule.Value) × HasBroken IsNoPosted pairs }
+    ensures frugal { result ≢ Err Memory }
+    ensures passed { IsPassed (state S.Store (connection_of bank.old)) (state S.Store (connection_of bank.new)) result }
+    ensures up { fault_of bank.new ≡ fault_of bank.old }
+{
+    let mut walk = each_history(bank)?;
     add_rows(&mut walk, sums)
 }

@@ -4,7 +4,9 @@ ghost use Rattle.bank_reports.specs.Beside.{AuditRows, audit_of_rows, no_rows};
 ghost use Rattle.bank_audits.specs.Adding.{HasSums, IsBehind};
 
 use bank_reports::{Audit, BranchSums, MOST_ROWS, OrdinalSums, Sum, TellerSums, audit_of_sums};
-use bank_walks::{StoredAccount, StoredBranch, StoredTeller, WalkedRow};
+use bank_walks::{
+    Joined, StoredAccount, StoredBranch, StoredPosting, StoredRequest, StoredTeller, WalkedRow,
+};
 use std::alloc::{AllocError, Global};
 
 /// What the rows of a bank add up to.
@@ -88,5 +90,29 @@ impl Summed for StoredAccount {
     fn add_to(self, sums: &mut Sums) {
         let _number = self.account.get();
         sums.accounts = sums.accounts.plus(self.balance);
+    }
+}
+
+impl Summed for Joined<StoredRequest, StoredPosting> {
+    ghost use Rattle.bank_audits.specs.Adding.{with_requests};
+
+    ghost with_rows = { with_requests };
+
+    fn add_to(self, sums: &mut Sums) {
+        let Joined { stored, beside } = self;
+        let _number = stored.ordinal.get();
+        sums.ordinals.add_request(stored, beside);
+    }
+}
+
+impl Summed for Joined<StoredPosting, StoredRequest> {
+    ghost use Rattle.bank_audits.specs.Adding.{with_history};
+
+    ghost with_rows = { with_history };
+
+    fn add_to(self, sums: &mut Sums) {
+        let Joined { stored, beside } = self;
+        let _number = stored.ordinal.get();
+        sums.ordinals.add_posting(stored, beside);
     }
 }
