@@ -12,3 +12,5 @@ pub mod Gathered
 pub mod Read
 pub mod Passed
 pub mod Broken
+pub mod OncePosted
+pub mod LogFiles

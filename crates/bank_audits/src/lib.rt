@@ -2,6 +2,7 @@
 #![tactic(auto)]
 
 mod adding;
+mod auditing;
 mod fault;
 mod gathering;
 mod lines;
@@ -10,5 +11,6 @@ mod postings;
 mod statement;
 mod sums;
 
+pub use auditing::audit;
 pub use fault::ReportFault;
 pub use statement::write_statement;
