@@ -1,6 +1,6 @@
 -- The file of a bank that shows a log.
 use Rattle.std.proofs.Common.{◌≡◌, ◌≤◌, ◌<◌, ◌++◌, ◌∙◌, ◌⊎◌, ℕ, ℤ, pos, Bool, true, false, List, [], ◌∷◌, map, Less, int_cmp, refl, sym, ap, subst, inl, inr, arith}
-use Rattle.std.specs.Prelude.{nat_eq}
+use Rattle.std.specs.Prelude.{nat_eq, IsTrue}
 use Rattle.std.specs.List.{AllByRecursion, Contains, IsDistinct}
 use Rattle.std.proofs.lemmas.Bool.{cases_Bool, eqb-true}
 use Rattle.std.proofs.lemmas.Int.{ints}
@@ -9,7 +9,8 @@ use Rattle.std.proofs.lemmas.Map.Keys.{IsDistinct-cons}
 use Rattle.sqlite.specs.Effect.{Database}
 use Rattle.posting_rules.specs.Commands.{Command, AreCommands}
 use Rattle.posting_rules.specs.Damage.{IsUndamaged}
-use Rattle.posting_rules.specs.Tables.{Tables, Shows}
+use Rattle.posting_rules.specs.Laws.{IsConsistent}
+use Rattle.posting_rules.specs.Tables.{Tables, Shows, history_key, request_key}
 use Rattle.posting_rules.proofs.Consistent.{consistent}
 use Rattle.posting_rules.proofs.Undamaged.{undamaged}
 use Rattle.sql_meanings.specs.Entries.{Entry, Rise}
@@ -69,6 +70,14 @@ has_file db t shows = record {
   history = subst (HasRows db six.history) (twice posting_stored posting_entry view.history_entry (λ r. refl) t.history) (has_history db t shows);
   requests = subst (HasRows db six.request) (twice request_stored request_entry view.request_entry (λ r. refl) t.requests) (has_requests db t shows);
 }
+
+-- the audit of a bank's tables says that they are consistent exactly where they are
+pub tells_in_file : (db : Database) (t : Tables) → ShowsIn db t → (IsTrue (is_sound (audit_of (stored t))) → IsConsistent t) × (IsConsistent t → IsTrue (is_sound (audit_of (stored t))))
+tells_in_file db t shows =
+    let keys = has_ordinals db (stored t) (has_file db t shows) in
+    tells_of_tables t
+    (subst (IsDistinct nat_eq) (sym (twice posting_stored posting_ordinal history_key (λ r. refl) t.history)) keys.history)
+    (subst (IsDistinct nat_eq) (sym (twice request_stored request_ordinal request_key (λ r. refl) t.requests)) keys.requests)
 
 -- the audit of a log's tables says that they are consistent
 pub balanced : (t : Tables) (log : List Command) → Shows t log → is_sound (audit_of (stored t)) ≡ true

@@ -21,13 +21,13 @@ row_apart t n [] o r none row ts ns = absurd cc
 row_apart t n (e ∷ es) o r none row ts ns = elim (cases_Bool ((e.request.teller == t) && (e.request.number == n))) [
   | inl p ↦ absurd (let g = rw p at none in cc)
   | inr f ↦ elim (cases_Bool (length es + 1 == o)) [
-      | inl q ↦
-          let is : request_row_of o e ≡ r = (let g = rw q at row in cc) in
-          let same : ((e.request.teller == t) && (e.request.number == n)) ≡ true =
-              rw (eq-eqb e.request.teller t (ap (λ (x : RequestRow). x.teller) is ∙ ts), eq-eqb e.request.number n (ap (λ (x : RequestRow). x.number) is ∙ ns)) refl in
-          absurd (let g = sym same ∙ f in cc)
-      | inr q ↦ row_apart t n es o r (rw f at none) (rw q at row) ts ns
-    ]
+    | inl q ↦
+        let is : request_row_of o e ≡ r = (let g = rw q at row in cc) in
+        let same : ((e.request.teller == t) && (e.request.number == n)) ≡ true =
+        rw (eq-eqb e.request.teller t (ap (λ (x : RequestRow). x.teller) is ∙ ts), eq-eqb e.request.number n (ap (λ (x : RequestRow). x.number) is ∙ ns)) refl in
+        absurd (let g = sym same ∙ f in cc)
+    | inr q ↦ row_apart t n es o r (rw f at none) (rw q at row) ts ns
+  ]
 ]
 
 -- rows that have both stand under one ordinal
@@ -43,12 +43,12 @@ one_ordinal (e ∷ es) new o p a b xs ys ts ns = elim (cases_Bool (length es + 1
             (sym ts ∙ ap (λ (x : RequestRow). x.teller) (sym is)) (sym ns ∙ ap (λ (x : RequestRow). x.number) (sym is)))
       ]
   | inr q ↦ elim (cases_Bool (length es + 1 == p)) [
-      | inl s ↦
-          let is : request_row_of p e ≡ b = (let g = rw s at ys in cc) in
-          absurd (row_apart e.request.teller e.request.number es o a new.0 (rw q at xs)
-          (ts ∙ ap (λ (x : RequestRow). x.teller) (sym is)) (ns ∙ ap (λ (x : RequestRow). x.number) (sym is)))
-      | inr s ↦ one_ordinal es new.1 o p a b (rw q at xs) (rw s at ys) ts ns
-    ]
+    | inl s ↦
+        let is : request_row_of p e ≡ b = (let g = rw s at ys in cc) in
+        absurd (row_apart e.request.teller e.request.number es o a new.0 (rw q at xs)
+        (ts ∙ ap (λ (x : RequestRow). x.teller) (sym is)) (ns ∙ ap (λ (x : RequestRow). x.number) (sym is)))
+    | inr s ↦ one_ordinal es new.1 o p a b (rw q at xs) (rw s at ys) ts ns
+  ]
 ]
 
 module _ (es : List Entry) (new : AreNew es) where
@@ -58,9 +58,10 @@ module _ (es : List Entry) (new : AreNew es) where
   apart : (r : RequestRow) → IsRow r → (rs : List RequestRow) → AllByRecursion IsRow rs → AllByRecursion (λ k. nat_eq r.ordinal k ≡ false) (map request_key rs)
       → AllByRecursion (DifferIfPosted r) rs
   apart r row [] all away = tt
-  apart r row (x ∷ rs) all away =
-      (λ posted also ts ns. let same = eq-eqb r.ordinal x.ordinal (one_ordinal es new r.ordinal x.ordinal r x row all.0 ts ns) in (let g = sym same ∙ away.0 in cc),
-      apart r row rs all.1 away.1)
+  apart r row (x ∷ rs) all away = (
+    λ posted also ts ns. let same = eq-eqb r.ordinal x.ordinal (one_ordinal es new r.ordinal x.ordinal r x row all.0 ts ns) in (let g = sym same ∙ away.0 in cc),
+    apart r row rs all.1 away.1,
+  )
 
   each_once : (rs : List RequestRow) → AllByRecursion IsRow rs → IsDistinct nat_eq (map request_key rs) → AllPairs DifferIfPosted rs
   each_once [] all keys = λ i j d lt within. absurd (omega arith)

@@ -5,11 +5,12 @@ ghost use Rattle.posting_rules.specs.declared.fault.Fault.TheVariants.{Damaged, 
 ghost use Rattle.posting_rules.specs.declared.fault.Rule.{Rule as Broken};
 ghost use Rattle.posting_rules.specs.declared.fault.Rule.TheVariants as rule;
 ghost use Rattle.posting_rules.specs.Commands.{Command as Given};
+ghost use Rattle.posting_rules.specs.Laws.{IsConsistent};
 ghost use Rattle.posting_rules.specs.Counter.{LeavesOnly, ShowsLog, StandsAt, Takes};
 ghost use Rattle.posting_rules.specs.Tables.{Shows, Tables};
 ghost use Rattle.bank_reports.specs.Audit.{audit_of, is_sound};
 ghost use Rattle.bank_reports.specs.Consistency.{IsSoundFile};
-ghost use Rattle.bank_reports.specs.Stored.{StoredTables};
+ghost use Rattle.bank_reports.specs.Stored.{StoredTables, stored};
 ghost use Rattle.bank_store.specs.Seen.{bank_seen, connection_of, database_of, fault_of};
 ghost use Rattle.bank_audits.specs.Differing.{EachPostedOnce};
 ghost use Rattle.bank_audits.specs.Files.{FileRows, HasBrokenRow, HasFile, rows_in};
@@ -29,6 +30,11 @@ pub fn audit<S: Alter>(bank: &mut Bank<S>) -> Result<Audit, Fault>
         → IfOk result (λ told. (t : StoredTables) × (rows_in t ≡ f) × (told ≡ audit_of t)) }
     ensures consistent { (bank_seen S.Store bank.new).honest → (t : StoredTables)
         → HasFile (database_of S.Store bank.old) (rows_in t) → IfOk result (λ told. IsTrue (is_sound told) ↔ IsSoundFile t) }
+    // Of a bank's tables, be they of a log or not, it is theirs, and tells whether they are consistent.
+    ensures tables { (bank_seen S.Store bank.new).honest → (t : Tables) → (bank_seen S.Store bank.old).tables t
+        → IfOk result (λ told. told ≡ audit_of (stored t)) }
+    ensures condition { (bank_seen S.Store bank.new).honest → (t : Tables) → (bank_seen S.Store bank.old).tables t
+        → IfOk result (λ told. IsTrue (is_sound told) ↔ IsConsistent t) }
     // A bank that shows a log is consistent.
     ensures balanced { (bank_seen S.Store bank.new).honest → (log : List Given) → ShowsLog (bank_seen S.Store bank.old) log
         → IfOk result (λ told. IsTrue (is_sound told)) }

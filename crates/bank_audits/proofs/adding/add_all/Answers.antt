@@ -186,8 +186,7 @@ returns-clause-added g c clean f has =
     let bs = a1.2 k2 f.branches h1.branches in
     let acs = a2.2 k3 f.accounts h2.accounts in
     let rs = a3.2 k4 (paired f.history f.requests) (asked_in _ f h3) in
-    let hs = a4.2 k5 (paired f.requests f.history) (posted_in _ f h4) in
-    (
+    let hs = a4.2 k5 (paired f.requests f.history) (posted_in _ f h4) in (
       read a0.0 a1.0 a2.0 a3.0 a4.0,
       read_is a0.0 a1.0 a2.0 a3.0 a4.0 f ts bs acs rs hs,
       read_sums a0.0 a1.0 a2.0 a3.0 a4.0 f ts bs acs rs hs c.add_history.new.sums

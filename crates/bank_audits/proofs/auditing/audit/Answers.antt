@@ -3,6 +3,7 @@ use Rattle.std.proofs.Common.{rules, ◌≡◌, Err, refl, sym, ap, subst, ◌�
 use Rattle.std.specs.Prelude.{◌↔◌, IsTrue}
 use Rattle.sqlite.specs.State.{HasCleanDisk}
 use Rattle.sqlite.specs.Held.{state}
+use Rattle.posting_rules.specs.Laws.{IsConsistent}
 use Rattle.bank_reports.specs.Audit.{audit_of, is_sound}
 use Rattle.bank_reports.specs.Beside.{rows_of}
 use Rattle.bank_reports.specs.Consistency.{IsSoundFile}
@@ -13,7 +14,7 @@ use Rattle.posting_rules.specs.declared.fault.Fault.TheVariants.{Damaged}
 use Rattle.bank_audits.proofs.Further.{error_is}
 use Rattle.bank_store.specs.Seen.{database_of}
 use Rattle.bank_audits.specs.Files.{rows_in}
-use Rattle.bank_audits.proofs.LogFiles.{balanced, has_file, has_ordinals, not_damaged}
+use Rattle.bank_audits.proofs.LogFiles.{balanced, has_file, has_ordinals, not_damaged, tells_in_file}
 use Rattle.bank_audits.proofs.OncePosted.{posted_once}
 use Rattle.bank_audits.proofs.Read.{one_file}
 use Rattle.bank_audits.proofs.auditing.audit.Goals as goal
@@ -55,3 +56,17 @@ returns-clause-balanced g c clean log s =
 
 pub returns-clause-once : goal.returns-clause-once
 returns-clause-once g c clean log t there shows = posted_once t log shows
+
+pub returns-clause-tables : goal.returns-clause-tables
+returns-clause-tables g c clean t shown =
+    let late : HasCleanDisk (state g.S.Store c.add_all.new.bank.conn) = search rules in
+    let it = c.in_ok-add_all.ensures.added late (rows_in (stored t)) (has_file (database_of g.S.Store c.args.bank.now) t shown) in
+    c.into_audit.ensures (rows_of it.0) it.2 ∙ rows_tell it.0 ∙ ap audit_of (one_file it.0 (stored t) it.1)
+
+pub returns-clause-condition : goal.returns-clause-condition
+returns-clause-condition g c clean t shown =
+    let late : HasCleanDisk (state g.S.Store c.add_all.new.bank.conn) = search rules in
+    let db = database_of g.S.Store c.args.bank.now in
+    let it = c.in_ok-add_all.ensures.added late (rows_in (stored t)) (has_file db t shown) in
+    let same : c.into_audit.result ≡ audit_of (stored t) = c.into_audit.ensures (rows_of it.0) it.2 ∙ rows_tell it.0 ∙ ap audit_of (one_file it.0 (stored t) it.1) in
+    subst (λ told. IsTrue (is_sound told) ↔ IsConsistent t) (sym same) (tells_in_file db t shown)

@@ -30,11 +30,13 @@ returns-in_err-row-clause-damaged g c broken is clean all has =
     let same : c.from_residual.result ≡ Err c.in_err-row.field-0.0 = search rules in
     let fault : c.in_err-row.field-0.0 ≡ Damaged broken = error_is c.in_err-row.field-0.0 (Damaged broken) (sym same ∙ is) in
     let there = subst (λ db. g.R.WalkedRow.HasItems db all) (sym (c.rows.invariant.still before).0) has in
-    let told = rw fault at (c.in_err-row.ensures.told late all there) in
-    (told.0, broken_row g.R.WalkedRow.item g.R.WalkedRow.HasItems g.R.Summed.with_rows old.now (HasCleanDisk mid) (HasCleanDisk mid) c.args.sums.now c.rows.sums
-      (λ all. items_to_come g.R.WalkedRow.key g.R.WalkedRow.item g.R.WalkedRow.is_given all c.args.walk.now)
-      (λ all. items_to_come g.R.WalkedRow.key g.R.WalkedRow.item g.R.WalkedRow.is_given all c.rows.walk) c.rows.counter (λ b. b) c.rows.invariant.gathered
-      g.R.WalkedRow.is_broken before all has told.1.0 told.1.1 told.1.2 told.1.3)
+    let told = rw fault at (c.in_err-row.ensures.told late all there) in (
+      told.0,
+      broken_row g.R.WalkedRow.item g.R.WalkedRow.HasItems g.R.Summed.with_rows old.now (HasCleanDisk mid) (HasCleanDisk mid) c.args.sums.now c.rows.sums
+          (λ all. items_to_come g.R.WalkedRow.key g.R.WalkedRow.item g.R.WalkedRow.is_given all c.args.walk.now)
+          (λ all. items_to_come g.R.WalkedRow.key g.R.WalkedRow.item g.R.WalkedRow.is_given all c.rows.walk) c.rows.counter (λ b. b) c.rows.invariant.gathered
+          g.R.WalkedRow.is_broken before all has told.1.0 told.1.1 told.1.2 told.1.3,
+    )
 
 pub returns-in_err-row-clause-passed : goal.returns-in_err-row-clause-passed
 returns-in_err-row-clause-passed g c =
@@ -47,14 +49,17 @@ returns-in_default-clause-added g c =
     let old = state g.S.Store c.args.walk.now.bank.now.conn in
     let mid = state g.S.Store c.rows.walk.bank.now.conn in
     let new = state g.S.Store c.next.new.self.bank.now.conn in
-    let it = c.rows.invariant.gathered in
-    (it.given, it.added, λ clean all has.
-      let before : HasCleanDisk mid = omega (arith, c.next.ensures.survives.clean, clean) in
-      let there = subst (λ db. g.R.WalkedRow.HasItems db all) (sym (c.rows.invariant.still before).0) has in
-      let told = rw c.in_default.is at (c.in_ok-row.ensures.told clean all there) in
-      all_given g.R.WalkedRow.item g.R.WalkedRow.HasItems g.R.Summed.with_rows old.now (HasCleanDisk mid) (HasCleanDisk mid) c.args.sums.now c.rows.sums
-      (λ all. items_to_come g.R.WalkedRow.key g.R.WalkedRow.item g.R.WalkedRow.is_given all c.args.walk.now)
-      (λ all. items_to_come g.R.WalkedRow.key g.R.WalkedRow.item g.R.WalkedRow.is_given all c.rows.walk) c.rows.counter (λ b. b) it before all has told.0)
+    let it = c.rows.invariant.gathered in (
+      it.given,
+      it.added,
+      λ clean all has.
+          let before : HasCleanDisk mid = omega (arith, c.next.ensures.survives.clean, clean) in
+          let there = subst (λ db. g.R.WalkedRow.HasItems db all) (sym (c.rows.invariant.still before).0) has in
+          let told = rw c.in_default.is at (c.in_ok-row.ensures.told clean all there) in
+          all_given g.R.WalkedRow.item g.R.WalkedRow.HasItems g.R.Summed.with_rows old.now (HasCleanDisk mid) (HasCleanDisk mid) c.args.sums.now c.rows.sums
+          (λ all. items_to_come g.R.WalkedRow.key g.R.WalkedRow.item g.R.WalkedRow.is_given all c.args.walk.now)
+          (λ all. items_to_come g.R.WalkedRow.key g.R.WalkedRow.item g.R.WalkedRow.is_given all c.rows.walk) c.rows.counter (λ b. b) it before all has told.0,
+    )
 
 pub returns-in_default-clause-passed : goal.returns-in_default-clause-passed
 returns-in_default-clause-passed g c =
@@ -66,9 +71,12 @@ add_to-requires g c =
     let it = c.rows.invariant.gathered in
     let along = c.rows.invariant.along in
     let rises = rw c.in-Some.is at (c.in_ok-row.ensures.rises along.next along.comes) in
-    let key = g.R.WalkedRow.key (g.R.WalkedRow.item c.in-Some.row) in
-    (c.requires.has.0, it.given, it.added c.requires.has.0 c.requires.has.1,
-    subst (λ (n : ℕ). IsBehind n key) (sym it.many) (behind_row (λ k. ComesFrom (λ r. g.R.WalkedRow.key (g.R.WalkedRow.item r)) k c.rows.walk) (λ k. Unit {0}) c.rows.counter key along rises.0))
+    let key = g.R.WalkedRow.key (g.R.WalkedRow.item c.in-Some.row) in (
+      c.requires.has.0,
+      it.given,
+      it.added c.requires.has.0 c.requires.has.1,
+      subst (λ (n : ℕ). IsBehind n key) (sym it.many) (behind_row (λ k. ComesFrom (λ r. g.R.WalkedRow.key (g.R.WalkedRow.item r)) k c.rows.walk) (λ k. Unit {0}) c.rows.counter key along rises.0),
+    )
 
 pub rows-preserved : goal.rows-preserved
 rows-preserved g c =

@@ -19,7 +19,11 @@ returns-clause-damaged g c broken is clean pairs has =
     (it.0, subst (λ all. HasBroken IsNoAsked all) (c.in_ok-walk.ensures.all pairs has) it.1)
 
 pub returns-clause-added : goal.returns-clause-added
-returns-clause-added g c = IfOk-weaker c.add_rows.result _ _ (λ done it. (it.0, it.1, λ clean pairs has.
-    let late : HasCleanDisk (state g.S.Store c.add_rows.new.walk.bank.now.conn) = search rules in
-    let there = subst (λ bank. HasPairs (database_of g.S.Store bank) request_table history_table pairs) (sym c.in_ok-walk.ensures.same) has in
-    it.2 late pairs there ∙ c.in_ok-walk.ensures.all pairs has)) c.add_rows.ensures.added
+returns-clause-added g c = IfOk-weaker c.add_rows.result _ _ (λ done it. (
+  it.0,
+  it.1,
+  λ clean pairs has.
+      let late : HasCleanDisk (state g.S.Store c.add_rows.new.walk.bank.now.conn) = search rules in
+      let there = subst (λ bank. HasPairs (database_of g.S.Store bank) request_table history_table pairs) (sym c.in_ok-walk.ensures.same) has in
+      it.2 late pairs there ∙ c.in_ok-walk.ensures.all pairs has,
+)) c.add_rows.ensures.added
