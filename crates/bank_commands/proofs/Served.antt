@@ -12,7 +12,7 @@ use Rattle.bank_endings.specs.declared.fault.CommandFault.TheVariants.{Write}
 use Rattle.bank_endings.specs.declared.status.Status.{Status}
 use Rattle.bank_words.specs.Words.{AskToServe, IsSpelledBy}
 use Rattle.bank_words.specs.declared.reading.Command.{Command}
-use Rattle.bank_words.specs.declared.reading.Command.TheVariants.{Drive, Init, Load, Post, Serve, Statement}
+use Rattle.bank_words.specs.declared.reading.Command.TheVariants.{Audit, Drive, Init, Load, Post, Serve, Statement}
 use Rattle.bank_words.proofs.Getters.{apart}
 use Rattle.bank_commands.specs.Running.{Ends, MayTellListening, TellsListening}
 
@@ -32,6 +32,7 @@ pub served_by : (words : List Text) (asked : AskToServe words) (command : Comman
 served_by words asked (Init f) status old new spelled ends = absurd (others words asked _ spelled refl)
 served_by words asked (Load f p) status old new spelled ends = absurd (others words asked _ spelled refl)
 served_by words asked (Post f) status old new spelled ends = absurd (others words asked _ spelled refl)
+served_by words asked (Audit f) status old new spelled ends = absurd (others words asked _ spelled refl)
 served_by words asked (Statement f n) status old new spelled ends = absurd (others words asked _ spelled.1 refl)
 served_by words asked (Drive f s n) status old new spelled ends = absurd (others words asked _ spelled.2 refl)
 served_by words asked (Serve f a n) status old new spelled ends = ends.1
