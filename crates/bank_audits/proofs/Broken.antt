@@ -1,5 +1,5 @@
 -- A broken row of one table is one of the file.
-use Rattle.std.proofs.Common.{◌⊎◌, inl, inr}
+use Rattle.std.proofs.Common.{inl, inr}
 use Rattle.bank_walks.specs.Pairs.{paired}
 use Rattle.bank_walks.specs.Stored.{IsNoAccount, IsNoAsked, IsNoBranch, IsNoPosted, IsNoPosting, IsNoRequest, IsNoTeller}
 use Rattle.bank_audits.specs.Files.{FileRows, HasBroken, HasBrokenRow}

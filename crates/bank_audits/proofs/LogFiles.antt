@@ -1,11 +1,10 @@
 -- The file of a bank that shows a log.
-use Rattle.std.proofs.Common.{◌≡◌, ◌≤◌, ◌<◌, ◌++◌, ◌∙◌, ◌⊎◌, ℕ, ℤ, pos, Bool, true, false, List, [], ◌∷◌, map, Less, int_cmp, refl, sym, ap, subst, inl, inr, arith}
+use Rattle.std.proofs.Common.{◌≡◌, ◌<◌, ◌∙◌, ℕ, pos, true, false, List, [], ◌∷◌, map, Less, int_cmp, refl, sym, ap, subst, inl, inr, arith}
 use Rattle.std.specs.Prelude.{nat_eq, IsTrue}
 use Rattle.std.specs.List.{AllByRecursion, Contains, IsDistinct}
 use Rattle.std.proofs.lemmas.Bool.{cases_Bool, eqb-true}
 use Rattle.std.proofs.lemmas.Int.{ints}
 use Rattle.std.proofs.lemmas.List.Elements.{All-contains_itself, recursion_from_All}
-use Rattle.std.proofs.lemmas.Map.Keys.{IsDistinct-cons}
 use Rattle.sqlite.specs.Effect.{Database}
 use Rattle.posting_rules.specs.Commands.{Command, AreCommands}
 use Rattle.posting_rules.specs.Damage.{IsUndamaged}
@@ -24,9 +23,8 @@ use Rattle.bank_reports.specs.Audit.{audit_of, is_sound, posting_ordinal, reques
 use Rattle.bank_reports.specs.Consistency.{HasOrdinals}
 use Rattle.bank_reports.specs.Stored.{StoredTables, account_stored, branch_stored, posting_stored, request_stored, stored, teller_stored}
 use Rattle.bank_reports.proofs.OfTables.{tells_of_tables}
-use Rattle.bank_audits.specs.Files.{FileRows, HasBroken, HasBrokenRow, HasFile, rows_in}
+use Rattle.bank_audits.specs.Files.{HasBroken, HasBrokenRow, HasFile, rows_in}
 use Rattle.bank_audits.proofs.Passed.{split_map}
-use Rattle.bank_audits.proofs.RisingRows.{all_as}
 use Rattle.bank_audits.proofs.Told.{all_behind, outside_none}
 
 -- ---- keys that rise are distinct

@@ -1,5 +1,5 @@
 -- Passes over the tables of a file, one after another.
-use Rattle.std.proofs.Common.{◌≡◌, ◌++◌, ◌⊎◌, Bool, List, [], ◌∷◌, map, find, Option, Some, None, Result, Ok, Err, refl, sym, ap, subst, ◌∙◌, inl, inr, arith}
+use Rattle.std.proofs.Common.{◌≡◌, ◌++◌, ◌⊎◌, Bool, List, [], ◌∷◌, map, find, Result, Ok, Err, refl, sym, ap, subst, inl, inr, arith}
 use Rattle.std.specs.Prelude.{IsSomeAnd, OnOk}
 use Rattle.std.proofs.lemmas.Bool.{cases_Bool}
 use Rattle.sqlite.specs.Effect.{Database}
@@ -8,7 +8,7 @@ use Rattle.posting_rules.specs.declared.fault.Fault.{Fault}
 use Rattle.sql_meanings.specs.Entries.{Entry}
 use Rattle.store_rows.specs.SixTables.{history as history_table, request as request_table}
 use Rattle.bank_store.specs.Walks.{IsStill}
-use Rattle.bank_walks.specs.Pairs.{BreaksPair, HasPairs, Pair, pair_with, paired}
+use Rattle.bank_walks.specs.Pairs.{BreaksPair, HasPairs, pair_with, paired}
 use Rattle.bank_audits.specs.Adding.{IsPassed}
 use Rattle.bank_audits.specs.Files.{FileRows, HasBroken, HasFile}
 use Rattle.bank_audits.proofs.Kept.{quiet_then, still_then, undone_then}

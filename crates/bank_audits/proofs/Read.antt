@@ -1,6 +1,6 @@
 -- The stored tables that were read of a file, each request and each posting beside the other of its ordinal.
-use Rattle.std.proofs.Common.{◌≡◌, ℕ, Bool, cond, List, [], ◌∷◌, ◌++◌, ◌==◌, map, find, Option, Some, None, refl, sym, ap, subst, ◌∙◌, inl, inr, arith}
-use Rattle.std.specs.Prelude.{ℤ, pos, nat_abs, option_map, IsSomeAnd}
+use Rattle.std.proofs.Common.{◌≡◌, ℕ, List, [], ◌∷◌, ◌==◌, map, Option, Some, None, refl, sym, ap, subst, ◌∙◌, inl, inr, arith}
+use Rattle.std.specs.Prelude.{ℤ, pos, nat_abs, option_map}
 use Rattle.std.specs.List.{AllByRecursion}
 use Rattle.std.specs.Ordering.{int_eq}
 use Rattle.std.proofs.lemmas.Bool.{cases_Bool}
@@ -13,7 +13,7 @@ use Rattle.bank_walks.specs.declared.tellers.StoredTeller.{StoredTeller}
 use Rattle.bank_walks.specs.declared.postings.StoredPosting.{StoredPosting}
 use Rattle.bank_walks.specs.declared.requests.StoredRequest.{StoredRequest}
 use Rattle.bank_walks.specs.declared.joined.Joined.{Joined}
-use Rattle.bank_walks.specs.Pairs.{Pair, pair_of, pair_with, paired, row_under}
+use Rattle.bank_walks.specs.Pairs.{pair_of, pair_with, paired, row_under}
 use Rattle.bank_walks.specs.Stored.{account_entry, asked_pair, branch_entry, number_behind, posted_pair, posting_entry, request_entry, teller_entry}
 use Rattle.bank_reports.specs.Added.{HasBeside}
 use Rattle.bank_reports.specs.Audit.{posting_ordinal, posting_under, request_ordinal, request_under}

@@ -1,12 +1,10 @@
 -- One pass after another.
-use Rattle.std.proofs.Common.{rules, ◌≡◌, Err, Ok, refl, sym, ◌∙◌, inl, inr}
+use Rattle.std.proofs.Common.{rules, ◌≡◌, Err, Ok, sym, ◌∙◌}
 use Rattle.sqlite.specs.State.{HasCleanDisk}
 use Rattle.sqlite.specs.Held.{state}
 use Rattle.bank_walks.specs.Pairs.{paired}
-use Rattle.bank_walks.specs.Stored.{IsNoPosting, IsNoRequest}
 use Rattle.bank_reports.specs.Beside.{no_rows}
 use Rattle.bank_audits.specs.Adding.{IsPassed, with_accounts, with_branches, with_requests, with_tellers}
-use Rattle.bank_audits.specs.Files.{HasBroken, HasBrokenRow}
 use Rattle.bank_audits.proofs.Broken.{broken_account, broken_asked, broken_branch, broken_posted, broken_teller}
 use Rattle.bank_audits.proofs.Passed.{asked_in, clean_mid, has_mid, passed_then, posted_in}
 use Rattle.bank_audits.proofs.Read.{read, read_is, read_sums}

@@ -1,14 +1,14 @@
 -- One more row, and what ends the walk.
-use Rattle.std.proofs.Common.{rules, ◌≡◌, ℕ, [], inl, Err, Ok, Some, None, refl, sym, ap, ◌∙◌, arith, subst}
-use Rattle.sqlite.specs.State.{HasCleanDisk, Survives}
+use Rattle.std.proofs.Common.{rules, ◌≡◌, ℕ, [], inl, Err, refl, sym, ◌∙◌, arith, subst}
+use Rattle.sqlite.specs.State.{HasCleanDisk}
 use Rattle.sqlite.specs.Held.{state}
 use Rattle.posting_rules.specs.declared.fault.Fault.TheVariants.{Damaged}
 use Rattle.bank_store.specs.Walking.{ComesFrom, items_to_come}
 use Rattle.bank_walks.specs.Rows.{LEAST}
-use Rattle.bank_audits.specs.Adding.{IsBehind, IsPassed}
+use Rattle.bank_audits.specs.Adding.{IsBehind}
 use Rattle.bank_audits.proofs.Further.{error_is}
-use Rattle.bank_audits.proofs.Gathered.{IsAlong, IsGathered, all_given, along_more, behind_row, broken_row, one_more_row, passed_err, passed_ok}
-use Rattle.bank_audits.proofs.Kept.{still_has, still_then, quiet_then}
+use Rattle.bank_audits.proofs.Gathered.{all_given, along_more, behind_row, broken_row, one_more_row, passed_err, passed_ok}
+use Rattle.bank_audits.proofs.Kept.{still_then, quiet_then}
 use Rattle.bank_audits.proofs.gathering.add_rows.Goals as goal
 
 pub rows-init : goal.rows-init
