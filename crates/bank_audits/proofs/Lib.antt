@@ -8,3 +8,9 @@ pub mod Kept
 pub mod Sections
 pub mod Told
 pub mod Standing
+pub mod Gathered
+pub mod Read
+pub mod Passed
+pub mod Broken
+pub mod OncePosted
+pub mod LogFiles

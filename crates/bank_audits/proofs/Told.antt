@@ -43,7 +43,7 @@ readable a (e ∷ es) sound = last (is_posted_to a e) (few_enough (e ∷ es) sou
         all-append IsReadable (postings_to a es) (posting_of (length es + 1) e ∷ []) earlier ((omega arith, omega (arith, few), sound.0.moment), tt)
     last false few earlier = earlier
 
-outside_none : (least most n : ℕ) → least ≤ n → n ≤ most → IsOutside least most (pos n) → ⊥
+pub outside_none : (least most n : ℕ) → least ≤ n → n ≤ most → IsOutside least most (pos n) → ⊥
 outside_none least most n low high (inl under) = omega (arith, ints, under)
 outside_none least most n low high (inr over) = omega (arith, ints, over)
 
@@ -51,7 +51,7 @@ not_broken : (r : StoredPosting) → IsReadable r → IsNoPosting (posting_entry
 not_broken r can (inl ordinal) = outside_none 1 MAX_DECIDED r.ordinal can.0 can.1 ordinal
 not_broken r can (inr moment) = outside_none 0 MAX_MOMENT r.moment (omega arith) can.2 moment
 
-all_behind : {X : Type 0} (P : X → Type 0) (xs ys : List X) → AllByRecursion P (xs ++ ys) → AllByRecursion P ys
+pub all_behind : {X : Type 0} (P : X → Type 0) (xs ys : List X) → AllByRecursion P (xs ++ ys) → AllByRecursion P ys
 all_behind P [] ys all = all
 all_behind P (x ∷ xs) ys all = all_behind P xs ys all.1
 

@@ -2,3 +2,6 @@
 pub mod Faults
 pub mod Postings
 pub mod Behind
+pub mod Files
+pub mod Adding
+pub mod Differing

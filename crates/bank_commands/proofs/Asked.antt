@@ -16,7 +16,7 @@ use Rattle.bank_endings.specs.declared.status.Status.{Status}
 use Rattle.bank_endings.specs.declared.status.Status.TheVariants.{Done, Input, System}
 use Rattle.bank_words.specs.Words.{AskToDrive, AskToInit, AskToLoad, AskToPost, IsSpelledBy, number_of}
 use Rattle.bank_words.specs.declared.reading.Command.{Command}
-use Rattle.bank_words.specs.declared.reading.Command.TheVariants.{Drive, Init, Load, Post, Serve, Statement}
+use Rattle.bank_words.specs.declared.reading.Command.TheVariants.{Audit, Drive, Init, Load, Post, Serve, Statement}
 use Rattle.bank_commands.specs.Running.{Does, DrivesIn, LoadsIn, MakesIn, ended_by, status_after}
 use Rattle.bank_commands.specs.Working.{IsUntouched, PostsIn}
 use Rattle.bank_commands.proofs.Driven.{word_at}
@@ -64,6 +64,7 @@ letter_for (Init file) = 105
 letter_for (Load file plan) = 108
 letter_for (Post file) = 112
 letter_for (Drive file seed count) = 100
+letter_for (Audit file) = 97
 letter_for (Statement file account) = 115
 letter_for (Serve file address connections) = 115
 
@@ -72,6 +73,7 @@ letter_of words (Init file) spelled = ap letter spelled
 letter_of words (Load file plan) spelled = ap letter spelled
 letter_of words (Post file) spelled = ap letter spelled
 letter_of words (Drive file seed count) spelled = ap letter spelled.2
+letter_of words (Audit file) spelled = ap letter spelled
 letter_of words (Statement file account) spelled = ap letter spelled.1
 letter_of words (Serve file address connections) spelled = ap letter spelled.1
 
@@ -86,6 +88,8 @@ module _ {C : Type 0} (seen : C → Seen) (image : Image) (r r' w w' k k' : Opti
       absurd (omega (arith, letter_of words (Post file) spelled, ap letter (ap (drop 1) asked.3)))
   made_by asked (Drive file seed count) result spelled does done =
       absurd (omega (arith, letter_of words (Drive file seed count) spelled, ap letter (ap (drop 1) asked.3)))
+  made_by asked (Audit file) result spelled does done =
+      absurd (omega (arith, letter_of words (Audit file) spelled, ap letter (ap (drop 1) asked.3)))
   made_by asked (Statement file account) result spelled does done =
       absurd (omega (arith, letter_of words (Statement file account) spelled, ap letter (ap (drop 1) asked.3)))
   made_by asked (Serve file address connections) result spelled does done =
@@ -102,6 +106,8 @@ module _ {C : Type 0} (seen : C → Seen) (image : Image) (r r' w w' k k' : Opti
       absurd (omega (arith, letter_of words (Post file) spelled, ap letter (ap (drop 1) asked.5)))
   loaded_by asked (Drive file seed count) result spelled does =
       absurd (omega (arith, letter_of words (Drive file seed count) spelled, ap letter (ap (drop 1) asked.5)))
+  loaded_by asked (Audit file) result spelled does =
+      absurd (omega (arith, letter_of words (Audit file) spelled, ap letter (ap (drop 1) asked.5)))
   loaded_by asked (Statement file account) result spelled does =
       absurd (omega (arith, letter_of words (Statement file account) spelled, ap letter (ap (drop 1) asked.5)))
   loaded_by asked (Serve file address connections) result spelled does =
@@ -125,6 +131,8 @@ module _ {C : Type 0} (seen : C → Seen) (image : Image) (r r' w w' k k' : Opti
       absurd (omega (arith, letter_of words (Load file plan) spelled, ap letter (ap (drop 1) asked.3)))
   posted_by asked (Drive file seed count) result spelled does =
       absurd (omega (arith, letter_of words (Drive file seed count) spelled, ap letter (ap (drop 1) asked.3)))
+  posted_by asked (Audit file) result spelled does =
+      absurd (omega (arith, letter_of words (Audit file) spelled, ap letter (ap (drop 1) asked.3)))
   posted_by asked (Statement file account) result spelled does =
       absurd (omega (arith, letter_of words (Statement file account) spelled, ap letter (ap (drop 1) asked.3)))
   posted_by asked (Serve file address connections) result spelled does =
@@ -147,6 +155,8 @@ module _ {C : Type 0} (seen : C → Seen) (image : Image) (r r' w w' k k' : Opti
       absurd (omega (arith, letter_of words (Load file plan) spelled, ap letter (ap (drop 1) asked.7)))
   driven_in asked (Post file) result spelled does =
       absurd (omega (arith, letter_of words (Post file) spelled, ap letter (ap (drop 1) asked.7)))
+  driven_in asked (Audit file) result spelled does =
+      absurd (omega (arith, letter_of words (Audit file) spelled, ap letter (ap (drop 1) asked.7)))
   driven_in asked (Statement file account) result spelled does =
       absurd (omega (arith, letter_of words (Statement file account) spelled, ap letter (ap (drop 1) asked.7)))
   driven_in asked (Serve file address connections) result spelled does =

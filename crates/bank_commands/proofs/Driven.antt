@@ -13,7 +13,7 @@ use Rattle.bank_endings.specs.declared.fault.CommandFault.{CommandFault}
 use Rattle.bank_endings.specs.declared.status.Status.{Status}
 use Rattle.bank_words.specs.Words.{AskToDrive, IsSpelledBy, number_of}
 use Rattle.bank_words.specs.declared.reading.Command.{Command}
-use Rattle.bank_words.specs.declared.reading.Command.TheVariants.{Drive, Init, Load, Post, Serve, Statement}
+use Rattle.bank_words.specs.declared.reading.Command.TheVariants.{Audit, Drive, Init, Load, Post, Serve, Statement}
 use Rattle.bank_words.proofs.Getters.{apart}
 use Rattle.bank_commands.specs.Running.{Ends, TellsDriven}
 
@@ -44,6 +44,7 @@ pub driven_by : (words : List Text) (asked : AskToDrive words) (command : Comman
 driven_by words asked (Init f) status old new spelled ends = absurd (others words asked _ spelled refl)
 driven_by words asked (Load f p) status old new spelled ends = absurd (others words asked _ spelled refl)
 driven_by words asked (Post f) status old new spelled ends = absurd (others words asked _ spelled refl)
+driven_by words asked (Audit f) status old new spelled ends = absurd (others words asked _ spelled refl)
 driven_by words asked (Statement f n) status old new spelled ends = absurd (others words asked _ spelled.1 refl)
 driven_by words asked (Serve f a n) status old new spelled ends = absurd (others words asked _ spelled.1 refl)
 driven_by words asked (Drive f seed count) status old new spelled ends =

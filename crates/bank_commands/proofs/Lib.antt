@@ -1,4 +1,5 @@
 pub mod Asked
+pub mod Audited
 pub mod Driven
 pub mod Endings
 pub mod Worked

@@ -14,7 +14,7 @@ use Rattle.bank_endings.specs.declared.fault.CommandFault.TheVariants.{Write}
 use Rattle.bank_endings.specs.declared.status.Status.{Status}
 use Rattle.bank_words.specs.Words.{AskToServe, IsSpelledBy, number_of}
 use Rattle.bank_words.specs.declared.reading.Command.{Command}
-use Rattle.bank_words.specs.declared.reading.Command.TheVariants.{Drive, Init, Load, Post, Serve, Statement}
+use Rattle.bank_words.specs.declared.reading.Command.TheVariants.{Audit, Drive, Init, Load, Post, Serve, Statement}
 use Rattle.bank_words.proofs.Getters.{apart}
 use Rattle.bank_commands.specs.Running.{Does, Ends, MayTellListening, ServesIn, TellsListening, status_after}
 use Rattle.bank_commands.proofs.Driven.{word_at}
@@ -36,6 +36,7 @@ pub served_by : (words : List Text) (asked : AskToServe words) (command : Comman
 served_by words asked (Init f) status old new spelled ends = absurd (others words asked _ spelled refl)
 served_by words asked (Load f p) status old new spelled ends = absurd (others words asked _ spelled refl)
 served_by words asked (Post f) status old new spelled ends = absurd (others words asked _ spelled refl)
+served_by words asked (Audit f) status old new spelled ends = absurd (others words asked _ spelled refl)
 served_by words asked (Statement f n) status old new spelled ends = absurd (others words asked _ spelled.1 refl)
 served_by words asked (Drive f s n) status old new spelled ends = absurd (others words asked _ spelled.2 refl)
 served_by words asked (Serve f a n) status old new spelled ends = ends.1
@@ -53,6 +54,7 @@ served_in seen image r r' w w' k k' words asked (Serve f a n) result spelled doe
 served_in seen image r r' w w' k k' words asked (Init f) result spelled does = absurd (others words asked _ spelled refl)
 served_in seen image r r' w w' k k' words asked (Load f p) result spelled does = absurd (others words asked _ spelled refl)
 served_in seen image r r' w w' k k' words asked (Post f) result spelled does = absurd (others words asked _ spelled refl)
+served_in seen image r r' w w' k k' words asked (Audit f) result spelled does = absurd (others words asked _ spelled refl)
 served_in seen image r r' w w' k k' words asked (Statement f n) result spelled does = absurd (others words asked _ spelled.1 refl)
 served_in seen image r r' w w' k k' words asked (Drive f s n) result spelled does = absurd (others words asked _ spelled.2 refl)
 

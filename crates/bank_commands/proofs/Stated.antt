@@ -14,7 +14,7 @@ use Rattle.bank_endings.specs.declared.status.Status.{Status}
 use Rattle.bank_endings.specs.declared.status.Status.TheVariants.{Done}
 use Rattle.bank_words.specs.Words.{AskForStatement, IsSpelledBy, number_of}
 use Rattle.bank_words.specs.declared.reading.Command.{Command}
-use Rattle.bank_words.specs.declared.reading.Command.TheVariants.{Drive, Init, Load, Post, Serve, Statement}
+use Rattle.bank_words.specs.declared.reading.Command.TheVariants.{Audit, Drive, Init, Load, Post, Serve, Statement}
 use Rattle.bank_words.proofs.Getters.{apart}
 use Rattle.bank_commands.specs.InFile.{IsFoundIn}
 use Rattle.bank_commands.specs.Running.{Does, done_after, stated_by, status_after}
@@ -75,5 +75,7 @@ module _ {C : Type 0} (seen : C → Seen) (image : Image) (r r' w w' k k' : Opti
       absurd (omega (arith, letter_of words (Post file) spelled, ap letter (ap (drop 1) asked.5)))
   stated_in asked (Drive file seed count) result spelled does =
       absurd (omega (arith, letter_of words (Drive file seed count) spelled, ap letter (ap (drop 1) asked.5)))
+  stated_in asked (Audit file) result spelled does =
+      absurd (omega (arith, letter_of words (Audit file) spelled, ap letter (ap (drop 1) asked.5)))
   stated_in asked (Serve file address connections) result spelled does =
       absurd (apart (ap (word_at 0) (sym (ap (drop 1) asked.5) ∙ spelled.1)) refl)

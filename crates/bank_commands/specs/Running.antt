@@ -13,15 +13,18 @@ use Rattle.branch_loader.specs.declared.loading.Loaded.{Loaded}
 use Rattle.counter_tcp.specs.Connections.{Serves}
 use Rattle.bank_words.specs.CommandLine.{bank_app}
 use Rattle.bank_words.specs.declared.reading.Command.{Command}
-use Rattle.bank_words.specs.declared.reading.Command.TheVariants.{Drive, Init, Load, Post, Serve, Statement}
+use Rattle.bank_words.specs.declared.reading.Command.TheVariants.{Audit, Drive, Init, Load, Post, Serve, Statement}
 use Rattle.bank_endings.specs.Lines.{IsRequest, created_line, driven_line, listening_line}
 use Rattle.bank_endings.specs.Lines.{loaded_line}
 use Rattle.bank_endings.specs.Statuses.{status_of_loaded}
 use Rattle.bank_endings.specs.Faults.{fault_of_stream, status_of}
 use Rattle.bank_endings.specs.declared.fault.CommandFault.{CommandFault}
 use Rattle.bank_endings.specs.declared.status.Status.{Status}
-use Rattle.bank_endings.specs.declared.status.Status.TheVariants.{Done}
+use Rattle.bank_endings.specs.declared.status.Status.TheVariants.{Done, Inconsistent}
+use Rattle.posting_rules.specs.declared.fault.Fault.{Fault}
+use Rattle.bank_reports.specs.declared.audit.Audit.{Audit as Audited}
 use Rattle.bank_audits.specs.declared.fault.ReportFault.{ReportFault}
+use Rattle.bank_commands.specs.Auditing.{AuditsIn, Prints}
 use Rattle.bank_commands.specs.InFile.{IsNewIn}
 use Rattle.bank_commands.specs.Stating.{StatesIn, said_of_statement}
 use Rattle.bank_commands.specs.Working.{EndsInFault, LoadsAs, PostsIn, RunsIn, TellsDrive, TellsLoad, TellsServing}
@@ -54,6 +57,7 @@ Ends (Init file) status old new = (status ≡ Done) × Appends old new created_l
 Ends (Load file plan) status old new = (loaded : Loaded) × Tells status old new loaded
 Ends (Post file) status old new = status ≡ Done
 Ends (Drive file seed count) status old new = (status ≡ Done) × TellsDriven count old new
+Ends (Audit file) status old new = (status ≡ Done) ⊎ (status ≡ Inconsistent)
 Ends (Statement file account) status old new = status ≡ Done
 Ends (Serve file address connections) status old new = (status ≡ Done) × TellsListening old new
 
@@ -77,6 +81,10 @@ stated_by account told = done_after (said_of_statement account told)
 abbrev pub status_after : Result Status CommandFault → Status
 status_after (Ok status) = status
 status_after (Err fault) = status_of fault
+
+-- how the printing of an audit ends the program
+abbrev pub EndsAudit : Result Audited Fault → Option (List ℕ) → Option (List ℕ) → Status → Type 0
+EndsAudit told w w' status = (result : Result Status CommandFault) × Prints told w w' result × (status ≡ status_after result)
 
 -- a new bank was made there
 abbrev pub MakesIn : {C : Type 0} → (C → Seen) → Image → Type 0
@@ -117,6 +125,8 @@ Does seen image r r' w w' k k' (Post file) result =
     PostsIn seen image r r' w w' k k' (IsErr result) (λ told. result ≡ ended_by told)
 Does seen image r r' w w' k k' (Drive file seed count) result =
     DrivesIn seen image k k' w w' seed count (λ end. result ≡ end)
+Does seen image r r' w w' k k' (Audit file) result =
+    AuditsIn seen image w w' (IsErr result) (λ told. Prints told w w' result)
 Does seen image r r' w w' k k' (Statement file account) result =
     StatesIn seen image account w w' (IsErr result) (λ told. result ≡ stated_by account told)
 Does seen image r r' w w' k k' (Serve file address connections) result =

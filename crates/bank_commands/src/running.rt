@@ -7,12 +7,14 @@ ghost use Rattle.clap.specs.Words.{fault_of};
 ghost use Rattle.bank_endings.specs.Lines.{created_line};
 ghost use Rattle.bank_words.specs.CommandLine.{bank_app};
 ghost use Rattle.bank_words.specs.Words.{AreInRange, AsksForHelp, IsSpelled, number_of};
-ghost use Rattle.bank_words.specs.Words.{AskForStatement, AskToDrive, AskToInit, AskToLoad, AskToPost, AskToServe};
-ghost use Rattle.bank_commands.specs.Running.{AreRefused, Does, Ends, TellsDriven, TellsListening};
+ghost use Rattle.bank_words.specs.Words.{AskForStatement, AskToAudit, AskToDrive, AskToInit, AskToLoad, AskToPost, AskToServe};
+ghost use Rattle.bank_commands.specs.Auditing.{AuditsIn};
+ghost use Rattle.bank_commands.specs.Running.{AreRefused, Does, Ends, EndsAudit, TellsDriven, TellsListening};
 ghost use Rattle.bank_commands.specs.Running.{DrivesIn, LoadsIn, MakesIn, ServesIn, ended_by, stated_by, status_after};
 ghost use Rattle.bank_commands.specs.Stating.{StatesIn};
 ghost use Rattle.bank_commands.specs.Working.{PostsIn};
 
+use crate::auditing::audit_file;
 use crate::commands::{drive, init, load_plan, post};
 use crate::serving::serve;
 use crate::statement::statement;
@@ -73,6 +75,10 @@ pub fn run<S: Start, T: AsStr, R: Read, W: Write, E: Write, K: Clock>(
     ensures serves { (asked : AskToServe (map T.text words.entry.now))
         → ServesIn (bank_seen ⟦<FileStore<FileFrom<S>> as Store>⟧) (image_at S.Start)
         (K.readings clock.old) (K.readings clock.new) (number_of asked.3) (λ end. result ≡ status_after end) }
+    ensures audited { AskToAudit (map T.text words.entry.now)
+        → AuditsIn (bank_seen ⟦<FileStore<FileFrom<S>> as Store>⟧) (image_at S.Start)
+        (W.contents output.old) (W.contents output.new) (result ≢ Status.Done)
+        (λ told. EndsAudit told (W.contents output.old) (W.contents output.new) result) }
     ensures stated { (asked : AskForStatement (map T.text words.entry.now))
         → StatesIn (bank_seen ⟦<FileStore<FileFrom<S>> as Store>⟧) (image_at S.Start) (number_of asked.2)
         (W.contents output.old) (W.contents output.new) (result ≢ Status.Done)
@@ -121,6 +127,7 @@ fn perform<S: Start, R: Read, W: Write, K: Clock>(
             drive(rt, start, file, seed, count, output, clock)?;
             Ok(Status::Done)
         }
+        Command::Audit { file } => audit_file(rt, start, file, output),
         Command::Statement { file, account } => {
             statement(rt, start, file, account, output)?;
             Ok(Status::Done)

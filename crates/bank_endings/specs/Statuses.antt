@@ -2,7 +2,7 @@
 use Rattle.std.specs.Prelude.{ℕ, if◌then◌else◌, nat_lt}
 use Rattle.branch_loader.specs.declared.loading.Loaded.{Loaded}
 use Rattle.bank_endings.specs.declared.status.Status.{Status}
-use Rattle.bank_endings.specs.declared.status.Status.TheVariants.{Done, Usage, System, Input, Differs}
+use Rattle.bank_endings.specs.declared.status.Status.TheVariants.{Done, Usage, System, Input, Differs, Inconsistent}
 
 abbrev pub number_of_status : Status → ℕ
 number_of_status Done = 0
@@ -10,6 +10,7 @@ number_of_status Usage = 2
 number_of_status System = 3
 number_of_status Input = 4
 number_of_status Differs = 5
+number_of_status Inconsistent = 5
 
 -- the program ends in its own way where a branch of the plan is open with another count
 abbrev pub status_of_loaded : Loaded → Status

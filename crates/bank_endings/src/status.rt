@@ -19,6 +19,8 @@ pub enum Status {
     Input,
     /// A branch of the plan is open with another count of accounts.
     Differs,
+    /// The audit found a bank whose books don't agree.
+    Inconsistent,
 }
 
 /// How the program ends after a plan was loaded.
@@ -43,7 +45,7 @@ impl From<Status> for ExitCode {
             Status::Usage => 2,
             Status::System => 3,
             Status::Input => 4,
-            Status::Differs => 5,
+            Status::Differs | Status::Inconsistent => 5,
         })
     }
 }

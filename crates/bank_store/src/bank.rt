@@ -112,10 +112,16 @@ impl<S: Alter> Bank<S> {
     ghost use Rattle.bank_walks.specs.Rows.{items_behind, items_from};
     ghost use Rattle.bank_store.specs.Walks.{IsStill, IsUndone};
 
-    pub(crate) fn is_down(&self) -> bool
+    /// Whether the bank is down.
+    pub fn is_down(&self) -> bool
         ensures { result ≡ is_some self.now.fault }
     {
         self.fault.is_some()
+    }
+
+    /// What its calls take memory from.
+    pub fn alloc(&self) -> Global {
+        self.alloc
     }
 
     // The rows from a key on. Its fault brings no bank down.

@@ -137,7 +137,7 @@ impl<'bank, S: Alter, R: WalkedRow> Walk<'bank, S, R> {
         ensures up { self.new.bank.now.fault ≡ self.old.bank.now.fault }
         ensures survives { Survives (lent_state S.Store self.old) (lent_state S.Store self.new) (λ _. ⊥) }
         ensures going { OnOk result (self.new.stage ≡ Going) }
-        ensures failed { IfErr result (λ f. HasFailed self.new × (f ≢ fault.Down)) }
+        ensures failed { IfErr result (λ f. HasFailed self.new × (f ≢ fault.Down) × (f ≢ fault.Memory)) }
     {
         if self.given < self.rows.len() {
             return Ok(());
@@ -176,6 +176,7 @@ impl<'bank, S: Alter, R: WalkedRow> Walk<'bank, S, R> {
         ensures ended { result ≡ Ok None → IsEnded self.new }
         ensures again { IsEnded self.old → (result ≡ Ok None) × (self.new ≡ self.old) }
         ensures failed { IfErr result (λ _. HasFailed self.new) }
+        ensures frugal { result ≢ Err fault.Memory }
         ensures down { (HasFailed self.old → IsErrOf result fault.Down) × (IsErrOf result fault.Down → HasFailed self.old × (self.new ≡ self.old)) }
     {
         match self.stage {

@@ -83,10 +83,11 @@ pub plan_of_load : (p : Text × List Row) → p.0 ≡ codes "load" → IsComplet
 plan_of_load p name complete = elim complete.1 [
   | inl init ↦ absurd (apart (sym init ∙ name) refl)
   | inr (inl post) ↦ absurd (apart (sym post ∙ name) refl)
-  | inr (inr (inl load)) ↦ load.1
-  | inr (inr (inr (inl drive))) ↦ absurd (apart (sym drive.0 ∙ name) refl)
-  | inr (inr (inr (inr (inl statement)))) ↦ absurd (apart (sym statement.0 ∙ name) refl)
-  | inr (inr (inr (inr (inr serve)))) ↦ absurd (apart (sym serve.0 ∙ name) refl)
+  | inr (inr (inl audit)) ↦ absurd (apart (sym audit ∙ name) refl)
+  | inr (inr (inr (inl load))) ↦ load.1
+  | inr (inr (inr (inr (inl drive)))) ↦ absurd (apart (sym drive.0 ∙ name) refl)
+  | inr (inr (inr (inr (inr (inl statement))))) ↦ absurd (apart (sym statement.0 ∙ name) refl)
+  | inr (inr (inr (inr (inr (inr serve))))) ↦ absurd (apart (sym serve.0 ∙ name) refl)
 ]
 
 -- a complete `drive` has its numbers
@@ -95,10 +96,11 @@ pub numbers_of_drive : (p : Text × List Row) → p.0 ≡ codes "drive" → IsCo
 numbers_of_drive p name complete = elim complete.1 [
   | inl init ↦ absurd (apart (sym init ∙ name) refl)
   | inr (inl post) ↦ absurd (apart (sym post ∙ name) refl)
-  | inr (inr (inl load)) ↦ absurd (apart (sym load.0 ∙ name) refl)
-  | inr (inr (inr (inl drive))) ↦ (drive.1, drive.2)
-  | inr (inr (inr (inr (inl statement)))) ↦ absurd (apart (sym statement.0 ∙ name) refl)
-  | inr (inr (inr (inr (inr serve)))) ↦ absurd (apart (sym serve.0 ∙ name) refl)
+  | inr (inr (inl audit)) ↦ absurd (apart (sym audit ∙ name) refl)
+  | inr (inr (inr (inl load))) ↦ absurd (apart (sym load.0 ∙ name) refl)
+  | inr (inr (inr (inr (inl drive)))) ↦ (drive.1, drive.2)
+  | inr (inr (inr (inr (inr (inl statement))))) ↦ absurd (apart (sym statement.0 ∙ name) refl)
+  | inr (inr (inr (inr (inr (inr serve))))) ↦ absurd (apart (sym serve.0 ∙ name) refl)
 ]
 
 -- a complete `statement` has the number of an account
@@ -107,10 +109,11 @@ pub account_of_statement : (p : Text × List Row) → p.0 ≡ codes "statement" 
 account_of_statement p name complete = elim complete.1 [
   | inl init ↦ absurd (apart (sym init ∙ name) refl)
   | inr (inl post) ↦ absurd (apart (sym post ∙ name) refl)
-  | inr (inr (inl load)) ↦ absurd (apart (sym load.0 ∙ name) refl)
-  | inr (inr (inr (inl drive))) ↦ absurd (apart (sym drive.0 ∙ name) refl)
-  | inr (inr (inr (inr (inl statement)))) ↦ statement.1
-  | inr (inr (inr (inr (inr serve)))) ↦ absurd (apart (sym serve.0 ∙ name) refl)
+  | inr (inr (inl audit)) ↦ absurd (apart (sym audit ∙ name) refl)
+  | inr (inr (inr (inl load))) ↦ absurd (apart (sym load.0 ∙ name) refl)
+  | inr (inr (inr (inr (inl drive)))) ↦ absurd (apart (sym drive.0 ∙ name) refl)
+  | inr (inr (inr (inr (inr (inl statement))))) ↦ statement.1
+  | inr (inr (inr (inr (inr (inr serve))))) ↦ absurd (apart (sym serve.0 ∙ name) refl)
 ]
 
 -- a complete `serve` has its address and its number
@@ -119,10 +122,11 @@ pub values_of_serve : (p : Text × List Row) → p.0 ≡ codes "serve" → IsCom
 values_of_serve p name complete = elim complete.1 [
   | inl init ↦ absurd (apart (sym init ∙ name) refl)
   | inr (inl post) ↦ absurd (apart (sym post ∙ name) refl)
-  | inr (inr (inl load)) ↦ absurd (apart (sym load.0 ∙ name) refl)
-  | inr (inr (inr (inl drive))) ↦ absurd (apart (sym drive.0 ∙ name) refl)
-  | inr (inr (inr (inr (inl statement)))) ↦ absurd (apart (sym statement.0 ∙ name) refl)
-  | inr (inr (inr (inr (inr serve)))) ↦ (serve.1, serve.2)
+  | inr (inr (inl audit)) ↦ absurd (apart (sym audit ∙ name) refl)
+  | inr (inr (inr (inl load))) ↦ absurd (apart (sym load.0 ∙ name) refl)
+  | inr (inr (inr (inr (inl drive)))) ↦ absurd (apart (sym drive.0 ∙ name) refl)
+  | inr (inr (inr (inr (inr (inl statement))))) ↦ absurd (apart (sym statement.0 ∙ name) refl)
+  | inr (inr (inr (inr (inr (inr serve))))) ↦ (serve.1, serve.2)
 ]
 
 -- ---- numbers

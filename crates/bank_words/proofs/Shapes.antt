@@ -9,7 +9,7 @@ use Rattle.bank_words.proofs.Levels.{IsPlainLeaf}
 abbrev pub leaf_of : Shape → Shape
 leaf_of s = built_leaf (inherited (on_top with_leaf_noted (on_top marked_built bank_app)).top s)
 
--- `init` or `post`, as built
+-- `init`, `post` or `audit`, as built
 abbrev pub one_file : Text → Shape
 one_file name = leaf_of (with_rule (new_app name) file_rule).top
 

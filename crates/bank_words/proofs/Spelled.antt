@@ -10,14 +10,14 @@ use Rattle.clap.specs.Words.{kind_of}
 use Rattle.clap.specs.declared.error.Error.{Error}
 use Rattle.clap.specs.declared.error.kind.ErrorKind.TheVariants.{OutOfMemory}
 use Rattle.bank_words.specs.declared.reading.Command.{Command}
-use Rattle.bank_words.specs.declared.reading.Command.TheVariants.{Drive, Init, Load, Post, Serve, Statement}
+use Rattle.bank_words.specs.declared.reading.Command.TheVariants.{Audit, Drive, Init, Load, Post, Serve, Statement}
 use Rattle.message_records.specs.declared.limits.TheConstants.{MAX_ACCOUNT}
 use Rattle.bank_words.specs.CommandLine.{bank_app}
 use Rattle.bank_words.specs.Words.{AskWithFile, IsCommandOf, IsNumber, IsReadFrom, IsSpelled, IsSpelledBy, IsText}
 use Rattle.bank_words.specs.Words.{IsWantOfMemory, begins_with_dash, number_of}
 use Rattle.bank_words.proofs.Getters.{apart}
 use Rattle.bank_words.proofs.Shapes.{file_and_account, file_and_address, file_and_numbers, one_file, two_files}
-use Rattle.bank_words.proofs.SpelledFiles.{init_read, init_taken, load_goes, load_read}
+use Rattle.bank_words.proofs.SpelledFiles.{audit_read, audit_taken, init_read, init_taken, load_goes, load_read}
 use Rattle.bank_words.proofs.SpelledFiles.{load_taken, one_goes, post_read, post_taken, two_held}
 use Rattle.bank_words.proofs.SpelledNumbers.{drive_goes, drive_passes, drive_read, drive_taken, drive_words}
 use Rattle.bank_words.proofs.SpelledNumbers.{serve_goes, serve_passes, serve_read, serve_taken, serve_words}
@@ -50,6 +50,14 @@ post_told : (rows : List Row) (file : Text) (words : List Text) (command : Comma
 post_told rows file words (Post f) first are told =
     rw (← text_told (codes "file") rows file f.now first told.1) are
 post_told rows file words other first are told = absurd (apart told.0 refl)
+
+audit_told : (rows : List Row) (file : Text) (words : List Text) (command : Command)
+    → IsText (codes "file") rows file → drop 1 words ≡ codes "audit" ∷ file ∷ []
+    → IsCommandOf (codes "audit", rows) command
+    → IsSpelledBy words command
+audit_told rows file words (Audit f) first are told =
+    rw (← text_told (codes "file") rows file f.now first told.1) are
+audit_told rows file words other first are told = absurd (apart told.0 refl)
 
 load_told : (rows : List Row) (file plan : Text) (words : List Text) (command : Command)
     → IsText (codes "file") rows file → IsText (codes "plan") rows plan
@@ -133,9 +141,11 @@ spelled_taken words (inr (inr (inr (inl s)))) =
     ap (takes bank_app) s.7
     ∙ (drive_taken s.0 s.1 s.2 s.3 ∙ ap (λ b. b && true) (drive_passes s.1 s.2 s.3 s.4 s.5 s.6))
 spelled_taken words (inr (inr (inr (inr (inl s))))) =
+    one_taken (codes "audit") words s (audit_taken s.0 s.1)
+spelled_taken words (inr (inr (inr (inr (inr (inl s)))))) =
     ap (takes bank_app) s.5
     ∙ (statement_taken s.0 s.1 s.2 ∙ ap (λ b. b && true) (statement_passes s.1 s.2 s.3 s.4))
-spelled_taken words (inr (inr (inr (inr (inr s))))) =
+spelled_taken words (inr (inr (inr (inr (inr (inr s)))))) =
     ap (takes bank_app) s.7
     ∙ (serve_taken s.0 s.1 s.2 s.3 ∙ ap (λ b. b && true) (serve_passes s.1 s.2 s.3 s.4 s.5 s.6))
 
@@ -165,13 +175,17 @@ spelled_at_ok words command read (inr (inr (inr (inl s)))) =
     (ap (drop 1) s.7)
     (rw (ap (subcommand_of bank_app) s.7 ∙ drive_read s.0 s.1 s.2 s.3) at read)
 spelled_at_ok words command read (inr (inr (inr (inr (inl s))))) =
+    audit_told (rows_after (one_file (codes "audit")).rules [] (s.1 ∷ [])) s.1 words command
+    (one_first (codes "audit") s.1 s.2) (ap (drop 1) s.3)
+    (rw (ap (subcommand_of bank_app) s.3 ∙ audit_read s.0 s.1) at read)
+spelled_at_ok words command read (inr (inr (inr (inr (inr (inl s)))))) =
     let rows = rows_after file_and_account.rules [] (s.1 ∷ s.2 ∷ []) in
     let end = rows_to file_and_account (s.1 ∷ s.2 ∷ []) (two_held (codes "account") s.1 s.2)
     (statement_goes s.1 s.2 s.3 (no_dash 1 MAX_ACCOUNT s.2 s.4)) in
     statement_told rows s.1 s.2 words command
     (ap (first_of (codes "file")) end) (ap (one_of (codes "account")) end) (ap (drop 1) s.5)
     (rw (ap (subcommand_of bank_app) s.5 ∙ statement_read s.0 s.1 s.2) at read)
-spelled_at_ok words command read (inr (inr (inr (inr (inr s))))) =
+spelled_at_ok words command read (inr (inr (inr (inr (inr (inr s)))))) =
     let rows = rows_after file_and_address.rules [] (serve_words s.1 s.2 s.3) in
     let end = rows_to file_and_address (serve_words s.1 s.2 s.3)
     (given 3 (with_address s.1 s.2) (codes "connections") s.3) (serve_goes s.1 s.2 s.3 s.4 s.5 s.6) in

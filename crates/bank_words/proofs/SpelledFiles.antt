@@ -1,4 +1,4 @@
--- What clap reads in the words of a command with files alone: `init`, `post` and `load`.
+-- What clap reads in the words of a command with files alone: `init`, `post`, `audit` and `load`.
 use Rattle.std.proofs.Common.{◌≡◌, ◌∙◌, ◌&&◌, Bool, true, false, refl}
 use Rattle.std.proofs.Common.{ap, List, [], ◌∷◌, Some, codes}
 use Rattle.clap.specs.Walk.{Row, Text, Walk, nothing_held, walked}
@@ -42,6 +42,18 @@ pub post_taken : (program file : Text)
     ≡ (level_passes (one_file (codes "post")) [] nothing_held (file ∷ []) false && true)
 unfolding clap_on_literals
 post_taken program file = refl
+
+pub audit_read : (program file : Text)
+    → subcommand_of bank_app (program ∷ codes "audit" ∷ file ∷ [])
+    ≡ Some (rows_at (one_file (codes "audit")) (file ∷ []))
+unfolding clap_on_literals
+audit_read program file = refl
+
+pub audit_taken : (program file : Text)
+    → takes bank_app (program ∷ codes "audit" ∷ file ∷ [])
+    ≡ (level_passes (one_file (codes "audit")) [] nothing_held (file ∷ []) false && true)
+unfolding clap_on_literals
+audit_taken program file = refl
 
 -- ---- two files
 

@@ -63,6 +63,10 @@ post_app = with_rule (new_app (codes "post")) file_rule
 abbrev pub drive_app : App
 drive_app = with_rule (with_rule (with_rule (new_app (codes "drive")) file_rule) seed_rule) count_rule
 
+-- `audit FILE`
+abbrev pub audit_app : App
+audit_app = with_rule (new_app (codes "audit")) file_rule
+
 -- `statement FILE ACCOUNT`
 abbrev pub statement_app : App
 statement_app = with_rule (with_rule (new_app (codes "statement")) file_rule) account_rule
@@ -84,7 +88,7 @@ bank_alone = let bank = new_app (codes "bank") in record bank {
 
 -- the commands of `bank`, in the order of its help
 abbrev pub bank_commands : List App
-bank_commands = init_app ∷ load_app ∷ post_app ∷ drive_app ∷ statement_app ∷ serve_app ∷ []
+bank_commands = init_app ∷ load_app ∷ post_app ∷ drive_app ∷ audit_app ∷ statement_app ∷ serve_app ∷ []
 
 -- `bank` with its commands; clap adds the command `help`
 abbrev pub bank_app : App

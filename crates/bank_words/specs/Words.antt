@@ -10,7 +10,7 @@ use Rattle.message_records.specs.declared.limits.TheConstants.{MAX_ACCOUNT}
 use Rattle.bank_words.specs.CommandLine.{MAX_SEED, bank_app}
 use Rattle.bank_words.specs.declared.limits.TheConstants.{MAX_CONNECTIONS}
 use Rattle.bank_words.specs.declared.reading.Command.{Command}
-use Rattle.bank_words.specs.declared.reading.Command.TheVariants.{Drive, Init, Load, Post, Serve, Statement}
+use Rattle.bank_words.specs.declared.reading.Command.TheVariants.{Audit, Drive, Init, Load, Post, Serve, Statement}
 
 -- the number that a text of digits spells; a plus may stand before them
 abbrev pub number_of : Text → ℕ
@@ -43,6 +43,7 @@ IsCommandOf p (Post file) = (p.0 ≡ codes "post") × IsText (codes "file") p.1 
 IsCommandOf p (Drive file seed count) = (p.0 ≡ codes "drive") × IsText (codes "file") p.1 file.now
     × IsNumber (codes "seed") p.1 seed
     × IsNumber (codes "count") p.1 count
+IsCommandOf p (Audit file) = (p.0 ≡ codes "audit") × IsText (codes "file") p.1 file.now
 IsCommandOf p (Statement file account) = (p.0 ≡ codes "statement") × IsText (codes "file") p.1 file.now
     × IsNumber (codes "account") p.1 account
 IsCommandOf p (Serve file address connections) = (p.0 ≡ codes "serve") × IsText (codes "file") p.1 file.now
@@ -63,7 +64,7 @@ IsReadFrom words command = IsSomeAnd (subcommand_of bank_app words) (λ p. IsCom
 -- the name is that of a command, and each of its arguments has a value
 abbrev pub IsComplete : Text × List Row → Type 0
 IsComplete p = HasText (codes "file") p.1
-    × ((p.0 ≡ codes "init") ⊎ (p.0 ≡ codes "post")
+    × ((p.0 ≡ codes "init") ⊎ (p.0 ≡ codes "post") ⊎ (p.0 ≡ codes "audit")
     ⊎ ((p.0 ≡ codes "load") × HasText (codes "plan") p.1)
     ⊎ ((p.0 ≡ codes "drive") × HasNumber (codes "seed") 0 MAX_SEED p.1
     × HasNumber (codes "count") 1 MAX_DRIVEN p.1)
@@ -101,6 +102,9 @@ AskToDrive words = (program : Text) × (file : Text) × (seed : Text) × (count 
     × (begins_with_dash file ≡ false) × IsUnsignedIn 0 MAX_SEED seed × IsUnsignedIn 1 MAX_DRIVEN count
     × (words ≡ program ∷ codes "drive" ∷ file ∷ codes "--seed" ∷ seed ∷ codes "--count" ∷ count ∷ [])
 
+abbrev pub AskToAudit : List Text → Type 0
+AskToAudit words = AskWithFile (codes "audit") words
+
 -- the words are `statement FILE ACCOUNT`, with a file that doesn't begin with a dash, and the number of an account
 abbrev pub AskForStatement : List Text → Type 0
 AskForStatement words = (program : Text) × (file : Text) × (account : Text) × (begins_with_dash file ≡ false)
@@ -117,7 +121,7 @@ AskToServe words = (program : Text) × (file : Text) × (address : Text) × (con
 
 -- the words spell a command: its name, its files, of which none begins with a dash, and its numbers
 abbrev pub IsSpelled : List Text → Type 0
-IsSpelled words = AskToInit words ⊎ AskToLoad words ⊎ AskToPost words ⊎ AskToDrive words
+IsSpelled words = AskToInit words ⊎ AskToLoad words ⊎ AskToPost words ⊎ AskToDrive words ⊎ AskToAudit words
     ⊎ AskForStatement words ⊎ AskToServe words
 
 -- the words after the program's name are the command's own
@@ -128,6 +132,7 @@ IsSpelledBy words (Post file) = drop 1 words ≡ codes "post" ∷ file.now ∷ [
 IsSpelledBy words (Drive file seed count) = (s : Text) × (n : Text)
     × (drop 1 words ≡ codes "drive" ∷ file.now ∷ codes "--seed" ∷ s ∷ codes "--count" ∷ n ∷ [])
     × (seed ≡ number_of s) × (count ≡ number_of n)
+IsSpelledBy words (Audit file) = drop 1 words ≡ codes "audit" ∷ file.now ∷ []
 IsSpelledBy words (Statement file account) = (n : Text)
     × (drop 1 words ≡ codes "statement" ∷ file.now ∷ n ∷ []) × (account ≡ number_of n)
 IsSpelledBy words (Serve file address connections) = (n : Text)
@@ -151,6 +156,7 @@ AsksForHelp words = ((program : Text) × (rest : List Text) × (words ≡ progra
     ⊎ AsksForHelpOn (codes "load") words
     ⊎ AsksForHelpOn (codes "post") words
     ⊎ AsksForHelpOn (codes "drive") words
+    ⊎ AsksForHelpOn (codes "audit") words
     ⊎ AsksForHelpOn (codes "statement") words
     ⊎ AsksForHelpOn (codes "serve") words
 

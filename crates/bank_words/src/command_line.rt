@@ -1,8 +1,8 @@
-//! The program's command line as clap is told of it: six commands, their arguments, and the texts of help.
+//! The program's command line as clap is told of it: seven commands, their arguments, and the texts of help.
 ghost use Rattle.std.specs.Prelude.{◌≡◌, IfOk, false};
 ghost use Rattle.clap.specs.Words.{app_of, rule_of};
 ghost use Rattle.clap.specs.declared.builder.command.Command.TheViews.{out-Command as fields_of};
-ghost use Rattle.bank_words.specs.CommandLine.{account_rule, address_rule, bank_alone, bank_app};
+ghost use Rattle.bank_words.specs.CommandLine.{account_rule, address_rule, audit_app, bank_alone, bank_app};
 ghost use Rattle.bank_words.specs.CommandLine.{connections_rule, count_rule, drive_app, file_rule, init_app};
 ghost use Rattle.bank_words.specs.CommandLine.{load_app, plan_rule, post_app, seed_rule, serve_app, statement_app};
 
@@ -23,6 +23,7 @@ pub fn bank_command<'a>(alloc: Global) -> Result<Command<'a>, AllocError>
         .subcommand(load_command(alloc)?)?
         .subcommand(post_command(alloc)?)?
         .subcommand(drive_command(alloc)?)?
+        .subcommand(audit_command(alloc)?)?
         .subcommand(statement_command(alloc)?)?
         .subcommand(serve_command(alloc)?)
 }
@@ -86,6 +87,17 @@ fn drive_command<'a>(alloc: Global) -> Result<Command<'a>, AllocError>
         .arg(file_argument(alloc))?
         .arg(seed_argument(alloc))?
         .arg(count_argument(alloc))
+}
+
+fn audit_command<'a>(alloc: Global) -> Result<Command<'a>, AllocError>
+    ensures app { IfOk result (λ audit. app_of audit ≡ audit_app) }
+    ensures local { IfOk result (λ audit. (fields_of audit).has_globals ≡ false) }
+{
+    Command::new(alloc, "audit")
+        .about(texts::AUDIT)
+        .long_about(texts::AUDIT_AT_LENGTH)
+        .after_long_help(texts::AUDIT_DETAILS)
+        .arg(file_argument(alloc))
 }
 
 fn statement_command<'a>(alloc: Global) -> Result<Command<'a>, AllocError>

@@ -35,6 +35,10 @@ pub enum Command<'a> {
         seed: u64,
         count: u64,
     },
+    /// Audit the file's bank.
+    Audit {
+        file: &'a str,
+    },
     /// Write the statement of an account of the file's bank.
     Statement {
         file: &'a str,
@@ -99,6 +103,7 @@ fn command_of<'a>(name: &str, values: &ArgMatches<'a>) -> Command<'a>
             let count = values.get_one::<u64>("count").unwrap();
             Command::Drive { file, seed, count }
         }
+        "audit" => Command::Audit { file },
         "statement" => {
             let number = values.get_one::<u64>("account").unwrap();
             let account = Account::new(number).unwrap();

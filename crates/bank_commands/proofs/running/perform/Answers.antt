@@ -59,3 +59,6 @@ pub returns-in_ok-statement-in-Statement-clause-does : goal.returns-in_ok-statem
 returns-in_ok-statement-in-Statement-clause-does g c =
     rw c.in-Statement.is (states_done _ _ c.in-Statement.account (g.W.Write.contents c.args.output.now)
     (g.W.Write.contents c.statement.new.output) (Ok tt) c.in_ok-statement-in-Statement.ensures)
+
+pub returns-in-Audit-clause-does : goal.returns-in-Audit-clause-does
+returns-in-Audit-clause-does g c = rw c.in-Audit.is c.audit_file.ensures.audits

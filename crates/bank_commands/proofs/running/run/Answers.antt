@@ -2,6 +2,7 @@ use Rattle.std.proofs.Common.{◌∙◌, inl, inr, map, refl, sym, Ok, Err}
 use Rattle.clap.specs.Words.{kind_of}
 use Rattle.bank_commands.proofs.Asked.{driven_in, loaded_by, made_by, posted_by}
 use Rattle.bank_commands.proofs.Asked.{memory_is_no_request, not_done, nothing_posted}
+use Rattle.bank_commands.proofs.Audited.{audited_in, nothing_audited}
 use Rattle.bank_commands.proofs.Driven.{driven_by}
 use Rattle.bank_commands.proofs.Endings.{help_ends, memory_ends, mistake_ends, mistake_keeps, not_asked}
 use Rattle.bank_commands.proofs.Endings.{system_is_not_usage}
@@ -58,7 +59,7 @@ pub returns-in-Ok-perform-clause-served : goal.returns-in-Ok-perform-clause-serv
 returns-in-Ok-perform-clause-served g c asked done =
     served_by (map g.T.AsStr.text c.args.words.now) asked c.in-Ok.command c.in-Ok-perform.status
     (g.W.Write.contents c.args.output.now) (g.W.Write.contents c.perform.new.output)
-    (c.in-Ok.ensures.spelled (inr (inr (inr (inr (inr asked)))))) c.in-Ok-perform.ensures.ends
+    (c.in-Ok.ensures.spelled (inr (inr (inr (inr (inr (inr asked))))))) c.in-Ok-perform.ensures.ends
 
 -- ---- what the run did to its bank
 
@@ -150,11 +151,27 @@ returns-in-Ok-perform-clause-stated g c asked =
     (g.W.Write.contents c.args.output.now) (g.W.Write.contents c.perform.new.output)
     (g.K.Clock.readings c.args.clock.now) (g.K.Clock.readings c.perform.new.clock)
     (map g.T.AsStr.text c.args.words.now)
-    asked c.in-Ok.command (Ok c.in-Ok-perform.status) (c.in-Ok.ensures.spelled (inr (inr (inr (inr (inl asked)))))) c.in-Ok-perform.ensures.does
+    asked c.in-Ok.command (Ok c.in-Ok-perform.status) (c.in-Ok.ensures.spelled (inr (inr (inr (inr (inr (inl asked))))))) c.in-Ok-perform.ensures.does
 
 pub returns-in-Err-perform-clause-stated : goal.returns-in-Err-perform-clause-stated
 returns-in-Err-perform-clause-stated g c asked =
     rw c.tell.ensures (stated_in _ _ (g.R.Read.remaining c.args.input.now) (g.R.Read.remaining c.perform.new.input)
+    (g.W.Write.contents c.args.output.now) (g.W.Write.contents c.perform.new.output)
+    (g.K.Clock.readings c.args.clock.now) (g.K.Clock.readings c.perform.new.clock)
+    (map g.T.AsStr.text c.args.words.now)
+    asked c.in-Ok.command (Err c.in-Err-perform.fault) (c.in-Ok.ensures.spelled (inr (inr (inr (inr (inr (inl asked))))))) c.in-Err-perform.ensures.does)
+
+pub returns-in-Ok-perform-clause-audited : goal.returns-in-Ok-perform-clause-audited
+returns-in-Ok-perform-clause-audited g c asked =
+    audited_in _ _ (g.R.Read.remaining c.args.input.now) (g.R.Read.remaining c.perform.new.input)
+    (g.W.Write.contents c.args.output.now) (g.W.Write.contents c.perform.new.output)
+    (g.K.Clock.readings c.args.clock.now) (g.K.Clock.readings c.perform.new.clock)
+    (map g.T.AsStr.text c.args.words.now)
+    asked c.in-Ok.command (Ok c.in-Ok-perform.status) (c.in-Ok.ensures.spelled (inr (inr (inr (inr (inl asked)))))) c.in-Ok-perform.ensures.does
+
+pub returns-in-Err-perform-clause-audited : goal.returns-in-Err-perform-clause-audited
+returns-in-Err-perform-clause-audited g c asked =
+    rw c.tell.ensures (audited_in _ _ (g.R.Read.remaining c.args.input.now) (g.R.Read.remaining c.perform.new.input)
     (g.W.Write.contents c.args.output.now) (g.W.Write.contents c.perform.new.output)
     (g.K.Clock.readings c.args.clock.now) (g.K.Clock.readings c.perform.new.clock)
     (map g.T.AsStr.text c.args.words.now)
@@ -202,5 +219,11 @@ returns-in-Err-clause-serves g c asked =
 pub returns-in-Err-clause-stated : goal.returns-in-Err-clause-stated
 returns-in-Err-clause-stated g c asked =
     nothing_stated _ _ _ (g.W.Write.contents c.args.output.now) (g.W.Write.contents c.explain.new.output)
+    (kind_of c.in-Err.error) c.explain.result (c.in-Err.ensures.spelled (inr (inr (inr (inr (inr (inl asked)))))))
+    c.explain.ensures.status c.explain.ensures.silent
+
+pub returns-in-Err-clause-audited : goal.returns-in-Err-clause-audited
+returns-in-Err-clause-audited g c asked =
+    nothing_audited _ _ (g.W.Write.contents c.args.output.now) (g.W.Write.contents c.explain.new.output)
     (kind_of c.in-Err.error) c.explain.result (c.in-Err.ensures.spelled (inr (inr (inr (inr (inl asked))))))
     c.explain.ensures.status c.explain.ensures.silent

@@ -90,6 +90,14 @@ returns-in-drive-clause-ranges c =
     c.unwrap-count.ensures in
     (seed.2, count.1, count.2)
 
+pub returns-in-audit-clause-command : goal.returns-in-audit-clause-command
+returns-in-audit-clause-command c =
+    let found = found_of c.args.values.now in
+    let file = c.unwrap-file.result in (
+      c.in-audit.is,
+      text_first c.get_str.result file found (codes "file") c.get_str.ensures c.unwrap-file.ensures,
+    )
+
 pub unwrap-number-requires : goal.unwrap-number-requires
 unwrap-number-requires c =
     let found = found_of c.args.values.now in

@@ -1,0 +1,144 @@
+#!/usr/bin/env python3
+"""Compares the audits of the built program with sums that the C library of SQLite adds up by SQL.
+
+Each of 20 files is a bank that the program made, loaded and drove from a seed. Half of them are then changed by SQL, in
+ways that are drawn from the seed too: balances, deltas, outcomes and ordinals, rows that are taken away and rows that are
+put in. The ten numbers, the lines of branches, the verdict and the status of `bank audit` have to be those of the SQL. It
+needs the built program, and stands outside the gate.
+
+    tools/check_audit.py [FILES]
+"""
+import os
+import random
+import sqlite3
+import subprocess
+import sys
+import tempfile
+
+HERE = os.path.dirname(os.path.dirname(os.path.abspath(__file__)))
+BANK = os.path.join(HERE, "crates", "bank", "out", "bank")
+
+# What the program prints of any bank, by SQL alone.
+NUMBERS = [
+    ("branches", "SELECT count(*) FROM branch"),
+    ("tellers", "SELECT count(*) FROM teller"),
+    ("accounts", "SELECT count(*) FROM account"),
+    ("requests", "SELECT count(*) FROM request"),
+    ("history", "SELECT count(*) FROM history"),
+    ("account sum", "SELECT ifnull(sum(balance), 0) FROM account"),
+    ("teller sum", "SELECT ifnull(sum(balance), 0) FROM teller"),
+    ("branch sum", "SELECT ifnull(sum(balance), 0) FROM branch"),
+    ("history sum", "SELECT ifnull(sum(delta), 0) FROM history"),
+    ("unmatched", """
+        SELECT (SELECT count(*) FROM request r WHERE r.outcome = 0 AND NOT EXISTS (
+                    SELECT 1 FROM history h WHERE h.ordinal = r.ordinal AND h.aid = r.aid AND h.tid = r.tid
+                    AND h.bid = r.bid AND h.delta = r.delta))
+             + (SELECT count(*) FROM history h WHERE NOT EXISTS (
+                    SELECT 1 FROM request r WHERE r.ordinal = h.ordinal AND r.outcome = 0))"""),
+]
+
+BRANCHES = """
+    SELECT bid, tellers, balance FROM (
+        SELECT bid, balance, (SELECT ifnull(sum(t.balance), 0) FROM teller t
+                              WHERE t.tid BETWEEN 10 * (bid - 1) + 1 AND 10 * bid) AS tellers FROM branch)
+    WHERE tellers <> balance ORDER BY bid"""
+
+
+def by_sql(file):
+    """The text of the audit and the program's status, as SQL gives them."""
+    conn = sqlite3.connect(file)
+    numbers = {name: conn.execute(text).fetchone()[0] for name, text in NUMBERS}
+    lines = [f"{name:<12}{numbers[name]:>20}" for name, _ in NUMBERS]
+    differ = conn.execute(BRANCHES).fetchall()
+    conn.close()
+    lines += [f"branch {bid} tellers {tellers} balance {balance}" for bid, tellers, balance in differ]
+    sums = {numbers[name] for name in ("account sum", "teller sum", "branch sum", "history sum")}
+    sound = len(sums) == 1 and not differ and numbers["unmatched"] == 0
+    lines.append("CONSISTENT" if sound else "INCONSISTENT")
+    return "".join(line + "\n" for line in lines), 0 if sound else 5
+
+
+def one(conn, draw, text):
+    """One of the keys that a query gives, none where it gives none."""
+    keys = [row[0] for row in conn.execute(text)]
+    return draw.choice(keys) if keys else None
+
+
+def damage(file, draw):
+    """Changes a bank by hand, in up to four ways."""
+    conn = sqlite3.connect(file)
+    amount = draw.choice([1, -1, 700, -123456, 10**12, -(10**15)])
+    for _ in range(draw.randint(1, 4)):
+        teller = one(conn, draw, "SELECT tid FROM teller")
+        account = one(conn, draw, "SELECT aid FROM account")
+        branch = one(conn, draw, "SELECT bid FROM branch")
+        posting = one(conn, draw, "SELECT ordinal FROM history")
+        request = one(conn, draw, "SELECT ordinal FROM request")
+        other = one(conn, draw, "SELECT tid FROM teller")
+        kind = draw.randrange(11)
+        if kind == 0:
+            conn.execute("UPDATE teller SET balance = balance + ? WHERE tid = ?", (amount, teller))
+        elif kind == 1:
+            conn.execute("UPDATE teller SET balance = balance + ? WHERE tid = ?", (amount, teller))
+            conn.execute("UPDATE teller SET balance = balance - ? WHERE tid = ?", (amount, other))
+        elif kind == 2:
+            conn.execute("UPDATE account SET balance = balance + ? WHERE aid = ?", (amount, account))
+        elif kind == 3:
+            conn.execute("UPDATE branch SET balance = balance + ? WHERE bid = ?", (amount, branch))
+        elif kind == 4:
+            conn.execute("UPDATE history SET delta = delta + ? WHERE ordinal = ?", (amount, posting))
+        elif kind == 5:
+            conn.execute("DELETE FROM history WHERE ordinal = ?", (posting,))
+        elif kind == 6:
+            conn.execute("DELETE FROM request WHERE ordinal = ?", (request,))
+        elif kind == 7:
+            conn.execute("UPDATE request SET outcome = ? WHERE ordinal = ?", (draw.choice([0, 11, 12, 14]), request))
+        elif kind == 8:
+            conn.execute("INSERT OR IGNORE INTO teller VALUES (?, ?)", (draw.randint(1, 99990), amount))
+        elif kind == 9:
+            conn.execute("DELETE FROM branch WHERE bid = ?", (branch,))
+        else:
+            ordinal = draw.randint(1, 10**12)
+            conn.execute("UPDATE OR IGNORE history SET ordinal = ? WHERE ordinal = ?", (ordinal, posting))
+            if draw.random() < 0.5:
+                conn.execute("UPDATE OR IGNORE request SET ordinal = ? WHERE ordinal = ?", (ordinal, posting))
+    conn.commit()
+    conn.close()
+
+
+def make(file, plan, draw, seed):
+    """A bank of a few branches, with as many postings as the seed says."""
+    branches = draw.sample(range(1, 10000), draw.randint(0, 6))
+    with open(plan, "w", encoding="ascii") as out:
+        out.write("branch,accounts\n")
+        out.writelines(f"{branch},{draw.randint(1, 200)}\n" for branch in branches)
+    subprocess.run([BANK, "init", file], check=True, stdout=subprocess.DEVNULL)
+    subprocess.run([BANK, "load", file, plan], check=True, stdout=subprocess.DEVNULL)
+    if branches:
+        count = str(draw.choice([1, 30, 64, 65, 500]))
+        subprocess.run([BANK, "drive", file, "--seed", str(seed), "--count", count], check=True, stdout=subprocess.DEVNULL)
+
+
+def main():
+    """Makes the files and compares."""
+    if not os.access(BANK, os.X_OK):
+        sys.exit("check_audit: build the program first: (cd crates/bank && rt run -- --help)")
+    files = int(sys.argv[1]) if len(sys.argv) > 1 else 20
+    sound = 0
+    with tempfile.TemporaryDirectory() as work:
+        for seed in range(files):
+            draw = random.Random(seed)
+            file = os.path.join(work, f"{seed}.db")
+            make(file, os.path.join(work, "plan.csv"), draw, seed)
+            if seed % 2 == 1:
+                damage(file, draw)
+            told = subprocess.run([BANK, "audit", file], capture_output=True, text=True, check=False)
+            text, status = by_sql(file)
+            if (told.stdout, told.stderr, told.returncode) != (text, "", status):
+                sys.exit(f"check_audit: seed {seed}: status {told.returncode}, not {status}\n"
+                         f"{told.stderr}{told.stdout}by SQL:\n{text}")
+            sound += status == 0
+    print(f"check_audit: {files} files, {sound} of them consistent: each audit is that of the SQL")
+
+
+main()
