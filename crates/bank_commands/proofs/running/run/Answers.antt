@@ -133,7 +133,7 @@ returns-in-Ok-perform-clause-serves g c asked =
     (g.W.Write.contents c.args.output.now) (g.W.Write.contents c.perform.new.output)
     (g.K.Clock.readings c.args.clock.now) (g.K.Clock.readings c.perform.new.clock)
     (map g.T.AsStr.text c.args.words.now)
-    asked c.in-Ok.command (Ok c.in-Ok-perform.status) (c.in-Ok.ensures.spelled (inr (inr (inr (inr (inr asked))))))
+    asked c.in-Ok.command (Ok c.in-Ok-perform.status) (c.in-Ok.ensures.spelled (inr (inr (inr (inr (inr (inr asked)))))))
     c.in-Ok-perform.ensures.does
 
 pub returns-in-Err-perform-clause-serves : goal.returns-in-Err-perform-clause-serves
@@ -142,7 +142,7 @@ returns-in-Err-perform-clause-serves g c asked =
     (g.W.Write.contents c.args.output.now) (g.W.Write.contents c.perform.new.output)
     (g.K.Clock.readings c.args.clock.now) (g.K.Clock.readings c.perform.new.clock)
     (map g.T.AsStr.text c.args.words.now)
-    asked c.in-Ok.command (Err c.in-Err-perform.fault) (c.in-Ok.ensures.spelled (inr (inr (inr (inr (inr asked))))))
+    asked c.in-Ok.command (Err c.in-Err-perform.fault) (c.in-Ok.ensures.spelled (inr (inr (inr (inr (inr (inr asked)))))))
     c.in-Err-perform.ensures.does)
 
 pub returns-in-Ok-perform-clause-stated : goal.returns-in-Ok-perform-clause-stated
@@ -213,7 +213,7 @@ returns-in-Err-clause-drives g c asked =
 pub returns-in-Err-clause-serves : goal.returns-in-Err-clause-serves
 returns-in-Err-clause-serves g c asked =
     let kind = kind_of c.in-Err.error in
-    let memory = c.in-Err.ensures.spelled (inr (inr (inr (inr (inr asked))))) in
+    let memory = c.in-Err.ensures.spelled (inr (inr (inr (inr (inr (inr asked)))))) in
     inl (none_run kind c.explain.result memory c.explain.ensures.status, refl)
 
 pub returns-in-Err-clause-stated : goal.returns-in-Err-clause-stated
