@@ -175,7 +175,7 @@ fn fill_joined<S: Alter, R: StoredRow, O: StoredRow>(
 }
 
 impl WalkedRow for Joined<StoredRequest, StoredPosting> {
-    ghost use Rattle.std.specs.Prelude.{true};
+    ghost use Rattle.std.specs.Prelude.{true, refl};
     ghost use Rattle.bank_walks.specs.Pairs.{pairs_have_keys};
     ghost use Rattle.bank_walks.specs.Stored.{asked_pair, IsNoAsked};
     ghost use Rattle.store_rows.specs.SixTables.{history, request};
@@ -194,6 +194,8 @@ impl WalkedRow for Joined<StoredRequest, StoredPosting> {
 
     ghost have_keys = { λ db pairs has. pairs_have_keys db request history pairs has };
 
+    ghost all_given = { λ p. refl };
+
     fn fill<S: Alter>(
         conn: &mut Connection<S>,
         _of: Option<Account>,
@@ -207,7 +209,7 @@ impl WalkedRow for Joined<StoredRequest, StoredPosting> {
 }
 
 impl WalkedRow for Joined<StoredPosting, StoredRequest> {
-    ghost use Rattle.std.specs.Prelude.{true};
+    ghost use Rattle.std.specs.Prelude.{true, refl};
     ghost use Rattle.bank_walks.specs.Pairs.{pairs_have_keys};
     ghost use Rattle.bank_walks.specs.Stored.{posted_pair, IsNoPosted};
     ghost use Rattle.store_rows.specs.SixTables.{history, request};
@@ -225,6 +227,8 @@ impl WalkedRow for Joined<StoredPosting, StoredRequest> {
     ghost HasItems = { λ db pairs. HasPairs db history request pairs };
 
     ghost have_keys = { λ db pairs has. pairs_have_keys db history request pairs has };
+
+    ghost all_given = { λ p. refl };
 
     fn fill<S: Alter>(
         conn: &mut Connection<S>,
