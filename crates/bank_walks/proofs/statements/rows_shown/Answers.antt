@@ -1,6 +1,5 @@
 -- A statement that only shows rows changes nothing.
 use Rattle.sqlite.specs.Held.{state}
-use Rattle.sqlite.specs.Values.{bound}
 use Rattle.sql_meanings.proofs.ReadSeeks.{commits_nothing}
 use Rattle.bank_walks.proofs.Sought.{answered, fails_after, if_err, if_ok, same_after}
 use Rattle.bank_walks.proofs.statements.rows_shown.Goals as goal
