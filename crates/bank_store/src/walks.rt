@@ -199,7 +199,7 @@ impl<'bank, S: Alter, R: WalkedRow> Walk<'bank, S, R> {
     }
 }
 
-ghost use Rattle.std.specs.Prelude.{true};
+ghost use Rattle.std.specs.Prelude.{true, Some};
 ghost use Rattle.bank_store.specs.contracts.bank.Bank.{the_row};
 ghost use Rattle.bank_store.specs.Seen.{bank_seen, database_of};
 ghost use Rattle.bank_store.specs.Walking.{ComesFrom, items_to_come, lent, loan_of, to_come};
@@ -207,7 +207,22 @@ ghost use Rattle.bank_walks.specs.Pairs.{HasPairs, Pair, pair_key};
 ghost use Rattle.bank_walks.specs.Rows.{HasRows, LEAST, entry_key};
 ghost use Rattle.bank_walks.specs.Stored.{account_entry, asked_pair, branch_entry, is_of, posted_pair, posting_entry, teller_entry};
 ghost use Rattle.store_rows.specs.SixTables.{account as account_table, branch as branch_table, history as history_table, request as request_table, teller as teller_table};
-ghost use Rattle.std.specs.Prelude.{Some};
+
+// Begins a walk over all rows of a kind.
+fn each<S: Alter, R: WalkedRow>(bank: &mut Bank<S>) -> Result<Walk<'_, S, R>, Fault>
+    ensures* refused { sem 𝓛 (RestsIfErr (the_row S.row S.Store) bank.entry loan_of result (λ last. last ≡ bank.old)) }
+    ensures same_reference { IfOk result (λ it. loan_of it ≡ bank.entry.ghost_name) }
+    ensures same { IfOk result (λ it. lent it ≡ bank.old) }
+    ensures all { IfOk result (λ it. (all : List R.WalkedRow.Item) → R.WalkedRow.HasItems (database_of S.Store bank.old) all
+        → items_to_come R.WalkedRow.key R.WalkedRow.item R.WalkedRow.is_given all it ≡ all) }
+    ensures rises { IfOk result (λ it. ComesFrom (λ r. R.WalkedRow.key (R.WalkedRow.item r)) LEAST it) }
+    ensures fault { IfErr result (λ f. (f ≡ fault.Down) × (bank_seen S.Store bank.old).is_down) }
+{
+    if bank.is_down() {
+        return Err(Fault::Down);
+    }
+    Ok(Walk::over(bank, None))
+}
 
 /// Begins a walk over the branches.
 pub fn each_branch<S: Alter>(bank: &mut Bank<S>) -> Result<Walk<'_, S, StoredBranch>, Fault>
@@ -219,10 +234,7 @@ pub fn each_branch<S: Alter>(bank: &mut Bank<S>) -> Result<Walk<'_, S, StoredBra
     ensures rises { IfOk result (λ it. ComesFrom (λ r. entry_key (branch_entry r)) LEAST it) }
     ensures fault { IfErr result (λ f. (f ≡ fault.Down) × (bank_seen S.Store bank.old).is_down) }
 {
-    if bank.is_down() {
-        return Err(Fault::Down);
-    }
-    Ok(Walk::over(bank, None))
+    each(bank)
 }
 
 /// Begins a walk over the tellers.
@@ -235,10 +247,7 @@ pub fn each_teller<S: Alter>(bank: &mut Bank<S>) -> Result<Walk<'_, S, StoredTel
     ensures rises { IfOk result (λ it. ComesFrom (λ r. entry_key (teller_entry r)) LEAST it) }
     ensures fault { IfErr result (λ f. (f ≡ fault.Down) × (bank_seen S.Store bank.old).is_down) }
 {
-    if bank.is_down() {
-        return Err(Fault::Down);
-    }
-    Ok(Walk::over(bank, None))
+    each(bank)
 }
 
 /// Begins a walk over the accounts.
@@ -251,10 +260,7 @@ pub fn each_account<S: Alter>(bank: &mut Bank<S>) -> Result<Walk<'_, S, StoredAc
     ensures rises { IfOk result (λ it. ComesFrom (λ r. entry_key (account_entry r)) LEAST it) }
     ensures fault { IfErr result (λ f. (f ≡ fault.Down) × (bank_seen S.Store bank.old).is_down) }
 {
-    if bank.is_down() {
-        return Err(Fault::Down);
-    }
-    Ok(Walk::over(bank, None))
+    each(bank)
 }
 
 /// Begins a walk over the postings of an account.
@@ -288,10 +294,7 @@ pub fn each_request<S: Alter>(
     ensures rises { IfOk result (λ it. ComesFrom (λ j. pair_key (asked_pair j)) LEAST it) }
     ensures fault { IfErr result (λ f. (f ≡ fault.Down) × (bank_seen S.Store bank.old).is_down) }
 {
-    if bank.is_down() {
-        return Err(Fault::Down);
-    }
-    Ok(Walk::over(bank, None))
+    each(bank)
 }
 
 /// Begins a walk over the postings, each with the request of its ordinal, if there is one.
@@ -306,8 +309,5 @@ pub fn each_history<S: Alter>(
     ensures rises { IfOk result (λ it. ComesFrom (λ j. pair_key (posted_pair j)) LEAST it) }
     ensures fault { IfErr result (λ f. (f ≡ fault.Down) × (bank_seen S.Store bank.old).is_down) }
 {
-    if bank.is_down() {
-        return Err(Fault::Down);
-    }
-    Ok(Walk::over(bank, None))
+    each(bank)
 }

@@ -77,28 +77,28 @@ module _ (old new : State) (table : Table) (free : table.references ≡ []) (row
   -- the rows from a number on
   pub tells_from : (k : ℤ) → ReadsAs table text (Int k ∷ []) (λ t. next_from AHEAD t project)
       → ((e : Entry) → length e.values ≡ width_of table → eval_all project ((Int k ∷ []) ∷ stored e ∷ []) ≡ numbers (all_numbers e))
-      → (r : Result V Error) → IfOk r (λ v. Shown text (Int k ∷ []) old new (items v)) → IfErr r (FailsToQuery text (Int k ∷ []) old new)
+      → (r : Result V Error) → MatchResult r (λ v. Shown text (Int k ∷ []) old new (items v)) (FailsToQuery text (Int k ∷ []) old new)
       → MatchResult r (λ v. items v ≡ shown (take AHEAD (rows_from k (filter (λ _. true) rows)))) (IsStoreError old new)
-  tells_from k reads whole (Ok v) ok err =
+  tells_from k reads whole (Ok v) ok =
       let told = reads_from old new table free has.sound rows has.holds text AHEAD project k reads (Ok (items v)) ok in
       told.0 ∙ ap (take AHEAD) (same_shown (width_of table) _ whole (filter (is_from k) rows) (wide_filter _ (is_from k) rows has.holds.rows.wide))
       ∙ taken (λ e. numbers (all_numbers e)) AHEAD (filter (is_from k) rows)
       ∙ ap (λ es. shown (take AHEAD (rows_from k es))) (sym (all_given rows))
-  tells_from k reads whole (Err e) ok err =
+  tells_from k reads whole (Err e) err =
       store_error old new e (reads_from old new table free has.sound rows has.holds text AHEAD project k reads (Err e) err)
 
   -- the same of those with a number behind their keys
   pub tells_of_from : (one k : ℤ) → ReadsAs table text (Int one ∷ Int k ∷ []) (λ t. next_of_from AHEAD t project)
       → ((e : Entry) → length e.values ≡ width_of table → eval_all project ((Int one ∷ Int k ∷ []) ∷ stored e ∷ []) ≡ numbers (all_numbers e))
-      → (r : Result V Error) → IfOk r (λ v. Shown text (Int one ∷ Int k ∷ []) old new (items v))
-      → IfErr r (FailsToQuery text (Int one ∷ Int k ∷ []) old new)
+      → (r : Result V Error)
+      → MatchResult r (λ v. Shown text (Int one ∷ Int k ∷ []) old new (items v)) (FailsToQuery text (Int one ∷ Int k ∷ []) old new)
       → MatchResult r (λ v. items v ≡ shown (take AHEAD (rows_from k (filter (λ e. begins one e.values) rows)))) (IsStoreError old new)
-  tells_of_from one k reads whole (Ok v) ok err =
+  tells_of_from one k reads whole (Ok v) ok =
       let told = reads_of_from old new table free has.sound rows has.holds text AHEAD project one k reads (Ok (items v)) ok in
       told.0 ∙ ap (take AHEAD) (same_shown (width_of table) _ whole (filter (is_of_from one k) rows) (wide_filter _ (is_of_from one k) rows has.holds.rows.wide))
       ∙ taken (λ e. numbers (all_numbers e)) AHEAD (filter (is_of_from one k) rows)
       ∙ ap (λ es. shown (take AHEAD es)) (both_given one k rows)
-  tells_of_from one k reads whole (Err e) ok err =
+  tells_of_from one k reads whole (Err e) err =
       store_error old new e (reads_of_from old new table free has.sound rows has.holds text AHEAD project one k reads (Err e) err)
 
 module _ (old new : State) (text : List ℕ) (params : Row) (only : OnlyShows text (length params) (understood old.now.schema text)) where
@@ -119,6 +119,11 @@ if_ok P Q (Err e) f p = p
 pub if_err : {X E : Type 0} (P Q : E → Type 0) (r : Result X E) → ((e : E) → P e → Q e) → IfErr r P → IfErr r Q
 if_err P Q (Ok x) f p = p
 if_err P Q (Err e) f p = f e p
+
+-- both in one
+pub answered : {X E : Type 0} (P : X → Type 0) (Q : E → Type 0) (r : Result X E) → IfOk r P → IfErr r Q → MatchResult r P Q
+answered P Q (Ok x) ok err = ok
+answered P Q (Err e) ok err = err
 
 -- an answer with a fault told in other words
 pub match_err : {X E : Type 0} (P : X → Type 0) (Q T : E → Type 0) (r : Result X E) → ((e : E) → Q e → T e) → MatchResult r P Q → MatchResult r P T

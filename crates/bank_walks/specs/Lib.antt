@@ -1,5 +1,6 @@
 -- What the walks over the tables of a bank give.
 pub mod Outcomes
+pub mod PairKeys
 pub mod Pairs
 pub mod Reading
 pub mod Rising

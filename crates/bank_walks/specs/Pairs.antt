@@ -1,6 +1,5 @@
 -- Rows of a table, each with the row of another one under its key, if there is one.
-use Rattle.std.specs.Prelude.{◌≡◌, ◌⊎◌, ◌++◌, ◌<ℤ◌, ℤ, List, [], ◌∷◌, map, find, Option, Some, None, Result, Ok, Err, IsSomeAnd, option_map, ⊤}
-use Rattle.std.proofs.Common.{sym, subst}
+use Rattle.std.specs.Prelude.{◌≡◌, ◌⊎◌, ◌++◌, ◌<ℤ◌, ℤ, List, map, find, Option, Some, None, Result, Ok, Err, IsSomeAnd, option_map, ⊤}
 use Rattle.sqlite.specs.declared.error.Error.{Error}
 use Rattle.sqlite.specs.Table.{Table}
 use Rattle.sqlite.specs.Effect.{Database}
@@ -9,9 +8,10 @@ use Rattle.posting_rules.specs.declared.fault.Rule.TheVariants as rule
 use Rattle.store_rows.specs.declared.faults.TableFault.{TableFault}
 use Rattle.store_rows.specs.declared.faults.TableFault.TheVariants.{Sqlite, Damaged}
 use Rattle.bank_walks.specs.Outcomes.{IsRefusedMemory}
-use Rattle.bank_walks.specs.Rows.{HasRows, HaveKeys, entry_key, rows_behind, rows_from}
+use Rattle.bank_walks.specs.Rows.{HasRows, rows_behind, rows_from}
 use Rattle.bank_walks.specs.declared.joined.Joined.{Joined}
 
+-- a row, and the one beside it
 pub record Pair : Type 0 where
   pub entry : Entry
   pub beside : Option Entry
@@ -44,7 +44,8 @@ abbrev pub pair_of : {R O : Type 0} → (R → Entry) → (O → Entry) → Join
 pair_of entry other j = record { entry = entry j.stored; beside = option_map other j.beside }
 
 -- these are the pairs of the rows from a number on, up to those that follow
-abbrev pub AreJoined : {R O : Type 0} → (R → Entry) → (O → Entry) → List Entry → List Entry → ℤ → List (Joined R O) → Option ℤ → Type 0
+abbrev pub AreJoined : {R O : Type 0} → (R → Entry) → (O → Entry) → List Entry → List Entry → ℤ → List (Joined R O) → Option ℤ
+    → Type 0
 AreJoined entry other others rows from done rest =
     paired others (rows_from from rows) ≡ map (pair_of entry other) done ++ paired others (rows_behind rest rows)
 
@@ -63,15 +64,7 @@ TellsKey e (Ok key) = key ≡ e.key
 TellsKey e (Err (Sqlite x)) = IsRefusedMemory x
 TellsKey e (Err (Damaged broken)) = ⊥
 
--- the others are decided up to a key and with it
+-- the key is below the number from which on the others follow, if others do
 abbrev pub IsDecided : Option ℤ → ℤ → Type 0
 IsDecided None key = ⊤
 IsDecided (Some behind) key = key <ℤ behind
-
-keys_of_pairs : (others rows : List Entry) → HaveKeys entry_key rows → HaveKeys pair_key (paired others rows)
-keys_of_pairs others [] all = all
-keys_of_pairs others (e ∷ rows) all = (all.0, keys_of_pairs others rows all.1)
-
--- their keys are those of the rows
-pub pairs_have_keys : (db : Database) (table other : Table) (pairs : List Pair) → HasPairs db table other pairs → HaveKeys pair_key pairs
-pairs_have_keys db table other pairs has = subst (HaveKeys pair_key) (sym has.are) (keys_of_pairs has.others has.rows has.has.least)

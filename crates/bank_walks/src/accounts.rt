@@ -1,6 +1,7 @@
 //! The rows of `account`.
 use crate::limits::LAST_ACCOUNT;
 use crate::numbers::{numbers, whole};
+use crate::statements::rows_shown;
 use crate::stored_row::StoredRow;
 use crate::texts::ACCOUNTS_FROM;
 use message_records::{Account, Whole};
@@ -63,7 +64,7 @@ impl StoredRow for StoredAccount {
         _of: Option<Account>,
         from: i64,
     ) -> Result<Vec<Row>, Error> {
-        conn.query_all(ACCOUNTS_FROM, params![from])
+        rows_shown(conn, ACCOUNTS_FROM, params![from])
     }
 
     fn key(&self) -> u64 {

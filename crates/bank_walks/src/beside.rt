@@ -63,7 +63,8 @@ pub(crate) fn read_beside<S: Alter, O: StoredRow>(
     from: i64,
     rows: &mut ArrayVec<O, AHEAD>,
 ) -> Result<Option<i64>, TableFault>
-    ensures told { HasCleanDisk (state S.Store conn.new) → (all : List Entry) → HasRows (state S.Store conn.old).now O.StoredRow.table all
+    ensures told { HasCleanDisk (state S.Store conn.new) → (all : List Entry)
+        → HasRows (state S.Store conn.old).now O.StoredRow.table all
         → MatchResult result
         (λ rest. rows_from from all ≡ map O.StoredRow.entry rows.new.items ++ rows_behind rest all)
         (BreaksUnder (IsStoreError (state S.Store conn.old) (state S.Store conn.new)) O.StoredRow.is_broken from all) }

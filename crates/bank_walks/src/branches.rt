@@ -1,6 +1,7 @@
 //! The rows of `branch`.
 use crate::limits::MOST_COUNTED;
 use crate::numbers::{numbers, whole};
+use crate::statements::rows_shown;
 use crate::stored_row::StoredRow;
 use crate::texts::BRANCHES_FROM;
 use message_records::{Account, Whole};
@@ -66,7 +67,7 @@ impl StoredRow for StoredBranch {
         _of: Option<Account>,
         from: i64,
     ) -> Result<Vec<Row>, Error> {
-        conn.query_all(BRANCHES_FROM, params![from])
+        rows_shown(conn, BRANCHES_FROM, params![from])
     }
 
     fn key(&self) -> u64 {

@@ -65,7 +65,8 @@ fn join<R: StoredRow, O: StoredRow>(
         → rows_from start others ≡ map O.StoredRow.entry beside.now ++ rows_behind behind others
         → AreJoined R.StoredRow.entry O.StoredRow.entry others base start rows.new.items result }
     ensures rises { RisesFrom start (map (λ j. entry_key (R.StoredRow.entry j.stored)) rows.new.items) result }
-    ensures some { (r : R) (more : List R) → own.now ≡ r ∷ more → IsDecided behind (entry_key (R.StoredRow.entry r)) → rows.new.items ≡ [] → ⊥ }
+    ensures some { (r : R) (more : List R) → own.now ≡ r ∷ more
+        → IsDecided behind (entry_key (R.StoredRow.entry r)) → rows.new.items ≡ [] → ⊥ }
 {
     rows.clear();
     let mut next = start;
@@ -100,7 +101,8 @@ fn join_ahead<S: Alter, R: StoredRow, O: StoredRow>(
         → MatchResult result (AreJoined R.StoredRow.entry O.StoredRow.entry others base start rows.new.items)
         (BreaksUnder (IsStoreError (state S.Store conn.old) (state S.Store conn.new)) O.StoredRow.is_broken start others) }
     ensures rises { IfOk result (λ rest. RisesFrom start (map (λ j. entry_key (R.StoredRow.entry j.stored)) rows.new.items) rest) }
-    ensures some { (r : R) (more : List R) → own.now ≡ r ∷ more → start ≡ entry_key (R.StoredRow.entry r) → OnOk result (rows.new.items ≡ [] → ⊥) }
+    ensures some { (r : R) (more : List R) → own.now ≡ r ∷ more
+        → start ≡ entry_key (R.StoredRow.entry r) → OnOk result (rows.new.items ≡ [] → ⊥) }
     ensures same { HasCleanDisk (state S.Store conn.new) → OnOk result (IsUnchanged (state S.Store conn.old) (state S.Store conn.new)) }
     ensures err { HasCleanDisk (state S.Store conn.new) → IfErr result (λ _. WriteFails (state S.Store conn.old) (state S.Store conn.new)) }
     ensures mode { conn.old.in_transaction ≡ false → conn.new.in_transaction ≡ false }
@@ -125,12 +127,13 @@ fn join_first<S: Alter, R: StoredRow, O: StoredRow>(
         → HasRows (state S.Store conn.old).now O.StoredRow.table others
         → (from : ℤ) → rows_from from base ≡ map R.StoredRow.entry own.now ++ rows_behind rest base
         → MatchResult result (AreJoined R.StoredRow.entry O.StoredRow.entry others base from rows.new.items)
-        (BreaksFirst (IsStoreError (state S.Store conn.old) (state S.Store conn.new)) (BreaksPair R.StoredRow.is_broken O.StoredRow.is_broken)
-        (paired others (rows_from from base))) }
+        (BreaksFirst (IsStoreError (state S.Store conn.old) (state S.Store conn.new))
+        (BreaksPair R.StoredRow.is_broken O.StoredRow.is_broken) (paired others (rows_from from base))) }
     ensures ended { IfOk result (λ next. rows.new.items ≡ [] → next ≡ None) }
     ensures rises { (from : ℤ) → RisesFrom from (map (λ r. entry_key (R.StoredRow.entry r)) own.now) rest
         → IfOk result (λ next. RisesFrom from (map (λ j. entry_key (R.StoredRow.entry j.stored)) rows.new.items) next) }
-    ensures same { HasCleanDisk (state S.Store conn.new) → IsTrue (state S.Store conn.old).is_open → OnOk result (IsUnchanged (state S.Store conn.old) (state S.Store conn.new)) }
+    ensures same { HasCleanDisk (state S.Store conn.new) → IsTrue (state S.Store conn.old).is_open
+        → OnOk result (IsUnchanged (state S.Store conn.old) (state S.Store conn.new)) }
     ensures err { HasCleanDisk (state S.Store conn.new) → IfErr result (λ _. WriteFails (state S.Store conn.old) (state S.Store conn.new)) }
     ensures mode { conn.old.in_transaction ≡ false → conn.new.in_transaction ≡ false }
     ensures survives { Survives (state S.Store conn.old) (state S.Store conn.new) (λ _. ⊥) }
@@ -157,10 +160,13 @@ fn fill_joined<S: Alter, R: StoredRow, O: StoredRow>(
     beside: &mut ArrayVec<O, AHEAD>,
     rows: &mut ArrayVec<Joined<R, O>, AHEAD>,
 ) -> Result<Option<i64>, TableFault>
-    ensures told { HasCleanDisk (state S.Store conn.new) → (all : List Pair) → HasPairs (state S.Store conn.old).now R.StoredRow.table O.StoredRow.table all
+    ensures told { HasCleanDisk (state S.Store conn.new) → (all : List Pair)
+        → HasPairs (state S.Store conn.old).now R.StoredRow.table O.StoredRow.table all
         → let given = filter (λ p. R.StoredRow.is_given of p.entry) all in MatchResult result
-        (λ rest. items_from pair_key from given ≡ map (pair_of R.StoredRow.entry O.StoredRow.entry) rows.new.items ++ items_behind pair_key rest given)
-        (BreaksFirst (IsStoreError (state S.Store conn.old) (state S.Store conn.new)) (BreaksPair R.StoredRow.is_broken O.StoredRow.is_broken) (items_from pair_key from given)) }
+        (λ rest. items_from pair_key from given
+        ≡ map (pair_of R.StoredRow.entry O.StoredRow.entry) rows.new.items ++ items_behind pair_key rest given)
+        (BreaksFirst (IsStoreError (state S.Store conn.old) (state S.Store conn.new))
+        (BreaksPair R.StoredRow.is_broken O.StoredRow.is_broken) (items_from pair_key from given)) }
     ensures ended { IfOk result (λ rest. rows.new.items ≡ [] → rest ≡ None) }
     ensures rises { IfOk result (λ rest. RisesFrom from (map (λ j. entry_key (R.StoredRow.entry j.stored)) rows.new.items) rest) }
     ensures same { HasCleanDisk (state S.Store conn.new) → OnOk result (IsUnchanged (state S.Store conn.old) (state S.Store conn.new)) }
@@ -175,8 +181,8 @@ fn fill_joined<S: Alter, R: StoredRow, O: StoredRow>(
 }
 
 impl WalkedRow for Joined<StoredRequest, StoredPosting> {
-    ghost use Rattle.std.specs.Prelude.{true};
-    ghost use Rattle.bank_walks.specs.Pairs.{pairs_have_keys};
+    ghost use Rattle.std.specs.Prelude.{true, refl};
+    ghost use Rattle.bank_walks.specs.PairKeys.{pairs_have_keys};
     ghost use Rattle.bank_walks.specs.Stored.{asked_pair, IsNoAsked};
     ghost use Rattle.store_rows.specs.SixTables.{history, request};
 
@@ -194,6 +200,8 @@ impl WalkedRow for Joined<StoredRequest, StoredPosting> {
 
     ghost have_keys = { λ db pairs has. pairs_have_keys db request history pairs has };
 
+    ghost all_given = { λ p. refl };
+
     fn fill<S: Alter>(
         conn: &mut Connection<S>,
         _of: Option<Account>,
@@ -207,8 +215,8 @@ impl WalkedRow for Joined<StoredRequest, StoredPosting> {
 }
 
 impl WalkedRow for Joined<StoredPosting, StoredRequest> {
-    ghost use Rattle.std.specs.Prelude.{true};
-    ghost use Rattle.bank_walks.specs.Pairs.{pairs_have_keys};
+    ghost use Rattle.std.specs.Prelude.{true, refl};
+    ghost use Rattle.bank_walks.specs.PairKeys.{pairs_have_keys};
     ghost use Rattle.bank_walks.specs.Stored.{posted_pair, IsNoPosted};
     ghost use Rattle.store_rows.specs.SixTables.{history, request};
 
@@ -225,6 +233,8 @@ impl WalkedRow for Joined<StoredPosting, StoredRequest> {
     ghost HasItems = { λ db pairs. HasPairs db history request pairs };
 
     ghost have_keys = { λ db pairs has. pairs_have_keys db history request pairs has };
+
+    ghost all_given = { λ p. refl };
 
     fn fill<S: Alter>(
         conn: &mut Connection<S>,

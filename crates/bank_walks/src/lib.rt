@@ -10,6 +10,7 @@ mod limits;
 mod numbers;
 mod postings;
 mod requests;
+mod statements;
 mod stored_row;
 mod tellers;
 mod texts;

@@ -1,5 +1,6 @@
 //! The rows of `history`.
 use crate::numbers::{numbers, whole};
+use crate::statements::rows_shown;
 use crate::stored_row::StoredRow;
 use crate::texts::{POSTINGS_FROM, POSTINGS_OF};
 use message_records::{Account, Moment, Whole};
@@ -75,10 +76,10 @@ impl StoredRow for StoredPosting {
         from: i64,
     ) -> Result<Vec<Row>, Error> {
         match of {
-            None => conn.query_all(POSTINGS_FROM, params![from]),
+            None => rows_shown(conn, POSTINGS_FROM, params![from]),
             Some(account) => {
                 let account = account.get() as i64;
-                conn.query_all(POSTINGS_OF, params![account, from])
+                rows_shown(conn, POSTINGS_OF, params![account, from])
             }
         }
     }

@@ -1,5 +1,6 @@
 //! The rows of `request`.
 use crate::numbers::{numbers, whole};
+use crate::statements::rows_shown;
 use crate::stored_row::StoredRow;
 use crate::texts::REQUESTS_FROM;
 use message_records::{Account, Whole};
@@ -80,7 +81,7 @@ impl StoredRow for StoredRequest {
         _of: Option<Account>,
         from: i64,
     ) -> Result<Vec<Row>, Error> {
-        conn.query_all(REQUESTS_FROM, params![from])
+        rows_shown(conn, REQUESTS_FROM, params![from])
     }
 
     fn key(&self) -> u64 {

@@ -1,6 +1,7 @@
 //! The rows of `teller`.
 use crate::limits::LAST_TELLER;
 use crate::numbers::{numbers, whole};
+use crate::statements::rows_shown;
 use crate::stored_row::StoredRow;
 use crate::texts::TELLERS_FROM;
 use message_records::{Account, Whole};
@@ -63,7 +64,7 @@ impl StoredRow for StoredTeller {
         _of: Option<Account>,
         from: i64,
     ) -> Result<Vec<Row>, Error> {
-        conn.query_all(TELLERS_FROM, params![from])
+        rows_shown(conn, TELLERS_FROM, params![from])
     }
 
     fn key(&self) -> u64 {

@@ -1,5 +1,5 @@
 //! Rows that a walk gives.
-ghost use Rattle.std.specs.Prelude.{◌≡◌, ◌++◌, [], ℕ, ℤ, Bool, Option, List, filter, map, None, false, IfOk, IfErr, OnOk, MatchResult};
+ghost use Rattle.std.specs.Prelude.{◌≡◌, ◌++◌, [], ℕ, ℤ, Bool, Option, List, filter, map, None, false, true, IfOk, IfErr, OnOk, MatchResult};
 ghost use Rattle.sqlite.specs.State.{HasCleanDisk, IsUnchanged, Survives};
 ghost use Rattle.sqlite.specs.Held.{state};
 ghost use Rattle.sqlite.specs.Effect.{Database};
@@ -8,12 +8,8 @@ ghost use Rattle.bank_walks.specs.Outcomes.{BreaksFirst};
 ghost use Rattle.bank_walks.specs.Rising.{RisesFrom};
 ghost use Rattle.bank_walks.specs.Rows.{HaveKeys, items_behind, items_from};
 
-use crate::accounts::StoredAccount;
 use crate::ahead::{AHEAD, read_ahead};
-use crate::branches::StoredBranch;
-use crate::postings::StoredPosting;
-use crate::requests::StoredRequest;
-use crate::tellers::StoredTeller;
+use crate::stored_row::StoredRow;
 use arrayvec::ArrayVec;
 use message_records::Account;
 use sqlite::{Alter, Connection};
@@ -54,151 +50,30 @@ pub trait WalkedRow: Copy + Default {
         ensures survives { Survives (state S.Store conn.old) (state S.Store conn.new) (λ _. ⊥) };
 
     ghost have_keys: { (db : Database) (all : List Item) → HasItems db all → HaveKeys key all };
+
+    /// Where no account is named, any is one.
+    ghost all_given: { (x : Item) → is_given None x ≡ true };
 }
 
-impl WalkedRow for StoredAccount {
+impl<R: StoredRow> WalkedRow for R {
     ghost use Rattle.sql_meanings.specs.Entries.{Entry};
     ghost use Rattle.bank_walks.specs.Rows.{HasRows, entry_key};
-    ghost use Rattle.bank_walks.specs.Stored.{account_entry, IsNoAccount};
-    ghost use Rattle.store_rows.specs.SixTables.{account as the_table};
-    ghost use Rattle.std.specs.Prelude.{true};
 
     ghost Item = { Entry };
 
-    ghost item = { account_entry };
+    ghost item = { R.StoredRow.entry };
 
     ghost key = { entry_key };
 
-    ghost is_broken = { IsNoAccount };
+    ghost is_broken = { R.StoredRow.is_broken };
 
-    ghost is_given = { λ of e. true };
+    ghost is_given = { R.StoredRow.is_given };
 
-    ghost HasItems = { λ db rows. HasRows db the_table rows };
-
-    ghost have_keys = { λ db rows has. has.least };
-
-    fn fill<S: Alter>(
-        conn: &mut Connection<S>,
-        of: Option<Account>,
-        from: i64,
-        rows: &mut ArrayVec<Self, AHEAD>,
-    ) -> Result<Option<i64>, TableFault> {
-        read_ahead::<S, Self>(conn, of, from, rows)
-    }
-}
-
-impl WalkedRow for StoredBranch {
-    ghost use Rattle.sql_meanings.specs.Entries.{Entry};
-    ghost use Rattle.bank_walks.specs.Rows.{HasRows, entry_key};
-    ghost use Rattle.bank_walks.specs.Stored.{branch_entry, IsNoBranch};
-    ghost use Rattle.store_rows.specs.SixTables.{branch as the_table};
-    ghost use Rattle.std.specs.Prelude.{true};
-
-    ghost Item = { Entry };
-
-    ghost item = { branch_entry };
-
-    ghost key = { entry_key };
-
-    ghost is_broken = { IsNoBranch };
-
-    ghost is_given = { λ of e. true };
-
-    ghost HasItems = { λ db rows. HasRows db the_table rows };
+    ghost HasItems = { λ db rows. HasRows db R.StoredRow.table rows };
 
     ghost have_keys = { λ db rows has. has.least };
 
-    fn fill<S: Alter>(
-        conn: &mut Connection<S>,
-        of: Option<Account>,
-        from: i64,
-        rows: &mut ArrayVec<Self, AHEAD>,
-    ) -> Result<Option<i64>, TableFault> {
-        read_ahead::<S, Self>(conn, of, from, rows)
-    }
-}
-
-impl WalkedRow for StoredPosting {
-    ghost use Rattle.sql_meanings.specs.Entries.{Entry};
-    ghost use Rattle.bank_walks.specs.Rows.{HasRows, entry_key};
-    ghost use Rattle.bank_walks.specs.Stored.{posting_entry, IsNoPosting, is_of};
-    ghost use Rattle.store_rows.specs.SixTables.{history as the_table};
-
-    ghost Item = { Entry };
-
-    ghost item = { posting_entry };
-
-    ghost key = { entry_key };
-
-    ghost is_broken = { IsNoPosting };
-
-    ghost is_given = { is_of };
-
-    ghost HasItems = { λ db rows. HasRows db the_table rows };
-
-    ghost have_keys = { λ db rows has. has.least };
-
-    fn fill<S: Alter>(
-        conn: &mut Connection<S>,
-        of: Option<Account>,
-        from: i64,
-        rows: &mut ArrayVec<Self, AHEAD>,
-    ) -> Result<Option<i64>, TableFault> {
-        read_ahead::<S, Self>(conn, of, from, rows)
-    }
-}
-
-impl WalkedRow for StoredRequest {
-    ghost use Rattle.sql_meanings.specs.Entries.{Entry};
-    ghost use Rattle.bank_walks.specs.Rows.{HasRows, entry_key};
-    ghost use Rattle.bank_walks.specs.Stored.{request_entry, IsNoRequest};
-    ghost use Rattle.store_rows.specs.SixTables.{request as the_table};
-    ghost use Rattle.std.specs.Prelude.{true};
-
-    ghost Item = { Entry };
-
-    ghost item = { request_entry };
-
-    ghost key = { entry_key };
-
-    ghost is_broken = { IsNoRequest };
-
-    ghost is_given = { λ of e. true };
-
-    ghost HasItems = { λ db rows. HasRows db the_table rows };
-
-    ghost have_keys = { λ db rows has. has.least };
-
-    fn fill<S: Alter>(
-        conn: &mut Connection<S>,
-        of: Option<Account>,
-        from: i64,
-        rows: &mut ArrayVec<Self, AHEAD>,
-    ) -> Result<Option<i64>, TableFault> {
-        read_ahead::<S, Self>(conn, of, from, rows)
-    }
-}
-
-impl WalkedRow for StoredTeller {
-    ghost use Rattle.sql_meanings.specs.Entries.{Entry};
-    ghost use Rattle.bank_walks.specs.Rows.{HasRows, entry_key};
-    ghost use Rattle.bank_walks.specs.Stored.{teller_entry, IsNoTeller};
-    ghost use Rattle.store_rows.specs.SixTables.{teller as the_table};
-    ghost use Rattle.std.specs.Prelude.{true};
-
-    ghost Item = { Entry };
-
-    ghost item = { teller_entry };
-
-    ghost key = { entry_key };
-
-    ghost is_broken = { IsNoTeller };
-
-    ghost is_given = { λ of e. true };
-
-    ghost HasItems = { λ db rows. HasRows db the_table rows };
-
-    ghost have_keys = { λ db rows has. has.least };
+    ghost all_given = { R.StoredRow.all_given };
 
     fn fill<S: Alter>(
         conn: &mut Connection<S>,

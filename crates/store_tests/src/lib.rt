@@ -12,3 +12,5 @@ mod rows;
 mod sql;
 #[cfg(test)]
 mod stops;
+#[cfg(test)]
+mod walks;

@@ -1,39 +1,21 @@
--- What the statement shows, and what stands after it.
+-- What the statement shows.
 use Rattle.std.proofs.Common.{[], ◌∷◌, refl, w64}
 use Rattle.std.proofs.lemmas.Int.{to_z-of_z}
 use Rattle.sqlite.specs.Held.{state}
 use Rattle.sqlite.specs.declared.types.Value.TheVariants.{Int}
-use Rattle.sql_meanings.proofs.ReadSeeks.{commits_nothing}
 use Rattle.sql_meanings.proofs.Texts.{only_reads}
 use Rattle.store_rows.specs.SixTables.{branch}
 use Rattle.bank_walks.proofs.Shows.{shows_two}
-use Rattle.bank_walks.proofs.Sought.{fails_after, if_err, if_ok, same_after, tells_from}
+use Rattle.bank_walks.proofs.Sought.{tells_from}
 use Rattle.bank_walks.proofs.WalkTexts.{is_branches_from, reads_branches}
 use Rattle.bank_walks.proofs.branches.StoredBranchStoredRow.seek.Goals as goal
 
+pub rows_shown-requires : goal.rows_shown-requires
+rows_shown-requires g c = only_reads is_branches_from
+
 pub returns-clause-told : goal.returns-clause-told
 returns-clause-told g c clean rows has =
-    let old = state g.S.Store c.args.conn.now in
-    let new = state g.S.Store c.query_all.new.self in
-    tells_from old new branch refl rows has _ _ (λ v. v.items) c.args.from (reads_branches c.args.from) (λ e. shows_two (Int c.args.from ∷ []) e) c.query_all.result
-    (rw (c.params-to_sql.ensures, to_z-of_z w64 c.args.from c.ranges.from) at (c.query_all.ensures.ok clean))
-    (rw (c.params-to_sql.ensures, to_z-of_z w64 c.args.from c.ranges.from) at (c.query_all.ensures.err clean))
-
-pub returns-clause-same : goal.returns-clause-same
-returns-clause-same g c clean =
-    let old = state g.S.Store c.args.conn.now in
-    let new = state g.S.Store c.query_all.new.self in
-    if_ok _ _ c.query_all.result (λ found h. same_after old new _ _ (only_reads is_branches_from c.args.conn.now.schema) found.items h)
-    (c.query_all.ensures.ok clean)
-
-pub returns-clause-err : goal.returns-clause-err
-returns-clause-err g c clean =
-    let old = state g.S.Store c.args.conn.now in
-    let new = state g.S.Store c.query_all.new.self in
-    if_err _ _ c.query_all.result (λ e h. fails_after old new _ _ (only_reads is_branches_from c.args.conn.now.schema) e h)
-    (c.query_all.ensures.err clean)
-
-pub returns-clause-survives : goal.returns-clause-survives
-returns-clause-survives g c =
-    commits_nothing _ _ (state g.S.Store c.args.conn.now) (state g.S.Store c.query_all.new.self)
-    (only_reads is_branches_from c.args.conn.now.schema) c.query_all.ensures.survives
+    let from = c.args.from in
+    tells_from (state g.S.Store c.args.conn.now) (state g.S.Store c.rows_shown.new.conn) branch refl rows has _ _ (λ v. v.items) from (reads_branches from)
+    (shows_two (Int from ∷ [])) c.rows_shown.result
+    (rw (c.params-to_sql.ensures, to_z-of_z w64 from c.ranges.from) at (c.rows_shown.ensures.shown clean))

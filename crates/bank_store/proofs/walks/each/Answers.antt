@@ -1,7 +1,7 @@
 -- All rows are to come.
 use Rattle.std.proofs.Common.{rules, ◌∙◌}
-use Rattle.bank_walks.proofs.Sought.{all_given}
-use Rattle.bank_store.proofs.walks.each_request.Goals as goal
+use Rattle.bank_walks.proofs.Sought.{all_pass}
+use Rattle.bank_store.proofs.walks.each.Goals as goal
 
 pub returns : goal.returns
 returns g c = (
@@ -10,7 +10,7 @@ returns g c = (
     refused = tt;
     same_reference = c.over.ensures.same_reference;
     same = c.over.ensures.same;
-    all = λ rows has. c.over.ensures.all rows has ∙ all_given rows;
+    all = λ all has. c.over.ensures.all all has ∙ all_pass _ (g.met.R.WalkedRow.all_given) all;
     rises = c.over.ensures.rises;
     fault = tt;
   },
