@@ -1,5 +1,6 @@
 -- The next rows above a key, or from it on, under any schema.
-use Rattle.std.proofs.Common.{◌≡◌, ℕ, suc, ◌-◌, List, [], ◌∷◌, map, Ok, Some, None, Option, refl, true, false, nat_lt, ap, ◌∙◌}
+use Rattle.std.proofs.Common.{◌≡◌, ℕ, suc, ◌-◌, List, [], ◌∷◌, map, Ok, Some, None, Option, refl, true, false}
+use Rattle.std.proofs.Common.{nat_lt, ap, ◌∙◌}
 use Rattle.sqlite_value.specs.declared.keys.Collation.{Collation}
 use Rattle.sqlite_value.specs.declared.keys.Collation.TheVariants.{Binary}
 use Rattle.sqlite_sql.specs.declared.ops.BinaryOp.TheVariants as by
@@ -49,7 +50,8 @@ use Rattle.sqlite_resolve.specs.Expr.{
   tests_alias,
   combine,
 }
-use Rattle.sqlite_resolve.specs.Program.{viewing, single, source, sources, whole, with, level, query_to, query}
+use Rattle.sqlite_resolve.specs.Program.{viewing, single, source, sources, whole, with, level, query_to}
+use Rattle.sqlite_resolve.specs.Program.{query}
 use Rattle.sqlite_resolve.specs.Program as prog
 use Rattle.sqlite_resolve.specs.Compile.{compiled, first, with_command}
 use Rattle.sql_meanings.proofs.Columns.{over_one, column_is}
@@ -99,7 +101,8 @@ compared_start Onwards cx at m left right = rw (left, right)
 
 module _ (schema : Schema) where
   -- a LIMIT by an integer
-  pub constant_is : (e : Expr) (text : List ℕ) (v : Value) → out-Expr e ≡ Expr-F.Integer text → integer false text ≡ Ok v
+  pub constant_is : (e : Expr) (text : List ℕ) (v : Value) → out-Expr e ≡ Expr-F.Integer text
+      → integer false text ≡ Ok v
       → constant schema e ≡ Ok (lit v)
   unfolding constant stepless
   constant_is e text v is value = rw (lower_integer (outermost schema) e text v 699 1 100000 nothing is value refl)
@@ -114,7 +117,8 @@ module _ (schema : Schema) where
   pub paged_is : (s : written_select.Select) (core : Core) (source : From) (from : Name) (order : List Sort) (limit : Expr) (most : Term)
       (shown : Draft × List Name × List (Option Collation))
       → out-Select s ≡ record { with = []; first = core; others = []; order = order; limit = Some limit; offset = None }
-      → (out-Core core).from ≡ source ∷ [] → (out-Source source).origin ≡ origin.Table from → constant schema limit ≡ Ok most
+      → (out-Core core).from ≡ source ∷ [] → (out-Source source).origin ≡ origin.Table from
+      → constant schema limit ≡ Ok most
       → named schema core order (most, number 0) ≡ Ok shown
       → query schema s ≡ Ok (shown, [])
   unfolding query query_to level with whole paging constant_or prog.alone single source sources
@@ -130,8 +134,10 @@ module _ (schema : Schema) (name : Name) (p : ℕ) (table : Table) (has : HasTab
       → out-Select s ≡ record { with = []; first = core; others = []; order = sort ∷ []; limit = Some limit; offset = None }
       → out-Core core ≡ record { distinct = false; shown = shown; from = source ∷ []; filter = Some test; group = []; having = None }
       → one_table name source
-      → out-Expr test ≡ Expr-F.Binary (written_as k) a b → out-Expr a ≡ Expr-F.Column None wanted → out-Expr b ≡ Expr-F.Parameter m
-      → out-Sort sort ≡ record { key = e; descending = false; nulls_first = None } → out-Expr e ≡ Expr-F.Column None wanted
+      → out-Expr test ≡ Expr-F.Binary (written_as k) a b → out-Expr a ≡ Expr-F.Column None wanted
+      → out-Expr b ≡ Expr-F.Parameter m
+      → out-Sort sort ≡ record { key = e; descending = false; nulls_first = None }
+      → out-Expr e ≡ Expr-F.Column None wanted
       → alias_of wanted os ≡ None
       → out-Expr limit ≡ Expr-F.Integer most → integer false most ≡ Ok v
       → Shows table shown os → HasRoom 100000 os

@@ -1,5 +1,6 @@
 -- Whatever refers to a table with no foreign key of its own, an edit leaves in it what the edit says.
-use Rattle.std.proofs.Common.{◌≡◌, ◌≢◌, ℕ, suc, zero, ◌+◌, ◌==◌, List, [], ◌∷◌, length, Ok, Result, Some, None, Option, refl, nat_lt, ◌&&◌, ap, sym, subst, ◌∙◌, inl, inr, ◌⊎◌}
+use Rattle.std.proofs.Common.{◌≡◌, ◌≢◌, ℕ, suc, zero, ◌+◌, ◌==◌, List, [], ◌∷◌, length, Ok, Result, Some}
+use Rattle.std.proofs.Common.{None, Option, refl, nat_lt, ◌&&◌, ap, sym, subst, ◌∙◌, inl, inr, ◌⊎◌}
 use Rattle.std.specs.Prelude.{ℤ}
 use Rattle.std.specs.List.{filter_map, flat_map, cons_option, list_any}
 use Rattle.std.proofs.lemmas.Bool.{cases_Bool}
@@ -55,7 +56,8 @@ module _ (schema : Schema) (keys : Keys) where
       some_same : {a b : Work} → ◌≡◌ {A = Option Work} (Some a) (Some b) → a ≡ b
       some_same e = cc
 
-  cons_has : {X : Type 0} (o : Option X) (xs : List X) (x : X) → Has (cons_option o xs) x → (o ≡ Some x) ⊎ Has xs x
+  cons_has : {X : Type 0} (o : Option X) (xs : List X) (x : X) → Has (cons_option o xs) x
+      → (o ≡ Some x) ⊎ Has xs x
   cons_has None xs x h = inr h
   cons_has (Some y) xs x (inl e) = inl (ap Some (sym e))
   cons_has (Some y) xs x (inr h) = inr h
@@ -70,7 +72,8 @@ module _ (schema : Schema) (keys : Keys) where
     | inr more ↦ let g = good_of depth tree olds news child refs w more in (g.0, inr g.1)
   ]
 
-  good_in : (depth tree : ℕ) (olds news : List Row) (tables : List Table) → ((t : Table) → Has tables t → Has schema.tables t)
+  good_in : (depth tree : ℕ) (olds news : List Row) (tables : List Table)
+      → ((t : Table) → Has tables t → Has schema.tables t)
       → (w : Work)
       → Has (flat_map (λ child. filter_map (work_for schema keys depth tree olds news child) child.references) tables) w → Good schema w
   good_in depth tree olds news [] within w h = absurd h
@@ -82,7 +85,8 @@ module _ (schema : Schema) (keys : Keys) where
       ]
 
   -- what is set off is a foreign key of a table of the schema
-  pub good_works : (depth tree : ℕ) (olds news : List Row) (w : Work) → Has (works schema keys depth tree olds news) w → Good schema w
+  pub good_works : (depth tree : ℕ) (olds news : List Row) (w : Work)
+      → Has (works schema keys depth tree olds news) w → Good schema w
   good_works depth tree olds news w h = good_in depth tree olds news schema.tables (λ t k. k) w h
 
   module _ (table : Table) (stands : Stands schema table) where
@@ -91,7 +95,8 @@ module _ (schema : Schema) (keys : Keys) where
         absurd (subst (λ refs. Has refs w.ref) (ap (λ (t : Table). t.references) is ∙ stands.free) good.1)
 
     -- an edit of another tree leaves the table
-    pub apart_from : (db next : Trees) (edit : Edit) → table.tree ≢ edit.table.tree → Applies schema keys db edit next
+    pub apart_from : (db next : Trees) (edit : Edit) → table.tree ≢ edit.table.tree
+        → Applies schema keys db edit next
         → next table.tree ≡ db table.tree
     apart_from db next edit other applies = all_has _ schema.tables table applies.tables stands.listed other
 
@@ -115,7 +120,8 @@ module _ (schema : Schema) (keys : Keys) where
           ]) on.2
           ∙ apart_from db on.0 (action_edit db w ids) (other_tree w here) on.1
 
-      acts_on : (ids : List ℤ) → ActsOn schema keys Then db w below (Ok next) ids → next table.tree ≡ db table.tree
+      acts_on : (ids : List ℤ) → ActsOn schema keys Then db w below (Ok next) ids
+          → next table.tree ≡ db table.tree
       acts_on [] h = rests db below under h
       acts_on (id ∷ ids) h = elim (cases_Bool (refuses w.deed)) [
         | inl refused ↦ absurd (let e = rw refused at h in cc)

@@ -1,5 +1,6 @@
 -- The next rows from a key on among those with a number in a column, under any schema.
-use Rattle.std.proofs.Common.{Bool, ◌≡◌, ℕ, suc, ◌-◌, List, [], ◌∷◌, map, Ok, Some, None, true, false, nat_lt, ap, ◌∙◌}
+use Rattle.std.proofs.Common.{Bool, ◌≡◌, ℕ, suc, ◌-◌, List, [], ◌∷◌, map, Ok, Some, None, true, false, nat_lt}
+use Rattle.std.proofs.Common.{ap, ◌∙◌}
 use Rattle.sqlite_value.specs.declared.keys.Collation.TheVariants.{Binary}
 use Rattle.sqlite_sql.specs.declared.ops.BinaryOp.TheVariants as by
 use Rattle.sqlite_sql.specs.declared.ops.CompareOp.TheVariants as compare
@@ -31,7 +32,8 @@ use Rattle.sqlite_resolve.specs.Terms.{number, conjuncts}
 use Rattle.sqlite_resolve.specs.Compare.{affinity_of}
 use Rattle.sqlite_resolve.specs.Select.{ungrouped}
 use Rattle.sqlite_resolve.specs.Expr.{lower_to, both}
-use Rattle.sqlite_resolve.specs.Program.{viewing, single, source, sources, whole, with, level, query_to, query}
+use Rattle.sqlite_resolve.specs.Program.{viewing, single, source, sources, whole, with, level, query_to}
+use Rattle.sqlite_resolve.specs.Program.{query}
 use Rattle.sqlite_resolve.specs.Program as prog
 use Rattle.sqlite_resolve.specs.Compile.{compiled, first, with_command}
 use Rattle.sql_meanings.proofs.Columns.{over_one, column_is}
@@ -46,7 +48,8 @@ use Rattle.sql_meanings.proofs.Above.{Onwards, compared_start, constant_is, lowe
 module _ (schema : Schema) (p : ℕ) (table : Table) (name : Name) (shown : List Output) (may : Bool) (has : HasTable schema name p table) where
   -- the test that a column is a parameter or above it
   from_test : (e a b : Expr) (wanted : Name) (at m : ℕ) (t : Tests table wanted at) (d next budget : ℕ) (l : Carried)
-      → out-Expr e ≡ Expr-F.Binary binary.Ge a b → out-Expr a ≡ Expr-F.Column None wanted → out-Expr b ≡ Expr-F.Parameter m
+      → out-Expr e ≡ Expr-F.Binary binary.Ge a b → out-Expr a ≡ Expr-F.Column None wanted
+      → out-Expr b ≡ Expr-F.Parameter m
       → affinity_of (over_one schema name p shown may) (col 1 at) ≡ affinity.Numeric
       → nat_lt 1 budget ≡ true → nat_lt 1 (budget - 1) ≡ true → nat_lt 1 (budget - 1 - 1) ≡ true
       → lower_to (suc (suc d)) (over_one schema name p shown may) e (st next budget l)
@@ -69,9 +72,12 @@ module _ (schema : Schema) (name : Name) (p : ℕ) (table : Table) (has : HasTab
       → out-Core core ≡ record { distinct = false; shown = shown; from = source ∷ []; filter = Some both; group = []; having = None }
       → one_table name source
       → out-Expr both ≡ Expr-F.Binary binary.And test test'
-      → out-Expr test ≡ Expr-F.Binary binary.Eq a b → out-Expr a ≡ Expr-F.Column None wanted → out-Expr b ≡ Expr-F.Parameter m
-      → out-Expr test' ≡ Expr-F.Binary binary.Ge a' b' → out-Expr a' ≡ Expr-F.Column None wanted' → out-Expr b' ≡ Expr-F.Parameter m'
-      → out-Sort sort ≡ record { key = e; descending = false; nulls_first = None } → out-Expr e ≡ Expr-F.Column None wanted'
+      → out-Expr test ≡ Expr-F.Binary binary.Eq a b → out-Expr a ≡ Expr-F.Column None wanted
+      → out-Expr b ≡ Expr-F.Parameter m
+      → out-Expr test' ≡ Expr-F.Binary binary.Ge a' b' → out-Expr a' ≡ Expr-F.Column None wanted'
+      → out-Expr b' ≡ Expr-F.Parameter m'
+      → out-Sort sort ≡ record { key = e; descending = false; nulls_first = None }
+      → out-Expr e ≡ Expr-F.Column None wanted'
       → alias_of wanted' os ≡ None
       → out-Expr limit ≡ Expr-F.Integer most → integer false most ≡ Ok v
       → Shows table shown os → HasRoom 100000 os

@@ -45,7 +45,8 @@ module _ (schema : Schema) (p : ℕ) (table : Table) (at : slice_get schema.tabl
   column_at_is slot k c there = rw (at, there)
 
   -- a name that the table has is found
-  pub found_is : (name : Name) (shown : List Output) (may : Bool) (wanted : Name) (k : ℕ) → column_named table wanted ≡ Some k
+  pub found_is : (name : Name) (shown : List Output) (may : Bool) (wanted : Name) (k : ℕ)
+      → column_named table wanted ≡ Some k
       → find (over_one schema name p shown may) None wanted ≡ Ok (found.Column 1 p k)
   unfolding find in_level only hit column_in is_among
   found_is name shown may wanted k is = rw (at, is)

@@ -11,14 +11,16 @@ use Rattle.sqlite_resolve.specs.declared.state.Carried.{Carried}
 use Rattle.sqlite_resolve.specs.Lowering.{nothing, begin, finish, spend, chosen}
 use Rattle.sqlite_resolve.specs.Scope.{Name, Context, column}
 use Rattle.sqlite_resolve.specs.Compare.{compared}
-use Rattle.sqlite_resolve.specs.Expr.{lower_to, node, opened, passes, operation, both, wanted_truth, tests_truth, tests_alias, combine}
+use Rattle.sqlite_resolve.specs.Expr.{lower_to, node, opened, passes, operation, both, wanted_truth}
+use Rattle.sqlite_resolve.specs.Expr.{tests_truth, tests_alias, combine}
 
 -- between two expressions of a query with no subquery
 abbrev pub st : ℕ → ℕ → Carried → State
 st next budget carried = record { next = next; steps = []; aggregates = []; budget = budget; written = None; last = carried }
 
 -- a parameter
-pub lower_parameter : (cx : Context) (e : Expr) (n : ℕ) (d next budget : ℕ) (l : Carried) → out-Expr e ≡ Expr-F.Parameter n
+pub lower_parameter : (cx : Context) (e : Expr) (n : ℕ) (d next budget : ℕ) (l : Carried)
+    → out-Expr e ≡ Expr-F.Parameter n
     → nat_lt 1 budget ≡ true
     → lower_to (suc d) cx e (st next budget l) ≡ Ok (col 0 (n - 1), st next (budget - 1) nothing)
 unfolding lower_to node spend begin opened finish passes

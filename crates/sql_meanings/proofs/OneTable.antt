@@ -23,11 +23,13 @@ use Rattle.sqlite_resolve.specs.declared.state.Carried.{Carried}
 use Rattle.sqlite_resolve.specs.Lowering.{nothing, take_slot}
 use Rattle.sqlite_resolve.specs.Scope.{Name}
 use Rattle.sqlite_resolve.specs.Terms.{number}
-use Rattle.sqlite_resolve.specs.Body.{table_in, bound, bounds, outputs, shared, joins, join, inner_join, tests, result, matching, body}
+use Rattle.sqlite_resolve.specs.Body.{table_in, bound, bounds, outputs, shared, joins, join, inner_join}
+use Rattle.sqlite_resolve.specs.Body.{tests, result, matching, body}
 use Rattle.sqlite_resolve.specs.Order.{sorts, keys}
 use Rattle.sqlite_resolve.specs.Select.{parts, having, assembled, ungrouped, named, paging, constant_or}
 use Rattle.sqlite_resolve.specs.Expr.{lower}
-use Rattle.sqlite_resolve.specs.Program.{viewing, single, source, sources, alone, whole, with, level, query_to, query, program}
+use Rattle.sqlite_resolve.specs.Program.{viewing, single, source, sources, alone, whole, with, level}
+use Rattle.sqlite_resolve.specs.Program.{query_to, query, program}
 use Rattle.sqlite_resolve.specs.Compile.{read}
 use Rattle.sql_meanings.specs.Queries.{no_limit}
 use Rattle.sql_meanings.proofs.Columns.{bound_to, over_one}

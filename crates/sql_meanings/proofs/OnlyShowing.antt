@@ -1,5 +1,6 @@
 -- A SELECT shows rows and writes nothing, whatever the schema makes of it.
-use Rattle.std.proofs.Common.{◌≡◌, inl, inr, ℕ, List, [], length, ◌≤◌, Ok, Err, Result, refl, sym, subst, ◌∙◌, Bool, true, false, cond}
+use Rattle.std.proofs.Common.{◌≡◌, inl, inr, ℕ, List, [], length, ◌≤◌, Ok, Err, Result, refl, sym, subst, ◌∙◌}
+use Rattle.std.proofs.Common.{Bool, true, false, cond}
 use Rattle.sqlite.specs.Schema.{Schema}
 use Rattle.sqlite.specs.Order.{Row}
 use Rattle.sqlite.specs.Command.{Command}
@@ -9,15 +10,18 @@ use Rattle.sqlite_syntax.specs.declared.statement.Parsed.{Parsed}
 use Rattle.sqlite_resolve.specs.declared.compiled.Compiled.{Compiled}
 use Rattle.sqlite_resolve.specs.declared.error.CompileError.{CompileError}
 use Rattle.sqlite_resolve.specs.Lowering.{Checked}
-use Rattle.sqlite_resolve.specs.Compile.{compiled, first, planned, timed, meaning, returning, command, shows, read}
+use Rattle.sqlite_resolve.specs.Compile.{compiled, first, planned, timed, meaning, returning, command, shows}
+use Rattle.sqlite_resolve.specs.Compile.{read}
 use Rattle.sqlite.specs.Listing.{understood, listing_schema, reads_listing, if_select, is_select}
 use Rattle.sqlite_resolve.specs.declared.error.CompileError.TheVariants.{NoSuchTable}
-use Rattle.sqlite.specs.State.{State, IsUnchanged, QueriesRow, QueriesRowInside, FailsToQuery, IsNotRun, Shown}
+use Rattle.sqlite.specs.State.{State, IsUnchanged, QueriesRow, QueriesRowInside, FailsToQuery, IsNotRun}
+use Rattle.sqlite.specs.State.{Shown}
 use Rattle.sqlite.specs.declared.error.Error.{Error}
 use Rattle.sqlite.specs.declared.error.Error.TheVariants.{QueryReturnedNoRows}
 use Rattle.sqlite.specs.State.{store_error}
 use Rattle.sqlite_trees.specs.declared.error.StoreError.{StoreError}
-use Rattle.sqlite_trees.specs.declared.error.StoreError.TheVariants.{OutOfMemory, Io, Corrupt, Full, Broken, Unstorable}
+use Rattle.sqlite_trees.specs.declared.error.StoreError.TheVariants.{OutOfMemory, Io, Corrupt, Full, Broken}
+use Rattle.sqlite_trees.specs.declared.error.StoreError.TheVariants.{Unstorable}
 use Rattle.sql_meanings.proofs.Statements.{compiled_select}
 use Rattle.sql_meanings.specs.Outcomes.{IsOne, OnlyShows, ReadKept}
 
@@ -41,7 +45,8 @@ module _ (text : List ℕ) (count : ℕ) (P : Parsed) (s : written_select.Select
           (record { bare = refl; timeless = refl; whole = whole; given = given })
       go (Err e) made c same = absurd (let it = sym same ∙ refused schema e made in cc)
 
-  by_listing : (b : Bool) (x y : Result Compiled CompileError) → OnlyShows text count x → OnlyShows text count y
+  by_listing : (b : Bool) (x y : Result Compiled CompileError) → OnlyShows text count x
+      → OnlyShows text count y
       → OnlyShows text count (cond b x y)
   by_listing true x y p q = p
   by_listing false x y p q = q
@@ -63,7 +68,8 @@ module _ (text : List ℕ) (count : ℕ) (P : Parsed) (s : written_select.Select
 
 -- whatever a row is read of
 pub kept_reading : (old new : State) (text : List ℕ) (params : Row) (r : Result Row Error)
-    → OnlyShows text (length params) (understood old.now.schema text) → QueriesRowInside text params old new r → ReadKept old new r
+    → OnlyShows text (length params) (understood old.now.schema text) → QueriesRowInside text params old new r
+    → ReadKept old new r
 unfolding QueriesRow FailsToQuery IsNotRun Shown
 kept_reading old new text params (Ok row) only (inl begun) = begun.1
 kept_reading old new text params (Ok row) only (inr whole) = let it = rw ((only whole.1.0 whole.1.1.is).bare) at whole.1.2 in it.3

@@ -28,7 +28,8 @@ use Rattle.sqlite.specs.Program.{overlay}
 use Rattle.sqlite.specs.Command.TheVariants.{Select}
 use Rattle.sqlite.specs.Effect.{RefusesToRead}
 use Rattle.sqlite.specs.Listing.{understood, reads_listing, IsSourceOf}
-use Rattle.sqlite.specs.State.{State, IsUnchanged, IsNotRun, Shown, QueriesRow, QueriesRowInside, FailsToQuery}
+use Rattle.sqlite.specs.State.{State, IsUnchanged, IsNotRun, Shown, QueriesRow, QueriesRowInside}
+use Rattle.sqlite.specs.State.{FailsToQuery}
 use Rattle.sqlite_typing.specs.Types.{accepts_program}
 use Rattle.sqlite_sql.proofs.QueryLemmas.{no_fold_overflows}
 use Rattle.sqlite.specs.declared.error.Error.{Error}
@@ -54,7 +55,8 @@ module _ (schema : Schema) (text : List ℕ) (params : Row) (q : Query) (names :
   here = subst (λ s. Means s text (length params) (Select (record { lets = []; body = q }) names)) (sym has) m
 
   -- all rows that are shown are an answer
-  pub shown_answers : (rows : List Row) → Shown text params old new rows → IsSureAnswer q (overlay old.now.trees []) params rows
+  pub shown_answers : (rows : List Row) → Shown text params old new rows
+      → IsSureAnswer q (overlay old.now.trees []) params rows
       × IsUnchanged old new
   unfolding Shown
   shown_answers rows h =

@@ -122,7 +122,8 @@ module _ (old new : State) (t : Table) (is : IsOfNumbers (uncounted t)) (sound :
   record Given (rows : List Row) : Type 0 where
     pub news : (put_by rows).news ≡ map stored (e ∷ [])
     pub after : edited db (put_by rows) ≡ map stored (put e es)
-    pub taken : are_fresh (left_by db (put_by rows)) (put_by rows).news ≡ false → is_some (find (has_key e.key) es) ≡ true
+    pub taken : are_fresh (left_by db (put_by rows)) (put_by rows).news ≡ false
+        → is_some (find (has_key e.key) es) ≡ true
 
   given : (rows : List Row) → rows ≡ source → Given rows
   given rows are = subst Given (sym (are ∙ puts.gives tree)) (record {
@@ -144,13 +145,15 @@ module _ (old new : State) (t : Table) (is : IsOfNumbers (uncounted t)) (sound :
       ⊎ (((error ≡ key_taken) × (is_some (find (has_key e.key) es) ≡ true))
       ⊎ ((error ≡ SqliteFailure (code.ConstraintViolation Unique)) × Forbids schema table (put e es)))
 
-  sourced : (stop : Option Error) → Sourced old.step_limit old.now (stamped here params) (from.Values puts.terms puts.width) (Err stop)
+  sourced : (stop : Option Error)
+      → Sourced old.step_limit old.now (stamped here params) (from.Values puts.terms puts.width) (Err stop)
       → PutStops stop
   sourced None h = absurd h
   sourced (Some error) (inl mismatch) = absurd (let right = puts.accepts tree in let wrong = mismatch.1 in cc)
   sourced (Some error) (inr limit) = inl limit
 
-  edit_is : (rows : List Row) (it : Given rows) (stop : Option Error) → Edited schema Enforced db (put_by rows) (Err stop) → PutStops stop
+  edit_is : (rows : List Row) (it : Given rows) (stop : Option Error)
+      → Edited schema Enforced db (put_by rows) (Err stop) → PutStops stop
   edit_is rows it stop h = go stop (edit_stops schema db (put_by rows) numbered (e ∷ []) it.news fits ⊥
       (inl (none_in schema Enforced tree (put_by rows).news schema.tables)) (asks_none schema (put_by rows) is.free refl) refl stop h)
     where
@@ -170,7 +173,8 @@ module _ (old new : State) (t : Table) (is : IsOfNumbers (uncounted t)) (sound :
   last rows counter mid = Then (Counts task mid counter (fold higher (count_of counter) (put_by rows).news))
       (λ next. Gives (record { trees = next; rows = (put_by rows).news; last = last_id (put_by rows).news }))
 
-  inserts_stop : (stop : Option Error) → Inserts task (from.Values puts.terms puts.width) db (Err stop) → PutStops stop
+  inserts_stop : (stop : Option Error) → Inserts task (from.Values puts.terms puts.width) db (Err stop)
+      → PutStops stop
   inserts_stop stop h = elim (stopped (Sourced old.step_limit old.now (stamped here params) (from.Values puts.terms puts.width))
       (λ rows. Then (Counter task db) (λ counter. Then (Edited schema Enforced db (put_by rows)) (last rows counter))) stop h) [
         | inl values ↦ sourced stop values
@@ -185,7 +189,8 @@ module _ (old new : State) (t : Table) (is : IsOfNumbers (uncounted t)) (sound :
       ]
 
   -- a row more breaks no foreign key
-  kept : (w : Written) → Inserts task (from.Values puts.terms puts.width) db (Ok w) → Refers All schema db → Refers All schema w.trees
+  kept : (w : Written) → Inserts task (from.Values puts.terms puts.width) db (Ok w) → Refers All schema db
+      → Refers All schema w.trees
   kept w h refers =
       let some = went h in
       let written = went (went some.2).2 in
@@ -198,7 +203,8 @@ module _ (old new : State) (t : Table) (is : IsOfNumbers (uncounted t)) (sound :
       (put_all_keeps edit.news (db tree) r applies.fresh there) in
       subst (Refers All schema) (sym trees) (refers_after schema here at.stands db written.0 others (inr grows) refers)
 
-  concludes_stop : (w : Written) → Inserts task (from.Values puts.terms puts.width) db (Ok w) → (stop : Option Error)
+  concludes_stop : (w : Written) → Inserts task (from.Values puts.terms puts.width) db (Ok w)
+      → (stop : Option Error)
       → Concludes task (mode_of old) None w (Err stop) → PutStops stop
   concludes_stop w done stop h = elim (stopped (Tested (mode_of old) (λ among. Refers among schema w.trees))
       (λ in_doubt. Then (Returns task w None) (λ rows.

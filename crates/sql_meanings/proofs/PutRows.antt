@@ -1,5 +1,6 @@
 -- A new row is put into a table.
-use Rattle.std.proofs.Common.{◌≡◌, ℕ, ◌/◌, List, [], ◌∷◌, map, find, length, is_some, Ok, refl, sym, ap, subst, ◌∙◌, Bool, not, ◌&&◌, true, false}
+use Rattle.std.proofs.Common.{◌≡◌, ℕ, ◌/◌, List, [], ◌∷◌, map, find, length, is_some, Ok, refl, sym, ap}
+use Rattle.std.proofs.Common.{subst, ◌∙◌, Bool, not, ◌&&◌, true, false}
 use Rattle.sqlite.specs.Order.{Row}
 use Rattle.sqlite.specs.Schema.{Schema}
 use Rattle.sqlite.specs.Tree.{Trees, put_row}
@@ -46,7 +47,8 @@ pub record PutsAs (table : Table) (text : List ℕ) (params : Row) (new : Entry)
   pub width : ℕ
   pub means : (schema : Schema) (p tree : ℕ) → HasTable schema table.name p (placed_at table tree)
       → Means schema text (length params) (Insert p (Values terms width))
-  pub gives : (tree : ℕ) → value_rows (stamped (placed_at table tree) params) width (length terms / width) terms ≡ stored new ∷ []
+  pub gives : (tree : ℕ)
+      → value_rows (stamped (placed_at table tree) params) width (length terms / width) terms ≡ stored new ∷ []
   pub wide : length new.values ≡ width_of table
   pub accepts : (tree : ℕ) → accepts_terms terms (stamped (placed_at table tree) params) ≡ true
   pub passes : passes_checks table (stored new) ≡ true

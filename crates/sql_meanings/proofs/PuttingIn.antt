@@ -53,7 +53,8 @@ abbrev pub key_taken : Error
 key_taken = SqliteFailure (code.ConstraintViolation PrimaryKey)
 
 -- with nothing set off nothing is refused
-pub no_end : (schema : Schema) (keys : Keys) (n : ℕ) (db : Trees) (why : Option Refusal) → ¬ Leads schema keys n db [] (Err why)
+pub no_end : (schema : Schema) (keys : Keys) (n : ℕ) (db : Trees) (why : Option Refusal)
+    → ¬ Leads schema keys n db [] (Err why)
 no_end schema keys zero db why h = let e = h.1 in cc
 no_end schema keys (suc n) db why h = absurd (omega (arith, ap length h.2, length-append h.0 (h.1 ∷ [])))
 

@@ -38,7 +38,8 @@ module _ (old new : State) (table : Table) (free : table.references ≡ []) (sou
       (under_overlay old.now.trees tree low holds.rows) (sure Null))
 
   -- the row with the least key above
-  pub reads_next : (k : ℤ) → ReadsAs table text (Int k ∷ []) (λ t. next_above t project) → (r : Result Row Error)
+  pub reads_next : (k : ℤ) → ReadsAs table text (Int k ∷ []) (λ t. next_above t project)
+      → (r : Result Row Error)
       → QueriesRowInside text (Int k ∷ []) old new r
       → TellsRow old new (option_map (λ e. eval_all project ((Int k ∷ []) ∷ stored e ∷ [])) (find (is_above k) es)) r
   reads_next k reads =
@@ -53,7 +54,8 @@ module _ (old new : State) (table : Table) (free : table.references ≡ []) (sou
       (standing old.now table free sound holds.defined).stands.listed unique order holds.rows.are e h)
 
   -- the row with two given numbers behind its key, where these are UNIQUE together
-  pub reads_two : (one two : ℤ) → slice_get table.uniques 0 ≡ Some (2 ∷ 3 ∷ []) → get_or table.orders 0 plain ≡ plain
+  pub reads_two : (one two : ℤ) → slice_get table.uniques 0 ≡ Some (2 ∷ 3 ∷ [])
+      → get_or table.orders 0 plain ≡ plain
       → ReadsAs table text (Int one ∷ Int two ∷ []) (λ t. by_two 2 3 t project) → (r : Result Row Error)
       → QueriesRowInside text (Int one ∷ Int two ∷ []) old new r
       → TellsRow old new (option_map (λ e. eval_all project ((Int one ∷ Int two ∷ []) ∷ stored e ∷ [])) (find (has_two one two) es)) r

@@ -60,7 +60,8 @@ module _ {X : Type 0} (cmp : X → X → Ordering) (total : IsTotalOrder cmp) wh
   none_in p [] h = tt
   none_in p (z ∷ zs) h = go (p z) refl h (none_in p zs)
     where
-      go : (b : Bool) → p z ≡ b → cond b (z ∷ filter p zs) (filter p zs) ≡ [] → (filter p zs ≡ [] → AllByRecursion (λ z. p z ≡ false) zs)
+      go : (b : Bool) → p z ≡ b → cond b (z ∷ filter p zs) (filter p zs) ≡ []
+          → (filter p zs ≡ [] → AllByRecursion (λ z. p z ≡ false) zs)
           → (p z ≡ false) × AllByRecursion (λ z. p z ≡ false) zs
       go true is h more = absurd cc
       go false is h more = (is, more h)
@@ -74,20 +75,24 @@ module _ {X : Type 0} (cmp : X → X → Ordering) (total : IsTotalOrder cmp) wh
       let e = ap is_eq (same_is_equal x) in cc)
   later x z (inr low) apart = ap is_lt low
 
-  joined : (x : X) (zs : List X) → AllByRecursion (λ z. (z ≡ x) ⊎ (cmp x z ≡ Less)) zs → AllByRecursion (λ z. is_eq (cmp x z) ≡ false) zs
+  joined : (x : X) (zs : List X) → AllByRecursion (λ z. (z ≡ x) ⊎ (cmp x z ≡ Less)) zs
+      → AllByRecursion (λ z. is_eq (cmp x z) ≡ false) zs
       → AllByRecursion (λ z. is_lt (cmp x z) ≡ true) zs
   joined x [] h k = tt
   joined x (z ∷ zs) h k = (later x z h.0 k.0, joined x zs h.1 k.1)
 
-  no_equal : (x : X) (xs : List X) → AllByRecursion (λ z. cmp x z ≡ Less) xs → filter (λ z. is_eq (cmp x z)) xs ≡ []
+  no_equal : (x : X) (xs : List X) → AllByRecursion (λ z. cmp x z ≡ Less) xs
+      → filter (λ z. is_eq (cmp x z)) xs ≡ []
   no_equal x [] h = refl
   no_equal x (z ∷ zs) h = rw (h.0) (no_equal x zs h.1)
 
   -- the elements behind the first are those that are above it
-  above_first : (x : X) (ys : List X) → AllByRecursion (λ z. is_lt (cmp x z) ≡ true) ys → filter (λ z. is_lt (cmp x z)) (x ∷ ys) ≡ ys
+  above_first : (x : X) (ys : List X) → AllByRecursion (λ z. is_lt (cmp x z) ≡ true) ys
+      → filter (λ z. is_lt (cmp x z)) (x ∷ ys) ≡ ys
   above_first x ys h = rw (same_is_equal x) (filter_all (λ z. is_lt (cmp x z)) ys h)
 
-  tails : (x : X) (xs ys : List X) → AllByRecursion (λ z. cmp x z ≡ Less) xs → IsPermutation (x ∷ xs) (x ∷ ys) → IsPermutation xs ys
+  tails : (x : X) (xs ys : List X) → AllByRecursion (λ z. cmp x z ≡ Less) xs → IsPermutation (x ∷ xs) (x ∷ ys)
+      → IsPermutation xs ys
   tails x xs ys low perm =
       let marked : AllByRecursion (λ z. (z ≡ x) ⊎ (cmp x z ≡ Less)) (x ∷ ys) =
       all-permutation _ (x ∷ xs) (x ∷ ys) perm (inl refl, all_weaker _ _ (λ z h. inr h) xs low) in
@@ -101,7 +106,8 @@ module _ {X : Type 0} (cmp : X → X → Ordering) (total : IsTotalOrder cmp) wh
       (subst (IsPermutation (filter lt (x ∷ xs))) (above_first x ys up) (IsPermutation-filter lt (x ∷ xs) (x ∷ ys) perm))
 
   -- by neighbours
-  pub only_order : (xs ys : List X) → IsAscending (λ a b. cmp a b ≡ Less) xs → IsAscending AtMost ys → IsPermutation xs ys → ys ≡ xs
+  pub only_order : (xs ys : List X) → IsAscending (λ a b. cmp a b ≡ Less) xs → IsAscending AtMost ys
+      → IsPermutation xs ys → ys ≡ xs
   only_order [] ys up sorted perm = empty ys (length_permutation [] ys perm)
   only_order (x ∷ xs) [] up sorted perm = absurd (let e = length_permutation (x ∷ xs) [] perm in omega (arith, e))
   only_order (x ∷ xs) (y ∷ ys) up sorted perm =
@@ -118,5 +124,6 @@ module _ {X : Type 0} (cmp : X → X → Ordering) (total : IsTotalOrder cmp) wh
       cc
 
   -- a sorted permutation of a strictly rising list is that list
-  pub sorted_is : (xs ys : List X) → IsAscending (λ a b. cmp a b ≡ Less) xs → IsSorted cmp ys → IsPermutation xs ys → ys ≡ xs
+  pub sorted_is : (xs ys : List X) → IsAscending (λ a b. cmp a b ≡ Less) xs → IsSorted cmp ys
+      → IsPermutation xs ys → ys ≡ xs
   sorted_is xs ys up sorted perm = only_order xs ys up (ascending_from_sorted cmp total ys sorted) perm

@@ -1,5 +1,6 @@
 -- What a query of one table answers that asks for the next rows from a key on.
-use Rattle.std.proofs.Common.{◌≡◌, ◌&&◌, ℕ, ℤ, List, [], ◌∷◌, map, filter, Bool, true, false, Some, refl, ap, ◌∙◌, int_cmp}
+use Rattle.std.proofs.Common.{◌≡◌, ◌&&◌, ℕ, ℤ, List, [], ◌∷◌, map, filter, Bool, true, false, Some, refl, ap}
+use Rattle.std.proofs.Common.{◌∙◌, int_cmp}
 use Rattle.std.specs.List.{flat_map, list_all}
 use Rattle.std.specs.Ordering.{is_ge, int_eq}
 use Rattle.sqlite.specs.declared.types.Value.{Value}

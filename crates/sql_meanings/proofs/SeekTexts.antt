@@ -39,8 +39,10 @@ module _ (table : Table) (text : List ℕ) (places : List ℕ) (most : ℕ) (ter
   -- SELECT columns FROM table WHERE key >= ?1 ORDER BY key LIMIT most
   pub seeks_by : (is : IsSelect table text 1 places) (sort : Sort) (cap test e a b : Expr) (most_text : Name)
       → is.order ≡ sort ∷ [] → is.limit ≡ Some cap → is.filter ≡ Some test
-      → out-Sort sort ≡ record { key = e; descending = false; nulls_first = None } → out-Expr e ≡ Expr-F.Column None key
-      → out-Expr test ≡ Expr-F.Binary binary.Ge a b → out-Expr a ≡ Expr-F.Column None key → out-Expr b ≡ Expr-F.Parameter 1
+      → out-Sort sort ≡ record { key = e; descending = false; nulls_first = None }
+      → out-Expr e ≡ Expr-F.Column None key
+      → out-Expr test ≡ Expr-F.Binary binary.Ge a b → out-Expr a ≡ Expr-F.Column None key
+      → out-Expr b ≡ Expr-F.Parameter 1
       → out-Expr cap ≡ Expr-F.Integer most_text → integer false most_text ≡ Ok (Int (pos most))
       → ((schema : Schema) (p tree : ℕ) → HasTable schema table.name p (placed_at table tree)
       → prog.program schema [] (ungrouped (Inner tree ∷ []) key_from (outputs_at (placed_at table tree) places) false ascending (lit (Int (pos most))) (number 0))
@@ -68,10 +70,13 @@ module _ (table : Table) (text : List ℕ) (places : List ℕ) (most : ℕ) (ter
   pub seeks_of_by : (one : Name) (ones : (tree : ℕ) → Tests (placed_at table tree) one 2)
       (is : IsSelect table text 2 places) (sort : Sort) (cap both e test test' a b a' b' : Expr) (most_text : Name)
       → is.order ≡ sort ∷ [] → is.limit ≡ Some cap → is.filter ≡ Some both
-      → out-Sort sort ≡ record { key = e; descending = false; nulls_first = None } → out-Expr e ≡ Expr-F.Column None key
+      → out-Sort sort ≡ record { key = e; descending = false; nulls_first = None }
+      → out-Expr e ≡ Expr-F.Column None key
       → out-Expr both ≡ Expr-F.Binary binary.And test test'
-      → out-Expr test ≡ Expr-F.Binary binary.Eq a b → out-Expr a ≡ Expr-F.Column None one → out-Expr b ≡ Expr-F.Parameter 1
-      → out-Expr test' ≡ Expr-F.Binary binary.Ge a' b' → out-Expr a' ≡ Expr-F.Column None key → out-Expr b' ≡ Expr-F.Parameter 2
+      → out-Expr test ≡ Expr-F.Binary binary.Eq a b → out-Expr a ≡ Expr-F.Column None one
+      → out-Expr b ≡ Expr-F.Parameter 1
+      → out-Expr test' ≡ Expr-F.Binary binary.Ge a' b' → out-Expr a' ≡ Expr-F.Column None key
+      → out-Expr b' ≡ Expr-F.Parameter 2
       → out-Expr cap ≡ Expr-F.Integer most_text → integer false most_text ≡ Ok (Int (pos most))
       → ((schema : Schema) (p tree : ℕ) → HasTable schema table.name p (placed_at table tree)
       → affinity_of (over_one schema table.name p (outputs_at (placed_at table tree) places) false) (col 1 2) ≡ affinity.Numeric)

@@ -1,5 +1,6 @@
 -- Whole SELECTs over one table, and those of the bank.
-use Rattle.std.proofs.Common.{◌≡◌, ℕ, ◌-◌, List, [], ◌∷◌, map, Ok, Some, None, Option, slice_get, refl, true, false, nat_lt, ap}
+use Rattle.std.proofs.Common.{◌≡◌, ℕ, ◌-◌, List, [], ◌∷◌, map, Ok, Some, None, Option, slice_get, refl, true}
+use Rattle.std.proofs.Common.{false, nat_lt, ap}
 use Rattle.sqlite_value.specs.declared.keys.Collation.TheVariants.{Binary}
 use Rattle.sqlite_value.specs.declared.keys.Key.{Key}
 use Rattle.sqlite_sql.specs.declared.ops.BinaryOp.TheVariants.{Compare}
@@ -49,13 +50,15 @@ abbrev pub one_table : Name → From → Type 0
 one_table name source = out-Source source ≡ record { is_left = false; origin = origin.Table name; alias = None; on = None; using = [] }
 
 -- no WHERE
-pub no_test : (cx : Context) (budget : ℕ) (l : Carried) → tests lower cx [] None (st 2 budget l) ≡ Ok ([], st 2 budget l)
+pub no_test : (cx : Context) (budget : ℕ) (l : Carried)
+    → tests lower cx [] None (st 2 budget l) ≡ Ok ([], st 2 budget l)
 unfolding tests
 no_test cx budget l = refl
 
 -- WHERE
 pub one_test : (cx : Context) (e : Expr) (t : Term) (budget after : ℕ) (l m : Carried)
-    → lower cx e (st 2 budget l) ≡ Ok (t, st 2 after m) → tests lower cx [] (Some e) (st 2 budget l) ≡ Ok (conjuncts t, st 2 after m)
+    → lower cx e (st 2 budget l) ≡ Ok (t, st 2 after m)
+    → tests lower cx [] (Some e) (st 2 budget l) ≡ Ok (conjuncts t, st 2 after m)
 unfolding tests
 one_test cx e t budget after l m is = rw is
 
@@ -85,7 +88,8 @@ written_is e wanted is = rw is
 -- ORDER BY a column that is no alias
 pub one_order : (cx : Context) (os : List Output) (s : Sort) (e : Expr) (wanted : Name) (at budget after : ℕ) (l m : Carried)
     → (out-Sort s).key ≡ e → (out-Sort s).descending ≡ false → (out-Sort s).nulls_first ≡ None
-    → out-Expr e ≡ Expr-F.Column None wanted → alias_of wanted os ≡ None → lower cx e (st 2 budget l) ≡ Ok (col 1 at, st 2 after m)
+    → out-Expr e ≡ Expr-F.Column None wanted → alias_of wanted os ≡ None
+    → lower cx e (st 2 budget l) ≡ Ok (col 1 at, st 2 after m)
     → sorts lower cx os (s ∷ []) (st 2 budget l) ≡ Ok ((col 1 at, record { collation = alone m; descending = false }) ∷ [], st 2 after m)
 unfolding sorts order.sort order.key order.collation_of order.placed
 one_order cx os s e wanted at budget after l m key down nulls is none low =
@@ -129,10 +133,12 @@ module _ (schema : Schema) (name : Name) (p : ℕ) (table : Table) (has : HasTab
       → out-Select s ≡ record { with = []; first = core; others = []; order = []; limit = None; offset = None }
       → out-Core core ≡ record { distinct = false; shown = shown; from = source ∷ []; filter = Some test; group = []; having = None }
       → one_table name source
-      → out-Expr test ≡ Expr-F.Binary binary.Eq a b → out-Expr a ≡ Expr-F.Column None wanted → out-Expr b ≡ Expr-F.Parameter m
+      → out-Expr test ≡ Expr-F.Binary binary.Eq a b → out-Expr a ≡ Expr-F.Column None wanted
+      → out-Expr b ≡ Expr-F.Parameter m
       → Shows table shown os → HasRoom 100000 os
       → affinity_of (over_one schema name p os false) (col 1 at) ≡ affinity.Numeric
-      → nat_lt 1 (spent 100000 os) ≡ true → nat_lt 1 (spent 100000 os - 1) ≡ true → nat_lt 1 (spent 100000 os - 1 - 1) ≡ true
+      → nat_lt 1 (spent 100000 os) ≡ true → nat_lt 1 (spent 100000 os - 1) ≡ true
+      → nat_lt 1 (spent 100000 os - 1 - 1) ≡ true
       → prog.program schema [] (ungrouped (Inner table.tree ∷ [])
       (op2 (Compare Eq Binary) (col 1 at) (col 0 (m - 1)) ∷ []) os false [] no_limit (number 0)) ≡ Ok q
       → compiled schema text ≡ Ok (with_command P ([], (Select q (map (λ o. o.name) os), None)))
@@ -153,8 +159,10 @@ module _ (schema : Schema) (name : Name) (p : ℕ) (table : Table) (has : HasTab
       → out-Core core ≡ record { distinct = false; shown = shown; from = source ∷ []; filter = Some both; group = []; having = None }
       → one_table name source
       → out-Expr both ≡ Expr-F.Binary binary.And test test'
-      → out-Expr test ≡ Expr-F.Binary binary.Eq a b → out-Expr a ≡ Expr-F.Column None wanted → out-Expr b ≡ Expr-F.Parameter m
-      → out-Expr test' ≡ Expr-F.Binary binary.Eq a' b' → out-Expr a' ≡ Expr-F.Column None wanted' → out-Expr b' ≡ Expr-F.Parameter m'
+      → out-Expr test ≡ Expr-F.Binary binary.Eq a b → out-Expr a ≡ Expr-F.Column None wanted
+      → out-Expr b ≡ Expr-F.Parameter m
+      → out-Expr test' ≡ Expr-F.Binary binary.Eq a' b' → out-Expr a' ≡ Expr-F.Column None wanted'
+      → out-Expr b' ≡ Expr-F.Parameter m'
       → Shows table shown os → HasRoom 100000 os
       → affinity_of (over_one schema name p os false) (col 1 at) ≡ affinity.Numeric
       → affinity_of (over_one schema name p os false) (col 1 at') ≡ affinity.Numeric

@@ -1,5 +1,6 @@
 -- Why one column of a row can't be written.
-use Rattle.std.proofs.Common.{◌≡◌, ◌⊎◌, inl, inr, ℕ, ℤ, List, [], ◌∷◌, map, find, length, not, ◌&&◌, true, false, None, Some, Option, Ok, Err, IsTrue, refl, sym, ap, subst, ◌∙◌}
+use Rattle.std.proofs.Common.{◌≡◌, ◌⊎◌, inl, inr, ℕ, ℤ, List, [], ◌∷◌, map, find, length, not, ◌&&◌, true}
+use Rattle.std.proofs.Common.{false, None, Some, Option, Ok, Err, IsTrue, refl, sym, ap, subst, ◌∙◌}
 use Rattle.std.specs.List.{AllByRecursion}
 use Rattle.std.proofs.lemmas.Bool.{cases_Bool}
 use Rattle.std.proofs.Math.Logic.{∥∥₁_elim}
@@ -157,17 +158,20 @@ module _ (old new : State) (table : Table) (is : IsOfNumbers table) (sound : ∥
     ]
     queried (Some e) (inr (inr limit)) = inl limit
 
-    acts : (rows : List Row) → (works schema Enforced 0 tree (taken_by db (set_by rows)) (set_by rows).news ≡ []) ⊎ IsTrue (is_parent schema table)
+    acts : (rows : List Row)
+        → (works schema Enforced 0 tree (taken_by db (set_by rows)) (set_by rows).news ≡ []) ⊎ IsTrue (is_parent schema table)
     acts rows = elim (cases_Bool (is_parent schema table)) [
       | inl parent ↦ inr parent
       | inr none ↦ inl (nothing_set_off schema here at.stands (taken_by db (set_by rows)) (set_by rows).news none)
     ]
 
-    edit_is : (rows : List Row) (it : Met rows) (stop : Option Error) → Edited schema Enforced db (set_by rows) (Err stop) → SetStops stop
+    edit_is : (rows : List Row) (it : Met rows) (stop : Option Error)
+        → Edited schema Enforced db (set_by rows) (Err stop) → SetStops stop
     edit_is rows it stop h = go stop (edit_stops schema db (set_by rows) numbered it.entries it.news it.fits
         (IsTrue (is_parent schema table)) (acts rows) (asks_parent schema (set_by rows) is.free) refl stop h)
       where
-        go : (stop : Option Error) → EditStops schema db (set_by rows) numbered it.entries it.news it.fits (IsTrue (is_parent schema table))
+        go : (stop : Option Error)
+            → EditStops schema db (set_by rows) numbered it.entries it.news it.fits (IsTrue (is_parent schema table))
             (acts rows) (asks_parent schema (set_by rows) is.free) refl stop → SetStops stop
         go None h = h
         go (Some e) (inl taken) = absurd (let right = it.fresh in let wrong = taken.1 in cc)
@@ -189,7 +193,8 @@ module _ (old new : State) (table : Table) (is : IsOfNumbers table) (sound : ∥
         ]
 
     -- where no foreign key names the table, each is kept
-    kept : is_parent schema table ≡ false → (w : Written) → Updates task program params db (Ok w) → Refers All schema db
+    kept : is_parent schema table ≡ false → (w : Written) → Updates task program params db (Ok w)
+        → Refers All schema db
         → Refers All schema w.trees
     kept none w h refers =
         let given = went h in
@@ -214,7 +219,8 @@ module _ (old new : State) (table : Table) (is : IsOfNumbers table) (sound : ∥
         ]
 
     set_stops : (sql : List ℕ) (stop : Option Error)
-        → Does old.step_limit (mode_of old) params old.now sql None (Update at.place program) (Err stop) → SetStops stop
+        → Does old.step_limit (mode_of old) params old.now sql None (Update at.place program) (Err stop)
+        → SetStops stop
     set_stops sql stop h = elim (stopped (Updates task program params db) (Concludes task (mode_of old) None) stop (rw at.has.listed at h)) [
       | inl first ↦ updates_stop stop first
       | inr rest ↦ concludes_stop rest.0 rest.1 stop rest.2
@@ -228,7 +234,8 @@ module _ (old new : State) (table : Table) (is : IsOfNumbers table) (sound : ∥
     means : Means schema text (length params) command
     means = changes.means schema at.place tree at.has
 
-    told : (sql : List ℕ) (e : Error) → Stops old new sql command params e → SetFails old new table (Forbids schema table (changed change k es)) e
+    told : (sql : List ℕ) (e : Error) → Stops old new sql command params e
+        → SetFails old new table (Forbids schema table (changed change k es)) e
     told sql e (inl (does, same)) = elim (set_stops sql (Some e) does) [
       | inl limit ↦ inl (inr (inl limit, same))
       | inr (inl unique) ↦ inl (inr (inr unique, same))

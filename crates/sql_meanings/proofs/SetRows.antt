@@ -64,7 +64,8 @@ pub record ChangesAs (table : Table) (text : List ℕ) (k : ℤ) (more : Row) (c
   pub keeps_width : (e : Entry) → length e.values ≡ width_of table → length (change e).values ≡ width_of table
   pub accepts : (schema : Schema) (p tree : ℕ) → HasTable schema table.name p (placed_at table tree)
       → accepts_program schema [] (by_key tree project) (Int k ∷ more) ≡ true
-  pub passes : (e : Entry) → length e.values ≡ width_of table → e.key ≡ k → passes_checks table (stored (change e)) ≡ true
+  pub passes : (e : Entry) → length e.values ≡ width_of table → e.key ≡ k
+      → passes_checks table (stored (change e)) ≡ true
 
 module _ (old new : State) (table : Table) (is : IsOfNumbers table) (sound : ∥ IsDatabase old.now ∥₁) (es : List Entry)
     (holds : Holds old.now table es)
@@ -90,7 +91,8 @@ module _ (old new : State) (table : Table) (is : IsOfNumbers table) (sound : ∥
       ≡ put_row (stored (change e)) (without_rowid e.key (db tree))
   one_edit e = ap (λ row. put_row row (without_rowid e.key (db tree))) (cast_stored table is.key is.names (change e) is.columns)
 
-  set_one : (e : Entry) → find (has_key k) es ≡ Some e → edited db (set_by (shown e ∷ [])) ≡ map stored (changed change k es)
+  set_one : (e : Entry) → find (has_key k) es ≡ Some e
+      → edited db (set_by (shown e ∷ [])) ≡ map stored (changed change k es)
   set_one e found =
       let wide = found_all (λ x. length x.values ≡ width_of table) (has_key k) es e holds.rows.wide found in
       let key = changes.keeps_key e in

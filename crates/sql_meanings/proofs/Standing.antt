@@ -58,7 +58,8 @@ use Rattle.sql_meanings.proofs.Growing.{low_tree, sequenced}
 use Rattle.sql_meanings.specs.Making.{Adds, Keeps, counts_rows}
 
 -- a table stands on as another is made
-pub stands_after : (schema : Schema) (new table : Table) → Stands schema table → Stands (created schema new) table
+pub stands_after : (schema : Schema) (new table : Table) → Stands schema table
+    → Stands (created schema new) table
 stands_after schema new table stands = record {
   listed = has_left schema.tables _ table stands.listed;
   apart = λ t h same. elim (has_either schema.tables (record new { tree = next_tree schema } ∷ []) t h) [
@@ -101,7 +102,8 @@ test_cases false = inr refl
 
 -- a table that has its tree to itself is found by it
 pub found_apart : (tables : List Table) (table : Table) → Has tables table
-    → ((t : Table) → Has tables t → t.tree ≡ table.tree → t ≡ table) → find (λ t. t.tree == table.tree) tables ≡ Some table
+    → ((t : Table) → Has tables t → t.tree ≡ table.tree → t ≡ table)
+    → find (λ t. t.tree == table.tree) tables ≡ Some table
 found_apart [] table h apart = absurd h
 found_apart (u ∷ tables) table h apart = elim (test_cases (u.tree == table.tree)) [
   | inl same ↦ rw same (ap Some (apart u (inl refl) (eqb_true _ _ same)))
@@ -118,7 +120,8 @@ pub record Placed (tables : List Table) (i : ℕ) (table : Table) : Type 0 where
   pub named : position_from (λ t. same_name t.name table.name) i tables ≡ Some (i + at)
   pub listed : slice_get tables at ≡ Some table
 
-placed : (tables : List Table) (i : ℕ) (table : Table) → IsAscending (λ s t. same_name s.name t.name ≡ false) tables → Has tables table
+placed : (tables : List Table) (i : ℕ) (table : Table)
+    → IsAscending (λ s t. same_name s.name t.name ≡ false) tables → Has tables table
     → Placed tables i table
 placed [] i table named h = absurd h
 placed (u ∷ tables) i table named (inl is) = record {
@@ -178,12 +181,14 @@ ok_same : {B E : Type 0} {a b : B} → ◌≡◌ {A = Result B E} (Ok a) (Ok b) 
 ok_same e = cc
 
 -- a table more that doesn't count its rows
-pub counts_created : (schema : Schema) (t : Table) → t.is_counted ≡ false → counts_rows schema ≡ false → counts_rows (created schema t) ≡ false
+pub counts_created : (schema : Schema) (t : Table) → t.is_counted ≡ false → counts_rows schema ≡ false
+    → counts_rows (created schema t) ≡ false
 counts_created schema t last none =
     list_any-append (λ (u : Table). u.is_counted) schema.tables (record t { tree = next_tree schema } ∷ []) ∙ rw (none, last) refl
 
 -- where no table counts its rows, none is made that counts for it
-none_counted : (old after : Database) → MakesSequence old (Ok after) → counts_rows old.schema ≡ false → old ≡ after
+none_counted : (old after : Database) → MakesSequence old (Ok after) → counts_rows old.schema ≡ false
+    → old ≡ after
 none_counted old after h none =
     let has : lacks_sequence old.schema ≡ false = rw none refl in
     let same = rw has at h in

@@ -1,5 +1,7 @@
--- What a SELECT with any test answers of one table: the rows that pass it, in some order. No order of the keys is asked for.
-use Rattle.std.proofs.Common.{◌≡◌, ℕ, List, [], ◌∷◌, ◌++◌, map, filter, cond, Bool, true, false, refl, sym, ap, subst, ◌∙◌, IsPermutation}
+-- What a SELECT with any test answers of one table: the rows that pass it, in some order. No order of the
+-- keys is asked for.
+use Rattle.std.proofs.Common.{◌≡◌, ℕ, List, [], ◌∷◌, ◌++◌, map, filter, cond, Bool, true, false, refl, sym}
+use Rattle.std.proofs.Common.{ap, subst, ◌∙◌, IsPermutation}
 use Rattle.std.specs.List.{flat_map, list_all}
 use Rattle.std.proofs.lemmas.List.Sorted.{IsPermutation-map}
 use Rattle.sqlite.specs.declared.types.Value.{Value}
@@ -17,7 +19,8 @@ module _ (params : Row) (tests : List Term) (passes : Entry → Bool) (same : (e
   abbrev pub met : Entry → Env
   met e = params ∷ stored e ∷ []
 
-  kept : {X Y : Type 0} (f : X → Y) (b : Bool) (x : X) (xs : List X) → cond b (f x ∷ []) [] ++ map f xs ≡ map f (cond b (x ∷ xs) xs)
+  kept : {X Y : Type 0} (f : X → Y) (b : Bool) (x : X) (xs : List X)
+      → cond b (f x ∷ []) [] ++ map f xs ≡ map f (cond b (x ∷ xs) xs)
   kept f true x xs = refl
   kept f false x xs = refl
 

@@ -1,5 +1,6 @@
 -- What a text means of a table in whatever schema, by what is computed of the text alone.
-use Rattle.std.proofs.Common.{◌≡◌, ◌≤◌, ◌<◌, ℕ, ℤ, List, [], ◌∷◌, length, map, Ok, Err, Some, None, Option, refl, true, false, ap, arith, zero, suc, ◌+◌, ◌/◌}
+use Rattle.std.proofs.Common.{◌≡◌, ◌≤◌, ◌<◌, ℕ, ℤ, List, [], ◌∷◌, length, map, Ok, Err, Some, None, Option}
+use Rattle.std.proofs.Common.{refl, true, false, ap, arith, zero, suc, ◌+◌, ◌/◌}
 use Rattle.std.proofs.lemmas.List.{length-map}
 use Rattle.sqlite.specs.Listing.{listing_schema, understood}
 use Rattle.sqlite.specs.Query.{inner, end}
@@ -44,7 +45,8 @@ use Rattle.sql_meanings.proofs.OnlyShowing.{only_understood}
 use Rattle.sql_meanings.proofs.Probing.{ProbesAs, refuses_query, understood_missing}
 use Rattle.sql_meanings.proofs.ReadTables.{ReadsAs}
 use Rattle.sql_meanings.proofs.Selects.{one_table, select_all, select_by_key}
-use Rattle.sql_meanings.proofs.ShownColumns.{has_room, is_left, output_named, outputs_at, shown_name, shows_named, spent}
+use Rattle.sql_meanings.proofs.ShownColumns.{has_room, is_left, output_named, outputs_at, shown_name}
+use Rattle.sql_meanings.proofs.ShownColumns.{shows_named, spent}
 use Rattle.sql_meanings.proofs.Statements.{HasTable, inserts}
 
 -- a SELECT as it is written: it shows the columns at these places of one table
@@ -71,7 +73,8 @@ pub record IsSelect (table : Table) (text : List ℕ) (count : ℕ) (places : Li
 
 -- a text is such a SELECT where that computes
 abbrev pub select_of : (table : Table) (text : List ℕ) (count : ℕ) (places : List ℕ) (P : Parsed) (s : written_select.Select) (core : Core)
-    (source : From) (shown : List Shown) (filter : Option Expr) (order : List Sort) (limit : Option Expr) → first text ≡ Ok P
+    (source : From) (shown : List Shown) (filter : Option Expr) (order : List Sort) (limit : Option Expr)
+    → first text ≡ Ok P
     → P.statement ≡ written.Select s → P.formats ≡ [] → length text ≤ P.tail → count ≡ length P.names
     → out-Select s ≡ record { with = []; first = core; others = []; order = order; limit = limit; offset = None }
     → out-Core core ≡ record { distinct = false; shown = shown; from = source ∷ []; filter = filter; group = []; having = None }
@@ -102,7 +105,8 @@ select_of table text count places P s core source shown filter order limit parse
     }
 
 -- under any schema it only shows rows
-pub only_reads : {table : Table} {text : List ℕ} {count : ℕ} {places : List ℕ} → IsSelect table text count places → (schema : Schema)
+pub only_reads : {table : Table} {text : List ℕ} {count : ℕ} {places : List ℕ}
+    → IsSelect table text count places → (schema : Schema)
     → OnlyShows text count (understood schema text)
 only_reads {table} {text} {count} {places} is = only_understood text count is.P is.s is.parsed is.statement is.plain is.whole is.given
 
@@ -111,7 +115,8 @@ pub many : (table : Table) (places : List ℕ) → length places < 1000 → leng
 many table places few = simp length-map few
 
 -- what is left over of the room for them
-pub left_over : (table : Table) (places : List ℕ) → length places < 1000 → 90000 < spent 100000 (outputs_at table places)
+pub left_over : (table : Table) (places : List ℕ) → length places < 1000
+    → 90000 < spent 100000 (outputs_at table places)
 left_over table places few = let n = many table places few in rw (is_left 100000 (outputs_at table places)) (omega arith)
 
 module _ (table : Table) (text : List ℕ) (places : List ℕ) where
@@ -139,7 +144,8 @@ module _ (table : Table) (text : List ℕ) (places : List ℕ) where
       → ((tree : ℕ) → Tests (placed_at table tree) wanted 0)
       → is.order ≡ [] → is.limit ≡ None
       → is.filter ≡ Some test
-      → out-Expr test ≡ Expr-F.Binary binary.Eq a b → out-Expr a ≡ Expr-F.Column None wanted → out-Expr b ≡ Expr-F.Parameter 1
+      → out-Expr test ≡ Expr-F.Binary binary.Eq a b → out-Expr a ≡ Expr-F.Column None wanted
+      → out-Expr b ≡ Expr-F.Parameter 1
       → ((schema : Schema) (p tree : ℕ) → HasTable schema table.name p (placed_at table tree)
       → prog.program schema [] (ungrouped (Inner tree ∷ []) key_is (outputs_at (placed_at table tree) places) false [] no_limit (number 0))
       ≡ Ok (record { lets = []; body = by_key tree terms }))
@@ -171,7 +177,8 @@ put_terms count = col 0 0 ∷ lit Null ∷ parameters 1 count
 
 -- INSERT INTO table (columns) VALUES (?1, ..)
 pub puts_by : (table : Table) (text : List ℕ) (params : Row) (new : Entry) (count : ℕ) (P : Parsed) (columns : List Name) (rows : Rows)
-    → first text ≡ Ok P → P.statement ≡ written.Insert conflict.Abort table.name columns rows [] [] → P.formats ≡ []
+    → first text ≡ Ok P → P.statement ≡ written.Insert conflict.Abort table.name columns rows [] []
+    → P.formats ≡ []
     → table.stamps.formats ≡ []
     → ((schema : Schema) (tree : ℕ)
     → new_rows schema (placed_at table tree) (small P.names + 0) columns rows ≡ Ok (Values (put_terms count) (count + 2)))

@@ -1,5 +1,6 @@
 -- How a table comes to be, and what stands on beside it.
-use Rattle.std.specs.Prelude.{◌≡◌, ◌≢◌, ◌⊎◌, ◌+◌, ◌*◌, ◌^◌, ◌<◌, ◌≤◌, ◌==◌, IsTrue, IsUtf8, List, ℕ, [], Bool, true, false, codes, length, Ok, Err, None, slice_range}
+use Rattle.std.specs.Prelude.{◌≡◌, ◌≢◌, ◌⊎◌, ◌+◌, ◌*◌, ◌^◌, ◌<◌, ◌≤◌, ◌==◌, IsTrue, IsUtf8, List, ℕ, [], Bool}
+use Rattle.std.specs.Prelude.{true, false, codes, length, Ok, Err, None, slice_range}
 use Rattle.std.specs.List.{list_any}
 use Rattle.sqlite.specs.Schema.{Schema}
 use Rattle.sqlite.specs.Table.{Table}
@@ -77,7 +78,8 @@ RefusesNew schema t e =
     × ((is_used schema t.name ≡ true) ⊎ ((i : Index) × Has (automatics t 0 0 t.uniques) i × (is_used schema i.name ≡ true))))
     ⊎ ((e ≡ SqliteFailure SchemaTooBig) × (65536 ≤ next_tree schema + length t.uniques))
 
--- A CREATE TABLE is refused: under the schema the text isn't understood, as where an index has the name; or the table is refused, or the
+-- A CREATE TABLE is refused: under the schema the text isn't understood, as where an index has the name; or
+-- the table is refused, or the
 -- one that counts for AUTOINCREMENT, where a table needs it and there is none.
 abbrev pub NotMade : Schema → List ℕ → Table → Error → Type 0
 NotMade schema text t e =
