@@ -42,7 +42,8 @@ abbrev Good : Schema → Work → Type 0
 Good schema w = Has schema.tables w.child × Has w.child.references w.ref
 
 module _ (schema : Schema) (keys : Keys) where
-  good_by : (depth tree : ℕ) (moves : List (Row × Row)) (child : Table) (ref : Reference) (deed : Option Deed) (key : Option ParentKey)
+  good_by : (depth tree : ℕ) (moves : List (Row × Row)) (child : Table) (ref : Reference) (deed : Option Deed)
+      (key : Option ParentKey)
       (w : Work)
       → work_by depth tree moves child ref deed key ≡ Some w → (w.child ≡ child) × (w.ref ≡ ref)
   good_by depth tree moves child ref None key w h = absurd (cc)
@@ -66,11 +67,12 @@ module _ (schema : Schema) (keys : Keys) where
       → Has (filter_map (work_for schema keys depth tree olds news child) refs) w
       → (w.child ≡ child) × Has refs w.ref
   good_of depth tree olds news child [] w h = absurd h
-  good_of depth tree olds news child (ref ∷ refs) w h = elim (cons_has (work_for schema keys depth tree olds news child ref) _ w h) [
-    | inl is ↦ let g = good_by depth tree (pairs olds news) child ref (deed_for keys (length news == 0) ref)
-        (parent_key schema.tables ref) w is in (g.0, inl g.1)
-    | inr more ↦ let g = good_of depth tree olds news child refs w more in (g.0, inr g.1)
-  ]
+  good_of depth tree olds news child (ref ∷ refs) w h =
+      elim (cons_has (work_for schema keys depth tree olds news child ref) _ w h) [
+        | inl is ↦ let g = good_by depth tree (pairs olds news) child ref (deed_for keys (length news == 0) ref)
+            (parent_key schema.tables ref) w is in (g.0, inl g.1)
+        | inr more ↦ let g = good_of depth tree olds news child refs w more in (g.0, inr g.1)
+      ]
 
   good_in : (depth tree : ℕ) (olds news : List Row) (tables : List Table)
       → ((t : Table) → Has tables t → Has schema.tables t)
@@ -102,10 +104,12 @@ module _ (schema : Schema) (keys : Keys) where
 
     -- the rest of the actions leaves the table
     abbrev Rests : (Trees → List Work → End → Type 0) → Trees → Type 0
-    Rests Then next = (mid : Trees) (stack : List Work) → ((w : Work) → Has stack w → Good schema w) → Then mid stack (Ok next)
+    Rests Then next = (mid : Trees) (stack : List Work) → ((w : Work) → Has stack w → Good schema w)
+        → Then mid stack (Ok next)
         → next table.tree ≡ mid table.tree
 
-    module _ (Then : Trees → List Work → End → Type 0) (db next : Trees) (rests : Rests Then next) (below : List Work) (w : Work)
+    module _ (Then : Trees → List Work → End → Type 0) (db next : Trees) (rests : Rests Then next)
+        (below : List Work) (w : Work)
         (here : Good schema w) (under : (x : Work) → Has below x → Good schema x) where
       goes_on : (ids : List ℤ) → Goes schema keys Then db (action_edit db w ids) (w.depth + 1) below (Ok next)
           → next table.tree ≡ db table.tree
@@ -138,7 +142,8 @@ module _ (schema : Schema) (keys : Keys) where
     pub settles : (n : ℕ) (next : Trees) → Rests (Leads schema keys n) next
     settles zero next db stack good h = ap (λ (t : Trees). t table.tree) (ok_same h.1)
     settles (suc n) next db stack good (below, w, is, acts) =
-        acts_now (Leads schema keys n) db next (settles n next) below w (good w (subst (λ l. Has l w) (sym is) (has_right below (w ∷ []) w (inl refl))))
+        acts_now (Leads schema keys n) db next (settles n next) below w
+        (good w (subst (λ l. Has l w) (sym is) (has_right below (w ∷ []) w (inl refl))))
         (λ x h. good x (subst (λ l. Has l x) (sym is) (has_left below (w ∷ []) x h))) acts
 
 -- what a write leaves in the tables that stand alone, whatever else the schema has

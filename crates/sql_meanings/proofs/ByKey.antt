@@ -69,7 +69,8 @@ pub record Tests (table : Table) (wanted : Name) (at : ℕ) : Type 0 where
   pub by_bytes : chosen (declared table place column) nothing ≡ Binary
 
 -- a column of numbers is numeric
-pub number_at : (schema : Schema) (p : ℕ) (table : Table) (listed : slice_get schema.tables p ≡ Some table) (name : Name)
+pub number_at : (schema : Schema) (p : ℕ) (table : Table) (listed : slice_get schema.tables p ≡ Some table)
+    (name : Name)
     (shown : List Output) (may : Bool) (k : ℕ) (c : Column)
     → slice_get table.columns k ≡ Some c → of_declared c ≡ affinity.Numeric
     → affinity_of (over_one schema name p shown may) (col 1 (suc k)) ≡ affinity.Numeric
@@ -92,10 +93,12 @@ pub parameter_at : (schema : Schema) (name : Name) (p : ℕ) (shown : List Outpu
 unfolding affinity_of of_column
 parameter_at schema name p shown may m = either (m == 0) affinity.None
 
-module _ (schema : Schema) (p : ℕ) (table : Table) (listed : slice_get schema.tables p ≡ Some table) (name : Name) (shown : List Output)
+module _ (schema : Schema) (p : ℕ) (table : Table) (listed : slice_get schema.tables p ≡ Some table)
+    (name : Name) (shown : List Output)
     (may : Bool) where
   -- the test that a column is a parameter
-  pub key_test : (e a b : Expr) (wanted : Name) (at m : ℕ) (t : Tests table wanted at) (d next budget : ℕ) (l : Carried)
+  pub key_test : (e a b : Expr) (wanted : Name) (at m : ℕ) (t : Tests table wanted at) (d next budget : ℕ)
+      (l : Carried)
       → out-Expr e ≡ Expr-F.Binary binary.Eq a b → out-Expr a ≡ Expr-F.Column None wanted
       → out-Expr b ≡ Expr-F.Parameter m
       → affinity_of (over_one schema name p shown may) (col 1 at) ≡ affinity.Numeric
@@ -107,14 +110,16 @@ module _ (schema : Schema) (p : ℕ) (table : Table) (listed : slice_get schema.
       let column = column_is schema p table listed name shown may wanted t.place t.column
       (st next (budget - 1 - 1) nothing) t.named t.there in
       let x = lower_column here a wanted _ _ d next (budget - 1) nothing left two column in
-      let y = lower_parameter here b m d next (budget - 1 - 1) (declared table t.place t.column) right three in
+      let y = lower_parameter here b m d next (budget - 1 - 1)
+      (declared table t.place t.column) right three in
       lower_equal here e a b _ _ _ _ (suc d) next budget _ _ l is one x y
       ∙ rw (t.by_bytes, t.is_at, compared_is here at (m - 1) number (parameter_at schema name p shown may (m - 1)))
 
 -- UPDATE t SET c = ?n WHERE k = ?m
 module _ (schema : Schema) (name : Name) (p : ℕ) (table : Table) (has : HasTable schema name p table) where
   -- the whole text, of one column under a test of another
-  pub update_by_key : (text : List ℕ) (P : Parsed) (wanted key : Name) (e test a b : Expr) (n m at : ℕ) (places : List ℕ)
+  pub update_by_key : (text : List ℕ) (P : Parsed) (wanted key : Name) (e test a b : Expr) (n m at : ℕ)
+      (places : List ℕ)
       (project : List Term) (t : Tests table key at) (q : Program)
       → first text ≡ Ok P → P.statement ≡ written.Update name ((wanted, e) ∷ []) (Some test) []
       → P.formats ≡ []

@@ -17,4 +17,5 @@ cast_numbers (name ∷ names) (v ∷ values) = rw (cast_int v) (ap (λ l. Int v 
 pub cast_stored : (t : Table) (key : List ℕ) (names : List (List ℕ)) (e : Entry)
     → t.columns ≡ key_column key ∷ map number_column names
     → cast_row t (stored e) ≡ stored e
-cast_stored t key names e is = rw (is, cast_int e.key, cast_null) (ap (λ l. Int e.key ∷ Null ∷ l) (cast_numbers names e.values))
+cast_stored t key names e is = rw (is, cast_int e.key, cast_null)
+    (ap (λ l. Int e.key ∷ Null ∷ l) (cast_numbers names e.values))

@@ -71,7 +71,8 @@ wide_put width new [] h all = (h, all)
 wide_put width new (e ∷ es) h all = go (int_cmp e.key new.key) (wide_put width new es h all.1)
   where
     go : (o : Ordering) → AllByRecursion (λ e. length e.values ≡ width) (put new es)
-        → AllByRecursion (λ e. length e.values ≡ width) (match_ordering o (e ∷ put new es) (new ∷ es) (new ∷ e ∷ es))
+        → AllByRecursion (λ e. length e.values ≡ width)
+        (match_ordering o (e ∷ put new es) (new ∷ es) (new ∷ e ∷ es))
     go Less more = (all.0, more)
     go Equal more = (h, all.1)
     go Greater more = (h, all)
@@ -92,7 +93,8 @@ same_cmp a = grind (arith, ints)
 module _ (change : Entry → Entry) (keeps : (e : Entry) → (change e).key ≡ e.key) (k : ℤ) where
   none_after : (e : Entry) (es : List Entry) → Above e es → has_key k e ≡ true → changed change k es ≡ es
   none_after e [] above here = refl
-  none_after e (x ∷ xs) above here = rw (less_apart e.key x.key k above.0 here) (ap (λ l. x ∷ l) (none_after e xs above.1 here))
+  none_after e (x ∷ xs) above here = rw (less_apart e.key x.key k above.0 here)
+      (ap (λ l. x ∷ l) (none_after e xs above.1 here))
 
   -- where no row has the key, none is changed
   pub none_changed : (es : List Entry) → find (has_key k) es ≡ None → changed change k es ≡ es
@@ -116,7 +118,8 @@ module _ (change : Entry → Entry) (keeps : (e : Entry) → (change e).key ≡ 
       → put (change e) xs ≡ changed change k xs
       → put (change e) (x ∷ xs) ≡ x ∷ changed change k xs
   put_later x e xs above found more =
-      let low : int_cmp x.key e.key ≡ Less = found_all (λ y. int_cmp x.key y.key ≡ Less) (has_key k) xs e above found in
+      let low : int_cmp x.key e.key ≡ Less = found_all (λ y. int_cmp x.key y.key ≡ Less)
+      (has_key k) xs e above found in
       rw (keeps e, low) (ap (λ l. x ∷ l) more)
 
   -- to put the changed row in its place is to change the row
@@ -129,7 +132,8 @@ module _ (change : Entry → Entry) (keeps : (e : Entry) → (change e).key ≡ 
           → (find (has_key k) xs ≡ Some e → put (change e) xs ≡ changed change k xs)
           → put (change e) (x ∷ xs) ≡ cond b (change x) x ∷ changed change k xs
       go true here found more = let same : x ≡ e = cc in
-          subst (λ y. put (change y) (x ∷ xs) ≡ change x ∷ changed change k xs) same (put_here x xs rise.0 here)
+          subst (λ y. put (change y) (x ∷ xs) ≡ change x ∷ changed change k xs) same
+          (put_here x xs rise.0 here)
       go false here found more = put_later x e xs rise.0 found (more found)
 
 -- a key is taken where a row is found under it

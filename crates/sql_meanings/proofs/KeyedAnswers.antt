@@ -60,12 +60,14 @@ map_cond f false x xs = refl
 
 -- the rows that pass the test of the key
 pub keyed_matches : (lost : Value) (db : Trees) (k : ℤ) (more : Row) (es : List Entry)
-    → flat_map (λ r. matches_as lost db (is (col 1 0) (col 0 0) ∷ []) end ((Int k ∷ more) ∷ r ∷ [])) (map stored es)
+    → flat_map (λ r. matches_as lost db (is (col 1 0) (col 0 0) ∷ []) end ((Int k ∷ more) ∷ r ∷ []))
+    (map stored es)
     ≡ map (met k more) (filter (has_key k) es)
 keyed_matches lost db k more [] = refl
 keyed_matches lost db k more (e ∷ es) =
     kept_by (holds (met k more e) (is (col 1 0) (col 0 0))) (met k more e) _
-    ∙ rw (when_met k more e, keyed_matches lost db k more es) (sym (map_cond (met k more) (has_key k e) e (filter (has_key k) es)))
+    ∙ rw (when_met k more e, keyed_matches lost db k more es)
+    (sym (map_cond (met k more) (has_key k e) e (filter (has_key k) es)))
 
 none_permuted : {X : Type 0} (ys : List X) → length ys ≡ 0 → ys ≡ []
 none_permuted [] h = refl
@@ -79,9 +81,11 @@ small_permutation f None ys h = none_permuted ys (length_permutation [] ys h)
 small_permutation f (Some x) ys h = one_permutation (f x) ys h
 
 -- the rows that a keyed query shows are those of the entry with the key
-pub keyed_answer : (lost : Value) {width : ℕ} (t : ℕ) (project : List Term) (db : Trees) (k : ℤ) (more : Row) (rows : List Row)
+pub keyed_answer : (lost : Value) {width : ℕ} (t : ℕ) (project : List Term) (db : Trees) (k : ℤ) (more : Row)
+    (rows : List Row)
     (es : List Entry) → IsTree width (db t) es
-    → IsAnswerAs lost (query (inner t end) (is (col 1 0) (col 0 0) ∷ []) project [] no_limit) db (Int k ∷ more) rows
+    → IsAnswerAs lost (query (inner t end) (is (col 1 0) (col 0 0) ∷ []) project [] no_limit) db
+    (Int k ∷ more) rows
     → rows ≡ map (λ e. eval_all project (met k more e)) (listed (find (has_key k) es))
 keyed_answer lost t project db k more rows es tree a =
     let q = query (inner t end) (is (col 1 0) (col 0 0) ∷ []) project [] no_limit in

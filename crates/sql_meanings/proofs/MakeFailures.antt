@@ -69,13 +69,15 @@ module _ (text : List ℕ) (t : Table) (make : IsMakeable text t) (db : Database
 
   -- it can be stored
   pub makes_short : ¬ MakesTable text db (Err None)
-  makes_short h = let long = of_it (λ u. 10 ^ 9 ≤ 2 * length u.name + length text + 200) h in let short = make.short in absurd (omega arith)
+  makes_short h = let long = of_it (λ u. 10 ^ 9 ≤ 2 * length u.name + length text + 200) h in let short =
+      make.short in absurd (omega arith)
 
   -- the new schema
   pub makes_ok : (after : Database) → MakesTable text db (Ok after) → after.schema ≡ created db.schema t
   makes_ok after made = made.is ∙ ap (created db.schema) (same_value (sym made.defined ∙ make.defined))
 
-module _ (old new : State) (text : List ℕ) (t : Table) (creates : CreatesOnly text t) (counts : Table) (sequence : IsMakeable sequence_text counts)
+module _ (old new : State) (text : List ℕ) (t : Table) (creates : CreatesOnly text t) (counts : Table)
+    (sequence : IsMakeable sequence_text counts)
   where
     -- why the command stops: it always can be stored, so it tells an error
     abbrev MakeStops : Option Error → Type 0
@@ -119,7 +121,8 @@ module _ (old new : State) (text : List ℕ) (t : Table) (creates : CreatesOnly 
     not_run : (e : Error) → IsNoStatement old text [] e → NotMade old.now.schema text t e
     not_run e (inl h) = inl h
     not_run e (inr (c, is, inl tail)) = absurd (tail.0 (creates.command old.now.schema c is).whole)
-    not_run e (inr (c, is, inr (inl count))) = absurd (count.0 (sym (ap length (creates.command old.now.schema c is).nameless)))
+    not_run e (inr (c, is, inr (inl count))) = absurd
+        (count.0 (sym (ap length (creates.command old.now.schema c is).nameless)))
     not_run e (inr (c, is, inr (inr clock))) = absurd (clock.0 (creates.command old.now.schema c is).timeless)
 
     told : (e : Error) → Stops old new text CreateTable [] e → MakeFails old new text t e

@@ -38,7 +38,8 @@ counts_none : (old : State) (after : Database) (text : List ℕ) (tally : Tally)
     → Does old.step_limit (mode_of old) [] old.now text None CreateTable (Ok (tally, after))
     → tally ≡ no_rows false
 counts_none old after text tally h =
-    let all = through (Then (MakesTable text old.now) MakesSequence) (λ (db : Database). Gives (no_rows false, db)) (tally, after) h in
+    let all = through (Then (MakesTable text old.now) MakesSequence)
+    (λ (db : Database). Gives (no_rows false, db)) (tally, after) h in
     ap (λ (p : Tally × Database). p.0) (same_value all.2)
 
 -- a CREATE TABLE that is done
@@ -52,7 +53,8 @@ made_by old new text t count creates h =
     let facts = creates.command schema h.0 is in
     let w = runs_as text [] old new schema refl CreateTable (ap command_of is
     ∙ facts.command) (subst IsPlain (sym is) (facts.bare, facts.timeless)) count h in
-    let whole : statement_of text (understood schema text) ≡ text = ap (statement_of text) is ∙ facts.text_is in
+    let whole : statement_of text (understood schema text) ≡ text = ap (statement_of text) is
+    ∙ facts.text_is in
     let does : Does old.step_limit (mode_of old) [] old.now text None CreateTable (Ok (w.tally, new.now)) =
     subst (λ sql. Does old.step_limit (mode_of old) [] old.now sql None CreateTable (Ok (w.tally, new.now))) whole w.changed in
     let none = counts_none old new.now text w.tally does in (

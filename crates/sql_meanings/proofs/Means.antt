@@ -38,7 +38,8 @@ means schema text count command c is meant whole given bare timeless =
     let both = understood_is schema text c is in
     record { found = c; is = both.0; unlisted = both.1; meant = meant; whole = whole; given = given; bare = bare; timeless = timeless }
 
-module _ (schema : Schema) (text : List ℕ) (count : ℕ) (command : Command) (m : Means schema text count command) where
+module _ (schema : Schema) (text : List ℕ) (count : ℕ) (command : Command)
+    (m : Means schema text count command) where
   -- the command of the text
   pub meant_is : command_of (understood schema text) ≡ command
   meant_is = ap command_of m.is ∙ m.meant

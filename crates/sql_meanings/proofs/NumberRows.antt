@@ -38,7 +38,8 @@ numbers_typed : (names : List (List ℕ)) (at : ℕ) (values : List ℤ) → len
 numbers_typed [] at [] wide = refl
 numbers_typed [] at (v ∷ values) wide = absurd (omega arith)
 numbers_typed (name ∷ names) at [] wide = absurd (omega arith)
-numbers_typed (name ∷ names) at (v ∷ values) wide = rw (not_key at, add-one (suc at)) (numbers_typed names (suc at) values (omega arith))
+numbers_typed (name ∷ names) at (v ∷ values) wide = rw (not_key at, add-one (suc at))
+    (numbers_typed names (suc at) values (omega arith))
 
 numbers_present : (names : List (List ℕ)) (at : ℕ) (values : List ℤ) (row : Row)
     → drop (suc (suc at)) row ≡ numbers values
@@ -126,9 +127,11 @@ all_columns row (p ∷ places) all = (number_at row p all, all_columns row place
 pub entry_fits : (e : Entry) (places : List ℕ) → length places ≤ 2000
     → IsStorable 0 (entry_of places (stored e))
 entry_fits e places few =
-    let all = all-append IsNumber (map (column (stored e)) places) (Int e.key ∷ []) (all_columns (stored e) places (entry_numbers e))
+    let all = all-append IsNumber (map (column (stored e)) places) (Int e.key ∷ [])
+    (all_columns (stored e) places (entry_numbers e))
     (inr (e.key, refl), tt) in
-    let long = length-append (map (column (stored e)) places) (Int e.key ∷ []) ∙ ap (λ n. n + 1) (length-map places (column (stored e))) in
+    let long = length-append (map (column (stored e)) places) (Int e.key ∷ []) ∙ ap (λ n. n + 1)
+    (length-map places (column (stored e))) in
     storable _ all (omega arith) (omega arith)
 
 -- so can the row, where it has at most 2000 columns

@@ -72,13 +72,17 @@ pub kept_reading : (old new : State) (text : List ℕ) (params : Row) (r : Resul
     → ReadKept old new r
 unfolding QueriesRow FailsToQuery IsNotRun Shown
 kept_reading old new text params (Ok row) only (inl begun) = begun.1
-kept_reading old new text params (Ok row) only (inr whole) = let it = rw ((only whole.1.0 whole.1.1.is).bare) at whole.1.2 in it.3
+kept_reading old new text params (Ok row) only (inr whole) = let it = rw
+    ((only whole.1.0 whole.1.1.is).bare) at whole.1.2 in it.3
 kept_reading old new text params (Err e) only (inl (inl (inl (inl none)))) = inr none.1
 kept_reading old new text params (Err e) only (inl (inl (inl (inr fails)))) = inl fails
-kept_reading old new text params (Err e) only (inl (inl (inr shown))) = let it = rw ((only shown.0 shown.1.is).bare) at shown.2 in
+kept_reading old new text params (Err e) only (inl (inl (inr shown))) = let it = rw
+    ((only shown.0 shown.1.is).bare) at shown.2 in
     inr it.3
-kept_reading old new text params (Err e) only (inl (inr none)) = let it = rw ((only none.1.0 none.1.1.is).bare) at none.1.2 in inr it.3
-kept_reading old new text params (Err e) only (inr late) = absurd (let it = rw ((only late.0 late.1.is).bare) at late.2 in cc)
+kept_reading old new text params (Err e) only (inl (inr none)) = let it = rw
+    ((only none.1.0 none.1.1.is).bare) at none.1.2 in inr it.3
+kept_reading old new text params (Err e) only (inr late) = absurd
+    (let it = rw ((only late.0 late.1.is).bare) at late.2 in cc)
 
 -- no fault of the store is told as no rows
 pub no_rows_error : (cause : StoreError) → ¬ (QueryReturnedNoRows ≡ store_error cause)

@@ -65,7 +65,8 @@ use Rattle.sql_meanings.proofs.Statements.{HasTable}
 use Rattle.sql_meanings.specs.Queries.{no_limit}
 
 -- a schema with no table and no view of the name refuses it
-module _ (schema : Schema) (name : Name) (no_table : table_named schema name ≡ None) (no_view : view_named schema name ≡ None) where
+module _ (schema : Schema) (name : Name) (no_table : table_named schema name ≡ None)
+    (no_view : view_named schema name ≡ None) where
   no_bounds : (from : From) (budget : ℕ) (l : Carried) → (out-Source from).origin ≡ origin.Table name
       → bounds schema (from ∷ []) (st 1 budget l) ≡ Err NoSuchTable
   unfolding bounds bound table_in take_slot
@@ -97,7 +98,8 @@ module _ (schema : Schema) (name : Name) (no_table : table_named schema name ≡
   )
 
   -- the whole text is refused
-  pub refuses_query : (text : List ℕ) (P : Parsed) (s : written_select.Select) (core : Core) (from : From) (order : List Sort)
+  pub refuses_query : (text : List ℕ) (P : Parsed) (s : written_select.Select) (core : Core) (from : From)
+      (order : List Sort)
       → first text ≡ Ok P → P.statement ≡ written.Select s → P.formats ≡ []
       → out-Select s ≡ record { with = []; first = core; others = []; order = order; limit = None; offset = None }
       → (out-Core core).from ≡ from ∷ [] → (out-Source from).origin ≡ origin.Table name
@@ -141,7 +143,8 @@ module _ (old new : State) (text : List ℕ) (only : OnlyShows text 0 (understoo
       → (b : Bool) → is_refusal e ≡ b → TellsUnderstood old new text (cond b (Ok false) (Err e))
   by_error e (inl it) true is = ((it.0, it.2), it.3)
   by_error e (inl it) false is = absurd (let t : is_refusal e ≡ true = ap is_refusal it.1 in cc)
-  by_error e (inr fails) true is = absurd (let f : is_refusal e ≡ false = ap is_refusal fails.1 ∙ not_stored fails.0 in cc)
+  by_error e (inr fails) true is = absurd
+      (let f : is_refusal e ≡ false = ap is_refusal fails.1 ∙ not_stored fails.0 in cc)
   by_error e (inr fails) false is = fails
 
   -- an error that refuses the text

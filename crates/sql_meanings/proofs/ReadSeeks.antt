@@ -42,7 +42,8 @@ module _ (old new : State) (table : Table) (free : table.references ≡ []) (sou
       let at = standing old.now table free sound defined in
       let m = reads.means old.now.schema at.place tree at.has in
       let accepts = reads.accepts old.now.schema at.place tree at.has in
-      let got = shown_answers old.now.schema text params (query tree) reads.names m accepts (reads.unfolded tree)
+      let got = shown_answers old.now.schema text params (query tree) reads.names m accepts
+      (reads.unfolded tree)
       (reads.ungrouped tree) old new refl rows h in
       (answer at.has.low rows got.0, got.1)
   reads_all defined wanted answer (Err e) h =
@@ -50,9 +51,11 @@ module _ (old new : State) (table : Table) (free : table.references ≡ []) (sou
       let at = standing old.now table free sound defined in
       let m = reads.means old.now.schema at.place tree at.has in
       let accepts = reads.accepts old.now.schema at.place tree at.has in
-      fails_reading old.now.schema text params (query tree) reads.names m accepts (reads.unfolded tree) (reads.ungrouped tree) old new refl e h
+      fails_reading old.now.schema text params (query tree) reads.names m accepts (reads.unfolded tree)
+      (reads.ungrouped tree) old new refl e h
 
-module _ (old new : State) (table : Table) (free : table.references ≡ []) (sound : ∥ IsDatabase old.now ∥₁) (es : List Entry)
+module _ (old new : State) (table : Table) (free : table.references ≡ []) (sound : ∥ IsDatabase old.now ∥₁)
+    (es : List Entry)
     (holds : Holds old.now table es) (text : List ℕ) (most : ℕ) (project : List Term) where
   abbrev tree : ℕ
   tree = tree_of old.now.schema table.name
@@ -64,7 +67,8 @@ module _ (old new : State) (table : Table) (free : table.references ≡ []) (sou
       → TellsRows old new (page (next_from most tree project) (Int k ∷ [])
       (map (λ e. eval_all project ((Int k ∷ []) ∷ stored e ∷ [])) (filter (is_from k) es))) r
   reads_from k reads =
-      reads_all old new table free sound text (Int k ∷ []) (λ t. next_from most t project) reads holds.defined _
+      reads_all old new table free sound text (Int k ∷ [])
+      (λ t. next_from most t project) reads holds.defined _
       (λ low rows sure. from_answer Null most tree project (overlay old.now.trees []) k rows es
       (under_overlay old.now.trees tree low holds.rows) (sure Null))
 
@@ -75,7 +79,8 @@ module _ (old new : State) (table : Table) (free : table.references ≡ []) (sou
       → TellsRows old new (page (next_of_from most tree project) (Int one ∷ Int k ∷ [])
       (map (λ e. eval_all project ((Int one ∷ Int k ∷ []) ∷ stored e ∷ [])) (filter (is_of_from one k) es))) r
   reads_of_from one k reads =
-      reads_all old new table free sound text (Int one ∷ Int k ∷ []) (λ t. next_of_from most t project) reads holds.defined _
+      reads_all old new table free sound text (Int one ∷ Int k ∷ [])
+      (λ t. next_of_from most t project) reads holds.defined _
       (λ low rows sure. of_from_answer Null most tree project (overlay old.now.trees []) one k rows es
       (under_overlay old.now.trees tree low holds.rows) (sure Null))
 
@@ -84,10 +89,12 @@ pub kept_all : (old new : State) (text : List ℕ) (params : Row) (r : Result (L
     → OnlyShows text (length params) (understood old.now.schema text) → QueriesAll text params old new r
     → ReadKept old new r
 unfolding FailsToQuery IsNotRun Shown
-kept_all old new text params (Ok rows) only whole = let it = rw ((only whole.0 whole.1.is).bare) at whole.2 in it.3
+kept_all old new text params (Ok rows) only whole = let it = rw
+    ((only whole.0 whole.1.is).bare) at whole.2 in it.3
 kept_all old new text params (Err e) only (inl (inl none)) = inr none.1
 kept_all old new text params (Err e) only (inl (inr fails)) = inl fails
-kept_all old new text params (Err e) only (inr shown) = let it = rw ((only shown.0 shown.1.is).bare) at shown.2 in inr it.3
+kept_all old new text params (Err e) only (inr shown) = let it = rw
+    ((only shown.0 shown.1.is).bare) at shown.2 in inr it.3
 
 never : (text : List ℕ) (params : Row) (s : State)
     → OnlyShows text (length params) (understood s.now.schema text) → (db : Trees)

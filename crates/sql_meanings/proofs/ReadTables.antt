@@ -61,7 +61,8 @@ overlay_low db t low = rw low
 pub under_overlay : {width : ℕ} {es : List Entry} (db : Trees) (t : ℕ) → nat_le (2 ^ 31) t ≡ false
     → IsTree width (db t) es
     → IsTree width (overlay db [] t) es
-under_overlay {width} {es} db t low tree = subst (λ rows. IsTree width rows es) (sym (overlay_low db t low)) tree
+under_overlay {width} {es} db t low tree = subst (λ rows. IsTree width rows es)
+    (sym (overlay_low db t low)) tree
 
 one_row : {X : Type 0} (show : X → Row) (o : Option X) (row : Row) (tail : List Row)
     → row ∷ tail ≡ map show (listed o)
@@ -89,7 +90,8 @@ module _ (old new : State) (table : Table) (free : table.references ≡ []) (sou
       let at = standing old.now table free sound defined in
       let m = reads.means old.now.schema at.place tree at.has in
       let accepts = reads.accepts old.now.schema at.place tree at.has in
-      let got = first_answers old.now.schema text params (query tree) reads.names m accepts (reads.unfolded tree)
+      let got = first_answers old.now.schema text params (query tree) reads.names m accepts
+      (reads.unfolded tree)
       (reads.ungrouped tree) old new refl row h in
       (one_row show found row got.0.0 (answer at.has.low (row ∷ got.0.0) got.0.1), got.1)
   reads_row found show answer (Err e) h =

@@ -45,13 +45,15 @@ makes_parent : (schema : Schema) (table child : Table) (ref : Reference) → Has
     → Has child.references ref
     → same_name table.name ref.parent ≡ true → is_parent schema table ≡ true
 makes_parent schema table child ref listed known same =
-    some_from _ schema.tables child listed (some_from (λ (r : Reference). same_name table.name r.parent) child.references ref known same)
+    some_from _ schema.tables child listed
+    (some_from (λ (r : Reference). same_name table.name r.parent) child.references ref known same)
 
 eqb_same : (m n : ℕ) → (m == n) ≡ true → m ≡ n
 eqb_same m n h = grind arith
 
 -- nothing is set off where each reference sets nothing off
-none_for : (schema : Schema) (keys : Keys) (tree : ℕ) (olds news : List Row) (child : Table) (refs : List Reference)
+none_for : (schema : Schema) (keys : Keys) (tree : ℕ) (olds news : List Row) (child : Table)
+    (refs : List Reference)
     → ((ref : Reference) → Has refs ref → work_for schema keys 0 tree olds news child ref ≡ None)
     → filter_map (work_for schema keys 0 tree olds news child) refs ≡ []
 none_for schema keys tree olds news child [] each = refl
@@ -61,7 +63,8 @@ none_for schema keys tree olds news child (ref ∷ refs) each =
 none_in : (schema : Schema) (keys : Keys) (tree : ℕ) (olds news : List Row) (tables : List Table)
     → ((child : Table) → Has tables child → (ref : Reference) → Has child.references ref
     → work_for schema keys 0 tree olds news child ref ≡ None)
-    → flat_map (λ child. filter_map (work_for schema keys 0 tree olds news child) child.references) tables ≡ []
+    → flat_map (λ child. filter_map (work_for schema keys 0 tree olds news child) child.references) tables
+    ≡ []
 none_in schema keys tree olds news [] each = refl
 none_in schema keys tree olds news (t ∷ tables) each =
     rw (none_for schema keys tree olds news t t.references (each t (inl refl)))
@@ -75,7 +78,8 @@ module _ (schema : Schema) (table : Table) (stands : Stands schema table) where
   in_tree child ref key listed known is same =
       let found = parent_named schema.tables ref key is in
       let it : found.0 ≡ table = stands.apart found.0 found.1 (found.2 ∙ same) in
-      makes_parent schema table child ref listed known (subst (λ (t : Table). same_name t.name ref.parent ≡ true) it found.3)
+      makes_parent schema table child ref listed known
+      (subst (λ (t : Table). same_name t.name ref.parent ≡ true) it found.3)
 
   no_work : (moves : List (Row × Row)) (child : Table) (ref : Reference) → Has schema.tables child
       → Has child.references ref
@@ -84,16 +88,19 @@ module _ (schema : Schema) (table : Table) (stands : Stands schema table) where
       → work_by 0 table.tree moves child ref deed key ≡ None
   no_work moves child ref listed known none None key is = refl
   no_work moves child ref listed known none (Some deed) None is = refl
-  no_work moves child ref listed known none (Some deed) (Some key) is = elim (cases_Bool (key.0 == table.tree)) [
-    | inl same ↦ absurd (let parent = in_tree child ref key listed known is (eqb_same _ _ same) in cc)
-    | inr other ↦ rw other
-  ]
+  no_work moves child ref listed known none (Some deed) (Some key) is =
+      elim (cases_Bool (key.0 == table.tree)) [
+        | inl same ↦ absurd (let parent = in_tree child ref key listed known is (eqb_same _ _ same) in cc)
+        | inr other ↦ rw other
+      ]
 
   -- where no foreign key names the table, nothing is set off
   pub nothing_set_off : (olds news : List Row) → is_parent schema table ≡ false
       → works schema Enforced 0 table.tree olds news ≡ []
-  nothing_set_off olds news none = none_in schema Enforced table.tree olds news schema.tables (λ child listed ref known.
-      no_work (pairs olds news) child ref listed known none (deed_for Enforced (length news == 0) ref) (parent_key schema.tables ref) refl)
+  nothing_set_off olds news none = none_in schema Enforced table.tree olds news schema.tables
+      (λ child listed ref known.
+      no_work (pairs olds news) child ref listed known none (deed_for Enforced (length news == 0) ref)
+      (parent_key schema.tables ref) refl)
 
   -- ---- what each row refers to is there afterwards
 

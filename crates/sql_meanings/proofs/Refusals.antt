@@ -68,17 +68,22 @@ names_wide key names table n is wide =
     let long : length table.columns ≡ length (key_column key ∷ map number_column names) = ap length is in
     let same : length (map number_column names) ≡ length names = length-map names number_column in omega arith
 
-module _ (schema : Schema) (db : Trees) (edit : Edit) (is : IsOfNumbers edit.table) (xs : List Entry) (news : edit.news ≡ map stored xs)
+module _ (schema : Schema) (db : Trees) (edit : Edit) (is : IsOfNumbers edit.table) (xs : List Entry)
+    (news : edit.news ≡ map stored xs)
     (fits : AllByRecursion (IsFit edit.table) xs) where
   regular : Regular schema db edit
   regular = record {
-    typed = ap (list_all (passes Datatype schema db edit.table)) news ∙ all_stored edit.table (passes Datatype schema db edit.table)
+    typed = ap (list_all (passes Datatype schema db edit.table)) news ∙ all_stored edit.table
+        (passes Datatype schema db edit.table)
         (λ x h. rw (is.keyed, is.columns, is.uncomputed, entry_typed is.key is.names x (names_wide is.key is.names edit.table _ is.columns h.wide)) refl) xs fits;
-    present = ap (list_all (passes NotNull schema db edit.table)) news ∙ all_stored edit.table (passes NotNull schema db edit.table)
+    present = ap (list_all (passes NotNull schema db edit.table)) news ∙ all_stored edit.table
+        (passes NotNull schema db edit.table)
         (λ x h. rw (is.keyed, is.columns) (entry_present is.key is.names x (names_wide is.key is.names edit.table _ is.columns h.wide))) xs fits;
-    checked = ap (list_all (passes Check schema db edit.table)) news ∙ all_stored edit.table (passes Check schema db edit.table) (λ x h. h.checked) xs fits;
+    checked = ap (list_all (passes Check schema db edit.table)) news ∙ all_stored edit.table
+        (passes Check schema db edit.table) (λ x h. h.checked) xs fits;
     keyed = ap have_rowids news ∙ all_stored edit.table _ (λ x h. refl) xs fits;
-    low = ap (list_all (λ r. fits_i64 (id_in (rowid r)))) news ∙ all_stored edit.table _ (λ x h. h.low) xs fits;
+    low = ap (list_all (λ r. fits_i64 (id_in (rowid r)))) news ∙ all_stored edit.table _
+        (λ x h. h.low) xs fits;
   }
 
   -- the three rules that such rows may break
@@ -118,14 +123,16 @@ module _ (schema : Schema) (db : Trees) (edit : Edit) (is : IsOfNumbers edit.tab
           | inl wide ↦ (i, listed, of ∙ sym at, wide)
           | inr few ↦ absurd (big (subst (IsStorable (index_reals (table_reals edit.table) i.columns)) (ap (entry_of i.columns) (sym x.1))
               (subst (λ n. IsStorable n (entry_of i.columns (stored x.0)))
-              (sym (ap (λ n. index_reals n i.columns) none ∙ none_indexed i.columns)) (entry_fits x.0 i.columns few))))
+              (sym (ap (λ n. index_reals n i.columns) none ∙ none_indexed i.columns))
+              (entry_fits x.0 i.columns few))))
         ]
       ]
 
   -- ---- how the edit may stop
 
   module _ (Acts : Type 0) (acts : (works schema Enforced 0 edit.table.tree (taken_by db edit) edit.news ≡ []) ⊎ Acts)
-      (asks : is_referred schema Enforced edit ≡ false → Acts) (at : tree_of schema edit.table.name ≡ edit.table.tree) where
+      (asks : is_referred schema Enforced edit ≡ false → Acts)
+      (at : tree_of schema edit.table.name ≡ edit.table.tree) where
     -- why the edit stops: it can't be stored, or the error of a rule
     abbrev pub EditStops : Option Error → Type 0
     EditStops None = HasWideIndex schema edit.table ⊎ Acts
@@ -189,7 +196,8 @@ unclashed b c h = rw h refl
 breaks_none : (schema : Schema) (db : Trees) (tree : ℕ) (rows : List Row)
     → list_any (λ (i : Index). i.is_unique && (i.table == tree)) schema.indexes ≡ false
     → Keeps Unique schema db → Keeps Unique schema (with_tree db tree rows)
-breaks_none schema db tree rows none keeps = keeps_from Unique schema (with_tree db tree rows) (λ t row listed there.
+breaks_none schema db tree rows none keeps = keeps_from Unique schema (with_tree db tree rows)
+    (λ t row listed there.
     elim (cases_Bool (t.tree == tree)) [
       | inl here ↦ all_pass (λ (i : Index). i.is_unique && (i.table == tree))
           (λ (i : Index). not (guards i t && clashes i.order i.columns (with_tree db tree rows t.tree) row))
@@ -211,7 +219,8 @@ forbids schema db table entries rows sound are broken = (
   λ trees other same. ∥∥₁_elim sound (λ x y. absurd x) (λ it. broken (keeps_from Unique schema (with_tree db (tree_of schema table.name) rows) (λ t row listed there.
       elim (cases_Bool (t.tree == tree_of schema table.name)) [
         | inl here ↦ held_at schema trees (with_tree db (tree_of schema table.name) rows) t row listed
-            (rw here (are ∙ sym same ∙ ap trees (same_tree t.tree (tree_of schema table.name) here))) there (other.obeys.rules Unique)
+            (rw here (are ∙ sym same ∙ ap trees (same_tree t.tree (tree_of schema table.name) here))) there
+            (other.obeys.rules Unique)
         | inr away ↦ held_at schema db (with_tree db (tree_of schema table.name) rows) t row listed (rw away refl) there
             (it.obeys.rules Unique)
       ]))),

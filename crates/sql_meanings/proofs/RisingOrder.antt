@@ -50,7 +50,8 @@ module _ {X : Type 0} (cmp : X → X → Ordering) (total : IsTotalOrder cmp) wh
   same_is_equal x = self (cmp x x) (total.antisymm x x)
 
   not_below : (x y : X) → cmp x y ≡ Less → is_gt (cmp y x) ≡ false → X → y ≡ x
-  not_below x y low most d = absurd (let back = total.antisymm y x ∙ ap ordering_reverse low in let bad = ap is_gt back in cc)
+  not_below x y low most d = absurd
+      (let back = total.antisymm y x ∙ ap ordering_reverse low in let bad = ap is_gt back in cc)
 
   first_is : (x y : X) → (y ≡ x) ⊎ (cmp x y ≡ Less) → is_gt (cmp y x) ≡ false → y ≡ x
   first_is x y (inl same) most = same
@@ -97,9 +98,11 @@ module _ {X : Type 0} (cmp : X → X → Ordering) (total : IsTotalOrder cmp) wh
       let marked : AllByRecursion (λ z. (z ≡ x) ⊎ (cmp x z ≡ Less)) (x ∷ ys) =
       all-permutation _ (x ∷ xs) (x ∷ ys) perm (inl refl, all_weaker _ _ (λ z h. inr h) xs low) in
       let eq = λ (z : X). is_eq (cmp x z) in
-      let once : IsPermutation (filter eq (x ∷ xs)) (filter eq (x ∷ ys)) = IsPermutation-filter eq (x ∷ xs) (x ∷ ys) perm in
+      let once : IsPermutation (filter eq (x ∷ xs)) (filter eq (x ∷ ys)) = IsPermutation-filter eq (x ∷ xs)
+      (x ∷ ys) perm in
       let one : length (filter eq (x ∷ ys)) ≡ length (filter eq (x ∷ xs)) = length_permutation _ _ once in
-      let none : filter eq ys ≡ [] = empty (filter eq ys) (let e = rw (same_is_equal x, no_equal x xs low) at one in omega (arith, e)) in
+      let none : filter eq ys ≡ [] = empty (filter eq ys)
+      (let e = rw (same_is_equal x, no_equal x xs low) at one in omega (arith, e)) in
       let up = joined x ys marked.1 (none_in eq ys none) in
       let lt = λ (z : X). is_lt (cmp x z) in
       subst (λ l. IsPermutation l ys) (above_first x xs (all_weaker _ _ (λ z h. ap is_lt h) xs low))
@@ -109,7 +112,8 @@ module _ {X : Type 0} (cmp : X → X → Ordering) (total : IsTotalOrder cmp) wh
   pub only_order : (xs ys : List X) → IsAscending (λ a b. cmp a b ≡ Less) xs → IsAscending AtMost ys
       → IsPermutation xs ys → ys ≡ xs
   only_order [] ys up sorted perm = empty ys (length_permutation [] ys perm)
-  only_order (x ∷ xs) [] up sorted perm = absurd (let e = length_permutation (x ∷ xs) [] perm in omega (arith, e))
+  only_order (x ∷ xs) [] up sorted perm = absurd
+      (let e = length_permutation (x ∷ xs) [] perm in omega (arith, e))
   only_order (x ∷ xs) (y ∷ ys) up sorted perm =
       let marked : AllByRecursion (λ z. (z ≡ x) ⊎ (cmp x z ≡ Less)) (y ∷ ys) =
       all-permutation _ (x ∷ xs) (y ∷ ys) perm (inl refl, all_weaker _ _ (λ z h. inr h) xs up.0) in
@@ -119,7 +123,8 @@ module _ {X : Type 0} (cmp : X → X → Ordering) (total : IsTotalOrder cmp) wh
         sorted.0,
       ) in
       let first : y ≡ x = first_is x y marked.0 least.0 in
-      let rest : IsPermutation xs ys = tails x xs ys up.0 (subst (λ z. IsPermutation (x ∷ xs) (z ∷ ys)) first perm) in
+      let rest : IsPermutation xs ys = tails x xs ys up.0
+      (subst (λ z. IsPermutation (x ∷ xs) (z ∷ ys)) first perm) in
       let more : ys ≡ xs = only_order xs ys up.1 sorted.1 rest in
       cc
 

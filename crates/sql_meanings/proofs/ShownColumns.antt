@@ -97,13 +97,15 @@ abbrev pub HasRoom : ℕ → List Output → Type 0
 HasRoom budget [] = Unit {0}
 HasRoom budget (o ∷ os) = (nat_lt 1 budget ≡ true) × HasRoom (budget - 1) os
 
-module _ (schema : Schema) (p : ℕ) (table : Table) (listed : slice_get schema.tables p ≡ Some table) (name : Name) (may : Bool) where
+module _ (schema : Schema) (p : ℕ) (table : Table) (listed : slice_get schema.tables p ≡ Some table)
+    (name : Name) (may : Bool) where
   heading_is : (e : Expr) (text wanted : Name) (place : ℕ) (c : Column)
       → out-Expr e ≡ Expr-F.Column None wanted
       → column_named table wanted ≡ Some place → slice_get table.columns place ≡ Some c
       → heading (over_one schema name p [] may) e text ≡ c.name
   unfolding heading body.declared
-  heading_is e text wanted place c is named there = rw (is, found_is schema p table listed name [] may wanted place named, listed, there)
+  heading_is e text wanted place c is named there = rw
+      (is, found_is schema p table listed name [] may wanted place named, listed, there)
 
   shown_is : (s : Shown) (o : Output) (done : List Output) (budget : ℕ) (l : Carried) → ShowsOne table s o
       → nat_lt 1 budget ≡ true
@@ -129,7 +131,8 @@ module _ (schema : Schema) (p : ℕ) (table : Table) (listed : slice_get schema.
   outputs_are [] (o ∷ os) done budget l it room = absurd it
   outputs_are (s ∷ ss) [] done budget l it room = absurd it
   outputs_are (s ∷ ss) (o ∷ os) done budget l it room =
-      rw (shown_is s o done budget l it.0 room.0) (outputs_are ss os (done ++ o ∷ []) (budget - 1) o.carried it.1 room.1
+      rw (shown_is s o done budget l it.0 room.0)
+      (outputs_are ss os (done ++ o ∷ []) (budget - 1) o.carried it.1 room.1
       ∙ rw append_assoc)
 
 -- ---- computed of what was written

@@ -184,7 +184,8 @@ ok_same e = cc
 pub counts_created : (schema : Schema) (t : Table) → t.is_counted ≡ false → counts_rows schema ≡ false
     → counts_rows (created schema t) ≡ false
 counts_created schema t last none =
-    list_any-append (λ (u : Table). u.is_counted) schema.tables (record t { tree = next_tree schema } ∷ []) ∙ rw (none, last) refl
+    list_any-append (λ (u : Table). u.is_counted) schema.tables (record t { tree = next_tree schema } ∷ [])
+    ∙ rw (none, last) refl
 
 -- where no table counts its rows, none is made that counts for it
 none_counted : (old after : Database) → MakesSequence old (Ok after) → counts_rows old.schema ≡ false
@@ -195,11 +196,13 @@ none_counted old after h none =
     cc
 
 -- CREATE TABLE of a table with no foreign key, done
-pub adds : (limit : Option ℕ) (mode : Mode) (params : Row) (old after : Database) (text : List ℕ) (tally : Tally) (t : Table)
+pub adds : (limit : Option ℕ) (mode : Mode) (params : Row) (old after : Database) (text : List ℕ)
+    (tally : Tally) (t : Table)
     → table_defined_by text ≡ Ok t → t.references ≡ []
     → Does limit mode params old text None CreateTable (Ok (tally, after)) → Adds old after t
 adds limit mode params old after text tally t defined free h =
-    let all = through (Then (MakesTable text old) MakesSequence) (λ (db : Database). Gives (no_rows mode.in_doubt, db))
+    let all = through (Then (MakesTable text old) MakesSequence)
+    (λ (db : Database). Gives (no_rows mode.in_doubt, db))
     (tally, after) h in
     let both = through (MakesTable text old) MakesSequence all.0 all.1 in
     let mid = both.0 in
@@ -216,5 +219,6 @@ adds limit mode params old after text tally t defined free h =
       empty = second.rows new there.listed ∙ made.empty;
       alone = λ none.
           let grown : mid.schema ≡ created old.schema t = made.is ∙ ap (created old.schema) is in
-          ap (λ (db : Database). db.schema) (sym (none_counted mid all.0 both.2 (ap counts_rows grown ∙ none) ∙ last)) ∙ grown;
+          ap (λ (db : Database). db.schema)
+          (sym (none_counted mid all.0 both.2 (ap counts_rows grown ∙ none) ∙ last)) ∙ grown;
     }

@@ -82,14 +82,16 @@ pub record Steps (old after : Database) (name : List ℕ) (rows : List Row) : Ty
   pub others : (t : Table) → Stands old.schema t → t.tree ≢ tree_of old.schema name
       → after.trees t.tree ≡ old.trees t.tree
 
-module _ (old after : Database) (table : Table) (rows : List Row) (steps : Steps old after table.name rows) (free : table.references
+module _ (old after : Database) (table : Table) (rows : List Row) (steps : Steps old after table.name rows)
+    (free : table.references
     ≡ []) where
   -- the table that was written holds its rows
   pub stepped : (es : List Entry) → Defines old.schema table → IsTree (width_of table) rows es
       → Holds after table es
   stepped es d tree = record {
     defined = subst (λ s. Defines s table) (sym steps.schema) d;
-    rows = subst (λ rs. IsTree (width_of table) rs es) (sym (ap (λ (s : Schema). after.trees (tree_of s table.name)) steps.schema
+    rows = subst (λ rs. IsTree (width_of table) rs es)
+        (sym (ap (λ (s : Schema). after.trees (tree_of s table.name)) steps.schema
         ∙ steps.now)) tree;
   }
 
@@ -101,7 +103,8 @@ module _ (old after : Database) (table : Table) (rows : List Row) (steps : Steps
     defined = subst (λ s. Defines s other) (sym steps.schema) holds.defined;
     rows = subst (λ rs. IsTree (width_of other) rs es)
         (sym (ap (λ (s : Schema). after.trees (tree_of s other.name)) steps.schema
-        ∙ steps.others (placed_at other (tree_of old.schema other.name)) (defined_stands old.schema other free' holds.defined)
+        ∙ steps.others (placed_at other (tree_of old.schema other.name))
+        (defined_stands old.schema other free' holds.defined)
         (trees_apart old.schema other table free' free holds.defined d apart)))
         holds.rows;
   }

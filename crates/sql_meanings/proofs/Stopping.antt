@@ -86,13 +86,15 @@ shows_none c write bare = rw bare (go c.command write)
     go CreateTable h = refl
     go _ h = absurd (let e = h in cc)
 
-module _ (old new : State) (text : List ℕ) (params : Row) (command : Command) (write : is_write command ≡ true) (e : Error)
+module _ (old new : State) (text : List ℕ) (params : Row) (command : Command)
+    (write : is_write command ≡ true) (e : Error)
     (known : (c : Compiled) → understood old.now.schema text ≡ Ok c → (c.command ≡ command) × (c.returning ≡ None) × (c.formats ≡ []))
   where
     ran : (c : Compiled) → c.command ≡ command → c.returning ≡ None
         → RunsCommand old new text c params (Err e)
         → Stops old new (text_of text c) command params e
-    ran c is bare (inl (inl misplaced, same)) = absurd (placed old c.command e (ap is_write is ∙ write) misplaced)
+    ran c is bare (inl (inl misplaced, same)) = absurd
+        (placed old c.command e (ap is_write is ∙ write) misplaced)
     ran c is bare (inl (inr does, same)) = inl (rw (is, bare) at does.1, same)
     ran c is bare (inr fails) = inr (rw (is, bare) at fails)
 

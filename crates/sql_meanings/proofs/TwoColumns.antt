@@ -80,7 +80,8 @@ passes_is : (one two key : ℤ) (values : List ℤ) → list_all
 unfolding binary
 passes_is one two key [] = refl
 passes_is one two key (t ∷ []) = and_false _
-passes_is one two key (t ∷ n ∷ more) = first_two_test one two key t n more ∙ and_true (int_eq t one) (int_eq n two)
+passes_is one two key (t ∷ n ∷ more) = first_two_test one two key t n more ∙ and_true (int_eq t one)
+    (int_eq n two)
 
 -- ---- UNIQUE
 
@@ -156,8 +157,10 @@ one_row all one two clear (e ∷ es) within rise = go (has_two one two e) refl
     (one_row all one two clear es (λ y h. within y (inr h)) rise.1)
   where
     go : (b : Bool) → has_two one two e ≡ b → filter (has_two one two) es ≡ listed (find (has_two one two) es)
-        → cond b (e ∷ filter (has_two one two) es) (filter (has_two one two) es) ≡ listed (cond b (Some e) (find (has_two one two) es))
-    go true here more = ap (λ l. e ∷ l) (none_above all one two e clear (within e (inl refl)) here es (λ y h. within y (inr h)) rise.0)
+        → cond b (e ∷ filter (has_two one two) es) (filter (has_two one two) es) ≡ listed
+        (cond b (Some e) (find (has_two one two) es))
+    go true here more = ap (λ l. e ∷ l)
+        (none_above all one two e clear (within e (inl refl)) here es (λ y h. within y (inr h)) rise.0)
     go false apart more = more
 
 -- the rows of such a table in a sound database are clear of each other
@@ -172,13 +175,16 @@ clear schema db t es sound listed unique order are e h =
     (keys_are_unique schema db t 0 (2 ∷ 3 ∷ []) (stored e) sound listed unique there))
 
 -- a query of the two columns shows the one row that has the two numbers, if any
-pub two_answer : (lost : Value) {width : ℕ} (t : ℕ) (project : List Term) (db : Trees) (one two : ℤ) (rows : List Row) (es : List Entry)
+pub two_answer : (lost : Value) {width : ℕ} (t : ℕ) (project : List Term) (db : Trees) (one two : ℤ)
+    (rows : List Row) (es : List Entry)
     → IsTree width (db t) es → Clear es
     → IsAnswerAs lost (query (inner t end) (two_are 2 3) project [] no_limit) db (Int one ∷ Int two ∷ []) rows
-    → rows ≡ map (λ e. eval_all project ((Int one ∷ Int two ∷ []) ∷ stored e ∷ [])) (listed (find (has_two one two) es))
+    → rows ≡ map (λ e. eval_all project ((Int one ∷ Int two ∷ []) ∷ stored e ∷ []))
+    (listed (find (has_two one two) es))
 two_answer lost t project db one two rows es tree apart a =
     let show : Entry → Row = λ e. eval_all project ((Int one ∷ Int two ∷ []) ∷ stored e ∷ []) in
     let perm = looked_up (Int one ∷ Int two ∷ []) (two_are 2 3) (has_two one two)
     (λ e. passes_is one two e.key e.values) lost t project db rows es tree.are a in
     let single = one_row es one two apart es (λ x h. h) tree.rise in
-    small_permutation show (find (has_two one two) es) rows (subst (λ l. IsPermutation (map show l) rows) single perm)
+    small_permutation show (find (has_two one two) es) rows
+    (subst (λ l. IsPermutation (map show l) rows) single perm)

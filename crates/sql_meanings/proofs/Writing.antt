@@ -74,12 +74,14 @@ were_fresh schema keys db next edit (inl refused) = absurd (let e = refused.2 in
 were_fresh schema keys db next edit (inr (inl big)) = absurd (let e = big.3 in cc)
 were_fresh schema keys db next edit (inr (inr on)) = on.1.fresh
 
-module _ (old new : State) (text : List ℕ) (params : Row) (p : ℕ) (table : Table) (listed : slice_get old.now.schema.tables p
+module _ (old new : State) (text : List ℕ) (params : Row) (p : ℕ) (table : Table)
+    (listed : slice_get old.now.schema.tables p
     ≡ Some table) (stands : Stands old.now.schema table) (count : ℕ) where
   -- an UPDATE that is done
   pub updates : (q : Program) → Means old.now.schema text (length params) (Update p q)
       → Executes text params old new (Ok count)
-      → (rows : List Row) × Answers old.now q params rows × Wrote old new (edit_of old.now.trees table (ids_of rows) Given 1 rows) count
+      → (rows : List Row) × Answers old.now q params rows × Wrote old new
+      (edit_of old.now.trees table (ids_of rows) Given 1 rows) count
   updates q m h =
       let schema = old.now.schema in
       let db = old.now.trees in
@@ -115,7 +117,8 @@ module _ (old new : State) (text : List ℕ) (params : Row) (p : ℕ) (table : T
 abbrev pub uncounted : Table → Table
 uncounted t = record t { is_counted = false }
 
-module _ (old new : State) (text : List ℕ) (params : Row) (p : ℕ) (t : Table) (listed : slice_get old.now.schema.tables p
+module _ (old new : State) (text : List ℕ) (params : Row) (p : ℕ) (t : Table)
+    (listed : slice_get old.now.schema.tables p
     ≡ Some (uncounted t)) (stands : Stands old.now.schema (uncounted t)) (count : ℕ) where
   abbrev table : Table
   table = uncounted t

@@ -90,7 +90,8 @@ NotMade schema text t e =
 
 -- every table that was there is there, with its rows
 abbrev pub KeepsTables : Database → Database → Type 0
-KeepsTables old new = (t : Table) → Has old.schema.tables t → Has new.schema.tables t × (new.trees t.tree ≡ old.trees t.tree)
+KeepsTables old new = (t : Table) → Has old.schema.tables t → Has new.schema.tables t ×
+    (new.trees t.tree ≡ old.trees t.tree)
 
 -- every table but the one of this name is there, with its rows
 abbrev pub SparesTables : Database → Database → List ℕ → Type 0

@@ -30,7 +30,8 @@ use Rattle.sql_meanings.specs.Tables.{Defines, tree_of}
 -- why a plain read may fail: the store failed and the transaction is rolled back, or the limit on steps was
 -- met and nothing has changed
 abbrev pub ReadFails : State → State → Error → Type 0
-ReadFails old new e = Fails old new ⊥ e ⊎ ((e ≡ SqliteFailure OperationInterrupted) × IsSome old.step_limit × IsUnchanged old new)
+ReadFails old new e = Fails old new ⊥ e ⊎
+    ((e ≡ SqliteFailure OperationInterrupted) × IsSome old.step_limit × IsUnchanged old new)
 
 -- the same, or memory for the answer was refused and nothing has changed
 abbrev pub IsStoreError : State → State → Error → Type 0
@@ -59,11 +60,13 @@ IsInterrupted old e = (e ≡ SqliteFailure OperationInterrupted) × IsSome old.s
 
 -- an index of the table has more columns than can be stored
 abbrev pub HasWideIndex : Schema → Table → Type 0
-HasWideIndex schema table = (i : Index) × Has schema.indexes i × (i.table ≡ tree_of schema table.name) × (2000 < length i.columns)
+HasWideIndex schema table = (i : Index) × Has schema.indexes i × (i.table ≡ tree_of schema table.name) ×
+    (2000 < length i.columns)
 
 -- a foreign key of the schema names this table as its parent
 abbrev pub is_parent : Schema → Table → Bool
-is_parent schema table = list_any (λ t. list_any (λ ref. same_name table.name ref.parent) t.references) schema.tables
+is_parent schema table = list_any
+    (λ t. list_any (λ ref. same_name table.name ref.parent) t.references) schema.tables
 
 -- a UNIQUE of the schema is on the table
 abbrev pub has_unique : Schema → Table → Bool
@@ -102,7 +105,8 @@ WriteFails old new = IsUnchanged old new ⊎ IsRolledBack old new
 -- the row is this one, or there is none, or the read failed
 abbrev pub TellsRow : State → State → Option Row → Result Row Error → Type 0
 TellsRow old new found (Ok row) = (found ≡ Some row) × IsUnchanged old new
-TellsRow old new found (Err e) = ((e ≡ QueryReturnedNoRows) × (found ≡ None) × IsUnchanged old new) ⊎ ReadFails old new e
+TellsRow old new found (Err e) = ((e ≡ QueryReturnedNoRows) × (found ≡ None) × IsUnchanged old new)
+    ⊎ ReadFails old new e
 
 -- what is read of several rows: these, and nothing has changed, or why it failed
 abbrev pub TellsRows : State → State → List Row → Result (List Row) Error → Type 0
@@ -132,7 +136,8 @@ MakeFails old new text t e = Fails old new ⊥ e ⊎ (NotMade old.now.schema tex
 
 -- the table was made, in a sound database, and no row is counted; or why it can't be made
 abbrev pub MakesTold : State → State → List ℕ → Table → Result ℕ Error → Type 0
-MakesTold old new text t (Ok count) = Adds old.now new.now t × IsDatabase new.now × KeepsCounts old new × (new.marks ≡ old.marks)
+MakesTold old new text t (Ok count) = Adds old.now new.now t × IsDatabase new.now × KeepsCounts old new ×
+    (new.marks ≡ old.marks)
 MakesTold old new text t (Err e) = MakeFails old new text t e
 
 -- a table or a view has this name
@@ -162,12 +167,14 @@ is_refusal _ = false
 -- the text is understood, or it isn't, or the store failed
 abbrev pub TellsUnderstood : State → State → List ℕ → Result Bool Error → Type 0
 TellsUnderstood old new text (Ok true) = IsUnderstood old.now.schema text × IsUnchanged old new
-TellsUnderstood old new text (Ok false) = ((fault : CompileError) × (understood old.now.schema text ≡ Err fault)) × IsUnchanged old new
+TellsUnderstood old new text (Ok false) =
+    ((fault : CompileError) × (understood old.now.schema text ≡ Err fault)) × IsUnchanged old new
 TellsUnderstood old new text (Err e) = Fails old new ⊥ e
 
 -- accepted: a table or a view of the name is there; refused: a sound database doesn't have the table; every
 -- other error is the store's
 abbrev pub TellsProbe : State → State → Table → Result Bool Error → Type 0
 TellsProbe old new table (Ok true) = IsThere old.now.schema table.name × IsUnchanged old new
-TellsProbe old new table (Ok false) = (∥ IsDatabase old.now ∥₁ → ¬ Defines old.now.schema table) × IsUnchanged old new
+TellsProbe old new table (Ok false) = (∥ IsDatabase old.now ∥₁ → ¬ Defines old.now.schema table)
+    × IsUnchanged old new
 TellsProbe old new table (Err e) = Fails old new ⊥ e
