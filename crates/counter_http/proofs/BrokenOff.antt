@@ -1,5 +1,6 @@
 -- A connection that ends at a message whose answer was written in part or not at all.
-use Rattle.std.proofs.Common.{◌≡◌, ℕ, ◌+◌, ◌-◌, inl, inr, List, [], ◌∷◌, ◌++◌, length, take, drop, Option, Result, Err, refl, sym, ap, subst, ◌∙◌, append-nil, arith}
+use Rattle.std.proofs.Common.{◌≡◌, ℕ, ◌+◌, ◌-◌, inl, inr, List, [], ◌∷◌, ◌++◌, length, take, drop, Option}
+use Rattle.std.proofs.Common.{Result, Err, refl, sym, ap, subst, ◌∙◌, append-nil, arith}
 use Rattle.std.specs.Io.KnownBytes.{Appends, Consumes}
 use Rattle.std.proofs.KnownBytes.{Appends-trans}
 use Rattle.std.proofs.Math.Seq.{take-append-add}
@@ -22,7 +23,9 @@ use Rattle.counter_http.specs.Ends.{HasEnded}
 use Rattle.counter_http.specs.Messages.{IsMessage}
 use Rattle.counter_http.specs.Next.{asked, IsWhole}
 use Rattle.counter_http.specs.Answers.{Asked, asked_by, answer_of, unavailable}
-use Rattle.counter_http.specs.Turns.{Turn, commands_for, readings_for, commands_in, moments_in, text_in, commands_of, moments_of, texts_of, answers_to, IsAnsweredInPart, IsRefusedAt, BreaksOff}
+use Rattle.counter_http.specs.Turns.{Turn, commands_for, readings_for, commands_in, moments_in, text_in}
+use Rattle.counter_http.specs.Turns.{commands_of, moments_of, texts_of, answers_to, IsAnsweredInPart}
+use Rattle.counter_http.specs.Turns.{IsRefusedAt, BreaksOff}
 use Rattle.posting_core.specs.Batches.{joined}
 use Rattle.posting_core.proofs.Batched.{joined-append}
 use Rattle.counter_http.specs.Serving.{At_message, At_refusal, Exits, IsWritten, Serves}

@@ -1,5 +1,7 @@
 -- Where the loop over a connection stands: what was read, a message, and the buffer.
-use Rattle.std.proofs.Common.{◌≡◌, ℕ, ◌+◌, ◌<◌, ◌≤◌, ◌-◌, slice_range, drop-drop, length-drop, Bool, false, List, [], ◌∷◌, ◌++◌, length, take, drop, Option, refl, sym, ap, subst, ◌∙◌, append_assoc, append-nil, arith}
+use Rattle.std.proofs.Common.{◌≡◌, ℕ, ◌+◌, ◌<◌, ◌≤◌, ◌-◌, slice_range, drop-drop, length-drop, Bool, false}
+use Rattle.std.proofs.Common.{List, [], ◌∷◌, ◌++◌, length, take, drop, Option, refl, sym, ap, subst, ◌∙◌}
+use Rattle.std.proofs.Common.{append_assoc, append-nil, arith}
 use Rattle.std.specs.List.{AllByRecursion}
 use Rattle.std.specs.Io.KnownBytes.{Keeps, Consumes}
 use Rattle.std.proofs.KnownBytes.{Consumes-trans, Consumes-nil, Consumes-kept}
@@ -13,7 +15,8 @@ use Rattle.counter_http.specs.declared.next.Whole.{Whole}
 use Rattle.counter_http.specs.Messages.{message_text, closes, Finished}
 use Rattle.counter_http.specs.Next.{asked, IsWhole, IsUnfinished}
 use Rattle.counter_http.specs.Answers.{Asked}
-use Rattle.counter_http.specs.Turns.{Turn, commands_for, readings_for, text_in, texts_of, AreAnswered, IsAnswered}
+use Rattle.counter_http.specs.Turns.{Turn, commands_for, readings_for, text_in, texts_of, AreAnswered}
+use Rattle.counter_http.specs.Turns.{IsAnswered}
 use Rattle.counter_http.specs.Serving.{GoesOn, BeginsWithNoMessage}
 use Rattle.counter_http.proofs.Walking.{no_message, head_some}
 use Rattle.counter_http.proofs.Turning.{answered_none, answered_more, answered_one}
