@@ -165,3 +165,9 @@ all_replies o t m (bytes ∷ records) fits covers =
     ∙ ap (λ (rest : List (List ℕ)). reply_read (tables_over o t) read ∷ rest)
     (all_replies next t m records (with_fits o t m read fits covers.0) (still_covers o m read (map request_of records) covers.1)
     ∙ ap (λ (u : Tables). replies_past_all u m records) (with_is o t m read fits covers.0))
+
+-- what is made of an overlay and its records is made of what they are
+pub judged : {before after old : Overlay} {reads items : List (Result RequestFields Bad)} (m : ℕ)
+    → after ≡ overlay_with_all before m items → items ≡ reads → before ≡ old → after ≡ overlay_with_all old m reads
+judged {before = before} {reads = reads} m is same start =
+    is ∙ ap (overlay_with_all before m) same ∙ ap (λ (o : Overlay). overlay_with_all o m reads) start

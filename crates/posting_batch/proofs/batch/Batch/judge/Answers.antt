@@ -14,7 +14,7 @@ use Rattle.posting_batch.specs.Overlay.{Overlay, tables_over}
 use Rattle.posting_batch.specs.View.{view}
 use Rattle.posting_batch.proofs.Covered.{stands}
 use Rattle.posting_batch.proofs.Idle.{all_answered, all_idle, all_rows}
-use Rattle.posting_batch.proofs.InOrder.{all_tables, all_replies, all_rising}
+use Rattle.posting_batch.proofs.InOrder.{all_tables, all_replies, all_rising, judged}
 use Rattle.posting_batch.proofs.NewRows.{all_changes, all_adds}
 use Rattle.posting_batch.proofs.batch.Batch.judge.Goals as goal
 
@@ -24,11 +24,7 @@ returns-clause-tables c t records is =
     let reads : List (Result RequestFields Bad) = map request_of records in
     let old = filled t (covering_all no_slots reads) in
     let it = stands t reads in
-    let after : view c.answer_all.new.self ≡ overlay_with_all old m reads =
-    c.answer_all.ensures.overlay ∙ ap
-    (λ (rs : List (Result RequestFields Bad)). overlay_with_all (view c.args.self.overlay) m rs)
-    (c.deref.ensures.value ∙ is.reads)
-    ∙ ap (λ (o : Overlay). overlay_with_all o m reads) is.overlay in
+    let after = judged m c.answer_all.ensures.overlay (c.deref.ensures.value ∙ is.reads) is.overlay in
     ap (λ (o : Overlay). tables_over o t) after ∙ all_tables old t m records it.fits it.covers ∙ ap
     (λ (u : Tables). tables_past_all u m records) it.same
 
@@ -63,11 +59,7 @@ returns-clause-changes c t records is =
     let reads : List (Result RequestFields Bad) = map request_of records in
     let old = filled t (covering_all no_slots reads) in
     let it = stands t reads in
-    let after : view c.answer_all.new.self ≡ overlay_with_all old m reads =
-    c.answer_all.ensures.overlay ∙ ap
-    (λ (rs : List (Result RequestFields Bad)). overlay_with_all (view c.args.self.overlay) m rs)
-    (c.deref.ensures.value ∙ is.reads)
-    ∙ ap (λ (o : Overlay). overlay_with_all o m reads) is.overlay in
+    let after = judged m c.answer_all.ensures.overlay (c.deref.ensures.value ∙ is.reads) is.overlay in
     subst (λ (o : Overlay). ChangesRows o t) (sym after)
     (all_changes old t m reads it.fits it.unchanged it.covers)
 
@@ -90,11 +82,7 @@ returns-clause-adds c t records is log shows =
     let reads : List (Result RequestFields Bad) = map request_of records in
     let old = filled t (covering_all no_slots reads) in
     let it = stands t reads in
-    let after : view c.answer_all.new.self ≡ overlay_with_all old m reads =
-    c.answer_all.ensures.overlay ∙ ap
-    (λ (rs : List (Result RequestFields Bad)). overlay_with_all (view c.args.self.overlay) m rs)
-    (c.deref.ensures.value ∙ is.reads)
-    ∙ ap (λ (o : Overlay). overlay_with_all o m reads) is.overlay in
+    let after = judged m c.answer_all.ensures.overlay (c.deref.ensures.value ∙ is.reads) is.overlay in
     subst (λ (o : Overlay). AddsRows o t) (sym after)
     (all_adds old t log m records it.fits it.unchanged it.covers (subst (λ (u : Tables). Shows u log) (sym it.same) shows))
 
