@@ -8,11 +8,10 @@ use Rattle.std.proofs.KnownBytes.{Consumes-trans, Consumes-nil, Consumes-kept}
 use Rattle.std.proofs.lemmas.List.{length-append, length-take-le, drop-take, nil_from_length}
 use Rattle.std.proofs.lemmas.List.Concat.{flat_map-append}
 use Rattle.posting_rules.specs.Counter.{Seen}
-use Rattle.posting_rules.specs.Runs.{behind}
 use Rattle.posting_core.specs.Clock.{AreReadings}
 use Rattle.httparse.specs.Grammar.{print_request}
 use Rattle.counter_http.specs.declared.next.Whole.{Whole}
-use Rattle.counter_http.specs.Messages.{message_text, closes, Finished}
+use Rattle.counter_http.specs.Messages.{message_text, Finished}
 use Rattle.counter_http.specs.Next.{asked, IsWhole, IsUnfinished}
 use Rattle.counter_http.specs.Answers.{Asked}
 use Rattle.counter_http.specs.Turns.{Turn, commands_for, readings_for, text_in, texts_of, AreAnswered}

@@ -7,8 +7,7 @@ use Rattle.std.specs.Io.KnownBytes.{Appends}
 use Rattle.std.proofs.lemmas.List.{length-append, map-append, take-append-drop}
 use Rattle.std.proofs.lemmas.List.Concat.{flat_map-append}
 use Rattle.posting_rules.specs.Commands.{Command}
-use Rattle.posting_rules.specs.Tables.{Tables}
-use Rattle.posting_rules.specs.Counter.{Seen, ShowsBeginning}
+use Rattle.posting_rules.specs.Counter.{Seen}
 use Rattle.posting_rules.proofs.Remaining.{leaves_weaker}
 use Rattle.posting_core.specs.Batches.{joined}
 use Rattle.posting_core.specs.Stream.{acknowledged}

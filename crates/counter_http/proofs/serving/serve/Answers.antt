@@ -1,5 +1,4 @@
-use Rattle.std.proofs.Common.{◌≡◌, ◌≢◌, ◌≤◌, ℕ, ◌+◌, List, [], refl, sym, ap, subst, arith, inr, length, take}
-use Rattle.std.proofs.lemmas.List.{length-take-le}
+use Rattle.std.proofs.Common.{◌≡◌, ◌≤◌, ℕ, ◌+◌, List, [], refl, sym, subst, arith, inr, length, take}
 use Rattle.std.proofs.lemmas.Result.{err_from_is_err_and}
 use Rattle.posting_core.proofs.Streaming.{at_ok}
 use Rattle.posting_core.proofs.Telling.{made_many, made_none, made_one, other_kind, read_failed}
