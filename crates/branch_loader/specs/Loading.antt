@@ -52,8 +52,7 @@ LeavesBeginning old new commands least =
     new.honest → (log : List Command) → StandsAt old log → LeavesOnly new (ShowsBeginning log commands least)
 
 -- The counter answered so many of the commands, stood there, and refused the next one. Where it stood it was
--- honest
--- and up wherever it is so afterwards, and down only where it was down from the start.
+-- honest and up wherever it is so afterwards, and down only where it was down from the start.
 pub record IsRefusedAfter {C : Type 0} (seen : C → Seen) (old new : C) (commands : List Command)
     (fault : Fault)
     (answered : ℕ) : Type 0 where

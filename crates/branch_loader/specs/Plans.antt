@@ -119,8 +119,7 @@ Tells stated answer = stated ≡ answer
 -- ---- what csv told, where the answer is none of a plan
 
 -- The source failed; or memory was refused, to csv, or behind a record for the room of its row. Every other
--- answer
--- is stated.
+-- answer is stated.
 abbrev pub IsToldSo : Result Rows PlanFault → Option (List RecordTold) → Option (List RecordTold) → Type 0
 IsToldSo (Err Csv) old new = EndsWith IsSourceFailure old new
 IsToldSo (Err Memory) old new = EndsWith IsWantOfMemory old new ⊎ EndsWith IsRecord old new

@@ -20,8 +20,7 @@ pub(crate) trait RecordSource {
     ghost told: { Self → Option (List RecordTold) } = { λ _. None };
 
     /// Takes the next record, if there is one. It fails where its source failed or memory was refused, and
-    /// not
-    /// otherwise.
+    /// not otherwise.
     fn next(&mut self, fields: &mut ByteRecord) -> Result<bool, Error>
         requires { is_plain self.old }
         ensures plain { OnOk result (is_plain self.new) }

@@ -62,8 +62,7 @@ Ends (No_body h) rest =
     × ((behind : List ℕ) × (rest ≡ print_request h ++ behind) × LacksBody (body_length (named_values h)) behind)
 
 -- the input is these messages, and then the walk ends so: after a message that closes the connection,
--- whatever
--- follows
+-- whatever follows
 abbrev pub Walks : List ℕ → List Message → Ending → Type 0
 Walks input [] ending = Ends ending input
 Walks input (m ∷ ms) ending =

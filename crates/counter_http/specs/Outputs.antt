@@ -112,8 +112,7 @@ abbrev pub acknowledged_records : List Command → List Turn → ℕ → ℕ
 acknowledged_records log turns n = length (commands_of (take (acknowledged (answers_to log turns) n) turns))
 
 -- everything that a stop may leave shows the log and a beginning of what was submitted, which holds all
--- records
--- that were acknowledged
+-- records that were acknowledged
 pub record Survives (r r' w w' : Option (List ℕ)) (c c' : Seen) : Type 0 where
   -- the messages that the bank took, the one that it refused, and what was read behind them
   pub taken : List Turn

@@ -1,6 +1,5 @@
 -- Connections that are served one after another by a bank, which is old before them and new after them. What
--- is seen
--- of it is told by seen, and the clock's known readings are k before and k' after.
+-- is seen of it is told by seen, and the clock's known readings are k before and k' after.
 use Rattle.std.specs.Prelude.{◌≡◌, ◌<◌, ◌≤◌, ℕ, List, [], ◌∷◌, ◌++◌, length, Option, Result, Ok, Err}
 use Rattle.std.specs.List.{AllByRecursion}
 use Rattle.posting_rules.specs.Commands.{Command}

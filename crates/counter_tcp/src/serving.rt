@@ -11,8 +11,7 @@ use std::alloc::Global;
 use std::net::{TcpListener, TcpStream};
 
 /// Serves so many connections of a bound listener, one after another. It goes on after a read, a write or a
-/// memory
-/// fault of a connection, and ends at any other fault of the bank, and where the listener gives no
+/// memory fault of a connection, and ends at any other fault of the bank, and where the listener gives no
 /// connection.
 pub fn serve_connections<K: Clock, C: Counter>(
     alloc: Global,

@@ -37,8 +37,7 @@ abbrev pub with_request_slot : ℕ → ℕ → List RequestSlot → List Request
 with_request_slot n m slots = placed request_below request_same (empty_request n m) slots
 
 -- the overlay with slots for all that a record can touch: its teller, the branch that the teller's number
--- gives, its account,
--- the branch that the account's number gives, and its teller and number
+-- gives, its account, the branch that the account's number gives, and its teller and number
 abbrev pub covering : Overlay → Result RequestFields Bad → Overlay
 covering o (Err fault) = o
 covering o (Ok r) = record o {

@@ -42,8 +42,7 @@ impl Batch {
     ghost use Rattle.posting_batch.specs.View.{view, reads_of, IsMadeOf, IsFilledFrom};
 
     /// Decodes up to `RECORDS_PER_BATCH` records, and places an empty slot under every key that they can
-    /// touch. All that a
-    /// batch ever takes of memory is taken here.
+    /// touch. All that a batch ever takes of memory is taken here.
     pub fn new(alloc: Global, records: &[[u8; 100]]) -> Result<Self, AllocError>
         requires { length records.now ≤ RECORDS_PER_BATCH }
         ensures made { IfOk result (λ batch. IsMadeOf batch records.now) }

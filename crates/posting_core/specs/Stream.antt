@@ -19,8 +19,7 @@ use Rattle.posting_core.specs.Batches.{Batch, IsRecord, joined, moments_of, reco
 use Rattle.posting_rules.specs.Resends.{Skips}
 
 -- The reader's known bytes before and after are r and r', the writer's w and w', the clock's known readings k
--- and k', and
--- the bank is seen as c and c'.
+-- and k', and the bank is seen as c and c'.
 
 -- ---- batch by batch
 

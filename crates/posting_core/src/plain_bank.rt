@@ -112,8 +112,7 @@ fn put_accounts(rows: &mut Vec<AccountRow>, first: u64, count: u64)
 }
 
 /// A bank in memory, which finds its rows by walking. It is never down, and refuses a call only for want of
-/// memory,
-/// before it changed anything.
+/// memory, before it changed anything.
 #[derive(Drop)]
 pub struct PlainBank {
     alloc: Global,

@@ -31,8 +31,7 @@ pub fn fill<R: Source>(reader: &mut R, buffer: &mut [u8], filled: usize) -> io::
 }
 
 /// Reads until the buffer is full or the input ends, and answers how many bytes were read. An interrupted
-/// read is made
-/// again. A reader that was asked 2^64 - 1 times counts as failed.
+/// read is made again. A reader that was asked 2^64 - 1 times counts as failed.
 pub fn read_full<R: Source>(reader: &mut R, buffer: &mut [u8]) -> Result<usize, ReadFailed>
     ensures within { IfOk result (λ n. n ≤ length buffer.new) }
     ensures bytes { IfOk result (λ n. Consumes (R.remaining reader.old) (R.remaining reader.new) (take n buffer.new)) }

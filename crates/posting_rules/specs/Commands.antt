@@ -1,6 +1,5 @@
--- The commands of a bank, and which branches, tellers and accounts they open.
--- A log is the list of the commands so far, the newest first: what came before a command is the list behind
--- it.
+-- The commands of a bank, and which branches, tellers and accounts they open. A log is the list of the
+-- commands so far, the newest first: what came before a command is the list behind it.
 use Rattle.std.specs.Prelude.{◌≡◌, ◌≤◌, ℕ, ◌+◌, ◌-◌, ◌/◌, ◌%◌, length, List, [], ◌∷◌, Option, Some, None}
 use Rattle.std.specs.Prelude.{Bool, false, is_some, ◌==◌, ◌&&◌, nat_le, if◌then◌else◌}
 use Rattle.std.specs.List.{AllByRecursion}

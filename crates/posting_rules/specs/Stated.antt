@@ -31,8 +31,7 @@ abbrev pub IsWithin : ℤ → Type 0
 IsWithin z = nat_abs z ≤ MAX_BALANCE
 
 -- a decided request is posted where the branch is its teller's, its account is open, and the account, the
--- teller and
--- the branch stay within the limit (TPC-B 1.2)
+-- teller and the branch stay within the limit (TPC-B 1.2)
 pub record IsPosted (before : List Command) (r : RequestFields) : Type 0 where
   pub branch : r.branch ≡ branch_of_teller r.teller
   pub account : is_account_open (λ b. opened before b) r.account ≡ true

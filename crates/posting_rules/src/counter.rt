@@ -51,8 +51,7 @@ impl From<BranchRow> for BranchLine {
 }
 
 /// A counter of the bank. What it answers is said by the log of commands that its tables show: it holds of
-/// every log
-/// that they show, wherever the disk is honest.
+/// every log that they show, wherever the disk is honest.
 pub trait Counter {
     /// Its tables, whether it is down, what a stop at this moment may leave, and whether the disk is honest.
     ghost seen: { Self → Seen };
@@ -74,8 +73,8 @@ pub trait Counter {
         ensures honest { (seen self.new).honest → (seen self.old).honest };
 
     /// Submits 1 to `RECORDS_PER_BATCH` records of 100 bytes at one moment, and answers the replies of 200
-    /// bytes in order, as if each
-    /// record were submitted after the one before it. After a fault no reply is handed out.
+    /// bytes in order, as if each record were submitted after the one before it. After a fault no reply is
+    /// handed out.
     fn submit_all(&mut self, moment: Moment, records: &[[u8; 100]]) -> Result<Vec<[u8; 200]>, Fault>
         requires some { 1 ≤ length records.now }
         requires few { length records.now ≤ RECORDS_PER_BATCH }

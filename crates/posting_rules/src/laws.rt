@@ -24,8 +24,7 @@ pub fn balances_stay_within()
 {}
 
 /// The consistency condition (TPC-B clause 2): accounts, tellers, branches and the deltas of history have one
-/// sum, each
-/// branch has the sum of its tellers, and history has just the posted requests.
+/// sum, each branch has the sum of its tellers, and history has just the posted requests.
 pub fn tables_are_consistent()
     ensures { TablesAreConsistent }
 {}
@@ -45,8 +44,7 @@ pub fn equal_tables_answer_alike()
 {}
 
 /// A record that comes again gets the reply that it got, and adds no row, as long as no branch is opened in
-/// between. So a
-/// resend may come in any order, in part, any number of times, and mixed with new records.
+/// between. So a resend may come in any order, in part, any number of times, and mixed with new records.
 pub fn resends_get_their_replies()
     ensures replies { RepliesAgain }
     ensures in_place { RepliesInPlace }

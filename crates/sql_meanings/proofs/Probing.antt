@@ -160,8 +160,7 @@ module _ (old new : State) (text : List ℕ) (only : OnlyShows text 0 (understoo
 -- ---- a probe
 
 -- the text reads all columns of the table: under any schema it is one statement, which is understood where
--- the table stands, and is not
--- where its name is free
+-- the table stands, and is not where its name is free
 pub record ProbesAs (table : Table) (text : List ℕ) : Type 0 where
   pub shows : (schema : Schema) → OnlyShows text 0 (understood schema text)
   pub there : (schema : Schema) (p tree : ℕ) → HasTable schema table.name p (placed_at table tree)

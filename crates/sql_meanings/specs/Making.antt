@@ -79,8 +79,7 @@ RefusesNew schema t e =
     ⊎ ((e ≡ SqliteFailure SchemaTooBig) × (65536 ≤ next_tree schema + length t.uniques))
 
 -- A CREATE TABLE is refused: under the schema the text isn't understood, as where an index has the name; or
--- the table is refused, or the
--- one that counts for AUTOINCREMENT, where a table needs it and there is none.
+-- the table is refused, or the one that counts for AUTOINCREMENT, where a table needs it and there is none.
 abbrev pub NotMade : Schema → List ℕ → Table → Error → Type 0
 NotMade schema text t e =
     ((fault : CompileError) × (understood schema text ≡ Err fault) × (e ≡ SqlInputError fault))

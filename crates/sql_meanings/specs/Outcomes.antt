@@ -78,8 +78,7 @@ Forbids schema table entries = IsTrue (has_unique schema table)
     × ((trees : Trees) → IsDatabase (record { schema = schema; trees = trees }) → trees (tree_of schema table.name) ≢ map stored entries)
 
 -- Why a row can't be put in: the store failed, and the transaction is rolled back; or the limit on steps was
--- met, or a UNIQUE of the
--- schema allows no such rows, and nothing has changed.
+-- met, or a UNIQUE of the schema allows no such rows, and nothing has changed.
 abbrev pub PutFails : State → State → Table → Type 0 → Error → Type 0
 PutFails old new table NoSuchRows e =
     Fails old new (HasWideIndex old.now.schema table) e

@@ -7,8 +7,7 @@ use Rattle.posting_core.proofs.Streaming.{Going}
 use Rattle.posting_core.proofs.stream.post_stream.Given as goal
 
 -- all whole records that were read are answered, and the rest stands at the front of the buffer; one read was
--- made a turn, and
--- what was written was flushed
+-- made a turn, and what was written was flushed
 abbrev pub invariant-reads : goal.invariant-reads
 invariant-reads g l = record {
   few : l.filled < 100;
