@@ -1,5 +1,6 @@
 -- How a drive goes on by a batch, and how it ends.
-use Rattle.std.proofs.Common.{◌≡◌, ◌≤◌, ◌<◌, ◌+◌, ◌-◌, ℕ, List, [], ◌∷◌, ◌++◌, length, take, Option, Ok, Err, refl}
+use Rattle.std.proofs.Common.{◌≡◌, ◌≤◌, ◌<◌, ◌+◌, ◌-◌, ℕ, List, [], ◌∷◌, ◌++◌, length, take, Option, Ok, Err}
+use Rattle.std.proofs.Common.{refl}
 use Rattle.std.proofs.Common.{sym, ap, subst, ◌∙◌, arith, append-nil}
 use Rattle.std.specs.Prelude.{min}
 use Rattle.std.specs.List.{AllByRecursion}
@@ -211,7 +212,8 @@ pub record Part (driver : Driving) (left size : ℕ) (buffer records : List (Lis
   pub is : records ≡ drawn driver.rows driver.seed driver.given size
   pub long : length records ≡ size
 
-pub part_of : (driver : Driving) (left size : ℕ) (buffer records : List (List ℕ)) → 0 < left → size ≡ min left 64
+pub part_of : (driver : Driving) (left size : ℕ) (buffer records : List (List ℕ)) → 0 < left
+    → size ≡ min left 64
     → length buffer ≡ 64 → records ≡ drawn driver.rows driver.seed driver.given (length (take size buffer))
     → length records ≡ length (take size buffer) → Part driver left size buffer records
 part_of driver left size buffer records some is long drew same =

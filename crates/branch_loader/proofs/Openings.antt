@@ -1,8 +1,10 @@
 -- How a counter stands after some openings of a plan.
-use Rattle.std.proofs.Common.{◌≡◌, ◌≤◌, ◌<◌, ◌+◌, ◌∷◌, ◌++◌, ◌∙◌, ℕ, zero, suc, List, [], Bool, length, take, take_all, drop, get_or, arith, refl, sym, ap, subst, add-zero, zero-add}
+use Rattle.std.proofs.Common.{◌≡◌, ◌≤◌, ◌<◌, ◌+◌, ◌∷◌, ◌++◌, ◌∙◌, ℕ, zero, suc, List, [], Bool, length, take}
+use Rattle.std.proofs.Common.{take_all, drop, get_or, arith, refl, sym, ap, subst, add-zero, zero-add}
 use Rattle.std.specs.Prelude.{count_by, cond, sum_by}
 use Rattle.std.proofs.Math.Seq.{take-append-add, take-append_seam, take-length}
-use Rattle.std.proofs.lemmas.List.{drop-map, drop_more, length-append, length-map, length-take-le, map-append, take-append-drop, take-map}
+use Rattle.std.proofs.lemmas.List.{drop-map, drop_more, length-append, length-map, length-take-le, map-append}
+use Rattle.std.proofs.lemmas.List.{take-append-drop, take-map}
 use Rattle.std.proofs.lemmas.List.Sums.{sum_by-append}
 use Rattle.posting_rules.specs.Commands.{Command, Open, AreCommands}
 use Rattle.posting_rules.specs.Counter.{Seen, ShowsLog, ShowsBeginning, Takes, Refuses, opening_behind}
@@ -16,26 +18,32 @@ use Rattle.posting_rules.specs.declared.counter.Opening.TheVariants.{Opened, Alr
 use Rattle.posting_rules.specs.declared.fault.Fault.{Fault}
 use Rattle.posting_rules.specs.declared.fault.Fault.TheVariants.{Memory, Store, Down, Damaged}
 use Rattle.branch_loader.specs.Plans.{openings, Rows, Row}
-use Rattle.branch_loader.specs.Loading.{IsRefusedAfter, LeavesBeginning, answers, counted, total, with_answer, is_opened, is_already, is_differs}
+use Rattle.branch_loader.specs.Loading.{IsRefusedAfter, LeavesBeginning, answers, counted, total, with_answer}
+use Rattle.branch_loader.specs.Loading.{is_opened, is_already, is_differs}
 use Rattle.branch_loader.specs.declared.loading.Loaded.{Loaded}
 
 -- ---- commands behind commands
 
 -- two calls take what they take together
-pub Takes-append : (a b c : Seen) (xs ys : List Command) → Takes a b xs → Takes b c ys → (c.honest → b.honest) → Takes a c (xs ++ ys)
+pub Takes-append : (a b c : Seen) (xs ys : List Command) → Takes a b xs → Takes b c ys → (c.honest → b.honest)
+    → Takes a c (xs ++ ys)
 Takes-append a b c xs ys p q honest = record {
-  shows = λ h log shown. rw (behind-append log xs ys) (q.shows h (behind log xs) (p.shows (honest h) log shown));
-  stands = λ h log stood. rw (behind-append log xs ys) (q.stands h (behind log xs) (p.stands (honest h) log stood));
+  shows = λ h log shown. rw (behind-append log xs ys)
+      (q.shows h (behind log xs) (p.shows (honest h) log shown));
+  stands = λ h log stood. rw (behind-append log xs ys)
+      (q.stands h (behind log xs) (p.stands (honest h) log stood));
 }
 
 -- ---- answers
 
 answers-push : (log : List Command) (rows : Rows) (p : Row)
-    → answers log (rows ++ p ∷ []) ≡ answers log rows ++ opening_behind (behind log (openings rows)) p.0 p.1 ∷ []
+    → answers log (rows ++ p ∷ []) ≡ answers log rows ++ opening_behind
+    (behind log (openings rows)) p.0 p.1 ∷ []
 unfolding answers
 answers-push log [] p = refl
 answers-push log (q ∷ rows) p =
-    ap (λ (given : List Opening). opening_behind log q.0 q.1 ∷ given) (answers-push (Open q.0 q.1 ∷ log) rows p)
+    ap (λ (given : List Opening). opening_behind log q.0 q.1 ∷ given)
+    (answers-push (Open q.0 q.1 ∷ log) rows p)
 
 count_by-push : (test : Opening → Bool) (given : List Opening) (o : Opening)
     → count_by test (given ++ o ∷ []) ≡ count_by test given + cond (test o) 1 0
@@ -48,17 +56,20 @@ counts : (a b c x y z : ℕ) → a ≡ x → b ≡ y → c ≡ z
     → (let one : Loaded = record { opened = a; already = b; differs = c } in one) ≡ record { opened = x; already = y; differs = z }
 counts a b c x y z p q r = cc
 
-counted-push : (given : List Opening) (o : Opening) → counted (given ++ o ∷ []) ≡ with_answer (counted given) o
+counted-push : (given : List Opening) (o : Opening)
+    → counted (given ++ o ∷ []) ≡ with_answer (counted given) o
 counted-push given Opened =
     counts _ _ _ _ _ _ (count_by-push is_opened given Opened)
     (count_by-push is_already given Opened ∙ add-zero (count_by is_already given))
     (count_by-push is_differs given Opened ∙ add-zero (count_by is_differs given))
 counted-push given Already =
     counts _ _ _ _ _ _ (count_by-push is_opened given Already ∙ add-zero (count_by is_opened given))
-    (count_by-push is_already given Already) (count_by-push is_differs given Already ∙ add-zero (count_by is_differs given))
+    (count_by-push is_already given Already)
+    (count_by-push is_differs given Already ∙ add-zero (count_by is_differs given))
 counted-push given Differs =
     counts _ _ _ _ _ _ (count_by-push is_opened given Differs ∙ add-zero (count_by is_opened given))
-    (count_by-push is_already given Differs ∙ add-zero (count_by is_already given)) (count_by-push is_differs given Differs)
+    (count_by-push is_already given Differs ∙ add-zero (count_by is_already given))
+    (count_by-push is_differs given Differs)
 
 with_answer-total : (loaded : Loaded) (o : Opening) → total (with_answer loaded o) ≡ total loaded + 1
 with_answer-total loaded Opened = omega arith
@@ -68,7 +79,8 @@ with_answer-total loaded Differs = omega arith
 -- ---- what a stop may leave
 
 -- after the commands were taken a stop leaves them all
-pub left-all : (old new : Seen) (commands : List Command) → Takes old new commands → LeavesBeginning old new commands (length commands)
+pub left-all : (old new : Seen) (commands : List Command) → Takes old new commands
+    → LeavesBeginning old new commands (length commands)
 left-all old new commands taken h log stood =
     leaves_weaker new (λ t. Shows t (behind log commands)) (ShowsBeginning log commands (length commands))
     (λ t shown. record {
@@ -81,7 +93,8 @@ left-all old new commands taken h log stood =
     (taken.stands h log stood).stop
 
 -- a beginning of one command more
-one_more : (log xs rest : List Command) (c : Command) (t : Tables) → ShowsBeginning (behind log xs) (c ∷ []) 0 t
+one_more : (log xs rest : List Command) (c : Command) (t : Tables)
+    → ShowsBeginning (behind log xs) (c ∷ []) 0 t
     → ShowsBeginning log (xs ++ c ∷ rest) (length xs) t
 one_more log xs rest c t b = record {
   count = length xs + b.count;
@@ -100,8 +113,10 @@ one_more log xs rest c t b = record {
     by P (suc (suc k)) small holds = absurd (omega arith)
 
 -- where the next command was refused it leaves them, or them and that command
-pub left-refused : (fault : Fault) (old now new : Seen) (xs : List Command) (c : Command) (rest : List Command)
-    → Takes old now xs → Refuses fault now new (c ∷ []) → (new.honest → now.honest) → LeavesBeginning old new (xs ++ c ∷ rest) (length xs)
+pub left-refused : (fault : Fault) (old now new : Seen) (xs : List Command) (c : Command)
+    (rest : List Command)
+    → Takes old now xs → Refuses fault now new (c ∷ []) → (new.honest → now.honest)
+    → LeavesBeginning old new (xs ++ c ∷ rest) (length xs)
 left-refused Memory old now new xs c rest taken refused honest h log stood =
     leaves_weaker new (λ t. Shows t (behind log xs)) (ShowsBeginning log (xs ++ c ∷ rest) (length xs)) (λ t shown. record {
       count = length xs;
@@ -112,7 +127,8 @@ left-refused Memory old now new xs c rest taken refused honest h log stood =
     })
     (leaves_still now new (λ t. Shows t (behind log xs)) refused.left (taken.stands (honest h) log stood).stop)
 left-refused Store old now new xs c rest taken refused honest h log stood =
-    leaves_weaker new (ShowsBeginning (behind log xs) (c ∷ []) 0) (ShowsBeginning log (xs ++ c ∷ rest) (length xs)) (one_more log xs rest c)
+    leaves_weaker new (ShowsBeginning (behind log xs) (c ∷ []) 0)
+    (ShowsBeginning log (xs ++ c ∷ rest) (length xs)) (one_more log xs rest c)
     (refused.stop h (behind log xs) (taken.stands (honest h) log stood))
 left-refused Down old now new xs c rest taken refused honest h log stood =
     absurd ((taken.stands (honest h) log stood).up refused.before)
@@ -122,13 +138,15 @@ left-refused (Damaged rule) old now new xs c rest taken refused honest h log sto
 -- ---- the counter after some rows
 
 -- how a counter stands after the openings of some rows, whose answers were counted
-pub record IsBehind {C : Type 0} (seen : C → Seen) (old now : C) (rows : Rows) (loaded : Loaded) : Type 0 where
+pub record IsBehind {C : Type 0} (seen : C → Seen) (old now : C) (rows : Rows)
+    (loaded : Loaded) : Type 0 where
   pub taken : Takes (seen old) (seen now) (openings rows)
   pub first : length rows ≡ 0 → now ≡ old
   pub begun : 0 < length rows → (seen old).is_down → ⊥
   pub up : (seen now).is_down → (seen old).is_down
   pub honest : (seen now).honest → (seen old).honest
-  pub counts : (seen now).honest → (log : List Command) → ShowsLog (seen old) log → loaded ≡ counted (answers log rows)
+  pub counts : (seen now).honest → (log : List Command) → ShowsLog (seen old) log
+      → loaded ≡ counted (answers log rows)
   pub sum : total loaded ≡ length rows
 
 -- before the first
@@ -151,7 +169,8 @@ was_down seen old now [] first begun is_up down = is_up (rw (first refl) down)
 was_down seen old now (p ∷ rows) first begun is_up down = begun (omega arith) down
 
 -- after one more
-pub behind-more : {C : Type 0} (seen : C → Seen) (old now new : C) (rows : Rows) (p : Row) (loaded : Loaded) (opening : Opening)
+pub behind-more : {C : Type 0} (seen : C → Seen) (old now new : C) (rows : Rows) (p : Row) (loaded : Loaded)
+    (opening : Opening)
     → IsBehind seen old now rows loaded
     → Takes (seen now) (seen new) (Open p.0 p.1 ∷ [])
     → ((seen new).honest → (log : List Command) → ShowsLog (seen now) log → opening ≡ opening_behind log p.0 p.1)
@@ -168,7 +187,8 @@ behind-more seen old now new rows p loaded opening b takes answer was_up is_up h
       let given : opening ≡ opening_behind (behind log (openings rows)) p.0 p.1 =
       answer h (behind log (openings rows)) (b.taken.shows (honest h) log shown) in
       let before : loaded ≡ counted (answers log rows) = b.counts (honest h) log shown in
-      ap (λ (l : Loaded). with_answer l opening) before ∙ ap (λ (o : Opening). with_answer (counted (answers log rows)) o) given
+      ap (λ (l : Loaded). with_answer l opening) before ∙ ap
+      (λ (o : Opening). with_answer (counted (answers log rows)) o) given
       ∙ sym (counted-push (answers log rows) (opening_behind (behind log (openings rows)) p.0 p.1))
       ∙ ap counted (sym (answers-push log rows p));
   sum = with_answer-total loaded opening ∙ ap (λ (n : ℕ). n + 1) b.sum ∙ sym (length-append rows (p ∷ []));
@@ -179,14 +199,16 @@ none_before [] h = refl
 none_before (x ∷ xs) h = absurd (h (omega arith))
 
 -- the next opening refused
-pub behind-refused : {C : Type 0} (seen : C → Seen) (old now new : C) (rows : Rows) (i : ℕ) (p : Row) (loaded : Loaded) (fault : Fault)
+pub behind-refused : {C : Type 0} (seen : C → Seen) (old now new : C) (rows : Rows) (i : ℕ) (p : Row)
+    (loaded : Loaded) (fault : Fault)
     → IsBehind seen old now (take i rows) loaded → i < length rows → p ≡ get_or rows i p
     → Refuses fault (seen now) (seen new) (Open p.0 p.1 ∷ []) → ((seen new).honest → (seen now).honest)
     → ((seen now).is_down → fault ≡ Down) → IsRefusedAfter seen old new (openings rows) fault i
 behind-refused seen old now new rows i p loaded fault b within read refused honest down =
     let front : length (take i rows) ≡ i = length-take-le i rows (omega arith) in
     let rest : drop i rows ≡ p ∷ drop (i + 1) rows = drop_more rows i p within ∙ rw (← read) refl in
-    let taken : take i (openings rows) ≡ openings (take i rows) = take-map (λ (q : Row). Open q.0 q.1) i rows in
+    let taken : take i (openings rows) ≡ openings (take i rows) = take-map
+    (λ (q : Row). Open q.0 q.1) i rows in
     let dropped : drop i (openings rows) ≡ Open p.0 p.1 ∷ openings (drop (i + 1) rows) =
     drop-map (λ (q : Row). Open q.0 q.1) i rows ∙ rw rest refl in
     let whole : openings rows ≡ openings (take i rows) ++ Open p.0 p.1 ∷ openings (drop (i + 1) rows) =
@@ -194,7 +216,8 @@ behind-refused seen old now new rows i p loaded fault b within read refused hone
     let count : length (openings (take i rows)) ≡ i = rw length-map front in
     let behind_all = openings (take i rows) ++ Open p.0 p.1 ∷ openings (drop (i + 1) rows) in
     let left =
-    left-refused fault (seen old) (seen now) (seen new) (openings (take i rows)) (Open p.0 p.1) (openings (drop (i + 1) rows)) b.taken
+    left-refused fault (seen old) (seen now) (seen new) (openings (take i rows)) (Open p.0 p.1)
+    (openings (drop (i + 1) rows)) b.taken
     refused honest in
     record {
       within = rw length-map within;
@@ -211,10 +234,13 @@ behind-refused seen old now new rows i p loaded fault b within read refused hone
     }
 
 -- at the end of the rows it leaves them all
-pub left-end : {C : Type 0} (seen : C → Seen) (old now : C) (rows plan : List (ℕ × ℕ)) (i : ℕ) (loaded : Loaded) → IsBehind seen old now (take i rows) loaded → length rows ≤ i → rows ≡ plan
+pub left-end : {C : Type 0} (seen : C → Seen) (old now : C) (rows plan : List (ℕ × ℕ)) (i : ℕ)
+    (loaded : Loaded) → IsBehind seen old now (take i rows) loaded → length rows ≤ i → rows ≡ plan
     → LeavesBeginning (seen old) (seen now) (openings plan) (length plan)
 left-end seen old now rows plan i loaded b all is =
     let whole : take i rows ≡ plan = take_all i rows all ∙ is in
-    let taken : Takes (seen old) (seen now) (openings plan) = subst (λ (rs : List (ℕ × ℕ)). Takes (seen old) (seen now) (openings rs)) whole b.taken in
+    let taken : Takes (seen old) (seen now) (openings plan) = subst
+    (λ (rs : List (ℕ × ℕ)). Takes (seen old) (seen now) (openings rs)) whole b.taken in
     let count : length (openings plan) ≡ length plan = rw length-map refl in
-    subst (λ (n : ℕ). LeavesBeginning (seen old) (seen now) (openings plan) n) count (left-all (seen old) (seen now) (openings plan) taken)
+    subst (λ (n : ℕ). LeavesBeginning (seen old) (seen now) (openings plan) n) count
+    (left-all (seen old) (seen now) (openings plan) taken)

@@ -1,8 +1,11 @@
 -- What a read of a record does to the records that a reader has left.
-use Rattle.std.proofs.Common.{◌≡◌, ◌<◌, ◌≤◌, ◌+◌, ◌∷◌, ◌++◌, ◌∙◌, ℕ, zero, suc, List, [], Option, Some, None, Bool, true, false, length, arith, refl, sym, ap, add-one, ◌==◌}
+use Rattle.std.proofs.Common.{◌≡◌, ◌<◌, ◌≤◌, ◌+◌, ◌∷◌, ◌++◌, ◌∙◌, ℕ, zero, suc, List, [], Option, Some, None}
+use Rattle.std.proofs.Common.{Bool, true, false, length, arith, refl, sym, ap, add-one, ◌==◌}
 use Rattle.std.specs.Prelude.{if◌then◌else◌, option_map, IfSome}
-use Rattle.csv.specs.Machine.{Read, after_end, ends_at_end, ends_with, field_after, fields_after, in_field, is_end, next_record, start_field, start_record, step}
-use Rattle.csv.specs.Reading.{NextIs, ReadRecord, ReadsNext, default_config, pending_of, records, strip_bom, records_from, records_next, source_of}
+use Rattle.csv.specs.Machine.{Read, after_end, ends_at_end, ends_with, field_after, fields_after, in_field}
+use Rattle.csv.specs.Machine.{is_end, next_record, start_field, start_record, step}
+use Rattle.csv.specs.Reading.{NextIs, ReadRecord, ReadsNext, default_config, pending_of, records, strip_bom}
+use Rattle.csv.specs.Reading.{records_from, records_next, source_of}
 use Rattle.csv.specs.declared.parser.Action.{Action}
 use Rattle.csv.specs.declared.parser.State.{State}
 use Rattle.csv.specs.declared.parser.State.TheVariants as st
@@ -61,7 +64,8 @@ at_end : (b : Bool) (r p : Read) → ends_at_end r.1 ≡ false → r.2 ≡ [] �
 at_end true r p between none e = (refl, cc, cc)
 at_end false r p between none e = cc e
 
-next-shorter : (s : State) (fields : Fields) (field xs : List ℕ) (p : Read) → next_record default_config s fields field xs ≡ Some p
+next-shorter : (s : State) (fields : Fields) (field xs : List ℕ) (p : Read)
+    → next_record default_config s fields field xs ≡ Some p
     → Shorter s xs p
 unfolding next_record IsBetween
 next-shorter s fields field [] p e =
@@ -72,7 +76,8 @@ next-shorter s fields field (c ∷ rest) p e =
   where
     by : (b : Bool) → is_end (step default_config s c).1 ≡ b
         → (next_record default_config (step default_config s c).0
-        (fields_after (step default_config s c).1 fields field) (field_after (step default_config s c).1 c field) rest ≡ Some p
+        (fields_after (step default_config s c).1 fields field)
+        (field_after (step default_config s c).1 c field) rest ≡ Some p
         → Shorter (step default_config s c).0 rest p)
         → Shorter s (c ∷ rest) p
     by true is more =
@@ -104,7 +109,8 @@ fuel (suc n) (suc m) s xs b h k = by (fuel n m) (next_record default_config s []
         ap (λ (rows : Records). p.0 ∷ rows) (less p.1 p.2 q.between (omega arith) (omega arith))
 
 -- the first record and those after it
-pub records-some : (s : State) (xs : List ℕ) (p : Read) → ends_at_end s ≡ false → next_record default_config s [] [] xs ≡ Some p
+pub records-some : (s : State) (xs : List ℕ) (p : Read) → ends_at_end s ≡ false
+    → next_record default_config s [] [] xs ≡ Some p
     → (records_at s xs ≡ p.0 ∷ records_at p.1 p.2) × (ends_at_end p.1 ≡ false)
 unfolding records_from
 records-some s xs p b e =
@@ -114,7 +120,8 @@ records-some s xs p b e =
     (rw (add-one (length xs), e) (ap (λ (rows : Records). p.0 ∷ rows) rest), q.between)
 
 -- where there is no record
-pub records-none : (s : State) (xs : List ℕ) → next_record default_config s [] [] xs ≡ None → records_at s xs ≡ []
+pub records-none : (s : State) (xs : List ℕ) → next_record default_config s [] [] xs ≡ None
+    → records_at s xs ≡ []
 unfolding records_from
 records-none s xs e = rw (add-one (length xs), e) refl
 
@@ -123,7 +130,8 @@ abbrev LeftAfter : State → Option (List ℕ) → Records → Type 0
 LeftAfter s known rest = (ends_at_end s ≡ false) × (option_map (records_at s) known ≡ Some rest)
 
 go : (s s2 : State) (src after : Option (List ℕ)) (found : Bool) (fields : Fields) (rows : Records)
-    → ends_at_end s ≡ false → option_map (records_at s) src ≡ Some rows → ReadsNext default_config s src after found fields s2
+    → ends_at_end s ≡ false → option_map (records_at s) src ≡ Some rows
+    → ReadsNext default_config s src after found fields s2
     → Takes found fields rows (LeftAfter s2 after)
 go s s2 None after found fields rows b l r = cc l
 go s s2 (Some y) None found fields rows b l r = absurd r
@@ -131,24 +139,29 @@ go s s2 (Some y) (Some z) found fields rows b l r = by (next_record default_conf
   where
     by : (o : Option Read) → next_record default_config s [] [] y ≡ o → NextIs o found fields s2 z
         → Takes found fields rows (LeftAfter s2 (Some z))
-    by None e n = let none = records-none s y e in rw n (let same : records_at s y ≡ rows = cc l in sym same ∙ none)
+    by None e n = let none = records-none s y e in rw n
+        (let same : records_at s y ≡ rows = cc l in sym same ∙ none)
     by (Some p) e n =
         let some = records-some s y p b e in
         let same : records_at s y ≡ rows = cc l in
         rw (n.0, n.1, n.2, n.3) (records_at p.1 p.2, sym same ∙ some.0, (some.1, refl))
 
 -- what a read of a record does to those that are left
-pub takes : {R : Type 0} (rem : R → Option (List ℕ)) (a b : Reader R) (found : Bool) (fields : Fields) (rows : Records)
-    → a.config ≡ default_config → HasLeft rem a rows → ReadRecord rem a b found fields → Takes found fields rows (HasLeft rem b)
+pub takes : {R : Type 0} (rem : R → Option (List ℕ)) (a b : Reader R) (found : Bool) (fields : Fields)
+    (rows : Records)
+    → a.config ≡ default_config → HasLeft rem a rows → ReadRecord rem a b found fields
+    → Takes found fields rows (HasLeft rem b)
 takes rem a b found fields rows config left r =
     by found (go a.state b.state (source_of rem a) (pending_of (rem b.rdr) b) found fields rows left.between left.left (rw config at r.0))
   where
-    by : (f : Bool) → Takes f fields rows (LeftAfter b.state (pending_of (rem b.rdr) b)) → Takes f fields rows (HasLeft rem b)
+    by : (f : Bool) → Takes f fields rows (LeftAfter b.state (pending_of (rem b.rdr) b))
+        → Takes f fields rows (HasLeft rem b)
     by false t = t
     by true t = (t.0, t.1, record { between = t.2.0; left = rw r.1 t.2.1 })
 
 -- a new reader has all records of the text left
-pub start : {R : Type 0} (rem : R → Option (List ℕ)) (r : Reader R) (known : Option (List ℕ)) → source_of rem r ≡ option_map strip_bom known
+pub start : {R : Type 0} (rem : R → Option (List ℕ)) (r : Reader R) (known : Option (List ℕ))
+    → source_of rem r ≡ option_map strip_bom known
     → r.state ≡ st.StartRecord
     → IfSome known (λ text. HasLeft rem r (records default_config (strip_bom text)))
 start rem r None source state = tt

@@ -1,5 +1,6 @@
 -- How a plan grows by a row, and that it is short.
-use Rattle.std.proofs.Common.{◌≡◌, ◌≤◌, ◌<◌, ◌+◌, ◌∷◌, ◌++◌, ◌∙◌, ℕ, List, [], Option, Some, None, Bool, true, false, Ok, Err, All, map, length, arith, refl, sym, ap, nat_eq, nat_le}
+use Rattle.std.proofs.Common.{◌≡◌, ◌≤◌, ◌<◌, ◌+◌, ◌∷◌, ◌++◌, ◌∙◌, ℕ, List, [], Option, Some, None, Bool, true}
+use Rattle.std.proofs.Common.{false, Ok, Err, All, map, length, arith, refl, sym, ap, nat_eq, nat_le}
 use Rattle.std.specs.Prelude.{if◌then◌else◌, ◌&&◌, ◌||◌, suc, option_and_then}
 use Rattle.std.specs.List.{IsDistinct, list_any}
 use Rattle.std.proofs.lemmas.Bool.Decides.{nat_tests}
@@ -11,7 +12,8 @@ use Rattle.std.proofs.lemmas.Map.Steps.{length-le_from_distinct_below}
 use Rattle.posting_rules.specs.declared.limits.TheConstants.{LAST_BRANCH, MOST_ACCOUNTS}
 use Rattle.message_records.specs.Ranges.{whole_within}
 use Rattle.message_records.specs.Reading.{number_of}
-use Rattle.branch_loader.specs.Plans.{IsPlan, IsRow, names, number_within, row_of, row_of_fields, row_of_pair, row_of_two, two_of, Rows, Row}
+use Rattle.branch_loader.specs.Plans.{IsPlan, IsRow, names, number_within, row_of, row_of_fields, row_of_pair}
+use Rattle.branch_loader.specs.Plans.{row_of_two, two_of, Rows, Row}
 use Rattle.branch_loader.specs.declared.fault.PlanFault.TheVariants.{Twice}
 use Rattle.branch_loader.specs.Records.{Fields}
 
@@ -41,13 +43,15 @@ unfolding IsDistinct
 no-rows = record { in_range = λ k d h. absurd (omega arith); distinct = tt }
 
 -- a row more
-plan-more : (rows : Rows) (branch accounts : Option ℕ) (p : Row) → Within LAST_BRANCH branch → Within MOST_ACCOUNTS accounts
+plan-more : (rows : Rows) (branch accounts : Option ℕ) (p : Row) → Within LAST_BRANCH branch
+    → Within MOST_ACCOUNTS accounts
     → IsPlan rows → row_of rows branch accounts ≡ Ok p → IsPlan (rows ++ p ∷ [])
 plan-more rows None accounts p b a plan e = cc e
 plan-more rows (Some branch) None p b a plan e = cc e
 plan-more rows (Some branch) (Some accounts) p b a plan e = by (names branch rows) refl e
   where
-    by : (t : Bool) → names branch rows ≡ t → (if t then Err (Twice (length rows + 1)) else Ok (branch, accounts)) ≡ Ok p
+    by : (t : Bool) → names branch rows ≡ t
+        → (if t then Err (Twice (length rows + 1)) else Ok (branch, accounts)) ≡ Ok p
         → IsPlan (rows ++ p ∷ [])
     by true n h = cc h
     by false n h =
@@ -63,8 +67,10 @@ below : (rows : Rows) → All IsRow rows → (q : ℕ) → names q rows ≡ true
 below [] all q h = cc h
 below (p ∷ rows) all q h = by (nat_eq q p.0) refl h (below rows (λ k d l. all (suc k) d (omega arith)) q)
   where
-    by : (t : Bool) → nat_eq q p.0 ≡ t → (t || names q rows) ≡ true → (names q rows ≡ true → q < LAST_BRANCH + 1) → q < LAST_BRANCH + 1
-    by true e n more = let same : q ≡ p.0 = grind (arith, nat_tests, e) in let first = all 0 p (omega arith) in omega arith
+    by : (t : Bool) → nat_eq q p.0 ≡ t → (t || names q rows) ≡ true
+        → (names q rows ≡ true → q < LAST_BRANCH + 1) → q < LAST_BRANCH + 1
+    by true e n more = let same : q ≡ p.0 = grind (arith, nat_tests, e) in let first = all 0 p
+        (omega arith) in omega arith
     by false e n more = more n
 
 -- a plan is short
@@ -77,13 +83,15 @@ plan-short rows plan =
 number_within-within : (most : ℕ) (field : List ℕ) → Within most (number_within most field)
 number_within-within most field = by (nat_le 1 (length field) && nat_le (length field) 9) (number_of field)
   where
-    by : (b : Bool) (written : Option ℕ) → Within most (if b then option_and_then (whole_within 1 most) written else None)
+    by : (b : Bool) (written : Option ℕ)
+        → Within most (if b then option_and_then (whole_within 1 most) written else None)
     by true None = tt
     by true (Some n) = whole_within-within most n
     by false written = tt
 
 -- a record that states a row makes the plan longer
-pub fields-more : (rows : Rows) (fields : Fields) (p : Row) → IsPlan rows → row_of_fields rows fields ≡ Ok p → IsPlan (rows ++ p ∷ [])
+pub fields-more : (rows : Rows) (fields : Fields) (p : Row) → IsPlan rows → row_of_fields rows fields ≡ Ok p
+    → IsPlan (rows ++ p ∷ [])
 fields-more rows fields p plan e = by (two_of fields) e
   where
     by : (o : Option (List ℕ × List ℕ)) → row_of_two rows o ≡ Ok p → IsPlan (rows ++ p ∷ [])
@@ -100,13 +108,15 @@ pair-more rows q p plan h =
 
 -- the row that a pair states is the pair
 pub pair-same : (rows : Rows) (q p : Row) → row_of_pair rows q ≡ Ok p → p ≡ q
-pair-same rows q p h = by (nat_le 1 q.0 && nat_le q.0 LAST_BRANCH) (nat_le 1 q.1 && nat_le q.1 MOST_ACCOUNTS) h
+pair-same rows q p h = by (nat_le 1 q.0 && nat_le q.0 LAST_BRANCH)
+    (nat_le 1 q.1 && nat_le q.1 MOST_ACCOUNTS) h
   where
     last : (t : Bool) → (if t then Err (Twice (length rows + 1)) else Ok q) ≡ Ok p → p ≡ q
     last true e = cc e
     last false e = cc e
 
-    by : (b a : Bool) → row_of rows (if b then Some q.0 else None) (if a then Some q.1 else None) ≡ Ok p → p ≡ q
+    by : (b a : Bool) → row_of rows (if b then Some q.0 else None) (if a then Some q.1 else None) ≡ Ok p
+        → p ≡ q
     by true true e = last (names q.0 rows) e
     by true false e = cc e
     by false a e = cc e

@@ -1,11 +1,14 @@
 -- What is stated, step by step.
-use Rattle.std.proofs.Common.{◌≡◌, ◌≤◌, ◌<◌, ◌+◌, ◌∷◌, ◌++◌, ◌∙◌, ℕ, List, [], Option, Some, None, Bool, true, false, Result, Ok, Err, length, refl, take, drop, get_or}
+use Rattle.std.proofs.Common.{◌≡◌, ◌≤◌, ◌<◌, ◌+◌, ◌∷◌, ◌++◌, ◌∙◌, ℕ, List, [], Option, Some, None, Bool, true}
+use Rattle.std.proofs.Common.{false, Result, Ok, Err, length, refl, take, drop, get_or}
 use Rattle.std.specs.Prelude.{IfSome}
 use Rattle.std.proofs.lemmas.List.{at_drop_more, drop_all, take_all, take_more}
-use Rattle.branch_loader.specs.Plans.{IsPlan, Tells, is_header, plan_of_list, plan_of_records, row_of_fields, row_of_pair, rows_by, Rows, Row}
+use Rattle.branch_loader.specs.Plans.{IsPlan, Tells, is_header, plan_of_list, plan_of_records, row_of_fields}
+use Rattle.branch_loader.specs.Plans.{row_of_pair, rows_by, Rows, Row}
 use Rattle.branch_loader.specs.Records.{Takes, Records, Fields}
 use Rattle.branch_loader.specs.declared.fault.PlanFault.{PlanFault}
-use Rattle.branch_loader.specs.declared.fault.PlanFault.TheVariants.{Header, Columns, Accounts, Twice, Csv, Memory}
+use Rattle.branch_loader.specs.declared.fault.PlanFault.TheVariants.{Header, Columns, Accounts, Twice, Csv}
+use Rattle.branch_loader.specs.declared.fault.PlanFault.TheVariants.{Memory}
 use Rattle.branch_loader.specs.declared.fault.PlanFault.TheVariants as Fault
 use Rattle.branch_loader.proofs.Rows.{pair-more, pair-same}
 
@@ -20,13 +23,15 @@ tells-fault stated Csv e = tt
 tells-fault stated Memory e = tt
 
 -- the rows go on by one where the next thing states a row
-pub rows_by-ok : {A : Type 0} (row : Rows → A → Result Row PlanFault) (before : Rows) (x : A) (rest : List A) (p : Row)
+pub rows_by-ok : {A : Type 0} (row : Rows → A → Result Row PlanFault) (before : Rows) (x : A) (rest : List A)
+    (p : Row)
     → row before x ≡ Ok p → rows_by row before (x ∷ rest) ≡ rows_by row (before ++ p ∷ []) rest
 unfolding rows_by
 rows_by-ok row before x rest p e = rw (e, rows_by) refl
 
 -- and end where it states a fault
-pub rows_by-err : {A : Type 0} (row : Rows → A → Result Row PlanFault) (before : Rows) (x : A) (rest : List A) (f : PlanFault)
+pub rows_by-err : {A : Type 0} (row : Rows → A → Result Row PlanFault) (before : Rows) (x : A) (rest : List A)
+    (f : PlanFault)
     → row before x ≡ Err f → rows_by row before (x ∷ rest) ≡ Err f
 unfolding rows_by
 rows_by-err row before x rest f e = rw (e, rows_by) refl
@@ -37,7 +42,8 @@ unfolding plan_of_records
 plan-empty = refl
 
 -- a text whose first record is no header
-pub plan-no_header : (fields : Fields) (rest : Records) → is_header fields ≡ false → plan_of_records (fields ∷ rest) ≡ Err Header
+pub plan-no_header : (fields : Fields) (rest : Records) → is_header fields ≡ false
+    → plan_of_records (fields ∷ rest) ≡ Err Header
 unfolding plan_of_records
 plan-no_header fields rest e = rw e refl
 
@@ -48,7 +54,8 @@ unfolding plan_of_records
 plan-header fields rest e = rw e refl
 
 -- where no thing is left the rows are the plan
-pub rows_by-done : {A : Type 0} (row : Rows → A → Result Row PlanFault) (before : Rows) → rows_by row before [] ≡ Ok before
+pub rows_by-done : {A : Type 0} (row : Rows → A → Result Row PlanFault) (before : Rows)
+    → rows_by row before [] ≡ Ok before
 unfolding rows_by
 rows_by-done row before = refl
 
@@ -65,31 +72,39 @@ took-header false fields all rows t f h n = cc f
 took-header true fields all rows t f h n = (t.0, t.2, rw (t.1, n) (plan-header fields t.0 h))
 
 -- what a read of another record leaves, where it states a row
-pub took-row : {A : Records → Type 0} (found : Bool) (fields : Fields) (rest : Records) (rows new : Rows) (p : Row)
+pub took-row : {A : Records → Type 0} (found : Bool) (fields : Fields) (rest : Records) (rows new : Rows)
+    (p : Row)
     (stated : Result Rows PlanFault)
-    → Takes found fields rest A → found ≡ true → stated ≡ rows_by row_of_fields rows rest → row_of_fields rows fields ≡ Ok p
+    → Takes found fields rest A → found ≡ true → stated ≡ rows_by row_of_fields rows rest
+    → row_of_fields rows fields ≡ Ok p
     → new ≡ rows ++ p ∷ []
     → (more : Records) × A more × (stated ≡ rows_by row_of_fields new more)
 took-row false fields rest rows new p stated t f s r n = cc f
-took-row true fields rest rows new p stated t f s r n = (t.0, t.2, s ∙ rw (t.1, n) (rows_by-ok row_of_fields rows fields t.0 p r))
+took-row true fields rest rows new p stated t f s r n =
+    (t.0, t.2, s ∙ rw (t.1, n) (rows_by-ok row_of_fields rows fields t.0 p r))
 
 -- and where it states a fault
-pub took-fault : (A : Records → Type 0) (found : Bool) (fields : Fields) (rest : Records) (rows : Rows) (fault : PlanFault)
+pub took-fault : (A : Records → Type 0) (found : Bool) (fields : Fields) (rest : Records) (rows : Rows)
+    (fault : PlanFault)
     (stated : Result Rows PlanFault)
-    → Takes found fields rest A → found ≡ true → stated ≡ rows_by row_of_fields rows rest → row_of_fields rows fields ≡ Err fault
+    → Takes found fields rest A → found ≡ true → stated ≡ rows_by row_of_fields rows rest
+    → row_of_fields rows fields ≡ Err fault
     → stated ≡ Err fault
 took-fault A false fields rest rows fault stated t f s r = cc f
-took-fault A true fields rest rows fault stated t f s r = s ∙ rw t.1 (rows_by-err row_of_fields rows fields t.0 fault r)
+took-fault A true fields rest rows fault stated t f s r = s ∙ rw t.1
+    (rows_by-err row_of_fields rows fields t.0 fault r)
 
 -- a pair of a list that states a row
-pub listed-more : (list : Rows) (i : ℕ) (x q : Row) → i < length list → x ≡ get_or list i x → row_of_pair (take i list) x ≡ Ok q
+pub listed-more : (list : Rows) (i : ℕ) (x q : Row) → i < length list → x ≡ get_or list i x
+    → row_of_pair (take i list) x ≡ Ok q
     → plan_of_list list ≡ rows_by row_of_pair (take i list) (drop i list) → IsPlan (take i list)
     → IsPlan (take (i + 1) list) × (plan_of_list list ≡ rows_by row_of_pair (take (i + 1) list) (drop (i + 1) list))
 listed-more list i x q within read row states plan =
     let same = pair-same (take i list) x q row in
     let row_x = rw same at row in
     let taken : take (i + 1) list ≡ take i list ++ x ∷ [] = take_more list i x within ∙ rw (← read) refl in
-    let rest : drop i list ≡ x ∷ drop (i + 1) list = at_drop_more (λ (l : Rows). l) list i x within ∙ rw (← read) refl in (
+    let rest : drop i list ≡ x ∷ drop (i + 1) list = at_drop_more (λ (l : Rows). l) list i x within ∙ rw
+    (← read) refl in (
       rw taken (pair-more (take i list) x x plan row_x),
       states ∙ rw (rest, taken) (rows_by-ok row_of_pair (take i list) x (drop (i + 1) list) x row_x),
     )
@@ -99,11 +114,13 @@ pub listed-fault : (list : Rows) (i : ℕ) (x : Row) (f : PlanFault) → i < len
     → row_of_pair (take i list) x ≡ Err f
     → plan_of_list list ≡ rows_by row_of_pair (take i list) (drop i list) → plan_of_list list ≡ Err f
 listed-fault list i x f within read row states =
-    let rest : drop i list ≡ x ∷ drop (i + 1) list = at_drop_more (λ (l : Rows). l) list i x within ∙ rw (← read) refl in
+    let rest : drop i list ≡ x ∷ drop (i + 1) list = at_drop_more (λ (l : Rows). l) list i x within ∙ rw
+    (← read) refl in
     states ∙ rw rest (rows_by-err row_of_pair (take i list) x (drop (i + 1) list) f row)
 
 -- a list whose pairs all state rows
-pub listed-all : (list : Rows) (i : ℕ) → length list ≤ i → plan_of_list list ≡ rows_by row_of_pair (take i list) (drop i list)
+pub listed-all : (list : Rows) (i : ℕ) → length list ≤ i
+    → plan_of_list list ≡ rows_by row_of_pair (take i list) (drop i list)
     → IsPlan (take i list)
     → (plan_of_list list ≡ Ok list) × IsPlan list
 listed-all list i past states plan =

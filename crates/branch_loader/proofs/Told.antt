@@ -1,25 +1,32 @@
 -- What a source of records told last.
-use Rattle.std.proofs.Common.{◌≡◌, List, [], ◌∷◌, ◌++◌, Option, Some, None, Bool, true, false, ℕ, Result, Ok, Err, refl, ap, subst, ◌∙◌, inl, inr}
+use Rattle.std.proofs.Common.{◌≡◌, List, [], ◌∷◌, ◌++◌, Option, Some, None, Bool, true, false, ℕ, Result, Ok}
+use Rattle.std.proofs.Common.{Err, refl, ap, subst, ◌∙◌, inl, inr}
 use Rattle.std.specs.Prelude.{◌⊎◌, ⊤, if◌then◌else◌}
 use Rattle.csv.specs.declared.error.Error.{Error}
 use Rattle.csv.specs.declared.error.ErrorKind.{ErrorKind}
 use Rattle.posting_core.specs.Told.{Adds, EndsWith, HasMore}
 use Rattle.posting_core.proofs.Telling.{more_last}
 use Rattle.branch_loader.specs.declared.fault.PlanFault.{PlanFault}
-use Rattle.branch_loader.specs.declared.fault.PlanFault.TheVariants.{Header, Columns, Branch, Accounts, Twice, Csv, Memory}
-use Rattle.branch_loader.specs.Records.{Fields, RecordTold, Found, Failed, IsRecord, IsSourceFailure, IsWantOfMemory, record_told}
+use Rattle.branch_loader.specs.declared.fault.PlanFault.TheVariants.{Header, Columns, Branch, Accounts, Twice}
+use Rattle.branch_loader.specs.declared.fault.PlanFault.TheVariants.{Csv, Memory}
+use Rattle.branch_loader.specs.Records.{Fields, RecordTold, Found, Failed, IsRecord, IsSourceFailure}
+use Rattle.branch_loader.specs.Records.{IsWantOfMemory, record_told}
 use Rattle.branch_loader.specs.Plans.{IsToldSo, Rows, Row, names, row_of, row_of_two, row_of_fields, two_of}
 
 -- what one call told is the last that was told
-last_told : (P : RecordTold → Type 0) (a b : Option (List RecordTold)) (r : Result Bool Error) (t : RecordTold) → record_told r ≡ t → P t
+last_told : (P : RecordTold → Type 0) (a b : Option (List RecordTold)) (r : Result Bool Error)
+    (t : RecordTold) → record_told r ≡ t → P t
     → Adds a b (record_told r ∷ []) → EndsWith P a b
 last_told P a b r t is p tells = record { earlier = []; last = t; made = subst (λ (x : RecordTold). Adds a b (x ∷ [])) is tells; is = p }
 
-pub found_last : {a b : Option (List RecordTold)} (r : Result Bool Error) (found : Bool) → r ≡ Ok found → Adds a b (record_told r ∷ []) → found ≡ true
+pub found_last : {a b : Option (List RecordTold)} (r : Result Bool Error) (found : Bool) → r ≡ Ok found
+    → Adds a b (record_told r ∷ []) → found ≡ true
     → EndsWith IsRecord a b
-found_last {a = a} {b = b} r found is tells some = last_told IsRecord a b r (Found found) (ap record_told is) some tells
+found_last {a = a} {b = b} r found is tells some = last_told IsRecord a b r (Found found)
+    (ap record_told is) some tells
 
-pub failed_last : (P : RecordTold → Type 0) {a b : Option (List RecordTold)} (r : Result Bool Error) (e : Error) (k x : ErrorKind) → r ≡ Err e
+pub failed_last : (P : RecordTold → Type 0) {a b : Option (List RecordTold)} (r : Result Bool Error)
+    (e : Error) (k x : ErrorKind) → r ≡ Err e
     → k ≡ e.kind → k ≡ x → P (Failed x) → Adds a b (record_told r ∷ []) → EndsWith P a b
 failed_last P {a = a} {b = b} r e k x is kind_is k_is p tells =
     let same : e.kind ≡ x = cc (kind_is, k_is) in
@@ -28,7 +35,8 @@ failed_last P {a = a} {b = b} r e k x is kind_is k_is p tells =
 -- ---- what explains a fault
 
 pub fault_told : (o a b : Option (List RecordTold)) (fault : PlanFault)
-    → ((fault ≡ Csv) × EndsWith IsSourceFailure a b) ⊎ ((fault ≡ Memory) × EndsWith IsWantOfMemory a b) → HasMore o a → IsToldSo (Err fault) o b
+    → ((fault ≡ Csv) × EndsWith IsSourceFailure a b) ⊎ ((fault ≡ Memory) × EndsWith IsWantOfMemory a b)
+    → HasMore o a → IsToldSo (Err fault) o b
 fault_told o a b Csv (inl source) before = more_last IsSourceFailure before source.1
 fault_told o a b Csv (inr memory) before = absurd (cc memory.0)
 fault_told o a b Memory (inl source) before = absurd (cc source.0)
@@ -60,7 +68,8 @@ unfolding IsOfRow
 two_fault before None = tt
 two_fault before (Some p) = row_fault before _ _
 
-not_of_row : (fault : PlanFault) (a b : Option (List RecordTold)) → IsOfRow (Err fault) → IsToldSo (Err fault) a b
+not_of_row : (fault : PlanFault) (a b : Option (List RecordTold)) → IsOfRow (Err fault)
+    → IsToldSo (Err fault) a b
 unfolding IsOfRow
 not_of_row Csv a b h = absurd h
 not_of_row Memory a b h = absurd h
@@ -70,14 +79,16 @@ not_of_row (Branch n) a b h = tt
 not_of_row (Accounts n) a b h = tt
 not_of_row (Twice n) a b h = tt
 
-pub row_told : (before : Rows) (fields : Fields) (fault : PlanFault) (a b : Option (List RecordTold)) → row_of_fields before fields ≡ Err fault
+pub row_told : (before : Rows) (fields : Fields) (fault : PlanFault) (a b : Option (List RecordTold))
+    → row_of_fields before fields ≡ Err fault
     → IsToldSo (Err fault) a b
 row_told before fields fault a b is =
     not_of_row fault a b (subst (λ (r : Result Row PlanFault). IsOfRow r) is (two_fault before (two_of fields)))
 
 -- ---- all that was told
 
-listed : (P : RecordTold → Type 0) (a b : Option (List RecordTold)) → EndsWith P a b → (told : List RecordTold) × EndsWith P (Some []) (Some told)
+listed : (P : RecordTold → Type 0) (a b : Option (List RecordTold)) → EndsWith P a b
+    → (told : List RecordTold) × EndsWith P (Some []) (Some told)
 listed P a b e = (e.earlier ++ e.last ∷ [], record { earlier = e.earlier; last = e.last; made = refl; is = e.is })
 
 either_listed : (P Q : RecordTold → Type 0) (a b : Option (List RecordTold)) → EndsWith P a b ⊎ EndsWith Q a b

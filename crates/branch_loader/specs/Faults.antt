@@ -2,7 +2,8 @@
 use Rattle.std.specs.Prelude.{ℕ, List, ◌++◌, codes}
 use Rattle.std.specs.Fmt.{decimal}
 use Rattle.branch_loader.specs.declared.fault.PlanFault.{PlanFault}
-use Rattle.branch_loader.specs.declared.fault.PlanFault.TheVariants.{Header, Columns, Branch, Accounts, Twice, Csv, Memory}
+use Rattle.branch_loader.specs.declared.fault.PlanFault.TheVariants.{Header, Columns, Branch, Accounts, Twice}
+use Rattle.branch_loader.specs.declared.fault.PlanFault.TheVariants.{Csv, Memory}
 
 abbrev pub plan_text : PlanFault → List ℕ
 plan_text Header = codes "plan header"

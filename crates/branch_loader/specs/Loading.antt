@@ -1,7 +1,9 @@
 -- What loading a plan into a counter does.
-use Rattle.std.specs.Prelude.{◌≡◌, ℕ, ◌+◌, ◌<◌, List, [], ◌∷◌, Bool, true, false, count_by, length, take, drop}
+use Rattle.std.specs.Prelude.{◌≡◌, ℕ, ◌+◌, ◌<◌, List, [], ◌∷◌, Bool, true, false, count_by, length, take}
+use Rattle.std.specs.Prelude.{drop}
 use Rattle.posting_rules.specs.Commands.{Command, Open}
-use Rattle.posting_rules.specs.Counter.{Seen, StandsAt, LeavesOnly, ShowsBeginning, Takes, Refuses, opening_behind}
+use Rattle.posting_rules.specs.Counter.{Seen, StandsAt, LeavesOnly, ShowsBeginning, Takes, Refuses}
+use Rattle.posting_rules.specs.Counter.{opening_behind}
 use Rattle.posting_rules.specs.declared.counter.Opening.{Opening}
 use Rattle.posting_rules.specs.declared.counter.Opening.TheVariants.{Opened, Already, Differs}
 use Rattle.posting_rules.specs.declared.fault.Fault.{Fault}
@@ -43,14 +45,16 @@ with_answer loaded Differs = record loaded { differs = loaded.differs + 1 }
 abbrev pub total : Loaded → ℕ
 total loaded = loaded.opened + loaded.already + loaded.differs
 
--- wherever the counter stood at a log, a stop may leave the log and then a beginning of the commands, so many of them at least
+-- wherever the counter stood at a log, a stop may leave the log and then a beginning of the commands, so many
+-- of them at least
 abbrev pub LeavesBeginning : Seen → Seen → List Command → ℕ → Type 0
 LeavesBeginning old new commands least =
     new.honest → (log : List Command) → StandsAt old log → LeavesOnly new (ShowsBeginning log commands least)
 
--- The counter answered so many of the commands, stood there, and refused the next one. Where it stood it was honest
--- and up wherever it is so afterwards, and down only where it was down from the start.
-pub record IsRefusedAfter {C : Type 0} (seen : C → Seen) (old new : C) (commands : List Command) (fault : Fault)
+-- The counter answered so many of the commands, stood there, and refused the next one. Where it stood it was
+-- honest and up wherever it is so afterwards, and down only where it was down from the start.
+pub record IsRefusedAfter {C : Type 0} (seen : C → Seen) (old new : C) (commands : List Command)
+    (fault : Fault)
     (answered : ℕ) : Type 0 where
   pub within : answered < length commands
   -- the counter after what it answered

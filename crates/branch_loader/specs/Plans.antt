@@ -1,5 +1,8 @@
--- What a text of CSV states as a plan: branches and how many accounts each is to have, or the first fault with its row.
-use Rattle.std.specs.Prelude.{◌≡◌, ◌≤◌, ◌+◌, ◌&&◌, ◌⊎◌, ⊤, Bool, false, ℕ, List, [], ◌∷◌, ◌++◌, Option, Some, None, Result, Ok, Err, All, map, length, bytes_eq, codes, nat_eq, nat_le, if◌then◌else◌, option_and_then}
+-- What a text of CSV states as a plan: branches and how many accounts each is to have, or the first fault
+-- with its row.
+use Rattle.std.specs.Prelude.{◌≡◌, ◌≤◌, ◌+◌, ◌&&◌, ◌⊎◌, ⊤, Bool, false, ℕ, List, [], ◌∷◌, ◌++◌, Option, Some}
+use Rattle.std.specs.Prelude.{None, Result, Ok, Err, All, map, length, bytes_eq, codes, nat_eq, nat_le}
+use Rattle.std.specs.Prelude.{if◌then◌else◌, option_and_then}
 use Rattle.std.specs.List.{IsDistinct, list_any}
 use Rattle.posting_rules.specs.declared.limits.TheConstants.{LAST_BRANCH, MOST_ACCOUNTS}
 use Rattle.csv.specs.Reading.{default_config, records, strip_bom}
@@ -7,9 +10,11 @@ use Rattle.message_records.specs.Ranges.{whole_within}
 use Rattle.message_records.specs.Reading.{number_of}
 use Rattle.posting_rules.specs.Commands.{Command, Open}
 use Rattle.branch_loader.specs.declared.fault.PlanFault.{PlanFault}
-use Rattle.branch_loader.specs.declared.fault.PlanFault.TheVariants.{Header, Columns, Branch, Accounts, Twice, Csv, Memory}
+use Rattle.branch_loader.specs.declared.fault.PlanFault.TheVariants.{Header, Columns, Branch, Accounts, Twice}
+use Rattle.branch_loader.specs.declared.fault.PlanFault.TheVariants.{Csv, Memory}
 use Rattle.posting_core.specs.Told.{EndsWith}
-use Rattle.branch_loader.specs.Records.{Records, Fields, RecordTold, IsRecord, IsSourceFailure, IsWantOfMemory}
+use Rattle.branch_loader.specs.Records.{Records, Fields, RecordTold, IsRecord, IsSourceFailure}
+use Rattle.branch_loader.specs.Records.{IsWantOfMemory}
 
 -- a branch, and how many accounts it is to have
 abbrev pub Row : Type 0
@@ -36,7 +41,8 @@ names branch rows = list_any (λ p. nat_eq branch p.0) rows
 abbrev pub row_of : Rows → Option ℕ → Option ℕ → Result Row PlanFault
 row_of before None accounts = Err (Branch (length before + 1))
 row_of before (Some branch) None = Err (Accounts (length before + 1))
-row_of before (Some branch) (Some accounts) = if names branch before then Err (Twice (length before + 1)) else Ok (branch, accounts)
+row_of before (Some branch) (Some accounts) = if names branch before then Err
+    (Twice (length before + 1)) else Ok (branch, accounts)
 
 -- the row that a pair of a list states
 abbrev pub row_of_pair : Rows → Row → Result Row PlanFault
@@ -61,9 +67,11 @@ row_of_fields before fields = row_of_two before (two_of fields)
 -- ---- the plan
 
 -- the rows before, and those that come behind them one by one, or the first fault
-unfoldable pub rows_by : {A : Type 0} → (Rows → A → Result Row PlanFault) → Rows → List A → Result Rows PlanFault
+unfoldable pub rows_by : {A : Type 0} → (Rows → A → Result Row PlanFault) → Rows → List A
+    → Result Rows PlanFault
 rows_by row before [] = Ok before
-rows_by row before (x ∷ rest) = elim (row before x) [ Ok p ↦ rows_by row (before ++ p ∷ []) rest | Err fault ↦ Err fault ]
+rows_by row before (x ∷ rest) =
+    elim (row before x) [ Ok p ↦ rows_by row (before ++ p ∷ []) rest | Err fault ↦ Err fault ]
 
 -- the two fields are the header's
 abbrev pub are_header : Option (List ℕ × List ℕ) → Bool
@@ -110,8 +118,8 @@ Tells stated answer = stated ≡ answer
 
 -- ---- what csv told, where the answer is none of a plan
 
--- The source failed; or memory was refused, to csv, or behind a record for the room of its row. Every other answer
--- is stated.
+-- The source failed; or memory was refused, to csv, or behind a record for the room of its row. Every other
+-- answer is stated.
 abbrev pub IsToldSo : Result Rows PlanFault → Option (List RecordTold) → Option (List RecordTold) → Type 0
 IsToldSo (Err Csv) old new = EndsWith IsSourceFailure old new
 IsToldSo (Err Memory) old new = EndsWith IsWantOfMemory old new ⊎ EndsWith IsRecord old new

@@ -19,7 +19,8 @@ pub struct Loaded {
     pub differs: u32,
 }
 
-ghost use Rattle.branch_loader.specs.Loading.{IsRefusedAfter, LeavesBeginning, answers, counted, total, with_answer};
+ghost use Rattle.branch_loader.specs.Loading.{IsRefusedAfter, LeavesBeginning, answers, counted, total};
+ghost use Rattle.branch_loader.specs.Loading.{with_answer};
 
 // The counts with one answer more.
 fn with_answer(loaded: Loaded, opening: Opening) -> Loaded
@@ -42,7 +43,8 @@ fn with_answer(loaded: Loaded, opening: Opening) -> Loaded
     }
 }
 
-/// Opens the plan's branches in its order, and counts the answers. After a fault the branches before it are open.
+/// Opens the plan's branches in its order, and counts the answers. After a fault the branches before it are
+/// open.
 pub fn load<C: Counter>(plan: &Plan, counter: &mut C) -> Result<Loaded, Fault>
     ensures counts { IfOk result (λ loaded. (C.seen counter.new).honest → (log : List Command) → ShowsLog (C.seen counter.old) log
         → loaded ≡ counted (answers log plan.now)) }

@@ -54,7 +54,8 @@ fn row_of_pair(
     )
 }
 
-/// Branches of 1..=`LAST_BRANCH`, each named once, with counts of accounts of 1..=`MOST_ACCOUNTS`, in an order.
+/// Branches of 1..=`LAST_BRANCH`, each named once, with counts of accounts of 1..=`MOST_ACCOUNTS`, in an
+/// order.
 #[derive(Drop)]
 pub struct Plan {
     rows: Vec<(Branch, u32)>,

@@ -1,10 +1,12 @@
 //! Reading a plan from CSV.
-ghost use Rattle.std.specs.Prelude.{◌≡◌, ◌<◌, ◌≤◌, ◌+◌, ◌⊎◌, ℕ, List, [], true, length, option_map, IfOk, IfErr, IfSome, OnOk};
+ghost use Rattle.std.specs.Prelude.{◌≡◌, ◌<◌, ◌≤◌, ◌+◌, ◌⊎◌, ℕ, List, [], true, length, option_map, IfOk};
+ghost use Rattle.std.specs.Prelude.{IfErr, IfSome, OnOk};
 ghost use Rattle.posting_core.specs.Told.{EndsWith};
 ghost use Rattle.csv.specs.Records.{fields_of};
 ghost use Rattle.branch_loader.specs.Plans.{IsToldSo, Tells, plan_of, plan_of_records};
 ghost use Rattle.branch_loader.specs.Plans.{is_header, number_within, row_of_fields, two_of};
-ghost use Rattle.branch_loader.specs.Records.{IsRecord, IsSourceFailure, IsWantOfMemory, RecordTold, Records, Takes};
+ghost use Rattle.branch_loader.specs.Records.{IsRecord, IsSourceFailure, IsWantOfMemory, RecordTold, Records};
+ghost use Rattle.branch_loader.specs.Records.{Takes};
 
 use crate::fault::PlanFault;
 use crate::plan::{Plan, row_of};
@@ -120,10 +122,10 @@ fn read_rows<S: RecordSource>(
     Ok(Plan::new(rows))
 }
 
-/// Reads a plan to the end of the source, or to its first fault: the header `branch,accounts`, after a byte order
-/// mark or without one, and a record of a branch and its count of accounts for each branch. `Csv` comes only where
-/// the last that csv told was a failure of its source, `Memory` only where that was want of memory, or where it was
-/// a record and the room for its row was refused.
+/// Reads a plan to the end of the source, or to its first fault: the header `branch,accounts`, after a byte
+/// order mark or without one, and a record of a branch and its count of accounts for each branch. `Csv` comes
+/// only where the last that csv told was a failure of its source, `Memory` only where that was want of
+/// memory, or where it was a record and the room for its row was refused.
 pub fn read_plan<R: Read + Drop>(alloc: Global, reader: R) -> Result<Plan, PlanFault>
     ensures plan { IfSome (R.remaining reader) (λ text. Tells (plan_of text) result) }
     ensures told { (told : List RecordTold) × IsToldSo result (Some []) (Some told) }

@@ -19,8 +19,8 @@ pub(crate) trait RecordSource {
     /// What it told so far, where that is known.
     ghost told: { Self → Option (List RecordTold) } = { λ _. None };
 
-    /// Takes the next record, if there is one. It fails where its source failed or memory was refused, and not
-    /// otherwise.
+    /// Takes the next record, if there is one. It fails where its source failed or memory was refused, and
+    /// not otherwise.
     fn next(&mut self, fields: &mut ByteRecord) -> Result<bool, Error>
         requires { is_plain self.old }
         ensures plain { OnOk result (is_plain self.new) }

@@ -1,6 +1,7 @@
 -- What the bank did for a message, and what was told of it.
-use Rattle.std.proofs.Common.{◌≡◌, ℕ, inl, inr, Bool, true, false, List, [], ◌∷◌, length, take, Option, Some, None, Result, Ok, Err, refl, sym, ap, subst, eqb, ◌∙◌, arith}
-use Rattle.std.proofs.lemmas.Bool.{and_parts, ne_eqb, eq-eqb, eqb-true}
+use Rattle.std.proofs.Common.{◌≡◌, ℕ, inl, inr, Bool, true, false, List, [], ◌∷◌, length, take, Option, Some}
+use Rattle.std.proofs.Common.{None, Result, Ok, Err, refl, sym, ap, subst, eqb, ◌∙◌, arith}
+use Rattle.std.proofs.lemmas.Bool.{and_parts, ne_eqb, eqb-true}
 use Rattle.std.specs.Prelude.{ℤ, codes, bytes_eq, OnErr, MatchOption}
 use Rattle.std.specs.Io.KnownBytes.{Appends}
 use Rattle.std.proofs.lemmas.List.{take_all}
@@ -12,14 +13,18 @@ use Rattle.posting_rules.specs.Entries.{reply, balance_behind}
 use Rattle.posting_core.specs.Clock.{IsReading, AreReadings}
 use Rattle.counter_http.specs.declared.fault.ServeFault.{ServeFault}
 use Rattle.counter_http.specs.declared.fault.ServeFault.TheVariants as told
-use Rattle.counter_http.specs.Answers.{octets, account_answer, account_named, balance_answer, status_words, plain, branch_lines, IsForBank, is_reading, bare, is_record, not_allowed, submits, answer_on, Asked, Answer, answer_to, answer_text, shows, unavailable, is_posting}
+use Rattle.counter_http.specs.Answers.{octets, account_answer, account_named, balance_answer, status_words}
+use Rattle.counter_http.specs.Answers.{plain, branch_lines, IsForBank, is_reading, bare, is_record}
+use Rattle.counter_http.specs.Answers.{not_allowed, submits, answer_on, Asked, Answer, answer_to, answer_text}
+use Rattle.counter_http.specs.Answers.{shows, unavailable, is_posting}
 use Rattle.counter_http.specs.declared.routes.Route.{Route}
 use Rattle.counter_http.specs.declared.routes.Route.TheVariants.{Posting, Account, Branches}
 use Rattle.counter_http.specs.declared.telling.Response.{Response}
 use Rattle.counter_http.specs.Telling.{said}
 use Rattle.counter_http.specs.Paths.{account_in, route_of, path_of}
 use Rattle.counter_http.proofs.Told.{bare_of, front_of}
-use Rattle.counter_http.specs.Turns.{commands_if, commands_for, readings_if, readings_for, IsDealtWith, IsRefusedAt, IsWrittenTo, BreaksOff, IsTellingOf}
+use Rattle.counter_http.specs.Turns.{commands_if, commands_for, readings_if, readings_for, IsDealtWith}
+use Rattle.counter_http.specs.Turns.{IsRefusedAt, IsWrittenTo, BreaksOff, IsTellingOf}
 
 -- the bank refused a call, and that was told
 pub told_refused : {C : Type 0} (seen : C → Seen) (fault : Fault) (result : ServeFault)

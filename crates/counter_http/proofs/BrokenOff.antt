@@ -1,20 +1,15 @@
 -- A connection that ends at a message whose answer was written in part or not at all.
-use Rattle.std.proofs.Common.{◌≡◌, ℕ, ◌+◌, ◌-◌, inl, inr, List, [], ◌∷◌, ◌++◌, length, take, drop, Option, Result, Err, refl, sym, ap, subst, ◌∙◌, append-nil, arith}
+use Rattle.std.proofs.Common.{◌≡◌, ℕ, inl, inr, List, [], ◌∷◌, ◌++◌, length, take, drop, Option}
+use Rattle.std.proofs.Common.{Result, Err, refl, sym, ap, subst, ◌∙◌, append-nil}
 use Rattle.std.specs.Io.KnownBytes.{Appends, Consumes}
 use Rattle.std.proofs.KnownBytes.{Appends-trans}
-use Rattle.std.proofs.Math.Seq.{take-append-add}
-use Rattle.std.proofs.lemmas.List.{length-append}
 use Rattle.std.proofs.lemmas.List.Concat.{flat_map-append}
 use Rattle.posting_rules.specs.declared.fault.Fault.{Fault}
-use Rattle.posting_rules.specs.declared.fault.Fault.TheVariants as bank
-use Rattle.posting_rules.specs.Commands.{Command, AreCommands}
-use Rattle.posting_rules.specs.Tables.{Shows}
-use Rattle.posting_rules.specs.Counter.{Seen, LeavesOnly, StandsAt, ShowsBeginning, Takes, Refuses}
+use Rattle.posting_rules.specs.Commands.{Command}
+use Rattle.posting_rules.specs.Counter.{Seen, Takes, Refuses}
 use Rattle.posting_rules.specs.Runs.{behind}
 use Rattle.posting_core.specs.Clock.{AreReadings}
 use Rattle.posting_core.specs.Told.{ReadTold}
-use Rattle.posting_rules.proofs.Remaining.{leaves_still, leaves_weaker}
-use Rattle.posting_rules.proofs.Sequence.{behind-append}
 use Rattle.counter_http.specs.declared.fault.ServeFault.{ServeFault}
 use Rattle.counter_http.specs.declared.fault.ServeFault.TheVariants.{Read, Write, Bank, Memory}
 use Rattle.counter_http.specs.declared.next.Whole.{Whole}
@@ -22,12 +17,14 @@ use Rattle.counter_http.specs.Ends.{HasEnded}
 use Rattle.counter_http.specs.Messages.{IsMessage}
 use Rattle.counter_http.specs.Next.{asked, IsWhole}
 use Rattle.counter_http.specs.Answers.{Asked, asked_by, answer_of, unavailable}
-use Rattle.counter_http.specs.Turns.{Turn, commands_for, readings_for, commands_in, moments_in, text_in, commands_of, moments_of, texts_of, answers_to, IsAnsweredInPart, IsRefusedAt, BreaksOff}
+use Rattle.counter_http.specs.Turns.{Turn, commands_for, readings_for, commands_in, moments_in, text_in}
+use Rattle.counter_http.specs.Turns.{commands_of, moments_of, texts_of, answers_to, IsAnsweredInPart}
+use Rattle.counter_http.specs.Turns.{IsRefusedAt, BreaksOff}
 use Rattle.posting_core.specs.Batches.{joined}
 use Rattle.posting_core.proofs.Batched.{joined-append}
 use Rattle.counter_http.specs.Serving.{At_message, At_refusal, Exits, IsWritten, Serves}
 use Rattle.counter_http.proofs.Turning.{readings_append, takes_append, answers-append}
-use Rattle.posting_core.proofs.Stops.{stop_all, written_part}
+use Rattle.posting_core.proofs.Stops.{refused_stop, stop_all, stop_part, written_part}
 use Rattle.counter_http.proofs.Going.{Going, turn_of, read_one_more}
 
 -- ---- ends at a message
@@ -94,38 +91,6 @@ answer_begun seen {r = r} {r' = r'} {w = w} {w' = w'} {w'' = w''} {k = k} {k' = 
       stop = λ h log s. stop_all (seen new) log (commands_of (ts ++ [])) (commands_of ts)
           (ap commands_of none) (takes.stands h log s);
     }
-
--- what a stop leaves where the last commands were refused
-stop_part : (c : Seen) (log cs ds es : List Command) → es ≡ cs ++ ds
-    → LeavesOnly c (ShowsBeginning (behind log cs) ds 0)
-    → LeavesOnly c (ShowsBeginning log es (length cs))
-stop_part c log cs ds es e stop =
-    leaves_weaker c (ShowsBeginning (behind log cs) ds 0) (ShowsBeginning log es (length cs))
-    (λ t b.
-    let begins : take (length cs + b.count) es ≡ cs ++ take b.count ds = ap (take (length cs + b.count)) e
-    ∙ take-append-add cs ds b.count in
-    let same : behind log (take (length cs + b.count) es) ≡ behind (behind log cs) (take b.count ds) =
-    ap (behind log) begins ∙ behind-append log cs (take b.count ds) in
-    record {
-      count = length cs + b.count;
-      holds = omega arith;
-      within = omega (arith, b.within, length-append cs ds, ap length e);
-      are = subst AreCommands (sym same) b.are;
-      shows = subst (λ (l : List Command). Shows t l) (sym same) b.shows;
-    })
-    stop
-
--- what a stop leaves of a counter that refused commands
-refused_stop : (fault : Fault) (c c' : Seen) (log cs : List Command) → Refuses fault c c' cs → c'.honest
-    → StandsAt c log
-    → LeavesOnly c' (ShowsBeginning log cs 0)
-refused_stop bank.Memory c c' log cs u h s = leaves_weaker c' (λ t. Shows t log) (ShowsBeginning log cs 0)
-    (λ t shown.
-    record { count = 0; holds = omega arith; within = omega arith; are = s.shows.commands; shows = shown })
-    (leaves_still c c' (λ t. Shows t log) u.left s.stop)
-refused_stop bank.Store c c' log cs u h s = u.stop h log s
-refused_stop bank.Down c c' log cs u h s = absurd (s.up u.before)
-refused_stop (bank.Damaged rule) c c' log cs u h s = absurd (u.never_shown h log s.shows)
 
 -- the bank refused it, and so much was written
 bank_failed : {C : Type 0} (seen : C → Seen) {r r' w w' w'' k k' k'' : Option (List ℕ)}

@@ -1,18 +1,15 @@
 -- A connection that ends where the bank took all that it was given.
-use Rattle.std.proofs.Common.{◌≡◌, ◌<◌, ◌≤◌, ◌≢◌, ℕ, ◌+◌, ◌-◌, inl, inr, Bool, true, List, [], ◌∷◌, ◌++◌, length, take, drop, Option, Result, Ok, Err, refl, sym, ap, subst, ◌∙◌, append_assoc, append-nil, arith}
+use Rattle.std.proofs.Common.{◌≡◌, ◌<◌, ◌≤◌, ◌≢◌, ℕ, ◌+◌, inl, inr, Bool, true, List, [], ◌∷◌, ◌++◌}
+use Rattle.std.proofs.Common.{length, take, drop, Option, Result, Ok, Err, refl, sym, ap, subst, ◌∙◌}
+use Rattle.std.proofs.Common.{append_assoc, append-nil, arith}
 use Rattle.std.specs.Prelude.{IfOk}
 use Rattle.std.specs.Io.KnownBytes.{Appends, Consumes, IsAtEnd}
 use Rattle.std.specs.declared.io.Error.{Error}
 use Rattle.std.proofs.KnownBytes.{Appends-trans, Appends-nil, Consumes-nil}
-use Rattle.std.proofs.Math.Seq.{take-append-add}
 use Rattle.std.proofs.lemmas.List.{length-take-le, length-append, take_all}
-use Rattle.posting_rules.specs.Commands.{Command, AreCommands}
-use Rattle.posting_rules.specs.Tables.{Shows}
-use Rattle.posting_rules.specs.Counter.{Seen, LeavesOnly, StandsAt, ShowsBeginning}
-use Rattle.posting_rules.specs.Runs.{behind}
+use Rattle.posting_rules.specs.Counter.{Seen}
 use Rattle.posting_core.specs.Clock.{AreReadings}
 use Rattle.posting_core.specs.Told.{ReadTold, Adds, read_told}
-use Rattle.posting_rules.proofs.Remaining.{leaves_weaker}
 use Rattle.counter_http.specs.declared.fault.ServeFault.{ServeFault}
 use Rattle.counter_http.specs.declared.fault.ServeFault.TheVariants.{Read, Write, Memory}
 use Rattle.counter_http.specs.declared.next.Whole.{Whole}
@@ -20,7 +17,8 @@ use Rattle.counter_http.specs.Ends.{HasEnded}
 use Rattle.counter_http.specs.Messages.{closes, Finished, Closed, Ends, Walks}
 use Rattle.counter_http.specs.Next.{asked, IsWhole, IsUnfinished, IsHopeless}
 use Rattle.counter_http.specs.Answers.{Asked, refusal}
-use Rattle.counter_http.specs.Turns.{Turn, commands_for, readings_for, text_in, commands_of, moments_of, messages_of, texts_of, answers_to, AreAnswered, IsAnswered}
+use Rattle.counter_http.specs.Turns.{Turn, commands_for, readings_for, text_in, commands_of, moments_of}
+use Rattle.counter_http.specs.Turns.{messages_of, texts_of, answers_to, AreAnswered, IsAnswered}
 use Rattle.posting_core.specs.Batches.{joined}
 use Rattle.posting_core.proofs.Batched.{joined-append}
 use Rattle.posting_core.proofs.Streaming.{at_ok}

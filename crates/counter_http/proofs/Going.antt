@@ -1,19 +1,21 @@
 -- Where the loop over a connection stands: what was read, a message, and the buffer.
-use Rattle.std.proofs.Common.{◌≡◌, ℕ, ◌+◌, ◌<◌, ◌≤◌, ◌-◌, slice_range, drop-drop, length-drop, Bool, false, List, [], ◌∷◌, ◌++◌, length, take, drop, Option, refl, sym, ap, subst, ◌∙◌, append_assoc, append-nil, arith}
+use Rattle.std.proofs.Common.{◌≡◌, ℕ, ◌+◌, ◌<◌, ◌≤◌, ◌-◌, slice_range, drop-drop, length-drop, Bool, false}
+use Rattle.std.proofs.Common.{List, [], ◌∷◌, ◌++◌, length, take, drop, Option, refl, sym, ap, subst, ◌∙◌}
+use Rattle.std.proofs.Common.{append_assoc, append-nil, arith}
 use Rattle.std.specs.List.{AllByRecursion}
 use Rattle.std.specs.Io.KnownBytes.{Keeps, Consumes}
 use Rattle.std.proofs.KnownBytes.{Consumes-trans, Consumes-nil, Consumes-kept}
 use Rattle.std.proofs.lemmas.List.{length-append, length-take-le, drop-take, nil_from_length}
 use Rattle.std.proofs.lemmas.List.Concat.{flat_map-append}
 use Rattle.posting_rules.specs.Counter.{Seen}
-use Rattle.posting_rules.specs.Runs.{behind}
 use Rattle.posting_core.specs.Clock.{AreReadings}
 use Rattle.httparse.specs.Grammar.{print_request}
 use Rattle.counter_http.specs.declared.next.Whole.{Whole}
-use Rattle.counter_http.specs.Messages.{message_text, closes, Finished}
+use Rattle.counter_http.specs.Messages.{message_text, Finished}
 use Rattle.counter_http.specs.Next.{asked, IsWhole, IsUnfinished}
 use Rattle.counter_http.specs.Answers.{Asked}
-use Rattle.counter_http.specs.Turns.{Turn, commands_for, readings_for, text_in, texts_of, AreAnswered, IsAnswered}
+use Rattle.counter_http.specs.Turns.{Turn, commands_for, readings_for, text_in, texts_of, AreAnswered}
+use Rattle.counter_http.specs.Turns.{IsAnswered}
 use Rattle.counter_http.specs.Serving.{GoesOn, BeginsWithNoMessage}
 use Rattle.counter_http.proofs.Walking.{no_message, head_some}
 use Rattle.counter_http.proofs.Turning.{answered_none, answered_more, answered_one}

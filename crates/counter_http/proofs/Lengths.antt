@@ -1,14 +1,14 @@
 -- The body's length, read from the fields in order.
-use Rattle.std.proofs.Common.{suc, get_or, drop, add-one, drop-cons, ◌≡◌, ℕ, ◌+◌, ◌-◌, ◌*◌, ◌<◌, ◌≤◌, inl, inr, min, Bool, true, false, cond, leb, List, [], ◌∷◌, length, map, Option, Some, None, refl, sym, ap, ◌∙◌, arith}
-use Rattle.std.specs.Prelude.{◌&&◌, ◌||◌, codes, unwrap_or, IfSome}
+use Rattle.std.proofs.Common.{◌≡◌, ℕ, ◌+◌, ◌-◌, ◌*◌, ◌<◌, ◌≤◌, inl}
+use Rattle.std.proofs.Common.{inr, min, Bool, true, false, cond, leb, List, [], ◌∷◌, length, Option}
+use Rattle.std.proofs.Common.{Some, None, refl, sym, ap, ◌∙◌, arith}
+use Rattle.std.specs.Prelude.{◌&&◌, codes, unwrap_or}
 use Rattle.std.specs.List.{list_any, list_all}
 use Rattle.std.specs.Char.{is_ascii_digit, digit_value}
 use Rattle.std.specs.Str.Parse.{digits_value_after}
-use Rattle.std.proofs.lemmas.Bool.{cases_Bool, cases_lt, and_parts, leb-true, le-leb, lt-leb, lt-ltb}
+use Rattle.std.proofs.lemmas.Bool.{cases_Bool, cases_lt, and_parts, leb-true, lt-leb, lt-ltb}
 use Rattle.std.proofs.lemmas.Str.{digit_value_digit}
-use Rattle.httparse.specs.declared.spans.HeaderSpan.{HeaderSpan}
-use Rattle.httparse.specs.Spans.{header_bytes}
-use Rattle.counter_http.specs.Fields.{NamedValue, is_named, values_of, stated_length, length_by, body_length, has_close, asks_to_close}
+use Rattle.counter_http.specs.Fields.{NamedValue, is_named, values_of, stated_length, length_by, body_length}
 
 -- ---- a number in digits, that stays at 4097 once it is too large
 

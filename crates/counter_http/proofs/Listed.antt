@@ -1,5 +1,7 @@
 -- The lines of the open branches, one after another, and what the bank did meanwhile.
-use Rattle.std.proofs.Common.{lit<, Bool, false, ◌≡◌, ℕ, zero, suc, ◌-◌, ◌<◌, ◌≤◌, inl, inr, List, [], ◌∷◌, ◌++◌, length, Option, Some, None, refl, sym, ap, ◌∙◌, append_assoc, append-nil, arith}
+use Rattle.std.proofs.Common.{lit<, Bool, false, ◌≡◌, ℕ, zero, suc, ◌-◌, ◌<◌, ◌≤◌, inl, inr, List, [], ◌∷◌}
+use Rattle.std.proofs.Common.{◌++◌, length, Option, Some, None, refl, sym, ap, ◌∙◌, append_assoc, append-nil}
+use Rattle.std.proofs.Common.{arith}
 use Rattle.std.specs.Prelude.{codes, ℤ, pos, negsuc}
 use Rattle.std.proofs.lemmas.Bool.{cases_lt, le-ltb}
 use Rattle.posting_rules.specs.declared.counter.BranchLine.{BranchLine}
@@ -17,7 +19,8 @@ use lib.IntN.{nat_abs}
 use lib.Utf8.{encode}
 use Rattle.std.proofs.lemmas.Str.{encode_ascii}
 use Rattle.std.specs.Fmt.{padded_integral, format_spec, decimal, signed_decimal, char_count}
-use Rattle.counter_http.specs.Answers.{account_line, right_in, branch_line, line_if_open, lines_up_to, branch_lines}
+use Rattle.counter_http.specs.Answers.{account_line, right_in, branch_line, line_if_open, lines_up_to}
+use Rattle.counter_http.specs.Answers.{branch_lines}
 use Rattle.counter_http.specs.Turns.{IsRefusedAt}
 
 -- ---- what the bank did so far: it answered calls that change nothing

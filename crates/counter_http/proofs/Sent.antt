@@ -3,7 +3,8 @@ use Rattle.std.proofs.Common.{◌≡◌, ℕ, Bool, List, [], ◌∷◌, Option,
 use Rattle.std.specs.Prelude.{IfOk, OnOk, OnErr, is_ok}
 use Rattle.std.specs.Io.KnownBytes.{IsAtEnd}
 use Rattle.std.specs.declared.io.Error.{Error}
-use Rattle.posting_core.specs.Told.{ReadTold, WriteTold, Adds, EndsWith, HasMore, HasWriteFailed, IsFlush, IsThrough, IsWriteFailure, read_told}
+use Rattle.posting_core.specs.Told.{ReadTold, WriteTold, Adds, EndsWith, HasMore, HasWriteFailed, IsFlush}
+use Rattle.posting_core.specs.Told.{IsThrough, IsWriteFailure, read_told}
 use Rattle.posting_core.proofs.Telling.{HasMade, more_failed, more_last, more_more, read_ended}
 use Rattle.posting_core.proofs.Streaming.{at_ok}
 use Rattle.posting_core.proofs.Through.{through_more}

@@ -10,7 +10,8 @@ use Rattle.posting_rules.proofs.Sequence.{behind-append}
 use Rattle.counter_http.specs.Answers.{Asked, asked_by, answer_of}
 use Rattle.posting_core.specs.Batches.{joined}
 use Rattle.posting_core.proofs.Batched.{joined-append}
-use Rattle.counter_http.specs.Turns.{Turn, commands_for, readings_for, commands_in, moments_in, commands_of, moments_of, answers_to, AreAnswered, IsAnswered}
+use Rattle.counter_http.specs.Turns.{Turn, commands_for, readings_for, commands_in, moments_in, commands_of}
+use Rattle.counter_http.specs.Turns.{moments_of, answers_to, AreAnswered, IsAnswered}
 
 pub readings_append : (k k' k'' : Option (List ℕ)) (xs ys : List ℕ) → AreReadings k k' xs
     → AreReadings k' k'' ys → AreReadings k k'' (xs ++ ys)

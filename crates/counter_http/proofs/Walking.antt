@@ -1,12 +1,14 @@
 -- The walk over messages one behind another.
-use Rattle.std.proofs.Common.{◌≡◌, ℕ, ◌<◌, true, List, [], ◌∷◌, ◌++◌, length, Option, refl, sym, ap, subst, ◌∙◌, append_assoc, append-nil, arith}
+use Rattle.std.proofs.Common.{◌≡◌, ℕ, ◌<◌, true, List, [], ◌∷◌, ◌++◌, length, Option, refl, sym, ap, subst}
+use Rattle.std.proofs.Common.{◌∙◌, append_assoc, append-nil, arith}
 use Rattle.std.specs.List.{AllByRecursion}
 use Rattle.std.proofs.lemmas.Bool.{true≢false}
 use Rattle.std.proofs.lemmas.List.{length-append}
 use Rattle.httparse.specs.Grammar.{RequestHead, print_request, IsRequestHead}
 use Rattle.httparse.proofs.GrammarLemmas.{request_unique}
 use Rattle.counter_http.specs.Fields.{named_values, body_length}
-use Rattle.counter_http.specs.Messages.{Message, message_text, IsMessage, closes, Ending, Finished, Closed, No_head, No_body, Ends, AlwaysEnds, LacksBody, Walks}
+use Rattle.counter_http.specs.Messages.{Message, message_text, IsMessage, closes, Ending, Finished, Closed}
+use Rattle.counter_http.specs.Messages.{No_head, No_body, Ends, AlwaysEnds, LacksBody, Walks}
 use Rattle.counter_http.specs.Turns.{Turn, messages_of, text_in, texts_of}
 use Rattle.counter_http.specs.Serving.{GoesOn, BeginsWithNoMessage}
 

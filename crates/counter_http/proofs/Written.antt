@@ -1,13 +1,13 @@
 -- What a connection did, said of what was read and written alone, and what a stop leaves of it.
-use Rattle.std.proofs.Common.{◌≡◌, ℕ, ◌≤◌, inl, inr, List, [], ◌∷◌, ◌++◌, length, take, drop, Option, Result, Ok, Err, refl, sym, ap, subst, ◌∙◌, append_assoc, append-nil, arith}
+use Rattle.std.proofs.Common.{◌≡◌, ℕ, ◌≤◌, inl, inr, List, [], ◌∷◌, ◌++◌, length, take, drop, Option, Result}
+use Rattle.std.proofs.Common.{Ok, Err, refl, sym, ap, subst, ◌∙◌, append_assoc, append-nil, arith}
 use Rattle.std.specs.List.{AllByRecursion}
 use Rattle.std.specs.Prelude.{◌⊎◌, OnOk}
 use Rattle.std.specs.Io.KnownBytes.{Appends}
 use Rattle.std.proofs.lemmas.List.{length-append, map-append, take-append-drop}
 use Rattle.std.proofs.lemmas.List.Concat.{flat_map-append}
 use Rattle.posting_rules.specs.Commands.{Command}
-use Rattle.posting_rules.specs.Tables.{Tables}
-use Rattle.posting_rules.specs.Counter.{Seen, ShowsBeginning}
+use Rattle.posting_rules.specs.Counter.{Seen}
 use Rattle.posting_rules.proofs.Remaining.{leaves_weaker}
 use Rattle.posting_core.specs.Batches.{joined}
 use Rattle.posting_core.specs.Stream.{acknowledged}
@@ -18,9 +18,12 @@ use Rattle.counter_http.specs.declared.fault.ServeFault.TheVariants.{Read, Write
 use Rattle.counter_http.specs.Ends.{HasEnded}
 use Rattle.counter_http.specs.Messages.{Message, message_text, Ending, Walks}
 use Rattle.counter_http.specs.Answers.{asked_by, unavailable, final_answer}
-use Rattle.counter_http.specs.Turns.{Turn, message_in, text_in, commands_in, commands_of, messages_of, texts_of, answers_to}
-use Rattle.counter_http.specs.Serving.{GoesOn, IsWritten, IsWalked, IsBroken, IsAtMessage, At_message, At_last, At_refusal, Serves}
-use Rattle.counter_http.specs.Outputs.{texts_of_all, answers_behind, Answers, AnswersWhole, AnswersFirst, AnswersBroken, IsTextFor, Writes, IsSettled, Outputs, Survives}
+use Rattle.counter_http.specs.Turns.{Turn, message_in, text_in, commands_in, commands_of, messages_of}
+use Rattle.counter_http.specs.Turns.{texts_of, answers_to}
+use Rattle.counter_http.specs.Serving.{GoesOn, IsWritten, IsWalked, IsBroken, IsAtMessage, At_message}
+use Rattle.counter_http.specs.Serving.{At_last, At_refusal, Serves}
+use Rattle.counter_http.specs.Outputs.{texts_of_all, answers_behind, Answers, AnswersWhole, AnswersFirst}
+use Rattle.counter_http.specs.Outputs.{AnswersBroken, IsTextFor, Writes, IsSettled, Outputs, Survives}
 use Rattle.counter_http.proofs.Momentless.{momentless}
 use Rattle.counter_http.proofs.OneWalk.{walk_unique, front_unique}
 
@@ -146,7 +149,8 @@ one_front_of log input text other a b =
 text_for : {C : Type 0} (seen : C → Seen) {r r' : Option (List ℕ)} {q q' : Option (List ReadTold)}
     {w w' k k' : Option (List ℕ)} (old new : C) (result : Result ℕ ServeFault)
     (s : Serves seen r r' q q' w w' k k' old new result) (log : List Command)
-    → IsTextFor result log (texts_of (s.taken ++ s.refused) ++ s.rest) (joined (answers_to log s.taken ++ s.last))
+    → IsTextFor result log (texts_of (s.taken ++ s.refused) ++ s.rest)
+    (joined (answers_to log s.taken ++ s.last))
 text_for seen old new (Ok count) s log = walked_text log s.taken s.refused s.rest s.last s.exits.0
 text_for seen old new (Err Read) s log =
     let is = s.exits.0 in

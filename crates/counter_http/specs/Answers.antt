@@ -1,5 +1,7 @@
 -- The answer to each message.
-use Rattle.std.specs.Prelude.{◌≡◌, ℕ, zero, suc, ◌-◌, ℤ, List, [], ◌∷◌, ◌++◌, length, Option, Some, None, Bool, true, false, not, ◌&&◌, ◌||◌, ◌==◌, nat_lt, nat_le, codes, bytes_eq, unwrap_or, get_or, replicate, if◌then◌else◌}
+use Rattle.std.specs.Prelude.{◌≡◌, ℕ, zero, suc, ◌-◌, ℤ, List, [], ◌∷◌, ◌++◌, length, Option, Some, None}
+use Rattle.std.specs.Prelude.{Bool, true, false, not, ◌&&◌, ◌||◌, ◌==◌, nat_lt, nat_le, codes, bytes_eq}
+use Rattle.std.specs.Prelude.{unwrap_or, get_or, replicate, if◌then◌else◌}
 use Rattle.std.specs.Option.{option_and_then}
 use Rattle.std.specs.Fmt.{decimal, signed_decimal}
 use Rattle.http.specs.StatusCode.{reason_phrase, code_digits}
@@ -14,7 +16,8 @@ use Rattle.counter_http.specs.declared.limits.TheConstants.{ACCOUNT_DIGITS, RECO
 use Rattle.counter_http.specs.declared.routes.Route.{Route}
 use Rattle.counter_http.specs.declared.routes.Route.TheVariants.{Posting, Account, Branches}
 use Rattle.counter_http.specs.Paths.{path_of, account_in, route_of}
-use Rattle.counter_http.specs.Messages.{Message, closes, Ending, Finished, Closed, No_head, No_body, is_head_request}
+use Rattle.counter_http.specs.Messages.{Message, closes, Ending, Finished, Closed, No_head, No_body}
+use Rattle.counter_http.specs.Messages.{is_head_request}
 
 -- what a message asks for
 pub record Asked : Type 0 where

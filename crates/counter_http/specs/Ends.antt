@@ -1,7 +1,8 @@
 -- What the ends of a connection told: the reader from r to r', and the writer from w to w'.
 use Rattle.std.specs.Prelude.{ℕ, List, [], Option, Bool, true, false, Result, Ok, Err}
 use Rattle.std.specs.Io.KnownBytes.{IsAtEnd}
-use Rattle.posting_core.specs.Told.{ReadTold, WriteTold, Adds, EndsWith, HasMore, HasReadFailed, HasWriteFailed, IsEndOfInput, IsFlush, IsThrough}
+use Rattle.posting_core.specs.Told.{ReadTold, WriteTold, Adds, EndsWith, HasMore, HasReadFailed}
+use Rattle.posting_core.specs.Told.{HasWriteFailed, IsEndOfInput, IsFlush, IsThrough}
 use Rattle.counter_http.specs.declared.fault.ServeFault.{ServeFault}
 use Rattle.counter_http.specs.declared.fault.ServeFault.TheVariants.{Read, Write, Bank, Memory}
 

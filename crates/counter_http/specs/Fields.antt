@@ -1,6 +1,7 @@
--- What the fields of a head say of the body's length and of the connection. Names are compared without regard to
--- ASCII case.
-use Rattle.std.specs.Prelude.{ℕ, List, [], ◌∷◌, Option, Some, None, Bool, ◌&&◌, ◌==◌, nat_lt, nat_le, length, map, filter, codes, bytes_eq, if◌then◌else◌}
+-- What the fields of a head say of the body's length and of the connection. Names are compared without regard
+-- to ASCII case.
+use Rattle.std.specs.Prelude.{ℕ, List, [], ◌∷◌, Option, Some, None, Bool, ◌&&◌, ◌==◌, nat_lt, nat_le, length}
+use Rattle.std.specs.Prelude.{map, filter, codes, bytes_eq, if◌then◌else◌}
 use Rattle.std.specs.List.{list_any, list_all, slice_split}
 use Rattle.std.specs.Char.{is_ascii_digit}
 use Rattle.std.specs.Str.{str_to_ascii_lowercase}

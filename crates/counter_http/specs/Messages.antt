@@ -1,5 +1,6 @@
 -- The messages of an input, one behind another, and how the walk over them ends.
-use Rattle.std.specs.Prelude.{◌≡◌, ◌≢◌, ℕ, ◌≤◌, ◌<◌, List, [], ◌∷◌, ◌++◌, length, Option, Some, None, Bool, true, false, ◌||◌, ◌==◌, codes, bytes_eq, ⊤}
+use Rattle.std.specs.Prelude.{◌≡◌, ◌≢◌, ℕ, ◌≤◌, ◌<◌, List, [], ◌∷◌, ◌++◌, length, Option, Some, None, Bool}
+use Rattle.std.specs.Prelude.{true, false, ◌||◌, ◌==◌, codes, bytes_eq, ⊤}
 use Rattle.httparse.specs.Grammar.{RequestHead, print_request, IsRequestHead}
 use Rattle.counter_http.specs.declared.limits.TheConstants.{MAX_FIELDS, MAX_HEAD}
 use Rattle.counter_http.specs.Fields.{named_values, body_length, asks_to_close}
@@ -60,8 +61,8 @@ Ends (No_body h) rest =
     IsHead h
     × ((behind : List ℕ) × (rest ≡ print_request h ++ behind) × LacksBody (body_length (named_values h)) behind)
 
--- the input is these messages, and then the walk ends so: after a message that closes the connection, whatever
--- follows
+-- the input is these messages, and then the walk ends so: after a message that closes the connection,
+-- whatever follows
 abbrev pub Walks : List ℕ → List Message → Ending → Type 0
 Walks input [] ending = Ends ending input
 Walks input (m ∷ ms) ending =

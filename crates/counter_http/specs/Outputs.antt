@@ -1,5 +1,7 @@
--- What a connection writes, said of the bytes that it reads alone, however they were cut, and what a stop leaves.
-use Rattle.std.specs.Prelude.{◌≡◌, ◌⊎◌, ℕ, List, [], ◌∷◌, ◌++◌, length, map, take, Option, Result, Ok, Err, OnOk}
+-- What a connection writes, said of the bytes that it reads alone, however they were cut, and what a stop
+-- leaves.
+use Rattle.std.specs.Prelude.{◌≡◌, ◌⊎◌, ℕ, List, [], ◌∷◌, ◌++◌, length, map, take, Option, Result, Ok, Err}
+use Rattle.std.specs.Prelude.{OnOk}
 use Rattle.std.specs.List.{AllByRecursion, flat_map}
 use Rattle.std.specs.Io.KnownBytes.{Appends, Consumes}
 use Rattle.posting_rules.specs.Commands.{Command}
@@ -109,8 +111,8 @@ pub record Outputs (r r' : Option (List ℕ)) (q q' : Option (List ReadTold)) (w
 abbrev pub acknowledged_records : List Command → List Turn → ℕ → ℕ
 acknowledged_records log turns n = length (commands_of (take (acknowledged (answers_to log turns) n) turns))
 
--- everything that a stop may leave shows the log and a beginning of what was submitted, which holds all records
--- that were acknowledged
+-- everything that a stop may leave shows the log and a beginning of what was submitted, which holds all
+-- records that were acknowledged
 pub record Survives (r r' w w' : Option (List ℕ)) (c c' : Seen) : Type 0 where
   -- the messages that the bank took, the one that it refused, and what was read behind them
   pub taken : List Turn

@@ -1,5 +1,6 @@
 -- Which route a path leads to.
-use Rattle.std.specs.Prelude.{ℕ, List, length, take, drop, Option, Some, None, Bool, not, ◌&&◌, ◌==◌, nat_lt, codes, bytes_eq, if◌then◌else◌}
+use Rattle.std.specs.Prelude.{ℕ, List, length, take, drop, Option, Some, None, Bool, not, ◌&&◌, ◌==◌, nat_lt}
+use Rattle.std.specs.Prelude.{codes, bytes_eq, if◌then◌else◌}
 use Rattle.std.specs.List.{list_any, before_first, position_or_len}
 use Rattle.std.specs.Str.{is_utf8}
 use Rattle.counter_http.specs.declared.routes.Route.{Route}
@@ -18,7 +19,8 @@ is_slash b = b == 47
 -- `/account/`, and behind it one part that isn't empty
 abbrev pub is_account_path : List ℕ → Bool
 is_account_path path =
-    bytes_eq (take 9 path) (codes "/account/") && (nat_lt 9 (length path) && not (list_any is_slash (drop 9 path)))
+    bytes_eq (take 9 path) (codes "/account/") &&
+    (nat_lt 9 (length path) && not (list_any is_slash (drop 9 path)))
 
 abbrev pub account_in : List ℕ → List ℕ
 account_in path = drop 9 path

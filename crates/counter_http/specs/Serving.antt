@@ -1,8 +1,9 @@
--- A connection, message by message: what is read, what is written, what the bank shows, what a stop may leave.
--- The reader's known bytes before and after are r and r', what its reads told q and q', the writer's known bytes
--- w and w', the clock's known readings k and k'. The bank is old before and new after, and seen tells what is seen
--- of it.
-use Rattle.std.specs.Prelude.{◌≡◌, ◌≢◌, ◌⊎◌, ℕ, ◌+◌, List, [], ◌∷◌, ◌++◌, length, take, Option, Result, Ok, Err, false}
+-- A connection, message by message: what is read, what is written, what the bank shows, what a stop may
+-- leave. The reader's known bytes before and after are r and r', what its reads told q and q', the writer's
+-- known bytes w and w', the clock's known readings k and k'. The bank is old before and new after, and seen
+-- tells what is seen of it.
+use Rattle.std.specs.Prelude.{◌≡◌, ◌≢◌, ◌⊎◌, ℕ, ◌+◌, List, [], ◌∷◌, ◌++◌, length, take, Option, Result, Ok}
+use Rattle.std.specs.Prelude.{Err, false}
 use Rattle.std.specs.List.{AllByRecursion}
 use Rattle.std.specs.Io.KnownBytes.{Appends, Consumes}
 use Rattle.posting_rules.specs.declared.fault.Fault.{Fault}
@@ -110,8 +111,8 @@ IsWritten _ written text = written ≡ text
 
 pub record Serves {C : Type 0} (seen : C → Seen) (r r' : Option (List ℕ)) (q q' : Option (List ReadTold))
     (w w' k k' : Option (List ℕ)) (old new : C) (result : Result ℕ ServeFault) : Type 0 where
-  -- the messages that the bank took, the one that it refused, what was read behind them, and the answer to what
-  -- is no message or was refused
+  -- the messages that the bank took, the one that it refused, what was read behind them, and the answer to
+  -- what is no message or was refused
   pub taken : List Turn
   pub refused : List Turn
   pub rest : List ℕ

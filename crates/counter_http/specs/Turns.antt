@@ -1,7 +1,8 @@
--- Messages one after another: each is answered in its turn, and a record is submitted under one reading of the
--- clock. The writer's known bytes before and after are w and w', the clock's known readings k and k'. What is seen
--- of a counter is told by seen, or the counter is seen as c before and as c' after.
-use Rattle.std.specs.Prelude.{◌≡◌, ◌⊎◌, ℕ, List, [], ◌∷◌, length, take, map, Option, Bool, true, false, ⊤, Result, MatchResult, OnOk}
+-- Messages one after another: each is answered in its turn, and a record is submitted under one reading of
+-- the clock. The writer's known bytes before and after are w and w', the clock's known readings k and k'.
+-- What is seen of a counter is told by seen, or the counter is seen as c before and as c' after.
+use Rattle.std.specs.Prelude.{◌≡◌, ◌⊎◌, ℕ, List, [], ◌∷◌, length, take, map, Option, Bool, true, false, ⊤}
+use Rattle.std.specs.Prelude.{Result, MatchResult, OnOk}
 use Rattle.std.specs.List.{flat_map}
 use Rattle.std.specs.Io.KnownBytes.{Appends}
 use Rattle.posting_rules.specs.declared.fault.Fault.{Fault}
@@ -98,7 +99,8 @@ pub record IsAnsweredInPart (w w' : Option (List ℕ)) (c c' : Seen) (asked : As
   pub answer : c'.honest → (log : List Command) → ShowsLog c log
       → written ≡ take (length written) (answer_of log asked)
 
--- the bank answered some calls that change nothing, stood there, and refused the one that was given the commands
+-- the bank answered some calls that change nothing, stood there, and refused the one that was given the
+-- commands
 pub record IsRefusedAt {C : Type 0} (seen : C → Seen) (old new : C) (fault : Fault) (commands : List Command)
     : Type 0 where
   pub stood : C
@@ -127,7 +129,8 @@ pub record IsRefusedInPart {C : Type 0} (seen : C → Seen) (w w' : Option (List
 abbrev pub BreaksOff : {C : Type 0} → (C → Seen) → ServeFault → (w w' : Option (List ℕ)) → (old new : C)
     → Asked → List Command → Type 0
 BreaksOff seen Write w w' old new asked commands =
-    IsAnsweredInPart w w' (seen old) (seen new) asked commands ⊎ IsRefusedInPart seen w w' old new asked commands
+    IsAnsweredInPart w w' (seen old) (seen new) asked commands
+    ⊎ IsRefusedInPart seen w w' old new asked commands
 BreaksOff seen (Bank fault) w w' old new asked commands = IsRefused seen w w' old new fault asked commands
 BreaksOff seen Read w w' old new asked commands = ⊥
 BreaksOff seen Memory w w' old new asked commands = ⊥

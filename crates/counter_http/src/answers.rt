@@ -3,7 +3,8 @@ ghost use Rattle.std.specs.Prelude.{◌≡◌, ℕ, take, OnErr, true, Some, [],
 ghost use Rattle.std.specs.Result.{IsErrOf};
 ghost use Rattle.std.specs.Io.KnownBytes.{Appends};
 ghost use Rattle.posting_core.specs.Clock.{AreReadings};
-ghost use Rattle.counter_http.specs.Answers.{refusal, answer_text, shows, unavailable, is_posting, is_reading, plain};
+ghost use Rattle.counter_http.specs.Answers.{refusal, answer_text, shows, unavailable, is_posting};
+ghost use Rattle.counter_http.specs.Answers.{is_reading, plain};
 ghost use Rattle.counter_http.specs.Ends.{SendsAs};
 ghost use Rattle.counter_http.specs.Next.{asked};
 ghost use Rattle.counter_http.specs.Paths.{route_of, path_of};

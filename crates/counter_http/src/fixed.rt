@@ -1,7 +1,8 @@
 //! The answers that need no bank.
 ghost use Rattle.std.specs.Prelude.{◌≡◌, List, codes, bytes_eq, true, false, Some, None, MatchOption};
 ghost use Rattle.posting_rules.specs.Commands.{Command};
-ghost use Rattle.counter_http.specs.Answers.{answer_on, answer_to, is_posting, is_reading, is_record, not_allowed, IsForBank};
+ghost use Rattle.counter_http.specs.Answers.{answer_on, answer_to, is_posting, is_reading, is_record};
+ghost use Rattle.counter_http.specs.Answers.{not_allowed, IsForBank};
 ghost use Rattle.counter_http.specs.Next.{asked};
 ghost use Rattle.counter_http.specs.Paths.{path_of, route_of};
 ghost use Rattle.counter_http.specs.Telling.{said};

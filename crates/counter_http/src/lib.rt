@@ -1,5 +1,5 @@
-//! The counter over HTTP: messages that are read from a connection are answered one after another, and their records
-//! are submitted to a bank.
+//! The counter over HTTP: messages that are read from a connection are answered one after another, and their
+//! records are submitted to a bank.
 #![tactic(auto)]
 
 mod accounts;

@@ -1,5 +1,6 @@
 //! The message at the front of the bytes that were read.
-ghost use Rattle.std.specs.Prelude.{◌≡◌, ◌≤◌, ◌<◌, ◌-◌, ◌==◌, ℕ, List, All, length, map, take, drop, bytes_eq, codes};
+ghost use Rattle.std.specs.Prelude.{◌≡◌, ◌≤◌, ◌<◌, ◌-◌, ◌==◌, ℕ, List, All, length, map, take, drop};
+ghost use Rattle.std.specs.Prelude.{bytes_eq, codes};
 ghost use Rattle.httparse.specs.Spans.{IsRequestWithin, IsRequestOf};
 ghost use Rattle.counter_http.specs.Next.{IsNext};
 

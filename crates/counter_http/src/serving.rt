@@ -85,11 +85,12 @@ fn serve<R: Source, W: Sink, K: Clock, C: Counter>(
 }
 
 /// Serves a connection to the end of the walk over its messages, and tells how many answers were written. As
-/// soon as whole messages were read they are answered, in their order and before anything more is read; a record
-/// is submitted under one reading of the clock. An answer of at most 512 bytes is one write, and each is flushed.
-/// An interrupted read or write is made again. `Read` and `Write` come only where a read, a write or a flush of
-/// this call failed, where a write took no byte, or where 2^64 - 1 of them were made. The buffer and the routes
-/// are made before anything is read; after that only the bank and the body of a `GET` take memory.
+/// soon as whole messages were read they are answered, in their order and before anything more is read; a
+/// record is submitted under one reading of the clock. An answer of at most 512 bytes is one write, and each
+/// is flushed. An interrupted read or write is made again. `Read` and `Write` come only where a read, a write
+/// or a flush of this call failed, where a write took no byte, or where 2^64 - 1 of them were made. The
+/// buffer and the routes are made before anything is read; after that only the bank and the body of a `GET`
+/// take memory.
 pub fn serve_connection<R: Source, W: Sink, K: Clock, C: Counter>(
     alloc: Global,
     reader: &mut R,

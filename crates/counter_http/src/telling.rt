@@ -24,8 +24,8 @@ pub(crate) struct Response<'a> {
     pub body: &'a [u8],
 }
 
-// Tells more of a text, where the writer took all of it so far, and answers whether it still does. What has no
-// room is written at once, behind what was held.
+// Tells more of a text, where the writer took all of it so far, and answers whether it still does. What has
+// no room is written at once, behind what was held.
 fn put<W: Sink>(writer: &mut W, held: &mut ArrayVec<u8, HELD>, going: bool, bytes: &[u8]) -> bool
     ensures text { (before : Option (List ℕ)) (text : List ℕ) → IsTold before
         (W.contents writer.old) going held.old.items text

@@ -25,8 +25,8 @@ fn two_branches(alloc: Global) -> Result<PlainBank, Fault>
     Ok(bank)
 }
 
-/// Answers the first record of a new bank: branch 1 has three accounts and branch 2 has two. It reads 100 bytes, and
-/// leaves what follows unread. The bank refuses only for want of memory.
+/// Answers the first record of a new bank: branch 1 has three accounts and branch 2 has two. It reads 100
+/// bytes, and leaves what follows unread. The bank refuses only for want of memory.
 pub fn answer_first<R: Source, W: Sink>(
     alloc: Global,
     reader: &mut R,

@@ -15,9 +15,11 @@ use Rattle.counter_tcp.specs.declared.fault.ListenFault.{ListenFault}
 use Rattle.counter_tcp.specs.declared.fault.ListenFault.TheVariants.{Network, Bank}
 use Rattle.counter_tcp.specs.Faults.{after_connection}
 
-pub one_served : {C : Type 0} (seen : C → Seen) (r r' w w' k k' : Option (List ℕ)) (q q' : Option (List ReadTold))
+pub one_served : {C : Type 0} (seen : C → Seen) (r r' w w' k k' : Option (List ℕ))
+    (q q' : Option (List ReadTold))
     (p p' : Option (List WriteTold)) (old new : C) (result : Result ℕ ServeFault)
-    → http.Serves seen r r' q q' w w' k k' old new result → Outputs r r' q q' w w' (seen old) (seen new) result
+    → http.Serves seen r r' q q' w w' k k' old new result
+    → Outputs r r' q q' w w' (seen old) (seen new) result
     → Survives r r' w w' (seen old) (seen new) → http_ends.EndsAs result q q' p p'
     → ((seen new).honest → (seen old).honest)
     → ServesOne seen k k' old new result

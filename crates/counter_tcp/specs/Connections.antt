@@ -1,5 +1,5 @@
--- Connections that are served one after another by a bank, which is old before them and new after them. What is seen
--- of it is told by seen, and the clock's known readings are k before and k' after.
+-- Connections that are served one after another by a bank, which is old before them and new after them. What
+-- is seen of it is told by seen, and the clock's known readings are k before and k' after.
 use Rattle.std.specs.Prelude.{◌≡◌, ◌<◌, ◌≤◌, ℕ, List, [], ◌∷◌, ◌++◌, length, Option, Result, Ok, Err}
 use Rattle.std.specs.List.{AllByRecursion}
 use Rattle.posting_rules.specs.Commands.{Command}
@@ -59,7 +59,8 @@ pub record ServesOne {C : Type 0} (seen : C → Seen) (k k' : Option (List ℕ))
 -- ---- one after another
 
 -- nothing happens to the bank or the clock between two of them
-abbrev pub AreServed : {C : Type 0} → (C → Seen) → List (Connection C) → (k k' : Option (List ℕ)) → (old new : C)
+abbrev pub AreServed : {C : Type 0} → (C → Seen) → List (Connection C) → (k k' : Option (List ℕ))
+    → (old new : C)
     → Type 0
 AreServed seen [] k k' old new = (k' ≡ k) × (new ≡ old)
 AreServed seen (c ∷ cs) k k' old new =

@@ -1,4 +1,5 @@
-//! The counter over TCP: the connections that a bound listener takes are served one after another, by any counter.
+//! The counter over TCP: the connections that a bound listener takes are served one after another, by any
+//! counter.
 #![tactic(auto)]
 
 mod fault;

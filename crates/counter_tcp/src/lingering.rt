@@ -11,9 +11,9 @@ const MOST_READS: u32 = 64;
 
 const PIECE: usize = 16_384;
 
-/// Shuts the writing side, and reads what the client still sends until it ends its side too, as long as that is
-/// within the bounds. A connection that is closed with unread input is reset, and a reset takes away what was written
-/// last.
+/// Shuts the writing side, and reads what the client still sends until it ends its side too, as long as that
+/// is within the bounds. A connection that is closed with unread input is reset, and a reset takes away what
+/// was written last.
 pub fn end(stream: &TcpStream) {
     let shut = stream.shutdown(Shutdown::Write);
     let timed = stream.set_read_timeout(Some(Duration::from_millis(PATIENCE_MILLIS)));

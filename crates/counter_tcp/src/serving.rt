@@ -10,8 +10,9 @@ use posting_core::{Clock, Counter, Fault};
 use std::alloc::Global;
 use std::net::{TcpListener, TcpStream};
 
-/// Serves so many connections of a bound listener, one after another. It goes on after a read, a write or a memory
-/// fault of a connection, and ends at any other fault of the bank, and where the listener gives no connection.
+/// Serves so many connections of a bound listener, one after another. It goes on after a read, a write or a
+/// memory fault of a connection, and ends at any other fault of the bank, and where the listener gives no
+/// connection.
 pub fn serve_connections<K: Clock, C: Counter>(
     alloc: Global,
     listener: &TcpListener,
@@ -31,7 +32,8 @@ pub fn serve_connections<K: Clock, C: Counter>(
     Ok(())
 }
 
-// Serves one connection, and ends it so that its last answer arrives. An answer isn't held back for one before it.
+// Serves one connection, and ends it so that its last answer arrives. An answer isn't held back for one
+// before it.
 fn serve_stream<K: Clock, C: Counter>(
     alloc: Global,
     stream: &TcpStream,

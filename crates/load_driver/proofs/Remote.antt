@@ -1,5 +1,6 @@
 -- Where the account at a place stands.
-use Rattle.std.proofs.Common.{◌≡◌, ◌<◌, ◌≤◌, ◌+◌, ◌-◌, ◌∷◌, ◌∙◌, ℕ, List, Bool, true, false, length, drop, get_or, ap, ◌⊎◌, inl, inr, arith, refl, nat_eq, nat_lt}
+use Rattle.std.proofs.Common.{◌≡◌, ◌<◌, ◌≤◌, ◌+◌, ◌-◌, ◌∷◌, ◌∙◌, ℕ, List, Bool, true, false, length, drop}
+use Rattle.std.proofs.Common.{get_or, ap, ◌⊎◌, inl, inr, arith, refl, nat_eq, nat_lt}
 use Rattle.std.specs.Prelude.{◌||◌}
 use Rattle.std.proofs.lemmas.Bool.Decides.{nat_tests}
 use Rattle.std.proofs.lemmas.List.{drop_more, get_or-append_right, get_or_append_left}
@@ -10,7 +11,8 @@ use Rattle.load_driver.specs.Requests.{account_by, accounts_of, count_of, is_hom
 use Rattle.branch_loader.specs.Plans.{Rows, Row}
 
 -- the row of the branch itself is passed over
-pub at-home : (branch : ℕ) (p : Row) (rest : Rows) → p.0 ≡ branch → remote_accounts branch (p ∷ rest) ≡ remote_accounts branch rest
+pub at-home : (branch : ℕ) (p : Row) (rest : Rows) → p.0 ≡ branch
+    → remote_accounts branch (p ∷ rest) ≡ remote_accounts branch rest
 at-home branch p rest e = let t : nat_eq p.0 branch ≡ true = grind (arith, nat_tests, e) in rw t refl
 
 -- an account of another row
@@ -37,7 +39,8 @@ account-home rows home choice pick e = rw e refl
 
 -- the account of another branch
 pub account-remote : (rows : Rows) (home : Row) (choice pick : ℕ) → is_home rows (draw choice 100) ≡ false
-    → get_or (remote_accounts home.0 rows) (draw pick (count_of rows - home.1)) 0 ≡ account_by rows home choice pick
+    → get_or (remote_accounts home.0 rows) (draw pick (count_of rows - home.1)) 0
+    ≡ account_by rows home choice pick
 unfolding account_by
 account-remote rows home choice pick e = rw e refl
 
@@ -45,17 +48,22 @@ account-remote rows home choice pick e = rw e refl
 abbrev pub remote : ℕ → Rows → ℕ → ℕ
 remote branch rows place = get_or (remote_accounts branch rows) place 0
 
-here : (rows : Rows) (i : ℕ) (x : Row) → i < length rows → x ≡ get_or rows i x → drop i rows ≡ x ∷ drop (i + 1) rows
+here : (rows : Rows) (i : ℕ) (x : Row) → i < length rows → x ≡ get_or rows i x
+    → drop i rows ≡ x ∷ drop (i + 1) rows
 here rows i x within read = drop_more rows i x within ∙ rw (← read) refl
 
 -- the walk passes over the branch itself
-pub go-home : (rows : Rows) (i : ℕ) (x : Row) (branch place left : ℕ) → i < length rows → x ≡ get_or rows i x → x.0 ≡ branch
-    → remote branch rows place ≡ remote branch (drop i rows) left → remote branch rows place ≡ remote branch (drop (i + 1) rows) left
+pub go-home : (rows : Rows) (i : ℕ) (x : Row) (branch place left : ℕ) → i < length rows → x ≡ get_or rows i x
+    → x.0 ≡ branch
+    → remote branch rows place ≡ remote branch (drop i rows) left
+    → remote branch rows place ≡ remote branch (drop (i + 1) rows) left
 go-home rows i x branch place left within read e states =
-    states ∙ rw (here rows i x within read) (ap (λ (l : List ℕ). get_or l left 0) (at-home branch x (drop (i + 1) rows) e))
+    states ∙ rw (here rows i x within read)
+    (ap (λ (l : List ℕ). get_or l left 0) (at-home branch x (drop (i + 1) rows) e))
 
 -- it passes over a row whose accounts are all before the place
-pub go-behind : (rows : Rows) (i : ℕ) (x : Row) (branch place left : ℕ) → i < length rows → x ≡ get_or rows i x → ¬ (x.0 ≡ branch)
+pub go-behind : (rows : Rows) (i : ℕ) (x : Row) (branch place left : ℕ) → i < length rows
+    → x ≡ get_or rows i x → ¬ (x.0 ≡ branch)
     → x.1 ≤ left
     → remote branch rows place ≡ remote branch (drop i rows) left
     → remote branch rows place ≡ remote branch (drop (i + 1) rows) (left - x.1)
@@ -63,16 +71,19 @@ go-behind rows i x branch place left within read e past states =
     states ∙ rw (here rows i x within read) (at-behind branch x (drop (i + 1) rows) left e past)
 
 -- it ends at the row that has the place
-pub go-other : (rows : Rows) (i : ℕ) (x : Row) (branch place left : ℕ) → i < length rows → x ≡ get_or rows i x → ¬ (x.0 ≡ branch)
+pub go-other : (rows : Rows) (i : ℕ) (x : Row) (branch place left : ℕ) → i < length rows → x ≡ get_or rows i x
+    → ¬ (x.0 ≡ branch)
     → left < x.1
-    → remote branch rows place ≡ remote branch (drop i rows) left → remote branch rows place ≡ first_account x.0 + left
+    → remote branch rows place ≡ remote branch (drop i rows) left
+    → remote branch rows place ≡ first_account x.0 + left
 go-other rows i x branch place left within read e past states =
     states ∙ rw (here rows i x within read) (at-other branch x (drop (i + 1) rows) left e past)
 
 -- X below 85, or one branch
 pub home-either : (rows : Rows) (x : ℕ) → (x < 85) ⊎ ((85 ≤ x) × (length rows ≡ 1)) → is_home rows x ≡ true
 home-either rows x (inl low) = let t : nat_lt x 85 ≡ true = grind (arith, nat_tests, low) in rw t refl
-home-either rows x (inr one) = let t : nat_eq (length rows) 1 ≡ true = grind (arith, nat_tests, one.1) in rw t (or_true (nat_lt x 85))
+home-either rows x (inr one) = let t : nat_eq (length rows) 1 ≡ true = grind (arith, nat_tests, one.1) in rw t
+    (or_true (nat_lt x 85))
   where
     or_true : (b : Bool) → (b || true) ≡ true
     or_true true = refl

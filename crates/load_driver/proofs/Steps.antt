@@ -1,5 +1,6 @@
 -- What a record does to a driver.
-use Rattle.std.proofs.Common.{◌≡◌, ◌<◌, ◌≤◌, ◌+◌, ◌*◌, ◌∙◌, ◌≢◌, ◌⊎◌, inl, inr, ℕ, zero, suc, List, Bool, true, false, length, get_or, arith, refl, sym, ap, nat_eq, add-one, set}
+use Rattle.std.proofs.Common.{◌≡◌, ◌<◌, ◌≤◌, ◌+◌, ◌*◌, ◌∙◌, ◌≢◌, ◌⊎◌, inl, inr, ℕ, zero, suc, List, Bool}
+use Rattle.std.proofs.Common.{true, false, length, get_or, arith, refl, sym, ap, nat_eq, add-one, set}
 use Rattle.std.specs.Prelude.{if◌then◌else◌}
 use Rattle.std.proofs.lemmas.Bool.{cases_Bool}
 use Rattle.std.proofs.lemmas.Bool.Decides.{nat_tests}
@@ -17,7 +18,8 @@ use Rattle.load_driver.specs.declared.draws.Words.{Words}
 use Rattle.load_driver.proofs.Totals.{one_teller}
 
 -- one word
-one : (seed k w : ℕ) (g h : Lcg) → g ≡ words_after seed k → (w, h) ≡ pcg64 g → (w ≡ word seed k) × (h ≡ words_after seed (k + 1))
+one : (seed k w : ℕ) (g h : Lcg) → g ≡ words_after seed k → (w, h) ≡ pcg64 g
+    → (w ≡ word seed k) × (h ≡ words_after seed (k + 1))
 unfolding word words_after
 one seed k w g h at e = (
   ap (λ (p : ℕ × Lcg). p.0) e ∙ ap (λ (x : Lcg). (pcg64 x).0) at,
@@ -26,7 +28,8 @@ one seed k w g h at e = (
 
 -- the four words of a record
 pub four : (seed n : ℕ) (words : Words) (g0 g1 g2 g3 g4 : Lcg) → g0 ≡ words_after seed (4 * n)
-    → (words.teller, g1) ≡ pcg64 g0 → (words.choice, g2) ≡ pcg64 g1 → (words.account, g3) ≡ pcg64 g2 → (words.amount, g4) ≡ pcg64 g3
+    → (words.teller, g1) ≡ pcg64 g0 → (words.choice, g2) ≡ pcg64 g1 → (words.account, g3) ≡ pcg64 g2
+    → (words.amount, g4) ≡ pcg64 g3
     → TakesWords seed n words g4
 four seed n words g0 g1 g2 g3 g4 at ea eb ec ed =
     let (wa, ha) = one seed (4 * n) words.teller g0 g1 at ea in
@@ -42,7 +45,8 @@ four seed n words g0 g1 g2 g3 g4 at ea eb ec ed =
 pub earlier-le : (rows : Rows) (seed t n : ℕ) → earlier rows seed t n ≤ n
 unfolding earlier
 earlier-le rows seed t zero = omega arith
-earlier-le rows seed t (suc n) = by (nat_eq (teller_of rows (place_at rows seed n)) t) (earlier-le rows seed t n)
+earlier-le rows seed t (suc n) = by (nat_eq (teller_of rows (place_at rows seed n)) t)
+    (earlier-le rows seed t n)
   where
     by : (b : Bool) → earlier rows seed t n ≤ n → earlier rows seed t n + (if b then 1 else 0) ≤ suc n
     by true h = omega arith
@@ -53,22 +57,27 @@ earlier-same : (rows : Rows) (seed t n : ℕ) → t ≡ teller_of rows (place_at
     → earlier rows seed t (n + 1) ≡ earlier rows seed t n + 1
 unfolding earlier
 earlier-same rows seed t n same =
-    let yes : nat_eq (teller_of rows (place_at rows seed n)) t ≡ true = grind (arith, nat_tests, same) in rw (add-one n, yes) refl
+    let yes : nat_eq (teller_of rows (place_at rows seed n)) t ≡ true = grind (arith, nat_tests, same) in rw
+    (add-one n, yes) refl
 
 earlier-other : (rows : Rows) (seed t n : ℕ) → t ≢ teller_of rows (place_at rows seed n)
     → earlier rows seed t (n + 1) ≡ earlier rows seed t n
 unfolding earlier
 earlier-other rows seed t n ne =
-    let f : nat_eq (teller_of rows (place_at rows seed n)) t ≡ false = grind (arith, nat_tests, ne) in rw (add-one n, f) (omega arith)
+    let f : nat_eq (teller_of rows (place_at rows seed n)) t ≡ false = grind (arith, nat_tests, ne) in rw
+    (add-one n, f) (omega arith)
 
 -- the counts after one more record
-pub counts-more : (rows : Rows) (seed n place : ℕ) (counts : List ℕ) → IsPlan rows → place ≡ place_at rows seed n → place < TELLERS_PER_BRANCH * length rows
-    → Counts rows seed n counts → Counts rows seed (n + 1) (set counts place (earlier rows seed (teller_of rows place) n + 1))
+pub counts-more : (rows : Rows) (seed n place : ℕ) (counts : List ℕ) → IsPlan rows
+    → place ≡ place_at rows seed n → place < TELLERS_PER_BRANCH * length rows
+    → Counts rows seed n counts
+    → Counts rows seed (n + 1) (set counts place (earlier rows seed (teller_of rows place) n + 1))
 counts-more rows seed n place counts plan at within h =
     record { len = rw length-set h.len; of_each = λ t small. by t small (cases_Bool (nat_eq t place)) }
   where
     by : (t : ℕ) → t < TELLERS_PER_BRANCH * length rows → (nat_eq t place ≡ true) ⊎ (nat_eq t place ≡ false)
-        → get_or (set counts place (earlier rows seed (teller_of rows place) n + 1)) t 0 ≡ earlier rows seed (teller_of rows t) (n + 1)
+        → get_or (set counts place (earlier rows seed (teller_of rows place) n + 1)) t 0 ≡ earlier rows seed
+        (teller_of rows t) (n + 1)
     by t small (inl e) =
         let here : t ≡ place = grind (arith, nat_tests, e) in
         let room : place < length counts = omega (arith, h.len) in
@@ -88,14 +97,18 @@ pub record Steps (rows : Rows) (counts : List ℕ) (seed n t x : ℕ) : Type 0 w
   pub counted : Counts rows seed (n + 1) (set counts t (x + 1))
 
 -- the teller that a record's first word draws, and its number
-pub stepped : (rows : Rows) (counts : List ℕ) (seed n a t x tellers : ℕ) → IsPlan rows → Counts rows seed n counts → a ≡ word seed (4 * n)
-    → tellers ≡ TELLERS_PER_BRANCH * length rows → t ≡ draw a tellers → t < tellers → x ≡ get_or counts t x → Steps rows counts seed n t x
+pub stepped : (rows : Rows) (counts : List ℕ) (seed n a t x tellers : ℕ) → IsPlan rows
+    → Counts rows seed n counts → a ≡ word seed (4 * n)
+    → tellers ≡ TELLERS_PER_BRANCH * length rows → t ≡ draw a tellers → t < tellers → x ≡ get_or counts t x
+    → Steps rows counts seed n t x
 unfolding place_at
 stepped rows counts seed n a t x tellers plan h first all drawn below read =
     let small : t < TELLERS_PER_BRANCH * length rows = omega arith in
-    let here : t ≡ place_at rows seed n = drawn ∙ ap (draw a) all ∙ ap (λ (w : ℕ). draw w (TELLERS_PER_BRANCH * length rows)) first in
+    let here : t ≡ place_at rows seed n = drawn ∙ ap (draw a) all ∙ ap
+    (λ (w : ℕ). draw w (TELLERS_PER_BRANCH * length rows)) first in
     let room : t < length counts = omega (arith, h.len) in
-    let count : x ≡ earlier rows seed (teller_of rows t) n = get_or_read counts t x room read 0 ∙ h.of_each t small in
+    let count : x ≡ earlier rows seed (teller_of rows t) n = get_or_read counts t x room read 0
+    ∙ h.of_each t small in
     let most = earlier-le rows seed (teller_of rows t) n in
     record {
       here = here;

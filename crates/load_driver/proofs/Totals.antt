@@ -1,5 +1,7 @@
 -- How many accounts there are, of which row an account is, and that a teller has one place.
-use Rattle.std.proofs.Common.{◌≡◌, ◌≢◌, ◌<◌, ◌≤◌, ◌+◌, ◌-◌, ◌*◌, ◌/◌, ◌∷◌, ◌∙◌, ◌⊎◌, inl, inr, ℕ, zero, suc, [], Bool, true, false, not, length, get_or, map, All, arith, refl, sym, ap, subst, nat_eq, nat_lt, cond}
+use Rattle.std.proofs.Common.{◌≡◌, ◌≢◌, ◌<◌, ◌≤◌, ◌+◌, ◌-◌, ◌*◌, ◌/◌, ◌∷◌, ◌∙◌, ◌⊎◌, inl, inr, ℕ, zero, suc}
+use Rattle.std.proofs.Common.{[], Bool, true, false, not, length, get_or, map, All, arith, refl, sym, ap}
+use Rattle.std.proofs.Common.{subst, nat_eq, nat_lt, cond}
 use Rattle.std.specs.Prelude.{Contains}
 use Rattle.std.specs.List.{AllByRecursion, IsDistinct, flat_map}
 use Rattle.std.proofs.lemmas.Bool.{cases_Bool, false≢true}
@@ -13,7 +15,8 @@ use Rattle.posting_rules.specs.declared.limits.TheConstants.{TELLERS_PER_BRANCH}
 use Rattle.branch_loader.specs.Plans.{IsPlan, IsRow, Rows, Row}
 use Rattle.posting_rules.specs.Steps.{first_account}
 use Rattle.load_driver.specs.OfPlan.{IsAccountFor, IsAccountOf}
-use Rattle.load_driver.specs.Requests.{CountsOthers, accounts_of, count_of, home_of, others, remote_accounts, teller_of}
+use Rattle.load_driver.specs.Requests.{CountsOthers, accounts_of, count_of, home_of, others, remote_accounts}
+use Rattle.load_driver.specs.Requests.{teller_of}
 use Rattle.load_driver.proofs.Remote.{at-behind, at-home, at-other}
 
 -- an element is the first, or one of the rest
@@ -40,17 +43,20 @@ length-accounts (p ∷ rows) =
     ∙ rw (length-range_with_len (first_account p.0) p.1, length-accounts rows) (sym (count-cons p rows))
 
 -- where no row is the branch's, all are the others'
-none-here : (branch : ℕ) (rows : Rows) → AllByRecursion (λ y. nat_eq branch y ≡ false) (map (λ p. p.0) rows) → others branch rows ≡ rows
+none-here : (branch : ℕ) (rows : Rows) → AllByRecursion (λ y. nat_eq branch y ≡ false) (map (λ p. p.0) rows)
+    → others branch rows ≡ rows
 none-here branch [] h = refl
 none-here branch (p ∷ rows) h =
     let f : nat_eq p.0 branch ≡ false = (let e = h.0 in grind (arith, nat_tests, e)) in
     rw f (ap (λ (rest : Rows). p ∷ rest) (none-here branch rows h.1))
 
 -- a branch that no row names
-not-named : (branch : ℕ) (rows : Rows) (q : Row) → AllByRecursion (λ y. nat_eq branch y ≡ false) (map (λ p. p.0) rows) → Contains rows q
+not-named : (branch : ℕ) (rows : Rows) (q : Row)
+    → AllByRecursion (λ y. nat_eq branch y ≡ false) (map (λ p. p.0) rows) → Contains rows q
     → nat_eq branch q.0 ≡ false
 not-named branch [] q h (k, within, is) = absurd (omega arith)
-not-named branch (p ∷ rows) q h there = by (first_or_rest p rows q there) (λ rest. not-named branch rows q h.1 rest)
+not-named branch (p ∷ rows) q h there = by (first_or_rest p rows q there)
+    (λ rest. not-named branch rows q h.1 rest)
   where
     by : (p ≡ q) ⊎ Contains rows q → (Contains rows q → nat_eq branch q.0 ≡ false) → nat_eq branch q.0 ≡ false
     by (inl e) more = rw (← e) h.0
@@ -61,9 +67,11 @@ pub count-others : (rows : Rows) (home : Row) → IsDistinct nat_eq (map (λ p. 
     → count_of rows ≡ home.1 + count_of (others home.0 rows)
 unfolding IsDistinct
 count-others [] home distinct (k, within, is) = absurd (omega arith)
-count-others (p ∷ rows) home distinct there = by (first_or_rest p rows home there) (λ rest. count-others rows home distinct.1 rest)
+count-others (p ∷ rows) home distinct there = by (first_or_rest p rows home there)
+    (λ rest. count-others rows home distinct.1 rest)
   where
-    by : (p ≡ home) ⊎ Contains rows home → (Contains rows home → count_of rows ≡ home.1 + count_of (others home.0 rows))
+    by : (p ≡ home) ⊎ Contains rows home
+        → (Contains rows home → count_of rows ≡ home.1 + count_of (others home.0 rows))
         → count_of (p ∷ rows) ≡ home.1 + count_of (others home.0 (p ∷ rows))
     by (inl e) more =
         let t : nat_eq p.0 p.0 ≡ true = grind (arith, nat_tests) in
@@ -83,12 +91,14 @@ counts-others rows plan home there =
     omega arith
 
 -- a plan of more branches than one has accounts beside those of any
-pub others-some : (rows : Rows) (branch : ℕ) → IsPlan rows → 0 < length rows → ¬ (length rows ≡ 1) → 0 < count_of (others branch rows)
+pub others-some : (rows : Rows) (branch : ℕ) → IsPlan rows → 0 < length rows → ¬ (length rows ≡ 1)
+    → 0 < count_of (others branch rows)
 unfolding IsDistinct
 others-some [] branch plan some more = absurd (omega arith)
 others-some (p ∷ []) branch plan some more = absurd (more refl)
 others-some (p ∷ q ∷ rows) branch plan some more =
-    by (nat_eq p.0 branch) (nat_eq q.0 branch) (λ a b. let apart = plan.distinct.0.0 in grind (arith, nat_tests, a, b, apart))
+    by (nat_eq p.0 branch) (nat_eq q.0 branch)
+    (λ a b. let apart = plan.distinct.0.0 in grind (arith, nat_tests, a, b, apart))
     (plan.in_range 0 p (omega arith)).2 (plan.in_range 1 p (omega arith)).2
   where
     by : (a b : Bool) (distinct : a ≡ true → b ≡ true → ⊥) → 1 ≤ p.1 → 1 ≤ q.1
@@ -115,19 +125,22 @@ pub record IsElsewhere (rows : Rows) (branch account : ℕ) : Type 0 where
   pub other : row.0 ≢ branch
   pub within : IsAccountOf row account
 
-elsewhere-more : (p : Row) (rows : Rows) (branch account : ℕ) → IsElsewhere rows branch account → IsElsewhere (p ∷ rows) branch account
+elsewhere-more : (p : Row) (rows : Rows) (branch account : ℕ) → IsElsewhere rows branch account
+    → IsElsewhere (p ∷ rows) branch account
 elsewhere-more p rows branch account e =
     record { row = e.row; planned = in_rest p rows e.row e.planned; other = e.other; within = e.within }
 
 -- the accounts of the other branches are such
-pub elsewhere : (branch : ℕ) (rows : Rows) (place : ℕ) → All IsRow rows → place < count_of (others branch rows)
+pub elsewhere : (branch : ℕ) (rows : Rows) (place : ℕ) → All IsRow rows
+    → place < count_of (others branch rows)
     → IsElsewhere rows branch (get_or (remote_accounts branch rows) place 0)
 elsewhere branch [] place all within = absurd (omega arith)
 elsewhere branch (p ∷ rows) place all within =
     by (cases_Bool (nat_eq p.0 branch)) (cases_Bool (nat_lt place p.1))
     (λ left small. elsewhere branch rows left (tail_rows p rows all) small)
   where
-    by : (nat_eq p.0 branch ≡ true) ⊎ (nat_eq p.0 branch ≡ false) → (nat_lt place p.1 ≡ true) ⊎ (nat_lt place p.1 ≡ false)
+    by : (nat_eq p.0 branch ≡ true) ⊎ (nat_eq p.0 branch ≡ false)
+        → (nat_lt place p.1 ≡ true) ⊎ (nat_lt place p.1 ≡ false)
         → ((left : ℕ) → left < count_of (others branch rows) → IsElsewhere rows branch (get_or (remote_accounts branch rows) left 0))
         → IsElsewhere (p ∷ rows) branch (get_or (remote_accounts branch (p ∷ rows)) place 0)
     by (inl same) c more =
@@ -143,11 +156,14 @@ elsewhere branch (p ∷ rows) place all within =
         let other : p.0 ≢ branch = grind (arith, nat_tests, apart) in
         let large : p.1 ≤ place = grind (arith, nat_tests, behind) in
         let rest : place < count_of (p ∷ others branch rows) = rw apart at within in
-        let left : place - p.1 < count_of (others branch rows) = omega (arith, count-cons p (others branch rows)) in
-        rw (at-behind branch p rows place other large) (elsewhere-more p rows branch _ (more (place - p.1) left))
+        let left : place - p.1 < count_of (others branch rows) = omega
+        (arith, count-cons p (others branch rows)) in
+        rw (at-behind branch p rows place other large)
+        (elsewhere-more p rows branch _ (more (place - p.1) left))
 
 -- an account of another branch
-pub remote-for : (rows : Rows) (home : Row) (test : Bool) (place : ℕ) → IsPlan rows → test ≡ false → place < count_of (others home.0 rows)
+pub remote-for : (rows : Rows) (home : Row) (test : Bool) (place : ℕ) → IsPlan rows → test ≡ false
+    → place < count_of (others home.0 rows)
     → IsAccountFor rows home test (get_or (remote_accounts home.0 rows) place 0)
 remote-for rows home test place plan is small =
     let there = elsewhere home.0 rows place plan.in_range small in
@@ -164,7 +180,8 @@ differ : (a b : ℕ) → nat_eq a b ≡ false → a ≡ b → ⊥
 differ a b e f = grind (arith, nat_tests, e, f)
 
 -- rows of one branch stand at one place
-one_row : (rows : Rows) (i j : ℕ) → IsPlan rows → i < length rows → j < length rows → (get_or rows i (0, 0)).0 ≡ (get_or rows j (0, 0)).0
+one_row : (rows : Rows) (i j : ℕ) → IsPlan rows → i < length rows → j < length rows
+    → (get_or rows i (0, 0)).0 ≡ (get_or rows j (0, 0)).0
     → i ≤ j
 one_row rows i j plan small within same = by (cases_Bool (nat_lt j i))
   where
@@ -180,16 +197,20 @@ one_row rows i j plan small within same = by (cases_Bool (nat_lt j i))
         get_or-map (λ (p : Row). p.0) rows i (0, 0) 0 small in
         absurd (differ _ _ apart (first ∙ sym same ∙ sym second))
 
-some-branch : (rows : Rows) (t : ℕ) → IsPlan rows → t < TELLERS_PER_BRANCH * length rows → 1 ≤ (home_of rows t).0
+some-branch : (rows : Rows) (t : ℕ) → IsPlan rows → t < TELLERS_PER_BRANCH * length rows
+    → 1 ≤ (home_of rows t).0
 some-branch rows t plan small = let row = plan.in_range (t / TELLERS_PER_BRANCH) (0, 0) (omega arith) in row.0
 
 -- two places have two tellers
-pub one_teller : (rows : Rows) (t u : ℕ) → IsPlan rows → t < TELLERS_PER_BRANCH * length rows → u < TELLERS_PER_BRANCH * length rows → teller_of rows t ≡ teller_of rows u
+pub one_teller : (rows : Rows) (t u : ℕ) → IsPlan rows → t < TELLERS_PER_BRANCH * length rows
+    → u < TELLERS_PER_BRANCH * length rows → teller_of rows t ≡ teller_of rows u
     → t ≡ u
 one_teller rows t u plan small within same =
     let first = some-branch rows t plan small in
     let second = some-branch rows u plan within in
     let branch : (home_of rows t).0 ≡ (home_of rows u).0 = omega arith in
-    let up = one_row rows (t / TELLERS_PER_BRANCH) (u / TELLERS_PER_BRANCH) plan (omega arith) (omega arith) branch in
-    let down = one_row rows (u / TELLERS_PER_BRANCH) (t / TELLERS_PER_BRANCH) plan (omega arith) (omega arith) (sym branch) in
+    let up = one_row rows (t / TELLERS_PER_BRANCH) (u / TELLERS_PER_BRANCH) plan (omega arith)
+    (omega arith) branch in
+    let down = one_row rows (u / TELLERS_PER_BRANCH) (t / TELLERS_PER_BRANCH) plan (omega arith) (omega arith)
+    (sym branch) in
     omega arith

@@ -16,7 +16,8 @@ pub record Driving : Type 0 where
 -- the count of each teller after n records
 pub record Counts (rows : Rows) (seed n : ℕ) (counts : List ℕ) : Type 0 where
   pub len : length counts ≡ TELLERS_PER_BRANCH * length rows
-  pub of_each : (place : ℕ) → place < TELLERS_PER_BRANCH * length rows → get_or counts place 0 ≡ earlier rows seed (teller_of rows place) n
+  pub of_each : (place : ℕ) → place < TELLERS_PER_BRANCH * length rows
+      → get_or counts place 0 ≡ earlier rows seed (teller_of rows place) n
 
 -- words and counts are those after so many records of a plan that has a branch
 pub record IsReady (rows : Rows) (seed given : ℕ) (words : Lcg) (counts : List ℕ) : Type 0 where

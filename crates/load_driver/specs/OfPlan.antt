@@ -17,8 +17,8 @@ pub record IsAccountFor (rows : Rows) (home : Row) (is_home : Bool) (account : �
   pub within : IsAccountOf row account
   pub at_home : IsTrue is_home ↔ (branch_of_account account ≡ home.0)
 
--- the request names a teller of the plan, that teller's branch, and an account of the plan, which is one of that branch
--- just where it is to be
+-- the request names a teller of the plan, that teller's branch, and an account of the plan, which is one of
+-- that branch just where it is to be
 pub record IsOfPlan (rows : Rows) (is_home : Bool) (r : RequestFields) : Type 0 where
   pub home : Row
   pub planned : Contains rows home

@@ -1,5 +1,7 @@
 -- The requests that a plan and a seed draw: record n takes the words 4n to 4n + 3.
-use Rattle.std.specs.Prelude.{◌≡◌, Contains, ◌+◌, ◌-◌, ◌*◌, ◌/◌, ◌%◌, ◌||◌, Bool, not, ℕ, zero, suc, List, get_or, length, map, nat_eq, nat_lt, if◌then◌else◌, ℤ, pos, ◌-ℤ◌, filter, sum_by, IsPermutation}
+use Rattle.std.specs.Prelude.{◌≡◌, Contains, ◌+◌, ◌-◌, ◌*◌, ◌/◌, ◌%◌, ◌||◌, Bool, not, ℕ, zero, suc, List}
+use Rattle.std.specs.Prelude.{get_or, length, map, nat_eq, nat_lt, if◌then◌else◌, ℤ, pos, ◌-ℤ◌, filter}
+use Rattle.std.specs.Prelude.{sum_by, IsPermutation}
 use Rattle.std.specs.List.{flat_map, range_with_len}
 use Rattle.std.specs.List.Sorted.{IsStrictlyIncreasing}
 use Rattle.posting_rules.specs.declared.limits.TheConstants.{TELLERS_PER_BRANCH}
@@ -58,7 +60,8 @@ remote_accounts branch rows = flat_map accounts_of (others branch rows)
 
 -- the others' accounts are all but the branch's own
 abbrev pub CountsOthers : Rows → Type 0
-CountsOthers rows = (home : Row) → Contains rows home → length (remote_accounts home.0 rows) ≡ count_of rows - home.1
+CountsOthers rows = (home : Row) → Contains rows home → length (remote_accounts home.0 rows)
+    ≡ count_of rows - home.1
 
 -- the account, by the words for X and for the account itself
 unfoldable pub account_by : Rows → Row → ℕ → ℕ → ℕ
@@ -76,7 +79,8 @@ amount_by word = pos (draw word (2 * MOST_AMOUNT + 1)) -ℤ pos MOST_AMOUNT
 -- how many of the first n records have this teller
 unfoldable pub earlier : Rows → ℕ → ℕ → ℕ → ℕ
 earlier rows seed teller zero = 0
-earlier rows seed teller (suc n) = earlier rows seed teller n + (if nat_eq (teller_of rows (place_at rows seed n)) teller then 1 else 0)
+earlier rows seed teller (suc n) = earlier rows seed teller n +
+    (if nat_eq (teller_of rows (place_at rows seed n)) teller then 1 else 0)
 
 -- the request of the teller at a place, by three words and its number
 abbrev pub request_by : Rows → ℕ → ℕ → ℕ → ℕ → ℕ → RequestFields
@@ -91,5 +95,6 @@ request_by rows place choice pick amount number = record {
 -- record n of ascending rows and a seed
 unfoldable pub request_at : Rows → ℕ → ℕ → RequestFields
 request_at rows seed n =
-    request_by rows (place_at rows seed n) (word seed (4 * n + 1)) (word seed (4 * n + 2)) (word seed (4 * n + 3))
+    request_by rows (place_at rows seed n) (word seed (4 * n + 1)) (word seed (4 * n + 2))
+    (word seed (4 * n + 3))
     (earlier rows seed (teller_of rows (place_at rows seed n)) n + 1)

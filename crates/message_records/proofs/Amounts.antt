@@ -1,5 +1,6 @@
 -- Amounts that are written are read again, and amounts that are read are those that are written.
-use Rattle.std.proofs.Common.{◌≡◌, ℕ, zero, suc, ◌+◌, ◌^◌, ◌<◌, cond, eqb, List, [], ◌∷◌, length, Option, Some, None, refl, sym, ap, subst, ◌∙◌, arith, inl, inr}
+use Rattle.std.proofs.Common.{◌≡◌, ℕ, zero, suc, ◌+◌, ◌^◌, ◌<◌, cond, eqb, List, [], ◌∷◌, length, Option}
+use Rattle.std.proofs.Common.{Some, None, refl, sym, ap, subst, ◌∙◌, arith, inl, inr}
 use Rattle.std.specs.Prelude.{ℤ, pos, negsuc, nat_abs, option_and_then}
 use Rattle.std.proofs.lemmas.Bool.{eqb-true}
 use Rattle.message_records.specs.Spelling.{digits, signed}
@@ -12,9 +13,12 @@ length-signed k (pos n) = omega (arith, length-digits k n)
 length-signed k (negsuc n) = omega (arith, length-digits k (suc n))
 
 -- what is written is read again
-pub signed_again : (k : ℕ) (z : ℤ) (cs : List ℕ) → cs ≡ signed k z → nat_abs z < 10 ^ k → signed_of cs ≡ Some z
-signed_again k (pos n) cs e lt = ap signed_of e ∙ ap (option_and_then not_below_zero) (number_of-digits k n lt)
-signed_again k (negsuc n) cs e lt = ap signed_of e ∙ ap (option_and_then below_zero) (number_of-digits k (suc n) lt)
+pub signed_again : (k : ℕ) (z : ℤ) (cs : List ℕ) → cs ≡ signed k z → nat_abs z < 10 ^ k
+    → signed_of cs ≡ Some z
+signed_again k (pos n) cs e lt = ap signed_of e ∙ ap (option_and_then not_below_zero)
+    (number_of-digits k n lt)
+signed_again k (negsuc n) cs e lt = ap signed_of e ∙ ap (option_and_then below_zero)
+    (number_of-digits k (suc n) lt)
 
 -- a step that gave a value had one to begin with
 pub and_then_some : {A B : Type 0} (f : A → Option B) (o : Option A) (y : B) → option_and_then f o ≡ Some y
@@ -30,7 +34,8 @@ head_tail : (c sign : ℕ) (cs ds : List ℕ) → c ≡ sign → cs ≡ ds → c
 head_tail c sign cs ds e f = cc
 
 -- an amount that is read is the one that the bytes spell, and fits so many digits
-pub signed_takes : (k : ℕ) (z : ℤ) (cs : List ℕ) → length cs ≡ suc k → signed_of cs ≡ Some z → (cs ≡ signed k z) × (nat_abs z < 10 ^ k)
+pub signed_takes : (k : ℕ) (z : ℤ) (cs : List ℕ) → length cs ≡ suc k → signed_of cs ≡ Some z
+    → (cs ≡ signed k z) × (nat_abs z < 10 ^ k)
 signed_takes k z [] len e = absurd cc
 signed_takes k z (c ∷ cs) len e =
     let rest : length cs ≡ k = omega (arith, len) in

@@ -1,5 +1,6 @@
 -- No spelling begins another: all are equally long, and each is read as one value.
-use Rattle.std.proofs.Common.{◌≡◌, ℕ, List, [], ◌∷◌, ◌++◌, length, Result, Ok, refl, sym, ap, ◌∙◌, append-nil, arith}
+use Rattle.std.proofs.Common.{◌≡◌, ℕ, List, [], ◌∷◌, ◌++◌, length, Result, Ok, refl, sym, ap, ◌∙◌, append-nil}
+use Rattle.std.proofs.Common.{arith}
 use Rattle.std.specs.Prelude.{pos, unwrap_or}
 use Rattle.std.proofs.lemmas.List.{length-append}
 use Rattle.message_records.specs.Outcomes.{code_of}
@@ -19,10 +20,12 @@ nothing (x ∷ xs) e = absurd (omega (arith, e))
 
 -- what stands behind a whole that is as long is nothing
 no_rest : (xs ys rest : List ℕ) → length xs ≡ length ys → xs ++ rest ≡ ys → rest ≡ []
-no_rest xs ys rest same e = nothing rest (omega (arith, same, ap (λ (t : List ℕ). length t) e, length-append xs rest))
+no_rest xs ys rest same e = nothing rest
+    (omega (arith, same, ap (λ (t : List ℕ). length t) e, length-append xs rest))
 
 -- what is read from one spelling is one value
-one_value : {A E : Type 0} (read : List ℕ → Result A E) (x y : A) (xs ys rest : List ℕ) → read xs ≡ Ok x → read ys ≡ Ok y
+one_value : {A E : Type 0} (read : List ℕ → Result A E) (x y : A) (xs ys rest : List ℕ) → read xs ≡ Ok x
+    → read ys ≡ Ok y
     → length xs ≡ length ys → xs ++ rest ≡ ys → (x ≡ y) × (rest ≡ [])
 one_value read x y xs ys rest ex ey same e =
     let none : rest ≡ [] = no_rest xs ys rest same e in
@@ -49,7 +52,8 @@ length-reply r =
     )
 
 -- no spelling of a request begins another
-pub no_request_begins : (r s : RequestFields) (rest : List ℕ) → IsRequest r → IsRequest s → request_spelling r ++ rest ≡ request_spelling s
+pub no_request_begins : (r s : RequestFields) (rest : List ℕ) → IsRequest r → IsRequest s
+    → request_spelling r ++ rest ≡ request_spelling s
     → (r ≡ s) × (rest ≡ [])
 no_request_begins r s rest hr hs e =
     one_value request_of r s (request_spelling r) (request_spelling s) rest
@@ -57,7 +61,8 @@ no_request_begins r s rest hr hs e =
     (length-request r ∙ sym (length-request s)) e
 
 -- no spelling of a reply begins another
-pub no_reply_begins : (r s : ReplyFields) (rest : List ℕ) → IsReply r → IsReply s → reply_spelling r ++ rest ≡ reply_spelling s
+pub no_reply_begins : (r s : ReplyFields) (rest : List ℕ) → IsReply r → IsReply s
+    → reply_spelling r ++ rest ≡ reply_spelling s
     → (r ≡ s) × (rest ≡ [])
 no_reply_begins r s rest hr hs e =
     one_value reply_of r s (reply_spelling r) (reply_spelling s) rest

@@ -1,18 +1,23 @@
 -- The fields that are put one behind another are the record.
-use Rattle.std.proofs.Common.{◌≡◌, ℕ, zero, suc, ◌+◌, ◌-◌, ◌≤◌, List, [], ◌∷◌, ◌++◌, length, replicate, refl, sym, ap, ◌∙◌, append_assoc, zero-add, lit≤, arith}
+use Rattle.std.proofs.Common.{◌≡◌, ℕ, zero, suc, ◌+◌, ◌-◌, ◌≤◌, List, [], ◌∷◌, ◌++◌, length, replicate, refl}
+use Rattle.std.proofs.Common.{sym, ap, ◌∙◌, append_assoc, zero-add, lit≤, arith}
 use Rattle.std.specs.Prelude.{ℤ, pos, codes, unwrap_or}
 use Rattle.message_records.specs.declared.records.Outcome.{Outcome}
-use Rattle.message_records.specs.declared.records.Outcome.TheVariants.{Posted, NoTeller, WrongBranch, NoAccount, OverLimit, ReusedNumber, Full, Malformed}
+use Rattle.message_records.specs.declared.records.Outcome.TheVariants.{Posted, NoTeller, WrongBranch}
+use Rattle.message_records.specs.declared.records.Outcome.TheVariants.{NoAccount, OverLimit, ReusedNumber}
+use Rattle.message_records.specs.declared.records.Outcome.TheVariants.{Full, Malformed}
 use Rattle.message_records.specs.Outcomes.{code_of, name_of}
 use Rattle.message_records.specs.Records.{RequestFields, ReplyFields}
-use Rattle.message_records.specs.Spelling.{digits, signed, fields_spelling, no_fields, filled, request_spelling, reply_spelling}
+use Rattle.message_records.specs.Spelling.{digits, signed, fields_spelling, no_fields, filled}
+use Rattle.message_records.specs.Spelling.{request_spelling, reply_spelling}
 
 -- ---- the five fields
 
 -- five fields, each put behind the one before, are the fields of the request
 pub fields_put : (r : RequestFields) (a t b n : ℕ) (z : ℤ) (d0 d1 d2 d3 d4 d5 : List ℕ)
     → a ≡ r.account → t ≡ r.teller → b ≡ r.branch → n ≡ r.number → z ≡ r.delta
-    → d1 ≡ d0 ++ digits 12 a → d2 ≡ d1 ++ digits 8 t → d3 ≡ d2 ++ digits 6 b → d4 ≡ d3 ++ digits 10 n → d5 ≡ d4 ++ signed 10 z
+    → d1 ≡ d0 ++ digits 12 a → d2 ≡ d1 ++ digits 8 t → d3 ≡ d2 ++ digits 6 b → d4 ≡ d3 ++ digits 10 n
+    → d5 ≡ d4 ++ signed 10 z
     → d5 ≡ d0 ++ fields_spelling r
 unfolding fields_spelling
 fields_put r a t b n z d0 d1 d2 d3 d4 d5 ea et eb en ez e1 e2 e3 e4 e5 =
@@ -26,7 +31,8 @@ no_fields_spelled = refl
 -- ---- the request
 
 -- tag and fields, filled with spaces, are the request
-pub request_put : (r : RequestFields) (d0 d1 d2 out : List ℕ) → d0 ≡ [] → d1 ≡ d0 ++ codes "DC01" → d2 ≡ d1 ++ fields_spelling r
+pub request_put : (r : RequestFields) (d0 d1 d2 out : List ℕ) → d0 ≡ [] → d1 ≡ d0 ++ codes "DC01"
+    → d2 ≡ d1 ++ fields_spelling r
     → length d2 ≡ 51 → out ≡ d2 ++ replicate (100 - length d2) 32 → out ≡ request_spelling r
 unfolding request_spelling
 request_put r d0 d1 d2 out e0 e1 e2 len e =
@@ -58,7 +64,8 @@ name_short Full = lit≤ tt
 name_short Malformed = lit≤ tt
 
 -- the spaces behind a name are those that fill it and those that fill the record
-name_filled : (name : List ℕ) (n : ℕ) → n ≡ 66 + length name → length name ≤ 16 → name ++ spaces (200 - n) ≡ filled 16 name ++ spaces 118
+name_filled : (name : List ℕ) (n : ℕ) → n ≡ 66 + length name → length name ≤ 16
+    → name ++ spaces (200 - n) ≡ filled 16 name ++ spaces 118
 name_filled name n e le =
     let left : 200 - n ≡ (16 - length name) + 118 = omega arith in
     ap (λ (k : ℕ). name ++ spaces k) left
@@ -66,8 +73,10 @@ name_filled name n e le =
     ∙ sym (append_assoc name (spaces (16 - length name)) (spaces 118))
 
 -- the fields, each put behind the one before and filled with spaces, are the reply
-pub reply_put : (r : ReplyFields) (code : ℕ) (name d0 d1 d2 d3 d4 d5 out : List ℕ) → code ≡ code_of r.outcome → name ≡ name_of r.outcome
-    → d0 ≡ [] → d1 ≡ d0 ++ codes "DR01" → d2 ≡ d1 ++ digits 2 code → d3 ≡ d2 ++ fields_spelling (unwrap_or r.request no_fields)
+pub reply_put : (r : ReplyFields) (code : ℕ) (name d0 d1 d2 d3 d4 d5 out : List ℕ) → code ≡ code_of r.outcome
+    → name ≡ name_of r.outcome
+    → d0 ≡ [] → d1 ≡ d0 ++ codes "DR01" → d2 ≡ d1 ++ digits 2 code
+    → d3 ≡ d2 ++ fields_spelling (unwrap_or r.request no_fields)
     → d4 ≡ d3 ++ signed 12 (unwrap_or r.balance (pos 0)) → d5 ≡ d4 ++ name
     → length d5 ≡ 66 + length name → out ≡ d5 ++ replicate (200 - length d5) 32 → out ≡ reply_spelling r
 unfolding reply_spelling
@@ -76,11 +85,14 @@ reply_put r code name d0 d1 d2 d3 d4 d5 out ec en e0 e1 e2 e3 e4 e5 len e =
     let fields = fields_spelling (unwrap_or r.request no_fields) in
     let balance = signed 12 (unwrap_or r.balance (pos 0)) in
     let short : length name ≤ 16 = rw en (name_short r.outcome) in
-    let front : d5 ≡ (((tag ++ digits 2 code) ++ fields) ++ balance) ++ name = rw (e5, e4, e3, e2, e1, e0) refl in
-    let grouped : (a b c d f g : List ℕ) → ((((a ++ b) ++ c) ++ d) ++ f) ++ g ≡ a ++ (b ++ (c ++ (d ++ (f ++ g)))) =
+    let front : d5 ≡ (((tag ++ digits 2 code) ++ fields) ++ balance) ++ name = rw
+    (e5, e4, e3, e2, e1, e0) refl in
+    let grouped : (a b c d f g : List ℕ) → ((((a ++ b) ++ c) ++ d) ++ f) ++ g ≡ a ++
+    (b ++ (c ++ (d ++ (f ++ g)))) =
     λ a b c d f g. simp append_assoc in
     e ∙ ap (λ (t : List ℕ). t ++ spaces (200 - length d5)) front
     ∙ grouped tag (digits 2 code) fields balance name (spaces (200 - length d5))
-    ∙ ap (λ (t : List ℕ). tag ++ (digits 2 code ++ (fields ++ (balance ++ t)))) (name_filled name (length d5) len short)
+    ∙ ap (λ (t : List ℕ). tag ++ (digits 2 code ++ (fields ++ (balance ++ t))))
+    (name_filled name (length d5) len short)
     ∙ ap (λ (k : ℕ). tag ++ (digits 2 k ++ (fields ++ (balance ++ (filled 16 name ++ spaces 118))))) ec
     ∙ ap (λ (t : List ℕ). tag ++ (digits 2 (code_of r.outcome) ++ (fields ++ (balance ++ (filled 16 t ++ spaces 118))))) en

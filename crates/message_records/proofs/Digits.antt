@@ -1,9 +1,12 @@
 -- Digits that are written are read again, and digits that are read are those that are written.
-use Rattle.std.proofs.Common.{◌≡◌, ℕ, zero, suc, ◌+◌, ◌-◌, ◌*◌, ◌/◌, ◌%◌, ◌^◌, ◌<◌, ◌≤◌, Bool, true, false, cond, ◌&&◌, leb, List, [], ◌∷◌, ◌++◌, length, Some, None, refl, sym, ap, ◌∙◌, arith, inl, inr}
+use Rattle.std.proofs.Common.{◌≡◌, ℕ, zero, suc, ◌+◌, ◌-◌, ◌*◌, ◌/◌, ◌%◌, ◌^◌, ◌<◌, ◌≤◌, Bool, true, false}
+use Rattle.std.proofs.Common.{cond, ◌&&◌, leb, List, [], ◌∷◌, ◌++◌, length, Some, None, refl, sym, ap, ◌∙◌}
+use Rattle.std.proofs.Common.{arith, inl, inr}
 use Rattle.std.specs.Prelude.{◌⊎◌}
 use Rattle.std.proofs.lemmas.List.{length-append}
 use Rattle.std.proofs.lemmas.Bool.Decides.{nat_tests}
-use Rattle.std.proofs.Math.Nat.{pow-suc, pow-succ', pow-le-pow_right, div-div-eq-div-mul, lt-div-mul-add, one-le-pow, zero-mul}
+use Rattle.std.proofs.Math.Nat.{pow-suc, pow-succ', pow-le-pow_right, div-div-eq-div-mul, lt-div-mul-add}
+use Rattle.std.proofs.Math.Nat.{one-le-pow, zero-mul}
 use Rattle.message_records.specs.declared.limits.TheConstants.{MAX_BALANCE}
 use Rattle.message_records.specs.Spelling.{digits}
 use Rattle.message_records.specs.Reading.{number_after, number_of}
@@ -12,17 +15,20 @@ use Rattle.message_records.specs.Reading.{number_after, number_of}
 pub length-digits : (k n : ℕ) → length (digits k n) ≡ k
 unfolding digits
 length-digits zero n = refl
-length-digits (suc k) n = omega (arith, length-append (digits k (n / 10)) ((48 + n % 10) ∷ []), length-digits k (n / 10))
+length-digits (suc k) n = omega
+    (arith, length-append (digits k (n / 10)) ((48 + n % 10) ∷ []), length-digits k (n / 10))
 
 -- a test that gave a value was true, or was false
-pub chosen : {A : Type 0} (b : Bool) (x y z : A) → cond b x y ≡ z → ((b ≡ true) × (x ≡ z)) ⊎ ((b ≡ false) × (y ≡ z))
+pub chosen : {A : Type 0} (b : Bool) (x y z : A) → cond b x y ≡ z
+    → ((b ≡ true) × (x ≡ z)) ⊎ ((b ≡ false) × (y ≡ z))
 chosen true x y z e = inl (refl, e)
 chosen false x y z e = inr (refl, e)
 
 -- ---- what is written is read again
 
 -- reading goes on behind a front
-number_after-append : (a b : ℕ) (xs ys : List ℕ) → number_after a xs ≡ Some b → number_after a (xs ++ ys) ≡ number_after b ys
+number_after-append : (a b : ℕ) (xs ys : List ℕ) → number_after a xs ≡ Some b
+    → number_after a (xs ++ ys) ≡ number_after b ys
 number_after-append a b [] ys e = let h : a ≡ b = cc in ap (λ n. number_after n ys) h
 number_after-append a b (x ∷ xs) ys e =
     elim (chosen (leb 48 x && leb x 57) (number_after (a * 10 + (x - 48)) xs) None (Some b) e) [
@@ -68,7 +74,8 @@ digits-first (suc k) n =
     ∙ ap (λ (d : ℕ). (48 + d % 10) ∷ (digits k (n / 10) ++ (48 + n % 10) ∷ [])) (div_twice n k)
 
 -- bytes that are read behind a front are the last digits of the number, and the front is the rest of it
-digits_again : (a x : ℕ) (cs : List ℕ) → number_after a cs ≡ Some x → (cs ≡ digits (length cs) x) × (x / 10 ^ length cs ≡ a)
+digits_again : (a x : ℕ) (cs : List ℕ) → number_after a cs ≡ Some x
+    → (cs ≡ digits (length cs) x) × (x / 10 ^ length cs ≡ a)
 unfolding digits
 digits_again a x [] e = let h : a ≡ x = cc in (refl, omega (arith, h))
 digits_again a x (c ∷ cs) e =
@@ -92,7 +99,8 @@ below_top n p above e =
     omega arith
 
 -- a number that is read is the one that the bytes spell, and fits so many digits
-pub number_takes : (k n : ℕ) (cs : List ℕ) → length cs ≡ k → number_of cs ≡ Some n → (cs ≡ digits k n) × (n < 10 ^ k)
+pub number_takes : (k n : ℕ) (cs : List ℕ) → length cs ≡ k → number_of cs ≡ Some n
+    → (cs ≡ digits k n) × (n < 10 ^ k)
 number_takes k n cs len e =
     let again = digits_again 0 n cs e in
     let one : 0 < 10 = omega arith in

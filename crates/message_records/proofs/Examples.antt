@@ -23,7 +23,8 @@ malformed : ReplyFields
 malformed = record { outcome = Malformed; request = None; balance = None }
 
 malformed_bytes : List ℕ
-malformed_bytes = codes "DR0190" ++ (replicate 36 48 ++ (codes "+0000000000+000000000000MALFORMED" ++ replicate 125 32))
+malformed_bytes = codes "DR0190" ++
+    (replicate 36 48 ++ (codes "+0000000000+000000000000MALFORMED" ++ replicate 125 32))
 
 deposit_read : request_of deposit_bytes ≡ Ok deposit
 unfolding deposit deposit_bytes request_of fields_of

@@ -1,10 +1,12 @@
 -- The five fields that a request and a reply have in common: spelled and read.
-use Rattle.std.proofs.Common.{◌≡◌, ℕ, ◌^◌, ◌<◌, ◌≤◌, true, ◌&&◌, leb, List, ◌++◌, length, take, drop, Some, None, Ok, refl, ap, subst, ◌∙◌, arith, inl, inr}
+use Rattle.std.proofs.Common.{◌≡◌, ℕ, ◌^◌, ◌<◌, ◌≤◌, true, ◌&&◌, leb, List, ◌++◌, length, take, drop, Some}
+use Rattle.std.proofs.Common.{None, Ok, refl, ap, subst, ◌∙◌, arith, inl, inr}
 use Rattle.std.specs.Prelude.{option_and_then}
 use Rattle.std.specs.Option.{ok_or}
 use Rattle.std.proofs.lemmas.Bool.Decides.{nat_tests}
 use Rattle.std.proofs.lemmas.List.{length-append}
-use Rattle.message_records.specs.declared.limits.TheConstants.{MAX_ACCOUNT, MAX_TELLER, MAX_BRANCH, MAX_NUMBER}
+use Rattle.message_records.specs.declared.limits.TheConstants.{MAX_ACCOUNT, MAX_TELLER, MAX_BRANCH}
+use Rattle.message_records.specs.declared.limits.TheConstants.{MAX_NUMBER}
 use Rattle.message_records.specs.declared.faults.Bad.TheVariants as bad
 use Rattle.message_records.specs.Ranges.{whole_within}
 use Rattle.message_records.specs.Records.{RequestFields, IsRequest}
@@ -12,12 +14,14 @@ use Rattle.message_records.specs.Spelling.{digits, signed, fields_spelling}
 use Rattle.message_records.specs.Reading.{number_of, signed_of, number_at, fields_of}
 use Rattle.message_records.proofs.Digits.{length-digits, chosen, number_of-digits, number_takes}
 use Rattle.message_records.proofs.Amounts.{length-signed, signed_again, signed_takes, and_then_some}
-use Rattle.message_records.proofs.Pieces.{field_next, field_joined, last_field, last_joined, field_length, step_takes, ok_or_some}
+use Rattle.message_records.proofs.Pieces.{field_next, field_joined, last_field, last_joined, field_length}
+use Rattle.message_records.proofs.Pieces.{step_takes, ok_or_some}
 
 -- ---- a number from 1 on
 
 within_again : (most n : ℕ) → 1 ≤ n → n ≤ most → whole_within 1 most n ≡ Some n
-within_again most n least le = let test : (leb 1 n && leb n most) ≡ true = grind (arith, nat_tests) in rw test refl
+within_again most n least le = let test : (leb 1 n && leb n most) ≡ true = grind
+    (arith, nat_tests) in rw test refl
 
 within_takes : (most n x : ℕ) → whole_within 1 most n ≡ Some x → (n ≡ x) × (1 ≤ x) × (x ≤ most)
 within_takes most n x e =
@@ -32,12 +36,15 @@ within_takes most n x e =
     ]
 
 -- a number in its range is read from its digits
-number_again : {E : Type 0} (most k n : ℕ) (fault : E) (cs : List ℕ) → cs ≡ digits k n → n < 10 ^ k → 1 ≤ n → n ≤ most
+number_again : {E : Type 0} (most k n : ℕ) (fault : E) (cs : List ℕ) → cs ≡ digits k n → n < 10 ^ k → 1 ≤ n
+    → n ≤ most
     → number_at most fault cs ≡ Ok n
-number_again most k n fault cs e lt least le = rw (e, number_of-digits k n lt, within_again most n least le) refl
+number_again most k n fault cs e lt least le = rw
+    (e, number_of-digits k n lt, within_again most n least le) refl
 
 -- a number that is read is in its range, and the bytes spell it
-number_at-takes : {E : Type 0} (most k n : ℕ) (fault : E) (cs : List ℕ) → length cs ≡ k → number_at most fault cs ≡ Ok n
+number_at-takes : {E : Type 0} (most k n : ℕ) (fault : E) (cs : List ℕ) → length cs ≡ k
+    → number_at most fault cs ≡ Ok n
     → (cs ≡ digits k n) × (1 ≤ n) × (n ≤ most)
 number_at-takes most k n fault cs len e =
     let some = ok_or_some (option_and_then (whole_within 1 most) (number_of cs)) fault n e in
@@ -59,7 +66,8 @@ length-fields r =
     omega (arith, length-append {A = ℕ})
 
 -- what is spelled is read
-pub fields_again : (r : RequestFields) (bytes : List ℕ) → IsRequest r → bytes ≡ fields_spelling r → fields_of bytes ≡ Ok r
+pub fields_again : (r : RequestFields) (bytes : List ℕ) → IsRequest r → bytes ≡ fields_spelling r
+    → fields_of bytes ≡ Ok r
 unfolding fields_spelling fields_of
 fields_again r bytes h e =
     let from_number = digits 10 r.number ++ signed 10 r.delta in
@@ -68,7 +76,8 @@ fields_again r bytes h e =
     let account = field_next 0 12 bytes (digits 12 r.account) from_teller e (length-digits 12 r.account) in
     let teller = field_next 12 8 bytes (digits 8 r.teller) from_branch account.1 (length-digits 8 r.teller) in
     let branch = field_next 20 6 bytes (digits 6 r.branch) from_number teller.1 (length-digits 6 r.branch) in
-    let number = field_next 26 10 bytes (digits 10 r.number) (signed 10 r.delta) branch.1 (length-digits 10 r.number) in
+    let number = field_next 26 10 bytes (digits 10 r.number) (signed 10 r.delta) branch.1
+    (length-digits 10 r.number) in
     let delta : take 11 (drop 36 bytes) ≡ signed 10 r.delta =
     last_field 36 11 bytes (signed 10 r.delta) number.1 (length-signed 10 r.delta) in
     rw (
@@ -105,7 +114,8 @@ fields_take r bytes len e =
     (ok_or_some (signed_of (take 11 (drop 36 bytes))) bad.Delta delta.0 delta.1) in
     let r-is : record { account = account.0; teller = teller.0; branch = branch.0; number = number.0; delta = delta.0 } ≡ r =
     let h = delta.2 in cc in
-    let from_delta : drop 36 bytes ≡ signed 10 delta.0 = last_joined 36 11 bytes (signed 10 delta.0) len d.0 in
+    let from_delta : drop 36 bytes ≡ signed 10 delta.0 = last_joined 36 11 bytes
+    (signed 10 delta.0) len d.0 in
     let from_number = field_joined 26 10 bytes (digits 10 number.0) _ n.0 from_delta in
     let from_branch = field_joined 20 6 bytes (digits 6 branch.0) _ b.0 from_number in
     let from_teller = field_joined 12 8 bytes (digits 8 teller.0) _ t.0 from_branch in

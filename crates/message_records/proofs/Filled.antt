@@ -1,9 +1,11 @@
 -- A text that is filled with spaces: the text, and spaces behind it.
-use Rattle.std.proofs.Common.{◌≡◌, ℕ, ◌-◌, true, false, List, ◌++◌, length, take, drop, replicate, refl, sym, ap, ◌∙◌, arith}
+use Rattle.std.proofs.Common.{◌≡◌, ℕ, ◌-◌, true, false, List, ◌++◌, length, take, drop, replicate, refl, sym}
+use Rattle.std.proofs.Common.{ap, ◌∙◌, arith}
 use Rattle.std.specs.Str.{bytes_eq}
 use Rattle.std.proofs.lemmas.Bool.Decides.{same_from_decides}
 use Rattle.std.proofs.lemmas.Slice.Eq.{bytes_eq-Decides}
-use Rattle.std.proofs.lemmas.List.{length-drop, length-replicate, take_all, take_at, drop_at, take-append-drop, drop-replicate}
+use Rattle.std.proofs.lemmas.List.{length-drop, length-replicate, take_all, take_at, drop_at}
+use Rattle.std.proofs.lemmas.List.{take-append-drop, drop-replicate}
 use Rattle.message_records.specs.Spelling.{filled}
 
 -- what stands behind the text, as the test sees it
@@ -36,10 +38,13 @@ filled_where_spaces bytes text front =
     (λ e. there (test.0 e), λ e. test.1 (back e)) (bytes_eq-Decides bytes (filled 16 text))
 
 -- where another text stands in front, they aren't
-pub filled_nowhere : (bytes text : List ℕ) → bytes_eq (take (length text) bytes) text ≡ false → false ≡ bytes_eq bytes (filled 16 text)
+pub filled_nowhere : (bytes text : List ℕ) → bytes_eq (take (length text) bytes) text ≡ false
+    → false ≡ bytes_eq bytes (filled 16 text)
 filled_nowhere bytes text other =
     let n = length text in
-    let head : bytes ≡ filled 16 text → take n bytes ≡ text = λ e. ap (take n) e ∙ take_at text (replicate (16 - n) 32) n refl in
+    let head : bytes ≡ filled 16 text → take n bytes ≡ text = λ e. ap (take n) e ∙ take_at text
+    (replicate (16 - n) 32) n refl in
     let test = bytes_eq-Decides (take n bytes) text in
     same_from_decides false (bytes_eq bytes (filled 16 text))
-    (λ e. absurd cc, λ e. let t : bytes_eq (take n bytes) text ≡ true = test.1 (head e) in cc) (bytes_eq-Decides bytes (filled 16 text))
+    (λ e. absurd cc, λ e. let t : bytes_eq (take n bytes) text ≡ true = test.1 (head e) in cc)
+    (bytes_eq-Decides bytes (filled 16 text))

@@ -1,9 +1,11 @@
 -- Taking bytes apart field by field, and going on where no field was faulty.
-use Rattle.std.proofs.Common.{◌≡◌, ℕ, ◌+◌, ◌≤◌, cond, List, ◌++◌, length, take, drop, Option, Some, None, Result, Ok, Err, refl, sym, ap, ◌∙◌, arith, inl, inr}
+use Rattle.std.proofs.Common.{◌≡◌, ℕ, ◌+◌, ◌≤◌, cond, List, ◌++◌, length, take, drop, Option, Some, None}
+use Rattle.std.proofs.Common.{Result, Ok, Err, refl, sym, ap, ◌∙◌, arith, inl, inr}
 use Rattle.std.specs.Option.{ok_or}
 use Rattle.std.specs.Str.{bytes_eq}
 use Rattle.std.proofs.lemmas.Slice.Eq.{bytes_eq-Decides}
-use Rattle.std.proofs.lemmas.List.{length-drop, drop-drop, take_at, drop_at, take_all, take-append-drop, length-take}
+use Rattle.std.proofs.lemmas.List.{length-drop, drop-drop, take_at, drop_at, take_all, take-append-drop}
+use Rattle.std.proofs.lemmas.List.{length-take}
 use Rattle.message_records.specs.Reading.{◌>>=◌, text_at}
 use Rattle.message_records.proofs.Digits.{chosen}
 
@@ -16,7 +18,8 @@ field_next i n bytes field rest e len =
     (ap (take n) e ∙ take_at field rest n len, sym (drop-drop n i bytes) ∙ ap (drop n) e ∙ drop_at field rest n len)
 
 -- a field and what stands behind it are what stands here
-pub field_joined : (i n : ℕ) (bytes field rest : List ℕ) → take n (drop i bytes) ≡ field → drop (i + n) bytes ≡ rest
+pub field_joined : (i n : ℕ) (bytes field rest : List ℕ) → take n (drop i bytes) ≡ field
+    → drop (i + n) bytes ≡ rest
     → drop i bytes ≡ field ++ rest
 field_joined i n bytes field rest f r =
     sym (take-append-drop n (drop i bytes))
@@ -24,12 +27,15 @@ field_joined i n bytes field rest f r =
     ∙ ap (λ (t : List ℕ). field ++ t) (drop-drop n i bytes ∙ r)
 
 -- the last field, behind which nothing stands
-pub last_field : (i n : ℕ) (bytes field : List ℕ) → drop i bytes ≡ field → length field ≡ n → take n (drop i bytes) ≡ field
+pub last_field : (i n : ℕ) (bytes field : List ℕ) → drop i bytes ≡ field → length field ≡ n
+    → take n (drop i bytes) ≡ field
 last_field i n bytes field e len = ap (take n) e ∙ take_all n field (omega (arith, len))
 
 -- the last field is what stands here
-pub last_joined : (i n : ℕ) (bytes field : List ℕ) → length bytes ≡ i + n → take n (drop i bytes) ≡ field → drop i bytes ≡ field
-last_joined i n bytes field len f = sym (take_all n (drop i bytes) (omega (arith, length-drop i bytes, len))) ∙ f
+pub last_joined : (i n : ℕ) (bytes field : List ℕ) → length bytes ≡ i + n → take n (drop i bytes) ≡ field
+    → drop i bytes ≡ field
+last_joined i n bytes field len f = sym (take_all n (drop i bytes) (omega (arith, length-drop i bytes, len)))
+    ∙ f
 
 -- a field that is inside has its length
 pub field_length : (i n : ℕ) (bytes : List ℕ) → i + n ≤ length bytes → length (take n (drop i bytes)) ≡ n
@@ -38,13 +44,15 @@ field_length i n bytes le = omega (arith, length-take n (drop i bytes), length-d
 -- ---- fixed texts
 
 -- the text is read
-pub text_again : {E : Type 0} (text : List ℕ) (fault : E) (cs : List ℕ) → cs ≡ text → text_at text fault cs ≡ Ok text
+pub text_again : {E : Type 0} (text : List ℕ) (fault : E) (cs : List ℕ) → cs ≡ text
+    → text_at text fault cs ≡ Ok text
 text_again {E} text fault cs e =
     let here : Result (List ℕ) E = Ok text in
     ap (λ b. cond b here (Err fault)) ((bytes_eq-Decides cs text).1 e)
 
 -- what is read is the text
-pub text_takes : {E : Type 0} (text : List ℕ) (fault : E) (cs t : List ℕ) → text_at text fault cs ≡ Ok t → cs ≡ text
+pub text_takes : {E : Type 0} (text : List ℕ) (fault : E) (cs t : List ℕ) → text_at text fault cs ≡ Ok t
+    → cs ≡ text
 text_takes {E} text fault cs t e =
     let here : Result (List ℕ) E = Ok text in
     elim (chosen (bytes_eq cs text) here (Err fault) (Ok t) e) [
@@ -55,7 +63,8 @@ text_takes {E} text fault cs t e =
 -- ---- going on
 
 -- steps that gave a value: the first one's, and the next one's from it
-pub step_takes : {A B E : Type 0} (r : Result A E) (f : A → Result B E) (y : B) → (r >>= f) ≡ Ok y → (x : A) × (r ≡ Ok x) × (f x ≡ Ok y)
+pub step_takes : {A B E : Type 0} (r : Result A E) (f : A → Result B E) (y : B) → (r >>= f) ≡ Ok y
+    → (x : A) × (r ≡ Ok x) × (f x ≡ Ok y)
 step_takes (Ok x) f y e = (x, refl, e)
 step_takes (Err fault) f y e = absurd cc
 

@@ -1,5 +1,7 @@
 -- A reply that is read is spelled so.
-use Rattle.std.proofs.Common.{◌≡◌, ℕ, ◌≤◌, true, false, cond, eqb, List, ◌∷◌, ◌++◌, length, take, drop, replicate, Option, Some, None, Result, Ok, Err, refl, sym, ap, subst, ◌∙◌, arith, inl, inr}
+use Rattle.std.proofs.Common.{◌≡◌, ℕ, ◌≤◌, true, false, cond, eqb, List, ◌∷◌, ◌++◌, length, take, drop}
+use Rattle.std.proofs.Common.{replicate, Option, Some, None, Result, Ok, Err, refl, sym, ap, subst, ◌∙◌}
+use Rattle.std.proofs.Common.{arith, inl, inr}
 use Rattle.std.specs.Prelude.{ℤ, pos, nat_abs, codes, is_some, IfSome, IfOk, unwrap_or, option_and_then}
 use Rattle.std.specs.Option.{ok_or}
 use Rattle.std.proofs.lemmas.Bool.{eqb-true}
@@ -8,21 +10,27 @@ use Rattle.message_records.specs.declared.faults.Bad.{Bad}
 use Rattle.message_records.specs.declared.faults.BadReply.{BadReply}
 use Rattle.message_records.specs.declared.faults.BadReply.TheVariants as bad_reply
 use Rattle.message_records.specs.declared.records.Outcome.{Outcome}
-use Rattle.message_records.specs.declared.records.Outcome.TheVariants.{Posted, NoTeller, WrongBranch, NoAccount, OverLimit, ReusedNumber, Full, Malformed}
+use Rattle.message_records.specs.declared.records.Outcome.TheVariants.{Posted, NoTeller, WrongBranch}
+use Rattle.message_records.specs.declared.records.Outcome.TheVariants.{NoAccount, OverLimit, ReusedNumber}
+use Rattle.message_records.specs.declared.records.Outcome.TheVariants.{Full, Malformed}
 use Rattle.message_records.specs.Outcomes.{code_of, name_of, has_request, has_balance}
 use Rattle.message_records.specs.Records.{RequestFields, IsRequest, ReplyFields, IsReply}
 use Rattle.message_records.specs.Spelling.{digits, signed, fields_spelling, no_fields, filled, reply_spelling}
-use Rattle.message_records.specs.Reading.{◌>>=◌, number_of, signed_of, text_at, fields_of, outcome_with, shown_in_reply, no_fields_of, shown_request_of, balance_of, reply_of}
+use Rattle.message_records.specs.Reading.{◌>>=◌, number_of, signed_of, text_at, fields_of, outcome_with}
+use Rattle.message_records.specs.Reading.{shown_in_reply, no_fields_of, shown_request_of, balance_of}
+use Rattle.message_records.specs.Reading.{reply_of}
 use Rattle.message_records.proofs.Digits.{chosen, number_takes}
 use Rattle.message_records.proofs.Amounts.{signed_takes, and_then_some}
-use Rattle.message_records.proofs.Pieces.{field_joined, last_joined, field_length, text_step, step_takes, ok_or_some}
+use Rattle.message_records.proofs.Pieces.{field_joined, last_joined, field_length, text_step, step_takes}
+use Rattle.message_records.proofs.Pieces.{ok_or_some}
 use Rattle.message_records.proofs.Fields.{fields_take}
 use Rattle.message_records.proofs.SpelledReplies.{zero_balance}
 
 -- ---- outcomes
 
 -- the code is this outcome's, or the outcome is one of the others
-coded : (n code : ℕ) (x o : Outcome) (others : Option Outcome) → cond (eqb n code) (Some x) others ≡ Some o → code ≡ code_of x
+coded : (n code : ℕ) (x o : Outcome) (others : Option Outcome) → cond (eqb n code) (Some x) others ≡ Some o
+    → code ≡ code_of x
     → (others ≡ Some o → n ≡ code_of o) → n ≡ code_of o
 coded n code x o others e c rest =
     elim (chosen (eqb n code) (Some x) others (Some o) e) [
@@ -41,7 +49,8 @@ outcome_with-takes n o e =
     coded n 16 Full o _ e6 refl (λ e7.
     coded n 90 Malformed o None e7 refl (λ e8. absurd cc))))))))
 
-outcome_takes : (o : Outcome) (cs : List ℕ) → length cs ≡ 2 → option_and_then outcome_with (number_of cs) ≡ Some o
+outcome_takes : (o : Outcome) (cs : List ℕ) → length cs ≡ 2
+    → option_and_then outcome_with (number_of cs) ≡ Some o
     → cs ≡ digits 2 (code_of o)
 outcome_takes o cs len e =
     let read = and_then_some outcome_with (number_of cs) o e in
@@ -81,7 +90,8 @@ shown_in_reply-takes : (x : Result RequestFields Bad) (q : Option RequestFields)
 shown_in_reply-takes (Ok r) q e = (r, refl, cc)
 shown_in_reply-takes (Err fault) q e = absurd cc
 
-request_shown : (o : Outcome) (q : Option RequestFields) (bytes : List ℕ) → true ≡ has_request o → length bytes ≡ 47
+request_shown : (o : Outcome) (q : Option RequestFields) (bytes : List ℕ) → true ≡ has_request o
+    → length bytes ≡ 47
     → shown_in_reply (fields_of bytes) ≡ Ok q → IsShown o q bytes
 request_shown o q bytes has len e =
     let read = shown_in_reply-takes (fields_of bytes) q e in
@@ -111,18 +121,21 @@ record IsBalance (o : Outcome) (q : Option ℤ) (bytes : List ℕ) : Type 0 wher
   in_range : IfSome q (λ z. nat_abs z ≤ MAX_BALANCE)
 
 no_balance : (o : Outcome) (q : Option ℤ) (bytes : List ℕ) → false ≡ has_balance o
-    → (text_at (43 ∷ replicate 12 48) bad_reply.Balance bytes >>= λ zeros. Ok None) ≡ Ok q → IsBalance o q bytes
+    → (text_at (43 ∷ replicate 12 48) bad_reply.Balance bytes >>= λ zeros. Ok None) ≡ Ok q
+    → IsBalance o q bytes
 no_balance o q bytes has e =
     let zero = text_step (43 ∷ replicate 12 48) bad_reply.Balance bytes _ q e in
     let none : None ≡ q = let h = zero.1 in cc in
     subst (λ (y : Option ℤ). IsBalance o y bytes) none
     (record { spelled = zero.0 ∙ sym zero_balance; shows = has; in_range = tt })
 
-balance_takes : (o : Outcome) (q : Option ℤ) (bytes : List ℕ) → length bytes ≡ 13 → balance_of o bytes ≡ Ok q → IsBalance o q bytes
+balance_takes : (o : Outcome) (q : Option ℤ) (bytes : List ℕ) → length bytes ≡ 13 → balance_of o bytes ≡ Ok q
+    → IsBalance o q bytes
 balance_takes Posted q bytes len e =
     let read = step_takes (ok_or (signed_of bytes) bad_reply.Balance) _ q e in
     let some : Some read.0 ≡ q = let h = read.2 in cc in
-    let taken = signed_takes 12 read.0 bytes len (ok_or_some (signed_of bytes) bad_reply.Balance read.0 read.1) in
+    let taken = signed_takes 12 read.0 bytes len
+    (ok_or_some (signed_of bytes) bad_reply.Balance read.0 read.1) in
     subst (λ (y : Option ℤ). IsBalance Posted y bytes) some
     (record { spelled = taken.0; shows = refl; in_range = omega (arith, taken.1) })
 balance_takes NoTeller q bytes len e = no_balance NoTeller q bytes refl e
@@ -145,24 +158,30 @@ reply_takes r bytes len e =
     let outcome = step_takes (ok_or code bad_reply.Outcome) _ r tag.1 in
     let request = step_takes (shown_request_of outcome.0 (take 47 (drop 6 bytes))) _ r outcome.2 in
     let balance = step_takes (balance_of outcome.0 (take 13 (drop 53 bytes))) _ r request.2 in
-    let name = text_step (filled 16 (name_of outcome.0)) bad_reply.Name (take 16 (drop 66 bytes)) _ r balance.2 in
+    let name = text_step (filled 16 (name_of outcome.0)) bad_reply.Name
+    (take 16 (drop 66 bytes)) _ r balance.2 in
     let filler = text_step (replicate 118 32) bad_reply.Filler (take 118 (drop 82 bytes)) _ r name.1 in
     let r-is : record { outcome = outcome.0; request = request.0; balance = balance.0 } ≡ r = let h = filler.1 in cc in
     let o = outcome_takes outcome.0 (take 2 (drop 4 bytes)) (field_length 4 2 bytes (omega arith))
     (ok_or_some code bad_reply.Outcome outcome.0 outcome.1) in
-    let q = shown_takes outcome.0 request.0 (take 47 (drop 6 bytes)) (field_length 6 47 bytes (omega arith)) request.1 in
-    let b = balance_takes outcome.0 balance.0 (take 13 (drop 53 bytes)) (field_length 53 13 bytes (omega arith)) balance.1 in
+    let q = shown_takes outcome.0 request.0 (take 47 (drop 6 bytes))
+    (field_length 6 47 bytes (omega arith)) request.1 in
+    let b = balance_takes outcome.0 balance.0 (take 13 (drop 53 bytes))
+    (field_length 53 13 bytes (omega arith)) balance.1 in
     let from_filler = last_joined 82 118 bytes (replicate 118 32) len filler.0 in
     let from_name = field_joined 66 16 bytes (filled 16 (name_of outcome.0)) _ name.0 from_filler in
-    let from_balance = field_joined 53 13 bytes (signed 12 (unwrap_or balance.0 (pos 0))) _ b.spelled from_name in
-    let from_request = field_joined 6 47 bytes (fields_spelling (unwrap_or request.0 no_fields)) _ q.spelled from_balance in
+    let from_balance = field_joined 53 13 bytes
+    (signed 12 (unwrap_or balance.0 (pos 0))) _ b.spelled from_name in
+    let from_request = field_joined 6 47 bytes
+    (fields_spelling (unwrap_or request.0 no_fields)) _ q.spelled from_balance in
     let from_outcome = field_joined 4 2 bytes (digits 2 (code_of outcome.0)) _ o from_request in
     let from_tag = field_joined 0 4 bytes (codes "DR01") _ tag.0 from_outcome in
     subst (λ (y : ReplyFields). (bytes ≡ reply_spelling y) × IsReply y) r-is
     (from_tag, record { shows_request = q.shows; request = q.in_range; shows_balance = b.shows; balance = b.in_range })
 
 -- the same, of what a call returned
-pub reply_found : (bytes : List ℕ) (read : Result ReplyFields BadReply) → length bytes ≡ 200 → read ≡ reply_of bytes
+pub reply_found : (bytes : List ℕ) (read : Result ReplyFields BadReply) → length bytes ≡ 200
+    → read ≡ reply_of bytes
     → IfOk read (λ r. IsReply r × (bytes ≡ reply_spelling r))
 reply_found bytes (Ok r) len e = let taken = reply_takes r bytes len (sym e) in (taken.1, taken.0)
 reply_found bytes (Err fault) len e = tt

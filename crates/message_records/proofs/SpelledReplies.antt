@@ -1,14 +1,18 @@
 -- A reply that is spelled is read.
-use Rattle.std.proofs.Common.{◌≡◌, ℕ, ◌^◌, ◌<◌, ◌≤◌, List, ◌∷◌, ◌++◌, length, take, drop, replicate, Option, Some, None, Ok, refl, ap, ◌∙◌, lit<, arith}
+use Rattle.std.proofs.Common.{◌≡◌, ℕ, ◌^◌, ◌<◌, ◌≤◌, List, ◌∷◌, ◌++◌, length, take, drop, replicate, Option}
+use Rattle.std.proofs.Common.{Some, None, Ok, refl, ap, ◌∙◌, lit<, arith}
 use Rattle.std.specs.Prelude.{ℤ, pos, nat_abs, codes, is_some, IfSome, unwrap_or, option_and_then}
 use Rattle.message_records.specs.declared.limits.TheConstants.{MAX_BALANCE}
 use Rattle.message_records.specs.declared.faults.BadReply.TheVariants as bad_reply
 use Rattle.message_records.specs.declared.records.Outcome.{Outcome}
-use Rattle.message_records.specs.declared.records.Outcome.TheVariants.{Posted, NoTeller, WrongBranch, NoAccount, OverLimit, ReusedNumber, Full, Malformed}
+use Rattle.message_records.specs.declared.records.Outcome.TheVariants.{Posted, NoTeller, WrongBranch}
+use Rattle.message_records.specs.declared.records.Outcome.TheVariants.{NoAccount, OverLimit, ReusedNumber}
+use Rattle.message_records.specs.declared.records.Outcome.TheVariants.{Full, Malformed}
 use Rattle.message_records.specs.Outcomes.{code_of, name_of, has_request, has_balance}
 use Rattle.message_records.specs.Records.{RequestFields, IsRequest, ReplyFields, IsReply}
 use Rattle.message_records.specs.Spelling.{digits, signed, fields_spelling, no_fields, filled, reply_spelling}
-use Rattle.message_records.specs.Reading.{number_of, outcome_with, shown_in_reply, no_fields_of, shown_request_of, balance_of, reply_of}
+use Rattle.message_records.specs.Reading.{number_of, outcome_with, shown_in_reply, no_fields_of}
+use Rattle.message_records.specs.Reading.{shown_request_of, balance_of, reply_of}
 use Rattle.message_records.proofs.Digits.{length-digits, number_of-digits}
 use Rattle.message_records.proofs.Amounts.{length-signed, signed_again}
 use Rattle.message_records.proofs.Pieces.{field_next, last_field, text_again}
@@ -49,7 +53,8 @@ length-name Full = refl
 length-name Malformed = refl
 
 -- the outcome is read from its two digits
-outcome_again : (o : Outcome) (cs : List ℕ) → cs ≡ digits 2 (code_of o) → option_and_then outcome_with (number_of cs) ≡ Some o
+outcome_again : (o : Outcome) (cs : List ℕ) → cs ≡ digits 2 (code_of o)
+    → option_and_then outcome_with (number_of cs) ≡ Some o
 outcome_again o cs e = rw (e, number_of-digits 2 (code_of o) (code_below o)) (outcome_with-code o)
 
 -- ---- what is shown
@@ -59,7 +64,8 @@ no_fields_again : no_fields_of (fields_spelling no_fields) ≡ Ok None
 unfolding no_fields_of fields_spelling digits
 no_fields_again = refl
 
-shown_again : (o : Outcome) (q : Option RequestFields) (bytes : List ℕ) → is_some q ≡ has_request o → IfSome q IsRequest
+shown_again : (o : Outcome) (q : Option RequestFields) (bytes : List ℕ) → is_some q ≡ has_request o
+    → IfSome q IsRequest
     → bytes ≡ fields_spelling (unwrap_or q no_fields) → shown_request_of o bytes ≡ Ok q
 shown_again Malformed None bytes s h e = ap no_fields_of e ∙ no_fields_again
 shown_again Malformed (Some r) bytes s h e = absurd cc
@@ -71,17 +77,20 @@ pub zero_balance : signed 12 (pos 0) ≡ 43 ∷ replicate 12 48
 unfolding digits
 zero_balance = refl
 
-balance_again : (o : Outcome) (q : Option ℤ) (bytes : List ℕ) → is_some q ≡ has_balance o → IfSome q (λ z. nat_abs z ≤ MAX_BALANCE)
+balance_again : (o : Outcome) (q : Option ℤ) (bytes : List ℕ) → is_some q ≡ has_balance o
+    → IfSome q (λ z. nat_abs z ≤ MAX_BALANCE)
     → bytes ≡ signed 12 (unwrap_or q (pos 0)) → balance_of o bytes ≡ Ok q
 balance_again Posted None bytes s h e = absurd cc
 balance_again Posted (Some z) bytes s h e = rw (signed_again 12 z bytes e (omega (arith, h))) refl
 balance_again _ (Some z) bytes s h e = absurd cc
-balance_again _ None bytes s h e = rw (text_again (43 ∷ replicate 12 48) bad_reply.Balance bytes (e ∙ zero_balance)) refl
+balance_again _ None bytes s h e = rw
+    (text_again (43 ∷ replicate 12 48) bad_reply.Balance bytes (e ∙ zero_balance)) refl
 
 -- ---- the reply
 
 -- what is spelled is read
-pub reply_again : (r : ReplyFields) (bytes : List ℕ) → IsReply r → bytes ≡ reply_spelling r → reply_of bytes ≡ Ok r
+pub reply_again : (r : ReplyFields) (bytes : List ℕ) → IsReply r → bytes ≡ reply_spelling r
+    → reply_of bytes ≡ Ok r
 unfolding reply_spelling reply_of
 reply_again r bytes h e =
     let shown = unwrap_or r.request no_fields in
@@ -92,9 +101,12 @@ reply_again r bytes h e =
     let from_request = fields_spelling shown ++ from_balance in
     let from_outcome = digits 2 (code_of r.outcome) ++ from_request in
     let tag = field_next 0 4 bytes (codes "DR01") from_outcome e refl in
-    let outcome = field_next 4 2 bytes (digits 2 (code_of r.outcome)) from_request tag.1 (length-digits 2 (code_of r.outcome)) in
-    let request = field_next 6 47 bytes (fields_spelling shown) from_balance outcome.1 (length-fields shown) in
-    let balance = field_next 53 13 bytes (signed 12 shown_balance) from_name request.1 (length-signed 12 shown_balance) in
+    let outcome = field_next 4 2 bytes (digits 2 (code_of r.outcome)) from_request tag.1
+    (length-digits 2 (code_of r.outcome)) in
+    let request = field_next 6 47 bytes (fields_spelling shown) from_balance outcome.1
+    (length-fields shown) in
+    let balance = field_next 53 13 bytes (signed 12 shown_balance) from_name request.1
+    (length-signed 12 shown_balance) in
     let name = field_next 66 16 bytes name_text (replicate 118 32) balance.1 (length-name r.outcome) in
     let filler = last_field 82 118 bytes (replicate 118 32) name.1 refl in
     rw (

@@ -1,8 +1,10 @@
 -- Writing digits from the last one, and fields from the first one.
-use Rattle.std.proofs.Common.{◌≡◌, ℕ, suc, ◌+◌, ◌-◌, ◌/◌, ◌%◌, ◌<◌, ◌≤◌, List, [], ◌∷◌, ◌++◌, length, take, drop, set, replicate, sym, ap, ◌∙◌, append_assoc, arith}
+use Rattle.std.proofs.Common.{◌≡◌, ℕ, suc, ◌+◌, ◌-◌, ◌/◌, ◌%◌, ◌<◌, ◌≤◌, List, [], ◌∷◌, ◌++◌, length, take}
+use Rattle.std.proofs.Common.{drop, set, replicate, sym, ap, ◌∙◌, append_assoc, arith}
 use borrow.Rule.Slice.PartMut.{put_mid}
 use Rattle.std.proofs.lemmas.Slice.{take-put_mid, drop-put_mid}
-use Rattle.std.proofs.lemmas.List.{length-append, length-take, length-drop, take-append-drop, drop-drop, drop-set, drop-replicate}
+use Rattle.std.proofs.lemmas.List.{length-append, length-take, length-drop, take-append-drop, drop-drop}
+use Rattle.std.proofs.lemmas.List.{drop-set, drop-replicate}
 use Rattle.message_records.specs.Spelling.{digits}
 
 -- one more digit, before the digits that are written
@@ -22,7 +24,8 @@ unfolding digits
 digits_done out ds p n z e = ap (λ (j : ℕ). digits j n ++ drop j out) (sym z) ∙ e
 
 -- the place of a field has the field's length
-pub place_length : (w n : ℕ) (bytes : List ℕ) → w + n ≤ length bytes → length (take (w + n - w) (drop w bytes)) ≡ n
+pub place_length : (w n : ℕ) (bytes : List ℕ) → w + n ≤ length bytes
+    → length (take (w + n - w) (drop w bytes)) ≡ n
 place_length w n bytes le = omega (arith, length-take (w + n - w) (drop w bytes), length-drop w bytes)
 
 -- a field is written behind what is written
@@ -31,7 +34,8 @@ pub field_front : (w n : ℕ) (bytes field : List ℕ) → w ≤ length bytes �
 field_front w n bytes field le len = take-put_mid w (w + n - w) bytes field (w + n) (omega arith) le
 
 -- spaces stay behind it
-pub field_rest : (size w n : ℕ) (bytes field : List ℕ) → w ≤ length bytes → length field ≡ n → drop w bytes ≡ replicate (size - w) 32
+pub field_rest : (size w n : ℕ) (bytes field : List ℕ) → w ≤ length bytes → length field ≡ n
+    → drop w bytes ≡ replicate (size - w) 32
     → drop (w + n) (put_mid w (w + n - w) bytes field) ≡ replicate (size - (w + n)) 32
 field_rest size w n bytes field le len e =
     drop-put_mid w (w + n - w) bytes field (w + n) (omega arith) le (omega arith)
@@ -39,8 +43,10 @@ field_rest size w n bytes field le len e =
     ∙ ap (λ (k : ℕ). replicate k 32) (omega arith)
 
 -- as much as is written is there
-pub written_length : (size w : ℕ) (bytes old : List ℕ) → length bytes ≡ size → w ≤ size → take w bytes ≡ old → length old ≡ w
-written_length size w bytes old len le e = omega (arith, ap (λ (t : List ℕ). length t) (sym e), length-take w bytes)
+pub written_length : (size w : ℕ) (bytes old : List ℕ) → length bytes ≡ size → w ≤ size → take w bytes ≡ old
+    → length old ≡ w
+written_length size w bytes old len le e = omega
+    (arith, ap (λ (t : List ℕ). length t) (sym e), length-take w bytes)
 
 -- what is written, and spaces behind it
 pub draft_done : (size w : ℕ) (bytes text : List ℕ) → length bytes ≡ size → w ≤ size → take w bytes ≡ text

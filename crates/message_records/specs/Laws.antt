@@ -12,7 +12,9 @@ abbrev pub ReplyIsReadAgain : Type 0
 ReplyIsReadAgain = (r : ReplyFields) → IsReply r → reply_of (reply_spelling r) ≡ Ok r
 
 abbrev pub NoRequestBeginsAnother : Type 0
-NoRequestBeginsAnother = (r s : RequestFields) (rest : List ℕ) → IsRequest r → IsRequest s → request_spelling r ++ rest ≡ request_spelling s → (r ≡ s) × (rest ≡ [])
+NoRequestBeginsAnother = (r s : RequestFields) (rest : List ℕ) → IsRequest r → IsRequest s
+    → request_spelling r ++ rest ≡ request_spelling s → (r ≡ s) × (rest ≡ [])
 
 abbrev pub NoReplyBeginsAnother : Type 0
-NoReplyBeginsAnother = (r s : ReplyFields) (rest : List ℕ) → IsReply r → IsReply s → reply_spelling r ++ rest ≡ reply_spelling s → (r ≡ s) × (rest ≡ [])
+NoReplyBeginsAnother = (r s : ReplyFields) (rest : List ℕ) → IsReply r → IsReply s → reply_spelling r ++ rest
+    ≡ reply_spelling s → (r ≡ s) × (rest ≡ [])

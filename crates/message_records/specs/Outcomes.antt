@@ -1,7 +1,9 @@
 -- What becomes of a request: the code and the name that its reply carries.
 use Rattle.std.specs.Prelude.{ℕ, List, codes, Bool, true, false}
 use Rattle.message_records.specs.declared.records.Outcome.{Outcome}
-use Rattle.message_records.specs.declared.records.Outcome.TheVariants.{Posted, NoTeller, WrongBranch, NoAccount, OverLimit, ReusedNumber, Full, Malformed}
+use Rattle.message_records.specs.declared.records.Outcome.TheVariants.{Posted, NoTeller, WrongBranch}
+use Rattle.message_records.specs.declared.records.Outcome.TheVariants.{NoAccount, OverLimit, ReusedNumber}
+use Rattle.message_records.specs.declared.records.Outcome.TheVariants.{Full, Malformed}
 
 abbrev pub code_of : Outcome → ℕ
 code_of Posted = 0

@@ -1,14 +1,19 @@
 -- What reading a record gives: its value, or its first faulty field from the left.
-use Rattle.std.specs.Prelude.{ℕ, zero, suc, ◌+◌, ◌-◌, ◌*◌, ℤ, pos, negsuc, nat_le, ◌==◌, ◌&&◌, List, [], ◌∷◌, slice_range, Option, Some, None, Result, Ok, Err, if◌then◌else◌, codes, replicate, option_and_then}
+use Rattle.std.specs.Prelude.{ℕ, zero, suc, ◌+◌, ◌-◌, ◌*◌, ℤ, pos, negsuc, nat_le, ◌==◌, ◌&&◌, List, [], ◌∷◌}
+use Rattle.std.specs.Prelude.{slice_range, Option, Some, None, Result, Ok, Err, if◌then◌else◌, codes}
+use Rattle.std.specs.Prelude.{replicate, option_and_then}
 use Rattle.std.specs.Option.{ok_or}
 use Rattle.std.specs.Str.{bytes_eq}
 use Rattle.message_records.specs.declared.records.Outcome.{Outcome}
-use Rattle.message_records.specs.declared.records.Outcome.TheVariants.{Posted, NoTeller, WrongBranch, NoAccount, OverLimit, ReusedNumber, Full, Malformed}
+use Rattle.message_records.specs.declared.records.Outcome.TheVariants.{Posted, NoTeller, WrongBranch}
+use Rattle.message_records.specs.declared.records.Outcome.TheVariants.{NoAccount, OverLimit, ReusedNumber}
+use Rattle.message_records.specs.declared.records.Outcome.TheVariants.{Full, Malformed}
 use Rattle.message_records.specs.declared.faults.Bad.{Bad}
 use Rattle.message_records.specs.declared.faults.Bad.TheVariants as bad
 use Rattle.message_records.specs.declared.faults.BadReply.{BadReply}
 use Rattle.message_records.specs.declared.faults.BadReply.TheVariants as bad_reply
-use Rattle.message_records.specs.declared.limits.TheConstants.{MAX_ACCOUNT, MAX_TELLER, MAX_BRANCH, MAX_NUMBER}
+use Rattle.message_records.specs.declared.limits.TheConstants.{MAX_ACCOUNT, MAX_TELLER, MAX_BRANCH}
+use Rattle.message_records.specs.declared.limits.TheConstants.{MAX_NUMBER}
 use Rattle.message_records.specs.Ranges.{whole_within}
 use Rattle.message_records.specs.Outcomes.{name_of}
 use Rattle.message_records.specs.Records.{RequestFields, ReplyFields}
@@ -43,7 +48,8 @@ below_zero (suc n) = Some (negsuc n)
 abbrev pub signed_of : List ℕ → Option ℤ
 signed_of [] = None
 signed_of (sign ∷ cs) =
-    if sign == 43 then option_and_then not_below_zero (number_of cs) else if sign == 45 then option_and_then below_zero (number_of cs) else None
+    if sign == 43 then option_and_then not_below_zero
+    (number_of cs) else if sign == 45 then option_and_then below_zero (number_of cs) else None
 
 -- ---- fields
 

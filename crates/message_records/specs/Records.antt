@@ -1,7 +1,9 @@
 -- What a request and a reply hold (TPC-A, contents of the messages).
-use Rattle.std.specs.Prelude.{ℕ, ℤ, ◌≡◌, ◌≤◌, nat_le, nat_abs, Bool, true, false, is_some, not, ◌&&◌, Option, Some, None, IfSome, if◌then◌else◌}
+use Rattle.std.specs.Prelude.{ℕ, ℤ, ◌≡◌, ◌≤◌, nat_le, nat_abs, Bool, true, false, is_some, not, ◌&&◌, Option}
+use Rattle.std.specs.Prelude.{Some, None, IfSome, if◌then◌else◌}
 use Rattle.message_records.specs.declared.records.Outcome.{Outcome}
-use Rattle.message_records.specs.declared.limits.TheConstants.{MAX_ACCOUNT, MAX_TELLER, MAX_BRANCH, MAX_NUMBER, MAX_BALANCE, MAX_DELTA}
+use Rattle.message_records.specs.declared.limits.TheConstants.{MAX_ACCOUNT, MAX_TELLER, MAX_BRANCH}
+use Rattle.message_records.specs.declared.limits.TheConstants.{MAX_NUMBER, MAX_BALANCE, MAX_DELTA}
 use Rattle.message_records.specs.Outcomes.{has_request, has_balance}
 
 pub record RequestFields : Type 0 where

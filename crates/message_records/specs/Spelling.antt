@@ -1,5 +1,6 @@
 -- The one spelling of each request, 100 bytes, and of each reply, 200 bytes.
-use Rattle.std.specs.Prelude.{ℕ, zero, suc, ◌+◌, ◌-◌, ◌/◌, ◌%◌, ℤ, pos, negsuc, List, [], ◌∷◌, ◌++◌, length, replicate, codes, unwrap_or}
+use Rattle.std.specs.Prelude.{ℕ, zero, suc, ◌+◌, ◌-◌, ◌/◌, ◌%◌, ℤ, pos, negsuc, List, [], ◌∷◌, ◌++◌, length}
+use Rattle.std.specs.Prelude.{replicate, codes, unwrap_or}
 use Rattle.message_records.specs.Outcomes.{code_of, name_of}
 use Rattle.message_records.specs.Records.{RequestFields, ReplyFields}
 
@@ -15,7 +16,8 @@ signed k (negsuc n) = 45 ∷ digits k (suc n)
 
 -- the five fields that a request and a reply have in common, 47 bytes
 unfoldable pub fields_spelling : RequestFields → List ℕ
-fields_spelling r = digits 12 r.account ++ (digits 8 r.teller ++ (digits 6 r.branch ++ (digits 10 r.number ++ signed 10 r.delta)))
+fields_spelling r = digits 12 r.account ++
+    (digits 8 r.teller ++ (digits 6 r.branch ++ (digits 10 r.number ++ signed 10 r.delta)))
 
 unfoldable pub request_spelling : RequestFields → List ℕ
 request_spelling r = codes "DC01" ++ (fields_spelling r ++ replicate 49 32)

@@ -1,8 +1,9 @@
 //! The laws of the spellings.
-ghost use Rattle.message_records.specs.Laws.{RequestIsReadAgain, ReplyIsReadAgain, NoRequestBeginsAnother, NoReplyBeginsAnother};
+ghost use Rattle.message_records.specs.Laws.{RequestIsReadAgain, ReplyIsReadAgain, NoRequestBeginsAnother};
+ghost use Rattle.message_records.specs.Laws.{NoReplyBeginsAnother};
 
-/// Each request and each reply has one spelling, and no spelling begins another. It does nothing: the law is what
-/// it ensures.
+/// Each request and each reply has one spelling, and no spelling begins another. It does nothing: the law is
+/// what it ensures.
 pub fn one_spelling()
     ensures requests_are_read_again { RequestIsReadAgain }
     ensures replies_are_read_again { ReplyIsReadAgain }

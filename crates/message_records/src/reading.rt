@@ -1,11 +1,13 @@
 //! Reads the bytes of a request and of a reply.
-ghost use Rattle.std.specs.Prelude.{◌≡◌, ◌≤◌, ◌<◌, ◌^◌, ◌-◌, length, is_some, is_ok, IsNone, IfSome, IfOk, IfErr, Ok, nat_abs, option_and_then};
+ghost use Rattle.std.specs.Prelude.{◌≡◌, ◌≤◌, ◌<◌, ◌^◌, ◌-◌, length, is_some, is_ok, IsNone, IfSome, IfOk};
+ghost use Rattle.std.specs.Prelude.{IfErr, Ok, nat_abs, option_and_then};
 ghost use Rattle.std.specs.Str.{bytes_eq};
 ghost use Rattle.message_records.specs.Ranges.{whole_within};
 ghost use Rattle.message_records.specs.Outcomes.{has_request, has_balance};
 ghost use Rattle.message_records.specs.Records.{RequestFields, IsRequest, ReplyFields, IsReply};
 ghost use Rattle.message_records.specs.Spelling.{request_spelling, filled, reply_spelling};
-ghost use Rattle.message_records.specs.Reading.{number_of, signed_of, fields_of, request_of, outcome_with, no_fields_of, shown_request_of, balance_of, reply_of};
+ghost use Rattle.message_records.specs.Reading.{number_of, signed_of, fields_of, request_of, outcome_with};
+ghost use Rattle.message_records.specs.Reading.{no_fields_of, shown_request_of, balance_of, reply_of};
 
 use crate::faults::{Bad, BadReply};
 use crate::limits::MAX_BALANCE;

@@ -1,7 +1,8 @@
 //! Writes the bytes of a request and of a reply.
 ghost use Rattle.std.specs.Prelude.{◌≡◌, ◌≤◌, ◌+◌, ◌++◌, pos, length, IfSome, Ok, nat_abs, unwrap_or};
 ghost use Rattle.message_records.specs.Records.{IsRequest};
-ghost use Rattle.message_records.specs.Spelling.{signed, no_fields, fields_spelling, request_spelling, reply_spelling};
+ghost use Rattle.message_records.specs.Spelling.{signed, no_fields, fields_spelling, request_spelling};
+ghost use Rattle.message_records.specs.Spelling.{reply_spelling};
 ghost use Rattle.message_records.specs.Reading.{request_of, reply_of};
 
 use crate::draft::Draft;

@@ -1,5 +1,6 @@
 -- Slots that are placed for records, and filled from tables.
-use Rattle.std.proofs.Common.{◌≡◌, ℕ, Bool, true, eqb, List, [], ◌∷◌, map, Option, Some, None, Result, Ok, Err, refl, sym, ap, subst, ◌∙◌, inl, inr}
+use Rattle.std.proofs.Common.{◌≡◌, ℕ, Bool, true, eqb, List, [], ◌∷◌, map, Option, Some, None, Result, Ok}
+use Rattle.std.proofs.Common.{Err, refl, sym, ap, subst, ◌∙◌, inl, inr}
 use Rattle.std.specs.Prelude.{IsSome, IfSome}
 use Rattle.std.specs.List.{find, AllByRecursion}
 use Rattle.std.specs.Option.{option_map}
@@ -12,12 +13,17 @@ use Rattle.posting_rules.specs.Tables.{Tables, row_at, branch_key, teller_key, a
 use Rattle.posting_rules.proofs.Keyed.{by_test}
 use Rattle.posting_batch.specs.declared.slots.BranchSlot.{BranchSlot}
 use Rattle.posting_batch.specs.declared.slots.RequestSlot.{RequestSlot}
-use Rattle.posting_batch.specs.Batch.{with_branch_slot, covering, covering_all, no_slots, CoversRead, CoversAll, HasRisingSlots, HasHomes, IsUnchanged, filled, branch_filled, teller_filled, account_filled, request_filled}
-use Rattle.posting_batch.specs.Overlay.{Overlay, by_slot, over, put_account, put_teller, put_branch, tables_over}
+use Rattle.posting_batch.specs.Batch.{with_branch_slot, covering, covering_all, no_slots, CoversRead}
+use Rattle.posting_batch.specs.Batch.{CoversAll, HasRisingSlots, HasHomes, IsUnchanged, filled, branch_filled}
+use Rattle.posting_batch.specs.Batch.{teller_filled, account_filled, request_filled}
+use Rattle.posting_batch.specs.Overlay.{Overlay, by_slot, over, put_account, put_teller, put_branch}
+use Rattle.posting_batch.specs.Overlay.{tables_over}
 use Rattle.posting_batch.specs.Placed.{placed, number_below, number_same, request_below, request_same}
-use Rattle.posting_batch.specs.Slots.{is_for, account_slot_key, teller_slot_key, branch_slot_key, empty_account, empty_teller, empty_branch, empty_request}
+use Rattle.posting_batch.specs.Slots.{is_for, account_slot_key, teller_slot_key, branch_slot_key}
+use Rattle.posting_batch.specs.Slots.{empty_account, empty_teller, empty_branch, empty_request}
 use Rattle.posting_batch.proofs.KeptSlots.{find-map, both_true}
-use Rattle.posting_batch.proofs.Orders.{placed_has, placed_keeps, all-placed, placed_rises, number_order, request_order, rising_mapped}
+use Rattle.posting_batch.proofs.Orders.{placed_has, placed_keeps, all-placed, placed_rises, number_order}
+use Rattle.posting_batch.proofs.Orders.{request_order, rising_mapped}
 use Rattle.posting_batch.proofs.Overlaid.{Fits, tables_made}
 
 -- ---- one slot is placed
@@ -26,7 +32,8 @@ module _ {S : Type 0} (key : S → ℕ) (e : S) (xs : List S) where
   has_number : IsSome (row_at key (placed (number_below key) (number_same key) e xs) (key e))
   has_number = placed_has (number_below key) (number_same key) e (eq-eqb (key e) (key e) refl) xs
 
-  keeps_number : (n : ℕ) → IsSome (row_at key xs n) → IsSome (row_at key (placed (number_below key) (number_same key) e xs) n)
+  keeps_number : (n : ℕ) → IsSome (row_at key xs n)
+      → IsSome (row_at key (placed (number_below key) (number_same key) e xs) n)
   keeps_number n there = placed_keeps (number_below key) (number_same key) e (λ s. eqb (key s) n) xs there
 
 own : (e : RequestSlot) → request_same e e ≡ true
@@ -35,10 +42,12 @@ own e =
     let q : eqb e.number e.number ≡ true = eq-eqb e.number e.number refl in
     rw (p, q) refl
 
-has_request : (e : RequestSlot) (xs : List RequestSlot) → IsSome (find (is_for e.teller e.number) (placed request_below request_same e xs))
+has_request : (e : RequestSlot) (xs : List RequestSlot)
+    → IsSome (find (is_for e.teller e.number) (placed request_below request_same e xs))
 has_request e xs = placed_has request_below request_same e (own e) xs
 
-keeps_request : (e : RequestSlot) (xs : List RequestSlot) (n m : ℕ) → IsSome (find (is_for n m) xs) → IsSome (find (is_for n m) (placed request_below request_same e xs))
+keeps_request : (e : RequestSlot) (xs : List RequestSlot) (n m : ℕ) → IsSome (find (is_for n m) xs)
+    → IsSome (find (is_for n m) (placed request_below request_same e xs))
 keeps_request e xs n m there = placed_keeps request_below request_same e (is_for n m) xs there
 
 -- ---- slots for a record
@@ -48,7 +57,8 @@ covers_new o (Err fault) = tt
 covers_new o (Ok r) =
     let first = with_branch_slot (branch_of_teller r.teller) o.branches in
     record {
-      branch = keeps_number branch_slot_key (empty_branch (branch_of_account r.account)) first (branch_of_teller r.teller)
+      branch = keeps_number branch_slot_key (empty_branch (branch_of_account r.account)) first
+          (branch_of_teller r.teller)
           (has_number branch_slot_key (empty_branch (branch_of_teller r.teller)) o.branches);
       teller = has_number teller_slot_key (empty_teller r.teller) o.tellers;
       account = has_number account_slot_key (empty_account r.account) o.accounts;
@@ -56,12 +66,14 @@ covers_new o (Ok r) =
       kept = has_request (empty_request r.teller r.number) o.kept;
     }
 
-covers_still : (o : Overlay) (read other : Result RequestFields Bad) → CoversRead o other → CoversRead (covering o read) other
+covers_still : (o : Overlay) (read other : Result RequestFields Bad) → CoversRead o other
+    → CoversRead (covering o read) other
 covers_still o (Err fault) other covers = covers
 covers_still o (Ok r) (Err fault) covers = tt
 covers_still o (Ok r) (Ok q) covers =
     let first = with_branch_slot (branch_of_teller r.teller) o.branches in
-    let keeps : (n : ℕ) → IsSome (row_at branch_slot_key o.branches n) → IsSome (row_at branch_slot_key (covering o (Ok r)).branches n) =
+    let keeps : (n : ℕ) → IsSome (row_at branch_slot_key o.branches n) → IsSome
+    (row_at branch_slot_key (covering o (Ok r)).branches n) =
     λ n there. keeps_number branch_slot_key (empty_branch (branch_of_account r.account)) first n
     (keeps_number branch_slot_key (empty_branch (branch_of_teller r.teller)) o.branches n there) in
     record {
@@ -72,11 +84,14 @@ covers_still o (Ok r) (Ok q) covers =
       kept = keeps_request (empty_request r.teller r.number) o.kept q.teller q.number covers.kept;
     }
 
-covers_on : (o : Overlay) (reads : List (Result RequestFields Bad)) (other : Result RequestFields Bad) → CoversRead o other → CoversRead (covering_all o reads) other
+covers_on : (o : Overlay) (reads : List (Result RequestFields Bad)) (other : Result RequestFields Bad)
+    → CoversRead o other → CoversRead (covering_all o reads) other
 covers_on o [] other covers = covers
-covers_on o (read ∷ reads) other covers = covers_on (covering o read) reads other (covers_still o read other covers)
+covers_on o (read ∷ reads) other covers = covers_on (covering o read) reads other
+    (covers_still o read other covers)
 
-pub covers_all : (o : Overlay) (reads : List (Result RequestFields Bad)) → CoversAll (covering_all o reads) reads
+pub covers_all : (o : Overlay) (reads : List (Result RequestFields Bad))
+    → CoversAll (covering_all o reads) reads
 covers_all o [] = tt
 covers_all o (read ∷ reads) = (covers_on (covering o read) reads read (covers_new o read), covers_all (covering o read) reads)
 
@@ -95,21 +110,28 @@ made_with o (Ok r) made =
     let first = with_branch_slot (branch_of_teller r.teller) o.branches in
     record {
       unchanged = record {
-        branches = all-placed (number_below branch_slot_key) (number_same branch_slot_key) its (λ s. s.changed ≡ None) first refl
+        branches = all-placed (number_below branch_slot_key) (number_same branch_slot_key) its
+            (λ s. s.changed ≡ None) first refl
             (all-placed (number_below branch_slot_key) (number_same branch_slot_key) home (λ s. s.changed ≡ None) o.branches refl made.unchanged.branches);
-        tellers = all-placed (number_below teller_slot_key) (number_same teller_slot_key) (empty_teller r.teller) (λ s. s.changed ≡ None) o.tellers refl made.unchanged.tellers;
-        accounts = all-placed (number_below account_slot_key) (number_same account_slot_key) (empty_account r.account) (λ s. s.changed ≡ None) o.accounts refl
+        tellers = all-placed (number_below teller_slot_key) (number_same teller_slot_key)
+            (empty_teller r.teller) (λ s. s.changed ≡ None) o.tellers refl made.unchanged.tellers;
+        accounts = all-placed (number_below account_slot_key) (number_same account_slot_key)
+            (empty_account r.account) (λ s. s.changed ≡ None) o.accounts refl
             made.unchanged.accounts;
         history = made.unchanged.history;
         requests = made.unchanged.requests;
       };
       rising = record {
-        branches = placed_rises (number_below branch_slot_key) (number_same branch_slot_key) (number_order branch_slot_key) its first
+        branches = placed_rises (number_below branch_slot_key) (number_same branch_slot_key)
+            (number_order branch_slot_key) its first
             (placed_rises (number_below branch_slot_key) (number_same branch_slot_key) (number_order branch_slot_key) home o.branches made.rising.branches);
-        tellers = placed_rises (number_below teller_slot_key) (number_same teller_slot_key) (number_order teller_slot_key) (empty_teller r.teller) o.tellers made.rising.tellers;
-        accounts = placed_rises (number_below account_slot_key) (number_same account_slot_key) (number_order account_slot_key) (empty_account r.account) o.accounts
+        tellers = placed_rises (number_below teller_slot_key) (number_same teller_slot_key)
+            (number_order teller_slot_key) (empty_teller r.teller) o.tellers made.rising.tellers;
+        accounts = placed_rises (number_below account_slot_key) (number_same account_slot_key)
+            (number_order account_slot_key) (empty_account r.account) o.accounts
             made.rising.accounts;
-        kept = placed_rises request_below request_same request_order (empty_request r.teller r.number) o.kept made.rising.kept;
+        kept = placed_rises request_below request_same request_order
+            (empty_request r.teller r.number) o.kept made.rising.kept;
       };
     }
 
@@ -125,10 +147,12 @@ made_all reads = made_on no_slots reads (record {
 
 -- ---- the branch of each teller and of each account has a slot
 
-homes_kept : {S : Type 0} (branch_of : S → ℕ) (e : BranchSlot) (bs : List BranchSlot) (xs : List S) → AllByRecursion (λ s. IsSome (row_at branch_slot_key bs (branch_of s))) xs
+homes_kept : {S : Type 0} (branch_of : S → ℕ) (e : BranchSlot) (bs : List BranchSlot) (xs : List S)
+    → AllByRecursion (λ s. IsSome (row_at branch_slot_key bs (branch_of s))) xs
     → AllByRecursion (λ s. IsSome (row_at branch_slot_key (placed (number_below branch_slot_key) (number_same branch_slot_key) e bs) (branch_of s))) xs
 homes_kept branch_of e bs [] all = tt
-homes_kept branch_of e bs (x ∷ xs) all = (keeps_number branch_slot_key e bs (branch_of x) all.0, homes_kept branch_of e bs xs all.1)
+homes_kept branch_of e bs (x ∷ xs) all =
+    (keeps_number branch_slot_key e bs (branch_of x) all.0, homes_kept branch_of e bs xs all.1)
 
 homes_with : (o : Overlay) (read : Result RequestFields Bad) → HasHomes o → HasHomes (covering o read)
 homes_with o (Err fault) has = has
@@ -137,16 +161,19 @@ homes_with o (Ok r) has =
     let its = empty_branch (branch_of_account r.account) in
     let first = with_branch_slot (branch_of_teller r.teller) o.branches in
     record {
-      tellers = all-placed (number_below teller_slot_key) (number_same teller_slot_key) (empty_teller r.teller)
+      tellers = all-placed (number_below teller_slot_key) (number_same teller_slot_key)
+          (empty_teller r.teller)
           (λ s. IsSome (row_at branch_slot_key (covering o (Ok r)).branches (branch_of_teller s.teller))) o.tellers
           (keeps_number branch_slot_key its first (branch_of_teller r.teller) (has_number branch_slot_key home o.branches))
           (homes_kept (λ s. branch_of_teller s.teller) its first o.tellers (homes_kept (λ s. branch_of_teller s.teller) home o.branches o.tellers has.tellers));
-      accounts = all-placed (number_below account_slot_key) (number_same account_slot_key) (empty_account r.account)
+      accounts = all-placed (number_below account_slot_key) (number_same account_slot_key)
+          (empty_account r.account)
           (λ s. IsSome (row_at branch_slot_key (covering o (Ok r)).branches (branch_of_account s.account))) o.accounts (has_number branch_slot_key its first)
           (homes_kept (λ s. branch_of_account s.account) its first o.accounts (homes_kept (λ s. branch_of_account s.account) home o.branches o.accounts has.accounts));
     }
 
-homes_on : (o : Overlay) (reads : List (Result RequestFields Bad)) → HasHomes o → HasHomes (covering_all o reads)
+homes_on : (o : Overlay) (reads : List (Result RequestFields Bad)) → HasHomes o
+    → HasHomes (covering_all o reads)
 homes_on o [] has = has
 homes_on o (read ∷ reads) has = homes_on (covering o read) reads (homes_with o read has)
 
@@ -159,24 +186,32 @@ there_mapped : {A : Type 0} (f : A → A) (o : Option A) → IsSome o → IsSome
 there_mapped f None h = absurd cc
 there_mapped f (Some x) h = refl
 
-found_filled : {S : Type 0} (test : S → Bool) (f : S → S) → ((s : S) → test (f s) ≡ test s) → (slots : List S) → IsSome (find test slots) → IsSome (find test (map f slots))
-found_filled {S} test f same slots there = subst (λ (o : Option S). IsSome o) (sym (find-map test f same slots)) (there_mapped f (find test slots) there)
+found_filled : {S : Type 0} (test : S → Bool) (f : S → S) → ((s : S) → test (f s) ≡ test s) → (slots : List S)
+    → IsSome (find test slots) → IsSome (find test (map f slots))
+found_filled {S} test f same slots there = subst (λ (o : Option S). IsSome o)
+    (sym (find-map test f same slots)) (there_mapped f (find test slots) there)
 
-covers_filled : (o : Overlay) (t : Tables) (read : Result RequestFields Bad) → CoversRead o read → CoversRead (filled t o) read
+covers_filled : (o : Overlay) (t : Tables) (read : Result RequestFields Bad) → CoversRead o read
+    → CoversRead (filled t o) read
 covers_filled o t (Err fault) covers = tt
 covers_filled o t (Ok r) covers = record {
-  branch = found_filled (λ s. eqb s.branch (branch_of_teller r.teller)) (branch_filled t) (λ s. refl) o.branches covers.branch;
+  branch = found_filled (λ s. eqb s.branch (branch_of_teller r.teller)) (branch_filled t)
+      (λ s. refl) o.branches covers.branch;
   teller = found_filled (λ s. eqb s.teller r.teller) (teller_filled t) (λ s. refl) o.tellers covers.teller;
-  account = found_filled (λ s. eqb s.account r.account) (account_filled t) (λ s. refl) o.accounts covers.account;
-  its_branch = found_filled (λ s. eqb s.branch (branch_of_account r.account)) (branch_filled t) (λ s. refl) o.branches covers.its_branch;
+  account = found_filled (λ s. eqb s.account r.account) (account_filled t)
+      (λ s. refl) o.accounts covers.account;
+  its_branch = found_filled (λ s. eqb s.branch (branch_of_account r.account)) (branch_filled t)
+      (λ s. refl) o.branches covers.its_branch;
   kept = found_filled (is_for r.teller r.number) (request_filled t) (λ s. refl) o.kept covers.kept;
 }
 
-all_covered : (o : Overlay) (t : Tables) (reads : List (Result RequestFields Bad)) → CoversAll o reads → CoversAll (filled t o) reads
+all_covered : (o : Overlay) (t : Tables) (reads : List (Result RequestFields Bad)) → CoversAll o reads
+    → CoversAll (filled t o) reads
 all_covered o t [] all = tt
 all_covered o t (read ∷ reads) all = (covers_filled o t read all.0, all_covered o t reads all.1)
 
-all_mapped : {S : Type 0} (P : S → Type 0) (f : S → S) → ((s : S) → P s → P (f s)) → (slots : List S) → AllByRecursion P slots → AllByRecursion P (map f slots)
+all_mapped : {S : Type 0} (P : S → Type 0) (f : S → S) → ((s : S) → P s → P (f s)) → (slots : List S)
+    → AllByRecursion P slots → AllByRecursion P (map f slots)
 all_mapped P f keeps [] all = tt
 all_mapped P f keeps (s ∷ slots) all = (keeps s all.0, all_mapped P f keeps slots all.1)
 
@@ -191,14 +226,18 @@ unchanged_filled o t un = record {
 
 rising_filled : (o : Overlay) (t : Tables) → HasRisingSlots o → HasRisingSlots (filled t o)
 rising_filled o t rising = record {
-  branches = rising_mapped (number_below branch_slot_key) (branch_filled t) (λ a b. refl) o.branches rising.branches;
-  tellers = rising_mapped (number_below teller_slot_key) (teller_filled t) (λ a b. refl) o.tellers rising.tellers;
-  accounts = rising_mapped (number_below account_slot_key) (account_filled t) (λ a b. refl) o.accounts rising.accounts;
+  branches = rising_mapped (number_below branch_slot_key) (branch_filled t)
+      (λ a b. refl) o.branches rising.branches;
+  tellers = rising_mapped (number_below teller_slot_key) (teller_filled t)
+      (λ a b. refl) o.tellers rising.tellers;
+  accounts = rising_mapped (number_below account_slot_key) (account_filled t)
+      (λ a b. refl) o.accounts rising.accounts;
   kept = rising_mapped request_below (request_filled t) (λ a b. refl) o.kept rising.kept;
 }
 
 -- what is so of each slot under its own key is so of the one that is found under a key
-pub filled_at : {S : Type 0} (key : S → ℕ) (f : S → S) (P : ℕ → S → Type 0) → ((s : S) → P (key (f s)) (f s)) → (slots : List S) (n : ℕ)
+pub filled_at : {S : Type 0} (key : S → ℕ) (f : S → S) (P : ℕ → S → Type 0) → ((s : S) → P (key (f s)) (f s))
+    → (slots : List S) (n : ℕ)
     → IfSome (row_at key (map f slots) n) (P n)
 filled_at key f P makes [] n = tt
 filled_at key f P makes (s ∷ slots) n =
@@ -207,7 +246,8 @@ filled_at key f P makes (s ∷ slots) n =
       | inr g ↦ rw g (filled_at key f P makes slots n)
     ]
 
-kept_at_key : (t : Tables) (slots : List RequestSlot) (n m : ℕ) → IfSome (find (is_for n m) (map (request_filled t) slots)) (λ s. s.kept ≡ kept_in t.requests n m)
+kept_at_key : (t : Tables) (slots : List RequestSlot) (n m : ℕ)
+    → IfSome (find (is_for n m) (map (request_filled t) slots)) (λ s. s.kept ≡ kept_in t.requests n m)
 kept_at_key t [] n m = tt
 kept_at_key t (s ∷ slots) n m =
     elim (by_test (is_for n m s)) [
@@ -218,15 +258,19 @@ kept_at_key t (s ∷ slots) n m =
     ]
 
 -- an overlay in which nothing is changed leaves rows as they are
-found_all : {S : Type 0} (P : S → Type 0) (test : S → Bool) (slots : List S) → AllByRecursion P slots → IfSome (find test slots) P
+found_all : {S : Type 0} (P : S → Type 0) (test : S → Bool) (slots : List S) → AllByRecursion P slots
+    → IfSome (find test slots) P
 found_all P test [] all = tt
-found_all P test (s ∷ slots) all = elim (by_test (test s)) [ inl t ↦ rw t all.0 | inr f ↦ rw f (found_all P test slots all.1) ]
+found_all P test (s ∷ slots) all =
+    elim (by_test (test s)) [ inl t ↦ rw t all.0 | inr f ↦ rw f (found_all P test slots all.1) ]
 
-same_rows : {S R : Type 0} (slot_key : S → ℕ) (key : R → ℕ) (put : S → R → R) (slots : List S) → ((n : ℕ) (r : R) → IfSome (row_at slot_key slots n) (λ s. put s r ≡ r))
+same_rows : {S R : Type 0} (slot_key : S → ℕ) (key : R → ℕ) (put : S → R → R) (slots : List S)
+    → ((n : ℕ) (r : R) → IfSome (row_at slot_key slots n) (λ s. put s r ≡ r))
     → (rows : List R) → over slot_key key put slots rows ≡ rows
 same_rows slot_key key put slots same [] = refl
 same_rows {S} {R} slot_key key put slots same (r ∷ rows) =
-    ap (λ (x : R). x ∷ over slot_key key put slots rows) (one (row_at slot_key slots (key r)) (same (key r) r))
+    ap (λ (x : R). x ∷ over slot_key key put slots rows)
+    (one (row_at slot_key slots (key r)) (same (key r) r))
     ∙ ap (λ (xs : List R). r ∷ xs) (same_rows slot_key key put slots same rows)
   where
     one : (o : Option S) → IfSome o (λ s. put s r ≡ r) → by_slot put o r ≡ r
@@ -250,7 +294,8 @@ unchanged_over o t un counted =
 
 -- ---- slots that were made for records, filled from tables
 
--- they tell what is in the tables, change nothing yet, stand in order, and cover all that the records can touch
+-- they tell what is in the tables, change nothing yet, stand in order, and cover all that the records can
+-- touch
 pub record Stands (o : Overlay) (t : Tables) (reads : List (Result RequestFields Bad)) : Type 0 where
   pub fits : Fits o t
   pub same : tables_over o t ≡ t
@@ -258,7 +303,8 @@ pub record Stands (o : Overlay) (t : Tables) (reads : List (Result RequestFields
   pub rising : HasRisingSlots o
   pub covers : CoversAll o reads
 
-pub stands : (t : Tables) (reads : List (Result RequestFields Bad)) → Stands (filled t (covering_all no_slots reads)) t reads
+pub stands : (t : Tables) (reads : List (Result RequestFields Bad))
+    → Stands (filled t (covering_all no_slots reads)) t reads
 stands t reads =
     let o = covering_all no_slots reads in
     let made = made_all reads in
@@ -266,9 +312,13 @@ stands t reads =
     let is = unchanged_over (filled t o) t un refl in
     record {
       fits = record {
-        branches = λ n. filled_at branch_slot_key (branch_filled t) (λ k s. s.stored ≡ row_at branch_key t.branches k) (λ s. refl) o.branches n;
-        tellers = λ n. filled_at teller_slot_key (teller_filled t) (λ k s. s.stored ≡ option_map balance_of_teller (row_at teller_key t.tellers k)) (λ s. refl) o.tellers n;
-        accounts = λ n. filled_at account_slot_key (account_filled t) (λ k s. s.stored ≡ account_balance_in t k) (λ s. refl) o.accounts n;
+        branches = λ n. filled_at branch_slot_key (branch_filled t)
+            (λ k s. s.stored ≡ row_at branch_key t.branches k) (λ s. refl) o.branches n;
+        tellers = λ n. filled_at teller_slot_key (teller_filled t)
+            (λ k s. s.stored ≡ option_map balance_of_teller (row_at teller_key t.tellers k))
+            (λ s. refl) o.tellers n;
+        accounts = λ n. filled_at account_slot_key (account_filled t)
+            (λ k s. s.stored ≡ account_balance_in t k) (λ s. refl) o.accounts n;
         kept = λ n m. subst (λ (u : Tables). IfSome (find (is_for n m) (filled t o).kept) (λ s. s.kept ≡ kept_in u.requests n m)) (sym is) (kept_at_key t o.kept n m);
       };
       same = is;

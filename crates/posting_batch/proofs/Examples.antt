@@ -29,7 +29,8 @@ batch_of : List (Result RequestFields Bad) → Overlay
 batch_of reads = filled bank (covering_all no_slots reads)
 
 told : List (Result RequestFields Bad) → List (Outcome × Option ℤ)
-told reads = map (λ (reply : ReplyFields). (reply.outcome, reply.balance)) (replies_over (batch_of reads) 1000 reads)
+told reads = map (λ (reply : ReplyFields). (reply.outcome, reply.balance))
+    (replies_over (batch_of reads) 1000 reads)
 
 left : List (Result RequestFields Bad) → Overlay
 left reads = overlay_with_all (batch_of reads) 1000 reads
@@ -37,9 +38,11 @@ left reads = overlay_with_all (batch_of reads) 1000 reads
 -- ---- four requests, of which two are posted
 
 four : List (Result RequestFields Bad)
-four = request 1 1 1 1 (pos 5) ∷ request 1 11 2 1 (pos 7) ∷ request 1 1 1 1 (pos 6) ∷ request 9 1 1 2 (pos 1) ∷ []
+four = request 1 1 1 1 (pos 5) ∷ request 1 11 2 1 (pos 7) ∷ request 1 1 1 1 (pos 6) ∷ request 9 1 1 2
+    (pos 1) ∷ []
 
-replies_of_four : told four ≡ (Posted, Some (pos 5)) ∷ (Posted, Some (pos 12)) ∷ (ReusedNumber, None) ∷ (NoAccount, None) ∷ []
+replies_of_four : told four ≡ (Posted, Some (pos 5)) ∷ (Posted, Some (pos 12)) ∷ (ReusedNumber, None) ∷
+    (NoAccount, None) ∷ []
 unfolding request bank batch_of told four case_of
 replies_of_four = refl
 

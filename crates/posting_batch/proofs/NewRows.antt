@@ -1,5 +1,6 @@
 -- The rows that a batch changes are there, and the keys of its new rows are free.
-use Rattle.std.proofs.Common.{◌≡◌, ℕ, ◌+◌, eqb, List, [], ◌∷◌, ◌++◌, map, Option, Some, None, Result, Ok, Err, refl, sym, ap, subst, ◌∙◌, inl, inr}
+use Rattle.std.proofs.Common.{◌≡◌, ℕ, ◌+◌, eqb, List, [], ◌∷◌, ◌++◌, map, Option, Some, None, Result, Ok, Err}
+use Rattle.std.proofs.Common.{refl, sym, ap, subst, ◌∙◌, inl, inr}
 use Rattle.std.specs.Prelude.{ℤ, IsSome, IfSome}
 use Rattle.std.specs.List.{AllByRecursion}
 use Rattle.std.specs.Option.{option_map}
@@ -19,7 +20,8 @@ use Rattle.posting_rules.specs.Commands.{Command, Post, branch_of_teller}
 use Rattle.posting_rules.specs.Entries.{refused_entry, posted_entry}
 use Rattle.posting_rules.specs.LookUps.{balance_of_branch, balance_of_teller, balance_of_account}
 use Rattle.posting_rules.specs.Steps as steps
-use Rattle.posting_rules.specs.Tables.{Tables, Shows, row_at, branch_key, teller_key, account_key, history_key, request_key, request_row_of, history_row_of}
+use Rattle.posting_rules.specs.Tables.{Tables, Shows, row_at, branch_key, teller_key, account_key}
+use Rattle.posting_rules.specs.Tables.{history_key, request_key, request_row_of, history_row_of}
 use Rattle.posting_rules.proofs.Keyed.{by_test}
 use Rattle.posting_rules.proofs.Ready.{AreReady, ready_shown}
 use Rattle.posting_rules.proofs.Records.{past_shown}
@@ -29,21 +31,29 @@ use Rattle.posting_batch.specs.declared.slots.TellerSlot.{TellerSlot}
 use Rattle.posting_batch.specs.declared.slots.BranchSlot.{BranchSlot}
 use Rattle.posting_batch.specs.Batch.{CoversRead, CoversAll, IsUnchanged, ChangesRows, PutsFree, AddsRows}
 use Rattle.posting_batch.specs.Judging.{found_over, overlay_after, overlay_with, overlay_with_all}
-use Rattle.posting_batch.specs.Overlay.{Overlay, by_slot, over, put_account, put_teller, put_branch, each_put, tables_over}
-use Rattle.posting_batch.specs.Slots.{account_slot_key, with_account_changed, teller_slot_key, with_teller_changed, branch_slot_key, with_branch_changed}
+use Rattle.posting_batch.specs.Overlay.{Overlay, by_slot, over, put_account, put_teller, put_branch, each_put}
+use Rattle.posting_batch.specs.Overlay.{tables_over}
+use Rattle.posting_batch.specs.Slots.{account_slot_key, with_account_changed, teller_slot_key}
+use Rattle.posting_batch.specs.Slots.{with_teller_changed, branch_slot_key, with_branch_changed}
 use Rattle.posting_batch.proofs.InOrder.{still_covers}
 use Rattle.posting_batch.proofs.Overlaid.{Fits, found_is, with_is, with_fits, row_at-over, put_same}
 
 -- ---- what leaves a row its key
 
 pub account_same : (s : AccountSlot) (r : AccountRow) → account_key (put_account s r) ≡ account_key r
-account_same = put_same account_slot_key (λ s. None) (λ s. s.changed) account_key balance_of_account steps.with_account_balance (λ z r. refl) (λ z r. refl) (λ z y r. refl)
+account_same = put_same account_slot_key (λ s. None)
+    (λ s. s.changed) account_key balance_of_account steps.with_account_balance (λ z r. refl) (λ z r. refl)
+    (λ z y r. refl)
 
 pub teller_same : (s : TellerSlot) (r : TellerRow) → teller_key (put_teller s r) ≡ teller_key r
-teller_same = put_same teller_slot_key (λ s. None) (λ s. s.changed) teller_key balance_of_teller steps.with_teller_balance (λ z r. refl) (λ z r. refl) (λ z y r. refl)
+teller_same = put_same teller_slot_key (λ s. None)
+    (λ s. s.changed) teller_key balance_of_teller steps.with_teller_balance (λ z r. refl) (λ z r. refl)
+    (λ z y r. refl)
 
 pub branch_same : (s : BranchSlot) (r : BranchRow) → branch_key (put_branch s r) ≡ branch_key r
-branch_same = put_same branch_slot_key (λ s. None) (λ s. s.changed) branch_key balance_of_branch steps.with_branch_balance (λ z r. refl) (λ z r. refl) (λ z y r. refl)
+branch_same = put_same branch_slot_key (λ s. None)
+    (λ s. s.changed) branch_key balance_of_branch steps.with_branch_balance (λ z r. refl) (λ z r. refl)
+    (λ z y r. refl)
 
 -- ---- the rows that a posting changes, in the tables under the overlay
 
@@ -51,10 +61,12 @@ there_unmapped : {A B : Type 0} (f : A → B) (o : Option A) → IsSome (option_
 there_unmapped f (Some x) h = refl
 there_unmapped f None h = absurd cc
 
-under : {S R : Type 0} (slot_key : S → ℕ) (key : R → ℕ) (put : S → R → R) (slots : List S) → ((s : S) (r : R) → key (put s r) ≡ key r) → (rows : List R) (n : ℕ)
+under : {S R : Type 0} (slot_key : S → ℕ) (key : R → ℕ) (put : S → R → R) (slots : List S)
+    → ((s : S) (r : R) → key (put s r) ≡ key r) → (rows : List R) (n : ℕ)
     → IsSome (row_at key (over slot_key key put slots rows) n) → IsSome (row_at key rows n)
 under {S} {R} slot_key key put slots same rows n there =
-    there_unmapped (by_slot put (row_at slot_key slots n)) (row_at key rows n) (subst (λ (o : Option R). IsSome o) (row_at-over slot_key key put same slots rows n) there)
+    there_unmapped (by_slot put (row_at slot_key slots n)) (row_at key rows n)
+    (subst (λ (o : Option R). IsSome o) (row_at-over slot_key key put same slots rows n) there)
 
 rows_under : (o : Overlay) (t : Tables) (r : RequestFields) → HasRowsOf (tables_over o t) r → HasRowsOf t r
 rows_under o t r has = record {
@@ -64,7 +76,8 @@ rows_under o t r has = record {
   its_branch = has.its_branch;
 }
 
-all-changed : {S : Type 0} (key : S → ℕ) (k : ℕ) (set : S → S) (P : S → Type 0) → ((s : S) → key s ≡ k → P (set s)) → (slots : List S) → AllByRecursion P slots
+all-changed : {S : Type 0} (key : S → ℕ) (k : ℕ) (set : S → S) (P : S → Type 0)
+    → ((s : S) → key s ≡ k → P (set s)) → (slots : List S) → AllByRecursion P slots
     → AllByRecursion P (row_changed key set k slots)
 all-changed key k set P sets [] all = tt
 all-changed key k set P sets (s ∷ slots) all =
@@ -77,76 +90,98 @@ changes_after o t m r (Again x) there has = there
 changes_after o t m r (Refused x) there has = record { branches = there.branches; tellers = there.tellers; accounts = there.accounts }
 changes_after o t m r (Posted a te b) there has =
     let rows = has a te b refl in
-    let home : IsSome (row_at branch_key t.branches (branch_of_teller r.teller)) = subst (λ (n : ℕ). IsSome (row_at branch_key t.branches n)) rows.its_branch rows.branch in
+    let home : IsSome (row_at branch_key t.branches (branch_of_teller r.teller)) = subst
+    (λ (n : ℕ). IsSome (row_at branch_key t.branches n)) rows.its_branch rows.branch in
     record {
-      branches = all-changed branch_slot_key (branch_of_teller r.teller) (with_branch_changed b) (λ s. IfSome s.changed (λ z. IsSome (row_at branch_key t.branches s.branch)))
+      branches = all-changed branch_slot_key (branch_of_teller r.teller) (with_branch_changed b)
+          (λ s. IfSome s.changed (λ z. IsSome (row_at branch_key t.branches s.branch)))
           (λ s is. subst (λ (n : ℕ). IsSome (row_at branch_key t.branches n)) (sym is) home) o.branches there.branches;
-      tellers = all-changed teller_slot_key r.teller (with_teller_changed te) (λ s. IfSome s.changed (λ z. IsSome (row_at teller_key t.tellers s.teller)))
+      tellers = all-changed teller_slot_key r.teller (with_teller_changed te)
+          (λ s. IfSome s.changed (λ z. IsSome (row_at teller_key t.tellers s.teller)))
           (λ s is. subst (λ (n : ℕ). IsSome (row_at teller_key t.tellers n)) (sym is) rows.teller) o.tellers there.tellers;
-      accounts = all-changed account_slot_key r.account (with_account_changed a) (λ s. IfSome s.changed (λ z. IsSome (row_at account_key t.accounts s.account)))
+      accounts = all-changed account_slot_key r.account (with_account_changed a)
+          (λ s. IfSome s.changed (λ z. IsSome (row_at account_key t.accounts s.account)))
           (λ s is. subst (λ (n : ℕ). IsSome (row_at account_key t.accounts n)) (sym is) rows.account) o.accounts there.accounts;
     }
 
-changes_with : (o : Overlay) (t : Tables) (m : ℕ) (read : Result RequestFields Bad) → Fits o t → CoversRead o read → ChangesRows o t → ChangesRows (overlay_with o m read) t
+changes_with : (o : Overlay) (t : Tables) (m : ℕ) (read : Result RequestFields Bad) → Fits o t
+    → CoversRead o read → ChangesRows o t → ChangesRows (overlay_with o m read) t
 changes_with o t m (Err fault) fits covers there = there
 changes_with o t m (Ok r) fits covers there =
     changes_after o t m r (case_of (found_over o r) r) there
     (λ a te b e. rows_under o t r (posted_rows (tables_over o t) r a te b (ap (λ (f : Found). case_of f r) (sym (found_is o t r fits covers)) ∙ e)))
 
-changes_on : (o : Overlay) (t : Tables) (m : ℕ) (reads : List (Result RequestFields Bad)) → Fits o t → CoversAll o reads → ChangesRows o t → ChangesRows (overlay_with_all o m reads) t
+changes_on : (o : Overlay) (t : Tables) (m : ℕ) (reads : List (Result RequestFields Bad)) → Fits o t
+    → CoversAll o reads → ChangesRows o t → ChangesRows (overlay_with_all o m reads) t
 changes_on o t m [] fits covers there = there
 changes_on o t m (read ∷ reads) fits covers there =
-    changes_on (overlay_with o m read) t m reads (with_fits o t m read fits covers.0) (still_covers o m read reads covers.1) (changes_with o t m read fits covers.0 there)
+    changes_on (overlay_with o m read) t m reads (with_fits o t m read fits covers.0)
+    (still_covers o m read reads covers.1) (changes_with o t m read fits covers.0 there)
 
-none_changed : {S : Type 0} (change_of : S → Option ℤ) (P : S → Type 0) (slots : List S) → AllByRecursion (λ s. change_of s ≡ None) slots
+none_changed : {S : Type 0} (change_of : S → Option ℤ) (P : S → Type 0) (slots : List S)
+    → AllByRecursion (λ s. change_of s ≡ None) slots
     → AllByRecursion (λ s. IfSome (change_of s) (λ z. P s)) slots
 none_changed change_of P [] all = tt
-none_changed change_of P (s ∷ slots) all = (let e : change_of s ≡ None = all.0 in rw e tt, none_changed change_of P slots all.1)
+none_changed change_of P (s ∷ slots) all =
+    (let e : change_of s ≡ None = all.0 in rw e tt, none_changed change_of P slots all.1)
 
 -- the rows that a batch changes are there
-pub all_changes : (o : Overlay) (t : Tables) (m : ℕ) (reads : List (Result RequestFields Bad)) → Fits o t → IsUnchanged o → CoversAll o reads
+pub all_changes : (o : Overlay) (t : Tables) (m : ℕ) (reads : List (Result RequestFields Bad)) → Fits o t
+    → IsUnchanged o → CoversAll o reads
     → ChangesRows (overlay_with_all o m reads) t
 all_changes o t m reads fits un covers =
     changes_on o t m reads fits covers (record {
-      branches = none_changed (λ s. s.changed) (λ s. IsSome (row_at branch_key t.branches s.branch)) o.branches un.branches;
-      tellers = none_changed (λ s. s.changed) (λ s. IsSome (row_at teller_key t.tellers s.teller)) o.tellers un.tellers;
-      accounts = none_changed (λ s. s.changed) (λ s. IsSome (row_at account_key t.accounts s.account)) o.accounts un.accounts;
+      branches = none_changed (λ s. s.changed)
+          (λ s. IsSome (row_at branch_key t.branches s.branch)) o.branches un.branches;
+      tellers = none_changed (λ s. s.changed)
+          (λ s. IsSome (row_at teller_key t.tellers s.teller)) o.tellers un.tellers;
+      accounts = none_changed (λ s. s.changed)
+          (λ s. IsSome (row_at account_key t.accounts s.account)) o.accounts un.accounts;
     })
 
 -- ---- the new rows
 
-puts_more : {R : Type 0} (key : R → ℕ) (rs : List R) (r : R) (rows : List R) → PutsFree key rs rows → row_at key (each_put key rs rows) (key r) ≡ None
+puts_more : {R : Type 0} (key : R → ℕ) (rs : List R) (r : R) (rows : List R) → PutsFree key rs rows
+    → row_at key (each_put key rs rows) (key r) ≡ None
     → PutsFree key (rs ++ r ∷ []) rows
 puts_more key [] r rows free next = (next, tt)
 puts_more key (x ∷ rs) r rows free next = (free.0, puts_more key rs r (row_put key x rows) free.1 next)
 
-adds_after : (o : Overlay) (t : Tables) (m : ℕ) (r : RequestFields) (v : Verdict) → AreReady (tables_over o t) → AddsRows o t → AddsRows (overlay_after o m r v) t
+adds_after : (o : Overlay) (t : Tables) (m : ℕ) (r : RequestFields) (v : Verdict) → AreReady (tables_over o t)
+    → AddsRows o t → AddsRows (overlay_after o m r v) t
 adds_after o t m r (Unkept x) ready adds = adds
 adds_after o t m r (Again x) ready adds = adds
 adds_after o t m r (Refused x) ready adds = record {
   history = adds.history;
-  requests = puts_more request_key o.requests (request_row_of (o.decided + 1) (refused_entry m r x)) t.requests adds.requests ready.next_request;
+  requests = puts_more request_key o.requests
+      (request_row_of (o.decided + 1) (refused_entry m r x)) t.requests adds.requests ready.next_request;
 }
 adds_after o t m r (Posted a te b) ready adds = record {
-  history = puts_more history_key o.history (history_row_of (o.decided + 1) (posted_entry m r a)) t.history adds.history ready.next_posting;
-  requests = puts_more request_key o.requests (request_row_of (o.decided + 1) (posted_entry m r a)) t.requests adds.requests ready.next_request;
+  history = puts_more history_key o.history
+      (history_row_of (o.decided + 1) (posted_entry m r a)) t.history adds.history ready.next_posting;
+  requests = puts_more request_key o.requests
+      (request_row_of (o.decided + 1) (posted_entry m r a)) t.requests adds.requests ready.next_request;
 }
 
-adds_with : (o : Overlay) (t : Tables) (m : ℕ) (read : Result RequestFields Bad) → AreReady (tables_over o t) → AddsRows o t → AddsRows (overlay_with o m read) t
+adds_with : (o : Overlay) (t : Tables) (m : ℕ) (read : Result RequestFields Bad) → AreReady (tables_over o t)
+    → AddsRows o t → AddsRows (overlay_with o m read) t
 adds_with o t m (Err fault) ready adds = adds
 adds_with o t m (Ok r) ready adds = adds_after o t m r (case_of (found_over o r) r) ready adds
 
-adds_on : (o : Overlay) (t : Tables) (log : List Command) (m : ℕ) (records : List (List ℕ)) → Fits o t → CoversAll o (map request_of records)
+adds_on : (o : Overlay) (t : Tables) (log : List Command) (m : ℕ) (records : List (List ℕ)) → Fits o t
+    → CoversAll o (map request_of records)
     → Shows (tables_over o t) log → AddsRows o t → AddsRows (overlay_with_all o m (map request_of records)) t
 adds_on o t log m [] fits covers shows adds = adds
 adds_on o t log m (bytes ∷ records) fits covers shows adds =
     let read = request_of bytes in
-    adds_on (overlay_with o m read) t (Post m bytes ∷ log) m records (with_fits o t m read fits covers.0) (still_covers o m read (map request_of records) covers.1)
+    adds_on (overlay_with o m read) t (Post m bytes ∷ log) m records (with_fits o t m read fits covers.0)
+    (still_covers o m read (map request_of records) covers.1)
     (subst (λ (u : Tables). Shows u (Post m bytes ∷ log)) (sym (with_is o t m read fits covers.0)) (past_shown (tables_over o t) log m bytes shows))
     (adds_with o t m read (ready_shown (tables_over o t) log shows) adds)
 
 -- the keys of the new rows of a batch are free
-pub all_adds : (o : Overlay) (t : Tables) (log : List Command) (m : ℕ) (records : List (List ℕ)) → Fits o t → IsUnchanged o → CoversAll o (map request_of records)
+pub all_adds : (o : Overlay) (t : Tables) (log : List Command) (m : ℕ) (records : List (List ℕ)) → Fits o t
+    → IsUnchanged o → CoversAll o (map request_of records)
     → Shows (tables_over o t) log → AddsRows (overlay_with_all o m (map request_of records)) t
 all_adds o t log m records fits un covers shows =
     adds_on o t log m records fits covers shows (record { history = rw un.history tt; requests = rw un.requests tt })

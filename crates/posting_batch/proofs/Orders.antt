@@ -1,12 +1,14 @@
 -- Slots that are placed in the order of their keys.
-use Rattle.std.proofs.Common.{◌≡◌, ℕ, Bool, true, false, eqb, ltb, List, [], ◌∷◌, map, refl, ◌∙◌, arith, inl, inr}
+use Rattle.std.proofs.Common.{◌≡◌, ℕ, Bool, true, false, eqb, ltb, List, [], ◌∷◌, map, refl, ◌∙◌, arith, inl}
+use Rattle.std.proofs.Common.{inr}
 use Rattle.std.specs.Prelude.{nat_eq, IsSome, IsTrue, ◌&&◌, ◌||◌}
 use Rattle.std.specs.List.{find, AllByRecursion, IsDistinct}
 use Rattle.std.proofs.lemmas.Bool.Decides.{nat_tests}
 use Rattle.std.proofs.lemmas.Map.Keys.{IsDistinct-cons}
 use Rattle.posting_rules.specs.Tables.{HasKeys}
 use Rattle.posting_rules.proofs.Keyed.{by_test}
-use Rattle.posting_batch.specs.Placed.{placed, number_below, number_same, request_below, request_same, IsRising}
+use Rattle.posting_batch.specs.Placed.{placed, number_below, number_same, request_below, request_same}
+use Rattle.posting_batch.specs.Placed.{IsRising}
 
 -- ---- what is there once a slot is placed
 
@@ -22,7 +24,8 @@ module _ {S : Type 0} (below same : S → S → Bool) (e : S) where
         ]
       ]
 
-  pub placed_keeps : (test : S → Bool) (xs : List S) → IsSome (find test xs) → IsSome (find test (placed below same e xs))
+  pub placed_keeps : (test : S → Bool) (xs : List S) → IsSome (find test xs)
+      → IsSome (find test (placed below same e xs))
   placed_keeps test [] there = absurd cc
   placed_keeps test (s ∷ xs) there =
       elim (by_test (below s e)) [
@@ -33,7 +36,8 @@ module _ {S : Type 0} (below same : S → S → Bool) (e : S) where
         ]
       ]
 
-  pub all-placed : (P : S → Type 0) (xs : List S) → P e → AllByRecursion P xs → AllByRecursion P (placed below same e xs)
+  pub all-placed : (P : S → Type 0) (xs : List S) → P e → AllByRecursion P xs
+      → AllByRecursion P (placed below same e xs)
   all-placed P [] new all = (new, tt)
   all-placed P (s ∷ xs) new all =
       elim (by_test (below s e)) [
@@ -64,10 +68,12 @@ number_order key = record {
 abbrev pair_below : ℕ → ℕ → ℕ → ℕ → Bool
 pair_below a n b m = ltb a b || (eqb a b && ltb n m)
 
-pair_chained : (a n b m c k : ℕ) → pair_below a n b m ≡ true → pair_below b m c k ≡ true → pair_below a n c k ≡ true
+pair_chained : (a n b m c k : ℕ) → pair_below a n b m ≡ true → pair_below b m c k ≡ true
+    → pair_below a n c k ≡ true
 pair_chained a n b m c k h g = grind (arith, nat_tests)
 
-pair_third : (a n b m : ℕ) → pair_below a n b m ≡ false → (eqb a b && eqb n m) ≡ false → pair_below b m a n ≡ true
+pair_third : (a n b m : ℕ) → pair_below a n b m ≡ false → (eqb a b && eqb n m) ≡ false
+    → pair_below b m a n ≡ true
 pair_third a n b m f g = grind (arith, nat_tests)
 
 pub request_order : IsOrder request_below request_same
@@ -79,7 +85,8 @@ request_order = record {
 -- ---- slots in order
 
 module _ {S : Type 0} (below same : S → S → Bool) (order : IsOrder below same) where
-  all_above : (a b : S) (xs : List S) → below a b ≡ true → AllByRecursion (λ x. IsTrue (below b x)) xs → AllByRecursion (λ x. IsTrue (below a x)) xs
+  all_above : (a b : S) (xs : List S) → below a b ≡ true → AllByRecursion (λ x. IsTrue (below b x)) xs
+      → AllByRecursion (λ x. IsTrue (below a x)) xs
   all_above a b [] lt all = tt
   all_above a b (x ∷ xs) lt all = (order.chained a b x lt all.0, all_above a b xs lt all.1)
 
@@ -95,8 +102,10 @@ module _ {S : Type 0} (below same : S → S → Bool) (order : IsOrder below sam
       ]
 
 -- slots that change and keep their keys
-module _ {S : Type 0} (below : S → S → Bool) (f : S → S) (same : (a b : S) → below (f a) (f b) ≡ below a b) where
-  all_mapped : (a : S) (xs : List S) → AllByRecursion (λ x. IsTrue (below a x)) xs → AllByRecursion (λ x. IsTrue (below (f a) x)) (map f xs)
+module _ {S : Type 0} (below : S → S → Bool) (f : S → S)
+    (same : (a b : S) → below (f a) (f b) ≡ below a b) where
+  all_mapped : (a : S) (xs : List S) → AllByRecursion (λ x. IsTrue (below a x)) xs
+      → AllByRecursion (λ x. IsTrue (below (f a) x)) (map f xs)
   all_mapped a [] all = tt
   all_mapped a (x ∷ xs) all = (same a x ∙ all.0, all_mapped a xs all.1)
 
@@ -108,7 +117,8 @@ module _ {S : Type 0} (below : S → S → Bool) (f : S → S) (same : (a b : S)
 apart : (a b : ℕ) → ltb a b ≡ true → nat_eq a b ≡ false
 apart a b h = grind (arith, nat_tests)
 
-differ : {S : Type 0} (key : S → ℕ) (s : S) (xs : List S) → AllByRecursion (λ x. IsTrue (number_below key s x)) xs
+differ : {S : Type 0} (key : S → ℕ) (s : S) (xs : List S)
+    → AllByRecursion (λ x. IsTrue (number_below key s x)) xs
     → AllByRecursion (λ j. nat_eq (key s) j ≡ false) (map key xs)
 differ key s [] all = tt
 differ key s (x ∷ xs) all = (apart (key s) (key x) all.0, differ key s xs all.1)
@@ -119,4 +129,5 @@ none_distinct = tt
 
 pub rising_keys : {S : Type 0} (key : S → ℕ) (xs : List S) → IsRising (number_below key) xs → HasKeys key xs
 rising_keys key [] rises = none_distinct
-rising_keys key (s ∷ xs) rises = IsDistinct-cons nat_eq (key s) (map key xs) (differ key s xs rises.0) (rising_keys key xs rises.1)
+rising_keys key (s ∷ xs) rises = IsDistinct-cons nat_eq (key s) (map key xs) (differ key s xs rises.0)
+    (rising_keys key xs rises.1)

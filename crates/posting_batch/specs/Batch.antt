@@ -7,35 +7,42 @@ use Rattle.message_records.specs.Records.{RequestFields}
 use Rattle.posting_rules.specs.Changes.{row_put}
 use Rattle.posting_rules.specs.Commands.{branch_of_teller, branch_of_account}
 use Rattle.posting_rules.specs.LookUps.{kept_in, account_balance_in, balance_of_teller}
-use Rattle.posting_rules.specs.Tables.{Tables, row_at, branch_key, teller_key, account_key, history_key, request_key}
+use Rattle.posting_rules.specs.Tables.{Tables, row_at, branch_key, teller_key, account_key, history_key}
+use Rattle.posting_rules.specs.Tables.{request_key}
 use Rattle.posting_batch.specs.declared.slots.AccountSlot.{AccountSlot}
 use Rattle.posting_batch.specs.declared.slots.TellerSlot.{TellerSlot}
 use Rattle.posting_batch.specs.declared.slots.BranchSlot.{BranchSlot}
 use Rattle.posting_batch.specs.declared.slots.RequestSlot.{RequestSlot}
 use Rattle.posting_batch.specs.Overlay.{Overlay}
-use Rattle.posting_batch.specs.Placed.{placed, number_below, number_same, request_below, request_same, IsRising}
-use Rattle.posting_batch.specs.Slots.{is_for, account_slot_key, teller_slot_key, branch_slot_key, empty_account, empty_teller, empty_branch, empty_request}
+use Rattle.posting_batch.specs.Placed.{placed, number_below, number_same, request_below, request_same}
+use Rattle.posting_batch.specs.Placed.{IsRising}
+use Rattle.posting_batch.specs.Slots.{is_for, account_slot_key, teller_slot_key, branch_slot_key}
+use Rattle.posting_batch.specs.Slots.{empty_account, empty_teller, empty_branch, empty_request}
 
 -- ---- a batch is made
 
 abbrev pub with_account_slot : ℕ → List AccountSlot → List AccountSlot
-with_account_slot n slots = placed (number_below account_slot_key) (number_same account_slot_key) (empty_account n) slots
+with_account_slot n slots = placed (number_below account_slot_key) (number_same account_slot_key)
+    (empty_account n) slots
 
 abbrev pub with_teller_slot : ℕ → List TellerSlot → List TellerSlot
-with_teller_slot n slots = placed (number_below teller_slot_key) (number_same teller_slot_key) (empty_teller n) slots
+with_teller_slot n slots = placed (number_below teller_slot_key) (number_same teller_slot_key)
+    (empty_teller n) slots
 
 abbrev pub with_branch_slot : ℕ → List BranchSlot → List BranchSlot
-with_branch_slot n slots = placed (number_below branch_slot_key) (number_same branch_slot_key) (empty_branch n) slots
+with_branch_slot n slots = placed (number_below branch_slot_key) (number_same branch_slot_key)
+    (empty_branch n) slots
 
 abbrev pub with_request_slot : ℕ → ℕ → List RequestSlot → List RequestSlot
 with_request_slot n m slots = placed request_below request_same (empty_request n m) slots
 
--- the overlay with slots for all that a record can touch: its teller, the branch that the teller's number gives, its account,
--- the branch that the account's number gives, and its teller and number
+-- the overlay with slots for all that a record can touch: its teller, the branch that the teller's number
+-- gives, its account, the branch that the account's number gives, and its teller and number
 abbrev pub covering : Overlay → Result RequestFields Bad → Overlay
 covering o (Err fault) = o
 covering o (Ok r) = record o {
-  branches = with_branch_slot (branch_of_account r.account) (with_branch_slot (branch_of_teller r.teller) o.branches);
+  branches = with_branch_slot (branch_of_account r.account)
+      (with_branch_slot (branch_of_teller r.teller) o.branches);
   tellers = with_teller_slot r.teller o.tellers;
   accounts = with_account_slot r.account o.accounts;
   kept = with_request_slot r.teller r.number o.kept;

@@ -12,7 +12,10 @@ use Rattle.posting_rules.specs.Entries.{Entry, refused_entry, posted_entry, kept
 use Rattle.posting_rules.specs.LookUps.{both_of}
 use Rattle.posting_rules.specs.Tables.{request_row_of, history_row_of}
 use Rattle.posting_batch.specs.Overlay.{Overlay}
-use Rattle.posting_batch.specs.Slots.{slot_balance, kept_in_slots, slots_kept, account_slot_key, account_slot_balance, with_account_changed, teller_slot_key, teller_slot_balance, with_teller_changed, branch_slot_key, branch_slot_balance, with_branch_changed}
+use Rattle.posting_batch.specs.Slots.{slot_balance, kept_in_slots, slots_kept, account_slot_key}
+use Rattle.posting_batch.specs.Slots.{account_slot_balance, with_account_changed, teller_slot_key}
+use Rattle.posting_batch.specs.Slots.{teller_slot_balance, with_teller_changed, branch_slot_key}
+use Rattle.posting_batch.specs.Slots.{branch_slot_balance, with_branch_changed}
 
 -- all that is looked up for a request
 abbrev pub found_over : Overlay → RequestFields → Found
@@ -35,7 +38,8 @@ overlay_kept o e = record o {
 -- and a posting changes three balances, and has a row of history under the same ordinal (TPC-B 1.2)
 abbrev pub overlay_posted : Overlay → Entry → ℤ → ℤ → Overlay
 overlay_posted o e teller branch = record {
-  branches = row_changed branch_slot_key (with_branch_changed branch) (branch_of_teller e.request.teller) o.branches;
+  branches = row_changed branch_slot_key (with_branch_changed branch)
+      (branch_of_teller e.request.teller) o.branches;
   tellers = row_changed teller_slot_key (with_teller_changed teller) e.request.teller o.tellers;
   accounts = row_changed account_slot_key (with_account_changed e.balance) e.request.account o.accounts;
   kept = slots_kept e.request.teller e.request.number (kept_fields e) o.kept;
@@ -49,7 +53,8 @@ abbrev pub overlay_after : Overlay → ℕ → RequestFields → Verdict → Ove
 overlay_after o moment r (Unkept outcome) = o
 overlay_after o moment r (Again reply) = o
 overlay_after o moment r (Refused outcome) = overlay_kept o (refused_entry moment r outcome)
-overlay_after o moment r (Posted account teller branch) = overlay_posted o (posted_entry moment r account) teller branch
+overlay_after o moment r (Posted account teller branch) = overlay_posted o
+    (posted_entry moment r account) teller branch
 
 -- what is left by what was read of a record, which may be no request
 abbrev pub overlay_with : Overlay → ℕ → Result RequestFields Bad → Overlay
@@ -68,4 +73,5 @@ overlay_with_all o moment (read ∷ reads) = overlay_with_all (overlay_with o mo
 
 abbrev pub replies_over : Overlay → ℕ → List (Result RequestFields Bad) → List ReplyFields
 replies_over o moment [] = []
-replies_over o moment (read ∷ reads) = reply_over o read ∷ replies_over (overlay_with o moment read) moment reads
+replies_over o moment (read ∷ reads) = reply_over o read ∷ replies_over
+    (overlay_with o moment read) moment reads

@@ -1,5 +1,6 @@
 -- Slots in the order of their keys, one for each key.
-use Rattle.std.specs.Prelude.{ℕ, zero, suc, List, [], ◌∷◌, Bool, IsTrue, ◌==◌, ◌&&◌, ◌||◌, nat_lt, if◌then◌else◌}
+use Rattle.std.specs.Prelude.{ℕ, zero, suc, List, [], ◌∷◌, Bool, IsTrue, ◌==◌, ◌&&◌, ◌||◌, nat_lt}
+use Rattle.std.specs.Prelude.{if◌then◌else◌}
 use Rattle.std.specs.List.{AllByRecursion}
 use Rattle.posting_batch.specs.declared.slots.RequestSlot.{RequestSlot}
 use Rattle.posting_batch.specs.Slots.{is_for}

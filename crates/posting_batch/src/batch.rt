@@ -1,5 +1,6 @@
 //! A batch of records: made from them, filled from the tables, and judged.
-ghost use Rattle.std.specs.Prelude.{◌≡◌, ◌≤◌, ◌+◌, ◌++◌, ℕ, List, [], map, length, vec_len, vec_capacity, IfOk};
+ghost use Rattle.std.specs.Prelude.{◌≡◌, ◌≤◌, ◌+◌, ◌++◌, ℕ, List, [], map, length, vec_len, vec_capacity};
+ghost use Rattle.std.specs.Prelude.{IfOk};
 ghost use Rattle.message_records.specs.Reading.{request_of};
 ghost use Rattle.posting_rules.specs.declared.limits.TheConstants.{RECORDS_PER_BATCH};
 ghost use Rattle.posting_rules.specs.Changes.{tables_past_all, replies_past_all};
@@ -40,8 +41,8 @@ pub struct Judged {
 impl Batch {
     ghost use Rattle.posting_batch.specs.View.{view, reads_of, IsMadeOf, IsFilledFrom};
 
-    /// Decodes up to `RECORDS_PER_BATCH` records, and places an empty slot under every key that they can touch. All that a
-    /// batch ever takes of memory is taken here.
+    /// Decodes up to `RECORDS_PER_BATCH` records, and places an empty slot under every key that they can
+    /// touch. All that a batch ever takes of memory is taken here.
     pub fn new(alloc: Global, records: &[[u8; 100]]) -> Result<Self, AllocError>
         requires { length records.now ≤ RECORDS_PER_BATCH }
         ensures made { IfOk result (λ batch. IsMadeOf batch records.now) }
@@ -84,7 +85,8 @@ impl Batch {
         ensures replies { (t : Tables) (records : List (List ℕ)) → IsFilledFrom self t records
             → result.replies.items ≡ replies_past_all t moment records }
 
-        // Of a log that the tables show: it comes to the log with the records behind it, and answers their replies.
+        // Of a log that the tables show: it comes to the log with the records behind it, and answers their
+        // replies.
         ensures shows { (t : Tables) (records : List (List ℕ)) → IsFilledFrom self t records → (log : List Command) → Shows t log
             → Shows (tables_over (view result.overlay) t) (behind log (posts moment records)) }
         ensures answers { (t : Tables) (records : List (List ℕ)) → IsFilledFrom self t records → (log : List Command) → Shows t log
@@ -96,7 +98,8 @@ impl Batch {
         ensures adds { (t : Tables) (records : List (List ℕ)) → IsFilledFrom self t records → (log : List Command) → Shows t log
             → AddsRows (view result.overlay) t }
 
-        // Each record has its reply, and each decided request is counted. Where none is decided, nothing is changed and nothing is new.
+        // Each record has its reply, and each decided request is counted. Where none is decided, nothing is
+        // changed and nothing is new.
         ensures count { length result.replies.items ≡ length (reads_of self) }
         ensures counts { result.overlay.decided + length self.overlay.requests.items
             ≡ self.overlay.decided + length result.overlay.requests.items }

@@ -3,7 +3,8 @@ ghost use Rattle.std.specs.Prelude.{◌≡◌};
 ghost use Rattle.std.specs.List.{find};
 ghost use Rattle.std.specs.Option.{option_map};
 ghost use Rattle.posting_rules.specs.Tables.{row_at};
-ghost use Rattle.posting_batch.specs.Slots.{slot_balance, kept_in_slots, is_for, kept_of_slot, row_of_slot, in_slot, branch_slot_key};
+ghost use Rattle.posting_batch.specs.Slots.{slot_balance, kept_in_slots, is_for, kept_of_slot, row_of_slot};
+ghost use Rattle.posting_batch.specs.Slots.{in_slot, branch_slot_key};
 
 use crate::slots::{BalanceSlot, BranchSlot, RequestSlot};
 use message_records::{Cents, Number, Teller};

@@ -1,4 +1,5 @@
-//! A batch of records, judged in memory: what is known of every row that its records can touch, and what they change.
+//! A batch of records, judged in memory: what is known of every row that its records can touch, and what they
+//! change.
 #![tactic(auto)]
 
 mod batch;

@@ -1,5 +1,6 @@
 //! Records are judged in the slots of a batch, one after another.
-ghost use Rattle.std.specs.Prelude.{◌≡◌, ◌≤◌, ◌<◌, ◌+◌, ◌++◌, [], ◌∷◌, map, length, vec_len, vec_capacity, IsTrue};
+ghost use Rattle.std.specs.Prelude.{◌≡◌, ◌≤◌, ◌<◌, ◌+◌, ◌++◌, [], ◌∷◌, map, length, vec_len, vec_capacity};
+ghost use Rattle.std.specs.Prelude.{IsTrue};
 ghost use Rattle.message_records.specs.Spelling.{reply_spelling};
 ghost use Rattle.posting_rules.specs.declared.limits.TheConstants.{MAX_DECIDED};
 ghost use Rattle.posting_rules.specs.Cases.{IsProper};
@@ -42,7 +43,8 @@ pub struct Overlay {
 }
 
 impl Overlay {
-    ghost use Rattle.posting_batch.specs.Judging.{found_over, overlay_kept, overlay_posted, overlay_after, overlay_with, reply_over, overlay_with_all, replies_over};
+    ghost use Rattle.posting_batch.specs.Judging.{found_over, overlay_kept, overlay_posted, overlay_after};
+    ghost use Rattle.posting_batch.specs.Judging.{overlay_with, reply_over, overlay_with_all, replies_over};
     ghost use Rattle.posting_batch.specs.View.{view};
 
     // All that is looked up for a request.

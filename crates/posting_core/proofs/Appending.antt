@@ -1,5 +1,7 @@
--- Tables whose rows stand in the order in which they came show a log, and what a call does to them shows the log with its command.
-use Rattle.std.proofs.Common.{◌≡◌, ℕ, ◌+◌, ◌≤◌, List, ◌∷◌, Option, Some, None, Result, Ok, Err, refl, sym, ap, subst, ◌∙◌, arith}
+-- Tables whose rows stand in the order in which they came show a log, and what a call does to them shows the
+-- log with its command.
+use Rattle.std.proofs.Common.{◌≡◌, ℕ, ◌+◌, ◌≤◌, List, ◌∷◌, Option, Some, None, Result, Ok, Err, refl, sym, ap}
+use Rattle.std.proofs.Common.{subst, ◌∙◌, arith}
 use Rattle.std.specs.Prelude.{pos}
 use Rattle.std.specs.Option.{option_map}
 use Rattle.message_records.specs.declared.faults.Bad.{Bad}
@@ -10,10 +12,13 @@ use Rattle.posting_rules.specs.declared.facts.Verdict.TheVariants.{Unkept, Again
 use Rattle.posting_rules.specs.Commands.{Command, Open, Post, opened, branch_of_teller}
 use Rattle.posting_rules.specs.Cases.{case_of}
 use Rattle.posting_rules.specs.Entries.{refused_entry, posted_entry, reply_to, decided, reply}
-use Rattle.posting_rules.specs.Tables.{Tables, Shows, row_at, branch_key, teller_key, account_key, history_key, request_key, branch_row_of, history_row_of, request_row_of}
+use Rattle.posting_rules.specs.Tables.{Tables, Shows, row_at, branch_key, teller_key, account_key}
+use Rattle.posting_rules.specs.Tables.{history_key, request_key, branch_row_of, history_row_of}
+use Rattle.posting_rules.specs.Tables.{request_row_of}
 use Rattle.posting_rules.specs.LookUps.{found_in, count_in, count_of_branch}
 use Rattle.posting_rules.specs.Changes.{new_teller, new_account}
-use Rattle.posting_rules.specs.Steps.{IsStep, with_branch_balance, with_teller_balance, with_account_balance, first_teller, first_account}
+use Rattle.posting_rules.specs.Steps.{IsStep, with_branch_balance, with_teller_balance, with_account_balance}
+use Rattle.posting_rules.specs.Steps.{first_teller, first_account}
 use Rattle.posting_core.specs.Appended.{tables_after, tables_with, tables_opened, reply_in_tables}
 use Rattle.posting_rules.proofs.RowChanges.{row_changes}
 use Rattle.posting_rules.proofs.Ready.{AreReady, ready_shown, no_teller, no_account}
@@ -26,7 +31,8 @@ use Rattle.posting_rules.specs.declared.limits.TheConstants.{MOST_ACCOUNTS}
 -- ---- a record
 
 -- what a verdict makes of the rows is what it does to tables
-step_is : (t : Tables) (m : ℕ) (r : RequestFields) (v : Verdict) → AreReady t → IsStep t (tables_after t m r v) (t.decided + 1) m r v
+step_is : (t : Tables) (m : ℕ) (r : RequestFields) (v : Verdict) → AreReady t
+    → IsStep t (tables_after t m r v) (t.decided + 1) m r v
 step_is t m r (Unkept o) ready = refl
 step_is t m r (Again x) ready = refl
 step_is t m r (Refused o) ready = record {
@@ -35,34 +41,43 @@ step_is t m r (Refused o) ready = record {
   tellers = refl;
   accounts = refl;
   history = refl;
-  requests = row_behind request_key t.requests (request_row_of (t.decided + 1) (refused_entry m r o)) ready.requests ready.next_request;
+  requests = row_behind request_key t.requests
+      (request_row_of (t.decided + 1) (refused_entry m r o)) ready.requests ready.next_request;
 }
 step_is t m r (Posted a te b) ready =
     let e = posted_entry m r a in
     record {
       decided = refl;
-      branches = row_changes branch_key (branch_of_teller r.teller) (with_branch_balance b) t.branches (λ _. refl) ready.branches;
+      branches = row_changes branch_key (branch_of_teller r.teller) (with_branch_balance b) t.branches
+          (λ _. refl) ready.branches;
       tellers = row_changes teller_key r.teller (with_teller_balance te) t.tellers (λ _. refl) ready.tellers;
-      accounts = row_changes account_key r.account (with_account_balance a) t.accounts (λ _. refl) ready.accounts;
-      history = row_behind history_key t.history (history_row_of (t.decided + 1) e) ready.history ready.next_posting;
-      requests = row_behind request_key t.requests (request_row_of (t.decided + 1) e) ready.requests ready.next_request;
+      accounts = row_changes account_key r.account (with_account_balance a) t.accounts
+          (λ _. refl) ready.accounts;
+      history = row_behind history_key t.history
+          (history_row_of (t.decided + 1) e) ready.history ready.next_posting;
+      requests = row_behind request_key t.requests
+          (request_row_of (t.decided + 1) e) ready.requests ready.next_request;
     }
 
 -- the tables after a record show the log with it
-pub record_shown : (t : Tables) (log : List Command) (m : ℕ) (bytes : List ℕ) → Shows t log → Shows (tables_with t m (request_of bytes)) (Post m bytes ∷ log)
+pub record_shown : (t : Tables) (log : List Command) (m : ℕ) (bytes : List ℕ) → Shows t log
+    → Shows (tables_with t m (request_of bytes)) (Post m bytes ∷ log)
 record_shown t log m bytes s = by_read (request_of bytes) refl
   where
-    by_read : (read : Result RequestFields Bad) → request_of bytes ≡ read → Shows (tables_with t m read) (Post m bytes ∷ log)
+    by_read : (read : Result RequestFields Bad) → request_of bytes ≡ read
+        → Shows (tables_with t m read) (Post m bytes ∷ log)
     by_read (Ok r) e = post_shown t (tables_after t m r (case_of (found_in t r) r)) log m bytes r e s
         (subst (λ n. IsStep t (tables_after t m r (case_of (found_in t r) r)) (n + 1) m r (case_of (found_in t r) r))
         s.rows.decided (step_is t m r (case_of (found_in t r) r) (ready_shown t log s)))
     by_read (Err fault) e = malformed_shown t log m bytes fault e s
 
 -- the reply by the tables is the reply behind the log
-pub reply_is : (t : Tables) (log : List Command) (bytes : List ℕ) → Shows t log → reply_in_tables t (request_of bytes) ≡ reply log bytes
+pub reply_is : (t : Tables) (log : List Command) (bytes : List ℕ) → Shows t log
+    → reply_in_tables t (request_of bytes) ≡ reply log bytes
 reply_is t log bytes s = by_read (request_of bytes) refl
   where
-    by_read : (read : Result RequestFields Bad) → request_of bytes ≡ read → reply_in_tables t read ≡ reply log bytes
+    by_read : (read : Result RequestFields Bad) → request_of bytes ≡ read
+        → reply_in_tables t read ≡ reply log bytes
     by_read (Ok r) e = reply_shown t log bytes r e s
     by_read (Err fault) e = ap (λ (x : Result RequestFields Bad). reply_to x (λ b. opened log b) (decided log)) (sym e)
 
@@ -73,17 +88,20 @@ unmapped f None e = refl
 unmapped f (Some x) e = absurd cc
 
 -- the tables with a branch that wasn't open show the log with its opening
-pub opened_shown : (t : Tables) (log : List Command) (b count : ℕ) → count_in t b ≡ None → 1 ≤ b → count ≤ MOST_ACCOUNTS → Shows t log → Shows (tables_opened t b count) (Open b count ∷ log)
+pub opened_shown : (t : Tables) (log : List Command) (b count : ℕ) → count_in t b ≡ None → 1 ≤ b
+    → count ≤ MOST_ACCOUNTS → Shows t log → Shows (tables_opened t b count) (Open b count ∷ log)
 opened_shown t log b count none hb hc s =
     let ready = ready_shown t log s in
     let closed = unmapped count_of_branch (row_at branch_key t.branches b) none in
-    opening_shown t (tables_opened t b count) log b count (sym (count_shown t (λ x. opened log x) (decided log) b s.rows) ∙ none) hb hc s
+    opening_shown t (tables_opened t b count) log b count
+    (sym (count_shown t (λ x. opened log x) (decided log) b s.rows) ∙ none) hb hc s
     (record {
       decided = refl;
       branches = row_behind branch_key t.branches (branch_row_of b (pos 0) count) ready.branches closed;
       tellers = rows_behind teller_key new_teller (first_teller b) 10 t.tellers (λ _. refl) ready.tellers
           (λ n lt. no_teller t b n ready hb closed lt);
-      accounts = rows_behind account_key new_account (first_account b) count t.accounts (λ _. refl) ready.accounts
+      accounts = rows_behind account_key new_account (first_account b) count t.accounts
+          (λ _. refl) ready.accounts
           (λ n lt. no_account t b n ready hb closed (omega arith));
       history = refl;
       requests = refl;

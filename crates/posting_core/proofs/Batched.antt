@@ -1,10 +1,12 @@
 -- Batches one after another, and bytes that are cut into records.
-use Rattle.std.proofs.Common.{◌≡◌, ℕ, zero, suc, ◌+◌, ◌-◌, ◌*◌, ◌/◌, ◌<◌, ◌≤◌, List, [], ◌∷◌, ◌++◌, length, take, drop, refl, sym, ap, subst, ◌∙◌, append_assoc, append-nil, arith}
+use Rattle.std.proofs.Common.{◌≡◌, ℕ, zero, suc, ◌+◌, ◌-◌, ◌*◌, ◌/◌, ◌<◌, ◌≤◌, List, [], ◌∷◌, ◌++◌, length}
+use Rattle.std.proofs.Common.{take, drop, refl, sym, ap, subst, ◌∙◌, append_assoc, append-nil, arith}
 use Rattle.std.specs.Prelude.{◌%◌}
 use Rattle.std.specs.List.{AllByRecursion}
 use Rattle.std.specs.Simd.{first_chunks}
 use Rattle.std.proofs.Math.Nat.{suc-mul}
-use Rattle.std.proofs.lemmas.List.{take_at, drop_at, length-take-le, drop-take, drop-drop, length-append, length-drop, take-append-drop}
+use Rattle.std.proofs.lemmas.List.{take_at, drop_at, length-take-le, drop-take, drop-drop, length-append}
+use Rattle.std.proofs.lemmas.List.{length-drop, take-append-drop}
 use Rattle.std.proofs.lemmas.List.Concat.{flat_map-append}
 use Rattle.posting_rules.specs.Commands.{Command}
 use Rattle.posting_rules.specs.Runs.{behind, posts, replies_to, ArePosts}
@@ -18,23 +20,28 @@ pub joined-append : (xs ys : List (List ℕ)) → joined (xs ++ ys) ≡ joined x
 joined-append xs ys = flat_map-append (λ x. x) xs ys
 
 pub records_one_more : (bs : List Batch) (b : Batch) → records_of (bs ++ b ∷ []) ≡ records_of bs ++ b.records
-records_one_more bs b = flat_map-append records_in bs (b ∷ []) ∙ ap (λ (t : List (List ℕ)). records_of bs ++ t) (append-nil b.records)
+records_one_more bs b = flat_map-append records_in bs (b ∷ []) ∙ ap
+    (λ (t : List (List ℕ)). records_of bs ++ t) (append-nil b.records)
 
 pub posts_of_one_more : (bs : List Batch) (b : Batch) → posts_of (bs ++ b ∷ []) ≡ posts_of bs ++ posts_in b
-posts_of_one_more bs b = flat_map-append posts_in bs (b ∷ []) ∙ ap (λ (t : List Command). posts_of bs ++ t) (append-nil (posts_in b))
+posts_of_one_more bs b = flat_map-append posts_in bs (b ∷ []) ∙ ap (λ (t : List Command). posts_of bs ++ t)
+    (append-nil (posts_in b))
 
 -- the bytes of its records behind those of the others
 pub joined_one_more : (bs : List Batch) (b : Batch) (rest : List ℕ)
     → joined (records_of (bs ++ b ∷ [])) ++ rest ≡ joined (records_of bs) ++ (joined b.records ++ rest)
 joined_one_more bs b rest =
-    ap (λ (t : List (List ℕ)). joined t ++ rest) (records_one_more bs b) ∙ ap (λ (t : List ℕ). t ++ rest) (joined-append (records_of bs) b.records)
+    ap (λ (t : List (List ℕ)). joined t ++ rest) (records_one_more bs b) ∙ ap (λ (t : List ℕ). t ++ rest)
+    (joined-append (records_of bs) b.records)
     ∙ append_assoc (joined (records_of bs)) (joined b.records) rest
 
 -- its replies behind those to the others
 pub replies_of_one_more : (log : List Command) (bs : List Batch) (b : Batch)
-    → joined (replies_to log (posts_of (bs ++ b ∷ []))) ≡ joined (replies_to log (posts_of bs)) ++ joined (replies_to (behind log (posts_of bs)) (posts_in b))
+    → joined (replies_to log (posts_of (bs ++ b ∷ []))) ≡ joined (replies_to log (posts_of bs)) ++ joined
+    (replies_to (behind log (posts_of bs)) (posts_in b))
 replies_of_one_more log bs b =
-    ap (λ (t : List Command). joined (replies_to log t)) (posts_of_one_more bs b) ∙ ap joined (replies_to-append log (posts_of bs) (posts_in b))
+    ap (λ (t : List Command). joined (replies_to log t)) (posts_of_one_more bs b) ∙ ap joined
+    (replies_to-append log (posts_of bs) (posts_in b))
     ∙ joined-append (replies_to log (posts_of bs)) (replies_to (behind log (posts_of bs)) (posts_in b))
 
 -- ---- what batches post
@@ -48,19 +55,22 @@ pub all_posts : (bs : List Batch) → ArePosts (posts_of bs)
 all_posts [] = tt
 all_posts (b ∷ bs) = posts_more b.moment b.records (posts_of bs) (all_posts bs)
 
-posted_more : (m : ℕ) (rs : List (List ℕ)) (cs : List Command) → posted_records (posts m rs ++ cs) ≡ rs ++ posted_records cs
+posted_more : (m : ℕ) (rs : List (List ℕ)) (cs : List Command)
+    → posted_records (posts m rs ++ cs) ≡ rs ++ posted_records cs
 posted_more m [] cs = refl
 posted_more m (r ∷ rs) cs = ap (λ (t : List (List ℕ)). r ∷ t) (posted_more m rs cs)
 
 -- they post their records
 pub posted_is : (bs : List Batch) → posted_records (posts_of bs) ≡ records_of bs
 posted_is [] = refl
-posted_is (b ∷ bs) = posted_more b.moment b.records (posts_of bs) ∙ ap (λ (t : List (List ℕ)). b.records ++ t) (posted_is bs)
+posted_is (b ∷ bs) = posted_more b.moment b.records (posts_of bs) ∙ ap (λ (t : List (List ℕ)). b.records ++ t)
+    (posted_is bs)
 
 -- ---- bytes and records
 
 -- chunks and what is behind them are the bytes again
-chunks_joined : (n k : ℕ) (xs : List ℕ) → k * n ≤ length xs → joined (first_chunks n k xs) ++ drop (k * n) xs ≡ xs
+chunks_joined : (n k : ℕ) (xs : List ℕ) → k * n ≤ length xs
+    → joined (first_chunks n k xs) ++ drop (k * n) xs ≡ xs
 chunks_joined n zero xs le = let z : 0 * n ≡ 0 = omega arith in ap (λ (j : ℕ). drop j xs) z
 chunks_joined n (suc k) xs le =
     let m = suc-mul k n in
@@ -72,7 +82,8 @@ chunks_joined n (suc k) xs le =
     (ap (λ (j : ℕ). chunks ++ drop j xs) parts ∙ ap (λ (t : List ℕ). chunks ++ t) (sym (drop-drop (k * n) n xs)) ∙ chunks_joined n k (drop n xs) rest_le)
     ∙ take-append-drop n xs
 
-chunks_whole : (n k : ℕ) (xs : List ℕ) → k * n ≤ length xs → AllByRecursion (λ x. length x ≡ n) (first_chunks n k xs)
+chunks_whole : (n k : ℕ) (xs : List ℕ) → k * n ≤ length xs
+    → AllByRecursion (λ x. length x ≡ n) (first_chunks n k xs)
 chunks_whole n zero xs le = tt
 chunks_whole n (suc k) xs le =
     let m = suc-mul k n in
@@ -81,19 +92,23 @@ chunks_whole n (suc k) xs le =
     (length-take-le n xs first_le, chunks_whole n k (drop n xs) rest_le)
 
 -- bytes that were cut into records and a rest
-pub cut_into : (xs : List ℕ) (records : List (List ℕ)) (rest : List ℕ) → records ≡ first_chunks 100 (length xs / 100) xs
+pub cut_into : (xs : List ℕ) (records : List (List ℕ)) (rest : List ℕ)
+    → records ≡ first_chunks 100 (length xs / 100) xs
     → rest ≡ drop (length xs / 100 * 100) xs → (xs ≡ joined records ++ rest) × AllByRecursion IsRecord records
 cut_into xs records rest is rest_is =
     let count = length xs / 100 in
     let whole : length xs / 100 * 100 ≤ length xs = omega arith in (
-      sym (chunks_joined 100 count xs whole) ∙ ap (λ (t : List ℕ). joined (first_chunks 100 count xs) ++ t) (sym rest_is)
+      sym (chunks_joined 100 count xs whole) ∙ ap (λ (t : List ℕ). joined (first_chunks 100 count xs) ++ t)
+          (sym rest_is)
           ∙ ap (λ (t : List (List ℕ)). joined t ++ rest) (sym is),
       subst (λ (t : List (List ℕ)). AllByRecursion IsRecord t) (sym is) (chunks_whole 100 count xs whole),
     )
 
 -- the same where the rest was moved to the front of the buffer
-pub cut_and_moved : (buffer after : List ℕ) (filled left : ℕ) (records : List (List ℕ)) → filled ≤ length buffer
-    → records ≡ first_chunks 100 (length (take filled buffer) / 100) (take filled buffer) → left ≡ length (take filled buffer) % 100
+pub cut_and_moved : (buffer after : List ℕ) (filled left : ℕ) (records : List (List ℕ))
+    → filled ≤ length buffer
+    → records ≡ first_chunks 100 (length (take filled buffer) / 100) (take filled buffer)
+    → left ≡ length (take filled buffer) % 100
     → take (filled - (filled - left)) after ≡ take (filled - (filled - left)) (drop (filled - left) buffer)
     → (take filled buffer ≡ joined records ++ take left after) × AllByRecursion IsRecord records
 cut_and_moved buffer after filled left records within is left_is moved =
@@ -103,11 +118,14 @@ cut_and_moved buffer after filled left records within is left_is moved =
     let back : filled - (filled - left) ≡ left = omega arith in
     let cut = length (take filled buffer) / 100 * 100 in
     let rest : drop (length (take filled buffer) / 100 * 100) (take filled buffer) ≡ take left after =
-    ap (λ (j : ℕ). drop cut (take j buffer)) parts ∙ drop-take cut left buffer ∙ ap (λ (j : ℕ). take left (drop j buffer)) (sym from)
-    ∙ ap (λ (j : ℕ). take j (drop (filled - left) buffer)) (sym back) ∙ sym moved ∙ ap (λ (j : ℕ). take j after) back in
+    ap (λ (j : ℕ). drop cut (take j buffer)) parts ∙ drop-take cut left buffer ∙ ap
+    (λ (j : ℕ). take left (drop j buffer)) (sym from)
+    ∙ ap (λ (j : ℕ). take j (drop (filled - left) buffer)) (sym back) ∙ sym moved ∙ ap
+    (λ (j : ℕ). take j after) back in
     cut_into (take filled buffer) records (take left after) is (sym rest)
 
-chunks_of_joined : (n : ℕ) (rs : List (List ℕ)) (rest : List ℕ) → AllByRecursion (λ r. length r ≡ n) rs → first_chunks n (length rs) (joined rs ++ rest) ≡ rs
+chunks_of_joined : (n : ℕ) (rs : List (List ℕ)) (rest : List ℕ) → AllByRecursion (λ r. length r ≡ n) rs
+    → first_chunks n (length rs) (joined rs ++ rest) ≡ rs
 chunks_of_joined n [] rest h = refl
 chunks_of_joined n (r ∷ rs) rest h =
     let more = joined rs ++ rest in
@@ -119,10 +137,12 @@ chunks_of_joined n (r ∷ rs) rest h =
 
 length_joined : (rs : List (List ℕ)) → AllByRecursion IsRecord rs → length (joined rs) ≡ 100 * length rs
 length_joined [] h = refl
-length_joined (r ∷ rs) h = let e = length_joined rs h.1 in let one = h.0 in omega (arith, length-append r (joined rs))
+length_joined (r ∷ rs) h = let e = length_joined rs h.1 in let one = h.0 in omega
+    (arith, length-append r (joined rs))
 
 -- records and less than one more are cut into these records
-pub whole_records_are : (rs : List (List ℕ)) (rest : List ℕ) → AllByRecursion IsRecord rs → length rest < 100 → whole_records (joined rs ++ rest) ≡ rs
+pub whole_records_are : (rs : List (List ℕ)) (rest : List ℕ) → AllByRecursion IsRecord rs → length rest < 100
+    → whole_records (joined rs ++ rest) ≡ rs
 whole_records_are rs rest h few =
     let len : length (joined rs ++ rest) ≡ 100 * length rs + length rest =
     length-append (joined rs) rest ∙ ap (λ (j : ℕ). j + length rest) (length_joined rs h) in

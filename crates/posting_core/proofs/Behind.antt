@@ -1,5 +1,7 @@
 -- Rows in a vector: one is changed by a walk, and new ones are put behind the others.
-use Rattle.std.proofs.Common.{◌≡◌, ℕ, zero, suc, ◌+◌, ◌<◌, Bool, true, false, cond, eqb, List, [], ◌∷◌, ◌++◌, length, map, take, drop, set, get_or, Option, Some, None, refl, sym, ap, subst, ◌∙◌, append_assoc, append-nil, arith}
+use Rattle.std.proofs.Common.{◌≡◌, ℕ, zero, suc, ◌+◌, ◌<◌, Bool, true, false, cond, eqb, List, [], ◌∷◌, ◌++◌}
+use Rattle.std.proofs.Common.{length, map, take, drop, set, get_or, Option, Some, None, refl, sym, ap, subst}
+use Rattle.std.proofs.Common.{◌∙◌, append_assoc, append-nil, arith}
 use Rattle.std.specs.Prelude.{nat_eq}
 use Rattle.std.specs.Cmp.{nat_eq_equiv}
 use Rattle.std.specs.List.{IsDistinct}
@@ -18,31 +20,38 @@ use Rattle.posting_core.specs.Appended.{rows_from}
 
 -- ---- one row behind the others
 
-or_put : {R : Type 0} (b : Bool) (o : Option R) (x : R) → (b ≡ true → o ≡ None) → option_or o (cond b (Some x) None) ≡ cond b (Some x) o
+or_put : {R : Type 0} (b : Bool) (o : Option R) (x : R) → (b ≡ true → o ≡ None)
+    → option_or o (cond b (Some x) None) ≡ cond b (Some x) o
 or_put true o x none = ap (λ p. option_or p (Some x)) (none refl)
 or_put false (Some r) x none = refl
 or_put false None x none = refl
 
-pub row_behind : {R : Type 0} (key : R → ℕ) (rows : List R) (x : R) → HasKeys key rows → row_at key rows (key x) ≡ None → AddsRow key x rows (rows ++ x ∷ [])
+pub row_behind : {R : Type 0} (key : R → ℕ) (rows : List R) (x : R) → HasKeys key rows
+    → row_at key rows (key x) ≡ None → AddsRow key x rows (rows ++ x ∷ [])
 row_behind key rows x keys none =
     let apart = list_any_none (nat_eq (key x)) (map key rows) (All-from_recursion (λ j. nat_eq (key x) j ≡ false) (map key rows) (free_apart key rows (key x) none)) in
     record {
       rows = λ n. find-append (λ r. eqb (key r) n) rows (x ∷ [])
-          ∙ or_put (eqb (key x) n) (row_at key rows n) x (λ t. ap (row_at key rows) (sym (eqb-true (key x) n t)) ∙ none);
+          ∙ or_put (eqb (key x) n) (row_at key rows n) x
+          (λ t. ap (row_at key rows) (sym (eqb-true (key x) n t)) ∙ none);
       keys = subst (λ (ks : List ℕ). IsDistinct nat_eq ks) (sym (map-append key rows (x ∷ [])))
           (IsDistinct-push nat_eq_equiv (map key rows) (key x) keys apart);
     }
 
 -- ---- rows with numbers in a row behind the others
 
-pub rows_behind : {R : Type 0} (key : R → ℕ) (row : ℕ → R) (first count : ℕ) (rows : List R) → ((n : ℕ) → key (row n) ≡ n) → HasKeys key rows
-    → ((n : ℕ) → n < count → row_at key rows (first + n) ≡ None) → AddsRows key row first count rows (rows ++ rows_from row first count)
+pub rows_behind : {R : Type 0} (key : R → ℕ) (row : ℕ → R) (first count : ℕ) (rows : List R)
+    → ((n : ℕ) → key (row n) ≡ n) → HasKeys key rows
+    → ((n : ℕ) → n < count → row_at key rows (first + n) ≡ None)
+    → AddsRows key row first count rows (rows ++ rows_from row first count)
 rows_behind key row first zero rows own keys none =
-    subst (λ new. AddsRows key row first 0 rows new) (sym (append-nil rows)) (rows_none key row first rows keys)
+    subst (λ new. AddsRows key row first 0 rows new) (sym (append-nil rows))
+    (rows_none key row first rows keys)
 rows_behind {R} key row first (suc count) rows own keys none =
     let before = rows ++ rows_from row first count in
     let x = row (first + count) in
-    let same : before ++ x ∷ [] ≡ rows ++ (rows_from row first count ++ x ∷ []) = append_assoc rows (rows_from row first count) (x ∷ []) in
+    let same : before ++ x ∷ [] ≡ rows ++ (rows_from row first count ++ x ∷ []) = append_assoc rows
+    (rows_from row first count) (x ∷ []) in
     subst (λ (new : List R). AddsRows key row first (suc count) rows new) same
     (rows_more key row first count rows before (before ++ x ∷ []) own
     (rows_behind key row first count rows own keys (λ n lt. none n (omega arith))) (none count (omega arith))
@@ -51,18 +60,25 @@ rows_behind {R} key row first (suc count) rows own keys none =
 -- ---- a walk that changes the rows under a key
 
 -- one row more of it, under the key
-pub walk_hit : {R : Type 0} (key : R → ℕ) (k : ℕ) (change : R → R) (xs ys zs : List R) (i : ℕ) (x : R) → i < length xs
+pub walk_hit : {R : Type 0} (key : R → ℕ) (k : ℕ) (change : R → R) (xs ys zs : List R) (i : ℕ) (x : R)
+    → i < length xs
     → ys ≡ map (changed_at key k change) (take i xs) ++ drop i xs → x ≡ get_or ys i x
-    → key (get_or ys i x) ≡ k → zs ≡ set ys i (change (get_or ys i x)) → zs ≡ map (changed_at key k change) (take (i + 1) xs) ++ drop (i + 1) xs
+    → key (get_or ys i x) ≡ k → zs ≡ set ys i (change (get_or ys i x))
+    → zs ≡ map (changed_at key k change) (take (i + 1) xs) ++ drop (i + 1) xs
 walk_hit {R} key k change xs ys zs i x lt so_far is hit e =
-    let changes : changed_at key k change (get_or ys i x) ≡ change (get_or ys i x) = rw (eq-eqb (key (get_or ys i x)) k hit) refl in
-    e ∙ ap (λ (y : R). set ys i y) (sym changes ∙ ap (changed_at key k change) (sym is)) ∙ map_over_more (changed_at key k change) xs ys i x lt so_far is
+    let changes : changed_at key k change (get_or ys i x) ≡ change (get_or ys i x) = rw
+    (eq-eqb (key (get_or ys i x)) k hit) refl in
+    e ∙ ap (λ (y : R). set ys i y) (sym changes ∙ ap (changed_at key k change) (sym is)) ∙ map_over_more
+    (changed_at key k change) xs ys i x lt so_far is
 
 -- and under another
-pub walk_miss : {R : Type 0} (key : R → ℕ) (k : ℕ) (change : R → R) (xs ys zs : List R) (i : ℕ) (x : R) → i < length xs
+pub walk_miss : {R : Type 0} (key : R → ℕ) (k : ℕ) (change : R → R) (xs ys zs : List R) (i : ℕ) (x : R)
+    → i < length xs
     → ys ≡ map (changed_at key k change) (take i xs) ++ drop i xs → x ≡ get_or ys i x
-    → (key (get_or ys i x) ≡ k → ⊥) → zs ≡ set ys i (get_or ys i x) → zs ≡ map (changed_at key k change) (take (i + 1) xs) ++ drop (i + 1) xs
+    → (key (get_or ys i x) ≡ k → ⊥) → zs ≡ set ys i (get_or ys i x)
+    → zs ≡ map (changed_at key k change) (take (i + 1) xs) ++ drop (i + 1) xs
 walk_miss {R} key k change xs ys zs i x lt so_far is miss e =
     let other : eqb (key (get_or ys i x)) k ≡ false = grind (arith, nat_tests) in
     let stays : changed_at key k change (get_or ys i x) ≡ get_or ys i x = rw other refl in
-    e ∙ ap (λ (y : R). set ys i y) (sym stays ∙ ap (changed_at key k change) (sym is)) ∙ map_over_more (changed_at key k change) xs ys i x lt so_far is
+    e ∙ ap (λ (y : R). set ys i y) (sym stays ∙ ap (changed_at key k change) (sym is)) ∙ map_over_more
+    (changed_at key k change) xs ys i x lt so_far is

@@ -21,7 +21,8 @@ use Rattle.posting_rules.proofs.Empty.{empty_shown}
 use Rattle.posting_core.proofs.Appending.{record_shown, reply_is, opened_shown}
 use Rattle.posting_rules.proofs.Sequence.{commands_behind}
 
-pub empty_from : (bs : List BranchRow) (ts : List TellerRow) (xs : List AccountRow) (hs : List HistoryRow) (rs : List RequestRow) → bs ≡ [] → ts ≡ [] → xs ≡ [] → hs ≡ [] → rs ≡ []
+pub empty_from : (bs : List BranchRow) (ts : List TellerRow) (xs : List AccountRow) (hs : List HistoryRow)
+    (rs : List RequestRow) → bs ≡ [] → ts ≡ [] → xs ≡ [] → hs ≡ [] → rs ≡ []
     → Shows (record { decided = length rs; branches = bs; tellers = ts; accounts = xs; history = hs; requests = rs }) []
 empty_from bs ts xs hs rs eb et ea eh er = rw (eb, et, ea, eh, er) empty_shown
 
@@ -31,41 +32,58 @@ empty_from bs ts xs hs rs eb et ea eh er = rw (eb, et, ea, eh, er) empty_shown
 abbrev pub with_requests : Tables → List HistoryRow → List RequestRow → Tables
 with_requests t hs rs = record t { decided = length rs; history = hs; requests = rs }
 
-pub requests_as_before : (t : Tables) (hs : List HistoryRow) (rs : List RequestRow) → t.decided ≡ length t.requests → hs ≡ t.history → rs ≡ t.requests → with_requests t hs rs ≡ t
+pub requests_as_before : (t : Tables) (hs : List HistoryRow) (rs : List RequestRow)
+    → t.decided ≡ length t.requests → hs ≡ t.history → rs ≡ t.requests → with_requests t hs rs ≡ t
 requests_as_before t hs rs em eh er =
-    ap (λ (x : List HistoryRow). with_requests t x rs) eh ∙ ap (λ (x : List RequestRow). with_requests t t.history x) er
+    ap (λ (x : List HistoryRow). with_requests t x rs) eh ∙ ap
+    (λ (x : List RequestRow). with_requests t t.history x) er
     ∙ ap (λ (x : ℕ). let u : Tables = record t { decided = x } in u) (sym em)
 
 -- the tables with these rows of branches, tellers and accounts
 abbrev pub with_branches : Tables → List BranchRow → List TellerRow → List AccountRow → Tables
 with_branches t bs ts xs = record t { branches = bs; tellers = ts; accounts = xs }
 
-pub branches_as_before : (t : Tables) (bs : List BranchRow) (ts : List TellerRow) (xs : List AccountRow) → bs ≡ t.branches → ts ≡ t.tellers → xs ≡ t.accounts → with_branches t bs ts xs ≡ t
+pub branches_as_before : (t : Tables) (bs : List BranchRow) (ts : List TellerRow) (xs : List AccountRow)
+    → bs ≡ t.branches → ts ≡ t.tellers → xs ≡ t.accounts → with_branches t bs ts xs ≡ t
 branches_as_before t bs ts xs eb et ea =
-    ap (λ (y : List BranchRow). with_branches t y ts xs) eb ∙ ap (λ (y : List TellerRow). with_branches t t.branches y xs) et
+    ap (λ (y : List BranchRow). with_branches t y ts xs) eb ∙ ap
+    (λ (y : List TellerRow). with_branches t t.branches y xs) et
     ∙ ap (λ (y : List AccountRow). with_branches t t.branches t.tellers y) ea
 
-pub record_from : (t t' new : Tables) (log : List Command) (m : ℕ) (bytes : List ℕ) → new ≡ tables_with t' m (request_of bytes) → t' ≡ t → Shows t log → Shows new (Post m bytes ∷ log)
+pub record_from : (t t' new : Tables) (log : List Command) (m : ℕ) (bytes : List ℕ)
+    → new ≡ tables_with t' m (request_of bytes) → t' ≡ t → Shows t log → Shows new (Post m bytes ∷ log)
 record_from t t' new log m bytes e same s =
-    subst (λ (u : Tables). Shows u (Post m bytes ∷ log)) (sym (e ∙ ap (λ (u : Tables). tables_with u m (request_of bytes)) same)) (record_shown t log m bytes s)
+    subst (λ (u : Tables). Shows u (Post m bytes ∷ log))
+    (sym (e ∙ ap (λ (u : Tables). tables_with u m (request_of bytes)) same))
+    (record_shown t log m bytes s)
 
-pub reply_from : (t t' : Tables) (log : List Command) (bytes out : List ℕ) → out ≡ reply_spelling (reply_in_tables t' (request_of bytes)) → t' ≡ t → Shows t log → out ≡ reply_spelling (reply log bytes)
+pub reply_from : (t t' : Tables) (log : List Command) (bytes out : List ℕ)
+    → out ≡ reply_spelling (reply_in_tables t' (request_of bytes)) → t' ≡ t → Shows t log
+    → out ≡ reply_spelling (reply log bytes)
 reply_from t t' log bytes out e same s =
-    e ∙ ap (λ (u : Tables). reply_spelling (reply_in_tables u (request_of bytes))) same ∙ ap reply_spelling (reply_is t log bytes s)
+    e ∙ ap (λ (u : Tables). reply_spelling (reply_in_tables u (request_of bytes))) same ∙ ap reply_spelling
+    (reply_is t log bytes s)
 
-pub opened_from : (t t' new : Tables) (log : List Command) (b count : ℕ) → new ≡ tables_opened t' b count → t' ≡ t → count_in t b ≡ None → 1 ≤ b → count ≤ MOST_ACCOUNTS → Shows t log → Shows new (Open b count ∷ log)
+pub opened_from : (t t' new : Tables) (log : List Command) (b count : ℕ) → new ≡ tables_opened t' b count
+    → t' ≡ t → count_in t b ≡ None → 1 ≤ b → count ≤ MOST_ACCOUNTS → Shows t log
+    → Shows new (Open b count ∷ log)
 opened_from t t' new log b count e same none hb hc s =
-    subst (λ (u : Tables). Shows u (Open b count ∷ log)) (sym (e ∙ ap (λ (u : Tables). tables_opened u b count) same)) (opened_shown t log b count none hb hc s)
+    subst (λ (u : Tables). Shows u (Open b count ∷ log))
+    (sym (e ∙ ap (λ (u : Tables). tables_opened u b count) same))
+    (opened_shown t log b count none hb hc s)
 
 -- ---- what the bank shows, whose rows are all that a stop leaves
 
-pub plain_shows : (bank : PlainBank) (log : List Command) → ShowsLog (plain_seen bank) log → Shows (plain_tables bank) log
+pub plain_shows : (bank : PlainBank) (log : List Command) → ShowsLog (plain_seen bank) log
+    → Shows (plain_tables bank) log
 plain_shows bank log s = subst (λ (t : Tables). Shows t log) s.are s.shows
 
-pub shows_plain : (bank : PlainBank) (log : List Command) → AreCommands log → Shows (plain_tables bank) log → ShowsLog (plain_seen bank) log
+pub shows_plain : (bank : PlainBank) (log : List Command) → AreCommands log → Shows (plain_tables bank) log
+    → ShowsLog (plain_seen bank) log
 shows_plain bank log commands s = record { commands = commands; tables = plain_tables bank; are = refl; shows = s }
 
-stands_plain : (bank : PlainBank) (log : List Command) → AreCommands log → Shows (plain_tables bank) log → StandsAt (plain_seen bank) log
+stands_plain : (bank : PlainBank) (log : List Command) → AreCommands log → Shows (plain_tables bank) log
+    → StandsAt (plain_seen bank) log
 stands_plain bank log commands s = record {
   shows = shows_plain bank log commands s;
   up = λ h. h;
@@ -74,8 +92,11 @@ stands_plain bank log commands s = record {
 
 -- commands that its rows took
 pub takes_plain : (old new : PlainBank) (cs : List Command) → AreCommands cs
-    → ((log : List Command) → Shows (plain_tables old) log → Shows (plain_tables new) (behind log cs)) → Takes (plain_seen old) (plain_seen new) cs
+    → ((log : List Command) → Shows (plain_tables old) log → Shows (plain_tables new) (behind log cs))
+    → Takes (plain_seen old) (plain_seen new) cs
 takes_plain old new cs valid s = record {
-  shows = λ h log l. shows_plain new (behind log cs) (commands_behind log cs l.commands valid) (s log (plain_shows old log l));
-  stands = λ h log st. stands_plain new (behind log cs) (commands_behind log cs st.shows.commands valid) (s log (plain_shows old log st.shows));
+  shows = λ h log l. shows_plain new (behind log cs) (commands_behind log cs l.commands valid)
+      (s log (plain_shows old log l));
+  stands = λ h log st. stands_plain new (behind log cs) (commands_behind log cs st.shows.commands valid)
+      (s log (plain_shows old log st.shows));
 }

@@ -1,5 +1,7 @@
--- What a stream did, said of what was read and written alone: its text, what a stop may leave, and records that come again.
-use Rattle.std.proofs.Common.{◌≡◌, ℕ, zero, suc, ◌-◌, ◌<◌, ◌≤◌, List, [], ◌∷◌, ◌++◌, length, take, Option, Result, Ok, Err, sym, ap, subst, ◌∙◌, append-nil, arith}
+-- What a stream did, said of what was read and written alone: its text, what a stop may leave, and records
+-- that come again.
+use Rattle.std.proofs.Common.{◌≡◌, ℕ, zero, suc, ◌-◌, ◌<◌, ◌≤◌, List, [], ◌∷◌, ◌++◌, length, take, Option}
+use Rattle.std.proofs.Common.{Result, Ok, Err, sym, ap, subst, ◌∙◌, append-nil, arith}
 use Rattle.std.specs.List.{AllByRecursion}
 use Rattle.std.specs.Io.KnownBytes.{Appends}
 use Rattle.std.proofs.Math.Seq.{take-append_seam}
@@ -13,7 +15,8 @@ use Rattle.posting_rules.specs.Counter.{Seen, ShowsLog, ShowsBeginning}
 use Rattle.posting_rules.specs.Runs.{behind, posts, replies_to, ArePosts}
 use Rattle.posting_rules.specs.Resends.{Skips}
 use Rattle.posting_core.specs.Batches.{Batch, IsRecord, joined, records_of, posts_in, posts_of}
-use Rattle.posting_core.specs.Stream.{replies_text, acknowledged, IfTaken, Streamed, Outputs, Survives, Resends}
+use Rattle.posting_core.specs.Stream.{replies_text, acknowledged, IfTaken, Streamed, Outputs, Survives}
+use Rattle.posting_core.specs.Stream.{Resends}
 use Rattle.posting_rules.proofs.Sequence.{replies_to-append, one_reply_each}
 use Rattle.posting_rules.proofs.Resends.{shows_log_left_out}
 use Rattle.posting_core.proofs.Stops.{at_least}
@@ -24,24 +27,30 @@ use Rattle.posting_rules.proofs.Remaining.{leaves_weaker}
 -- ---- the text
 
 -- the replies to batches are the text of what was read
-text_is : (log : List Command) (bs : List Batch) (rest : List ℕ) → AllByRecursion IsRecord (records_of bs) → length rest < 100
+text_is : (log : List Command) (bs : List Batch) (rest : List ℕ) → AllByRecursion IsRecord (records_of bs)
+    → length rest < 100
     → joined (replies_to log (posts_of bs)) ≡ replies_text log (joined (records_of bs) ++ rest)
 text_is log bs rest whole few =
-    ap joined (timeless log bs 0) ∙ ap (λ (rs : List (List ℕ)). joined (replies_to log (posts 0 rs))) (sym (whole_records_are (records_of bs) rest whole few))
+    ap joined (timeless log bs 0) ∙ ap (λ (rs : List (List ℕ)). joined (replies_to log (posts 0 rs)))
+    (sym (whole_records_are (records_of bs) rest whole few))
 
 -- the replies to batches, and to further ones
 replies_split : (log : List Command) (bs more : List Batch)
-    → replies_to log (posts_of (bs ++ more)) ≡ replies_to log (posts_of bs) ++ replies_to (behind log (posts_of bs)) (posts_of more)
-replies_split log bs more = ap (replies_to log) (flat_map-append posts_in bs more) ∙ replies_to-append log (posts_of bs) (posts_of more)
+    → replies_to log (posts_of (bs ++ more)) ≡ replies_to log (posts_of bs) ++ replies_to
+    (behind log (posts_of bs)) (posts_of more)
+replies_split log bs more = ap (replies_to log) (flat_map-append posts_in bs more) ∙ replies_to-append log
+    (posts_of bs) (posts_of more)
 
 -- those to the first ones are a beginning
 text_begins : (log : List Command) (bs more : List Batch)
-    → joined (replies_to log (posts_of bs)) ≡ take (length (joined (replies_to log (posts_of bs)))) (joined (replies_to log (posts_of (bs ++ more))))
+    → joined (replies_to log (posts_of bs)) ≡ take (length (joined (replies_to log (posts_of bs))))
+    (joined (replies_to log (posts_of (bs ++ more))))
 text_begins log bs more =
     let first = joined (replies_to log (posts_of bs)) in
     let rest = joined (replies_to (behind log (posts_of bs)) (posts_of more)) in
     let split : joined (replies_to log (posts_of (bs ++ more))) ≡ first ++ rest =
-    ap joined (replies_split log bs more) ∙ joined-append (replies_to log (posts_of bs)) (replies_to (behind log (posts_of bs)) (posts_of more)) in
+    ap joined (replies_split log bs more) ∙ joined-append (replies_to log (posts_of bs))
+    (replies_to (behind log (posts_of bs)) (posts_of more)) in
     sym (ap (take (length first)) split ∙ take-append_seam first rest)
 
 -- none was refused
@@ -49,17 +58,24 @@ all_taken : (bs refused : List Batch) → refused ≡ [] → bs ≡ bs ++ refuse
 all_taken bs refused e = sym (append-nil bs) ∙ ap (λ (x : List Batch). bs ++ x) (sym e)
 
 -- the text of what was read, where none was refused
-text_of : {r r' w w' k k' : Option (List ℕ)} {c c' : Seen} {result : Result ℕ StreamFault} (s : Streamed r r' w w' k k' c c' result) (log : List Command) → s.refused ≡ []
-    → joined (replies_to log (posts_of s.taken)) ≡ replies_text log (joined (records_of (s.taken ++ s.refused)) ++ s.rest)
+text_of : {r r' w w' k k' : Option (List ℕ)} {c c' : Seen} {result : Result ℕ StreamFault}
+    (s : Streamed r r' w w' k k' c c' result) (log : List Command) → s.refused ≡ []
+    → joined (replies_to log (posts_of s.taken)) ≡ replies_text log
+    (joined (records_of (s.taken ++ s.refused)) ++ s.rest)
 text_of s log none =
-    ap (λ (bs : List Batch). joined (replies_to log (posts_of bs))) (all_taken s.taken s.refused none) ∙ text_is log (s.taken ++ s.refused) s.rest s.whole s.few
+    ap (λ (bs : List Batch). joined (replies_to log (posts_of bs))) (all_taken s.taken s.refused none)
+    ∙ text_is log (s.taken ++ s.refused) s.rest s.whole s.few
 
 -- where the result says that all of it was written
-all_written : {r r' w w' k k' : Option (List ℕ)} {c c' : Seen} {result : Result ℕ StreamFault} (s : Streamed r r' w w' k k' c c' result) (log : List Command) → s.refused ≡ []
-    → s.written ≡ joined (replies_to log (posts_of s.taken)) → Appends w w' (replies_text log (joined (records_of (s.taken ++ s.refused)) ++ s.rest))
-all_written {w = w} {w' = w'} s log none e = subst (λ (t : List ℕ). Appends w w' t) (e ∙ text_of s log none) s.wrote
+all_written : {r r' w w' k k' : Option (List ℕ)} {c c' : Seen} {result : Result ℕ StreamFault}
+    (s : Streamed r r' w w' k k' c c' result) (log : List Command) → s.refused ≡ []
+    → s.written ≡ joined (replies_to log (posts_of s.taken))
+    → Appends w w' (replies_text log (joined (records_of (s.taken ++ s.refused)) ++ s.rest))
+all_written {w = w} {w' = w'} s log none e = subst (λ (t : List ℕ). Appends w w' t)
+    (e ∙ text_of s log none) s.wrote
 
-pub output_of : {r r' w w' k k' : Option (List ℕ)} {c c' : Seen} (result : Result ℕ StreamFault) → Streamed r r' w w' k k' c c' result
+pub output_of : {r r' w w' k k' : Option (List ℕ)} {c c' : Seen} (result : Result ℕ StreamFault)
+    → Streamed r r' w w' k k' c c' result
     → Outputs r r' w w' c c' result
 output_of (Ok count) s = record {
   bytes = joined (records_of (s.taken ++ s.refused)) ++ s.rest;
@@ -95,7 +111,8 @@ output_of {w = w} {w' = w'} (Err (Bank fault)) s = record {
 -- ---- what a stop leaves
 
 -- the bytes of so many replies acknowledge no more than these
-few_acknowledged : (xs ys : List (List ℕ)) (n : ℕ) → n ≤ length (joined xs) → acknowledged (xs ++ ys) n ≤ length xs
+few_acknowledged : (xs ys : List (List ℕ)) (n : ℕ) → n ≤ length (joined xs)
+    → acknowledged (xs ++ ys) n ≤ length xs
 few_acknowledged [] [] n le = omega arith
 few_acknowledged [] (y ∷ ys) zero le = omega arith
 few_acknowledged [] (y ∷ ys) (suc n) le = absurd (omega arith)
@@ -109,25 +126,30 @@ part_short : (t u : List ℕ) → t ≡ take (length t) u → length t ≤ lengt
 part_short t u e = omega (arith, ap length e, length-take (length t) u)
 
 -- no more was written than the replies to what the bank took
-written_few : {r r' w w' k k' : Option (List ℕ)} {c c' : Seen} (result : Result ℕ StreamFault) (s : Streamed r r' w w' k k' c c' result) (log : List Command)
+written_few : {r r' w w' k k' : Option (List ℕ)} {c c' : Seen} (result : Result ℕ StreamFault)
+    (s : Streamed r r' w w' k k' c c' result) (log : List Command)
     → c'.honest → ShowsLog c log → length s.written ≤ length (joined (replies_to log (posts_of s.taken)))
 written_few (Ok count) s log h shows = let e = ap length (s.replies h log shows) in omega arith
 written_few (Err (Truncated n)) s log h shows = let e = ap length (s.replies h log shows) in omega arith
 written_few (Err Read) s log h shows = let e = ap length (s.replies h log shows) in omega arith
-written_few (Err Write) s log h shows = part_short s.written (joined (replies_to log (posts_of s.taken))) (s.replies h log shows)
+written_few (Err Write) s log h shows = part_short s.written (joined (replies_to log (posts_of s.taken)))
+    (s.replies h log shows)
 written_few (Err (Bank fault)) s log h shows = let e = ap length (s.replies h log shows) in omega arith
 
 -- what was acknowledged was taken
-acknowledged_taken : (log : List Command) (bs refused : List Batch) (n : ℕ) → n ≤ length (joined (replies_to log (posts_of bs)))
+acknowledged_taken : (log : List Command) (bs refused : List Batch) (n : ℕ)
+    → n ≤ length (joined (replies_to log (posts_of bs)))
     → acknowledged (replies_to log (posts_of (bs ++ refused))) n ≤ length (posts_of bs)
 acknowledged_taken log bs refused n le =
     let first = replies_to log (posts_of bs) in
     let rest = replies_to (behind log (posts_of bs)) (posts_of refused) in
     let each : length first ≡ length (posts_of bs) = one_reply_each log (posts_of bs) (all_posts bs) in
-    subst (λ (rs : List (List ℕ)). acknowledged rs n ≤ length (posts_of bs)) (sym (replies_split log bs refused))
+    subst (λ (rs : List (List ℕ)). acknowledged rs n ≤ length (posts_of bs))
+    (sym (replies_split log bs refused))
     (subst (λ (k : ℕ). acknowledged (first ++ rest) n ≤ k) each (few_acknowledged first rest n le))
 
-pub survives_of : {r r' w w' k k' : Option (List ℕ)} {c c' : Seen} (result : Result ℕ StreamFault) → Streamed r r' w w' k k' c c' result
+pub survives_of : {r r' w w' k k' : Option (List ℕ)} {c c' : Seen} (result : Result ℕ StreamFault)
+    → Streamed r r' w w' k k' c c' result
     → Survives r r' w w' c c'
 survives_of {c' = c'} result s =
     let bs = s.taken ++ s.refused in
@@ -141,7 +163,8 @@ survives_of {c' = c'} result s =
       records = posted_is bs ∙ sym (whole_records_are (records_of bs) s.rest s.whole s.few);
       stop = λ h log stood. leaves_weaker c' _ _
           (λ t b.
-          let few = acknowledged_taken log s.taken s.refused (length s.written) (written_few result s log h stood.shows) in
+          let few = acknowledged_taken log s.taken s.refused (length s.written)
+          (written_few result s log h stood.shows) in
           at_least log (posts_of bs) (length (posts_of s.taken)) _ t few b)
           (s.stop h log stood);
     }
@@ -149,12 +172,15 @@ survives_of {c' = c'} result s =
 -- ---- records that come again
 
 -- a bank that shows what was taken shows it without those that stand in p
-tables_left : (c : Seen) (log p added : List Command) (bs refused : List Batch) → refused ≡ [] → ArePosts p → Skips p (posts_of (bs ++ refused)) added
+tables_left : (c : Seen) (log p added : List Command) (bs refused : List Batch) → refused ≡ [] → ArePosts p
+    → Skips p (posts_of (bs ++ refused)) added
     → ShowsLog c (behind (behind log p) (posts_of bs)) → ShowsLog c (behind (behind log p) added)
 tables_left c log p added bs refused none hp skips shows =
-    shows_log_left_out c log p (posts_of bs) added hp (all_posts bs) (subst (λ (x : List Batch). Skips p (posts_of x) added) (sym (all_taken bs refused none)) skips) shows
+    shows_log_left_out c log p (posts_of bs) added hp (all_posts bs)
+    (subst (λ (x : List Batch). Skips p (posts_of x) added) (sym (all_taken bs refused none)) skips) shows
 
-tables_again : {r r' w w' k k' : Option (List ℕ)} {c c' : Seen} (result : Result ℕ StreamFault) (s : Streamed r r' w w' k k' c c' result) (log p added : List Command)
+tables_again : {r r' w w' k k' : Option (List ℕ)} {c c' : Seen} (result : Result ℕ StreamFault)
+    (s : Streamed r r' w w' k k' c c' result) (log p added : List Command)
     → c'.honest → ArePosts p → Skips p (posts_of (s.taken ++ s.refused)) added → ShowsLog c (behind log p)
     → IfTaken result (ShowsLog c' (behind (behind log p) added))
 tables_again {c' = c'} (Ok count) s log p added h hp skips shows =
@@ -167,7 +193,8 @@ tables_again {c' = c'} (Err Write) s log p added h hp skips shows =
     tables_left c' log p added s.taken s.refused s.ends hp skips (s.shows h (behind log p) shows)
 tables_again (Err (Bank fault)) s log p added h hp skips shows = tt
 
-pub resends_of : {r r' w w' k k' : Option (List ℕ)} {c c' : Seen} (result : Result ℕ StreamFault) → Streamed r r' w w' k k' c c' result → Resends r r' c c' result
+pub resends_of : {r r' w w' k k' : Option (List ℕ)} {c c' : Seen} (result : Result ℕ StreamFault)
+    → Streamed r r' w w' k k' c c' result → Resends r r' c c' result
 resends_of result s =
     let bs = s.taken ++ s.refused in
     record {

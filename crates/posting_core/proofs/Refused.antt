@@ -1,5 +1,6 @@
 -- What stands where the bank refused a batch of a stream.
-use Rattle.std.proofs.Common.{◌≡◌, ◌≤◌, ◌<◌, ℕ, List, [], ◌∷◌, ◌++◌, length, Option, Err, refl, sym, ap, subst, ◌∙◌, length-append, arith}
+use Rattle.std.proofs.Common.{◌≡◌, ◌≤◌, ◌<◌, ℕ, List, [], ◌∷◌, ◌++◌, length, Option, Err, refl, sym, ap}
+use Rattle.std.proofs.Common.{subst, ◌∙◌, length-append, arith}
 use Rattle.std.specs.List.{AllByRecursion}
 use Rattle.std.proofs.lemmas.List.{length-map}
 use Rattle.posting_rules.specs.declared.fault.Fault.{Fault}
@@ -11,7 +12,8 @@ use Rattle.posting_rules.specs.Commands.{Command, Post}
 use Rattle.posting_rules.specs.Counter.{Seen, Refuses}
 use Rattle.posting_rules.specs.Runs.{posts, ArePosts}
 use Rattle.posting_core.specs.Batches.{Batch, IsRecord, joined, records_of, posts_of, BreaksOff}
-use Rattle.posting_core.specs.Stream.{IfBank, IfTaken, IsRefusedBehind, UnlessDown, posted_records, whole_records}
+use Rattle.posting_core.specs.Stream.{IfBank, IfTaken, IsRefusedBehind, UnlessDown, posted_records}
+use Rattle.posting_core.specs.Stream.{whole_records}
 use Rattle.posting_core.proofs.Batched.{all_posts, posted_is, posts_of_one_more, whole_records_are}
 use Rattle.posting_core.proofs.Streaming.{Going, read_batch, whole_batch}
 
@@ -30,7 +32,8 @@ none_long (x ∷ xs) e = absurd (omega arith)
 -- ---- the bank refused a batch
 
 -- one that was down stays so
-pub still_down : (fault : Fault) (old new : Seen) (cs : List Command) → Refuses fault old new cs → fault ≡ Down → new.is_down
+pub still_down : (fault : Fault) (old new : Seen) (cs : List Command) → Refuses fault old new cs
+    → fault ≡ Down → new.is_down
 still_down Memory old new cs u e = absurd (cc e)
 still_down Store old new cs u e = u.down
 still_down Down old new cs u e = u.after
@@ -38,11 +41,14 @@ still_down (Damaged rule) old new cs u e = u.down
 
 pub refused_broken : {C : Type 0} (seen : C → Seen) (old stood new : C) {r r' w w' k k' : Option (List ℕ)} {count : ℕ} (v v' : Option (List ℕ)) (fault : StreamFault)
     (m : ℕ) (all rest : List ℕ) (rs : List (List ℕ)) → Going r r' w w' k k' (seen old) (seen stood) all count
-    → (all ≡ joined rs ++ rest) × AllByRecursion IsRecord rs → length rest < 100 → 1 ≤ length rs → length rs ≤ RECORDS_PER_BATCH
-    → (count ≡ 0 → stood ≡ old) → ((seen stood).is_down → (seen old).is_down × (count ≡ 0)) → ((seen new).honest → (seen stood).honest)
+    → (all ≡ joined rs ++ rest) × AllByRecursion IsRecord rs → length rest < 100 → 1 ≤ length rs
+    → length rs ≤ RECORDS_PER_BATCH
+    → (count ≡ 0 → stood ≡ old) → ((seen stood).is_down → (seen old).is_down × (count ≡ 0))
+    → ((seen new).honest → (seen stood).honest)
     → BreaksOff fault v v' (seen stood) (seen new) (posts m rs) → ((seen stood).is_down → fault ≡ Bank Down)
     → IfBank fault (IsRefusedBehind seen old new r r')
-refused_broken seen old stood new {r = r} {r' = r'} {count = count} v v' (Bank fault) m all rest rs g cut few some most first up honest a down =
+refused_broken seen old stood new {r = r} {r' = r'} {count = count} v v'
+    (Bank fault) m all rest rs g cut few some most first up honest a down =
     let b : Batch = record { moment = m; records = rs } in
     let bs = g.batches ++ b ∷ [] in
     let made : posts_of bs ≡ posts_of g.batches ++ posts m rs = posts_of_one_more g.batches b in
@@ -69,13 +75,16 @@ refused_broken seen old stood new {r = r} {r' = r'} {count = count} v v' (Bank f
     }
 refused_broken seen old stood new v v' Read m all rest rs g cut few some most first up honest a down = tt
 refused_broken seen old stood new v v' Write m all rest rs g cut few some most first up honest a down = tt
-refused_broken seen old stood new v v' (Truncated n) m all rest rs g cut few some most first up honest a down = tt
+refused_broken seen old stood new v v'
+    (Truncated n) m all rest rs g cut few some most first up honest a down = tt
 
 -- ---- whether it is down
 
 -- a bank that is down after a batch that broke off was down before it
-pub up_broken : (v v' : Option (List ℕ)) (old stood new : Seen) (cs : List Command) (fault : StreamFault) → BreaksOff fault v v' stood new cs
-    → IfTaken {A = Unit {0}} (Err fault) (new.is_down → ⊥) → (stood.is_down → old.is_down) → UnlessDown (Err fault) (new.is_down → old.is_down)
+pub up_broken : (v v' : Option (List ℕ)) (old stood new : Seen) (cs : List Command) (fault : StreamFault)
+    → BreaksOff fault v v' stood new cs
+    → IfTaken {A = Unit {0}} (Err fault) (new.is_down → ⊥) → (stood.is_down → old.is_down)
+    → UnlessDown (Err fault) (new.is_down → old.is_down)
 up_broken v v' old stood new cs Write a up before = λ d. absurd (up d)
 up_broken v v' old stood new cs (Bank Memory) a up before = λ d. before (a.refuses.down d)
 up_broken v v' old stood new cs (Bank Store) a up before = tt

@@ -12,7 +12,8 @@ use Rattle.posting_rules.proofs.Remaining.{leaves_still, leaves_weaker}
 use Rattle.posting_rules.proofs.Sequence.{behind-append}
 
 -- a stop leaves all that was taken
-pub stop_all : (c : Seen) (log cs ds : List Command) → cs ≡ ds → StandsAt c (behind log ds) → LeavesOnly c (ShowsBeginning log cs (length ds))
+pub stop_all : (c : Seen) (log cs ds : List Command) → cs ≡ ds → StandsAt c (behind log ds)
+    → LeavesOnly c (ShowsBeginning log cs (length ds))
 stop_all c log cs ds e s = leaves_weaker c (λ t. Shows t (behind log ds)) (ShowsBeginning log cs (length ds))
     (λ t shown.
     let all : take (length ds) cs ≡ ds = ap (take (length ds)) e ∙ take_all (length ds) ds (omega arith) in
@@ -26,7 +27,8 @@ stop_all c log cs ds e s = leaves_weaker c (λ t. Shows t (behind log ds)) (Show
     s.stop
 
 -- who finds so many of the commands finds fewer too
-pub at_least : (log cs : List Command) (n k : ℕ) (t : Tables) → k ≤ n → ShowsBeginning log cs n t → ShowsBeginning log cs k t
+pub at_least : (log cs : List Command) (n k : ℕ) (t : Tables) → k ≤ n → ShowsBeginning log cs n t
+    → ShowsBeginning log cs k t
 at_least log cs n k t le b = record {
   count = b.count;
   holds = omega (arith, b.holds);
@@ -36,11 +38,14 @@ at_least log cs n k t le b = record {
 }
 
 -- what a stop leaves where the last commands were refused
-pub stop_part : (c : Seen) (log cs ds es : List Command) → es ≡ cs ++ ds → LeavesOnly c (ShowsBeginning (behind log cs) ds 0)
+pub stop_part : (c : Seen) (log cs ds es : List Command) → es ≡ cs ++ ds
+    → LeavesOnly c (ShowsBeginning (behind log cs) ds 0)
     → LeavesOnly c (ShowsBeginning log es (length cs))
-stop_part c log cs ds es e stop = leaves_weaker c (ShowsBeginning (behind log cs) ds 0) (ShowsBeginning log es (length cs))
+stop_part c log cs ds es e stop = leaves_weaker c (ShowsBeginning (behind log cs) ds 0)
+    (ShowsBeginning log es (length cs))
     (λ t b.
-    let begins : take (length cs + b.count) es ≡ cs ++ take b.count ds = ap (take (length cs + b.count)) e ∙ take-append-add cs ds b.count in
+    let begins : take (length cs + b.count) es ≡ cs ++ take b.count ds = ap (take (length cs + b.count)) e
+    ∙ take-append-add cs ds b.count in
     let same : behind log (take (length cs + b.count) es) ≡ behind (behind log cs) (take b.count ds) =
     ap (behind log) begins ∙ behind-append log cs (take b.count ds) in
     record {
@@ -53,7 +58,8 @@ stop_part c log cs ds es e stop = leaves_weaker c (ShowsBeginning (behind log cs
     stop
 
 -- refused commands leave a beginning of them
-pub refused_stop : (fault : Fault) (c c' : Seen) (log cs : List Command) → Refuses fault c c' cs → c'.honest → StandsAt c log → LeavesOnly c' (ShowsBeginning log cs 0)
+pub refused_stop : (fault : Fault) (c c' : Seen) (log cs : List Command) → Refuses fault c c' cs → c'.honest
+    → StandsAt c log → LeavesOnly c' (ShowsBeginning log cs 0)
 refused_stop Memory c c' log cs u h s = leaves_weaker c' (λ t. Shows t log) (ShowsBeginning log cs 0)
     (λ t shown. record { count = 0; holds = omega arith; within = omega arith; are = s.shows.commands; shows = shown })
     (leaves_still c c' (λ t. Shows t log) u.left s.stop)
@@ -62,7 +68,9 @@ refused_stop Down c c' log cs u h s = absurd (s.up u.before)
 refused_stop (Damaged rule) c c' log cs u h s = absurd (u.never_shown h log s.shows)
 
 -- all of one text and a beginning of the next are a beginning of both
-pub written_part : (a b t u : List ℕ) → a ≡ t → b ≡ take (length b) u → a ++ b ≡ take (length (a ++ b)) (t ++ u)
+pub written_part : (a b t u : List ℕ) → a ≡ t → b ≡ take (length b) u
+    → a ++ b ≡ take (length (a ++ b)) (t ++ u)
 written_part a b t u ea eb =
     ap (λ (x : List ℕ). x ++ b) ea ∙ ap (λ (x : List ℕ). t ++ x) eb ∙ sym (take-append-add t u (length b))
-    ∙ ap (λ (j : ℕ). take j (t ++ u)) (ap (λ (x : List ℕ). length x + length b) (sym ea) ∙ sym (length-append a b))
+    ∙ ap (λ (j : ℕ). take j (t ++ u))
+    (ap (λ (x : List ℕ). length x + length b) (sym ea) ∙ sym (length-append a b))

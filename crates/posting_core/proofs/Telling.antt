@@ -1,5 +1,7 @@
 -- Calls of a source or a sink, one after another.
-use Rattle.std.proofs.Common.{◌≡◌, ◌≤◌, ◌+◌, ℕ, false, List, [], ◌∷◌, ◌++◌, length, Option, Some, None, Result, Ok, Err, refl, sym, ap, subst, ◌∙◌, append_assoc, append-nil, arith, inl, inr}
+use Rattle.std.proofs.Common.{◌≡◌, ◌≤◌, ◌+◌, ℕ, false, List, [], ◌∷◌, ◌++◌, length, Option, Some, None}
+use Rattle.std.proofs.Common.{Result, Ok, Err, refl, sym, ap, subst, ◌∙◌, append_assoc, append-nil, arith}
+use Rattle.std.proofs.Common.{inl, inr}
 use Rattle.std.specs.Prelude.{◌⊎◌, ◌-◌, ◌^◌, ◌≢◌}
 use Rattle.std.proofs.lemmas.List.{length-append}
 use Rattle.std.specs.IoError.{error_kind}
@@ -8,13 +10,17 @@ use Rattle.std.specs.declared.io.ErrorKind.{ErrorKind}
 use Rattle.std.specs.contracts.io.ErrorKind.{the_type}
 use denote.Enum.Bare.{sameb}
 use Rattle.std.specs.declared.io.ErrorKind.TheVariants.{Interrupted}
-use Rattle.posting_core.specs.Told.{Adds, EndsWith, HasMore, HasReadFailed, HasWriteFailed, IsEndOfInput, IsReadFailure, IsWornOut, IsWriteFailure, ReadTold, WriteTold, read_told, write_told, flush_told}
+use Rattle.posting_core.specs.Told.{Adds, EndsWith, HasMore, HasReadFailed, HasWriteFailed, IsEndOfInput}
+use Rattle.posting_core.specs.Told.{IsReadFailure, IsWornOut, IsWriteFailure, ReadTold, WriteTold, read_told}
+use Rattle.posting_core.specs.Told.{write_told, flush_told}
 
-adds-more : {A : Type 0} (a b c : Option (List A)) (xs ys : List A) → Adds a b xs → Adds b c ys → Adds a c (xs ++ ys)
+adds-more : {A : Type 0} (a b c : Option (List A)) (xs ys : List A) → Adds a b xs → Adds b c ys
+    → Adds a c (xs ++ ys)
 adds-more None b c xs ys x y = tt
 adds-more (Some before) None c xs ys x y = absurd x
 adds-more (Some before) (Some some) None xs ys x y = absurd y
-adds-more {A} (Some before) (Some some) (Some all) xs ys x y = y ∙ ap (λ (t : List A). t ++ ys) x ∙ append_assoc before xs ys
+adds-more {A} (Some before) (Some some) (Some all) xs ys x y = y ∙ ap (λ (t : List A). t ++ ys) x
+    ∙ append_assoc before xs ys
 
 pub adds-none : {A : Type 0} (a : Option (List A)) → Adds a a []
 adds-none None = tt
@@ -31,7 +37,8 @@ pub made_none : {A : Type 0} (a : Option (List A)) → HasMade a a 0
 made_none a = record { calls = []; made = adds-none a; count_is = refl }
 
 -- and then one more
-pub made_one : {A : Type 0} {a b c : Option (List A)} {count : ℕ} (x : A) (count' : ℕ) → HasMade a b count → Adds b c (x ∷ []) → count' ≡ count + 1
+pub made_one : {A : Type 0} {a b c : Option (List A)} {count : ℕ} (x : A) (count' : ℕ) → HasMade a b count
+    → Adds b c (x ∷ []) → count' ≡ count + 1
     → HasMade a c count'
 made_one {a = a} {b = b} {c = c} x count' h y e = record {
   calls = h.calls ++ x ∷ [];
@@ -40,11 +47,13 @@ made_one {a = a} {b = b} {c = c} x count' h y e = record {
 }
 
 -- the last of them
-pub made_last : {A : Type 0} (P : A → Type 0) {a b c : Option (List A)} {count : ℕ} (x : A) → HasMade a b count → Adds b c (x ∷ []) → P x → EndsWith P a c
+pub made_last : {A : Type 0} (P : A → Type 0) {a b c : Option (List A)} {count : ℕ} (x : A)
+    → HasMade a b count → Adds b c (x ∷ []) → P x → EndsWith P a c
 made_last P {a = a} {b = b} {c = c} x h y p = record { earlier = h.calls; last = x; made = adds-more a b c h.calls (x ∷ []) h.made y; is = p }
 
 -- as many as there can be
-pub made_many : {A : Type 0} {a b : Option (List A)} {count : ℕ} → HasMade a b count → 2 ^ 64 - 1 ≤ count → IsWornOut a b
+pub made_many : {A : Type 0} {a b : Option (List A)} {count : ℕ} → HasMade a b count → 2 ^ 64 - 1 ≤ count
+    → IsWornOut a b
 made_many h le = record { calls = h.calls; made = h.made; many = omega (arith, h.count_is) }
 
 -- ---- behind calls that were made before
@@ -55,7 +64,8 @@ more_none a = record { calls = []; made = adds-none a }
 pub more_more : {A : Type 0} {a b c : Option (List A)} → HasMore a b → HasMore b c → HasMore a c
 more_more {a = a} {b = b} {c = c} x y = record { calls = x.calls ++ y.calls; made = adds-more a b c x.calls y.calls x.made y.made }
 
-pub more_last : {A : Type 0} (P : A → Type 0) {a b c : Option (List A)} → HasMore a b → EndsWith P b c → EndsWith P a c
+pub more_last : {A : Type 0} (P : A → Type 0) {a b c : Option (List A)} → HasMore a b → EndsWith P b c
+    → EndsWith P a c
 more_last {A} P {a = a} {b = b} {c = c} h e = record {
   earlier = h.calls ++ e.earlier;
   last = e.last;
@@ -75,32 +85,42 @@ more_many {a = a} {b = b} {c = c} h w = record {
 }
 
 -- a failure behind them is one of all
-pub more_failed : {A : Type 0} (P : A → Type 0) {a b c : Option (List A)} → HasMore a b → EndsWith P b c ⊎ IsWornOut b c → EndsWith P a c ⊎ IsWornOut a c
+pub more_failed : {A : Type 0} (P : A → Type 0) {a b c : Option (List A)} → HasMore a b
+    → EndsWith P b c ⊎ IsWornOut b c → EndsWith P a c ⊎ IsWornOut a c
 more_failed P h (inl e) = inl (more_last P h e)
 more_failed P h (inr w) = inr (more_many h w)
 
 -- ---- one read, and one write
 
 -- a kind that a comparison told apart
-pub other_kind : (k : ErrorKind) (e : Error) → false ≡ sameb the_type k Interrupted → k ≡ error_kind e → error_kind e ≢ Interrupted
-other_kind k e differs is same = cc (subst (λ (x : ErrorKind). false ≡ sameb the_type x Interrupted) (is ∙ same) differs)
+pub other_kind : (k : ErrorKind) (e : Error) → false ≡ sameb the_type k Interrupted → k ≡ error_kind e
+    → error_kind e ≢ Interrupted
+other_kind k e differs is same = cc
+    (subst (λ (x : ErrorKind). false ≡ sameb the_type x Interrupted) (is ∙ same) differs)
 
-pub read_ended : {a b c : Option (List ReadTold)} {count : ℕ} (r : Result ℕ Error) (n : ℕ) → HasMade a b count → Adds b c (read_told r ∷ []) → r ≡ Ok n → n ≡ 0
+pub read_ended : {a b c : Option (List ReadTold)} {count : ℕ} (r : Result ℕ Error) (n : ℕ) → HasMade a b count
+    → Adds b c (read_told r ∷ []) → r ≡ Ok n → n ≡ 0
     → EndsWith IsEndOfInput a c
 read_ended r n h tells is none = made_last IsEndOfInput (read_told r) h tells (rw is none)
 
-pub read_failed : {a b c : Option (List ReadTold)} {count : ℕ} (r : Result ℕ Error) (e : Error) → HasMade a b count → Adds b c (read_told r ∷ []) → r ≡ Err e
+pub read_failed : {a b c : Option (List ReadTold)} {count : ℕ} (r : Result ℕ Error) (e : Error)
+    → HasMade a b count → Adds b c (read_told r ∷ []) → r ≡ Err e
     → error_kind e ≢ Interrupted → HasReadFailed a c
 read_failed r e h tells is kind = inl (made_last IsReadFailure (read_told r) h tells (rw is kind))
 
-pub write_empty : {a b c : Option (List WriteTold)} {count : ℕ} (bytes : List ℕ) (r : Result ℕ Error) (n : ℕ) → HasMade a b count
+pub write_empty : {a b c : Option (List WriteTold)} {count : ℕ} (bytes : List ℕ) (r : Result ℕ Error) (n : ℕ)
+    → HasMade a b count
     → Adds b c (write_told bytes r ∷ []) → r ≡ Ok n → n ≡ 0 → 1 ≤ length bytes → HasWriteFailed a c
-write_empty bytes r n h tells is none some = inl (made_last IsWriteFailure (write_told bytes r) h tells (rw is (some, none)))
+write_empty bytes r n h tells is none some = inl
+    (made_last IsWriteFailure (write_told bytes r) h tells (rw is (some, none)))
 
-pub write_failed : {a b c : Option (List WriteTold)} {count : ℕ} (bytes : List ℕ) (r : Result ℕ Error) (e : Error) → HasMade a b count
+pub write_failed : {a b c : Option (List WriteTold)} {count : ℕ} (bytes : List ℕ) (r : Result ℕ Error)
+    (e : Error) → HasMade a b count
     → Adds b c (write_told bytes r ∷ []) → r ≡ Err e → error_kind e ≢ Interrupted → HasWriteFailed a c
-write_failed bytes r e h tells is kind = inl (made_last IsWriteFailure (write_told bytes r) h tells (rw is kind))
+write_failed bytes r e h tells is kind = inl
+    (made_last IsWriteFailure (write_told bytes r) h tells (rw is kind))
 
-pub flush_failed : {A : Type 0} {a b c : Option (List WriteTold)} (r : Result A Error) (e : Error) → HasMore a b → Adds b c (flush_told r ∷ []) → r ≡ Err e
+pub flush_failed : {A : Type 0} {a b c : Option (List WriteTold)} (r : Result A Error) (e : Error)
+    → HasMore a b → Adds b c (flush_told r ∷ []) → r ≡ Err e
     → HasWriteFailed a c
 flush_failed r e h tells is = inl (more_last IsWriteFailure h (record { earlier = []; last = flush_told r; made = tells; is = rw is tt }))

@@ -7,7 +7,8 @@ use Rattle.posting_rules.specs.Commands.{Command}
 use Rattle.posting_rules.specs.Counter.{Seen}
 use Rattle.posting_core.specs.Batches.{BreaksOff}
 use Rattle.posting_core.specs.Stream.{EndsAs}
-use Rattle.posting_core.specs.Told.{ReadTold, WriteTold, EndsWith, HasMore, HasWriteFailed, IsFlush, IsThrough, IsWriteFailure}
+use Rattle.posting_core.specs.Told.{ReadTold, WriteTold, EndsWith, HasMore, HasWriteFailed, IsFlush}
+use Rattle.posting_core.specs.Told.{IsThrough, IsWriteFailure}
 use Rattle.posting_core.proofs.Telling.{adds-none, last_some, more_failed, more_last}
 
 pub through_first : (w : Option (List WriteTold)) → IsThrough w w
@@ -18,13 +19,17 @@ through_more (inl none) = record { calls = _; made = none }
 through_more (inr flushed) = last_some IsFlush flushed
 
 -- a batch more was written and flushed
-pub through_batch : {w w' w'' : Option (List WriteTold)} → IsThrough w w' → EndsWith IsFlush w' w'' → IsThrough w w''
+pub through_batch : {w w' w'' : Option (List WriteTold)} → IsThrough w w' → EndsWith IsFlush w' w''
+    → IsThrough w w''
 through_batch h flushed = inr (more_last IsFlush (through_more h) flushed)
 
 -- a batch broke off
-pub ends_broken : (r r' : Option (List ReadTold)) (w w' w'' : Option (List WriteTold)) (k k' : Option (List ℕ)) (c c' : Seen) (cs : List Command) (fault : StreamFault)
-    → IsThrough w w' → BreaksOff fault k k' c c' cs → (fault ≡ Write → HasWriteFailed w' w'') → (fault ≢ Write → w'' ≡ w') → EndsAs (Err fault) r r' w w''
-ends_broken r r' w w' w'' k k' c c' cs Write h a unwritten unasked = more_failed IsWriteFailure (through_more h) (unwritten refl)
+pub ends_broken : (r r' : Option (List ReadTold)) (w w' w'' : Option (List WriteTold))
+    (k k' : Option (List ℕ)) (c c' : Seen) (cs : List Command) (fault : StreamFault)
+    → IsThrough w w' → BreaksOff fault k k' c c' cs → (fault ≡ Write → HasWriteFailed w' w'')
+    → (fault ≢ Write → w'' ≡ w') → EndsAs (Err fault) r r' w w''
+ends_broken r r' w w' w'' k k' c c' cs Write h a unwritten unasked = more_failed IsWriteFailure
+    (through_more h) (unwritten refl)
 ends_broken r r' w w' w'' k k' c c' cs (Bank fault) h a unwritten unasked =
     subst (λ (t : Option (List WriteTold)). IsThrough w t) (sym (unasked (λ e. cc e))) h
 ends_broken r r' w w' w'' k k' c c' cs Read h a unwritten unasked = absurd a

@@ -7,9 +7,11 @@ use Rattle.posting_rules.specs.declared.facts.Verdict.TheVariants.{Unkept, Again
 use Rattle.posting_rules.specs.Commands.{branch_of_teller}
 use Rattle.posting_rules.specs.Cases.{case_of, reply_in}
 use Rattle.posting_rules.specs.Entries.{Entry, refused_entry, posted_entry, malformed_reply}
-use Rattle.posting_rules.specs.Tables.{Tables, branch_key, teller_key, account_key, branch_row_of, request_row_of, history_row_of}
+use Rattle.posting_rules.specs.Tables.{Tables, branch_key, teller_key, account_key, branch_row_of}
+use Rattle.posting_rules.specs.Tables.{request_row_of, history_row_of}
 use Rattle.posting_rules.specs.LookUps.{found_in}
-use Rattle.posting_rules.specs.Steps.{with_branch_balance, with_teller_balance, with_account_balance, first_teller, first_account}
+use Rattle.posting_rules.specs.Steps.{with_branch_balance, with_teller_balance, with_account_balance}
+use Rattle.posting_rules.specs.Steps.{first_teller, first_account}
 use Rattle.posting_rules.specs.Changes.{row_changed, new_teller, new_account}
 
 -- a row for each of so many numbers from the first one on
@@ -28,7 +30,8 @@ tables_kept t e = let ordinal = t.decided + 1 in record t {
 abbrev pub tables_posted : Tables → Entry → ℤ → ℤ → Tables
 tables_posted t e teller branch = let ordinal = t.decided + 1 in record {
   decided = ordinal;
-  branches = row_changed branch_key (with_branch_balance branch) (branch_of_teller e.request.teller) t.branches;
+  branches = row_changed branch_key (with_branch_balance branch)
+      (branch_of_teller e.request.teller) t.branches;
   tellers = row_changed teller_key (with_teller_balance teller) e.request.teller t.tellers;
   accounts = row_changed account_key (with_account_balance e.balance) e.request.account t.accounts;
   history = t.history ++ history_row_of ordinal e ∷ [];
@@ -39,7 +42,8 @@ abbrev pub tables_after : Tables → ℕ → RequestFields → Verdict → Table
 tables_after t moment r (Unkept outcome) = t
 tables_after t moment r (Again reply) = t
 tables_after t moment r (Refused outcome) = tables_kept t (refused_entry moment r outcome)
-tables_after t moment r (Posted account teller branch) = tables_posted t (posted_entry moment r account) teller branch
+tables_after t moment r (Posted account teller branch) = tables_posted t
+    (posted_entry moment r account) teller branch
 
 -- of what was read of a record: the reply to it, and the tables after it
 abbrev pub reply_in_tables : Tables → Result RequestFields Bad → ReplyFields

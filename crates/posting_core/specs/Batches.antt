@@ -40,7 +40,8 @@ records_of bs = flat_map records_in bs
 abbrev pub posts_of : List Batch → List Command
 posts_of bs = flat_map posts_in bs
 
--- ---- what became of the commands of one batch; w and w' are the writer's known bytes, c and c' what is seen of the bank
+-- ---- what became of the commands of one batch; w and w' are the writer's known bytes, c and c' what is seen
+-- of the bank
 
 -- the bank took them, and their replies were written
 pub record IsAnswered (w w' : Option (List ℕ)) (c c' : Seen) (commands : List Command) : Type 0 where
@@ -54,10 +55,12 @@ pub record IsAnsweredInPart (w w' : Option (List ℕ)) (c c' : Seen) (commands :
   pub written : List ℕ
   pub wrote : Appends w w' written
   pub takes : Takes c c' commands
-  pub replies : c'.honest → (log : List Command) → ShowsLog c log → written ≡ take (length written) (joined (replies_to log commands))
+  pub replies : c'.honest → (log : List Command) → ShowsLog c log
+      → written ≡ take (length written) (joined (replies_to log commands))
 
 -- the bank refused them, and nothing was written
-pub record IsRefusedWhole (fault : Fault) (w w' : Option (List ℕ)) (c c' : Seen) (commands : List Command) : Type 0 where
+pub record IsRefusedWhole (fault : Fault) (w w' : Option (List ℕ)) (c c' : Seen)
+    (commands : List Command) : Type 0 where
   pub wrote : Keeps w w'
   pub refuses : Refuses fault c c' commands
 

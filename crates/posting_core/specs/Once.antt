@@ -9,7 +9,8 @@ use Rattle.posting_rules.specs.Commands.{Command, Post}
 use Rattle.posting_rules.specs.Entries.{reply}
 use Rattle.posting_rules.specs.Counter.{Seen, ShowsLog, Takes, IsUnchanged, Refuses}
 
--- The reader's known bytes before and after are r and r', the writer's w and w', and the counter is seen as c and c'.
+-- The reader's known bytes before and after are r and r', the writer's w and w', and the counter is seen as c
+-- and c'.
 
 -- the record was read and posted, and all of its reply was written
 pub record IsAnswered (r r' w w' : Option (List ℕ)) (c c' : Seen) (moment : ℕ) : Type 0 where
@@ -17,7 +18,8 @@ pub record IsAnswered (r r' w w' : Option (List ℕ)) (c c' : Seen) (moment : �
   pub whole : length bytes ≡ 100
   pub read : Consumes r r' bytes
   pub takes : Takes c c' (Post moment bytes ∷ [])
-  pub written : c'.honest → (log : List Command) → ShowsLog c log → Appends w w' (reply_spelling (reply log bytes))
+  pub written : c'.honest → (log : List Command) → ShowsLog c log
+      → Appends w w' (reply_spelling (reply log bytes))
 
 -- the input ended within a record: nothing was submitted, and nothing written
 pub record EndsShort (r r' w w' : Option (List ℕ)) (c c' : Seen) : Type 0 where
@@ -40,7 +42,8 @@ pub record IsCutOff (r r' w w' : Option (List ℕ)) (c c' : Seen) (moment : ℕ)
   pub read : Consumes r r' bytes
   pub takes : Takes c c' (Post moment bytes ∷ [])
   pub count : ℕ
-  pub written : c'.honest → (log : List Command) → ShowsLog c log → Appends w w' (take count (reply_spelling (reply log bytes)))
+  pub written : c'.honest → (log : List Command) → ShowsLog c log
+      → Appends w w' (take count (reply_spelling (reply log bytes)))
 
 -- the counter refused the record, and nothing was written
 pub record IsRefused (fault : Fault) (r r' w w' : Option (List ℕ)) (c c' : Seen) (moment : ℕ) : Type 0 where
@@ -51,7 +54,8 @@ pub record IsRefused (fault : Fault) (r r' w w' : Option (List ℕ)) (c c' : See
   pub refuses : Refuses fault c c' (Post moment bytes ∷ [])
 
 -- what stands after each fault
-abbrev pub Leaves : OnceFault → Option (List ℕ) → Option (List ℕ) → Option (List ℕ) → Option (List ℕ) → Seen → Seen → ℕ → Type 0
+abbrev pub Leaves : OnceFault → Option (List ℕ) → Option (List ℕ) → Option (List ℕ) → Option (List ℕ) → Seen
+    → Seen → ℕ → Type 0
 Leaves Short r r' w w' c c' moment = EndsShort r r' w w' c c'
 Leaves Read r r' w w' c c' moment = IsUnread w w' c c'
 Leaves Write r r' w w' c c' moment = IsCutOff r r' w w' c c' moment

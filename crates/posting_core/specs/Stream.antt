@@ -1,5 +1,6 @@
 -- A stream of records: what is read, what is written, what the bank shows, and what a stop may leave.
-use Rattle.std.specs.Prelude.{◌≡◌, ℕ, zero, suc, ◌-◌, ◌≤◌, ◌<◌, ◌/◌, List, [], ◌∷◌, ◌++◌, length, take, ⊤, Option, Result, Ok, Err}
+use Rattle.std.specs.Prelude.{◌≡◌, ℕ, zero, suc, ◌-◌, ◌≤◌, ◌<◌, ◌/◌, List, [], ◌∷◌, ◌++◌, length, take, ⊤}
+use Rattle.std.specs.Prelude.{Option, Result, Ok, Err}
 use Rattle.std.specs.List.{AllByRecursion}
 use Rattle.std.specs.Simd.{first_chunks}
 use Rattle.std.specs.Io.KnownBytes.{Appends, Consumes, IsAtEnd}
@@ -12,17 +13,19 @@ use Rattle.posting_rules.specs.Commands.{Command, Open, Post}
 use Rattle.posting_rules.specs.Counter.{Seen, ShowsLog, LeavesOnly, StandsAt, ShowsBeginning, Takes, Refuses}
 use Rattle.posting_rules.specs.Runs.{behind, posts, replies_to, ArePosts}
 use Rattle.posting_core.specs.Clock.{AreReadings}
-use Rattle.posting_core.specs.Told.{ReadTold, WriteTold, EndsWith, HasReadFailed, HasWriteFailed, IsEndOfInput, IsThrough}
+use Rattle.posting_core.specs.Told.{ReadTold, WriteTold, EndsWith, HasReadFailed, HasWriteFailed}
+use Rattle.posting_core.specs.Told.{IsEndOfInput, IsThrough}
 use Rattle.posting_core.specs.Batches.{Batch, IsRecord, joined, moments_of, records_of, posts_of}
 use Rattle.posting_rules.specs.Resends.{Skips}
 
--- The reader's known bytes before and after are r and r', the writer's w and w', the clock's known readings k and k', and
--- the bank is seen as c and c'.
+-- The reader's known bytes before and after are r and r', the writer's w and w', the clock's known readings k
+-- and k', and the bank is seen as c and c'.
 
 -- ---- batch by batch
 
 -- the input ended with a record, and so many were answered
-pub record EndsWhole (r' : Option (List ℕ)) (taken refused : List Batch) (rest : List ℕ) (count : ℕ) : Type 0 where
+pub record EndsWhole (r' : Option (List ℕ)) (taken refused : List Batch) (rest : List ℕ)
+    (count : ℕ) : Type 0 where
   pub ended : IsAtEnd r'
   pub no_rest : rest ≡ []
   pub all_taken : refused ≡ []
@@ -43,7 +46,8 @@ Ends (Err Read) r' taken refused rest = refused ≡ []
 Ends (Err Write) r' taken refused rest = refused ≡ []
 Ends (Err (Bank fault)) r' taken refused rest = length refused ≡ 1
 
--- what was written of the replies to what the bank took: a beginning where the writer failed, and all of them elsewhere
+-- what was written of the replies to what the bank took: a beginning where the writer failed, and all of them
+-- elsewhere
 abbrev pub IsWritten : Result ℕ StreamFault → List ℕ → List ℕ → Type 0
 IsWritten (Err Write) written replies = written ≡ take (length written) replies
 IsWritten _ written replies = written ≡ replies
@@ -58,7 +62,8 @@ UnlessDown (Err (Bank fault)) P = IfUp fault P
 UnlessDown _ P = P
 
 -- what a call did, whatever its result
-pub record Streamed (r r' w w' k k' : Option (List ℕ)) (c c' : Seen) (result : Result ℕ StreamFault) : Type 0 where
+pub record Streamed (r r' w w' k k' : Option (List ℕ)) (c c' : Seen)
+    (result : Result ℕ StreamFault) : Type 0 where
   -- the batches that the bank took, the one that it refused, and what was read behind them
   pub taken : List Batch
   pub refused : List Batch
@@ -73,9 +78,12 @@ pub record Streamed (r r' w w' k k' : Option (List ℕ)) (c c' : Seen) (result :
   pub ends : Ends result r' taken refused rest
   -- the replies are those to what the bank took, and that is what it shows
   pub honest : c'.honest → c.honest
-  pub replies : c'.honest → (log : List Command) → ShowsLog c log → IsWritten result written (joined (replies_to log (posts_of taken)))
-  pub shows : c'.honest → (log : List Command) → ShowsLog c log → UnlessDown result (ShowsLog c' (behind log (posts_of taken)))
-  pub stands : c'.honest → (log : List Command) → StandsAt c log → UnlessDown result (StandsAt c' (behind log (posts_of taken)))
+  pub replies : c'.honest → (log : List Command) → ShowsLog c log
+      → IsWritten result written (joined (replies_to log (posts_of taken)))
+  pub shows : c'.honest → (log : List Command) → ShowsLog c log
+      → UnlessDown result (ShowsLog c' (behind log (posts_of taken)))
+  pub stands : c'.honest → (log : List Command) → StandsAt c log
+      → UnlessDown result (StandsAt c' (behind log (posts_of taken)))
   -- a stop leaves all that it took
   pub stop : c'.honest → (log : List Command) → StandsAt c log
       → LeavesOnly c' (ShowsBeginning log (posts_of (taken ++ refused)) (length (posts_of taken)))
@@ -103,7 +111,8 @@ pub record Outputs (r r' w w' : Option (List ℕ)) (c c' : Seen) (result : Resul
 
 -- ---- what the ends told: the source from r to r', and the sink from w to w'
 
--- a fault of an end comes where that end failed; all that was written was flushed, wherever the sink didn't fail
+-- a fault of an end comes where that end failed; all that was written was flushed, wherever the sink didn't
+-- fail
 abbrev pub EndsAs : Result ℕ StreamFault → Option (List ReadTold) → Option (List ReadTold)
     → Option (List WriteTold) → Option (List WriteTold) → Type 0
 EndsAs (Ok count) r r' w w' = EndsWith IsEndOfInput r r' × IsThrough w w'
@@ -126,7 +135,8 @@ acknowledged [] n = 0
 acknowledged (reply ∷ replies) zero = 0
 acknowledged (reply ∷ replies) (suc n) = suc (acknowledged replies (suc n - length reply))
 
--- everything that a stop may leave shows the log and a beginning of what was read, which holds all that was acknowledged
+-- everything that a stop may leave shows the log and a beginning of what was read, which holds all that was
+-- acknowledged
 pub record Survives (r r' w w' : Option (List ℕ)) (c c' : Seen) : Type 0 where
   pub bytes : List ℕ
   pub read : Consumes r r' bytes
@@ -145,14 +155,16 @@ abbrev pub IfTaken : {A : Type 0} → Result A StreamFault → Type 0 → Type 0
 IfTaken (Err (Bank fault)) P = ⊤
 IfTaken _ P = P
 
--- where a bank showed posts p and took all that was read, it shows p and then what was read less the records that stand in p
+-- where a bank showed posts p and took all that was read, it shows p and then what was read less the records
+-- that stand in p
 pub record Resends (r r' : Option (List ℕ)) (c c' : Seen) (result : Result ℕ StreamFault) : Type 0 where
   pub bytes : List ℕ
   pub read : Consumes r r' bytes
   pub commands : List Command
   pub posts : ArePosts commands
   pub records : posted_records commands ≡ whole_records bytes
-  pub tables : c'.honest → (log p added : List Command) → ArePosts p → Skips p commands added → ShowsLog c (behind log p)
+  pub tables : c'.honest → (log p added : List Command) → ArePosts p → Skips p commands added
+      → ShowsLog c (behind log p)
       → IfTaken result (ShowsLog c' (behind (behind log p) added))
 
 -- ---- what the fault of the bank says

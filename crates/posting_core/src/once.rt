@@ -41,9 +41,9 @@ impl fmt::Display for OnceFault {
 
 impl std::error::Error for OnceFault {}
 
-/// Reads a record of 100 bytes, submits it, and writes and flushes the reply. What follows in the input is left
-/// unread. `Read` and `Write` come only where a read, a write or a flush of this call failed, where a write took
-/// no byte, or where 2^64 - 1 of them were made.
+/// Reads a record of 100 bytes, submits it, and writes and flushes the reply. What follows in the input is
+/// left unread. `Read` and `Write` come only where a read, a write or a flush of this call failed, where a
+/// write took no byte, or where 2^64 - 1 of them were made.
 pub fn answer_once<R: Source, W: Sink, C: Counter>(
     reader: &mut R,
     writer: &mut W,

@@ -1,5 +1,6 @@
 //! A bank in memory.
-ghost use Rattle.std.specs.Prelude.{◌≡◌, ◌≤◌, ◌<◌, ◌+◌, ◌-◌, ◌*◌, [], ◌∷◌, ◌++◌, List, pos, length, vec_len, vec_capacity, All, IsTrue};
+ghost use Rattle.std.specs.Prelude.{◌≡◌, ◌≤◌, ◌<◌, ◌+◌, ◌-◌, ◌*◌, [], ◌∷◌, ◌++◌, List, pos, length, vec_len};
+ghost use Rattle.std.specs.Prelude.{vec_capacity, All, IsTrue};
 ghost use Rattle.message_records.specs.Spelling.{reply_spelling};
 ghost use Rattle.message_records.specs.Reading.{request_of};
 ghost use Rattle.posting_rules.specs.declared.limits.TheConstants.{MAX_DECIDED};
@@ -110,8 +111,8 @@ fn put_accounts(rows: &mut Vec<AccountRow>, first: u64, count: u64)
     }
 }
 
-/// A bank in memory, which finds its rows by walking. It is never down, and refuses a call only for want of memory,
-/// before it changed anything.
+/// A bank in memory, which finds its rows by walking. It is never down, and refuses a call only for want of
+/// memory, before it changed anything.
 #[derive(Drop)]
 pub struct PlainBank {
     alloc: Global,

@@ -1,5 +1,6 @@
 //! Bytes from a reader and to a writer, with what is known of both.
-ghost use Rattle.std.specs.Prelude.{◌≡◌, ◌≤◌, ◌<◌, ◌+◌, ◌++◌, ◌∷◌, [], ℕ, List, IfOk, OnOk, OnErr, length, take};
+ghost use Rattle.std.specs.Prelude.{◌≡◌, ◌≤◌, ◌<◌, ◌+◌, ◌++◌, ◌∷◌, [], ℕ, List, IfOk, OnOk, OnErr, length};
+ghost use Rattle.std.specs.Prelude.{take};
 ghost use Rattle.std.specs.Io.KnownBytes.{Keeps, Appends, Consumes, IsAtEnd};
 ghost use Rattle.posting_core.specs.Told.{Adds, EndsWith, HasMore, HasReadFailed, HasWriteFailed};
 ghost use Rattle.posting_core.specs.Told.{IsEndOfInput, IsFlush, read_told};
@@ -29,8 +30,8 @@ pub fn fill<R: Source>(reader: &mut R, buffer: &mut [u8], filled: usize) -> io::
     reader.give(&mut buffer[filled..])
 }
 
-/// Reads until the buffer is full or the input ends, and answers how many bytes were read. An interrupted read is made
-/// again. A reader that was asked 2^64 - 1 times counts as failed.
+/// Reads until the buffer is full or the input ends, and answers how many bytes were read. An interrupted
+/// read is made again. A reader that was asked 2^64 - 1 times counts as failed.
 pub fn read_full<R: Source>(reader: &mut R, buffer: &mut [u8]) -> Result<usize, ReadFailed>
     ensures within { IfOk result (λ n. n ≤ length buffer.new) }
     ensures bytes { IfOk result (λ n. Consumes (R.remaining reader.old) (R.remaining reader.new) (take n buffer.new)) }

@@ -9,13 +9,16 @@ use Rattle.posting_rules.specs.Runs.{replies_to}
 use Rattle.posting_rules.proofs.Calls.{opens}
 use Rattle.posting_rules.proofs.Records.{past_reply, past_shown}
 
-pub answer_alike : (t : Tables) (one two cs : List Command) → Shows t one → Shows t two → AreCommands cs → replies_to one cs ≡ replies_to two cs
+pub answer_alike : (t : Tables) (one two cs : List Command) → Shows t one → Shows t two → AreCommands cs
+    → replies_to one cs ≡ replies_to two cs
 answer_alike t one two [] s u valid = refl
 answer_alike t one two (Post m bytes ∷ cs) s u valid =
-    ap (λ (out : List ℕ). out ∷ replies_to (Post m bytes ∷ one) cs) (sym (past_reply t one bytes s) ∙ past_reply t two bytes u)
+    ap (λ (out : List ℕ). out ∷ replies_to (Post m bytes ∷ one) cs)
+    (sym (past_reply t one bytes s) ∙ past_reply t two bytes u)
     ∙ ap (λ (rest : List (List ℕ)). reply_spelling (reply two bytes) ∷ rest)
     (answer_alike (tables_past t m bytes) (Post m bytes ∷ one) (Post m bytes ∷ two) cs
     (past_shown t one m bytes s) (past_shown t two m bytes u) valid.1)
 answer_alike t one two (Open b count ∷ cs) s u valid =
     let is = opens b count valid.0.0 valid.0.3 in
-    answer_alike (tables_with_branch t b count) (Open b count ∷ one) (Open b count ∷ two) cs (is t one s) (is t two u) valid.1
+    answer_alike (tables_with_branch t b count) (Open b count ∷ one) (Open b count ∷ two) cs (is t one s)
+    (is t two u) valid.1

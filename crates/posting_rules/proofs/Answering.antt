@@ -21,19 +21,23 @@ record BothShown (one two : List Command) : Type 0 where
   first : Shows tables one
   second : Shows tables two
 
-both_shown : (t : Tables) (one two cs : List Command) → Shows t one → Shows t two → AreCommands cs → BothShown (behind one cs) (behind two cs)
+both_shown : (t : Tables) (one two cs : List Command) → Shows t one → Shows t two → AreCommands cs
+    → BothShown (behind one cs) (behind two cs)
 both_shown t one two [] s u valid = record { tables = t; first = s; second = u }
 both_shown t one two (Post m bytes ∷ cs) s u valid =
-    both_shown (tables_past t m bytes) (Post m bytes ∷ one) (Post m bytes ∷ two) cs (past_shown t one m bytes s) (past_shown t two m bytes u) valid.1
+    both_shown (tables_past t m bytes) (Post m bytes ∷ one) (Post m bytes ∷ two) cs
+    (past_shown t one m bytes s) (past_shown t two m bytes u) valid.1
 both_shown t one two (Open b count ∷ cs) s u valid =
     let is = opens b count valid.0.0 valid.0.3 in
-    both_shown (tables_with_branch t b count) (Open b count ∷ one) (Open b count ∷ two) cs (is t one s) (is t two u) valid.1
+    both_shown (tables_with_branch t b count) (Open b count ∷ one) (Open b count ∷ two) cs (is t one s)
+    (is t two u) valid.1
 
 -- ---- logs with equal tables
 
 opened_alike : (one two : List Command) → BothShown one two → (b : ℕ) → opened one b ≡ opened two b
 opened_alike one two x b =
-    sym (count_shown x.tables (λ n. opened one n) (decided one) b x.first.rows) ∙ count_shown x.tables (λ n. opened two n) (decided two) b x.second.rows
+    sym (count_shown x.tables (λ n. opened one n) (decided one) b x.first.rows) ∙ count_shown x.tables
+    (λ n. opened two n) (decided two) b x.second.rows
 
 -- an open branch has one balance
 open_alike : (one two : List Command) → BothShown one two → (b n : ℕ) → opened one b ≡ Some n
@@ -42,10 +46,12 @@ open_alike one two x b n is =
     let other : opened two b ≡ Some n = sym (opened_alike one two x b) ∙ is in
     let rows = sym (x.first.rows.branches b) ∙ x.second.rows.branches b in
     let same = rw (is, other) at rows in
-    let balances : Some (branch_balance (decided one) b) ≡ Some (branch_balance (decided two) b) = ap (option_map balance_of_branch) same in
+    let balances : Some (branch_balance (decided one) b) ≡ Some (branch_balance (decided two) b) = ap
+    (option_map balance_of_branch) same in
     cc balances
 
-next_alike : (one two : List Command) → BothShown one two → (after : ℕ) (line : Option BranchLine) → IsNextBranch one after line → IsNextBranch two after line
+next_alike : (one two : List Command) → BothShown one two → (after : ℕ) (line : Option BranchLine)
+    → IsNextBranch one after line → IsNextBranch two after line
 next_alike one two x after None h = λ b above. sym (opened_alike one two x b) ∙ h b above
 next_alike one two x after (Some line) h = record {
   above = h.above;
@@ -56,20 +62,25 @@ next_alike one two x after (Some line) h = record {
 
 -- ---- whatever commands follow
 
-both_of : (t : Tables) (one two cs : List Command) → AreAlike t one two cs → BothShown (behind one cs) (behind two cs)
+both_of : (t : Tables) (one two cs : List Command) → AreAlike t one two cs
+    → BothShown (behind one cs) (behind two cs)
 both_of t one two cs a = both_shown t one two cs a.first a.second a.valid
 
 pub openings_alike : (t : Tables) (one two cs : List Command) → AreAlike t one two cs → (b count : ℕ)
     → opening_behind (behind one cs) b count ≡ opening_behind (behind two cs) b count
 openings_alike t one two cs a b count =
-    ap (λ (o : Option ℕ). opening_for o count) (opened_alike (behind one cs) (behind two cs) (both_of t one two cs a) b)
+    ap (λ (o : Option ℕ). opening_for o count)
+    (opened_alike (behind one cs) (behind two cs) (both_of t one two cs a) b)
 
 pub balances_alike : (t : Tables) (one two cs : List Command) → AreAlike t one two cs → (account : ℕ)
     → balance_behind (behind one cs) account ≡ balance_behind (behind two cs) account
 balances_alike t one two cs a account =
     let x = both_of t one two cs a in
-    sym (balance_shown x.tables (behind one cs) account x.first) ∙ balance_shown x.tables (behind two cs) account x.second
+    sym (balance_shown x.tables (behind one cs) account x.first) ∙ balance_shown x.tables
+    (behind two cs) account x.second
 
-pub branches_alike : (t : Tables) (one two cs : List Command) → AreAlike t one two cs → (after : ℕ) (line : Option BranchLine)
+pub branches_alike : (t : Tables) (one two cs : List Command) → AreAlike t one two cs
+    → (after : ℕ) (line : Option BranchLine)
     → IsNextBranch (behind one cs) after line → IsNextBranch (behind two cs) after line
-branches_alike t one two cs a after line = next_alike (behind one cs) (behind two cs) (both_of t one two cs a) after line
+branches_alike t one two cs a after line = next_alike (behind one cs) (behind two cs)
+    (both_of t one two cs a) after line

@@ -1,5 +1,6 @@
 -- What a request, an opening and a look-up do to the tables is what the commands lead to.
-use Rattle.std.proofs.Common.{◌≡◌, ℕ, ◌+◌, ◌≤◌, List, [], ◌∷◌, Option, Some, None, Ok, refl, sym, ap, subst, ◌∙◌}
+use Rattle.std.proofs.Common.{◌≡◌, ℕ, ◌+◌, ◌≤◌, List, [], ◌∷◌, Option, Some, None, Ok, refl, sym, ap, subst}
+use Rattle.std.proofs.Common.{◌∙◌}
 use Rattle.std.specs.Option.{option_map}
 use Rattle.message_records.specs.Records.{RequestFields}
 use Rattle.message_records.specs.Reading.{request_of}
@@ -28,32 +29,40 @@ IsChange after cs = (t : Tables) (log : List Command) → Show t log → Show (a
 
 -- ---- a request
 
-pub posts : (m : ℕ) (bytes : List ℕ) (r : RequestFields) → request_of bytes ≡ Ok r → IsChange (λ t. tables_with t m r) (Post m bytes ∷ [])
+pub posts : (m : ℕ) (bytes : List ℕ) (r : RequestFields) → request_of bytes ≡ Ok r
+    → IsChange (λ t. tables_with t m r) (Post m bytes ∷ [])
 posts m bytes r read t log shows =
     let v = case_of (found_in t r) r in
     let step = step_is t m r v (ready_shown t log shows) in
     post_shown t (tables_with t m r) log m bytes r read shows
     (subst (λ n. IsStep t (tables_with t m r) (n + 1) m r v) shows.rows.decided step)
 
-pub replies : (t : Tables) (log : List Command) (bytes : List ℕ) (r : RequestFields) → request_of bytes ≡ Ok r → Show t log
+pub replies : (t : Tables) (log : List Command) (bytes : List ℕ) (r : RequestFields) → request_of bytes ≡ Ok r
+    → Show t log
     → reply_bytes t r ≡ reply_spelling (reply log bytes)
 replies t log bytes r read shows = ap reply_spelling (reply_shown t log bytes r read shows)
 
 -- ---- an opening
 
-pub opens : (b count : ℕ) → 1 ≤ b → count ≤ MOST_ACCOUNTS → IsChange (λ t. tables_with_branch t b count) (Open b count ∷ [])
+pub opens : (b count : ℕ) → 1 ≤ b → count ≤ MOST_ACCOUNTS
+    → IsChange (λ t. tables_with_branch t b count) (Open b count ∷ [])
 opens b count above few t log shows = by_row (row_at branch_key t.branches b) refl
   where
     counted : count_in t b ≡ opened log b
     counted = count_shown t (λ x. opened log x) (decided log) b shows.rows
 
-    by_row : (o : Option BranchRow) → row_at branch_key t.branches b ≡ o → Show (opened_where o t b count) (Open b count ∷ log)
-    by_row None e = opening_shown t _ log b count (sym counted ∙ ap (option_map count_of_branch) e) above few shows
+    by_row : (o : Option BranchRow) → row_at branch_key t.branches b ≡ o
+        → Show (opened_where o t b count) (Open b count ∷ log)
+    by_row None e = opening_shown t _ log b count
+        (sym counted ∙ ap (option_map count_of_branch) e) above few shows
         (opens_is t b count (ready_shown t log shows) above few e)
-    by_row (Some row) e = already_open_shown t log b count row.accounts (sym counted ∙ ap (option_map count_of_branch) e) shows
+    by_row (Some row) e = already_open_shown t log b count row.accounts
+        (sym counted ∙ ap (option_map count_of_branch) e) shows
 
-pub answers : (t : Tables) (log : List Command) (b count : ℕ) → Show t log → opening_for (count_in t b) count ≡ opening_behind log b count
-answers t log b count shows = ap (λ o. opening_for o count) (count_shown t (λ x. opened log x) (decided log) b shows.rows)
+pub answers : (t : Tables) (log : List Command) (b count : ℕ) → Show t log
+    → opening_for (count_in t b) count ≡ opening_behind log b count
+answers t log b count shows = ap (λ o. opening_for o count)
+    (count_shown t (λ x. opened log x) (decided log) b shows.rows)
 
 -- ---- a look-up
 

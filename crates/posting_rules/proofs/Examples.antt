@@ -1,5 +1,6 @@
 -- The worked examples, computed from the definitions to the byte.
-use Rattle.std.specs.Prelude.{◌≡◌, ℕ, Bool, true, false, List, [], ◌∷◌, ◌++◌, map, pos, negsuc, refl, codes, replicate}
+use Rattle.std.specs.Prelude.{◌≡◌, ℕ, Bool, true, false, List, [], ◌∷◌, ◌++◌, map, pos, negsuc, refl, codes}
+use Rattle.std.specs.Prelude.{replicate}
 use Rattle.message_records.specs.Spelling.{digits, fields_spelling, reply_spelling}
 use Rattle.message_records.specs.Reading.{fields_of, request_of}
 use Rattle.posting_rules.specs.Commands.{Command, Open, Post}
@@ -21,7 +22,8 @@ reply_bytes fields spaces = fields ++ replicate spaces 32
 first : List ℕ
 first = request (codes "DC01000000000001000000010000010000000001+0000000500")
 
-first_posting : reply_spelling (reply bank first) ≡ reply_bytes (codes "DR0100000000000001000000010000010000000001+0000000500+000000000500POSTED") 128
+first_posting : reply_spelling (reply bank first) ≡ reply_bytes
+    (codes "DR0100000000000001000000010000010000000001+0000000500+000000000500POSTED") 128
 unfolding bank request reply_bytes first digits fields_spelling reply_spelling fields_of request_of case_of
 first_posting = refl
 
@@ -35,14 +37,16 @@ the_same_bytes_again = refl
 reused : List ℕ
 reused = request (codes "DC01000000000001000000010000010000000001+0000000501")
 
-reused_number : reply_spelling (reply one reused) ≡ reply_bytes (codes "DR0115000000000001000000010000010000000001+0000000501+000000000000REUSED NUMBER") 121
+reused_number : reply_spelling (reply one reused) ≡ reply_bytes
+    (codes "DR0115000000000001000000010000010000000001+0000000501+000000000000REUSED NUMBER") 121
 unfolding bank request reply_bytes first one reused digits fields_spelling reply_spelling fields_of request_of case_of
 reused_number = refl
 
 remote : List ℕ
 remote = request (codes "DC01000000100001000000010000010000000002-0000000700")
 
-a_remote_account : reply_spelling (reply one remote) ≡ reply_bytes (codes "DR0100000000100001000000010000010000000002-0000000700-000000000700POSTED") 128
+a_remote_account : reply_spelling (reply one remote) ≡ reply_bytes
+    (codes "DR0100000000100001000000010000010000000002-0000000700-000000000700POSTED") 128
 unfolding bank request reply_bytes first one remote digits fields_spelling reply_spelling fields_of request_of case_of
 a_remote_account = refl
 
@@ -50,39 +54,45 @@ two : List Command
 two = Post 2000 remote ∷ one
 
 -- teller 1 and branch 1 are at -200, and branch 2 at 0
-balances_of_a_remote_account : (teller_balance (decided two) 1 ≡ negsuc 199) × (branch_balance (decided two) 1 ≡ negsuc 199) × (branch_balance (decided two) 2 ≡ pos 0)
+balances_of_a_remote_account : (teller_balance (decided two) 1 ≡ negsuc 199) ×
+    (branch_balance (decided two) 1 ≡ negsuc 199) × (branch_balance (decided two) 2 ≡ pos 0)
 unfolding bank request first one remote two digits fields_spelling fields_of request_of case_of
 balances_of_a_remote_account = (refl, refl, refl)
 
 late : List ℕ
 late = request (codes "DC01000000000001000000210000030000000001+0000000005")
 
-unknown_teller : reply_spelling (reply two late) ≡ reply_bytes (codes "DR0111000000000001000000210000030000000001+0000000005+000000000000NO TELLER") 125
+unknown_teller : reply_spelling (reply two late) ≡ reply_bytes
+    (codes "DR0111000000000001000000210000030000000001+0000000005+000000000000NO TELLER") 125
 unfolding bank request reply_bytes first one remote two late digits fields_spelling reply_spelling fields_of request_of case_of
 unknown_teller = refl
 
-then_opened : reply_spelling (reply (Open 3 1 ∷ Post 3000 late ∷ two) late) ≡ reply_bytes (codes "DR0100000000000001000000210000030000000001+0000000005+000000000505POSTED") 128
+then_opened : reply_spelling (reply (Open 3 1 ∷ Post 3000 late ∷ two) late) ≡ reply_bytes
+    (codes "DR0100000000000001000000210000030000000001+0000000005+000000000505POSTED") 128
 unfolding bank request reply_bytes first one remote two late digits fields_spelling reply_spelling fields_of request_of case_of
 then_opened = refl
 
 elsewhere : List ℕ
 elsewhere = request (codes "DC01000000000001000000010000020000000003+0000000005")
 
-wrong_branch : reply_spelling (reply two elsewhere) ≡ reply_bytes (codes "DR0112000000000001000000010000020000000003+0000000005+000000000000WRONG BRANCH") 122
+wrong_branch : reply_spelling (reply two elsewhere) ≡ reply_bytes
+    (codes "DR0112000000000001000000010000020000000003+0000000005+000000000000WRONG BRANCH") 122
 unfolding bank request reply_bytes first one remote two elsewhere digits fields_spelling reply_spelling fields_of request_of case_of
 wrong_branch = refl
 
 nowhere : List ℕ
 nowhere = request (codes "DC01000000000004000000010000010000000004+0000000005")
 
-no_account : reply_spelling (reply two nowhere) ≡ reply_bytes (codes "DR0113000000000004000000010000010000000004+0000000005+000000000000NO ACCOUNT") 124
+no_account : reply_spelling (reply two nowhere) ≡ reply_bytes
+    (codes "DR0113000000000004000000010000010000000004+0000000005+000000000000NO ACCOUNT") 124
 unfolding bank request reply_bytes first one remote two nowhere digits fields_spelling reply_spelling fields_of request_of case_of
 no_account = refl
 
 lettered : List ℕ
 lettered = codes "DC01000000000001000000010000010000000001+0000000500" ++ replicate 48 32 ++ codes "X"
 
-a_letter_in_the_filler : reply_spelling (reply [] lettered) ≡ reply_bytes (codes "DR0190000000000000000000000000000000000000+0000000000+000000000000MALFORMED") 125
+a_letter_in_the_filler : reply_spelling (reply [] lettered) ≡ reply_bytes
+    (codes "DR0190000000000000000000000000000000000000+0000000000+000000000000MALFORMED") 125
 unfolding reply_bytes lettered digits fields_spelling reply_spelling fields_of request_of case_of
 a_letter_in_the_filler = refl
 

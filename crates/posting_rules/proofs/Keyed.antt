@@ -1,5 +1,6 @@
 -- Rows under their keys that are found by another test.
-use Rattle.std.proofs.Common.{◌≡◌, ℕ, Bool, true, false, eqb, List, [], ◌∷◌, map, Some, None, refl, ap, subst, inl, inr}
+use Rattle.std.proofs.Common.{◌≡◌, ℕ, Bool, true, false, eqb, List, [], ◌∷◌, map, Some, None, refl, ap, subst}
+use Rattle.std.proofs.Common.{inl, inr}
 use Rattle.std.specs.Prelude.{nat_eq, ◌⊎◌}
 use Rattle.std.specs.List.{find, AllByRecursion}
 use Rattle.std.proofs.lemmas.Bool.{eqb-true, eq-eqb}
@@ -12,7 +13,9 @@ by_test true = inl refl
 by_test false = inr refl
 
 -- no row behind has the key of the one in front
-apart : {R : Type 0} (key : R → ℕ) (r : R) (rows : List R) (x : R) → AllByRecursion (λ k. nat_eq (key r) k ≡ false) (map key rows) → row_at key rows (key x) ≡ Some x → eqb (key r) (key x) ≡ false
+apart : {R : Type 0} (key : R → ℕ) (r : R) (rows : List R) (x : R)
+    → AllByRecursion (λ k. nat_eq (key r) k ≡ false) (map key rows) → row_at key rows (key x) ≡ Some x
+    → eqb (key r) (key x) ≡ false
 apart key r [] x h e = absurd cc
 apart key r (y ∷ rows) x h e =
     elim (by_test (eqb (key y) (key x))) [
@@ -21,7 +24,8 @@ apart key r (y ∷ rows) x h e =
     ]
 
 -- a row that a test finds is the row under its key
-pub row_at-found : {R : Type 0} (key : R → ℕ) (test : R → Bool) (rows : List R) (x : R) → HasKeys key rows → find test rows ≡ Some x → row_at key rows (key x) ≡ Some x
+pub row_at-found : {R : Type 0} (key : R → ℕ) (test : R → Bool) (rows : List R) (x : R) → HasKeys key rows
+    → find test rows ≡ Some x → row_at key rows (key x) ≡ Some x
 row_at-found key test [] x h e = absurd cc
 row_at-found {R} key test (r ∷ rows) x h e =
     elim (by_test (test r)) [
@@ -31,7 +35,8 @@ row_at-found {R} key test (r ∷ rows) x h e =
     ]
 
 -- what a test finds passes it
-pub found_passes : {R : Type 0} (test : R → Bool) (rows : List R) (x : R) → find test rows ≡ Some x → test x ≡ true
+pub found_passes : {R : Type 0} (test : R → Bool) (rows : List R) (x : R) → find test rows ≡ Some x
+    → test x ≡ true
 found_passes test [] x e = absurd cc
 found_passes test (r ∷ rows) x e =
     elim (by_test (test r)) [
@@ -40,7 +45,8 @@ found_passes test (r ∷ rows) x e =
     ]
 
 -- where a test finds nothing, no row under a key passes it
-pub none_passes : {R : Type 0} (key : R → ℕ) (test : R → Bool) (rows : List R) (k : ℕ) (x : R) → find test rows ≡ None → row_at key rows k ≡ Some x → test x ≡ false
+pub none_passes : {R : Type 0} (key : R → ℕ) (test : R → Bool) (rows : List R) (k : ℕ) (x : R)
+    → find test rows ≡ None → row_at key rows k ≡ Some x → test x ≡ false
 none_passes key test [] k x e h = absurd cc
 none_passes key test (r ∷ rows) k x e h =
     elim (by_test (test r)) [

@@ -6,53 +6,71 @@ use Rattle.message_records.specs.Records.{RequestFields}
 use Rattle.posting_rules.specs.declared.facts.Found.{Found}
 use Rattle.posting_rules.specs.Commands.{Command, opened, branch_of_teller, is_teller_open, is_account_open}
 use Rattle.posting_rules.specs.Kept.{KeptFields}
-use Rattle.posting_rules.specs.Entries.{Entry, facts, teller_balance, branch_balance, account_balance, decided, balance_behind}
-use Rattle.posting_rules.specs.Tables.{Tables, HasRows, Shows, row_at, branch_key, branch_row_of, teller_row, teller_row_of, account_row_of}
-use Rattle.posting_rules.specs.LookUps.{found_in, both_of, teller_balances_in, account_balance_in, count_in, count_of_branch, balance_of_branch, balance_of_teller, balance_of_account}
+use Rattle.posting_rules.specs.Entries.{Entry, facts, teller_balance, branch_balance, account_balance}
+use Rattle.posting_rules.specs.Entries.{decided, balance_behind}
+use Rattle.posting_rules.specs.Tables.{Tables, HasRows, Shows, row_at, branch_key, branch_row_of, teller_row}
+use Rattle.posting_rules.specs.Tables.{teller_row_of, account_row_of}
+use Rattle.posting_rules.specs.LookUps.{found_in, both_of, teller_balances_in, account_balance_in, count_in}
+use Rattle.posting_rules.specs.LookUps.{count_of_branch, balance_of_branch, balance_of_teller}
+use Rattle.posting_rules.specs.LookUps.{balance_of_account}
 use Rattle.posting_rules.proofs.Requests.{AreNew, kept_shown}
 
 -- an open teller has its branch's row
 both_rows : (low : Bool) (o : Option ℕ) (t b : ℕ) (x y : ℤ)
-    → both_of (option_map balance_of_teller (cond (low && is_some o) (Some (teller_row_of t x)) None)) (option_map balance_of_branch (option_map (branch_row_of b y) o))
+    → both_of (option_map balance_of_teller (cond (low && is_some o) (Some (teller_row_of t x)) None))
+    (option_map balance_of_branch (option_map (branch_row_of b y) o))
     ≡ cond (low && is_some o) (Some (x, y)) None
 both_rows true (Some n) t b x y = refl
 both_rows true None t b x y = refl
 both_rows false (Some n) t b x y = refl
 both_rows false None t b x y = refl
 
-pub teller_balances_shown : (t : Tables) (opened : ℕ → Option ℕ) (es : List Entry) (n : ℕ) → HasRows t opened es
-    → teller_balances_in t n ≡ cond (is_teller_open opened n) (Some (teller_balance es n, branch_balance es (branch_of_teller n))) None
+pub teller_balances_shown : (t : Tables) (opened : ℕ → Option ℕ) (es : List Entry) (n : ℕ)
+    → HasRows t opened es
+    → teller_balances_in t n ≡ cond (is_teller_open opened n)
+    (Some (teller_balance es n, branch_balance es (branch_of_teller n))) None
 teller_balances_shown t opened es n s =
     ap (λ o. both_of (option_map balance_of_teller o) (option_map balance_of_branch (row_at branch_key t.branches (branch_of_teller n)))) (s.tellers n)
     ∙ ap (λ o. both_of (option_map balance_of_teller (teller_row opened es n)) (option_map balance_of_branch o)) (s.branches (branch_of_teller n))
-    ∙ both_rows (leb 1 n) (opened (branch_of_teller n)) n (branch_of_teller n) (teller_balance es n) (branch_balance es (branch_of_teller n))
+    ∙ both_rows (leb 1 n) (opened (branch_of_teller n)) n (branch_of_teller n) (teller_balance es n)
+    (branch_balance es (branch_of_teller n))
 
-balance_if_open : (b : Bool) (n : ℕ) (z : ℤ) → option_map balance_of_account (cond b (Some (account_row_of n z)) None) ≡ cond b (Some z) None
+balance_if_open : (b : Bool) (n : ℕ) (z : ℤ)
+    → option_map balance_of_account (cond b (Some (account_row_of n z)) None) ≡ cond b (Some z) None
 balance_if_open true n z = refl
 balance_if_open false n z = refl
 
-pub account_balance_shown : (t : Tables) (opened : ℕ → Option ℕ) (es : List Entry) (n : ℕ) → HasRows t opened es
+pub account_balance_shown : (t : Tables) (opened : ℕ → Option ℕ) (es : List Entry) (n : ℕ)
+    → HasRows t opened es
     → account_balance_in t n ≡ cond (is_account_open opened n) (Some (account_balance es n)) None
 account_balance_shown t opened es n s =
-    ap (option_map balance_of_account) (s.accounts n) ∙ balance_if_open (is_account_open opened n) n (account_balance es n)
+    ap (option_map balance_of_account) (s.accounts n) ∙ balance_if_open (is_account_open opened n) n
+    (account_balance es n)
 
-count_of_row : (o : Option ℕ) (b : ℕ) (z : ℤ) → option_map count_of_branch (option_map (branch_row_of b z) o) ≡ o
+count_of_row : (o : Option ℕ) (b : ℕ) (z : ℤ)
+    → option_map count_of_branch (option_map (branch_row_of b z) o) ≡ o
 count_of_row (Some n) b z = refl
 count_of_row None b z = refl
 
-pub count_shown : (t : Tables) (opened : ℕ → Option ℕ) (es : List Entry) (b : ℕ) → HasRows t opened es → count_in t b ≡ opened b
-count_shown t opened es b s = ap (option_map count_of_branch) (s.branches b) ∙ count_of_row (opened b) b (branch_balance es b)
+pub count_shown : (t : Tables) (opened : ℕ → Option ℕ) (es : List Entry) (b : ℕ) → HasRows t opened es
+    → count_in t b ≡ opened b
+count_shown t opened es b s = ap (option_map count_of_branch) (s.branches b) ∙ count_of_row (opened b) b
+    (branch_balance es b)
 
 -- all that is looked up for a request
-pub found_shown : (t : Tables) (opened : ℕ → Option ℕ) (es : List Entry) (r : RequestFields) → AreNew es → HasRows t opened es → found_in t r ≡ facts opened es r
+pub found_shown : (t : Tables) (opened : ℕ → Option ℕ) (es : List Entry) (r : RequestFields) → AreNew es
+    → HasRows t opened es → found_in t r ≡ facts opened es r
 found_shown t opened es r new s =
-    made _ _ _ _ _ _ _ _ (teller_balances_shown t opened es r.teller s) (kept_shown t.requests es s.request_keys s.requests new r.teller r.number)
+    made _ _ _ _ _ _ _ _ (teller_balances_shown t opened es r.teller s)
+    (kept_shown t.requests es s.request_keys s.requests new r.teller r.number)
     s.decided (account_balance_shown t opened es r.account s)
   where
-    made : (a a' : Option (ℤ × ℤ)) (k k' : Option KeptFields) (n n' : ℕ) (b b' : Option ℤ) → a ≡ a' → k ≡ k' → n ≡ n' → b ≡ b'
+    made : (a a' : Option (ℤ × ℤ)) (k k' : Option KeptFields) (n n' : ℕ) (b b' : Option ℤ) → a ≡ a' → k ≡ k'
+        → n ≡ n' → b ≡ b'
         → (let f : Found = record { teller = a; kept = k; decided = n; account = b } in f) ≡ record { teller = a'; kept = k'; decided = n'; account = b' }
     made a a' k k' n n' b b' ea ek en eb = rw (ea, ek, en, eb) refl
 
 -- the balance that an account shows is its balance behind the log
-pub balance_shown : (t : Tables) (log : List Command) (a : ℕ) → Shows t log → account_balance_in t a ≡ balance_behind log a
+pub balance_shown : (t : Tables) (log : List Command) (a : ℕ) → Shows t log
+    → account_balance_in t a ≡ balance_behind log a
 balance_shown t log a s = account_balance_shown t (λ b. opened log b) (decided log) a s.rows

@@ -1,12 +1,16 @@
 -- Tables on which the next record and the next opening can build, as those of every log are.
-use Rattle.std.proofs.Common.{◌≡◌, ℕ, suc, ◌+◌, ◌<◌, ◌≤◌, Bool, true, false, cond, leb, List, length, Option, Some, None, refl, sym, ap, ◌∙◌, arith}
+use Rattle.std.proofs.Common.{◌≡◌, ℕ, suc, ◌+◌, ◌<◌, ◌≤◌, Bool, true, false, cond, leb, List, length, Option}
+use Rattle.std.proofs.Common.{Some, None, refl, sym, ap, ◌∙◌, arith}
 use Rattle.std.specs.Prelude.{is_some, ◌&&◌}
 use Rattle.std.specs.Option.{option_map}
 use Rattle.std.proofs.lemmas.Bool.{le-leb}
 use Rattle.posting_rules.specs.declared.rows.BranchRow.{BranchRow}
-use Rattle.posting_rules.specs.Commands.{Command, opened, branch_of_teller, branch_of_account, place_of_account, is_within}
+use Rattle.posting_rules.specs.Commands.{Command, opened, branch_of_teller, branch_of_account}
+use Rattle.posting_rules.specs.Commands.{place_of_account, is_within}
 use Rattle.posting_rules.specs.Entries.{Entry, account_balance, teller_balance, branch_balance, decided}
-use Rattle.posting_rules.specs.Tables.{Tables, HasRows, Shows, HasKeys, row_at, branch_key, teller_key, account_key, history_key, request_key, branch_row_of, teller_row_of, account_row_of}
+use Rattle.posting_rules.specs.Tables.{Tables, HasRows, Shows, HasKeys, row_at, branch_key, teller_key}
+use Rattle.posting_rules.specs.Tables.{account_key, history_key, request_key, branch_row_of, teller_row_of}
+use Rattle.posting_rules.specs.Tables.{account_row_of}
 use Rattle.posting_rules.specs.LookUps.{count_in, count_of_branch}
 use Rattle.posting_rules.specs.Sound.{AreSound}
 use Rattle.posting_rules.specs.Steps.{first_teller, first_account}
@@ -21,7 +25,8 @@ pub record AreReady (t : Tables) : Type 0 where
   pub its_tellers : (n : ℕ) → 1 ≤ n
       → is_some (row_at teller_key t.tellers n) ≡ is_some (row_at branch_key t.branches (branch_of_teller n))
   pub its_accounts : (n : ℕ) → 1 ≤ n
-      → is_some (row_at account_key t.accounts n) ≡ is_within (place_of_account n) (count_in t (branch_of_account n))
+      → is_some (row_at account_key t.accounts n) ≡ is_within (place_of_account n)
+      (count_in t (branch_of_account n))
   pub branches : HasKeys branch_key t.branches
   pub tellers : HasKeys teller_key t.tellers
   pub accounts : HasKeys account_key t.accounts
@@ -45,7 +50,8 @@ ready_sound t sound = let u = sound.undamaged in record {
 -- ---- the tables of a log
 
 -- from 1 on, a row is there just where a test passes
-there : {R : Type 0} (low test : Bool) (x : R) → low ≡ true → is_some (cond (low && test) (Some x) None) ≡ test
+there : {R : Type 0} (low test : Bool) (x : R) → low ≡ true
+    → is_some (cond (low && test) (Some x) None) ≡ test
 there true true x e = refl
 there true false x e = refl
 there false test x e = absurd cc
@@ -54,15 +60,19 @@ is_some-mapped : {A B : Type 0} (f : A → B) (o : Option A) → is_some (option
 is_some-mapped f (Some x) = refl
 is_some-mapped f None = refl
 
-next_request : (t : Tables) (opened : ℕ → Option ℕ) (es : List Entry) → HasRows t opened es → row_at request_key t.requests (length es + 1) ≡ None
+next_request : (t : Tables) (opened : ℕ → Option ℕ) (es : List Entry) → HasRows t opened es
+    → row_at request_key t.requests (length es + 1) ≡ None
 next_request t opened es s =
     let next : length es + 1 ≡ suc (length es) = omega arith in
-    ap (λ (o : ℕ). row_at request_key t.requests o) next ∙ s.requests (suc (length es)) ∙ request_row_past es (length es) (omega arith)
+    ap (λ (o : ℕ). row_at request_key t.requests o) next ∙ s.requests (suc (length es)) ∙ request_row_past es
+    (length es) (omega arith)
 
-next_posting : (t : Tables) (opened : ℕ → Option ℕ) (es : List Entry) → HasRows t opened es → row_at history_key t.history (length es + 1) ≡ None
+next_posting : (t : Tables) (opened : ℕ → Option ℕ) (es : List Entry) → HasRows t opened es
+    → row_at history_key t.history (length es + 1) ≡ None
 next_posting t opened es s =
     let next : length es + 1 ≡ suc (length es) = omega arith in
-    ap (λ (o : ℕ). row_at history_key t.history o) next ∙ s.history (suc (length es)) ∙ history_row_past es (length es) (omega arith)
+    ap (λ (o : ℕ). row_at history_key t.history o) next ∙ s.history (suc (length es)) ∙ history_row_past es
+    (length es) (omega arith)
 
 -- the tables of a log are, of commands or not
 pub ready_shown : (t : Tables) (log : List Command) → Shows t log → AreReady t
@@ -71,16 +81,20 @@ ready_shown t log shows =
     let es = decided log in
     let open_ = λ (b : ℕ). opened log b in
     record {
-      next_request = ap (λ (n : ℕ). row_at request_key t.requests (n + 1)) s.decided ∙ next_request t open_ es s;
-      next_posting = ap (λ (n : ℕ). row_at history_key t.history (n + 1)) s.decided ∙ next_posting t open_ es s;
+      next_request = ap (λ (n : ℕ). row_at request_key t.requests (n + 1)) s.decided
+          ∙ next_request t open_ es s;
+      next_posting = ap (λ (n : ℕ). row_at history_key t.history (n + 1)) s.decided
+          ∙ next_posting t open_ es s;
       its_tellers = λ n h.
           ap is_some (s.tellers n)
-          ∙ there (leb 1 n) (is_some (open_ (branch_of_teller n))) (teller_row_of n (teller_balance es n)) (le-leb _ _ h)
+          ∙ there (leb 1 n) (is_some (open_ (branch_of_teller n))) (teller_row_of n (teller_balance es n))
+          (le-leb _ _ h)
           ∙ sym (is_some-mapped (branch_row_of (branch_of_teller n) (branch_balance es (branch_of_teller n))) (open_ (branch_of_teller n)))
           ∙ sym (ap is_some (s.branches (branch_of_teller n)));
       its_accounts = λ n h.
           ap is_some (s.accounts n)
-          ∙ there (leb 1 n) (is_within (place_of_account n) (open_ (branch_of_account n))) (account_row_of n (account_balance es n)) (le-leb _ _ h)
+          ∙ there (leb 1 n) (is_within (place_of_account n) (open_ (branch_of_account n)))
+          (account_row_of n (account_balance es n)) (le-leb _ _ h)
           ∙ ap (is_within (place_of_account n)) (sym (count_shown t open_ es (branch_of_account n) s));
       branches = s.branch_keys;
       tellers = s.teller_keys;
@@ -95,14 +109,16 @@ is_none : {A : Type 0} (o : Option A) → is_some o ≡ false → o ≡ None
 is_none None h = refl
 is_none (Some x) h = absurd cc
 
-none_within : (place : ℕ) (o : Option BranchRow) → o ≡ None → is_within place (option_map count_of_branch o) ≡ false
+none_within : (place : ℕ) (o : Option BranchRow) → o ≡ None
+    → is_within place (option_map count_of_branch o) ≡ false
 none_within place None e = refl
 none_within place (Some r) e = absurd cc
 
 branch_of_its_teller : (b n : ℕ) → 1 ≤ b → n < 10 → branch_of_teller (first_teller b + n) ≡ b
 branch_of_its_teller b n low lt = omega arith
 
-branch_of_its_account : (b n : ℕ) → 1 ≤ b → n < ACCOUNTS_PER_BRANCH → branch_of_account (first_account b + n) ≡ b
+branch_of_its_account : (b n : ℕ) → 1 ≤ b → n < ACCOUNTS_PER_BRANCH
+    → branch_of_account (first_account b + n) ≡ b
 branch_of_its_account b n low lt = omega arith
 
 -- none of its tellers has a row
@@ -116,11 +132,13 @@ no_teller t b n ready low none lt =
     )
 
 -- and none of its accounts
-pub no_account : (t : Tables) (b n : ℕ) → AreReady t → 1 ≤ b → row_at branch_key t.branches b ≡ None → n < ACCOUNTS_PER_BRANCH
+pub no_account : (t : Tables) (b n : ℕ) → AreReady t → 1 ≤ b → row_at branch_key t.branches b ≡ None
+    → n < ACCOUNTS_PER_BRANCH
     → row_at account_key t.accounts (first_account b + n) ≡ None
 no_account t b n ready low none lt =
     is_none (row_at account_key t.accounts (first_account b + n)) (
     ready.its_accounts (first_account b + n) (omega arith)
-    ∙ ap (λ (x : ℕ). is_within (place_of_account (first_account b + n)) (count_in t x)) (branch_of_its_account b n low lt)
+    ∙ ap (λ (x : ℕ). is_within (place_of_account (first_account b + n)) (count_in t x))
+    (branch_of_its_account b n low lt)
     ∙ none_within (place_of_account (first_account b + n)) (row_at branch_key t.branches b) none
     )

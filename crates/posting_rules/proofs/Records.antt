@@ -1,5 +1,6 @@
 -- Records one after another: the tables that they lead to are those of the log with them behind it.
-use Rattle.std.proofs.Common.{◌≡◌, ℕ, suc, ◌<◌, ◌≤◌, List, [], ◌∷◌, length, get_or, Ok, Err, Result, refl, sym, ap, ◌∙◌, arith}
+use Rattle.std.proofs.Common.{◌≡◌, ℕ, suc, ◌<◌, ◌≤◌, List, [], ◌∷◌, length, get_or, Ok, Err, Result, refl}
+use Rattle.std.proofs.Common.{sym, ap, ◌∙◌, arith}
 use Rattle.message_records.specs.declared.faults.Bad.{Bad}
 use Rattle.message_records.specs.Records.{RequestFields}
 use Rattle.message_records.specs.Reading.{request_of}
@@ -10,14 +11,17 @@ use Rattle.posting_rules.specs.Runs.{behind, posts, replies_to}
 use Rattle.posting_rules.specs.Tables.{Tables}
 use Rattle.posting_rules.specs.Tables.{Shows as Show}
 use Rattle.posting_rules.proofs.Stepped.{malformed_shown}
-use Rattle.posting_rules.specs.Changes.{tables_read, tables_past, tables_past_all, reply_read, reply_past, replies_past_all}
+use Rattle.posting_rules.specs.Changes.{tables_read, tables_past, tables_past_all, reply_read, reply_past}
+use Rattle.posting_rules.specs.Changes.{replies_past_all}
 use Rattle.posting_rules.proofs.Calls.{posts as posts_shown}
 use Rattle.posting_rules.proofs.Calls.{IsChange, replies}
 
-pub past_shown : (t : Tables) (log : List Command) (m : ℕ) (bytes : List ℕ) → Show t log → Show (tables_past t m bytes) (Post m bytes ∷ log)
+pub past_shown : (t : Tables) (log : List Command) (m : ℕ) (bytes : List ℕ) → Show t log
+    → Show (tables_past t m bytes) (Post m bytes ∷ log)
 past_shown t log m bytes shows = by_reading (request_of bytes) refl
   where
-    by_reading : (x : Result RequestFields Bad) → request_of bytes ≡ x → Show (tables_read t m x) (Post m bytes ∷ log)
+    by_reading : (x : Result RequestFields Bad) → request_of bytes ≡ x
+        → Show (tables_read t m x) (Post m bytes ∷ log)
     by_reading (Ok r) read = posts_shown m bytes r read t log shows
     by_reading (Err fault) read = malformed_shown t log m bytes fault read shows
 
@@ -28,28 +32,36 @@ all_past t log m (bytes ∷ records) shows =
     all_past (tables_past t m bytes) (Post m bytes ∷ log) m records (past_shown t log m bytes shows)
 
 -- posting them is a change that leads to them
-pub posts_all : (m : ℕ) (records : List (List ℕ)) → IsChange (λ t. tables_past_all t m records) (posts m records)
+pub posts_all : (m : ℕ) (records : List (List ℕ))
+    → IsChange (λ t. tables_past_all t m records) (posts m records)
 posts_all m records t log shows = all_past t log m records shows
 
 -- the reply to a record by the tables is the reply behind the log
-pub past_reply : (t : Tables) (log : List Command) (bytes : List ℕ) → Show t log → reply_past t bytes ≡ reply_spelling (reply log bytes)
+pub past_reply : (t : Tables) (log : List Command) (bytes : List ℕ) → Show t log
+    → reply_past t bytes ≡ reply_spelling (reply log bytes)
 past_reply t log bytes shows = by_reading (request_of bytes) refl
   where
-    by_reading : (x : Result RequestFields Bad) → request_of bytes ≡ x → reply_read t x ≡ reply_spelling (reply log bytes)
+    by_reading : (x : Result RequestFields Bad) → request_of bytes ≡ x
+        → reply_read t x ≡ reply_spelling (reply log bytes)
     by_reading (Ok r) read = replies t log bytes r read shows
-    by_reading (Err fault) read = ap (λ (x : Result RequestFields Bad). reply_spelling (reply_to x (λ b. opened log b) (decided log))) (sym read)
+    by_reading (Err fault) read = ap
+        (λ (x : Result RequestFields Bad). reply_spelling (reply_to x (λ b. opened log b) (decided log)))
+        (sym read)
 
 pub all_replies : (t : Tables) (log : List Command) (m : ℕ) (records : List (List ℕ)) → Show t log
     → replies_past_all t m records ≡ replies_to log (posts m records)
 all_replies t log m [] shows = refl
 all_replies t log m (bytes ∷ records) shows =
-    ap (λ (out : List ℕ). out ∷ replies_past_all (tables_past t m bytes) m records) (past_reply t log bytes shows)
+    ap (λ (out : List ℕ). out ∷ replies_past_all (tables_past t m bytes) m records)
+    (past_reply t log bytes shows)
     ∙ ap (λ (rest : List (List ℕ)). reply_spelling (reply log bytes) ∷ rest)
     (all_replies (tables_past t m bytes) (Post m bytes ∷ log) m records (past_shown t log m bytes shows))
 
 -- ---- one record more
 
 -- records of 100 bytes at a moment are commands of the bank
-pub are_posts : (m : ℕ) (rs : List (List ℕ)) → m ≤ 253_402_300_799 → ((i : ℕ) → i < length rs → length (get_or rs i []) ≡ 100) → AreCommands (posts m rs)
+pub are_posts : (m : ℕ) (rs : List (List ℕ)) → m ≤ 253_402_300_799
+    → ((i : ℕ) → i < length rs → length (get_or rs i []) ≡ 100) → AreCommands (posts m rs)
 are_posts m [] late whole = tt
-are_posts m (r ∷ rs) late whole = ((late, whole 0 (omega arith)), are_posts m rs late (λ i lt. whole (suc i) (omega arith)))
+are_posts m (r ∷ rs) late whole =
+    ((late, whole 0 (omega arith)), are_posts m rs late (λ i lt. whole (suc i) (omega arith)))

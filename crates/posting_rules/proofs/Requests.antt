@@ -1,5 +1,6 @@
 -- Decided requests: no two share teller and number, so that a look-up of rows by both finds the kept request.
-use Rattle.std.proofs.Common.{◌≡◌, ℕ, ◌+◌, ◌≤◌, Bool, true, false, eqb, List, [], ◌∷◌, length, Option, Some, None, Result, Ok, Err, refl, sym, subst, ◌∙◌, arith, inl, inr}
+use Rattle.std.proofs.Common.{◌≡◌, ℕ, ◌+◌, ◌≤◌, Bool, true, false, eqb, List, [], ◌∷◌, length, Option, Some}
+use Rattle.std.proofs.Common.{None, Result, Ok, Err, refl, sym, subst, ◌∙◌, arith, inl, inr}
 use Rattle.std.specs.Prelude.{◌&&◌, AllPairs}
 use Rattle.std.specs.List.{find, AllByRecursion}
 use Rattle.std.specs.Option.{option_map}
@@ -28,14 +29,17 @@ abbrev pub AreNew : List Entry → Type 0
 AreNew [] = Unit {0}
 AreNew (e ∷ es) = (kept es e.request.teller e.request.number ≡ None) × AreNew es
 
-new_verdict : (opened : ℕ → Option ℕ) (es : List Entry) (m : ℕ) (r : RequestFields) (v : Verdict) → IsVerdict opened es r v → AreNew es → AreNew (with_verdict m r v es)
+new_verdict : (opened : ℕ → Option ℕ) (es : List Entry) (m : ℕ) (r : RequestFields) (v : Verdict)
+    → IsVerdict opened es r v → AreNew es → AreNew (with_verdict m r v es)
 new_verdict opened es m r (Unkept o) h all = all
 new_verdict opened es m r (Again x) h all = all
 new_verdict opened es m r (Refused o) h all = (h.new, all)
 new_verdict opened es m r (Posted a t b) h all = (h.new, all)
 
-new_record : (opened : ℕ → Option ℕ) (es : List Entry) (m : ℕ) (read : Result RequestFields Bad) → AreNew es → AreNew (with_record m read opened es)
-new_record opened es m (Ok r) all = new_verdict opened es m r (case_of (facts opened es r) r) (verdict_is opened es r) all
+new_record : (opened : ℕ → Option ℕ) (es : List Entry) (m : ℕ) (read : Result RequestFields Bad) → AreNew es
+    → AreNew (with_record m read opened es)
+new_record opened es m (Ok r) all = new_verdict opened es m r (case_of (facts opened es r) r)
+    (verdict_is opened es r) all
 new_record opened es m (Err fault) all = all
 
 pub are_new : (log : List Command) → AreNew (decided log)
@@ -53,25 +57,29 @@ both_true true b e = (refl, e)
 both_true false b e = absurd cc
 
 pair_same : (a b : ℕ) → ((eqb a a) && (eqb b b)) ≡ true
-pair_same a b = let p : eqb a a ≡ true = eq-eqb a a refl in let q : eqb b b ≡ true = eq-eqb b b refl in rw (p, q) refl
+pair_same a b = let p : eqb a a ≡ true = eq-eqb a a refl in let q : eqb b b ≡ true = eq-eqb b b refl in rw
+    (p, q) refl
 
 -- ---- the law
 
 -- a request that none of the entries is kept under shares with none of them
-none_shared : (d : Entry) (es : List Entry) → kept es d.request.teller d.request.number ≡ None → AllByRecursion (λ e. Differ d e) es
+none_shared : (d : Entry) (es : List Entry) → kept es d.request.teller d.request.number ≡ None
+    → AllByRecursion (λ e. Differ d e) es
 none_shared d [] h = tt
 none_shared d (e ∷ es) h =
     elim (by_test (has_pair d.request.teller d.request.number e)) [
       | inl p ↦ absurd (let g = rw p at h in cc)
       | inr f ↦ (
-        λ t n. let p : has_pair d.request.teller d.request.number e ≡ true = rw (t, n) (pair_same e.request.teller e.request.number) in (let g = sym p ∙ f in cc),
+        λ t n. let p : has_pair d.request.teller d.request.number e ≡ true = rw (t, n)
+            (pair_same e.request.teller e.request.number) in (let g = sym p ∙ f in cc),
         none_shared d es (let g = rw f at h in g),
       )
     ]
 
 pub none_shares : (es : List Entry) → AreNew es → AllPairs Differ es
 none_shares [] h = λ i j d lt within. absurd (omega arith)
-none_shares (e ∷ es) h = AllPairs-cons Differ e es (All-from_recursion (λ d. Differ e d) es (none_shared e es h.0)) (none_shares es h.1)
+none_shares (e ∷ es) h = AllPairs-cons Differ e es
+    (All-from_recursion (λ d. Differ e d) es (none_shared e es h.0)) (none_shares es h.1)
 
 -- ---- ordinals
 
@@ -115,12 +123,14 @@ kept_has_row (e ∷ es) t n k h =
     ]
 
 -- a row of a request has what is kept under its teller and number
-row_is_kept : (es : List Entry) (o : ℕ) (row : RequestRow) → AreNew es → request_row es o ≡ Some row → kept es row.teller row.number ≡ Some row.kept
+row_is_kept : (es : List Entry) (o : ℕ) (row : RequestRow) → AreNew es → request_row es o ≡ Some row
+    → kept es row.teller row.number ≡ Some row.kept
 row_is_kept [] o row h e = absurd cc
 row_is_kept (d ∷ es) o row h e =
     elim (by_test (eqb (length es + 1) o)) [
       | inl t ↦ let is : request_row_of o d ≡ row = (let g = rw t at e in cc) in
-          subst (λ (r : RequestRow). kept (d ∷ es) r.teller r.number ≡ Some r.kept) is (rw (pair_same d.request.teller d.request.number) refl)
+          subst (λ (r : RequestRow). kept (d ∷ es) r.teller r.number ≡ Some r.kept) is
+          (rw (pair_same d.request.teller d.request.number) refl)
       | inr f ↦ let older : kept es row.teller row.number ≡ Some row.kept = row_is_kept es o row h.1 (let g = rw f at e in g) in
           elim (by_test (has_pair row.teller row.number d)) [
             | inl p ↦ let two = both_true (eqb d.request.teller row.teller) (eqb d.request.number row.number) p in
@@ -134,24 +144,34 @@ row_is_kept (d ∷ es) o row h e =
 
 -- ---- the look-up
 
-row_has_pair : (row : RequestRow) (t n : ℕ) → row.teller ≡ t → row.number ≡ n → ((eqb row.teller t) && (eqb row.number n)) ≡ true
-row_has_pair row t n et en = let p : eqb row.teller t ≡ true = eq-eqb _ _ et in let q : eqb row.number n ≡ true = eq-eqb _ _ en in rw (p, q) refl
+row_has_pair : (row : RequestRow) (t n : ℕ) → row.teller ≡ t → row.number ≡ n
+    → ((eqb row.teller t) && (eqb row.number n)) ≡ true
+row_has_pair row t n et en = let p : eqb row.teller t ≡ true = eq-eqb _ _ et in let q : eqb row.number n
+    ≡ true = eq-eqb _ _ en in rw (p, q) refl
 
 -- the rows of the decided requests, found by teller and number
-pub kept_shown : (rows : List RequestRow) (es : List Entry) → HasKeys request_key rows → ((o : ℕ) → row_at request_key rows o ≡ request_row es o) → AreNew es → (t n : ℕ) → kept_in rows t n ≡ kept es t n
+pub kept_shown : (rows : List RequestRow) (es : List Entry) → HasKeys request_key rows
+    → ((o : ℕ) → row_at request_key rows o ≡ request_row es o) → AreNew es → (t n : ℕ)
+    → kept_in rows t n ≡ kept es t n
 kept_shown rows es keys shown new t n = by_found (find (λ r. (eqb r.teller t) && (eqb r.number n)) rows) refl
   where
-    by_none : (o : Option KeptFields) → kept es t n ≡ o → find (λ r. (eqb r.teller t) && (eqb r.number n)) rows ≡ None → None ≡ o
+    by_none : (o : Option KeptFields) → kept es t n ≡ o
+        → find (λ r. (eqb r.teller t) && (eqb r.number n)) rows ≡ None → None ≡ o
     by_none None e none = refl
     by_none (Some k) e none =
         let row = kept_has_row es t n k e in
-        let failed = none_passes request_key (λ r. (eqb r.teller t) && (eqb r.number n)) rows row.ordinal row.row none (shown row.ordinal ∙ row.stands) in
+        let failed = none_passes request_key
+        (λ r. (eqb r.teller t) && (eqb r.number n)) rows row.ordinal row.row none
+        (shown row.ordinal ∙ row.stands) in
         absurd (let g = sym (row_has_pair row.row t n row.teller row.number) ∙ failed in cc)
 
-    by_found : (o : Option RequestRow) → find (λ r. (eqb r.teller t) && (eqb r.number n)) rows ≡ o → option_map kept_of_row o ≡ kept es t n
+    by_found : (o : Option RequestRow) → find (λ r. (eqb r.teller t) && (eqb r.number n)) rows ≡ o
+        → option_map kept_of_row o ≡ kept es t n
     by_found None e = by_none (kept es t n) refl e ∙ refl
     by_found (Some row) e =
-        let passes = both_true (eqb row.teller t) (eqb row.number n) (found_passes (λ r. (eqb r.teller t) && (eqb r.number n)) rows row e) in
-        let under : request_row es row.ordinal ≡ Some row = sym (shown row.ordinal) ∙ row_at-found request_key (λ r. (eqb r.teller t) && (eqb r.number n)) rows row keys e in
+        let passes = both_true (eqb row.teller t) (eqb row.number n)
+        (found_passes (λ r. (eqb r.teller t) && (eqb r.number n)) rows row e) in
+        let under : request_row es row.ordinal ≡ Some row = sym (shown row.ordinal) ∙ row_at-found request_key
+        (λ r. (eqb r.teller t) && (eqb r.number n)) rows row keys e in
         let is = row_is_kept es row.ordinal row new under in
         sym (rw (sym (eqb-true _ _ passes.0), sym (eqb-true _ _ passes.1)) is)

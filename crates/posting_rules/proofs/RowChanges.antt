@@ -1,5 +1,6 @@
 -- What the statements on one table do to its rows, as the rows under each key tell.
-use Rattle.std.proofs.Common.{◌≡◌, ℕ, zero, suc, ◌+◌, Bool, true, false, cond, eqb, ltb, ◌<◌, List, [], ◌∷◌, map, Option, Some, None, refl, sym, ap, subst, ◌∙◌, arith, inl, inr}
+use Rattle.std.proofs.Common.{◌≡◌, ℕ, zero, suc, ◌+◌, Bool, true, false, cond, eqb, ltb, ◌<◌, List, [], ◌∷◌}
+use Rattle.std.proofs.Common.{map, Option, Some, None, refl, sym, ap, subst, ◌∙◌, arith, inl, inr}
 use Rattle.std.specs.Prelude.{nat_eq}
 use Rattle.std.specs.List.{IsDistinct, AllByRecursion}
 use Rattle.std.specs.Option.{option_map}
@@ -31,10 +32,13 @@ changed_at key k change r = cond (eqb (key r) k) (change r) r
 
 pub key-changed_at : {R : Type 0} (key : R → ℕ) (k : ℕ) (change : R → R) → ((r : R) → key (change r) ≡ key r)
     → (r : R) → key (changed_at key k change r) ≡ key r
-key-changed_at key k change same r = elim (by_test (eqb (key r) k)) [ inl t ↦ rw t (same r) | inr f ↦ rw f refl ]
+key-changed_at key k change same r =
+    elim (by_test (eqb (key r) k)) [ inl t ↦ rw t (same r) | inr f ↦ rw f refl ]
 
-pub row_at-changed : {R : Type 0} (key : R → ℕ) (k : ℕ) (change : R → R) → ((r : R) → key (change r) ≡ key r) → (rows : List R) (n : ℕ)
-    → row_at key (row_changed key change k rows) n ≡ option_map (λ r. cond (eqb k n) (change r) r) (row_at key rows n)
+pub row_at-changed : {R : Type 0} (key : R → ℕ) (k : ℕ) (change : R → R) → ((r : R) → key (change r) ≡ key r)
+    → (rows : List R) (n : ℕ)
+    → row_at key (row_changed key change k rows) n ≡ option_map (λ r. cond (eqb k n) (change r) r)
+    (row_at key rows n)
 row_at-changed key k change same [] n = refl
 row_at-changed key k change same (r ∷ rows) n =
     ap (λ (j : ℕ). cond (eqb j n) (Some (changed_at key k change r)) (row_at key (row_changed key change k rows) n))
@@ -46,7 +50,8 @@ row_at-changed key k change same (r ∷ rows) n =
       | inr f ↦ rw f (row_at-changed key k change same rows n)
     ]
 
-pub keys-changed : {R : Type 0} (key : R → ℕ) (k : ℕ) (change : R → R) → ((r : R) → key (change r) ≡ key r) → (rows : List R)
+pub keys-changed : {R : Type 0} (key : R → ℕ) (k : ℕ) (change : R → R) → ((r : R) → key (change r) ≡ key r)
+    → (rows : List R)
     → map key (row_changed key change k rows) ≡ map key rows
 keys-changed key k change same [] = refl
 keys-changed key k change same (r ∷ rows) =
@@ -54,7 +59,8 @@ keys-changed key k change same (r ∷ rows) =
     ∙ ap (λ (js : List ℕ). key r ∷ js) (keys-changed key k change same rows)
 
 -- a change that leaves each row its key is a change of the row under the key
-pub row_changes : {R : Type 0} (key : R → ℕ) (k : ℕ) (change : R → R) (rows : List R) → ((r : R) → key (change r) ≡ key r)
+pub row_changes : {R : Type 0} (key : R → ℕ) (k : ℕ) (change : R → R) (rows : List R)
+    → ((r : R) → key (change r) ≡ key r)
     → HasKeys key rows → ChangesRow key k change rows (row_changed key change k rows)
 row_changes key k change rows same keys = record {
   rows = row_at-changed key k change same rows;
@@ -64,7 +70,8 @@ row_changes key k change rows same keys = record {
 -- ---- one row is put in
 
 -- two tests of which one fails at least may be made in either order
-either_first : {A : Type 0} (a b : Bool) (x y z : A) → (a ≡ true → b ≡ false) → cond a x (cond b y z) ≡ cond b y (cond a x z)
+either_first : {A : Type 0} (a b : Bool) (x y z : A) → (a ≡ true → b ≡ false)
+    → cond a x (cond b y z) ≡ cond b y (cond a x z)
 either_first true b x y z apart = rw (apart refl) refl
 either_first false b x y z apart = refl
 
@@ -76,7 +83,8 @@ row_at-put key x (r ∷ rows) n =
       | inl t ↦
           rw t (
           ap (cond (eqb (key r) n) (Some r)) (row_at-put key x rows n)
-          ∙ either_first (eqb (key r) n) (eqb (key x) n) (Some r) (Some x) (row_at key rows n) (not_both (key r) (key x) n t)
+          ∙ either_first (eqb (key r) n) (eqb (key x) n) (Some r) (Some x) (row_at key rows n)
+          (not_both (key r) (key x) n t)
           )
       | inr f ↦ rw f refl
     ]
@@ -92,7 +100,8 @@ free_apart key (r ∷ rows) k none =
     ]
 
 -- what holds of the keys that were there and of the new one holds of all the keys
-all-put : {R : Type 0} (P : ℕ → Type 0) (key : R → ℕ) (x : R) (rows : List R) → P (key x) → AllByRecursion P (map key rows)
+all-put : {R : Type 0} (P : ℕ → Type 0) (key : R → ℕ) (x : R) (rows : List R) → P (key x)
+    → AllByRecursion P (map key rows)
     → AllByRecursion P (map key (row_put key x rows))
 all-put P key x [] new old = (new, tt)
 all-put P key x (r ∷ rows) new old =
@@ -101,7 +110,8 @@ all-put P key x (r ∷ rows) new old =
       | inr f ↦ rw f (new, old)
     ]
 
-keys-put : {R : Type 0} (key : R → ℕ) (x : R) (rows : List R) → HasKeys key rows → row_at key rows (key x) ≡ None
+keys-put : {R : Type 0} (key : R → ℕ) (x : R) (rows : List R) → HasKeys key rows
+    → row_at key rows (key x) ≡ None
     → HasKeys key (row_put key x rows)
 keys-put key x [] keys none = IsDistinct-cons nat_eq (key x) [] tt keys
 keys-put key x (r ∷ rows) keys none =
@@ -109,15 +119,18 @@ keys-put key x (r ∷ rows) keys none =
       | inl t ↦
           let apart : eqb (key r) (key x) ≡ false = eqb-apart (key r) (key x) t in
           let behind : AllByRecursion (λ j. nat_eq (key r) j ≡ false) (map key (row_put key x rows)) =
-          all-put (λ j. nat_eq (key r) j ≡ false) key x rows apart (IsDistinct-head nat_eq (key r) (map key rows) keys) in
+          all-put (λ j. nat_eq (key r) j ≡ false) key x rows apart
+          (IsDistinct-head nat_eq (key r) (map key rows) keys) in
           let rest : HasKeys key (row_put key x rows) =
-          keys-put key x rows (IsDistinct-tail nat_eq (key r) (map key rows) keys) (let h = rw apart at none in h) in
+          keys-put key x rows (IsDistinct-tail nat_eq (key r) (map key rows) keys)
+          (let h = rw apart at none in h) in
           rw t (IsDistinct-cons nat_eq (key r) (map key (row_put key x rows)) behind rest)
       | inr f ↦ rw f (IsDistinct-cons nat_eq (key x) (map key (r ∷ rows)) (free_apart key (r ∷ rows) (key x) none) keys)
     ]
 
 -- a row whose key was free is added
-pub row_adds : {R : Type 0} (key : R → ℕ) (rows : List R) (x : R) → HasKeys key rows → row_at key rows (key x) ≡ None
+pub row_adds : {R : Type 0} (key : R → ℕ) (rows : List R) (x : R) → HasKeys key rows
+    → row_at key rows (key x) ≡ None
     → AddsRow key x rows (row_put key x rows)
 row_adds key rows x keys none = record { rows = row_at-put key x rows; keys = keys-put key x rows keys none }
 
@@ -132,11 +145,13 @@ from_more first count n h = grind (arith, nat_tests)
 from_last : (first count n : ℕ) → eqb (first + count) n ≡ true → is_from first (suc count) n ≡ true
 from_last first count n h = grind (arith, nat_tests)
 
-from_other : (first count n : ℕ) → is_from first count n ≡ false → eqb (first + count) n ≡ false → is_from first (suc count) n ≡ false
+from_other : (first count n : ℕ) → is_from first count n ≡ false → eqb (first + count) n ≡ false
+    → is_from first (suc count) n ≡ false
 from_other first count n h e = grind (arith, nat_tests)
 
 one_row_more : {R : Type 0} (row : ℕ → R) (first count n : ℕ) (rest : Option R)
-    → cond (eqb (first + count) n) (Some (row (first + count))) (cond (is_from first count n) (Some (row n)) rest)
+    → cond (eqb (first + count) n) (Some (row (first + count)))
+    (cond (is_from first count n) (Some (row n)) rest)
     ≡ cond (is_from first (suc count) n) (Some (row n)) rest
 one_row_more row first count n rest =
     elim (by_test (eqb (first + count) n)) [
@@ -148,7 +163,8 @@ one_row_more row first count n rest =
     ]
 
 -- before the first of them
-pub rows_none : {R : Type 0} (key : R → ℕ) (row : ℕ → R) (first : ℕ) (rows : List R) → HasKeys key rows → AddsRows key row first 0 rows rows
+pub rows_none : {R : Type 0} (key : R → ℕ) (row : ℕ → R) (first : ℕ) (rows : List R) → HasKeys key rows
+    → AddsRows key row first 0 rows rows
 rows_none key row first rows keys = record {
   rows = λ n. ap (λ (b : Bool). cond b (Some (row n)) (row_at key rows n)) (sym (from_none first n));
   keys = keys;
@@ -158,12 +174,14 @@ not_yet : (first count : ℕ) → is_from first count (first + count) ≡ false
 not_yet first count = grind (arith, nat_tests)
 
 -- the number behind them is as free as before
-pub next_is_free : {R : Type 0} (key : R → ℕ) (row : ℕ → R) (first count : ℕ) (old mid : List R) → AddsRows key row first count old mid
+pub next_is_free : {R : Type 0} (key : R → ℕ) (row : ℕ → R) (first count : ℕ) (old mid : List R)
+    → AddsRows key row first count old mid
     → row_at key old (first + count) ≡ None → row_at key mid (first + count) ≡ None
 next_is_free key row first count old mid adds none = adds.rows (first + count) ∙ rw (not_yet first count) none
 
 -- one more under that number
-pub rows_more : {R : Type 0} (key : R → ℕ) (row : ℕ → R) (first count : ℕ) (old mid new : List R) → ((n : ℕ) → key (row n) ≡ n)
+pub rows_more : {R : Type 0} (key : R → ℕ) (row : ℕ → R) (first count : ℕ) (old mid new : List R)
+    → ((n : ℕ) → key (row n) ≡ n)
     → AddsRows key row first count old mid → row_at key old (first + count) ≡ None
     → (HasKeys key mid → row_at key mid (key (row (first + count))) ≡ None → AddsRow key (row (first + count)) mid new)
     → AddsRows key row first (suc count) old new
@@ -173,15 +191,18 @@ rows_more key row first count old mid new own before none adds =
     let last = adds before.keys free in
     record {
       rows = λ n. last.rows n
-          ∙ ap (λ (k : ℕ). cond (eqb k n) (Some (row (first + count))) (row_at key mid n)) (own (first + count))
+          ∙ ap (λ (k : ℕ). cond (eqb k n) (Some (row (first + count))) (row_at key mid n))
+          (own (first + count))
           ∙ ap (cond (eqb (first + count) n) (Some (row (first + count)))) (before.rows n)
           ∙ one_row_more row first count n (row_at key old n);
       keys = last.keys;
     }
 
 -- rows with these numbers for their keys, of which none had a row, are added
-pub rows_add : {R : Type 0} (key : R → ℕ) (row : ℕ → R) (first count : ℕ) (rows : List R) → ((n : ℕ) → key (row n) ≡ n) → HasKeys key rows
-    → ((n : ℕ) → n < count → row_at key rows (first + n) ≡ None) → AddsRows key row first count rows (rows_put key row first count rows)
+pub rows_add : {R : Type 0} (key : R → ℕ) (row : ℕ → R) (first count : ℕ) (rows : List R)
+    → ((n : ℕ) → key (row n) ≡ n) → HasKeys key rows
+    → ((n : ℕ) → n < count → row_at key rows (first + n) ≡ None)
+    → AddsRows key row first count rows (rows_put key row first count rows)
 rows_add key row first zero rows own keys none = rows_none key row first rows keys
 rows_add key row first (suc count) rows own keys none =
     let before = rows_put key row first count rows in

@@ -1,5 +1,6 @@
 -- What a log of commands opens and decides is within its range.
-use Rattle.std.proofs.Common.{◌≡◌, ℕ, ◌<◌, ◌≤◌, Bool, true, false, cond, eqb, List, [], ◌∷◌, length, Option, Some, None, Result, Ok, Err, refl, subst, arith, lit≤}
+use Rattle.std.proofs.Common.{◌≡◌, ℕ, ◌<◌, ◌≤◌, Bool, true, false, cond, eqb, List, [], ◌∷◌, length, Option}
+use Rattle.std.proofs.Common.{Some, None, Result, Ok, Err, refl, subst, arith, lit≤}
 use Rattle.std.specs.Prelude.{pos, nat_abs, IfSome}
 use Rattle.std.specs.Option.{option_or}
 use Rattle.std.proofs.lemmas.Bool.{eqb-true}
@@ -15,7 +16,8 @@ use Rattle.posting_rules.specs.Commands.{Command, Open, Post, IsCommand, AreComm
 use Rattle.posting_rules.specs.Kept.{is_kept_with}
 use Rattle.posting_rules.specs.Cases.{case_of, plus_within}
 use Rattle.posting_rules.specs.Entries.{Entry, facts, with_verdict, with_record, decided}
-use Rattle.posting_rules.proofs.Verdicts.{IsVerdict, verdict_is, by_teller, by_known, by_new, by_account, by_posting}
+use Rattle.posting_rules.proofs.Verdicts.{IsVerdict, verdict_is, by_teller, by_known, by_new, by_account}
+use Rattle.posting_rules.proofs.Verdicts.{by_posting}
 
 -- ---- what is open
 
@@ -24,11 +26,13 @@ or_within P (Some n) p h k = h
 or_within P None p h k = k
 
 -- an open branch and its count are those of an opening
-pub open_within : (log : List Command) → AreCommands log → (b : ℕ) → IfSome (opened log b) (λ n. IsCommand (Open b n))
+pub open_within : (log : List Command) → AreCommands log → (b : ℕ)
+    → IfSome (opened log b) (λ n. IsCommand (Open b n))
 open_within [] are b = tt
 open_within (Post m bytes ∷ log) are b = open_within log are.1 b
 open_within (Open c count ∷ log) are b =
-    or_within (λ n. IsCommand (Open b n)) (opened log b) (cond (eqb c b) (Some count) None) (open_within log are.1 b) (here (eqb c b) refl)
+    or_within (λ n. IsCommand (Open b n)) (opened log b) (cond (eqb c b) (Some count) None)
+    (open_within log are.1 b) (here (eqb c b) refl)
   where
     here : (hit : Bool) → eqb c b ≡ hit → IfSome (cond hit (Some count) None) (λ n. IsCommand (Open b n))
     here true e = subst (λ (x : ℕ). IsCommand (Open x count)) (eqb-true c b e) are.0
@@ -58,7 +62,8 @@ abbrev IsKeepable : Verdict → Type 0
 IsKeepable (Refused outcome) = is_kept_with outcome (pos 0) ≡ true
 IsKeepable v = Unit {0}
 
-keepable : (opened : ℕ → Option ℕ) (es : List Entry) (r : RequestFields) → IsKeepable (case_of (facts opened es r) r)
+keepable : (opened : ℕ → Option ℕ) (es : List Entry) (r : RequestFields)
+    → IsKeepable (case_of (facts opened es r) r)
 unfolding case_of
 keepable opened es r =
     let f = facts opened es r in
@@ -67,10 +72,12 @@ keepable opened es r =
     by_known P f.kept f r z.0 z.1 tt (λ a. tt) (λ new.
     by_new P f r z.0 z.1 tt (λ room. refl) (λ room its.
     by_account P f.account z.0 z.1 r.delta refl (λ a accounts.
-    by_posting P (plus_within a r.delta) (plus_within z.0 r.delta) (plus_within z.1 r.delta) refl (λ x y w ex ey ew. tt)))))
+    by_posting P (plus_within a r.delta) (plus_within z.0 r.delta) (plus_within z.1 r.delta) refl
+    (λ x y w ex ey ew. tt)))))
 
 sound_verdict : (opened : ℕ → Option ℕ) (es : List Entry) (m : ℕ) (r : RequestFields) (v : Verdict)
-    → IsVerdict opened es r v → IsKeepable v → IsRequest r → m ≤ MAX_MOMENT → AreSound es → AreSound (with_verdict m r v es)
+    → IsVerdict opened es r v → IsKeepable v → IsRequest r → m ≤ MAX_MOMENT → AreSound es
+    → AreSound (with_verdict m r v es)
 sound_verdict opened es m r (Unkept o) h k read late all = all
 sound_verdict opened es m r (Again x) h k read late all = all
 sound_verdict opened es m r (Refused o) h k read late all =
@@ -78,10 +85,13 @@ sound_verdict opened es m r (Refused o) h k read late all =
 sound_verdict opened es m r (Posted a t b) h k read late all =
     (record { request = read; moment = late; kept = refl; balance = h.account_is.within }, h.room, all)
 
-sound_record : (opened : ℕ → Option ℕ) (es : List Entry) (m : ℕ) (bytes : List ℕ) (read : Result RequestFields Bad)
-    → request_of bytes ≡ read → IsCommand (Post m bytes) → AreSound es → AreSound (with_record m read opened es)
+sound_record : (opened : ℕ → Option ℕ) (es : List Entry) (m : ℕ) (bytes : List ℕ)
+    (read : Result RequestFields Bad)
+    → request_of bytes ≡ read → IsCommand (Post m bytes) → AreSound es
+    → AreSound (with_record m read opened es)
 sound_record opened es m bytes (Ok r) e is all =
-    sound_verdict opened es m r (case_of (facts opened es r) r) (verdict_is opened es r) (keepable opened es r)
+    sound_verdict opened es m r (case_of (facts opened es r) r) (verdict_is opened es r)
+    (keepable opened es r)
     (request_takes r bytes is.1 e).1 is.0 all
 sound_record opened es m bytes (Err fault) e is all = all
 
@@ -89,4 +99,5 @@ sound_record opened es m bytes (Err fault) e is all = all
 pub are_sound : (log : List Command) → AreCommands log → AreSound (decided log)
 are_sound [] are = tt
 are_sound (Open b count ∷ log) are = are_sound log are.1
-are_sound (Post m bytes ∷ log) are = sound_record (λ b. opened log b) (decided log) m bytes (request_of bytes) refl are.0 (are_sound log are.1)
+are_sound (Post m bytes ∷ log) are = sound_record (λ b. opened log b) (decided log) m bytes
+    (request_of bytes) refl are.0 (are_sound log are.1)

@@ -1,5 +1,6 @@
 -- Tables of a log that a verdict changes are the tables of the log with the record.
-use Rattle.std.proofs.Common.{◌≡◌, ℕ, suc, ◌+◌, ◌<◌, ◌≤◌, Bool, true, false, cond, eqb, List, [], ◌∷◌, length, Option, Some, None, Result, Ok, Err, refl, sym, ap, subst, ◌∙◌, arith}
+use Rattle.std.proofs.Common.{◌≡◌, ℕ, suc, ◌+◌, ◌<◌, ◌≤◌, Bool, true, false, cond, eqb, List, [], ◌∷◌, length}
+use Rattle.std.proofs.Common.{Option, Some, None, Result, Ok, Err, refl, sym, ap, subst, ◌∙◌, arith}
 use Rattle.std.specs.Prelude.{ℤ, ◌+ℤ◌, ◌&&◌}
 use Rattle.std.specs.Option.{option_map}
 use Rattle.std.proofs.lemmas.Bool.{eqb-true}
@@ -16,12 +17,19 @@ use Rattle.posting_rules.specs.declared.rows.TellerRow.{TellerRow}
 use Rattle.posting_rules.specs.declared.rows.AccountRow.{AccountRow}
 use Rattle.posting_rules.specs.declared.rows.HistoryRow.{HistoryRow}
 use Rattle.posting_rules.specs.declared.rows.RequestRow.{RequestRow}
-use Rattle.posting_rules.specs.Commands.{Command, Post, opened, branch_of_teller, is_teller_open, is_account_open}
+use Rattle.posting_rules.specs.Commands.{Command, Post, opened, branch_of_teller, is_teller_open}
+use Rattle.posting_rules.specs.Commands.{is_account_open}
 use Rattle.posting_rules.specs.Cases.{case_of, reply_in}
-use Rattle.posting_rules.specs.Entries.{Entry, is_posted, facts, posted_sum, teller_balance, branch_balance, account_balance, refused_entry, posted_entry, with_verdict, with_record, reply_to, decided, reply}
-use Rattle.posting_rules.specs.Tables.{Tables, HasRows, HasKeys, Shows, row_at, branch_key, teller_key, account_key, history_key, request_key, branch_row_of, teller_row_of, account_row_of, history_row, history_row_of, request_row, request_row_of}
+use Rattle.posting_rules.specs.Entries.{Entry, is_posted, facts, posted_sum, teller_balance, branch_balance}
+use Rattle.posting_rules.specs.Entries.{account_balance, refused_entry, posted_entry, with_verdict}
+use Rattle.posting_rules.specs.Entries.{with_record, reply_to, decided, reply}
+use Rattle.posting_rules.specs.Tables.{Tables, HasRows, HasKeys, Shows, row_at, branch_key, teller_key}
+use Rattle.posting_rules.specs.Tables.{account_key, history_key, request_key, branch_row_of, teller_row_of}
+use Rattle.posting_rules.specs.Tables.{account_row_of, history_row, history_row_of, request_row}
+use Rattle.posting_rules.specs.Tables.{request_row_of}
 use Rattle.posting_rules.specs.LookUps.{found_in}
-use Rattle.posting_rules.specs.Steps.{AddsRow, KeepsRefusal, KeepsPosting, IsStep, with_branch_balance, with_teller_balance, with_account_balance}
+use Rattle.posting_rules.specs.Steps.{AddsRow, KeepsRefusal, KeepsPosting, IsStep, with_branch_balance}
+use Rattle.posting_rules.specs.Steps.{with_teller_balance, with_account_balance}
 use Rattle.posting_rules.proofs.Verdicts.{IsVerdict, IsPosting, IsRefusal, verdict_is}
 use Rattle.posting_rules.proofs.Requests.{are_new}
 use Rattle.posting_rules.proofs.Looked.{found_shown}
@@ -34,7 +42,8 @@ other_ordinal n o lt = grind (arith, nat_tests)
 -- no request and no posting has an ordinal past the last one
 pub request_row_past : (es : List Entry) (o : ℕ) → length es ≤ o → request_row es (suc o) ≡ None
 request_row_past [] o le = refl
-request_row_past (e ∷ es) o le = rw (other_ordinal (length es) o (omega arith)) (request_row_past es o (omega arith))
+request_row_past (e ∷ es) o le = rw (other_ordinal (length es) o (omega arith))
+    (request_row_past es o (omega arith))
 
 and_false : (b : Bool) → (b && false) ≡ false
 and_false true = refl
@@ -42,49 +51,66 @@ and_false false = refl
 
 pub history_row_past : (es : List Entry) (o : ℕ) → length es ≤ o → history_row es (suc o) ≡ None
 history_row_past [] o le = refl
-history_row_past (e ∷ es) o le = rw (other_ordinal (length es) o (omega arith), and_false (is_posted e)) (history_row_past es o (omega arith))
+history_row_past (e ∷ es) o le = rw (other_ordinal (length es) o (omega arith), and_false (is_posted e))
+    (history_row_past es o (omega arith))
 
-requests_added : (old new : List RequestRow) (es : List Entry) (e : Entry) → AddsRow request_key (request_row_of (length es + 1) e) old new
-    → ((o : ℕ) → row_at request_key old o ≡ request_row es o) → (o : ℕ) → row_at request_key new o ≡ request_row (e ∷ es) o
+requests_added : (old new : List RequestRow) (es : List Entry) (e : Entry)
+    → AddsRow request_key (request_row_of (length es + 1) e) old new
+    → ((o : ℕ) → row_at request_key old o ≡ request_row es o) → (o : ℕ)
+    → row_at request_key new o ≡ request_row (e ∷ es) o
 requests_added old new es e adds shown o =
-    adds.rows o ∙ ap (cond (eqb (length es + 1) o) (Some (request_row_of (length es + 1) e))) (shown o) ∙ named (eqb (length es + 1) o) refl
+    adds.rows o ∙ ap (cond (eqb (length es + 1) o) (Some (request_row_of (length es + 1) e))) (shown o)
+    ∙ named (eqb (length es + 1) o) refl
   where
-    named : (b : Bool) → eqb (length es + 1) o ≡ b → cond b (Some (request_row_of (length es + 1) e)) (request_row es o) ≡ cond b (Some (request_row_of o e)) (request_row es o)
+    named : (b : Bool) → eqb (length es + 1) o ≡ b
+        → cond b (Some (request_row_of (length es + 1) e)) (request_row es o) ≡ cond b
+        (Some (request_row_of o e)) (request_row es o)
     named true t = ap (λ (n : ℕ). Some (request_row_of n e)) (eqb-true _ _ t)
     named false f = refl
 
-history_added : (old new : List HistoryRow) (es : List Entry) (e : Entry) → is_posted e ≡ true → AddsRow history_key (history_row_of (length es + 1) e) old new
-    → ((o : ℕ) → row_at history_key old o ≡ history_row es o) → (o : ℕ) → row_at history_key new o ≡ history_row (e ∷ es) o
+history_added : (old new : List HistoryRow) (es : List Entry) (e : Entry) → is_posted e ≡ true
+    → AddsRow history_key (history_row_of (length es + 1) e) old new
+    → ((o : ℕ) → row_at history_key old o ≡ history_row es o) → (o : ℕ)
+    → row_at history_key new o ≡ history_row (e ∷ es) o
 history_added old new es e done adds shown o =
-    adds.rows o ∙ ap (cond (eqb (length es + 1) o) (Some (history_row_of (length es + 1) e))) (shown o) ∙ named (eqb (length es + 1) o) refl ∙ rw done refl
+    adds.rows o ∙ ap (cond (eqb (length es + 1) o) (Some (history_row_of (length es + 1) e))) (shown o)
+    ∙ named (eqb (length es + 1) o) refl ∙ rw done refl
   where
-    named : (b : Bool) → eqb (length es + 1) o ≡ b → cond b (Some (history_row_of (length es + 1) e)) (history_row es o) ≡ cond b (Some (history_row_of o e)) (history_row es o)
+    named : (b : Bool) → eqb (length es + 1) o ≡ b
+        → cond b (Some (history_row_of (length es + 1) e)) (history_row es o) ≡ cond b
+        (Some (history_row_of o e)) (history_row es o)
     named true t = ap (λ (n : ℕ). Some (history_row_of n e)) (eqb-true _ _ t)
     named false f = refl
 
 -- ---- balances
 
 -- what isn't posted adds to no sum, and to no history
-unposted_sum : (test : RequestFields → Bool) (es : List Entry) (e : Entry) → is_posted e ≡ false → posted_sum test es ≡ posted_sum test (e ∷ es)
+unposted_sum : (test : RequestFields → Bool) (es : List Entry) (e : Entry) → is_posted e ≡ false
+    → posted_sum test es ≡ posted_sum test (e ∷ es)
 unposted_sum test es e h = rw h refl
 
-unposted_history : (es : List Entry) (e : Entry) → is_posted e ≡ false → (o : ℕ) → history_row es o ≡ history_row (e ∷ es) o
+unposted_history : (es : List Entry) (e : Entry) → is_posted e ≡ false → (o : ℕ)
+    → history_row es o ≡ history_row (e ∷ es) o
 unposted_history es e h o = rw h refl
 
 branch_changed : (o : Option ℕ) (hit : Bool) (b : ℕ) (z old delta : ℤ) → (hit ≡ true → z ≡ old +ℤ delta)
-    → option_map (λ r. cond hit (with_branch_balance z r) r) (option_map (branch_row_of b old) o) ≡ option_map (branch_row_of b (cond hit (old +ℤ delta) old)) o
+    → option_map (λ r. cond hit (with_branch_balance z r) r) (option_map (branch_row_of b old) o) ≡ option_map
+    (branch_row_of b (cond hit (old +ℤ delta) old)) o
 branch_changed (Some count) true b z old delta h = ap (λ (v : ℤ). Some (branch_row_of b v count)) (h refl)
 branch_changed (Some count) false b z old delta h = refl
 branch_changed None hit b z old delta h = refl
 
 teller_changed : (is_open hit : Bool) (n : ℕ) (z old delta : ℤ) → (hit ≡ true → z ≡ old +ℤ delta)
-    → option_map (λ r. cond hit (with_teller_balance z r) r) (cond is_open (Some (teller_row_of n old)) None) ≡ cond is_open (Some (teller_row_of n (cond hit (old +ℤ delta) old))) None
+    → option_map (λ r. cond hit (with_teller_balance z r) r) (cond is_open (Some (teller_row_of n old)) None)
+    ≡ cond is_open (Some (teller_row_of n (cond hit (old +ℤ delta) old))) None
 teller_changed true true n z old delta h = ap (λ (v : ℤ). Some (teller_row_of n v)) (h refl)
 teller_changed true false n z old delta h = refl
 teller_changed false hit n z old delta h = refl
 
 account_changed : (is_open hit : Bool) (n : ℕ) (z old delta : ℤ) → (hit ≡ true → z ≡ old +ℤ delta)
-    → option_map (λ r. cond hit (with_account_balance z r) r) (cond is_open (Some (account_row_of n old)) None) ≡ cond is_open (Some (account_row_of n (cond hit (old +ℤ delta) old))) None
+    → option_map (λ r. cond hit (with_account_balance z r) r)
+    (cond is_open (Some (account_row_of n old)) None) ≡ cond is_open
+    (Some (account_row_of n (cond hit (old +ℤ delta) old))) None
 account_changed true true n z old delta h = ap (λ (v : ℤ). Some (account_row_of n v)) (h refl)
 account_changed true false n z old delta h = refl
 account_changed false hit n z old delta h = refl
@@ -94,41 +120,60 @@ account_changed false hit n z old delta h = refl
 one_more : (n : ℕ) → n + 1 ≡ suc n
 one_more n = omega arith
 
-refusal_shown : (old new : Tables) (opened : ℕ → Option ℕ) (es : List Entry) (m : ℕ) (r : RequestFields) (o : Outcome)
-    → HasRows old opened es → IsRefusal es r o → KeepsRefusal old new (length es + 1) (refused_entry m r o) → HasRows new opened (refused_entry m r o ∷ es)
+refusal_shown : (old new : Tables) (opened : ℕ → Option ℕ) (es : List Entry) (m : ℕ) (r : RequestFields)
+    (o : Outcome)
+    → HasRows old opened es → IsRefusal es r o → KeepsRefusal old new (length es + 1) (refused_entry m r o)
+    → HasRows new opened (refused_entry m r o ∷ es)
 refusal_shown old new opened es m r o s h step =
     let e = refused_entry m r o in
     record {
       decided = step.decided ∙ one_more (length es);
       branches = λ b. ap (λ (rows : List BranchRow). row_at branch_key rows b) step.branches ∙ s.branches b
-          ∙ ap (λ (z : ℤ). option_map (branch_row_of b z) (opened b)) (unposted_sum (λ q. eqb q.branch b) es e h.unposted);
+          ∙ ap (λ (z : ℤ). option_map (branch_row_of b z) (opened b))
+          (unposted_sum (λ q. eqb q.branch b) es e h.unposted);
       tellers = λ t. ap (λ (rows : List TellerRow). row_at teller_key rows t) step.tellers ∙ s.tellers t
-          ∙ ap (λ (z : ℤ). cond (is_teller_open opened t) (Some (teller_row_of t z)) None) (unposted_sum (λ q. eqb q.teller t) es e h.unposted);
+          ∙ ap (λ (z : ℤ). cond (is_teller_open opened t) (Some (teller_row_of t z)) None)
+          (unposted_sum (λ q. eqb q.teller t) es e h.unposted);
       accounts = λ a. ap (λ (rows : List AccountRow). row_at account_key rows a) step.accounts ∙ s.accounts a
-          ∙ ap (λ (z : ℤ). cond (is_account_open opened a) (Some (account_row_of a z)) None) (unposted_sum (λ q. eqb q.account a) es e h.unposted);
-      history = λ k. ap (λ (rows : List HistoryRow). row_at history_key rows k) step.history ∙ s.history k ∙ unposted_history es e h.unposted k;
+          ∙ ap (λ (z : ℤ). cond (is_account_open opened a) (Some (account_row_of a z)) None)
+          (unposted_sum (λ q. eqb q.account a) es e h.unposted);
+      history = λ k. ap (λ (rows : List HistoryRow). row_at history_key rows k) step.history ∙ s.history k
+          ∙ unposted_history es e h.unposted k;
       requests = requests_added old.requests new.requests es e step.requests s.requests;
-      branch_keys = subst (λ (rows : List BranchRow). HasKeys branch_key rows) (sym step.branches) s.branch_keys;
-      teller_keys = subst (λ (rows : List TellerRow). HasKeys teller_key rows) (sym step.tellers) s.teller_keys;
-      account_keys = subst (λ (rows : List AccountRow). HasKeys account_key rows) (sym step.accounts) s.account_keys;
-      history_keys = subst (λ (rows : List HistoryRow). HasKeys history_key rows) (sym step.history) s.history_keys;
+      branch_keys = subst (λ (rows : List BranchRow). HasKeys branch_key rows)
+          (sym step.branches) s.branch_keys;
+      teller_keys = subst (λ (rows : List TellerRow). HasKeys teller_key rows)
+          (sym step.tellers) s.teller_keys;
+      account_keys = subst (λ (rows : List AccountRow). HasKeys account_key rows)
+          (sym step.accounts) s.account_keys;
+      history_keys = subst (λ (rows : List HistoryRow). HasKeys history_key rows)
+          (sym step.history) s.history_keys;
       request_keys = step.requests.keys;
     }
 
-posting_shown : (old new : Tables) (opened : ℕ → Option ℕ) (es : List Entry) (m : ℕ) (r : RequestFields) (a t b : ℤ)
-    → HasRows old opened es → IsPosting opened es r a t b → KeepsPosting old new (length es + 1) (posted_entry m r a) t b → HasRows new opened (posted_entry m r a ∷ es)
+posting_shown : (old new : Tables) (opened : ℕ → Option ℕ) (es : List Entry) (m : ℕ) (r : RequestFields)
+    (a t b : ℤ)
+    → HasRows old opened es → IsPosting opened es r a t b
+    → KeepsPosting old new (length es + 1) (posted_entry m r a) t b
+    → HasRows new opened (posted_entry m r a ∷ es)
 posting_shown old new opened es m r a t b s h step =
     let e = posted_entry m r a in
     let home = branch_of_teller r.teller in
     record {
       decided = step.decided ∙ one_more (length es);
-      branches = λ n. step.branches.rows n ∙ ap (option_map (λ row. cond (eqb home n) (with_branch_balance b row) row)) (s.branches n)
-          ∙ branch_changed (opened n) (eqb home n) n b (branch_balance es n) r.delta (λ q. h.branch_is.sum ∙ ap (λ (x : ℕ). branch_balance es x +ℤ r.delta) (eqb-true _ _ q))
+      branches = λ n. step.branches.rows n ∙ ap
+          (option_map (λ row. cond (eqb home n) (with_branch_balance b row) row)) (s.branches n)
+          ∙ branch_changed (opened n) (eqb home n) n b (branch_balance es n) r.delta
+          (λ q. h.branch_is.sum ∙ ap (λ (x : ℕ). branch_balance es x +ℤ r.delta) (eqb-true _ _ q))
           ∙ ap (λ (x : ℕ). option_map (branch_row_of n (cond (eqb x n) (branch_balance es n +ℤ r.delta) (branch_balance es n))) (opened n)) (sym h.its_branch);
-      tellers = λ n. step.tellers.rows n ∙ ap (option_map (λ row. cond (eqb r.teller n) (with_teller_balance t row) row)) (s.tellers n)
-          ∙ teller_changed (is_teller_open opened n) (eqb r.teller n) n t (teller_balance es n) r.delta (λ q. h.teller_is.sum ∙ ap (λ (x : ℕ). teller_balance es x +ℤ r.delta) (eqb-true _ _ q));
-      accounts = λ n. step.accounts.rows n ∙ ap (option_map (λ row. cond (eqb r.account n) (with_account_balance a row) row)) (s.accounts n)
-          ∙ account_changed (is_account_open opened n) (eqb r.account n) n a (account_balance es n) r.delta (λ q. h.account_is.sum ∙ ap (λ (x : ℕ). account_balance es x +ℤ r.delta) (eqb-true _ _ q));
+      tellers = λ n. step.tellers.rows n ∙ ap
+          (option_map (λ row. cond (eqb r.teller n) (with_teller_balance t row) row)) (s.tellers n)
+          ∙ teller_changed (is_teller_open opened n) (eqb r.teller n) n t (teller_balance es n) r.delta
+          (λ q. h.teller_is.sum ∙ ap (λ (x : ℕ). teller_balance es x +ℤ r.delta) (eqb-true _ _ q));
+      accounts = λ n. step.accounts.rows n ∙ ap
+          (option_map (λ row. cond (eqb r.account n) (with_account_balance a row) row)) (s.accounts n)
+          ∙ account_changed (is_account_open opened n) (eqb r.account n) n a (account_balance es n) r.delta
+          (λ q. h.account_is.sum ∙ ap (λ (x : ℕ). account_balance es x +ℤ r.delta) (eqb-true _ _ q));
       history = history_added old.history new.history es e refl step.history s.history;
       requests = requests_added old.requests new.requests es e step.requests s.requests;
       branch_keys = step.branches.keys;
@@ -138,21 +183,29 @@ posting_shown old new opened es m r a t b s h step =
       request_keys = step.requests.keys;
     }
 
-verdict_shown : (old new : Tables) (opened : ℕ → Option ℕ) (es : List Entry) (m : ℕ) (r : RequestFields) (v : Verdict)
-    → HasRows old opened es → IsVerdict opened es r v → IsStep old new (length es + 1) m r v → HasRows new opened (with_verdict m r v es)
-verdict_shown old new opened es m r (Unkept o) s h step = subst (λ (u : Tables). HasRows u opened es) (sym step) s
-verdict_shown old new opened es m r (Again x) s h step = subst (λ (u : Tables). HasRows u opened es) (sym step) s
+verdict_shown : (old new : Tables) (opened : ℕ → Option ℕ) (es : List Entry) (m : ℕ) (r : RequestFields)
+    (v : Verdict)
+    → HasRows old opened es → IsVerdict opened es r v → IsStep old new (length es + 1) m r v
+    → HasRows new opened (with_verdict m r v es)
+verdict_shown old new opened es m r (Unkept o) s h step = subst (λ (u : Tables). HasRows u opened es)
+    (sym step) s
+verdict_shown old new opened es m r (Again x) s h step = subst (λ (u : Tables). HasRows u opened es)
+    (sym step) s
 verdict_shown old new opened es m r (Refused o) s h step = refusal_shown old new opened es m r o s h step
-verdict_shown old new opened es m r (Posted a t b) s h step = posting_shown old new opened es m r a t b s h step
+verdict_shown old new opened es m r (Posted a t b) s h step =
+    posting_shown old new opened es m r a t b s h step
 
 -- ---- a request behind a log
 
 -- tables that the verdict on what was looked up for a request changes
-pub post_shown : (old new : Tables) (log : List Command) (m : ℕ) (bytes : List ℕ) (r : RequestFields) → request_of bytes ≡ Ok r → Shows old log
-    → IsStep old new (length (decided log) + 1) m r (case_of (found_in old r) r) → Shows new (Post m bytes ∷ log)
+pub post_shown : (old new : Tables) (log : List Command) (m : ℕ) (bytes : List ℕ) (r : RequestFields)
+    → request_of bytes ≡ Ok r → Shows old log
+    → IsStep old new (length (decided log) + 1) m r (case_of (found_in old r) r)
+    → Shows new (Post m bytes ∷ log)
 post_shown old new log m bytes r read s step =
     let es = decided log in
-    let found : found_in old r ≡ facts (λ b. opened log b) es r = found_shown old (λ b. opened log b) es r (are_new log) s.rows in
+    let found : found_in old r ≡ facts (λ b. opened log b) es r = found_shown old (λ b. opened log b) es r
+    (are_new log) s.rows in
     let v = case_of (facts (λ b. opened log b) es r) r in
     let after : HasRows new (λ b. opened log b) (with_verdict m r v es) =
     verdict_shown old new (λ b. opened log b) es m r v s.rows (verdict_is (λ b. opened log b) es r)
@@ -160,12 +213,16 @@ post_shown old new log m bytes r read s step =
     record { rows = subst (λ (x : Result RequestFields Bad). HasRows new (λ b. opened log b) (with_record m x (λ b. opened log b) es)) (sym read) after }
 
 -- bytes that are no request change nothing
-pub malformed_shown : (t : Tables) (log : List Command) (m : ℕ) (bytes : List ℕ) (fault : Bad) → request_of bytes ≡ Err fault → Shows t log → Shows t (Post m bytes ∷ log)
+pub malformed_shown : (t : Tables) (log : List Command) (m : ℕ) (bytes : List ℕ) (fault : Bad)
+    → request_of bytes ≡ Err fault → Shows t log → Shows t (Post m bytes ∷ log)
 malformed_shown t log m bytes fault read s =
     record { rows = subst (λ (x : Result RequestFields Bad). HasRows t (λ b. opened log b) (with_record m x (λ b. opened log b) (decided log))) (sym read) s.rows }
 
 -- the reply that the verdict on what was looked up tells
-pub reply_shown : (t : Tables) (log : List Command) (bytes : List ℕ) (r : RequestFields) → request_of bytes ≡ Ok r → Shows t log → reply_in (case_of (found_in t r) r) r ≡ reply log bytes
+pub reply_shown : (t : Tables) (log : List Command) (bytes : List ℕ) (r : RequestFields)
+    → request_of bytes ≡ Ok r → Shows t log → reply_in (case_of (found_in t r) r) r ≡ reply log bytes
 reply_shown t log bytes r read s =
-    let found : found_in t r ≡ facts (λ b. opened log b) (decided log) r = found_shown t (λ b. opened log b) (decided log) r (are_new log) s.rows in
-    ap (λ (f : Found). reply_in (case_of f r) r) found ∙ ap (λ (x : Result RequestFields Bad). reply_to x (λ b. opened log b) (decided log)) (sym read)
+    let found : found_in t r ≡ facts (λ b. opened log b) (decided log) r = found_shown t (λ b. opened log b)
+    (decided log) r (are_new log) s.rows in
+    ap (λ (f : Found). reply_in (case_of f r) r) found ∙ ap
+    (λ (x : Result RequestFields Bad). reply_to x (λ b. opened log b) (decided log)) (sym read)

@@ -1,4 +1,5 @@
--- In sound tables, what a verdict or an opening leaves by its statements is what it does to tables by look-ups.
+-- In sound tables, what a verdict or an opening leaves by its statements is what it does to tables by
+-- look-ups.
 use Rattle.std.proofs.Common.{◌≡◌, ℕ, suc, ◌+◌, ◌<◌, ◌≤◌, List, Option, Some, None, refl, ap, ◌∙◌, arith}
 use Rattle.std.specs.Prelude.{ℤ, pos, is_some, IsSome}
 use Rattle.std.specs.Option.{option_map}
@@ -9,15 +10,22 @@ use Rattle.posting_rules.specs.declared.rows.RequestRow.{RequestRow}
 use Rattle.posting_rules.specs.Commands.{Command, AreCommands, branch_of_teller}
 use Rattle.posting_rules.specs.Cases.{case_of, plus_within}
 use Rattle.posting_rules.specs.Entries.{Entry, refused_entry, posted_entry}
-use Rattle.posting_rules.specs.Tables.{Tables, Shows, row_at, branch_key, teller_key, account_key, history_key, request_key, branch_row_of, request_row_of, history_row_of}
-use Rattle.posting_rules.specs.LookUps.{both_of, balance_of_branch, balance_of_teller, balance_of_account, found_in}
-use Rattle.posting_rules.specs.Steps.{AddsRow, AddsRows, KeepsRefusal, KeepsPosting, IsStep, OpensBranch, first_teller, first_account}
+use Rattle.posting_rules.specs.Tables.{Tables, Shows, row_at, branch_key, teller_key, account_key}
+use Rattle.posting_rules.specs.Tables.{history_key, request_key, branch_row_of, request_row_of}
+use Rattle.posting_rules.specs.Tables.{history_row_of}
+use Rattle.posting_rules.specs.LookUps.{both_of, balance_of_branch, balance_of_teller, balance_of_account}
+use Rattle.posting_rules.specs.LookUps.{found_in}
+use Rattle.posting_rules.specs.Steps.{AddsRow, AddsRows, KeepsRefusal, KeepsPosting, IsStep, OpensBranch}
+use Rattle.posting_rules.specs.Steps.{first_teller, first_account}
 use Rattle.posting_rules.specs.Steps as steps
 use Rattle.posting_rules.proofs.Undamaged.{undamaged}
 use Rattle.posting_rules.proofs.Verdicts.{by_posting, by_account, by_new, by_known, by_teller}
-use Rattle.posting_rules.specs.Changes.{rows_put, new_teller, new_account, with_decided, with_branch_balance, with_teller_balance, with_account_balance, with_branch, with_teller, with_account, with_history, with_request}
+use Rattle.posting_rules.specs.Changes.{rows_put, new_teller, new_account, with_decided, with_branch_balance}
+use Rattle.posting_rules.specs.Changes.{with_teller_balance, with_account_balance, with_branch, with_teller}
+use Rattle.posting_rules.specs.Changes.{with_account, with_history, with_request}
 use Rattle.posting_rules.specs.Sound.{AreSound}
-use Rattle.posting_rules.specs.Changes.{tables_kept, tables_moved, tables_posted, tables_after, with_tellers, with_accounts, tables_opened, HasRowsOf}
+use Rattle.posting_rules.specs.Changes.{tables_kept, tables_moved, tables_posted, tables_after, with_tellers}
+use Rattle.posting_rules.specs.Changes.{with_accounts, tables_opened, HasRowsOf}
 use Rattle.posting_rules.proofs.Ready.{AreReady, ready_sound, no_teller, no_account}
 use Rattle.posting_rules.proofs.RowChanges.{row_changes, row_adds, rows_add, next_is_free}
 use Rattle.posting_rules.specs.declared.limits.TheConstants.{MOST_ACCOUNTS}
@@ -36,7 +44,8 @@ sound_tables t log are shows = record {
 -- ---- what is decided
 
 -- the tables of a refusal
-pub refused_is : (t : Tables) (e : Entry) → AreReady t → KeepsRefusal t (tables_kept t (t.decided + 1) e) (t.decided + 1) e
+pub refused_is : (t : Tables) (e : Entry) → AreReady t
+    → KeepsRefusal t (tables_kept t (t.decided + 1) e) (t.decided + 1) e
 unfolding with_decided with_request
 refused_is t e ready = record {
   decided = refl;
@@ -44,7 +53,8 @@ refused_is t e ready = record {
   tellers = refl;
   accounts = refl;
   history = refl;
-  requests = row_adds request_key t.requests (request_row_of (t.decided + 1) e) ready.requests ready.next_request;
+  requests = row_adds request_key t.requests
+      (request_row_of (t.decided + 1) e) ready.requests ready.next_request;
 }
 
 -- the tables of a posting
@@ -54,11 +64,16 @@ unfolding with_decided with_request with_history with_branch_balance with_teller
 posted_is t e teller branch ready = record {
   decided = refl;
   branches =
-      row_changes branch_key (branch_of_teller e.request.teller) (steps.with_branch_balance branch) t.branches (λ _. refl) ready.branches;
-  tellers = row_changes teller_key e.request.teller (steps.with_teller_balance teller) t.tellers (λ _. refl) ready.tellers;
-  accounts = row_changes account_key e.request.account (steps.with_account_balance e.balance) t.accounts (λ _. refl) ready.accounts;
-  history = row_adds history_key t.history (history_row_of (t.decided + 1) e) ready.history ready.next_posting;
-  requests = row_adds request_key t.requests (request_row_of (t.decided + 1) e) ready.requests ready.next_request;
+      row_changes branch_key (branch_of_teller e.request.teller) (steps.with_branch_balance branch) t.branches
+      (λ _. refl) ready.branches;
+  tellers = row_changes teller_key e.request.teller (steps.with_teller_balance teller) t.tellers
+      (λ _. refl) ready.tellers;
+  accounts = row_changes account_key e.request.account (steps.with_account_balance e.balance) t.accounts
+      (λ _. refl) ready.accounts;
+  history = row_adds history_key t.history
+      (history_row_of (t.decided + 1) e) ready.history ready.next_posting;
+  requests = row_adds request_key t.requests
+      (request_row_of (t.decided + 1) e) ready.requests ready.next_request;
 }
 
 -- the tables of any verdict
@@ -67,7 +82,8 @@ pub step_is : (t : Tables) (moment : ℕ) (r : RequestFields) (v : Verdict) → 
 step_is t moment r (Unkept outcome) ready = refl
 step_is t moment r (Again reply) ready = refl
 step_is t moment r (Refused outcome) ready = refused_is t (refused_entry moment r outcome) ready
-step_is t moment r (Posted account teller branch) ready = posted_is t (posted_entry moment r account) teller branch ready
+step_is t moment r (Posted account teller branch) ready = posted_is t
+    (posted_entry moment r account) teller branch ready
 
 -- the writes of a posting leave the decided requests
 pub requests_as_before : (t : Tables) (ordinal : ℕ) (e : Entry) (teller branch : ℤ)
@@ -97,7 +113,8 @@ there_unmapped f (Some x) h = refl
 there_unmapped f None h = absurd cc
 
 -- they are there where a request is posted
-pub posted_rows : (t : Tables) (r : RequestFields) (a te b : ℤ) → case_of (found_in t r) r ≡ Posted a te b → HasRowsOf t r
+pub posted_rows : (t : Tables) (r : RequestFields) (a te b : ℤ) → case_of (found_in t r) r ≡ Posted a te b
+    → HasRowsOf t r
 unfolding case_of
 posted_rows t r a te b =
     let f = found_in t r in
@@ -108,19 +125,23 @@ posted_rows t r a te b =
     by_known P f.kept f r z.0 z.1 (λ e. absurd cc) (λ reply e. absurd cc) (λ new.
     by_new P f r z.0 z.1 (λ e. absurd cc) (λ room e. absurd cc) (λ room its.
     by_account P f.account z.0 z.1 r.delta (λ e. absurd cc) (λ x accounts.
-    by_posting P (plus_within x r.delta) (plus_within z.0 r.delta) (plus_within z.1 r.delta) (λ e. absurd cc) (λ u v w eu ev ew e.
-    let two = both_there (option_map balance_of_teller its_teller) (option_map balance_of_branch its_branch) z tellers in
+    by_posting P (plus_within x r.delta) (plus_within z.0 r.delta) (plus_within z.1 r.delta) (λ e. absurd cc)
+    (λ u v w eu ev ew e.
+    let two = both_there (option_map balance_of_teller its_teller)
+    (option_map balance_of_branch its_branch) z tellers in
     record {
       account = some_mapped balance_of_account (row_at account_key t.accounts r.account) x accounts;
       teller = there_unmapped balance_of_teller its_teller two.0;
-      branch = ap (λ (n : ℕ). is_some (row_at branch_key t.branches n)) its ∙ there_unmapped balance_of_branch its_branch two.1;
+      branch = ap (λ (n : ℕ). is_some (row_at branch_key t.branches n)) its
+          ∙ there_unmapped balance_of_branch its_branch two.1;
       its_branch = its;
     })))))
 
 -- ---- an opening
 
 -- the tables of an opening
-pub opens_is : (t : Tables) (b count : ℕ) → AreReady t → 1 ≤ b → count ≤ MOST_ACCOUNTS → row_at branch_key t.branches b ≡ None
+pub opens_is : (t : Tables) (b count : ℕ) → AreReady t → 1 ≤ b → count ≤ MOST_ACCOUNTS
+    → row_at branch_key t.branches b ≡ None
     → OpensBranch t (tables_opened t b count) b count
 unfolding with_branch with_tellers with_accounts
 opens_is t b count ready low most none = record {
@@ -144,35 +165,41 @@ unfolding with_accounts
 no_more_accounts first t = refl
 
 -- one teller more, and one account more
-pub one_more_teller : (first n : ℕ) (t : Tables) → with_teller (new_teller (first + n)) (with_tellers first n t) ≡ with_tellers first (suc n) t
+pub one_more_teller : (first n : ℕ) (t : Tables)
+    → with_teller (new_teller (first + n)) (with_tellers first n t) ≡ with_tellers first (suc n) t
 unfolding with_teller with_tellers
 one_more_teller first n t = refl
 
-pub one_more_account : (first n : ℕ) (t : Tables) → with_account (new_account (first + n)) (with_accounts first n t) ≡ with_accounts first (suc n) t
+pub one_more_account : (first n : ℕ) (t : Tables)
+    → with_account (new_account (first + n)) (with_accounts first n t) ≡ with_accounts first (suc n) t
 unfolding with_account with_accounts
 one_more_account first n t = refl
 
 -- while an opening puts its tellers in, the next of them is free
-pub opening_teller_is_free : (t : Tables) (b count n : ℕ) → AreSound t → 1 ≤ b → row_at branch_key t.branches b ≡ None → n < 10
+pub opening_teller_is_free : (t : Tables) (b count n : ℕ) → AreSound t → 1 ≤ b
+    → row_at branch_key t.branches b ≡ None → n < 10
     → row_at teller_key (with_tellers (first_teller b) n (with_branch (branch_row_of b (pos 0) count) t)).tellers (first_teller b + n)
     ≡ None
 unfolding with_branch with_tellers
 opening_teller_is_free t b count n sound low none lt =
     let ready = ready_sound t sound in
-    next_is_free teller_key new_teller (first_teller b) n t.tellers (rows_put teller_key new_teller (first_teller b) n t.tellers)
+    next_is_free teller_key new_teller (first_teller b) n t.tellers
+    (rows_put teller_key new_teller (first_teller b) n t.tellers)
     (rows_add teller_key new_teller (first_teller b) n t.tellers (λ _. refl) ready.tellers
     (λ k below. no_teller t b k ready low none (omega arith)))
     (no_teller t b n ready low none lt)
 
 -- and while it puts its accounts in, the next of these
-pub opening_account_is_free : (t : Tables) (b count tellers n : ℕ) → AreSound t → 1 ≤ b → count ≤ MOST_ACCOUNTS
+pub opening_account_is_free : (t : Tables) (b count tellers n : ℕ) → AreSound t → 1 ≤ b
+    → count ≤ MOST_ACCOUNTS
     → row_at branch_key t.branches b ≡ None → n < count
     → let staffed = with_tellers (first_teller b) tellers (with_branch (branch_row_of b (pos 0) count) t) in
     row_at account_key (with_accounts (first_account b) n staffed).accounts (first_account b + n) ≡ None
 unfolding with_branch with_tellers with_accounts
 opening_account_is_free t b count tellers n sound low most none lt =
     let ready = ready_sound t sound in
-    next_is_free account_key new_account (first_account b) n t.accounts (rows_put account_key new_account (first_account b) n t.accounts)
+    next_is_free account_key new_account (first_account b) n t.accounts
+    (rows_put account_key new_account (first_account b) n t.accounts)
     (rows_add account_key new_account (first_account b) n t.accounts (λ _. refl) ready.accounts
     (λ k below. no_account t b k ready low none (omega arith)))
     (no_account t b n ready low none (omega arith))

@@ -1,11 +1,13 @@
 -- The tables of a log of commands are undamaged.
-use Rattle.std.proofs.Common.{◌≡◌, ℕ, ◌+◌, ◌*◌, ◌<◌, ◌≤◌, true, cond, eqb, leb, List, [], ◌∷◌, length, Option, Some, None, sym, subst, ◌∙◌, arith, inl, inr}
+use Rattle.std.proofs.Common.{◌≡◌, ℕ, ◌+◌, ◌*◌, ◌<◌, ◌≤◌, true, cond, eqb, leb, List, [], ◌∷◌, length, Option}
+use Rattle.std.proofs.Common.{Some, None, sym, subst, ◌∙◌, arith, inl, inr}
 use Rattle.std.specs.Prelude.{ℤ, nat_abs, is_some, ◌&&◌, IfSome}
 use Rattle.std.specs.List.{Contains}
 use Rattle.std.specs.Option.{option_map}
 use Rattle.std.proofs.lemmas.Bool.{eqb-true, leb-true}
 use Rattle.std.proofs.lemmas.List.Elements.{All-contains, All-from_recursion}
-use Rattle.posting_rules.specs.declared.limits.TheConstants.{MAX_DECIDED, LAST_BRANCH, ACCOUNTS_PER_BRANCH, TELLERS_PER_BRANCH}
+use Rattle.posting_rules.specs.declared.limits.TheConstants.{MAX_DECIDED, LAST_BRANCH, ACCOUNTS_PER_BRANCH}
+use Rattle.posting_rules.specs.declared.limits.TheConstants.{TELLERS_PER_BRANCH}
 use Rattle.message_records.specs.declared.limits.TheConstants.{MAX_BALANCE}
 use Rattle.message_records.specs.Records.{RequestFields, IsRequest}
 use Rattle.posting_rules.specs.declared.rows.BranchRow.{BranchRow}
@@ -13,10 +15,16 @@ use Rattle.posting_rules.specs.declared.rows.TellerRow.{TellerRow}
 use Rattle.posting_rules.specs.declared.rows.AccountRow.{AccountRow}
 use Rattle.posting_rules.specs.declared.rows.HistoryRow.{HistoryRow}
 use Rattle.posting_rules.specs.declared.rows.RequestRow.{RequestRow}
-use Rattle.posting_rules.specs.Commands.{Command, Open, IsCommand, AreCommands, opened, branch_of_teller, branch_of_account, place_of_account, is_within, is_teller_open, is_account_open}
-use Rattle.posting_rules.specs.Entries.{Entry, is_posted, account_balance, teller_balance, branch_balance, decided}
-use Rattle.posting_rules.specs.Tables.{Tables, Shows, HasKeys, row_at, branch_key, teller_key, account_key, history_key, request_key, branch_row_of, teller_row_of, account_row_of, history_row, history_row_of, request_row, request_row_of}
-use Rattle.posting_rules.specs.Damage.{IsSoundBranch, IsSoundTeller, IsSoundAccount, IsSoundRequest, IsSoundPosting, AreInRange, IsUndamaged}
+use Rattle.posting_rules.specs.Commands.{Command, Open, IsCommand, AreCommands, opened, branch_of_teller}
+use Rattle.posting_rules.specs.Commands.{branch_of_account, place_of_account, is_within, is_teller_open}
+use Rattle.posting_rules.specs.Commands.{is_account_open}
+use Rattle.posting_rules.specs.Entries.{Entry, is_posted, account_balance, teller_balance, branch_balance}
+use Rattle.posting_rules.specs.Entries.{decided}
+use Rattle.posting_rules.specs.Tables.{Tables, Shows, HasKeys, row_at, branch_key, teller_key, account_key}
+use Rattle.posting_rules.specs.Tables.{history_key, request_key, branch_row_of, teller_row_of, account_row_of}
+use Rattle.posting_rules.specs.Tables.{history_row, history_row_of, request_row, request_row_of}
+use Rattle.posting_rules.specs.Damage.{IsSoundBranch, IsSoundTeller, IsSoundAccount, IsSoundRequest}
+use Rattle.posting_rules.specs.Damage.{IsSoundPosting, AreInRange, IsUndamaged}
 use Rattle.posting_rules.proofs.Keyed.{by_test}
 use Rattle.posting_rules.proofs.Verdicts.{when}
 use Rattle.posting_rules.proofs.Opened.{both, some_within}
@@ -44,7 +52,8 @@ branch_sound (Some n) b z r h limit e =
     subst IsSoundBranch is (record { some = h.0; most = h.1; few = h.2; many = h.3; balance = limit })
 
 -- a branch that is open has one of the numbers of branches
-number_within : (o : Option ℕ) (b : ℕ) → IfSome o (λ n. IsCommand (Open b n)) → is_some o ≡ true → b ≤ LAST_BRANCH
+number_within : (o : Option ℕ) (b : ℕ) → IfSome o (λ n. IsCommand (Open b n)) → is_some o ≡ true
+    → b ≤ LAST_BRANCH
 number_within (Some n) b h e = h.1
 number_within None b h e = absurd cc
 
@@ -62,7 +71,8 @@ teller_sound : (opened : ℕ → Option ℕ) (n : ℕ) (z : ℤ) (r : TellerRow)
 teller_sound opened n z r open_ limit e =
     let is = when (is_teller_open opened n) (teller_row_of n z) r e in
     let two = both (leb 1 n) (is_some (opened (branch_of_teller n))) is.0 in
-    let home = number_within (opened (branch_of_teller n)) (branch_of_teller n) (open_ (branch_of_teller n)) two.1 in
+    let home = number_within (opened (branch_of_teller n)) (branch_of_teller n)
+    (open_ (branch_of_teller n)) two.1 in
     subst IsSoundTeller is.1 (record { some = leb-true _ _ two.0; most = last_teller n home; balance = limit })
 
 -- the row of an open account
@@ -73,7 +83,8 @@ account_sound opened n z r open_ limit e =
     let is = when (is_account_open opened n) (account_row_of n z) r e in
     let two = both (leb 1 n) (is_within (place_of_account n) (opened (branch_of_account n))) is.0 in
     let some = some_within (place_of_account n) (opened (branch_of_account n)) two.1 in
-    let home = number_within (opened (branch_of_account n)) (branch_of_account n) (open_ (branch_of_account n)) some in
+    let home = number_within (opened (branch_of_account n)) (branch_of_account n)
+    (open_ (branch_of_account n)) some in
     subst IsSoundAccount is.1 (record { some = leb-true _ _ two.0; most = last_account n home; balance = limit })
 
 -- ---- requests and history
@@ -91,7 +102,8 @@ in_range r is = record {
 }
 
 -- the rows of a decided request, under an ordinal that a bank may decide
-request_row_sound : (o : ℕ) (e : Entry) → IsSoundEntry e → 1 ≤ o → o ≤ MAX_DECIDED → IsSoundRequest (request_row_of o e)
+request_row_sound : (o : ℕ) (e : Entry) → IsSoundEntry e → 1 ≤ o → o ≤ MAX_DECIDED
+    → IsSoundRequest (request_row_of o e)
 request_row_sound o e h least most = record {
   ordinal_above = least;
   ordinal = most;
@@ -102,7 +114,8 @@ request_row_sound o e h least most = record {
   balance = h.balance;
 }
 
-posting_row_sound : (o : ℕ) (e : Entry) → IsSoundEntry e → 1 ≤ o → o ≤ MAX_DECIDED → IsSoundPosting (history_row_of o e)
+posting_row_sound : (o : ℕ) (e : Entry) → IsSoundEntry e → 1 ≤ o → o ≤ MAX_DECIDED
+    → IsSoundPosting (history_row_of o e)
 posting_row_sound o e h least most =
     record { ordinal_above = least; ordinal = most; fields = in_range e.request h.request; moment = h.moment }
 
@@ -111,7 +124,8 @@ ordinal_within : (n o : ℕ) → eqb (n + 1) o ≡ true → n < MAX_DECIDED → 
 ordinal_within n o t room = let is : n + 1 ≡ o = eqb-true _ _ t in (omega arith, omega arith)
 
 -- the row of one of the decided requests
-request_sound : (es : List Entry) (o : ℕ) (r : RequestRow) → AreSound es → request_row es o ≡ Some r → IsSoundRequest r
+request_sound : (es : List Entry) (o : ℕ) (r : RequestRow) → AreSound es → request_row es o ≡ Some r
+    → IsSoundRequest r
 request_sound [] o r all h = absurd cc
 request_sound (e ∷ es) o r all h =
     elim (by_test (eqb (length es + 1) o)) [
@@ -123,7 +137,8 @@ request_sound (e ∷ es) o r all h =
     ]
 
 -- the row of one of the postings
-posting_sound : (es : List Entry) (o : ℕ) (r : HistoryRow) → AreSound es → history_row es o ≡ Some r → IsSoundPosting r
+posting_sound : (es : List Entry) (o : ℕ) (r : HistoryRow) → AreSound es → history_row es o ≡ Some r
+    → IsSoundPosting r
 posting_sound [] o r all h = absurd cc
 posting_sound (e ∷ es) o r all h =
     elim (by_test (is_posted e && eqb (length es + 1) o)) [
@@ -150,18 +165,23 @@ undamaged t log are shows =
       tellers = ready.its_tellers;
       accounts = ready.its_accounts;
       each_branch = λ r has.
-          branch_sound (open_ r.branch) r.branch (branch_balance es r.branch) r (open_within log are r.branch) (within.branches r.branch)
+          branch_sound (open_ r.branch) r.branch (branch_balance es r.branch) r (open_within log are r.branch)
+          (within.branches r.branch)
           (sym (s.branches r.branch) ∙ row_at-contained branch_key t.branches r s.branch_keys has);
       each_teller = λ r has.
-          teller_sound open_ r.teller (teller_balance es r.teller) r (open_within log are) (within.tellers r.teller)
+          teller_sound open_ r.teller (teller_balance es r.teller) r (open_within log are)
+          (within.tellers r.teller)
           (sym (s.tellers r.teller) ∙ row_at-contained teller_key t.tellers r s.teller_keys has);
       each_account = λ r has.
-          account_sound open_ r.account (account_balance es r.account) r (open_within log are) (within.accounts r.account)
+          account_sound open_ r.account (account_balance es r.account) r (open_within log are)
+          (within.accounts r.account)
           (sym (s.accounts r.account) ∙ row_at-contained account_key t.accounts r s.account_keys has);
       each_request = λ r has.
-          request_sound es r.ordinal r all (sym (s.requests r.ordinal) ∙ row_at-contained request_key t.requests r s.request_keys has);
+          request_sound es r.ordinal r all
+          (sym (s.requests r.ordinal) ∙ row_at-contained request_key t.requests r s.request_keys has);
       each_posting = λ r has.
-          posting_sound es r.ordinal r all (sym (s.history r.ordinal) ∙ row_at-contained history_key t.history r s.history_keys has);
+          posting_sound es r.ordinal r all
+          (sym (s.history r.ordinal) ∙ row_at-contained history_key t.history r s.history_keys has);
       next_request = ready.next_request;
       next_posting = ready.next_posting;
     }

@@ -1,5 +1,6 @@
 -- What a verdict says of what was known.
-use Rattle.std.proofs.Common.{◌≡◌, ℕ, ◌<◌, ◌≤◌, Bool, true, false, cond, eqb, leb, List, length, Option, Some, None, refl, sym, ap, inl, inr}
+use Rattle.std.proofs.Common.{◌≡◌, ℕ, ◌<◌, ◌≤◌, Bool, true, false, cond, eqb, leb, List, length, Option, Some}
+use Rattle.std.proofs.Common.{None, refl, sym, ap, inl, inr}
 use Rattle.std.specs.Prelude.{ℤ, ◌+ℤ◌, nat_abs}
 use Rattle.std.proofs.lemmas.Bool.{eqb-true, leb-true, leb-false}
 use Rattle.posting_rules.specs.declared.limits.TheConstants.{MAX_DECIDED}
@@ -13,7 +14,8 @@ use Rattle.posting_rules.specs.declared.facts.Verdict.{Verdict}
 use Rattle.posting_rules.specs.declared.facts.Verdict.TheVariants.{Unkept, Again, Refused, Posted}
 use Rattle.posting_rules.specs.Kept.{KeptFields}
 use Rattle.posting_rules.specs.Commands.{branch_of_teller, is_teller_open, is_account_open}
-use Rattle.posting_rules.specs.Cases.{case_of, teller_case, known_case, new_case, account_case, posting_of, plus_within, is_same}
+use Rattle.posting_rules.specs.Cases.{case_of, teller_case, known_case, new_case, account_case, posting_of}
+use Rattle.posting_rules.specs.Cases.{plus_within, is_same}
 use Rattle.posting_rules.specs.Entries.{Entry, facts, kept, teller_balance, branch_balance, account_balance}
 use Rattle.posting_rules.proofs.Keyed.{by_test}
 
@@ -23,7 +25,8 @@ pub record IsSum (balance delta new : ℤ) : Type 0 where
   pub within : nat_abs new ≤ MAX_BALANCE
 
 -- what is so where a request is posted
-pub record IsPosting (opened : ℕ → Option ℕ) (es : List Entry) (r : RequestFields) (account teller branch : ℤ) : Type 0 where
+pub record IsPosting (opened : ℕ → Option ℕ) (es : List Entry) (r : RequestFields)
+    (account teller branch : ℤ) : Type 0 where
   pub new : kept es r.teller r.number ≡ None
   pub room : length es < MAX_DECIDED
   pub teller_open : is_teller_open opened r.teller ≡ true
@@ -60,17 +63,21 @@ when false x y e = absurd cc
 
 -- the cases one after another, for whatever is to be shown of the verdict
 module _ (P : Verdict → Type 0) where
-  pub by_posting : (a t b : Option ℤ) → P (Refused outcome.OverLimit) → ((x y z : ℤ) → a ≡ Some x → t ≡ Some y → b ≡ Some z → P (Posted x y z)) → P (posting_of a t b)
+  pub by_posting : (a t b : Option ℤ) → P (Refused outcome.OverLimit)
+      → ((x y z : ℤ) → a ≡ Some x → t ≡ Some y → b ≡ Some z → P (Posted x y z)) → P (posting_of a t b)
   by_posting (Some x) (Some y) (Some z) other given = given x y z refl refl refl
   by_posting None t b other given = other
   by_posting (Some x) None b other given = other
   by_posting (Some x) (Some y) None other given = other
 
-  pub by_account : (o : Option ℤ) (t b d : ℤ) → P (Refused outcome.NoAccount) → ((a : ℤ) → o ≡ Some a → P (posting_of (plus_within a d) (plus_within t d) (plus_within b d))) → P (account_case o t b d)
+  pub by_account : (o : Option ℤ) (t b d : ℤ) → P (Refused outcome.NoAccount)
+      → ((a : ℤ) → o ≡ Some a → P (posting_of (plus_within a d) (plus_within t d) (plus_within b d)))
+      → P (account_case o t b d)
   by_account None t b d other given = other
   by_account (Some a) t b d other given = given a refl
 
-  pub by_new : (f : Found) (r : RequestFields) (t b : ℤ) → P (Unkept outcome.Full) → (f.decided < MAX_DECIDED → P (Refused outcome.WrongBranch))
+  pub by_new : (f : Found) (r : RequestFields) (t b : ℤ) → P (Unkept outcome.Full)
+      → (f.decided < MAX_DECIDED → P (Refused outcome.WrongBranch))
       → (f.decided < MAX_DECIDED → r.branch ≡ branch_of_teller r.teller → P (account_case f.account t b r.delta)) → P (new_case f r t b)
   by_new f r t b full wrong right =
       elim (by_test (leb MAX_DECIDED f.decided)) [
@@ -82,16 +89,21 @@ module _ (P : Verdict → Type 0) where
             ])
       ]
 
-  pub by_known : (k : Option KeptFields) (f : Found) (r : RequestFields) (t b : ℤ) → P (Unkept outcome.ReusedNumber) → ((a : ReplyFields) → P (Again a)) → (k ≡ None → P (new_case f r t b)) → P (known_case k f r t b)
+  pub by_known : (k : Option KeptFields) (f : Found) (r : RequestFields) (t b : ℤ)
+      → P (Unkept outcome.ReusedNumber) → ((a : ReplyFields) → P (Again a))
+      → (k ≡ None → P (new_case f r t b)) → P (known_case k f r t b)
   by_known None f r t b reused again new = new refl
-  by_known (Some k) f r t b reused again new = elim (by_test (is_same k r)) [ inl h ↦ rw h (again _) | inr h ↦ rw h reused ]
+  by_known (Some k) f r t b reused again new =
+      elim (by_test (is_same k r)) [ inl h ↦ rw h (again _) | inr h ↦ rw h reused ]
 
-  pub by_teller : (o : Option (ℤ × ℤ)) (f : Found) (r : RequestFields) → P (Unkept outcome.NoTeller) → ((z : ℤ × ℤ) → o ≡ Some z → P (known_case f.kept f r z.0 z.1)) → P (teller_case o f r)
+  pub by_teller : (o : Option (ℤ × ℤ)) (f : Found) (r : RequestFields) → P (Unkept outcome.NoTeller)
+      → ((z : ℤ × ℤ) → o ≡ Some z → P (known_case f.kept f r z.0 z.1)) → P (teller_case o f r)
   by_teller None f r closed some = closed
   by_teller (Some z) f r closed some = some z refl
 
 -- what the case of a request says, by what stands before it
-pub verdict_is : (opened : ℕ → Option ℕ) (es : List Entry) (r : RequestFields) → IsVerdict opened es r (case_of (facts opened es r) r)
+pub verdict_is : (opened : ℕ → Option ℕ) (es : List Entry) (r : RequestFields)
+    → IsVerdict opened es r (case_of (facts opened es r) r)
 unfolding case_of
 verdict_is opened es r =
     let f = facts opened es r in
@@ -101,7 +113,8 @@ verdict_is opened es r =
     by_new P f r z.0 z.1 tt (λ room. record { new = new; room = room; unposted = refl }) (λ room its.
     by_account P f.account z.0 z.1 r.delta (record { new = new; room = room; unposted = refl }) (λ a accounts.
     by_posting P (plus_within a r.delta) (plus_within z.0 r.delta) (plus_within z.1 r.delta) (record { new = new; room = room; unposted = refl }) (λ x y w ex ey ew.
-    let open_t = when (is_teller_open opened r.teller) (teller_balance es r.teller, branch_balance es (branch_of_teller r.teller)) z tellers in
+    let open_t = when (is_teller_open opened r.teller)
+    (teller_balance es r.teller, branch_balance es (branch_of_teller r.teller)) z tellers in
     let open_a = when (is_account_open opened r.account) (account_balance es r.account) a accounts in
     record {
       new = new;
@@ -110,6 +123,8 @@ verdict_is opened es r =
       its_branch = its;
       account_open = open_a.0;
       account_is = rw open_a.1 (plus_is a r.delta x ex);
-      teller_is = let e : teller_balance es r.teller ≡ z.0 = ap (λ (v : ℤ × ℤ). v.0) open_t.1 in rw e (plus_is z.0 r.delta y ey);
-      branch_is = let e : branch_balance es (branch_of_teller r.teller) ≡ z.1 = ap (λ (v : ℤ × ℤ). v.1) open_t.1 in rw e (plus_is z.1 r.delta w ew);
+      teller_is = let e : teller_balance es r.teller ≡ z.0 = ap (λ (v : ℤ × ℤ). v.0) open_t.1 in rw e
+          (plus_is z.0 r.delta y ey);
+      branch_is = let e : branch_balance es (branch_of_teller r.teller) ≡ z.1 = ap
+          (λ (v : ℤ × ℤ). v.1) open_t.1 in rw e (plus_is z.1 r.delta w ew);
     })))))

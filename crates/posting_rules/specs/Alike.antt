@@ -1,4 +1,5 @@
--- The tables say all that matters of a log: what is answered behind logs with equal tables, whatever commands follow.
+-- The tables say all that matters of a log: what is answered behind logs with equal tables, whatever commands
+-- follow.
 use Rattle.std.specs.Prelude.{◌≡◌, ℕ, List, Option}
 use Rattle.posting_rules.specs.declared.counter.BranchLine.{BranchLine}
 use Rattle.posting_rules.specs.Branches.{IsNextBranch}
@@ -16,15 +17,18 @@ pub record AreAlike (t : Tables) (one two commands : List Command) : Type 0 wher
 
 -- an opening gets one answer
 abbrev pub OpeningsAnswerAlike : Type 0
-OpeningsAnswerAlike = (t : Tables) (one two commands : List Command) → AreAlike t one two commands → (branch count : ℕ)
+OpeningsAnswerAlike = (t : Tables) (one two commands : List Command) → AreAlike t one two commands
+    → (branch count : ℕ)
     → opening_behind (behind one commands) branch count ≡ opening_behind (behind two commands) branch count
 
 -- an account has one balance
 abbrev pub BalancesAnswerAlike : Type 0
-BalancesAnswerAlike = (t : Tables) (one two commands : List Command) → AreAlike t one two commands → (account : ℕ)
+BalancesAnswerAlike = (t : Tables) (one two commands : List Command) → AreAlike t one two commands
+    → (account : ℕ)
     → balance_behind (behind one commands) account ≡ balance_behind (behind two commands) account
 
 -- one branch is the next that is open
 abbrev pub BranchesAnswerAlike : Type 0
-BranchesAnswerAlike = (t : Tables) (one two commands : List Command) → AreAlike t one two commands → (after : ℕ) (line : Option BranchLine)
+BranchesAnswerAlike = (t : Tables) (one two commands : List Command) → AreAlike t one two commands
+    → (after : ℕ) (line : Option BranchLine)
     → IsNextBranch (behind one commands) after line → IsNextBranch (behind two commands) after line

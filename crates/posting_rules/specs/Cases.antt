@@ -1,5 +1,6 @@
 -- What becomes of a request, by what is known where it comes in: the first case that applies.
-use Rattle.std.specs.Prelude.{ℤ, ◌+ℤ◌, Option, Some, None, Bool, true, false, ◌==◌, ◌&&◌, nat_le, ◌<◌, IsTrue, if◌then◌else◌}
+use Rattle.std.specs.Prelude.{ℤ, ◌+ℤ◌, Option, Some, None, Bool, true, false, ◌==◌, ◌&&◌, nat_le, ◌<◌, IsTrue}
+use Rattle.std.specs.Prelude.{if◌then◌else◌}
 use Rattle.std.specs.Ordering.{int_eq}
 use Rattle.posting_rules.specs.declared.limits.TheConstants.{MAX_DECIDED}
 use Rattle.message_records.specs.declared.limits.TheConstants.{MAX_BALANCE}
@@ -35,7 +36,8 @@ posting_of _ _ _ = Refused outcome.OverLimit
 
 abbrev pub account_case : Option ℤ → ℤ → ℤ → ℤ → Verdict
 account_case None teller branch delta = Refused outcome.NoAccount
-account_case (Some account) teller branch delta = posting_of (plus_within account delta) (plus_within teller delta) (plus_within branch delta)
+account_case (Some account) teller branch delta = posting_of (plus_within account delta)
+    (plus_within teller delta) (plus_within branch delta)
 
 abbrev pub new_case : Found → RequestFields → ℤ → ℤ → Verdict
 new_case f r teller branch =
@@ -45,7 +47,8 @@ new_case f r teller branch =
 
 abbrev pub known_case : Option KeptFields → Found → RequestFields → ℤ → ℤ → Verdict
 known_case None f r teller branch = new_case f r teller branch
-known_case (Some k) f r teller branch = if is_same k r then Again (kept_reply k r) else Unkept outcome.ReusedNumber
+known_case (Some k) f r teller branch = if is_same k r then Again
+    (kept_reply k r) else Unkept outcome.ReusedNumber
 
 abbrev pub teller_case : Option (ℤ × ℤ) → Found → RequestFields → Verdict
 teller_case None f r = Unkept outcome.NoTeller

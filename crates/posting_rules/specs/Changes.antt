@@ -1,7 +1,10 @@
 -- What is done to the tables of a bank: a row is changed or put in, a verdict on a request, and an opening.
-use Rattle.std.specs.Prelude.{ℕ, ℤ, List, [], ◌∷◌, map, ◌==◌, nat_lt, if◌then◌else◌, ◌≡◌, zero, suc, ◌+◌, pos, Option, Some, None, Result, Ok, Err, IsSome}
+use Rattle.std.specs.Prelude.{ℕ, ℤ, List, [], ◌∷◌, map, ◌==◌, nat_lt, if◌then◌else◌, ◌≡◌, zero, suc, ◌+◌, pos}
+use Rattle.std.specs.Prelude.{Option, Some, None, Result, Ok, Err, IsSome}
 use Rattle.posting_rules.specs.declared.limits.TheConstants.{TELLERS_PER_BRANCH}
-use Rattle.posting_rules.specs.Tables.{Tables, branch_key, teller_key, account_key, history_key, request_key, row_at, branch_row_of, teller_row_of, account_row_of, request_row_of, history_row_of}
+use Rattle.posting_rules.specs.Tables.{Tables, branch_key, teller_key, account_key, history_key, request_key}
+use Rattle.posting_rules.specs.Tables.{row_at, branch_row_of, teller_row_of, account_row_of, request_row_of}
+use Rattle.posting_rules.specs.Tables.{history_row_of}
 use Rattle.posting_rules.specs.declared.rows.BranchRow.{BranchRow}
 use Rattle.posting_rules.specs.declared.rows.TellerRow.{TellerRow}
 use Rattle.posting_rules.specs.declared.rows.AccountRow.{AccountRow}
@@ -31,7 +34,8 @@ row_put key new (r ∷ rows) = if nat_lt (key r) (key new) then r ∷ row_put ke
 -- the rows with new ones for so many numbers from the first on
 abbrev pub rows_put : {R : Type 0} → (R → ℕ) → (ℕ → R) → ℕ → ℕ → List R → List R
 rows_put key row first zero rows = rows
-rows_put key row first (suc count) rows = row_put key (row (first + count)) (rows_put key row first count rows)
+rows_put key row first (suc count) rows = row_put key (row (first + count))
+    (rows_put key row first count rows)
 
 -- ---- balances and counts that are written
 
@@ -104,7 +108,8 @@ abbrev pub tables_after : Tables → ℕ → RequestFields → Verdict → Table
 tables_after t moment r (Unkept outcome) = t
 tables_after t moment r (Again reply) = t
 tables_after t moment r (Refused outcome) = tables_kept t (t.decided + 1) (refused_entry moment r outcome)
-tables_after t moment r (Posted account teller branch) = tables_posted t (t.decided + 1) (posted_entry moment r account) teller branch
+tables_after t moment r (Posted account teller branch) = tables_posted t (t.decided + 1)
+    (posted_entry moment r account) teller branch
 
 -- what a request leaves
 abbrev pub tables_with : Tables → ℕ → RequestFields → Tables
@@ -138,7 +143,8 @@ reply_past t bytes = reply_read t (request_of bytes)
 -- and of those to records, one after another
 abbrev pub replies_past_all : Tables → ℕ → List (List ℕ) → List (List ℕ)
 replies_past_all t moment [] = []
-replies_past_all t moment (bytes ∷ records) = reply_past t bytes ∷ replies_past_all (tables_past t moment bytes) moment records
+replies_past_all t moment (bytes ∷ records) = reply_past t bytes ∷ replies_past_all
+    (tables_past t moment bytes) moment records
 
 -- the rows that a posting changes are there
 pub record HasRowsOf (t : Tables) (r : RequestFields) : Type 0 where
@@ -164,7 +170,8 @@ with_accounts first count t = record t { accounts = rows_put account_key new_acc
 
 -- a branch more, with its tellers and its accounts
 abbrev pub tables_opened : Tables → ℕ → ℕ → Tables
-tables_opened t b count = with_accounts (first_account b) count (with_tellers (first_teller b) TELLERS_PER_BRANCH (with_branch (branch_row_of b (pos 0) count) t))
+tables_opened t b count = with_accounts (first_account b) count
+    (with_tellers (first_teller b) TELLERS_PER_BRANCH (with_branch (branch_row_of b (pos 0) count) t))
 
 -- what an opening leaves, by the row that is there
 abbrev pub opened_where : Option BranchRow → Tables → ℕ → ℕ → Tables

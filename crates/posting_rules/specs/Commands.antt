@@ -1,9 +1,11 @@
--- The commands of a bank, and which branches, tellers and accounts they open.
--- A log is the list of the commands so far, the newest first: what came before a command is the list behind it.
-use Rattle.std.specs.Prelude.{◌≡◌, ◌≤◌, ℕ, ◌+◌, ◌-◌, ◌/◌, ◌%◌, length, List, [], ◌∷◌, Option, Some, None, Bool, false, is_some, ◌==◌, ◌&&◌, nat_le, if◌then◌else◌}
+-- The commands of a bank, and which branches, tellers and accounts they open. A log is the list of the
+-- commands so far, the newest first: what came before a command is the list behind it.
+use Rattle.std.specs.Prelude.{◌≡◌, ◌≤◌, ℕ, ◌+◌, ◌-◌, ◌/◌, ◌%◌, length, List, [], ◌∷◌, Option, Some, None}
+use Rattle.std.specs.Prelude.{Bool, false, is_some, ◌==◌, ◌&&◌, nat_le, if◌then◌else◌}
 use Rattle.std.specs.List.{AllByRecursion}
 use Rattle.std.specs.Option.{option_or}
-use Rattle.posting_rules.specs.declared.limits.TheConstants.{LAST_BRANCH, MOST_ACCOUNTS, ACCOUNTS_PER_BRANCH, TELLERS_PER_BRANCH}
+use Rattle.posting_rules.specs.declared.limits.TheConstants.{LAST_BRANCH, MOST_ACCOUNTS, ACCOUNTS_PER_BRANCH}
+use Rattle.posting_rules.specs.declared.limits.TheConstants.{TELLERS_PER_BRANCH}
 use Rattle.message_records.specs.declared.limits.TheConstants.{MAX_MOMENT}
 
 pub data Command : Type 0 where

@@ -49,7 +49,8 @@ pub record StandsAt (seen : Seen) (log : List Command) : Type 0 where
   pub up : seen.is_down → ⊥
   pub stop : LeavesOnly seen (λ t. Shows t log)
 
--- the tables show the log and then a beginning of the commands, so many of them at least, all of them the bank's
+-- the tables show the log and then a beginning of the commands, so many of them at least, all of them the
+-- bank's
 pub record ShowsBeginning (log commands : List Command) (least : ℕ) (tables : Tables) : Type 0 where
   pub count : ℕ
   pub holds : least ≤ count
@@ -77,7 +78,8 @@ pub record IsUnchanged (old new : Seen) : Type 0 where
 -- the store failed in it: a stop may leave any beginning of the commands
 pub record IsCutShort (old new : Seen) (commands : List Command) : Type 0 where
   pub down : new.is_down
-  pub stop : new.honest → (log : List Command) → StandsAt old log → LeavesOnly new (ShowsBeginning log commands 0)
+  pub stop : new.honest → (log : List Command) → StandsAt old log
+      → LeavesOnly new (ShowsBeginning log commands 0)
 
 -- it tried nothing, since the counter was down
 pub record WasDown (old new : Seen) : Type 0 where

@@ -1,16 +1,20 @@
 -- What holds of all tables that a log leads to. Tables of which it doesn't hold are damaged.
 use Rattle.std.specs.Prelude.{ℤ, ◌≡◌, ◌≤◌, ℕ, ◌+◌, ◌*◌, nat_abs, List, None, is_some, IsTrue}
 use Rattle.std.specs.List.{Contains}
-use Rattle.posting_rules.specs.declared.limits.TheConstants.{MAX_DECIDED, LAST_BRANCH, MOST_ACCOUNTS, ACCOUNTS_PER_BRANCH, TELLERS_PER_BRANCH}
-use Rattle.message_records.specs.declared.limits.TheConstants.{MAX_ACCOUNT, MAX_TELLER, MAX_BRANCH, MAX_NUMBER, MAX_MOMENT, MAX_BALANCE, MAX_DELTA}
+use Rattle.posting_rules.specs.declared.limits.TheConstants.{MAX_DECIDED, LAST_BRANCH, MOST_ACCOUNTS}
+use Rattle.posting_rules.specs.declared.limits.TheConstants.{ACCOUNTS_PER_BRANCH, TELLERS_PER_BRANCH}
+use Rattle.message_records.specs.declared.limits.TheConstants.{MAX_ACCOUNT, MAX_TELLER, MAX_BRANCH}
+use Rattle.message_records.specs.declared.limits.TheConstants.{MAX_NUMBER, MAX_MOMENT, MAX_BALANCE, MAX_DELTA}
 use Rattle.posting_rules.specs.declared.rows.BranchRow.{BranchRow}
 use Rattle.posting_rules.specs.declared.rows.TellerRow.{TellerRow}
 use Rattle.posting_rules.specs.declared.rows.AccountRow.{AccountRow}
 use Rattle.posting_rules.specs.declared.rows.HistoryRow.{HistoryRow}
 use Rattle.posting_rules.specs.declared.rows.RequestRow.{RequestRow}
-use Rattle.posting_rules.specs.Commands.{Command, AreCommands, branch_of_teller, branch_of_account, place_of_account, is_within}
+use Rattle.posting_rules.specs.Commands.{Command, AreCommands, branch_of_teller, branch_of_account}
+use Rattle.posting_rules.specs.Commands.{place_of_account, is_within}
 use Rattle.posting_rules.specs.Kept.{is_kept_with}
-use Rattle.posting_rules.specs.Tables.{Tables, Shows, row_at, branch_key, teller_key, account_key, history_key, request_key}
+use Rattle.posting_rules.specs.Tables.{Tables, Shows, row_at, branch_key, teller_key, account_key}
+use Rattle.posting_rules.specs.Tables.{history_key, request_key}
 use Rattle.posting_rules.specs.LookUps.{count_in}
 
 -- ---- one row
@@ -87,7 +91,8 @@ pub record IsUndamaged (t : Tables) : Type 0 where
       → is_some (row_at teller_key t.tellers n) ≡ is_some (row_at branch_key t.branches (branch_of_teller n))
   -- an account has its row just where its place is within its branch's count
   pub accounts : (n : ℕ) → 1 ≤ n
-      → is_some (row_at account_key t.accounts n) ≡ is_within (place_of_account n) (count_in t (branch_of_account n))
+      → is_some (row_at account_key t.accounts n) ≡ is_within (place_of_account n)
+      (count_in t (branch_of_account n))
   -- every row of branches has a number, a count and a balance within their ranges
   pub each_branch : (r : BranchRow) → Contains t.branches r → IsSoundBranch r
   -- every row of tellers has a number and a balance within their ranges

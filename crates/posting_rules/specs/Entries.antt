@@ -1,5 +1,6 @@
 -- Which requests of a log are decided, the balances that they lead to, and the reply to each record.
-use Rattle.std.specs.Prelude.{ℕ, ℤ, pos, ◌+ℤ◌, List, [], ◌∷◌, length, Option, Some, None, Result, Ok, Err, Bool, ◌==◌, ◌&&◌, if◌then◌else◌}
+use Rattle.std.specs.Prelude.{ℕ, ℤ, pos, ◌+ℤ◌, List, [], ◌∷◌, length, Option, Some, None, Result, Ok, Err}
+use Rattle.std.specs.Prelude.{Bool, ◌==◌, ◌&&◌, if◌then◌else◌}
 use Rattle.std.specs.List.{find}
 use Rattle.std.specs.Option.{option_map}
 use Rattle.message_records.specs.declared.records.Outcome.{Outcome}
@@ -11,7 +12,8 @@ use Rattle.message_records.specs.Reading.{request_of}
 use Rattle.posting_rules.specs.declared.facts.Found.{Found}
 use Rattle.posting_rules.specs.declared.facts.Verdict.{Verdict}
 use Rattle.posting_rules.specs.declared.facts.Verdict.TheVariants.{Unkept, Again, Refused, Posted}
-use Rattle.posting_rules.specs.Commands.{Command, Open, Post, opened, branch_of_teller, is_teller_open, is_account_open}
+use Rattle.posting_rules.specs.Commands.{Command, Open, Post, opened, branch_of_teller, is_teller_open}
+use Rattle.posting_rules.specs.Commands.{is_account_open}
 use Rattle.posting_rules.specs.Kept.{KeptFields}
 use Rattle.posting_rules.specs.Cases.{case_of, reply_in}
 
@@ -50,7 +52,8 @@ kept es t n = option_map kept_fields (find (λ e. (e.request.teller == t) && (e.
 -- what is known where a request comes in
 abbrev pub facts : (ℕ → Option ℕ) → List Entry → RequestFields → Found
 facts opened es r = record {
-  teller = if is_teller_open opened r.teller then Some (teller_balance es r.teller, branch_balance es (branch_of_teller r.teller)) else None;
+  teller = if is_teller_open opened r.teller then Some
+      (teller_balance es r.teller, branch_balance es (branch_of_teller r.teller)) else None;
   kept = kept es r.teller r.number;
   decided = length es;
   account = if is_account_open opened r.account then Some (account_balance es r.account) else None;
@@ -92,4 +95,5 @@ reply log bytes = reply_to (request_of bytes) (λ b. opened log b) (decided log)
 
 -- the balance of an open account behind a log
 abbrev pub balance_behind : List Command → ℕ → Option ℤ
-balance_behind log a = if is_account_open (λ b. opened log b) a then Some (account_balance (decided log) a) else None
+balance_behind log a = if is_account_open (λ b. opened log b) a then Some
+    (account_balance (decided log) a) else None

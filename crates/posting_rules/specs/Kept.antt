@@ -2,7 +2,8 @@
 use Rattle.std.specs.Prelude.{ℕ, ℤ, pos, Option, Some, None, Bool, true, false, ◌&&◌, ◌||◌, if◌then◌else◌}
 use Rattle.std.specs.Ordering.{int_eq}
 use Rattle.message_records.specs.declared.records.Outcome.{Outcome}
-use Rattle.message_records.specs.declared.records.Outcome.TheVariants.{Posted, WrongBranch, NoAccount, OverLimit}
+use Rattle.message_records.specs.declared.records.Outcome.TheVariants.{Posted, WrongBranch, NoAccount}
+use Rattle.message_records.specs.declared.records.Outcome.TheVariants.{OverLimit}
 use Rattle.message_records.specs.Outcomes.{has_balance}
 
 pub record KeptFields : Type 0 where

@@ -1,5 +1,6 @@
 -- What holds of every log: the consistency condition (TPC-B clause 2) and what else a banker relies on.
-use Rattle.std.specs.Prelude.{◌≡◌, ◌≤◌, ℕ, ℤ, pos, ◌+ℤ◌, nat_abs, List, [], ◌∷◌, map, filter, Option, Some, None, true, ◌==◌, ◌&&◌, nat_le, AllPairs}
+use Rattle.std.specs.Prelude.{◌≡◌, ◌≤◌, ℕ, ℤ, pos, ◌+ℤ◌, nat_abs, List, [], ◌∷◌, map, filter, Option, Some}
+use Rattle.std.specs.Prelude.{None, true, ◌==◌, ◌&&◌, nat_le, AllPairs}
 use Rattle.std.specs.List.{AllByRecursion}
 use Rattle.message_records.specs.declared.limits.TheConstants.{MAX_BALANCE}
 use Rattle.message_records.specs.Outcomes.{has_balance}
@@ -51,14 +52,16 @@ abbrev pub Match : Option RequestRow → Option HistoryRow → Type 0
 Match None None = Unit {0}
 Match (Some r) None = has_balance r.kept.outcome ≡ true → ⊥
 Match None (Some h) = ⊥
-Match (Some r) (Some h) = (has_balance r.kept.outcome ≡ true) × (h.account ≡ r.kept.account) × (h.teller ≡ r.teller) × (h.branch ≡ r.kept.branch) × (h.delta ≡ r.kept.delta)
+Match (Some r) (Some h) = (has_balance r.kept.outcome ≡ true) × (h.account ≡ r.kept.account) ×
+    (h.teller ≡ r.teller) × (h.branch ≡ r.kept.branch) × (h.delta ≡ r.kept.delta)
 
 pub record IsConsistent (t : Tables) : Type 0 where
   -- accounts, tellers and branches have one sum
   pub tellers : total (map balance_of_teller t.tellers) ≡ total (map balance_of_account t.accounts)
   pub branches : total (map balance_of_branch t.branches) ≡ total (map balance_of_account t.accounts)
   -- each branch has the sum of its tellers
-  pub each_branch : AllByRecursion (λ r. total (map balance_of_teller (tellers_of r.branch t.tellers)) ≡ r.balance) t.branches
+  pub each_branch : AllByRecursion
+      (λ r. total (map balance_of_teller (tellers_of r.branch t.tellers)) ≡ r.balance) t.branches
   -- history has a row for each posted request and no other, and its deltas have that sum too
   pub matched : (o : ℕ) → Match (row_at request_key t.requests o) (row_at history_key t.history o)
   pub history : total (map delta_of t.history) ≡ total (map balance_of_account t.accounts)
@@ -70,4 +73,5 @@ TablesAreConsistent = (t : Tables) (log : List Command) → Shows t log → IsCo
 
 -- logs with equal tables give equal replies to whatever follows
 abbrev pub EqualTablesAnswerAlike : Type 0
-EqualTablesAnswerAlike = (t : Tables) (one two cs : List Command) → Shows t one → Shows t two → AreCommands cs → replies_to one cs ≡ replies_to two cs
+EqualTablesAnswerAlike = (t : Tables) (one two cs : List Command) → Shows t one → Shows t two → AreCommands cs
+    → replies_to one cs ≡ replies_to two cs

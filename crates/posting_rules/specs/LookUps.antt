@@ -39,7 +39,8 @@ both_of _ _ = None
 -- the balances of a teller and of the branch that its number gives
 abbrev pub teller_balances_in : Tables → ℕ → Option (ℤ × ℤ)
 teller_balances_in t n =
-    both_of (option_map balance_of_teller (row_at teller_key t.tellers n)) (option_map balance_of_branch (row_at branch_key t.branches (branch_of_teller n)))
+    both_of (option_map balance_of_teller (row_at teller_key t.tellers n))
+    (option_map balance_of_branch (row_at branch_key t.branches (branch_of_teller n)))
 
 abbrev pub kept_of_row : RequestRow → KeptFields
 kept_of_row r = r.kept

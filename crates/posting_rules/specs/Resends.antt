@@ -17,18 +17,24 @@ pub record Place (bytes : List ℕ) (commands : List Command) : Type 0 where
 abbrev pub Skips : List Command → List Command → List Command → Type 0
 Skips p [] kept = kept ≡ []
 Skips p (Open branch count ∷ r) kept = ⊥
-Skips p (Post moment bytes ∷ r) kept = (Place bytes p × Skips p r kept) ⊎ ((others : List Command) × (kept ≡ Post moment bytes ∷ others) × Skips p r others)
+Skips p (Post moment bytes ∷ r) kept = (Place bytes p × Skips p r kept) ⊎
+    ((others : List Command) × (kept ≡ Post moment bytes ∷ others) × Skips p r others)
 
--- a record that stands in p gets, behind p and further posts q, the reply that it got in p, and is not decided again
+-- a record that stands in p gets, behind p and further posts q, the reply that it got in p, and is not
+-- decided again
 abbrev pub RepliesAgain : Type 0
-RepliesAgain = (log p q : List Command) (moment : ℕ) (bytes : List ℕ) → (at : Place bytes p) → ArePosts p → ArePosts q
+RepliesAgain = (log p q : List Command) (moment : ℕ) (bytes : List ℕ) → (at : Place bytes p) → ArePosts p
+    → ArePosts q
     → (reply (behind (behind log p) q) bytes ≡ reply (behind log at.before) bytes)
     × (decided (Post moment bytes ∷ behind (behind log p) q) ≡ decided (behind (behind log p) q))
 
--- so where posts r are taken behind p, each of their records that stands in p gets, at its place, the reply that it got in p
+-- so where posts r are taken behind p, each of their records that stands in p gets, at its place, the reply
+-- that it got in p
 abbrev pub RepliesInPlace : Type 0
-RepliesInPlace = (log p r : List Command) (bytes : List ℕ) → (at : Place bytes p) → (again : Place bytes r) → ArePosts p → ArePosts r
-    → get_or (replies_to (behind log p) r) (length again.before) [] ≡ reply_spelling (reply (behind log at.before) bytes)
+RepliesInPlace = (log p r : List Command) (bytes : List ℕ) → (at : Place bytes p) → (again : Place bytes r)
+    → ArePosts p → ArePosts r
+    → get_or (replies_to (behind log p) r) (length again.before) [] ≡ reply_spelling
+    (reply (behind log at.before) bytes)
 
 -- tables that show p and then posts r show p and then r less the records that stand in p
 abbrev pub AddsOnce : Type 0
@@ -37,4 +43,5 @@ AddsOnce = (tables : Tables) (log p r added : List Command) → ArePosts p → A
 
 -- and where the one is a log of commands of the bank, so is the other
 abbrev pub KeepsCommands : Type 0
-KeepsCommands = (log p r added : List Command) → Skips p r added → AreCommands (behind (behind log p) r) → AreCommands (behind (behind log p) added)
+KeepsCommands = (log p r added : List Command) → Skips p r added → AreCommands (behind (behind log p) r)
+    → AreCommands (behind (behind log p) added)

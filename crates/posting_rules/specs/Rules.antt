@@ -4,7 +4,8 @@ use Rattle.std.specs.Fmt.{decimal}
 use Rattle.posting_rules.specs.declared.fault.Fault.{Fault}
 use Rattle.posting_rules.specs.declared.fault.Fault.TheVariants as fault
 use Rattle.posting_rules.specs.declared.fault.Rule.{Rule}
-use Rattle.posting_rules.specs.declared.fault.Rule.TheVariants.{Meta, Teller, Account, Balance, Request, Value, Key}
+use Rattle.posting_rules.specs.declared.fault.Rule.TheVariants.{Meta, Teller, Account, Balance, Request}
+use Rattle.posting_rules.specs.declared.fault.Rule.TheVariants.{Value, Key}
 
 abbrev pub number_of_rule : Rule → ℕ
 number_of_rule Meta = 1

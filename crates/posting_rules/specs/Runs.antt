@@ -17,7 +17,8 @@ posts moment records = map (Post moment) records
 abbrev pub replies_to : List Command → List Command → List (List ℕ)
 replies_to log [] = []
 replies_to log (Open branch count ∷ cs) = replies_to (Open branch count ∷ log) cs
-replies_to log (Post moment bytes ∷ cs) = reply_spelling (reply log bytes) ∷ replies_to (Post moment bytes ∷ log) cs
+replies_to log (Post moment bytes ∷ cs) = reply_spelling (reply log bytes) ∷ replies_to
+    (Post moment bytes ∷ log) cs
 
 -- no branch is opened among them
 abbrev pub ArePosts : List Command → Type 0

@@ -2,7 +2,8 @@
 use Rattle.std.specs.Prelude.{List}
 use Rattle.posting_rules.specs.Commands.{Command, AreCommands}
 use Rattle.posting_rules.specs.Damage.{IsUndamaged}
-use Rattle.posting_rules.specs.Tables.{Tables, Shows, HasKeys, branch_key, teller_key, account_key, history_key, request_key}
+use Rattle.posting_rules.specs.Tables.{Tables, Shows, HasKeys, branch_key, teller_key, account_key}
+use Rattle.posting_rules.specs.Tables.{history_key, request_key}
 
 -- nothing is damaged, and no two rows of a table have one key
 pub record AreSound (t : Tables) : Type 0 where

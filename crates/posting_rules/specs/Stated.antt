@@ -1,5 +1,6 @@
 -- What becomes of a record, said case by case in the words of the profile, of what stands before it.
-use Rattle.std.specs.Prelude.{◌≡◌, ◌≢◌, ◌≤◌, ◌<◌, ◌↔◌, ℕ, ℤ, pos, ◌+ℤ◌, nat_abs, List, ◌∷◌, length, Some, None, Ok, Err, true, false}
+use Rattle.std.specs.Prelude.{◌≡◌, ◌≢◌, ◌≤◌, ◌<◌, ◌↔◌, ℕ, ℤ, pos, ◌+ℤ◌, nat_abs, List, ◌∷◌, length, Some}
+use Rattle.std.specs.Prelude.{None, Ok, Err, true, false}
 use Rattle.posting_rules.specs.declared.limits.TheConstants.{MAX_DECIDED}
 use Rattle.message_records.specs.declared.limits.TheConstants.{MAX_BALANCE}
 use Rattle.message_records.specs.declared.records.Outcome.{Outcome}
@@ -7,17 +8,20 @@ use Rattle.message_records.specs.declared.records.Outcome.TheVariants as outcome
 use Rattle.message_records.specs.declared.faults.Bad.{Bad}
 use Rattle.message_records.specs.Records.{RequestFields, ReplyFields}
 use Rattle.message_records.specs.Reading.{request_of}
-use Rattle.posting_rules.specs.Commands.{Command, Post, opened, branch_of_teller, is_teller_open, is_account_open}
+use Rattle.posting_rules.specs.Commands.{Command, Post, opened, branch_of_teller, is_teller_open}
+use Rattle.posting_rules.specs.Commands.{is_account_open}
 use Rattle.posting_rules.specs.Kept.{KeptFields}
 use Rattle.posting_rules.specs.Cases.{balance_shown}
-use Rattle.posting_rules.specs.Entries.{Entry, is_posted, kept, account_balance, teller_balance, branch_balance, decided, malformed_reply, reply}
+use Rattle.posting_rules.specs.Entries.{Entry, is_posted, kept, account_balance, teller_balance}
+use Rattle.posting_rules.specs.Entries.{branch_balance, decided, malformed_reply, reply}
 
 -- the bytes are this request, and its teller is open
 pub record Names (before : List Command) (bytes : List ℕ) (r : RequestFields) : Type 0 where
   pub read : request_of bytes ≡ Ok r
   pub teller : is_teller_open (λ b. opened before b) r.teller ≡ true
 
--- a record is decided where it names a request, nothing is kept under the teller and number, and there is room
+-- a record is decided where it names a request, nothing is kept under the teller and number, and there is
+-- room
 pub record IsDecided (before : List Command) (bytes : List ℕ) (r : RequestFields) : Type 0 where
   pub names : Names before bytes r
   pub new : kept (decided before) r.teller r.number ≡ None
@@ -26,8 +30,8 @@ pub record IsDecided (before : List Command) (bytes : List ℕ) (r : RequestFiel
 abbrev pub IsWithin : ℤ → Type 0
 IsWithin z = nat_abs z ≤ MAX_BALANCE
 
--- a decided request is posted where the branch is its teller's, its account is open, and the account, the teller and
--- the branch stay within the limit (TPC-B 1.2)
+-- a decided request is posted where the branch is its teller's, its account is open, and the account, the
+-- teller and the branch stay within the limit (TPC-B 1.2)
 pub record IsPosted (before : List Command) (r : RequestFields) : Type 0 where
   pub branch : r.branch ≡ branch_of_teller r.teller
   pub account : is_account_open (λ b. opened before b) r.account ≡ true
@@ -38,7 +42,8 @@ pub record IsPosted (before : List Command) (r : RequestFields) : Type 0 where
 -- ---- which records are decided, and which are posted
 
 -- the record adds this entry to those that are decided
-pub record AddsEntry (before : List Command) (moment : ℕ) (bytes : List ℕ) (r : RequestFields) (e : Entry) : Type 0 where
+pub record AddsEntry (before : List Command) (moment : ℕ) (bytes : List ℕ) (r : RequestFields)
+    (e : Entry) : Type 0 where
   pub adds : decided (Post moment bytes ∷ before) ≡ e ∷ decided before
   pub at_moment : e.moment ≡ moment
   pub of_request : e.request ≡ r
@@ -48,8 +53,10 @@ pub record AddsEntry (before : List Command) (moment : ℕ) (bytes : List ℕ) (
   pub unposted : (IsPosted before r → ⊥) → e.balance ≡ pos 0
 
 pub record DecidesAsStated (before : List Command) (moment : ℕ) (bytes : List ℕ) : Type 0 where
-  pub where_decided : (r : RequestFields) → IsDecided before bytes r → (e : Entry) × AddsEntry before moment bytes r e
-  pub otherwise : ((r : RequestFields) → IsDecided before bytes r → ⊥) → decided (Post moment bytes ∷ before) ≡ decided before
+  pub where_decided : (r : RequestFields) → IsDecided before bytes r
+      → (e : Entry) × AddsEntry before moment bytes r e
+  pub otherwise : ((r : RequestFields) → IsDecided before bytes r → ⊥)
+      → decided (Post moment bytes ∷ before) ≡ decided before
 
 -- ---- the reply, by the first case that applies
 
@@ -64,17 +71,25 @@ pub record HasContent (k : KeptFields) (r : RequestFields) : Type 0 where
 
 pub record RepliesAsStated (before : List Command) (bytes : List ℕ) : Type 0 where
   pub malformed : (fault : Bad) → request_of bytes ≡ Err fault → reply before bytes ≡ malformed_reply
-  pub no_teller : (r : RequestFields) → request_of bytes ≡ Ok r → is_teller_open (λ b. opened before b) r.teller ≡ false → reply before bytes ≡ refusal outcome.NoTeller r
-  pub again : (r : RequestFields) (k : KeptFields) → Names before bytes r → kept (decided before) r.teller r.number ≡ Some k → HasContent k r
+  pub no_teller : (r : RequestFields) → request_of bytes ≡ Ok r
+      → is_teller_open (λ b. opened before b) r.teller ≡ false
+      → reply before bytes ≡ refusal outcome.NoTeller r
+  pub again : (r : RequestFields) (k : KeptFields) → Names before bytes r
+      → kept (decided before) r.teller r.number ≡ Some k → HasContent k r
       → reply before bytes ≡ record { outcome = k.outcome; request = Some r; balance = balance_shown k.outcome k.balance }
-  pub reused_number : (r : RequestFields) (k : KeptFields) → Names before bytes r → kept (decided before) r.teller r.number ≡ Some k → (HasContent k r → ⊥)
+  pub reused_number : (r : RequestFields) (k : KeptFields) → Names before bytes r
+      → kept (decided before) r.teller r.number ≡ Some k → (HasContent k r → ⊥)
       → reply before bytes ≡ refusal outcome.ReusedNumber r
-  pub full : (r : RequestFields) → Names before bytes r → kept (decided before) r.teller r.number ≡ None → MAX_DECIDED ≤ length (decided before)
+  pub full : (r : RequestFields) → Names before bytes r → kept (decided before) r.teller r.number ≡ None
+      → MAX_DECIDED ≤ length (decided before)
       → reply before bytes ≡ refusal outcome.Full r
-  pub wrong_branch : (r : RequestFields) → IsDecided before bytes r → r.branch ≢ branch_of_teller r.teller → reply before bytes ≡ refusal outcome.WrongBranch r
-  pub no_account : (r : RequestFields) → IsDecided before bytes r → r.branch ≡ branch_of_teller r.teller → is_account_open (λ b. opened before b) r.account ≡ false
+  pub wrong_branch : (r : RequestFields) → IsDecided before bytes r → r.branch ≢ branch_of_teller r.teller
+      → reply before bytes ≡ refusal outcome.WrongBranch r
+  pub no_account : (r : RequestFields) → IsDecided before bytes r → r.branch ≡ branch_of_teller r.teller
+      → is_account_open (λ b. opened before b) r.account ≡ false
       → reply before bytes ≡ refusal outcome.NoAccount r
-  pub over_limit : (r : RequestFields) → IsDecided before bytes r → r.branch ≡ branch_of_teller r.teller → is_account_open (λ b. opened before b) r.account ≡ true
+  pub over_limit : (r : RequestFields) → IsDecided before bytes r → r.branch ≡ branch_of_teller r.teller
+      → is_account_open (λ b. opened before b) r.account ≡ true
       → (IsPosted before r → ⊥) → reply before bytes ≡ refusal outcome.OverLimit r
   pub posted : (r : RequestFields) → IsDecided before bytes r → IsPosted before r
       → reply before bytes ≡ record { outcome = outcome.Posted; request = Some r; balance = Some (account_balance (decided before) r.account +ℤ r.delta) }

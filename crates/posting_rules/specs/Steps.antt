@@ -1,5 +1,7 @@
--- How a verdict, and an opening, change tables. Each speaks of look-ups by key, so that the rows may stand in any order.
-use Rattle.std.specs.Prelude.{◌≡◌, ℕ, ◌+◌, ◌-◌, ◌*◌, ℤ, pos, List, Some, Bool, ◌==◌, ◌&&◌, nat_le, nat_lt, if◌then◌else◌}
+-- How a verdict, and an opening, change tables. Each speaks of look-ups by key, so that the rows may stand in
+-- any order.
+use Rattle.std.specs.Prelude.{◌≡◌, ℕ, ◌+◌, ◌-◌, ◌*◌, ℤ, pos, List, Some, Bool, ◌==◌, ◌&&◌, nat_le, nat_lt}
+use Rattle.std.specs.Prelude.{if◌then◌else◌}
 use Rattle.std.specs.Option.{option_map}
 use Rattle.posting_rules.specs.declared.limits.TheConstants.{ACCOUNTS_PER_BRANCH, TELLERS_PER_BRANCH}
 use Rattle.message_records.specs.Records.{RequestFields}
@@ -10,7 +12,9 @@ use Rattle.posting_rules.specs.declared.rows.TellerRow.{TellerRow}
 use Rattle.posting_rules.specs.declared.rows.AccountRow.{AccountRow}
 use Rattle.posting_rules.specs.Commands.{branch_of_teller}
 use Rattle.posting_rules.specs.Entries.{Entry, refused_entry, posted_entry}
-use Rattle.posting_rules.specs.Tables.{Tables, row_at, HasKeys, branch_key, teller_key, account_key, history_key, request_key, branch_row_of, teller_row_of, account_row_of, request_row_of, history_row_of}
+use Rattle.posting_rules.specs.Tables.{Tables, row_at, HasKeys, branch_key, teller_key, account_key}
+use Rattle.posting_rules.specs.Tables.{history_key, request_key, branch_row_of, teller_row_of, account_row_of}
+use Rattle.posting_rules.specs.Tables.{request_row_of, history_row_of}
 
 -- ---- rows of one table
 
@@ -29,7 +33,8 @@ abbrev pub is_from : ℕ → ℕ → ℕ → Bool
 is_from first count n = nat_le first n && nat_lt n (first + count)
 
 -- a row is added for each of so many numbers, and no other
-pub record AddsRows {R : Type 0} (key : R → ℕ) (row : ℕ → R) (first count : ℕ) (old new : List R) : Type 0 where
+pub record AddsRows {R : Type 0} (key : R → ℕ) (row : ℕ → R) (first count : ℕ)
+    (old new : List R) : Type 0 where
   pub rows : (n : ℕ) → row_at key new n ≡ (if is_from first count n then Some (row n) else row_at key old n)
   pub keys : HasKeys key new
 
@@ -53,12 +58,15 @@ pub record KeepsRefusal (old new : Tables) (ordinal : ℕ) (e : Entry) : Type 0 
   pub history : new.history ≡ old.history
   pub requests : AddsRow request_key (request_row_of ordinal e) old.requests new.requests
 
--- a posting is kept under this ordinal, with the new balances of its account, its teller and its branch (TPC-B 1.2)
+-- a posting is kept under this ordinal, with the new balances of its account, its teller and its branch
+-- (TPC-B 1.2)
 pub record KeepsPosting (old new : Tables) (ordinal : ℕ) (e : Entry) (teller branch : ℤ) : Type 0 where
   pub decided : new.decided ≡ ordinal
-  pub branches : ChangesRow branch_key (branch_of_teller e.request.teller) (with_branch_balance branch) old.branches new.branches
+  pub branches : ChangesRow branch_key (branch_of_teller e.request.teller)
+      (with_branch_balance branch) old.branches new.branches
   pub tellers : ChangesRow teller_key e.request.teller (with_teller_balance teller) old.tellers new.tellers
-  pub accounts : ChangesRow account_key e.request.account (with_account_balance e.balance) old.accounts new.accounts
+  pub accounts : ChangesRow account_key e.request.account
+      (with_account_balance e.balance) old.accounts new.accounts
   pub history : AddsRow history_key (history_row_of ordinal e) old.history new.history
   pub requests : AddsRow request_key (request_row_of ordinal e) old.requests new.requests
 
@@ -66,8 +74,10 @@ pub record KeepsPosting (old new : Tables) (ordinal : ℕ) (e : Entry) (teller b
 abbrev pub IsStep : Tables → Tables → ℕ → ℕ → RequestFields → Verdict → Type 0
 IsStep old new ordinal moment r (Unkept outcome) = new ≡ old
 IsStep old new ordinal moment r (Again reply) = new ≡ old
-IsStep old new ordinal moment r (Refused outcome) = KeepsRefusal old new ordinal (refused_entry moment r outcome)
-IsStep old new ordinal moment r (Posted account teller branch) = KeepsPosting old new ordinal (posted_entry moment r account) teller branch
+IsStep old new ordinal moment r (Refused outcome) = KeepsRefusal old new ordinal
+    (refused_entry moment r outcome)
+IsStep old new ordinal moment r (Posted account teller branch) = KeepsPosting old new ordinal
+    (posted_entry moment r account) teller branch
 
 -- ---- an opening
 
@@ -81,7 +91,9 @@ first_account b = ACCOUNTS_PER_BRANCH * (b - 1) + 1
 pub record OpensBranch (old new : Tables) (b count : ℕ) : Type 0 where
   pub decided : new.decided ≡ old.decided
   pub branches : AddsRow branch_key (branch_row_of b (pos 0) count) old.branches new.branches
-  pub tellers : AddsRows teller_key (λ n. teller_row_of n (pos 0)) (first_teller b) TELLERS_PER_BRANCH old.tellers new.tellers
-  pub accounts : AddsRows account_key (λ n. account_row_of n (pos 0)) (first_account b) count old.accounts new.accounts
+  pub tellers : AddsRows teller_key (λ n. teller_row_of n (pos 0))
+      (first_teller b) TELLERS_PER_BRANCH old.tellers new.tellers
+  pub accounts : AddsRows account_key (λ n. account_row_of n (pos 0))
+      (first_account b) count old.accounts new.accounts
   pub history : new.history ≡ old.history
   pub requests : new.requests ≡ old.requests

@@ -1,5 +1,6 @@
 -- The tables of a bank, and the rows that a log leads to.
-use Rattle.std.specs.Prelude.{◌≡◌, ℕ, ◌+◌, ℤ, List, [], ◌∷◌, length, map, Option, Some, None, ◌==◌, ◌&&◌, if◌then◌else◌, nat_eq}
+use Rattle.std.specs.Prelude.{◌≡◌, ℕ, ◌+◌, ℤ, List, [], ◌∷◌, length, map, Option, Some, None, ◌==◌, ◌&&◌}
+use Rattle.std.specs.Prelude.{if◌then◌else◌, nat_eq}
 use Rattle.std.specs.List.{find, IsDistinct}
 use Rattle.std.specs.Option.{option_map}
 use Rattle.posting_rules.specs.declared.rows.BranchRow.{BranchRow}
@@ -8,7 +9,8 @@ use Rattle.posting_rules.specs.declared.rows.AccountRow.{AccountRow}
 use Rattle.posting_rules.specs.declared.rows.HistoryRow.{HistoryRow}
 use Rattle.posting_rules.specs.declared.rows.RequestRow.{RequestRow}
 use Rattle.posting_rules.specs.Commands.{Command, opened, is_teller_open, is_account_open}
-use Rattle.posting_rules.specs.Entries.{Entry, is_posted, account_balance, teller_balance, branch_balance, kept_fields, decided}
+use Rattle.posting_rules.specs.Entries.{Entry, is_posted, account_balance, teller_balance, branch_balance}
+use Rattle.posting_rules.specs.Entries.{kept_fields, decided}
 
 pub record Tables : Type 0 where
   -- how many requests are decided
@@ -54,13 +56,15 @@ abbrev pub teller_row_of : ℕ → ℤ → TellerRow
 teller_row_of t balance = record { teller = t; balance = balance }
 
 abbrev pub teller_row : (ℕ → Option ℕ) → List Entry → ℕ → Option TellerRow
-teller_row opened es t = if is_teller_open opened t then Some (teller_row_of t (teller_balance es t)) else None
+teller_row opened es t = if is_teller_open opened t then Some
+    (teller_row_of t (teller_balance es t)) else None
 
 abbrev pub account_row_of : ℕ → ℤ → AccountRow
 account_row_of a balance = record { account = a; balance = balance }
 
 abbrev pub account_row : (ℕ → Option ℕ) → List Entry → ℕ → Option AccountRow
-account_row opened es a = if is_account_open opened a then Some (account_row_of a (account_balance es a)) else None
+account_row opened es a = if is_account_open opened a then Some
+    (account_row_of a (account_balance es a)) else None
 
 -- a decided request stands under its ordinal: how many were decided with it
 abbrev pub request_row_of : ℕ → Entry → RequestRow
@@ -83,7 +87,8 @@ history_row_of ordinal e = record {
 
 abbrev pub history_row : List Entry → ℕ → Option HistoryRow
 history_row [] o = None
-history_row (e ∷ es) o = if (is_posted e && (length es + 1 == o)) then Some (history_row_of o e) else history_row es o
+history_row (e ∷ es) o = if (is_posted e && (length es + 1 == o)) then Some
+    (history_row_of o e) else history_row es o
 
 -- the tables have these rows and no others, in whatever order
 pub record HasRows (tables : Tables) (opened : ℕ → Option ℕ) (es : List Entry) : Type 0 where

@@ -21,7 +21,8 @@ fn plus(balance: Cents, delta: Cents) -> Option<Cents>
     Cents::new(balance.get() + delta.get())
 }
 
-/// What becomes of a request: the first case that applies, in the order of the tests here. It takes no memory.
+/// What becomes of a request: the first case that applies, in the order of the tests here. It takes no
+/// memory.
 #[tactic(auto, unfolding(crate::specs::Cases::case_of))]
 pub fn judge(found: &Found, request: &Request) -> Verdict
     requires { found.now.decided ≤ MAX_DECIDED }

@@ -6,7 +6,8 @@ ghost use Rattle.posting_rules.specs.Branches.{IsNextBranch, IsLineAbove};
 ghost use Rattle.posting_rules.specs.Commands.{Command, Open, Post};
 ghost use Rattle.posting_rules.specs.Entries.{reply, balance_behind};
 ghost use Rattle.posting_rules.specs.Tables.{Tables};
-ghost use Rattle.posting_rules.specs.Counter.{Seen, ShowsLog, Takes, LeavesSomething, Refuses, TellsDamage, opening_behind};
+ghost use Rattle.posting_rules.specs.Counter.{Seen, ShowsLog, Takes, LeavesSomething, Refuses, TellsDamage};
+ghost use Rattle.posting_rules.specs.Counter.{opening_behind};
 ghost use Rattle.posting_rules.specs.Runs.{posts, replies_to};
 
 use crate::fault::Fault;
@@ -49,8 +50,8 @@ impl From<BranchRow> for BranchLine {
     }
 }
 
-/// A counter of the bank. What it answers is said by the log of commands that its tables show: it holds of every log
-/// that they show, wherever the disk is honest.
+/// A counter of the bank. What it answers is said by the log of commands that its tables show: it holds of
+/// every log that they show, wherever the disk is honest.
 pub trait Counter {
     /// Its tables, whether it is down, what a stop at this moment may leave, and whether the disk is honest.
     ghost seen: { Self → Seen };
@@ -71,8 +72,9 @@ pub trait Counter {
         ensures down { (seen self.old).is_down → IsErrOf result Fault.Down }
         ensures honest { (seen self.new).honest → (seen self.old).honest };
 
-    /// Submits 1 to `RECORDS_PER_BATCH` records of 100 bytes at one moment, and answers the replies of 200 bytes in order, as if each
-    /// record were submitted after the one before it. After a fault no reply is handed out.
+    /// Submits 1 to `RECORDS_PER_BATCH` records of 100 bytes at one moment, and answers the replies of 200
+    /// bytes in order, as if each record were submitted after the one before it. After a fault no reply is
+    /// handed out.
     fn submit_all(&mut self, moment: Moment, records: &[[u8; 100]]) -> Result<Vec<[u8; 200]>, Fault>
         requires some { 1 ≤ length records.now }
         requires few { length records.now ≤ RECORDS_PER_BATCH }

@@ -33,8 +33,8 @@ impl Kept {
     ghost use Rattle.posting_rules.specs.Kept.{is_kept_with};
     ghost use Rattle.posting_rules.specs.Cases.{is_same, kept_reply};
 
-    /// The kept request of these fields, none for an outcome that isn't kept, and none for a balance other than zero
-    /// where the request wasn't posted.
+    /// The kept request of these fields, none for an outcome that isn't kept, and none for a balance other
+    /// than zero where the request wasn't posted.
     pub fn new(
         account: Account,
         branch: Branch,

@@ -1,6 +1,8 @@
-//! Laws of the bank, for every log of commands. Each is a function that does nothing: its contract is the law.
+//! Laws of the bank, for every log of commands. Each is a function that does nothing: its contract is the
+//! law.
 ghost use Rattle.posting_rules.specs.Stated.{DecidedAsStated, RepliedAsStated};
-ghost use Rattle.posting_rules.specs.Laws.{NoneShares, BalancesStayWithin, TablesAreConsistent, EqualTablesAnswerAlike};
+ghost use Rattle.posting_rules.specs.Laws.{NoneShares, BalancesStayWithin, TablesAreConsistent};
+ghost use Rattle.posting_rules.specs.Laws.{EqualTablesAnswerAlike};
 ghost use Rattle.posting_rules.specs.Alike.{OpeningsAnswerAlike, BalancesAnswerAlike, BranchesAnswerAlike};
 ghost use Rattle.posting_rules.specs.Damage.{TablesAreUndamaged};
 ghost use Rattle.posting_rules.specs.Resends.{RepliesAgain, RepliesInPlace, AddsOnce, KeepsCommands};
@@ -21,8 +23,8 @@ pub fn balances_stay_within()
     ensures { BalancesStayWithin }
 {}
 
-/// The consistency condition (TPC-B clause 2): accounts, tellers, branches and the deltas of history have one sum, each
-/// branch has the sum of its tellers, and history has just the posted requests.
+/// The consistency condition (TPC-B clause 2): accounts, tellers, branches and the deltas of history have one
+/// sum, each branch has the sum of its tellers, and history has just the posted requests.
 pub fn tables_are_consistent()
     ensures { TablesAreConsistent }
 {}
@@ -32,7 +34,8 @@ pub fn tables_are_undamaged()
     ensures { TablesAreUndamaged }
 {}
 
-/// What a bank answers depends on its tables alone: the replies, the answers to openings, the balances and the branches.
+/// What a bank answers depends on its tables alone: the replies, the answers to openings, the balances and
+/// the branches.
 pub fn equal_tables_answer_alike()
     ensures replies { EqualTablesAnswerAlike }
     ensures openings { OpeningsAnswerAlike }
@@ -40,8 +43,8 @@ pub fn equal_tables_answer_alike()
     ensures branches { BranchesAnswerAlike }
 {}
 
-/// A record that comes again gets the reply that it got, and adds no row, as long as no branch is opened in between. So a
-/// resend may come in any order, in part, any number of times, and mixed with new records.
+/// A record that comes again gets the reply that it got, and adds no row, as long as no branch is opened in
+/// between. So a resend may come in any order, in part, any number of times, and mixed with new records.
 pub fn resends_get_their_replies()
     ensures replies { RepliesAgain }
     ensures in_place { RepliesInPlace }

@@ -1,4 +1,5 @@
-//! What a posting is: the tables of a bank and the laws that they keep, judging a request, and the trait of a counter.
+//! What a posting is: the tables of a bank and the laws that they keep, judging a request, and the trait of a
+//! counter.
 #![tactic(auto)]
 
 mod cases;

@@ -1,5 +1,6 @@
 -- The next rows above a key, or from it on, under any schema.
-use Rattle.std.proofs.Common.{◌≡◌, ℕ, suc, ◌-◌, List, [], ◌∷◌, map, Ok, Some, None, Option, refl, true, false, nat_lt, ap, ◌∙◌}
+use Rattle.std.proofs.Common.{◌≡◌, ℕ, suc, ◌-◌, List, [], ◌∷◌, map, Ok, Some, None, Option, refl, true, false}
+use Rattle.std.proofs.Common.{nat_lt, ap, ◌∙◌}
 use Rattle.sqlite_value.specs.declared.keys.Collation.{Collation}
 use Rattle.sqlite_value.specs.declared.keys.Collation.TheVariants.{Binary}
 use Rattle.sqlite_sql.specs.declared.ops.BinaryOp.TheVariants as by
@@ -49,7 +50,8 @@ use Rattle.sqlite_resolve.specs.Expr.{
   tests_alias,
   combine,
 }
-use Rattle.sqlite_resolve.specs.Program.{viewing, single, source, sources, whole, with, level, query_to, query}
+use Rattle.sqlite_resolve.specs.Program.{viewing, single, source, sources, whole, with, level, query_to}
+use Rattle.sqlite_resolve.specs.Program.{query}
 use Rattle.sqlite_resolve.specs.Program as prog
 use Rattle.sqlite_resolve.specs.Compile.{compiled, first, with_command}
 use Rattle.sql_meanings.proofs.Columns.{over_one, column_is}
@@ -79,7 +81,8 @@ abbrev pub compared_by : Start → CompareOp
 compared_by Beyond = compare.Gt
 compared_by Onwards = compare.Ge
 
-pub lower_start : (k : Start) (cx : Context) (e a b : Expr) (x y : Term) (p q : Carried) (d next budget b1 b2 : ℕ) (l : Carried)
+pub lower_start : (k : Start) (cx : Context) (e a b : Expr) (x y : Term) (p q : Carried)
+    (d next budget b1 b2 : ℕ) (l : Carried)
     → out-Expr e ≡ Expr-F.Binary (written_as k) a b → nat_lt 1 budget ≡ true
     → lower_to d cx a (st next (budget - 1) nothing) ≡ Ok (x, st next b1 p)
     → lower_to d cx b (st next b1 p) ≡ Ok (y, st next b2 q)
@@ -99,22 +102,27 @@ compared_start Onwards cx at m left right = rw (left, right)
 
 module _ (schema : Schema) where
   -- a LIMIT by an integer
-  pub constant_is : (e : Expr) (text : List ℕ) (v : Value) → out-Expr e ≡ Expr-F.Integer text → integer false text ≡ Ok v
+  pub constant_is : (e : Expr) (text : List ℕ) (v : Value) → out-Expr e ≡ Expr-F.Integer text
+      → integer false text ≡ Ok v
       → constant schema e ≡ Ok (lit v)
   unfolding constant stepless
-  constant_is e text v is value = rw (lower_integer (outermost schema) e text v 699 1 100000 nothing is value refl)
+  constant_is e text v is value = rw
+      (lower_integer (outermost schema) e text v 699 1 100000 nothing is value refl)
 
-  viewing_is : (core : Core) (order : List Sort) (page : Term × Term) (n : ℕ) (shown : Draft × List Name × List (Option Collation))
+  viewing_is : (core : Core) (order : List Sort) (page : Term × Term) (n : ℕ)
+      (shown : Draft × List Name × List (Option Collation))
       (lets : List Let) → named schema core order page ≡ Ok shown
       → viewing (query_to 15) schema core order page (suc n) schema lets ≡ Ok ((shown, schema), lets)
   unfolding viewing
   viewing_is core order page n shown lets is = rw is
 
   -- a SELECT of one table, with a LIMIT
-  pub paged_is : (s : written_select.Select) (core : Core) (source : From) (from : Name) (order : List Sort) (limit : Expr) (most : Term)
+  pub paged_is : (s : written_select.Select) (core : Core) (source : From) (from : Name) (order : List Sort)
+      (limit : Expr) (most : Term)
       (shown : Draft × List Name × List (Option Collation))
       → out-Select s ≡ record { with = []; first = core; others = []; order = order; limit = Some limit; offset = None }
-      → (out-Core core).from ≡ source ∷ [] → (out-Source source).origin ≡ origin.Table from → constant schema limit ≡ Ok most
+      → (out-Core core).from ≡ source ∷ [] → (out-Source source).origin ≡ origin.Table from
+      → constant schema limit ≡ Ok most
       → named schema core order (most, number 0) ≡ Ok shown
       → query schema s ≡ Ok (shown, [])
   unfolding query query_to level with whole paging constant_or prog.alone single source sources
@@ -123,20 +131,25 @@ module _ (schema : Schema) where
 
 module _ (schema : Schema) (name : Name) (p : ℕ) (table : Table) (has : HasTable schema name p table) where
   -- SELECT columns FROM table WHERE key > ?m ORDER BY key LIMIT n, and the same with >=
-  pub select_rising : (k : Start) (text : List ℕ) (P : Parsed) (s : written_select.Select) (core : Core) (source : From) (shown : List Shown)
-      (test a b e limit : Expr) (sort : Sort) (wanted most : Name) (v : Value) (at m : ℕ) (t : Tests table wanted at) (os : List Output)
+  pub select_rising : (k : Start) (text : List ℕ) (P : Parsed) (s : written_select.Select) (core : Core)
+      (source : From) (shown : List Shown)
+      (test a b e limit : Expr) (sort : Sort) (wanted most : Name) (v : Value) (at m : ℕ)
+      (t : Tests table wanted at) (os : List Output)
       (q : Program)
       → first text ≡ Ok P → P.statement ≡ written.Select s → P.formats ≡ []
       → out-Select s ≡ record { with = []; first = core; others = []; order = sort ∷ []; limit = Some limit; offset = None }
       → out-Core core ≡ record { distinct = false; shown = shown; from = source ∷ []; filter = Some test; group = []; having = None }
       → one_table name source
-      → out-Expr test ≡ Expr-F.Binary (written_as k) a b → out-Expr a ≡ Expr-F.Column None wanted → out-Expr b ≡ Expr-F.Parameter m
-      → out-Sort sort ≡ record { key = e; descending = false; nulls_first = None } → out-Expr e ≡ Expr-F.Column None wanted
+      → out-Expr test ≡ Expr-F.Binary (written_as k) a b → out-Expr a ≡ Expr-F.Column None wanted
+      → out-Expr b ≡ Expr-F.Parameter m
+      → out-Sort sort ≡ record { key = e; descending = false; nulls_first = None }
+      → out-Expr e ≡ Expr-F.Column None wanted
       → alias_of wanted os ≡ None
       → out-Expr limit ≡ Expr-F.Integer most → integer false most ≡ Ok v
       → Shows table shown os → HasRoom 100000 os
       → affinity_of (over_one schema name p os false) (col 1 at) ≡ affinity.Numeric
-      → (r0 : nat_lt 1 (spent 100000 os) ≡ true) (r1 : nat_lt 1 (spent 100000 os - 1) ≡ true) (r2 : nat_lt 1 (spent 100000 os - 1 - 1)
+      → (r0 : nat_lt 1 (spent 100000 os) ≡ true) (r1 : nat_lt 1 (spent 100000 os - 1) ≡ true)
+      (r2 : nat_lt 1 (spent 100000 os - 1 - 1)
       ≡ true) (r3 : nat_lt 1 (spent 100000 os - 1 - 1 - 1) ≡ true)
       → alone (declared table t.place t.column) ≡ Binary
       → prog.program schema [] (ungrouped (Inner table.tree ∷ [])
@@ -147,7 +160,8 @@ module _ (schema : Schema) (name : Name) (p : ℕ) (table : Table) (has : HasTab
       right sorts e_is none cap value shows room number r0 r1 r2 r3 bytes typed =
       let cx = over_one schema name p os false in
       let B = spent 100000 os in
-      let here = column_is schema p table has.listed name os false wanted t.place t.column (st 2 (B - 1 - 1) nothing) t.named t.there in
+      let here = column_is schema p table has.listed name os false wanted t.place t.column
+      (st 2 (B - 1 - 1) nothing) t.named t.there in
       let x = lower_column cx a wanted _ _ 698 2 (B - 1) nothing left r1 here in
       let y = lower_parameter cx b m 698 2 (B - 1 - 1) (declared table t.place t.column) right r2 in
       let low : lower cx test (st 2 B (last_of nothing os)) ≡ Ok (
@@ -159,11 +173,15 @@ module _ (schema : Schema) (name : Name) (p : ℕ) (table : Table) (has : HasTab
       (st 2 (B - 1 - 1 - 1 - 1) nothing) t.named t.there in
       let z = lower_column cx e wanted _ _ 699 2 (B - 1 - 1 - 1) nothing e_is r3 (there
       ∙ ap (λ k. Ok (col 1 k, st 2 (B - 1 - 1 - 1 - 1) (declared table t.place t.column))) t.is_at) in
-      let by_key = one_order cx os sort e wanted at _ _ _ _ (ap (λ w. w.key) sorts) (ap (λ w. w.descending) sorts)
+      let by_key = one_order cx os sort e wanted at _ _ _ _ (ap (λ w. w.key) sorts)
+      (ap (λ w. w.descending) sorts)
       (ap (λ w. w.nulls_first) sorts) e_is none z in
-      let made = parts_are schema name p table has core source shown (Some test) (sort ∷ []) os _ _ _ _ _ _ _ _ body from
-      (outputs_are_all schema p table has.listed name shown os shows room) (one_test cx test _ _ _ _ _ low) (rw bytes at by_key)
+      let made = parts_are schema name p table has core source shown (Some test)
+      (sort ∷ []) os _ _ _ _ _ _ _ _ body from
+      (outputs_are_all schema p table has.listed name shown os shows room) (one_test cx test _ _ _ _ _ low)
+      (rw bytes at by_key)
       (lit v, Rattle.sqlite_resolve.specs.Terms.number 0) in
-      let whole = paged_is schema s core source name (sort ∷ []) limit (lit v) _ select (ap (λ c. c.from) body) (ap (λ c. c.origin) from)
+      let whole = paged_is schema s core source name (sort ∷ []) limit (lit v) _ select
+      (ap (λ c. c.from) body) (ap (λ c. c.origin) from)
       (constant_is schema limit most v cap value) made in
       compiled_select schema text P s _ parsed is plain (read_is schema s _ q whole typed)

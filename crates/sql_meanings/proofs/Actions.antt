@@ -1,5 +1,6 @@
 -- Whatever refers to a table with no foreign key of its own, an edit leaves in it what the edit says.
-use Rattle.std.proofs.Common.{◌≡◌, ◌≢◌, ℕ, suc, zero, ◌+◌, ◌==◌, List, [], ◌∷◌, length, Ok, Result, Some, None, Option, refl, nat_lt, ◌&&◌, ap, sym, subst, ◌∙◌, inl, inr, ◌⊎◌}
+use Rattle.std.proofs.Common.{◌≡◌, ◌≢◌, ℕ, suc, zero, ◌+◌, ◌==◌, List, [], ◌∷◌, length, Ok, Result, Some}
+use Rattle.std.proofs.Common.{None, Option, refl, nat_lt, ◌&&◌, ap, sym, subst, ◌∙◌, inl, inr, ◌⊎◌}
 use Rattle.std.specs.Prelude.{ℤ}
 use Rattle.std.specs.List.{filter_map, flat_map, cons_option, list_any}
 use Rattle.std.proofs.lemmas.Bool.{cases_Bool}
@@ -41,7 +42,8 @@ abbrev Good : Schema → Work → Type 0
 Good schema w = Has schema.tables w.child × Has w.child.references w.ref
 
 module _ (schema : Schema) (keys : Keys) where
-  good_by : (depth tree : ℕ) (moves : List (Row × Row)) (child : Table) (ref : Reference) (deed : Option Deed) (key : Option ParentKey)
+  good_by : (depth tree : ℕ) (moves : List (Row × Row)) (child : Table) (ref : Reference) (deed : Option Deed)
+      (key : Option ParentKey)
       (w : Work)
       → work_by depth tree moves child ref deed key ≡ Some w → (w.child ≡ child) × (w.ref ≡ ref)
   good_by depth tree moves child ref None key w h = absurd (cc)
@@ -55,7 +57,8 @@ module _ (schema : Schema) (keys : Keys) where
       some_same : {a b : Work} → ◌≡◌ {A = Option Work} (Some a) (Some b) → a ≡ b
       some_same e = cc
 
-  cons_has : {X : Type 0} (o : Option X) (xs : List X) (x : X) → Has (cons_option o xs) x → (o ≡ Some x) ⊎ Has xs x
+  cons_has : {X : Type 0} (o : Option X) (xs : List X) (x : X) → Has (cons_option o xs) x
+      → (o ≡ Some x) ⊎ Has xs x
   cons_has None xs x h = inr h
   cons_has (Some y) xs x (inl e) = inl (ap Some (sym e))
   cons_has (Some y) xs x (inr h) = inr h
@@ -64,13 +67,15 @@ module _ (schema : Schema) (keys : Keys) where
       → Has (filter_map (work_for schema keys depth tree olds news child) refs) w
       → (w.child ≡ child) × Has refs w.ref
   good_of depth tree olds news child [] w h = absurd h
-  good_of depth tree olds news child (ref ∷ refs) w h = elim (cons_has (work_for schema keys depth tree olds news child ref) _ w h) [
-    | inl is ↦ let g = good_by depth tree (pairs olds news) child ref (deed_for keys (length news == 0) ref)
-        (parent_key schema.tables ref) w is in (g.0, inl g.1)
-    | inr more ↦ let g = good_of depth tree olds news child refs w more in (g.0, inr g.1)
-  ]
+  good_of depth tree olds news child (ref ∷ refs) w h =
+      elim (cons_has (work_for schema keys depth tree olds news child ref) _ w h) [
+        | inl is ↦ let g = good_by depth tree (pairs olds news) child ref (deed_for keys (length news == 0) ref)
+            (parent_key schema.tables ref) w is in (g.0, inl g.1)
+        | inr more ↦ let g = good_of depth tree olds news child refs w more in (g.0, inr g.1)
+      ]
 
-  good_in : (depth tree : ℕ) (olds news : List Row) (tables : List Table) → ((t : Table) → Has tables t → Has schema.tables t)
+  good_in : (depth tree : ℕ) (olds news : List Row) (tables : List Table)
+      → ((t : Table) → Has tables t → Has schema.tables t)
       → (w : Work)
       → Has (flat_map (λ child. filter_map (work_for schema keys depth tree olds news child) child.references) tables) w → Good schema w
   good_in depth tree olds news [] within w h = absurd h
@@ -82,7 +87,8 @@ module _ (schema : Schema) (keys : Keys) where
       ]
 
   -- what is set off is a foreign key of a table of the schema
-  pub good_works : (depth tree : ℕ) (olds news : List Row) (w : Work) → Has (works schema keys depth tree olds news) w → Good schema w
+  pub good_works : (depth tree : ℕ) (olds news : List Row) (w : Work)
+      → Has (works schema keys depth tree olds news) w → Good schema w
   good_works depth tree olds news w h = good_in depth tree olds news schema.tables (λ t k. k) w h
 
   module _ (table : Table) (stands : Stands schema table) where
@@ -91,16 +97,19 @@ module _ (schema : Schema) (keys : Keys) where
         absurd (subst (λ refs. Has refs w.ref) (ap (λ (t : Table). t.references) is ∙ stands.free) good.1)
 
     -- an edit of another tree leaves the table
-    pub apart_from : (db next : Trees) (edit : Edit) → table.tree ≢ edit.table.tree → Applies schema keys db edit next
+    pub apart_from : (db next : Trees) (edit : Edit) → table.tree ≢ edit.table.tree
+        → Applies schema keys db edit next
         → next table.tree ≡ db table.tree
     apart_from db next edit other applies = all_has _ schema.tables table applies.tables stands.listed other
 
     -- the rest of the actions leaves the table
     abbrev Rests : (Trees → List Work → End → Type 0) → Trees → Type 0
-    Rests Then next = (mid : Trees) (stack : List Work) → ((w : Work) → Has stack w → Good schema w) → Then mid stack (Ok next)
+    Rests Then next = (mid : Trees) (stack : List Work) → ((w : Work) → Has stack w → Good schema w)
+        → Then mid stack (Ok next)
         → next table.tree ≡ mid table.tree
 
-    module _ (Then : Trees → List Work → End → Type 0) (db next : Trees) (rests : Rests Then next) (below : List Work) (w : Work)
+    module _ (Then : Trees → List Work → End → Type 0) (db next : Trees) (rests : Rests Then next)
+        (below : List Work) (w : Work)
         (here : Good schema w) (under : (x : Work) → Has below x → Good schema x) where
       goes_on : (ids : List ℤ) → Goes schema keys Then db (action_edit db w ids) (w.depth + 1) below (Ok next)
           → next table.tree ≡ db table.tree
@@ -115,7 +124,8 @@ module _ (schema : Schema) (keys : Keys) where
           ]) on.2
           ∙ apart_from db on.0 (action_edit db w ids) (other_tree w here) on.1
 
-      acts_on : (ids : List ℤ) → ActsOn schema keys Then db w below (Ok next) ids → next table.tree ≡ db table.tree
+      acts_on : (ids : List ℤ) → ActsOn schema keys Then db w below (Ok next) ids
+          → next table.tree ≡ db table.tree
       acts_on [] h = rests db below under h
       acts_on (id ∷ ids) h = elim (cases_Bool (refuses w.deed)) [
         | inl refused ↦ absurd (let e = rw refused at h in cc)
@@ -132,7 +142,8 @@ module _ (schema : Schema) (keys : Keys) where
     pub settles : (n : ℕ) (next : Trees) → Rests (Leads schema keys n) next
     settles zero next db stack good h = ap (λ (t : Trees). t table.tree) (ok_same h.1)
     settles (suc n) next db stack good (below, w, is, acts) =
-        acts_now (Leads schema keys n) db next (settles n next) below w (good w (subst (λ l. Has l w) (sym is) (has_right below (w ∷ []) w (inl refl))))
+        acts_now (Leads schema keys n) db next (settles n next) below w
+        (good w (subst (λ l. Has l w) (sym is) (has_right below (w ∷ []) w (inl refl))))
         (λ x h. good x (subst (λ l. Has l x) (sym is) (has_left below (w ∷ []) x h))) acts
 
 -- what a write leaves in the tables that stand alone, whatever else the schema has

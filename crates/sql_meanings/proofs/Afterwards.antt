@@ -5,7 +5,8 @@ use Rattle.sqlite.specs.State.{State, Fails, HasCause, IsRolledBack, KeepsCounts
 use Rattle.sqlite.specs.State.{Shows as StateShows}
 use Rattle.sqlite.specs.declared.error.Error.{Error}
 use Rattle.sqlite_trees.specs.declared.error.StoreError.{StoreError}
-use Rattle.sqlite_trees.specs.declared.error.StoreError.TheVariants.{OutOfMemory, Io, Corrupt, Full, Broken, Unstorable}
+use Rattle.sqlite_trees.specs.declared.error.StoreError.TheVariants.{OutOfMemory, Io, Corrupt, Full, Broken}
+use Rattle.sqlite_trees.specs.declared.error.StoreError.TheVariants.{Unstorable}
 use Rattle.sql_meanings.specs.Outcomes.{IsUndone, NamesCause}
 
 faults_since : (a b c : ℕ) → a ≤ b → MoreFaults b c → MoreFaults a c
@@ -16,7 +17,8 @@ faults_on a b c h more = omega arith
 
 module _ (old mid new : State) where
   -- a rollback undoes what went on before it too
-  pub rolled_since : (mode : Bool) → StateShows old mid mid.now old.committed mode → KeepsCounts old mid → IsRolledBack mid new
+  pub rolled_since : (mode : Bool) → StateShows old mid mid.now old.committed mode → KeepsCounts old mid
+      → IsRolledBack mid new
       → IsRolledBack old new
   rolled_since mode shows counts back = record {
     was_open = λ live. shows.was_open;
@@ -30,7 +32,8 @@ module _ (old mid new : State) where
   }
 
   -- a rollback undoes all that was not committed
-  pub undone_since : (mode : Bool) → StateShows old mid mid.now old.committed mode → IsRolledBack mid new → IsUndone old new
+  pub undone_since : (mode : Bool) → StateShows old mid mid.now old.committed mode → IsRolledBack mid new
+      → IsUndone old new
   undone_since mode shows back = (
     λ live. let undone = back.undone live in (shows.was_open, undone.0 ∙ shows.committed_is, undone.1 ∙ shows.committed_is),
     back.autocommit,
@@ -47,7 +50,8 @@ module _ (old mid new : State) where
   )
 
   module _ (P Q : Type 0) (then : P → Q) where
-    cause_since : IsTrue mid.is_open → old.faults ≤ mid.faults → (kind : StoreError) → HasCause mid new P kind → HasCause old new Q kind
+    cause_since : IsTrue mid.is_open → old.faults ≤ mid.faults → (kind : StoreError) → HasCause mid new P kind
+        → HasCause old new Q kind
     cause_since open_then more OutOfMemory c = c
     cause_since open_then more Io c = faults_since _ _ _ more c
     cause_since open_then more Corrupt c = faults_since _ _ _ more c
@@ -56,16 +60,19 @@ module _ (old mid new : State) where
     cause_since open_then more Unstorable c = then c
 
     -- a failure of the store is one since each state that led to it
-    pub fails_since : (e : Error) (mode : Bool) → StateShows old mid mid.now old.committed mode → KeepsCounts old mid
+    pub fails_since : (e : Error) (mode : Bool) → StateShows old mid mid.now old.committed mode
+        → KeepsCounts old mid
         → old.faults ≤ mid.faults → Fails mid new P e → Fails old new Q e
     fails_since e mode shows counts more h =
         (h.0, h.1, cause_since shows.is_open more h.0 h.2, rolled_since mode shows counts h.3, h.4)
 
     -- what it names has happened since each state that led to it
-    pub names_since : (e : Error) → IsTrue mid.is_open → old.faults ≤ mid.faults → Fails mid new P e → NamesCause old new Q e
+    pub names_since : (e : Error) → IsTrue mid.is_open → old.faults ≤ mid.faults → Fails mid new P e
+        → NamesCause old new Q e
     names_since e open_then more h = (h.0, h.1, cause_since open_then more h.0 h.2)
 
-    cause_on : mid.faults ≤ new.faults → (kind : StoreError) → HasCause old mid P kind → HasCause old new Q kind
+    cause_on : mid.faults ≤ new.faults → (kind : StoreError) → HasCause old mid P kind
+        → HasCause old new Q kind
     cause_on more OutOfMemory c = c
     cause_on more Io c = faults_on _ _ _ c more
     cause_on more Corrupt c = faults_on _ _ _ c more

@@ -43,7 +43,8 @@ use Rattle.sqlite_resolve.specs.declared.state.Carried.{Carried}
 use Rattle.sqlite_resolve.specs.Lowering.{nothing, chosen}
 use Rattle.sqlite_resolve.specs.Scope.{Name, Context, declared}
 use Rattle.sqlite_resolve.specs.Write as w
-use Rattle.sqlite_resolve.specs.Compare.{compared, affinity_of, of_column, of_declared, converted, may_be_text}
+use Rattle.sqlite_resolve.specs.Compare.{compared, affinity_of, of_column, of_declared, converted}
+use Rattle.sqlite_resolve.specs.Compare.{may_be_text}
 use Rattle.sqlite_resolve.specs.Expr.{lower_to}
 use Rattle.sqlite_resolve.specs.Program as prog
 use Rattle.sqlite_resolve.specs.Compile.{compiled, first, with_command}
@@ -52,7 +53,8 @@ use Rattle.sql_meanings.proofs.Expressions.{st, lower_parameter, lower_column, l
 use Rattle.sql_meanings.proofs.Statements.{HasTable, updates}
 
 -- a column of numbers is compared with a parameter as it is
-pub compared_is : (cx : Context) (at m : ℕ) → affinity_of cx (col 1 at) ≡ affinity.Numeric → affinity_of cx (col 0 m) ≡ affinity.None
+pub compared_is : (cx : Context) (at m : ℕ) → affinity_of cx (col 1 at) ≡ affinity.Numeric
+    → affinity_of cx (col 0 m) ≡ affinity.None
     → compared cx (Compare Eq Binary) (col 1 at) (col 0 m) ≡ op2 (Compare Eq Binary) (col 1 at) (col 0 m)
 unfolding compared converted may_be_text
 compared_is cx at m left right = rw (left, right)
@@ -67,7 +69,8 @@ pub record Tests (table : Table) (wanted : Name) (at : ℕ) : Type 0 where
   pub by_bytes : chosen (declared table place column) nothing ≡ Binary
 
 -- a column of numbers is numeric
-pub number_at : (schema : Schema) (p : ℕ) (table : Table) (listed : slice_get schema.tables p ≡ Some table) (name : Name)
+pub number_at : (schema : Schema) (p : ℕ) (table : Table) (listed : slice_get schema.tables p ≡ Some table)
+    (name : Name)
     (shown : List Output) (may : Bool) (k : ℕ) (c : Column)
     → slice_get table.columns k ≡ Some c → of_declared c ≡ affinity.Numeric
     → affinity_of (over_one schema name p shown may) (col 1 (suc k)) ≡ affinity.Numeric
@@ -90,11 +93,14 @@ pub parameter_at : (schema : Schema) (name : Name) (p : ℕ) (shown : List Outpu
 unfolding affinity_of of_column
 parameter_at schema name p shown may m = either (m == 0) affinity.None
 
-module _ (schema : Schema) (p : ℕ) (table : Table) (listed : slice_get schema.tables p ≡ Some table) (name : Name) (shown : List Output)
+module _ (schema : Schema) (p : ℕ) (table : Table) (listed : slice_get schema.tables p ≡ Some table)
+    (name : Name) (shown : List Output)
     (may : Bool) where
   -- the test that a column is a parameter
-  pub key_test : (e a b : Expr) (wanted : Name) (at m : ℕ) (t : Tests table wanted at) (d next budget : ℕ) (l : Carried)
-      → out-Expr e ≡ Expr-F.Binary binary.Eq a b → out-Expr a ≡ Expr-F.Column None wanted → out-Expr b ≡ Expr-F.Parameter m
+  pub key_test : (e a b : Expr) (wanted : Name) (at m : ℕ) (t : Tests table wanted at) (d next budget : ℕ)
+      (l : Carried)
+      → out-Expr e ≡ Expr-F.Binary binary.Eq a b → out-Expr a ≡ Expr-F.Column None wanted
+      → out-Expr b ≡ Expr-F.Parameter m
       → affinity_of (over_one schema name p shown may) (col 1 at) ≡ affinity.Numeric
       → nat_lt 1 budget ≡ true → nat_lt 1 (budget - 1) ≡ true → nat_lt 1 (budget - 1 - 1) ≡ true
       → lower_to (suc (suc d)) (over_one schema name p shown may) e (st next budget l)
@@ -104,19 +110,24 @@ module _ (schema : Schema) (p : ℕ) (table : Table) (listed : slice_get schema.
       let column = column_is schema p table listed name shown may wanted t.place t.column
       (st next (budget - 1 - 1) nothing) t.named t.there in
       let x = lower_column here a wanted _ _ d next (budget - 1) nothing left two column in
-      let y = lower_parameter here b m d next (budget - 1 - 1) (declared table t.place t.column) right three in
+      let y = lower_parameter here b m d next (budget - 1 - 1)
+      (declared table t.place t.column) right three in
       lower_equal here e a b _ _ _ _ (suc d) next budget _ _ l is one x y
       ∙ rw (t.by_bytes, t.is_at, compared_is here at (m - 1) number (parameter_at schema name p shown may (m - 1)))
 
 -- UPDATE t SET c = ?n WHERE k = ?m
 module _ (schema : Schema) (name : Name) (p : ℕ) (table : Table) (has : HasTable schema name p table) where
   -- the whole text, of one column under a test of another
-  pub update_by_key : (text : List ℕ) (P : Parsed) (wanted key : Name) (e test a b : Expr) (n m at : ℕ) (places : List ℕ)
+  pub update_by_key : (text : List ℕ) (P : Parsed) (wanted key : Name) (e test a b : Expr) (n m at : ℕ)
+      (places : List ℕ)
       (project : List Term) (t : Tests table key at) (q : Program)
-      → first text ≡ Ok P → P.statement ≡ written.Update name ((wanted, e) ∷ []) (Some test) [] → P.formats ≡ []
-      → out-Expr e ≡ Expr-F.Parameter n → out-Expr test ≡ Expr-F.Binary binary.Eq a b → out-Expr a ≡ Expr-F.Column None key
+      → first text ≡ Ok P → P.statement ≡ written.Update name ((wanted, e) ∷ []) (Some test) []
+      → P.formats ≡ []
+      → out-Expr e ≡ Expr-F.Parameter n → out-Expr test ≡ Expr-F.Binary binary.Eq a b
+      → out-Expr a ≡ Expr-F.Column None key
       → out-Expr b ≡ Expr-F.Parameter m
-      → w.with_place table [] wanted ≡ Ok places → w.row table None places (col 1 0 ∷ []) (col 0 (n - 1) ∷ []) ≡ Ok project
+      → w.with_place table [] wanted ≡ Ok places
+      → w.row table None places (col 1 0 ∷ []) (col 0 (n - 1) ∷ []) ≡ Ok project
       → affinity_of (over_one schema table.name p [] false) (col 1 at) ≡ affinity.Numeric
       → prog.program schema [] (w.simple (Inner table.tree ∷ []) (op2 (Compare Eq Binary) (col 1 at) (col 0 (m - 1)) ∷ []) project) ≡ Ok q
       → compiled schema text ≡ Ok (with_command P ([], (Update p q, None)))

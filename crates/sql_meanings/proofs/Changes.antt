@@ -40,7 +40,8 @@ use Rattle.sql_meanings.specs.Entries.{Entry, IsTree, Rise, changed, has_key, pu
 use Rattle.sql_meanings.proofs.EntryLists.{Above, rise_put}
 
 -- what holds of every element holds of the one that is found
-pub found_all : {X : Type 0} (P : X → Type 0) (p : X → Bool) (xs : List X) (x : X) → AllByRecursion P xs → find p xs ≡ Some x → P x
+pub found_all : {X : Type 0} (P : X → Type 0) (p : X → Bool) (xs : List X) (x : X) → AllByRecursion P xs
+    → find p xs ≡ Some x → P x
 found_all P p [] x all h = absurd (cc)
 found_all P p (y ∷ xs) x all h = go (p y) h (found_all P p xs x all.1)
   where
@@ -53,7 +54,8 @@ pub found_passes : {X : Type 0} (p : X → Bool) (xs : List X) (x : X) → find 
 found_passes p [] x h = absurd cc
 found_passes p (y ∷ xs) x h = go (p y) refl h (found_passes p xs x)
   where
-    go : (b : Bool) → p y ≡ b → cond b (Some y) (find p xs) ≡ Some x → (find p xs ≡ Some x → p x ≡ true) → p x ≡ true
+    go : (b : Bool) → p y ≡ b → cond b (Some y) (find p xs) ≡ Some x → (find p xs ≡ Some x → p x ≡ true)
+        → p x ≡ true
     go true here is more = let same : y ≡ x = cc in subst (λ z. p z ≡ true) same here
     go false here is more = more is
 
@@ -62,13 +64,15 @@ pub found_key : (k : ℤ) (es : List Entry) (e : Entry) → find (has_key k) es 
 found_key k es e h = (Decides-int_eq e.key k).0 (found_passes (has_key k) es e h)
 
 -- every row keeps its width as one is put in
-pub wide_put : (width : ℕ) (new : Entry) (es : List Entry) → length new.values ≡ width → AllByRecursion (λ e. length e.values ≡ width) es
+pub wide_put : (width : ℕ) (new : Entry) (es : List Entry) → length new.values ≡ width
+    → AllByRecursion (λ e. length e.values ≡ width) es
     → AllByRecursion (λ e. length e.values ≡ width) (put new es)
 wide_put width new [] h all = (h, all)
 wide_put width new (e ∷ es) h all = go (int_cmp e.key new.key) (wide_put width new es h all.1)
   where
     go : (o : Ordering) → AllByRecursion (λ e. length e.values ≡ width) (put new es)
-        → AllByRecursion (λ e. length e.values ≡ width) (match_ordering o (e ∷ put new es) (new ∷ es) (new ∷ e ∷ es))
+        → AllByRecursion (λ e. length e.values ≡ width)
+        (match_ordering o (e ∷ put new es) (new ∷ es) (new ∷ e ∷ es))
     go Less more = (all.0, more)
     go Equal more = (h, all.1)
     go Greater more = (h, all)
@@ -89,32 +93,38 @@ same_cmp a = grind (arith, ints)
 module _ (change : Entry → Entry) (keeps : (e : Entry) → (change e).key ≡ e.key) (k : ℤ) where
   none_after : (e : Entry) (es : List Entry) → Above e es → has_key k e ≡ true → changed change k es ≡ es
   none_after e [] above here = refl
-  none_after e (x ∷ xs) above here = rw (less_apart e.key x.key k above.0 here) (ap (λ l. x ∷ l) (none_after e xs above.1 here))
+  none_after e (x ∷ xs) above here = rw (less_apart e.key x.key k above.0 here)
+      (ap (λ l. x ∷ l) (none_after e xs above.1 here))
 
   -- where no row has the key, none is changed
   pub none_changed : (es : List Entry) → find (has_key k) es ≡ None → changed change k es ≡ es
   none_changed [] h = refl
   none_changed (x ∷ xs) h = go (has_key k x) h (none_changed xs)
     where
-      go : (b : Bool) → cond b (Some x) (find (has_key k) xs) ≡ None → (find (has_key k) xs ≡ None → changed change k xs ≡ xs)
+      go : (b : Bool) → cond b (Some x) (find (has_key k) xs) ≡ None
+          → (find (has_key k) xs ≡ None → changed change k xs ≡ xs)
           → cond b (change x) x ∷ changed change k xs ≡ x ∷ xs
       go true found more = absurd cc
       go false found more = ap (λ l. x ∷ l) (more found)
 
-  put_here : (x : Entry) (xs : List Entry) → Above x xs → has_key k x ≡ true → put (change x) (x ∷ xs) ≡ change x ∷ changed change k xs
+  put_here : (x : Entry) (xs : List Entry) → Above x xs → has_key k x ≡ true
+      → put (change x) (x ∷ xs) ≡ change x ∷ changed change k xs
   put_here x xs above here =
       let same : int_cmp x.key (change x).key ≡ Equal = ap (int_cmp x.key) (keeps x) ∙ same_cmp x.key in
       ap (λ o. match_ordering o (x ∷ put (change x) xs) (change x ∷ xs) (change x ∷ x ∷ xs)) same
       ∙ ap (λ l. change x ∷ l) (sym (none_after x xs above here))
 
-  put_later : (x e : Entry) (xs : List Entry) → Above x xs → find (has_key k) xs ≡ Some e → put (change e) xs ≡ changed change k xs
+  put_later : (x e : Entry) (xs : List Entry) → Above x xs → find (has_key k) xs ≡ Some e
+      → put (change e) xs ≡ changed change k xs
       → put (change e) (x ∷ xs) ≡ x ∷ changed change k xs
   put_later x e xs above found more =
-      let low : int_cmp x.key e.key ≡ Less = found_all (λ y. int_cmp x.key y.key ≡ Less) (has_key k) xs e above found in
+      let low : int_cmp x.key e.key ≡ Less = found_all (λ y. int_cmp x.key y.key ≡ Less)
+      (has_key k) xs e above found in
       rw (keeps e, low) (ap (λ l. x ∷ l) more)
 
   -- to put the changed row in its place is to change the row
-  pub put_changed : (es : List Entry) (e : Entry) → Rise es → find (has_key k) es ≡ Some e → put (change e) es ≡ changed change k es
+  pub put_changed : (es : List Entry) (e : Entry) → Rise es → find (has_key k) es ≡ Some e
+      → put (change e) es ≡ changed change k es
   put_changed [] e rise h = absurd cc
   put_changed (x ∷ xs) e rise h = go (has_key k x) refl h (put_changed xs e rise.1)
     where
@@ -122,14 +132,17 @@ module _ (change : Entry → Entry) (keeps : (e : Entry) → (change e).key ≡ 
           → (find (has_key k) xs ≡ Some e → put (change e) xs ≡ changed change k xs)
           → put (change e) (x ∷ xs) ≡ cond b (change x) x ∷ changed change k xs
       go true here found more = let same : x ≡ e = cc in
-          subst (λ y. put (change y) (x ∷ xs) ≡ change x ∷ changed change k xs) same (put_here x xs rise.0 here)
+          subst (λ y. put (change y) (x ∷ xs) ≡ change x ∷ changed change k xs) same
+          (put_here x xs rise.0 here)
       go false here found more = put_later x e xs rise.0 found (more found)
 
 -- a key is taken where a row is found under it
-pub taken_is : (new : Entry) (es : List Entry) → is_taken (map stored es) (stored new) ≡ is_some (find (has_key new.key) es)
+pub taken_is : (new : Entry) (es : List Entry)
+    → is_taken (map stored es) (stored new) ≡ is_some (find (has_key new.key) es)
 taken_is new [] = refl
 taken_is new (e ∷ es) = rw (value_cmp-Int e.key new.key, taken_is new es) (go (has_key new.key e))
   where
-    go : (b : Bool) → (b || is_some (find (has_key new.key) es)) ≡ is_some (cond b (Some e) (find (has_key new.key) es))
+    go : (b : Bool)
+        → (b || is_some (find (has_key new.key) es)) ≡ is_some (cond b (Some e) (find (has_key new.key) es))
     go true = refl
     go false = refl

@@ -45,14 +45,17 @@ module _ (schema : Schema) (p : ℕ) (table : Table) (at : slice_get schema.tabl
   column_at_is slot k c there = rw (at, there)
 
   -- a name that the table has is found
-  pub found_is : (name : Name) (shown : List Output) (may : Bool) (wanted : Name) (k : ℕ) → column_named table wanted ≡ Some k
+  pub found_is : (name : Name) (shown : List Output) (may : Bool) (wanted : Name) (k : ℕ)
+      → column_named table wanted ≡ Some k
       → find (over_one schema name p shown may) None wanted ≡ Ok (found.Column 1 p k)
   unfolding find in_level only hit column_in is_among
   found_is name shown may wanted k is = rw (at, is)
 
   -- a name is the term of its column
-  pub column_is : (name : Name) (shown : List Output) (may : Bool) (wanted : Name) (k : ℕ) (c : Column) (s : State)
+  pub column_is : (name : Name) (shown : List Output) (may : Bool) (wanted : Name) (k : ℕ) (c : Column)
+      (s : State)
       → column_named table wanted ≡ Some k → slice_get table.columns k ≡ Some c
       → column (over_one schema name p shown may) None wanted s ≡ Ok (col 1 (place_of table k), record s { last = declared table k c })
   unfolding column term_of
-  column_is name shown may wanted k c s is there = rw (found_is name shown may wanted k is, column_at_is 1 k c there)
+  column_is name shown may wanted k c s is there = rw
+      (found_is name shown may wanted k is, column_at_is 1 k c there)

@@ -59,7 +59,8 @@ use Rattle.sql_meanings.specs.Making.{IsCreation}
 abbrev pub Outcome : {A : Type 0} → A → Checked A → Type 0
 Outcome a r = (r ≡ Ok a) ⊎ ((e : CompileError) × (r ≡ Err e) × ((e ≡ Unsupported) ⊎ ((e ≡ Misuse) ⊎ (e ≡ Exists))))
 
-module _ (schema : Schema) (formats : List Name) (def : CreateTable) (t : Table) (missing : def.if_missing ≡ false)
+module _ (schema : Schema) (formats : List Name) (def : CreateTable) (t : Table)
+    (missing : def.if_missing ≡ false)
     (defined : define.table formats def ≡ Ok t)
     (stamped : (length t.computed == length t.stamps.places && not def.resolves) ≡ true) where
   made_by : (a r o s : Bool) → Outcome MakeTable (if a then Err Unsupported else
@@ -81,23 +82,28 @@ module _ (schema : Schema) (formats : List Name) (def : CreateTable) (t : Table)
       (is_some (option_or (table_named schema def.name) (view_named schema def.name))))
 
 -- the whole text
-pub compiled_create : (schema : Schema) (text : List ℕ) (P : Parsed) (def : CreateTable) (t : Table) → first text ≡ Ok P
+pub compiled_create : (schema : Schema) (text : List ℕ) (P : Parsed) (def : CreateTable) (t : Table)
+    → first text ≡ Ok P
     → P.statement ≡ written.CreateTable def → P.formats ≡ []
-    → def.if_missing ≡ false → define.table [] def ≡ Ok t → (length t.computed == length t.stamps.places && not def.resolves) ≡ true
+    → def.if_missing ≡ false → define.table [] def ≡ Ok t
+    → (length t.computed == length t.stamps.places && not def.resolves) ≡ true
     → Outcome (with_command P ([], (MakeTable, None))) (compiled schema text)
 unfolding compiled planned timed meaning returning command
-compiled_create schema text P def t parsed is plain missing defined stamped = elim (create_is schema [] def t missing defined stamped) [
-  | inl made ↦ inl (rw (parsed, is, plain, made))
-  | inr refused ↦ inr (refused.0, rw (parsed, is, plain, refused.1), refused.2)
-]
+compiled_create schema text P def t parsed is plain missing defined stamped =
+    elim (create_is schema [] def t missing defined stamped) [
+      | inl made ↦ inl (rw (parsed, is, plain, made))
+      | inr refused ↦ inr (refused.0, rw (parsed, is, plain, refused.1), refused.2)
+    ]
 
-told_by : (schema : Schema) (text : List ℕ) (e : CompileError) → compiled schema text ≡ Err e → misses_table (Err e) ≡ false
+told_by : (schema : Schema) (text : List ℕ) (e : CompileError) → compiled schema text ≡ Err e
+    → misses_table (Err e) ≡ false
     → understood schema text ≡ Err e
 unfolding understood
 told_by schema text e is other = rw (is, other)
 
 -- what a text compiles to is what is understood, since no list of the schema is read
-pub told : (schema : Schema) (text : List ℕ) (c : Compiled) → Outcome c (compiled schema text) → Outcome c (understood schema text)
+pub told : (schema : Schema) (text : List ℕ) (c : Compiled) → Outcome c (compiled schema text)
+    → Outcome c (understood schema text)
 unfolding understood
 told schema text c (inl is) = inl (rw is)
 told schema text c (inr (e, is, inl k)) = inr (e, told_by schema text e is (rw k), inl k)
@@ -109,8 +115,10 @@ abbrev pub Makes : Schema → List ℕ → Type 0
 Makes schema text = (c : Compiled) × Outcome c (understood schema text) × IsCreation text c
 
 -- a CREATE TABLE that is understood is one, and its text is the whole
-pub known : (text : List ℕ) (schema : Schema) (c : Compiled) → Makes schema text → understood schema text ≡ Ok c → IsCreation text c
-known text schema c (d, inl made, creation) is = let same : d ≡ c = same_compiled (sym made ∙ is) in subst (IsCreation text) same creation
+pub known : (text : List ℕ) (schema : Schema) (c : Compiled) → Makes schema text
+    → understood schema text ≡ Ok c → IsCreation text c
+known text schema c (d, inl made, creation) is = let same : d ≡ c = same_compiled (sym made ∙ is) in subst
+    (IsCreation text) same creation
   where
     same_compiled : {a b : Compiled} → ◌≡◌ {A = Checked Compiled} (Ok a) (Ok b) → a ≡ b
     same_compiled e = cc

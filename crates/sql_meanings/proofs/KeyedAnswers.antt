@@ -48,37 +48,44 @@ met k more e = (Int k ∷ more) ∷ stored e ∷ []
 when_met : (k : ℤ) (more : Row) (e : Entry) → holds (met k more e) (is (col 1 0) (col 0 0)) ≡ has_key k e
 when_met k more e = int_equals e.key k
 
-kept_by : {X : Type 0} (b : Bool) (x : X) (xs : List X) → cond (b && true) (x ∷ []) [] ++ xs ≡ cond b (x ∷ xs) xs
+kept_by : {X : Type 0} (b : Bool) (x : X) (xs : List X)
+    → cond (b && true) (x ∷ []) [] ++ xs ≡ cond b (x ∷ xs) xs
 kept_by true x xs = refl
 kept_by false x xs = refl
 
-map_cond : {X Y : Type 0} (f : X → Y) (b : Bool) (x : X) (xs : List X) → map f (cond b (x ∷ xs) xs) ≡ cond b (f x ∷ map f xs) (map f xs)
+map_cond : {X Y : Type 0} (f : X → Y) (b : Bool) (x : X) (xs : List X)
+    → map f (cond b (x ∷ xs) xs) ≡ cond b (f x ∷ map f xs) (map f xs)
 map_cond f true x xs = refl
 map_cond f false x xs = refl
 
 -- the rows that pass the test of the key
 pub keyed_matches : (lost : Value) (db : Trees) (k : ℤ) (more : Row) (es : List Entry)
-    → flat_map (λ r. matches_as lost db (is (col 1 0) (col 0 0) ∷ []) end ((Int k ∷ more) ∷ r ∷ [])) (map stored es)
+    → flat_map (λ r. matches_as lost db (is (col 1 0) (col 0 0) ∷ []) end ((Int k ∷ more) ∷ r ∷ []))
+    (map stored es)
     ≡ map (met k more) (filter (has_key k) es)
 keyed_matches lost db k more [] = refl
 keyed_matches lost db k more (e ∷ es) =
     kept_by (holds (met k more e) (is (col 1 0) (col 0 0))) (met k more e) _
-    ∙ rw (when_met k more e, keyed_matches lost db k more es) (sym (map_cond (met k more) (has_key k e) e (filter (has_key k) es)))
+    ∙ rw (when_met k more e, keyed_matches lost db k more es)
+    (sym (map_cond (met k more) (has_key k e) e (filter (has_key k) es)))
 
 none_permuted : {X : Type 0} (ys : List X) → length ys ≡ 0 → ys ≡ []
 none_permuted [] h = refl
 none_permuted (y ∷ ys) h = absurd (omega arith)
 
 -- a list of one element at most has one order
-pub small_permutation : {X Y : Type 0} (f : X → Y) (o : Option X) (ys : List Y) → IsPermutation (map f (listed o)) ys
+pub small_permutation : {X Y : Type 0} (f : X → Y) (o : Option X) (ys : List Y)
+    → IsPermutation (map f (listed o)) ys
     → ys ≡ map f (listed o)
 small_permutation f None ys h = none_permuted ys (length_permutation [] ys h)
 small_permutation f (Some x) ys h = one_permutation (f x) ys h
 
 -- the rows that a keyed query shows are those of the entry with the key
-pub keyed_answer : (lost : Value) {width : ℕ} (t : ℕ) (project : List Term) (db : Trees) (k : ℤ) (more : Row) (rows : List Row)
+pub keyed_answer : (lost : Value) {width : ℕ} (t : ℕ) (project : List Term) (db : Trees) (k : ℤ) (more : Row)
+    (rows : List Row)
     (es : List Entry) → IsTree width (db t) es
-    → IsAnswerAs lost (query (inner t end) (is (col 1 0) (col 0 0) ∷ []) project [] no_limit) db (Int k ∷ more) rows
+    → IsAnswerAs lost (query (inner t end) (is (col 1 0) (col 0 0) ∷ []) project [] no_limit) db
+    (Int k ∷ more) rows
     → rows ≡ map (λ e. eval_all project (met k more e)) (listed (find (has_key k) es))
 keyed_answer lost t project db k more rows es tree a =
     let q = query (inner t end) (is (col 1 0) (col 0 0) ∷ []) project [] no_limit in

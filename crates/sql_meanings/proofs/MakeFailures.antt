@@ -1,5 +1,7 @@
 -- Why a CREATE TABLE inside a transaction fails, and what it tells.
-use Rattle.std.proofs.Common.{◌≡◌, ◌⊎◌, inl, inr, ℕ, ◌+◌, ◌*◌, ◌^◌, ◌==◌, true, false, codes, ◌≤◌, List, [], length, None, Some, Option, Ok, Err, Result, IsTrue, refl, sym, ap, subst, ◌∙◌, arith}
+use Rattle.std.proofs.Common.{◌≡◌, ◌⊎◌, inl, inr, ℕ, ◌+◌, ◌*◌, ◌^◌, ◌==◌, true, false, codes, ◌≤◌, List, []}
+use Rattle.std.proofs.Common.{length, None, Some, Option, Ok, Err, Result, IsTrue, refl, sym, ap, subst, ◌∙◌}
+use Rattle.std.proofs.Common.{arith}
 use Rattle.std.proofs.lemmas.Bool.{cases_Bool}
 use Rattle.sqlite.specs.Table.{Table}
 use Rattle.sqlite.specs.Change.{automatics, created, is_used, next_tree}
@@ -13,7 +15,8 @@ use Rattle.sqlite.specs.declared.error.Error.{Error}
 use Rattle.sqlite_catalog.specs.Calls.{IsBadName, RefusesTable}
 use Rattle.sqlite_catalog.specs.Listing.{is_fit, is_formed}
 use Rattle.sqlite_catalog.specs.declared.error.Refusal.{Refusal}
-use Rattle.sqlite_catalog.specs.declared.error.Refusal.TheVariants.{Invalid, NameTaken, BadName, TooBig, BadKey, BadText, Violates}
+use Rattle.sqlite_catalog.specs.declared.error.Refusal.TheVariants.{Invalid, NameTaken, BadName, TooBig}
+use Rattle.sqlite_catalog.specs.declared.error.Refusal.TheVariants.{BadKey, BadText, Violates}
 use Rattle.sqlite_schema.specs.declared.schema.Index.{Index}
 use Rattle.sqlite_schema.specs.Rules.{index_reals, table_reals}
 use Rattle.sqlite_rules.specs.Lists.{Has}
@@ -66,13 +69,15 @@ module _ (text : List ℕ) (t : Table) (make : IsMakeable text t) (db : Database
 
   -- it can be stored
   pub makes_short : ¬ MakesTable text db (Err None)
-  makes_short h = let long = of_it (λ u. 10 ^ 9 ≤ 2 * length u.name + length text + 200) h in let short = make.short in absurd (omega arith)
+  makes_short h = let long = of_it (λ u. 10 ^ 9 ≤ 2 * length u.name + length text + 200) h in let short =
+      make.short in absurd (omega arith)
 
   -- the new schema
   pub makes_ok : (after : Database) → MakesTable text db (Ok after) → after.schema ≡ created db.schema t
   makes_ok after made = made.is ∙ ap (created db.schema) (same_value (sym made.defined ∙ make.defined))
 
-module _ (old new : State) (text : List ℕ) (t : Table) (creates : CreatesOnly text t) (counts : Table) (sequence : IsMakeable sequence_text counts)
+module _ (old new : State) (text : List ℕ) (t : Table) (creates : CreatesOnly text t) (counts : Table)
+    (sequence : IsMakeable sequence_text counts)
   where
     -- why the command stops: it always can be stored, so it tells an error
     abbrev MakeStops : Option Error → Type 0
@@ -83,7 +88,8 @@ module _ (old new : State) (text : List ℕ) (t : Table) (creates : CreatesOnly 
     first None h = absurd (makes_short text t creates.makeable old.now h)
     first (Some e) h = inr (inl (makes_err text t creates.makeable old.now e h))
 
-    second : (mid : Database) → MakesTable text old.now (Ok mid) → (stop : Option Error) → IsTrue (lacks_sequence mid.schema)
+    second : (mid : Database) → MakesTable text old.now (Ok mid) → (stop : Option Error)
+        → IsTrue (lacks_sequence mid.schema)
         → MakesTable sequence_text mid (Err stop) → MakeStops stop
     second mid made None lacks h = absurd (makes_short sequence_text counts sequence mid h)
     second mid made (Some e) lacks h =
@@ -95,13 +101,15 @@ module _ (old new : State) (text : List ℕ) (t : Table) (creates : CreatesOnly 
           subst (λ s. RefusesNew s counts e) is (makes_err sequence_text counts sequence mid e h),
         ))
 
-    after_first : (mid : Database) → MakesTable text old.now (Ok mid) → (stop : Option Error) → MakesSequence mid (Err stop) → MakeStops stop
+    after_first : (mid : Database) → MakesTable text old.now (Ok mid) → (stop : Option Error)
+        → MakesSequence mid (Err stop) → MakeStops stop
     after_first mid made stop h = elim (cases_Bool (lacks_sequence mid.schema)) [
       | inl lacks ↦ second mid made stop lacks (rw lacks at h)
       | inr has ↦ absurd (never (rw has at h))
     ]
 
-    make_stops : (stop : Option Error) → Does old.step_limit (mode_of old) [] old.now text None CreateTable (Err stop) → MakeStops stop
+    make_stops : (stop : Option Error)
+        → Does old.step_limit (mode_of old) [] old.now text None CreateTable (Err stop) → MakeStops stop
     make_stops stop h = elim (stopped (Then (MakesTable text old.now) MakesSequence) (λ (db : Database). Gives (no_rows false, db)) stop h) [
       | inl both ↦ elim (stopped (MakesTable text old.now) MakesSequence stop both) [
         | inl table ↦ first stop table
@@ -113,7 +121,8 @@ module _ (old new : State) (text : List ℕ) (t : Table) (creates : CreatesOnly 
     not_run : (e : Error) → IsNoStatement old text [] e → NotMade old.now.schema text t e
     not_run e (inl h) = inl h
     not_run e (inr (c, is, inl tail)) = absurd (tail.0 (creates.command old.now.schema c is).whole)
-    not_run e (inr (c, is, inr (inl count))) = absurd (count.0 (sym (ap length (creates.command old.now.schema c is).nameless)))
+    not_run e (inr (c, is, inr (inl count))) = absurd
+        (count.0 (sym (ap length (creates.command old.now.schema c is).nameless)))
     not_run e (inr (c, is, inr (inr clock))) = absurd (clock.0 (creates.command old.now.schema c is).timeless)
 
     told : (e : Error) → Stops old new text CreateTable [] e → MakeFails old new text t e

@@ -1,5 +1,6 @@
 -- That a text makes a table under any schema that takes it, by what is computed of the text.
-use Rattle.std.proofs.Common.{◌≡◌, ◌+◌, ◌*◌, ◌^◌, ◌≤◌, ◌==◌, ◌&&◌, not, nat_lt, List, [], ℕ, Bool, true, false, length, codes, Ok, None, inl, inr, refl, arith}
+use Rattle.std.proofs.Common.{◌≡◌, ◌+◌, ◌*◌, ◌^◌, ◌≤◌, ◌==◌, ◌&&◌, not, nat_lt, List, [], ℕ, Bool, true}
+use Rattle.std.proofs.Common.{false, length, codes, Ok, None, inl, inr, refl, arith}
 use Rattle.std.specs.Prelude.{IsUtf8, slice_range}
 use Rattle.std.specs.List.{list_all}
 use Rattle.std.proofs.lemmas.Str.{IsUtf8-from_ascii}
@@ -29,7 +30,8 @@ utf8 text ascii = IsUtf8-from_ascii text (IsAscii-from_all text (λ i d low.
     let each = AllPass-from_list_all (λ b. nat_lt b 128) text ascii i d low in grind arith))
 
 -- what a table asks for can be computed
-pub makeable : (text : List ℕ) (t : Table) → table_defined_by text ≡ Ok t → is_ascii text ≡ true → is_ascii t.name ≡ true
+pub makeable : (text : List ℕ) (t : Table) → table_defined_by text ≡ Ok t → is_ascii text ≡ true
+    → is_ascii t.name ≡ true
     → (is_reserved t.name && not (length t.uniques == 0)) ≡ false → table_reals t ≡ 0 → is_formed t ≡ true
     → is_fit (Text (codes "table")) (Text t.name) (Text t.name) (Text text) ≡ true
     → nat_lt (2 * length t.name + length text + 200) (10 ^ 9) ≡ true → IsMakeable text t
@@ -52,9 +54,12 @@ makeable text t defined ascii named allowed integral formed fit short = record {
     not_bad (inr own) = kept (is_reserved t.name) (length t.uniques == 0) allowed own.0 own.1
 
 -- the text is this one CREATE TABLE, whole
-pub creates_by : (text : List ℕ) (t : Table) → IsMakeable text t → t.references ≡ [] → (P : Parsed) (def : CreateTable) (made : Table)
-    → first text ≡ Ok P → P.statement ≡ written.CreateTable def → P.formats ≡ [] → def.if_missing ≡ false → define.table [] def ≡ Ok made
-    → (length made.computed == length made.stamps.places && not def.resolves) ≡ true → slice_range text P.start P.end ≡ text
+pub creates_by : (text : List ℕ) (t : Table) → IsMakeable text t → t.references ≡ []
+    → (P : Parsed) (def : CreateTable) (made : Table)
+    → first text ≡ Ok P → P.statement ≡ written.CreateTable def → P.formats ≡ [] → def.if_missing ≡ false
+    → define.table [] def ≡ Ok made
+    → (length made.computed == length made.stamps.places && not def.resolves) ≡ true
+    → slice_range text P.start P.end ≡ text
     → length text ≤ P.tail → P.names ≡ [] → CreatesOnly text t
 creates_by text t makeable free P def made parsed is plain missing defined stamped whole to_end nameless = record {
   makeable = makeable;

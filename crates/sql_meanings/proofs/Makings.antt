@@ -1,5 +1,6 @@
 -- A CREATE TABLE inside a transaction, done: the table is there and empty, and what stood stands on.
-use Rattle.std.proofs.Common.{◌≡◌, ◌⊎◌, inl, inr, ℕ, List, [], None, Ok, Err, Result, refl, sym, ap, subst, ◌∙◌, false, unwrap_or}
+use Rattle.std.proofs.Common.{◌≡◌, ◌⊎◌, inl, inr, ℕ, List, [], None, Ok, Err, Result, refl, sym, ap, subst}
+use Rattle.std.proofs.Common.{◌∙◌, false, unwrap_or}
 use Rattle.sqlite.specs.Table.{Table}
 use Rattle.sqlite.specs.Order.{Row}
 use Rattle.sqlite.specs.Command.TheVariants.{CreateTable}
@@ -7,7 +8,8 @@ use Rattle.sqlite.specs.Effect.{Database, IsDatabase}
 use Rattle.sqlite.specs.Listing.{understood}
 use Rattle.sqlite.specs.Does.{Does, MakesSequence, MakesTable, Tally, no_rows}
 use Rattle.sqlite.specs.Rows.{Gives, Then}
-use Rattle.sqlite.specs.State.{State, ExecutesIn, Executes, ExecutesInside, KeepsCommit, IsUnchanged, IsRolledBack, KeepsCounts, mode_of}
+use Rattle.sqlite.specs.State.{State, ExecutesIn, Executes, ExecutesInside, KeepsCommit, IsUnchanged}
+use Rattle.sqlite.specs.State.{IsRolledBack, KeepsCounts, mode_of}
 use Rattle.sqlite.specs.declared.error.Error.{Error}
 use Rattle.sqlite.proofs.Callers.{IsPlain, command_of, statement_of, runs_as, through}
 use Rattle.sql_meanings.specs.Entries.{IsTree}
@@ -19,7 +21,8 @@ use Rattle.sql_meanings.proofs.Standing.{adds}
 use Rattle.sql_meanings.proofs.Writing.{same_value}
 
 -- whatever is executed inside
-pub kept_inside : (old new : State) (text : List ℕ) (params : Row) (r : Result ℕ Error) → ExecutesInside 0 text params old new r
+pub kept_inside : (old new : State) (text : List ℕ) (params : Row) (r : Result ℕ Error)
+    → ExecutesInside 0 text params old new r
     → WriteKept old new r
 kept_inside old new text params (Ok count) h = h.1
 kept_inside old new text params (Err e) (inl h) = h.1
@@ -32,13 +35,16 @@ kept old new (inr back) = record { was_open = back.was_open; committed = λ live
 
 -- a command that makes a table counts no rows
 counts_none : (old : State) (after : Database) (text : List ℕ) (tally : Tally)
-    → Does old.step_limit (mode_of old) [] old.now text None CreateTable (Ok (tally, after)) → tally ≡ no_rows false
+    → Does old.step_limit (mode_of old) [] old.now text None CreateTable (Ok (tally, after))
+    → tally ≡ no_rows false
 counts_none old after text tally h =
-    let all = through (Then (MakesTable text old.now) MakesSequence) (λ (db : Database). Gives (no_rows false, db)) (tally, after) h in
+    let all = through (Then (MakesTable text old.now) MakesSequence)
+    (λ (db : Database). Gives (no_rows false, db)) (tally, after) h in
     ap (λ (p : Tally × Database). p.0) (same_value all.2)
 
 -- a CREATE TABLE that is done
-pub made_by : (old new : State) (text : List ℕ) (t : Table) (count : ℕ) → CreatesOnly text t → Executes text [] old new (Ok count)
+pub made_by : (old new : State) (text : List ℕ) (t : Table) (count : ℕ) → CreatesOnly text t
+    → Executes text [] old new (Ok count)
     → Adds old.now new.now t × IsDatabase new.now × KeepsCounts old new × (new.marks ≡ old.marks)
 unfolding ExecutesIn
 made_by old new text t count creates h =
@@ -47,7 +53,8 @@ made_by old new text t count creates h =
     let facts = creates.command schema h.0 is in
     let w = runs_as text [] old new schema refl CreateTable (ap command_of is
     ∙ facts.command) (subst IsPlain (sym is) (facts.bare, facts.timeless)) count h in
-    let whole : statement_of text (understood schema text) ≡ text = ap (statement_of text) is ∙ facts.text_is in
+    let whole : statement_of text (understood schema text) ≡ text = ap (statement_of text) is
+    ∙ facts.text_is in
     let does : Does old.step_limit (mode_of old) [] old.now text None CreateTable (Ok (w.tally, new.now)) =
     subst (λ sql. Does old.step_limit (mode_of old) [] old.now sql None CreateTable (Ok (w.tally, new.now))) whole w.changed in
     let none = counts_none old new.now text w.tally does in (
@@ -61,7 +68,8 @@ made_by old new text t count creates h =
     )
 
 -- an empty table that stands holds no rows
-pub holds_none : (db : Database) (t : Table) (tree : ℕ) → IsDatabase db → Stands db.schema (placed_at t tree) → db.trees tree ≡ []
+pub holds_none : (db : Database) (t : Table) (tree : ℕ) → IsDatabase db → Stands db.schema (placed_at t tree)
+    → db.trees tree ≡ []
     → Holds db t [] × (tree_of db.schema t.name ≡ tree)
 holds_none db t tree sound stands empty =
     let d = stands_defined db.schema db.trees (placed_at t tree) sound stands in (

@@ -1,5 +1,6 @@
 -- What a text means under a schema, as a caller's proof takes it.
-use Rattle.std.proofs.Common.{◌≡◌, inl, inr, ℕ, List, [], length, ◌≤◌, None, Ok, Err, Result, sym, ap, subst, ◌∙◌, false}
+use Rattle.std.proofs.Common.{◌≡◌, inl, inr, ℕ, List, [], length, ◌≤◌, None, Ok, Err, Result, sym, ap, subst}
+use Rattle.std.proofs.Common.{◌∙◌, false}
 use Rattle.sqlite.specs.Schema.{Schema}
 use Rattle.sqlite.specs.Order.{Row}
 use Rattle.sqlite.specs.Command.{Command}
@@ -28,14 +29,17 @@ unfolding understood
 understood_is schema text c is = (rw is, rw is)
 
 -- what a text compiles to is what it means
-pub means : (schema : Schema) (text : List ℕ) (count : ℕ) (command : Command) (c : Compiled) → compiled schema text ≡ Ok c
-    → c.command ≡ command → length text ≤ c.tail → count ≡ length c.names → c.returning ≡ None → c.formats ≡ []
+pub means : (schema : Schema) (text : List ℕ) (count : ℕ) (command : Command) (c : Compiled)
+    → compiled schema text ≡ Ok c
+    → c.command ≡ command → length text ≤ c.tail → count ≡ length c.names → c.returning ≡ None
+    → c.formats ≡ []
     → Means schema text count command
 means schema text count command c is meant whole given bare timeless =
     let both = understood_is schema text c is in
     record { found = c; is = both.0; unlisted = both.1; meant = meant; whole = whole; given = given; bare = bare; timeless = timeless }
 
-module _ (schema : Schema) (text : List ℕ) (count : ℕ) (command : Command) (m : Means schema text count command) where
+module _ (schema : Schema) (text : List ℕ) (count : ℕ) (command : Command)
+    (m : Means schema text count command) where
   -- the command of the text
   pub meant_is : command_of (understood schema text) ≡ command
   meant_is = ap command_of m.is ∙ m.meant

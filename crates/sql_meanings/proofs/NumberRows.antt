@@ -1,5 +1,7 @@
 -- A row of a key and whole numbers keeps the rules that its table has of each row alone, and can be stored.
-use Rattle.std.proofs.Common.{◌≡◌, ◌⊎◌, inl, inr, ℕ, zero, suc, ◌+◌, ◌<◌, ◌≤◌, ◌==◌, ℤ, pos, negsuc, List, [], ◌∷◌, map, length, length-append, drop, All, true, false, Some, refl, sym, ap, subst, ◌∙◌, arith, add-one}
+use Rattle.std.proofs.Common.{◌≡◌, ◌⊎◌, inl, inr, ℕ, zero, suc, ◌+◌, ◌<◌, ◌≤◌, ◌==◌, ℤ, pos, negsuc, List, []}
+use Rattle.std.proofs.Common.{◌∷◌, map, length, length-append, drop, All, true, false, Some, refl, sym, ap}
+use Rattle.std.proofs.Common.{subst, ◌∙◌, arith, add-one}
 use Rattle.std.specs.Float.{NotNan}
 use lib.Ieee.{is_nan}
 use Rattle.std.specs.List.{AllByRecursion}
@@ -20,7 +22,8 @@ use Rattle.sql_meanings.specs.Entries.{Entry, numbers, stored}
 use Rattle.sql_meanings.specs.Plain.{key_column, number_column}
 
 -- the first of what is left
-drop_head : (n : ℕ) (row : Row) (v : Value) (vs : Row) → drop n row ≡ v ∷ vs → (column row n ≡ v) × (drop (suc n) row ≡ vs)
+drop_head : (n : ℕ) (row : Row) (v : Value) (vs : Row) → drop n row ≡ v ∷ vs
+    → (column row n ≡ v) × (drop (suc n) row ≡ vs)
 drop_head zero [] v vs h = absurd cc
 drop_head zero (x ∷ row) v vs h = let e : x ≡ v = cc in let f : row ≡ vs = cc in (e, f)
 drop_head (suc n) [] v vs h = absurd cc
@@ -35,9 +38,11 @@ numbers_typed : (names : List (List ℕ)) (at : ℕ) (values : List ℤ) → len
 numbers_typed [] at [] wide = refl
 numbers_typed [] at (v ∷ values) wide = absurd (omega arith)
 numbers_typed (name ∷ names) at [] wide = absurd (omega arith)
-numbers_typed (name ∷ names) at (v ∷ values) wide = rw (not_key at, add-one (suc at)) (numbers_typed names (suc at) values (omega arith))
+numbers_typed (name ∷ names) at (v ∷ values) wide = rw (not_key at, add-one (suc at))
+    (numbers_typed names (suc at) values (omega arith))
 
-numbers_present : (names : List (List ℕ)) (at : ℕ) (values : List ℤ) (row : Row) → drop (suc (suc at)) row ≡ numbers values
+numbers_present : (names : List (List ℕ)) (at : ℕ) (values : List ℤ) (row : Row)
+    → drop (suc (suc at)) row ≡ numbers values
     → length values ≡ length names → are_present (Some 0) (suc at) (map number_column names) row ≡ true
 numbers_present [] at values row is wide = refl
 numbers_present (name ∷ names) at [] row is wide = absurd (omega arith)
@@ -104,7 +109,8 @@ no_reals [] = refl
 no_reals (name ∷ names) = rw (no_reals names) refl
 
 -- the table has no REAL column
-pub none_real : (t : Table) (key : List ℕ) (names : List (List ℕ)) → t.columns ≡ key_column key ∷ map number_column names → table_reals t ≡ 0
+pub none_real : (t : Table) (key : List ℕ) (names : List (List ℕ))
+    → t.columns ≡ key_column key ∷ map number_column names → table_reals t ≡ 0
 none_real t key names is = rw (is, no_reals names) refl
 
 -- so no index of it has
@@ -112,16 +118,20 @@ pub none_indexed : (places : List ℕ) → index_reals 0 places ≡ 0
 none_indexed [] = refl
 none_indexed (p ∷ places) = rw (bit_at-zero p, none_indexed places) refl
 
-all_columns : (row : Row) (places : List ℕ) → AllByRecursion IsNumber row → AllByRecursion IsNumber (map (column row) places)
+all_columns : (row : Row) (places : List ℕ) → AllByRecursion IsNumber row
+    → AllByRecursion IsNumber (map (column row) places)
 all_columns row [] all = tt
 all_columns row (p ∷ places) all = (number_at row p all, all_columns row places all)
 
 -- its entry in an index of at most 2000 columns can be stored
-pub entry_fits : (e : Entry) (places : List ℕ) → length places ≤ 2000 → IsStorable 0 (entry_of places (stored e))
+pub entry_fits : (e : Entry) (places : List ℕ) → length places ≤ 2000
+    → IsStorable 0 (entry_of places (stored e))
 entry_fits e places few =
-    let all = all-append IsNumber (map (column (stored e)) places) (Int e.key ∷ []) (all_columns (stored e) places (entry_numbers e))
+    let all = all-append IsNumber (map (column (stored e)) places) (Int e.key ∷ [])
+    (all_columns (stored e) places (entry_numbers e))
     (inr (e.key, refl), tt) in
-    let long = length-append (map (column (stored e)) places) (Int e.key ∷ []) ∙ ap (λ n. n + 1) (length-map places (column (stored e))) in
+    let long = length-append (map (column (stored e)) places) (Int e.key ∷ []) ∙ ap (λ n. n + 1)
+    (length-map places (column (stored e))) in
     storable _ all (omega arith) (omega arith)
 
 -- so can the row, where it has at most 2000 columns

@@ -23,11 +23,13 @@ use Rattle.sqlite_resolve.specs.declared.state.Carried.{Carried}
 use Rattle.sqlite_resolve.specs.Lowering.{nothing, take_slot}
 use Rattle.sqlite_resolve.specs.Scope.{Name}
 use Rattle.sqlite_resolve.specs.Terms.{number}
-use Rattle.sqlite_resolve.specs.Body.{table_in, bound, bounds, outputs, shared, joins, join, inner_join, tests, result, matching, body}
+use Rattle.sqlite_resolve.specs.Body.{table_in, bound, bounds, outputs, shared, joins, join, inner_join}
+use Rattle.sqlite_resolve.specs.Body.{tests, result, matching, body}
 use Rattle.sqlite_resolve.specs.Order.{sorts, keys}
 use Rattle.sqlite_resolve.specs.Select.{parts, having, assembled, ungrouped, named, paging, constant_or}
 use Rattle.sqlite_resolve.specs.Expr.{lower}
-use Rattle.sqlite_resolve.specs.Program.{viewing, single, source, sources, alone, whole, with, level, query_to, query, program}
+use Rattle.sqlite_resolve.specs.Program.{viewing, single, source, sources, alone, whole, with, level}
+use Rattle.sqlite_resolve.specs.Program.{query_to, query, program}
 use Rattle.sqlite_resolve.specs.Compile.{read}
 use Rattle.sql_meanings.specs.Queries.{no_limit}
 use Rattle.sql_meanings.proofs.Columns.{bound_to, over_one}
@@ -51,11 +53,13 @@ module _ (schema : Schema) (name : Name) (p : ℕ) (table : Table) (has : HasTab
   joins_are source shown budget l is = rw (is, has.listed)
 
   -- a SELECT by its parts
-  pub parts_are : (core : Core) (source : From) (shown : List Shown) (filter : Option Expr) (order : List Sort) (os : List Output)
+  pub parts_are : (core : Core) (source : From) (shown : List Shown) (filter : Option Expr)
+      (order : List Sort) (os : List Output)
       (terms : List Term) (by : List (Term × Key)) (b1 b2 b3 : ℕ) (l1 l2 l3 : Carried)
       → out-Core core ≡ record { distinct = false; shown = shown; from = source ∷ []; filter = filter; group = []; having = None }
       → out-Source source ≡ record { is_left = false; origin = origin.Table name; alias = None; on = None; using = [] }
-      → outputs lower (over_one schema name p [] true) (bound_to name p ∷ []) shown (st 2 100000 nothing) ≡ Ok (os, st 2 b1 l1)
+      → outputs lower (over_one schema name p [] true) (bound_to name p ∷ []) shown (st 2 100000 nothing) ≡ Ok
+      (os, st 2 b1 l1)
       → tests lower (over_one schema name p os false) [] filter (st 2 b1 l1) ≡ Ok (terms, st 2 b2 l2)
       → sorts lower (over_one schema name p os false) os order (st 2 b2 l2) ≡ Ok (by, st 2 b3 l3)
       → (page : Term × Term) → named schema core order page ≡ Ok (
@@ -69,14 +73,16 @@ module _ (schema : Schema) (name : Name) (p : ℕ) (table : Table) (has : HasTab
 
 -- a SELECT of one part, whose tables are all stored
 module _ (schema : Schema) where
-  viewing_is : (core : Core) (order : List Sort) (page : Term × Term) (n : ℕ) (shown : Draft × List Name × List (Option Collation))
+  viewing_is : (core : Core) (order : List Sort) (page : Term × Term) (n : ℕ)
+      (shown : Draft × List Name × List (Option Collation))
       (lets : List Let) → named schema core order page ≡ Ok shown
       → viewing (query_to 15) schema core order page (suc n) schema lets ≡ Ok ((shown, schema), lets)
   unfolding viewing
   viewing_is core order page n shown lets is = rw is
 
   -- a SELECT of one part
-  pub query_is : (s : written_select.Select) (core : Core) (source : From) (from : Name) (order : List Sort) (shown : Draft × List Name
+  pub query_is : (s : written_select.Select) (core : Core) (source : From) (from : Name) (order : List Sort)
+      (shown : Draft × List Name
       × List (Option Collation))
       → out-Select s ≡ record { with = []; first = core; others = []; order = order; limit = None; offset = None }
       → (out-Core core).from ≡ source ∷ [] → (out-Source source).origin ≡ origin.Table from
@@ -87,7 +93,8 @@ module _ (schema : Schema) where
       rw (is, one, origin, viewing_is core order (no_limit, number 0) 63 shown [] made)
 
   -- the statement of a query
-  pub read_is : (s : written_select.Select) (shown : Draft × List Name × List (Option Collation)) (q : Program)
+  pub read_is : (s : written_select.Select) (shown : Draft × List Name × List (Option Collation))
+      (q : Program)
       → query schema s ≡ Ok (shown, []) → program schema [] shown.0 ≡ Ok q
       → read schema s ≡ Ok (Select q shown.1)
   unfolding read

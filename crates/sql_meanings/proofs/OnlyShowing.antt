@@ -1,5 +1,6 @@
 -- A SELECT shows rows and writes nothing, whatever the schema makes of it.
-use Rattle.std.proofs.Common.{◌≡◌, inl, inr, ℕ, List, [], length, ◌≤◌, Ok, Err, Result, refl, sym, subst, ◌∙◌, Bool, true, false, cond}
+use Rattle.std.proofs.Common.{◌≡◌, inl, inr, ℕ, List, [], length, ◌≤◌, Ok, Err, Result, refl, sym, subst, ◌∙◌}
+use Rattle.std.proofs.Common.{Bool, true, false, cond}
 use Rattle.sqlite.specs.Schema.{Schema}
 use Rattle.sqlite.specs.Order.{Row}
 use Rattle.sqlite.specs.Command.{Command}
@@ -9,15 +10,18 @@ use Rattle.sqlite_syntax.specs.declared.statement.Parsed.{Parsed}
 use Rattle.sqlite_resolve.specs.declared.compiled.Compiled.{Compiled}
 use Rattle.sqlite_resolve.specs.declared.error.CompileError.{CompileError}
 use Rattle.sqlite_resolve.specs.Lowering.{Checked}
-use Rattle.sqlite_resolve.specs.Compile.{compiled, first, planned, timed, meaning, returning, command, shows, read}
+use Rattle.sqlite_resolve.specs.Compile.{compiled, first, planned, timed, meaning, returning, command, shows}
+use Rattle.sqlite_resolve.specs.Compile.{read}
 use Rattle.sqlite.specs.Listing.{understood, listing_schema, reads_listing, if_select, is_select}
 use Rattle.sqlite_resolve.specs.declared.error.CompileError.TheVariants.{NoSuchTable}
-use Rattle.sqlite.specs.State.{State, IsUnchanged, QueriesRow, QueriesRowInside, FailsToQuery, IsNotRun, Shown}
+use Rattle.sqlite.specs.State.{State, IsUnchanged, QueriesRow, QueriesRowInside, FailsToQuery, IsNotRun}
+use Rattle.sqlite.specs.State.{Shown}
 use Rattle.sqlite.specs.declared.error.Error.{Error}
 use Rattle.sqlite.specs.declared.error.Error.TheVariants.{QueryReturnedNoRows}
 use Rattle.sqlite.specs.State.{store_error}
 use Rattle.sqlite_trees.specs.declared.error.StoreError.{StoreError}
-use Rattle.sqlite_trees.specs.declared.error.StoreError.TheVariants.{OutOfMemory, Io, Corrupt, Full, Broken, Unstorable}
+use Rattle.sqlite_trees.specs.declared.error.StoreError.TheVariants.{OutOfMemory, Io, Corrupt, Full, Broken}
+use Rattle.sqlite_trees.specs.declared.error.StoreError.TheVariants.{Unstorable}
 use Rattle.sql_meanings.proofs.Statements.{compiled_select}
 use Rattle.sql_meanings.specs.Outcomes.{IsOne, OnlyShows, ReadKept}
 
@@ -41,7 +45,8 @@ module _ (text : List ℕ) (count : ℕ) (P : Parsed) (s : written_select.Select
           (record { bare = refl; timeless = refl; whole = whole; given = given })
       go (Err e) made c same = absurd (let it = sym same ∙ refused schema e made in cc)
 
-  by_listing : (b : Bool) (x y : Result Compiled CompileError) → OnlyShows text count x → OnlyShows text count y
+  by_listing : (b : Bool) (x y : Result Compiled CompileError) → OnlyShows text count x
+      → OnlyShows text count y
       → OnlyShows text count (cond b x y)
   by_listing true x y p q = p
   by_listing false x y p q = q
@@ -63,16 +68,21 @@ module _ (text : List ℕ) (count : ℕ) (P : Parsed) (s : written_select.Select
 
 -- whatever a row is read of
 pub kept_reading : (old new : State) (text : List ℕ) (params : Row) (r : Result Row Error)
-    → OnlyShows text (length params) (understood old.now.schema text) → QueriesRowInside text params old new r → ReadKept old new r
+    → OnlyShows text (length params) (understood old.now.schema text) → QueriesRowInside text params old new r
+    → ReadKept old new r
 unfolding QueriesRow FailsToQuery IsNotRun Shown
 kept_reading old new text params (Ok row) only (inl begun) = begun.1
-kept_reading old new text params (Ok row) only (inr whole) = let it = rw ((only whole.1.0 whole.1.1.is).bare) at whole.1.2 in it.3
+kept_reading old new text params (Ok row) only (inr whole) = let it = rw
+    ((only whole.1.0 whole.1.1.is).bare) at whole.1.2 in it.3
 kept_reading old new text params (Err e) only (inl (inl (inl (inl none)))) = inr none.1
 kept_reading old new text params (Err e) only (inl (inl (inl (inr fails)))) = inl fails
-kept_reading old new text params (Err e) only (inl (inl (inr shown))) = let it = rw ((only shown.0 shown.1.is).bare) at shown.2 in
+kept_reading old new text params (Err e) only (inl (inl (inr shown))) = let it = rw
+    ((only shown.0 shown.1.is).bare) at shown.2 in
     inr it.3
-kept_reading old new text params (Err e) only (inl (inr none)) = let it = rw ((only none.1.0 none.1.1.is).bare) at none.1.2 in inr it.3
-kept_reading old new text params (Err e) only (inr late) = absurd (let it = rw ((only late.0 late.1.is).bare) at late.2 in cc)
+kept_reading old new text params (Err e) only (inl (inr none)) = let it = rw
+    ((only none.1.0 none.1.1.is).bare) at none.1.2 in inr it.3
+kept_reading old new text params (Err e) only (inr late) = absurd
+    (let it = rw ((only late.0 late.1.is).bare) at late.2 in cc)
 
 -- no fault of the store is told as no rows
 pub no_rows_error : (cause : StoreError) → ¬ (QueryReturnedNoRows ≡ store_error cause)

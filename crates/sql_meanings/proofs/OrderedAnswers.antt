@@ -37,7 +37,8 @@ use Rattle.sqlite_sql.specs.declared.ops.BinaryOp.TheVariants.{Compare}
 use Rattle.sqlite_sql.specs.declared.ops.CompareOp.TheVariants.{Gt}
 use Rattle.sqlite.specs.Tree.{Trees, IsAscending}
 use Rattle.sqlite.specs.Term.{Term, Env, eval, eval_all, holds, lit, col}
-use Rattle.sqlite.specs.Query.{Query, Join, IsAnswerAs, matches_as, page, inner, end, output, output_cmp, Output}
+use Rattle.sqlite.specs.Query.{Query, Join, IsAnswerAs, matches_as, page, inner, end, output, output_cmp}
+use Rattle.sqlite.specs.Query.{Output}
 use Rattle.sqlite_sql.proofs.QueryLemmas.{output_cmp_total}
 use Rattle.sqlite_trees.proofs.ListLemmas.{map-map}
 use Rattle.sql_meanings.specs.Entries.{Entry, IsTree, Rise, is_above, listed, stored}
@@ -51,26 +52,33 @@ module _ (from : Join) (tests project : List Term) (most : Term) (f : Entry → 
   abbrev q : Query
   q = query from tests project ascending most
 
-  first_below : (a b : Entry) → int_cmp a.key b.key ≡ Less → output_cmp q (output q (f a)) (output q (f b)) ≡ Less
-  first_below a b low = let e : value_cmp (Int a.key) (Int b.key) ≡ Less = value_cmp-Int a.key b.key ∙ low in rw (keyed a, keyed b, e)
+  first_below : (a b : Entry) → int_cmp a.key b.key ≡ Less
+      → output_cmp q (output q (f a)) (output q (f b)) ≡ Less
+  first_below a b low = let e : value_cmp (Int a.key) (Int b.key) ≡ Less = value_cmp-Int a.key b.key
+      ∙ low in rw (keyed a, keyed b, e)
 
-  rise_outputs : (es : List Entry) → Rise es → IsAscending (λ a b. output_cmp q a b ≡ Less) (map (λ e. output q (f e)) es)
+  rise_outputs : (es : List Entry) → Rise es
+      → IsAscending (λ a b. output_cmp q a b ≡ Less) (map (λ e. output q (f e)) es)
   rise_outputs [] up = up
   rise_outputs (e ∷ es) up = (all_below es up.0, rise_outputs es up.1)
     where
-      all_below : (xs : List Entry) → Above e xs → AllByRecursion (λ b. output_cmp q (output q (f e)) b ≡ Less)
+      all_below : (xs : List Entry) → Above e xs
+          → AllByRecursion (λ b. output_cmp q (output q (f e)) b ≡ Less)
           (map (λ x. output q (f x)) xs)
       all_below = elim [ [] ↦ λ h. h | x ∷ (xs → more) ↦ λ h. (first_below e x h.0, more h.1) ]
 
   -- the rows are those of the entries that match, in their order, cut by the limit
-  pub ordered_answer : (lost : Value) (db : Trees) (params : Row) (rows : List Row) (es : List Entry) → Rise es
+  pub ordered_answer : (lost : Value) (db : Trees) (params : Row) (rows : List Row) (es : List Entry)
+      → Rise es
       → matches_as lost db tests from (params ∷ []) ≡ map f es
       → IsAnswerAs lost q db params rows → rows ≡ page q params (map (λ e. eval_all project (f e)) es)
   ordered_answer lost db params rows es rise matched a =
       let staged : a.staged ≡ map f es = a.grouped ∙ matched in
-      let kept : a.kept ≡ map (λ e. output q (f e)) es = a.distinct ∙ ap (map (output q)) staged ∙ map-map (output q) f es in
+      let kept : a.kept ≡ map (λ e. output q (f e)) es = a.distinct ∙ ap (map (output q)) staged ∙ map-map
+      (output q) f es in
       let ordered : a.ordered ≡ map (λ e. output q (f e)) es =
-      sorted_is (output_cmp q) (output_cmp_total q) (map (λ e. output q (f e)) es) a.ordered (rise_outputs es rise) a.sorted
+      sorted_is (output_cmp q) (output_cmp_total q) (map (λ e. output q (f e)) es) a.ordered
+      (rise_outputs es rise) a.sorted
       (subst (λ l. IsPermutation l a.ordered) kept a.same) in
       a.shown ∙ ap (λ (l : List Output). page q params (map (λ (o : Output). o.1) l)) ordered
       ∙ ap (page q params) (map-map (λ (o : Output). o.1) (λ e. output q (f e)) es)
@@ -111,19 +119,23 @@ and_true false = refl
 passes_above : (k : ℤ) (e : Entry) → list_all (holds ((Int k ∷ []) ∷ stored e ∷ [])) key_above ≡ is_above k e
 passes_above k e = rw (int_above e.key k) (and_true (is_above k e))
 
-first_of : {X Y : Type 0} (g : X → Y) (p : X → Bool) (xs : List X) → take 1 (map g (filter p xs)) ≡ map g (listed (find p xs))
+first_of : {X Y : Type 0} (g : X → Y) (p : X → Bool) (xs : List X)
+    → take 1 (map g (filter p xs)) ≡ map g (listed (find p xs))
 first_of g p [] = refl
 first_of g p (x ∷ xs) = go (p x) (first_of g p xs)
   where
     go : (b : Bool) → take 1 (map g (filter p xs)) ≡ map g (listed (find p xs))
-        → take 1 (map g (cond b (x ∷ filter p xs) (filter p xs))) ≡ map g (listed (cond b (Some x) (find p xs)))
+        → take 1 (map g (cond b (x ∷ filter p xs) (filter p xs))) ≡ map g
+        (listed (cond b (Some x) (find p xs)))
     go true more = refl
     go false more = more
 
 -- the row with the least key above the parameter
-pub next_answer : (lost : Value) {width : ℕ} (t : ℕ) (project : List Term) (db : Trees) (k : ℤ) (rows : List Row) (es : List Entry)
+pub next_answer : (lost : Value) {width : ℕ} (t : ℕ) (project : List Term) (db : Trees) (k : ℤ)
+    (rows : List Row) (es : List Entry)
     → IsTree width (db t) es
-    → IsAnswerAs lost (query (inner t end) key_above project ascending (lit (Int (pos 1)))) db (Int k ∷ []) rows
+    → IsAnswerAs lost (query (inner t end) key_above project ascending (lit (Int (pos 1)))) db
+    (Int k ∷ []) rows
     → rows ≡ map (λ e. eval_all project ((Int k ∷ []) ∷ stored e ∷ [])) (listed (find (is_above k) es))
 next_answer lost t project db k rows es tree a =
     let params : Row = Int k ∷ [] in

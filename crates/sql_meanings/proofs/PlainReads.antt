@@ -28,7 +28,8 @@ use Rattle.sqlite.specs.Program.{overlay}
 use Rattle.sqlite.specs.Command.TheVariants.{Select}
 use Rattle.sqlite.specs.Effect.{RefusesToRead}
 use Rattle.sqlite.specs.Listing.{understood, reads_listing, IsSourceOf}
-use Rattle.sqlite.specs.State.{State, IsUnchanged, IsNotRun, Shown, QueriesRow, QueriesRowInside, FailsToQuery}
+use Rattle.sqlite.specs.State.{State, IsUnchanged, IsNotRun, Shown, QueriesRow, QueriesRowInside}
+use Rattle.sqlite.specs.State.{FailsToQuery}
 use Rattle.sqlite_typing.specs.Types.{accepts_program}
 use Rattle.sqlite_sql.proofs.QueryLemmas.{no_fold_overflows}
 use Rattle.sqlite.specs.declared.error.Error.{Error}
@@ -54,7 +55,8 @@ module _ (schema : Schema) (text : List ℕ) (params : Row) (q : Query) (names :
   here = subst (λ s. Means s text (length params) (Select (record { lets = []; body = q }) names)) (sym has) m
 
   -- all rows that are shown are an answer
-  pub shown_answers : (rows : List Row) → Shown text params old new rows → IsSureAnswer q (overlay old.now.trees []) params rows
+  pub shown_answers : (rows : List Row) → Shown text params old new rows
+      → IsSureAnswer q (overlay old.now.trees []) params rows
       × IsUnchanged old new
   unfolding Shown
   shown_answers rows h =
@@ -65,7 +67,8 @@ module _ (schema : Schema) (text : List ℕ) (params : Row) (q : Query) (names :
 
   refused : (e : Error) → IsUnchanged old new → RefusesToRead old.step_limit
       (Select (record { lets = []; body = q }) names) old.now params e → ReadFails old new e
-  refused e same (inl mismatch) = absurd (let no = ap (λ s. accepts_program s [] q params) has in let wrong = mismatch.1 in
+  refused e same (inl mismatch) = absurd
+      (let no = ap (λ s. accepts_program s [] q params) has in let wrong = mismatch.1 in
       let right = typed in cc)
   refused e same (inr (inl overflow)) = elim overflow.1 [
     | inl group ↦ absurd (rw flat at group)
@@ -82,14 +85,16 @@ module _ (schema : Schema) (text : List ℕ) (params : Row) (q : Query) (names :
       let known : understood schema text ≡ Ok h.0 = sym (ap (λ s. understood s text) has) ∙ h.1.is in
       let bare = subst IsPlain known plain in
       let it = rw (bare.0, bare.1, append-nil params) at h.2 in
-      let db : it.0 ≡ old.now = subst (λ b. IsSourceOf b old.now it.0) (ap (λ s. reads_listing s text) has ∙ unlisted) it.1 in
+      let db : it.0 ≡ old.now = subst (λ b. IsSourceOf b old.now it.0)
+      (ap (λ s. reads_listing s text) has ∙ unlisted) it.1 in
       let why : RefusesToRead old.step_limit (Select (record { lets = []; body = q }) names) old.now params e =
       subst₂ (λ k d. RefusesToRead old.step_limit k d params e) (ap command_of (sym known) ∙ is) db it.2 in
       refused e it.3 why
 
   -- the first row begins an answer
   pub first_answers : (row : Row) → QueriesRowInside text params old new (Ok row)
-      → ((tail : List Row) × IsSureAnswer q (overlay old.now.trees []) params (row ∷ tail)) × IsUnchanged old new
+      → ((tail : List Row) × IsSureAnswer q (overlay old.now.trees []) params (row ∷ tail))
+      × IsUnchanged old new
   unfolding QueriesRow
   first_answers row h = (
     (first_as text params old new schema has _ is plain unlisted row h).1,

@@ -45,30 +45,35 @@ use Rattle.sqlite_resolve.specs.Scope.{Name}
 use Rattle.sqlite_resolve.specs.Terms.{number}
 use Rattle.sqlite_resolve.specs.Body.{table_in, bound, bounds, body}
 use Rattle.sqlite_resolve.specs.Select.{parts, named, paging, constant_or}
-use Rattle.sqlite_resolve.specs.Program.{viewing, single, source, sources, alone, whole, with, level, query_to, query}
+use Rattle.sqlite_resolve.specs.Program.{viewing, single, source, sources, alone, whole, with, level}
+use Rattle.sqlite_resolve.specs.Program.{query_to, query}
 use Rattle.sqlite_resolve.specs.Compile.{compiled, first, planned, timed, meaning, returning, command, read}
 use Rattle.sqlite.specs.Listing.{understood, listing_schema}
 use Rattle.sqlite.specs.declared.error.Error.{Error}
 use Rattle.sqlite.specs.declared.error.Error.TheVariants.{SqlInputError}
 use Rattle.sqlite.specs.State.{State, Fails, IsUnchanged, IsNotRun, store_error}
 use Rattle.sqlite.specs.Effect.{Database, IsDatabase}
-use Rattle.sql_meanings.specs.Outcomes.{is_refusal, IsThere, IsUnderstood, OnlyShows, TellsProbe, TellsUnderstood}
+use Rattle.sql_meanings.specs.Outcomes.{is_refusal, IsThere, IsUnderstood, OnlyShows, TellsProbe}
+use Rattle.sql_meanings.specs.Outcomes.{TellsUnderstood}
 use Rattle.sql_meanings.specs.Tables.{Defines, placed_at, tree_of}
 use Rattle.sql_meanings.proofs.Steps.{standing}
 use Rattle.sqlite_trees.specs.declared.error.StoreError.{StoreError}
-use Rattle.sqlite_trees.specs.declared.error.StoreError.TheVariants.{OutOfMemory, Io, Corrupt, Full, Broken, Unstorable}
+use Rattle.sqlite_trees.specs.declared.error.StoreError.TheVariants.{OutOfMemory, Io, Corrupt, Full, Broken}
+use Rattle.sqlite_trees.specs.declared.error.StoreError.TheVariants.{Unstorable}
 use Rattle.sql_meanings.proofs.Expressions.{st}
 use Rattle.sql_meanings.proofs.Statements.{HasTable}
 use Rattle.sql_meanings.specs.Queries.{no_limit}
 
 -- a schema with no table and no view of the name refuses it
-module _ (schema : Schema) (name : Name) (no_table : table_named schema name ≡ None) (no_view : view_named schema name ≡ None) where
+module _ (schema : Schema) (name : Name) (no_table : table_named schema name ≡ None)
+    (no_view : view_named schema name ≡ None) where
   no_bounds : (from : From) (budget : ℕ) (l : Carried) → (out-Source from).origin ≡ origin.Table name
       → bounds schema (from ∷ []) (st 1 budget l) ≡ Err NoSuchTable
   unfolding bounds bound table_in take_slot
   no_bounds from budget l is = rw (is, no_table, no_view)
 
-  no_select : (core : Core) (from : From) (order : List Sort) (page : Term × Term) → (out-Core core).from ≡ from ∷ []
+  no_select : (core : Core) (from : From) (order : List Sort) (page : Term × Term)
+      → (out-Core core).from ≡ from ∷ []
       → (out-Source from).origin ≡ origin.Table name → named schema core order page ≡ Err NoSuchTable
   unfolding named parts body
   no_select core from order page one is = rw (one, no_bounds from 100000 nothing is)
@@ -81,7 +86,8 @@ module _ (schema : Schema) (name : Name) (no_table : table_named schema name ≡
 
   no_query : (s : written_select.Select) (core : Core) (from : From) (order : List Sort)
       → out-Select s ≡ record { with = []; first = core; others = []; order = order; limit = None; offset = None }
-      → (out-Core core).from ≡ from ∷ [] → (out-Source from).origin ≡ origin.Table name → query schema s ≡ Err NoSuchTable
+      → (out-Core core).from ≡ from ∷ [] → (out-Source from).origin ≡ origin.Table name
+      → query schema s ≡ Err NoSuchTable
   unfolding query query_to level with whole paging constant_or alone single source sources
   no_query s core from order is one origin = rw (
     is,
@@ -92,7 +98,8 @@ module _ (schema : Schema) (name : Name) (no_table : table_named schema name ≡
   )
 
   -- the whole text is refused
-  pub refuses_query : (text : List ℕ) (P : Parsed) (s : written_select.Select) (core : Core) (from : From) (order : List Sort)
+  pub refuses_query : (text : List ℕ) (P : Parsed) (s : written_select.Select) (core : Core) (from : From)
+      (order : List Sort)
       → first text ≡ Ok P → P.statement ≡ written.Select s → P.formats ≡ []
       → out-Select s ≡ record { with = []; first = core; others = []; order = order; limit = None; offset = None }
       → (out-Core core).from ≡ from ∷ [] → (out-Source from).origin ≡ origin.Table name
@@ -108,7 +115,8 @@ unfolding understood
 understood_missing schema text a b = rw (a, b)
 
 -- a statement that isn't run inside a text that is one statement was refused as a text, or the store failed
-pub not_run : (old new : State) (text : List ℕ) (e : Error) → OnlyShows text 0 (understood old.now.schema text)
+pub not_run : (old new : State) (text : List ℕ) (e : Error)
+    → OnlyShows text 0 (understood old.now.schema text)
     → IsNotRun old new text [] e
     → ((fault : CompileError) × (e ≡ SqlInputError fault) × (understood old.now.schema text ≡ Err fault) × IsUnchanged old new)
     ⊎ Fails old new ⊥ e
@@ -129,29 +137,34 @@ module _ (old new : State) (text : List ℕ) (only : OnlyShows text 0 (understoo
   not_stored Broken = refl
   not_stored Unstorable = refl
 
-  by_error : (e : Error) → ((f : CompileError) × (e ≡ SqlInputError f) × (understood old.now.schema text ≡ Err f) × IsUnchanged old new)
+  by_error : (e : Error)
+      → ((f : CompileError) × (e ≡ SqlInputError f) × (understood old.now.schema text ≡ Err f) × IsUnchanged old new)
       ⊎ Fails old new ⊥ e
       → (b : Bool) → is_refusal e ≡ b → TellsUnderstood old new text (cond b (Ok false) (Err e))
   by_error e (inl it) true is = ((it.0, it.2), it.3)
   by_error e (inl it) false is = absurd (let t : is_refusal e ≡ true = ap is_refusal it.1 in cc)
-  by_error e (inr fails) true is = absurd (let f : is_refusal e ≡ false = ap is_refusal fails.1 ∙ not_stored fails.0 in cc)
+  by_error e (inr fails) true is = absurd
+      (let f : is_refusal e ≡ false = ap is_refusal fails.1 ∙ not_stored fails.0 in cc)
   by_error e (inr fails) false is = fails
 
   -- an error that refuses the text
-  pub refuses_text : (e : Error) → is_refusal e ≡ true → IsNotRun old new text [] e → TellsUnderstood old new text (Ok false)
+  pub refuses_text : (e : Error) → is_refusal e ≡ true → IsNotRun old new text [] e
+      → TellsUnderstood old new text (Ok false)
   refuses_text e is h = by_error e (not_run old new text e only h) true is
 
   -- an error of the store
-  pub fails_to_tell : (e : Error) → is_refusal e ≡ false → IsNotRun old new text [] e → TellsUnderstood old new text (Err e)
+  pub fails_to_tell : (e : Error) → is_refusal e ≡ false → IsNotRun old new text [] e
+      → TellsUnderstood old new text (Err e)
   fails_to_tell e is h = by_error e (not_run old new text e only h) false is
 
 -- ---- a probe
 
--- the text reads all columns of the table: under any schema it is one statement, which is understood where the table stands, and is not
--- where its name is free
+-- the text reads all columns of the table: under any schema it is one statement, which is understood where
+-- the table stands, and is not where its name is free
 pub record ProbesAs (table : Table) (text : List ℕ) : Type 0 where
   pub shows : (schema : Schema) → OnlyShows text 0 (understood schema text)
-  pub there : (schema : Schema) (p tree : ℕ) → HasTable schema table.name p (placed_at table tree) → IsUnderstood schema text
+  pub there : (schema : Schema) (p tree : ℕ) → HasTable schema table.name p (placed_at table tree)
+      → IsUnderstood schema text
   pub missing : (schema : Schema) → table_named schema table.name ≡ None → view_named schema table.name ≡ None
       → understood schema text ≡ Err NoSuchTable
 
@@ -159,12 +172,14 @@ module _ (table : Table) (text : List ℕ) (probes : ProbesAs table text) (free 
   named_there : (schema : Schema) → IsUnderstood schema text → IsThere schema table.name
   named_there schema ok = go (table_named schema table.name) (view_named schema table.name) refl refl
     where
-      go : (t v : Option ℕ) → table_named schema table.name ≡ t → view_named schema table.name ≡ v → IsThere schema table.name
+      go : (t v : Option ℕ) → table_named schema table.name ≡ t → view_named schema table.name ≡ v
+          → IsThere schema table.name
       go (Some t) v is other = inl (λ none. let e = sym is ∙ none in cc)
       go None (Some v) other is = inr (λ none. let e = sym is ∙ none in cc)
       go None None a b = absurd (let e : Ok ok.0 ≡ Err NoSuchTable = sym ok.1 ∙ probes.missing schema a b in cc)
 
-  not_defined : (db : Database) (fault : CompileError) → understood db.schema text ≡ Err fault → ∥ IsDatabase db ∥₁
+  not_defined : (db : Database) (fault : CompileError) → understood db.schema text ≡ Err fault
+      → ∥ IsDatabase db ∥₁
       → ¬ Defines db.schema table
   not_defined db fault is sound d =
       let at = standing db table free sound d in
@@ -172,7 +187,8 @@ module _ (table : Table) (text : List ℕ) (probes : ProbesAs table text) (free 
       absurd (let e : Ok ok.0 ≡ Err fault = sym ok.1 ∙ is in cc)
 
   -- what acceptance and refusal say of an arbitrary schema
-  pub tells_probe : (old new : State) (r : Result Bool Error) → TellsUnderstood old new text r → TellsProbe old new table r
+  pub tells_probe : (old new : State) (r : Result Bool Error) → TellsUnderstood old new text r
+      → TellsProbe old new table r
   tells_probe old new (Ok true) h = (named_there old.now.schema h.0, h.1)
   tells_probe old new (Ok false) h = (not_defined old.now h.0.0 h.0.1, h.1)
   tells_probe old new (Err e) h = h

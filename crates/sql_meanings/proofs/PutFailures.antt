@@ -85,9 +85,11 @@ use Rattle.sql_meanings.proofs.TableWrites.{IsOfNumbers, numbers_at}
 use Rattle.sql_meanings.proofs.PuttingIn.{key_taken, never, none_in, put_in_applies, stopped}
 use Rattle.sql_meanings.proofs.Writing.{same_value, uncounted, went}
 
-module _ (old new : State) (t : Table) (is : IsOfNumbers (uncounted t)) (sound : ∥ IsDatabase old.now ∥₁) (es : List Entry)
+module _ (old new : State) (t : Table) (is : IsOfNumbers (uncounted t)) (sound : ∥ IsDatabase old.now ∥₁)
+    (es : List Entry)
     (holds : Holds old.now (uncounted t) es)
-    (text : List ℕ) (params : Row) (e : Entry) (puts : PutsAs (uncounted t) text params e) (low : fits_i64 e.key ≡ true) where
+    (text : List ℕ) (params : Row) (e : Entry) (puts : PutsAs (uncounted t) text params e)
+    (low : fits_i64 e.key ≡ true) where
   abbrev table : Table
   table = uncounted t
 
@@ -122,11 +124,13 @@ module _ (old new : State) (t : Table) (is : IsOfNumbers (uncounted t)) (sound :
   record Given (rows : List Row) : Type 0 where
     pub news : (put_by rows).news ≡ map stored (e ∷ [])
     pub after : edited db (put_by rows) ≡ map stored (put e es)
-    pub taken : are_fresh (left_by db (put_by rows)) (put_by rows).news ≡ false → is_some (find (has_key e.key) es) ≡ true
+    pub taken : are_fresh (left_by db (put_by rows)) (put_by rows).news ≡ false
+        → is_some (find (has_key e.key) es) ≡ true
 
   given : (rows : List Row) → rows ≡ source → Given rows
   given rows are = subst Given (sym (are ∙ puts.gives tree)) (record {
-    news = ap (λ row. with_rowids Chosen (db tree) (row ∷ [])) (cast_stored here is.key is.names e is.columns);
+    news = ap (λ row. with_rowids Chosen (db tree) (row ∷ []))
+        (cast_stored here is.key is.names e is.columns);
     after = put_is old new t is sound es holds text params e puts;
     taken = λ h. not_both _ (sym (fresh_is old new t is sound es holds text params e puts) ∙ h);
   })
@@ -144,23 +148,28 @@ module _ (old new : State) (t : Table) (is : IsOfNumbers (uncounted t)) (sound :
       ⊎ (((error ≡ key_taken) × (is_some (find (has_key e.key) es) ≡ true))
       ⊎ ((error ≡ SqliteFailure (code.ConstraintViolation Unique)) × Forbids schema table (put e es)))
 
-  sourced : (stop : Option Error) → Sourced old.step_limit old.now (stamped here params) (from.Values puts.terms puts.width) (Err stop)
+  sourced : (stop : Option Error)
+      → Sourced old.step_limit old.now (stamped here params) (from.Values puts.terms puts.width) (Err stop)
       → PutStops stop
   sourced None h = absurd h
   sourced (Some error) (inl mismatch) = absurd (let right = puts.accepts tree in let wrong = mismatch.1 in cc)
   sourced (Some error) (inr limit) = inl limit
 
-  edit_is : (rows : List Row) (it : Given rows) (stop : Option Error) → Edited schema Enforced db (put_by rows) (Err stop) → PutStops stop
+  edit_is : (rows : List Row) (it : Given rows) (stop : Option Error)
+      → Edited schema Enforced db (put_by rows) (Err stop) → PutStops stop
   edit_is rows it stop h = go stop (edit_stops schema db (put_by rows) numbered (e ∷ []) it.news fits ⊥
-      (inl (none_in schema Enforced tree (put_by rows).news schema.tables)) (asks_none schema (put_by rows) is.free refl) refl stop h)
+      (inl (none_in schema Enforced tree (put_by rows).news schema.tables))
+      (asks_none schema (put_by rows) is.free refl) refl stop h)
     where
       go : (stop : Option Error) → EditStops schema db (put_by rows) numbered (e ∷ []) it.news fits ⊥
-          (inl (none_in schema Enforced tree (put_by rows).news schema.tables)) (asks_none schema (put_by rows) is.free refl) refl stop
+          (inl (none_in schema Enforced tree (put_by rows).news schema.tables))
+          (asks_none schema (put_by rows) is.free refl) refl stop
           → PutStops stop
       go None (inl wide) = wide
       go None (inr none) = absurd none
       go (Some error) (inl taken) = inr (inl (taken.0, it.taken taken.1))
-      go (Some error) (inr (inl unique)) = inr (inr (unique.0, forbids schema db table _ _ sound it.after unique.1))
+      go (Some error) (inr (inl unique)) = inr
+          (inr (unique.0, forbids schema db table _ _ sound it.after unique.1))
       go (Some error) (inr (inr none)) = absurd none.0
 
   abbrev task : Task
@@ -170,7 +179,8 @@ module _ (old new : State) (t : Table) (is : IsOfNumbers (uncounted t)) (sound :
   last rows counter mid = Then (Counts task mid counter (fold higher (count_of counter) (put_by rows).news))
       (λ next. Gives (record { trees = next; rows = (put_by rows).news; last = last_id (put_by rows).news }))
 
-  inserts_stop : (stop : Option Error) → Inserts task (from.Values puts.terms puts.width) db (Err stop) → PutStops stop
+  inserts_stop : (stop : Option Error) → Inserts task (from.Values puts.terms puts.width) db (Err stop)
+      → PutStops stop
   inserts_stop stop h = elim (stopped (Sourced old.step_limit old.now (stamped here params) (from.Values puts.terms puts.width))
       (λ rows. Then (Counter task db) (λ counter. Then (Edited schema Enforced db (put_by rows)) (last rows counter))) stop h) [
         | inl values ↦ sourced stop values
@@ -185,20 +195,24 @@ module _ (old new : State) (t : Table) (is : IsOfNumbers (uncounted t)) (sound :
       ]
 
   -- a row more breaks no foreign key
-  kept : (w : Written) → Inserts task (from.Values puts.terms puts.width) db (Ok w) → Refers All schema db → Refers All schema w.trees
+  kept : (w : Written) → Inserts task (from.Values puts.terms puts.width) db (Ok w) → Refers All schema db
+      → Refers All schema w.trees
   kept w h refers =
       let some = went h in
       let written = went (went some.2).2 in
       let counted = went written.2 in
       let edit = put_by some.0 in
-      let trees : w.trees ≡ written.0 = ap (λ (it : Written). it.trees) (same_value counted.2) ∙ same_value counted.1 in
+      let trees : w.trees ≡ written.0 = ap (λ (it : Written). it.trees) (same_value counted.2)
+      ∙ same_value counted.1 in
       let applies = put_in_applies schema Enforced db written.0 edit refl written.1 in
       let others = λ (u : Table) (listed : Has schema.tables u). all_has _ schema.tables u applies.tables listed in
       let grows = λ (r : Row) (there : Has (db tree) r). subst (λ rows. Has rows r) (sym applies.rows)
       (put_all_keeps edit.news (db tree) r applies.fresh there) in
-      subst (Refers All schema) (sym trees) (refers_after schema here at.stands db written.0 others (inr grows) refers)
+      subst (Refers All schema) (sym trees)
+      (refers_after schema here at.stands db written.0 others (inr grows) refers)
 
-  concludes_stop : (w : Written) → Inserts task (from.Values puts.terms puts.width) db (Ok w) → (stop : Option Error)
+  concludes_stop : (w : Written) → Inserts task (from.Values puts.terms puts.width) db (Ok w)
+      → (stop : Option Error)
       → Concludes task (mode_of old) None w (Err stop) → PutStops stop
   concludes_stop w done stop h = elim (stopped (Tested (mode_of old) (λ among. Refers among schema w.trees))
       (λ in_doubt. Then (Returns task w None) (λ rows.
@@ -209,7 +223,8 @@ module _ (old new : State) (t : Table) (is : IsOfNumbers (uncounted t)) (sound :
       ]
 
   put_stops : (sql : List ℕ) (stop : Option Error)
-      → Does old.step_limit (mode_of old) params old.now sql None (Insert at.place (Values puts.terms puts.width)) (Err stop) → PutStops stop
+      → Does old.step_limit (mode_of old) params old.now sql None
+      (Insert at.place (Values puts.terms puts.width)) (Err stop) → PutStops stop
   put_stops sql stop h = elim (stopped (Inserts task (from.Values puts.terms puts.width) db) (Concludes task (mode_of old) None) stop
       (rw at.has.listed at h)) [
         | inl first ↦ inserts_stop stop first
@@ -236,13 +251,15 @@ module _ (old new : State) (t : Table) (is : IsOfNumbers (uncounted t)) (sound :
     | inr (inl taken) ↦ inl (taken.0, taken.1, same)
     | inr (inr unique) ↦ inr (inr (inr unique, same))
   ]
-  told sql error (inr fails) = inr (inl (fails_for old new error _ (HasWideIndex schema table) (put_stops sql None) fails))
+  told sql error (inr fails) = inr
+      (inl (fails_for old new error _ (HasWideIndex schema table) (put_stops sql None) fails))
 
   -- why it can't
   pub refuses_insert : (error : Error) → ExecutesInside 0 text params old new (Err error) → Refuses error
   refuses_insert error h = elim (stops old new text params command refl error
       (λ c is. let same : means.found ≡ c = same_value (sym means.is ∙ is) in
-      subst (λ (c : Compiled). (c.command ≡ command) × (c.returning ≡ None) × (c.formats ≡ [])) same (means.meant, means.bare, means.timeless)) h) [
+      subst (λ (c : Compiled). (c.command ≡ command) × (c.returning ≡ None) × (c.formats ≡ [])) same
+      (means.meant, means.bare, means.timeless)) h) [
         | inl none ↦ absurd (no_refusal text params command old error means none.0)
         | inr (inl fails) ↦ inr (inl (fails_for old new error ⊥ (HasWideIndex schema table) (λ x. absurd x) fails))
         | inr (inr (c, is, how)) ↦ told (text_of text c) error how

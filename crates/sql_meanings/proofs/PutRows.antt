@@ -1,5 +1,6 @@
 -- A new row is put into a table.
-use Rattle.std.proofs.Common.{◌≡◌, ℕ, ◌/◌, List, [], ◌∷◌, map, find, length, is_some, Ok, refl, sym, ap, subst, ◌∙◌, Bool, not, ◌&&◌, true, false}
+use Rattle.std.proofs.Common.{◌≡◌, ℕ, ◌/◌, List, [], ◌∷◌, map, find, length, is_some, Ok, refl, sym, ap}
+use Rattle.std.proofs.Common.{subst, ◌∙◌, Bool, not, ◌&&◌, true, false}
 use Rattle.sqlite.specs.Order.{Row}
 use Rattle.sqlite.specs.Schema.{Schema}
 use Rattle.sqlite.specs.Tree.{Trees, put_row}
@@ -46,12 +47,15 @@ pub record PutsAs (table : Table) (text : List ℕ) (params : Row) (new : Entry)
   pub width : ℕ
   pub means : (schema : Schema) (p tree : ℕ) → HasTable schema table.name p (placed_at table tree)
       → Means schema text (length params) (Insert p (Values terms width))
-  pub gives : (tree : ℕ) → value_rows (stamped (placed_at table tree) params) width (length terms / width) terms ≡ stored new ∷ []
+  pub gives : (tree : ℕ)
+      → value_rows (stamped (placed_at table tree) params) width (length terms / width) terms
+      ≡ stored new ∷ []
   pub wide : length new.values ≡ width_of table
   pub accepts : (tree : ℕ) → accepts_terms terms (stamped (placed_at table tree) params) ≡ true
   pub passes : passes_checks table (stored new) ≡ true
 
-module _ (old new : State) (t : Table) (is : IsOfNumbers (uncounted t)) (sound : ∥ IsDatabase old.now ∥₁) (es : List Entry)
+module _ (old new : State) (t : Table) (is : IsOfNumbers (uncounted t)) (sound : ∥ IsDatabase old.now ∥₁)
+    (es : List Entry)
     (holds : Holds old.now (uncounted t) es)
     (text : List ℕ) (params : Row) (e : Entry) (puts : PutsAs (uncounted t) text params e) where
   abbrev table : Table
@@ -69,14 +73,16 @@ module _ (old new : State) (t : Table) (is : IsOfNumbers (uncounted t)) (sound :
   -- the row is put in its place
   pub put_is : edited db (put_by (stored e ∷ [])) ≡ map stored (put e es)
   put_is =
-      ap (λ row. put_all (db tree) (numbered Chosen (db tree) (row ∷ []))) (cast_stored table is.key is.names e is.columns)
+      ap (λ row. put_all (db tree) (numbered Chosen (db tree) (row ∷ [])))
+      (cast_stored table is.key is.names e is.columns)
       ∙ ap (put_row (stored e)) holds.rows.are ∙ put_stored e es
 
   -- where its key is free
   pub fresh_is : are_fresh (left_by db (put_by (stored e ∷ []))) (put_by (stored e ∷ [])).news
       ≡ (not (is_some (find (has_key e.key) es)) && true)
   fresh_is =
-      ap (λ row. are_fresh (db tree) (numbered Chosen (db tree) (row ∷ []))) (cast_stored table is.key is.names e is.columns)
+      ap (λ row. are_fresh (db tree) (numbered Chosen (db tree) (row ∷ [])))
+      (cast_stored table is.key is.names e is.columns)
       ∙ rw (holds.rows.are, taken_is e es) refl
 
   spares : (count : ℕ) → Wrote old new (put_by (stored e ∷ [])) count → SparesTables old.now new.now t.name
@@ -88,10 +94,12 @@ module _ (old new : State) (t : Table) (is : IsOfNumbers (uncounted t)) (sound :
 
   -- the row is put in its place, where its key was free, and every other table is as it was
   pub puts_row : (count : ℕ) → Executes text params old new (Ok count)
-      → Leaves old new table (put e es) × (is_some (find (has_key e.key) es) ≡ false) × SparesTables old.now new.now t.name
+      → Leaves old new table (put e es) × (is_some (find (has_key e.key) es) ≡ false)
+      × SparesTables old.now new.now t.name
   puts_row count h =
       let at = standing old.now table is.free sound holds.defined in
-      let made = inserts old new text params at.place (placed_at t tree) at.has.listed at.stands count puts.terms puts.width
+      let made = inserts old new text params at.place
+      (placed_at t tree) at.has.listed at.stands count puts.terms puts.width
       (puts.means old.now.schema at.place tree at.has) h in
       let wrote : Wrote old new (put_by (stored e ∷ [])) count =
       subst (λ rows. Wrote old new (put_by rows) count) (puts.gives tree) made in

@@ -53,7 +53,8 @@ abbrev pub key_taken : Error
 key_taken = SqliteFailure (code.ConstraintViolation PrimaryKey)
 
 -- with nothing set off nothing is refused
-pub no_end : (schema : Schema) (keys : Keys) (n : ℕ) (db : Trees) (why : Option Refusal) → ¬ Leads schema keys n db [] (Err why)
+pub no_end : (schema : Schema) (keys : Keys) (n : ℕ) (db : Trees) (why : Option Refusal)
+    → ¬ Leads schema keys n db [] (Err why)
 no_end schema keys zero db why h = let e = h.1 in cc
 no_end schema keys (suc n) db why h = absurd (omega (arith, ap length h.2, length-append h.0 (h.1 ∷ [])))
 
@@ -68,7 +69,8 @@ no_work depth tree child ref None key = refl
 no_work depth tree child ref (Some deed) None = refl
 no_work depth tree child ref (Some deed) (Some key) = rw (and_false (key.0 == tree))
 
-none_for : (schema : Schema) (keys : Keys) (tree : ℕ) (news : List Row) (child : Table) (refs : List Reference)
+none_for : (schema : Schema) (keys : Keys) (tree : ℕ) (news : List Row) (child : Table)
+    (refs : List Reference)
     → filter_map (work_for schema keys 0 tree [] news child) refs ≡ []
 none_for schema keys tree news child [] = refl
 none_for schema keys tree news child (ref ∷ refs) =
@@ -79,13 +81,15 @@ none_for schema keys tree news child (ref ∷ refs) =
 pub none_in : (schema : Schema) (keys : Keys) (tree : ℕ) (news : List Row) (tables : List Table)
     → flat_map (λ child. filter_map (work_for schema keys 0 tree [] news child) child.references) tables ≡ []
 none_in schema keys tree news [] = refl
-none_in schema keys tree news (t ∷ tables) = rw (none_for schema keys tree news t t.references) (none_in schema keys tree news tables)
+none_in schema keys tree news (t ∷ tables) = rw (none_for schema keys tree news t t.references)
+    (none_in schema keys tree news tables)
 
 -- rows that are only put in are one step
 pub put_in_applies : (schema : Schema) (keys : Keys) (db next : Trees) (edit : Edit) → edit.gone ≡ []
     → Writes schema keys db edit (Ok next) → Applies schema keys db edit next
 put_in_applies schema keys db next edit gone writes =
-    one_step schema keys db next edit (rw (gone, none_in schema keys edit.table.tree edit.news schema.tables) refl) writes
+    one_step schema keys db next edit
+    (rw (gone, none_in schema keys edit.table.tree edit.news schema.tables) refl) writes
 
 -- a statement that stops stops in one of its parts
 pub stopped : {A B : Type 0} (First : Part A) (Next : A → Part B) (e : Option Error) → Then First Next (Err e)

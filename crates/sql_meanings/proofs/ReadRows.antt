@@ -21,7 +21,8 @@ use Rattle.sql_meanings.proofs.OrderedAnswers.{next_answer}
 use Rattle.sql_meanings.proofs.TwoColumns.{Clear, clear, two_answer}
 use Rattle.sql_meanings.proofs.Steps.{standing}
 
-module _ (old new : State) (table : Table) (free : table.references ≡ []) (sound : ∥ IsDatabase old.now ∥₁) (es : List Entry)
+module _ (old new : State) (table : Table) (free : table.references ≡ []) (sound : ∥ IsDatabase old.now ∥₁)
+    (es : List Entry)
     (holds : Holds old.now table es)
     (text : List ℕ) (project : List Term) where
   abbrev tree : ℕ
@@ -32,17 +33,20 @@ module _ (old new : State) (table : Table) (free : table.references ≡ []) (sou
       → QueriesRowInside text (Int k ∷ []) old new r
       → TellsRow old new (option_map (λ e. eval_all project ((Int k ∷ []) ∷ stored e ∷ [])) (find (has_key k) es)) r
   reads_key k reads =
-      reads_row old new table free sound holds.defined text (Int k ∷ []) (λ t. by_key t project) reads (find (has_key k) es)
+      reads_row old new table free sound holds.defined text (Int k ∷ []) (λ t. by_key t project) reads
+      (find (has_key k) es)
       (λ e. eval_all project ((Int k ∷ []) ∷ stored e ∷ []))
       (λ low rows sure. keyed_answer Null tree project (overlay old.now.trees []) k [] rows es
       (under_overlay old.now.trees tree low holds.rows) (sure Null))
 
   -- the row with the least key above
-  pub reads_next : (k : ℤ) → ReadsAs table text (Int k ∷ []) (λ t. next_above t project) → (r : Result Row Error)
+  pub reads_next : (k : ℤ) → ReadsAs table text (Int k ∷ []) (λ t. next_above t project)
+      → (r : Result Row Error)
       → QueriesRowInside text (Int k ∷ []) old new r
       → TellsRow old new (option_map (λ e. eval_all project ((Int k ∷ []) ∷ stored e ∷ [])) (find (is_above k) es)) r
   reads_next k reads =
-      reads_row old new table free sound holds.defined text (Int k ∷ []) (λ t. next_above t project) reads (find (is_above k) es)
+      reads_row old new table free sound holds.defined text (Int k ∷ []) (λ t. next_above t project) reads
+      (find (is_above k) es)
       (λ e. eval_all project ((Int k ∷ []) ∷ stored e ∷ []))
       (λ low rows sure. next_answer Null tree project (overlay old.now.trees []) k rows es
       (under_overlay old.now.trees tree low holds.rows) (sure Null))
@@ -53,12 +57,14 @@ module _ (old new : State) (table : Table) (free : table.references ≡ []) (sou
       (standing old.now table free sound holds.defined).stands.listed unique order holds.rows.are e h)
 
   -- the row with two given numbers behind its key, where these are UNIQUE together
-  pub reads_two : (one two : ℤ) → slice_get table.uniques 0 ≡ Some (2 ∷ 3 ∷ []) → get_or table.orders 0 plain ≡ plain
+  pub reads_two : (one two : ℤ) → slice_get table.uniques 0 ≡ Some (2 ∷ 3 ∷ [])
+      → get_or table.orders 0 plain ≡ plain
       → ReadsAs table text (Int one ∷ Int two ∷ []) (λ t. by_two 2 3 t project) → (r : Result Row Error)
       → QueriesRowInside text (Int one ∷ Int two ∷ []) old new r
       → TellsRow old new (option_map (λ e. eval_all project ((Int one ∷ Int two ∷ []) ∷ stored e ∷ [])) (find (has_two one two) es)) r
   reads_two one two unique order reads =
-      reads_row old new table free sound holds.defined text (Int one ∷ Int two ∷ []) (λ t. by_two 2 3 t project) reads
+      reads_row old new table free sound holds.defined text (Int one ∷ Int two ∷ [])
+      (λ t. by_two 2 3 t project) reads
       (find (has_two one two) es)
       (λ e. eval_all project ((Int one ∷ Int two ∷ []) ∷ stored e ∷ []))
       (λ low rows sure. two_answer Null tree project (overlay old.now.trees []) one two rows es

@@ -1,5 +1,6 @@
 -- What a seek tells of a table that a database holds.
-use Rattle.std.proofs.Common.{◌≡◌, inl, inr, ℕ, ℤ, ◌^◌, List, [], ◌∷◌, map, filter, Ok, Err, Result, false, refl, nat_le, length}
+use Rattle.std.proofs.Common.{◌≡◌, inl, inr, ℕ, ℤ, ◌^◌, List, [], ◌∷◌, map, filter, Ok, Err, Result, false}
+use Rattle.std.proofs.Common.{refl, nat_le, length}
 use Rattle.sqlite.specs.Order.{Row}
 use Rattle.sqlite.specs.declared.types.Value.TheVariants.{Null, Int}
 use Rattle.sqlite.specs.Program.{overlay}
@@ -33,14 +34,16 @@ module _ (old new : State) (table : Table) (free : table.references ≡ []) (sou
   -- it answers what the query shows
   pub reads_all : Defines old.now.schema table → (wanted : List Row)
       → ((nat_le (2 ^ 31) (tree_of old.now.schema table.name) ≡ false) → (rows : List Row)
-      → IsSureAnswer (query (tree_of old.now.schema table.name)) (overlay old.now.trees []) params rows → rows ≡ wanted)
+      → IsSureAnswer (query (tree_of old.now.schema table.name)) (overlay old.now.trees []) params rows
+      → rows ≡ wanted)
       → (r : Result (List Row) Error) → QueriesAll text params old new r → TellsRows old new wanted r
   reads_all defined wanted answer (Ok rows) h =
       let tree = tree_of old.now.schema table.name in
       let at = standing old.now table free sound defined in
       let m = reads.means old.now.schema at.place tree at.has in
       let accepts = reads.accepts old.now.schema at.place tree at.has in
-      let got = shown_answers old.now.schema text params (query tree) reads.names m accepts (reads.unfolded tree)
+      let got = shown_answers old.now.schema text params (query tree) reads.names m accepts
+      (reads.unfolded tree)
       (reads.ungrouped tree) old new refl rows h in
       (answer at.has.low rows got.0, got.1)
   reads_all defined wanted answer (Err e) h =
@@ -48,43 +51,53 @@ module _ (old new : State) (table : Table) (free : table.references ≡ []) (sou
       let at = standing old.now table free sound defined in
       let m = reads.means old.now.schema at.place tree at.has in
       let accepts = reads.accepts old.now.schema at.place tree at.has in
-      fails_reading old.now.schema text params (query tree) reads.names m accepts (reads.unfolded tree) (reads.ungrouped tree) old new refl e h
+      fails_reading old.now.schema text params (query tree) reads.names m accepts (reads.unfolded tree)
+      (reads.ungrouped tree) old new refl e h
 
-module _ (old new : State) (table : Table) (free : table.references ≡ []) (sound : ∥ IsDatabase old.now ∥₁) (es : List Entry)
+module _ (old new : State) (table : Table) (free : table.references ≡ []) (sound : ∥ IsDatabase old.now ∥₁)
+    (es : List Entry)
     (holds : Holds old.now table es) (text : List ℕ) (most : ℕ) (project : List Term) where
   abbrev tree : ℕ
   tree = tree_of old.now.schema table.name
 
   -- the next rows from a number on
-  pub reads_from : (k : ℤ) → ReadsAs table text (Int k ∷ []) (λ t. next_from most t project) → (r : Result (List Row) Error)
+  pub reads_from : (k : ℤ) → ReadsAs table text (Int k ∷ []) (λ t. next_from most t project)
+      → (r : Result (List Row) Error)
       → QueriesAll text (Int k ∷ []) old new r
       → TellsRows old new (page (next_from most tree project) (Int k ∷ [])
       (map (λ e. eval_all project ((Int k ∷ []) ∷ stored e ∷ [])) (filter (is_from k) es))) r
   reads_from k reads =
-      reads_all old new table free sound text (Int k ∷ []) (λ t. next_from most t project) reads holds.defined _
+      reads_all old new table free sound text (Int k ∷ [])
+      (λ t. next_from most t project) reads holds.defined _
       (λ low rows sure. from_answer Null most tree project (overlay old.now.trees []) k rows es
       (under_overlay old.now.trees tree low holds.rows) (sure Null))
 
   -- the same of those with a number behind their keys
-  pub reads_of_from : (one k : ℤ) → ReadsAs table text (Int one ∷ Int k ∷ []) (λ t. next_of_from most t project)
+  pub reads_of_from : (one k : ℤ)
+      → ReadsAs table text (Int one ∷ Int k ∷ []) (λ t. next_of_from most t project)
       → (r : Result (List Row) Error) → QueriesAll text (Int one ∷ Int k ∷ []) old new r
       → TellsRows old new (page (next_of_from most tree project) (Int one ∷ Int k ∷ [])
       (map (λ e. eval_all project ((Int one ∷ Int k ∷ []) ∷ stored e ∷ [])) (filter (is_of_from one k) es))) r
   reads_of_from one k reads =
-      reads_all old new table free sound text (Int one ∷ Int k ∷ []) (λ t. next_of_from most t project) reads holds.defined _
+      reads_all old new table free sound text (Int one ∷ Int k ∷ [])
+      (λ t. next_of_from most t project) reads holds.defined _
       (λ low rows sure. of_from_answer Null most tree project (overlay old.now.trees []) one k rows es
       (under_overlay old.now.trees tree low holds.rows) (sure Null))
 
 -- whatever the rows
 pub kept_all : (old new : State) (text : List ℕ) (params : Row) (r : Result (List Row) Error)
-    → OnlyShows text (length params) (understood old.now.schema text) → QueriesAll text params old new r → ReadKept old new r
+    → OnlyShows text (length params) (understood old.now.schema text) → QueriesAll text params old new r
+    → ReadKept old new r
 unfolding FailsToQuery IsNotRun Shown
-kept_all old new text params (Ok rows) only whole = let it = rw ((only whole.0 whole.1.is).bare) at whole.2 in it.3
+kept_all old new text params (Ok rows) only whole = let it = rw
+    ((only whole.0 whole.1.is).bare) at whole.2 in it.3
 kept_all old new text params (Err e) only (inl (inl none)) = inr none.1
 kept_all old new text params (Err e) only (inl (inr fails)) = inl fails
-kept_all old new text params (Err e) only (inr shown) = let it = rw ((only shown.0 shown.1.is).bare) at shown.2 in inr it.3
+kept_all old new text params (Err e) only (inr shown) = let it = rw
+    ((only shown.0 shown.1.is).bare) at shown.2 in inr it.3
 
-never : (text : List ℕ) (params : Row) (s : State) → OnlyShows text (length params) (understood s.now.schema text) → (db : Trees)
+never : (text : List ℕ) (params : Row) (s : State)
+    → OnlyShows text (length params) (understood s.now.schema text) → (db : Trees)
     → ¬ CommitsShowing text params s db
 unfolding CommitsShowing
 never text params s only db h = absurd (let some = subst IsSome (only h.0 h.1.is).bare h.2 in cc)

@@ -58,11 +58,14 @@ pub overlay_low : (db : Trees) (t : ℕ) → nat_le (2 ^ 31) t ≡ false → ove
 overlay_low db t low = rw low
 
 -- so are its rows
-pub under_overlay : {width : ℕ} {es : List Entry} (db : Trees) (t : ℕ) → nat_le (2 ^ 31) t ≡ false → IsTree width (db t) es
+pub under_overlay : {width : ℕ} {es : List Entry} (db : Trees) (t : ℕ) → nat_le (2 ^ 31) t ≡ false
+    → IsTree width (db t) es
     → IsTree width (overlay db [] t) es
-under_overlay {width} {es} db t low tree = subst (λ rows. IsTree width rows es) (sym (overlay_low db t low)) tree
+under_overlay {width} {es} db t low tree = subst (λ rows. IsTree width rows es)
+    (sym (overlay_low db t low)) tree
 
-one_row : {X : Type 0} (show : X → Row) (o : Option X) (row : Row) (tail : List Row) → row ∷ tail ≡ map show (listed o)
+one_row : {X : Type 0} (show : X → Row) (o : Option X) (row : Row) (tail : List Row)
+    → row ∷ tail ≡ map show (listed o)
     → option_map show o ≡ Some row
 one_row show None row tail h = absurd cc
 one_row show (Some x) row tail h = cc
@@ -81,12 +84,14 @@ module _ (old new : State) (table : Table) (free : table.references ≡ []) (sou
   pub reads_row : {X : Type 0} (found : Option X) (show : X → Row)
       → ((nat_le (2 ^ 31) tree ≡ false) → (rows : List Row) → IsSureAnswer (query tree) (overlay old.now.trees []) params rows
       → rows ≡ map show (listed found))
-      → (r : Result Row Error) → QueriesRowInside text params old new r → TellsRow old new (option_map show found) r
+      → (r : Result Row Error) → QueriesRowInside text params old new r
+      → TellsRow old new (option_map show found) r
   reads_row found show answer (Ok row) h =
       let at = standing old.now table free sound defined in
       let m = reads.means old.now.schema at.place tree at.has in
       let accepts = reads.accepts old.now.schema at.place tree at.has in
-      let got = first_answers old.now.schema text params (query tree) reads.names m accepts (reads.unfolded tree)
+      let got = first_answers old.now.schema text params (query tree) reads.names m accepts
+      (reads.unfolded tree)
       (reads.ungrouped tree) old new refl row h in
       (one_row show found row got.0.0 (answer at.has.low (row ∷ got.0.0) got.0.1), got.1)
   reads_row found show answer (Err e) h =

@@ -1,5 +1,6 @@
 -- A foreign key that names no table's row is set off by no edit of it, and is kept by it.
-use Rattle.std.proofs.Common.{◌≡◌, ◌≢◌, ◌⊎◌, inl, inr, ℕ, ◌==◌, List, [], ◌∷◌, ◌||◌, ◌&&◌, not, nat_lt, Bool, true, false, Some, None, Option, refl, sym, ap, subst, ◌∙◌, find, length, arith}
+use Rattle.std.proofs.Common.{◌≡◌, ◌≢◌, ◌⊎◌, inl, inr, ℕ, ◌==◌, List, [], ◌∷◌, ◌||◌, ◌&&◌, not, nat_lt, Bool}
+use Rattle.std.proofs.Common.{true, false, Some, None, Option, refl, sym, ap, subst, ◌∙◌, find, length, arith}
 use Rattle.std.specs.Prelude.{option_and_then}
 use Rattle.std.specs.List.{filter_map, flat_map, list_all}
 use Rattle.std.proofs.lemmas.Bool.{cases_Bool, or_parts, not-false}
@@ -12,7 +13,8 @@ use Rattle.sqlite_schema.specs.declared.schema.Keys.{Keys}
 use Rattle.sqlite_schema.specs.declared.schema.Keys.TheVariants.{Enforced}
 use Rattle.sqlite_schema.specs.declared.schema.Reference.{Reference}
 use Rattle.sqlite_schema.specs.Names.{same_name}
-use Rattle.sqlite_schema.specs.Rules.{ParentKey, Refers, has_null, has_parent, is_held, is_key_if_to, key_in, key_places, parent_key}
+use Rattle.sqlite_schema.specs.Rules.{ParentKey, Refers, has_null, has_parent, is_held, is_key_if_to, key_in}
+use Rattle.sqlite_schema.specs.Rules.{key_places, parent_key}
 use Rattle.sqlite_rules.specs.declared.action.Deed.{Deed}
 use Rattle.sqlite_rules.specs.Lists.{Has}
 use Rattle.sqlite_rules.specs.Edit.{Edit, is_referred}
@@ -39,16 +41,19 @@ parent_named tables ref key h = go (find (λ t. same_name t.name ref.parent) tab
         (t, there.0, placed t (key_places t ref.parent_columns) k, there.1)
 
 -- a reference that names the table makes it a parent
-makes_parent : (schema : Schema) (table child : Table) (ref : Reference) → Has schema.tables child → Has child.references ref
+makes_parent : (schema : Schema) (table child : Table) (ref : Reference) → Has schema.tables child
+    → Has child.references ref
     → same_name table.name ref.parent ≡ true → is_parent schema table ≡ true
 makes_parent schema table child ref listed known same =
-    some_from _ schema.tables child listed (some_from (λ (r : Reference). same_name table.name r.parent) child.references ref known same)
+    some_from _ schema.tables child listed
+    (some_from (λ (r : Reference). same_name table.name r.parent) child.references ref known same)
 
 eqb_same : (m n : ℕ) → (m == n) ≡ true → m ≡ n
 eqb_same m n h = grind arith
 
 -- nothing is set off where each reference sets nothing off
-none_for : (schema : Schema) (keys : Keys) (tree : ℕ) (olds news : List Row) (child : Table) (refs : List Reference)
+none_for : (schema : Schema) (keys : Keys) (tree : ℕ) (olds news : List Row) (child : Table)
+    (refs : List Reference)
     → ((ref : Reference) → Has refs ref → work_for schema keys 0 tree olds news child ref ≡ None)
     → filter_map (work_for schema keys 0 tree olds news child) refs ≡ []
 none_for schema keys tree olds news child [] each = refl
@@ -58,7 +63,8 @@ none_for schema keys tree olds news child (ref ∷ refs) each =
 none_in : (schema : Schema) (keys : Keys) (tree : ℕ) (olds news : List Row) (tables : List Table)
     → ((child : Table) → Has tables child → (ref : Reference) → Has child.references ref
     → work_for schema keys 0 tree olds news child ref ≡ None)
-    → flat_map (λ child. filter_map (work_for schema keys 0 tree olds news child) child.references) tables ≡ []
+    → flat_map (λ child. filter_map (work_for schema keys 0 tree olds news child) child.references) tables
+    ≡ []
 none_in schema keys tree olds news [] each = refl
 none_in schema keys tree olds news (t ∷ tables) each =
     rw (none_for schema keys tree olds news t t.references (each t (inl refl)))
@@ -66,33 +72,42 @@ none_in schema keys tree olds news (t ∷ tables) each =
 
 module _ (schema : Schema) (table : Table) (stands : Stands schema table) where
   -- a key that lies in the table's tree is named for it
-  in_tree : (child : Table) (ref : Reference) (key : ParentKey) → Has schema.tables child → Has child.references ref
+  in_tree : (child : Table) (ref : Reference) (key : ParentKey) → Has schema.tables child
+      → Has child.references ref
       → parent_key schema.tables ref ≡ Some key → key.0 ≡ table.tree → is_parent schema table ≡ true
   in_tree child ref key listed known is same =
       let found = parent_named schema.tables ref key is in
       let it : found.0 ≡ table = stands.apart found.0 found.1 (found.2 ∙ same) in
-      makes_parent schema table child ref listed known (subst (λ (t : Table). same_name t.name ref.parent ≡ true) it found.3)
+      makes_parent schema table child ref listed known
+      (subst (λ (t : Table). same_name t.name ref.parent ≡ true) it found.3)
 
-  no_work : (moves : List (Row × Row)) (child : Table) (ref : Reference) → Has schema.tables child → Has child.references ref
-      → is_parent schema table ≡ false → (deed : Option Deed) (key : Option ParentKey) → parent_key schema.tables ref ≡ key
+  no_work : (moves : List (Row × Row)) (child : Table) (ref : Reference) → Has schema.tables child
+      → Has child.references ref
+      → is_parent schema table ≡ false → (deed : Option Deed) (key : Option ParentKey)
+      → parent_key schema.tables ref ≡ key
       → work_by 0 table.tree moves child ref deed key ≡ None
   no_work moves child ref listed known none None key is = refl
   no_work moves child ref listed known none (Some deed) None is = refl
-  no_work moves child ref listed known none (Some deed) (Some key) is = elim (cases_Bool (key.0 == table.tree)) [
-    | inl same ↦ absurd (let parent = in_tree child ref key listed known is (eqb_same _ _ same) in cc)
-    | inr other ↦ rw other
-  ]
+  no_work moves child ref listed known none (Some deed) (Some key) is =
+      elim (cases_Bool (key.0 == table.tree)) [
+        | inl same ↦ absurd (let parent = in_tree child ref key listed known is (eqb_same _ _ same) in cc)
+        | inr other ↦ rw other
+      ]
 
   -- where no foreign key names the table, nothing is set off
-  pub nothing_set_off : (olds news : List Row) → is_parent schema table ≡ false → works schema Enforced 0 table.tree olds news ≡ []
-  nothing_set_off olds news none = none_in schema Enforced table.tree olds news schema.tables (λ child listed ref known.
-      no_work (pairs olds news) child ref listed known none (deed_for Enforced (length news == 0) ref) (parent_key schema.tables ref) refl)
+  pub nothing_set_off : (olds news : List Row) → is_parent schema table ≡ false
+      → works schema Enforced 0 table.tree olds news ≡ []
+  nothing_set_off olds news none = none_in schema Enforced table.tree olds news schema.tables
+      (λ child listed ref known.
+      no_work (pairs olds news) child ref listed known none (deed_for Enforced (length news == 0) ref)
+      (parent_key schema.tables ref) refl)
 
   -- ---- what each row refers to is there afterwards
 
   module _ (db next : Trees) (others : (t : Table) → Has schema.tables t → t.tree ≢ table.tree → next t.tree ≡ db t.tree)
       (grows : (is_parent schema table ≡ false) ⊎ ((r : Row) → Has (db table.tree) r → Has (next table.tree) r)) where
-    stays : (child : Table) (ref : Reference) (key : ParentKey) → Has schema.tables child → Has child.references ref
+    stays : (child : Table) (ref : Reference) (key : ParentKey) → Has schema.tables child
+        → Has child.references ref
         → parent_key schema.tables ref ≡ Some key → (r : Row) → Has (db key.0) r → Has (next key.0) r
     stays child ref key listed known is r there = elim (cases_Bool (key.0 == table.tree)) [
       | inl same ↦ elim grows [
@@ -107,14 +122,16 @@ module _ (schema : Schema) (table : Table) (stands : Stands schema table) where
     ]
 
     held : (child : Table) (ref : Reference) (row : Row) → Has schema.tables child → Has child.references ref
-        → (key : Option ParentKey) → parent_key schema.tables ref ≡ key → is_held db ref.columns row key ≡ true
+        → (key : Option ParentKey) → parent_key schema.tables ref ≡ key
+        → is_held db ref.columns row key ≡ true
         → is_held next ref.columns row key ≡ true
     held child ref row listed known None is h = absurd cc
     held child ref row listed known (Some key) is h =
         let parent = some_has _ (db key.0) h in
         some_from _ (next key.0) parent.0 (stays child ref key listed known is parent.0 parent.1) parent.2
 
-    refers_on : (child : Table) (ref : Reference) (row : Row) → Has schema.tables child → Has child.references ref
+    refers_on : (child : Table) (ref : Reference) (row : Row) → Has schema.tables child
+        → Has child.references ref
         → has_parent schema.tables db row ref ≡ true → has_parent schema.tables next row ref ≡ true
     refers_on child ref row listed known h = elim (cases_Bool (has_null ref.columns row)) [
       | inl null ↦ rw null

@@ -1,5 +1,6 @@
 -- Why a write of rows of whole numbers is refused, or can't be stored.
-use Rattle.std.proofs.Common.{◌≡◌, ◌⊎◌, inl, inr, ℕ, ◌==◌, ◌&&◌, not, List, [], ◌∷◌, map, length, Bool, true, false, Some, None, Option, option_map, Err, refl, sym, ap, subst, ◌∙◌, arith}
+use Rattle.std.proofs.Common.{◌≡◌, ◌⊎◌, inl, inr, ℕ, ◌==◌, ◌&&◌, not, List, [], ◌∷◌, map, length, Bool, true}
+use Rattle.std.proofs.Common.{false, Some, None, Option, option_map, Err, refl, sym, ap, subst, ◌∙◌, arith}
 use Rattle.std.specs.List.{AllByRecursion, list_all, list_any}
 use Rattle.std.proofs.lemmas.List.{length-map}
 use Rattle.std.proofs.lemmas.Bool.{cases_Bool, cases_lt}
@@ -20,19 +21,23 @@ use Rattle.sqlite_trees.specs.Tree.{rowid, with_tree}
 use Rattle.sqlite_trees.specs.View.{IsStorable, IsStorableRow}
 use Rattle.sqlite_schema.specs.Rules.{Keeps, clashes, guards, index_reals, passes, passes_checks, table_reals}
 use Rattle.sqlite_schema.specs.declared.schema.Index.{Index}
-use Rattle.sqlite_schema.specs.declared.schema.Constraint.TheVariants.{Datatype, NotNull, Check, PrimaryKey, Unique, ForeignKey}
+use Rattle.sqlite_schema.specs.declared.schema.Constraint.TheVariants.{Datatype, NotNull, Check, PrimaryKey}
+use Rattle.sqlite_schema.specs.declared.schema.Constraint.TheVariants.{Unique, ForeignKey}
 use Rattle.sqlite_schema.specs.declared.schema.Keys.TheVariants.{Enforced}
 use Rattle.sqlite_rules.specs.declared.error.Refusal.{Refusal}
-use Rattle.sqlite_rules.specs.declared.error.Refusal.TheVariants.{Violates, Mismatch, NoRowid, BadReference, TooDeep}
+use Rattle.sqlite_rules.specs.declared.error.Refusal.TheVariants.{Violates, Mismatch, NoRowid, BadReference}
+use Rattle.sqlite_rules.specs.declared.error.Refusal.TheVariants.{TooDeep}
 use Rattle.sqlite_rules.specs.Lists.{Has}
 use Rattle.sqlite_rules.specs.Action.{Writes, works}
-use Rattle.sqlite_rules.specs.Edit.{IsOversized, are_fresh, have_rowids, id_in, is_referred, left_by, taken_by}
+use Rattle.sqlite_rules.specs.Edit.{IsOversized, are_fresh, have_rowids, id_in, is_referred, left_by}
+use Rattle.sqlite_rules.specs.Edit.{taken_by}
 use Rattle.sqlite_rules.proofs.RuleLemmas.{keeps_at, keeps_from}
 use Rattle.sql_meanings.specs.Entries.{Entry, stored}
 use Rattle.sql_meanings.specs.Outcomes.{Forbids, HasWideIndex, has_unique}
 use Rattle.sql_meanings.specs.Tables.{tree_of, width_of}
 use Rattle.sql_meanings.specs.Plain.{key_column, number_column}
-use Rattle.sql_meanings.proofs.NumberRows.{entry_fits, entry_present, entry_typed, none_indexed, none_real, row_fits}
+use Rattle.sql_meanings.proofs.NumberRows.{entry_fits, entry_present, entry_typed, none_indexed, none_real}
+use Rattle.sql_meanings.proofs.NumberRows.{row_fits}
 use Rattle.sql_meanings.proofs.TableWrites.{IsOfNumbers}
 use Rattle.sql_meanings.proofs.PuttingIn.{key_taken, no_end}
 
@@ -50,28 +55,35 @@ record Regular (schema : Schema) (db : Trees) (edit : Edit) : Type 0 where
   pub keyed : have_rowids edit.news ≡ true
   pub low : list_all (λ r. fits_i64 (id_in (rowid r))) edit.news ≡ true
 
-all_stored : (table : Table) (p : Row → Bool) → ((x : Entry) → IsFit table x → p (stored x) ≡ true) → (xs : List Entry)
+all_stored : (table : Table) (p : Row → Bool) → ((x : Entry) → IsFit table x → p (stored x) ≡ true)
+    → (xs : List Entry)
     → AllByRecursion (IsFit table) xs → list_all p (map stored xs) ≡ true
 all_stored table p each [] fits = refl
 all_stored table p each (x ∷ xs) fits = rw (each x fits.0) (all_stored table p each xs fits.1)
 
-names_wide : (key : List ℕ) (names : List (List ℕ)) (table : Table) (n : ℕ) → table.columns ≡ key_column key ∷ map number_column names
+names_wide : (key : List ℕ) (names : List (List ℕ)) (table : Table) (n : ℕ)
+    → table.columns ≡ key_column key ∷ map number_column names
     → n ≡ width_of table → n ≡ length names
 names_wide key names table n is wide =
     let long : length table.columns ≡ length (key_column key ∷ map number_column names) = ap length is in
     let same : length (map number_column names) ≡ length names = length-map names number_column in omega arith
 
-module _ (schema : Schema) (db : Trees) (edit : Edit) (is : IsOfNumbers edit.table) (xs : List Entry) (news : edit.news ≡ map stored xs)
+module _ (schema : Schema) (db : Trees) (edit : Edit) (is : IsOfNumbers edit.table) (xs : List Entry)
+    (news : edit.news ≡ map stored xs)
     (fits : AllByRecursion (IsFit edit.table) xs) where
   regular : Regular schema db edit
   regular = record {
-    typed = ap (list_all (passes Datatype schema db edit.table)) news ∙ all_stored edit.table (passes Datatype schema db edit.table)
+    typed = ap (list_all (passes Datatype schema db edit.table)) news ∙ all_stored edit.table
+        (passes Datatype schema db edit.table)
         (λ x h. rw (is.keyed, is.columns, is.uncomputed, entry_typed is.key is.names x (names_wide is.key is.names edit.table _ is.columns h.wide)) refl) xs fits;
-    present = ap (list_all (passes NotNull schema db edit.table)) news ∙ all_stored edit.table (passes NotNull schema db edit.table)
+    present = ap (list_all (passes NotNull schema db edit.table)) news ∙ all_stored edit.table
+        (passes NotNull schema db edit.table)
         (λ x h. rw (is.keyed, is.columns) (entry_present is.key is.names x (names_wide is.key is.names edit.table _ is.columns h.wide))) xs fits;
-    checked = ap (list_all (passes Check schema db edit.table)) news ∙ all_stored edit.table (passes Check schema db edit.table) (λ x h. h.checked) xs fits;
+    checked = ap (list_all (passes Check schema db edit.table)) news ∙ all_stored edit.table
+        (passes Check schema db edit.table) (λ x h. h.checked) xs fits;
     keyed = ap have_rowids news ∙ all_stored edit.table _ (λ x h. refl) xs fits;
-    low = ap (list_all (λ r. fits_i64 (id_in (rowid r)))) news ∙ all_stored edit.table _ (λ x h. h.low) xs fits;
+    low = ap (list_all (λ r. fits_i64 (id_in (rowid r)))) news ∙ all_stored edit.table _
+        (λ x h. h.low) xs fits;
   }
 
   -- the three rules that such rows may break
@@ -90,14 +102,16 @@ module _ (schema : Schema) (db : Trees) (edit : Edit) (is : IsOfNumbers edit.tab
   refused BadReference h = inr (inr (refl, h))
   refused TooDeep h = absurd h
 
-  one_stored : (ys : List Entry) → AllByRecursion (IsFit edit.table) ys → (row : Row) → Has (map stored ys) row
+  one_stored : (ys : List Entry) → AllByRecursion (IsFit edit.table) ys → (row : Row)
+      → Has (map stored ys) row
       → (x : Entry) × (row ≡ stored x) × IsFit edit.table x
   one_stored [] all row h = absurd h
   one_stored (y ∷ ys) all row (inl e) = (y, e, all.0)
   one_stored (y ∷ ys) all row (inr h) = one_stored ys all.1 row h
 
   -- only an index can be too wide for such a row
-  oversized : tree_of schema edit.table.name ≡ edit.table.tree → (row : Row) → Has edit.news row → IsOversized schema edit.table row
+  oversized : tree_of schema edit.table.name ≡ edit.table.tree → (row : Row) → Has edit.news row
+      → IsOversized schema edit.table row
       → HasWideIndex schema edit.table
   oversized at row there h =
       let x = one_stored xs fits row (subst (λ rows. Has rows row) news there) in
@@ -109,14 +123,16 @@ module _ (schema : Schema) (db : Trees) (edit : Edit) (is : IsOfNumbers edit.tab
           | inl wide ↦ (i, listed, of ∙ sym at, wide)
           | inr few ↦ absurd (big (subst (IsStorable (index_reals (table_reals edit.table) i.columns)) (ap (entry_of i.columns) (sym x.1))
               (subst (λ n. IsStorable n (entry_of i.columns (stored x.0)))
-              (sym (ap (λ n. index_reals n i.columns) none ∙ none_indexed i.columns)) (entry_fits x.0 i.columns few))))
+              (sym (ap (λ n. index_reals n i.columns) none ∙ none_indexed i.columns))
+              (entry_fits x.0 i.columns few))))
         ]
       ]
 
   -- ---- how the edit may stop
 
   module _ (Acts : Type 0) (acts : (works schema Enforced 0 edit.table.tree (taken_by db edit) edit.news ≡ []) ⊎ Acts)
-      (asks : is_referred schema Enforced edit ≡ false → Acts) (at : tree_of schema edit.table.name ≡ edit.table.tree) where
+      (asks : is_referred schema Enforced edit ≡ false → Acts)
+      (at : tree_of schema edit.table.name ≡ edit.table.tree) where
     -- why the edit stops: it can't be stored, or the error of a rule
     abbrev pub EditStops : Option Error → Type 0
     EditStops None = HasWideIndex schema edit.table ⊎ Acts
@@ -140,7 +156,8 @@ module _ (schema : Schema) (db : Trees) (edit : Edit) (is : IsOfNumbers edit.tab
         acted a None = inr a
         acted a (Some why) = inr (inr (a, why, refl))
 
-        go : (why : Option Refusal) → Writes schema Enforced db edit (Err why) → EditStops (option_map edit_error why)
+        go : (why : Option Refusal) → Writes schema Enforced db edit (Err why)
+            → EditStops (option_map edit_error why)
         go None (inl refusal) = absurd (let e = refusal.2 in cc)
         go (Some why) (inl refusal) =
             let same : refusal.0 ≡ why = let e = refusal.2 in cc in
@@ -154,7 +171,8 @@ module _ (schema : Schema) (db : Trees) (edit : Edit) (is : IsOfNumbers edit.tab
 
 -- ---- what a UNIQUE forbids
 
-held_at : (schema : Schema) (one two : Trees) (t : Table) (row : Row) → Has schema.tables t → two t.tree ≡ one t.tree
+held_at : (schema : Schema) (one two : Trees) (t : Table) (row : Row) → Has schema.tables t
+    → two t.tree ≡ one t.tree
     → Has (two t.tree) row → Keeps Unique schema one → passes Unique schema two t row ≡ true
 held_at schema one two t row listed same there keeps =
     rw same (keeps_at Unique schema one t row keeps listed (subst (λ rows. Has rows row) same there))
@@ -162,7 +180,8 @@ held_at schema one two t row listed same there keeps =
 same_tree : (m n : ℕ) → (m == n) ≡ true → n ≡ m
 same_tree m n h = grind arith
 
-all_pass : {A : Type 0} (p q : A → Bool) → ((x : A) → p x ≡ false → q x ≡ true) → (xs : List A) → list_any p xs ≡ false
+all_pass : {A : Type 0} (p q : A → Bool) → ((x : A) → p x ≡ false → q x ≡ true) → (xs : List A)
+    → list_any p xs ≡ false
     → list_all q xs ≡ true
 all_pass p q each [] none = refl
 all_pass p q each (x ∷ xs) none = elim (cases_Bool (p x)) [
@@ -177,7 +196,8 @@ unclashed b c h = rw h refl
 breaks_none : (schema : Schema) (db : Trees) (tree : ℕ) (rows : List Row)
     → list_any (λ (i : Index). i.is_unique && (i.table == tree)) schema.indexes ≡ false
     → Keeps Unique schema db → Keeps Unique schema (with_tree db tree rows)
-breaks_none schema db tree rows none keeps = keeps_from Unique schema (with_tree db tree rows) (λ t row listed there.
+breaks_none schema db tree rows none keeps = keeps_from Unique schema (with_tree db tree rows)
+    (λ t row listed there.
     elim (cases_Bool (t.tree == tree)) [
       | inl here ↦ all_pass (λ (i : Index). i.is_unique && (i.table == tree))
           (λ (i : Index). not (guards i t && clashes i.order i.columns (with_tree db tree rows t.tree) row))
@@ -199,7 +219,8 @@ forbids schema db table entries rows sound are broken = (
   λ trees other same. ∥∥₁_elim sound (λ x y. absurd x) (λ it. broken (keeps_from Unique schema (with_tree db (tree_of schema table.name) rows) (λ t row listed there.
       elim (cases_Bool (t.tree == tree_of schema table.name)) [
         | inl here ↦ held_at schema trees (with_tree db (tree_of schema table.name) rows) t row listed
-            (rw here (are ∙ sym same ∙ ap trees (same_tree t.tree (tree_of schema table.name) here))) there (other.obeys.rules Unique)
+            (rw here (are ∙ sym same ∙ ap trees (same_tree t.tree (tree_of schema table.name) here))) there
+            (other.obeys.rules Unique)
         | inr away ↦ held_at schema db (with_tree db (tree_of schema table.name) rows) t row listed (rw away refl) there
             (it.obeys.rules Unique)
       ]))),

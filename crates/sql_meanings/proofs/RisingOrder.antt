@@ -50,7 +50,8 @@ module _ {X : Type 0} (cmp : X → X → Ordering) (total : IsTotalOrder cmp) wh
   same_is_equal x = self (cmp x x) (total.antisymm x x)
 
   not_below : (x y : X) → cmp x y ≡ Less → is_gt (cmp y x) ≡ false → X → y ≡ x
-  not_below x y low most d = absurd (let back = total.antisymm y x ∙ ap ordering_reverse low in let bad = ap is_gt back in cc)
+  not_below x y low most d = absurd
+      (let back = total.antisymm y x ∙ ap ordering_reverse low in let bad = ap is_gt back in cc)
 
   first_is : (x y : X) → (y ≡ x) ⊎ (cmp x y ≡ Less) → is_gt (cmp y x) ≡ false → y ≡ x
   first_is x y (inl same) most = same
@@ -60,7 +61,8 @@ module _ {X : Type 0} (cmp : X → X → Ordering) (total : IsTotalOrder cmp) wh
   none_in p [] h = tt
   none_in p (z ∷ zs) h = go (p z) refl h (none_in p zs)
     where
-      go : (b : Bool) → p z ≡ b → cond b (z ∷ filter p zs) (filter p zs) ≡ [] → (filter p zs ≡ [] → AllByRecursion (λ z. p z ≡ false) zs)
+      go : (b : Bool) → p z ≡ b → cond b (z ∷ filter p zs) (filter p zs) ≡ []
+          → (filter p zs ≡ [] → AllByRecursion (λ z. p z ≡ false) zs)
           → (p z ≡ false) × AllByRecursion (λ z. p z ≡ false) zs
       go true is h more = absurd cc
       go false is h more = (is, more h)
@@ -74,36 +76,44 @@ module _ {X : Type 0} (cmp : X → X → Ordering) (total : IsTotalOrder cmp) wh
       let e = ap is_eq (same_is_equal x) in cc)
   later x z (inr low) apart = ap is_lt low
 
-  joined : (x : X) (zs : List X) → AllByRecursion (λ z. (z ≡ x) ⊎ (cmp x z ≡ Less)) zs → AllByRecursion (λ z. is_eq (cmp x z) ≡ false) zs
+  joined : (x : X) (zs : List X) → AllByRecursion (λ z. (z ≡ x) ⊎ (cmp x z ≡ Less)) zs
+      → AllByRecursion (λ z. is_eq (cmp x z) ≡ false) zs
       → AllByRecursion (λ z. is_lt (cmp x z) ≡ true) zs
   joined x [] h k = tt
   joined x (z ∷ zs) h k = (later x z h.0 k.0, joined x zs h.1 k.1)
 
-  no_equal : (x : X) (xs : List X) → AllByRecursion (λ z. cmp x z ≡ Less) xs → filter (λ z. is_eq (cmp x z)) xs ≡ []
+  no_equal : (x : X) (xs : List X) → AllByRecursion (λ z. cmp x z ≡ Less) xs
+      → filter (λ z. is_eq (cmp x z)) xs ≡ []
   no_equal x [] h = refl
   no_equal x (z ∷ zs) h = rw (h.0) (no_equal x zs h.1)
 
   -- the elements behind the first are those that are above it
-  above_first : (x : X) (ys : List X) → AllByRecursion (λ z. is_lt (cmp x z) ≡ true) ys → filter (λ z. is_lt (cmp x z)) (x ∷ ys) ≡ ys
+  above_first : (x : X) (ys : List X) → AllByRecursion (λ z. is_lt (cmp x z) ≡ true) ys
+      → filter (λ z. is_lt (cmp x z)) (x ∷ ys) ≡ ys
   above_first x ys h = rw (same_is_equal x) (filter_all (λ z. is_lt (cmp x z)) ys h)
 
-  tails : (x : X) (xs ys : List X) → AllByRecursion (λ z. cmp x z ≡ Less) xs → IsPermutation (x ∷ xs) (x ∷ ys) → IsPermutation xs ys
+  tails : (x : X) (xs ys : List X) → AllByRecursion (λ z. cmp x z ≡ Less) xs → IsPermutation (x ∷ xs) (x ∷ ys)
+      → IsPermutation xs ys
   tails x xs ys low perm =
       let marked : AllByRecursion (λ z. (z ≡ x) ⊎ (cmp x z ≡ Less)) (x ∷ ys) =
       all-permutation _ (x ∷ xs) (x ∷ ys) perm (inl refl, all_weaker _ _ (λ z h. inr h) xs low) in
       let eq = λ (z : X). is_eq (cmp x z) in
-      let once : IsPermutation (filter eq (x ∷ xs)) (filter eq (x ∷ ys)) = IsPermutation-filter eq (x ∷ xs) (x ∷ ys) perm in
+      let once : IsPermutation (filter eq (x ∷ xs)) (filter eq (x ∷ ys)) = IsPermutation-filter eq (x ∷ xs)
+      (x ∷ ys) perm in
       let one : length (filter eq (x ∷ ys)) ≡ length (filter eq (x ∷ xs)) = length_permutation _ _ once in
-      let none : filter eq ys ≡ [] = empty (filter eq ys) (let e = rw (same_is_equal x, no_equal x xs low) at one in omega (arith, e)) in
+      let none : filter eq ys ≡ [] = empty (filter eq ys)
+      (let e = rw (same_is_equal x, no_equal x xs low) at one in omega (arith, e)) in
       let up = joined x ys marked.1 (none_in eq ys none) in
       let lt = λ (z : X). is_lt (cmp x z) in
       subst (λ l. IsPermutation l ys) (above_first x xs (all_weaker _ _ (λ z h. ap is_lt h) xs low))
       (subst (IsPermutation (filter lt (x ∷ xs))) (above_first x ys up) (IsPermutation-filter lt (x ∷ xs) (x ∷ ys) perm))
 
   -- by neighbours
-  pub only_order : (xs ys : List X) → IsAscending (λ a b. cmp a b ≡ Less) xs → IsAscending AtMost ys → IsPermutation xs ys → ys ≡ xs
+  pub only_order : (xs ys : List X) → IsAscending (λ a b. cmp a b ≡ Less) xs → IsAscending AtMost ys
+      → IsPermutation xs ys → ys ≡ xs
   only_order [] ys up sorted perm = empty ys (length_permutation [] ys perm)
-  only_order (x ∷ xs) [] up sorted perm = absurd (let e = length_permutation (x ∷ xs) [] perm in omega (arith, e))
+  only_order (x ∷ xs) [] up sorted perm = absurd
+      (let e = length_permutation (x ∷ xs) [] perm in omega (arith, e))
   only_order (x ∷ xs) (y ∷ ys) up sorted perm =
       let marked : AllByRecursion (λ z. (z ≡ x) ⊎ (cmp x z ≡ Less)) (y ∷ ys) =
       all-permutation _ (x ∷ xs) (y ∷ ys) perm (inl refl, all_weaker _ _ (λ z h. inr h) xs up.0) in
@@ -113,10 +123,12 @@ module _ {X : Type 0} (cmp : X → X → Ordering) (total : IsTotalOrder cmp) wh
         sorted.0,
       ) in
       let first : y ≡ x = first_is x y marked.0 least.0 in
-      let rest : IsPermutation xs ys = tails x xs ys up.0 (subst (λ z. IsPermutation (x ∷ xs) (z ∷ ys)) first perm) in
+      let rest : IsPermutation xs ys = tails x xs ys up.0
+      (subst (λ z. IsPermutation (x ∷ xs) (z ∷ ys)) first perm) in
       let more : ys ≡ xs = only_order xs ys up.1 sorted.1 rest in
       cc
 
   -- a sorted permutation of a strictly rising list is that list
-  pub sorted_is : (xs ys : List X) → IsAscending (λ a b. cmp a b ≡ Less) xs → IsSorted cmp ys → IsPermutation xs ys → ys ≡ xs
+  pub sorted_is : (xs ys : List X) → IsAscending (λ a b. cmp a b ≡ Less) xs → IsSorted cmp ys
+      → IsPermutation xs ys → ys ≡ xs
   sorted_is xs ys up sorted perm = only_order xs ys up (ascending_from_sorted cmp total ys sorted) perm

@@ -8,10 +8,13 @@ use Rattle.sqlite_trees.specs.declared.store.Store.{Ghosts}
 use Rattle.sql_meanings.specs.Calls.{Says}
 
 -- neither leaves anything new at a stop
-pub survives_both : (old mid new : State) → Survives old mid (λ _. ⊥) → Survives mid new (λ _. ⊥) → Survives old new (λ _. ⊥)
-survives_both old mid new one two = survives_then old mid new (λ _. ⊥) (λ _. ⊥) (λ _. ⊥) (λ clean db h. h) (λ clean db h. h) one two
+pub survives_both : (old mid new : State) → Survives old mid (λ _. ⊥) → Survives mid new (λ _. ⊥)
+    → Survives old new (λ _. ⊥)
+survives_both old mid new one two = survives_then old mid new (λ _. ⊥) (λ _. ⊥) (λ _. ⊥) (λ clean db h. h)
+    (λ clean db h. h) one two
 
-module _ {S : Type 0} (g : Ghosts S) (old mid new : Transaction S) {T K T' K' : State → State → Type 0} (one : Says g old mid T K)
+module _ {S : Type 0} (g : Ghosts S) (old mid new : Transaction S) {T K T' K' : State → State → Type 0}
+    (one : Says g old mid T K)
     (two : Says g mid new T' K') where
   -- the disk that is honest after both was so after the first
   pub clean_between : HasCleanDisk (state g new.conn.now) → HasCleanDisk (state g mid.conn.now)

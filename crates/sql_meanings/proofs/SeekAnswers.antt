@@ -1,5 +1,6 @@
 -- What a query of one table answers that asks for the next rows from a key on.
-use Rattle.std.proofs.Common.{◌≡◌, ◌&&◌, ℕ, ℤ, List, [], ◌∷◌, map, filter, Bool, true, false, Some, refl, ap, ◌∙◌, int_cmp}
+use Rattle.std.proofs.Common.{◌≡◌, ◌&&◌, ℕ, ℤ, List, [], ◌∷◌, map, filter, Bool, true, false, Some, refl, ap}
+use Rattle.std.proofs.Common.{◌∙◌, int_cmp}
 use Rattle.std.specs.List.{flat_map, list_all}
 use Rattle.std.specs.Ordering.{is_ge, int_eq}
 use Rattle.sqlite.specs.declared.types.Value.{Value}
@@ -52,10 +53,12 @@ passes_of one k key [] = refl
 passes_of one k key (n ∷ more) = first_two one k key n more ∙ both_true (int_eq n one) (is_ge (int_cmp key k))
 
 -- the rows from the parameter on, by rising keys, cut by the limit
-pub from_answer : (lost : Value) {width : ℕ} (most t : ℕ) (project : List Term) (db : Trees) (k : ℤ) (rows : List Row) (es : List Entry)
+pub from_answer : (lost : Value) {width : ℕ} (most t : ℕ) (project : List Term) (db : Trees) (k : ℤ)
+    (rows : List Row) (es : List Entry)
     → IsTree width (db t) es
     → IsAnswerAs lost (next_from most t project) db (Int k ∷ []) rows
-    → rows ≡ page (next_from most t project) (Int k ∷ []) (map (λ e. eval_all project ((Int k ∷ []) ∷ stored e ∷ [])) (filter (is_from k) es))
+    → rows ≡ page (next_from most t project) (Int k ∷ [])
+    (map (λ e. eval_all project ((Int k ∷ []) ∷ stored e ∷ [])) (filter (is_from k) es))
 from_answer lost most t project db k rows es tree a =
     let params : Row = Int k ∷ [] in
     let f : Entry → Env = λ e. params ∷ stored e ∷ [] in
@@ -63,10 +66,12 @@ from_answer lost most t project db k rows es tree a =
     let matched : matches_as lost db key_from (inner t end) (params ∷ []) ≡ map f kept =
     ap (flat_map (λ r. matches_as lost db key_from end (params ∷ r ∷ []))) tree.are
     ∙ passing params key_from (is_from k) (passes_from k) lost db es in
-    ordered_answer (inner t end) key_from project _ f (λ e. refl) lost db params rows kept (rise_filter (is_from k) es tree.rise) matched a
+    ordered_answer (inner t end) key_from project _ f (λ e. refl) lost db params rows kept
+    (rise_filter (is_from k) es tree.rise) matched a
 
 -- the same of those with the first parameter behind their keys
-pub of_from_answer : (lost : Value) {width : ℕ} (most t : ℕ) (project : List Term) (db : Trees) (one k : ℤ) (rows : List Row)
+pub of_from_answer : (lost : Value) {width : ℕ} (most t : ℕ) (project : List Term) (db : Trees) (one k : ℤ)
+    (rows : List Row)
     (es : List Entry) → IsTree width (db t) es
     → IsAnswerAs lost (next_of_from most t project) db (Int one ∷ Int k ∷ []) rows
     → rows ≡ page (next_of_from most t project) (Int one ∷ Int k ∷ [])
@@ -78,4 +83,5 @@ of_from_answer lost most t project db one k rows es tree a =
     let matched : matches_as lost db of_from (inner t end) (params ∷ []) ≡ map f kept =
     ap (flat_map (λ r. matches_as lost db of_from end (params ∷ r ∷ []))) tree.are
     ∙ passing params of_from (is_of_from one k) (λ e. passes_of one k e.key e.values) lost db es in
-    ordered_answer (inner t end) of_from project _ f (λ e. refl) lost db params rows kept (rise_filter (is_of_from one k) es tree.rise) matched a
+    ordered_answer (inner t end) of_from project _ f (λ e. refl) lost db params rows kept
+    (rise_filter (is_of_from one k) es tree.rise) matched a

@@ -39,8 +39,10 @@ module _ (table : Table) (text : List ℕ) (places : List ℕ) (most : ℕ) (ter
   -- SELECT columns FROM table WHERE key >= ?1 ORDER BY key LIMIT most
   pub seeks_by : (is : IsSelect table text 1 places) (sort : Sort) (cap test e a b : Expr) (most_text : Name)
       → is.order ≡ sort ∷ [] → is.limit ≡ Some cap → is.filter ≡ Some test
-      → out-Sort sort ≡ record { key = e; descending = false; nulls_first = None } → out-Expr e ≡ Expr-F.Column None key
-      → out-Expr test ≡ Expr-F.Binary binary.Ge a b → out-Expr a ≡ Expr-F.Column None key → out-Expr b ≡ Expr-F.Parameter 1
+      → out-Sort sort ≡ record { key = e; descending = false; nulls_first = None }
+      → out-Expr e ≡ Expr-F.Column None key
+      → out-Expr test ≡ Expr-F.Binary binary.Ge a b → out-Expr a ≡ Expr-F.Column None key
+      → out-Expr b ≡ Expr-F.Parameter 1
       → out-Expr cap ≡ Expr-F.Integer most_text → integer false most_text ≡ Ok (Int (pos most))
       → ((schema : Schema) (p tree : ℕ) → HasTable schema table.name p (placed_at table tree)
       → prog.program schema [] (ungrouped (Inner tree ∷ []) key_from (outputs_at (placed_at table tree) places) false ascending (lit (Int (pos most))) (number 0))
@@ -55,9 +57,12 @@ module _ (table : Table) (text : List ℕ) (places : List ℕ) (most : ℕ) (ter
         let low = many (placed_at table tree) places is.few in
         let rest = left_over (placed_at table tree) places is.few in
         means schema text 1 _ _ (select_rising schema table.name p (placed_at table tree) has Onwards text is.P is.s is.core is.source is.shown test a b e cap
-        sort key most_text (Int (pos most)) 0 1 (keys tree) os _ is.parsed is.statement is.plain (rw (ordered, limited) at is.select)
-        (rw filtered at is.body) is.from above left right sorts by_key (unnamed tree) capped value (shows_named _ _ _ (is.shows tree))
-        (has_room 100000 _ (omega arith)) (key_at schema table.name p os false) (grind arith) (grind arith) (grind arith) (grind arith)
+        sort key most_text (Int (pos most)) 0 1 (keys tree) os _ is.parsed is.statement is.plain
+        (rw (ordered, limited) at is.select)
+        (rw filtered at is.body) is.from above left right sorts by_key (unnamed tree) capped value
+        (shows_named _ _ _ (is.shows tree))
+        (has_room 100000 _ (omega arith)) (key_at schema table.name p os false) (grind arith) (grind arith)
+        (grind arith) (grind arith)
         (by_bytes tree) (typed schema p tree has)) refl is.whole is.given refl refl;
     accepts = accepts;
     unfolded = λ _. refl;
@@ -66,15 +71,20 @@ module _ (table : Table) (text : List ℕ) (places : List ℕ) (most : ℕ) (ter
 
   -- SELECT columns FROM table WHERE one = ?1 AND key >= ?2 ORDER BY key LIMIT most
   pub seeks_of_by : (one : Name) (ones : (tree : ℕ) → Tests (placed_at table tree) one 2)
-      (is : IsSelect table text 2 places) (sort : Sort) (cap both e test test' a b a' b' : Expr) (most_text : Name)
+      (is : IsSelect table text 2 places) (sort : Sort) (cap both e test test' a b a' b' : Expr)
+      (most_text : Name)
       → is.order ≡ sort ∷ [] → is.limit ≡ Some cap → is.filter ≡ Some both
-      → out-Sort sort ≡ record { key = e; descending = false; nulls_first = None } → out-Expr e ≡ Expr-F.Column None key
+      → out-Sort sort ≡ record { key = e; descending = false; nulls_first = None }
+      → out-Expr e ≡ Expr-F.Column None key
       → out-Expr both ≡ Expr-F.Binary binary.And test test'
-      → out-Expr test ≡ Expr-F.Binary binary.Eq a b → out-Expr a ≡ Expr-F.Column None one → out-Expr b ≡ Expr-F.Parameter 1
-      → out-Expr test' ≡ Expr-F.Binary binary.Ge a' b' → out-Expr a' ≡ Expr-F.Column None key → out-Expr b' ≡ Expr-F.Parameter 2
+      → out-Expr test ≡ Expr-F.Binary binary.Eq a b → out-Expr a ≡ Expr-F.Column None one
+      → out-Expr b ≡ Expr-F.Parameter 1
+      → out-Expr test' ≡ Expr-F.Binary binary.Ge a' b' → out-Expr a' ≡ Expr-F.Column None key
+      → out-Expr b' ≡ Expr-F.Parameter 2
       → out-Expr cap ≡ Expr-F.Integer most_text → integer false most_text ≡ Ok (Int (pos most))
       → ((schema : Schema) (p tree : ℕ) → HasTable schema table.name p (placed_at table tree)
-      → affinity_of (over_one schema table.name p (outputs_at (placed_at table tree) places) false) (col 1 2) ≡ affinity.Numeric)
+      → affinity_of (over_one schema table.name p (outputs_at (placed_at table tree) places) false) (col 1 2)
+      ≡ affinity.Numeric)
       → ((schema : Schema) (p tree : ℕ) → HasTable schema table.name p (placed_at table tree)
       → prog.program schema [] (ungrouped (Inner tree ∷ []) of_from (outputs_at (placed_at table tree) places) false ascending (lit (Int (pos most))) (number 0))
       ≡ Ok (record { lets = []; body = next_of_from most tree terms }))
@@ -88,10 +98,14 @@ module _ (table : Table) (text : List ℕ) (places : List ℕ) (most : ℕ) (ter
         let low = many (placed_at table tree) places is.few in
         let rest = left_over (placed_at table tree) places is.few in
         means schema text 2 _ _ (select_two_from schema table.name p (placed_at table tree) has text is.P is.s is.core is.source is.shown both test a b
-        test' a' b' e cap sort one key most_text (Int (pos most)) 2 1 0 2 (ones tree) (keys tree) os _ is.parsed is.statement is.plain
-        (rw (ordered, limited) at is.select) (rw filtered at is.body) is.from and equal left right above left' right' sorts by_key (unnamed tree)
-        capped value (shows_named _ _ _ (is.shows tree)) (has_room 100000 _ (omega arith)) (numeric schema p tree has)
-        (key_at schema table.name p os false) (grind arith) (grind arith) (grind arith) (grind arith) (grind arith) (grind arith) (grind arith)
+        test' a' b' e cap sort one key most_text (Int (pos most)) 2 1 0 2 (ones tree)
+        (keys tree) os _ is.parsed is.statement is.plain
+        (rw (ordered, limited) at is.select)
+        (rw filtered at is.body) is.from and equal left right above left' right' sorts by_key (unnamed tree)
+        capped value (shows_named _ _ _ (is.shows tree)) (has_room 100000 _ (omega arith))
+        (numeric schema p tree has)
+        (key_at schema table.name p os false) (grind arith) (grind arith) (grind arith) (grind arith)
+        (grind arith) (grind arith) (grind arith)
         (grind arith) (by_bytes tree) (typed schema p tree has)) refl is.whole is.given refl refl;
     accepts = accepts;
     unfolded = λ _. refl;

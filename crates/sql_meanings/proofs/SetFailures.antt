@@ -1,5 +1,6 @@
 -- Why one column of a row can't be written.
-use Rattle.std.proofs.Common.{◌≡◌, ◌⊎◌, inl, inr, ℕ, ℤ, List, [], ◌∷◌, map, find, length, not, ◌&&◌, true, false, None, Some, Option, Ok, Err, IsTrue, refl, sym, ap, subst, ◌∙◌}
+use Rattle.std.proofs.Common.{◌≡◌, ◌⊎◌, inl, inr, ℕ, ℤ, List, [], ◌∷◌, map, find, length, not, ◌&&◌, true}
+use Rattle.std.proofs.Common.{false, None, Some, Option, Ok, Err, IsTrue, refl, sym, ap, subst, ◌∙◌}
 use Rattle.std.specs.List.{AllByRecursion}
 use Rattle.std.proofs.lemmas.Bool.{cases_Bool}
 use Rattle.std.proofs.Math.Logic.{∥∥₁_elim}
@@ -56,9 +57,11 @@ use Rattle.sql_meanings.proofs.TableWrites.{IsOfNumbers, numbers_at}
 use Rattle.sql_meanings.proofs.PuttingIn.{never, stopped}
 use Rattle.sql_meanings.proofs.Writing.{same_value, went}
 
-module _ (old new : State) (table : Table) (is : IsOfNumbers table) (sound : ∥ IsDatabase old.now ∥₁) (es : List Entry)
+module _ (old new : State) (table : Table) (is : IsOfNumbers table) (sound : ∥ IsDatabase old.now ∥₁)
+    (es : List Entry)
     (holds : Holds old.now table es)
-    (text : List ℕ) (k : ℤ) (more : Row) (change : Entry → Entry) (changes : ChangesAs table text k more change) (low : fits_i64 k ≡ true)
+    (text : List ℕ) (k : ℤ) (more : Row) (change : Entry → Entry)
+    (changes : ChangesAs table text k more change) (low : fits_i64 k ≡ true)
   where
     abbrev db : Trees
     db = old.now.trees
@@ -121,7 +124,8 @@ module _ (old new : State) (table : Table) (is : IsOfNumbers table) (sound : ∥
         rows_are = are ∙ ap (λ row. row ∷ []) (changes.projects e wide)
 
         new_row : (set_by rows).news ≡ stored (change e) ∷ []
-        new_row = ap (λ rs. (set_by rs).news) rows_are ∙ ap (λ row. row ∷ []) (cast_stored here is.key is.names (change e) is.columns)
+        new_row = ap (λ rs. (set_by rs).news) rows_are ∙ ap (λ row. row ∷ [])
+            (cast_stored here is.key is.names (change e) is.columns)
 
         key : e.key ≡ k
         key = found_key k es e found
@@ -129,13 +133,15 @@ module _ (old new : State) (table : Table) (is : IsOfNumbers table) (sound : ∥
         still_fresh : are_fresh (left_by db (set_by rows)) (set_by rows).news ≡ true
         still_fresh =
             ap (λ rs. are_fresh (left_by db (set_by rs)) (set_by rs).news) rows_are
-            ∙ ap (λ row. not (is_taken (without_rowid e.key (db tree)) row) && true) (cast_stored here is.key is.names (change e) is.columns)
+            ∙ ap (λ row. not (is_taken (without_rowid e.key (db tree)) row) && true)
+            (cast_stored here is.key is.names (change e) is.columns)
             ∙ ap (λ rs. not (is_taken (without_rowid e.key rs) (stored (change e))) && true) holds.rows.are
             ∙ ap (λ rs. not (is_taken rs (stored (change e))) && true) (without_stored e.key es)
             ∙ rw (taken_is (change e) (without e.key es), changes.keeps_key e, none_without e.key es) refl
 
     met : (rows : List Row) → Answers old.now program params rows → Met rows
-    met rows a = met_by rows (find (has_key k) es) refl (keyed_answer Null tree changes.project (overlay db []) k more rows es
+    met rows a = met_by rows (find (has_key k) es) refl
+        (keyed_answer Null tree changes.project (overlay db []) k more rows es
         (under_overlay db tree at.has.low holds.rows) (a.answer Null))
 
     -- ---- how each part may stop
@@ -150,28 +156,35 @@ module _ (old new : State) (table : Table) (is : IsOfNumbers table) (sound : ∥
 
     queried : (stop : Option Error) → Queried old.step_limit old.now program params (Err stop) → SetStops stop
     queried None h = absurd h
-    queried (Some e) (inl mismatch) = absurd (let right = changes.accepts schema at.place tree at.has in let wrong = mismatch.1 in cc)
+    queried (Some e) (inl mismatch) = absurd
+        (let right = changes.accepts schema at.place tree at.has in let wrong = mismatch.1 in cc)
     queried (Some e) (inr (inl overflow)) = elim overflow.1 [
       | inl group ↦ absurd group
       | inr folded ↦ absurd (no_fold_overflows (overlay db []) (by_key tree changes.project).from (params ∷ []) refl folded)
     ]
     queried (Some e) (inr (inr limit)) = inl limit
 
-    acts : (rows : List Row) → (works schema Enforced 0 tree (taken_by db (set_by rows)) (set_by rows).news ≡ []) ⊎ IsTrue (is_parent schema table)
+    acts : (rows : List Row)
+        → (works schema Enforced 0 tree (taken_by db (set_by rows)) (set_by rows).news ≡ []) ⊎ IsTrue
+        (is_parent schema table)
     acts rows = elim (cases_Bool (is_parent schema table)) [
       | inl parent ↦ inr parent
       | inr none ↦ inl (nothing_set_off schema here at.stands (taken_by db (set_by rows)) (set_by rows).news none)
     ]
 
-    edit_is : (rows : List Row) (it : Met rows) (stop : Option Error) → Edited schema Enforced db (set_by rows) (Err stop) → SetStops stop
+    edit_is : (rows : List Row) (it : Met rows) (stop : Option Error)
+        → Edited schema Enforced db (set_by rows) (Err stop) → SetStops stop
     edit_is rows it stop h = go stop (edit_stops schema db (set_by rows) numbered it.entries it.news it.fits
         (IsTrue (is_parent schema table)) (acts rows) (asks_parent schema (set_by rows) is.free) refl stop h)
       where
-        go : (stop : Option Error) → EditStops schema db (set_by rows) numbered it.entries it.news it.fits (IsTrue (is_parent schema table))
+        go : (stop : Option Error)
+            → EditStops schema db (set_by rows) numbered it.entries it.news it.fits
+            (IsTrue (is_parent schema table))
             (acts rows) (asks_parent schema (set_by rows) is.free) refl stop → SetStops stop
         go None h = h
         go (Some e) (inl taken) = absurd (let right = it.fresh in let wrong = taken.1 in cc)
-        go (Some e) (inr (inl unique)) = inr (inl (unique.0, forbids schema db table _ _ sound it.after unique.1))
+        go (Some e) (inr (inl unique)) = inr
+            (inl (unique.0, forbids schema db table _ _ sound it.after unique.1))
         go (Some e) (inr (inr parent)) = inr (inr parent)
 
     abbrev task : Task
@@ -189,16 +202,19 @@ module _ (old new : State) (table : Table) (is : IsOfNumbers table) (sound : ∥
         ]
 
     -- where no foreign key names the table, each is kept
-    kept : is_parent schema table ≡ false → (w : Written) → Updates task program params db (Ok w) → Refers All schema db
+    kept : is_parent schema table ≡ false → (w : Written) → Updates task program params db (Ok w)
+        → Refers All schema db
         → Refers All schema w.trees
     kept none w h refers =
         let given = went h in
         let written = went given.2 in
         let trees : w.trees ≡ written.0 = ap (λ (it : Written). it.trees) (same_value written.2) in
-        let still = nothing_set_off schema here at.stands (taken_by db (set_by given.0)) (set_by given.0).news none in
+        let still = nothing_set_off schema here at.stands (taken_by db (set_by given.0))
+        (set_by given.0).news none in
         let applies = one_step schema Enforced db written.0 (set_by given.0) still written.1 in
         let others = λ (t : Table) (listed : Has schema.tables t). all_has _ schema.tables t applies.tables listed in
-        subst (Refers All schema) (sym trees) (refers_after schema here at.stands db written.0 others (inl none) refers)
+        subst (Refers All schema) (sym trees)
+        (refers_after schema here at.stands db written.0 others (inl none) refers)
 
     concludes_stop : (w : Written) → Updates task program params db (Ok w) → (stop : Option Error)
         → Concludes task (mode_of old) None w (Err stop) → SetStops stop
@@ -214,7 +230,8 @@ module _ (old new : State) (table : Table) (is : IsOfNumbers table) (sound : ∥
         ]
 
     set_stops : (sql : List ℕ) (stop : Option Error)
-        → Does old.step_limit (mode_of old) params old.now sql None (Update at.place program) (Err stop) → SetStops stop
+        → Does old.step_limit (mode_of old) params old.now sql None (Update at.place program) (Err stop)
+        → SetStops stop
     set_stops sql stop h = elim (stopped (Updates task program params db) (Concludes task (mode_of old) None) stop (rw at.has.listed at h)) [
       | inl first ↦ updates_stop stop first
       | inr rest ↦ concludes_stop rest.0 rest.1 stop rest.2
@@ -228,7 +245,8 @@ module _ (old new : State) (table : Table) (is : IsOfNumbers table) (sound : ∥
     means : Means schema text (length params) command
     means = changes.means schema at.place tree at.has
 
-    told : (sql : List ℕ) (e : Error) → Stops old new sql command params e → SetFails old new table (Forbids schema table (changed change k es)) e
+    told : (sql : List ℕ) (e : Error) → Stops old new sql command params e
+        → SetFails old new table (Forbids schema table (changed change k es)) e
     told sql e (inl (does, same)) = elim (set_stops sql (Some e) does) [
       | inl limit ↦ inl (inr (inl limit, same))
       | inr (inl unique) ↦ inl (inr (inr unique, same))
@@ -245,7 +263,8 @@ module _ (old new : State) (table : Table) (is : IsOfNumbers table) (sound : ∥
         → SetFails old new table (Forbids schema table (changed change k es)) e
     refuses_update e h = elim (stops old new text params command refl e
         (λ c is. let same : means.found ≡ c = same_value (sym means.is ∙ is) in
-        subst (λ (c : Compiled). (c.command ≡ command) × (c.returning ≡ None) × (c.formats ≡ [])) same (means.meant, means.bare, means.timeless)) h) [
+        subst (λ (c : Compiled). (c.command ≡ command) × (c.returning ≡ None) × (c.formats ≡ [])) same
+        (means.meant, means.bare, means.timeless)) h) [
           | inl none ↦ absurd (no_refusal text params command old e means none.0)
           | inr (inl fails) ↦ inl (inl (fails_for old new e ⊥ (HasWideIndex schema table) (λ x. absurd x) fails))
           | inr (inr (c, is, how)) ↦ told (text_of text c) e how

@@ -54,7 +54,8 @@ use Rattle.sql_meanings.proofs.Writing.{updates}
 use Rattle.sql_meanings.proofs.TableWrites.{IsOfNumbers, Leaves, steps_by}
 
 -- with these parameters the text changes so the row under the key
-pub record ChangesAs (table : Table) (text : List ℕ) (k : ℤ) (more : Row) (change : Entry → Entry) : Type 0 where
+pub record ChangesAs (table : Table) (text : List ℕ) (k : ℤ) (more : Row)
+    (change : Entry → Entry) : Type 0 where
   pub project : List Term
   pub means : (schema : Schema) (p tree : ℕ) → HasTable schema table.name p (placed_at table tree)
       → Means schema text (length (Int k ∷ more)) (Update p (record { lets = []; body = by_key tree project }))
@@ -64,11 +65,14 @@ pub record ChangesAs (table : Table) (text : List ℕ) (k : ℤ) (more : Row) (c
   pub keeps_width : (e : Entry) → length e.values ≡ width_of table → length (change e).values ≡ width_of table
   pub accepts : (schema : Schema) (p tree : ℕ) → HasTable schema table.name p (placed_at table tree)
       → accepts_program schema [] (by_key tree project) (Int k ∷ more) ≡ true
-  pub passes : (e : Entry) → length e.values ≡ width_of table → e.key ≡ k → passes_checks table (stored (change e)) ≡ true
+  pub passes : (e : Entry) → length e.values ≡ width_of table → e.key ≡ k
+      → passes_checks table (stored (change e)) ≡ true
 
-module _ (old new : State) (table : Table) (is : IsOfNumbers table) (sound : ∥ IsDatabase old.now ∥₁) (es : List Entry)
+module _ (old new : State) (table : Table) (is : IsOfNumbers table) (sound : ∥ IsDatabase old.now ∥₁)
+    (es : List Entry)
     (holds : Holds old.now table es)
-    (text : List ℕ) (k : ℤ) (more : Row) (change : Entry → Entry) (changes : ChangesAs table text k more change) where
+    (text : List ℕ) (k : ℤ) (more : Row) (change : Entry → Entry)
+    (changes : ChangesAs table text k more change) where
   abbrev db : Trees
   db = old.now.trees
 
@@ -88,9 +92,11 @@ module _ (old new : State) (table : Table) (is : IsOfNumbers table) (sound : ∥
 
   one_edit : (e : Entry) → edited db (set_by ((Int e.key ∷ stored (change e)) ∷ []))
       ≡ put_row (stored (change e)) (without_rowid e.key (db tree))
-  one_edit e = ap (λ row. put_row row (without_rowid e.key (db tree))) (cast_stored table is.key is.names (change e) is.columns)
+  one_edit e = ap (λ row. put_row row (without_rowid e.key (db tree)))
+      (cast_stored table is.key is.names (change e) is.columns)
 
-  set_one : (e : Entry) → find (has_key k) es ≡ Some e → edited db (set_by (shown e ∷ [])) ≡ map stored (changed change k es)
+  set_one : (e : Entry) → find (has_key k) es ≡ Some e
+      → edited db (set_by (shown e ∷ [])) ≡ map stored (changed change k es)
   set_one e found =
       let wide = found_all (λ x. length x.values ≡ width_of table) (has_key k) es e holds.rows.wide found in
       let key = changes.keeps_key e in
@@ -107,13 +113,15 @@ module _ (old new : State) (table : Table) (is : IsOfNumbers table) (sound : ∥
   pub set_rows : (rows : List Row) (o : Option Entry) → find (has_key k) es ≡ o → rows ≡ map shown (listed o)
       → Set (edited db (set_by rows)) (changed change k es) (length (set_by rows).news) (is_some o)
   set_rows rows None found are =
-      subst (λ rs. Set (edited db (set_by rs)) (changed change k es) (length (set_by rs).news) false) (sym are)
+      subst (λ rs. Set (edited db (set_by rs)) (changed change k es) (length (set_by rs).news) false)
+      (sym are)
       (subst (λ l. Set (db tree) l 0 false) (sym (none_changed change changes.keeps_key k es found))
       (record { stands = holds.rows; met = refl }))
   set_rows rows (Some e) found are =
       let wide = found_all (λ x. length x.values ≡ width_of table) (has_key k) es e holds.rows.wide found in
       let put_is = put_changed change changes.keeps_key k es e holds.rows.rise found in
-      let after = tree_put (db tree) (map stored (put (change e) es)) (change e) es (changes.keeps_width e wide) refl holds.rows in
+      let after = tree_put (db tree) (map stored (put (change e) es)) (change e) es
+      (changes.keeps_width e wide) refl holds.rows in
       subst (λ rs. Set (edited db (set_by rs)) (changed change k es) (length (set_by rs).news) true) (sym are)
       (record {
         stands = subst (λ rs. IsTree (width_of table) rs (changed change k es)) (sym (set_one e found))
@@ -126,10 +134,12 @@ module _ (old new : State) (table : Table) (is : IsOfNumbers table) (sound : ∥
       → Leaves old new table (changed change k es) × (count ≡ cond (is_some (find (has_key k) es)) 1 0)
   sets_row count h =
       let at = standing old.now table is.free sound holds.defined in
-      let wrote = updates old new text (Int k ∷ more) at.place (placed_at table tree) at.has.listed at.stands count _
+      let wrote = updates old new text (Int k ∷ more) at.place
+      (placed_at table tree) at.has.listed at.stands count _
       (changes.means old.now.schema at.place tree at.has) h in
       let met = under_overlay db tree at.has.low holds.rows in
-      let rows = keyed_answer Null tree changes.project (overlay db []) k more wrote.0 es met (wrote.1.answer Null) in
+      let rows = keyed_answer Null tree changes.project (overlay db []) k more wrote.0 es met
+      (wrote.1.answer Null) in
       let set = set_rows wrote.0 (find (has_key k) es) refl rows in (
         record {
           rows = edited db (set_by wrote.0);

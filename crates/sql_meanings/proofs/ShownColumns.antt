@@ -97,14 +97,18 @@ abbrev pub HasRoom : ℕ → List Output → Type 0
 HasRoom budget [] = Unit {0}
 HasRoom budget (o ∷ os) = (nat_lt 1 budget ≡ true) × HasRoom (budget - 1) os
 
-module _ (schema : Schema) (p : ℕ) (table : Table) (listed : slice_get schema.tables p ≡ Some table) (name : Name) (may : Bool) where
-  heading_is : (e : Expr) (text wanted : Name) (place : ℕ) (c : Column) → out-Expr e ≡ Expr-F.Column None wanted
+module _ (schema : Schema) (p : ℕ) (table : Table) (listed : slice_get schema.tables p ≡ Some table)
+    (name : Name) (may : Bool) where
+  heading_is : (e : Expr) (text wanted : Name) (place : ℕ) (c : Column)
+      → out-Expr e ≡ Expr-F.Column None wanted
       → column_named table wanted ≡ Some place → slice_get table.columns place ≡ Some c
       → heading (over_one schema name p [] may) e text ≡ c.name
   unfolding heading body.declared
-  heading_is e text wanted place c is named there = rw (is, found_is schema p table listed name [] may wanted place named, listed, there)
+  heading_is e text wanted place c is named there = rw
+      (is, found_is schema p table listed name [] may wanted place named, listed, there)
 
-  shown_is : (s : Shown) (o : Output) (done : List Output) (budget : ℕ) (l : Carried) → ShowsOne table s o → nat_lt 1 budget ≡ true
+  shown_is : (s : Shown) (o : Output) (done : List Output) (budget : ℕ) (l : Carried) → ShowsOne table s o
+      → nat_lt 1 budget ≡ true
       → shown lower (over_one schema name p [] may) (bound_to name p ∷ []) done s (st 2 budget l)
       ≡ Ok (done ++ o ∷ [], st 2 (budget - 1) o.carried)
   unfolding shown is_column
@@ -119,14 +123,16 @@ module _ (schema : Schema) (p : ℕ) (table : Table) (listed : slice_get schema.
       )
 
   -- the columns are those that are named
-  pub outputs_are : (ss : List Shown) (os done : List Output) (budget : ℕ) (l : Carried) → Shows table ss os → HasRoom budget os
+  pub outputs_are : (ss : List Shown) (os done : List Output) (budget : ℕ) (l : Carried) → Shows table ss os
+      → HasRoom budget os
       → outputs_from lower (over_one schema name p [] may) (bound_to name p ∷ []) done ss (st 2 budget l)
       ≡ Ok (done ++ os, st 2 (spent budget os) (last_of l os))
   outputs_are [] [] done budget l it room = rw append-nil
   outputs_are [] (o ∷ os) done budget l it room = absurd it
   outputs_are (s ∷ ss) [] done budget l it room = absurd it
   outputs_are (s ∷ ss) (o ∷ os) done budget l it room =
-      rw (shown_is s o done budget l it.0 room.0) (outputs_are ss os (done ++ o ∷ []) (budget - 1) o.carried it.1 room.1
+      rw (shown_is s o done budget l it.0 room.0)
+      (outputs_are ss os (done ++ o ∷ []) (budget - 1) o.carried it.1 room.1
       ∙ rw append_assoc)
 
 -- ---- computed of what was written
@@ -150,7 +156,8 @@ output_named table None = None
 output_named table (Some wanted) = output_in table (column_named table wanted)
 
 module _ (table : Table) (s : Shown) (o : Output) where
-  at_place : (e : Expr) (wanted text : Name) (place : ℕ) → out-Shown s ≡ Shown-F.One e None text → out-Expr e ≡ Expr-F.Column None wanted
+  at_place : (e : Expr) (wanted text : Name) (place : ℕ) → out-Shown s ≡ Shown-F.One e None text
+      → out-Expr e ≡ Expr-F.Column None wanted
       → column_named table wanted ≡ Some place → (c : Option Column) → slice_get table.columns place ≡ c
       → option_map (output_of table place) c ≡ Some o → ShowsOne table s o
   at_place e wanted text place written is named None there h = absurd cc
@@ -167,8 +174,10 @@ module _ (table : Table) (s : Shown) (o : Output) where
     out = cc;
   }
 
-  by_place : (e : Expr) (wanted text : Name) → out-Shown s ≡ Shown-F.One e None text → out-Expr e ≡ Expr-F.Column None wanted
-      → (place : Option ℕ) → column_named table wanted ≡ place → output_in table place ≡ Some o → ShowsOne table s o
+  by_place : (e : Expr) (wanted text : Name) → out-Shown s ≡ Shown-F.One e None text
+      → out-Expr e ≡ Expr-F.Column None wanted
+      → (place : Option ℕ) → column_named table wanted ≡ place → output_in table place ≡ Some o
+      → ShowsOne table s o
   by_place e wanted text written is None named h = absurd cc
   by_place e wanted text written is (Some place) named h =
       at_place e wanted text place written is named (slice_get table.columns place) refl h
@@ -179,7 +188,8 @@ module _ (table : Table) (s : Shown) (o : Output) where
       by_place e wanted text written is (column_named table wanted) refl h
   by_name e text written _ is h = absurd cc
 
-  by_layer : (x : ShownLayer) → out-Shown s ≡ x → output_named table (shown_name x) ≡ Some o → ShowsOne table s o
+  by_layer : (x : ShownLayer) → out-Shown s ≡ x → output_named table (shown_name x) ≡ Some o
+      → ShowsOne table s o
   by_layer (Shown-F.One e None text) is h = by_name e text is (out-Expr e) refl h
   by_layer _ is h = absurd cc
 

@@ -58,7 +58,8 @@ use Rattle.sql_meanings.proofs.Growing.{low_tree, sequenced}
 use Rattle.sql_meanings.specs.Making.{Adds, Keeps, counts_rows}
 
 -- a table stands on as another is made
-pub stands_after : (schema : Schema) (new table : Table) → Stands schema table → Stands (created schema new) table
+pub stands_after : (schema : Schema) (new table : Table) → Stands schema table
+    → Stands (created schema new) table
 stands_after schema new table stands = record {
   listed = has_left schema.tables _ table stands.listed;
   apart = λ t h same. elim (has_either schema.tables (record new { tree = next_tree schema } ∷ []) t h) [
@@ -101,7 +102,8 @@ test_cases false = inr refl
 
 -- a table that has its tree to itself is found by it
 pub found_apart : (tables : List Table) (table : Table) → Has tables table
-    → ((t : Table) → Has tables t → t.tree ≡ table.tree → t ≡ table) → find (λ t. t.tree == table.tree) tables ≡ Some table
+    → ((t : Table) → Has tables t → t.tree ≡ table.tree → t ≡ table)
+    → find (λ t. t.tree == table.tree) tables ≡ Some table
 found_apart [] table h apart = absurd h
 found_apart (u ∷ tables) table h apart = elim (test_cases (u.tree == table.tree)) [
   | inl same ↦ rw same (ap Some (apart u (inl refl) (eqb_true _ _ same)))
@@ -118,7 +120,8 @@ pub record Placed (tables : List Table) (i : ℕ) (table : Table) : Type 0 where
   pub named : position_from (λ t. same_name t.name table.name) i tables ≡ Some (i + at)
   pub listed : slice_get tables at ≡ Some table
 
-placed : (tables : List Table) (i : ℕ) (table : Table) → IsAscending (λ s t. same_name s.name t.name ≡ false) tables → Has tables table
+placed : (tables : List Table) (i : ℕ) (table : Table)
+    → IsAscending (λ s t. same_name s.name t.name ≡ false) tables → Has tables table
     → Placed tables i table
 placed [] i table named h = absurd h
 placed (u ∷ tables) i table named (inl is) = record {
@@ -178,23 +181,28 @@ ok_same : {B E : Type 0} {a b : B} → ◌≡◌ {A = Result B E} (Ok a) (Ok b) 
 ok_same e = cc
 
 -- a table more that doesn't count its rows
-pub counts_created : (schema : Schema) (t : Table) → t.is_counted ≡ false → counts_rows schema ≡ false → counts_rows (created schema t) ≡ false
+pub counts_created : (schema : Schema) (t : Table) → t.is_counted ≡ false → counts_rows schema ≡ false
+    → counts_rows (created schema t) ≡ false
 counts_created schema t last none =
-    list_any-append (λ (u : Table). u.is_counted) schema.tables (record t { tree = next_tree schema } ∷ []) ∙ rw (none, last) refl
+    list_any-append (λ (u : Table). u.is_counted) schema.tables (record t { tree = next_tree schema } ∷ [])
+    ∙ rw (none, last) refl
 
 -- where no table counts its rows, none is made that counts for it
-none_counted : (old after : Database) → MakesSequence old (Ok after) → counts_rows old.schema ≡ false → old ≡ after
+none_counted : (old after : Database) → MakesSequence old (Ok after) → counts_rows old.schema ≡ false
+    → old ≡ after
 none_counted old after h none =
     let has : lacks_sequence old.schema ≡ false = rw none refl in
     let same = rw has at h in
     cc
 
 -- CREATE TABLE of a table with no foreign key, done
-pub adds : (limit : Option ℕ) (mode : Mode) (params : Row) (old after : Database) (text : List ℕ) (tally : Tally) (t : Table)
+pub adds : (limit : Option ℕ) (mode : Mode) (params : Row) (old after : Database) (text : List ℕ)
+    (tally : Tally) (t : Table)
     → table_defined_by text ≡ Ok t → t.references ≡ []
     → Does limit mode params old text None CreateTable (Ok (tally, after)) → Adds old after t
 adds limit mode params old after text tally t defined free h =
-    let all = through (Then (MakesTable text old) MakesSequence) (λ (db : Database). Gives (no_rows mode.in_doubt, db))
+    let all = through (Then (MakesTable text old) MakesSequence)
+    (λ (db : Database). Gives (no_rows mode.in_doubt, db))
     (tally, after) h in
     let both = through (MakesTable text old) MakesSequence all.0 all.1 in
     let mid = both.0 in
@@ -211,5 +219,6 @@ adds limit mode params old after text tally t defined free h =
       empty = second.rows new there.listed ∙ made.empty;
       alone = λ none.
           let grown : mid.schema ≡ created old.schema t = made.is ∙ ap (created old.schema) is in
-          ap (λ (db : Database). db.schema) (sym (none_counted mid all.0 both.2 (ap counts_rows grown ∙ none) ∙ last)) ∙ grown;
+          ap (λ (db : Database). db.schema)
+          (sym (none_counted mid all.0 both.2 (ap counts_rows grown ∙ none) ∙ last)) ∙ grown;
     }

@@ -1,5 +1,6 @@
 -- Statements over one table, under any schema that has it.
-use Rattle.std.proofs.Common.{◌≡◌, ℕ, ◌+◌, ◌^◌, ◌==◌, List, [], ◌∷◌, find, Ok, Some, None, Option, slice_get, false, nat_le, ◌∙◌}
+use Rattle.std.proofs.Common.{◌≡◌, ℕ, ◌+◌, ◌^◌, ◌==◌, List, [], ◌∷◌, find, Ok, Some, None, Option, slice_get}
+use Rattle.std.proofs.Common.{false, nat_le, ◌∙◌}
 use Rattle.sqlite_schema.specs.Names.{table_named}
 use Rattle.sqlite_schema.specs.declared.program.Program.{Program}
 use Rattle.sqlite_schema.specs.declared.command.Command.{Command}
@@ -55,14 +56,16 @@ pub record HasTable (schema : Schema) (name : Name) (p : ℕ) (table : Table) : 
 
 module _ (schema : Schema) (name : Name) (p : ℕ) (table : Table) (has : HasTable schema name p table) where
   -- UPDATE
-  pub update_is : (sets : List (Name × Expr)) (test : Option Expr) (d : Draft) (q : Program) → w.updated schema p table sets test ≡ Ok d
+  pub update_is : (sets : List (Name × Expr)) (test : Option Expr) (d : Draft) (q : Program)
+      → w.updated schema p table sets test ≡ Ok d
       → prog.program schema [] d ≡ Ok q
       → update schema name sets test ≡ Ok (Update p q)
   unfolding update
   update_is sets test d q one two = rw (has.named, has.listed, one, two)
 
   -- INSERT
-  pub insert_is : (base : ℕ) (columns : List Name) (rows : Rows) (s : Source) → new_rows schema table base columns rows ≡ Ok s
+  pub insert_is : (base : ℕ) (columns : List Name) (rows : Rows) (s : Source)
+      → new_rows schema table base columns rows ≡ Ok s
       → insert_or_abort schema base name columns rows [] ≡ Ok (Insert p s)
   unfolding insert insert_or_abort
   insert_is base columns rows s one = rw (has.named, has.listed, one)
@@ -72,33 +75,41 @@ module _ (schema : Schema) (name : Name) (p : ℕ) (table : Table) (has : HasTab
   formats_are = rw (has.named, has.listed)
 
   -- UPDATE of one column
-  pub updated_is : (wanted : Name) (e test : Expr) (at : List ℕ) (x y : Term) (project : List Term) (b1 b2 : ℕ) (l1 l2 : Carried)
+  pub updated_is : (wanted : Name) (e test : Expr) (at : List ℕ) (x y : Term) (project : List Term)
+      (b1 b2 : ℕ) (l1 l2 : Carried)
       → w.with_place table [] wanted ≡ Ok at
       → lower (over_one schema table.name p [] false) e (st 2 100000 nothing) ≡ Ok (x, st 2 b1 l1)
       → w.row table None at (col 1 0 ∷ []) (x ∷ []) ≡ Ok project
       → lower (over_one schema table.name p [] false) test (st 2 b1 l1) ≡ Ok (y, st 2 b2 l2)
-      → w.updated schema p table ((wanted, e) ∷ []) (Some test) ≡ Ok (w.simple (Inner table.tree ∷ []) (conjuncts y) project)
+      → w.updated schema p table ((wanted, e) ∷ []) (Some test) ≡ Ok
+      (w.simple (Inner table.tree ∷ []) (conjuncts y) project)
   unfolding w.updated w.updated_in w.assigned w.sets w.picked tests any_scans
   updated_is wanted e test at x y project b1 b2 l1 l2 place one whole two = rw (place, one, whole, two)
 
 -- a text that is an UPDATE
-pub compiled_update : (schema : Schema) (text : List ℕ) (P : Parsed) (name : Name) (sets : List (Name × Expr)) (test : Option Expr)
+pub compiled_update : (schema : Schema) (text : List ℕ) (P : Parsed) (name : Name) (sets : List (Name × Expr))
+    (test : Option Expr)
     (c : Command) → first text ≡ Ok P → P.statement ≡ written.Update name sets test []
-    → P.formats ≡ [] → update schema name sets test ≡ Ok c → compiled schema text ≡ Ok (with_command P ([], (c, None)))
+    → P.formats ≡ [] → update schema name sets test ≡ Ok c
+    → compiled schema text ≡ Ok (with_command P ([], (c, None)))
 unfolding compiled planned timed meaning returning command shows
 compiled_update schema text P name sets test c parsed is plain made = rw (parsed, is, plain, made)
 
 -- a text that is an INSERT
-pub compiled_insert : (schema : Schema) (text : List ℕ) (P : Parsed) (name : Name) (columns : List Name) (rows : Rows) (c : Command)
+pub compiled_insert : (schema : Schema) (text : List ℕ) (P : Parsed) (name : Name) (columns : List Name)
+    (rows : Rows) (c : Command)
     → first text ≡ Ok P
-    → P.statement ≡ written.Insert conflict.Abort name columns rows [] [] → P.formats ≡ [] → formats_of schema name ≡ []
+    → P.statement ≡ written.Insert conflict.Abort name columns rows [] [] → P.formats ≡ []
+    → formats_of schema name ≡ []
     → insert_or_abort schema (small P.names + 0) name columns rows [] ≡ Ok c
     → compiled schema text ≡ Ok (with_command P ([], (c, None)))
 unfolding compiled planned timed meaning returning command shows
-compiled_insert schema text P name columns rows c parsed is plain untimed made = rw (parsed, is, plain, untimed, made)
+compiled_insert schema text P name columns rows c parsed is plain untimed made = rw
+    (parsed, is, plain, untimed, made)
 
 -- a text that is a SELECT
-pub compiled_select : (schema : Schema) (text : List ℕ) (P : Parsed) (s : written_select.Select) (c : Command) → first text ≡ Ok P
+pub compiled_select : (schema : Schema) (text : List ℕ) (P : Parsed) (s : written_select.Select) (c : Command)
+    → first text ≡ Ok P
     → P.statement ≡ written.Select s
     → P.formats ≡ [] → read schema s ≡ Ok c → compiled schema text ≡ Ok (with_command P ([], (c, None)))
 unfolding compiled planned timed meaning returning command shows
@@ -106,18 +117,23 @@ compiled_select schema text P s c parsed is plain made = rw (parsed, is, plain, 
 
 module _ (schema : Schema) (name : Name) (p : ℕ) (table : Table) (has : HasTable schema name p table) where
   -- INSERT .. VALUES, whole
-  pub inserts : (text : List ℕ) (P : Parsed) (columns : List Name) (rows : Rows) (s : Source) → first text ≡ Ok P
+  pub inserts : (text : List ℕ) (P : Parsed) (columns : List Name) (rows : Rows) (s : Source)
+      → first text ≡ Ok P
       → P.statement ≡ written.Insert conflict.Abort name columns rows [] []
-      → P.formats ≡ [] → table.stamps.formats ≡ [] → new_rows schema table (small P.names + 0) columns rows ≡ Ok s
+      → P.formats ≡ [] → table.stamps.formats ≡ []
+      → new_rows schema table (small P.names + 0) columns rows ≡ Ok s
       → compiled schema text ≡ Ok (with_command P ([], (Insert p s, None)))
   inserts text P columns rows s parsed is plain untimed made =
-      compiled_insert schema text P name columns rows (Insert p s) parsed is plain (formats_are schema name p table has
+      compiled_insert schema text P name columns rows (Insert p s) parsed is plain
+      (formats_are schema name p table has
       ∙ untimed) (insert_is schema name p table has (small P.names + 0) columns rows s made)
 
   -- UPDATE of one column, whole
-  pub updates : (text : List ℕ) (P : Parsed) (wanted : Name) (e test : Expr) (at : List ℕ) (x y : Term) (project : List Term) (b1 b2 : ℕ)
+  pub updates : (text : List ℕ) (P : Parsed) (wanted : Name) (e test : Expr) (at : List ℕ) (x y : Term)
+      (project : List Term) (b1 b2 : ℕ)
       (l1 l2 : Carried) (q : Program)
-      → first text ≡ Ok P → P.statement ≡ written.Update name ((wanted, e) ∷ []) (Some test) [] → P.formats ≡ []
+      → first text ≡ Ok P → P.statement ≡ written.Update name ((wanted, e) ∷ []) (Some test) []
+      → P.formats ≡ []
       → w.with_place table [] wanted ≡ Ok at
       → lower (over_one schema table.name p [] false) e (st 2 100000 nothing) ≡ Ok (x, st 2 b1 l1)
       → w.row table None at (col 1 0 ∷ []) (x ∷ []) ≡ Ok project

@@ -1,5 +1,6 @@
 -- What a statement takes of a table that is defined, and what a step on one table leaves of the others.
-use Rattle.std.proofs.Common.{◌≡◌, ◌≢◌, ℕ, ◌^◌, List, [], Some, None, Option, slice_get, nat_le, refl, sym, ap, subst, ◌∙◌, false}
+use Rattle.std.proofs.Common.{◌≡◌, ◌≢◌, ℕ, ◌^◌, List, [], Some, None, Option, slice_get, nat_le, refl, sym}
+use Rattle.std.proofs.Common.{ap, subst, ◌∙◌, false}
 use Rattle.std.proofs.Math.Logic.{∥∥₁_elim}
 use Rattle.std.specs.Prelude.{option_and_then}
 use Rattle.std.specs.Coded.{coded_bool}
@@ -33,7 +34,8 @@ found : (schema : Schema) (table : Table) → Defines schema table → Found sch
 found schema table d = go (table_named schema table.name) refl d.found
   where
     go : (o : Option ℕ) → table_named schema table.name ≡ o
-        → option_and_then (slice_get schema.tables) o ≡ Some (placed_at table (tree_of schema table.name)) → Found schema table
+        → option_and_then (slice_get schema.tables) o ≡ Some (placed_at table (tree_of schema table.name))
+        → Found schema table
     go None is h = absurd (cc)
     go (Some p) is h = record { place = p; named = is; listed = h }
 
@@ -44,7 +46,8 @@ low db table free sound d =
     (low_tree db.schema db.trees (placed_at table (tree_of db.schema table.name)) it (defined_stands db.schema table free d).listed))
 
 -- a table that is defined is found, and stands
-pub standing : (db : Database) (table : Table) → table.references ≡ [] → ∥ IsDatabase db ∥₁ → Defines db.schema table
+pub standing : (db : Database) (table : Table) → table.references ≡ [] → ∥ IsDatabase db ∥₁
+    → Defines db.schema table
     → Standing db.schema table
 standing db table free sound d =
     let at = found db.schema table d in
@@ -63,7 +66,8 @@ standing db table free sound d =
     }
 
 -- two names have two trees
-pub trees_apart : (schema : Schema) (a b : Table) → a.references ≡ [] → b.references ≡ [] → Defines schema a → Defines schema b
+pub trees_apart : (schema : Schema) (a b : Table) → a.references ≡ [] → b.references ≡ [] → Defines schema a
+    → Defines schema b
     → a.name ≢ b.name → tree_of schema a.name ≢ tree_of schema b.name
 trees_apart schema a b free free' p q other same =
     let ours = (defined_stands schema a free p).listed in
@@ -75,26 +79,32 @@ trees_apart schema a b free free' p q other same =
 pub record Steps (old after : Database) (name : List ℕ) (rows : List Row) : Type 0 where
   pub schema : after.schema ≡ old.schema
   pub now : after.trees (tree_of old.schema name) ≡ rows
-  pub others : (t : Table) → Stands old.schema t → t.tree ≢ tree_of old.schema name → after.trees t.tree ≡ old.trees t.tree
+  pub others : (t : Table) → Stands old.schema t → t.tree ≢ tree_of old.schema name
+      → after.trees t.tree ≡ old.trees t.tree
 
-module _ (old after : Database) (table : Table) (rows : List Row) (steps : Steps old after table.name rows) (free : table.references
+module _ (old after : Database) (table : Table) (rows : List Row) (steps : Steps old after table.name rows)
+    (free : table.references
     ≡ []) where
   -- the table that was written holds its rows
-  pub stepped : (es : List Entry) → Defines old.schema table → IsTree (width_of table) rows es → Holds after table es
+  pub stepped : (es : List Entry) → Defines old.schema table → IsTree (width_of table) rows es
+      → Holds after table es
   stepped es d tree = record {
     defined = subst (λ s. Defines s table) (sym steps.schema) d;
-    rows = subst (λ rs. IsTree (width_of table) rs es) (sym (ap (λ (s : Schema). after.trees (tree_of s table.name)) steps.schema
+    rows = subst (λ rs. IsTree (width_of table) rs es)
+        (sym (ap (λ (s : Schema). after.trees (tree_of s table.name)) steps.schema
         ∙ steps.now)) tree;
   }
 
   -- every other holds what it held
-  pub stayed : (other : Table) (es : List Entry) → other.references ≡ [] → other.name ≢ table.name → Defines old.schema table
+  pub stayed : (other : Table) (es : List Entry) → other.references ≡ [] → other.name ≢ table.name
+      → Defines old.schema table
       → Holds old other es → Holds after other es
   stayed other es free' apart d holds = record {
     defined = subst (λ s. Defines s other) (sym steps.schema) holds.defined;
     rows = subst (λ rs. IsTree (width_of other) rs es)
         (sym (ap (λ (s : Schema). after.trees (tree_of s other.name)) steps.schema
-        ∙ steps.others (placed_at other (tree_of old.schema other.name)) (defined_stands old.schema other free' holds.defined)
+        ∙ steps.others (placed_at other (tree_of old.schema other.name))
+        (defined_stands old.schema other free' holds.defined)
         (trees_apart old.schema other table free' free holds.defined d apart)))
         holds.rows;
   }

@@ -1,5 +1,7 @@
--- The error of a write inside a transaction: the text is no statement, the command tells it, or the store failed.
-use Rattle.std.proofs.Common.{◌≡◌, ◌⊎◌, inl, inr, ℕ, List, [], None, Some, Ok, Err, Bool, ◌&&◌, ◌||◌, true, false, append-nil, refl, ap, subst, ◌∙◌}
+-- The error of a write inside a transaction: the text is no statement, the command tells it, or the store
+-- failed.
+use Rattle.std.proofs.Common.{◌≡◌, ◌⊎◌, inl, inr, ℕ, List, [], None, Some, Ok, Err, Bool, ◌&&◌, ◌||◌, true}
+use Rattle.std.proofs.Common.{false, append-nil, refl, ap, subst, ◌∙◌}
 use Rattle.std.specs.Prelude.{⊤}
 use Rattle.sqlite.specs.Order.{Row}
 use Rattle.sqlite.specs.Command.{Command}
@@ -8,11 +10,14 @@ use Rattle.sqlite.specs.Clock.{timed}
 use Rattle.sqlite.specs.Listing.{understood}
 use Rattle.sqlite.specs.Does.{Does}
 use Rattle.sqlite.specs.Effect.{is_query}
-use Rattle.sqlite.specs.State.{State, mode_of, ExecutesIn, ExecutesInside, EndsScope, Escapes, IsMisplaced, IsNoStatement, IsNotRun, IsUnchanged, Fails, HasCause, RunsCommand, is_pragma, shows_rows, text_of}
+use Rattle.sqlite.specs.State.{State, mode_of, ExecutesIn, ExecutesInside, EndsScope, Escapes, IsMisplaced}
+use Rattle.sqlite.specs.State.{IsNoStatement, IsNotRun, IsUnchanged, Fails, HasCause, RunsCommand, is_pragma}
+use Rattle.sqlite.specs.State.{shows_rows, text_of}
 use Rattle.sqlite.specs.declared.error.Error.{Error}
 use Rattle.sqlite_resolve.specs.declared.compiled.Compiled.{Compiled}
 use Rattle.sqlite_trees.specs.declared.error.StoreError.{StoreError}
-use Rattle.sqlite_trees.specs.declared.error.StoreError.TheVariants.{OutOfMemory, Io, Corrupt, Full, Broken, Unstorable}
+use Rattle.sqlite_trees.specs.declared.error.StoreError.TheVariants.{OutOfMemory, Io, Corrupt, Full, Broken}
+use Rattle.sqlite_trees.specs.declared.error.StoreError.TheVariants.{Unstorable}
 
 -- the command puts rows in, changes rows or makes a table
 abbrev pub is_write : Command → Bool
@@ -40,13 +45,15 @@ fails_for old new e P Q then h = (h.0, h.1, cause h.0 h.2, h.3, h.4)
     cause Unstorable c = then c
 
 -- a failure of the store, where a row can't be stored for one of two reasons
-pub fails_split : (old new : State) (e : Error) (P Q : Type 0) → Fails old new (P ⊎ Q) e → Fails old new P e ⊎ (Q × Fails old new ⊤ e)
+pub fails_split : (old new : State) (e : Error) (P Q : Type 0) → Fails old new (P ⊎ Q) e
+    → Fails old new P e ⊎ (Q × Fails old new ⊤ e)
 fails_split old new e P Q h = elim (cause h.0 h.2) [
   | inl first ↦ inl (h.0, h.1, first, h.3, h.4)
   | inr second ↦ inr (second.0, (h.0, h.1, second.1, h.3, h.4))
 ]
   where
-    cause : (kind : StoreError) → HasCause old new (P ⊎ Q) kind → HasCause old new P kind ⊎ (Q × HasCause old new ⊤ kind)
+    cause : (kind : StoreError) → HasCause old new (P ⊎ Q) kind
+        → HasCause old new P kind ⊎ (Q × HasCause old new ⊤ kind)
     cause OutOfMemory c = inl c
     cause Io c = inl c
     cause Corrupt c = inl c
@@ -72,18 +79,22 @@ placed s command e write (inr (is, name, inr h, none)) = let k = ap is_write h i
 shows_none : (c : Compiled) → is_write c.command ≡ true → c.returning ≡ None → shows_rows false c ≡ false
 shows_none c write bare = rw bare (go c.command write)
   where
-    go : (command : Command) → is_write command ≡ true → (is_query command || (true && (is_pragma command || false))) ≡ false
+    go : (command : Command) → is_write command ≡ true
+        → (is_query command || (true && (is_pragma command || false))) ≡ false
     go (Insert at from) h = refl
     go (Update at q) h = refl
     go CreateTable h = refl
     go _ h = absurd (let e = h in cc)
 
-module _ (old new : State) (text : List ℕ) (params : Row) (command : Command) (write : is_write command ≡ true) (e : Error)
+module _ (old new : State) (text : List ℕ) (params : Row) (command : Command)
+    (write : is_write command ≡ true) (e : Error)
     (known : (c : Compiled) → understood old.now.schema text ≡ Ok c → (c.command ≡ command) × (c.returning ≡ None) × (c.formats ≡ []))
   where
-    ran : (c : Compiled) → c.command ≡ command → c.returning ≡ None → RunsCommand old new text c params (Err e)
+    ran : (c : Compiled) → c.command ≡ command → c.returning ≡ None
+        → RunsCommand old new text c params (Err e)
         → Stops old new (text_of text c) command params e
-    ran c is bare (inl (inl misplaced, same)) = absurd (placed old c.command e (ap is_write is ∙ write) misplaced)
+    ran c is bare (inl (inl misplaced, same)) = absurd
+        (placed old c.command e (ap is_write is ∙ write) misplaced)
     ran c is bare (inl (inr does, same)) = inl (rw (is, bare) at does.1, same)
     ran c is bare (inr fails) = inr (rw (is, bare) at fails)
 

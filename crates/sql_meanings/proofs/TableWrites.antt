@@ -43,7 +43,8 @@ numbers_at table tree is = record {
 }
 
 -- what a write that is done leaves of every table
-pub steps_by : (old new : State) (edit : Edit) (count : ℕ) (name : List ℕ) → edit.table.tree ≡ tree_of old.now.schema name
+pub steps_by : (old new : State) (edit : Edit) (count : ℕ) (name : List ℕ)
+    → edit.table.tree ≡ tree_of old.now.schema name
     → Wrote old new edit count → Steps old.now new.now name (edited old.now.trees edit)
 steps_by old new edit count name at wrote = record {
   schema = wrote.schema;

@@ -1,5 +1,6 @@
 -- What a text means of a table in whatever schema, by what is computed of the text alone.
-use Rattle.std.proofs.Common.{◌≡◌, ◌≤◌, ◌<◌, ℕ, ℤ, List, [], ◌∷◌, length, map, Ok, Err, Some, None, Option, refl, true, false, ap, arith, zero, suc, ◌+◌, ◌/◌}
+use Rattle.std.proofs.Common.{◌≡◌, ◌≤◌, ◌<◌, ℕ, ℤ, List, [], ◌∷◌, length, map, Ok, Err, Some, None, Option}
+use Rattle.std.proofs.Common.{refl, true, false, ap, arith, zero, suc, ◌+◌, ◌/◌}
 use Rattle.std.proofs.lemmas.List.{length-map}
 use Rattle.sqlite.specs.Listing.{listing_schema, understood}
 use Rattle.sqlite.specs.Query.{inner, end}
@@ -44,7 +45,8 @@ use Rattle.sql_meanings.proofs.OnlyShowing.{only_understood}
 use Rattle.sql_meanings.proofs.Probing.{ProbesAs, refuses_query, understood_missing}
 use Rattle.sql_meanings.proofs.ReadTables.{ReadsAs}
 use Rattle.sql_meanings.proofs.Selects.{one_table, select_all, select_by_key}
-use Rattle.sql_meanings.proofs.ShownColumns.{has_room, is_left, output_named, outputs_at, shown_name, shows_named, spent}
+use Rattle.sql_meanings.proofs.ShownColumns.{has_room, is_left, output_named, outputs_at, shown_name}
+use Rattle.sql_meanings.proofs.ShownColumns.{shows_named, spent}
 use Rattle.sql_meanings.proofs.Statements.{HasTable, inserts}
 
 -- a SELECT as it is written: it shows the columns at these places of one table
@@ -70,8 +72,10 @@ pub record IsSelect (table : Table) (text : List ℕ) (count : ℕ) (places : Li
   pub few : length places < 1000
 
 -- a text is such a SELECT where that computes
-abbrev pub select_of : (table : Table) (text : List ℕ) (count : ℕ) (places : List ℕ) (P : Parsed) (s : written_select.Select) (core : Core)
-    (source : From) (shown : List Shown) (filter : Option Expr) (order : List Sort) (limit : Option Expr) → first text ≡ Ok P
+abbrev pub select_of : (table : Table) (text : List ℕ) (count : ℕ) (places : List ℕ) (P : Parsed)
+    (s : written_select.Select) (core : Core)
+    (source : From) (shown : List Shown) (filter : Option Expr) (order : List Sort) (limit : Option Expr)
+    → first text ≡ Ok P
     → P.statement ≡ written.Select s → P.formats ≡ [] → length text ≤ P.tail → count ≡ length P.names
     → out-Select s ≡ record { with = []; first = core; others = []; order = order; limit = limit; offset = None }
     → out-Core core ≡ record { distinct = false; shown = shown; from = source ∷ []; filter = filter; group = []; having = None }
@@ -102,17 +106,21 @@ select_of table text count places P s core source shown filter order limit parse
     }
 
 -- under any schema it only shows rows
-pub only_reads : {table : Table} {text : List ℕ} {count : ℕ} {places : List ℕ} → IsSelect table text count places → (schema : Schema)
+pub only_reads : {table : Table} {text : List ℕ} {count : ℕ} {places : List ℕ}
+    → IsSelect table text count places → (schema : Schema)
     → OnlyShows text count (understood schema text)
-only_reads {table} {text} {count} {places} is = only_understood text count is.P is.s is.parsed is.statement is.plain is.whole is.given
+only_reads {table} {text} {count} {places} is =
+    only_understood text count is.P is.s is.parsed is.statement is.plain is.whole is.given
 
 -- few columns are few outputs
 pub many : (table : Table) (places : List ℕ) → length places < 1000 → length (outputs_at table places) < 1000
 many table places few = simp length-map few
 
 -- what is left over of the room for them
-pub left_over : (table : Table) (places : List ℕ) → length places < 1000 → 90000 < spent 100000 (outputs_at table places)
-left_over table places few = let n = many table places few in rw (is_left 100000 (outputs_at table places)) (omega arith)
+pub left_over : (table : Table) (places : List ℕ) → length places < 1000
+    → 90000 < spent 100000 (outputs_at table places)
+left_over table places few = let n = many table places few in rw (is_left 100000 (outputs_at table places))
+    (omega arith)
 
 module _ (table : Table) (text : List ℕ) (places : List ℕ) where
   -- SELECT columns FROM table
@@ -128,10 +136,14 @@ module _ (table : Table) (text : List ℕ) (places : List ℕ) where
     there = λ schema p tree has.
         let low = many (placed_at table tree) places is.few in
         let m = means schema text 0 _ _ (select_all schema table.name p (placed_at table tree) has text is.P is.s is.core is.source is.shown
-        (outputs_at (placed_at table tree) places) _ is.parsed is.statement is.plain (rw (unordered, unlimited) at is.select) (rw whole at is.body) is.from
-        (shows_named _ _ _ (is.shows tree)) (has_room 100000 _ (omega arith)) (typed schema p tree has)) refl is.whole is.given refl refl in (m.found, m.is);
-    missing = λ schema a b. understood_missing schema text (refuses_query schema table.name a b text is.P is.s is.core is.source [] is.parsed
-        is.statement is.plain (rw (unordered, unlimited) at is.select) (ap (λ c. c.from) is.body) (ap (λ c. c.origin) is.from)) unlisted;
+        (outputs_at (placed_at table tree) places) _ is.parsed is.statement is.plain
+        (rw (unordered, unlimited) at is.select) (rw whole at is.body) is.from
+        (shows_named _ _ _ (is.shows tree)) (has_room 100000 _ (omega arith))
+        (typed schema p tree has)) refl is.whole is.given refl refl in (m.found, m.is);
+    missing = λ schema a b. understood_missing schema text
+        (refuses_query schema table.name a b text is.P is.s is.core is.source [] is.parsed
+        is.statement is.plain (rw (unordered, unlimited) at is.select) (ap (λ c. c.from) is.body)
+        (ap (λ c. c.origin) is.from)) unlisted;
   }
 
   -- SELECT columns FROM table WHERE key = ?1
@@ -139,7 +151,8 @@ module _ (table : Table) (text : List ℕ) (places : List ℕ) where
       → ((tree : ℕ) → Tests (placed_at table tree) wanted 0)
       → is.order ≡ [] → is.limit ≡ None
       → is.filter ≡ Some test
-      → out-Expr test ≡ Expr-F.Binary binary.Eq a b → out-Expr a ≡ Expr-F.Column None wanted → out-Expr b ≡ Expr-F.Parameter 1
+      → out-Expr test ≡ Expr-F.Binary binary.Eq a b → out-Expr a ≡ Expr-F.Column None wanted
+      → out-Expr b ≡ Expr-F.Parameter 1
       → ((schema : Schema) (p tree : ℕ) → HasTable schema table.name p (placed_at table tree)
       → prog.program schema [] (ungrouped (Inner tree ∷ []) key_is (outputs_at (placed_at table tree) places) false [] no_limit (number 0))
       ≡ Ok (record { lets = []; body = by_key tree terms }))
@@ -153,8 +166,10 @@ module _ (table : Table) (text : List ℕ) (places : List ℕ) where
         let low = many (placed_at table tree) places is.few in
         let rest = left_over (placed_at table tree) places is.few in
         means schema text 1 _ _ (select_by_key schema table.name p (placed_at table tree) has text is.P is.s is.core is.source is.shown test a b
-        wanted 0 1 (tests tree) os _ is.parsed is.statement is.plain (rw (unordered, unlimited) at is.select) (rw filtered at is.body) is.from equal left
-        right (shows_named _ _ _ (is.shows tree)) (has_room 100000 _ (omega arith)) (key_at schema table.name p os false) (grind arith) (grind arith) (grind arith)
+        wanted 0 1 (tests tree) os _ is.parsed is.statement is.plain (rw (unordered, unlimited) at is.select)
+        (rw filtered at is.body) is.from equal left
+        right (shows_named _ _ _ (is.shows tree)) (has_room 100000 _ (omega arith))
+        (key_at schema table.name p os false) (grind arith) (grind arith) (grind arith)
         (typed schema p tree has)) refl is.whole is.given refl refl;
     accepts = accepts;
     unfolded = λ _. refl;
@@ -170,11 +185,14 @@ abbrev pub put_terms : ℕ → List Term
 put_terms count = col 0 0 ∷ lit Null ∷ parameters 1 count
 
 -- INSERT INTO table (columns) VALUES (?1, ..)
-pub puts_by : (table : Table) (text : List ℕ) (params : Row) (new : Entry) (count : ℕ) (P : Parsed) (columns : List Name) (rows : Rows)
-    → first text ≡ Ok P → P.statement ≡ written.Insert conflict.Abort table.name columns rows [] [] → P.formats ≡ []
+pub puts_by : (table : Table) (text : List ℕ) (params : Row) (new : Entry) (count : ℕ) (P : Parsed)
+    (columns : List Name) (rows : Rows)
+    → first text ≡ Ok P → P.statement ≡ written.Insert conflict.Abort table.name columns rows [] []
+    → P.formats ≡ []
     → table.stamps.formats ≡ []
     → ((schema : Schema) (tree : ℕ)
-    → new_rows schema (placed_at table tree) (small P.names + 0) columns rows ≡ Ok (Values (put_terms count) (count + 2)))
+    → new_rows schema (placed_at table tree) (small P.names + 0) columns rows ≡ Ok
+    (Values (put_terms count) (count + 2)))
     → length text ≤ P.tail → length params ≡ length P.names
     → ((tree : ℕ) → value_rows (stamped (placed_at table tree) params) (count + 2) (length (put_terms count) / (count + 2)) (put_terms count)
     ≡ stored new ∷ [])

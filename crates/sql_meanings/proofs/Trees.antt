@@ -27,7 +27,8 @@ nat_set = Coded-set coded_ℕ
 -- that a tree is of these rows is a proposition
 pub IsTree-prop : (width : ℕ) (rows : List Row) (es : List Entry) → IsProp (IsTree width rows es)
 IsTree-prop width rows es = let up : IsProp (Rise es) = IsAscending-prop _ (λ a b. Ordering-set _ Less) es in
-    let wide : IsProp (AllByRecursion (λ e. length e.values ≡ width) es) = AllByRecursion-prop _ (λ e. nat_set _ width) es in
+    let wide : IsProp (AllByRecursion (λ e. length e.values ≡ width) es) = AllByRecursion-prop _
+    (λ e. nat_set _ width) es in
     hlevel (rows_set, up, wide)
 
 -- what a database holds of a table is a proposition

@@ -80,7 +80,8 @@ passes_is : (one two key : ℤ) (values : List ℤ) → list_all
 unfolding binary
 passes_is one two key [] = refl
 passes_is one two key (t ∷ []) = and_false _
-passes_is one two key (t ∷ n ∷ more) = first_two_test one two key t n more ∙ and_true (int_eq t one) (int_eq n two)
+passes_is one two key (t ∷ n ∷ more) = first_two_test one two key t n more ∙ and_true (int_eq t one)
+    (int_eq n two)
 
 -- ---- UNIQUE
 
@@ -96,7 +97,8 @@ none_any : {X : Type 0} (p : X → Bool) (xs : List X) (x : X) → list_any p xs
 none_any p [] x h k = absurd k
 none_any p (y ∷ xs) x h k = go (p y) refl h k (none_any p xs x)
   where
-    go : (b : Bool) → p y ≡ b → (b || list_any p xs) ≡ false → (x ≡ y) ⊎ Has xs x → (list_any p xs ≡ false → Has xs x → p x ≡ false)
+    go : (b : Bool) → p y ≡ b → (b || list_any p xs) ≡ false → (x ≡ y) ⊎ Has xs x
+        → (list_any p xs ≡ false → Has xs x → p x ≡ false)
         → p x ≡ false
     go true apart h k more = absurd (true≢false h)
     go false apart h (inl e) more = ap p e ∙ apart
@@ -114,7 +116,8 @@ same_two a b k p q = grind (arith, ints)
 abbrev pub Clear : List Entry → Type 0
 Clear es = (e : Entry) → Has es e → clashes plain (2 ∷ 3 ∷ []) (map stored es) (stored e) ≡ false
 
-two_clash : (one two a b : ℤ) (xs ys : List ℤ) → int_cmp a b ≡ Less → begins_with one two xs ≡ true → begins_with one two ys ≡ true
+two_clash : (one two a b : ℤ) (xs ys : List ℤ) → int_cmp a b ≡ Less → begins_with one two xs ≡ true
+    → begins_with one two ys ≡ true
     → (agree plain (2 ∷ 3 ∷ []) (stored (record { key = a; values = xs })) (2 ∷ 3 ∷ [])
     (stored (record { key = b; values = ys })) && differ (Int a) (Int b)) ≡ true
 unfolding first_key
@@ -127,13 +130,15 @@ two_clash one two a b (t ∷ n ∷ more) (u ∷ m ∷ rest) low p q =
     let second = and_both (int_eq u one) (int_eq m two) q in
     rw (int_equals t u, int_equals n m, int_differs a b, same_two t u one first.0 second.0, same_two n m two first.1 second.1, low) refl
 
-not_both : (all : List Entry) (one two : ℤ) (e x : Entry) → Clear all → Has all e → Has all x → int_cmp e.key x.key ≡ Less
+not_both : (all : List Entry) (one two : ℤ) (e x : Entry) → Clear all → Has all e → Has all x
+    → int_cmp e.key x.key ≡ Less
     → has_two one two e ≡ true → has_two one two x ≡ true → ⊥
 not_both all one two e x clear he hx low p q =
     let none = none_any _ (map stored all) (stored e) (clear x hx) (has_stored all e he) in
     true≢false (sym (two_clash one two e.key x.key e.values x.values low p q) ∙ none)
 
-none_above : (all : List Entry) (one two : ℤ) (e : Entry) → Clear all → Has all e → has_two one two e ≡ true → (es : List Entry)
+none_above : (all : List Entry) (one two : ℤ) (e : Entry) → Clear all → Has all e → has_two one two e ≡ true
+    → (es : List Entry)
     → ((x : Entry) → Has es x → Has all x) → Above e es → filter (has_two one two) es ≡ []
 none_above all one two e clear he p [] within above = refl
 none_above all one two e clear he p (x ∷ es) within above =
@@ -144,19 +149,23 @@ none_above all one two e clear he p (x ∷ es) within above =
     go true here more = absurd (not_both all one two e x clear he (within x (inl refl)) above.0 p here)
     go false apart more = more
 
-one_row : (all : List Entry) (one two : ℤ) → Clear all → (es : List Entry) → ((x : Entry) → Has es x → Has all x) → Rise es
+one_row : (all : List Entry) (one two : ℤ) → Clear all → (es : List Entry)
+    → ((x : Entry) → Has es x → Has all x) → Rise es
     → filter (has_two one two) es ≡ listed (find (has_two one two) es)
 one_row all one two clear [] within rise = refl
 one_row all one two clear (e ∷ es) within rise = go (has_two one two e) refl
     (one_row all one two clear es (λ y h. within y (inr h)) rise.1)
   where
     go : (b : Bool) → has_two one two e ≡ b → filter (has_two one two) es ≡ listed (find (has_two one two) es)
-        → cond b (e ∷ filter (has_two one two) es) (filter (has_two one two) es) ≡ listed (cond b (Some e) (find (has_two one two) es))
-    go true here more = ap (λ l. e ∷ l) (none_above all one two e clear (within e (inl refl)) here es (λ y h. within y (inr h)) rise.0)
+        → cond b (e ∷ filter (has_two one two) es) (filter (has_two one two) es) ≡ listed
+        (cond b (Some e) (find (has_two one two) es))
+    go true here more = ap (λ l. e ∷ l)
+        (none_above all one two e clear (within e (inl refl)) here es (λ y h. within y (inr h)) rise.0)
     go false apart more = more
 
 -- the rows of such a table in a sound database are clear of each other
-pub clear : (schema : Schema) (db : Trees) (t : Table) (es : List Entry) → IsSound schema db → Has schema.tables t
+pub clear : (schema : Schema) (db : Trees) (t : Table) (es : List Entry) → IsSound schema db
+    → Has schema.tables t
     → slice_get t.uniques 0 ≡ Some (2 ∷ 3 ∷ [])
     → get_or t.orders 0 plain ≡ plain → db t.tree ≡ map stored es → Clear es
 clear schema db t es sound listed unique order are e h =
@@ -166,13 +175,16 @@ clear schema db t es sound listed unique order are e h =
     (keys_are_unique schema db t 0 (2 ∷ 3 ∷ []) (stored e) sound listed unique there))
 
 -- a query of the two columns shows the one row that has the two numbers, if any
-pub two_answer : (lost : Value) {width : ℕ} (t : ℕ) (project : List Term) (db : Trees) (one two : ℤ) (rows : List Row) (es : List Entry)
+pub two_answer : (lost : Value) {width : ℕ} (t : ℕ) (project : List Term) (db : Trees) (one two : ℤ)
+    (rows : List Row) (es : List Entry)
     → IsTree width (db t) es → Clear es
     → IsAnswerAs lost (query (inner t end) (two_are 2 3) project [] no_limit) db (Int one ∷ Int two ∷ []) rows
-    → rows ≡ map (λ e. eval_all project ((Int one ∷ Int two ∷ []) ∷ stored e ∷ [])) (listed (find (has_two one two) es))
+    → rows ≡ map (λ e. eval_all project ((Int one ∷ Int two ∷ []) ∷ stored e ∷ []))
+    (listed (find (has_two one two) es))
 two_answer lost t project db one two rows es tree apart a =
     let show : Entry → Row = λ e. eval_all project ((Int one ∷ Int two ∷ []) ∷ stored e ∷ []) in
     let perm = looked_up (Int one ∷ Int two ∷ []) (two_are 2 3) (has_two one two)
     (λ e. passes_is one two e.key e.values) lost t project db rows es tree.are a in
     let single = one_row es one two apart es (λ x h. h) tree.rise in
-    small_permutation show (find (has_two one two) es) rows (subst (λ l. IsPermutation (map show l) rows) single perm)
+    small_permutation show (find (has_two one two) es) rows
+    (subst (λ l. IsPermutation (map show l) rows) single perm)

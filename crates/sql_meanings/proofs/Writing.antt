@@ -48,7 +48,8 @@ use Rattle.sql_meanings.proofs.Actions.{Leaves, writes_leave}
 use Rattle.sql_meanings.proofs.Means.{Means, meant_is, plain_is}
 
 -- a part that gave a value
-pub went : {B E R : Type 0} {b : B} {Stops : E → Type 0} → ((stop : E) × Stops stop × (Ok b ≡ Err stop)) ⊎ R → R
+pub went : {B E R : Type 0} {b : B} {Stops : E → Type 0} → ((stop : E) × Stops stop × (Ok b ≡ Err stop)) ⊎ R
+    → R
 went (inl stopped) = absurd (let e = stopped.2 in cc)
 went (inr on) = on
 
@@ -66,17 +67,21 @@ pub record Wrote (old new : State) (edit : Edit) (count : ℕ) : Type 0 where
   pub counted : count ≡ length edit.news
   pub marks : new.marks ≡ old.marks
 
-were_fresh : (schema : Schema) (keys : Keys) (db next : Trees) (edit : Edit) → Writes schema keys db edit (Ok next)
+were_fresh : (schema : Schema) (keys : Keys) (db next : Trees) (edit : Edit)
+    → Writes schema keys db edit (Ok next)
     → are_fresh (left_by db edit) edit.news ≡ true
 were_fresh schema keys db next edit (inl refused) = absurd (let e = refused.2 in cc)
 were_fresh schema keys db next edit (inr (inl big)) = absurd (let e = big.3 in cc)
 were_fresh schema keys db next edit (inr (inr on)) = on.1.fresh
 
-module _ (old new : State) (text : List ℕ) (params : Row) (p : ℕ) (table : Table) (listed : slice_get old.now.schema.tables p
+module _ (old new : State) (text : List ℕ) (params : Row) (p : ℕ) (table : Table)
+    (listed : slice_get old.now.schema.tables p
     ≡ Some table) (stands : Stands old.now.schema table) (count : ℕ) where
   -- an UPDATE that is done
-  pub updates : (q : Program) → Means old.now.schema text (length params) (Update p q) → Executes text params old new (Ok count)
-      → (rows : List Row) × Answers old.now q params rows × Wrote old new (edit_of old.now.trees table (ids_of rows) Given 1 rows) count
+  pub updates : (q : Program) → Means old.now.schema text (length params) (Update p q)
+      → Executes text params old new (Ok count)
+      → (rows : List Row) × Answers old.now q params rows × Wrote old new
+      (edit_of old.now.trees table (ids_of rows) Given 1 rows) count
   updates q m h =
       let schema = old.now.schema in
       let db = old.now.trees in
@@ -112,13 +117,15 @@ module _ (old new : State) (text : List ℕ) (params : Row) (p : ℕ) (table : T
 abbrev pub uncounted : Table → Table
 uncounted t = record t { is_counted = false }
 
-module _ (old new : State) (text : List ℕ) (params : Row) (p : ℕ) (t : Table) (listed : slice_get old.now.schema.tables p
+module _ (old new : State) (text : List ℕ) (params : Row) (p : ℕ) (t : Table)
+    (listed : slice_get old.now.schema.tables p
     ≡ Some (uncounted t)) (stands : Stands old.now.schema (uncounted t)) (count : ℕ) where
   abbrev table : Table
   table = uncounted t
 
   -- an INSERT that is done
-  pub inserts : (terms : List Term) (width : ℕ) → Means old.now.schema text (length params) (Insert p (Values terms width))
+  pub inserts : (terms : List Term) (width : ℕ)
+      → Means old.now.schema text (length params) (Insert p (Values terms width))
       → Executes text params old new (Ok count)
       → Wrote old new (edit_of old.now.trees table [] Chosen 0 (value_rows (stamped table params) width (length terms / width) terms))
       count

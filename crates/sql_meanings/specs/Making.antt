@@ -1,5 +1,6 @@
 -- How a table comes to be, and what stands on beside it.
-use Rattle.std.specs.Prelude.{◌≡◌, ◌≢◌, ◌⊎◌, ◌+◌, ◌*◌, ◌^◌, ◌<◌, ◌≤◌, ◌==◌, IsTrue, IsUtf8, List, ℕ, [], Bool, true, false, codes, length, Ok, Err, None, slice_range}
+use Rattle.std.specs.Prelude.{◌≡◌, ◌≢◌, ◌⊎◌, ◌+◌, ◌*◌, ◌^◌, ◌<◌, ◌≤◌, ◌==◌, IsTrue, IsUtf8, List, ℕ, [], Bool}
+use Rattle.std.specs.Prelude.{true, false, codes, length, Ok, Err, None, slice_range}
 use Rattle.std.specs.List.{list_any}
 use Rattle.sqlite.specs.Schema.{Schema}
 use Rattle.sqlite.specs.Table.{Table}
@@ -77,8 +78,8 @@ RefusesNew schema t e =
     × ((is_used schema t.name ≡ true) ⊎ ((i : Index) × Has (automatics t 0 0 t.uniques) i × (is_used schema i.name ≡ true))))
     ⊎ ((e ≡ SqliteFailure SchemaTooBig) × (65536 ≤ next_tree schema + length t.uniques))
 
--- A CREATE TABLE is refused: under the schema the text isn't understood, as where an index has the name; or the table is refused, or the
--- one that counts for AUTOINCREMENT, where a table needs it and there is none.
+-- A CREATE TABLE is refused: under the schema the text isn't understood, as where an index has the name; or
+-- the table is refused, or the one that counts for AUTOINCREMENT, where a table needs it and there is none.
 abbrev pub NotMade : Schema → List ℕ → Table → Error → Type 0
 NotMade schema text t e =
     ((fault : CompileError) × (understood schema text ≡ Err fault) × (e ≡ SqlInputError fault))
@@ -88,7 +89,8 @@ NotMade schema text t e =
 
 -- every table that was there is there, with its rows
 abbrev pub KeepsTables : Database → Database → Type 0
-KeepsTables old new = (t : Table) → Has old.schema.tables t → Has new.schema.tables t × (new.trees t.tree ≡ old.trees t.tree)
+KeepsTables old new = (t : Table) → Has old.schema.tables t → Has new.schema.tables t ×
+    (new.trees t.tree ≡ old.trees t.tree)
 
 -- every table but the one of this name is there, with its rows
 abbrev pub SparesTables : Database → Database → List ℕ → Type 0

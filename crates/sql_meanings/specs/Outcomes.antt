@@ -1,5 +1,6 @@
 -- What a statement inside a transaction tells, and what it leaves.
-use Rattle.std.specs.Prelude.{◌≡◌, ◌≢◌, ◌⊎◌, ◌≤◌, ◌<◌, ◌==◌, ◌&&◌, IsSome, IsTrue, ℕ, List, [], length, map, Bool, true, false, Option, Some, None, Result, Ok, Err, ⊤}
+use Rattle.std.specs.Prelude.{◌≡◌, ◌≢◌, ◌⊎◌, ◌≤◌, ◌<◌, ◌==◌, ◌&&◌, IsSome, IsTrue, ℕ, List, [], length, map}
+use Rattle.std.specs.Prelude.{Bool, true, false, Option, Some, None, Result, Ok, Err, ⊤}
 use Rattle.std.specs.List.{list_any}
 use Rattle.sqlite.specs.Order.{Row}
 use Rattle.sqlite.specs.Table.{Table}
@@ -15,18 +16,22 @@ use Rattle.sqlite_rules.specs.Lists.{Has}
 use Rattle.sqlite_rules.specs.declared.error.Refusal.{Refusal}
 use Rattle.sqlite_resolve.specs.declared.compiled.Compiled.{Compiled}
 use Rattle.sqlite_resolve.specs.declared.error.CompileError.{CompileError}
-use Rattle.sqlite.specs.State.{State, Fails, IsUnchanged, IsRolledBack, KeepsCommit, KeepsCounts, HasCause, store_error}
+use Rattle.sqlite.specs.State.{State, Fails, IsUnchanged, IsRolledBack, KeepsCommit, KeepsCounts, HasCause}
+use Rattle.sqlite.specs.State.{store_error}
 use Rattle.sqlite.specs.State.{Shows as StateShows}
 use Rattle.sqlite.specs.declared.error.Error.{Error}
 use Rattle.sqlite.specs.declared.error.Error.TheVariants.{SqliteFailure, SqlInputError, QueryReturnedNoRows}
-use Rattle.sqlite.specs.declared.error.ErrorCode.TheVariants.{OutOfMemory, OperationInterrupted, ConstraintViolation}
+use Rattle.sqlite.specs.declared.error.ErrorCode.TheVariants.{OutOfMemory, OperationInterrupted}
+use Rattle.sqlite.specs.declared.error.ErrorCode.TheVariants.{ConstraintViolation}
 use Rattle.sql_meanings.specs.Entries.{Entry, stored}
 use Rattle.sql_meanings.specs.Making.{Adds, NotMade}
 use Rattle.sql_meanings.specs.Tables.{Defines, tree_of}
 
--- why a plain read may fail: the store failed and the transaction is rolled back, or the limit on steps was met and nothing has changed
+-- why a plain read may fail: the store failed and the transaction is rolled back, or the limit on steps was
+-- met and nothing has changed
 abbrev pub ReadFails : State → State → Error → Type 0
-ReadFails old new e = Fails old new ⊥ e ⊎ ((e ≡ SqliteFailure OperationInterrupted) × IsSome old.step_limit × IsUnchanged old new)
+ReadFails old new e = Fails old new ⊥ e ⊎
+    ((e ≡ SqliteFailure OperationInterrupted) × IsSome old.step_limit × IsUnchanged old new)
 
 -- the same, or memory for the answer was refused and nothing has changed
 abbrev pub IsStoreError : State → State → Error → Type 0
@@ -55,11 +60,13 @@ IsInterrupted old e = (e ≡ SqliteFailure OperationInterrupted) × IsSome old.s
 
 -- an index of the table has more columns than can be stored
 abbrev pub HasWideIndex : Schema → Table → Type 0
-HasWideIndex schema table = (i : Index) × Has schema.indexes i × (i.table ≡ tree_of schema table.name) × (2000 < length i.columns)
+HasWideIndex schema table = (i : Index) × Has schema.indexes i × (i.table ≡ tree_of schema table.name) ×
+    (2000 < length i.columns)
 
 -- a foreign key of the schema names this table as its parent
 abbrev pub is_parent : Schema → Table → Bool
-is_parent schema table = list_any (λ t. list_any (λ ref. same_name table.name ref.parent) t.references) schema.tables
+is_parent schema table = list_any
+    (λ t. list_any (λ ref. same_name table.name ref.parent) t.references) schema.tables
 
 -- a UNIQUE of the schema is on the table
 abbrev pub has_unique : Schema → Table → Bool
@@ -70,14 +77,15 @@ abbrev pub Forbids : Schema → Table → List Entry → Type 0
 Forbids schema table entries = IsTrue (has_unique schema table)
     × ((trees : Trees) → IsDatabase (record { schema = schema; trees = trees }) → trees (tree_of schema table.name) ≢ map stored entries)
 
--- Why a row can't be put in: the store failed, and the transaction is rolled back; or the limit on steps was met, or a UNIQUE of the
--- schema allows no such rows, and nothing has changed.
+-- Why a row can't be put in: the store failed, and the transaction is rolled back; or the limit on steps was
+-- met, or a UNIQUE of the schema allows no such rows, and nothing has changed.
 abbrev pub PutFails : State → State → Table → Type 0 → Error → Type 0
 PutFails old new table NoSuchRows e =
     Fails old new (HasWideIndex old.now.schema table) e
     ⊎ ((IsInterrupted old e ⊎ ((e ≡ SqliteFailure (ConstraintViolation Unique)) × NoSuchRows)) × IsUnchanged old new)
 
--- Why a row can't be changed: the same; or another table has a foreign key to this one, and what that sets off failed or broke a rule.
+-- Why a row can't be changed: the same; or another table has a foreign key to this one, and what that sets
+-- off failed or broke a rule.
 abbrev pub SetFails : State → State → Table → Type 0 → Error → Type 0
 SetFails old new table NoSuchRows e =
     PutFails old new table NoSuchRows e
@@ -96,7 +104,8 @@ WriteFails old new = IsUnchanged old new ⊎ IsRolledBack old new
 -- the row is this one, or there is none, or the read failed
 abbrev pub TellsRow : State → State → Option Row → Result Row Error → Type 0
 TellsRow old new found (Ok row) = (found ≡ Some row) × IsUnchanged old new
-TellsRow old new found (Err e) = ((e ≡ QueryReturnedNoRows) × (found ≡ None) × IsUnchanged old new) ⊎ ReadFails old new e
+TellsRow old new found (Err e) = ((e ≡ QueryReturnedNoRows) × (found ≡ None) × IsUnchanged old new)
+    ⊎ ReadFails old new e
 
 -- what is read of several rows: these, and nothing has changed, or why it failed
 abbrev pub TellsRows : State → State → List Row → Result (List Row) Error → Type 0
@@ -108,7 +117,8 @@ abbrev pub WriteKept : {X E : Type 0} → State → State → Result X E → Typ
 WriteKept old new (Ok x) = StateShows old new new.now old.committed true
 WriteKept old new (Err e) = WriteFails old new
 
--- whatever the rows: a read leaves everything as it was, or the store failed and the transaction is rolled back
+-- whatever the rows: a read leaves everything as it was, or the store failed and the transaction is rolled
+-- back
 abbrev pub ReadKept : {X : Type 0} → State → State → Result X Error → Type 0
 ReadKept old new (Ok x) = IsUnchanged old new
 ReadKept old new (Err e) = Fails old new ⊥ e ⊎ IsUnchanged old new
@@ -118,13 +128,15 @@ abbrev pub WritesKept : {X E : Type 0} → State → State → Result X E → Ty
 WritesKept old new (Ok x) = StateShows old new new.now old.committed true
 WritesKept old new (Err e) = KeepsCommit old new
 
--- why a table can't be made: the store failed, and the transaction is rolled back; or it is refused, and nothing has changed
+-- why a table can't be made: the store failed, and the transaction is rolled back; or it is refused, and
+-- nothing has changed
 abbrev pub MakeFails : State → State → List ℕ → Table → Error → Type 0
 MakeFails old new text t e = Fails old new ⊥ e ⊎ (NotMade old.now.schema text t e × IsUnchanged old new)
 
 -- the table was made, in a sound database, and no row is counted; or why it can't be made
 abbrev pub MakesTold : State → State → List ℕ → Table → Result ℕ Error → Type 0
-MakesTold old new text t (Ok count) = Adds old.now new.now t × IsDatabase new.now × KeepsCounts old new × (new.marks ≡ old.marks)
+MakesTold old new text t (Ok count) = Adds old.now new.now t × IsDatabase new.now × KeepsCounts old new ×
+    (new.marks ≡ old.marks)
 MakesTold old new text t (Err e) = MakeFails old new text t e
 
 -- a table or a view has this name
@@ -154,11 +166,14 @@ is_refusal _ = false
 -- the text is understood, or it isn't, or the store failed
 abbrev pub TellsUnderstood : State → State → List ℕ → Result Bool Error → Type 0
 TellsUnderstood old new text (Ok true) = IsUnderstood old.now.schema text × IsUnchanged old new
-TellsUnderstood old new text (Ok false) = ((fault : CompileError) × (understood old.now.schema text ≡ Err fault)) × IsUnchanged old new
+TellsUnderstood old new text (Ok false) =
+    ((fault : CompileError) × (understood old.now.schema text ≡ Err fault)) × IsUnchanged old new
 TellsUnderstood old new text (Err e) = Fails old new ⊥ e
 
--- accepted: a table or a view of the name is there; refused: a sound database doesn't have the table; every other error is the store's
+-- accepted: a table or a view of the name is there; refused: a sound database doesn't have the table; every
+-- other error is the store's
 abbrev pub TellsProbe : State → State → Table → Result Bool Error → Type 0
 TellsProbe old new table (Ok true) = IsThere old.now.schema table.name × IsUnchanged old new
-TellsProbe old new table (Ok false) = (∥ IsDatabase old.now ∥₁ → ¬ Defines old.now.schema table) × IsUnchanged old new
+TellsProbe old new table (Ok false) = (∥ IsDatabase old.now ∥₁ → ¬ Defines old.now.schema table)
+    × IsUnchanged old new
 TellsProbe old new table (Err e) = Fails old new ⊥ e

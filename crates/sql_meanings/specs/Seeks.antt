@@ -1,4 +1,5 @@
--- The queries of the rows that come next, by rising keys, from a number on: of all rows, or of those with a number behind their keys.
+-- The queries of the rows that come next, by rising keys, from a number on: of all rows, or of those with a
+-- number behind their keys.
 use Rattle.std.specs.Prelude.{ℕ, ℤ, Bool, false, ◌&&◌, List, [], ◌∷◌, pos}
 use Rattle.std.specs.Ordering.{int_cmp, int_eq, is_ge}
 use Rattle.sqlite.specs.declared.types.Value.TheVariants.{Int}
@@ -39,6 +40,7 @@ is_of_from one k e = begins one e.values && is_from k e
 abbrev pub of_from : List Term
 of_from = is (col 1 2) (col 0 0) ∷ at_least (col 1 0) (col 0 1) ∷ []
 
--- of the rows with the first parameter behind their keys, and from the second on, the first so many, by rising keys
+-- of the rows with the first parameter behind their keys, and from the second on, the first so many, by
+-- rising keys
 abbrev pub next_of_from : ℕ → ℕ → List Term → Query
 next_of_from most tree project = query (inner tree end) of_from project ascending (lit (Int (pos most)))

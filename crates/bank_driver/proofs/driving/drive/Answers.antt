@@ -22,7 +22,8 @@ returns-in_err-posted-clause-submits g c =
     let records = c.submit_batch.new.batch in
     let driver = c.loop-left.driver in
     let part =
-    part_of driver c.loop-left.left size c.loop-left.records records (let more = c.loop-left-test.true in omega arith)
+    part_of driver c.loop-left.left size c.loop-left.records records
+    (let more = c.loop-left-test.true in omega arith)
     c.min-size.ensures c.loop-left.invariant.room c.in_err-posted.ensures.drawn c.submit_batch.auto.batch in
     let a = c.in_err-posted.ensures.answers in
     let p = err_from_is_err_and c.from_residual.result c.from_residual.ensures.1 in
@@ -42,7 +43,8 @@ loop-left-preserved g c =
     let records = c.submit_batch.new.batch in
     let driver = c.loop-left.driver in
     let part =
-    part_of driver c.loop-left.left size c.loop-left.records records (let more = c.loop-left-test.true in omega arith)
+    part_of driver c.loop-left.left size c.loop-left.records records
+    (let more = c.loop-left-test.true in omega arith)
     c.min-size.ensures c.loop-left.invariant.room c.in_ok-posted.ensures.drawn c.submit_batch.auto.batch in
     let a = c.in_ok-posted.ensures.answers in
     let most : length (posts a.0 records) ≡ length records = rw length-map refl in

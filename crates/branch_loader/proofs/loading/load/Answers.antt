@@ -21,7 +21,8 @@ loop-row-preserved g c =
     let rows = c.rows-row-items.result.now in
     let i = c.loop-row.row-index in
     let p = c.row-item.result in
-    let more : take (i + 1) rows ≡ take i rows ++ p ∷ [] = take_more rows i p (omega arith) ∙ rw (← c.row-item.is) refl in
+    let more : take (i + 1) rows ≡ take i rows ++ p ∷ [] = take_more rows i p (omega arith) ∙ rw
+    (← c.row-item.is) refl in
     rw (more, c.with_answer-loaded.ensures)
     (behind-more g.C.Counter.seen c.args.counter.now c.loop-row.counter c.open_branch.new.self (take i rows) p c.loop-row.loaded
     c.in_ok-opening.opening c.loop-row.invariant c.in_ok-opening.ensures.done c.in_ok-opening.ensures.answer
@@ -32,8 +33,10 @@ returns-in_err-opening-clause-fault g c =
     let rows = c.rows-row-items.result.now in
     let refused =
     behind-refused g.C.Counter.seen c.args.counter.now c.loop-row.counter c.open_branch.new.self rows c.loop-row.row-index
-    c.row-item.result c.loop-row.loaded c.in_err-opening.field-0.0 c.loop-row.invariant (omega arith) c.row-item.is
-    c.in_err-opening.ensures.fault c.in_err-opening.ensures.honest (λ down. let e = c.in_err-opening.ensures.down down in cc e) in
+    c.row-item.result c.loop-row.loaded c.in_err-opening.field-0.0 c.loop-row.invariant
+    (omega arith) c.row-item.is
+    c.in_err-opening.ensures.fault c.in_err-opening.ensures.honest
+    (λ down. let e = c.in_err-opening.ensures.down down in cc e) in
     let p = err_from_is_err_and c.from_residual.result c.from_residual.ensures.1 in
     rw (p.1, p.2) (c.loop-row.row-index, rw c.rows-row-items.ensures.rows at refused)
 

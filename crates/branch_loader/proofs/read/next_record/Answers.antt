@@ -4,7 +4,8 @@ use Rattle.branch_loader.proofs.Told.{failed_last, found_last}
 use Rattle.branch_loader.proofs.read.next_record.Goals as goal
 
 pub returns-in-Ok-clause-found : goal.returns-in-Ok-clause-found
-returns-in-Ok-clause-found g c some = found_last c.next.result c.in-Ok.found c.in-Ok.is c.next.ensures.tells some
+returns-in-Ok-clause-found g c some =
+    found_last c.next.result c.in-Ok.found c.in-Ok.is c.next.ensures.tells some
 
 pub returns-in-Io-clause-fault : goal.returns-in-Io-clause-fault
 returns-in-Io-clause-fault g c =

@@ -7,7 +7,8 @@ use Rattle.branch_loader.specs.Records.{IsRecord}
 use Rattle.posting_core.proofs.Telling.{last_some, more_last, more_more}
 use Rattle.branch_loader.proofs.Told.{fault_told, row_told}
 use Rattle.branch_loader.proofs.Rows.{fields-more, no-rows, plan-short}
-use Rattle.branch_loader.proofs.Stated.{plan-empty, plan-no_header, rows_by-done, tells-fault, took-fault, took-header, took-row}
+use Rattle.branch_loader.proofs.Stated.{plan-empty, plan-no_header, rows_by-done, tells-fault, took-fault}
+use Rattle.branch_loader.proofs.Stated.{took-header, took-row}
 use Rattle.std.proofs.lemmas.List.{length_push}
 use Rattle.std.proofs.lemmas.Result.{err_from_is_err_and}
 use Rattle.branch_loader.proofs.read.read_rows.Goals as goal
@@ -27,13 +28,16 @@ rows-init g c = record {
   plain = c.in_ok-next_record.ensures.plain;
   more = last_some IsRecord (c.in_ok-next_record.ensures.found c.if-not-branch.false);
   plan = rw c.new-rows.ensures.items no-rows;
-  states = λ all left. took-header c.in_ok-next_record.field-0 (fields_of c.next_record.new.fields) all c.new-rows.result.items
-      (c.in_ok-next_record.ensures.takes all left) c.if-not-branch.false (sym c.is_header.ensures ∙ c.if-not-is_header.false)
+  states = λ all left. took-header c.in_ok-next_record.field-0
+      (fields_of c.next_record.new.fields) all c.new-rows.result.items
+      (c.in_ok-next_record.ensures.takes all left) c.if-not-branch.false
+      (sym c.is_header.ensures ∙ c.if-not-is_header.false)
       c.new-rows.ensures.items;
 }
 
 pub row_of_fields-requires : goal.row_of_fields-requires
-row_of_fields-requires g c = rw c.as_slice.ensures.value (let short = plan-short c.rows.rows.items c.rows.invariant.plan in omega arith)
+row_of_fields-requires g c = rw c.as_slice.ensures.value
+    (let short = plan-short c.rows.rows.items c.rows.invariant.plan in omega arith)
 
 pub rows-smaller : goal.rows-smaller
 rows-smaller g c =
@@ -47,8 +51,10 @@ pub returns-in_err-row-clause-plan : goal.returns-in_err-row-clause-plan
 returns-in_err-row-clause-plan g c all left =
     let inv = c.rows.invariant.states all left in
     let fault = took-fault (g.S.RecordSource.has_left c.next_record-in-rows.new.source) c.in_ok-next_record-2.field-0
-    (fields_of c.next_record-in-rows.new.fields) inv.0 c.rows.rows.items c.in_err-row.field-0.0 (plan_of_records all)
-    (c.in_ok-next_record-2.ensures.takes inv.0 inv.1) c.if-branch.true inv.2 (sym (rw c.as_slice.ensures.value at c.in_err-row.ensures)) in
+    (fields_of c.next_record-in-rows.new.fields) inv.0 c.rows.rows.items c.in_err-row.field-0.0
+    (plan_of_records all)
+    (c.in_ok-next_record-2.ensures.takes inv.0 inv.1) c.if-branch.true inv.2
+    (sym (rw c.as_slice.ensures.value at c.in_err-row.ensures)) in
     let p = err_from_is_err_and c.from_residual-in_err-row.result c.from_residual-in_err-row.ensures.1 in
     rw (p.1, p.2) (tells-fault (plan_of_records all) c.in_err-row.field-0.0 fault)
 
@@ -76,12 +82,14 @@ rows-preserved g c =
     let row = sym (rw c.as_slice.ensures.value at c.in_ok-row.ensures) in
     record {
       plain = c.in_ok-next_record-2.ensures.plain;
-      more = more_more c.rows.invariant.more (last_some IsRecord (c.in_ok-next_record-2.ensures.found c.if-branch.true));
+      more = more_more c.rows.invariant.more
+          (last_some IsRecord (c.in_ok-next_record-2.ensures.found c.if-branch.true));
       plan = rw items
           (fields-more c.rows.rows.items (fields_of c.next_record-in-rows.new.fields) c.in_ok-row.row c.rows.invariant.plan row);
       states = λ all left.
           let inv = c.rows.invariant.states all left in
-          took-row c.in_ok-next_record-2.field-0 (fields_of c.next_record-in-rows.new.fields) inv.0 c.rows.rows.items c.push.new.self.items
+          took-row c.in_ok-next_record-2.field-0
+          (fields_of c.next_record-in-rows.new.fields) inv.0 c.rows.rows.items c.push.new.self.items
           c.in_ok-row.row (plan_of_records all)
           (c.in_ok-next_record-2.ensures.takes inv.0 inv.1) c.if-branch.true inv.2 row items;
     }

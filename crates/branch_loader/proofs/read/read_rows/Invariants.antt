@@ -11,7 +11,8 @@ invariant-rows g l = record {
   more : HasMore (g.S.RecordSource.told l.fn.records) (g.S.RecordSource.told l.records);
   plan : IsPlan l.rows.items;
   states : (all : Records) → g.S.RecordSource.has_left l.fn.records all → (rest : Records)
-      × g.S.RecordSource.has_left l.records rest × (plan_of_records all ≡ rows_by row_of_fields l.rows.items rest);
+      × g.S.RecordSource.has_left l.records rest ×
+      (plan_of_records all ≡ rows_by row_of_fields l.rows.items rest);
 }
 
 abbrev pub decreases-rows : goal.decreases-rows

@@ -5,7 +5,8 @@ use Rattle.branch_loader.proofs.read.two_of.Goals as goal
 use Rattle.branch_loader.specs.Records.{Fields}
 
 -- of two fields each is there
-both : (fs : Fields) (a b : List ℕ) → length fs ≡ 2 → field_at fs 0 ≡ Some a → field_at fs 1 ≡ Some b → Some (a, b) ≡ two_of fs
+both : (fs : Fields) (a b : List ℕ) → length fs ≡ 2 → field_at fs 0 ≡ Some a → field_at fs 1 ≡ Some b
+    → Some (a, b) ≡ two_of fs
 unfolding field_at
 both [] a b n x y = cc x
 both (f ∷ []) a b n x y = cc y
@@ -26,7 +27,8 @@ two_there (f ∷ g ∷ fs) n x = cc x
 
 pub returns : goal.returns
 returns c =
-    both (fields_of c.args.fields.now) _ _ (sym c.len.ensures ∙ c.if-len-ne2.false) (sym c.in_ok-get.ensures.value)
+    both (fields_of c.args.fields.now) _ _ (sym c.len.ensures ∙ c.if-len-ne2.false)
+    (sym c.in_ok-get.ensures.value)
     (sym c.in_ok-get-2.ensures.value)
 
 pub returns-in_err-get : goal.returns-in_err-get

@@ -3,7 +3,8 @@ use Rattle.message_records.specs.Spelling.{reply_spelling}
 use Rattle.posting_rules.specs.Entries.{reply}
 use Rattle.counter_http.specs.Answers.{octets}
 use Rattle.counter_http.specs.Next.{asked}
-use Rattle.counter_http.proofs.Answered.{told_answer, told_refused, refused_first, posting_readings, posting_answer, takes_posting, refuses_posting}
+use Rattle.counter_http.proofs.Answered.{told_answer, told_refused, refused_first, posting_readings}
+use Rattle.counter_http.proofs.Answered.{posting_answer, takes_posting, refuses_posting}
 use Rattle.counter_http.proofs.answers.answer_posting.Goals as goal
 
 pub returns-in-Ok-clause-answers : goal.returns-in-Ok-clause-answers

@@ -1,5 +1,4 @@
-use Rattle.std.proofs.Common.{◌≡◌, ◌≢◌, ◌≤◌, ℕ, ◌+◌, List, [], refl, sym, ap, subst, arith, inr, length, take}
-use Rattle.std.proofs.lemmas.List.{length-take-le}
+use Rattle.std.proofs.Common.{◌≡◌, ◌≤◌, ℕ, ◌+◌, List, [], refl, sym, subst, arith, inr, length, take}
 use Rattle.std.proofs.lemmas.Result.{err_from_is_err_and}
 use Rattle.posting_core.proofs.Streaming.{at_ok}
 use Rattle.posting_core.proofs.Telling.{made_many, made_none, made_one, other_kind, read_failed}
@@ -7,8 +6,10 @@ use Rattle.posting_core.proofs.Through.{through_batch, through_first}
 use Rattle.counter_http.specs.declared.fault.ServeFault.TheVariants.{Write}
 use Rattle.counter_http.specs.Messages.{No_head}
 use Rattle.counter_http.specs.Next.{IsUnfinished}
-use Rattle.counter_http.proofs.Going.{Going, going_first, going_filled, going_unread, going_message, unfinished_none, range_all, range_next, range_long, message_long}
-use Rattle.counter_http.proofs.Connected.{end_finished, end_unread, end_closed, short_read, hopeless_walk, end_told, end_untold}
+use Rattle.counter_http.proofs.Going.{Going, going_first, going_filled, going_unread, going_message}
+use Rattle.counter_http.proofs.Going.{unfinished_none, range_all, range_next, range_long, message_long}
+use Rattle.counter_http.proofs.Connected.{end_finished, end_unread, end_closed, short_read, hopeless_walk}
+use Rattle.counter_http.proofs.Connected.{end_told, end_untold}
 use Rattle.counter_http.proofs.BrokenOff.{end_broken}
 use Rattle.counter_http.proofs.Sent.{ended_at, sent_broken}
 use Rattle.counter_http.proofs.serving.serve.Goals as goal

@@ -1,7 +1,8 @@
 use Rattle.std.proofs.Common.{◌≡◌, ◌<◌, map, nat_eq, arith, rules, length}
 use Rattle.std.specs.Prelude.{IsPermutation}
 use Rattle.std.proofs.lemmas.Bool.Decides.{nat_tests}
-use Rattle.std.proofs.lemmas.List.Sorted.{All-permutation, IsNonDecreasingBy-from_sort_by_key, IsPermutation-map}
+use Rattle.std.proofs.lemmas.List.Sorted.{All-permutation, IsNonDecreasingBy-from_sort_by_key}
+use Rattle.std.proofs.lemmas.List.Sorted.{IsPermutation-map}
 use Rattle.std.proofs.lemmas.List.{get_or-map, length-map}
 use Rattle.std.proofs.lemmas.Map.Keys.{IsDistinct-IsPermutation, IsStrictlyIncreasing-from_distinct}
 use Rattle.std.specs.List.Sorted.{IsNonDecreasing, IsNonDecreasingBy}
@@ -13,7 +14,8 @@ use Rattle.load_driver.proofs.driving.ascending.Goals as goal
 moved : (xs ys : Rows) → IsPermutation xs ys → IsPlan xs → IsPlan ys
 moved xs ys p plan = record {
   in_range = All-permutation IsRow xs ys p plan.in_range;
-  distinct = IsDistinct-IsPermutation nat_eq (λ x y. grind (arith, nat_tests)) (map (λ q. q.0) xs) (map (λ q. q.0) ys)
+  distinct = IsDistinct-IsPermutation nat_eq (λ x y. grind (arith, nat_tests)) (map (λ q. q.0) xs)
+      (map (λ q. q.0) ys)
       (IsPermutation-map (λ (q : Row). q.0) xs ys p) plan.distinct;
 }
 
@@ -24,7 +26,8 @@ rising ys h i j d le lt =
     let before : i < length ys = omega arith in
     rw (get_or-map (λ (q : Row). q.0) ys i (d, 0) d before, get_or-map (λ (q : Row). q.0) ys j (d, 0) d within) (h i j (d, 0) le within)
 
-sorted : (xs ys : Rows) → IsPermutation xs ys → IsPlan xs → IsNonDecreasingBy (λ p. p.0) ys → IsAscending xs ys
+sorted : (xs ys : Rows) → IsPermutation xs ys → IsPlan xs → IsNonDecreasingBy (λ p. p.0) ys
+    → IsAscending xs ys
 sorted xs ys same plan sorted_by =
     let plan_ys = moved xs ys same plan in
     record { same = same; rising = IsStrictlyIncreasing-from_distinct _ (rising ys sorted_by) plan_ys.distinct }

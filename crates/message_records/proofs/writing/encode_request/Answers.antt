@@ -11,4 +11,5 @@ returns-clause-spelling c =
     c.new-draft.ensures.value c.put_text.ensures.value c.put_fields.ensures.value len c.finish.ensures
 
 pub returns-clause-read_again : goal.returns-clause-read_again
-returns-clause-read_again c = request_again c.args.request.now c.finish.result c.put_fields.ensures.in_range (returns-clause-spelling c)
+returns-clause-read_again c = request_again c.args.request.now c.finish.result c.put_fields.ensures.in_range
+    (returns-clause-spelling c)

@@ -10,4 +10,5 @@ pub returns-in-None-clause-value : goal.returns-in-None-clause-value
 returns-in-None-clause-value g c =
     c.put_text.ensures.value
     ∙ ap (λ (t : List ℕ). c.args.draft.now ++ t) (sym no_fields_spelled)
-    ∙ ap (λ (q : Option RequestFields). c.args.draft.now ++ fields_spelling (unwrap_or q no_fields)) (sym c.in-None.is)
+    ∙ ap (λ (q : Option RequestFields). c.args.draft.now ++ fields_spelling (unwrap_or q no_fields))
+    (sym c.in-None.is)

@@ -4,12 +4,14 @@ use Rattle.std.proofs.lemmas.Result.{err_from_is_err_and}
 use Rattle.posting_core.specs.declared.stream.TheConstants.{BUFFER}
 use Rattle.posting_core.proofs.Batched.{cut_into, cut_and_moved}
 use Rattle.posting_core.proofs.Output.{output_of, survives_of, resends_of}
-use Rattle.posting_core.proofs.Streaming.{going_first, going_filled, going_on, going_unread, going_batch, end_whole, end_in_record, end_unread, end_broken, at_ok, few_left}
+use Rattle.posting_core.proofs.Streaming.{going_first, going_filled, going_on, going_unread, going_batch}
+use Rattle.posting_core.proofs.Streaming.{end_whole, end_in_record, end_unread, end_broken, at_ok, few_left}
 use Rattle.posting_core.proofs.Telling.{made_many, made_none, made_one, other_kind, read_ended, read_failed}
 use Rattle.posting_core.proofs.Refused.{refused_broken, up_broken}
 use Rattle.posting_core.proofs.Through.{ends_broken, through_batch, through_first}
 use Rattle.posting_core.proofs.stream.post_stream.Goals as goal
-use Rattle.posting_core.proofs.stream.post_stream.Goals.{then-filled-ge-RECORD+in_ok-answer_batch, else-filled-ge-RECORD, in-Ok, in-Err}
+use Rattle.posting_core.proofs.stream.post_stream.Goals.{then-filled-ge-RECORD+in_ok-answer_batch}
+use Rattle.posting_core.proofs.stream.post_stream.Goals.{else-filled-ge-RECORD, in-Ok, in-Err}
 
 pub reads-init : goal.reads-init
 reads-init g c = record { few = omega arith; room = refl; bound = omega arith; going = going_first _ refl; first = λ none. refl; up = λ down. (down, refl); made = made_none _; through = through_first _ }
@@ -17,7 +19,8 @@ reads-init g c = record { few = omega arith; room = refl; bound = omega arith; g
 -- the reader was asked too often
 pub returns : goal.returns
 returns g c =
-    let s = end_unread _ c.reads.invariant.going (few_left c.reads.filled c.reads.buffer c.reads.invariant.few c.reads.invariant.room) in
+    let s = end_unread _ c.reads.invariant.going
+    (few_left c.reads.filled c.reads.buffer c.reads.invariant.few c.reads.invariant.room) in
     record {
       stream = s;
       output = output_of _ s;
@@ -31,7 +34,8 @@ returns g c =
 -- the reader failed
 pub returns-in-Err-2 : goal.returns-in-Err-2
 returns-in-Err-2 g c =
-    let long : length c.fill.new.buffer ≡ BUFFER = omega (arith, c.fill.auto.buffer, c.reads.invariant.room) in
+    let long : length c.fill.new.buffer ≡ BUFFER = omega
+    (arith, c.fill.auto.buffer, c.reads.invariant.room) in
     let s =
     end_unread _ (going_unread c.reads.buffer c.fill.new.buffer c.reads.filled c.reads.filled c.reads.invariant.going c.in-Err.ensures.err refl)
     (few_left c.reads.filled c.fill.new.buffer c.reads.invariant.few long) in
@@ -73,11 +77,13 @@ pub returns-in-Ok-eq0-2 : goal.returns-in-Ok-eq0-2
 returns-in-Ok-eq0-2 g c =
     let n = c.in-Ok-eq0.field-0 in
     let none : c.in-Ok-eq0.field-0 ≡ 0 = c.in-Ok-eq0.field-0-test in
-    let within : c.reads.filled ≤ length c.fill.new.buffer = omega (arith, c.reads.invariant.few, c.fill.auto.buffer, c.reads.invariant.room) in
+    let within : c.reads.filled ≤ length c.fill.new.buffer = omega
+    (arith, c.reads.invariant.few, c.fill.auto.buffer, c.reads.invariant.room) in
     let s =
     end_in_record (take c.reads.filled c.fill.new.buffer) c.reads.filled
     (going_filled c.reads.buffer c.fill.new.buffer c.reads.filled c.reads.filled n c.reads.invariant.going (at_ok _ c.fill.result n c.in-Ok-eq0.is c.fill.ensures.ok) (omega arith))
-    (at_ok _ c.fill.result n c.in-Ok-eq0.is c.fill.ensures.end none) (length-take-le c.reads.filled c.fill.new.buffer within) (omega arith) c.reads.invariant.few in
+    (at_ok _ c.fill.result n c.in-Ok-eq0.is c.fill.ensures.end none)
+    (length-take-le c.reads.filled c.fill.new.buffer within) (omega arith) c.reads.invariant.few in
     record {
       stream = s;
       output = output_of _ s;
@@ -94,14 +100,16 @@ returns-in_err-answer_batch g c =
     let fault = c.in_err-answer_batch.field-0.0 in
     let told = err_from_is_err_and c.from_residual.result c.from_residual.ensures.1 in
     let a = c.in_err-answer_batch.ensures.answers in
-    let long : length c.fill.new.buffer ≡ BUFFER = omega (arith, c.fill.auto.buffer, c.reads.invariant.room) in
+    let long : length c.fill.new.buffer ≡ BUFFER = omega
+    (arith, c.fill.auto.buffer, c.reads.invariant.room) in
     let on =
     going_on c.reads.buffer c.fill.new.buffer c.reads.filled c.match-fill.filled c.reads.invariant.going c.reads.invariant.few long
     (elim c.match-fill.branch [
       | in-Ok w ↦ inl (w.in-Ok.n, w.in-Ok.ensures.ok, omega (arith, w.in-Ok.ensures.fits), w.filled-is)
       | in-Err w ↦ inr (w.in-Err.ensures.err, w.filled-is)
     ]) in
-    let len : length (take c.match-fill.filled c.fill.new.buffer) ≡ c.match-fill.filled = length-take-le c.match-fill.filled c.fill.new.buffer on.1 in
+    let len : length (take c.match-fill.filled c.fill.new.buffer) ≡ c.match-fill.filled =
+    length-take-le c.match-fill.filled c.fill.new.buffer on.1 in
     let cut = cut_into (take c.match-fill.filled c.fill.new.buffer) c.as_chunks.result.0.now c.as_chunks.result.1.now c.as_chunks.ensures.front c.as_chunks.ensures.back in
     let s =
     end_broken fault a.0 (take c.match-fill.filled c.fill.new.buffer) c.as_chunks.result.1.now c.as_chunks.result.0.now on.0 cut
@@ -114,14 +122,17 @@ returns-in_err-answer_batch g c =
       refused = refused_broken g.C.Counter.seen c.args.bank.now c.reads.bank c.answer_batch.new.bank _ _ fault a.0 _ _ c.as_chunks.result.0.now on.0 cut
           (omega (arith, c.as_chunks.ensures.back_len)) (omega (arith, c.as_chunks.ensures.front_len, len)) (omega (arith, c.as_chunks.ensures.front_len, len)) c.reads.invariant.first c.reads.invariant.up c.in_err-answer_batch.ensures.honest a.2
           (λ down. let e = c.in_err-answer_batch.ensures.down down in cc e);
-      up = up_broken _ _ (g.C.Counter.seen c.args.bank.now) (g.C.Counter.seen c.reads.bank) (g.C.Counter.seen c.answer_batch.new.bank) _ fault a.2 c.in_err-answer_batch.ensures.up (λ down. (c.reads.invariant.up down).0);
+      up = up_broken _ _ (g.C.Counter.seen c.args.bank.now) (g.C.Counter.seen c.reads.bank)
+          (g.C.Counter.seen c.answer_batch.new.bank) _ fault a.2 c.in_err-answer_batch.ensures.up
+          (λ down. (c.reads.invariant.up down).0);
       ends = ends_broken _ _ _ _ _ _ _ _ _ _ fault c.reads.invariant.through a.2
           (λ e. c.in_err-answer_batch.ensures.unwritten (ap Err e)) c.in_err-answer_batch.ensures.unasked;
     })
 
 pub reads-preserved : goal.reads-preserved
 reads-preserved g c =
-    let long : length c.fill.new.buffer ≡ BUFFER = omega (arith, c.fill.auto.buffer, c.reads.invariant.room) in
+    let long : length c.fill.new.buffer ≡ BUFFER = omega
+    (arith, c.fill.auto.buffer, c.reads.invariant.room) in
     let on =
     going_on c.reads.buffer c.fill.new.buffer c.reads.filled c.match-fill.filled c.reads.invariant.going c.reads.invariant.few long
     (elim c.match-fill.branch [
@@ -134,7 +145,8 @@ reads-preserved g c =
           let rs = w.as_chunks.result.0.now in
           let left = length w.as_chunks.result.1.now in
           let after = w.move_to_front.new.buffer in
-          let len : length (take c.match-fill.filled c.fill.new.buffer) ≡ c.match-fill.filled = length-take-le c.match-fill.filled c.fill.new.buffer on.1 in
+          let len : length (take c.match-fill.filled c.fill.new.buffer) ≡ c.match-fill.filled =
+          length-take-le c.match-fill.filled c.fill.new.buffer on.1 in
           let cut = cut_and_moved c.fill.new.buffer after c.match-fill.filled left rs on.1 w.as_chunks.ensures.front w.as_chunks.ensures.back_len w.move_to_front.ensures in
           rw (w.writer-is, w.clock-is, w.bank-is, w.buffer-is, w.filled-is, w.count-is) (record {
             few = omega (arith, w.as_chunks.ensures.back_len);
@@ -144,7 +156,8 @@ reads-preserved g c =
             up = λ down. absurd (w.in_ok-answer_batch.ensures.up down);
             made = made_one _ _ c.reads.invariant.made c.fill.ensures.tells refl;
             through = through_batch c.reads.invariant.through w.in_ok-answer_batch.ensures.flushed;
-            going = going_batch a.0 (take c.match-fill.filled c.fill.new.buffer) (take left after) _ rs on.0 cut refl a.1 w.in_ok-answer_batch.ensures.honest a.2;
+            going = going_batch a.0 (take c.match-fill.filled c.fill.new.buffer)
+                (take left after) _ rs on.0 cut refl a.1 w.in_ok-answer_batch.ensures.honest a.2;
           })
       | else-filled-ge-RECORD w ↦
           let low = w.if-filled-ge-RECORD.false in

@@ -6,15 +6,17 @@ use Rattle.posting_core.proofs.Telling.{HasMade}
 use Rattle.posting_core.proofs.Streaming.{Going}
 use Rattle.posting_core.proofs.stream.post_stream.Given as goal
 
--- all whole records that were read are answered, and the rest stands at the front of the buffer; one read was made a turn, and
--- what was written was flushed
+-- all whole records that were read are answered, and the rest stands at the front of the buffer; one read was
+-- made a turn, and what was written was flushed
 abbrev pub invariant-reads : goal.invariant-reads
 invariant-reads g l = record {
   few : l.filled < 100;
   room : length l.buffer ≡ BUFFER;
   bound : l.count ≤ RECORDS_PER_BATCH * l.counter;
-  going : Going (g.R.Source.remaining l.fn.reader) (g.R.Source.remaining l.reader) (g.W.Sink.contents l.fn.writer) (g.W.Sink.contents l.writer)
-      (g.K.Clock.readings l.fn.clock) (g.K.Clock.readings l.clock) (g.C.Counter.seen l.fn.bank) (g.C.Counter.seen l.bank) (take l.filled l.buffer) l.count;
+  going : Going (g.R.Source.remaining l.fn.reader) (g.R.Source.remaining l.reader)
+      (g.W.Sink.contents l.fn.writer) (g.W.Sink.contents l.writer)
+      (g.K.Clock.readings l.fn.clock) (g.K.Clock.readings l.clock) (g.C.Counter.seen l.fn.bank)
+      (g.C.Counter.seen l.bank) (take l.filled l.buffer) l.count;
   first : l.count ≡ 0 → l.bank ≡ l.fn.bank;
   up : (g.C.Counter.seen l.bank).is_down → (g.C.Counter.seen l.fn.bank).is_down × (l.count ≡ 0);
   made : HasMade (g.R.Source.told l.fn.reader) (g.R.Source.told l.reader) l.counter;

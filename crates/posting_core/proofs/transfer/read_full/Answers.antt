@@ -27,7 +27,8 @@ reads-preserved g c =
         within = search rules;
         read =
             let (bytes, grown, consumed) = w.in-Ok.ensures.ok in
-            read_more before now after old new bytes c.reads.invariant.read consumed (ap (λ (k : ℕ). take k c.fill.new.buffer) w.filled-is ∙ grown);
+            read_more before now after old new bytes c.reads.invariant.read consumed
+            (ap (λ (k : ℕ). take k c.fill.new.buffer) w.filled-is ∙ grown);
         made = made_one _ _ c.reads.invariant.made c.fill.ensures.tells refl;
       }
       | in-Err w ↦ record {

@@ -5,4 +5,5 @@ use Rattle.posting_core.proofs.walking.set_balance_at.Given as goal
 -- the rows so far are changed, and the others are as they were
 abbrev pub invariant-loop-row : goal.invariant-loop-row
 invariant-loop-row g l =
-    l.rows ≡ map (changed_at g.R.BalanceRow.key l.number (g.R.BalanceRow.with_balance l.balance)) (take l.row-index l.fn.rows) ++ drop l.row-index l.fn.rows
+    l.rows ≡ map (changed_at g.R.BalanceRow.key l.number (g.R.BalanceRow.with_balance l.balance))
+    (take l.row-index l.fn.rows) ++ drop l.row-index l.fn.rows

@@ -10,7 +10,8 @@ overflow_add-number c =
     let w = c.take_words-words.ensures c.self.inside.seed c.self.inside.given c.self.invariant.words_at in
     let s =
     stepped c.self.inside.rows.items c.self.inside.counts.items c.self.inside.seed c.self.inside.given c.take_words-words.result.teller
-    c.draw-place.result c.index.result.now (TELLERS_PER_BRANCH * c.len.result) c.self.invariant.plan c.self.invariant.counts_at w.teller
+    c.draw-place.result c.index.result.now
+    (TELLERS_PER_BRANCH * c.len.result) c.self.invariant.plan c.self.invariant.counts_at w.teller
     (ap (λ (n : ℕ). TELLERS_PER_BRANCH * n) (c.len.ensures ∙ c.self.inside.rows.ok.0)) c.draw-place.ensures.value c.draw-place.ensures.below
     c.index.ensures in
     let few = s.few in
@@ -22,7 +23,8 @@ request_by-requires-clause-last c =
     let w = c.take_words-words.ensures c.self.inside.seed c.self.inside.given c.self.invariant.words_at in
     let s =
     stepped c.self.inside.rows.items c.self.inside.counts.items c.self.inside.seed c.self.inside.given c.take_words-words.result.teller
-    c.draw-place.result c.index.result.now (TELLERS_PER_BRANCH * c.len.result) c.self.invariant.plan c.self.invariant.counts_at w.teller
+    c.draw-place.result c.index.result.now
+    (TELLERS_PER_BRANCH * c.len.result) c.self.invariant.plan c.self.invariant.counts_at w.teller
     (ap (λ (n : ℕ). TELLERS_PER_BRANCH * n) (c.len.ensures ∙ c.self.inside.rows.ok.0)) c.draw-place.ensures.value c.draw-place.ensures.below
     c.index.ensures in
     let given : c.self.inside.given < MOST_RECORDS = rw (← c.self.view_is) at c.requires in
@@ -34,7 +36,8 @@ invariant_of-self c =
     let w = c.take_words-words.ensures c.self.inside.seed c.self.inside.given c.self.invariant.words_at in
     let s =
     stepped c.self.inside.rows.items c.self.inside.counts.items c.self.inside.seed c.self.inside.given c.take_words-words.result.teller
-    c.draw-place.result c.index.result.now (TELLERS_PER_BRANCH * c.len.result) c.self.invariant.plan c.self.invariant.counts_at w.teller
+    c.draw-place.result c.index.result.now
+    (TELLERS_PER_BRANCH * c.len.result) c.self.invariant.plan c.self.invariant.counts_at w.teller
     (ap (λ (n : ℕ). TELLERS_PER_BRANCH * n) (c.len.ensures ∙ c.self.inside.rows.ok.0)) c.draw-place.ensures.value c.draw-place.ensures.below
     c.index.ensures in
     let given : c.self.inside.given < MOST_RECORDS = rw (← c.self.view_is) at c.requires in
@@ -46,7 +49,8 @@ returns-clause-value c =
     let w = c.take_words-words.ensures c.self.inside.seed c.self.inside.given c.self.invariant.words_at in
     let s =
     stepped c.self.inside.rows.items c.self.inside.counts.items c.self.inside.seed c.self.inside.given c.take_words-words.result.teller
-    c.draw-place.result c.index.result.now (TELLERS_PER_BRANCH * c.len.result) c.self.invariant.plan c.self.invariant.counts_at w.teller
+    c.draw-place.result c.index.result.now
+    (TELLERS_PER_BRANCH * c.len.result) c.self.invariant.plan c.self.invariant.counts_at w.teller
     (ap (λ (n : ℕ). TELLERS_PER_BRANCH * n) (c.len.ensures ∙ c.self.inside.rows.ok.0)) c.draw-place.ensures.value c.draw-place.ensures.below
     c.index.ensures in
     rw (← c.self.view_is)

@@ -11,7 +11,8 @@ invariant_of-self g c =
     let start = written_length g.row.SIZE d.written d.bytes c.args.self.now c.self.invariant.0 c.self.invariant.1 c.self.view_is in
     let fits : d.written + n ≤ length d.bytes = omega (arith, start, c.self.invariant.0) in
     let placed = digits_placed d.written n c.args.number d.bytes c.put_digits.new.out fits c.put_digits.ensures in
-    let same : length c.put_digits.new.out ≡ n = ap (λ (t : List ℕ). length t) placed ∙ length-digits n c.args.number in
+    let same : length c.put_digits.new.out ≡ n = ap (λ (t : List ℕ). length t) placed
+    ∙ length-digits n c.args.number in
     let inside : d.written ≤ length d.bytes = omega (arith, fits) in (
       length_placed d.written n d.bytes c.put_digits.new.out fits same ∙ c.self.invariant.0,
       omega (arith, start),

@@ -14,7 +14,7 @@ use Rattle.posting_batch.specs.Overlay.{Overlay, tables_over}
 use Rattle.posting_batch.specs.View.{view}
 use Rattle.posting_batch.proofs.Covered.{stands}
 use Rattle.posting_batch.proofs.Idle.{all_answered, all_idle, all_rows}
-use Rattle.posting_batch.proofs.InOrder.{all_tables, all_replies, all_rising}
+use Rattle.posting_batch.proofs.InOrder.{all_tables, all_replies, all_rising, judged}
 use Rattle.posting_batch.proofs.NewRows.{all_changes, all_adds}
 use Rattle.posting_batch.proofs.batch.Batch.judge.Goals as goal
 
@@ -24,10 +24,9 @@ returns-clause-tables c t records is =
     let reads : List (Result RequestFields Bad) = map request_of records in
     let old = filled t (covering_all no_slots reads) in
     let it = stands t reads in
-    let after : view c.answer_all.new.self ≡ overlay_with_all old m reads =
-    c.answer_all.ensures.overlay ∙ ap (λ (rs : List (Result RequestFields Bad)). overlay_with_all (view c.args.self.overlay) m rs) (c.deref.ensures.value ∙ is.reads)
-    ∙ ap (λ (o : Overlay). overlay_with_all o m reads) is.overlay in
-    ap (λ (o : Overlay). tables_over o t) after ∙ all_tables old t m records it.fits it.covers ∙ ap (λ (u : Tables). tables_past_all u m records) it.same
+    let after = judged m c.answer_all.ensures.overlay (c.deref.ensures.value ∙ is.reads) is.overlay in
+    ap (λ (o : Overlay). tables_over o t) after ∙ all_tables old t m records it.fits it.covers ∙ ap
+    (λ (u : Tables). tables_past_all u m records) it.same
 
 pub returns-clause-replies : goal.returns-clause-replies
 returns-clause-replies c t records is =
@@ -40,7 +39,8 @@ returns-clause-replies c t records is =
     ∙ ap (λ (items : List (List ℕ)). items ++ map reply_spelling (replies_over (view c.args.self.overlay) m c.deref.result.now)) c.args.self.fresh
     ∙ ap (λ (rs : List (Result RequestFields Bad)). map reply_spelling (replies_over (view c.args.self.overlay) m rs)) (c.deref.ensures.value ∙ is.reads)
     ∙ ap (λ (o : Overlay). map reply_spelling (replies_over o m reads)) is.overlay
-    ∙ all_replies old t m records it.fits it.covers ∙ ap (λ (u : Tables). replies_past_all u m records) it.same in
+    ∙ all_replies old t m records it.fits it.covers ∙ ap
+    (λ (u : Tables). replies_past_all u m records) it.same in
     told
 
 pub returns-clause-answers : goal.returns-clause-answers
@@ -49,7 +49,8 @@ returns-clause-answers c t records is log shows =
 
 pub returns-clause-shows : goal.returns-clause-shows
 returns-clause-shows c t records is log shows =
-    subst (λ (u : Tables). Shows u (behind log (posts c.args.moment records))) (sym (returns-clause-tables c t records is))
+    subst (λ (u : Tables). Shows u (behind log (posts c.args.moment records)))
+    (sym (returns-clause-tables c t records is))
     (all_past t log c.args.moment records shows)
 
 pub returns-clause-changes : goal.returns-clause-changes
@@ -58,14 +59,14 @@ returns-clause-changes c t records is =
     let reads : List (Result RequestFields Bad) = map request_of records in
     let old = filled t (covering_all no_slots reads) in
     let it = stands t reads in
-    let after : view c.answer_all.new.self ≡ overlay_with_all old m reads =
-    c.answer_all.ensures.overlay ∙ ap (λ (rs : List (Result RequestFields Bad)). overlay_with_all (view c.args.self.overlay) m rs) (c.deref.ensures.value ∙ is.reads)
-    ∙ ap (λ (o : Overlay). overlay_with_all o m reads) is.overlay in
-    subst (λ (o : Overlay). ChangesRows o t) (sym after) (all_changes old t m reads it.fits it.unchanged it.covers)
+    let after = judged m c.answer_all.ensures.overlay (c.deref.ensures.value ∙ is.reads) is.overlay in
+    subst (λ (o : Overlay). ChangesRows o t) (sym after)
+    (all_changes old t m reads it.fits it.unchanged it.covers)
 
 pub returns-clause-rising : goal.returns-clause-rising
 returns-clause-rising c rising =
-    subst (λ (o : Overlay). HasRisingSlots o) (sym c.answer_all.ensures.overlay) (all_rising (view c.args.self.overlay) c.args.moment c.deref.result.now rising)
+    subst (λ (o : Overlay). HasRisingSlots o) (sym c.answer_all.ensures.overlay)
+    (all_rising (view c.args.self.overlay) c.args.moment c.deref.result.now rising)
 
 pub returns-clause-count : goal.returns-clause-count
 returns-clause-count c =
@@ -81,21 +82,21 @@ returns-clause-adds c t records is log shows =
     let reads : List (Result RequestFields Bad) = map request_of records in
     let old = filled t (covering_all no_slots reads) in
     let it = stands t reads in
-    let after : view c.answer_all.new.self ≡ overlay_with_all old m reads =
-    c.answer_all.ensures.overlay ∙ ap (λ (rs : List (Result RequestFields Bad)). overlay_with_all (view c.args.self.overlay) m rs) (c.deref.ensures.value ∙ is.reads)
-    ∙ ap (λ (o : Overlay). overlay_with_all o m reads) is.overlay in
+    let after = judged m c.answer_all.ensures.overlay (c.deref.ensures.value ∙ is.reads) is.overlay in
     subst (λ (o : Overlay). AddsRows o t) (sym after)
     (all_adds old t log m records it.fits it.unchanged it.covers (subst (λ (u : Tables). Shows u log) (sym it.same) shows))
 
 pub returns-clause-counts : goal.returns-clause-counts
 returns-clause-counts c =
     let old = view c.args.self.overlay in
-    subst (λ (o : Overlay). o.decided + length old.requests ≡ old.decided + length o.requests) (sym c.answer_all.ensures.overlay)
+    subst (λ (o : Overlay). o.decided + length old.requests ≡ old.decided + length o.requests)
+    (sym c.answer_all.ensures.overlay)
     (all_rows old c.args.moment c.deref.result.now)
 
 pub returns-clause-idle : goal.returns-clause-idle
 returns-clause-idle c none =
     let old = view c.args.self.overlay in
     let reads = c.deref.result.now in
-    let is : view c.answer_all.new.self ≡ overlay_with_all old c.args.moment reads = c.answer_all.ensures.overlay in
+    let is : view c.answer_all.new.self ≡ overlay_with_all old c.args.moment reads =
+    c.answer_all.ensures.overlay in
     is ∙ all_idle old c.args.moment reads (ap (λ (o : Overlay). o.decided) (sym is) ∙ none)

@@ -8,8 +8,10 @@ use Rattle.posting_batch.proofs.overlay.Overlay.answer_all.Given as goal
 -- what is left comes to what all come to, and there is room for it
 abbrev pub invariant-loop-read : goal.invariant-loop-read
 invariant-loop-read l = record {
-  overlay : overlay_with_all (view l.self) l.moment (drop l.read-index l.reads) ≡ overlay_with_all (view l.fn.self) l.moment l.reads;
-  told : l.replies.items ++ map reply_spelling (replies_over (view l.self) l.moment (drop l.read-index l.reads))
+  overlay : overlay_with_all (view l.self) l.moment (drop l.read-index l.reads) ≡ overlay_with_all
+      (view l.fn.self) l.moment l.reads;
+  told : l.replies.items ++ map reply_spelling
+      (replies_over (view l.self) l.moment (drop l.read-index l.reads))
       ≡ l.fn.replies.items ++ map reply_spelling (replies_over (view l.fn.self) l.moment l.reads);
   replies_room : vec_len l.replies + (length l.reads - l.read-index) ≤ vec_capacity l.replies;
   requests_room : vec_len l.self.requests + (length l.reads - l.read-index) ≤ vec_capacity l.self.requests;

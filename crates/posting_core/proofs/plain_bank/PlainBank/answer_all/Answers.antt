@@ -13,10 +13,13 @@ loop-bytes-preserved c =
     let old = plain_tables c.loop-bytes.self in
     let new = plain_tables c.answer-reply.new.self in
     record {
-      commands = commands_one_more c.args.moment rs i lt (omega (arith, c.get-seconds.ensures.value, c.get-seconds.ensures.most)) (search rules) c.loop-bytes.invariant.commands;
+      commands = commands_one_more c.args.moment rs i lt
+          (omega (arith, c.get-seconds.ensures.value, c.get-seconds.ensures.most))
+          (search rules) c.loop-bytes.invariant.commands;
       shows = λ log s. shows_one_more new log c.args.moment rs i lt
           (record_from old old new (behind log (posts c.args.moment (take i rs))) c.args.moment (get_or rs i []) c.answer-reply.ensures.tables refl (c.loop-bytes.invariant.shows log s));
-      replies = λ log s. replies_one_more log c.args.moment rs i _ _ _ _ lt (c.loop-bytes.invariant.replies log s)
+      replies = λ log s. replies_one_more log c.args.moment rs i _ _ _ _ lt
+          (c.loop-bytes.invariant.replies log s)
           (reply_from old old (behind log (posts c.args.moment (take i rs))) (get_or rs i []) _ c.answer-reply.ensures.reply refl (c.loop-bytes.invariant.shows log s))
           c.put.ensures.items;
       count = omega (arith, c.loop-bytes.invariant.count, c.put.ensures.len);

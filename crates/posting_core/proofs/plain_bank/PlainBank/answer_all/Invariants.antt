@@ -9,9 +9,11 @@ use Rattle.posting_core.proofs.plain_bank.PlainBank.answer_all.Given as goal
 -- the records so far are behind each log, their replies were put, and there is room for the others
 abbrev pub invariant-loop-bytes : goal.invariant-loop-bytes
 invariant-loop-bytes l = record {
-  shows : (log : List Command) → Shows (plain_tables l.fn.self) log → Shows (plain_tables l.self) (behind log (posts l.moment (take l.bytes-index l.records)));
+  shows : (log : List Command) → Shows (plain_tables l.fn.self) log
+      → Shows (plain_tables l.self) (behind log (posts l.moment (take l.bytes-index l.records)));
   replies : (log : List Command) → Shows (plain_tables l.fn.self) log
-      → l.replies.items ≡ l.fn.replies.items ++ replies_to log (posts l.moment (take l.bytes-index l.records));
+      → l.replies.items ≡ l.fn.replies.items ++ replies_to log
+      (posts l.moment (take l.bytes-index l.records));
   commands : AreCommands (posts l.moment (take l.bytes-index l.records));
   count : length l.replies.items ≡ length l.fn.replies.items + l.bytes-index;
   replies_room : vec_len l.replies + (length l.records - l.bytes-index) ≤ vec_capacity l.replies;

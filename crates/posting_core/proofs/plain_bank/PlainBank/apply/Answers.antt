@@ -1,5 +1,6 @@
 -- The rows of branches stay in their ranges.
-use Rattle.std.proofs.Common.{◌≡◌, ℕ, Bool, true, false, cond, eqb, List, length, get_or, sym, subst, ap, ◌∙◌, arith, rules}
+use Rattle.std.proofs.Common.{◌≡◌, ℕ, Bool, true, false, cond, eqb, List, length, get_or, sym, subst, ap, ◌∙◌}
+use Rattle.std.proofs.Common.{arith, rules}
 use Rattle.std.specs.Prelude.{ℤ, All, map}
 use Rattle.std.proofs.lemmas.Grind.{common_steps}
 use Rattle.std.proofs.lemmas.List.{with_items_is}
@@ -28,7 +29,8 @@ pub invariant_of-self-in-Posted-1-clause-in_range : goal.invariant_of-self-in-Po
 invariant_of-self-in-Posted-1-clause-in_range c =
     let vec = c.args.self.now.branches in
     let after = c.set_balance_at-in-Posted-2.new.rows in
-    let change = changed_at branch_key c.branch_of_teller-home.result (with_branch_balance c.in-Posted.branch) in
+    let change = changed_at branch_key c.branch_of_teller-home.result
+    (with_branch_balance c.in-Posted.branch) in
     let is : after ≡ map change vec.items =
     c.set_balance_at-in-Posted-2.ensures ∙ ap (map change) c.deref_mut-in-Posted-2.ensures.value in
     let long : length after ≡ vec.len = search rules in

@@ -1,7 +1,8 @@
 use Rattle.std.proofs.Common.{[], ◌∷◌, refl, arith, rules}
 use Rattle.posting_rules.specs.Commands.{Post}
 use Rattle.posting_core.specs.Plain.{plain_tables}
-use Rattle.posting_core.proofs.InMemory.{record_from, reply_from, requests_as_before, plain_shows, takes_plain}
+use Rattle.posting_core.proofs.InMemory.{record_from, reply_from, requests_as_before, plain_shows}
+use Rattle.posting_core.proofs.InMemory.{takes_plain}
 use Rattle.posting_core.proofs.plain_bank.PlainBankCounter.submit.Goals as goal
 
 pub returns-clause-reply : goal.returns-clause-reply
@@ -13,5 +14,6 @@ pub returns-clause-done : goal.returns-clause-done
 returns-clause-done c =
     takes_plain c.args.self.now c.answer.new.self (Post c.args.moment c.args.bytes.now ∷ [])
     ((omega (arith, c.get-seconds.ensures.value, c.get-seconds.ensures.most), search rules), tt) (λ log s.
-    record_from (plain_tables c.args.self.now) _ (plain_tables c.answer.new.self) log c.args.moment c.args.bytes.now c.answer.ensures.tables
+    record_from (plain_tables c.args.self.now) _
+    (plain_tables c.answer.new.self) log c.args.moment c.args.bytes.now c.answer.ensures.tables
     (requests_as_before (plain_tables c.args.self.now) _ _ refl c.reserve.ensures.items c.reserve-2.ensures.items) s)

@@ -8,5 +8,6 @@ use Rattle.posting_core.proofs.plain_bank.PlainBankCounter.submit_all.Goals as g
 pub returns-clause-done : goal.returns-clause-done
 returns-clause-done c =
     let same = requests_as_before (plain_tables c.args.self.now) _ _ refl c.reserve-2.ensures.items c.reserve-3.ensures.items in
-    takes_plain c.args.self.now c.answer_all.new.self (posts c.args.moment c.args.records.now) c.answer_all.ensures.commands
+    takes_plain c.args.self.now c.answer_all.new.self
+    (posts c.args.moment c.args.records.now) c.answer_all.ensures.commands
     (λ log s. c.answer_all.ensures.shows log (subst (λ (t : Tables). Shows t log) (sym same) s))
