@@ -15,7 +15,7 @@ work=$(mktemp -d)
 bare=$(mktemp -d -p /dev/shm)
 trap 'rm -rf "$work" "$bare"' EXIT
 below='message_records posting_rules posting_batch posting_core branch_loader load_driver sql_meanings store_rows'
-below="$below bank_transactions bank_walks bank_batches bank_store"
+below="$below bank_transactions bank_walks bank_batches bank_store bank_files"
 
 # The bench as a crate of its own, above copies of those that it measures.
 build() {
@@ -28,7 +28,7 @@ build() {
         grep -E "^$crate:" "$here/crates.txt" >>"$work/crates.txt"
     done
     cp "$here/bench/post.rt.in" "$work/crates/post/src/main.rt"
-    echo 'post: message_records posting_core branch_loader load_driver bank_store sqlite' >>"$work/crates.txt"
+    echo 'post: message_records posting_core branch_loader load_driver bank_store bank_files sqlite' >>"$work/crates.txt"
     git -C "$work" init -q
     (cd "$work/crates/post" && rt check && { rt run || test -x out/post; })
     cc -O2 -o "$work/peer" "$here/bench/peer.c" -lsqlite3

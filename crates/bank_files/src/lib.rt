@@ -1,7 +1,7 @@
 //! The two files of a bank, the database and its log: they are opened, and made where they hold nothing yet.
 //!
-//! A commit writes each page that it has changed whole, and so a new file has small pages. A file that holds a
-//! database keeps the pages that it has.
+//! A commit writes each page that it has changed whole, and so a new file has small pages. A file that holds
+//! a database keeps the pages that it has.
 #![tactic(auto)]
 
 mod making;

@@ -86,9 +86,11 @@ pub(crate) fn make_store<D: Disk + Drop>(
 ) -> Result<FileStore<D>, Error>
     requires log { IsTrue (D.Disk.is_usable files.log) }
     requires db { IsTrue (D.Disk.is_usable files.db) }
-    ensures honest { IfOk result (λ store. IsTrue (view store).is_clean → AreClean D.Disk files.log files.db) }
+    ensures honest { IfOk result (λ store. IsTrue (view store).is_clean
+        → AreClean D.Disk files.log files.db) }
     ensures ok { IfOk result (λ store. IsTrue (view store).is_clean → IsMadeEmpty (view store)) }
-    ensures size { IfOk result (λ store. IsTrue (view store).is_clean → (state store).page_size ≡ PAGE_BYTES) }
+    ensures size { IfOk result (λ store. IsTrue (view store).is_clean
+        → (state store).page_size ≡ PAGE_BYTES) }
 {
     made(unopened(alloc, files, options)?)
 }

@@ -1,17 +1,18 @@
 //! A connection over a bank's files.
-ghost use Rattle.std.specs.Prelude.{true, false, IsTrue, IfOk};
+ghost use Rattle.std.specs.Prelude.{◌<◌, true, false, IsTrue, IfOk};
 ghost use Rattle.sqlite.specs.Files.{file_state, image_of};
 ghost use Rattle.sqlite.specs.Held.{IsNew};
 ghost use Rattle.sqlite.specs.State.{HasCleanDisk};
 ghost use Rattle.sqlite_std_file.specs.File.{file_is_usable, IsFresh};
 ghost use Rattle.sqlite_wal.specs.Files.{image_at};
-ghost use Rattle.sqlite_wal.specs.Reads.{AreClean};
+ghost use Rattle.sqlite_wal.specs.Reads.{AreClean, OnlyReads};
 ghost use Rattle.bank_files.specs.Opening.{IsMadeOver, IsOpenedOn};
 
 use crate::making::{NO_MEMORY, PAGE_BYTES, are_blank, make_store};
 use sqlite::{Connection, Error, ErrorCode, FileFrom, FileStore, Files, Options, Start};
 use sqlite_disk::Disk;
 use sqlite_std_file::OpenError;
+use sqlite_wal::probe_page_size;
 use std::alloc::Global;
 use std::hash::{BuildHasher, RandomState};
 
@@ -20,16 +21,31 @@ const CANNOT_OPEN: Error = Error::SqliteFailure(ErrorCode::CannotOpen);
 /// How many bytes of pages are kept in memory, and how many that are written wait there.
 const CACHE_BYTES: usize = 8_192_000;
 
-/// How long the log grows before it is copied into the database.
-const LOG_BYTES: usize = 4_096_000;
+/// How long the log grows before it is copied into the database. A page that many commits write is copied once.
+const LOG_BYTES: usize = 16_384_000;
 
-// How a bank's files are held, by a random number.
-fn options(seed: u64) -> Options {
+// How files with pages of so many bytes are held.
+fn options(page_bytes: usize, seed: u64) -> Options
+    requires { 0 < page_bytes }
+{
     Options {
-        cache_pages: CACHE_BYTES / PAGE_BYTES,
-        spill_pages: CACHE_BYTES / PAGE_BYTES,
-        checkpoint_frames: LOG_BYTES / PAGE_BYTES,
+        cache_pages: CACHE_BYTES / page_bytes,
+        spill_pages: CACHE_BYTES / page_bytes,
+        checkpoint_frames: LOG_BYTES / page_bytes,
         seed,
+    }
+}
+
+// How files are held that aren't blank, by their pages.
+fn options_for<D: Disk>(files: &mut Files<D>, seed: u64) -> Options
+    requires log { IsTrue (D.Disk.is_usable files.old.log) }
+    requires db { IsTrue (D.Disk.is_usable files.old.db) }
+    ensures log { OnlyReads D.Disk files.old.log files.new.log }
+    ensures db { OnlyReads D.Disk files.old.db files.new.db }
+{
+    match probe_page_size(files) {
+        Ok(Some(size)) => options(size.bytes(), seed),
+        _ => options(PAGE_BYTES, seed),
     }
 }
 
@@ -42,7 +58,8 @@ fn make_over<D: Disk + Drop>(
     requires log { IsTrue (D.Disk.is_usable files.log) }
     requires db { IsTrue (D.Disk.is_usable files.db) }
     ensures fresh { IfOk result IsNew }
-    ensures honest { IfOk result (λ conn. HasCleanDisk (file_state conn) → AreClean D.Disk files.log files.db) }
+    ensures honest { IfOk result (λ conn. HasCleanDisk (file_state conn)
+        → AreClean D.Disk files.log files.db) }
     ensures made { IfOk result (λ conn. HasCleanDisk (file_state conn) → IsMadeOver (file_state conn)) }
 {
     let store = make_store(alloc, files, options)?;
@@ -52,8 +69,8 @@ fn make_over<D: Disk + Drop>(
     }
 }
 
-/// Opens the files. Where they hold nothing yet, or what an open left that was cut short, they get a database with
-/// no table and with pages of `PAGE_BYTES`.
+/// Opens the files. Where they hold nothing yet, or what an open left that was cut short, they get a database
+/// with no table and with pages of `PAGE_BYTES`.
 pub fn open_over<D: Disk + Drop>(
     alloc: Global,
     mut files: Files<D>,
@@ -66,15 +83,16 @@ pub fn open_over<D: Disk + Drop>(
         → IsOpenedOn (image_of D.Disk files) (file_state conn)) }
 {
     if are_blank(alloc, &mut files)? {
-        return make_over(alloc, files, options(seed));
+        return make_over(alloc, files, options(PAGE_BYTES, seed));
     }
-    match Connection::open_files(alloc, files, options(seed)) {
+    let options = options_for(&mut files, seed);
+    match Connection::open_files(alloc, files, options) {
         Ok(conn) => Ok(conn),
         Err((error, _)) => Err(error),
     }
 }
 
-// The two files at a path, which are made where they aren't there. What stands for no file elsewhere is refused.
+// The two files at a path, which are made where they aren't there. A path that names none is refused.
 fn files_at<S: Start>(rt: &HostRuntime, path: &str, start: S) -> Result<Files<FileFrom<S>>, Error>
     ensures usable { IfOk result (λ files. IsTrue (file_is_usable S.Start files.log)
         × IsTrue (file_is_usable S.Start files.db)) }

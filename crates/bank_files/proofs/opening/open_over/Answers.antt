@@ -1,6 +1,6 @@
 -- Whether the files were blank or held a database, what was found is as they held it.
 use Rattle.std.proofs.Common.{subst}
-use Rattle.sqlite.proofs.FileLemmas.{same_image}
+use Rattle.sqlite.proofs.FileLemmas.{reads_then, same_image}
 use Rattle.sqlite.specs.Files.{file_state}
 use Rattle.bank_files.proofs.Finding.{both_ok, found_on, made_on}
 use Rattle.bank_files.specs.Opening.{IsOpenedOn}
@@ -14,5 +14,8 @@ returns-then-branch-clause-opened g c =
 pub returns-in-Ok-clause-opened : goal.returns-in-Ok-clause-opened
 returns-in-Ok-clause-opened g c now =
     let found = c.in-Ok.ensures.found now in
-    subst (λ image. IsOpenedOn image (file_state c.in-Ok.conn)) (same_image c.are_blank.ensures.log c.are_blank.ensures.db)
-    (found_on _ (file_state c.in-Ok.conn) (c.in-Ok.ensures.opened now).0 (record { holds = found.holds; reads = found.reads }))
+    let log = reads_then c.are_blank.ensures.log c.options_for-options.ensures.log in
+    let db = reads_then c.are_blank.ensures.db c.options_for-options.ensures.db in
+    subst (λ image. IsOpenedOn image (file_state c.in-Ok.conn)) (same_image log db)
+    (found_on _ (file_state c.in-Ok.conn) (c.in-Ok.ensures.opened now).0
+    (record { holds = found.holds; reads = found.reads }))
