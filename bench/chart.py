@@ -50,6 +50,20 @@ def table(rates):
         yield f"PostgreSQL's TPC-B script, one client: {other} a second. One a commit over it: {ratio(rates, 'one', 'postgres')}."
         pairs = [ours / other for ours, other in zip(rates["batch", "ours"], rates["one", "postgres"])]
         yield f"64 a commit over it: {statistics.median(pairs):.1f} ({min(pairs):.1f} to {max(pairs):.1f})."
+    yield from growth(rates)
+
+
+def growth(rates):
+    """What a posting costs behind many rows, over what it costs behind 1,000."""
+    for what, system in rates:
+        if what.startswith("rows-"):
+            pairs = [few / many for few, many in zip(rates["few-rows", system], rates[what, system])]
+            rows = int(what.removeprefix("rows-"))
+            yield ""
+            yield (
+                f"A posting behind {rows:,} rows costs {statistics.median(pairs):.2f} ({min(pairs):.2f} to {max(pairs):.2f})"
+                " times one behind 1,000."
+            )
 
 
 def bars(rates):

@@ -1,6 +1,6 @@
 #!/usr/bin/env bash
 # Measures `bank drive` and `bank post` on a new bank of two branches with 1,000 accounts each: seconds, postings a second
-# and peak memory, for 20,000 records, for 200,000 and, driven, for a million. Those that are posted are the driver's too,
+# and peak memory, for 20,000 records, for 200,000 and for a million. Those that are posted are the driver's too,
 # as `tools/driver_vectors.py` draws them. It needs the built program, Python and GNU time, and stands outside the gate.
 # TMPDIR picks the disk.
 set -eu
@@ -31,7 +31,7 @@ for count in 20000 200000 1000000; do
     test "$(cat driven)" = "records $count posted $count refused 0"
     tell drive $count
 done
-for count in 20000 200000; do
+for count in 20000 200000 1000000; do
     python3 "$here/tools/driver_vectors.py" 7 $count 1:1000 2:1000 | awk '{ printf("%-100s", $1) }' >records
     begin
     command time -f '%e %M' -o took "$bank" post bank.db <records >replies

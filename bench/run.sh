@@ -1,8 +1,11 @@
 #!/usr/bin/env bash
 # Measures postings a second to a bank in a real file beside the C library's (`peer.c`) and PostgreSQL's own TPC-B script, in
-# rounds that go from one to the other, so that all of them meet the same disk. It takes two arguments: how many rounds, and
-# how many postings a measurement has. Each figure goes to `measured.csv` in the folder that it was called in, from which
-# `chart.py` makes the table and the picture.
+# rounds that go from one to the other, so that all of them meet the same disk. It takes three arguments: how many rounds,
+# how many postings a measurement has, and behind how many rows a posting is measured at last, beside one behind 1,000.
+# Each figure goes to `measured.csv` in the folder that it was called in, from which `chart.py` makes the table and the
+# picture.
+#
+# The built program is left there too, as `post`; a later run takes it where POST names it.
 #
 # It needs `rt`, a C compiler and SQLite's headers; without PostgreSQL its part is left out. TMPDIR picks the disk,
 # and /dev/shm stands for none. It stands outside the gate, and proves what it runs: what is kept in the crates here is copied first.
@@ -10,12 +13,14 @@ set -eu
 here=$(cd "$(dirname "$0")/.." && pwd)
 rounds=${1:-7}
 count=${2:-20000}
+rows=${3:-1000000}
 out=$PWD/measured.csv
+post=${POST:-$PWD/post}
 work=$(mktemp -d)
 bare=$(mktemp -d -p /dev/shm)
 trap 'rm -rf "$work" "$bare"' EXIT
 below='message_records posting_rules posting_batch posting_core branch_loader load_driver sql_meanings store_rows'
-below="$below bank_transactions bank_walks bank_batches bank_store"
+below="$below bank_transactions bank_walks bank_batches bank_store bank_files"
 
 # The bench as a crate of its own, above copies of those that it measures.
 build() {
@@ -28,9 +33,14 @@ build() {
         grep -E "^$crate:" "$here/crates.txt" >>"$work/crates.txt"
     done
     cp "$here/bench/post.rt.in" "$work/crates/post/src/main.rt"
-    echo 'post: message_records posting_core branch_loader load_driver bank_store sqlite' >>"$work/crates.txt"
+    echo 'post: message_records posting_core branch_loader load_driver bank_store bank_files sqlite' >>"$work/crates.txt"
     git -C "$work" init -q
-    (cd "$work/crates/post" && rt check && { rt run || test -x out/post; })
+    (cd "$work/crates/post" && { rt run || test -x out/post; })
+    cp "$work/crates/post/out/post" "$post"
+}
+
+# The same postings in C.
+build_peer() {
     cc -O2 -o "$work/peer" "$here/bench/peer.c" -lsqlite3
 }
 
@@ -40,7 +50,7 @@ measure() {
     shift 3
     rm -f "$folder"/bench.db*
     case $system in
-        ours) program=$work/crates/post/out/post ;;
+        ours) program=$post ;;
         *) program=$work/peer ;;
     esac
     echo "$what,$system,$("$program" "$folder/bench.db" "$@")" >>"$out"
@@ -76,7 +86,8 @@ ask_postgres() {
     echo "one,postgres,$(sed -n 's/^tps = \([0-9]*\).*/\1/p' "$work/asked")" >>"$out"
 }
 
-build
+test -n "${POST:-}" || build
+build_peer
 has_postgres=
 if ls -d /usr/lib/postgresql/*/bin >"$work/asked" 2>&1; then
     start_postgres
@@ -93,5 +104,9 @@ for _ in $(seq "$rounds"); do
     both large-batch "$work" 10 100000 0 "$count" 64
     both bare-one "$bare" 2 1000 0 "$count" 1
     both bare-batch "$bare" 2 1000 0 "$count" 64
+done
+for _ in 1 2 3; do
+    measure few-rows ours "$bare" 2 1000 1000 "$count" 64
+    measure "rows-$rows" ours "$bare" 2 1000 "$rows" "$count" 64
 done
 python3 "$here/bench/chart.py" "$out" "$PWD/speed.svg"

@@ -23,7 +23,8 @@ use Rattle.bank_store.specs.Opening.{conn_seen}
 use Rattle.bank_endings.specs.declared.fault.CommandFault.{CommandFault}
 use Rattle.bank_endings.specs.declared.status.Status.{Status}
 use Rattle.bank_endings.specs.declared.status.Status.TheVariants.{Done}
-use Rattle.bank_commands.specs.InFile.{HoldsLog, IsFoundIn, IsMadeOver, IsNewIn, IsOpenedOn, IsTakenUp}
+use Rattle.bank_files.specs.Opening.{IsOpenedOn}
+use Rattle.bank_commands.specs.InFile.{HoldsLog, IsFoundIn, IsMadeOver, IsNewIn, IsTakenUp}
 use Rattle.bank_commands.specs.Running.{ended_by}
 use Rattle.bank_commands.specs.Working.{PostsIn, said_of}
 
@@ -32,7 +33,7 @@ left_in : (image : Image) (s : State) (log : List Command) → IsOpenedOn image 
     → ShowsTrees s.now.trees holds.tables
 left_in image s log opened holds =
     let same : s.now.trees ≡ holds.trees =
-    ap (λ (db : Database). db.trees) opened.opens.clean ∙ opened.found.holds holds.trees holds.holds in
+    ap (λ (db : Database). db.trees) opened.opens.clean ∙ opened.holds holds.trees holds.holds in
     subst (λ (trees : Trees). ShowsTrees trees holds.tables) (sym same) holds.are
 
 pub found_in : (image : Image) (s : State) (seen : Seen) → (HasCleanDisk s → IsOpenedOn image s) → IsTakenUp s seen

@@ -2,7 +2,6 @@
 -- found there.
 use Rattle.std.specs.Prelude.{List, []}
 use Rattle.sqlite.specs.Files.{HoldsDatabase}
-use Rattle.sqlite.specs.Start.{FindsIn}
 use Rattle.sqlite.specs.State.{State, HasCleanDisk, Opens}
 use Rattle.sqlite_trees.specs.Tree.{Trees}
 use Rattle.sqlite_wal.specs.Recovery.{Image}
@@ -21,11 +20,6 @@ pub record HoldsLog (image : Image) (log : List Command) : Type 0 where
   pub shows : Shows tables log
 
 -- ---- a connection that was opened
-
--- it was opened on files that held this
-pub record IsOpenedOn (image : Image) (s : State) : Type 0 where
-  pub opens : Opens s
-  pub found : FindsIn image s
 
 -- where the connection was opened, the bank stands at the log that its trees show
 pub record IsTakenUp (s : State) (seen : Seen) : Type 0 where

@@ -11,10 +11,12 @@ ghost use Rattle.posting_rules.specs.Commands.{Command};
 ghost use Rattle.posting_rules.specs.Counter.{StandsAt};
 ghost use Rattle.bank_store.specs.Seen.{bank_seen};
 ghost use Rattle.bank_endings.specs.Faults.{fault_of_opening};
-ghost use Rattle.bank_commands.specs.InFile.{HoldsLog, IsFoundIn, IsMadeOver, IsNewIn, IsOpenedOn, IsTakenUp};
+ghost use Rattle.bank_files.specs.Opening.{IsOpenedOn};
+ghost use Rattle.bank_commands.specs.InFile.{HoldsLog, IsFoundIn, IsMadeOver, IsNewIn, IsTakenUp};
 ghost use Rattle.bank_commands.specs.Looking.{IsOfLook, IsOfPlan, fault_of_look};
 
 use bank_endings::CommandFault;
+use bank_files::open;
 use bank_lives::opened_law;
 use bank_store::{Bank, Refused, adopt, create};
 use branch_loader::{Plan, PlanFault, read_plan};
@@ -119,7 +121,7 @@ fn fault_of_look(error: &io::Error) -> CommandFault
     }
 }
 
-// A connection to the file, outside a transaction.
+// A connection to the file, outside a transaction. A file that is made has small pages.
 fn connect<S: Start>(
     rt: &HostRuntime,
     start: S,
@@ -130,7 +132,7 @@ fn connect<S: Start>(
         → IsOpenedOn (image_at S.Start) (file_state conn)) }
     ensures fault { OnErr result (IsErrOf result CommandFault.Store) }
 {
-    match Connection::open_from(rt, file, false, start) {
+    match open(rt, file, start) {
         Ok(conn) => Ok(conn),
         Err(_) => Err(CommandFault::Store),
     }

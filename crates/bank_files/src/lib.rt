@@ -1,0 +1,11 @@
+//! The two files of a bank, the database and its log: they are opened, and made where they hold nothing yet.
+//!
+//! A commit writes each page that it has changed whole, and so a new file has small pages. A file that holds
+//! a database keeps the pages that it has.
+#![tactic(auto)]
+
+mod making;
+mod opening;
+
+pub use making::PAGE_BYTES;
+pub use opening::{open, open_over};
