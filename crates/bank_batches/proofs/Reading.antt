@@ -91,8 +91,10 @@ module _ {S X Y : Type 0} {g : Ghosts S} {old mid new : Transaction S} {So So' :
             let first = (told t shows so).0 in
             let then = told' t (subst (λ (db : Database). Shows db t) (sym kept.0.now) shows) (ready t so first) in
             same_fault a c (w' t) (w'' t) e (looked_then a b c (w' t) r kept.0 then))
-            (λ kept kept'. (looks_then a b c r kept.0 kept'.0, 
-              blames_after (IsFirstBroken g) g old.conn.now mid.conn.now new.conn.now r (λ rule. subst (IsBroken rule) kept.0.now) (comes one.says.survives) kept'.1));
+            (λ kept kept'. (
+              looks_then a b c r kept.0 kept'.0,
+              blames_after (IsFirstBroken g) g old.conn.now mid.conn.now new.conn.now r (λ rule. subst (IsBroken rule) kept.0.now) (comes one.says.survives) kept'.1,
+            ));
       }
 
 -- a statement that changed nothing

@@ -1,5 +1,5 @@
 -- The rule that is told to be broken: what a transaction says of it is what the call says.
-use Rattle.std.proofs.Common.{◌≡◌, Option, Err, Result, sym, subst, arith, inl, inr}
+use Rattle.std.proofs.Common.{Option, Err, sym, subst, arith, inl, inr}
 use Rattle.sqlite.specs.State.{HasCleanDisk, Survives}
 use Rattle.sqlite.specs.Held.{Held, state}
 use Rattle.sqlite_trees.specs.declared.store.Store.{Ghosts}
@@ -8,7 +8,7 @@ use Rattle.posting_rules.specs.declared.fault.Rule.{Rule}
 use Rattle.posting_rules.specs.Tables.{Tables}
 use Rattle.store_rows.specs.declared.faults.TableFault.{TableFault}
 use Rattle.store_rows.specs.declared.faults.TableFault.TheVariants.{Sqlite, Damaged}
-use Rattle.bank_transactions.specs.Doing.{Consults, Damage, IsBrokenOrMet, IsFirstBroken, Transacts, TransactsBy}
+use Rattle.bank_transactions.specs.Doing.{Damage, IsBrokenOrMet, IsFirstBroken, Transacts, TransactsBy}
 use Rattle.bank_transactions.proofs.Blamed.{comes, met_within, same_moment}
 use Rattle.bank_store.specs.Down.{GoesDown, OfDamage}
 

@@ -1,5 +1,5 @@
 -- The changed balance of one slot.
-use Rattle.std.proofs.Common.{◌≡◌, Some, Option, rules, inl, inr, refl, subst}
+use Rattle.std.proofs.Common.{◌≡◌, Some, Option, rules, inl, refl, subst}
 use Rattle.std.specs.Prelude.{ℤ, is_some, IsSome, IfSome}
 use Rattle.posting_rules.specs.declared.fault.Rule.TheVariants.{Teller}
 use Rattle.posting_rules.specs.Changes.{with_teller_balance}
