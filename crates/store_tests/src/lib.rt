@@ -1,5 +1,5 @@
-//! Tests of the bank in tables that no scenario reaches: each statement of the six tables once, and machines
-//! that stop.
+//! Tests of the bank in tables that no scenario reaches: each statement of the six tables once, walks over rows that
+//! stand beside one another, and machines that stop.
 #![tactic(auto)]
 
 #[cfg(test)]

@@ -1,9 +1,8 @@
 //! Walks over rows that stand beside one another in two tables, across the border of what is read ahead.
-use crate::files::{Fused, Image, closed, fused, opened, written};
 use crate::sql::put;
 use bank_store::{Bank, Refused, adopt, create, each_history, each_request};
 use posting_core::{Fault, Rule};
-use sqlite::{Alter, Connection, Files};
+use sqlite::{Alter, Connection};
 use std::alloc::{Alloc, Global};
 use std::process::Abort;
 use std::test::Fail;
@@ -141,72 +140,4 @@ fn rows_beside_one_another(rt: HostRuntime) -> Result<(), Fail> {
     put(&mut conn, "DELETE FROM history WHERE ordinal = ?1", BROKEN)?;
     let mut bank = bank_of(&rt, conn)?;
     last_posting_is_alone(&rt, &mut bank)
-}
-
-// A bank of 200 postings, in files.
-fn bank_in_files(rt: &(impl Abort + Alloc<A = Global>)) -> Result<Image, Fail> {
-    let files = Files {
-        log: fused(rt, &[], u64::MAX),
-        db: fused(rt, &[], u64::MAX),
-    };
-    let Ok(conn) = opened(rt, files) else {
-        return Err("files that open".into());
-    };
-    let mut conn = made(rt, conn)?;
-    for ordinal in 1..=200 {
-        put(&mut conn, REQUEST, ordinal)?;
-        put(&mut conn, POSTING, ordinal)?;
-    }
-    written(rt.alloc(), &closed(conn))
-}
-
-// How many postings are given until a walk ends, and whether a fault ended it.
-fn given<S: Alter>(rt: &impl Abort, bank: &mut Bank<S>) -> Result<(u8, bool), Fail> {
-    let mut walk = each_history(bank)?;
-    for count in 0..=200u8 {
-        match walk.next() {
-            Ok(Some(_)) => {}
-            Ok(None) => return Ok((count, false)),
-            Err(fault) => {
-                assert_eq!(rt; fault, Fault::Store);
-                assert_eq!(rt; walk.next(), Err(Fault::Down));
-                return Ok((count, true));
-            }
-        }
-    }
-    Err("a walk that ends".into())
-}
-
-// The file fails at one call after the other: rows may be given until then, and all are where it doesn't fail.
-#[test]
-fn a_walk_stops_at_the_database_file(rt: HostRuntime) -> Result<(), Fail> {
-    let image = bank_in_files(&rt)?;
-    let mut has_stopped_late = false;
-    for calls in 0..1_000u64 {
-        let files = Files {
-            db: fused(&rt, &image.db, calls),
-            log: fused(&rt, &image.log, u64::MAX),
-        };
-        let Ok(conn) = opened(&rt, files) else {
-            continue;
-        };
-        assert!(rt; conn.is_autocommit());
-        let mut bank = match adopt(rt.alloc(), conn) {
-            Ok(bank) => bank,
-            Err(
-                Refused {
-                    fault: _,
-                    conn: _conn,
-                },
-            ) => continue,
-        };
-        let (count, is_fault) = given(&rt, &mut bank)?;
-        if !is_fault {
-            assert_eq!(rt; count, 200);
-            assert!(rt; has_stopped_late);
-            return Ok(());
-        }
-        has_stopped_late = has_stopped_late || count > 0;
-    }
-    Err("a walk that ends".into())
 }
