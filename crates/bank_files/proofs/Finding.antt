@@ -15,11 +15,13 @@ use Rattle.bank_files.specs.declared.making.TheConstants.{PAGE_BYTES}
 -- files that hold a database, of whatever page size, aren't blank
 is_not_blank : (image : Image) (db : Trees) → HoldsDatabase image db → ¬ IsBlankFile PAGE_BYTES image
 is_not_blank image db held =
-    let large : 504 ≤ held.0 = (let few : reserved held.0 ≤ 8 = grind arith in omega (arith, held.1.0)) in
+    let few : reserved held.0 ≤ 8 = grind arith in
+    let large : 504 ≤ held.0 = omega (arith, held.1.0) in
     not_blank held.0 image held.2.pages held.2.found large held.2.ours.file.sound _ (omega arith)
 
 -- a database that was made in blank files
-pub made_on : (image : Image) (s : State) → IsBlankFile PAGE_BYTES image → IsMadeOver s → IsOpenedOn image s
+pub made_on : (image : Image) (s : State) → IsBlankFile PAGE_BYTES image → IsMadeOver s
+    → IsOpenedOn image s
 made_on image s blank made = record {
   opens = made.opens;
   holds = λ db held. absurd (is_not_blank image db held blank);
@@ -30,7 +32,7 @@ made_on image s blank made = record {
 pub found_on : (image : Image) (s : State) → Opens s → FindsIn image s → IsOpenedOn image s
 found_on image s opens found = record { opens = opens; holds = found.holds; reads = inl found.reads }
 
-pub both_ok : {X E : Type 0} {P Q R : X → Type 0} (r : Result X E) → IfOk r P → IfOk r Q → ((x : X) → P x → Q x → R x)
-    → IfOk r R
+pub both_ok : {X E : Type 0} {P Q R : X → Type 0} (r : Result X E) → IfOk r P → IfOk r Q
+    → ((x : X) → P x → Q x → R x) → IfOk r R
 both_ok (Ok x) p q go = go x p q
 both_ok (Err e) p q go = tt

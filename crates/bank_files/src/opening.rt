@@ -21,7 +21,7 @@ const CANNOT_OPEN: Error = Error::SqliteFailure(ErrorCode::CannotOpen);
 /// How many bytes of pages are kept in memory, and how many that are written wait there.
 const CACHE_BYTES: usize = 8_192_000;
 
-/// How long the log grows before it is copied into the database. A page that many commits write is copied once.
+/// How long the log grows before it is copied into the database, where a page of many commits is copied once.
 const LOG_BYTES: usize = 16_384_000;
 
 // How files with pages of so many bytes are held.

@@ -8,6 +8,5 @@ use Rattle.bank_files.proofs.making.make_store.Goals as goal
 pub returns-clause-honest : goal.returns-clause-honest
 returns-clause-honest g c =
     let it = c.in_ok-unopened.field-0 in
-    IfOk-weaker c.made.result _ _ (λ store honest clean.
-    sym ((pool_files it.pool).1 ∙ ap (λ f. are_clean g.D.Disk f.0 f.1) c.in_ok-unopened.ensures.files) ∙ honest clean)
-    c.made.ensures.honest
+    let same = (pool_files it.pool).1 ∙ ap (λ f. are_clean g.D.Disk f.0 f.1) c.in_ok-unopened.ensures.files in
+    IfOk-weaker c.made.result _ _ (λ store honest clean. sym same ∙ honest clean) c.made.ensures.honest

@@ -10,13 +10,15 @@ over-requires g c none = (c.in_ok-store.ensures.ok (clean_of _ none)).fresh
 
 pub returns-in-Ok-clause-honest : goal.returns-in-Ok-clause-honest
 returns-in-Ok-clause-honest g c now =
-    c.in_ok-store.ensures.honest (clean_of (view c.in_ok-store.store).is_clean (omega (arith, c.in-Ok.ensures.clean)))
+    let clean = clean_of (view c.in_ok-store.store).is_clean (omega (arith, c.in-Ok.ensures.clean)) in
+    c.in_ok-store.ensures.honest clean
 
 pub returns-in-Ok-clause-made : goal.returns-in-Ok-clause-made
 returns-in-Ok-clause-made g c now =
-    let made = c.in_ok-store.ensures.ok (clean_of (view c.in_ok-store.store).is_clean (omega (arith, c.in-Ok.ensures.clean))) in
+    let clean = clean_of (view c.in_ok-store.store).is_clean (omega (arith, c.in-Ok.ensures.clean)) in
+    let made = c.in_ok-store.ensures.ok clean in
     let opens = (c.in-Ok.ensures.opens now).0 in
     record {
       opens = opens;
-      empty = subst IsEmpty (sym (sym (ap (λ d. d.trees) opens.clean) ∙ c.in-Ok.ensures.trees now)) made.empty;
+      empty = subst IsEmpty (sym (c.in-Ok.ensures.trees now) ∙ ap (λ d. d.trees) opens.clean) made.empty;
     }

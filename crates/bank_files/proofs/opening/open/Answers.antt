@@ -15,5 +15,6 @@ seen log db is_log history = (replay (cond is_log log db) history).seen
 pub returns-clause-opened : goal.returns-clause-opened
 returns-clause-opened g c = rw c.set_clock.ensures λ clean.
     let (log, db) = c.in_ok-files.ensures.fresh in
-    let same = ap₂ image (ap₂ (seen g.S.Start.log g.S.Start.db) log.0 log.1) (ap₂ (seen g.S.Start.log g.S.Start.db) db.0 db.1) in
+    let held = seen g.S.Start.log g.S.Start.db in
+    let same = ap₂ image (ap₂ held log.0 log.1) (ap₂ held db.0 db.1) in
     subst (λ i. IsOpenedOn i (file_state c.in_ok-conn.conn)) same (c.in_ok-conn.ensures.opened clean)
