@@ -1,7 +1,6 @@
 -- Records that are drawn one after another.
-use Rattle.std.proofs.Common.{◌≡◌, ◌+◌, ℕ, zero, suc, List, [], ◌∷◌, ◌++◌, length, refl, sym, ap, ◌∙◌, arith}
+use Rattle.std.proofs.Common.{◌≡◌, ◌+◌, ℕ, zero, suc, List, [], ◌∷◌, ◌++◌, refl, sym, ap, ◌∙◌, arith}
 use Rattle.std.proofs.Common.{add-one, append-nil, append_assoc}
-use Rattle.std.proofs.lemmas.List.{length-append}
 use Rattle.message_records.specs.Spelling.{request_spelling}
 use Rattle.branch_loader.specs.Plans.{Rows}
 use Rattle.load_driver.specs.Requests.{request_at}

@@ -6,23 +6,22 @@ use Rattle.std.specs.List.{AllByRecursion}
 use Rattle.std.specs.Io.KnownBytes.{Keeps, Appends, Consumes, IsAtEnd}
 use Rattle.std.proofs.KnownBytes.{Appends-trans, Appends-kept, Appends-nil, Consumes-trans, Consumes-nil}
 use Rattle.std.proofs.KnownBytes.{Consumes-kept}
-use Rattle.std.proofs.Math.Seq.{take-append-add}
-use Rattle.std.proofs.lemmas.List.{length-append, length-take-le, take_all, map-append}
+use Rattle.std.proofs.lemmas.List.{length-append, length-take-le, map-append}
 use Rattle.posting_rules.specs.declared.fault.Fault.{Fault}
 use Rattle.posting_rules.specs.declared.fault.Fault.TheVariants.{Memory, Store, Down, Damaged}
 use Rattle.posting_core.specs.declared.stream.TheConstants.{BUFFER}
 use Rattle.posting_core.specs.declared.stream.StreamFault.{StreamFault}
 use Rattle.posting_core.specs.declared.stream.StreamFault.TheVariants.{Truncated, Read, Write, Bank}
-use Rattle.posting_rules.specs.Commands.{Command, AreCommands}
+use Rattle.posting_rules.specs.Commands.{Command}
 use Rattle.posting_rules.specs.Tables.{Shows}
-use Rattle.posting_rules.specs.Counter.{Seen, ShowsLog, LeavesOnly, StandsAt, ShowsBeginning, Takes, Refuses}
+use Rattle.posting_rules.specs.Counter.{Seen, ShowsLog, StandsAt, Takes, Refuses}
 use Rattle.posting_rules.specs.Counter.{IsUnchanged}
 use Rattle.posting_rules.specs.Runs.{behind, posts, replies_to}
 use Rattle.posting_core.specs.Clock.{after_one, IsNext, IsReading, AreReadings}
 use Rattle.posting_core.specs.Batches.{Batch, IsRecord, joined, moment_of, moments_of, records_of, posts_in}
 use Rattle.posting_core.specs.Batches.{posts_of, IsAnswered, BreaksOff}
 use Rattle.posting_core.specs.Stream.{Ends, IsWritten, IfUp, UnlessDown, Streamed}
-use Rattle.posting_rules.proofs.Remaining.{leaves_still, leaves_weaker}
+use Rattle.posting_rules.proofs.Remaining.{leaves_still}
 use Rattle.posting_rules.proofs.Sequence.{behind-append}
 use Rattle.posting_core.proofs.Stops.{refused_stop, stop_all, stop_part, written_part}
 use Rattle.posting_core.proofs.Batched.{joined_one_more, records_one_more, posts_of_one_more}

@@ -1,9 +1,8 @@
-use Rattle.std.proofs.Common.{◌≡◌, ◌+◌, ℕ, length, take, drop, ap, ◌∙◌, arith, refl}
-use Rattle.std.proofs.lemmas.List.{length-append, length-drop, length-map, length-take-le}
+use Rattle.std.proofs.Common.{◌≡◌, ◌+◌, ℕ, length, drop, ap, ◌∙◌, arith, refl}
+use Rattle.std.proofs.lemmas.List.{length-append, length-drop, length-map}
 use Rattle.std.proofs.lemmas.Result.{err_from_is_err_and}
 use Rattle.posting_rules.specs.Runs.{posts}
 use Rattle.load_driver.specs.Counts.{Driving}
-use Rattle.bank_driver.specs.Records.{drawn}
 use Rattle.bank_driver.proofs.Going.{end_done, end_refused, going_first, going_on, part_of}
 use Rattle.bank_driver.proofs.driving.drive.Goals as goal
 
