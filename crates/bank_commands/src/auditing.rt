@@ -32,10 +32,7 @@ pub fn audit_file<S: Start, W: Write>(
 }
 
 // Prints an audit, and tells how the program ends.
-fn print_audit<W: Write>(
-    told: Result<Audit, Fault>,
-    output: &mut W,
-) -> Result<Status, CommandFault>
+fn print_audit<W: Write>(told: Result<Audit, Fault>, output: &mut W) -> Result<Status, CommandFault>
     ensures prints { Prints told (W.contents output.old) (W.contents output.new) result }
     ensures ends { IfOk result (λ status. (status ≡ Status.Done) ⊎ (status ≡ Status.Inconsistent)) }
 {
