@@ -52,11 +52,11 @@ module _ (t : Tables) (sound : IsUndamaged t) where
     each_entry account_entry (AccountKeeps Request) t.accounts (λ r has. tt),
     each_entry history_entry (PostingKeeps Request) t.history (λ r has. tt),
     each_entry request_entry (RequestKeeps Request) t.requests (λ r has. let is = sound.each_request r has in record {
-      teller = (r.teller, refl, is.teller_above, is.teller);
+      teller = (r.teller, refl, is.fields.teller_above, is.fields.teller);
       number = (r.number, refl, is.number_above, is.number);
-      account = (r.kept.account, refl, is.account_above, is.account);
-      branch = (r.kept.branch, refl, is.branch_above, is.branch);
-      delta = is.delta;
+      account = (r.kept.account, refl, is.fields.account_above, is.fields.account);
+      branch = (r.kept.branch, refl, is.fields.branch_above, is.fields.branch);
+      delta = is.fields.delta;
       outcome = (r.kept.outcome, refl, is.kept);
       balance = is.balance;
     }),
