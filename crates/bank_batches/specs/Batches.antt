@@ -22,7 +22,8 @@ pub record WritesNothing (old new : State) (t : Tables) (moment : ℕ) (records 
   pub leads : tables_past_all t moment records ≡ t
   pub stays : Stays old new
 
--- these tables are there, and everything that a stop may leave has them
-pub record HasOnly (s : State) (t : Tables) : Type 0 where
-  pub shows : Shows s.now t
-  pub stop : (left : Trees) → s.may_leave left → ShowsTrees left t
+-- all is as it was, these tables are there, and everything that a stop may leave has them
+pub record HasOnly (old new : State) (t : Tables) : Type 0 where
+  pub same : new.now ≡ old.now
+  pub shows : Shows new.now t
+  pub stop : (left : Trees) → new.may_leave left → ShowsTrees left t

@@ -55,7 +55,7 @@ pub fn post_all<S: Alter>(
     ensures count { IfOk result (λ replies. length replies.items ≡ length (reads_of batch)) }
     ensures idle { OnOk result (HasCleanDisk (state S.Store conn.new) → (records : List (List ℕ)) → IsMadeOf batch records
         → (tables : Tables) → Shows (state S.Store conn.old).now tables → AreOfALog tables → DecidesNone tables moment records
-        → HasOnly (state S.Store conn.new) tables) }
+        → HasOnly (state S.Store conn.old) (state S.Store conn.new) tables) }
 {
     let mut tx = begin(conn);
     let replies = answer_batch(&mut tx, moment, batch)?;

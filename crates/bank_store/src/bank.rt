@@ -208,6 +208,9 @@ impl<S: Alter + Drop> Counter for Bank<S> {
         ensures none_or_all { LeavesNoneOrAll (bank_seen S.Store self.old) (bank_seen S.Store self.new) (posts moment records.now) }
         ensures idle { OnOk result ((bank_seen S.Store self.new).honest → (t : Tables) → (bank_seen S.Store self.old).tables t → AreOfALog t
             → DecidesNone t moment records.now → HasOnly (bank_seen S.Store self.new) t) }
+        // Then all that the file holds is as it was.
+        ensures still { OnOk result ((bank_seen S.Store self.new).honest → (t : Tables) → (bank_seen S.Store self.old).tables t → AreOfALog t
+            → DecidesNone t moment records.now → database_of S.Store self.new ≡ database_of S.Store self.old) }
         ensures kept { IfErr result (λ fault. TellsDamage fault → (bank_seen S.Store self.new).honest
             → database_of S.Store self.new ≡ database_of S.Store self.old) }
         ensures cause { IfErr result (λ fault. TellsFailure fault → KeepsCause S.Store self.old self.new) }

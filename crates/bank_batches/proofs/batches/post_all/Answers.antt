@@ -1,5 +1,5 @@
 -- What a stop may leave of the transaction.
-use Rattle.std.proofs.Common.{◌≡◌, Err, rules, arith}
+use Rattle.std.proofs.Common.{◌≡◌, ◌∙◌, ap, sym, Err, rules, arith}
 use Rattle.sqlite.specs.State.{HasCleanDisk}
 use Rattle.sqlite.specs.Held.{state}
 use Rattle.posting_rules.specs.Changes.{tables_past_all}
@@ -54,6 +54,10 @@ returns-clause-idle g c clean records made t shows so none =
     let same : c.commit.new.tx.0 ≡ c.conn-2-1.given.0 = search rules in
     let ended : HasCleanDisk (state g.S.Store c.commit.new.tx.0) = rw same clean in
     let before : HasCleanDisk (state g.S.Store c.answer_batch.new.tx.conn.now) = omega (arith, c.commit.ensures.survives.clean) in
-    let back = (c.in_ok-replies.ensures.idle before records made t (rw c.begin-tx.ensures.begun shows) so none).leads in
+    let idle = c.in_ok-replies.ensures.idle before records made t (rw c.begin-tx.ensures.begun shows) so none in
+    let back = idle.leads in
     let done = (returns-clause-says g c records made).told clean t shows so in
-    rw back at (let it : HasOnly (state g.S.Store c.conn-2-1.given.0) (tables_past_all t c.args.moment records) = record { shows = done.1; stop = done.2 } in it)
+    let kept : (state g.S.Store c.conn-2-1.given.0).now ≡ (state g.S.Store c.args.conn.now).now =
+    ap (λ h. (state g.S.Store h).now) (sym same) ∙ c.in_ok-commit.ensures.same ended ∙ idle.stays.now
+    ∙ ap (λ h. (state g.S.Store h).now) c.begin-tx.ensures.begun in
+    rw back at (let it : HasOnly (state g.S.Store c.args.conn.now) (state g.S.Store c.conn-2-1.given.0) (tables_past_all t c.args.moment records) = record { same = kept; shows = done.1; stop = done.2 } in it)

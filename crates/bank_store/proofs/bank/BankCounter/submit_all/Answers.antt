@@ -61,6 +61,10 @@ returns-in-Ok-clause-idle g c clean t shows so none =
     let it = c.in-Ok.ensures.idle clean c.args.records.now c.in_ok-batch.ensures.made t shows so none in
     record { tables = it.shows; stop = λ trees may. (t, it.stop trees may, refl) }
 
+pub returns-in-Ok-clause-still : goal.returns-in-Ok-clause-still
+returns-in-Ok-clause-still g c clean t shows so none =
+    (c.in-Ok.ensures.idle clean c.args.records.now c.in_ok-batch.ensures.made t shows so none).same
+
 pub returns-in-Err-clause-cause : goal.returns-in-Err-clause-cause
 returns-in-Err-clause-cause g c tells =
     let rs = c.args.records.now in
