@@ -1,4 +1,4 @@
--- What a source of the time told, and the moment that a reading of it is.
+-- What a source of the time gave, and the moment that a reading of it is.
 use Rattle.std.specs.Prelude.{◌/◌, ℕ, List, Option, None, Some, Result, Ok, Err, min}
 use Rattle.std.specs.Time.{system_time_nanos}
 use Rattle.std.specs.declared.io.Error.{Error}
@@ -10,11 +10,12 @@ use Rattle.bank_clock.specs.declared.SystemClock.{SystemClock}
 abbrev pub Reading : Type 0
 Reading = Option ℕ
 
+-- the reading that an answer of the source is
 abbrev pub reading_of : Result SystemTime Error → Reading
 reading_of (Ok time) = Some (system_time_nanos time)
 reading_of (Err error) = None
 
--- the moment in whole seconds: the last one where the time is later, and 0 where there is no time
+-- the moment in whole seconds: the last one if the time is later, and 0 if there is no time
 abbrev pub moment_at : Reading → ℕ
 moment_at None = 0
 moment_at (Some nanos) = min (nanos / 1_000_000_000) MAX_MOMENT

@@ -1,4 +1,20 @@
-//! The clock that the program stamps postings with: the system's time, as a moment.
+//! The clock by which the program dates postings: the system's time in whole seconds, as a [`Moment`]. It
+//! never fails: without a time it is the moment 0.
+//!
+//! ```rust
+//! use bank_clock::SystemClock;
+//! use posting_core::Clock;
+//! use std::io;
+//!
+//! fn main(rt: HostRuntime) -> io::Result<()> {
+//!     let mut clock = SystemClock::new(&rt);
+//!     let moment = clock.now();
+//!     println!(rt; "{moment} seconds since 1970-01-01T00:00:00Z")
+//! }
+//! ```
+//!
+//! Read next: [`moment_of`], with what each reading becomes; `posting_core::Clock`, the trait that a stream
+//! asks once for each batch.
 #![tactic(auto)]
 
 ghost use Rattle.std.specs.Prelude.{◌≡◌, ℕ, List, [], ◌∷◌, Option, None};
@@ -15,13 +31,17 @@ use std::io;
 use std::rt::Clock as TimeSource;
 use std::time::{SystemTime, UNIX_EPOCH};
 
-/// What tells the time. Every clock of the standard library does. A type of its own may also know what its
-/// readings told.
+/// A source of the time. Every clock of the standard library is one. A type of its own may also know what its
+/// readings gave.
 pub trait TimeTeller {
-    /// What each reading told so far, where it is known.
+    /// What each reading gave so far, if that is known.
     ghost told: { Self → Option (List Reading) } = { λ _. None };
 
-    /// One reading of the time.
+    /// Reads the time once.
+    ///
+    /// # Errors
+    ///
+    /// Those of the system. A later reading may succeed.
     fn tell(&mut self) -> io::Result<SystemTime>
         ensures { Adds (told self.old) (told self.new) (reading_of result ∷ []) };
 }
@@ -32,14 +52,15 @@ impl<T: TimeSource> TimeTeller for T {
     }
 }
 
-/// The clock of the system, in whole seconds since 1970-01-01T00:00:00Z.
+/// A clock in whole seconds since 1970-01-01T00:00:00Z, over a source of the time. It may go back when its
+/// source does.
 #[derive(Drop)]
 pub struct SystemClock<T> {
     source: T,
 }
 
 impl<T: TimeTeller> SystemClock<T> {
-    /// The clock that reads this source.
+    /// The clock that reads this source. For the system's time the source is `&rt`.
     pub fn new(source: T) -> Self
         ensures { source_of result ≡ source }
     {
@@ -48,7 +69,7 @@ impl<T: TimeTeller> SystemClock<T> {
 }
 
 impl<T: TimeTeller> Clock for SystemClock<T> {
-    // It reads its source once, and answers the moment of that reading.
+    // One reading of the source, and the moment of it.
     fn now(&mut self) -> Moment
         ensures reading { IsReading None None result }
         ensures told { (reading : Reading) × (result ≡ moment_at reading)
@@ -58,8 +79,9 @@ impl<T: TimeTeller> Clock for SystemClock<T> {
     }
 }
 
-/// The moment of a reading: the last one where the time is later, and 0 where there is no time, as
-/// before 1970.
+/// The moment of a reading, in whole seconds since 1970-01-01T00:00:00Z with the fraction cut off:
+/// 0..=`MAX_MOMENT`. It is `MAX_MOMENT` for a later time, and 0 for a time before 1970 or a reading that
+/// failed.
 pub fn moment_of(reading: io::Result<SystemTime>) -> Moment
     ensures { result ≡ moment_at (reading_of reading) }
 {

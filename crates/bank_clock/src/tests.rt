@@ -7,7 +7,7 @@ use std::rt::Clock as TimeSource;
 use std::test::Fail;
 use std::time::Duration;
 
-// A source that tells so many seconds and a half, or fails.
+// A source that gives so many seconds and a half, or fails.
 #[derive(Drop)]
 struct Stopped(Option<u64>);
 

@@ -1,4 +1,4 @@
--- How many of the replies to commands tell that a request was posted.
+-- How many of the replies to commands say that a request was posted.
 use Rattle.std.specs.Prelude.{◌≡◌, ◌≤◌, ℕ, Bool, List, length, bytes_eq, codes, slice_range}
 use Rattle.posting_rules.specs.Commands.{Command}
 use Rattle.posting_rules.specs.Counter.{Seen, ShowsLog, Takes}

@@ -1,5 +1,5 @@
 -- What a drive does to a counter, and what a stop may leave of it.
--- The clock's known readings before and after are k and k', and seen tells what is seen of a counter.
+-- The clock's known readings before and after are k and k', and seen gives what is seen of a counter.
 use Rattle.std.specs.Prelude.{◌≡◌, ◌≤◌, ◌+◌, ⊤, ℕ, List, [], ◌++◌, length, Option, Result, Ok, Err}
 use Rattle.posting_rules.specs.declared.fault.Fault.{Fault}
 use Rattle.posting_rules.specs.declared.fault.Fault.TheVariants.{Memory}
@@ -55,6 +55,7 @@ pub record IsRefused {C : Type 0} (seen : C → Seen) (stood new : C) (refused :
   pub one : length refused ≤ 1
   pub refuses : Refuses fault (seen stood) (seen new) (posts_of refused)
 
+-- what each result says of the batches and of the counter
 abbrev pub Ends : {C : Type 0} → (C → Seen) → (old stood new : C) → Rows → (count : ℕ)
     → (taken refused : List Batch)
     → Result Driven DriveFault → Type 0
@@ -102,7 +103,7 @@ pub record Drives {C : Type 0} (seen : C → Seen) (old new : C) (k k' : Option 
 
 -- ---- records that come again
 
--- where a counter showed posts p behind a log, it shows p and then those of the records that don't stand in p
+-- where a counter showed posts p behind a log, it shows p and then those of the records that p hasn't
 pub record Resends (c c' : Seen) (seed count : ℕ) (driven : Driven) : Type 0 where
   pub rows : Rows
   pub commands : List Command

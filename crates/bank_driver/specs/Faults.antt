@@ -4,6 +4,7 @@ use Rattle.posting_rules.specs.Rules.{fault_text}
 use Rattle.bank_driver.specs.declared.fault.DriveFault.{DriveFault}
 use Rattle.bank_driver.specs.declared.fault.DriveFault.TheVariants.{NoBranches, Bank}
 
+-- what `{}` writes of a fault
 abbrev pub drive_text : DriveFault → List ℕ
 drive_text NoBranches = codes "no branches"
 drive_text (Bank fault) = fault_text fault

@@ -1,4 +1,4 @@
-//! A batch of records that are drawn, submitted, and counted by their replies.
+//! A batch of records: they are drawn, submitted, and counted by their replies.
 ghost use Rattle.std.specs.Prelude.{◌≡◌, ◌≤◌, ◌+◌, ℕ, length, count_by, MatchResult, OnOk};
 ghost use Rattle.posting_rules.specs.Counter.{Refuses};
 ghost use Rattle.posting_rules.specs.Runs.{posts};
@@ -9,16 +9,16 @@ ghost use Rattle.bank_driver.specs.Records.{drawn};
 use load_driver::{Driver, MOST_RECORDS};
 use posting_core::{Clock, Counter, Fault, RECORDS_PER_BATCH};
 
-/// The length of a record.
+/// The length of a record in bytes.
 pub(crate) const RECORD: usize = 100;
 
-/// The length of a reply.
+/// The length of a reply in bytes.
 const REPLY: usize = 200;
 
 /// The code of the outcome POSTED.
 const POSTED: [u8; 2] = *b"00";
 
-// Draws the next records, one to each place.
+// Draws the next records, one for each place.
 fn draw_batch(driver: &mut Driver, batch: &mut [[u8; RECORD]])
     requires { driver.old.given + length batch.old ≤ MOST_RECORDS }
     ensures drawn { batch.new ≡ drawn driver.old.rows driver.old.seed driver.old.given (length batch.old) }
@@ -29,21 +29,22 @@ fn draw_batch(driver: &mut Driver, batch: &mut [[u8; RECORD]])
     }
 }
 
-// Whether a reply tells that its request was posted: the outcome's code stands behind the tag.
+// Whether a reply says that its request was posted, by the outcome's code in bytes 4 and 5.
 fn is_posted(reply: &[u8; REPLY]) -> bool
     ensures { result ≡ is_posted reply.now }
 {
     reply[4..6] == POSTED[..]
 }
 
-// How many of the replies tell that their requests were posted.
+// How many of the replies say that their requests were posted.
 fn count_posted(replies: &[[u8; REPLY]]) -> u64
     ensures { result ≡ count_by is_posted replies.now }
 {
     replies.iter().filter(|reply| is_posted(reply)).count() as u64
 }
 
-/// Draws a batch, submits it under one reading of the clock, and answers how many of its records were posted.
+/// Draws a batch of 1..=64 records, submits it under one reading of the clock, and returns how many of them
+/// were posted. A fault is that of `submit_all`.
 pub(crate) fn submit_batch<C: Counter, K: Clock>(
     driver: &mut Driver,
     batch: &mut [[u8; RECORD]],

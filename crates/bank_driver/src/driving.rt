@@ -15,19 +15,19 @@ use load_driver::{Driver, DriverFault};
 use posting_core::{Clock, Counter, Fault, RECORDS_PER_BATCH};
 use std::alloc::Global;
 
-/// How many records can be asked for.
+/// How many records can be asked for at most.
 pub const MAX_DRIVEN: u64 = 1_000_000_000;
 
-/// How many records got which reply.
+/// How many records of a drive got which reply. Together they are all of them.
 #[derive(Clone, Copy, Debug, PartialEq, Eq)]
 pub struct Driven {
-    /// With the outcome POSTED.
+    /// Those with the outcome POSTED, also for a record that was posted before.
     pub posted: u64,
-    /// With any other outcome.
+    /// Those with any other outcome.
     pub refused: u64,
 }
 
-// The driver of a plan.
+// The driver of a plan and a seed, with its faults as those of a drive.
 fn driver_of(alloc: Global, plan: &Plan, seed: u64) -> Result<Driver, DriveFault>
     ensures rows { IfOk result (λ driver. IsAscending plan.now driver.rows) }
     ensures seed { IfOk result (λ driver. driver.seed ≡ seed) }
@@ -42,7 +42,7 @@ fn driver_of(alloc: Global, plan: &Plan, seed: u64) -> Result<Driver, DriveFault
     }
 }
 
-// Submits the first records of a driver.
+// Submits the first `count` records of a driver that has given none.
 fn drive<C: Counter, K: Clock>(
     driver: &mut Driver,
     counter: &mut C,
@@ -75,10 +75,21 @@ fn drive<C: Counter, K: Clock>(
     Ok(driven)
 }
 
-/// Submits the first records of a seed, `count` of them (1..=1,000,000,000), over the branches that are open
-/// at the counter, and counts their replies. A batch has 64 records, the last one may have fewer, and each is
-/// submitted under one reading of the clock. After a fault what was answered before it stands. It takes
-/// memory for the branches and their tellers before the first batch.
+/// Submits the first `count` records of a seed, 1..=`MAX_DRIVEN`, over the branches that are open at the
+/// counter, and counts their replies (TPC-B 5.3).
+///
+/// Each batch has 64 records, but the last one may have fewer, and is submitted under one reading of the
+/// clock. With the same seed and the same open branches the records are the same, so that a drive that is
+/// made again posts nothing twice and counts the same replies. It takes memory for the list of branches and
+/// for a count of each teller before the first batch, and none for its batches.
+///
+/// # Errors
+///
+/// The batches that were answered before a fault are kept, and a stop leaves all of them.
+///
+/// - [`DriveFault::NoBranches`]: no branch is open, and nothing was submitted.
+/// - [`DriveFault::Bank`]: the counter refused to list its branches or to take a batch, and what holds of it
+///   then is said by the fault. `Memory` is also want of memory of the drive itself.
 pub fn drive_records<C: Counter, K: Clock>(
     alloc: Global,
     counter: &mut C,

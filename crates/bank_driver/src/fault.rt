@@ -3,12 +3,13 @@ use posting_core::Fault;
 use std::alloc::AllocError;
 use std::fmt;
 
-/// Why a drive ended before its last record.
+/// Why a drive ended before its last record. The batches before were answered, and are kept.
 #[derive(Clone, Copy, Debug, PartialEq, Eq)]
 pub enum DriveFault {
-    /// No branch is open.
+    /// No branch is open. Nothing was submitted.
     NoBranches,
-    /// The bank refused a call. Memory that was refused to the drive itself is `Memory` too.
+    /// The bank refused a call: to name the next branch, or to take a batch, to which nothing was replied.
+    /// Memory that was refused to the drive itself is `Memory` too.
     Bank(Fault),
 }
 

@@ -10,7 +10,8 @@ use branch_loader::Plan;
 use posting_core::{Counter, Fault};
 use std::alloc::Global;
 
-/// The plan of the open branches, ascending, each with its count of accounts.
+/// The plan of the open branches by rising numbers, each with its count of accounts. It changes nothing. A
+/// fault is that of `next_branch`, or `Memory` for the list.
 pub(crate) fn list_branches<C: Counter>(alloc: Global, counter: &mut C) -> Result<Plan, Fault>
     ensures listed { IfOk result (λ plan. (C.seen counter.new).honest
         → (log : List Command) → ShowsLog (C.seen counter.old) log → plan ≡ open_branches log) }

@@ -50,7 +50,7 @@ fn record_of(text: &[u8; 51]) -> Result<([u8; 100], Account), Fail> {
     }
 }
 
-// Whether these records were posted: submitted again, each is told to be posted, and its account stays.
+// Whether these records were posted: submitted again, each gets POSTED, and no balance changes.
 fn were_posted(bank: &mut PlainBank, texts: &[[u8; 51]]) -> Result<bool, Fail> {
     let moment = Moment::new(1).ok_or("a moment")?;
     for text in texts {

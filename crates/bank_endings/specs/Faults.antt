@@ -53,6 +53,7 @@ fault_text fault.NoBranches = Some (codes "no branches")
 fault_text (fault.NoAccount account) = Some (codes "no account " ++ decimal account)
 fault_text fault.Network = Some (codes "network failed")
 
+-- why a bank wasn't made or found
 abbrev pub fault_of_opening : OpenFault → CommandFault
 fault_of_opening opening.Store = fault.Store
 fault_of_opening opening.NotBlank = fault.AlreadyBank
@@ -61,32 +62,36 @@ fault_of_opening opening.Foreign = fault.Foreign
 fault_of_opening (opening.Version version) = fault.Version version
 fault_of_opening (opening.Damaged rule) = fault.Damaged rule
 
--- a bank that is down went down by its store
+-- why a bank refused a call; one that is down is a failed store to the command
 abbrev pub fault_of_bank : Fault → CommandFault
 fault_of_bank bank.Memory = fault.Memory
 fault_of_bank bank.Store = fault.Store
 fault_of_bank bank.Down = fault.Store
 fault_of_bank (bank.Damaged rule) = fault.Damaged rule
 
+-- why a plan was refused; want of memory is no fault of the plan
 abbrev pub fault_of_plan : PlanFault → CommandFault
 fault_of_plan plan.Memory = fault.Memory
 fault_of_plan other = fault.Plan other
 
+-- why a stream of records ended before its input did, or within a record
 abbrev pub fault_of_stream : StreamFault → CommandFault
 fault_of_stream (stream.Truncated count) = fault.Truncated count
 fault_of_stream stream.Read = fault.Read
 fault_of_stream stream.Write = fault.Write
 fault_of_stream (stream.Bank cause) = fault_of_bank cause
 
+-- why a drive ended before its last record
 abbrev pub fault_of_drive : DriveFault → CommandFault
 fault_of_drive drive.NoBranches = fault.NoBranches
 fault_of_drive (drive.Bank cause) = fault_of_bank cause
 
+-- why no more connections were taken
 abbrev pub fault_of_serving : ListenFault → CommandFault
 fault_of_serving listen.Network = fault.Network
 fault_of_serving (listen.Bank cause) = fault_of_bank cause
 
--- the file isn't there, or it isn't the bank's
+-- there is no such file, or it has no bank of this version
 abbrev pub IsOfFile : CommandFault → Type 0
 IsOfFile fault.NoBank = ⊤
 IsOfFile fault.Foreign = ⊤

@@ -14,9 +14,11 @@ use Rattle.bank_endings.specs.declared.status.Status.TheVariants.{Done, Usage, S
 abbrev pub line : List ℕ → List ℕ
 line text = text ++ 10 ∷ []
 
+-- a bank was made
 abbrev pub created_line : List ℕ
 created_line = line (codes "created")
 
+-- so many branches of a plan got each answer
 abbrev pub loaded_line : Loaded → List ℕ
 loaded_line loaded = line (codes "opened " ++ decimal loaded.opened
     ++ codes " already " ++ decimal loaded.already

@@ -4,6 +4,7 @@ use Rattle.branch_loader.specs.declared.loading.Loaded.{Loaded}
 use Rattle.bank_endings.specs.declared.status.Status.{Status}
 use Rattle.bank_endings.specs.declared.status.Status.TheVariants.{Done, Usage, System, Input, Differs, Inconsistent}
 
+-- the number that the process ends with
 abbrev pub number_of_status : Status → ℕ
 number_of_status Done = 0
 number_of_status Usage = 2
@@ -12,6 +13,6 @@ number_of_status Input = 4
 number_of_status Differs = 5
 number_of_status Inconsistent = 5
 
--- the program ends in its own way where a branch of the plan is open with another count
+-- the status after a plan was loaded: one of its own if a branch of it is open with another count
 abbrev pub status_of_loaded : Loaded → Status
 status_of_loaded loaded = if nat_lt 0 loaded.differs then Differs else Done

@@ -1,4 +1,4 @@
-//! Why a command ends before its work is done.
+//! Why a command ends before its work is done, and what each fault of a library becomes.
 ghost use Rattle.std.specs.Prelude.{◌≡◌};
 ghost use Rattle.bank_endings.specs.Faults.{fault_of_bank, fault_of_drive, fault_of_opening, fault_of_plan};
 ghost use Rattle.bank_endings.specs.Faults.{fault_of_serving, fault_of_stream, status_of};
@@ -12,41 +12,44 @@ use message_records::Account;
 use posting_core::{Fault, Rule, StreamFault};
 use std::fmt;
 
-/// Why a command ended before its work was done.
+/// Why a command ended before its work was done. `{}` writes the text that follows `bank: ` on standard
+/// error, and [`CommandFault::status`] gives the exit status: 3 where the machine or the file failed, 4 where
+/// what came in or the file isn't what the command takes. What was acknowledged before a fault is kept.
 #[derive(Clone, Copy, Debug, PartialEq, Eq)]
 pub enum CommandFault {
-    /// The store failed, or the file can't be opened.
+    /// Status 3. The store failed, the file is in use by another process, or it can't be opened.
     Store,
-    /// Memory was refused.
+    /// Status 3. Memory was refused.
     Memory,
-    /// The file has rows that no bank has.
+    /// Status 3. The file has rows that no bank has. The call that met them changed nothing.
     Damaged(Rule),
-    /// Standard input failed.
+    /// Status 3. Standard input failed.
     Read,
-    /// Standard output failed.
+    /// Status 3. Standard output failed. Records that were read were submitted.
     Write,
-    /// Standard input ended so many bytes into a record.
+    /// Status 4. Standard input ended so many bytes, 1..=99, into a record. The records before it were
+    /// answered.
     Truncated(u8),
-    /// The plan is none, or can't be read.
+    /// Status 4. The plan is no table of branches and accounts, or can't be read. No branch was opened.
     Plan(PlanFault),
-    /// A bank is to be made in a file that has one.
+    /// Status 4. `init` was given a file that has a bank.
     AlreadyBank,
-    /// The file isn't there, or has no bank.
+    /// Status 4. There is no such file, or it has no bank.
     NoBank,
-    /// The file has some tables with the names of a bank's.
+    /// Status 4. The file has some tables with the names of a bank's, and not all.
     Foreign,
-    /// The file has a bank of another version.
+    /// Status 4. The file has a bank of this version, which isn't the program's.
     Version(i64),
-    /// The bank has no branch to draw records over.
+    /// Status 4. The bank has no open branch to draw records over.
     NoBranches,
-    /// The account isn't open.
+    /// Status 4. The account isn't open.
     NoAccount(Account),
-    /// The address can't be bound, or a connection can't be taken.
+    /// Status 3. The address can't be bound, or the listener gave no connection.
     Network,
 }
 
 impl CommandFault {
-    /// How the program ends after this fault.
+    /// How the program ends after this fault: [`Status::System`] or [`Status::Input`].
     pub fn status(self) -> Status
         ensures { result ≡ status_of self }
     {
@@ -99,6 +102,7 @@ impl fmt::Display for CommandFault {
 
 impl std::error::Error for CommandFault {}
 
+/// Why a bank wasn't made or found.
 impl From<OpenFault> for CommandFault {
     ghost from_gives = { λ opening fault. fault ≡ fault_of_opening opening };
 
@@ -114,6 +118,7 @@ impl From<OpenFault> for CommandFault {
     }
 }
 
+/// Why a bank refused a call. `Down` becomes `Store`: a bank that was down tries nothing.
 impl From<Fault> for CommandFault {
     ghost from_gives = { λ bank fault. fault ≡ fault_of_bank bank };
 
@@ -126,6 +131,7 @@ impl From<Fault> for CommandFault {
     }
 }
 
+/// Why a plan was refused. Want of memory is no fault of the plan.
 impl From<PlanFault> for CommandFault {
     ghost from_gives = { λ plan fault. fault ≡ fault_of_plan plan };
 
@@ -137,6 +143,7 @@ impl From<PlanFault> for CommandFault {
     }
 }
 
+/// Why `post` ended before its input did, or within a record.
 impl From<StreamFault> for CommandFault {
     ghost from_gives = { λ stream fault. fault ≡ fault_of_stream stream };
 
@@ -150,6 +157,7 @@ impl From<StreamFault> for CommandFault {
     }
 }
 
+/// Why `drive` ended before its last record.
 impl From<DriveFault> for CommandFault {
     ghost from_gives = { λ drive fault. fault ≡ fault_of_drive drive };
 
@@ -161,6 +169,7 @@ impl From<DriveFault> for CommandFault {
     }
 }
 
+/// Why `serve` took no more connections.
 impl From<ListenFault> for CommandFault {
     ghost from_gives = { λ serving fault. fault ≡ fault_of_serving serving };
 

@@ -1,5 +1,22 @@
-//! How a command of the program ends: with its work done, or with a fault. Each fault has a text and a
-//! status, and each command that did its work a line and a status.
+//! How a command of the program `bank` ends. One that did its work prints a line, if it has one, and ends
+//! with the status 0 or 5. One that didn't writes `bank: ` and the text of its [`CommandFault`] to standard
+//! error, and ends with the status 3 or 4. Words that are no command end with 2.
+//!
+//! ```rust
+//! use bank_endings::{Status, print_created, tell};
+//! use std::process::ExitCode;
+//!
+//! fn main(rt: HostRuntime) -> ExitCode {
+//!     let status = match print_created(&mut rt.stdout()) {
+//!         Ok(()) => Status::Done,
+//!         Err(fault) => tell(fault, &mut rt.stderr()),
+//!     };
+//!     ExitCode::from(status)
+//! }
+//! ```
+//!
+//! Read next: [`CommandFault`], to which the faults of all libraries are turned by `?`; [`Status`]; and
+//! `specs/Lines`, with each line that is printed.
 #![tactic(auto)]
 
 mod fault;

@@ -1,4 +1,4 @@
-//! What the program prints.
+//! What the program prints: one line for a command that did its work, and one on standard error for a fault.
 ghost use Rattle.std.specs.Prelude.{◌≡◌, ◌⊎◌, IsOk, OnErr, OnOk, IsErrOf};
 ghost use Rattle.std.specs.Io.KnownBytes.{Appends, Keeps};
 ghost use Rattle.clap.specs.Words.{kind_of};
@@ -15,7 +15,12 @@ use std::io;
 use std::io::Write;
 use std::net::SocketAddr;
 
-/// Prints that a bank was made.
+/// Prints `created`, and flushes it, as each function here that prints a line does.
+///
+/// # Errors
+///
+/// Of each of them only [`CommandFault::Write`]: a write or the flush failed, and part of the line may be
+/// out.
 pub fn print_created<W: Write>(output: &mut W) -> Result<(), CommandFault>
     ensures line { OnOk result (Appends (W.contents output.old) (W.contents output.new) created_line) }
     ensures fault { OnErr result (IsErrOf result CommandFault.Write) }
@@ -24,7 +29,7 @@ pub fn print_created<W: Write>(output: &mut W) -> Result<(), CommandFault>
     finish(written, output)
 }
 
-/// Prints how many branches got each answer.
+/// Prints how many branches of a plan got each answer, as `opened 2 already 0 differs 0`.
 pub fn print_loaded<W: Write>(loaded: Loaded, output: &mut W) -> Result<(), CommandFault>
     ensures line { OnOk result
         (Appends (W.contents output.old) (W.contents output.new) (loaded_line loaded)) }
@@ -42,7 +47,8 @@ pub fn print_loaded<W: Write>(loaded: Loaded, output: &mut W) -> Result<(), Comm
     finish(written, output)
 }
 
-/// Prints how many of so many records were posted, and how many were not.
+/// Prints how many of `count` records were posted, and how many weren't, as
+/// `records 1000 posted 990 refused 10`.
 pub fn print_driven<W: Write>(
     count: u64,
     driven: Driven,
@@ -57,7 +63,7 @@ pub fn print_driven<W: Write>(
     finish(written, output)
 }
 
-/// Prints the address, with its port, at which the counter listens.
+/// Prints the address with its port at which the counter listens, as `listening 127.0.0.1:8080`.
 pub fn print_listening<W: Write>(address: SocketAddr, output: &mut W) -> Result<(), CommandFault>
     ensures line { OnOk result
         (Appends (W.contents output.old) (W.contents output.new) (listening_line address)) }
@@ -67,7 +73,7 @@ pub fn print_listening<W: Write>(address: SocketAddr, output: &mut W) -> Result<
     finish(written, output)
 }
 
-// Flushes what was written, if it was.
+// Flushes what was written, unless the write failed.
 fn finish<W: Write>(written: io::Result<()>, output: &mut W) -> Result<(), CommandFault>
     ensures kept { Keeps (W.contents output.old) (W.contents output.new) }
     ensures done { OnOk result (IsOk written) }
@@ -79,8 +85,8 @@ fn finish<W: Write>(written: io::Result<()>, output: &mut W) -> Result<(), Comma
     Ok(())
 }
 
-/// Tells a fault on standard error, and gives the status that the program ends with. Where that can't be
-/// written, the status alone tells it.
+/// Writes `bank: ` and the fault as a line to standard error, and returns the status that the program ends
+/// with. A line that can't be written is given up.
 pub fn tell<E: Write>(fault: CommandFault, faults: &mut E) -> Status
     ensures { result ≡ status_of fault }
 {
@@ -88,8 +94,12 @@ pub fn tell<E: Write>(fault: CommandFault, faults: &mut E) -> Status
     fault.status()
 }
 
-/// Tells why the words aren't a command, with the text of clap. Help that was asked for goes to standard
-/// output.
+/// Shows why the words aren't a command, by the text of `clap`, and returns the status that the program ends
+/// with.
+///
+/// Help and the version, if they were asked for, go to standard output, with the status 0 or, if they can't
+/// be written, 3. Refused memory is [`CommandFault::Memory`], with the status 3. Everything else goes to
+/// standard error, with the status 2.
 pub fn explain<W: Write, E: Write>(error: &clap::Error, output: &mut W, faults: &mut E) -> Status
     ensures status { IsShown (kind_of error.now) result }
     ensures silent { Keeps (W.contents output.old) (W.contents output.new) ⊎ IsRequest (kind_of error.now) }
@@ -104,7 +114,7 @@ pub fn explain<W: Write, E: Write>(error: &clap::Error, output: &mut W, faults: 
     }
 }
 
-// Prints help.
+// Prints help or the version.
 fn show<W: Write, E: Write>(error: &clap::Error, output: &mut W, faults: &mut E) -> Status
     ensures { (result ≡ Status.Done) ⊎ (result ≡ Status.System) }
 {
@@ -115,7 +125,8 @@ fn show<W: Write, E: Write>(error: &clap::Error, output: &mut W, faults: &mut E)
     }
 }
 
-/// Tells that the words couldn't be read: memory was refused, or one of them is no text.
+/// Reports on standard error that the words couldn't be read, and returns the status that the program ends
+/// with: 3 if memory was refused, and 2 if a word isn't UTF-8.
 pub fn tell_no_words<E: Write>(error: &io::Error, faults: &mut E) -> Status {
     if error.kind() == io::ErrorKind::OutOfMemory {
         return tell(CommandFault::Memory, faults);

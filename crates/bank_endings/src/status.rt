@@ -6,24 +6,24 @@ ghost use Rattle.bank_endings.specs.Statuses.{number_of_status, status_of_loaded
 use branch_loader::Loaded;
 use std::process::ExitCode;
 
-/// How the program ends.
+/// How the program ends. `ExitCode::from` gives the number.
 #[derive(Clone, Copy, Debug, PartialEq, Eq)]
 pub enum Status {
-    /// The command did its work, or help was asked for.
+    /// 0: the command did its work, or help was asked for.
     Done,
-    /// The words aren't a command.
+    /// 2: the words aren't a command.
     Usage,
-    /// Memory, the store, the network, a read or a write failed, or rows are damaged.
+    /// 3: memory, the store, the network, a read or a write failed, or rows are damaged.
     System,
-    /// What came in, or the file, isn't what the command takes.
+    /// 4: what came in, or the file, isn't what the command takes.
     Input,
-    /// A branch of the plan is open with another count of accounts.
+    /// 5: `load` did its work, and a branch of the plan is open with another count of accounts.
     Differs,
-    /// The audit found a bank whose books don't agree.
+    /// 5: `audit` did its work, and the books don't agree (TPC-B clause 2).
     Inconsistent,
 }
 
-/// How the program ends after a plan was loaded.
+/// How the program ends after a plan was loaded: `Differs` if any branch of it is open with another count.
 impl From<Loaded> for Status {
     ghost from_gives = { λ loaded status. status ≡ status_of_loaded loaded };
 
@@ -36,6 +36,7 @@ impl From<Loaded> for Status {
     }
 }
 
+/// The number of the status: 0, 2, 3, 4 or 5.
 impl From<Status> for ExitCode {
     ghost from_gives = { λ status code. exit_status code ≡ number_of_status status };
 

@@ -1,4 +1,4 @@
--- The life of a counter from call to call, and what is found where it was stopped.
+-- The life of a counter from call to call, and what is found after it was stopped.
 use Rattle.std.specs.Prelude.{◌≡◌, ◌≤◌, ◌⊎◌, ℕ, zero, suc, ◌+◌, List, [], ◌++◌, length, take, AllPairs}
 use Rattle.posting_rules.specs.declared.fault.Fault.{Fault}
 use Rattle.posting_rules.specs.declared.fault.Fault.TheVariants.{Memory, Store, Down, Damaged}
@@ -49,9 +49,9 @@ pub data Life {C : Type 0} (seen : C → Seen) (first : C) : C → List Command 
 
 -- ---- after a stop
 
--- It stands at the log that the life began with and a beginning of the commands that were given in it, which holds
--- every one that was acknowledged. Each request is posted once, and accounts, tellers, branches and the deltas of
--- history have one sum (TPC-B clause 2).
+-- It shows the log that the life began with and a beginning of the commands that were given in it, which
+-- holds every one that was acknowledged, and so does whatever a stop leaves of it. Each request is posted
+-- once, and accounts, tellers, branches and the deltas of history have one sum (TPC-B clause 2).
 pub record IsFound (seen : Seen) (log given : List Command) (least : ℕ) : Type 0 where
   pub count : ℕ
   pub holds : least ≤ count

@@ -1,4 +1,5 @@
-//! Laws of a counter's life. Each is a function that does nothing: its contract is the law.
+//! Laws of a counter's life. Each is a function that does nothing and can't fail: its contract is the law. A
+//! caller that calls one has its clauses at hand.
 ghost use Rattle.std.specs.Prelude.{◌≡◌, ◌≤◌, ℕ, List, length};
 ghost use Rattle.sqlite.specs.Held.{state};
 ghost use Rattle.sqlite.specs.State.{Opens};
@@ -18,7 +19,8 @@ use posting_rules::Counter;
 use sqlite::{Alter, Connection};
 use store_rows::trees_law;
 
-/// Each call of a counter, by what the trait says of it, is a call of its life.
+/// Each call of a counter is a call of its life (`IsCall`), by what the trait `Counter` says of it. One that
+/// was answered acknowledges all of its commands, and one that was refused acknowledges none.
 pub fn calls_law<C: Counter>(_counter: &C)
     ensures answered { (old new : _) (commands : List Command) → AreCommands commands → Takes (C.seen old) (C.seen new) commands
         → ((C.seen old).is_down → ⊥) → ((C.seen new).honest → (C.seen old).honest)
@@ -28,9 +30,9 @@ pub fn calls_law<C: Counter>(_counter: &C)
         → ((C.seen new).honest → (C.seen old).honest) → IsCall (C.seen old) (C.seen new) (given_to fault commands) 0 }
 {}
 
-/// At every moment of a life, everything that a stop may leave shows the log that the life began with and a beginning
-/// of the commands that were given, which holds every one that was acknowledged. What is acknowledged was given, and
-/// what is given are commands of the bank.
+/// At every moment of a life, everything that a stop may leave shows the log that the life began with and a
+/// beginning of the commands that were given, which holds every one that was acknowledged (TPC-B,
+/// durability). What was acknowledged was given, and only commands of a bank are given.
 pub fn life_law<C: Counter>(counter: &C)
     ensures given { (first : _) (given : List Command) (least : ℕ) → Life C.seen first counter.now given least
         → (least ≤ length given) × AreCommands given }
@@ -43,7 +45,7 @@ pub fn life_law<C: Counter>(counter: &C)
         → ∥ ((tables : Tables) × ShowsBeginning log given least tables) ∥₁ }
 {}
 
-/// A connection that was opened stands at whatever log its trees show.
+/// What a connection shows as it is opened, a stop leaves too: it stands at whatever log its trees show.
 pub fn opened_law<S: Alter>(conn: &Connection<S>)
     ensures { Opens (state S.Store conn.now) → (tables : Tables) (log : List Command) → AreCommands log
         → ShowsTrees (state S.Store conn.now).now.trees tables → Shows tables log
@@ -52,7 +54,8 @@ pub fn opened_law<S: Alter>(conn: &Connection<S>)
     trees_law(conn);
 }
 
-/// The tables of every log of the bank's commands keep each of the seven rules: a file that breaks one holds no bank.
+/// The tables of every log of a bank's commands keep each of the seven rules of `Rule`, so that a file which
+/// breaks one of them holds no bank.
 pub fn rules_law()
     ensures { (tables : Tables) (log : List Command) → AreCommands log → Shows tables log → (rule : Rule) → Keeps rule (stored_rows tables) }
 {}

@@ -1,4 +1,33 @@
-//! What is found of a bank after a stop, in one law and for any number of lives.
+//! What is found of a bank after a stop, for any number of stops: every acknowledged command, each request
+//! posted once, and books that agree (TPC-B clause 2).
+//!
+//! A life is the calls of a counter between two stops. At run time [`reopen`] does what `bank_store::adopt`
+//! does; its contract names the bank that was stopped, and says what the new one has of it. A caller that has
+//! both:
+//!
+//! ```rust
+//! use bank_lives::reopen;
+//! use bank_store::{Bank, OpenFault, Refused};
+//! use sqlite::{Alter, Connection};
+//! use std::alloc::Global;
+//!
+//! // `conn` was opened on what a stop left of the files of `stopped`.
+//! fn next_life<S: Alter + Drop, T: Alter + Drop>(
+//!     alloc: Global,
+//!     stopped: &Bank<S>,
+//!     conn: Connection<T>,
+//! ) -> Result<Bank<T>, OpenFault>
+//!     requires { conn.in_transaction ≡ false }
+//! {
+//!     match reopen(alloc, stopped, conn) {
+//!         Ok(bank) => Ok(bank),
+//!         Err(Refused { fault, conn: _conn }) => Err(fault),
+//!     }
+//! }
+//! ```
+//!
+//! Read next: `specs/Lives`, with a call of a life, a life, and what is found after it; then [`life_law`],
+//! which holds at every moment of a life, and [`reopen`], which joins one life to the next.
 #![tactic(auto)]
 
 mod laws;

@@ -1,4 +1,4 @@
-//! A bank that is found after a stop.
+//! Taking up a bank after a stop.
 ghost use Rattle.std.specs.Prelude.{◌≡◌, ℕ, List, IfOk, IfErr, false};
 ghost use Rattle.sqlite.specs.Held.{state};
 ghost use Rattle.sqlite.specs.State.{HasCleanDisk, Opens};
@@ -14,13 +14,19 @@ use sqlite::{Alter, Connection};
 use std::alloc::Global;
 use store_rows::trees_law;
 
-/// Takes up the bank that a connection finds which was opened on what a stop left of another bank.
+/// Takes up the bank over a connection that was opened on what a stop left of another bank.
 ///
-/// `stopped` is that bank at the moment of the stop, after whatever calls it was given, and the connection found what
-/// a stop at that moment may leave. Then the bank stands at the log that the life began with and a beginning of the
-/// commands that were given, which holds every one that was acknowledged; each request is posted once, and every
-/// branch has the sum of its tellers (TPC-B clause 2). So the bank that is found is the first of the next life, and
-/// the same holds of that one. Where none is found, the store failed.
+/// `stopped` is that bank at the moment of the stop, after whatever calls it was given. The bank that is
+/// found shows the log that the life began with and a beginning of the commands that were given, which holds
+/// every one that was acknowledged. Each request is posted once, and every branch has the sum of its tellers
+/// (TPC-B clause 2). The bank that is found is the first of the next life, so that the same holds after the
+/// next stop. All this is said of disks that return what was written, as long as nobody else writes the
+/// files.
+///
+/// # Errors
+///
+/// On such disks only [`OpenFault::Store`](bank_store::OpenFault::Store): a call of `sqlite` failed. The
+/// connection comes back, and the bank can be taken up again over a new one.
 pub fn reopen<S: Alter + Drop, T: Alter>(
     alloc: Global,
     stopped: &Bank<S>,

@@ -1,11 +1,12 @@
--- Commands that stand together or not at all, and records that change nothing.
+-- Commands that are kept together or not at all, and records that change nothing.
 use Rattle.std.specs.Prelude.{◌≡◌, ◌⊎◌, List}
 use Rattle.posting_rules.specs.Commands.{Command}
 use Rattle.posting_rules.specs.Counter.{Seen, LeavesOnly, StandsAt}
 use Rattle.posting_rules.specs.Runs.{behind}
 use Rattle.posting_rules.specs.Tables.{Tables, Shows}
 
--- wherever the counter stood at a log, everything that a stop may leave now shows the log, or the log with all the commands behind it
+-- wherever the counter stood at a log, everything that a stop may leave now shows the log, or the log with
+-- all the commands behind it
 abbrev pub LeavesNoneOrAll : Seen → Seen → List Command → Type 0
 LeavesNoneOrAll old new commands =
     new.honest → (log : List Command) → StandsAt old log → LeavesOnly new (λ t. Shows t log ⊎ Shows t (behind log commands))

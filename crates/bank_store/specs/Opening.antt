@@ -1,4 +1,4 @@
--- What a connection is seen as before a bank is made in it or found there, and what either call tells.
+-- What a connection is seen as before a bank is made in it or found there, and what either call answers.
 use Rattle.std.specs.Prelude.{◌≡◌, ◌≢◌, ◌⊎◌, ◌≤◌, ◌<ℤ◌, if◌then◌else◌, IsTrue, ℕ, ℤ, pos, Bool, true, false, List, [], ◌∷◌, ◌++◌, codes, Option, Some, None, Result, Ok, Err, ⊤}
 use Rattle.std.specs.Fmt.{decimal, signed_decimal}
 use Rattle.std.specs.List.{AllByRecursion}
@@ -135,7 +135,7 @@ abbrev pub unread_by : TableFault → OpenFault
 unread_by (Broken rule) = Damaged Value
 unread_by (Sqlite e) = Store
 
--- why the row isn't told
+-- why the row isn't known
 abbrev pub IsUnread : OpenFault → Type 0
 IsUnread fault = (fault ≡ Store) ⊎ (fault ≡ Damaged Value)
 
@@ -150,7 +150,8 @@ IsReadOnly old new _ = IsAsBefore old new
 abbrev pub MetaIs : State → (Option StoredMeta → Type 0) → Type 0
 MetaIs s P = (rows : List Entry) → HoldsRows s.now six.meta rows → P (meta_in rows)
 
--- the six tables are there, `meta` with its one row, of our version and with a count within its range, and everything is as it was
+-- the six tables are there, `meta` with its one row, of our version and with a count within its range, and
+-- everything is as it was
 pub record IsFound (old new : State) : Type 0 where
   pub tables : IsPresent old.now six_probes Whole
   pub meta : MetaIs old IsOurs
@@ -175,7 +176,8 @@ SeeksBank old new (Err fault) = Misses old fault × IsReadOnly {X = Unit {0}} ol
 
 -- ---- a bank is made
 
--- a bank with nothing in it is there, whatever a stop leaves, and every table that was there is there, with its rows, and nothing else is
+-- a bank with nothing in it is there, whatever a stop leaves, and every table that was there is there, with
+-- its rows, and nothing else is
 pub record IsMade (old new : State) : Type 0 where
   pub shows : Shows new.now new_tables
   pub left : (left : Trees) → new.may_leave left → ShowsTrees left new_tables
@@ -212,6 +214,7 @@ IsUnmade fault = (fault ≡ Store) ⊎ (fault ≡ NotBlank)
 
 -- ---- the texts
 
+-- what `{}` writes of a fault
 abbrev pub open_text : OpenFault → List ℕ
 open_text Store = codes "store fault"
 open_text NotBlank = codes "already a bank"

@@ -27,6 +27,7 @@ seen_in s is_down = record {
 abbrev pub connection_of : {S : Type 0} {g : Ghosts S} → Bank S g → Held S
 connection_of bank = bank.conn
 
+-- what a bank is seen as: it is down once a fault is kept
 abbrev pub bank_seen : {S : Type 0} (g : Ghosts S) → Bank S g → Seen
 bank_seen g bank = seen_in (state g bank.conn) (IsSome bank.fault)
 
@@ -34,12 +35,13 @@ bank_seen g bank = seen_in (state g bank.conn) (IsSome bank.fault)
 abbrev pub database_of : {S : Type 0} (g : Ghosts S) → Bank S g → Database
 database_of g bank = (state g bank.conn).now
 
--- the error of `sqlite` that brought the bank down
+-- the error of `sqlite` in what brought a bank down, none where it was damage
 abbrev pub error_in : Option TableFault → Option Error
 error_in None = None
 error_in (Some (Sqlite e)) = Some e
 error_in (Some (Damaged rule)) = None
 
+-- the error of `sqlite` that brought the bank down
 abbrev pub cause_of : {S : Type 0} {g : Ghosts S} → Bank S g → Option Error
 cause_of bank = error_in bank.fault
 

@@ -1,4 +1,4 @@
--- What a walk tells of a fault, and what stands after a step.
+-- Which fault a walk ends with, and what holds after a step.
 use Rattle.std.specs.Prelude.{◌≡◌, IsTrue}
 use Rattle.sqlite.specs.State.{State}
 use Rattle.sqlite.specs.State.{Shows as StateShows}

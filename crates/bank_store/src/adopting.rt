@@ -1,4 +1,4 @@
-//! A bank that is in a file is taken up.
+//! Taking up the bank that a file has.
 ghost use Rattle.std.specs.Prelude.{◌≡◌, ◌≢◌, List, IfOk, IfErr, false};
 ghost use Rattle.sqlite.specs.State.{HasCleanDisk, Survives};
 ghost use Rattle.sqlite.specs.Held.{state};
@@ -21,7 +21,8 @@ use sqlite::{Alter, Connection};
 use std::alloc::Global;
 use store_rows::{StoredMeta, VERSION, probe_meta, read_meta};
 
-// What the row of the bank holds, none where there is no such row. Nothing is written, so the transaction is dropped.
+// The row of the bank, if there is one, whatever its numbers. Nothing is written, so the transaction is
+// dropped.
 fn stored_meta<S: Alter>(conn: &mut Connection<S>) -> Result<Option<StoredMeta>, OpenFault>
     requires { conn.old.in_transaction ≡ false }
     ensures told { HasCleanDisk (state S.Store conn.new) → (rows : List Entry)
@@ -39,7 +40,8 @@ fn stored_meta<S: Alter>(conn: &mut Connection<S>) -> Result<Option<StoredMeta>,
     }
 }
 
-// The same. The store is asked for a table again, so that it is known to be open, and to have undone the transaction.
+// The same. The store is asked for a table once more, so that it is known to be open and to have undone the
+// transaction.
 fn settled_meta<S: Alter>(conn: &mut Connection<S>) -> Result<Option<StoredMeta>, OpenFault>
     requires { conn.old.in_transaction ≡ false }
     ensures told { HasCleanDisk (state S.Store conn.new) → (rows : List Entry)
@@ -58,7 +60,7 @@ fn settled_meta<S: Alter>(conn: &mut Connection<S>) -> Result<Option<StoredMeta>
     }
 }
 
-// What the row of the bank says against it.
+// Whether the row is of our version, and its count of requests is within 0..=`MAX_DECIDED`.
 fn check_meta(meta: &StoredMeta) -> Result<(), OpenFault>
     ensures { ChecksMeta (Some meta.now) result }
 {
@@ -71,7 +73,7 @@ fn check_meta(meta: &StoredMeta) -> Result<(), OpenFault>
     Ok(())
 }
 
-// Looks for the six tables and for our version.
+// Looks for the six tables, and then for the row of `meta`.
 fn find_bank<S: Alter>(conn: &mut Connection<S>) -> Result<(), OpenFault>
     requires { conn.old.in_transaction ≡ false }
     ensures told { HasCleanDisk (state S.Store conn.new) → SeeksBank (state S.Store conn.old) (state S.Store conn.new) result }
@@ -88,7 +90,23 @@ fn find_bank<S: Alter>(conn: &mut Connection<S>) -> Result<(), OpenFault>
     }
 }
 
-/// Takes up the bank that a connection finds. It changes no table, and clears nothing.
+/// Takes up the bank that the connection's file has. It looks for the six tables and reads the row of `meta`,
+/// and changes nothing. Other rows are checked by the calls that meet them.
+///
+/// The connection has to be outside a transaction, as a new one is.
+///
+/// # Errors
+///
+/// The connection comes back with each, outside a transaction. The first four say what the file has, and that
+/// it is as it was.
+///
+/// - [`OpenFault::Blank`]: none of the six tables is there.
+/// - [`OpenFault::Foreign`]: some of them are there, and some aren't.
+/// - [`OpenFault::Version`]: the tables are those of another version.
+/// - [`OpenFault::Damaged`]: the row of `meta` is missing, is out of its range or has a value of another
+///   type.
+/// - [`OpenFault::Store`]: a call of `sqlite` failed. Nothing has changed, as long as the store is open. It
+///   is the only fault if the file has a bank of this version.
 pub fn adopt<S: Alter>(alloc: Global, mut conn: Connection<S>) -> Result<Bank<S>, Refused<S>>
     requires { conn.in_transaction ≡ false }
     ensures found { IfOk result (λ bank. HasCleanDisk (state S.Store (connection_of bank)) → IsFound (state S.Store conn) (state S.Store (connection_of bank))) }

@@ -1,4 +1,4 @@
-//! A bank in a file, or in whatever store.
+//! The bank over a connection: its calls, and how a fault brings it down.
 ghost use Rattle.posting_rules.specs.declared.fault.Fault.TheVariants as fault;
 ghost use Rattle.std.specs.Prelude.{◌≡◌, ◌≢◌, ◌≤◌, [], ◌∷◌, List, length, Err, IfOk, OnOk, IfErr, IfSome, None, false};
 ghost use Rattle.std.specs.Result.{IsErrOf};
@@ -28,12 +28,26 @@ use sqlite::{Alter, Connection, Error};
 use std::alloc::Global;
 use store_rows::{TableFault, probe_meta};
 
-/// A bank over a connection. Each request and each opening is one transaction, and a fault brings the bank down.
+/// A bank over a connection, with the calls of [`Counter`]. Each call is one transaction, which is committed
+/// before the call answers `Ok`. Between calls no transaction is open.
+///
+/// # After a fault
+///
+/// - [`Fault::Memory`], of `submit_all` alone: nothing was tried, nothing has changed, and the bank can be
+///   used.
+/// - [`Fault::Store`]: the bank is down, and [`Bank::cause`] has the error. The file has all of the call or
+///   nothing of it. Release the connection, open the file again, [`adopt`](crate::adopt) the bank and send
+///   again what got no reply: what was posted is not posted twice.
+/// - [`Fault::Damaged`]: the file has rows that no bank writes, and that break this rule. Nothing has
+///   changed, and the bank is down.
+/// - [`Fault::Down`]: a fault brought the bank down before, and nothing was tried.
+///
+/// This holds of a disk that returns what was written, as long as nobody else writes the file.
 #[derive(Drop)]
 pub struct Bank<S: Alter> {
     alloc: Global,
     conn: Connection<S>,
-    // What brought it down.
+    // What brought it down, none while it is up.
     fault: Option<TableFault>,
     ghost idle: { conn.in_transaction ≡ false },
 }
@@ -43,7 +57,7 @@ impl<S: Alter> Bank<S> {
     ghost use Rattle.bank_store.specs.Opening.{conn_seen};
     ghost use Rattle.bank_store.specs.Down.{GoesDown};
 
-    // The bank that a connection holds.
+    // The bank over a connection whose tables were made or checked.
     pub(crate) fn over(alloc: Global, conn: Connection<S>) -> Self
         requires { conn.in_transaction ≡ false }
         ensures conn { result.conn ≡ conn }
@@ -56,7 +70,8 @@ impl<S: Alter> Bank<S> {
         }
     }
 
-    /// Gives the connection back. That of a bank which is down is only to be closed.
+    /// Gives the connection back, outside a transaction and with the file as it is. Close it where the bank
+    /// is down: [`adopt`](crate::adopt) takes the bank up again over a new one.
     pub fn release(self) -> Connection<S>
         ensures same { result ≡ connection_of self }
         ensures idle { result.in_transaction ≡ false }
@@ -70,7 +85,8 @@ impl<S: Alter> Bank<S> {
         conn
     }
 
-    /// The error of `sqlite` that brought the bank down, if one did.
+    /// The error of `sqlite` that brought the bank down. There is none while the bank is up, and none if
+    /// damaged rows brought it down.
     pub fn cause(&self) -> Option<Error>
         ensures { result ≡ cause_of self.now }
     {
@@ -80,8 +96,8 @@ impl<S: Alter> Bank<S> {
         }
     }
 
-    // A fault brings the bank down. Before rows are told to be damaged, the store is asked for a table, so that it is
-    // known to be open, and to have undone the call.
+    // Brings the bank down. Before damage is reported, the store is asked for a table once more: if it
+    // answers, it is open and has undone the call, and otherwise the fault is the store's.
     fn go_down(&mut self, fault: TableFault) -> Fault
         ensures down { GoesDown (state S.Store self.old.conn) (state S.Store self.new.conn) fault self.new.fault result }
         ensures survives { Survives (state S.Store self.old.conn) (state S.Store self.new.conn) (λ _. ⊥) }
@@ -112,19 +128,20 @@ impl<S: Alter> Bank<S> {
     ghost use Rattle.bank_walks.specs.Rows.{items_behind, items_from};
     ghost use Rattle.bank_store.specs.Walks.{IsStill, IsUndone};
 
-    /// Whether the bank is down.
+    /// Whether a fault brought the bank down. Then each call answers [`Fault::Down`] and tries nothing.
     pub fn is_down(&self) -> bool
         ensures { result ≡ is_some self.now.fault }
     {
         self.fault.is_some()
     }
 
-    /// What its calls take memory from.
+    /// The allocator that the bank was made or taken up with.
     pub fn alloc(&self) -> Global {
         self.alloc
     }
 
-    // The rows from a key on. Its fault brings no bank down.
+    // Reads the rows from a key on, up to `AHEAD` of them, and answers from which key the others follow. A
+    // fault of it doesn't bring the bank down.
     pub(crate) fn read_rows<R: WalkedRow>(
         &mut self,
         of: Option<Account>,
@@ -146,6 +163,7 @@ impl<S: Alter> Bank<S> {
     }
 }
 
+/// Each call is one transaction. See [`Bank`] for what holds after each fault.
 impl<S: Alter + Drop> Counter for Bank<S> {
     ghost use Rattle.bank_batches.specs.Batches.{DecidesNone};
     ghost use Rattle.bank_store.specs.Down.{KeepsCause, OfDamage, TellsFailure, WasBroken, WasBrokenOrMet};
@@ -193,9 +211,9 @@ impl<S: Alter + Drop> Counter for Bank<S> {
         }
     }
 
-    // All room is made before the store is asked for anything. Each row that the records touch is read once, and each that
-    // they change is written once; they stand together or not at all. Where none is decided, no table changes, and a stop leaves
-    // nothing else.
+    // All room is made before the store is asked, so that `Memory` changes nothing. Each row that the records
+    // touch is read once, and each that they change is written once. They are committed together or not at
+    // all. A batch in which nothing is decided changes no table, and a stop in it leaves nothing else.
     fn submit_all(&mut self, moment: Moment, records: &[[u8; 100]]) -> Result<Vec<[u8; 200]>, Fault>
         requires some { 1 ≤ length records.now }
         requires few { length records.now ≤ RECORDS_PER_BATCH }

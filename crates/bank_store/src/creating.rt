@@ -1,4 +1,4 @@
-//! A new bank in a file.
+//! A new bank in a file: the six tables, empty but for the row of `meta`.
 ghost use Rattle.std.specs.Prelude.{◌≡◌, [], IfOk, IfErr, OnOk, OnErr, false};
 ghost use Rattle.sqlite.specs.State.{HasCleanDisk, Survives};
 ghost use Rattle.sqlite.specs.Held.{state};
@@ -62,7 +62,18 @@ fn make_bank<S: Alter>(conn: &mut Connection<S>) -> Result<(), OpenFault>
     }
 }
 
-/// Makes a bank with no branch in one transaction, beside whatever else the file holds.
+/// Makes a bank with no branch, in one transaction, beside whatever other tables the file has. These keep
+/// their rows. A stop in the call leaves the file as it was or with the new bank.
+///
+/// The connection has to be outside a transaction, as a new one is.
+///
+/// # Errors
+///
+/// The connection comes back with each, outside a transaction. As long as its store is open, nothing has
+/// changed.
+///
+/// - [`OpenFault::NotBlank`]: one of the six tables is there, or a statement that makes one is refused.
+/// - [`OpenFault::Store`]: a call of `sqlite` failed.
 pub fn create<S: Alter>(alloc: Global, mut conn: Connection<S>) -> Result<Bank<S>, Refused<S>>
     requires { conn.in_transaction ≡ false }
     ensures stands { IfOk result (λ bank. (bank_seen S.Store bank).honest → StandsAt (bank_seen S.Store bank) []) }

@@ -1,4 +1,4 @@
-//! Which of the six tables are there.
+//! How many of the six tables are there.
 ghost use Rattle.std.specs.Prelude.{◌≡◌, ◌∷◌, [], IfErr, false};
 ghost use Rattle.sqlite.specs.State.{HasCleanDisk, Survives};
 ghost use Rattle.sqlite.specs.Held.{state};
@@ -14,12 +14,16 @@ use store_rows::{
 /// How many of some tables are there.
 #[derive(Clone, Copy, Debug, PartialEq, Eq)]
 pub(crate) enum Presence {
+    /// None of them.
     Absent,
+    /// Some of them, and not all.
     Partial,
+    /// All of them.
     Whole,
 }
 
 impl Presence {
+    // The presence of one table.
     fn of(is_there: bool) -> Presence
         ensures { result ≡ presence_of is_there }
     {
@@ -30,6 +34,7 @@ impl Presence {
         }
     }
 
+    // The presence of these tables and of the others, taken together.
     fn and(self, other: Presence) -> Presence
         ensures { result ≡ joined self other }
     {
@@ -41,6 +46,7 @@ impl Presence {
     }
 }
 
+// Of `meta`, `branch` and `teller`.
 fn first_three<S: Alter>(conn: &mut Connection<S>) -> Result<Presence, Error>
     requires { conn.old.in_transaction ≡ false }
     ensures told { HasCleanDisk (state S.Store conn.new)
@@ -55,6 +61,7 @@ fn first_three<S: Alter>(conn: &mut Connection<S>) -> Result<Presence, Error>
     Ok(meta.and(branches).and(tellers))
 }
 
+// Of `account`, `history` and `request`.
 fn last_three<S: Alter>(conn: &mut Connection<S>) -> Result<Presence, Error>
     requires { conn.old.in_transaction ≡ false }
     ensures told { HasCleanDisk (state S.Store conn.new)
@@ -69,7 +76,7 @@ fn last_three<S: Alter>(conn: &mut Connection<S>) -> Result<Presence, Error>
     Ok(accounts.and(history).and(requests))
 }
 
-/// How many of the six tables are there.
+/// How many of the six tables are there. The only fault is `Store`, and nothing is changed.
 pub(crate) fn tables_there<S: Alter>(conn: &mut Connection<S>) -> Result<Presence, OpenFault>
     requires { conn.old.in_transaction ≡ false }
     ensures told { HasCleanDisk (state S.Store conn.new)

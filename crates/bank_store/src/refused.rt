@@ -1,4 +1,4 @@
-//! Why a connection isn't taken for a bank.
+//! Why no bank is made or found over a connection.
 ghost use Rattle.std.specs.Prelude.{◌≡◌};
 ghost use Rattle.bank_store.specs.Opening.{of_the_store, unmade_by, unread_by, IsUnmade, IsUnread};
 
@@ -7,20 +7,23 @@ use sqlite::{Alter, Connection, Error, ErrorCode};
 use std::fmt;
 use store_rows::TableFault;
 
-/// Why a bank isn't made in a file, or isn't found there.
+/// Why [`create`](crate::create) made no bank, or [`adopt`](crate::adopt) found none. `{}` writes it in a few
+/// words, as `version 2` or `damaged rule 1`.
 #[derive(Clone, Copy, Debug, PartialEq, Eq)]
 pub enum OpenFault {
     /// A call of `sqlite` failed: for memory, the disk, a size (also that of the schema) or a limit of steps.
+    /// It says nothing of what the file has.
     Store,
-    /// No bank can be made: a table of the bank is there, or can't be made.
+    /// Of `create` alone: one of the six tables is there, or a statement that makes one is refused.
     NotBlank,
-    /// No table of the bank is there.
+    /// Of `adopt`, as all that follow: none of the six tables is there.
     Blank,
-    /// Some tables of the bank are there, and some aren't.
+    /// Some of the six tables are there, and some aren't.
     Foreign,
-    /// The tables are those of another version.
+    /// The six tables are there, and `meta` has this version, which isn't ours.
     Version(i64),
-    /// The row of the bank is missing or out of its range (`Rule::Meta`), or has a value of another type (`Rule::Value`).
+    /// The row of `meta` is missing or its count of requests is out of range (`Rule::Meta`), or it has a
+    /// value of another type (`Rule::Value`).
     Damaged(Rule),
 }
 
@@ -47,13 +50,15 @@ impl fmt::Display for OpenFault {
 
 impl std::error::Error for OpenFault {}
 
-/// The connection that wasn't taken, and why.
+/// The connection in which no bank was made or found, and why.
 pub struct Refused<S: Alter> {
+    /// Why.
     pub fault: OpenFault,
+    /// The connection, outside a transaction. It shows what it showed before, as long as its store is open.
     pub conn: Connection<S>,
 }
 
-// Whether the error is the store's own, and says nothing of what the file holds.
+// Whether the error is the store's own, so that it says nothing of what the file has.
 fn is_of_the_store(e: &Error) -> bool
     ensures { result ≡ of_the_store e.now }
 {
@@ -72,7 +77,7 @@ fn is_of_the_store(e: &Error) -> bool
     )
 }
 
-/// What an error says that came while the tables were made.
+/// The fault for an error that came while the tables were made: `Store` or `NotBlank`.
 pub(crate) fn unmade(e: &Error) -> OpenFault
     ensures told { result ≡ unmade_by e.now }
     ensures fault { IsUnmade result }
@@ -84,7 +89,7 @@ pub(crate) fn unmade(e: &Error) -> OpenFault
     }
 }
 
-/// What an error says that came while the row of the bank was read.
+/// The fault for an error that came while the row of the bank was read: `Store` or `Damaged(Rule::Value)`.
 pub(crate) fn unread(e: &TableFault) -> OpenFault
     ensures told { result ≡ unread_by e.now }
     ensures fault { IsUnread result }

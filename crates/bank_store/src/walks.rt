@@ -1,4 +1,4 @@
-//! Walks over the rows of a bank, one row a step, by rising keys.
+//! Walks over the rows of a bank, one row a step, by rising keys. They change nothing.
 ghost use Rattle.std.specs.Prelude.{◌≡◌, ◌≢◌, ◌<◌, ◌≤◌, OnSome, slice_get, [], List, false, None, Ok, Err, IfOk, IfErr, OnOk, MatchResult, filter, map, ◌++◌, drop, length, ℤ};
 ghost use Rattle.std.specs.Borrow.{sem, RestsIfErr};
 ghost use Rattle.std.specs.Result.{IsErrOf};
@@ -23,7 +23,7 @@ use posting_rules::Fault;
 use sqlite::{Alter, Connection};
 use store_rows::TableFault;
 
-// How far a walk is.
+// How far a walk is: on its way, behind its last row, or behind a fault.
 #[derive(Clone, Copy, PartialEq, Eq)]
 pub(crate) enum Stage {
     Going,
@@ -31,15 +31,26 @@ pub(crate) enum Stage {
     Failed,
 }
 
-/// Rows of a table, by rising keys. It may be dropped at any row.
+/// A walk over rows of a table by rising keys, up to `AHEAD` of `bank_walks` read ahead. It borrows the bank,
+/// and may be dropped at any row. A fault of it doesn't bring the bank down.
+///
+/// ```rust
+/// let mut walk = each_account(&mut bank)?;
+/// for _ in 0..u64::MAX {
+///     let Some(row) = walk.next()? else {
+///         break;
+///     };
+///     println!(rt; "{} {}", row.account, row.balance)?;
+/// }
+/// ```
 pub struct Walk<'bank, S: Alter, R: WalkedRow> {
     bank: &'bank mut Bank<S>,
-    // The account whose rows are given, where they are one's alone.
+    // The account whose rows are given, if those of one account alone are.
     of: Option<Account>,
     // The rows that were read ahead, and how many of them were given.
     rows: ArrayVec<R, AHEAD>,
     given: usize,
-    // From which key on the others follow.
+    // From which key on the others follow, none if there are no others.
     rest: Option<i64>,
     stage: Stage,
 }
@@ -59,7 +70,7 @@ impl<S: Alter, R: WalkedRow> Drop for Walk<'_, S, R> {
     }
 }
 
-// The fault of a walk. It brings no bank down.
+// The fault of a walk, which doesn't bring the bank down.
 fn told(fault: TableFault) -> Fault
     ensures { Tells fault result }
 {
@@ -69,7 +80,7 @@ fn told(fault: TableFault) -> Fault
     }
 }
 
-// The rows from a key on, outside a transaction.
+// Reads the rows from a key on, outside a transaction, and answers from which key the others follow.
 pub(crate) fn read_outside<S: Alter, R: WalkedRow>(
     conn: &mut Connection<S>,
     of: Option<Account>,
@@ -97,6 +108,7 @@ impl<'bank, S: Alter, R: WalkedRow> Walk<'bank, S, R> {
     ghost use Rattle.bank_store.specs.Walking.{ComesFrom, GivesFrom, HasFailed, IsEnded, IsTold, Steps, StoreFailed, items_to_come, lent, lent_state, loan_of};
     ghost use Rattle.bank_store.specs.declared.walks.Stage.TheVariants.{Going};
 
+    // A walk before its first row.
     fn over(bank: &'bank mut Bank<S>, of: Option<Account>) -> Walk<'bank, S, R>
         ensures same_reference { loan_of result ≡ bank.entry.ghost_name }
         ensures same { lent result ≡ bank.old }
@@ -114,7 +126,7 @@ impl<'bank, S: Alter, R: WalkedRow> Walk<'bank, S, R> {
         }
     }
 
-    // The next row of those that were read ahead.
+    // The next of the rows that were read ahead, if one is left.
     fn ahead(&self) -> Option<R>
         ensures value { result ≡ slice_get self.now.rows.items self.now.given }
         ensures low { OnSome result (self.now.given < AHEAD) }
@@ -122,7 +134,7 @@ impl<'bank, S: Alter, R: WalkedRow> Walk<'bank, S, R> {
         self.rows.as_slice().get(self.given).copied()
     }
 
-    // Reads ahead, where all was given that was read.
+    // Reads ahead, if all that was read was given.
     fn refill(&mut self) -> Result<(), Fault>
         requires { self.old.stage ≡ Going }
         ensures same_reference { loan_of self.new ≡ loan_of self.old }
@@ -159,7 +171,15 @@ impl<'bank, S: Alter, R: WalkedRow> Walk<'bank, S, R> {
         }
     }
 
-    /// The next row, none behind the last. After a fault it answers `Down`.
+    /// The next row, whose key is above those before it; none behind the last row, and from then on.
+    ///
+    /// # Errors
+    ///
+    /// None of them brings the bank down, and none changes the file.
+    ///
+    /// - [`Fault::Store`]: a call of `sqlite` failed, for memory too.
+    /// - [`Fault::Damaged`] with `Rule::Value`: the next row has a number out of its range.
+    /// - [`Fault::Down`]: this walk has ended with a fault.
     pub fn next(&mut self) -> Result<Option<R>, Fault>
         ensures same_reference { loan_of self.new ≡ loan_of self.old }
         ensures told { HasCleanDisk (lent_state S.Store self.new) → (all : List R.WalkedRow.Item) → R.WalkedRow.HasItems (lent_state S.Store self.old).now all
@@ -208,7 +228,7 @@ ghost use Rattle.bank_walks.specs.Rows.{HasRows, LEAST, entry_key};
 ghost use Rattle.bank_walks.specs.Stored.{account_entry, asked_pair, branch_entry, is_of, posted_pair, posting_entry, teller_entry};
 ghost use Rattle.store_rows.specs.SixTables.{account as account_table, branch as branch_table, history as history_table, request as request_table, teller as teller_table};
 
-// Begins a walk over all rows of a kind.
+// Begins a walk over all rows of a kind. The only fault is `Down`.
 fn each<S: Alter, R: WalkedRow>(bank: &mut Bank<S>) -> Result<Walk<'_, S, R>, Fault>
     ensures* refused { sem 𝓛 (RestsIfErr (the_row S.row S.Store) bank.entry loan_of result (λ last. last ≡ bank.old)) }
     ensures same_reference { IfOk result (λ it. loan_of it ≡ bank.entry.ghost_name) }
@@ -224,7 +244,7 @@ fn each<S: Alter, R: WalkedRow>(bank: &mut Bank<S>) -> Result<Walk<'_, S, R>, Fa
     Ok(Walk::over(bank, None))
 }
 
-/// Begins a walk over the branches.
+/// Begins a walk over the rows of `branch`, by the branch's number. Its only error is [`Fault::Down`].
 pub fn each_branch<S: Alter>(bank: &mut Bank<S>) -> Result<Walk<'_, S, StoredBranch>, Fault>
     ensures* refused { sem 𝓛 (RestsIfErr (the_row S.row S.Store) bank.entry loan_of result (λ last. last ≡ bank.old)) }
     ensures same_reference { IfOk result (λ it. loan_of it ≡ bank.entry.ghost_name) }
@@ -237,7 +257,7 @@ pub fn each_branch<S: Alter>(bank: &mut Bank<S>) -> Result<Walk<'_, S, StoredBra
     each(bank)
 }
 
-/// Begins a walk over the tellers.
+/// Begins a walk over the rows of `teller`, by the teller's number. Its only error is [`Fault::Down`].
 pub fn each_teller<S: Alter>(bank: &mut Bank<S>) -> Result<Walk<'_, S, StoredTeller>, Fault>
     ensures* refused { sem 𝓛 (RestsIfErr (the_row S.row S.Store) bank.entry loan_of result (λ last. last ≡ bank.old)) }
     ensures same_reference { IfOk result (λ it. loan_of it ≡ bank.entry.ghost_name) }
@@ -250,7 +270,7 @@ pub fn each_teller<S: Alter>(bank: &mut Bank<S>) -> Result<Walk<'_, S, StoredTel
     each(bank)
 }
 
-/// Begins a walk over the accounts.
+/// Begins a walk over the rows of `account`, by the account's number. Its only error is [`Fault::Down`].
 pub fn each_account<S: Alter>(bank: &mut Bank<S>) -> Result<Walk<'_, S, StoredAccount>, Fault>
     ensures* refused { sem 𝓛 (RestsIfErr (the_row S.row S.Store) bank.entry loan_of result (λ last. last ≡ bank.old)) }
     ensures same_reference { IfOk result (λ it. loan_of it ≡ bank.entry.ghost_name) }
@@ -263,7 +283,8 @@ pub fn each_account<S: Alter>(bank: &mut Bank<S>) -> Result<Walk<'_, S, StoredAc
     each(bank)
 }
 
-/// Begins a walk over the postings of an account.
+/// Begins a walk over the postings of an account: its rows of `history`, in the order in which they were
+/// posted. Its only error is [`Fault::Down`].
 pub fn history_of<S: Alter>(
     bank: &mut Bank<S>,
     account: Account,
@@ -282,7 +303,8 @@ pub fn history_of<S: Alter>(
     Ok(Walk::over(bank, Some(account)))
 }
 
-/// Begins a walk over the requests, each with the posting of its ordinal, if there is one.
+/// Begins a walk over the kept requests: the rows of `request` in the order in which they were decided, each
+/// with the posting of its ordinal, if there is one. Its only error is [`Fault::Down`].
 pub fn each_request<S: Alter>(
     bank: &mut Bank<S>,
 ) -> Result<Walk<'_, S, Joined<StoredRequest, StoredPosting>>, Fault>
@@ -297,7 +319,8 @@ pub fn each_request<S: Alter>(
     each(bank)
 }
 
-/// Begins a walk over the postings, each with the request of its ordinal, if there is one.
+/// Begins a walk over the postings: the rows of `history` in the order in which they were posted, each with
+/// the request of its ordinal, if there is one. Its only error is [`Fault::Down`].
 pub fn each_history<S: Alter>(
     bank: &mut Bank<S>,
 ) -> Result<Walk<'_, S, Joined<StoredPosting, StoredRequest>>, Fault>

@@ -1,4 +1,16 @@
-//! Answers one record: 100 bytes come in on standard input, and the 200 bytes of the reply go out.
+//! A program that answers one record: it reads 100 bytes from standard input, submits them to a new bank in
+//! memory with the accounts 1 to 3 and 100,001 to 100,002, and writes the 200 bytes of the reply.
+//!
+//! ```text
+//! $ printf '%-100s' 'DC01000000000001000000010000010000000001+0000000500' | counter_once
+//! DR0100000000000001000000010000010000000001+0000000500+000000000500POSTED
+//! ```
+//!
+//! A refusal is a reply too, and ends with the status 0, as POSTED does. An input of fewer than 100 bytes
+//! gets no reply and ends with 4; refused memory, a read or a write that failed ends with 3.
+//!
+//! Read next: `once::answer_first`, and `answer_once` of `posting_core`, which answers a record at any
+//! counter.
 #![tactic(auto)]
 
 mod once;
@@ -8,10 +20,10 @@ mod tests;
 use posting_core::OnceFault;
 use std::process::ExitCode;
 
-/// The input ended within the record.
+/// The exit status where the input ended within the record.
 const INPUT_FAULT: u8 = 4;
 
-/// Memory was refused, or a read or a write failed.
+/// The exit status where memory was refused, or a read or a write failed.
 const SYSTEM_FAULT: u8 = 3;
 
 fn main(rt: HostRuntime) -> ExitCode {

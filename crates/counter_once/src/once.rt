@@ -1,4 +1,4 @@
-//! The first record of a new bank.
+//! The first record of a new bank, and the reply to it.
 ghost use Rattle.std.specs.Prelude.{◌≡◌, OnOk, IfErr, IfOk};
 ghost use Rattle.std.specs.Result.{IsErrOf};
 ghost use Rattle.posting_rules.specs.declared.fault.Fault.TheVariants.{Memory};
@@ -14,7 +14,7 @@ use std::alloc::Global;
 /// The moment of the record, in seconds since 1970-01-01T00:00:00Z.
 const MOMENT: u64 = 1000;
 
-// A bank in memory with three accounts in branch 1 and two in branch 2.
+// A bank in memory with three accounts in branch 1 and two in branch 2. The only fault is `Memory`.
 fn two_branches(alloc: Global) -> Result<PlainBank, Fault>
     ensures shows { IfOk result (λ bank. Shows (plain_tables bank) two_branches) }
     ensures memory { IfErr result (λ fault. fault ≡ Memory) }
@@ -25,8 +25,15 @@ fn two_branches(alloc: Global) -> Result<PlainBank, Fault>
     Ok(bank)
 }
 
-/// Answers the first record of a new bank: branch 1 has three accounts and branch 2 has two. It reads 100
-/// bytes, and leaves what follows unread. The bank refuses only for want of memory.
+/// Answers the first record of a new bank, in which branch 1 has three accounts and branch 2 has two. It
+/// reads 100 bytes, leaves what follows unread, and writes and flushes 200 bytes.
+///
+/// # Errors
+///
+/// - [`OnceFault::Short`]: the input ended within the record, and nothing was written.
+/// - [`OnceFault::Read`]: a read failed, and nothing was written.
+/// - [`OnceFault::Write`]: a write or the flush failed, and a beginning of the reply may be written.
+/// - [`OnceFault::Bank`]: the bank was refused memory, and nothing was written.
 pub fn answer_first<R: Source, W: Sink>(
     alloc: Global,
     reader: &mut R,

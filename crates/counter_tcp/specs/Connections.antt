@@ -1,5 +1,5 @@
 -- Connections that are served one after another by a bank, which is old before them and new after them. What
--- is seen of it is told by seen, and the clock's known readings are k before and k' after.
+-- is seen of it is given by seen, and the clock's known readings are k before and k' after.
 use Rattle.std.specs.Prelude.{◌≡◌, ◌<◌, ◌≤◌, ℕ, List, [], ◌∷◌, ◌++◌, length, Option, Result, Ok, Err}
 use Rattle.std.specs.List.{AllByRecursion}
 use Rattle.posting_rules.specs.Commands.{Command}
@@ -17,6 +17,7 @@ use Rattle.counter_tcp.specs.Faults.{after_connection}
 
 -- ---- one connection
 
+-- one connection: the bank, the clock, and what came in and went out
 pub record Connection (C : Type 0) : Type 0 where
   -- the bank and the clock's known readings
   pub before : C
@@ -28,7 +29,7 @@ pub record Connection (C : Type 0) : Type 0 where
   pub reader_after : Option (List ℕ)
   pub writer : Option (List ℕ)
   pub writer_after : Option (List ℕ)
-  -- what the calls of its reader and of its writer told
+  -- what the calls of its reader and of its writer answered
   pub reads : Option (List ReadTold)
   pub reads_after : Option (List ReadTold)
   pub writes : Option (List WriteTold)
@@ -78,6 +79,7 @@ EndsAs {C = C} (Err (Bank fault)) n cs = (before : List (Connection C)) × (last
     × (cs ≡ before ++ last ∷ []) × (length cs ≤ n) × AllGoOn before
     × (after_connection last.result ≡ Err (Bank fault))
 
+-- connections were served so, n of them unless they ended before
 pub record Serves {C : Type 0} (seen : C → Seen) (k k' : Option (List ℕ)) (old new : C) (n : ℕ)
     (result : Result (Unit {0}) ListenFault) : Type 0 where
   pub connections : List (Connection C)

@@ -7,6 +7,7 @@ use Rattle.counter_http.specs.declared.fault.ServeFault.TheVariants as serve
 use Rattle.counter_tcp.specs.declared.fault.ListenFault.{ListenFault}
 use Rattle.counter_tcp.specs.declared.fault.ListenFault.TheVariants.{Network, Bank}
 
+-- what `{}` writes of a fault
 abbrev pub fault_text : ListenFault → List ℕ
 fault_text Network = codes "network failed"
 fault_text (Bank fault) = rules.fault_text fault

@@ -1,2 +1,3 @@
+-- Connections that are served one after another. Begin with `Connections`.
 pub mod Faults
 pub mod Connections

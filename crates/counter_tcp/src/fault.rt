@@ -1,13 +1,14 @@
-//! Why the serving of connections ends.
+//! Why no more connections are served.
 use posting_core::Fault;
 use std::fmt;
 
-/// Why no more connections were served.
+/// Why no more connections were served. All that were taken before were served to their ends.
 #[derive(Clone, Copy, Debug, PartialEq, Eq)]
 pub enum ListenFault {
-    /// The listener gave no connection.
+    /// The listener gave no connection. The bank can be used.
     Network,
-    /// The bank refused a call for another cause than memory.
+    /// The bank refused a call of the last connection, for another cause than memory. Its client got a 503
+    /// for that message. The bank is down.
     Bank(Fault),
 }
 

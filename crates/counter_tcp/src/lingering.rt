@@ -1,19 +1,19 @@
-//! How a connection ends, so that its last answer arrives.
+//! How a connection is closed, so that its last answer arrives.
 use std::io::{ErrorKind, Read};
 use std::net::{Shutdown, TcpStream};
 use std::time::Duration;
 
-// How long a client that sends no more is waited for.
+// How long one read waits for a client that sends nothing, in milliseconds.
 const PATIENCE_MILLIS: u64 = 250;
 
-// How often, and how many bytes at a time, what a client still sends is read: up to 1 MiB.
+// How often what a client still sends is read, and how many bytes at a time: 1 MiB at most.
 const MOST_READS: u32 = 64;
 
 const PIECE: usize = 16_384;
 
-/// Shuts the writing side, and reads what the client still sends until it ends its side too, as long as that
-/// is within the bounds. A connection that is closed with unread input is reset, and a reset takes away what
-/// was written last.
+/// Shuts the writing side, and reads and drops what the client still sends until it ends its side too, within
+/// the bounds above. A connection that is closed with unread input is reset, and a reset takes away what was
+/// written last. A failure of the system here is ignored: the answers were written.
 pub fn end(stream: &TcpStream) {
     let shut = stream.shutdown(Shutdown::Write);
     let timed = stream.set_read_timeout(Some(Duration::from_millis(PATIENCE_MILLIS)));

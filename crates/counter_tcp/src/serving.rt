@@ -1,4 +1,4 @@
-//! Connections, one after another.
+//! Connections that are served one after another.
 ghost use Rattle.std.specs.Prelude.{◌≡◌};
 ghost use Rattle.counter_tcp.specs.Connections.{Serves, ServesOne};
 ghost use Rattle.counter_tcp.specs.Faults.{after_connection};
@@ -10,9 +10,19 @@ use posting_core::{Clock, Counter, Fault};
 use std::alloc::Global;
 use std::net::{TcpListener, TcpStream};
 
-/// Serves so many connections of a bound listener, one after another. It goes on after a read, a write or a
-/// memory fault of a connection, and ends at any other fault of the bank, and where the listener gives no
-/// connection.
+/// Takes and serves `connections` connections of a bound listener, one after another, each to its end. With 0
+/// it returns at once. Between two connections nothing happens to the bank or the clock. A client that
+/// neither sends nor closes holds up those behind it.
+///
+/// A connection that ends for a failed read or write, or for want of memory, isn't a fault: the next one is
+/// served.
+///
+/// # Errors
+///
+/// - [`ListenFault::Network`]: the listener gave no connection. Those before it were served.
+/// - [`ListenFault::Bank`]: the bank refused a call of the last connection for another cause than memory.
+///   What holds of the bank then is said by the fault; every record of which a byte of the answer was taken
+///   is kept.
 pub fn serve_connections<K: Clock, C: Counter>(
     alloc: Global,
     listener: &TcpListener,
@@ -32,8 +42,8 @@ pub fn serve_connections<K: Clock, C: Counter>(
     Ok(())
 }
 
-// Serves one connection, and ends it so that its last answer arrives. An answer isn't held back for one
-// before it.
+// Serves one connection, and closes it so that its last answer arrives. The system is asked to send each
+// answer at once, and not to wait until the one before it has arrived.
 fn serve_stream<K: Clock, C: Counter>(
     alloc: Global,
     stream: &TcpStream,
@@ -48,7 +58,7 @@ fn serve_stream<K: Clock, C: Counter>(
     served
 }
 
-// Whether the next connection is served after one that ended so.
+// Whether the next connection is served after one with this result.
 fn after(served: Result<Served, ServeFault>) -> Result<(), ListenFault>
     ensures { result ≡ after_connection served }
 {

@@ -15,7 +15,7 @@ draw word bound = (canon (2 ^ 64) next_u64 bound (stream_of (steps_u32 pcg32) (p
 unfoldable pub generator : ℕ → Lcg
 generator seed = pcg64_of_seed (pcg32_seed 32 seed)
 
--- that generator after k words
+-- the generator of a seed after k words
 unfoldable pub words_after : ℕ → ℕ → Lcg
 words_after seed zero = generator seed
 words_after seed (suc k) = (pcg64 (words_after seed k)).1

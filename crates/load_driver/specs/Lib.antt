@@ -1,3 +1,4 @@
+-- The requests that a plan and a seed draw. Begin with `Requests`.
 pub mod Draw
 pub mod Words
 pub mod Requests

@@ -1,4 +1,4 @@
-//! Which account a request names.
+//! Which account a request names (TPC-B 5.3, the 85/15 rule).
 ghost use Rattle.std.specs.Prelude.{◌≡◌, ◌≢◌, ◌<◌, ◌≤◌, ◌+◌, ◌*◌, ◌^◌, ◌-◌, Contains, get_or, length};
 ghost use Rattle.branch_loader.specs.Plans.{IsPlan};
 ghost use Rattle.load_driver.specs.Draw.{draw};
@@ -10,7 +10,7 @@ use crate::draws::draw;
 use message_records::Branch;
 use posting_core::{ACCOUNTS_PER_BRANCH, LAST_BRANCH};
 
-// The first account of a branch.
+// The number of a branch's first account.
 fn first_account(branch: Branch) -> u64
     ensures value { result ≡ first_account branch }
     ensures small { result < 2 ^ 40 }
@@ -18,7 +18,7 @@ fn first_account(branch: Branch) -> u64
     ACCOUNTS_PER_BRANCH * (branch.get() - 1) + 1
 }
 
-// How many accounts the rows have.
+// How many accounts the rows have together.
 fn count_of(rows: &[(Branch, u32)]) -> u64
     requires { length rows.now ≤ LAST_BRANCH + 1 }
     ensures { result ≡ count_of rows.now }
@@ -26,7 +26,8 @@ fn count_of(rows: &[(Branch, u32)]) -> u64
     rows.iter().map(|row| u64::from(row.1)).sum()
 }
 
-// The account at this place among those of the other branches, without a list of them.
+// The account at this place, from 0 on, among those of the other branches in their order, without a list of
+// them. It is 0 beyond the last, which no draw reaches.
 fn remote_account(rows: &[(Branch, u32)], branch: Branch, place: u64) -> u64
     ensures { result ≡ get_or (remote_accounts branch rows.now) place 0 }
 {
@@ -44,7 +45,8 @@ fn remote_account(rows: &[(Branch, u32)], branch: Branch, place: u64) -> u64
     0
 }
 
-// The account by the words for X and for the account itself.
+// The account by the words for X, of 0..=99, and for the account itself: one of the teller's branch if X is
+// below 85 or the plan has one branch, and else one of the others.
 pub(crate) fn account_by(rows: &[(Branch, u32)], home: (Branch, u32), choice: u64, pick: u64) -> u64
     requires plan { IsPlan rows.now }
     requires home { Contains rows.now home }

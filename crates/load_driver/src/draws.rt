@@ -7,7 +7,8 @@ use rand_core::SeedableRng;
 use rand_core::utils::NextWord;
 use rand_pcg::{Lcg64Xsh32, Lcg128Xsl64};
 
-// The number below `bound` that a word draws.
+// The number below `bound` that a word draws: the word is the seed of a small generator, which draws by
+// `random_range` of `rand`.
 pub(crate) fn draw(word: u64, bound: u64) -> u64
     requires { 0 < bound }
     ensures value { result ≡ draw word bound }
@@ -23,7 +24,7 @@ pub(crate) fn words_of(seed: u64) -> Lcg128Xsl64
     Lcg128Xsl64::seed_from_u64(seed)
 }
 
-/// The four words of a record.
+/// The four words of a record, one for each draw.
 #[derive(Clone, Copy)]
 pub(crate) struct Words {
     /// It draws the teller.

@@ -1,4 +1,4 @@
-//! The driver.
+//! The driver: its state, and the request that each step draws.
 ghost use Rattle.std.specs.Prelude.{◌≡◌, ◌<◌, ◌≤◌, ◌+◌, ◌*◌, ◌↔◌, pos, ◌-ℤ◌, ◌≤ℤ◌, neg_ℤ, nat_abs, []};
 ghost use Rattle.std.specs.Prelude.{length, get_or, map, IfOk, IfSome, IsErrOf, Ok, Err, Some, None};
 ghost use Rattle.message_records.specs.Spelling.{request_spelling};
@@ -22,12 +22,12 @@ use std::alloc::{AllocError, Global};
 use std::fmt;
 use std::marker::Model;
 
-/// Why there is no driver.
+/// Why [`Driver::new`] made no driver.
 #[derive(Clone, Copy, Debug, PartialEq, Eq)]
 pub enum DriverFault {
-    /// The plan has no branch.
+    /// The plan has no branch, so that there is no teller to draw.
     Empty,
-    /// Memory was refused.
+    /// Memory was refused for the rows of the plan or for the counts of its tellers.
     Memory,
 }
 
@@ -42,13 +42,13 @@ impl fmt::Display for DriverFault {
 
 impl std::error::Error for DriverFault {}
 
-/// How many records a driver gives: no teller needs more numbers than it has.
+/// How many records a driver gives: as many as one teller has numbers, so that no teller needs more.
 pub const MOST_RECORDS: u64 = MAX_NUMBER;
 
 // How far from zero an amount may be drawn, in cents (TPC-B 5.3).
 const MOST_AMOUNT: u64 = 999_999;
 
-// The rows of a plan, ascending.
+// The rows of a plan by rising branches, so that their order in the plan doesn't matter.
 fn ascending(alloc: Global, rows: &[(Branch, u32)]) -> Result<Vec<(Branch, u32)>, AllocError>
     requires { IsPlan rows.now }
     ensures plan { IfOk result (λ v. IsPlan v.items) }
@@ -59,7 +59,7 @@ fn ascending(alloc: Global, rows: &[(Branch, u32)]) -> Result<Vec<(Branch, u32)>
     Ok(rows)
 }
 
-// The amount that a word draws.
+// The amount that a word draws, from -`MOST_AMOUNT` to `MOST_AMOUNT` cents.
 fn amount_by(word: u64) -> Cents
     ensures value { result ≡ amount_by word }
     ensures small { nat_abs result ≤ MOST_AMOUNT }
@@ -67,7 +67,8 @@ fn amount_by(word: u64) -> Cents
     Cents::new(draw(word, 2 * MOST_AMOUNT + 1) as i64 - MOST_AMOUNT as i64).unwrap()
 }
 
-// The request of the teller at a place, by the record's words and by its number.
+// The request of the teller at a place, from 0 on, among all tellers, by the record's words and by its
+// number.
 fn request_by(rows: &[(Branch, u32)], place: u64, words: Words, number: u64) -> Request
     requires plan { IsPlan rows.now }
     requires place { place < TELLERS_PER_BRANCH * length rows.now }
@@ -86,7 +87,8 @@ fn request_by(rows: &[(Branch, u32)], place: u64, words: Words, number: u64) -> 
     Request::new(account, teller, branch, number, amount_by(words.amount)).unwrap()
 }
 
-/// A driver: it draws the requests of a plan, one after the other, from the words of a seed.
+/// A driver: it draws the requests of a plan, one after another, from the words of a seed. The same branches
+/// and the same seed give the same records, on any machine. Each teller numbers its own requests from 1 on.
 #[derive(Drop)]
 pub struct Driver {
     // the plan's rows, ascending
@@ -107,7 +109,12 @@ impl Model for Driver {
 }
 
 impl Driver {
-    /// The driver of a plan and a seed. It makes room for the branches and for the count of each teller.
+    /// The driver of a plan and a seed, before its first record. It takes memory for the rows of the plan and
+    /// for a count of each teller, and no later call takes any.
+    ///
+    /// # Errors
+    ///
+    /// [`DriverFault::Empty`] just where the plan has no branch, and [`DriverFault::Memory`].
     pub fn new(alloc: Global, plan: &Plan, seed: u64) -> Result<Driver, DriverFault>
         ensures empty { (result ≡ Err DriverFault.Empty) ↔ (plan.now ≡ []) }
         ensures rows { IfOk result (λ driver. IsAscending plan.now driver.rows) }
@@ -148,7 +155,9 @@ impl Driver {
         request_by(self.rows.as_slice(), place, words, number)
     }
 
-    /// The 100 bytes of the next request, none after the first `MAX_NUMBER`. It takes no memory.
+    /// The 100 bytes of the next request, none after the first [`MOST_RECORDS`]. It names a teller of the
+    /// plan, that teller's branch and an account of the plan, and
+    /// [`decode_request`](message_records::decode_request) reads it.
     pub fn next(&mut self) -> Option<[u8; 100]>
         ensures bytes { self.old.given < MOST_RECORDS →
             result ≡ Some (request_spelling (request_at self.old.rows self.old.seed self.old.given)) }

@@ -5,8 +5,8 @@ use Rattle.sqlite.specs.Held.{state}
 use Rattle.sqlite.specs.declared.transaction.Transaction.{Transaction}
 use Rattle.sqlite_trees.specs.declared.store.Store.{Ghosts}
 
--- The connection is the same. On an honest disk: what it tells, and what holds whatever the rows. Only a
--- fault shuts the store, and a stop leaves nothing new.
+-- The connection is the same. On an honest disk: what it says of the rows, and what holds whatever the rows.
+-- Only a fault shuts the store, and a stop leaves nothing new.
 pub record Says {S : Type 0} (g : Ghosts S) (old new : Transaction S)
     (Told Kept : State → State → Type 0) : Type 0 where
   pub same_reference : new.conn.ghost_name ≡ old.conn.ghost_name

@@ -17,7 +17,7 @@ pub record Entry : Type 0 where
 abbrev pub numbers : List ℤ → Row
 numbers = map (λ n. Int n)
 
--- the row as a file holds it: the key's own column is empty, since the key stands before the columns
+-- the row as a file holds it: the key's own column is empty, since the key is kept before the columns
 abbrev pub stored : Entry → Row
 stored e = Int e.key ∷ Null ∷ numbers e.values
 
@@ -29,12 +29,12 @@ has_key k e = int_eq e.key k
 abbrev pub is_above : ℤ → Entry → Bool
 is_above k e = is_gt (int_cmp e.key k)
 
--- the rows with this one in its place, and in place of the one that has its key
+-- the rows with this one in its place; it replaces the one that has its key, if there is one
 abbrev pub put : Entry → List Entry → List Entry
 put new [] = new ∷ []
 put new (e ∷ es) = match_ordering (int_cmp e.key new.key) (e ∷ put new es) (new ∷ es) (new ∷ e ∷ es)
 
--- the change is made at this key
+-- the change of a row, made just where the row has this key
 abbrev pub at_key : (Entry → Entry) → ℤ → Entry → Entry
 at_key change k e = cond (has_key k e) (change e) e
 

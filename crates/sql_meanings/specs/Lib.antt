@@ -1,4 +1,5 @@
--- What SQL texts mean, and what they leave in tables of whole numbers.
+-- What SQL texts mean, and what they leave in tables of whole numbers. Begin with `Entries`, `Tables` and
+-- `Outcomes`.
 pub mod Calls
 pub mod Contents
 pub mod Entries

@@ -1,4 +1,4 @@
--- How a table comes to be, and what stands on beside it.
+-- How a table comes to be, and what is kept beside it.
 use Rattle.std.specs.Prelude.{◌≡◌, ◌≢◌, ◌⊎◌, ◌+◌, ◌*◌, ◌^◌, ◌<◌, ◌≤◌, ◌==◌, IsTrue, IsUtf8, List, ℕ, [], Bool}
 use Rattle.std.specs.Prelude.{true, false, codes, length, Ok, Err, None, slice_range}
 use Rattle.std.specs.List.{list_any}
@@ -29,7 +29,7 @@ pub record Stands (schema : Schema) (table : Table) : Type 0 where
   pub apart : (t : Table) → Has schema.tables t → t.tree ≡ table.tree → t ≡ table
   pub free : table.references ≡ []
 
--- what stood stands on, with its rows
+-- every table is kept with its rows, and each that had its tree to itself still has
 pub record Keeps (old after : Database) : Type 0 where
   pub stands : (t : Table) → Stands old.schema t → Stands after.schema t
   pub has : (t : Table) → Has old.schema.tables t → Has after.schema.tables t
@@ -39,7 +39,7 @@ pub record Keeps (old after : Database) : Type 0 where
 abbrev pub counts_rows : Schema → Bool
 counts_rows schema = list_any (λ t. t.is_counted) schema.tables
 
--- the table is new and empty, and what stood stands on; where no table counts its rows, nothing else is new
+-- the table is new and empty, and the others are kept; where no table counts its rows, nothing else is new
 pub record Adds (old after : Database) (t : Table) : Type 0 where
   pub keeps : Keeps old after
   pub stands : Stands after.schema (placed_at t (next_tree old.schema))

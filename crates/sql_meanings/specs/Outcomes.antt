@@ -1,4 +1,4 @@
--- What a statement inside a transaction tells, and what it leaves.
+-- What a statement inside a transaction answers, why it may fail, and what it leaves.
 use Rattle.std.specs.Prelude.{◌≡◌, ◌≢◌, ◌⊎◌, ◌≤◌, ◌<◌, ◌==◌, ◌&&◌, IsSome, IsTrue, ℕ, List, [], length, map}
 use Rattle.std.specs.Prelude.{Bool, true, false, Option, Some, None, Result, Ok, Err, ⊤}
 use Rattle.std.specs.List.{list_any}

@@ -1,3 +1,26 @@
-//! What SQL texts mean under any schema, and what they leave in tables of whole numbers under rising keys.
-//! It holds definitions and lemmas, and no code.
+//! What SQL statements mean for any table of whole numbers under a whole key, whatever else the database
+//! holds. There are definitions and lemmas, and no code. Nothing here knows a bank.
+//!
+//! A table, and what it means that a database has it with the rows `es`, by rising keys:
+//!
+//! ```text
+//! account : Table
+//! account = plain_table (codes "account") (codes "aid") (codes "balance" ∷ [])
+//!
+//! Holds db account es
+//! ```
+//!
+//! What a statement inside a transaction then finds or leaves, and the lemma that says so:
+//!
+//! ```text
+//! SELECT under a key         find (has_key k) es          ReadRows.reads_key
+//! SELECT of the next key     find (is_above k) es         ReadRows.reads_next
+//! INSERT                     put e es                     PutRows.puts_row
+//! UPDATE under a key         changed change k es          SetRows.sets_row
+//! CREATE TABLE               Adds old.now new.now table   Makings.made_by
+//! a probe of a table         TellsProbe old new table r   Probing.tells_probe
+//! ```
+//!
+//! Read next: `specs/Entries`, the rows; `specs/Tables`, a table that a database holds; `specs/Outcomes`,
+//! what each statement answers and why it may fail. The crate `store_rows` is a caller, with six tables.
 #![tactic(auto)]
