@@ -53,7 +53,11 @@ count_by-push test given o =
 
 -- the counts that differ by 1, 0 and 0
 counts : (a b c x y z : ℕ) → a ≡ x → b ≡ y → c ≡ z
-    → (let one : Loaded = record { opened = a; already = b; differs = c } in one) ≡ record { opened = x; already = y; differs = z }
+    → (let one : Loaded = record { opened = a; already = b; differs = c } in one) ≡ record {
+      opened = x;
+      already = y;
+      differs = z;
+    }
 counts a b c x y z p q r = cc
 
 counted-push : (given : List Opening) (o : Opening)
@@ -118,14 +122,16 @@ pub left-refused : (fault : Fault) (old now new : Seen) (xs : List Command) (c :
     → Takes old now xs → Refuses fault now new (c ∷ []) → (new.honest → now.honest)
     → LeavesBeginning old new (xs ++ c ∷ rest) (length xs)
 left-refused Memory old now new xs c rest taken refused honest h log stood =
-    leaves_weaker new (λ t. Shows t (behind log xs)) (ShowsBeginning log (xs ++ c ∷ rest) (length xs)) (λ t shown. record {
+    leaves_weaker new (λ t. Shows t (behind log xs)) (ShowsBeginning log (xs ++ c ∷ rest) (length xs))
+    (λ t shown. record {
       count = length xs;
       holds = omega arith;
       within = omega (arith, length-append xs (c ∷ rest));
       are = rw (take-append_seam xs (c ∷ rest)) (taken.stands (honest h) log stood).shows.commands;
       shows = rw (take-append_seam xs (c ∷ rest)) shown;
     })
-    (leaves_still now new (λ t. Shows t (behind log xs)) refused.left (taken.stands (honest h) log stood).stop)
+    (leaves_still now new (λ t. Shows t (behind log xs)) refused.left
+    (taken.stands (honest h) log stood).stop)
 left-refused Store old now new xs c rest taken refused honest h log stood =
     leaves_weaker new (ShowsBeginning (behind log xs) (c ∷ []) 0)
     (ShowsBeginning log (xs ++ c ∷ rest) (length xs)) (one_more log xs rest c)
@@ -150,7 +156,8 @@ pub record IsBehind {C : Type 0} (seen : C → Seen) (old now : C) (rows : Rows)
   pub sum : total loaded ≡ length rows
 
 -- before the first
-pub behind-none : {C : Type 0} (seen : C → Seen) (c : C) → IsBehind seen c c [] (record { opened = 0; already = 0; differs = 0 })
+pub behind-none : {C : Type 0} (seen : C → Seen) (c : C)
+    → IsBehind seen c c [] (record { opened = 0; already = 0; differs = 0 })
 unfolding answers
 behind-none seen c = record {
   taken = record { shows = λ h log shown. shown; stands = λ h log stood. stood };
@@ -173,12 +180,14 @@ pub behind-more : {C : Type 0} (seen : C → Seen) (old now new : C) (rows : Row
     (opening : Opening)
     → IsBehind seen old now rows loaded
     → Takes (seen now) (seen new) (Open p.0 p.1 ∷ [])
-    → ((seen new).honest → (log : List Command) → ShowsLog (seen now) log → opening ≡ opening_behind log p.0 p.1)
+    → ((seen new).honest → (log : List Command) → ShowsLog (seen now) log
+    → opening ≡ opening_behind log p.0 p.1)
     → ((seen now).is_down → ⊥) → ((seen new).is_down → ⊥) → ((seen new).honest → (seen now).honest)
     → IsBehind seen old new (rows ++ p ∷ []) (with_answer loaded opening)
 behind-more seen old now new rows p loaded opening b takes answer was_up is_up honest = record {
   taken = rw (map-append (λ (q : Row). Open q.0 q.1) rows (p ∷ []))
-      (Takes-append (seen old) (seen now) (seen new) (openings rows) (Open p.0 p.1 ∷ []) b.taken takes honest);
+      (Takes-append (seen old) (seen now) (seen new) (openings rows) (Open p.0 p.1 ∷ []) b.taken takes
+      honest);
   first = λ e. absurd (omega (arith, length-append rows (p ∷ [])));
   begun = λ h down. was_down seen old now rows b.first b.begun was_up down;
   up = λ down. absurd (is_up down);

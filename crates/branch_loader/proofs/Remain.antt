@@ -84,7 +84,11 @@ next-shorter s fields field (c ∷ rest) p e =
         let ended = rw is at e in
         let state : p.1 ≡ (step default_config s c).0 = cc ended in
         let tail : p.2 ≡ rest = cc ended in
-        record { between = rw state (step-between s c is); fewer = rw tail (omega arith); shorter = λ n. rw tail (omega arith) }
+        record {
+          between = rw state (step-between s c is);
+          fewer = rw tail (omega arith);
+          shorter = λ n. rw tail (omega arith);
+        }
     by false is more =
         let q = more (rw is at e) in
         let fewer = q.fewer in
@@ -152,7 +156,8 @@ pub takes : {R : Type 0} (rem : R → Option (List ℕ)) (a b : Reader R) (found
     → a.config ≡ default_config → HasLeft rem a rows → ReadRecord rem a b found fields
     → Takes found fields rows (HasLeft rem b)
 takes rem a b found fields rows config left r =
-    by found (go a.state b.state (source_of rem a) (pending_of (rem b.rdr) b) found fields rows left.between left.left (rw config at r.0))
+    by found (go a.state b.state (source_of rem a) (pending_of (rem b.rdr) b) found fields rows left.between
+    left.left (rw config at r.0))
   where
     by : (f : Bool) → Takes f fields rows (LeftAfter b.state (pending_of (rem b.rdr) b))
         → Takes f fields rows (HasLeft rem b)

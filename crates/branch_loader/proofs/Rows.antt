@@ -59,7 +59,8 @@ plan-more rows (Some branch) (Some accounts) p b a plan e = by (names branch row
         rw one (record {
           in_range = All-push IsRow rows (branch, accounts) plan.in_range (b.0, b.1, a.0, a.1);
           distinct = rw (map-append (λ (p : Row). p.0) rows ((branch, accounts) ∷ []))
-              (IsDistinct-push nat_eq_equiv (branches rows) branch plan.distinct (sym (names-branches branch rows) ∙ n));
+              (IsDistinct-push nat_eq_equiv (branches rows) branch plan.distinct
+              (sym (names-branches branch rows) ∙ n));
         })
 
 -- a branch that rows name is within the numbers that can be opened

@@ -98,7 +98,8 @@ took-fault A true fields rest rows fault stated t f s r = s ∙ rw t.1
 pub listed-more : (list : Rows) (i : ℕ) (x q : Row) → i < length list → x ≡ get_or list i x
     → row_of_pair (take i list) x ≡ Ok q
     → plan_of_list list ≡ rows_by row_of_pair (take i list) (drop i list) → IsPlan (take i list)
-    → IsPlan (take (i + 1) list) × (plan_of_list list ≡ rows_by row_of_pair (take (i + 1) list) (drop (i + 1) list))
+    → IsPlan (take (i + 1) list)
+    × (plan_of_list list ≡ rows_by row_of_pair (take (i + 1) list) (drop (i + 1) list))
 listed-more list i x q within read row states plan =
     let same = pair-same (take i list) x q row in
     let row_x = rw same at row in

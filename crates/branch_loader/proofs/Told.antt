@@ -17,7 +17,12 @@ use Rattle.branch_loader.specs.Plans.{IsToldSo, Rows, Row, names, row_of, row_of
 last_told : (P : RecordTold → Type 0) (a b : Option (List RecordTold)) (r : Result Bool Error)
     (t : RecordTold) → record_told r ≡ t → P t
     → Adds a b (record_told r ∷ []) → EndsWith P a b
-last_told P a b r t is p tells = record { earlier = []; last = t; made = subst (λ (x : RecordTold). Adds a b (x ∷ [])) is tells; is = p }
+last_told P a b r t is p tells = record {
+  earlier = [];
+  last = t;
+  made = subst (λ (x : RecordTold). Adds a b (x ∷ [])) is tells;
+  is = p;
+}
 
 pub found_last : {a b : Option (List RecordTold)} (r : Result Bool Error) (found : Bool) → r ≡ Ok found
     → Adds a b (record_told r ∷ []) → found ≡ true
@@ -83,13 +88,17 @@ pub row_told : (before : Rows) (fields : Fields) (fault : PlanFault) (a b : Opti
     → row_of_fields before fields ≡ Err fault
     → IsToldSo (Err fault) a b
 row_told before fields fault a b is =
-    not_of_row fault a b (subst (λ (r : Result Row PlanFault). IsOfRow r) is (two_fault before (two_of fields)))
+    not_of_row fault a b (subst (λ (r : Result Row PlanFault). IsOfRow r) is
+    (two_fault before (two_of fields)))
 
 -- ---- all that was told
 
 listed : (P : RecordTold → Type 0) (a b : Option (List RecordTold)) → EndsWith P a b
     → (told : List RecordTold) × EndsWith P (Some []) (Some told)
-listed P a b e = (e.earlier ++ e.last ∷ [], record { earlier = e.earlier; last = e.last; made = refl; is = e.is })
+listed P a b e = (
+  e.earlier ++ e.last ∷ [],
+  record { earlier = e.earlier; last = e.last; made = refl; is = e.is },
+)
 
 either_listed : (P Q : RecordTold → Type 0) (a b : Option (List RecordTold)) → EndsWith P a b ⊎ EndsWith Q a b
     → (told : List RecordTold) × (EndsWith P (Some []) (Some told) ⊎ EndsWith Q (Some []) (Some told))

@@ -33,7 +33,11 @@ is_differs _ = false
 
 -- how many answers there are of each kind
 abbrev pub counted : List Opening → Loaded
-counted given = record { opened = count_by is_opened given; already = count_by is_already given; differs = count_by is_differs given }
+counted given = record {
+  opened = count_by is_opened given;
+  already = count_by is_already given;
+  differs = count_by is_differs given;
+}
 
 -- the counts with one answer more
 abbrev pub with_answer : Loaded → Opening → Loaded

@@ -1,7 +1,8 @@
 //! Why a source or a list is no plan.
 use std::fmt;
 
-/// Why a plan was refused: the first fault of its source. Rows count from 1 after the header.
+/// Why a plan was refused: the first fault of its source. Rows count from 1 after the header. There is no
+/// plan then, and nothing was opened.
 #[derive(Clone, Copy, Debug, PartialEq, Eq)]
 pub enum PlanFault {
     /// The first record isn't the header, or there is none.
@@ -20,6 +21,7 @@ pub enum PlanFault {
     Memory,
 }
 
+/// A text of a line, as `plan row 2 branch`.
 impl fmt::Display for PlanFault {
     ghost use Rattle.std.specs.Prelude.{Some};
     ghost use Rattle.branch_loader.specs.Faults.{plan_text};

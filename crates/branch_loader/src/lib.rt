@@ -11,6 +11,3 @@ pub use fault::PlanFault;
 pub use loading::{Loaded, load};
 pub use plan::Plan;
 pub use read::read_plan;
-
-#[cfg(test)]
-mod tests;

@@ -44,13 +44,16 @@ fn with_answer(loaded: Loaded, opening: Opening) -> Loaded
 }
 
 /// Opens the plan's branches in its order, and counts the answers. After a fault the branches before it are
-/// open.
+/// open, and what the counter says of the fault holds of the rest: after `Memory` it can be used, and the
+/// plan can be loaded again.
 pub fn load<C: Counter>(plan: &Plan, counter: &mut C) -> Result<Loaded, Fault>
-    ensures counts { IfOk result (λ loaded. (C.seen counter.new).honest → (log : List Command) → ShowsLog (C.seen counter.old) log
+    ensures counts { IfOk result (λ loaded. (C.seen counter.new).honest → (log : List Command)
+        → ShowsLog (C.seen counter.old) log
         → loaded ≡ counted (answers log plan.now)) }
     ensures all { IfOk result (λ loaded. total loaded ≡ length plan.now) }
     ensures done { OnOk result (Takes (C.seen counter.old) (C.seen counter.new) (openings plan.now)) }
-    ensures stop { OnOk result (LeavesBeginning (C.seen counter.old) (C.seen counter.new) (openings plan.now) (length plan.now)) }
+    ensures stop { OnOk result (LeavesBeginning (C.seen counter.old) (C.seen counter.new) (openings plan.now)
+        (length plan.now)) }
     ensures up { OnOk result ((C.seen counter.new).is_down → (C.seen counter.old).is_down) }
 
     // A fault tells how many openings were answered before it.

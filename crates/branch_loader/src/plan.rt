@@ -56,7 +56,7 @@ fn row_of_pair(
 
 /// Branches of 1..=`LAST_BRANCH`, each named once, with counts of accounts of 1..=`MOST_ACCOUNTS`, in an
 /// order.
-#[derive(Drop)]
+#[derive(Debug, Drop)]
 pub struct Plan {
     rows: Vec<(Branch, u32)>,
 }
@@ -78,7 +78,8 @@ impl Plan {
         Plan { rows }
     }
 
-    /// The plan of a list of branches and counts, or the list's first fault: `Branch`, `Accounts` or `Twice`.
+    /// The plan of a list of branches and counts, or the list's first fault: `Branch`, `Accounts` or `Twice`,
+    /// with the row, counted from 1. It takes no memory.
     pub fn from_list(rows: Vec<(Branch, u32)>) -> Result<Plan, PlanFault>
         ensures { result ≡ plan_of_list rows.items }
     {
@@ -90,6 +91,7 @@ impl Plan {
     }
 
     /// The branches and their counts of accounts, in the plan's order.
+    #[must_use]
     pub fn rows(&self) -> &[(Branch, u32)]
         ensures rows { result.now ≡ self.now }
         ensures plan { IsPlan result.now }

@@ -95,4 +95,5 @@ reply_put r code name d0 d1 d2 d3 d4 d5 out ec en e0 e1 e2 e3 e4 e5 len e =
     ∙ ap (λ (t : List ℕ). tag ++ (digits 2 code ++ (fields ++ (balance ++ t))))
     (name_filled name (length d5) len short)
     ∙ ap (λ (k : ℕ). tag ++ (digits 2 k ++ (fields ++ (balance ++ (filled 16 name ++ spaces 118))))) ec
-    ∙ ap (λ (t : List ℕ). tag ++ (digits 2 (code_of r.outcome) ++ (fields ++ (balance ++ (filled 16 t ++ spaces 118))))) en
+    ∙ ap (λ (t : List ℕ). tag ++ (digits 2 (code_of r.outcome)
+    ++ (fields ++ (balance ++ (filled 16 t ++ spaces 118))))) en

@@ -17,7 +17,8 @@ posted : ReplyFields
 posted = record { outcome = Posted; request = Some deposit; balance = Some (pos 500) }
 
 posted_bytes : List ℕ
-posted_bytes = codes "DR0100000000000001000000010000010000000001+0000000500+000000000500POSTED" ++ replicate 128 32
+posted_bytes = codes "DR0100000000000001000000010000010000000001+0000000500+000000000500POSTED"
+    ++ replicate 128 32
 
 malformed : ReplyFields
 malformed = record { outcome = Malformed; request = None; balance = None }

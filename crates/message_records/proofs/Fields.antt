@@ -112,7 +112,13 @@ fields_take r bytes len e =
     (field_length 26 10 bytes (omega arith)) number.1 in
     let d = signed_takes 10 delta.0 (take 11 (drop 36 bytes)) (field_length 36 11 bytes (omega arith))
     (ok_or_some (signed_of (take 11 (drop 36 bytes))) bad.Delta delta.0 delta.1) in
-    let r-is : record { account = account.0; teller = teller.0; branch = branch.0; number = number.0; delta = delta.0 } ≡ r =
+    let r-is : record {
+      account = account.0;
+      teller = teller.0;
+      branch = branch.0;
+      number = number.0;
+      delta = delta.0;
+    } ≡ r =
     let h = delta.2 in cc in
     let from_delta : drop 36 bytes ≡ signed 10 delta.0 = last_joined 36 11 bytes
     (signed 10 delta.0) len d.0 in

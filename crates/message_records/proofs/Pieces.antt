@@ -14,8 +14,11 @@ use Rattle.message_records.proofs.Digits.{chosen}
 -- the field that stands here, and what stands behind it
 pub field_next : (i n : ℕ) (bytes field rest : List ℕ) → drop i bytes ≡ field ++ rest → length field ≡ n
     → (take n (drop i bytes) ≡ field) × (drop (i + n) bytes ≡ rest)
-field_next i n bytes field rest e len =
-    (ap (take n) e ∙ take_at field rest n len, sym (drop-drop n i bytes) ∙ ap (drop n) e ∙ drop_at field rest n len)
+field_next i n bytes field rest e len = (
+  ap (take n) e ∙ take_at field rest n len,
+  sym (drop-drop n i bytes) ∙ ap (drop n) e
+      ∙ drop_at field rest n len,
+)
 
 -- a field and what stands behind it are what stands here
 pub field_joined : (i n : ℕ) (bytes field rest : List ℕ) → take n (drop i bytes) ≡ field

@@ -161,7 +161,8 @@ reply_takes r bytes len e =
     let name = text_step (filled 16 (name_of outcome.0)) bad_reply.Name
     (take 16 (drop 66 bytes)) _ r balance.2 in
     let filler = text_step (replicate 118 32) bad_reply.Filler (take 118 (drop 82 bytes)) _ r name.1 in
-    let r-is : record { outcome = outcome.0; request = request.0; balance = balance.0 } ≡ r = let h = filler.1 in cc in
+    let r-is : record { outcome = outcome.0; request = request.0; balance = balance.0 } ≡ r =
+    let h = filler.1 in cc in
     let o = outcome_takes outcome.0 (take 2 (drop 4 bytes)) (field_length 4 2 bytes (omega arith))
     (ok_or_some code bad_reply.Outcome outcome.0 outcome.1) in
     let q = shown_takes outcome.0 request.0 (take 47 (drop 6 bytes))
@@ -176,8 +177,15 @@ reply_takes r bytes len e =
     (fields_spelling (unwrap_or request.0 no_fields)) _ q.spelled from_balance in
     let from_outcome = field_joined 4 2 bytes (digits 2 (code_of outcome.0)) _ o from_request in
     let from_tag = field_joined 0 4 bytes (codes "DR01") _ tag.0 from_outcome in
-    subst (λ (y : ReplyFields). (bytes ≡ reply_spelling y) × IsReply y) r-is
-    (from_tag, record { shows_request = q.shows; request = q.in_range; shows_balance = b.shows; balance = b.in_range })
+    subst (λ (y : ReplyFields). (bytes ≡ reply_spelling y) × IsReply y) r-is (
+      from_tag,
+      record {
+        shows_request = q.shows;
+        request = q.in_range;
+        shows_balance = b.shows;
+        balance = b.in_range;
+      },
+    )
 
 -- the same, of what a call returned
 pub reply_found : (bytes : List ℕ) (read : Result ReplyFields BadReply) → length bytes ≡ 200

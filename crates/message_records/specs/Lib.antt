@@ -3,4 +3,5 @@ pub mod Outcomes
 pub mod Records
 pub mod Spelling
 pub mod Reading
+pub mod Faults
 pub mod Laws

@@ -83,9 +83,15 @@ request_of bytes = do
 -- the outcome that has this code
 abbrev pub outcome_with : ℕ → Option Outcome
 outcome_with code =
-    if code == 0 then Some Posted else if code == 11 then Some NoTeller else if code == 12 then Some WrongBranch
-    else if code == 13 then Some NoAccount else if code == 14 then Some OverLimit else if code == 15 then Some ReusedNumber
-    else if code == 16 then Some Full else if code == 90 then Some Malformed else None
+    if code == 0 then Some Posted
+    else if code == 11 then Some NoTeller
+    else if code == 12 then Some WrongBranch
+    else if code == 13 then Some NoAccount
+    else if code == 14 then Some OverLimit
+    else if code == 15 then Some ReusedNumber
+    else if code == 16 then Some Full
+    else if code == 90 then Some Malformed
+    else None
 
 -- a field of a request is a field of its reply
 abbrev pub in_reply : Bad → BadReply

@@ -30,7 +30,13 @@ pub record IsRequest (r : RequestFields) : Type 0 where
 -- the request of these fields, where the amount is within its limit
 abbrev pub request_from : ℕ → ℕ → ℕ → ℕ → ℤ → Option RequestFields
 request_from account teller branch number delta =
-    if nat_le (nat_abs delta) MAX_DELTA then Some (record { account = account; teller = teller; branch = branch; number = number; delta = delta }) else None
+    if nat_le (nat_abs delta) MAX_DELTA then Some (record {
+      account = account;
+      teller = teller;
+      branch = branch;
+      number = number;
+      delta = delta;
+    }) else None
 
 pub record ReplyFields : Type 0 where
   pub outcome : Outcome

@@ -17,7 +17,8 @@ impl<const SIZE: usize> Model for Draft<SIZE> {
 
     ghost view = { λ d. take d.written d.bytes };
 
-    ghost invariant = { λ d. (length d.bytes ≡ SIZE) × (d.written ≤ SIZE) × (drop d.written d.bytes ≡ replicate (SIZE - d.written) 32) };
+    ghost invariant = { λ d. (length d.bytes ≡ SIZE) × (d.written ≤ SIZE)
+        × (drop d.written d.bytes ≡ replicate (SIZE - d.written) 32) };
 }
 
 impl<const SIZE: usize> Draft<SIZE> {

@@ -1,34 +1,90 @@
 //! Which field of a record is faulty.
+ghost use Rattle.std.specs.Prelude.{◌≡◌};
+ghost use Rattle.message_records.specs.Faults.{fault_text, field_of};
+
+use std::fmt;
 
 /// The first faulty field of a request, from the left.
 #[derive(Clone, Copy, Debug, PartialEq, Eq)]
 pub enum Bad {
+    /// Bytes 0..4 aren't `DC01`.
     Tag,
+    /// Bytes 4..16 aren't twelve digits of 1..=`MAX_ACCOUNT`.
     Account,
+    /// Bytes 16..24 aren't eight digits of 1..=`MAX_TELLER`.
     Teller,
+    /// Bytes 24..30 aren't six digits of 1..=`MAX_BRANCH`.
     Branch,
+    /// Bytes 30..40 aren't ten digits of 1..=`MAX_NUMBER`.
     Number,
+    /// Bytes 40..51 aren't a sign and ten digits. Zero has the sign `+`.
     Delta,
+    /// Bytes 51..100 aren't spaces.
     Filler,
 }
 
-/// The first faulty field of a reply, from the left.
+/// The first faulty field of a reply, from the left. Where the outcome is `Malformed`, the five fields of the
+/// request are zeros.
 #[derive(Clone, Copy, Debug, PartialEq, Eq)]
 pub enum BadReply {
+    /// Bytes 0..4 aren't `DR01`.
     Tag,
+    /// Bytes 4..6 aren't the code of an outcome.
     Outcome,
+    /// Bytes 6..18 aren't twelve digits of 1..=`MAX_ACCOUNT`.
     Account,
+    /// Bytes 18..26 aren't eight digits of 1..=`MAX_TELLER`.
     Teller,
+    /// Bytes 26..32 aren't six digits of 1..=`MAX_BRANCH`.
     Branch,
+    /// Bytes 32..42 aren't ten digits of 1..=`MAX_NUMBER`.
     Number,
+    /// Bytes 42..53 aren't a sign and ten digits. Zero has the sign `+`.
     Delta,
+    /// Bytes 53..66 aren't a sign and twelve digits, or aren't zero where the request wasn't posted.
     Balance,
+    /// Bytes 66..82 aren't the outcome's name with spaces behind it.
     Name,
+    /// Bytes 82..200 aren't spaces.
     Filler,
 }
 
+impl BadReply {
+    /// The field's name, as the text of the fault has it.
+    #[must_use]
+    pub fn field(self) -> &'static str
+        ensures { result.now ≡ field_of self }
+    {
+        match self {
+            BadReply::Tag => "tag",
+            BadReply::Outcome => "outcome",
+            BadReply::Account => "account",
+            BadReply::Teller => "teller",
+            BadReply::Branch => "branch",
+            BadReply::Number => "number",
+            BadReply::Delta => "delta",
+            BadReply::Balance => "balance",
+            BadReply::Name => "name",
+            BadReply::Filler => "filler",
+        }
+    }
+}
+
+/// The word `faulty`, and the field's name.
+impl fmt::Display for BadReply {
+    ghost use Rattle.std.specs.Prelude.{Some};
+
+    ghost output = { λ fault. Some (fault_text fault) };
+
+    fn fmt<W: fmt::Write>(&self, f: &mut fmt::Formatter<W>) -> fmt::Result {
+        let field = self.field();
+        write!(f, "faulty {field}")
+    }
+}
+
+impl std::error::Error for BadReply {}
+
 impl From<Bad> for BadReply {
-    ghost use Rattle.std.specs.Prelude.{◌≡◌};
     ghost use Rattle.message_records.specs.Reading.{in_reply};
 
     ghost from_gives = { λ fault result. result ≡ in_reply fault };
@@ -45,3 +101,18 @@ impl From<Bad> for BadReply {
         }
     }
 }
+
+/// What is said of the same field of a reply.
+impl fmt::Display for Bad {
+    ghost use Rattle.std.specs.Prelude.{Some};
+    ghost use Rattle.message_records.specs.Reading.{in_reply};
+
+    ghost output = { λ fault. Some (fault_text (in_reply fault)) };
+
+    fn fmt<W: fmt::Write>(&self, f: &mut fmt::Formatter<W>) -> fmt::Result {
+        let in_reply = BadReply::from(*self);
+        write!(f, "{in_reply}")
+    }
+}
+
+impl std::error::Error for Bad {}

@@ -1,4 +1,5 @@
-//! The records that come in and go out, 100 and 200 bytes of ASCII, and the types of their fields.
+//! The records that come in and go out, 100 and 200 bytes of ASCII (TPC-A, contents of the messages), and the
+//! types of their fields.
 #![tactic(auto)]
 
 mod draft;
@@ -19,6 +20,3 @@ pub use numbers::{Account, Branch, Cents, Moment, Number, Teller, Whole};
 pub use reading::{decode_reply, decode_request, read_digits};
 pub use records::{Outcome, Reply, Request};
 pub use writing::{encode_reply, encode_request};
-
-#[cfg(test)]
-mod tests;

@@ -40,7 +40,8 @@ impl<const LEAST: u64, const MOST: u64> Model for Whole<LEAST, MOST> {
 }
 
 impl<const LEAST: u64, const MOST: u64> Whole<LEAST, MOST> {
-    /// The number, none where it is out of the range.
+    /// The number; none where it is out of the range.
+    #[must_use]
     pub fn new(value: u64) -> Option<Self>
         ensures { result ≡ whole_within LEAST MOST value }
     {
@@ -51,6 +52,8 @@ impl<const LEAST: u64, const MOST: u64> Whole<LEAST, MOST> {
         }
     }
 
+    /// The number, within its range.
+    #[must_use]
     pub fn get(self) -> u64
         ensures value { result ≡ self.entry }
         ensures least { LEAST ≤ result }
@@ -73,7 +76,7 @@ impl<const LEAST: u64, const MOST: u64> fmt::Display for Whole<LEAST, MOST> {
     }
 }
 
-/// An amount of money in cents, within `MAX_BALANCE` of zero.
+/// An amount of money in cents, within `MAX_BALANCE` of zero (TPC-B 1.2 asks for ten digits and a sign).
 #[derive(Clone, Copy, Debug, PartialEq, Eq, PartialOrd, Ord)]
 pub struct Cents {
     value: i64,
@@ -96,7 +99,8 @@ impl Cents {
     // The greatest amount, and the least with the other sign.
     const LIMIT: i64 = MAX_BALANCE as i64;
 
-    /// The amount, none where it is further from zero than the limit.
+    /// The amount, in cents; none where it is further from zero than `MAX_BALANCE`.
+    #[must_use]
     pub fn new(value: i64) -> Option<Self>
         ensures { result ≡ cents_within MAX_BALANCE value }
     {
@@ -107,6 +111,8 @@ impl Cents {
         }
     }
 
+    /// The cents, within `MAX_BALANCE` of zero.
+    #[must_use]
     pub fn get(self) -> i64
         ensures value { result ≡ self }
         ensures least { neg_ℤ (pos MAX_BALANCE) ≤ℤ result }

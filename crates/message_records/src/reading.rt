@@ -26,7 +26,7 @@ const REPLY_FILLER: [u8; 118] = [b' '; 118];
 
 const SPACES: [u8; 16] = [b' '; 16];
 
-/// The request that the bytes spell, or the first faulty field.
+/// The request that the bytes spell, or the first faulty field from the left.
 pub fn decode_request(bytes: &[u8; 100]) -> Result<Request, Bad>
     // What is read is spelled so.
     ensures found { IfOk result (λ r. IsRequest r × (bytes.now ≡ request_spelling r)) }
@@ -53,7 +53,7 @@ fn read_request(bytes: &[u8; 100]) -> Result<Request, Bad>
     Ok(request)
 }
 
-/// The reply that the bytes spell, or the first faulty field.
+/// The reply that the bytes spell, or the first faulty field from the left.
 pub fn decode_reply(bytes: &[u8; 200]) -> Result<Reply, BadReply>
     // What is read is spelled so.
     ensures found { IfOk result (λ r. IsReply r × (bytes.now ≡ reply_spelling r)) }
@@ -193,7 +193,8 @@ fn read_number<const MOST: u64>(digits: &[u8]) -> Option<Whole<1, MOST>>
     Whole::new(read_digits(digits)?)
 }
 
-/// The number that up to twelve digits write, none where a byte is no digit. No byte at all writes 0.
+/// The number that up to twelve digits write; none where a byte is no digit. No byte at all writes 0.
+#[must_use]
 pub fn read_digits(digits: &[u8]) -> Option<u64>
     requires { length digits.now ≤ 12 }
     ensures value { result ≡ number_of digits.now }

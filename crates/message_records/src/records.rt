@@ -7,7 +7,8 @@ use crate::numbers::{Account, Branch, Cents, Number, Teller};
 use std::fmt;
 use std::marker::Model;
 
-/// A teller's request: what is to be added to an account, under the teller's own number (TPC-B 1.2).
+/// A teller's request: what is to be added to an account, under the teller's own number (TPC-B 1.2; TPC-A,
+/// contents of the messages).
 #[derive(Clone, Copy, Debug, PartialEq, Eq)]
 pub struct Request {
     account: Account,
@@ -24,18 +25,32 @@ impl Model for Request {
 
     ghost Value = { RequestFields };
 
-    ghost view = { λ a. record { account = a.account; teller = a.teller; branch = a.branch; number = a.number; delta = a.delta } };
+    ghost view = { λ a. record {
+      account = a.account;
+      teller = a.teller;
+      branch = a.branch;
+      number = a.number;
+      delta = a.delta;
+    } };
 
     ghost invariant = { λ a. nat_abs a.delta ≤ MAX_DELTA };
 
-    ghost inverse = { λ r. record { account = r.account; teller = r.teller; branch = r.branch; number = r.number; delta = r.delta } };
+    ghost inverse = { λ r. record {
+      account = r.account;
+      teller = r.teller;
+      branch = r.branch;
+      number = r.number;
+      delta = r.delta;
+    } };
 }
 
 impl Request {
     // The greatest amount of a request, and the least with the other sign.
     const DELTA_LIMIT: i64 = MAX_DELTA as i64;
 
-    /// The request, none where the amount is further from zero than its limit.
+    /// The request of these fields; none where the amount is further from zero than `MAX_DELTA`. The branch
+    /// needn't be the teller's.
+    #[must_use]
     pub fn new(
         account: Account,
         teller: Teller,
@@ -59,30 +74,40 @@ impl Request {
         }
     }
 
+    /// The account that the amount is to be added to. It may be one of another branch.
+    #[must_use]
     pub fn account(&self) -> Account
         ensures { result ≡ self.now.account }
     {
         self.account
     }
 
+    /// The teller that asks.
+    #[must_use]
     pub fn teller(&self) -> Teller
         ensures { result ≡ self.now.teller }
     {
         self.teller
     }
 
+    /// The branch that the request states: the teller's, unless it is to be refused.
+    #[must_use]
     pub fn branch(&self) -> Branch
         ensures { result ≡ self.now.branch }
     {
         self.branch
     }
 
+    /// The teller's own number for the request.
+    #[must_use]
     pub fn number(&self) -> Number
         ensures { result ≡ self.now.number }
     {
         self.number
     }
 
+    /// What is to be added, in cents, within `MAX_DELTA` of zero. Below zero it is taken from the account.
+    #[must_use]
     pub fn delta(&self) -> Cents
         ensures value { result ≡ self.now.delta }
         ensures limit { nat_abs result ≤ MAX_DELTA }
@@ -115,7 +140,8 @@ pub enum Outcome {
 impl Outcome {
     ghost use Rattle.message_records.specs.Outcomes.{code_of, name_of};
 
-    /// The code in the reply: two digits.
+    /// The code in the reply: two digits, 0..=99.
+    #[must_use]
     pub fn code(self) -> u8
         ensures value { result ≡ code_of self }
         ensures most { result ≤ 99 }
@@ -132,7 +158,8 @@ impl Outcome {
         }
     }
 
-    /// The name in the reply.
+    /// The name in the reply: up to 16 capitals and spaces.
+    #[must_use]
     pub fn name(self) -> &'static str
         ensures { result.now ≡ name_of self }
     {
@@ -163,7 +190,7 @@ impl fmt::Display for Outcome {
 }
 
 /// The reply to what came in: it shows the request, unless the bytes were none, and the account's new balance
-/// where the request was posted.
+/// where the request was posted (TPC-A, contents of the messages).
 #[derive(Clone, Copy, Debug, PartialEq, Eq)]
 pub struct Reply {
     outcome: Outcome,
@@ -180,7 +207,8 @@ impl Model for Reply {
 
     ghost view = { λ a. record { outcome = a.outcome; request = a.request; balance = a.balance } };
 
-    ghost invariant = { λ a. (is_some a.request ≡ has_request a.outcome) × (is_some a.balance ≡ has_balance a.outcome) };
+    ghost invariant = { λ a. (is_some a.request ≡ has_request a.outcome)
+        × (is_some a.balance ≡ has_balance a.outcome) };
 
     ghost inverse = { λ r. record { outcome = r.outcome; request = r.request; balance = r.balance } };
 }
@@ -190,7 +218,9 @@ impl Reply {
     ghost use Rattle.message_records.specs.Outcomes.{has_request, has_balance};
     ghost use Rattle.message_records.specs.Records.{reply_from};
 
-    /// The reply of these parts, none where they don't belong together.
+    /// The reply of these parts; none where they don't belong together. A request belongs to every outcome
+    /// but `Malformed`, and a balance to `Posted` alone.
+    #[must_use]
     pub fn new(outcome: Outcome, request: Option<Request>, balance: Option<Cents>) -> Option<Self>
         ensures { result ≡ reply_from outcome request balance }
     {
@@ -207,18 +237,24 @@ impl Reply {
         }
     }
 
+    /// What became of the request.
+    #[must_use]
     pub fn outcome(&self) -> Outcome
         ensures { result ≡ self.now.outcome }
     {
         self.outcome
     }
 
+    /// The request; none where the bytes that came in were none.
+    #[must_use]
     pub fn request(&self) -> Option<Request>
         ensures { result ≡ self.now.request }
     {
         self.request
     }
 
+    /// The account's new balance, where the request was posted.
+    #[must_use]
     pub fn balance(&self) -> Option<Cents>
         ensures { result ≡ self.now.balance }
     {

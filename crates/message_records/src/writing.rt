@@ -14,7 +14,8 @@ use crate::records::{Reply, Request};
 // Zeros in the place of each field of a request.
 const NO_FIELDS: &[u8; 47] = b"000000000000000000000000000000000000+0000000000";
 
-/// The bytes of the request.
+/// The bytes of the request: ASCII, with spaces behind the fields.
+#[must_use]
 pub fn encode_request(request: &Request) -> [u8; 100]
     ensures spelling { result ≡ request_spelling request.now }
     // They are read as this request.
@@ -26,7 +27,8 @@ pub fn encode_request(request: &Request) -> [u8; 100]
     draft.finish()
 }
 
-/// The bytes of the reply.
+/// The bytes of the reply: ASCII, with spaces behind the fields.
+#[must_use]
 pub fn encode_reply(reply: &Reply) -> [u8; 200]
     ensures spelling { result ≡ reply_spelling reply.now }
     // They are read as this reply.

@@ -49,11 +49,14 @@ within_verdict opened es m r (Refused o) h all = record {
 }
 within_verdict opened es m r (Posted a t b) h all = record {
   accounts = λ n. keeps_within true (eqb r.account n) (account_balance es n) r.delta (all.accounts n)
-      (λ p e. subst (λ (k : ℕ). IsWithin (account_balance es k +ℤ r.delta)) (eqb-true _ _ e) (sum_within _ _ a h.account_is));
+      (λ p e. subst (λ (k : ℕ). IsWithin (account_balance es k +ℤ r.delta)) (eqb-true _ _ e)
+      (sum_within _ _ a h.account_is));
   tellers = λ n. keeps_within true (eqb r.teller n) (teller_balance es n) r.delta (all.tellers n)
-      (λ p e. subst (λ (k : ℕ). IsWithin (teller_balance es k +ℤ r.delta)) (eqb-true _ _ e) (sum_within _ _ t h.teller_is));
+      (λ p e. subst (λ (k : ℕ). IsWithin (teller_balance es k +ℤ r.delta)) (eqb-true _ _ e)
+      (sum_within _ _ t h.teller_is));
   branches = λ n. keeps_within true (eqb r.branch n) (branch_balance es n) r.delta (all.branches n)
-      (λ p e. subst (λ (k : ℕ). IsWithin (branch_balance es k +ℤ r.delta)) (sym h.its_branch ∙ eqb-true _ _ e) (sum_within _ _ b h.branch_is));
+      (λ p e. subst (λ (k : ℕ). IsWithin (branch_balance es k +ℤ r.delta)) (sym h.its_branch
+      ∙ eqb-true _ _ e) (sum_within _ _ b h.branch_is));
 }
 
 within_record : (opened : ℕ → Option ℕ) (es : List Entry) (m : ℕ) (read : Result RequestFields Bad)
@@ -69,4 +72,8 @@ all_within (Post m bytes ∷ log) = within_record (λ b. opened log b) (decided 
     (all_within log)
 
 pub stays_within : (log : List Command) → StaysWithin log
-stays_within log = let all = all_within log in record { accounts = all.accounts; tellers = all.tellers; branches = all.branches }
+stays_within log = let all = all_within log in record {
+  accounts = all.accounts;
+  tellers = all.tellers;
+  branches = all.branches;
+}

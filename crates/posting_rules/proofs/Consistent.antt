@@ -20,7 +20,7 @@ use Rattle.posting_rules.specs.Tables.{history_row, history_row_of, request_row}
 use Rattle.posting_rules.specs.LookUps.{balance_of_branch, balance_of_teller, balance_of_account}
 use Rattle.posting_rules.specs.Laws.{total, delta_of, tellers_of, Match, IsConsistent}
 use Rattle.posting_rules.proofs.Keyed.{by_test}
-use Rattle.posting_rules.proofs.Opened.{AllNameOpen, all_name_open, both}
+use Rattle.posting_rules.proofs.NamedOpen.{AllNameOpen, all_name_open, both}
 use Rattle.posting_rules.proofs.Totals.{sum_where, HaveRows, spread, values_are, filter_all}
 use Rattle.posting_rules.proofs.Totals.{each_under_its_key, all_follow}
 
@@ -46,7 +46,8 @@ sum_under : (name : RequestFields → ℕ) (test : ℕ → Bool) (es : List Entr
 sum_under name test [] = refl
 sum_under name test (e ∷ es) =
     elim (by_test (is_posted e)) [
-      | inl p ↦ rw p (ap (λ (z : ℤ). cond (test (name e.request)) (z +ℤ e.request.delta) z) (sum_under name test es))
+      | inl p ↦ rw p (ap (λ (z : ℤ). cond (test (name e.request)) (z +ℤ e.request.delta) z)
+          (sum_under name test es))
       | inr f ↦ rw f (sum_under name test es)
     ]
 
@@ -68,7 +69,8 @@ one_sum : {R : Type 0} (key : R → ℕ) (balance : R → ℤ) (name : RequestFi
     → total (map balance (filter (λ r. test (key r)) rows)) ≡ posted_sum (λ r. test (name r)) es
 one_sum key balance name test rows es keys each have =
     values_are balance (λ r. sum_where (λ k. eqb k (key r)) (posted_under name es)) (λ r. test (key r)) rows
-    (all_follow (λ r. balance r ≡ posted_sum (λ x. eqb (name x) (key r)) es) (λ r. balance r ≡ sum_where (λ k. eqb k (key r)) (posted_under name es)) rows
+    (all_follow (λ r. balance r ≡ posted_sum (λ x. eqb (name x) (key r)) es)
+    (λ r. balance r ≡ sum_where (λ k. eqb k (key r)) (posted_under name es)) rows
     (λ r e. e ∙ sym (sum_under name (λ k. eqb k (key r)) es)) each)
     ∙ spread key test rows (posted_under name es) keys have ∙ sum_under name test es
 
@@ -81,15 +83,18 @@ teller_has : (t : Tables) (opened : ℕ → Option ℕ) (es : List Entry) → Ha
 teller_has t opened es s =
     all_follow (λ r. row_at teller_key t.tellers (teller_key r) ≡ Some r)
     (λ r. balance_of_teller r ≡ teller_balance es (teller_key r)) t.tellers
-    (λ r e. ap balance_of_teller (some_if (is_teller_open opened r.teller) (teller_row_of r.teller (teller_balance es r.teller)) r (sym (s.tellers r.teller) ∙ e)))
+    (λ r e. ap balance_of_teller (some_if (is_teller_open opened r.teller)
+    (teller_row_of r.teller (teller_balance es r.teller)) r (sym (s.tellers r.teller) ∙ e)))
     (each_under_its_key teller_key t.tellers s.teller_keys)
 
 account_has : (t : Tables) (opened : ℕ → Option ℕ) (es : List Entry) → HasRows t opened es
-    → AllByRecursion (λ r. balance_of_account r ≡ posted_sum (λ x. eqb x.account (account_key r)) es) t.accounts
+    → AllByRecursion (λ r. balance_of_account r ≡ posted_sum (λ x. eqb x.account (account_key r)) es)
+    t.accounts
 account_has t opened es s =
     all_follow (λ r. row_at account_key t.accounts (account_key r) ≡ Some r)
     (λ r. balance_of_account r ≡ account_balance es (account_key r)) t.accounts
-    (λ r e. ap balance_of_account (some_if (is_account_open opened r.account) (account_row_of r.account (account_balance es r.account)) r (sym (s.accounts r.account) ∙ e)))
+    (λ r e. ap balance_of_account (some_if (is_account_open opened r.account)
+    (account_row_of r.account (account_balance es r.account)) r (sym (s.accounts r.account) ∙ e)))
     (each_under_its_key account_key t.accounts s.account_keys)
 
 branch_balance_is : (o : Option ℕ) (b : ℕ) (z : ℤ) (r : BranchRow) → option_map (branch_row_of b z) o ≡ Some r
@@ -103,7 +108,8 @@ branch_has : (t : Tables) (opened : ℕ → Option ℕ) (es : List Entry) → Ha
 branch_has t opened es s =
     all_follow (λ r. row_at branch_key t.branches (branch_key r) ≡ Some r)
     (λ r. balance_of_branch r ≡ branch_balance es (branch_key r)) t.branches
-    (λ r e. branch_balance_is (opened r.branch) r.branch (branch_balance es r.branch) r (sym (s.branches r.branch) ∙ e))
+    (λ r e. branch_balance_is (opened r.branch) r.branch (branch_balance es r.branch) r
+    (sym (s.branches r.branch) ∙ e))
     (each_under_its_key branch_key t.branches s.branch_keys)
 
 -- ---- what was posted to has a row
@@ -121,7 +127,12 @@ tellers_have : (t : Tables) (opened : ℕ → Option ℕ) (all es : List Entry) 
 tellers_have t opened all [] s h = tt
 tellers_have t opened all (e ∷ es) s h =
     elim (by_test (is_posted e)) [
-      | inl p ↦ rw p (ap is_some (s.tellers e.request.teller) ∙ some_is (is_teller_open opened e.request.teller) (teller_row_of e.request.teller (teller_balance all e.request.teller)) (h.0.teller p), tellers_have t opened all es s h.1)
+      | inl p ↦ rw p (
+        ap is_some (s.tellers e.request.teller) ∙
+            some_is (is_teller_open opened e.request.teller) (teller_row_of e.request.teller
+            (teller_balance all e.request.teller)) (h.0.teller p),
+        tellers_have t opened all es s h.1,
+      )
       | inr f ↦ rw f (tellers_have t opened all es s h.1)
     ]
 
@@ -130,7 +141,12 @@ accounts_have : (t : Tables) (opened : ℕ → Option ℕ) (all es : List Entry)
 accounts_have t opened all [] s h = tt
 accounts_have t opened all (e ∷ es) s h =
     elim (by_test (is_posted e)) [
-      | inl p ↦ rw p (ap is_some (s.accounts e.request.account) ∙ some_is (is_account_open opened e.request.account) (account_row_of e.request.account (account_balance all e.request.account)) (h.0.account p), accounts_have t opened all es s h.1)
+      | inl p ↦ rw p (
+        ap is_some (s.accounts e.request.account) ∙
+            some_is (is_account_open opened e.request.account) (account_row_of e.request.account
+            (account_balance all e.request.account)) (h.0.account p),
+        accounts_have t opened all es s h.1,
+      )
       | inr f ↦ rw f (accounts_have t opened all es s h.1)
     ]
 
@@ -141,8 +157,15 @@ branches_have t opened all (e ∷ es) s h =
     elim (by_test (is_posted e)) [
       | inl p ↦
           let home : is_some (opened e.request.branch) ≡ true =
-          ap (λ (b : ℕ). is_some (opened b)) (h.0.branch p) ∙ (both (leb 1 e.request.teller) (is_some (opened (branch_of_teller e.request.teller))) (h.0.teller p)).1 in
-          rw p (ap is_some (s.branches e.request.branch) ∙ mapped_is (branch_row_of e.request.branch (branch_balance all e.request.branch)) (opened e.request.branch) home, branches_have t opened all es s h.1)
+          ap (λ (b : ℕ). is_some (opened b)) (h.0.branch p)
+          ∙ (both (leb 1 e.request.teller) (is_some (opened (branch_of_teller e.request.teller)))
+          (h.0.teller p)).1 in
+          rw p (
+            ap is_some (s.branches e.request.branch) ∙
+                mapped_is (branch_row_of e.request.branch (branch_balance all e.request.branch))
+                (opened e.request.branch) home,
+            branches_have t opened all es s h.1,
+          )
       | inr f ↦ rw f (branches_have t opened all es s h.1)
     ]
 
@@ -237,8 +260,10 @@ same_branch opened [] b h = refl
 same_branch opened (e ∷ es) b h =
     elim (by_test (is_posted e)) [
       | inl p ↦ let its : branch_of_teller e.request.teller ≡ e.request.branch = sym (h.0.branch p) in
-          let low = (both (leb 1 e.request.teller) (is_some (opened (branch_of_teller e.request.teller))) (h.0.teller p)).0 in
-          rw (p, low, its) (ap (λ (z : ℤ). cond (eqb e.request.branch b) (z +ℤ e.request.delta) z) (same_branch opened es b h.1))
+          let low = (both (leb 1 e.request.teller) (is_some (opened (branch_of_teller e.request.teller)))
+          (h.0.teller p)).0 in
+          rw (p, low, its) (ap (λ (z : ℤ). cond (eqb e.request.branch b) (z +ℤ e.request.delta) z)
+          (same_branch opened es b h.1))
       | inr f ↦ rw f (same_branch opened es b h.1)
     ]
 
@@ -272,7 +297,9 @@ consistent t log shows =
       branches = branches ∙ sym accounts;
       each_branch = all_follow (λ r. balance_of_branch r ≡ branch_balance es r.branch)
           (λ r. total (map balance_of_teller (tellers_of r.branch t.tellers)) ≡ r.balance) t.branches
-          (λ r e. one_sum teller_key balance_of_teller (λ x. x.teller) (λ k. leb 1 k && eqb (branch_of_teller k) r.branch) t.tellers es s.teller_keys (teller_has t open_ es s) (tellers_have t open_ es es s named)
+          (λ r e. one_sum teller_key balance_of_teller (λ x. x.teller)
+          (λ k. leb 1 k && eqb (branch_of_teller k) r.branch) t.tellers es s.teller_keys
+          (teller_has t open_ es s) (tellers_have t open_ es es s named)
           ∙ same_branch open_ es r.branch named ∙ sym e)
           (branch_has t open_ es s);
       matched = λ o. rw (s.requests o, s.history o) (rows_match es o);

@@ -12,7 +12,14 @@ and_false : (b : Bool) → (b && false) ≡ false
 and_false true = refl
 and_false false = refl
 
-pub empty_shown : Shows (record { decided = 0; branches = []; tellers = []; accounts = []; history = []; requests = [] }) []
+pub empty_shown : Shows (record {
+  decided = 0;
+  branches = [];
+  tellers = [];
+  accounts = [];
+  history = [];
+  requests = [];
+}) []
 empty_shown = record {
   rows = record {
     decided = refl;

@@ -39,7 +39,8 @@ reused = request (codes "DC01000000000001000000010000010000000001+0000000501")
 
 reused_number : reply_spelling (reply one reused) ≡ reply_bytes
     (codes "DR0115000000000001000000010000010000000001+0000000501+000000000000REUSED NUMBER") 121
-unfolding bank request reply_bytes first one reused digits fields_spelling reply_spelling fields_of request_of case_of
+unfolding bank request reply_bytes first one reused digits fields_spelling reply_spelling fields_of
+    request_of case_of
 reused_number = refl
 
 remote : List ℕ
@@ -47,7 +48,8 @@ remote = request (codes "DC01000000100001000000010000010000000002-0000000700")
 
 a_remote_account : reply_spelling (reply one remote) ≡ reply_bytes
     (codes "DR0100000000100001000000010000010000000002-0000000700-000000000700POSTED") 128
-unfolding bank request reply_bytes first one remote digits fields_spelling reply_spelling fields_of request_of case_of
+unfolding bank request reply_bytes first one remote digits fields_spelling reply_spelling fields_of
+    request_of case_of
 a_remote_account = refl
 
 two : List Command
@@ -64,12 +66,14 @@ late = request (codes "DC01000000000001000000210000030000000001+0000000005")
 
 unknown_teller : reply_spelling (reply two late) ≡ reply_bytes
     (codes "DR0111000000000001000000210000030000000001+0000000005+000000000000NO TELLER") 125
-unfolding bank request reply_bytes first one remote two late digits fields_spelling reply_spelling fields_of request_of case_of
+unfolding bank request reply_bytes first one remote two late digits fields_spelling reply_spelling fields_of
+    request_of case_of
 unknown_teller = refl
 
 then_opened : reply_spelling (reply (Open 3 1 ∷ Post 3000 late ∷ two) late) ≡ reply_bytes
     (codes "DR0100000000000001000000210000030000000001+0000000005+000000000505POSTED") 128
-unfolding bank request reply_bytes first one remote two late digits fields_spelling reply_spelling fields_of request_of case_of
+unfolding bank request reply_bytes first one remote two late digits fields_spelling reply_spelling fields_of
+    request_of case_of
 then_opened = refl
 
 elsewhere : List ℕ
@@ -77,7 +81,8 @@ elsewhere = request (codes "DC01000000000001000000010000020000000003+0000000005"
 
 wrong_branch : reply_spelling (reply two elsewhere) ≡ reply_bytes
     (codes "DR0112000000000001000000010000020000000003+0000000005+000000000000WRONG BRANCH") 122
-unfolding bank request reply_bytes first one remote two elsewhere digits fields_spelling reply_spelling fields_of request_of case_of
+unfolding bank request reply_bytes first one remote two elsewhere digits fields_spelling reply_spelling
+    fields_of request_of case_of
 wrong_branch = refl
 
 nowhere : List ℕ
@@ -85,7 +90,8 @@ nowhere = request (codes "DC01000000000004000000010000010000000004+0000000005")
 
 no_account : reply_spelling (reply two nowhere) ≡ reply_bytes
     (codes "DR0113000000000004000000010000010000000004+0000000005+000000000000NO ACCOUNT") 124
-unfolding bank request reply_bytes first one remote two nowhere digits fields_spelling reply_spelling fields_of request_of case_of
+unfolding bank request reply_bytes first one remote two nowhere digits fields_spelling reply_spelling
+    fields_of request_of case_of
 no_account = refl
 
 lettered : List ℕ
@@ -105,7 +111,8 @@ refusals : List Command
 refusals = Post 1000 nowhere ∷ Post 1000 elsewhere ∷ Post 1000 late ∷ two
 
 posted_of_refusals : posted (Post 1000 first ∷ Post 1000 reused ∷ refusals) ≡ false ∷ false ∷ true ∷ true ∷ []
-unfolding bank request first one reused remote two late elsewhere nowhere posted refusals digits fields_spelling fields_of request_of case_of
+unfolding bank request first one reused remote two late elsewhere nowhere posted refusals digits
+    fields_spelling fields_of request_of case_of
 posted_of_refusals = refl
 
 posted_of_a_repeat : posted (Post 1000 first ∷ one) ≡ true ∷ []

@@ -19,7 +19,8 @@ apart : {R : Type 0} (key : R → ℕ) (r : R) (rows : List R) (x : R)
 apart key r [] x h e = absurd cc
 apart key r (y ∷ rows) x h e =
     elim (by_test (eqb (key y) (key x))) [
-      | inl t ↦ let same : key y ≡ key x = eqb-true (key y) (key x) t in subst (λ (k : ℕ). eqb (key r) k ≡ false) same h.0
+      | inl t ↦ let same : key y ≡ key x = eqb-true (key y) (key x) t in
+          subst (λ (k : ℕ). eqb (key r) k ≡ false) same h.0
       | inr f ↦ apart key r rows x h.1 (let g = rw f at e in g)
     ]
 
@@ -29,8 +30,10 @@ pub row_at-found : {R : Type 0} (key : R → ℕ) (test : R → Bool) (rows : Li
 row_at-found key test [] x h e = absurd cc
 row_at-found {R} key test (r ∷ rows) x h e =
     elim (by_test (test r)) [
-      | inl t ↦ let is : r ≡ x = (let g = rw t at e in cc) in rw (eq-eqb (key r) (key x) (ap key is)) (ap Some is)
-      | inr f ↦ let found : row_at key rows (key x) ≡ Some x = row_at-found key test rows x (IsDistinct-tail nat_eq (key r) (map key rows) h) (let g = rw f at e in g) in
+      | inl t ↦ let is : r ≡ x = (let g = rw t at e in cc) in
+          rw (eq-eqb (key r) (key x) (ap key is)) (ap Some is)
+      | inr f ↦ let found : row_at key rows (key x) ≡ Some x = row_at-found key test rows x
+          (IsDistinct-tail nat_eq (key r) (map key rows) h) (let g = rw f at e in g) in
           rw (apart key r rows x (IsDistinct-head nat_eq (key r) (map key rows) h) found) found
     ]
 

@@ -4,12 +4,16 @@ pub mod Verdicts
 pub mod Requests
 pub mod Looked
 pub mod Stepped
+pub mod NamedOpen
+pub mod NoBalance
+pub mod NumbersInARow
 pub mod Opened
 pub mod Totals
 pub mod BalanceLimits
 pub mod Consistent
 pub mod Alike
 pub mod Answering
+pub mod VerdictsStated
 pub mod AsStated
 pub mod Sequence
 pub mod Remaining

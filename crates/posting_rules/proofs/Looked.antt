@@ -30,8 +30,10 @@ pub teller_balances_shown : (t : Tables) (opened : ℕ → Option ℕ) (es : Lis
     → teller_balances_in t n ≡ cond (is_teller_open opened n)
     (Some (teller_balance es n, branch_balance es (branch_of_teller n))) None
 teller_balances_shown t opened es n s =
-    ap (λ o. both_of (option_map balance_of_teller o) (option_map balance_of_branch (row_at branch_key t.branches (branch_of_teller n)))) (s.tellers n)
-    ∙ ap (λ o. both_of (option_map balance_of_teller (teller_row opened es n)) (option_map balance_of_branch o)) (s.branches (branch_of_teller n))
+    ap (λ o. both_of (option_map balance_of_teller o)
+    (option_map balance_of_branch (row_at branch_key t.branches (branch_of_teller n)))) (s.tellers n)
+    ∙ ap (λ o. both_of (option_map balance_of_teller (teller_row opened es n))
+    (option_map balance_of_branch o)) (s.branches (branch_of_teller n))
     ∙ both_rows (leb 1 n) (opened (branch_of_teller n)) n (branch_of_teller n) (teller_balance es n)
     (branch_balance es (branch_of_teller n))
 
@@ -67,7 +69,8 @@ found_shown t opened es r new s =
   where
     made : (a a' : Option (ℤ × ℤ)) (k k' : Option KeptFields) (n n' : ℕ) (b b' : Option ℤ) → a ≡ a' → k ≡ k'
         → n ≡ n' → b ≡ b'
-        → (let f : Found = record { teller = a; kept = k; decided = n; account = b } in f) ≡ record { teller = a'; kept = k'; decided = n'; account = b' }
+        → (let f : Found = record { teller = a; kept = k; decided = n; account = b } in f) ≡
+        record { teller = a'; kept = k'; decided = n'; account = b' }
     made a a' k k' n n' b b' ea ek en eb = rw (ea, ek, en, eb) refl
 
 -- the balance that an account shows is its balance behind the log

@@ -89,7 +89,8 @@ ready_shown t log shows =
           ap is_some (s.tellers n)
           ∙ there (leb 1 n) (is_some (open_ (branch_of_teller n))) (teller_row_of n (teller_balance es n))
           (le-leb _ _ h)
-          ∙ sym (is_some-mapped (branch_row_of (branch_of_teller n) (branch_balance es (branch_of_teller n))) (open_ (branch_of_teller n)))
+          ∙ sym (is_some-mapped (branch_row_of (branch_of_teller n) (branch_balance es (branch_of_teller n)))
+          (open_ (branch_of_teller n)))
           ∙ sym (ap is_some (s.branches (branch_of_teller n)));
       its_accounts = λ n h.
           ap is_some (s.accounts n)

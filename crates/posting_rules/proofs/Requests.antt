@@ -131,9 +131,11 @@ row_is_kept (d ∷ es) o row h e =
       | inl t ↦ let is : request_row_of o d ≡ row = (let g = rw t at e in cc) in
           subst (λ (r : RequestRow). kept (d ∷ es) r.teller r.number ≡ Some r.kept) is
           (rw (pair_same d.request.teller d.request.number) refl)
-      | inr f ↦ let older : kept es row.teller row.number ≡ Some row.kept = row_is_kept es o row h.1 (let g = rw f at e in g) in
+      | inr f ↦ let older : kept es row.teller row.number ≡ Some row.kept = row_is_kept es o row h.1
+          (let g = rw f at e in g) in
           elim (by_test (has_pair row.teller row.number d)) [
-            | inl p ↦ let two = both_true (eqb d.request.teller row.teller) (eqb d.request.number row.number) p in
+            | inl p ↦ let two = both_true (eqb d.request.teller row.teller) (eqb d.request.number row.number)
+                p in
                 let t-is : d.request.teller ≡ row.teller = eqb-true _ _ two.0 in
                 let n-is : d.request.number ≡ row.number = eqb-true _ _ two.1 in
                 let none : kept es row.teller row.number ≡ None = rw (sym t-is, sym n-is) h.0 in

@@ -31,7 +31,8 @@ decided_same one two [] h eo ed = ed
 decided_same one two (Open b n ∷ cs) h eo ed = absurd h
 decided_same one two (Post m r ∷ cs) h eo ed =
     decided_same (Post m r ∷ one) (Post m r ∷ two) cs h eo
-    (ap (λ (o : ℕ → Option ℕ). with_record m (request_of r) o (decided one)) eo ∙ ap (λ (es : List Entry). with_record m (request_of r) (λ b. opened two b) es) ed)
+    (ap (λ (o : ℕ → Option ℕ). with_record m (request_of r) o (decided one)) eo
+    ∙ ap (λ (es : List Entry). with_record m (request_of r) (λ b. opened two b) es) ed)
 
 pub posts_both : (xs ys : List Command) → ArePosts xs → ArePosts ys → ArePosts (xs ++ ys)
 posts_both [] ys a b = b
@@ -126,7 +127,8 @@ shows_left_out t log p r f hp hr s shows =
     record {
       rows = subst (λ (es : List Entry). HasRows t (λ b. opened after b) es)
           (left_out log p [] r f hp tt hr s)
-          (subst (λ (o : ℕ → Option ℕ). HasRows t o (decided (behind (behind log p) r))) (all ∙ sym less) shows.rows);
+          (subst (λ (o : ℕ → Option ℕ). HasRows t o (decided (behind (behind log p) r))) (all ∙ sym less)
+          shows.rows);
     }
 
 -- ---- what is left are commands of the bank

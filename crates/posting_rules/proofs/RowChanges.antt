@@ -41,7 +41,8 @@ pub row_at-changed : {R : Type 0} (key : R → ℕ) (k : ℕ) (change : R → R)
     (row_at key rows n)
 row_at-changed key k change same [] n = refl
 row_at-changed key k change same (r ∷ rows) n =
-    ap (λ (j : ℕ). cond (eqb j n) (Some (changed_at key k change r)) (row_at key (row_changed key change k rows) n))
+    ap (λ (j : ℕ). cond (eqb j n) (Some (changed_at key k change r))
+    (row_at key (row_changed key change k rows) n))
     (key-changed_at key k change same r)
     ∙ elim (by_test (eqb (key r) n)) [
       | inl t ↦
@@ -125,7 +126,8 @@ keys-put key x (r ∷ rows) keys none =
           keys-put key x rows (IsDistinct-tail nat_eq (key r) (map key rows) keys)
           (let h = rw apart at none in h) in
           rw t (IsDistinct-cons nat_eq (key r) (map key (row_put key x rows)) behind rest)
-      | inr f ↦ rw f (IsDistinct-cons nat_eq (key x) (map key (r ∷ rows)) (free_apart key (r ∷ rows) (key x) none) keys)
+      | inr f ↦ rw f (IsDistinct-cons nat_eq (key x) (map key (r ∷ rows))
+          (free_apart key (r ∷ rows) (key x) none) keys)
     ]
 
 -- a row whose key was free is added
@@ -183,7 +185,8 @@ next_is_free key row first count old mid adds none = adds.rows (first + count) �
 pub rows_more : {R : Type 0} (key : R → ℕ) (row : ℕ → R) (first count : ℕ) (old mid new : List R)
     → ((n : ℕ) → key (row n) ≡ n)
     → AddsRows key row first count old mid → row_at key old (first + count) ≡ None
-    → (HasKeys key mid → row_at key mid (key (row (first + count))) ≡ None → AddsRow key (row (first + count)) mid new)
+    → (HasKeys key mid → row_at key mid (key (row (first + count))) ≡ None
+    → AddsRow key (row (first + count)) mid new)
     → AddsRows key row first (suc count) old new
 rows_more key row first count old mid new own before none adds =
     let free : row_at key mid (key (row (first + count))) ≡ None =

@@ -71,7 +71,8 @@ replies_one_more log m rs i before so_far after out lt inv is e =
     let replies = replies_to log (posts m (take i rs)) in
     e ∙ ap (λ (t : List (List ℕ)). t ++ out ∷ []) inv ∙ ap (λ (x : List ℕ). (before ++ replies) ++ x ∷ []) is
     ∙ append_assoc before replies (reply_spelling (reply now bytes) ∷ [])
-    ∙ ap (λ (t : List (List ℕ)). before ++ t) (sym (ap (replies_to log) (posts_one_more m rs i lt) ∙ replies_to-append log (posts m (take i rs)) (Post m bytes ∷ [])))
+    ∙ ap (λ (t : List (List ℕ)). before ++ t) (sym (ap (replies_to log) (posts_one_more m rs i lt)
+    ∙ replies_to-append log (posts m (take i rs)) (Post m bytes ∷ [])))
 
 -- posts get a reply each
 pub one_reply_each : (log cs : List Command) → ArePosts cs → length (replies_to log cs) ≡ length cs

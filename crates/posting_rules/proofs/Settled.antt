@@ -75,7 +75,10 @@ closed_case : (opened : ℕ → Option ℕ) (es : List Entry) (r : RequestFields
     → case_of (facts opened es r) r ≡ Unkept outcome.NoTeller
 unfolding case_of
 closed_case opened es r e =
-    ap (λ (b : Bool). teller_case (cond b (Some (teller_balance es r.teller, branch_balance es (branch_of_teller r.teller))) None) (facts opened es r) r) e
+    ap (λ (b : Bool). teller_case (cond b (Some (
+      teller_balance es r.teller,
+      branch_balance es (branch_of_teller r.teller),
+    )) None) (facts opened es r) r) e
 
 -- where it is open, what is kept decides
 open_case : (opened : ℕ → Option ℕ) (es : List Entry) (r : RequestFields)
@@ -85,7 +88,10 @@ open_case : (opened : ℕ → Option ℕ) (es : List Entry) (r : RequestFields)
     (branch_balance es (branch_of_teller r.teller))
 unfolding case_of
 open_case opened es r e =
-    ap (λ (b : Bool). teller_case (cond b (Some (teller_balance es r.teller, branch_balance es (branch_of_teller r.teller))) None) (facts opened es r) r) e
+    ap (λ (b : Bool). teller_case (cond b (Some (
+      teller_balance es r.teller,
+      branch_balance es (branch_of_teller r.teller),
+    )) None) (facts opened es r) r) e
 
 -- where a request is kept, it is a known one
 known_is : (opened : ℕ → Option ℕ) (es : List Entry) (r : RequestFields) (k : KeptFields)
@@ -93,7 +99,8 @@ known_is : (opened : ℕ → Option ℕ) (es : List Entry) (r : RequestFields) (
     → kept es r.teller r.number ≡ Some k → case_of (facts opened es r) r ≡ known_verdict k r
 known_is opened es r k e ek =
     open_case opened es r e
-    ∙ ap (λ (o : Option KeptFields). known_case o (facts opened es r) r (teller_balance es r.teller) (branch_balance es (branch_of_teller r.teller))) ek
+    ∙ ap (λ (o : Option KeptFields). known_case o (facts opened es r) r (teller_balance es r.teller)
+    (branch_balance es (branch_of_teller r.teller))) ek
 
 -- where none is kept, it is a new one
 new_is : (opened : ℕ → Option ℕ) (es : List Entry) (r : RequestFields) → is_teller_open opened r.teller ≡ true
@@ -102,7 +109,8 @@ new_is : (opened : ℕ → Option ℕ) (es : List Entry) (r : RequestFields) →
     (branch_balance es (branch_of_teller r.teller))
 new_is opened es r e ek =
     open_case opened es r e
-    ∙ ap (λ (o : Option KeptFields). known_case o (facts opened es r) r (teller_balance es r.teller) (branch_balance es (branch_of_teller r.teller))) ek
+    ∙ ap (λ (o : Option KeptFields). known_case o (facts opened es r) r (teller_balance es r.teller)
+    (branch_balance es (branch_of_teller r.teller))) ek
 
 full_is : (f : Found) (r : RequestFields) (t b : ℤ) → leb MAX_DECIDED f.decided ≡ true
     → new_case f r t b ≡ Unkept outcome.Full
@@ -172,7 +180,13 @@ settled_stays opened es r out m (Err e) h = h
 settled_stays opened es r out m (Ok x) (inl h) = inl h
 settled_stays opened es r out m (Ok x) (inr (inl h)) =
     let v = case_of (facts opened es x) x in
-    inr (inl (record { teller = h.teller; fields = h.fields; is_kept = kept_stays opened es x r h.fields m v (verdict_is opened es x) h.is_kept; is_reply = h.is_reply }))
+    inr (inl (record {
+      teller = h.teller;
+      fields = h.fields;
+      is_kept =
+          kept_stays opened es x r h.fields m v (verdict_is opened es x) h.is_kept;
+      is_reply = h.is_reply;
+    }))
 settled_stays opened es r out m (Ok x) (inr (inr h)) =
     let same = full_stays opened es x m (case_of (facts opened es x) x) (verdict_is opened es x) h.full in
     subst (λ (ds : List Entry). IsSettled opened ds r out) (sym same) (inr (inr h))
@@ -190,7 +204,13 @@ decided_now : (opened : ℕ → Option ℕ) (es : List Entry) (r : RequestFields
     → out ≡ record { outcome = o; request = Some r; balance = balance_shown o z }
     → IsSettled opened (record { moment = m; request = r; outcome = o; balance = z } ∷ es) r out
 decided_now opened es r m o z out teller_open is =
-    let k : KeptFields = record { account = r.account; branch = r.branch; delta = r.delta; outcome = o; balance = z } in
+    let k : KeptFields = record {
+      account = r.account;
+      branch = r.branch;
+      delta = r.delta;
+      outcome = o;
+      balance = z;
+    } in
     let account : eqb r.account r.account ≡ true = eq-eqb _ _ refl in
     let branch : eqb r.branch r.branch ≡ true = eq-eqb _ _ refl in
     let delta : int_eq r.delta r.delta ≡ true = int_eq_equiv.refl r.delta in
@@ -201,7 +221,8 @@ decided_now opened es r m o z out teller_open is =
       teller = teller_open;
       fields = k;
       is_kept = rw (teller, number) refl;
-      is_reply = is ∙ sym (ap (λ (b : Bool). reply_in (cond b (Again (kept_reply k r)) (Unkept outcome.ReusedNumber)) r) same);
+      is_reply = is ∙ sym (ap (λ (b : Bool). reply_in
+          (cond b (Again (kept_reply k r)) (Unkept outcome.ReusedNumber)) r) same);
     }))
 
 -- a request whose reply was settled before it
@@ -237,12 +258,22 @@ open_settles : (opened : ℕ → Option ℕ) (es : List Entry) (r : RequestField
     → (o : Option KeptFields) → kept es r.teller r.number ≡ o
     → IsSettled opened (with_record m (Ok r) opened es) r (reply_to (Ok r) opened es)
 open_settles opened es r m up (Some k) e =
-    unchanged opened es r m (inr (inl (record { teller = up; fields = k; is_kept = e; is_reply = ap (λ (v : Verdict). reply_in v r) (known_is opened es r k up e) })))
+    unchanged opened es r m (inr (inl (record {
+      teller = up;
+      fields = k;
+      is_kept = e;
+      is_reply = ap (λ (v : Verdict). reply_in v r) (known_is opened es r k up e);
+    })))
 open_settles opened es r m up None e =
     let f = facts opened es r in
     elim (by_test (leb MAX_DECIDED (length es))) [
       | inl full ↦ let is = new_is opened es r up e ∙ full_is f r _ _ full in
-          unchanged opened es r m (inr (inr (record { teller = up; none = e; full = full; is_reply = ap (λ (v : Verdict). reply_in v r) is })))
+          unchanged opened es r m (inr (inr (record {
+            teller = up;
+            none = e;
+            full = full;
+            is_reply = ap (λ (v : Verdict). reply_in v r) is;
+          })))
       | inr room ↦ subst (Settles opened es r m) (sym (new_is opened es r up e ∙ room_is f r _ _ room))
           (new_settles opened es r m (eqb r.branch (branch_of_teller r.teller)) f.account _ _ up)
     ]
@@ -252,7 +283,11 @@ settles : (opened : ℕ → Option ℕ) (es : List Entry) (r : RequestFields) (m
 settles opened es r m =
     elim (by_test (is_teller_open opened r.teller)) [
       | inl up ↦ open_settles opened es r m up (kept es r.teller r.number) refl
-      | inr closed ↦ unchanged opened es r m (inl (record { teller = closed; is_reply = ap (λ (v : Verdict). reply_in v r) (closed_case opened es r closed) }))
+      | inr closed ↦ unchanged opened es r m
+          (inl (record {
+            teller = closed;
+            is_reply = ap (λ (v : Verdict). reply_in v r) (closed_case opened es r closed);
+          }))
     ]
 
 -- ---- over logs
@@ -290,7 +325,8 @@ stays_behind log (Post m other ∷ after) bytes out posts h =
 -- a record that was posted gets the same reply from then on, and decides nothing
 pub again : (log after : List Command) (m later : ℕ) (bytes : List ℕ) → ArePosts after
     → (reply (behind (Post m bytes ∷ log) after) bytes ≡ reply log bytes)
-    × (decided (Post later bytes ∷ behind (Post m bytes ∷ log) after) ≡ decided (behind (Post m bytes ∷ log) after))
+    × (decided (Post later bytes ∷ behind (Post m bytes ∷ log) after) ≡
+    decided (behind (Post m bytes ∷ log) after))
 again log after m later bytes posts =
     let now = behind (Post m bytes ∷ log) after in
     let h = stays_behind (Post m bytes ∷ log) after bytes (reply log bytes) posts

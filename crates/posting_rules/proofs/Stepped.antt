@@ -165,7 +165,8 @@ posting_shown old new opened es m r a t b s h step =
           (option_map (λ row. cond (eqb home n) (with_branch_balance b row) row)) (s.branches n)
           ∙ branch_changed (opened n) (eqb home n) n b (branch_balance es n) r.delta
           (λ q. h.branch_is.sum ∙ ap (λ (x : ℕ). branch_balance es x +ℤ r.delta) (eqb-true _ _ q))
-          ∙ ap (λ (x : ℕ). option_map (branch_row_of n (cond (eqb x n) (branch_balance es n +ℤ r.delta) (branch_balance es n))) (opened n)) (sym h.its_branch);
+          ∙ ap (λ (x : ℕ). option_map (branch_row_of n (cond (eqb x n) (branch_balance es n +ℤ r.delta)
+          (branch_balance es n))) (opened n)) (sym h.its_branch);
       tellers = λ n. step.tellers.rows n ∙ ap
           (option_map (λ row. cond (eqb r.teller n) (with_teller_balance t row) row)) (s.tellers n)
           ∙ teller_changed (is_teller_open opened n) (eqb r.teller n) n t (teller_balance es n) r.delta
@@ -210,13 +211,19 @@ post_shown old new log m bytes r read s step =
     let after : HasRows new (λ b. opened log b) (with_verdict m r v es) =
     verdict_shown old new (λ b. opened log b) es m r v s.rows (verdict_is (λ b. opened log b) es r)
     (subst (λ (f : Found). IsStep old new (length es + 1) m r (case_of f r)) found step) in
-    record { rows = subst (λ (x : Result RequestFields Bad). HasRows new (λ b. opened log b) (with_record m x (λ b. opened log b) es)) (sym read) after }
+    record {
+      rows = subst (λ (x : Result RequestFields Bad). HasRows new (λ b. opened log b)
+          (with_record m x (λ b. opened log b) es)) (sym read) after;
+    }
 
 -- bytes that are no request change nothing
 pub malformed_shown : (t : Tables) (log : List Command) (m : ℕ) (bytes : List ℕ) (fault : Bad)
     → request_of bytes ≡ Err fault → Shows t log → Shows t (Post m bytes ∷ log)
 malformed_shown t log m bytes fault read s =
-    record { rows = subst (λ (x : Result RequestFields Bad). HasRows t (λ b. opened log b) (with_record m x (λ b. opened log b) (decided log))) (sym read) s.rows }
+    record {
+      rows = subst (λ (x : Result RequestFields Bad). HasRows t (λ b. opened log b)
+          (with_record m x (λ b. opened log b) (decided log))) (sym read) s.rows;
+    }
 
 -- the reply that the verdict on what was looked up tells
 pub reply_shown : (t : Tables) (log : List Command) (bytes : List ℕ) (r : RequestFields)

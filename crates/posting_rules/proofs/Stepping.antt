@@ -178,7 +178,8 @@ one_more_account first n t = refl
 -- while an opening puts its tellers in, the next of them is free
 pub opening_teller_is_free : (t : Tables) (b count n : ℕ) → AreSound t → 1 ≤ b
     → row_at branch_key t.branches b ≡ None → n < 10
-    → row_at teller_key (with_tellers (first_teller b) n (with_branch (branch_row_of b (pos 0) count) t)).tellers (first_teller b + n)
+    → row_at teller_key (with_tellers (first_teller b) n
+    (with_branch (branch_row_of b (pos 0) count) t)).tellers (first_teller b + n)
     ≡ None
 unfolding with_branch with_tellers
 opening_teller_is_free t b count n sound low none lt =

@@ -48,7 +48,8 @@ total_at key value test (r ∷ rows) k d keys some =
           let rest = total_elsewhere key value test rows k d none in
           let same : eqb k (key r) ≡ true = eq-eqb k (key r) (sym is) in
           elim (by_test (test k)) [
-            | inl t ↦ let u : test (key r) ≡ true = ap test is ∙ t in rw (u, same, t, rest) (add_last (value r) d (total (map value (filter (λ x. test (key x)) rows))))
+            | inl t ↦ let u : test (key r) ≡ true = ap test is ∙ t in rw (u, same, t, rest)
+                (add_last (value r) d (total (map value (filter (λ x. test (key x)) rows))))
             | inr f ↦ let u : test (key r) ≡ false = ap test is ∙ f in rw (u, f) rest
           ]
       | inr miss ↦
@@ -57,7 +58,8 @@ total_at key value test (r ∷ rows) k d keys some =
           (IsDistinct-tail nat_eq (key r) (map key rows) keys) some' in
           let other : eqb k (key r) ≡ false = flip (key r) k miss in
           elim (by_test (test (key r))) [
-            | inl t ↦ rw (t, other, rest) (over_cond (test k) (value r) d (total (map value (filter (λ x. test (key x)) rows))))
+            | inl t ↦ rw (t, other, rest)
+                (over_cond (test k) (value r) d (total (map value (filter (λ x. test (key x)) rows))))
             | inr f ↦ rw (f, rest) refl
           ]
     ]
@@ -71,7 +73,11 @@ total_at key value test (r ∷ rows) k d keys some =
     over_cond false v d rest = refl
 
     flip : (a b : ℕ) → eqb a b ≡ false → eqb b a ≡ false
-    flip a b h = elim (by_test (eqb b a)) [ inl t ↦ absurd (let e : a ≡ b = sym (eqb-true b a t) in let g : eqb a b ≡ true = eq-eqb a b e in cc) | inr f ↦ f ]
+    flip a b h = elim (by_test (eqb b a)) [
+      | inl t ↦ absurd (let e : a ≡ b = sym (eqb-true b a t) in
+          let g : eqb a b ≡ true = eq-eqb a b e in cc)
+      | inr f ↦ f
+    ]
 
 total_of_none : {R : Type 0} (rows : List R) → total (map (λ r. pos 0) rows) ≡ pos 0
 total_of_none [] = refl

@@ -27,7 +27,7 @@ use Rattle.posting_rules.specs.Damage.{IsSoundBranch, IsSoundTeller, IsSoundAcco
 use Rattle.posting_rules.specs.Damage.{IsSoundPosting, AreInRange, IsUndamaged}
 use Rattle.posting_rules.proofs.Keyed.{by_test}
 use Rattle.posting_rules.proofs.Verdicts.{when}
-use Rattle.posting_rules.proofs.Opened.{both, some_within}
+use Rattle.posting_rules.proofs.NamedOpen.{both, some_within}
 use Rattle.posting_rules.proofs.Ready.{ready_shown}
 use Rattle.posting_rules.proofs.Totals.{each_under_its_key}
 use Rattle.posting_rules.proofs.BalanceLimits.{stays_within}
@@ -38,7 +38,8 @@ pub row_at-contained : {R : Type 0} (key : R → ℕ) (rows : List R) (r : R) �
     → row_at key rows (key r) ≡ Some r
 row_at-contained {R} key rows r keys has =
     All-contains (λ (x : R). row_at key rows (key x) ≡ Some x) rows r
-    (All-from_recursion (λ (x : R). row_at key rows (key x) ≡ Some x) rows (each_under_its_key key rows keys)) has
+    (All-from_recursion (λ (x : R). row_at key rows (key x) ≡ Some x) rows
+    (each_under_its_key key rows keys)) has
 
 -- ---- branches, tellers and accounts
 
@@ -73,7 +74,11 @@ teller_sound opened n z r open_ limit e =
     let two = both (leb 1 n) (is_some (opened (branch_of_teller n))) is.0 in
     let home = number_within (opened (branch_of_teller n)) (branch_of_teller n)
     (open_ (branch_of_teller n)) two.1 in
-    subst IsSoundTeller is.1 (record { some = leb-true _ _ two.0; most = last_teller n home; balance = limit })
+    subst IsSoundTeller is.1 (record {
+      some = leb-true _ _ two.0;
+      most = last_teller n home;
+      balance = limit;
+    })
 
 -- the row of an open account
 account_sound : (opened : ℕ → Option ℕ) (n : ℕ) (z : ℤ) (r : AccountRow)
@@ -85,7 +90,11 @@ account_sound opened n z r open_ limit e =
     let some = some_within (place_of_account n) (opened (branch_of_account n)) two.1 in
     let home = number_within (opened (branch_of_account n)) (branch_of_account n)
     (open_ (branch_of_account n)) some in
-    subst IsSoundAccount is.1 (record { some = leb-true _ _ two.0; most = last_account n home; balance = limit })
+    subst IsSoundAccount is.1 (record {
+      some = leb-true _ _ two.0;
+      most = last_account n home;
+      balance = limit;
+    })
 
 -- ---- requests and history
 

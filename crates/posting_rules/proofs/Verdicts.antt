@@ -78,7 +78,8 @@ module _ (P : Verdict → Type 0) where
 
   pub by_new : (f : Found) (r : RequestFields) (t b : ℤ) → P (Unkept outcome.Full)
       → (f.decided < MAX_DECIDED → P (Refused outcome.WrongBranch))
-      → (f.decided < MAX_DECIDED → r.branch ≡ branch_of_teller r.teller → P (account_case f.account t b r.delta)) → P (new_case f r t b)
+      → (f.decided < MAX_DECIDED → r.branch ≡ branch_of_teller r.teller
+      → P (account_case f.account t b r.delta)) → P (new_case f r t b)
   by_new f r t b full wrong right =
       elim (by_test (leb MAX_DECIDED f.decided)) [
         | inl h ↦ rw h full
@@ -112,7 +113,8 @@ verdict_is opened es r =
     by_known P f.kept f r z.0 z.1 tt (λ a. tt) (λ new.
     by_new P f r z.0 z.1 tt (λ room. record { new = new; room = room; unposted = refl }) (λ room its.
     by_account P f.account z.0 z.1 r.delta (record { new = new; room = room; unposted = refl }) (λ a accounts.
-    by_posting P (plus_within a r.delta) (plus_within z.0 r.delta) (plus_within z.1 r.delta) (record { new = new; room = room; unposted = refl }) (λ x y w ex ey ew.
+    by_posting P (plus_within a r.delta) (plus_within z.0 r.delta) (plus_within z.1 r.delta)
+    (record { new = new; room = room; unposted = refl }) (λ x y w ex ey ew.
     let open_t = when (is_teller_open opened r.teller)
     (teller_balance es r.teller, branch_balance es (branch_of_teller r.teller)) z tellers in
     let open_a = when (is_account_open opened r.account) (account_balance es r.account) a accounts in

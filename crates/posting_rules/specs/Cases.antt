@@ -62,7 +62,11 @@ abbrev pub reply_in : Verdict → RequestFields → ReplyFields
 reply_in (Unkept outcome) r = record { outcome = outcome; request = Some r; balance = None }
 reply_in (Again reply) r = reply
 reply_in (Refused outcome) r = record { outcome = outcome; request = Some r; balance = None }
-reply_in (Posted account teller branch) r = record { outcome = outcome.Posted; request = Some r; balance = Some account }
+reply_in (Posted account teller branch) r = record {
+  outcome = outcome.Posted;
+  request = Some r;
+  balance = Some account;
+}
 
 -- an outcome that isn't kept, and one that is kept without a posting
 abbrev pub is_unkept : Outcome → Bool

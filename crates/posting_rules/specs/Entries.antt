@@ -30,7 +30,8 @@ is_posted e = has_balance e.outcome
 -- the sum of what was posted by the requests that pass a test
 abbrev pub posted_sum : (RequestFields → Bool) → List Entry → ℤ
 posted_sum test [] = pos 0
-posted_sum test (e ∷ es) = if (is_posted e && test e.request) then posted_sum test es +ℤ e.request.delta else posted_sum test es
+posted_sum test (e ∷ es) = if (is_posted e && test e.request) then posted_sum test es +ℤ e.request.delta
+    else posted_sum test es
 
 -- the balance of an account, a teller and a branch: all that was posted to it (TPC-B 1.2)
 abbrev pub account_balance : List Entry → ℕ → ℤ
@@ -43,7 +44,13 @@ abbrev pub branch_balance : List Entry → ℕ → ℤ
 branch_balance es b = posted_sum (λ r. r.branch == b) es
 
 abbrev pub kept_fields : Entry → KeptFields
-kept_fields e = record { account = e.request.account; branch = e.request.branch; delta = e.request.delta; outcome = e.outcome; balance = e.balance }
+kept_fields e = record {
+  account = e.request.account;
+  branch = e.request.branch;
+  delta = e.request.delta;
+  outcome = e.outcome;
+  balance = e.balance;
+}
 
 -- the request that is kept under a teller and a number
 abbrev pub kept : List Entry → ℕ → ℕ → Option KeptFields
@@ -63,7 +70,12 @@ abbrev pub refused_entry : ℕ → RequestFields → Outcome → Entry
 refused_entry moment r outcome = record { moment = moment; request = r; outcome = outcome; balance = pos 0 }
 
 abbrev pub posted_entry : ℕ → RequestFields → ℤ → Entry
-posted_entry moment r balance = record { moment = moment; request = r; outcome = outcome.Posted; balance = balance }
+posted_entry moment r balance = record {
+  moment = moment;
+  request = r;
+  outcome = outcome.Posted;
+  balance = balance;
+}
 
 -- the decided requests, with this one where it is decided now
 abbrev pub with_verdict : ℕ → RequestFields → Verdict → List Entry → List Entry

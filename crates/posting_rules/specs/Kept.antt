@@ -29,4 +29,10 @@ is_kept_with outcome balance = is_kept outcome && (has_balance outcome || int_eq
 -- the kept request of these fields, where they belong together
 abbrev pub kept_from : ℕ → ℕ → ℤ → Outcome → ℤ → Option KeptFields
 kept_from account branch delta outcome balance =
-    if is_kept_with outcome balance then Some (record { account = account; branch = branch; delta = delta; outcome = outcome; balance = balance }) else None
+    if is_kept_with outcome balance then Some (record {
+      account = account;
+      branch = branch;
+      delta = delta;
+      outcome = outcome;
+      balance = balance;
+    }) else None

@@ -49,7 +49,11 @@ pub record AddsEntry (before : List Command) (moment : ℕ) (bytes : List ℕ) (
   pub of_request : e.request ≡ r
   pub posted : (is_posted e ≡ true) ↔ IsPosted before r
   -- its outcome and balance are those of the reply, and the balance is zero where the reply has none
-  pub replied : reply before bytes ≡ record { outcome = e.outcome; request = Some r; balance = balance_shown e.outcome e.balance }
+  pub replied : reply before bytes ≡ record {
+    outcome = e.outcome;
+    request = Some r;
+    balance = balance_shown e.outcome e.balance;
+  }
   pub unposted : (IsPosted before r → ⊥) → e.balance ≡ pos 0
 
 pub record DecidesAsStated (before : List Command) (moment : ℕ) (bytes : List ℕ) : Type 0 where
@@ -76,7 +80,11 @@ pub record RepliesAsStated (before : List Command) (bytes : List ℕ) : Type 0 w
       → reply before bytes ≡ refusal outcome.NoTeller r
   pub again : (r : RequestFields) (k : KeptFields) → Names before bytes r
       → kept (decided before) r.teller r.number ≡ Some k → HasContent k r
-      → reply before bytes ≡ record { outcome = k.outcome; request = Some r; balance = balance_shown k.outcome k.balance }
+      → reply before bytes ≡ record {
+        outcome = k.outcome;
+        request = Some r;
+        balance = balance_shown k.outcome k.balance;
+      }
   pub reused_number : (r : RequestFields) (k : KeptFields) → Names before bytes r
       → kept (decided before) r.teller r.number ≡ Some k → (HasContent k r → ⊥)
       → reply before bytes ≡ refusal outcome.ReusedNumber r
@@ -92,7 +100,11 @@ pub record RepliesAsStated (before : List Command) (bytes : List ℕ) : Type 0 w
       → is_account_open (λ b. opened before b) r.account ≡ true
       → (IsPosted before r → ⊥) → reply before bytes ≡ refusal outcome.OverLimit r
   pub posted : (r : RequestFields) → IsDecided before bytes r → IsPosted before r
-      → reply before bytes ≡ record { outcome = outcome.Posted; request = Some r; balance = Some (account_balance (decided before) r.account +ℤ r.delta) }
+      → reply before bytes ≡ record {
+        outcome = outcome.Posted;
+        request = Some r;
+        balance = Some (account_balance (decided before) r.account +ℤ r.delta);
+      }
 
 -- of every record behind every log
 abbrev pub DecidedAsStated : Type 0

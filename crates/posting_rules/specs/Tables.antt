@@ -68,7 +68,12 @@ account_row opened es a = if is_account_open opened a then Some
 
 -- a decided request stands under its ordinal: how many were decided with it
 abbrev pub request_row_of : ℕ → Entry → RequestRow
-request_row_of ordinal e = record { ordinal = ordinal; teller = e.request.teller; number = e.request.number; kept = kept_fields e }
+request_row_of ordinal e = record {
+  ordinal = ordinal;
+  teller = e.request.teller;
+  number = e.request.number;
+  kept = kept_fields e;
+}
 
 abbrev pub request_row : List Entry → ℕ → Option RequestRow
 request_row [] o = None

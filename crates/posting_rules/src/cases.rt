@@ -7,7 +7,9 @@ use crate::facts::{Found, Verdict};
 use crate::limits::{MAX_DECIDED, TELLERS_PER_BRANCH};
 use message_records::{Cents, Outcome, Reply, Request, Teller};
 
-/// The number of the branch that a teller's number gives.
+/// The number of the branch that a teller's number gives: the first `TELLERS_PER_BRANCH` tellers are those of
+/// branch 1, and so on. It may be beyond `LAST_BRANCH`.
+#[must_use]
 pub fn branch_of_teller(teller: Teller) -> u64
     ensures { result ≡ branch_of_teller teller }
 {
@@ -21,8 +23,8 @@ fn plus(balance: Cents, delta: Cents) -> Option<Cents>
     Cents::new(balance.get() + delta.get())
 }
 
-/// What becomes of a request: the first case that applies, in the order of the tests here. It takes no
-/// memory.
+/// What becomes of a request (TPC-B 1.2): the first case that applies, in the order of the tests here. It
+/// takes no memory.
 #[tactic(auto, unfolding(crate::specs::Cases::case_of))]
 pub fn judge(found: &Found, request: &Request) -> Verdict
     requires { found.now.decided ≤ MAX_DECIDED }
@@ -63,7 +65,8 @@ pub fn judge(found: &Found, request: &Request) -> Verdict
     }
 }
 
-/// The reply that tells a verdict.
+/// The reply that tells a verdict. A posting is told with the account's new balance.
+#[must_use]
 pub fn reply_to(found: &Found, request: &Request, verdict: &Verdict) -> Reply
     requires { IsProper found.now verdict.now }
     ensures { result ≡ reply_in verdict.now request.now }

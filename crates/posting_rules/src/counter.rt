@@ -33,6 +33,7 @@ pub struct BranchLine {
     pub branch: Branch,
     /// How many accounts it has: 1..=100,000.
     pub accounts: u32,
+    /// Its balance in cents.
     pub balance: Cents,
 }
 
@@ -52,6 +53,11 @@ impl From<BranchRow> for BranchLine {
 
 /// A counter of the bank. What it answers is said by the log of commands that its tables show: it holds of
 /// every log that they show, wherever the disk is honest.
+///
+/// What stands after a fault is the same of every call. After `Memory` nothing has changed, and the counter
+/// can be used. After `Store`, `Down` and `Damaged` it is down, and every later call answers `Down`. After
+/// `Store` what is found is what stood before, with a beginning of the call's commands behind it; after
+/// `Damaged` no row has changed.
 pub trait Counter {
     /// Its tables, whether it is down, what a stop at this moment may leave, and whether the disk is honest.
     ghost seen: { Self → Seen };
@@ -59,16 +65,21 @@ pub trait Counter {
     /// All that it keeps, whether or not that is a bank: of a bank in a file its whole database.
     ghost Contents: { Type 0 };
 
+    /// What it keeps at this moment. Damage leaves it.
     ghost contents: { Self → Contents };
 
-    /// Submits the 100 bytes of a record, and answers the 200 bytes of the reply.
+    /// Submits the 100 bytes of a record, and answers the 200 bytes of the reply (TPC-B 1.2). Bytes that are
+    /// no request get the reply `Malformed`.
     fn submit(&mut self, moment: Moment, bytes: &[u8; 100]) -> Result<[u8; 200], Fault>
-        ensures reply { IfOk result (λ out. (seen self.new).honest → (log : List Command) → ShowsLog (seen self.old) log →
-            out ≡ reply_spelling (reply log bytes.now)) }
+        ensures reply { IfOk result (λ out. (seen self.new).honest
+            → (log : List Command) → ShowsLog (seen self.old) log
+            → out ≡ reply_spelling (reply log bytes.now)) }
         ensures done { OnOk result (Takes (seen self.old) (seen self.new) (Post moment bytes.now ∷ [])) }
         ensures up { OnOk result ((seen self.new).is_down → ⊥) }
-        ensures fault { IfErr result (λ fault. Refuses fault (seen self.old) (seen self.new) (Post moment bytes.now ∷ [])) }
-        ensures kept { IfErr result (λ fault. TellsDamage fault → (seen self.new).honest → contents self.new ≡ contents self.old) }
+        ensures fault { IfErr result
+            (λ fault. Refuses fault (seen self.old) (seen self.new) (Post moment bytes.now ∷ [])) }
+        ensures kept { IfErr result (λ fault. TellsDamage fault → (seen self.new).honest
+            → contents self.new ≡ contents self.old) }
         ensures down { (seen self.old).is_down → IsErrOf result Fault.Down }
         ensures honest { (seen self.new).honest → (seen self.old).honest };
 
@@ -79,42 +90,52 @@ pub trait Counter {
         requires some { 1 ≤ length records.now }
         requires few { length records.now ≤ RECORDS_PER_BATCH }
         ensures count { IfOk result (λ replies. length replies.items ≡ length records.now) }
-        ensures replies { IfOk result (λ replies. (seen self.new).honest → (log : List Command) → ShowsLog (seen self.old) log →
-            replies.items ≡ replies_to log (posts moment records.now)) }
+        ensures replies { IfOk result (λ replies. (seen self.new).honest
+            → (log : List Command) → ShowsLog (seen self.old) log
+            → replies.items ≡ replies_to log (posts moment records.now)) }
         ensures done { OnOk result (Takes (seen self.old) (seen self.new) (posts moment records.now)) }
         ensures up { OnOk result ((seen self.new).is_down → ⊥) }
-        ensures fault { IfErr result (λ fault. Refuses fault (seen self.old) (seen self.new) (posts moment records.now)) }
-        ensures kept { IfErr result (λ fault. TellsDamage fault → (seen self.new).honest → contents self.new ≡ contents self.old) }
+        ensures fault { IfErr result
+            (λ fault. Refuses fault (seen self.old) (seen self.new) (posts moment records.now)) }
+        ensures kept { IfErr result (λ fault. TellsDamage fault → (seen self.new).honest
+            → contents self.new ≡ contents self.old) }
         ensures down { (seen self.old).is_down → IsErrOf result Fault.Down }
         ensures honest { (seen self.new).honest → (seen self.old).honest };
 
-    /// Opens a branch of 1 to `LAST_BRANCH`, its tellers, and 1 to `MOST_ACCOUNTS` accounts.
+    /// Opens a branch of 1 to `LAST_BRANCH`, its tellers, and 1 to `MOST_ACCOUNTS` accounts, all with a
+    /// balance of zero. A branch that is open stays as it is.
     fn open_branch(&mut self, branch: Branch, count: u32) -> Result<Opening, Fault>
         requires branch { branch ≤ LAST_BRANCH }
         requires some { 1 ≤ count }
         requires few { count ≤ MOST_ACCOUNTS }
-        ensures answer { IfOk result (λ opening. (seen self.new).honest → (log : List Command) → ShowsLog (seen self.old) log →
-            opening ≡ opening_behind log branch count) }
+        ensures answer { IfOk result (λ opening. (seen self.new).honest
+            → (log : List Command) → ShowsLog (seen self.old) log
+            → opening ≡ opening_behind log branch count) }
         ensures done { OnOk result (Takes (seen self.old) (seen self.new) (Open branch count ∷ [])) }
         ensures up { OnOk result ((seen self.new).is_down → ⊥) }
-        ensures fault { IfErr result (λ fault. Refuses fault (seen self.old) (seen self.new) (Open branch count ∷ [])) }
-        ensures kept { IfErr result (λ fault. TellsDamage fault → (seen self.new).honest → contents self.new ≡ contents self.old) }
+        ensures fault { IfErr result
+            (λ fault. Refuses fault (seen self.old) (seen self.new) (Open branch count ∷ [])) }
+        ensures kept { IfErr result (λ fault. TellsDamage fault → (seen self.new).honest
+            → contents self.new ≡ contents self.old) }
         ensures down { (seen self.old).is_down → IsErrOf result Fault.Down }
         ensures honest { (seen self.new).honest → (seen self.old).honest };
 
-    /// The balance of an account, none where it isn't open. It changes nothing.
+    /// The balance of an account in cents; none where it isn't open. It changes nothing.
     fn balance(&mut self, account: Account) -> Result<Option<Cents>, Fault>
-        ensures value { IfOk result (λ balance. (seen self.new).honest → (log : List Command) → ShowsLog (seen self.old) log →
-            balance ≡ balance_behind log account) }
+        ensures value { IfOk result (λ balance. (seen self.new).honest
+            → (log : List Command) → ShowsLog (seen self.old) log
+            → balance ≡ balance_behind log account) }
         ensures done { OnOk result (Takes (seen self.old) (seen self.new) []) }
-        ensures tables { OnOk result ((seen self.new).honest → (t : Tables) → (seen self.old).tables t → (seen self.new).tables t) }
+        ensures tables { OnOk result ((seen self.new).honest → (t : Tables) → (seen self.old).tables t
+            → (seen self.new).tables t) }
         ensures up { OnOk result ((seen self.new).is_down → ⊥) }
         ensures fault { IfErr result (λ fault. Refuses fault (seen self.old) (seen self.new) []) }
-        ensures kept { IfErr result (λ fault. TellsDamage fault → (seen self.new).honest → contents self.new ≡ contents self.old) }
+        ensures kept { IfErr result (λ fault. TellsDamage fault → (seen self.new).honest
+            → contents self.new ≡ contents self.old) }
         ensures down { (seen self.old).is_down → IsErrOf result Fault.Down }
         ensures honest { (seen self.new).honest → (seen self.old).honest };
 
-    /// The open branch with the least number above this one, none where no such branch is open. It changes
+    /// The open branch with the least number above this one; none where no such branch is open. It changes
     /// nothing. Whatever the tables hold, a branch that it answers is above this one, and its number and
     /// its count are in their ranges.
     fn next_branch(&mut self, after: u32) -> Result<Option<BranchLine>, Fault>
@@ -126,7 +147,8 @@ pub trait Counter {
             → (t : Tables) → (seen self.old).tables t → (seen self.new).tables t) }
         ensures up { OnOk result ((seen self.new).is_down → ⊥) }
         ensures fault { IfErr result (λ fault. Refuses fault (seen self.old) (seen self.new) []) }
-        ensures kept { IfErr result (λ fault. TellsDamage fault → (seen self.new).honest → contents self.new ≡ contents self.old) }
+        ensures kept { IfErr result (λ fault. TellsDamage fault → (seen self.new).honest
+            → contents self.new ≡ contents self.old) }
         ensures down { (seen self.old).is_down → IsErrOf result Fault.Down }
         ensures honest { (seen self.new).honest → (seen self.old).honest };
 

@@ -5,7 +5,8 @@ ghost use Rattle.posting_rules.specs.Kept.{kept_from};
 use message_records::{Account, Branch, Cents, Outcome, Reply, Request};
 use std::marker::Model;
 
-/// What is kept of a decided request, under its teller and number.
+/// What is kept of a decided request, under its teller and number. The same request gets the same reply by
+/// it.
 #[derive(Clone, Copy, Debug, PartialEq, Eq)]
 pub struct Kept {
     account: Account,
@@ -21,11 +22,23 @@ impl Model for Kept {
 
     ghost Value = { KeptFields };
 
-    ghost view = { λ k. record { account = k.account; branch = k.branch; delta = k.delta; outcome = k.outcome; balance = k.balance } };
+    ghost view = { λ k. record {
+      account = k.account;
+      branch = k.branch;
+      delta = k.delta;
+      outcome = k.outcome;
+      balance = k.balance;
+    } };
 
     ghost invariant = { λ k. IsTrue (is_kept_with k.outcome k.balance) };
 
-    ghost inverse = { λ k. record { account = k.account; branch = k.branch; delta = k.delta; outcome = k.outcome; balance = k.balance } };
+    ghost inverse = { λ k. record {
+      account = k.account;
+      branch = k.branch;
+      delta = k.delta;
+      outcome = k.outcome;
+      balance = k.balance;
+    } };
 }
 
 impl Kept {
@@ -33,8 +46,10 @@ impl Kept {
     ghost use Rattle.posting_rules.specs.Kept.{is_kept_with};
     ghost use Rattle.posting_rules.specs.Cases.{is_same, kept_reply};
 
-    /// The kept request of these fields, none for an outcome that isn't kept, and none for a balance other
-    /// than zero where the request wasn't posted.
+    /// The kept request of these fields; none for an outcome that isn't kept, and none for a balance other
+    /// than zero where the request wasn't posted. `Posted`, `WrongBranch`, `NoAccount` and `OverLimit` are
+    /// kept.
+    #[must_use]
     pub fn new(
         account: Account,
         branch: Branch,
@@ -62,24 +77,32 @@ impl Kept {
         }
     }
 
+    /// The account that the request named.
+    #[must_use]
     pub fn account(&self) -> Account
         ensures { result ≡ self.now.account }
     {
         self.account
     }
 
+    /// The branch that the request stated.
+    #[must_use]
     pub fn branch(&self) -> Branch
         ensures { result ≡ self.now.branch }
     {
         self.branch
     }
 
+    /// The amount of the request, in cents.
+    #[must_use]
     pub fn delta(&self) -> Cents
         ensures { result ≡ self.now.delta }
     {
         self.delta
     }
 
+    /// What became of it.
+    #[must_use]
     pub fn outcome(&self) -> Outcome
         ensures value { result ≡ self.now.outcome }
         ensures belongs { IsTrue (is_kept_with self.now.outcome self.now.balance) }
@@ -87,6 +110,8 @@ impl Kept {
         self.outcome
     }
 
+    /// The account's balance in cents behind the posting, and zero where there was none.
+    #[must_use]
     pub fn balance(&self) -> Cents
         ensures { result ≡ self.now.balance }
     {
@@ -118,18 +143,20 @@ impl Kept {
 /// What is looked up for a request.
 #[derive(Clone, Copy, Debug, PartialEq, Eq)]
 pub struct Found {
-    /// The balances of the teller and of the branch that its number gives, where the teller is open.
+    /// The balances of the teller and of the branch that its number gives, in cents, where the teller is
+    /// open.
     pub teller: Option<(Cents, Cents)>,
     /// The request that is kept under the teller and the number.
     pub kept: Option<Kept>,
-    /// How many requests are decided.
+    /// How many requests are decided: 0..=`MAX_DECIDED`.
     pub decided: u64,
-    /// The balance of the account, where it is open.
+    /// The balance of the account in cents, where it is open.
     pub account: Option<Cents>,
 }
 
-/// What becomes of a request.
+/// What becomes of a request, and what is to be done to the tables.
 #[derive(Clone, Copy, Debug, PartialEq, Eq)]
+#[must_use]
 pub enum Verdict {
     /// It is refused, and leaves no trace: `NoTeller`, `ReusedNumber` or `Full`.
     Unkept(Outcome),
@@ -137,10 +164,13 @@ pub enum Verdict {
     Again(Reply),
     /// It is refused, and kept: `WrongBranch`, `NoAccount` or `OverLimit`.
     Refused(Outcome),
-    /// It is posted; these are the new balances of the account, of the teller and of the branch.
+    /// It is posted; these are the new balances, in cents.
     Posted {
+        /// That of the account.
         account: Cents,
+        /// That of the teller.
         teller: Cents,
+        /// That of the branch.
         branch: Cents,
     },
 }

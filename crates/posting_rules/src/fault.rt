@@ -26,7 +26,8 @@ pub enum Rule {
 }
 
 impl Rule {
-    /// The number of the rule, from 1 on.
+    /// The number of the rule: 1..=7.
+    #[must_use]
     pub fn number(self) -> u8
         ensures { result ≡ number_of_rule self }
     {
@@ -55,6 +56,7 @@ pub enum Fault {
     Damaged(Rule),
 }
 
+/// A text of a line, as `store fault` and `damaged rule 3`.
 impl fmt::Display for Fault {
     ghost use Rattle.std.specs.Prelude.{Some};
     ghost use Rattle.posting_rules.specs.Rules.{fault_text};

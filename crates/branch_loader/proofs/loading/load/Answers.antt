@@ -24,15 +24,18 @@ loop-row-preserved g c =
     let more : take (i + 1) rows ≡ take i rows ++ p ∷ [] = take_more rows i p (omega arith) ∙ rw
     (← c.row-item.is) refl in
     rw (more, c.with_answer-loaded.ensures)
-    (behind-more g.C.Counter.seen c.args.counter.now c.loop-row.counter c.open_branch.new.self (take i rows) p c.loop-row.loaded
+    (behind-more g.C.Counter.seen c.args.counter.now c.loop-row.counter c.open_branch.new.self (take i rows)
+    p c.loop-row.loaded
     c.in_ok-opening.opening c.loop-row.invariant c.in_ok-opening.ensures.done c.in_ok-opening.ensures.answer
-    (λ down. cc (c.in_ok-opening.ensures.down down)) c.in_ok-opening.ensures.up c.in_ok-opening.ensures.honest)
+    (λ down. cc (c.in_ok-opening.ensures.down down)) c.in_ok-opening.ensures.up
+    c.in_ok-opening.ensures.honest)
 
 pub returns-in_err-opening-clause-fault : goal.returns-in_err-opening-clause-fault
 returns-in_err-opening-clause-fault g c =
     let rows = c.rows-row-items.result.now in
     let refused =
-    behind-refused g.C.Counter.seen c.args.counter.now c.loop-row.counter c.open_branch.new.self rows c.loop-row.row-index
+    behind-refused g.C.Counter.seen c.args.counter.now c.loop-row.counter c.open_branch.new.self rows
+    c.loop-row.row-index
     c.row-item.result c.loop-row.loaded c.in_err-opening.field-0.0 c.loop-row.invariant
     (omega arith) c.row-item.is
     c.in_err-opening.ensures.fault c.in_err-opening.ensures.honest
@@ -42,5 +45,6 @@ returns-in_err-opening-clause-fault g c =
 
 pub returns-clause-stop : goal.returns-clause-stop
 returns-clause-stop g c =
-    left-end g.C.Counter.seen c.args.counter.now c.loop-row.counter c.rows-row-items.result.now c.args.plan.now c.loop-row.row-index c.loop-row.loaded
+    left-end g.C.Counter.seen c.args.counter.now c.loop-row.counter c.rows-row-items.result.now
+    c.args.plan.now c.loop-row.row-index c.loop-row.loaded
     c.loop-row.invariant c.loop-row-test.false c.rows-row-items.ensures.rows

@@ -9,8 +9,16 @@ returns-in-Ok-clause-found g c some =
 
 pub returns-in-Io-clause-fault : goal.returns-in-Io-clause-fault
 returns-in-Io-clause-fault g c =
-    inl (refl, failed_last IsSourceFailure c.next.result c.in-Err.error c.into_kind.result _ c.in-Err.is c.into_kind.ensures c.in-Io.is tt c.next.ensures.tells)
+    inl (
+      refl,
+      failed_last IsSourceFailure c.next.result c.in-Err.error c.into_kind.result _ c.in-Err.is
+          c.into_kind.ensures c.in-Io.is tt c.next.ensures.tells,
+    )
 
 pub returns-in-OutOfMemory-clause-fault : goal.returns-in-OutOfMemory-clause-fault
 returns-in-OutOfMemory-clause-fault g c =
-    inr (refl, failed_last IsWantOfMemory c.next.result c.in-Err.error c.into_kind.result _ c.in-Err.is c.into_kind.ensures c.in-OutOfMemory.is tt c.next.ensures.tells)
+    inr (
+      refl,
+      failed_last IsWantOfMemory c.next.result c.in-Err.error c.into_kind.result _ c.in-Err.is
+          c.into_kind.ensures c.in-OutOfMemory.is tt c.next.ensures.tells,
+    )

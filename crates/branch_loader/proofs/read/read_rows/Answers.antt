@@ -21,7 +21,8 @@ returns-then-not-branch-clause-plan g c all left =
 pub returns-then-not-is_header-clause-plan : goal.returns-then-not-is_header-clause-plan
 returns-then-not-is_header-clause-plan g c all left =
     let (rest, first, after) = rw c.if-not-branch.false at (c.in_ok-next_record.ensures.takes all left) in
-    rw first (plan-no_header (fields_of c.next_record.new.fields) rest (sym c.is_header.ensures ∙ c.if-not-is_header.true))
+    rw first (plan-no_header (fields_of c.next_record.new.fields) rest (sym c.is_header.ensures
+    ∙ c.if-not-is_header.true))
 
 pub rows-init : goal.rows-init
 rows-init g c = record {
@@ -50,7 +51,8 @@ rows-smaller g c =
 pub returns-in_err-row-clause-plan : goal.returns-in_err-row-clause-plan
 returns-in_err-row-clause-plan g c all left =
     let inv = c.rows.invariant.states all left in
-    let fault = took-fault (g.S.RecordSource.has_left c.next_record-in-rows.new.source) c.in_ok-next_record-2.field-0
+    let fault = took-fault (g.S.RecordSource.has_left c.next_record-in-rows.new.source)
+    c.in_ok-next_record-2.field-0
     (fields_of c.next_record-in-rows.new.fields) inv.0 c.rows.rows.items c.in_err-row.field-0.0
     (plan_of_records all)
     (c.in_ok-next_record-2.ensures.takes inv.0 inv.1) c.if-branch.true inv.2
@@ -61,19 +63,24 @@ returns-in_err-row-clause-plan g c all left =
 pub returns-in_err-row-clause-told : goal.returns-in_err-row-clause-told
 returns-in_err-row-clause-told g c =
     let p = err_from_is_err_and c.from_residual-in_err-row.result c.from_residual-in_err-row.ensures.1 in
-    rw (p.1, p.2) (row_told c.rows.rows.items (fields_of c.next_record-in-rows.new.fields) c.in_err-row.field-0.0 _ _
+    rw (p.1, p.2) (row_told c.rows.rows.items (fields_of c.next_record-in-rows.new.fields)
+    c.in_err-row.field-0.0 _ _
     (sym (rw c.as_slice.ensures.value at c.in_err-row.ensures)))
 
 pub returns-in_err-next_record-2-clause-told : goal.returns-in_err-next_record-2-clause-told
 returns-in_err-next_record-2-clause-told g c =
-    let p = err_from_is_err_and c.from_residual-in_err-next_record-2.result c.from_residual-in_err-next_record-2.ensures.1 in
-    rw (p.1, p.2) (fault_told _ _ _ c.in_err-next_record-2.field-0.0 c.in_err-next_record-2.ensures.fault c.rows.invariant.more)
+    let p = err_from_is_err_and c.from_residual-in_err-next_record-2.result
+    c.from_residual-in_err-next_record-2.ensures.1 in
+    rw (p.1, p.2) (fault_told _ _ _ c.in_err-next_record-2.field-0.0 c.in_err-next_record-2.ensures.fault
+    c.rows.invariant.more)
 
 pub returns-in_err-map_err-clause-told : goal.returns-in_err-map_err-clause-told
 returns-in_err-map_err-clause-told g c =
     let refused : c.in_err-map_err.field-0.0 ≡ Memory = search rules in
-    let p = err_from_is_err_and c.from_residual-in_err-map_err.result c.from_residual-in_err-map_err.ensures.1 in
-    rw (p.1, p.2, refused) (inr (more_last IsRecord c.rows.invariant.more (c.in_ok-next_record-2.ensures.found c.if-branch.true)))
+    let p = err_from_is_err_and c.from_residual-in_err-map_err.result
+    c.from_residual-in_err-map_err.ensures.1 in
+    rw (p.1, p.2, refused) (inr (more_last IsRecord c.rows.invariant.more
+    (c.in_ok-next_record-2.ensures.found c.if-branch.true)))
 
 pub rows-preserved : goal.rows-preserved
 rows-preserved g c =
@@ -85,7 +92,8 @@ rows-preserved g c =
       more = more_more c.rows.invariant.more
           (last_some IsRecord (c.in_ok-next_record-2.ensures.found c.if-branch.true));
       plan = rw items
-          (fields-more c.rows.rows.items (fields_of c.next_record-in-rows.new.fields) c.in_ok-row.row c.rows.invariant.plan row);
+          (fields-more c.rows.rows.items (fields_of c.next_record-in-rows.new.fields) c.in_ok-row.row
+          c.rows.invariant.plan row);
       states = λ all left.
           let inv = c.rows.invariant.states all left in
           took-row c.in_ok-next_record-2.field-0

@@ -32,8 +32,10 @@ returns c =
     (sym c.in_ok-get-2.ensures.value)
 
 pub returns-in_err-get : goal.returns-in_err-get
-returns-in_err-get c = absurd (one_there (fields_of c.args.fields.now) (sym c.len.ensures ∙ c.if-len-ne2.false) c.in_err-get.ensures.value)
+returns-in_err-get c = absurd (one_there (fields_of c.args.fields.now) (sym c.len.ensures
+    ∙ c.if-len-ne2.false) c.in_err-get.ensures.value)
 
 pub returns-in_err-get-2 : goal.returns-in_err-get-2
 returns-in_err-get-2 c =
-    absurd (two_there (fields_of c.args.fields.now) (sym c.len.ensures ∙ c.if-len-ne2.false) c.in_err-get-2.ensures.value)
+    absurd (two_there (fields_of c.args.fields.now) (sym c.len.ensures ∙ c.if-len-ne2.false)
+    c.in_err-get-2.ensures.value)

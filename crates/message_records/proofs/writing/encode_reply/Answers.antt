@@ -23,7 +23,8 @@ returns-clause-spelling c =
     ∙ ap (λ (q : Option ℤ). with_request ++ signed 12 (unwrap_or q (pos 0))) shown.balance in
     let len : length c.put_text-2.new.self ≡ 66 + length c.as_bytes.result.now = omega arith in
     reply_put c.args.reply.now c.from.result c.as_bytes.result.now
-    c.new-draft.result c.put_text.new.self coded with_request with_balance c.put_text-2.new.self c.finish.result
+    c.new-draft.result c.put_text.new.self coded with_request with_balance c.put_text-2.new.self
+    c.finish.result
     code name c.new-draft.ensures.value c.put_text.ensures.value c.put_number.ensures.value request balance
     c.put_text-2.ensures.value len c.finish.ensures
 
@@ -34,7 +35,8 @@ returns-clause-read_again c =
     let InRange : Option ℤ → Type 0 = λ q. IfSome q (λ z. nat_abs z ≤ MAX_BALANCE) in
     let is_reply : IsReply reply = record {
       shows_request = shown.shows_request;
-      request = subst (λ (q : Option RequestFields). IfSome q IsRequest) shown.request c.put_shown.ensures.in_range;
+      request = subst (λ (q : Option RequestFields). IfSome q IsRequest) shown.request
+          c.put_shown.ensures.in_range;
       shows_balance = shown.shows_balance;
       balance = subst InRange shown.balance c.put_balance.ensures.in_range;
     } in

@@ -7,7 +7,8 @@ use Rattle.message_records.proofs.writing.encode_request.Goals as goal
 pub returns-clause-spelling : goal.returns-clause-spelling
 returns-clause-spelling c =
     let len : length c.put_fields.new.draft ≡ 51 = omega arith in
-    request_put c.args.request.now c.new-draft.result c.put_text.new.self c.put_fields.new.draft c.finish.result
+    request_put c.args.request.now c.new-draft.result c.put_text.new.self c.put_fields.new.draft
+    c.finish.result
     c.new-draft.ensures.value c.put_text.ensures.value c.put_fields.ensures.value len c.finish.ensures
 
 pub returns-clause-read_again : goal.returns-clause-read_again

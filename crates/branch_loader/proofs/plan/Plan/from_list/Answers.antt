@@ -15,7 +15,8 @@ pub loop-i-preserved : goal.loop-i-preserved
 loop-i-preserved c =
     let more = listed-more c.args.rows.items c.loop-i.i c.index.result.now c.in_ok-row_of_pair.field-0
     (omega arith) c.index.ensures
-    (sym (rw c.deref.ensures.value at c.in_ok-row_of_pair.ensures)) c.loop-i.invariant.states c.loop-i.invariant.plan in
+    (sym (rw c.deref.ensures.value at c.in_ok-row_of_pair.ensures)) c.loop-i.invariant.states
+    c.loop-i.invariant.plan in
     record { plan = more.0; states = more.1 }
 
 pub returns-in_err-row_of_pair : goal.returns-in_err-row_of_pair
@@ -27,4 +28,5 @@ returns-in_err-row_of_pair c =
     rw (p.1, p.2) (sym fault)
 
 pub returns : goal.returns
-returns c = sym (listed-all c.args.rows.items c.loop-i.i (omega arith) c.loop-i.invariant.states c.loop-i.invariant.plan).0
+returns c = sym (listed-all c.args.rows.items c.loop-i.i (omega arith) c.loop-i.invariant.states
+    c.loop-i.invariant.plan).0

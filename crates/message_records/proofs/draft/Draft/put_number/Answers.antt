@@ -8,9 +8,11 @@ pub invariant_of-self : goal.invariant_of-self
 invariant_of-self g c =
     let d = c.self.inside in
     let n = c.args.count in
-    let start = written_length g.row.SIZE d.written d.bytes c.args.self.now c.self.invariant.0 c.self.invariant.1 c.self.view_is in
+    let start = written_length g.row.SIZE d.written d.bytes c.args.self.now c.self.invariant.0
+    c.self.invariant.1 c.self.view_is in
     let fits : d.written + n ≤ length d.bytes = omega (arith, start, c.self.invariant.0) in
-    let placed = digits_placed d.written n c.args.number d.bytes c.put_digits.new.out fits c.put_digits.ensures in
+    let placed = digits_placed d.written n c.args.number d.bytes c.put_digits.new.out fits
+    c.put_digits.ensures in
     let same : length c.put_digits.new.out ≡ n = ap (λ (t : List ℕ). length t) placed
     ∙ length-digits n c.args.number in
     let inside : d.written ≤ length d.bytes = omega (arith, fits) in (

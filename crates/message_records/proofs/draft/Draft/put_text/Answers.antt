@@ -6,7 +6,8 @@ use Rattle.message_records.proofs.draft.Draft.put_text.Goals as goal
 pub invariant_of-self : goal.invariant_of-self
 invariant_of-self g c =
     let d = c.self.inside in
-    let start = written_length g.row.SIZE d.written d.bytes c.args.self.now c.self.invariant.0 c.self.invariant.1 c.self.view_is in
+    let start = written_length g.row.SIZE d.written d.bytes c.args.self.now c.self.invariant.0
+    c.self.invariant.1 c.self.view_is in
     let n = length c.args.text.now in
     let placed = c.copy_from_slice.new.self in
     let same : length placed ≡ n = ap (λ (t : List ℕ). length t) c.copy_from_slice.ensures.after in

@@ -1,5 +1,5 @@
-//! Sources and lists, and the plan or the fault that each gives.
-use crate::{Loaded, Plan, PlanFault, load, read_plan};
+//! Plans: sources and lists, and the plan or the fault that each gives.
+use branch_loader::{Loaded, Plan, PlanFault, load, read_plan};
 use message_records::{Account, Branch};
 use posting_core::{Counter, PlainBank};
 use std::alloc::{AllocError, Global};

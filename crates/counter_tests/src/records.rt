@@ -1,5 +1,5 @@
-//! The formats by worked examples and fault by fault, and the ends of the ranges.
-use crate::{
+//! The formats of records by worked examples and fault by fault, and the ends of the ranges.
+use message_records::{
     Account, Bad, BadReply, Branch, Cents, Moment, Number, Outcome, Reply, Request, Teller,
     decode_reply, decode_request, encode_reply, encode_request, one_spelling,
 };
@@ -14,7 +14,7 @@ const POSTED: &[u8; 72] =
 const MALFORMED: &[u8; 75] =
     b"DR0190000000000000000000000000000000000000+0000000000+000000000000MALFORMED";
 
-// Faults field by field; the filler's stands in the test.
+// Faults field by field; those of the fillers stand in their test.
 const FAULTY_REQUESTS: [(&[u8; 51], Bad); 6] = [
     (
         b"DC02000000000001000000010000010000000001+0000000500",
@@ -129,29 +129,27 @@ fn replies(rt: HostRuntime) -> Result<(), Fail> {
 #[test]
 fn faulty_requests(rt: HostRuntime) {
     for (front, fault) in FAULTY_REQUESTS {
-        assert_eq!(rt;
-            decode_request(&record_of(&rt, front)),
-            Err(fault),
-            "{fault:?}"
-        );
+        let bytes = record_of(&rt, front);
+        assert_eq!(rt; decode_request(&bytes), Err(fault), "{fault}");
     }
-    let mut bytes: [u8; 100] = record_of(&rt, DEPOSIT);
-    bytes[99] = b'X';
-    assert_eq!(rt; decode_request(&bytes), Err(Bad::Filler));
 }
 
 #[test]
 fn faulty_replies(rt: HostRuntime) {
     for (front, fault) in FAULTY_REPLIES {
-        assert_eq!(rt;
-            decode_reply(&record_of(&rt, front)),
-            Err(fault),
-            "{fault:?}"
-        );
+        let bytes = record_of(&rt, front);
+        assert_eq!(rt; decode_reply(&bytes), Err(fault), "{fault}");
     }
-    let mut bytes: [u8; 200] = record_of(&rt, POSTED);
-    bytes[82] = b'a';
-    assert_eq!(rt; decode_reply(&bytes), Err(BadReply::Filler));
+}
+
+#[test]
+fn faulty_fillers(rt: HostRuntime) {
+    let mut request: [u8; 100] = record_of(&rt, DEPOSIT);
+    request[99] = b'X';
+    assert_eq!(rt; decode_request(&request), Err(Bad::Filler));
+    let mut reply: [u8; 200] = record_of(&rt, POSTED);
+    reply[82] = b'a';
+    assert_eq!(rt; decode_reply(&reply), Err(BadReply::Filler));
 }
 
 #[test]
@@ -225,5 +223,7 @@ fn printed(rt: HostRuntime) -> Result<(), Fail> {
     let outcome = Outcome::ReusedNumber;
     let text = format!(in rt.alloc(); "{account} {cents} {outcome}")?;
     assert_eq!(rt; text.as_str(), "100001 -700 REUSED NUMBER");
+    let faults = format!(in rt.alloc(); "{}, {}", Bad::Delta, BadReply::Balance)?;
+    assert_eq!(rt; faults.as_str(), "faulty delta, faulty balance");
     Ok(())
 }

@@ -1,0 +1,165 @@
+-- What the table of cases says of a request behind a log, by what stands before it.
+use Rattle.std.proofs.Common.{◌≡◌, ◌≢◌, ℕ, ◌<◌, ◌≤◌, Bool, true, false, cond, eqb, leb, List, length, Some}
+use Rattle.std.proofs.Common.{None, refl, sym, subst, ◌∙◌, arith, inl, inr}
+use Rattle.std.specs.Prelude.{ℤ, ◌+ℤ◌, nat_abs, ◌⊎◌, ◌&&◌}
+use Rattle.std.specs.Ordering.{int_eq}
+use Rattle.std.proofs.lemmas.Bool.{eqb-true, eq-eqb, leb-true, le-leb}
+use Rattle.std.proofs.lemmas.Bool.Decides.{nat_tests, Decides-int_eq}
+use Rattle.posting_rules.specs.declared.limits.TheConstants.{MAX_DECIDED}
+use Rattle.message_records.specs.declared.limits.TheConstants.{MAX_BALANCE}
+use Rattle.message_records.specs.declared.records.Outcome.TheVariants as outcome
+use Rattle.message_records.specs.Ranges.{cents_within}
+use Rattle.message_records.specs.Records.{RequestFields}
+use Rattle.posting_rules.specs.declared.facts.Verdict.{Verdict}
+use Rattle.posting_rules.specs.declared.facts.Verdict.TheVariants.{Unkept, Again, Refused, Posted}
+use Rattle.posting_rules.specs.Commands.{Command, opened, branch_of_teller, is_teller_open, is_account_open}
+use Rattle.posting_rules.specs.Kept.{KeptFields}
+use Rattle.posting_rules.specs.Cases.{case_of, new_case, posting_of, plus_within, is_same, kept_reply}
+use Rattle.posting_rules.specs.Entries.{facts, kept, account_balance, teller_balance, branch_balance, decided}
+use Rattle.posting_rules.specs.Stated.{IsDecided, IsWithin, IsPosted, HasContent}
+use Rattle.posting_rules.proofs.Keyed.{by_test}
+
+-- ---- tests, and what they mean
+
+over : (z : ℤ) → (IsWithin z → ⊥) → cents_within MAX_BALANCE z ≡ None
+over z h = elim (by_test (leb (nat_abs z) MAX_BALANCE))
+    [ inl t ↦ absurd (h (leb-true _ _ t)) | inr f ↦ rw f refl ]
+
+within : (z : ℤ) → IsWithin z → cents_within MAX_BALANCE z ≡ Some z
+within z h = rw (le-leb _ _ h) refl
+
+-- which of the three stays within
+pub by_limit : (z : ℤ) → IsWithin z ⊎ (IsWithin z → ⊥)
+by_limit z = elim (by_test (leb (nat_abs z) MAX_BALANCE)) [
+  | inl t ↦ inl (leb-true _ _ t)
+  | inr f ↦ inr
+      (λ h. let t = le-leb (nat_abs z) MAX_BALANCE h in absurd (let g = sym f ∙ t in cc))
+]
+
+not_same : (m n : ℕ) → (m ≡ n → ⊥) → eqb m n ≡ false
+not_same m n h = grind (arith, nat_tests)
+
+both_tests : (a b c : Bool) → a ≡ true → b ≡ true → c ≡ true → (a && (b && c)) ≡ true
+both_tests a b c ea eb ec = rw (ea, eb, ec) refl
+
+pub same_content : (k : KeptFields) (r : RequestFields) → HasContent k r → is_same k r ≡ true
+same_content k r h =
+    both_tests (eqb k.account r.account) (eqb k.branch r.branch) (int_eq k.delta r.delta)
+    (eq-eqb _ _ h.account) (eq-eqb _ _ h.branch) ((Decides-int_eq k.delta r.delta).1 h.delta)
+
+all_tests : (a b c : Bool) → (a && (b && c)) ≡ true → (a ≡ true) × (b ≡ true) × (c ≡ true)
+all_tests true true c e = (refl, refl, e)
+all_tests true false c e = absurd cc
+all_tests false b c e = absurd cc
+
+pub other_content : (k : KeptFields) (r : RequestFields) → (HasContent k r → ⊥) → is_same k r ≡ false
+other_content k r h =
+    elim (by_test (is_same k r)) [
+      | inl t ↦ let each = all_tests (eqb k.account r.account) (eqb k.branch r.branch)
+          (int_eq k.delta r.delta) t in
+          absurd (h (record {
+            account = eqb-true _ _ each.0;
+            branch = eqb-true _ _ each.1;
+            delta = (Decides-int_eq k.delta r.delta).0 each.2;
+          }))
+      | inr f ↦ f
+    ]
+
+-- ---- the verdict on a request, by what stands before it
+
+module _ (before : List Command) (r : RequestFields) where
+  abbrev pub verdict : Verdict
+  verdict = case_of (facts (λ b. opened before b) (decided before) r) r
+
+  abbrev new_verdict : Verdict
+  new_verdict = new_case (facts (λ b. opened before b) (decided before) r) r
+      (teller_balance (decided before) r.teller) (branch_balance (decided before) (branch_of_teller r.teller))
+
+  pub no_teller : is_teller_open (λ b. opened before b) r.teller ≡ false → verdict ≡ Unkept outcome.NoTeller
+  unfolding case_of
+  no_teller h = rw h refl
+
+  pub known : (k : KeptFields) → is_teller_open (λ b. opened before b) r.teller ≡ true
+      → kept (decided before) r.teller r.number ≡ Some k
+      → verdict ≡ cond (is_same k r) (Again (kept_reply k r)) (Unkept outcome.ReusedNumber)
+  unfolding case_of
+  known k h e = rw (h, e) refl
+
+  pub new : is_teller_open (λ b. opened before b) r.teller ≡ true
+      → kept (decided before) r.teller r.number ≡ None
+      → verdict ≡ new_verdict
+  unfolding case_of
+  new h e = rw (h, e) refl
+
+  pub full : MAX_DECIDED ≤ length (decided before) → new_verdict ≡ Unkept outcome.Full
+  full h = rw (le-leb _ _ h) refl
+
+  has_room : length (decided before) < MAX_DECIDED → leb MAX_DECIDED (length (decided before)) ≡ false
+  has_room h = grind (arith, nat_tests)
+
+  pub wrong_branch : length (decided before) < MAX_DECIDED → r.branch ≢ branch_of_teller r.teller
+      → new_verdict ≡ Refused outcome.WrongBranch
+  wrong_branch h ne = rw (has_room h, not_same _ _ ne) refl
+
+  pub no_account : length (decided before) < MAX_DECIDED → r.branch ≡ branch_of_teller r.teller
+      → is_account_open (λ b. opened before b) r.account ≡ false
+      → new_verdict ≡ Refused outcome.NoAccount
+  no_account h its closed = rw (has_room h, eq-eqb _ _ its, closed) refl
+
+  abbrev sums : Verdict
+  sums = posting_of (plus_within (account_balance (decided before) r.account) r.delta)
+      (plus_within (teller_balance (decided before) r.teller) r.delta)
+      (plus_within (branch_balance (decided before) (branch_of_teller r.teller)) r.delta)
+
+  pub has_sums : length (decided before) < MAX_DECIDED → r.branch ≡ branch_of_teller r.teller
+      → is_account_open (λ b. opened before b) r.account ≡ true → new_verdict ≡ sums
+  has_sums h its open_a = rw (has_room h, eq-eqb _ _ its, open_a) refl
+
+  posting : IsPosted before r → sums
+      ≡ Posted (account_balance (decided before) r.account +ℤ r.delta)
+      (teller_balance (decided before) r.teller +ℤ r.delta)
+      (branch_balance (decided before) (branch_of_teller r.teller) +ℤ r.delta)
+  posting p =
+      let branch : IsWithin (branch_balance (decided before) (branch_of_teller r.teller) +ℤ r.delta) =
+      subst (λ (b : ℕ). IsWithin (branch_balance (decided before) b +ℤ r.delta)) p.branch p.branch_limit in
+      rw (
+        within (account_balance (decided before) r.account +ℤ r.delta) p.account_limit,
+        within (teller_balance (decided before) r.teller +ℤ r.delta) p.teller_limit,
+        within (branch_balance (decided before) (branch_of_teller r.teller) +ℤ r.delta) branch,
+      ) refl
+
+  -- one of the three leaves its limit
+  pub over_limit : r.branch ≡ branch_of_teller r.teller
+      → is_account_open (λ b. opened before b) r.account ≡ true
+      → (IsPosted before r → ⊥) → sums ≡ Refused outcome.OverLimit
+  over_limit its open_a h =
+      let a = account_balance (decided before) r.account +ℤ r.delta in
+      let t = teller_balance (decided before) r.teller +ℤ r.delta in
+      let b = branch_balance (decided before) (branch_of_teller r.teller) +ℤ r.delta in
+      elim (by_limit a) [
+        | inr f ↦ rw (over a f) refl
+        | inl x ↦ elim (by_limit t) [
+          | inr f ↦ rw (within a x, over t f) refl
+          | inl y ↦ elim (by_limit b) [
+            | inr f ↦ rw (within a x, within t y, over b f) refl
+            | inl z ↦ absurd (h (record {
+              branch = its;
+              account = open_a;
+              account_limit = x;
+              teller_limit = y;
+              branch_limit = subst (λ (n : ℕ). IsWithin (branch_balance (decided before) n +ℤ r.delta))
+                  (sym its) z;
+            }))
+          ]
+        ]
+      ]
+
+  -- a decided request is posted, or it is refused and kept
+  pub decided_verdict : (bytes : List ℕ) → IsDecided before bytes r → verdict ≡ new_verdict
+  decided_verdict bytes d = new d.names.teller d.new
+
+  pub posted_verdict : (bytes : List ℕ) → IsDecided before bytes r → IsPosted before r → verdict
+      ≡ Posted (account_balance (decided before) r.account +ℤ r.delta)
+      (teller_balance (decided before) r.teller +ℤ r.delta)
+      (branch_balance (decided before) (branch_of_teller r.teller) +ℤ r.delta)
+  posted_verdict bytes d p = decided_verdict bytes d ∙ has_sums d.room p.branch p.account ∙ posting p
