@@ -73,9 +73,13 @@ kind_of place table key entry rows having keyed listed has replaced again k name
   numbered = record { free = free; keyed = at_first; uncomputed = uncomputed; narrow = narrow; key = k; names = names; columns = columns };
 }
 
+-- the table itself
+abbrev pub table_of : {R : Type 0} → Kind R → Table
+table_of kind = uncounted kind.table
+
 module _ {R : Type 0} (kind : Kind R) where
   abbrev table : Table
-  table = uncounted kind.table
+  table = table_of kind
 
   abbrev under : Tables → ℕ → Option R
   under t k = row_at kind.key (kind.rows t) k

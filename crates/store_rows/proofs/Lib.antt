@@ -18,10 +18,12 @@ pub mod Probing
 pub mod Puts
 pub mod Reasons
 pub mod RowLists
-pub mod RowsUnder
+pub mod Seeking
 pub mod Setting
 pub mod ShownOnce
 pub mod StoredFrom
 pub mod StoredReads
 pub mod StoredRows
+pub mod Telling
 pub mod TheTables
+pub mod Writes

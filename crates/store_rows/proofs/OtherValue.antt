@@ -1,6 +1,6 @@
 -- A value of another type in the row of the bank.
-use Rattle.std.proofs.Common.{◌≡◌, ℕ, pos, List, [], ◌∷◌, append-nil, length, inl, inr, Ok, Err, Result, ap, ◌∙◌}
-use Rattle.std.specs.Prelude.{IfOk}
+use Rattle.std.proofs.Common.{◌≡◌, ℕ, pos, List, [], ◌∷◌, append-nil, length, inl, inr, Ok, Err, Option, Result, ap, ◌∙◌}
+use Rattle.std.specs.Prelude.{IfErr, IfOk}
 use Rattle.sqlite.specs.Clock.{timed}
 use Rattle.sqlite.specs.Effect.{Database}
 use Rattle.sqlite.specs.Listing.{understood}
@@ -9,10 +9,12 @@ use Rattle.sqlite.specs.State.{State, QueriesRow, QueriesRowInside, Begins, Show
 use Rattle.sqlite.specs.declared.error.Error.{Error}
 use Rattle.sql_meanings.specs.Outcomes.{OnlyShows}
 use Rattle.store_rows.specs.Columns.{meta_shown}
+use Rattle.store_rows.specs.Failures.{ReadsAnswer}
 use Rattle.store_rows.specs.Outcomes.{Never, ReadsRow}
 use Rattle.store_rows.specs.Statements.{ShowsFirst, TellsOther}
 use Rattle.store_rows.specs.declared.faults.TableFault.{TableFault}
 use Rattle.store_rows.specs.declared.faults.TableFault.TheVariants.{Sqlite, Damaged}
+use Rattle.store_rows.specs.declared.metas.StoredMeta.{StoredMeta}
 use Rattle.store_rows.specs.declared.metas.TheConstants.{META_ID}
 use Rattle.store_rows.specs.declared.texts.TheConstants.{GET_META}
 use Rattle.sqlite.specs.declared.types.Value.TheVariants.{Int}
@@ -38,7 +40,10 @@ first_told old new text params (Ok row) only (inr whole) =
     (b.0, b.1.is, it.0, it.1, inr (whole.0, rw same at it.2, whole.2))
 
 -- a row that can't be read has such a value
-pub other_told : (db : Database) (row : Row) (fault : TableFault) → ShowsFirst GET_META.now (Int (pos META_ID) ∷ []) db row
-    → ReadsRow meta_shown Never row (Err fault) → TellsOther db fault
-other_told db row (Sqlite e) shows read = tt
-other_told db row (Damaged rule) shows read = (row, shows, read)
+pub other_told : (db : Database) (answer : Result Row Error) (result : Result (Option StoredMeta) TableFault)
+    → IfOk answer (ShowsFirst GET_META.now (Int (pos META_ID) ∷ []) db) → ReadsAnswer (ReadsRow meta_shown Never) answer result
+    → IfErr result (TellsOther db)
+other_told db answer (Ok found) shows read = tt
+other_told db answer (Err (Sqlite e)) shows read = tt
+other_told db (Ok row) (Err (Damaged rule)) shows read = (row, shows, read.0)
+other_told db (Err e) (Err (Damaged rule)) shows read = absurd (let same = read.0 in cc)

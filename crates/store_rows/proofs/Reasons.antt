@@ -1,11 +1,12 @@
 -- What a call that failed leaves, and why it did.
-use Rattle.std.proofs.Common.{◌≢◌, ℕ, List, Result, Ok, Err, inl, inr}
+use Rattle.std.proofs.Common.{◌≢◌, ℕ, List, Option, Some, None, Result, Ok, Err, inl, inr, sym, subst}
 use Rattle.sqlite.specs.Order.{Row}
 use Rattle.sqlite.specs.State.{State, IsUnchanged, QueriesRowInside}
 use Rattle.sqlite.specs.declared.error.Error.{Error}
 use Rattle.sqlite.specs.declared.error.Error.TheVariants.{QueryReturnedNoRows}
 use Rattle.sql_meanings.specs.Outcomes.{ReadKept, WriteFails}
-use Rattle.store_rows.specs.Failures.{Asking, Reading, Asks, HasReason, IsUnreadable}
+use Rattle.sql_meanings.proofs.OnlyShowing.{kept_none}
+use Rattle.store_rows.specs.Failures.{Asking, Reading, Asks, HasReason, IsUnreadable, Looks, ReadsAnswer}
 use Rattle.store_rows.specs.declared.faults.TableFault.{TableFault}
 use Rattle.store_rows.specs.declared.faults.TableFault.TheVariants.{Sqlite, Damaged}
 
@@ -17,11 +18,22 @@ asked old new text params (Err e) h kept = (kept, λ more. Asking text params h 
 
 module _ (old new : State) where
   -- a query that failed is a read that failed
-  pub looks_asked : (e : Error) → Asks old new (Err e) → e ≢ QueryReturnedNoRows → WriteFails old new × HasReason old new (Sqlite e)
+  looks_asked : (e : Error) → Asks old new (Err e) → e ≢ QueryReturnedNoRows → WriteFails old new × HasReason old new (Sqlite e)
   looks_asked e (inl fails, why) more = (inr fails.3, why more)
   looks_asked e (inr same, why) more = (inl same, why more)
 
   -- and so is a value that can't be read
-  pub looks_unread : (fault : TableFault) → IsUnchanged old new → IsUnreadable fault → WriteFails old new × HasReason old new fault
+  looks_unread : (fault : TableFault) → IsUnchanged old new → IsUnreadable fault → WriteFails old new × HasReason old new fault
   looks_unread (Sqlite e) same it = (inl same, Reading it.0 it.1 it.2)
   looks_unread (Damaged rule) same it = (inl same, tt)
+
+  -- a query whose answer is told so is a read
+  pub looks : {X : Type 0} (Reads : Row → Result X TableFault → Type 0) (answer : Result Row Error) (result : Result (Option X) TableFault)
+      → ReadsAnswer Reads answer result → Asks old new answer → Looks old new result
+  looks Reads (Ok row) (Ok (Some x)) read asks = asks
+  looks Reads (Ok row) (Ok None) read asks = absurd read
+  looks Reads (Ok row) (Err fault) read asks = looks_unread fault asks read.1
+  looks Reads (Err e) (Ok (Some x)) read asks = absurd read
+  looks Reads (Err e) (Ok None) read asks = kept_none old new (subst (λ e. ReadKept {X = Row} old new (Err e)) read asks.0)
+  looks {X = X} Reads (Err e) (Err fault) read asks =
+      subst (λ f. Looks {X = Option X} old new (Err f)) (sym read.0) (looks_asked e asks read.1)

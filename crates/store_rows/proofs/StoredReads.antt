@@ -4,6 +4,7 @@ use Rattle.std.specs.Prelude.{nat_abs, ◌&&◌}
 use Rattle.std.proofs.lemmas.Bool.Decides.{nat_tests}
 use Rattle.sqlite.specs.Order.{Row, column}
 use Rattle.sqlite.specs.State.{State}
+use Rattle.sqlite.specs.declared.error.Error.{Error}
 use Rattle.sqlite.specs.declared.error.Error.TheVariants.{QueryReturnedNoRows}
 use Rattle.sqlite.specs.declared.types.Value.TheVariants.{Int}
 use Rattle.message_records.specs.Ranges.{cents_within, whole_within}
@@ -14,6 +15,7 @@ use Rattle.sql_meanings.specs.Entries.{Entry}
 use Rattle.sql_meanings.specs.Outcomes.{TellsRow}
 use Rattle.sql_meanings.proofs.OnlyShowing.{no_rows_error}
 use Rattle.store_rows.specs.Columns.{number_at}
+use Rattle.store_rows.specs.Failures.{ReadsAnswer}
 use Rattle.store_rows.specs.Outcomes.{ReadsCents, ReadsWhole}
 use Rattle.store_rows.specs.Rules.{IsFrom}
 use Rattle.store_rows.specs.Stored.{BalanceKeeps, FindsStored, IsBalance, ReadsStored, balance_stored}
@@ -67,7 +69,7 @@ reads_balance_stored row (Err fault) read =
 
 module _ {X : Type 0} (old new : State) (shown : Entry → Row) (Is : X → Entry → Type 0) (Keeps : Rule → Entry → Type 0) (stored : Option Entry) where
   -- a value that was read is of the row that is stored
-  pub stored_ok : (row : Row) (x : X) → TellsRow old new (option_map shown stored) (Ok row) → ReadsStored shown Is Keeps row (Ok x)
+  stored_ok : (row : Row) (x : X) → TellsRow old new (option_map shown stored) (Ok row) → ReadsStored shown Is Keeps row (Ok x)
       → FindsStored stored Is Keeps (Ok (Some x))
   stored_ok row x told read = go stored told.0
     where
@@ -76,7 +78,7 @@ module _ {X : Type 0} (old new : State) (shown : Entry → Row) (Is : X → Entr
       go (Some r) is = (r, refl, read r (the_row is))
 
   -- one that couldn't be read breaks a rule
-  pub stored_err : (row : Row) (fault : TableFault) → TellsRow old new (option_map shown stored) (Ok row)
+  stored_err : (row : Row) (fault : TableFault) → TellsRow old new (option_map shown stored) (Ok row)
       → ReadsStored {X = X} shown Is Keeps row (Err fault) → FindsStored {X = X} stored Is Keeps (Err fault)
   stored_err row (Sqlite e) told read = tt
   stored_err row (Damaged rule) told read = go stored told.0
@@ -86,7 +88,7 @@ module _ {X : Type 0} (old new : State) (shown : Entry → Row) (Is : X → Entr
       go (Some r) is = (r, refl, read r (the_row is))
 
   -- no row is told where none is stored
-  pub stored_none : TellsRow old new (option_map shown stored) (Err QueryReturnedNoRows) → FindsStored {X = X} stored Is Keeps (Ok None)
+  stored_none : TellsRow old new (option_map shown stored) (Err QueryReturnedNoRows) → FindsStored {X = X} stored Is Keeps (Ok None)
   stored_none (inl none) = go stored none.1
     where
       go : (o : Option Entry) → option_map shown o ≡ None → o ≡ None
@@ -94,3 +96,13 @@ module _ {X : Type 0} (old new : State) (shown : Entry → Row) (Is : X → Entr
       go (Some r) is = absurd cc
   stored_none (inr (inl fails)) = absurd (no_rows_error fails.0 fails.1)
   stored_none (inr (inr limit)) = absurd (let e = limit.0 in cc)
+
+  -- what is told of the answer of a query is of the row that is stored
+  pub stores : (answer : Result Row Error) (result : Result (Option X) TableFault) → ReadsAnswer (ReadsStored shown Is Keeps) answer result
+      → TellsRow old new (option_map shown stored) answer → FindsStored stored Is Keeps result
+  stores (Ok row) (Ok (Some x)) read told = stored_ok row x told read
+  stores (Ok row) (Ok None) read told = absurd read
+  stores (Ok row) (Err fault) read told = stored_err row fault told read.0
+  stores (Err e) (Ok (Some x)) read told = absurd read
+  stores (Err e) (Ok None) read told = stored_none (subst (λ e. TellsRow old new (option_map shown stored) (Err e)) read told)
+  stores (Err e) (Err fault) read told = subst (λ f. FindsStored {X = X} stored Is Keeps (Err f)) (sym read.0) tt

@@ -9,17 +9,18 @@ use Rattle.sqlite.specs.declared.error.Error.{Error}
 use Rattle.sqlite.specs.declared.types.Value.TheVariants.{Int}
 use Rattle.sql_meanings.specs.Entries.{Entry, has_key, is_above, has_two, stored}
 use Rattle.sql_meanings.specs.Outcomes.{TellsRow}
-use Rattle.sql_meanings.specs.Tables.{Holds}
+use Rattle.sql_meanings.specs.Queries.{by_key}
+use Rattle.sql_meanings.specs.Tables.{Holds, width_of}
 use Rattle.sql_meanings.proofs.Changes.{found_all}
 use Rattle.sql_meanings.proofs.Contents.{held}
 use Rattle.sql_meanings.proofs.ReadRows.{reads_key, reads_next, reads_two}
+use Rattle.sql_meanings.proofs.ReadTables.{ReadsAs}
 use Rattle.store_rows.specs.Rules.{HoldsBank, StoredRows, row_under, six_lists}
 use Rattle.store_rows.specs.SixTables as six
 use Rattle.store_rows.specs.SixTables.{bank_tables}
 use Rattle.store_rows.specs.Stored.{balance_stored, branch_stored, request_stored}
-use Rattle.store_rows.specs.declared.texts.TheConstants.{GET_ACCOUNT, GET_BRANCH, GET_REQUEST, GET_TELLER, NEXT_BRANCH}
+use Rattle.store_rows.specs.declared.texts.TheConstants.{GET_REQUEST, NEXT_BRANCH}
 use Rattle.store_rows.proofs.GetRequest as request
-use Rattle.store_rows.proofs.Getting.{reads_account, reads_branch, reads_teller}
 use Rattle.store_rows.proofs.NextBranch as next
 
 -- the rows of one table
@@ -33,57 +34,41 @@ same_shown : (width : ℕ) (show shown : Entry → Row) → ((r : Entry) → len
 same_shown width show shown same None wide = refl
 same_shown width show shown same (Some r) wide = ap Some (same r (wide r refl))
 
+-- of the row under a key
+pub stored_under : (at : ℕ) (t : Table) → t.references ≡ [] → slice_get bank_tables at ≡ Some t → (rows_of : StoredRows → List Entry)
+    → ((rows : StoredRows) → slice_get (six_lists rows) at ≡ Some (rows_of rows)) → (text : List ℕ) (project : List Term) (k : ℕ)
+    → ReadsAs t text (Int (pos k) ∷ []) (λ tree. by_key tree project) → (held : Entry → Row)
+    → ((e : Entry) → length e.values ≡ width_of t → eval_all project ((Int (pos k) ∷ []) ∷ stored e ∷ []) ≡ held e)
+    → (old new : State) (rows : StoredRows) → HoldsBank old.now rows → (r : Result Row Error)
+    → QueriesRowInside text (Int (pos k) ∷ []) old new r → TellsRow old new (option_map held (row_under (rows_of rows) k)) r
+stored_under at t free listed rows_of there text project k reads held same old new rows has r h =
+    let holds = holds_list old.now rows has at t (rows_of rows) listed (there rows) in
+    subst (λ o. TellsRow old new o r)
+    (same_shown (width_of t) _ held same (row_under (rows_of rows) k)
+    (λ e found. found_all (λ x. length x.values ≡ width_of t) (has_key (pos k)) (rows_of rows) e holds.rows.wide found))
+    (reads_key old new t free has.sound (rows_of rows) holds text project (pos k) reads r h)
+
 -- ---- balances
 
-one_number : (k key : ℤ) (values : List ℤ) → length values ≡ 1
+pub one_number : (k key : ℤ) (values : List ℤ) → length values ≡ 1
     → eval_all (col 1 2 ∷ []) ((Int k ∷ []) ∷ stored (record { key = key; values = values }) ∷ [])
     ≡ balance_stored (record { key = key; values = values })
 one_number k key [] wide = absurd (omega arith)
 one_number k key (a ∷ []) wide = refl
 one_number k key (a ∷ b ∷ more) wide = absurd (omega arith)
 
--- of a teller
-pub stored_teller : (old new : State) (rows : StoredRows) → HoldsBank old.now rows → (k : ℕ) (r : Result Row Error)
-    → QueriesRowInside GET_TELLER.now (Int (pos k) ∷ []) old new r → TellsRow old new (option_map balance_stored (row_under rows.tellers k)) r
-stored_teller old new rows has k r h =
-    let holds = holds_list old.now rows has 2 six.teller rows.tellers refl refl in
-    subst (λ o. TellsRow old new o r)
-    (same_shown 1 _ balance_stored (λ e wide. one_number (pos k) e.key e.values wide) (row_under rows.tellers k)
-    (λ e found. found_all (λ x. length x.values ≡ 1) (has_key (pos k)) rows.tellers e holds.rows.wide found))
-    (reads_key old new six.teller refl has.sound rows.tellers holds GET_TELLER.now (col 1 2 ∷ []) (pos k) (reads_teller (pos k)) r h)
-
--- of an account
-pub stored_account : (old new : State) (rows : StoredRows) → HoldsBank old.now rows → (k : ℕ) (r : Result Row Error)
-    → QueriesRowInside GET_ACCOUNT.now (Int (pos k) ∷ []) old new r → TellsRow old new (option_map balance_stored (row_under rows.accounts k)) r
-stored_account old new rows has k r h =
-    let holds = holds_list old.now rows has 3 six.account rows.accounts refl refl in
-    subst (λ o. TellsRow old new o r)
-    (same_shown 1 _ balance_stored (λ e wide. one_number (pos k) e.key e.values wide) (row_under rows.accounts k)
-    (λ e found. found_all (λ x. length x.values ≡ 1) (has_key (pos k)) rows.accounts e holds.rows.wide found))
-    (reads_key old new six.account refl has.sound rows.accounts holds GET_ACCOUNT.now (col 1 2 ∷ []) (pos k) (reads_account (pos k)) r h)
-
 -- ---- branches
 
-abbrev branch_project : List Term
+abbrev pub branch_project : List Term
 branch_project = col 1 0 ∷ col 1 2 ∷ col 1 3 ∷ []
 
-two_numbers : (k key : ℤ) (values : List ℤ) → length values ≡ 2
+pub two_numbers : (k key : ℤ) (values : List ℤ) → length values ≡ 2
     → eval_all branch_project ((Int k ∷ []) ∷ stored (record { key = key; values = values }) ∷ [])
     ≡ branch_stored (record { key = key; values = values })
 two_numbers k key [] wide = absurd (omega arith)
 two_numbers k key (a ∷ []) wide = absurd (omega arith)
 two_numbers k key (a ∷ b ∷ []) wide = refl
 two_numbers k key (a ∷ b ∷ c ∷ more) wide = absurd (omega arith)
-
--- the branch under a number
-pub stored_branch : (old new : State) (rows : StoredRows) → HoldsBank old.now rows → (k : ℕ) (r : Result Row Error)
-    → QueriesRowInside GET_BRANCH.now (Int (pos k) ∷ []) old new r → TellsRow old new (option_map branch_stored (row_under rows.branches k)) r
-stored_branch old new rows has k r h =
-    let holds = holds_list old.now rows has 1 six.branch rows.branches refl refl in
-    subst (λ o. TellsRow old new o r)
-    (same_shown 2 _ branch_stored (λ e wide. two_numbers (pos k) e.key e.values wide) (row_under rows.branches k)
-    (λ e found. found_all (λ x. length x.values ≡ 2) (has_key (pos k)) rows.branches e holds.rows.wide found))
-    (reads_key old new six.branch refl has.sound rows.branches holds GET_BRANCH.now branch_project (pos k) (reads_branch (pos k)) r h)
 
 -- the branch with the least number above one
 pub stored_next : (old new : State) (rows : StoredRows) → HoldsBank old.now rows → (k : ℕ) (r : Result Row Error)

@@ -1,15 +1,23 @@
 -- What the calls on the tables of a bank tell.
-use Rattle.std.specs.Prelude.{◌≡◌, ℕ, false, Bool, List, Result}
+use Rattle.std.specs.Prelude.{◌≡◌, ℕ, false, Bool, List, Option, Result}
 use Rattle.sqlite.specs.Held.{Held, state}
 use Rattle.sqlite.specs.State.{State, HasCleanDisk, Survives}
 use Rattle.sqlite.specs.Table.{Table}
 use Rattle.sqlite.specs.declared.error.Error.{Error}
+use Rattle.sqlite.specs.declared.transaction.Transaction.{Transaction}
 use Rattle.sqlite_trees.specs.declared.store.Store.{Ghosts}
 use Rattle.posting_rules.specs.Tables.{Tables}
+use Rattle.posting_rules.specs.declared.fault.Rule.{Rule}
+use Rattle.sql_meanings.specs.Calls.{Inside, Says}
 use Rattle.sql_meanings.specs.Outcomes.{TellsProbe, TellsUnderstood}
 use Rattle.sql_meanings.specs.Entries.{Entry}
+use Rattle.store_rows.specs.Failures.{Changes, Looks, Puts}
+use Rattle.store_rows.specs.Outcomes.{Adds, Finds, Writes}
+use Rattle.store_rows.specs.Rules.{OfRows, StoredRows}
 use Rattle.store_rows.specs.SixTables.{meta}
+use Rattle.store_rows.specs.Stored.{FindsStored}
 use Rattle.store_rows.specs.View.{HoldsRows, Shows}
+use Rattle.store_rows.specs.declared.faults.TableFault.{TableFault}
 
 -- of whatever tables are shown
 abbrev pub OfTables : (State → State → Tables → Type 0) → State → State → Type 0
@@ -18,6 +26,27 @@ OfTables Told old new = (tables : Tables) → Shows old.now tables → Told old 
 -- of whatever rows of `meta` are held
 abbrev pub OfMeta : (State → State → List Entry → Type 0) → State → State → Type 0
 OfMeta Told old new = (rows : List Entry) → HoldsRows old.now meta rows → Told old new rows
+
+-- A look-up finds what is wanted of the tables that are shown; whatever rows are held, it tells the one that it looks for.
+abbrev pub LooksUp : {S X : Type 0} → Ghosts S → Transaction S → Transaction S → (Tables → Option X) → (X → Rule → Type 0)
+    → (StoredRows → Option Entry) → (X → Entry → Type 0) → (Rule → Entry → Type 0) → Result (Option X) TableFault → Type 0
+LooksUp g old new wanted Breaks stored Is Keeps result =
+    Says g old new (OfTables (λ old new tables. Finds old new (wanted tables) Breaks result))
+    (λ old new. Looks old new result × OfRows (λ rows. FindsStored (stored rows) Is Keeps result) old.now)
+
+-- By this text a number of a row of the table is written, where the row is there, and the tables are these after it.
+abbrev pub SetsNumber : {S : Type 0} → Ghosts S → Transaction S → Transaction S → Table → List ℕ → (Tables → Bool)
+    → (Tables → Tables) → Result Bool Error → Type 0
+SetsNumber g old new table text there after result =
+    Says g old new (Inside (OfTables (λ old new tables. Writes old new table (there tables) (after tables) result)))
+    (Inside (λ old new. Changes text old new result))
+
+-- A row of the table is put in, where its key isn't taken, and the tables are these after it.
+abbrev pub AddsRow : {S : Type 0} → Ghosts S → Transaction S → Transaction S → Table → (Tables → Bool)
+    → (Tables → Tables) → Result (Unit {0}) TableFault → Type 0
+AddsRow g old new table taken after result =
+    Says g old new (Inside (OfTables (λ old new tables. Adds old new table (taken tables) (after tables) result)))
+    (Inside (λ old new. Puts old new result))
 
 -- Whether the probe of a table is understood, on an honest disk, and so what is there of the table. Only a fault shuts the store, and a stop
 -- leaves nothing new.

@@ -1,5 +1,5 @@
 -- A call of `sqlite` that failed, and the error with which it did.
-use Rattle.std.specs.Prelude.{◌≡◌, ◌≢◌, ◌⊎◌, ℕ, List, nat_eq, true, false, Bool, Result, Ok, Err, ⊤}
+use Rattle.std.specs.Prelude.{◌≡◌, ◌≢◌, ◌⊎◌, ℕ, List, nat_eq, true, false, Bool, Option, Some, None, Result, Ok, Err, ⊤}
 use Rattle.sqlite.specs.Order.{Row}
 use Rattle.sqlite.specs.Reading.{IsReadError}
 use Rattle.sqlite.specs.State.{State, ExecutesInside, QueriesRowInside}
@@ -64,6 +64,16 @@ HasPutReason old new (Damaged rule) = HasMet old new rule
 abbrev pub IsUnreadable : TableFault → Type 0
 IsUnreadable (Sqlite e) = (at : ℕ) × (value : Value) × IsReadError at value e
 IsUnreadable (Damaged rule) = ⊤
+
+-- What is told of what a query answered: the row as what it stands for, none where it found no row, or the error of either.
+abbrev pub ReadsAnswer : {X : Type 0} → (Row → Result X TableFault → Type 0) → Result Row Error → Result (Option X) TableFault
+    → Type 0
+ReadsAnswer Reads (Ok row) (Ok (Some x)) = Reads row (Ok x)
+ReadsAnswer Reads (Ok row) (Ok None) = ⊥
+ReadsAnswer Reads (Ok row) (Err fault) = Reads row (Err fault) × IsUnreadable fault
+ReadsAnswer Reads (Err e) (Ok (Some x)) = ⊥
+ReadsAnswer Reads (Err e) (Ok None) = e ≡ QueryReturnedNoRows
+ReadsAnswer Reads (Err e) (Err fault) = (fault ≡ Sqlite e) × (e ≢ QueryReturnedNoRows)
 
 -- ---- whatever the rows
 

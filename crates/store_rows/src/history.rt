@@ -2,10 +2,7 @@
 ghost use Rattle.std.specs.Prelude.{is_some};
 ghost use Rattle.posting_rules.specs.Tables.{row_at, history_key};
 ghost use Rattle.posting_rules.specs.Changes.{with_history};
-ghost use Rattle.sql_meanings.specs.Calls.{Says, Inside};
-ghost use Rattle.store_rows.specs.Calls.{OfTables};
-ghost use Rattle.store_rows.specs.Failures.{Puts};
-ghost use Rattle.store_rows.specs.Outcomes.{Adds};
+ghost use Rattle.store_rows.specs.Calls.{AddsRow};
 ghost use Rattle.store_rows.specs.SixTables.{history as table};
 
 use crate::faults::TableFault;
@@ -16,10 +13,7 @@ use sqlite::{Alter, Transaction, params};
 
 /// Adds a posting. `Damaged(Rule::Key)` is an ordinal that is taken.
 pub fn add_history<S: Alter>(tx: &mut Transaction<'_, S>, row: HistoryRow) -> Result<(), TableFault>
-    ensures { Says S.Store tx.old tx.new
-        (Inside (OfTables (λ old new tables. Adds old new table (is_some (row_at history_key tables.history row.ordinal))
-        (with_history row tables) result)))
-        (Inside (λ old new. Puts old new result)) }
+    ensures { AddsRow S.Store tx.old tx.new table (λ tables. is_some (row_at history_key tables.history row.ordinal)) (with_history row) result }
 {
     let key = row.ordinal.get() as i64;
     let account = row.account.get() as i64;

@@ -7,6 +7,7 @@ mod columns;
 mod commits;
 mod creation;
 mod faults;
+mod found;
 mod history;
 mod laws;
 mod metas;

@@ -1,15 +1,15 @@
 //! The table of the bank as a whole: one row.
-ghost use Rattle.std.specs.Prelude.{◌≤◌, ◌∷◌, [], pos, true, option_map, IfOk, IfErr};
+ghost use Rattle.std.specs.Prelude.{◌≡◌, ◌≤◌, ◌∷◌, [], pos, true, option_map, IfOk, IfErr};
 ghost use Rattle.posting_rules.specs.Changes.{with_decided};
-ghost use Rattle.sql_meanings.specs.Calls.{Says, Inside};
+ghost use Rattle.sql_meanings.specs.Calls.{Says};
 ghost use Rattle.sql_meanings.specs.Outcomes.{TellsRow};
-ghost use Rattle.store_rows.specs.Calls.{OfMeta, OfTables};
+ghost use Rattle.store_rows.specs.Calls.{OfMeta, SetsNumber};
 ghost use Rattle.sqlite.specs.Held.{state};
 ghost use Rattle.sqlite.specs.State.{HasCleanDisk};
 ghost use Rattle.sqlite.specs.declared.types.Value.TheVariants.{Int};
 ghost use Rattle.store_rows.specs.Columns.{meta_in, meta_shown};
-ghost use Rattle.store_rows.specs.Failures.{Asks, Changes, IsUnreadable, Looks};
-ghost use Rattle.store_rows.specs.Outcomes.{Finds, Never, ReadsRow, Writes};
+ghost use Rattle.store_rows.specs.Failures.{Asks, Looks};
+ghost use Rattle.store_rows.specs.Outcomes.{Finds, Never};
 ghost use Rattle.store_rows.specs.declared.texts.TheConstants.{SET_META};
 ghost use Rattle.store_rows.specs.SixTables.{meta as table};
 ghost use Rattle.store_rows.specs.Statements.{ShowsFirst, TellsOther};
@@ -18,6 +18,7 @@ ghost use Rattle.store_rows.specs.declared.texts.TheConstants.{GET_META as text}
 
 use crate::columns::integer_at;
 use crate::faults::TableFault;
+use crate::found::{FromRow, found};
 use crate::statements::{row_under, write_under};
 use crate::texts::{GET_META, SET_META};
 use posting_rules::MAX_DECIDED;
@@ -38,15 +39,26 @@ pub struct StoredMeta {
     pub decided: i64,
 }
 
-// What the row of the bank shows.
-fn meta_from(row: &Row) -> Result<StoredMeta, TableFault>
-    ensures reads { ReadsRow meta_shown Never row.now result }
-    ensures failed { IfErr result IsUnreadable }
-{
-    Ok(StoredMeta {
-        version: integer_at(row, 0)?,
-        decided: integer_at(row, 1)?,
-    })
+impl FromRow for StoredMeta {
+    ghost use Rattle.std.specs.Prelude.{⊤};
+    ghost use Rattle.store_rows.specs.Columns.{meta_numbers};
+
+    ghost shown = { meta_shown };
+
+    ghost Breaks = { Never };
+
+    ghost held = { λ row. meta_shown (meta_numbers row) };
+
+    ghost Is = { λ meta row. meta ≡ meta_numbers row };
+
+    ghost Keeps = { λ _ _. ⊤ };
+
+    fn from_row(row: &Row) -> Result<Self, TableFault> {
+        Ok(StoredMeta {
+            version: integer_at(row, 0)?,
+            decided: integer_at(row, 1)?,
+        })
+    }
 }
 
 // The row of the bank.
@@ -65,19 +77,13 @@ pub fn read_meta<S: Alter>(tx: &mut Transaction<'_, S>) -> Result<Option<StoredM
         (λ old new. Looks old new result) }
     ensures other { HasCleanDisk (state S.Store tx.new.conn.now) → IfErr result (TellsOther (state S.Store tx.old.conn.now).now) }
 {
-    match meta_row(tx) {
-        Ok(row) => Ok(Some(meta_from(&row)?)),
-        Err(Error::QueryReturnedNoRows) => Ok(None),
-        Err(e) => Err(TableFault::Sqlite(e)),
-    }
+    found(meta_row(tx))
 }
 
 /// Writes how many requests are decided, and tells whether meta has its row.
 pub fn set_decided<S: Alter>(tx: &mut Transaction<'_, S>, decided: u64) -> Result<bool, Error>
     requires { decided ≤ MAX_DECIDED }
-    ensures { Says S.Store tx.old tx.new
-        (Inside (OfTables (λ old new tables. Writes old new table true (with_decided decided tables) result)))
-        (Inside (λ old new. Changes SET_META.now old new result)) }
+    ensures { SetsNumber S.Store tx.old tx.new table SET_META.now (λ _. true) (with_decided decided) result }
 {
     write_under(tx, SET_META, META_ID, decided as i64)
 }

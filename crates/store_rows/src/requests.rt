@@ -1,25 +1,24 @@
 //! The table of decided requests.
-ghost use Rattle.std.specs.Prelude.{◌≡◌, pos, [], ◌∷◌, find, is_some, option_map, IfErr};
+ghost use Rattle.std.specs.Prelude.{pos, find, is_some, IfErr};
 ghost use Rattle.sql_meanings.specs.Entries.{has_two};
-ghost use Rattle.store_rows.specs.Rules.{OfRows, RequestKeeps};
-ghost use Rattle.store_rows.specs.Stored.{FindsStored, IsKept, IsRequest, ReadsStored, request_stored};
 ghost use Rattle.posting_rules.specs.Tables.{row_at, request_key};
 ghost use Rattle.posting_rules.specs.Changes.{with_request};
-ghost use Rattle.sql_meanings.specs.Calls.{Says, Inside};
-ghost use Rattle.sql_meanings.specs.Outcomes.{TellsRow};
-ghost use Rattle.store_rows.specs.Calls.{OfTables};
-ghost use Rattle.store_rows.specs.Columns.{request_in, request_shown};
-ghost use Rattle.store_rows.specs.Failures.{Asks, IsUnreadable, Looks, Puts};
-ghost use Rattle.store_rows.specs.Outcomes.{Finds, IsNoRequest, ReadsKept, ReadsRow, Adds};
+ghost use Rattle.store_rows.specs.Calls.{AddsRow, LooksUp};
+ghost use Rattle.store_rows.specs.Columns.{request_in};
+ghost use Rattle.store_rows.specs.Failures.{IsUnreadable};
+ghost use Rattle.store_rows.specs.Outcomes.{IsNoRequest, ReadsKept};
+ghost use Rattle.store_rows.specs.Rules.{RequestKeeps};
 ghost use Rattle.store_rows.specs.SixTables.{request as table};
+ghost use Rattle.store_rows.specs.Stored.{IsKept, IsRequest, ReadsStored, request_stored};
 
 use crate::columns::{cents_at, outcome_at, whole_at};
 use crate::faults::TableFault;
-use crate::statements::put_in;
+use crate::found::{FromRow, found};
+use crate::statements::{put_in, row_under_two};
 use crate::texts::{ADD_REQUEST, GET_REQUEST};
 use message_records::{Number, Teller};
 use posting_rules::{Kept, RequestRow, Rule};
-use sqlite::{Alter, Error, Row, Transaction, params};
+use sqlite::{Alter, Row, Transaction, params};
 
 // What a row keeps of a request.
 fn kept_from(row: &Row) -> Result<Kept, TableFault>
@@ -35,34 +34,27 @@ fn kept_from(row: &Row) -> Result<Kept, TableFault>
     Kept::new(account, branch, delta, outcome, balance).ok_or(TableFault::Damaged(Rule::Request))
 }
 
-// The request that a row shows.
-fn request_from(row: &Row) -> Result<RequestRow, TableFault>
-    ensures reads { ReadsRow request_shown IsNoRequest row.now result }
-    ensures stored { ReadsStored request_stored IsRequest RequestKeeps row.now result }
-    ensures failed { IfErr result IsUnreadable }
-{
-    Ok(RequestRow {
-        ordinal: whole_at(row, 0, Rule::Value)?,
-        teller: whole_at(row, 1, Rule::Request)?,
-        number: whole_at(row, 2, Rule::Request)?,
-        kept: kept_from(row)?,
-    })
-}
+impl FromRow for RequestRow {
+    ghost use Rattle.store_rows.specs.Columns.{request_shown};
 
-// The row of a request.
-fn request_row<S: Alter>(
-    tx: &mut Transaction<'_, S>,
-    teller: Teller,
-    number: Number,
-) -> Result<Row, Error>
-    ensures { Says S.Store tx.old tx.new
-        (OfTables (λ old new tables. TellsRow old new (option_map request_shown (request_in tables teller number)) result))
-        (λ old new. Asks old new result
-        × OfRows (λ rows. TellsRow old new (option_map request_stored (find (has_two (pos teller) (pos number)) rows.requests)) result) old.now) }
-{
-    let first = teller.get() as i64;
-    let second = number.get() as i64;
-    tx.query_row(GET_REQUEST, params![first, second])
+    ghost shown = { request_shown };
+
+    ghost Breaks = { IsNoRequest };
+
+    ghost held = { request_stored };
+
+    ghost Is = { IsRequest };
+
+    ghost Keeps = { RequestKeeps };
+
+    fn from_row(row: &Row) -> Result<Self, TableFault> {
+        Ok(RequestRow {
+            ordinal: whole_at(row, 0, Rule::Value)?,
+            teller: whole_at(row, 1, Rule::Request)?,
+            number: whole_at(row, 2, Rule::Request)?,
+            kept: kept_from(row)?,
+        })
+    }
 }
 
 /// The request of a teller under its number, none where there is no such row.
@@ -71,24 +63,15 @@ pub fn find_request<S: Alter>(
     teller: Teller,
     number: Number,
 ) -> Result<Option<RequestRow>, TableFault>
-    ensures { Says S.Store tx.old tx.new
-        (OfTables (λ old new tables. Finds old new (request_in tables teller number) IsNoRequest result))
-        (λ old new. Looks old new result
-        × OfRows (λ rows. FindsStored (find (has_two (pos teller) (pos number)) rows.requests) IsRequest RequestKeeps result) old.now) }
+    ensures { LooksUp S.Store tx.old tx.new (λ tables. request_in tables teller number) IsNoRequest
+        (λ rows. find (has_two (pos teller) (pos number)) rows.requests) IsRequest RequestKeeps result }
 {
-    match request_row(tx, teller, number) {
-        Ok(row) => Ok(Some(request_from(&row)?)),
-        Err(Error::QueryReturnedNoRows) => Ok(None),
-        Err(e) => Err(TableFault::Sqlite(e)),
-    }
+    found(row_under_two(tx, GET_REQUEST, teller.get(), number.get()))
 }
 
 /// Adds a decided request. `Damaged(Rule::Key)` is an ordinal that is taken.
 pub fn add_request<S: Alter>(tx: &mut Transaction<'_, S>, row: RequestRow) -> Result<(), TableFault>
-    ensures { Says S.Store tx.old tx.new
-        (Inside (OfTables (λ old new tables. Adds old new table (is_some (row_at request_key tables.requests row.ordinal))
-        (with_request row tables) result)))
-        (Inside (λ old new. Puts old new result)) }
+    ensures { AddsRow S.Store tx.old tx.new table (λ tables. is_some (row_at request_key tables.requests row.ordinal)) (with_request row) result }
 {
     let key = row.ordinal.get() as i64;
     let teller = row.teller.get() as i64;

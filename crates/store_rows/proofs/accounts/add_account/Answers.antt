@@ -1,25 +1,9 @@
 -- What the new row leaves.
-use Rattle.std.proofs.Common.{arith, rules}
-use Rattle.posting_rules.specs.Changes.{with_account}
-use Rattle.store_rows.proofs.BankTables.{tells_added}
-use Rattle.store_rows.proofs.Lookups.{as_amount, as_integer}
-use Rattle.store_rows.proofs.Puts.{puts_account}
-use Rattle.store_rows.proofs.TheTables.{accounts}
+use Rattle.std.proofs.Common.{arith}
+use Rattle.store_rows.proofs.Telling.{tells_tables}
+use Rattle.store_rows.proofs.Writes.{rows_put}
 use Rattle.store_rows.proofs.accounts.add_account.Goals as goal
 
 pub returns : goal.returns
-unfolding with_account
-returns g c = record {
-  told = λ clean live t shows.
-      let put = rw (
-        c.params-to_sql.ensures,
-        c.params-to_sql-2.ensures,
-        as_integer c.get-key.result c.args.row.account c.get-key.ensures.value (omega arith),
-        as_amount c.get-balance.result c.args.row.balance c.get-balance.ensures.value c.get-balance.ensures.least
-            c.get-balance.ensures.most,
-      ) at (c.put_in.ensures.told clean live) in
-      rw put.2 (tells_added accounts _ _ t shows _ _ c.args.row (puts_account c.args.row) (omega arith) put.0 put.1);
-  kept = search rules;
-  same_reference = search rules;
-  survives = search rules;
-}
+returns g c = tells_tables g.S.Store _ _ (λ before after t shows. rows_put.account c.args.row (omega arith) before after t shows c.put_balance.result)
+    (rw c.get.ensures.value at c.put_balance.ensures)

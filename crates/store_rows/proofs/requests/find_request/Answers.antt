@@ -1,63 +1,8 @@
--- What the row tells.
-use Rattle.std.proofs.Common.{◌≡◌, ◌≢◌, find, pos, Err, rules}
-use Rattle.sqlite.specs.declared.error.Error.TheVariants.{QueryReturnedNoRows}
-use Rattle.store_rows.specs.Columns.{request_in, request_shown}
-use Rattle.store_rows.specs.Outcomes.{IsNoRequest}
-use Rattle.store_rows.proofs.FoundRows.{found_err}
-use Rattle.sql_meanings.proofs.OnlyShowing.{kept_none}
-use Rattle.store_rows.specs.Rules.{RequestKeeps}
-use Rattle.store_rows.specs.Stored.{IsRequest, request_stored}
-use Rattle.sql_meanings.specs.Entries.{has_two}
-use Rattle.store_rows.proofs.StoredReads.{stored_err, stored_none, stored_ok}
-use Rattle.store_rows.proofs.Reasons.{looks_asked, looks_unread}
+-- What stands under the two numbers.
+use Rattle.store_rows.proofs.Seeking.{seeks_request}
+use Rattle.store_rows.proofs.Telling.{looks_up}
 use Rattle.store_rows.proofs.requests.find_request.Goals as goal
 
-pub returns-in_err-request_from-in-Ok : goal.returns-in_err-request_from-in-Ok
-returns-in_err-request_from-in-Ok g c =
-    let e = c.in_err-request_from-in-Ok in
-    let same : c.from_residual.result ≡ Err e.field-0.0 = search rules in
-    record {
-      told = λ clean t shows. rw same (found_err _ _ request_shown IsNoRequest c.in-Ok.row (request_in t c.args.teller c.args.number) e.field-0.0 (c.in-Ok.ensures.told clean t shows) e.ensures.reads);
-      kept = λ clean. rw same (
-        looks_unread _ _ e.field-0.0 (c.in-Ok.ensures.kept clean).0 e.ensures.failed,
-        λ rows has. stored_err _ _ request_stored IsRequest RequestKeeps (find (has_two (pos c.args.teller) (pos c.args.number)) rows.requests) c.in-Ok.row e.field-0.0
-            ((c.in-Ok.ensures.kept clean).1 rows has) e.ensures.stored,
-      );
-      same_reference = search rules;
-      survives = search rules;
-    }
-
-pub returns-in-Err : goal.returns-in-Err
-returns-in-Err g c =
-    let more : c.in-Err.e ≢ QueryReturnedNoRows = search rules in
-    record {
-      told = search rules;
-      kept = λ clean. (looks_asked _ _ c.in-Err.e (c.in-Err.ensures.kept clean).0 more, λ rows has. tt);
-      same_reference = search rules;
-      survives = search rules;
-    }
-
-pub returns-in_ok-request_from-in-Ok : goal.returns-in_ok-request_from-in-Ok
-returns-in_ok-request_from-in-Ok g c = record {
-  told = search rules;
-  kept = λ clean. (
-    (c.in-Ok.ensures.kept clean).0,
-    λ rows has. stored_ok _ _ request_stored IsRequest RequestKeeps (find (has_two (pos c.args.teller) (pos c.args.number)) rows.requests) c.in-Ok.row c.in_ok-request_from-in-Ok.field-0 ((c.in-Ok.ensures.kept clean).1 rows has)
-        c.in_ok-request_from-in-Ok.ensures.stored,
-  );
-  same_reference = search rules;
-  survives = search rules;
-}
-
-pub returns-in-Err-QueryReturnedNoRows : goal.returns-in-Err-QueryReturnedNoRows
-returns-in-Err-QueryReturnedNoRows g c =
-    let answer = rw c.in-Err-QueryReturnedNoRows.field-0-is at c.in-Err-QueryReturnedNoRows.ensures in
-    record {
-      told = search rules;
-      kept = λ clean. (
-        kept_none _ _ (answer.kept clean).0.0,
-        λ rows has. stored_none _ _ request_stored IsRequest RequestKeeps (find (has_two (pos c.args.teller) (pos c.args.number)) rows.requests) ((answer.kept clean).1 rows has),
-      );
-      same_reference = search rules;
-      survives = search rules;
-    }
+pub returns : goal.returns
+returns g c = looks_up g.S.Store _ _ (seeks_request c.args.teller c.args.number) _ _ _ c.row_under_two.result c.found.result c.found.ensures.reads c.found.ensures.stored
+    (rw (c.get.ensures.value, c.get-2.ensures.value) at c.row_under_two.ensures)

@@ -1,19 +1,9 @@
 -- What the write leaves.
-use Rattle.std.proofs.Common.{pos, refl, rules, arith}
-use Rattle.posting_rules.specs.Changes.{with_teller_balance}
-use Rattle.store_rows.proofs.BankTables.{tells_write}
-use Rattle.store_rows.proofs.Lookups.{as_amount}
-use Rattle.store_rows.proofs.Setting.{sets_teller, set_first}
-use Rattle.store_rows.proofs.TheTables.{tellers}
+use Rattle.std.proofs.Common.{arith}
+use Rattle.store_rows.proofs.Telling.{tells_tables}
+use Rattle.store_rows.proofs.Writes.{balances_set}
 use Rattle.store_rows.proofs.tellers.set_teller_balance.Goals as goal
 
 pub returns : goal.returns
-unfolding with_teller_balance
-returns g c = record {
-  told = λ clean live t shows. tells_write tellers _ _ t shows _ c.args.teller _ (λ r. record r { balance = c.args.balance })
-      (set_first c.args.balance) (sets_teller (pos c.args.teller) c.args.balance) (λ _. refl) (omega arith) c.write_under.result
-      (rw (c.get.ensures.value, as_amount c.get-2.result c.args.balance c.get-2.ensures.value c.get-2.ensures.least c.get-2.ensures.most) at (c.write_under.ensures.told clean live));
-  kept = search rules;
-  same_reference = search rules;
-  survives = search rules;
-}
+returns g c = tells_tables g.S.Store _ _ (λ before after t shows. balances_set.teller c.args.teller (omega arith) c.args.balance before after t shows
+    c.write_balance.result) (rw c.get.ensures.value at c.write_balance.ensures)

@@ -8,7 +8,7 @@ use Rattle.store_rows.specs.Columns.{number_at}
 use Rattle.store_rows.specs.Rules.{RequestKeeps}
 use Rattle.store_rows.specs.Stored.{IsRequest, request_stored}
 use Rattle.store_rows.proofs.StoredReads.{unread_whole}
-use Rattle.store_rows.proofs.requests.request_from.Goals as goal
+use Rattle.store_rows.proofs.requests.RequestRowFromRow.from_row.Goals as goal
 
 pub returns-in_err-whole_at-clause-stored : goal.returns-in_err-whole_at-clause-stored
 returns-in_err-whole_at-clause-stored c =

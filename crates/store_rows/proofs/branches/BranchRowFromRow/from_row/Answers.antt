@@ -8,7 +8,7 @@ use Rattle.store_rows.specs.Columns.{number_at}
 use Rattle.store_rows.specs.Rules.{BranchKeeps}
 use Rattle.store_rows.specs.Stored.{IsBranch, branch_stored}
 use Rattle.store_rows.proofs.StoredReads.{unread_cents, unread_whole}
-use Rattle.store_rows.proofs.branches.branch_from.Goals as goal
+use Rattle.store_rows.proofs.branches.BranchRowFromRow.from_row.Goals as goal
 
 pub returns-in_err-whole_at-clause-stored : goal.returns-in_err-whole_at-clause-stored
 returns-in_err-whole_at-clause-stored c =

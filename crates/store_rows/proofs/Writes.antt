@@ -1,0 +1,80 @@
+-- What each UPDATE of a balance and each INSERT of a row leaves of the tables.
+use Rattle.std.proofs.Common.{◌≡◌, ◌≤◌, ℕ, ℤ, pos, is_some, List, [], ◌∷◌, Bool, Result, refl}
+use Rattle.sqlite.specs.State.{State}
+use Rattle.sqlite.specs.declared.error.Error.{Error}
+use Rattle.sqlite.specs.declared.types.Value.TheVariants.{Int}
+use Rattle.posting_rules.specs.Changes.{row_changed, row_put, with_account, with_account_balance, with_branch, with_branch_balance}
+use Rattle.posting_rules.specs.Changes.{with_history, with_request, with_teller, with_teller_balance}
+use Rattle.posting_rules.specs.Tables.{Tables, row_at}
+use Rattle.sql_meanings.specs.Entries.{Entry}
+use Rattle.sql_meanings.proofs.PutRows.{PutsAs}
+use Rattle.sql_meanings.proofs.SetRows.{ChangesAs}
+use Rattle.store_rows.specs.Outcomes.{Adds, Writes}
+use Rattle.store_rows.specs.Statements.{MeetsOne, PutsIn}
+use Rattle.store_rows.specs.View.{Shows}
+use Rattle.store_rows.specs.declared.faults.TableFault.{TableFault}
+use Rattle.store_rows.specs.declared.statements.TheConstants.{MAX_KEY}
+use Rattle.store_rows.specs.declared.texts.TheConstants as text
+use Rattle.store_rows.proofs.BankTables.{Kind, table_of, tells_added, tells_write}
+use Rattle.store_rows.proofs.Puts.{given, puts_account, puts_branch, puts_history, puts_request, puts_teller}
+use Rattle.store_rows.proofs.Setting.{set_first, set_second, sets_account, sets_branch, sets_teller}
+use Rattle.store_rows.proofs.TheTables.{accounts, branches, history, requests, tellers}
+
+-- the text writes a balance so
+abbrev Sets : {R : Type 0} → Kind R → List ℕ → (ℕ → ℤ → Tables → Tables) → Type 1
+Sets kind text with =
+    (k : ℕ) → k ≤ MAX_KEY → (z : ℤ) → (before after : State) (t : Tables) → Shows before.now t → (answer : Result Bool Error)
+    → MeetsOne text (Int (pos k) ∷ Int z ∷ []) before after answer
+    → Writes before after (table_of kind) (is_some (row_at kind.key (kind.rows t) k)) (with k z t) answer
+
+-- the text puts a row in so
+abbrev PutsEach : {R : Type 0} → Kind R → List ℕ → (R → Tables → Tables) → Type 1
+PutsEach {R} kind text with =
+    (r : R) → kind.key r ≤ MAX_KEY → (before after : State) (t : Tables) → Shows before.now t → (answer : Result (Unit {0}) TableFault)
+    → PutsIn text (given (kind.entry r)) before after answer
+    → Adds before after (table_of kind) (is_some (row_at kind.key (kind.rows t) (kind.key r))) (with r t) answer
+
+module _ {R : Type 0} (kind : Kind R) (text : List ℕ) where
+  sets : (change : ℤ → R → R) (change_entry : ℤ → Entry → Entry)
+      → ((k z : ℤ) → ChangesAs (table_of kind) text k (Int z ∷ []) (change_entry z))
+      → ((z : ℤ) (r : R) → change_entry z (kind.entry r) ≡ kind.entry (change z r))
+      → Sets kind text (λ k z t. kind.having (row_changed kind.key (change z) k (kind.rows t)) t)
+  sets change change_entry changes same k low z before after t shows answer h =
+      tells_write kind before after t shows text k (Int z ∷ []) (change z) (change_entry z) (changes (pos k) z) (same z) low answer h
+
+  puts : ((r : R) → PutsAs (table_of kind) text (given (kind.entry r)) (kind.entry r))
+      → PutsEach kind text (λ r t. kind.having (row_put kind.key r (kind.rows t)) t)
+  puts given_so r low before after t shows answer h =
+      rw h.2 (tells_added kind before after t shows text (given (kind.entry r)) r (given_so r) low h.0 h.1)
+
+-- each text writes its balance
+pub record SetsBalances : Type 1 where
+  pub branch : Sets branches text.SET_BRANCH.now with_branch_balance
+  pub teller : Sets tellers text.SET_TELLER.now with_teller_balance
+  pub account : Sets accounts text.SET_ACCOUNT.now with_account_balance
+
+pub balances_set : SetsBalances
+unfolding with_branch_balance with_teller_balance with_account_balance
+balances_set = record {
+  branch = sets branches text.SET_BRANCH.now (λ z r. record r { balance = z }) set_second sets_branch (λ _ _. refl);
+  teller = sets tellers text.SET_TELLER.now (λ z r. record r { balance = z }) set_first sets_teller (λ _ _. refl);
+  account = sets accounts text.SET_ACCOUNT.now (λ z r. record r { balance = z }) set_first sets_account (λ _ _. refl);
+}
+
+-- each text puts its row in
+pub record PutsRows : Type 1 where
+  pub branch : PutsEach branches text.ADD_BRANCH.now with_branch
+  pub teller : PutsEach tellers text.ADD_TELLER.now with_teller
+  pub account : PutsEach accounts text.ADD_ACCOUNT.now with_account
+  pub posting : PutsEach history text.ADD_HISTORY.now with_history
+  pub request : PutsEach requests text.ADD_REQUEST.now with_request
+
+pub rows_put : PutsRows
+unfolding with_branch with_teller with_account with_history with_request
+rows_put = record {
+  branch = puts branches text.ADD_BRANCH.now puts_branch;
+  teller = puts tellers text.ADD_TELLER.now puts_teller;
+  account = puts accounts text.ADD_ACCOUNT.now puts_account;
+  posting = puts history text.ADD_HISTORY.now puts_history;
+  request = puts requests text.ADD_REQUEST.now puts_request;
+}
