@@ -1,89 +1,171 @@
--- What a stop may leave of a transaction: what could be left before, or the tables that its commit found. And why it failed.
-use Rattle.std.proofs.Common.{◌≡◌, Ok, Err, refl, sym, subst, arith, inl, inr}
-use Rattle.std.specs.Prelude.{true, IsTrue}
-use Rattle.sqlite.specs.State.{HasCleanDisk, Survives}
-use Rattle.sqlite.specs.Steps.{FailsToCommit}
-use Rattle.sqlite.specs.declared.error.Error.{Error}
+-- A transaction from its beginning to its end: what it tells, what a stop may leave of it, and why it failed.
+use Rattle.std.proofs.Common.{◌≡◌, Result, Ok, Err, refl, sym, subst, arith, inl, inr, ◌∙◌}
+use Rattle.std.specs.Prelude.{true, IfOk, IsTrue}
+use Rattle.sqlite.specs.State.{State, HasCleanDisk, IsRolledBack, KeepsCommit, Survives}
 use Rattle.sqlite.specs.Held.{Held, state}
+use Rattle.sqlite.specs.Tree.{Trees}
 use Rattle.sqlite.specs.declared.transaction.Transaction.{Transaction}
 use Rattle.sqlite_trees.specs.declared.store.Store.{Ghosts}
 use Rattle.sqlite.proofs.Callers.{survives_begin}
 use Rattle.sqlite.proofs.StateLemmas.{survives_then}
 use Rattle.posting_rules.specs.Tables.{Tables}
+use Rattle.posting_rules.specs.Sound.{AreSound}
+use Rattle.posting_rules.specs.declared.fault.Rule.{Rule}
 use Rattle.store_rows.specs.View.{Shows, ShowsTrees}
 use Rattle.store_rows.specs.Failures.{Committing}
 use Rattle.store_rows.specs.declared.faults.TableFault.{TableFault}
-use Rattle.bank_transactions.specs.Doing.{Acts, Damage, DoesBy, HasFailedBetween, IsBefore, IsBrokenOrMet, IsFault, IsFirstBroken, Leaves}
-use Rattle.bank_transactions.proofs.Blamed.{Widens, comes, fault_within, met_within, same_moment}
+use Rattle.store_rows.specs.declared.faults.TableFault.TheVariants.{Sqlite, Damaged}
+use Rattle.bank_transactions.specs.Doing.{Acts, Answers, Blames, Completes, Damage, DoesBy, Ends, EndsWith, Keeps}
+use Rattle.bank_transactions.specs.Doing.{IsBefore, IsBrokenOrMet, IsFirstBroken, Leaves, MayCommit, Reads, Undoes}
+use Rattle.bank_transactions.specs.Doing.{Consults, Transacts, TransactsBy}
+use Rattle.bank_transactions.proofs.Blamed.{Widens, comes, fault_within, met_within, same_moment, then_moment}
+use Rattle.bank_transactions.proofs.Chained.{does_for, does_read}
 
--- the connection, the transaction as it begins and before its commit, the connection after it
-pub stopped : {S X : Type 0} {Met : Damage S} {So : Tables → Type 0} {after : Tables → Tables} {w : Tables → X} {x : X} (g : Ghosts S) (old : Held S) (begun mid : Transaction S)
-    (end new : Held S) → begun.conn.now ≡ record old { in_transaction = true } → DoesBy Met g begun mid So after w (Ok x)
-    → Survives (state g mid.conn.now) (state g end) (λ left. (t : Tables) → Shows (state g mid.conn.now).now t → ShowsTrees left t) → end ≡ new
-    → Survives (state g old) (state g new) (Leaves (state g old) So after)
-stopped {S} {X} {Met} {So} {after} g old begun mid end new is does commit same =
-    subst (λ (h : Held S). Survives (state g old) (state g h) (Leaves (state g old) So after)) same
-    (survives_begin g old (state g end) (Leaves (state g old) So after)
-    (subst (λ (h : Held S). Survives (state g h) (state g end) (Leaves (state g old) So after)) is
-    (survives_then (state g begun.conn.now) (state g mid.conn.now) (state g end) (λ _. ⊥)
-    (λ left. (t : Tables) → Shows (state g mid.conn.now).now t → ShowsTrees left t) (Leaves (state g old) So after)
-    (λ clean db none. absurd none)
-    (λ clean db made t shows so. made (after t) (does.says.told (omega (arith, commit.clean)) (rw is refl) t (rw is shows) so).1)
-    does.says.survives commit)))
+-- ---- by what its parts answered, and with what it ended
 
-module _ {S X : Type 0} {Met : Damage S} {So : Tables → Type 0} {after : Tables → Tables} {w : Tables → X} {fault : TableFault} (g : Ghosts S)
-    (old : Held S) (begun mid : Transaction S) (end new : Held S) (is : begun.conn.now ≡ record old { in_transaction = true })
-    (does : DoesBy Met g begun mid So after w (Err fault)) (quiet : Survives (state g mid.conn.now) (state g end) (λ _. ⊥)) (same : end ≡ new)
-    (clean : HasCleanDisk (state g new)) where
+not_done : {X : Type 0} (last new : State) (after : Tables) (wanted : X) (fault : TableFault)
+    → Answers last after wanted (Err fault) → Completes new after wanted (Err fault)
+not_done last new after wanted (Sqlite e) told = tt
+not_done last new after wanted (Damaged rule) told = told
+
+completes : {X : Type 0} (last new : State) (after : Tables) (wanted : X) (answer result : Result X TableFault)
+    → IfOk result (λ x. answer ≡ Ok x) → Answers last after wanted answer → EndsWith last new answer result
+    → Completes new after wanted result
+completes last new after wanted (Ok x) (Ok y) given told ends =
+    let same : y ≡ x = (let is = given in cc) in
+    let committed = ends.1 after told.1 in
+    (same ∙ told.0, committed.0, committed.1)
+completes last new after wanted (Ok x) (Err (Sqlite e)) given told ends = tt
+completes last new after wanted (Ok x) (Err (Damaged rule)) given told ends = absurd ends
+completes {X} last new after wanted (Err fault) result given told ends =
+    subst (λ (r : Result X TableFault). Completes new after wanted r) (sym ends.0)
+    (not_done last new after wanted fault told)
+
+undone_by : (X : Type 0) (old last new : State) (fault : TableFault) → (IsTrue old.is_open → old.now ≡ old.committed)
+    → KeepsCommit old last → IsRolledBack last new → Undoes {X = X} old new (Err fault)
+undone_by X old last new (Sqlite e) settled kept back = tt
+undone_by X old last new (Damaged rule) settled kept back = λ is_open.
+    let last_open = back.was_open is_open in
+    let was_open = kept.was_open last_open in
+    (was_open, (back.undone is_open).0 ∙ kept.committed last_open ∙ sym (settled was_open))
+
+undoes : {X : Type 0} (old last new : State) (answer result : Result X TableFault)
+    → (IsTrue old.is_open → old.now ≡ old.committed) → Keeps old last answer → EndsWith last new answer result
+    → Undoes old new result
+undoes old last new (Ok x) (Ok y) settled kept ends = tt
+undoes old last new (Ok x) (Err (Sqlite e)) settled kept ends = tt
+undoes old last new (Ok x) (Err (Damaged rule)) settled kept ends = absurd ends
+undoes {X} old last new (Err fault) result settled kept ends =
+    subst (λ (r : Result X TableFault). Undoes old new r) (sym ends.0)
+    (undone_by X old last new fault settled kept ends.1)
+
+left_by : {X : Type 0} (last : State) (after : Tables) (wanted : X) (answer : Result X TableFault) (left : Trees)
+    → Answers last after wanted answer → MayCommit last answer left → ShowsTrees left after
+left_by last after wanted (Ok x) left told made = made after told.1
+left_by last after wanted (Err fault) left told made = absurd made
+
+blamed : {S X : Type 0} (Met : Damage S) (g : Ghosts S) (old start last new : Held S) (answer result : Result X TableFault)
+    → IsBefore (state g old) (state g start) → IsBefore (state g start) (state g last) → IsBefore (state g last) (state g new)
+    → Widens Met old start last new → Blames Met g start last answer → EndsWith (state g last) (state g new) answer result
+    → Blames Met g old new result
+blamed Met g old start last new (Ok x) (Ok y) first then end wide it ends = tt
+blamed Met g old start last new (Ok x) (Err (Sqlite e)) first then end wide it ends = record {
+  at = last;
+  then = new;
+  before = then_moment (state g old) (state g start) (state g last) first then;
+  failed = Committing ends;
+  after = same_moment (state g new);
+}
+blamed Met g old start last new (Ok x) (Err (Damaged rule)) first then end wide it ends = absurd ends
+blamed {S} {X} Met g old start last new (Err fault) result first then end wide it ends =
+    subst (λ (r : Result X TableFault). Blames Met g old new r) (sym ends.0)
+    (fault_within Met g old start last new fault wide first end it)
+
+-- ---- the whole transaction
+
+-- the connection, the transaction as it begins and after its parts, the connection after it
+module _ {S X : Type 0} {Met : Damage S} {So : Tables → Type 0} {after : Tables → Tables} {w : Tables → X}
+    {answer result : Result X TableFault} (g : Ghosts S) (old : Held S) (begun last : Transaction S) (new : Held S)
+    (is : begun.conn.now ≡ record old { in_transaction = true })
+    (settled : IsTrue (state g old).is_open → (state g old).now ≡ (state g old).committed)
+    (does : DoesBy Met g begun last So after w answer) (ends : Ends g last.conn.now new answer result) where
   abbrev start : Held S
   start = record old { in_transaction = true }
+
+  clean_before : HasCleanDisk (state g new) → HasCleanDisk (state g last.conn.now)
+  clean_before clean = omega (arith, ends.survives.clean)
+
+  told_so : HasCleanDisk (state g last.conn.now) → (t : Tables) → Shows (state g old).now t → So t
+      → Answers (state g last.conn.now) (after t) (w t) answer
+  told_so clean t shows so = does.says.told clean (rw is refl) t (rw is shows) so
+
+  kept_so : HasCleanDisk (state g last.conn.now)
+      → Keeps (state g start) (state g last.conn.now) answer × Blames Met g start last.conn.now answer
+  kept_so clean =
+      subst (λ (h : Held S). Keeps (state g h) (state g last.conn.now) answer × Blames Met g h last.conn.now answer) is
+      (does.says.kept clean (rw is refl))
 
   from_start : IsBefore (state g old) (state g start)
   from_start = record { faults = omega arith; limit = refl }
 
-  to_end : IsBefore (state g mid.conn.now) (state g new)
-  to_end = subst (λ (h : Held S). IsBefore (state g mid.conn.now) (state g h)) same (comes quiet)
+  within : IsBefore (state g start) (state g last.conn.now)
+  within = subst (λ (h : Held S). IsBefore (state g h) (state g last.conn.now)) is (comes does.says.survives)
 
-  -- the connection, the transaction as it begins and as a part of it failed, the connection after it
-  blamed_by : Widens Met old start mid.conn.now new → IsFault Met g old new fault
-  blamed_by wide =
-      let now : HasCleanDisk (state g end) = subst (λ (h : Held S). HasCleanDisk (state g h)) (sym same) clean in
-      let before : HasCleanDisk (state g mid.conn.now) = omega (arith, quiet.clean) in
-      let it = (does.says.kept before (subst (λ (h : Held S). IsTrue h.in_transaction) (sym is) refl)).1 in
-      fault_within Met g old start mid.conn.now new fault wide from_start to_end
-      (subst (λ (h : Held S). IsFault Met g h mid.conn.now fault) is it)
+  stop_so : Survives (state g old) (state g new) (Leaves (state g old) So after)
+  stop_so =
+      survives_begin g old (state g new) (Leaves (state g old) So after)
+      (subst (λ (h : Held S). Survives (state g h) (state g new) (Leaves (state g old) So after)) is
+      (survives_then (state g begun.conn.now) (state g last.conn.now) (state g new) (λ _. ⊥)
+      (MayCommit (state g last.conn.now) answer) (Leaves (state g old) So after) (λ clean left none. absurd none)
+      (λ clean left made t shows so.
+      left_by (state g last.conn.now) (after t) (w t) answer left (told_so (clean_before clean) t shows so) made)
+      does.says.survives ends.survives))
 
--- a part that reads and then writes
-pub blamed : {S X : Type 0} {So : Tables → Type 0} {after : Tables → Tables} {w : Tables → X} {fault : TableFault} (g : Ghosts S) (old : Held S)
-    (begun mid : Transaction S) (end new : Held S) → begun.conn.now ≡ record old { in_transaction = true } → Acts g begun mid So after w (Err fault)
-    → Survives (state g mid.conn.now) (state g end) (λ _. ⊥) → end ≡ new → HasCleanDisk (state g new) → IsFault (IsBrokenOrMet g) g old new fault
-blamed g old begun mid end new is does quiet same clean =
-    blamed_by g old begun mid end new is does quiet same clean (λ rule it. elim it [
+  transacted : Widens Met old start last.conn.now new → TransactsBy Met g old new So after w result
+  transacted wide = record {
+    told = λ clean t shows so.
+        completes (state g last.conn.now) (state g new) (after t) (w t) answer result
+        ends.given (told_so (clean_before clean) t shows so) (ends.told clean);
+    undone = λ clean.
+        undoes (state g start) (state g last.conn.now) (state g new) answer result settled
+        (kept_so (clean_before clean)).0 (ends.told clean);
+    stop = stop_so;
+    cause = λ clean.
+        blamed Met g old start last.conn.now new answer result from_start within (comes ends.survives) wide
+        (kept_so (clean_before clean)).1 (ends.told clean);
+    mode = ends.mode;
+  }
+
+-- of parts that read and then write
+pub transacts : {S X : Type 0} {So : Tables → Type 0} {after : Tables → Tables} {w : Tables → X}
+    {answer result : Result X TableFault} (g : Ghosts S) (old : Held S) (begun last : Transaction S) (end new : Held S)
+    → begun.conn.now ≡ record old { in_transaction = true }
+    → (IsTrue (state g old).is_open → (state g old).now ≡ (state g old).committed)
+    → Acts g begun last So after w answer → Ends g last.conn.now end answer result → end ≡ new
+    → Transacts g old new So after w result
+transacts {S} {X} {So} {after} {w} {answer} {result} g old begun last end new is settled does ends same =
+    subst (λ (h : Held S). Transacts g old h So after w result) same
+    (transacted g old begun last end is settled does ends (λ rule it. elim it [
       | inl broken ↦ inl broken
-      | inr met ↦ inr (met_within g old (record old { in_transaction = true }) mid.conn.now new rule
-          (from_start g old begun mid end new is does quiet same clean) (to_end g old begun mid end new is does quiet same clean) met)
-    ])
+      | inr met ↦ inr (met_within g old (record old { in_transaction = true }) last.conn.now end rule
+          (from_start g old begun last end is settled does ends) (comes ends.survives) met)
+    ]))
 
--- a part that only reads
-pub blamed_read : {S X : Type 0} {So : Tables → Type 0} {after : Tables → Tables} {w : Tables → X} {fault : TableFault} (g : Ghosts S) (old : Held S)
-    (begun mid : Transaction S) (end new : Held S) → begun.conn.now ≡ record old { in_transaction = true }
-    → DoesBy (IsFirstBroken g) g begun mid So after w (Err fault)
-    → Survives (state g mid.conn.now) (state g end) (λ _. ⊥) → end ≡ new → HasCleanDisk (state g new) → IsFault (IsFirstBroken g) g old new fault
-blamed_read g old begun mid end new is does quiet same clean = blamed_by g old begun mid end new is does quiet same clean (λ rule it. it)
+-- of parts that only read
+pub consults : {S X : Type 0} {w : Tables → X} {answer result : Result X TableFault} (g : Ghosts S) (old : Held S)
+    (begun last : Transaction S) (end new : Held S) → begun.conn.now ≡ record old { in_transaction = true }
+    → (IsTrue (state g old).is_open → (state g old).now ≡ (state g old).committed)
+    → Reads g begun last w answer → Ends g last.conn.now end answer result → end ≡ new
+    → Consults g old new AreSound w result
+consults {S} {X} {w} {answer} {result} g old begun last end new is settled reads ends same =
+    subst (λ (h : Held S). Consults g old h AreSound w result) same
+    (transacted {Met = IsFirstBroken g} {So = AreSound} {after = λ t. t} {w = w} g old begun last end is settled
+    (does_for (does_read g begun last w answer reads) (λ t sound. (sound.undamaged, refl, refl))) ends
+    (λ rule it. it))
 
--- the same where the commit failed
-pub uncommitted : {S X : Type 0} {Met : Damage S} {So : Tables → Type 0} {after : Tables → Tables} {w : Tables → X} {x : X} (g : Ghosts S) (old : Held S)
-    (begun mid : Transaction S) (end new : Held S) (e : Error) → begun.conn.now ≡ record old { in_transaction = true }
-    → DoesBy Met g begun mid So after w (Ok x)
-    → (HasCleanDisk (state g end) → FailsToCommit (state g mid.conn.now) (state g end) e) → end ≡ new → HasCleanDisk (state g new) → HasFailedBetween g old new e
-uncommitted {S} {X} {Met} {So} {after} {w} {x} g old begun mid end new e is does fails same clean =
-    let now : HasCleanDisk (state g end) = subst (λ (h : Held S). HasCleanDisk (state g h)) (sym same) clean in
-    let begins : IsBefore (state g (let h : Held S = record old { in_transaction = true } in h)) (state g mid.conn.now) =
-    subst (λ (h : Held S). IsBefore (state g h) (state g mid.conn.now)) is (comes does.says.survives) in
-    subst (λ (h : Held S). HasFailedBetween g old h e) same (record {
-      at = mid.conn.now;
-      then = end;
-      before = record { faults = begins.faults; limit = begins.limit };
-      failed = Committing (fails now);
-      after = same_moment (state g end);
-    })
+-- what is so of the answer of the parts is so of what is given
+pub of_given : {X : Type 0} (P : X → Type 0) (answer result : Result X TableFault)
+    → IfOk result (λ x. answer ≡ Ok x) → IfOk answer P → IfOk result P
+of_given P (Ok x) (Ok y) given so = let same : x ≡ y = (let is = given in cc) in subst P same so
+of_given P (Err fault) (Ok y) given so = absurd (let is = given in cc)
+of_given P answer (Err fault) given so = tt

@@ -1,7 +1,8 @@
 -- What the parts of a call do to the tables, and what a whole transaction does.
-use Rattle.std.specs.Prelude.{◌≡◌, ◌≤◌, ◌⊎◌, IsTrue, Bool, true, false, Result, Ok, Err, ⊤}
+use Rattle.std.specs.Prelude.{◌≡◌, ◌≤◌, ◌⊎◌, IsTrue, Bool, true, false, Result, Ok, Err, IfOk, ⊤}
 use Rattle.sqlite.specs.Tree.{Trees}
-use Rattle.sqlite.specs.State.{State, KeepsCommit, HasCleanDisk, Survives}
+use Rattle.sqlite.specs.State.{State, KeepsCommit, HasCleanDisk, IsRolledBack, Survives}
+use Rattle.sqlite.specs.Steps.{FailsToCommit}
 use Rattle.sqlite.specs.Held.{Held, state}
 use Rattle.sqlite.specs.declared.error.Error.{Error}
 use Rattle.sqlite.specs.declared.transaction.Transaction.{Transaction}
@@ -128,6 +129,29 @@ Does g = DoesBy (HasMetBetween g) g
 abbrev pub Acts : {S X : Type 0} → Ghosts S → Transaction S → Transaction S → (Tables → Type 0) → (Tables → Tables) → (Tables → X)
     → Result X TableFault → Type 0
 Acts g = DoesBy (IsBrokenOrMet g) g
+
+-- ---- how a transaction ends
+
+-- what a commit may leave, where there is an answer to commit
+abbrev pub MayCommit : {X : Type 0} → State → Result X TableFault → Trees → Type 0
+MayCommit last (Ok x) left = (tables : Tables) → Shows last.now tables → ShowsTrees left tables
+MayCommit last (Err fault) left = ⊥
+
+-- an answer is committed, and a stop leaves its tables; or its commit fails; after a fault all is rolled back
+abbrev pub EndsWith : {X : Type 0} → State → State → Result X TableFault → Result X TableFault → Type 0
+EndsWith last new (Ok x) (Ok y) = (new.now ≡ last.now)
+    × ((tables : Tables) → Shows last.now tables
+    → Shows new.now tables × ((left : Trees) → new.may_leave left → ShowsTrees left tables))
+EndsWith last new (Ok x) (Err (Sqlite e)) = FailsToCommit last new e
+EndsWith last new (Ok x) (Err (Damaged rule)) = ⊥
+EndsWith last new (Err fault) result = (result ≡ Err fault) × IsRolledBack last new
+
+-- A transaction of which the parts gave this answer has ended with that one.
+pub record Ends {S X : Type 0} (g : Ghosts S) (last new : Held S) (answer result : Result X TableFault) : Type 0 where
+  pub mode : new.in_transaction ≡ false
+  pub given : IfOk result (λ x. answer ≡ Ok x)
+  pub told : HasCleanDisk (state g new) → EndsWith (state g last) (state g new) answer result
+  pub survives : Survives (state g last) (state g new) (MayCommit (state g last) answer)
 
 -- ---- a transaction
 

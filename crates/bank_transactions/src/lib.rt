@@ -13,4 +13,4 @@ pub use look_ups::{
     branch_at, decided, kept_request, open_balance, place_of_account, teller_balances,
 };
 pub use next_branch::read_next_branch;
-pub use transactions::{begin, open_branch, post, read_balance};
+pub use transactions::{begin, finish, open_branch, post, read_balance};

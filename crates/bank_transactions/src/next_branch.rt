@@ -9,10 +9,10 @@ ghost use Rattle.store_rows.specs.Columns.{branch_above};
 ghost use Rattle.store_rows.specs.View.{Shows};
 ghost use Rattle.bank_transactions.specs.Doing.{Consults, Reads};
 
-use crate::transactions::begin;
+use crate::transactions::{begin, finish};
 use posting_rules::{BranchRow, LAST_BRANCH, MOST_ACCOUNTS, Rule};
 use sqlite::{Alter, Connection, Transaction};
-use store_rows::{TableFault, commit, next_branch};
+use store_rows::{TableFault, next_branch};
 
 /// The open branch with the least number above this one, none where no such branch is open.
 fn branch_after<S: Alter>(
@@ -47,7 +47,6 @@ pub fn read_next_branch<S: Alter>(
         → Shows (state S.Store conn.old).now tables → OnOk result (Shows (state S.Store conn.new).now tables) }
 {
     let mut tx = begin(conn);
-    let next = branch_after(&mut tx, after)?;
-    commit(tx)?;
-    Ok(next)
+    let next = branch_after(&mut tx, after);
+    finish(tx, next)
 }

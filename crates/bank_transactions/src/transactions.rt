@@ -8,7 +8,7 @@ ghost use Rattle.posting_rules.specs.LookUps.{account_balance_in, count_in};
 ghost use Rattle.posting_rules.specs.Sound.{AreSound};
 ghost use Rattle.posting_rules.specs.Tables.{Tables};
 ghost use Rattle.store_rows.specs.View.{Shows};
-ghost use Rattle.bank_transactions.specs.Doing.{Consults, Transacts};
+ghost use Rattle.bank_transactions.specs.Doing.{Consults, Ends, Transacts};
 
 use crate::look_ups::open_balance;
 use crate::opening::open_inside;
@@ -29,6 +29,18 @@ pub fn begin<S: Alter>(conn: &mut Connection<S>) -> Transaction<'_, S>
     conn.transaction()
 }
 
+/// Ends a transaction: an answer of its parts is committed, and a fault undoes all.
+pub fn finish<S: Alter, X: Drop>(
+    tx: Transaction<'_, S>,
+    answer: Result<X, TableFault>,
+) -> Result<X, TableFault>
+    ensures { Ends S.Store tx.entry.conn.now tx.exit.0.now answer result }
+{
+    let answer = answer?;
+    commit(tx)?;
+    Ok(answer)
+}
+
 /// Answers a request.
 pub fn post<S: Alter>(
     conn: &mut Connection<S>,
@@ -40,9 +52,8 @@ pub fn post<S: Alter>(
         (λ tables. reply_bytes tables request.now) result }
 {
     let mut tx = begin(conn);
-    let reply = answer(&mut tx, moment, request)?;
-    commit(tx)?;
-    Ok(reply)
+    let reply = answer(&mut tx, moment, request);
+    finish(tx, reply)
 }
 
 /// Opens a branch, unless it is open.
@@ -58,9 +69,8 @@ pub fn open_branch<S: Alter>(
         (λ tables. opening_for (count_in tables branch) count) result }
 {
     let mut tx = begin(conn);
-    let opening = open_inside(&mut tx, branch, count)?;
-    commit(tx)?;
-    Ok(opening)
+    let opening = open_inside(&mut tx, branch, count);
+    finish(tx, opening)
 }
 
 /// Looks up the balance of an account, none where it isn't open.
@@ -74,7 +84,6 @@ pub fn read_balance<S: Alter>(
         → Shows (state S.Store conn.old).now tables → OnOk result (Shows (state S.Store conn.new).now tables) }
 {
     let mut tx = begin(conn);
-    let balance = open_balance(&mut tx, account)?;
-    commit(tx)?;
-    Ok(balance)
+    let balance = open_balance(&mut tx, account);
+    finish(tx, balance)
 }

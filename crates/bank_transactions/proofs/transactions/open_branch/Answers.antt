@@ -1,40 +1,9 @@
--- What a stop may leave of the transaction.
-use Rattle.std.proofs.Common.{◌≡◌, Err, rules}
-use Rattle.store_rows.specs.declared.faults.TableFault.TheVariants.{Sqlite}
-use Rattle.bank_transactions.proofs.Transacted.{blamed, stopped, uncommitted}
+-- The parts of the transaction are one, which reads and then writes.
+use Rattle.std.proofs.Common.{rules}
+use Rattle.bank_transactions.proofs.Transacted.{transacts}
 use Rattle.bank_transactions.proofs.transactions.open_branch.Goals as goal
 
-pub returns-in_err-commit : goal.returns-in_err-commit
-returns-in_err-commit g c = record {
-  told = search rules;
-  undone = search rules;
-  stop = stopped g.S.Store c.args.conn.now c.begin-tx.result c.open_inside.new.tx c.commit.new.tx.0 c.conn-2-1.given.0 c.begin-tx.ensures.begun
-      c.in_ok-opening.ensures c.commit.ensures.survives (search rules);
-  cause = λ clean.
-      let same : c.from_residual-in_err-commit.result ≡ Err (Sqlite c.in_err-commit.field-0.0) = search rules in
-      rw same (uncommitted g.S.Store c.args.conn.now c.begin-tx.result c.open_inside.new.tx c.commit.new.tx.0 c.conn-2-1.given.0 c.in_err-commit.field-0.0
-      c.begin-tx.ensures.begun c.in_ok-opening.ensures c.in_err-commit.ensures.cause (search rules) clean);
-  mode = search rules;
-}
-
 pub returns : goal.returns
-returns g c = record {
-  told = search rules;
-  undone = search rules;
-  stop = stopped g.S.Store c.args.conn.now c.begin-tx.result c.open_inside.new.tx c.commit.new.tx.0 c.conn-2-1.given.0 c.begin-tx.ensures.begun
-      c.in_ok-opening.ensures c.commit.ensures.survives (search rules);
-  cause = λ clean. tt;
-  mode = search rules;
-}
-
-pub returns-in_err-opening : goal.returns-in_err-opening
-returns-in_err-opening g c = record {
-  told = search rules;
-  undone = search rules;
-  stop = search rules;
-  cause = λ clean.
-      let same : c.from_residual.result ≡ Err c.in_err-opening.field-0.0 = search rules in
-      rw same (blamed g.S.Store c.args.conn.now c.begin-tx.result c.open_inside.new.tx c.drop-tx.new.self.0 c.conn-1.given.0 c.begin-tx.ensures.begun
-      c.in_err-opening.ensures c.drop-tx.ensures.survives (search rules) clean);
-  mode = search rules;
-}
+returns g c =
+    transacts g.S.Store c.args.conn.now c.begin-tx.result c.open_inside-opening.new.tx c.finish.new.tx.0 _ c.begin-tx.ensures.begun
+    c.begin-tx.ensures.settled c.open_inside-opening.ensures c.finish.ensures (search rules)
