@@ -6,7 +6,7 @@ use Rattle.std.specs.Prelude.{IsSomeAnd, find, option_map, unwrap_or}
 use Rattle.std.specs.Option.{option_map_or}
 use Rattle.std.specs.Str.{bytes_eq}
 use Rattle.std.proofs.lemmas.Slice.Eq.{bytes_eq-Decides}
-use Rattle.clap.specs.Walk.{Row, Rule, Text, answers_to, arg_by_id}
+use Rattle.clap.specs.Walk.{Rule, Text, answers_to, arg_by_id}
 use Rattle.clap.specs.Walk.{nothing_held, one_of, rows_after, stop_after, walk_from}
 use Rattle.clap.specs.Simple.{new_rule, App, Shape, argument_words}
 use Rattle.clap.specs.Simple.{built, built_leaf, entered, label_of}
@@ -28,7 +28,8 @@ use Rattle.bank_words.specs.Words.{HasNumber, HasText, IsComplete}
 use Rattle.bank_words.proofs.Levels.{IsPlainLeaf, has_command, has_first, level_passes, value_of}
 use Rattle.bank_words.proofs.Rows.{HasValue}
 use Rattle.bank_words.proofs.Shapes.{drive_is_plain, file_and_account, file_and_address, file_and_numbers}
-use Rattle.bank_words.proofs.Shapes.{load_is_plain, one_file, one_is_plain, serve_is_plain, statement_is_plain}
+use Rattle.bank_words.proofs.Shapes.{load_is_plain, one_file, one_is_plain, serve_is_plain}
+use Rattle.bank_words.proofs.Shapes.{statement_is_plain}
 use Rattle.bank_words.proofs.Shapes.{two_files}
 use Rattle.bank_words.proofs.Stopped.{IsNoHelp, walk_stops}
 
@@ -176,7 +177,8 @@ each_completes name other = (
 )
 
 -- the level below `bank`
-below_completes : (stop : Option (Text × List Text)) → IsNoHelp stop → entered_fault (built bank_app) stop ≡ []
+below_completes : (stop : Option (Text × List Text)) → IsNoHelp stop
+    → entered_fault (built bank_app) stop ≡ []
     → is_some (entered (built bank_app) stop) ≡ true
     → IsSomeAnd (entered (built bank_app) stop) IsComplete
 below_completes None other none has = cc
@@ -204,8 +206,10 @@ words_complete words none =
     let stop = stop_after bank.top.rules (names_of bank) rest in
     let has = is_some (entered bank stop) in
     let passes = level_passes bank.top (names_of bank) rest has (entered_fault bank stop) none in
-    below_completes stop (walk_stops bank.top (names_of bank) rest (walk_from nothing_held) refl tt passes.walks)
-    passes.below_none (has_command bank.top (rows_after bank.top.rules (names_of bank) rest) has refl passes.checks)
+    below_completes stop (walk_stops bank.top (names_of bank) rest (walk_from nothing_held) refl tt
+    passes.walks)
+    passes.below_none (has_command bank.top (rows_after bank.top.rules (names_of bank) rest) has refl
+    passes.checks)
 
 -- what clap's parse promises of `bank`: at `Ok` the matches name a command, with all its values
 complete_at_ok : (r : Result ArgMatches Error) (words : List Text) → IfOk r (HasMatchesOf bank_app words)

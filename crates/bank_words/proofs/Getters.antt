@@ -1,7 +1,7 @@
 -- What `get_str` gives, by the rows of clap's matches.
-use Rattle.std.proofs.Common.{◌≡◌, ◌≤◌, ◌==◌, ◌∙◌, ◌∷◌, List, ℕ, Option, Some}
+use Rattle.std.proofs.Common.{◌≡◌, ◌≤◌, ◌∙◌, List, ℕ, Option, Some}
 use Rattle.std.proofs.Common.{None, is_some, true, false, codes, inl, inr}
-use Rattle.std.proofs.Common.{eq-eqb, slice_index, IsSome, Result, ap, ap₂, refl, subst, sym}
+use Rattle.std.proofs.Common.{IsSome, Result, ap, ap₂, refl, subst, sym}
 use Rattle.std.specs.Prelude.{IsSomeAnd, option_map}
 use Rattle.std.specs.Str.Parse.{ExplainsUnsignedError, HasUnsignedDigitsIfOk, ParsesUnsigned}
 use Rattle.std.specs.declared.num.ParseIntError.{ParseIntError}
@@ -20,7 +20,7 @@ use Rattle.message_records.specs.Ranges.{whole_within}
 use Rattle.bank_driver.proofs.Listed.{within}
 use Rattle.message_records.specs.declared.limits.TheConstants.{MAX_ACCOUNT}
 use Rattle.bank_words.specs.declared.limits.TheConstants.{MAX_CONNECTIONS}
-use Rattle.bank_words.specs.Words.{HasNumber, HasText, IsComplete, IsNumber}
+use Rattle.bank_words.specs.Words.{HasNumber, HasText, IsComplete, IsNumber, IsNumberIn}
 
 -- an argument with a value gives one
 pub text_given : (o : Option (Bor Text)) (f : Found) (id : Text)
@@ -131,10 +131,6 @@ values_of_serve p name complete = elim complete.1 [
 
 -- ---- numbers
 
--- a number in its range, which is the one that the argument's value spells
-abbrev pub IsRead : Found → Text → ℕ → ℕ → ℕ → Type 0
-IsRead f id least most n = IsNumber id (rows_of f) n × (least ≤ n) × (n ≤ most)
-
 -- what reading a `u64` says of a text
 abbrev pub Gives : Text → Result ℕ ParseIntError → Type 0
 Gives text r = ParsesUnsigned 64 10 text r × ExplainsUnsignedError 10 text r × HasUnsignedDigitsIfOk text r
@@ -143,12 +139,12 @@ Gives text r = ParsesUnsigned 64 10 text r × ExplainsUnsignedError 10 text r ×
 pub number_read : (f : Found) (id : Text) (least most : ℕ) (r : Option ℕ)
     → ((t : Text) → one_text f id ≡ Some t → ReadsOne Gives t r)
     → HasNumber id least most (rows_of f)
-    → (n : ℕ) × (r ≡ Some n) × IsRead f id least most n
+    → (n : ℕ) × (r ≡ Some n) × IsNumberIn id least most (rows_of f) n
 number_read f id least most r reads has = go (one_of id (rows_of f)) refl has
   where
     read : (t : Text) → one_of id (rows_of f) ≡ Some t → IsUnsignedIn least most t → (r : Option ℕ)
         → ReadsOne Gives t r
-        → (n : ℕ) × (r ≡ Some n) × IsRead f id least most n
+        → (n : ℕ) × (r ≡ Some n) × IsNumberIn id least most (rows_of f) n
     read t is in_range None given = absurd (given.1.0 (in_range.0, in_range.1))
     read t is in_range (Some n) given =
         let value = given.0.1 in
@@ -156,18 +152,18 @@ number_read f id least most r reads has = go (one_of id (rows_of f)) refl has
         (n, refl, (spells, rw value in_range.2, rw value in_range.3))
 
     go : (o : Option Text) → one_of id (rows_of f) ≡ o → IsSomeAnd o (IsUnsignedIn least most)
-        → (n : ℕ) × (r ≡ Some n) × IsRead f id least most n
+        → (n : ℕ) × (r ≡ Some n) × IsNumberIn id least most (rows_of f) n
     go None is has = absurd has
     go (Some t) is has = read t is has r (reads t (one_text-rows f id ∙ is))
 
 -- and so what is unwrapped is that number
 pub number_unwrapped : (f : Found) (id : Text) (least most : ℕ) (r : Option ℕ) (value : ℕ)
-    → (n : ℕ) × (r ≡ Some n) × IsRead f id least most n
-    → r ≡ Some value → IsRead f id least most value
+    → (n : ℕ) × (r ≡ Some n) × IsNumberIn id least most (rows_of f) n
+    → r ≡ Some value → IsNumberIn id least most (rows_of f) value
 number_unwrapped f id least most r value read is =
     let same : Some read.0 ≡ Some value = sym read.1 ∙ is in
     let equal : read.0 ≡ value = cc in
-    subst (IsRead f id least most) equal read.2
+    subst (IsNumberIn id least most (rows_of f)) equal read.2
 
 -- a number in its range, which is one of the type with that range
 pub within_same : (most n value : ℕ) (o : Option ℕ) → 1 ≤ n → n ≤ most → o ≡ whole_within 1 most n

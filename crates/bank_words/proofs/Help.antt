@@ -52,8 +52,10 @@ asked words (inr (inr (inl load))) = ap (fault_of bank_app) load.1 ∙ at_load l
 asked words (inr (inr (inr (inl post)))) = ap (fault_of bank_app) post.1 ∙ at_post post.0
 asked words (inr (inr (inr (inr (inl drive))))) = ap (fault_of bank_app) drive.1 ∙ at_drive drive.0
 asked words (inr (inr (inr (inr (inr (inl audit)))))) = ap (fault_of bank_app) audit.1 ∙ at_audit audit.0
-asked words (inr (inr (inr (inr (inr (inr (inl statement))))))) = ap (fault_of bank_app) statement.1 ∙ at_statement statement.0
-asked words (inr (inr (inr (inr (inr (inr (inr serve))))))) = ap (fault_of bank_app) serve.1 ∙ at_serve serve.0
+asked words (inr (inr (inr (inr (inr (inr (inl statement))))))) = ap (fault_of bank_app) statement.1
+    ∙ at_statement statement.0
+asked words (inr (inr (inr (inr (inr (inr (inr serve))))))) = ap (fault_of bank_app) serve.1
+    ∙ at_serve serve.0
 
 helped : {T : Type 0} (r : Result T Error) (kinds : Kinds) → kinds ≡ help_alone → FailsBy kinds r
     → IsErrAnd r IsHelp

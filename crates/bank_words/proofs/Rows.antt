@@ -31,7 +31,8 @@ no_second (k ∷ ks) b none = cc
 
 -- an argument that wants a value, or asks for help; its id is its own, and it has no default
 abbrev pub IsPlainRule : List Rule → Rule → Type 0
-IsPlainRule c a = (((action_of a ≡ Set) × (0 < (unwrap_or_range a.range).start_inclusive)) ⊎ (action_of a ≡ Help))
+IsPlainRule c a = (((action_of a ≡ Set) × (0 < (unwrap_or_range a.range).start_inclusive))
+    ⊎ (action_of a ≡ Help))
     × (arg_by_id c a.id ≡ Some a)
     × (a.defaults ≡ [])
 
@@ -145,7 +146,8 @@ no_values least most some none = go (nat_lt 0 least) (lt-ltb 0 least some) none
     go true is none = cc
     go false is none = cc
 
-passed : (a : Rule) (v : Text) → value_kinds a.ignore_case (parser_of_value a.parser) v ≡ [] → value_passes a v ≡ true
+passed : (a : Rule) (v : Text) → value_kinds a.ignore_case (parser_of_value a.parser) v ≡ []
+    → value_passes a v ≡ true
 passed a v none = go (value_passes a v) none
   where
     go : (b : Bool) → (if b then [] else refused_kind (parser_of_value a.parser) ∷ []) ≡ [] → b ≡ true
@@ -153,7 +155,8 @@ passed a v none = go (value_passes a v) none
     go false none = cc
 
 -- a use with no fault leaves rows whose values pass
-pub used_sound : (c : List Rule) (again : Bool) (a : Rule) (values : List Text) (rows : List Row) → IsPlainRule c a
+pub used_sound : (c : List Rule) (again : Bool) (a : Rule) (values : List Text) (rows : List Row)
+    → IsPlainRule c a
     → AreSound c rows → use_fault again a values rows ≡ []
     → AreSound c (used a values rows)
 used_sound c again a [] rows (inl one, own, plain) all none =

@@ -1,7 +1,9 @@
 -- The program's commands as clap builds them.
-use Rattle.std.proofs.Common.{◌≡◌, refl, arith, inl, inr, codes}
-use Rattle.clap.specs.Walk.{Text}
-use Rattle.clap.specs.Simple.{Shape, built_leaf, inherited, marked_built, new_app, on_top, with_leaf_noted, with_rule}
+use Rattle.std.proofs.Common.{◌≡◌, ◌&&◌, ◌∷◌, List, [], Some, false, true, refl, arith, inl, inr}
+use Rattle.clap.specs.Walk.{Text, nothing_held}
+use Rattle.clap.specs.Simple.{Shape, built_leaf, inherited, marked_built, new_app, on_top, rows_at}
+use Rattle.clap.specs.Simple.{subcommand_of, with_leaf_noted, with_rule}
+use Rattle.clap.specs.Takes.{level_passes, takes}
 use Rattle.bank_words.specs.CommandLine.{bank_app, drive_app, file_rule, load_app, serve_app, statement_app}
 use Rattle.bank_words.proofs.Levels.{IsPlainLeaf}
 
@@ -28,6 +30,13 @@ file_and_account = leaf_of statement_app.top
 -- `serve`, as built
 abbrev pub file_and_address : Shape
 file_and_address = leaf_of serve_app.top
+
+-- Clap reads words that begin with the command's name as that command, with the rows of its arguments; and it
+-- takes them where they pass there.
+pub record IsReadAs (s : Shape) (name : Text) (words : List Text) : Type 0 where
+  pub rows : (program : Text) → subcommand_of bank_app (program ∷ name ∷ words) ≡ Some (rows_at s words)
+  pub taken : (program : Text)
+      → takes bank_app (program ∷ name ∷ words) ≡ (level_passes s [] nothing_held words false && true)
 
 -- ---- their arguments are plain
 

@@ -2,26 +2,28 @@
 use Rattle.std.proofs.Common.{◌≡◌, ◌∙◌, ◌&&◌, true, false, refl}
 use Rattle.std.proofs.Common.{sym, ap, ap₂, inl, inr, List, [], ◌∷◌}
 use Rattle.std.proofs.Common.{Some, codes, Result, Ok, Err, IsErrAnd, drop}
-use Rattle.std.specs.Prelude.{MatchResult}
+use Rattle.std.specs.Prelude.{IsSomeAnd, MatchResult}
 use Rattle.clap.specs.Walk.{Row, Text, first_of, nothing_held, one_of, rows_after}
-use Rattle.clap.specs.Simple.{subcommand_of}
+use Rattle.clap.specs.Simple.{Shape, rows_at, subcommand_of}
 use Rattle.clap.specs.Takes.{level_passes, takes}
 use Rattle.clap.specs.Words.{kind_of}
 use Rattle.clap.specs.declared.error.Error.{Error}
 use Rattle.clap.specs.declared.error.kind.ErrorKind.TheVariants.{OutOfMemory}
 use Rattle.bank_words.specs.declared.reading.Command.{Command}
-use Rattle.bank_words.specs.declared.reading.Command.TheVariants.{Audit, Drive, Init, Load, Post, Serve, Statement}
+use Rattle.bank_words.specs.declared.reading.Command.TheVariants.{Audit, Drive, Init, Load, Post, Serve}
+use Rattle.bank_words.specs.declared.reading.Command.TheVariants.{Statement}
 use Rattle.message_records.specs.declared.limits.TheConstants.{MAX_ACCOUNT}
 use Rattle.bank_words.specs.CommandLine.{bank_app}
-use Rattle.bank_words.specs.Words.{AskWithFile, IsCommandOf, IsNumber, IsReadFrom, IsSpelled, IsSpelledBy, IsText}
+use Rattle.bank_words.specs.Words.{IsCommandOf, IsReadFrom, IsSpelled, IsSpelledBy, IsText}
 use Rattle.bank_words.specs.Words.{IsWantOfMemory, begins_with_dash, number_of}
 use Rattle.bank_words.proofs.Getters.{apart}
-use Rattle.bank_words.proofs.Shapes.{file_and_account, file_and_address, file_and_numbers, one_file, two_files}
-use Rattle.bank_words.proofs.SpelledFiles.{audit_read, audit_taken, init_read, init_taken, load_goes, load_read}
-use Rattle.bank_words.proofs.SpelledFiles.{load_taken, one_goes, post_read, post_taken, two_held}
-use Rattle.bank_words.proofs.SpelledNumbers.{drive_goes, drive_passes, drive_read, drive_taken, drive_words}
-use Rattle.bank_words.proofs.SpelledNumbers.{serve_goes, serve_passes, serve_read, serve_taken, serve_words}
-use Rattle.bank_words.proofs.SpelledNumbers.{statement_goes, statement_passes, statement_read, statement_taken}
+use Rattle.bank_words.proofs.Shapes.{IsReadAs, file_and_account, file_and_address, file_and_numbers, one_file}
+use Rattle.bank_words.proofs.Shapes.{two_files}
+use Rattle.bank_words.proofs.SpelledFiles.{audit_read, init_read, load_goes, load_read, one_goes, post_read}
+use Rattle.bank_words.proofs.SpelledFiles.{two_held}
+use Rattle.bank_words.proofs.SpelledNumbers.{drive_goes, drive_passes, drive_read, drive_words}
+use Rattle.bank_words.proofs.SpelledNumbers.{serve_goes, serve_passes, serve_read, serve_words}
+use Rattle.bank_words.proofs.SpelledNumbers.{statement_goes, statement_passes, statement_read}
 use Rattle.bank_words.proofs.SpelledNumbers.{with_address, with_seed}
 use Rattle.bank_words.proofs.Valued.{before, file_held, given, no_dash, rows_to, taken_to}
 
@@ -31,7 +33,8 @@ same_text : (s t : Text) → Some s ≡ Some t → s ≡ t
 same_text s t same = cc
 
 -- the command has a value in these rows
-text_told : (id : Text) (rows : List Row) (text told : Text) → first_of id rows ≡ Some text → IsText id rows told
+text_told : (id : Text) (rows : List Row) (text told : Text) → first_of id rows ≡ Some text
+    → IsText id rows told
     → text ≡ told
 text_told id rows text told first is = same_text text told (sym first ∙ is)
 
@@ -118,36 +121,47 @@ one_first name file dash =
     ap (first_of (codes "file"))
     (rows_to (one_file name) (file ∷ []) (before (file_held file) 2) (one_goes name file dash))
 
-one_taken : (name : Text) (words : List Text) (s : AskWithFile name words)
-    → takes bank_app (s.0 ∷ name ∷ s.1 ∷ [])
-    ≡ (level_passes (one_file name) [] nothing_held (s.1 ∷ []) false && true)
-    → takes bank_app words ≡ true
-one_taken name words s takes_it =
-    ap (takes bank_app) s.3 ∙ (takes_it ∙ ap (λ b. b && true)
-    (taken_to (one_file name) (s.1 ∷ []) (before (file_held s.1) 2) (one_goes name s.1 s.2) refl))
+one_passes : (name file : Text) → begins_with_dash file ≡ false
+    → level_passes (one_file name) [] nothing_held (file ∷ []) false ≡ true
+one_passes name file dash =
+    taken_to (one_file name) (file ∷ []) (before (file_held file) 2) (one_goes name file dash) refl
 
 -- ---- all together
+
+module _ (s : Shape) (name : Text) (own : List Text) (is : IsReadAs s name own) (words : List Text)
+    (program : Text) (are : words ≡ program ∷ name ∷ own) where
+  -- words that pass at the command are taken
+  taken_as : level_passes s [] nothing_held own false ≡ true → takes bank_app words ≡ true
+  taken_as passes = ap (takes bank_app) are ∙ (is.taken program ∙ ap (λ b. b && true) passes)
+
+  -- and read as the command's
+  read_as : (command : Command) → IsReadFrom words command
+      → IsSomeAnd (Some (rows_at s own)) (λ p. IsCommandOf p command)
+  read_as command read = rw (ap (subcommand_of bank_app) are ∙ is.rows program) at read
 
 -- clap takes such words
 spelled_taken : (words : List Text) → IsSpelled words → takes bank_app words ≡ true
 spelled_taken words (inl s) =
-    one_taken (codes "init") words s (init_taken s.0 s.1)
+    taken_as (one_file (codes "init")) (codes "init") _ (init_read s.1) words s.0 s.3
+    (one_passes (codes "init") s.1 s.2)
 spelled_taken words (inr (inl s)) =
-    ap (takes bank_app) s.5 ∙ (load_taken s.0 s.1 s.2 ∙ ap (λ b. b && true)
-    (taken_to two_files (s.1 ∷ s.2 ∷ []) (two_held (codes "plan") s.1 s.2) (load_goes s.1 s.2 s.3 s.4) refl))
+    taken_as two_files (codes "load") _ (load_read s.1 s.2) words s.0 s.5
+    (taken_to two_files (s.1 ∷ s.2 ∷ []) (two_held (codes "plan") s.1 s.2) (load_goes s.1 s.2 s.3 s.4) refl)
 spelled_taken words (inr (inr (inl s))) =
-    one_taken (codes "post") words s (post_taken s.0 s.1)
+    taken_as (one_file (codes "post")) (codes "post") _ (post_read s.1) words s.0 s.3
+    (one_passes (codes "post") s.1 s.2)
 spelled_taken words (inr (inr (inr (inl s)))) =
-    ap (takes bank_app) s.7
-    ∙ (drive_taken s.0 s.1 s.2 s.3 ∙ ap (λ b. b && true) (drive_passes s.1 s.2 s.3 s.4 s.5 s.6))
+    taken_as file_and_numbers (codes "drive") _ (drive_read s.1 s.2 s.3) words s.0 s.7
+    (drive_passes s.1 s.2 s.3 s.4 s.5 s.6)
 spelled_taken words (inr (inr (inr (inr (inl s))))) =
-    one_taken (codes "audit") words s (audit_taken s.0 s.1)
+    taken_as (one_file (codes "audit")) (codes "audit") _ (audit_read s.1) words s.0 s.3
+    (one_passes (codes "audit") s.1 s.2)
 spelled_taken words (inr (inr (inr (inr (inr (inl s)))))) =
-    ap (takes bank_app) s.5
-    ∙ (statement_taken s.0 s.1 s.2 ∙ ap (λ b. b && true) (statement_passes s.1 s.2 s.3 s.4))
+    taken_as file_and_account (codes "statement") _ (statement_read s.1 s.2) words s.0 s.5
+    (statement_passes s.1 s.2 s.3 s.4)
 spelled_taken words (inr (inr (inr (inr (inr (inr s)))))) =
-    ap (takes bank_app) s.7
-    ∙ (serve_taken s.0 s.1 s.2 s.3 ∙ ap (λ b. b && true) (serve_passes s.1 s.2 s.3 s.4 s.5 s.6))
+    taken_as file_and_address (codes "serve") _ (serve_read s.1 s.2 s.3) words s.0 s.7
+    (serve_passes s.1 s.2 s.3 s.4 s.5 s.6)
 
 -- words that spell a command tell that command
 pub spelled_at_ok : (words : List Text) (command : Command) → IsReadFrom words command → IsSpelled words
@@ -155,36 +169,38 @@ pub spelled_at_ok : (words : List Text) (command : Command) → IsReadFrom words
 spelled_at_ok words command read (inl s) =
     init_told (rows_after (one_file (codes "init")).rules [] (s.1 ∷ [])) s.1 words command
     (one_first (codes "init") s.1 s.2) (ap (drop 1) s.3)
-    (rw (ap (subcommand_of bank_app) s.3 ∙ init_read s.0 s.1) at read)
+    (read_as (one_file (codes "init")) (codes "init") _ (init_read s.1) words s.0 s.3 command read)
 spelled_at_ok words command read (inr (inl s)) =
     let rows = rows_after two_files.rules [] (s.1 ∷ s.2 ∷ []) in
-    let end = rows_to two_files (s.1 ∷ s.2 ∷ []) (two_held (codes "plan") s.1 s.2) (load_goes s.1 s.2 s.3 s.4) in
+    let end = rows_to two_files (s.1 ∷ s.2 ∷ []) (two_held (codes "plan") s.1 s.2)
+    (load_goes s.1 s.2 s.3 s.4) in
     load_told rows s.1 s.2 words command
     (ap (first_of (codes "file")) end) (ap (first_of (codes "plan")) end) (ap (drop 1) s.5)
-    (rw (ap (subcommand_of bank_app) s.5 ∙ load_read s.0 s.1 s.2) at read)
+    (read_as two_files (codes "load") _ (load_read s.1 s.2) words s.0 s.5 command read)
 spelled_at_ok words command read (inr (inr (inl s))) =
     post_told (rows_after (one_file (codes "post")).rules [] (s.1 ∷ [])) s.1 words command
     (one_first (codes "post") s.1 s.2) (ap (drop 1) s.3)
-    (rw (ap (subcommand_of bank_app) s.3 ∙ post_read s.0 s.1) at read)
+    (read_as (one_file (codes "post")) (codes "post") _ (post_read s.1) words s.0 s.3 command read)
 spelled_at_ok words command read (inr (inr (inr (inl s)))) =
     let rows = rows_after file_and_numbers.rules [] (drive_words s.1 s.2 s.3) in
-    let end = rows_to file_and_numbers (drive_words s.1 s.2 s.3) (given 2 (with_seed s.1 s.2) (codes "count") s.3)
+    let end = rows_to file_and_numbers (drive_words s.1 s.2 s.3)
+    (given 2 (with_seed s.1 s.2) (codes "count") s.3)
     (drive_goes s.1 s.2 s.3 s.4 s.5 s.6) in
     drive_told rows s.1 s.2 s.3 words command
     (ap (first_of (codes "file")) end) (ap (one_of (codes "seed")) end) (ap (one_of (codes "count")) end)
     (ap (drop 1) s.7)
-    (rw (ap (subcommand_of bank_app) s.7 ∙ drive_read s.0 s.1 s.2 s.3) at read)
+    (read_as file_and_numbers (codes "drive") _ (drive_read s.1 s.2 s.3) words s.0 s.7 command read)
 spelled_at_ok words command read (inr (inr (inr (inr (inl s))))) =
     audit_told (rows_after (one_file (codes "audit")).rules [] (s.1 ∷ [])) s.1 words command
     (one_first (codes "audit") s.1 s.2) (ap (drop 1) s.3)
-    (rw (ap (subcommand_of bank_app) s.3 ∙ audit_read s.0 s.1) at read)
+    (read_as (one_file (codes "audit")) (codes "audit") _ (audit_read s.1) words s.0 s.3 command read)
 spelled_at_ok words command read (inr (inr (inr (inr (inr (inl s)))))) =
     let rows = rows_after file_and_account.rules [] (s.1 ∷ s.2 ∷ []) in
     let end = rows_to file_and_account (s.1 ∷ s.2 ∷ []) (two_held (codes "account") s.1 s.2)
     (statement_goes s.1 s.2 s.3 (no_dash 1 MAX_ACCOUNT s.2 s.4)) in
     statement_told rows s.1 s.2 words command
     (ap (first_of (codes "file")) end) (ap (one_of (codes "account")) end) (ap (drop 1) s.5)
-    (rw (ap (subcommand_of bank_app) s.5 ∙ statement_read s.0 s.1 s.2) at read)
+    (read_as file_and_account (codes "statement") _ (statement_read s.1 s.2) words s.0 s.5 command read)
 spelled_at_ok words command read (inr (inr (inr (inr (inr (inr s)))))) =
     let rows = rows_after file_and_address.rules [] (serve_words s.1 s.2 s.3) in
     let end = rows_to file_and_address (serve_words s.1 s.2 s.3)
@@ -192,7 +208,7 @@ spelled_at_ok words command read (inr (inr (inr (inr (inr (inr s)))))) =
     serve_told rows s.1 s.2 s.3 words command
     (ap (first_of (codes "file")) end) (ap (first_of (codes "address")) end)
     (ap (one_of (codes "connections")) end) (ap (drop 1) s.7)
-    (rw (ap (subcommand_of bank_app) s.7 ∙ serve_read s.0 s.1 s.2 s.3) at read)
+    (read_as file_and_address (codes "serve") _ (serve_read s.1 s.2 s.3) words s.0 s.7 command read)
 
 -- and only want of memory is in the way
 pub spelled_at_err : (r : Result Command Error) (error : Error) (words : List Text)

@@ -1,13 +1,9 @@
 -- What clap reads in the words of a command with files alone: `init`, `post`, `audit` and `load`.
-use Rattle.std.proofs.Common.{◌≡◌, ◌∙◌, ◌&&◌, Bool, true, false, refl}
-use Rattle.std.proofs.Common.{ap, List, [], ◌∷◌, Some, codes}
-use Rattle.clap.specs.Walk.{Row, Text, Walk, nothing_held, walked}
-use Rattle.clap.specs.Simple.{rows_at, subcommand_of}
-use Rattle.clap.specs.Takes.{level_passes, takes, turn_passes}
+use Rattle.std.proofs.Common.{◌≡◌, false, refl, [], ◌∷◌, Some, codes}
+use Rattle.clap.specs.Walk.{Text, Walk, nothing_held}
 use Rattle.clap.proofs.OnLiterals.{clap_on_literals}
-use Rattle.bank_words.specs.CommandLine.{bank_app}
 use Rattle.bank_words.specs.Words.{begins_with_dash}
-use Rattle.bank_words.proofs.Shapes.{one_file, two_files}
+use Rattle.bank_words.proofs.Shapes.{IsReadAs, one_file, two_files}
 use Rattle.bank_words.proofs.Valued.{Goes, before, file_held, row_with, stops, value_goes}
 
 -- ---- one file
@@ -19,41 +15,17 @@ one_goes name file dash =
     let end = before (file_held file) 2 in
     value_goes s nothing_held 1 end end file [] dash refl refl (stops s end)
 
-pub init_read : (program file : Text)
-    → subcommand_of bank_app (program ∷ codes "init" ∷ file ∷ [])
-    ≡ Some (rows_at (one_file (codes "init")) (file ∷ []))
+pub init_read : (file : Text) → IsReadAs (one_file (codes "init")) (codes "init") (file ∷ [])
 unfolding clap_on_literals
-init_read program file = refl
+init_read file = record { rows = λ program. refl; taken = λ program. refl }
 
-pub init_taken : (program file : Text)
-    → takes bank_app (program ∷ codes "init" ∷ file ∷ [])
-    ≡ (level_passes (one_file (codes "init")) [] nothing_held (file ∷ []) false && true)
+pub post_read : (file : Text) → IsReadAs (one_file (codes "post")) (codes "post") (file ∷ [])
 unfolding clap_on_literals
-init_taken program file = refl
+post_read file = record { rows = λ program. refl; taken = λ program. refl }
 
-pub post_read : (program file : Text)
-    → subcommand_of bank_app (program ∷ codes "post" ∷ file ∷ [])
-    ≡ Some (rows_at (one_file (codes "post")) (file ∷ []))
+pub audit_read : (file : Text) → IsReadAs (one_file (codes "audit")) (codes "audit") (file ∷ [])
 unfolding clap_on_literals
-post_read program file = refl
-
-pub post_taken : (program file : Text)
-    → takes bank_app (program ∷ codes "post" ∷ file ∷ [])
-    ≡ (level_passes (one_file (codes "post")) [] nothing_held (file ∷ []) false && true)
-unfolding clap_on_literals
-post_taken program file = refl
-
-pub audit_read : (program file : Text)
-    → subcommand_of bank_app (program ∷ codes "audit" ∷ file ∷ [])
-    ≡ Some (rows_at (one_file (codes "audit")) (file ∷ []))
-unfolding clap_on_literals
-audit_read program file = refl
-
-pub audit_taken : (program file : Text)
-    → takes bank_app (program ∷ codes "audit" ∷ file ∷ [])
-    ≡ (level_passes (one_file (codes "audit")) [] nothing_held (file ∷ []) false && true)
-unfolding clap_on_literals
-audit_taken program file = refl
+audit_read file = record { rows = λ program. refl; taken = λ program. refl }
 
 -- ---- two files
 
@@ -70,13 +42,6 @@ load_goes file plan dash plan_dash =
     value_goes s nothing_held 1 (before (file_held file) 2) end file (plan ∷ []) dash refl refl
     (value_goes s (file_held file) 2 end end plan [] plan_dash refl refl (stops s end))
 
-pub load_read : (program file plan : Text)
-    → subcommand_of bank_app (program ∷ codes "load" ∷ file ∷ plan ∷ [])
-    ≡ Some (rows_at two_files (file ∷ plan ∷ []))
+pub load_read : (file plan : Text) → IsReadAs two_files (codes "load") (file ∷ plan ∷ [])
 unfolding clap_on_literals
-load_read program file plan = refl
-
-pub load_taken : (program file plan : Text) → takes bank_app (program ∷ codes "load" ∷ file ∷ plan ∷ [])
-    ≡ (level_passes two_files [] nothing_held (file ∷ plan ∷ []) false && true)
-unfolding clap_on_literals
-load_taken program file plan = refl
+load_read file plan = record { rows = λ program. refl; taken = λ program. refl }

@@ -1,9 +1,7 @@
 -- What clap reads in the words of a command with numbers: `statement`, `drive` and `serve`.
-use Rattle.std.proofs.Common.{◌≡◌, ◌∙◌, ◌&&◌, Bool, true, false, refl}
-use Rattle.std.proofs.Common.{ap, List, [], ◌∷◌, Some, codes}
-use Rattle.clap.specs.Walk.{Row, Text, Walk, nothing_held, walked}
-use Rattle.clap.specs.Simple.{rows_at, subcommand_of}
-use Rattle.clap.specs.Takes.{level_passes, takes, turn_passes}
+use Rattle.std.proofs.Common.{◌≡◌, true, false, refl, List, [], ◌∷◌, codes}
+use Rattle.clap.specs.Walk.{Row, Text, nothing_held, walked}
+use Rattle.clap.specs.Takes.{level_passes, turn_passes}
 use Rattle.clap.proofs.OnLiterals.{clap_on_literals}
 use Rattle.clap.specs.ValueTests.{accepts}
 use Rattle.clap.specs.Words.{IsUnsignedIn}
@@ -12,9 +10,9 @@ use Rattle.clap.specs.declared.builder.value_parser.ValueParser.TheVariants.{Uns
 use Rattle.bank_driver.specs.declared.driving.TheConstants.{MAX_DRIVEN}
 use Rattle.message_records.specs.declared.limits.TheConstants.{MAX_ACCOUNT}
 use Rattle.bank_words.specs.declared.limits.TheConstants.{MAX_CONNECTIONS}
-use Rattle.bank_words.specs.CommandLine.{MAX_SEED, bank_app}
+use Rattle.bank_words.specs.CommandLine.{MAX_SEED}
 use Rattle.bank_words.specs.Words.{begins_with_dash}
-use Rattle.bank_words.proofs.Shapes.{file_and_account, file_and_address, file_and_numbers}
+use Rattle.bank_words.proofs.Shapes.{IsReadAs, file_and_account, file_and_address, file_and_numbers}
 use Rattle.bank_words.proofs.SpelledFiles.{two_held}
 use Rattle.bank_words.proofs.Valued.{Goes, asked, before, ends_well, file_held, given, goes_on, no_dash}
 use Rattle.bank_words.proofs.Valued.{option_goes, row_with, stops, taken_to, value_goes}
@@ -34,24 +32,18 @@ statement_ends : (file account : Text) → accepts false (Unsigned 1 MAX_ACCOUNT
     → ends_well file_and_account (two_held (codes "account") file account).held ≡ true
 statement_ends file account passes = rw passes refl
 
-pub statement_passes : (file account : Text) → begins_with_dash file ≡ false → IsUnsignedIn 1 MAX_ACCOUNT account
+pub statement_passes : (file account : Text) → begins_with_dash file ≡ false
+    → IsUnsignedIn 1 MAX_ACCOUNT account
     → level_passes file_and_account [] nothing_held (file ∷ account ∷ []) false ≡ true
 statement_passes file account dash account_in =
     taken_to file_and_account (file ∷ account ∷ []) (two_held (codes "account") file account)
     (statement_goes file account dash (no_dash 1 MAX_ACCOUNT account account_in))
     (statement_ends file account (Accepts-accepts false (Unsigned 1 MAX_ACCOUNT) account account_in))
 
-pub statement_read : (program file account : Text)
-    → subcommand_of bank_app (program ∷ codes "statement" ∷ file ∷ account ∷ [])
-    ≡ Some (rows_at file_and_account (file ∷ account ∷ []))
+pub statement_read : (file account : Text)
+    → IsReadAs file_and_account (codes "statement") (file ∷ account ∷ [])
 unfolding clap_on_literals
-statement_read program file account = refl
-
-pub statement_taken : (program file account : Text)
-    → takes bank_app (program ∷ codes "statement" ∷ file ∷ account ∷ [])
-    ≡ (level_passes file_and_account [] nothing_held (file ∷ account ∷ []) false && true)
-unfolding clap_on_literals
-statement_taken program file account = refl
+statement_read file account = record { rows = λ program. refl; taken = λ program. refl }
 
 -- ---- a file and two numbers
 
@@ -96,14 +88,17 @@ drive_goes file seed count dash seed_in count_in =
     let s = file_and_numbers in
     let end = given 2 (with_seed file seed) (codes "count") count in
     let later = codes "--count" ∷ count ∷ [] in
-    value_goes s nothing_held 1 (before (file_held file) 2) end file (codes "--seed" ∷ seed ∷ later) dash refl refl
+    value_goes s nothing_held 1 (before (file_held file) 2) end file (codes "--seed" ∷ seed ∷ later) dash refl
+    refl
     (goes_on s (before (file_held file) 2) (asked 2 (with_file file) (codes "seed")) end (codes "--seed")
     (seed ∷ later) (seed_turn file) (seed_asked file)
     (option_goes s 2 (with_file file) (codes "seed") end seed later (no_dash 0 MAX_SEED seed seed_in) refl
-    (goes_on s (given 2 (with_file file) (codes "seed") seed) (asked 2 (with_seed file seed) (codes "count")) end
+    (goes_on s (given 2 (with_file file) (codes "seed") seed) (asked 2 (with_seed file seed) (codes "count"))
+    end
     (codes "--count") (count ∷ [])
     (count_turn file seed (Accepts-accepts false (Unsigned 0 MAX_SEED) seed seed_in)) (count_asked file seed)
-    (option_goes s 2 (with_seed file seed) (codes "count") end count [] (no_dash 1 MAX_DRIVEN count count_in) refl
+    (option_goes s 2 (with_seed file seed) (codes "count") end count [] (no_dash 1 MAX_DRIVEN count count_in)
+    refl
     (stops s end)))))
 
 drive_ends : (file seed count : Text) → accepts false (Unsigned 1 MAX_DRIVEN) count ≡ true
@@ -114,21 +109,15 @@ pub drive_passes : (file seed count : Text) → begins_with_dash file ≡ false 
     → IsUnsignedIn 1 MAX_DRIVEN count
     → level_passes file_and_numbers [] nothing_held (drive_words file seed count) false ≡ true
 drive_passes file seed count dash seed_in count_in =
-    taken_to file_and_numbers (drive_words file seed count) (given 2 (with_seed file seed) (codes "count") count)
+    taken_to file_and_numbers (drive_words file seed count)
+    (given 2 (with_seed file seed) (codes "count") count)
     (drive_goes file seed count dash seed_in count_in)
     (drive_ends file seed count (Accepts-accepts false (Unsigned 1 MAX_DRIVEN) count count_in))
 
-pub drive_read : (program file seed count : Text)
-    → subcommand_of bank_app (program ∷ codes "drive" ∷ drive_words file seed count)
-    ≡ Some (rows_at file_and_numbers (drive_words file seed count))
+pub drive_read : (file seed count : Text)
+    → IsReadAs file_and_numbers (codes "drive") (drive_words file seed count)
 unfolding clap_on_literals
-drive_read program file seed count = refl
-
-pub drive_taken : (program file seed count : Text)
-    → takes bank_app (program ∷ codes "drive" ∷ drive_words file seed count)
-    ≡ (level_passes file_and_numbers [] nothing_held (drive_words file seed count) false && true)
-unfolding clap_on_literals
-drive_taken program file seed count = refl
+drive_read file seed count = record { rows = λ program. refl; taken = λ program. refl }
 
 -- ---- a file, an address and a number
 
@@ -181,14 +170,7 @@ serve_passes file address connections dash address_dash number =
     (serve_ends file address connections
     (Accepts-accepts false (Unsigned 1 MAX_CONNECTIONS) connections number))
 
-pub serve_read : (program file address connections : Text)
-    → subcommand_of bank_app (program ∷ codes "serve" ∷ serve_words file address connections)
-    ≡ Some (rows_at file_and_address (serve_words file address connections))
+pub serve_read : (file address connections : Text)
+    → IsReadAs file_and_address (codes "serve") (serve_words file address connections)
 unfolding clap_on_literals
-serve_read program file address connections = refl
-
-pub serve_taken : (program file address connections : Text)
-    → takes bank_app (program ∷ codes "serve" ∷ serve_words file address connections)
-    ≡ (level_passes file_and_address [] nothing_held (serve_words file address connections) false && true)
-unfolding clap_on_literals
-serve_taken program file address connections = refl
+serve_read file address connections = record { rows = λ program. refl; taken = λ program. refl }

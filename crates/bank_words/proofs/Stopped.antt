@@ -6,8 +6,10 @@ use Rattle.clap.specs.Faults.{other_fault, step_fault, turn_fault, walk_fault, w
 use Rattle.clap.specs.Kinds.{or_else}
 use Rattle.clap.specs.Lexer.{long_of, short_of}
 use Rattle.clap.specs.Simple.{Shape}
-use Rattle.clap.specs.Walk.{Held, Names, Outcome, Rule, Step, Text, Waiting, Walk, done, waits, plain, refused}
-use Rattle.clap.specs.Walk.{idle, option, positional, next, trailing, subcommand, value, after_flag, after_step}
+use Rattle.clap.specs.Walk.{Held, Names, Outcome, Rule, Step, Text, Waiting, Walk, done, waits, plain}
+use Rattle.clap.specs.Walk.{refused}
+use Rattle.clap.specs.Walk.{idle, option, positional, next, trailing, subcommand, value, after_flag}
+use Rattle.clap.specs.Walk.{after_step}
 use Rattle.clap.specs.Walk.{arg_by_index, arg_by_long, bundle, long_met, long_or_other, plain_word}
 use Rattle.clap.specs.Walk.{short_or_plain, subcommand_met, subcommand_or_other, to_positional, walked}
 use Rattle.clap.specs.Walk.{walked_from, word_met}
@@ -105,7 +107,8 @@ walked_stops s names w word helps was none = go w.stopped was none
         step_stops s.rules word w met.0 met.1 was
         (word_step s names w.is_trailing w.waiting w.position word w.held helps (no_first words steps none))
 
-pub walk_stops : (s : Shape) (names : Names) (words : List Text) (w : Walk) → s.disable_help_subcommand ≡ false
+pub walk_stops : (s : Shape) (names : Names) (words : List Text) (w : Walk)
+    → s.disable_help_subcommand ≡ false
     → IsNoHelp w.stopped → walk_fault s names w words ≡ []
     → IsNoHelp (fold (walked s.rules names) w words).stopped
 unfolding walk_fault

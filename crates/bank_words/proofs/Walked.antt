@@ -4,7 +4,8 @@ use Rattle.std.proofs.Common.{Some, None, refl, ap, not}
 use Rattle.std.specs.Prelude.{fold, slice_get, drop, encode_utf8, if◌then◌else◌, is_some}
 use Rattle.std.specs.Option.{option_map_or}
 use Rattle.std.specs.Str.{bytes_eq, chars}
-use Rattle.clap.specs.Faults.{bundle_step_fault, flag_word_fault, flags_fault, long_fault, option_fault, other_fault}
+use Rattle.clap.specs.Faults.{bundle_step_fault, flag_word_fault, flags_fault, long_fault, option_fault}
+use Rattle.clap.specs.Faults.{other_fault}
 use Rattle.clap.specs.Faults.{positional_fault, react_fault, settle_fault, short_fault, step_fault}
 use Rattle.clap.specs.Faults.{stray_fault, turn_fault, use_fault, walk_fault, word_fault}
 use Rattle.clap.specs.Kinds.{or_else}
@@ -15,7 +16,8 @@ use Rattle.clap.specs.Walk.{refused, idle, option, positional, next, trailing, s
 use Rattle.clap.specs.Walk.{after_step, arg_by_id, arg_by_index, arg_by_long, arg_by_short, attached_value}
 use Rattle.clap.specs.Walk.{bundle_met, bundle_step, default_rows, flag_met, has_long, has_row, has_short}
 use Rattle.clap.specs.Walk.{is_pending, long_met, long_or_other, nothing_held, option_met, option_word}
-use Rattle.clap.specs.Walk.{plain_word, positional_held, reacted, reading_by, rows_after, settled, settled_rows}
+use Rattle.clap.specs.Walk.{plain_word, positional_held, reacted, reading_by, rows_after, settled}
+use Rattle.clap.specs.Walk.{settled_rows}
 use Rattle.clap.specs.Walk.{short_met, short_or_plain, subcommand_met, subcommand_or_other, takes_several}
 use Rattle.clap.specs.Walk.{takes_values, to_positional, used_by_id, walk, walk_from, walked, walked_from}
 use Rattle.clap.specs.Walk.{with_default, word_met}
@@ -37,7 +39,8 @@ settled_sound c again h fit sound none = go h.pending none
     use_up (Some a) vs fits none = used_sound c again a vs h.rows (fits a refl) sound none
 
     go : (p : Option (Text × List Text))
-        → option_map_or (λ p. option_map_or (λ a. use_fault again a p.1 h.rows) (arg_by_id c p.0) []) p [] ≡ []
+        → option_map_or (λ p. option_map_or (λ a. use_fault again a p.1 h.rows) (arg_by_id c p.0) []) p []
+        ≡ []
         → AreSound c (settled_rows c p h.rows)
     go None none = sound
     go (Some p) none =
@@ -64,7 +67,8 @@ long_sound : (c : List Rule) (again : Bool) (name : Text) (v : Option Text) (h :
     → AreSound c h.rows → long_fault c again (arg_by_long c name) v h ≡ []
     → AreSound c (long_met c (arg_by_long c name) v h).0.rows
 long_sound c again name v h fit sound none =
-    go (arg_by_long c name) (λ a e. found_plain c (λ x. not (is_some x.index) && has_long x name) c a fit e) none
+    go (arg_by_long c name) (λ a e. found_plain c (λ x. not (is_some x.index) && has_long x name) c a fit e)
+    none
   where
     valued : (b : Bool) (a : Rule) (v : Option Text) → IsPlainRule c a
         → (if b then option_fault c again a v h
@@ -104,7 +108,8 @@ bundle_sound c again (suc k) fit flags skip so_far h sound none =
         (reacted_sound c again a [] h fit one sound (no_first reacts later none))
         (no_second reacts later none)
 
-    flag : (o : Option Rule) (rest : Text) → ((a : Rule) → o ≡ Some a → IsPlainRule c a) → BundleSound c again k
+    flag : (o : Option Rule) (rest : Text) → ((a : Rule) → o ≡ Some a → IsPlainRule c a)
+        → BundleSound c again k
         → short_fault c again o rest h (flags_fault c again k rest 0) ≡ []
         → AreSound c (short_met c o rest h (bundle_met c k rest 0 done)).0.rows
     flag None rest plains more none = sound
@@ -142,7 +147,8 @@ other_sound : (c : List Rule) (again : Bool) (waiting : Waiting) (word : Text) (
 other_sound c again waiting word h fit sound none = go (long_of word) none
   where
     short : (o : Option Text)
-        → option_map_or (λ flags. flags_fault c again (length flags) flags h.skip (record h { skip = 0 })) o [] ≡ []
+        → option_map_or (λ flags. flags_fault c again (length flags) flags h.skip (record h { skip = 0 })) o
+        [] ≡ []
         → AreSound c (short_or_plain c waiting word o h).0.rows
     short None none = plain_sound c waiting word h sound
     short (Some flags) none =
@@ -220,7 +226,8 @@ walked_sound s names w word fit sound none = go w.stopped none
         let words = word_fault s names w.is_trailing w.waiting word w.held in
         let steps = step_fault s w.position met.0 met.1 in
         step_sound s word w met.0 met.1 fit
-        (word_sound s names w.is_trailing w.waiting w.position word w.held fit sound (no_first words steps none))
+        (word_sound s names w.is_trailing w.waiting w.position word w.held fit sound
+        (no_first words steps none))
         (no_second words steps none)
 
 -- ---- all the words
@@ -237,7 +244,8 @@ walk_sound s names (word ∷ rest) w fit sound none =
     (walked_sound s names w word fit sound (no_first turn later none)) (no_second turn later none)
 
 -- no argument has a default
-no_defaults : (c rules : List Rule) (rows : List Row) → ArePlainRules c rules → fold with_default rows rules ≡ rows
+no_defaults : (c rules : List Rule) (rows : List Row) → ArePlainRules c rules
+    → fold with_default rows rules ≡ rows
 no_defaults c [] rows fit = refl
 no_defaults c (a ∷ rest) rows fit =
     let same : with_default rows a ≡ rows = kept (has_row a.id rows) fit.0.2 in

@@ -10,7 +10,8 @@ use Rattle.message_records.specs.declared.limits.TheConstants.{MAX_ACCOUNT}
 use Rattle.bank_words.specs.CommandLine.{MAX_SEED, bank_app}
 use Rattle.bank_words.specs.declared.limits.TheConstants.{MAX_CONNECTIONS}
 use Rattle.bank_words.specs.declared.reading.Command.{Command}
-use Rattle.bank_words.specs.declared.reading.Command.TheVariants.{Audit, Drive, Init, Load, Post, Serve, Statement}
+use Rattle.bank_words.specs.declared.reading.Command.TheVariants.{Audit, Drive, Init, Load, Post, Serve}
+use Rattle.bank_words.specs.declared.reading.Command.TheVariants.{Statement}
 
 -- the number that a text of digits spells; a plus may stand before them
 abbrev pub number_of : Text → ℕ
@@ -26,6 +27,10 @@ HasText id rows = is_some (first_of id rows) ≡ true
 abbrev pub HasNumber : Text → ℕ → ℕ → List Row → Type 0
 HasNumber id least most rows = IsSomeAnd (one_of id rows) (IsUnsignedIn least most)
 
+-- the argument has a value, which spells a number in some range
+abbrev pub HasSomeNumber : Text → List Row → Type 0
+HasSomeNumber id rows = (least : ℕ) × (most : ℕ) × HasNumber id least most rows
+
 -- the argument's value is this text
 abbrev pub IsText : Text → List Row → Text → Type 0
 IsText id rows text = first_of id rows ≡ Some text
@@ -33,6 +38,10 @@ IsText id rows text = first_of id rows ≡ Some text
 -- the argument's value spells this number
 abbrev pub IsNumber : Text → List Row → ℕ → Type 0
 IsNumber id rows n = IsSomeAnd (one_of id rows) (λ text. n ≡ number_of text)
+
+-- and the number is in the range
+abbrev pub IsNumberIn : Text → ℕ → ℕ → List Row → ℕ → Type 0
+IsNumberIn id least most rows n = IsNumber id rows n × (least ≤ n) × (n ≤ most)
 
 -- the command has this name, and its files and numbers are the values of its arguments
 abbrev pub IsCommandOf : Text × List Row → Command → Type 0
@@ -95,7 +104,8 @@ AskToLoad words = (program : Text) × (file : Text) × (plan : Text) × (begins_
 abbrev pub AskToPost : List Text → Type 0
 AskToPost words = AskWithFile (codes "post") words
 
--- the words are `drive FILE --seed S --count N`, with a file that doesn't begin with a dash, and two numbers in
+-- the words are `drive FILE --seed S --count N`, with a file that doesn't begin with a dash, and two numbers
+-- in
 -- their ranges
 abbrev pub AskToDrive : List Text → Type 0
 AskToDrive words = (program : Text) × (file : Text) × (seed : Text) × (count : Text)
@@ -105,13 +115,15 @@ AskToDrive words = (program : Text) × (file : Text) × (seed : Text) × (count 
 abbrev pub AskToAudit : List Text → Type 0
 AskToAudit words = AskWithFile (codes "audit") words
 
--- the words are `statement FILE ACCOUNT`, with a file that doesn't begin with a dash, and the number of an account
+-- the words are `statement FILE ACCOUNT`, with a file that doesn't begin with a dash, and the number of an
+-- account
 abbrev pub AskForStatement : List Text → Type 0
 AskForStatement words = (program : Text) × (file : Text) × (account : Text) × (begins_with_dash file ≡ false)
     × IsUnsignedIn 1 MAX_ACCOUNT account
     × (words ≡ program ∷ codes "statement" ∷ file ∷ account ∷ [])
 
--- the words are `serve FILE ADDR --connections N`, with a file and an address that don't begin with a dash, and a
+-- the words are `serve FILE ADDR --connections N`, with a file and an address that don't begin with a dash,
+-- and a
 -- number in its range
 abbrev pub AskToServe : List Text → Type 0
 AskToServe words = (program : Text) × (file : Text) × (address : Text) × (connections : Text)

@@ -1,10 +1,11 @@
 //! Which of the program's commands the words of the command line tell, and on which files.
-ghost use Rattle.std.specs.Prelude.{◌≡◌, IfErr, IfOk, IsErrAnd, IsSomeAnd, MatchResult, map, true};
+ghost use Rattle.std.specs.Prelude.{◌≡◌, ℕ, IfErr, IfOk, IsErrAnd, IsSomeAnd, MatchResult, map, true};
 ghost use Rattle.clap.specs.Words.{FailsBy, fault_of, found_of, kind_of, rows_of, subcommand_of};
 ghost use Rattle.clap.specs.Words.{subcommand_rows_of, takes};
 ghost use Rattle.bank_words.specs.CommandLine.{bank_app};
-ghost use Rattle.bank_words.specs.Words.{AreInRange, AsksForHelp, IsCommandOf, IsComplete, IsHelp};
-ghost use Rattle.bank_words.specs.Words.{IsReadFrom, IsSpelled, IsSpelledBy, IsWantOfMemory};
+ghost use Rattle.bank_words.specs.Words.{AreInRange, AsksForHelp, HasNumber, HasSomeNumber, HasText};
+ghost use Rattle.bank_words.specs.Words.{IsCommandOf, IsComplete, IsHelp, IsNumberIn, IsReadFrom, IsSpelled};
+ghost use Rattle.bank_words.specs.Words.{IsSpelledBy, IsText, IsWantOfMemory};
 
 use crate::command_line::bank_command;
 use clap::ArgMatches;
@@ -90,28 +91,28 @@ fn command_of<'a>(name: &str, values: &ArgMatches<'a>) -> Command<'a>
     ensures command { IsCommandOf (name.now, rows_of (found_of values.now)) result }
     ensures ranges { AreInRange result }
 {
-    let file = values.get_str("file").unwrap();
+    let file = text_in(values, "file");
     match name {
         "init" => Command::Init { file },
         "load" => {
-            let plan = values.get_str("plan").unwrap();
+            let plan = text_in(values, "plan");
             Command::Load { file, plan }
         }
         "post" => Command::Post { file },
         "drive" => {
-            let seed = values.get_one::<u64>("seed").unwrap();
-            let count = values.get_one::<u64>("count").unwrap();
+            let seed = number_in(values, "seed");
+            let count = number_in(values, "count");
             Command::Drive { file, seed, count }
         }
         "audit" => Command::Audit { file },
         "statement" => {
-            let number = values.get_one::<u64>("account").unwrap();
+            let number = number_in(values, "account");
             let account = Account::new(number).unwrap();
             Command::Statement { file, account }
         }
         "serve" => {
-            let address = values.get_str("address").unwrap();
-            let connections = values.get_one::<u64>("connections").unwrap();
+            let address = text_in(values, "address");
+            let connections = number_in(values, "connections");
             Command::Serve {
                 file,
                 address,
@@ -120,4 +121,21 @@ fn command_of<'a>(name: &str, values: &ArgMatches<'a>) -> Command<'a>
         }
         _ => unreachable!(),
     }
+}
+
+// The value of an argument that has one.
+fn text_in<'a>(values: &ArgMatches<'a>, id: &str) -> &'a str
+    requires { HasText id.now (rows_of (found_of values.now)) }
+    ensures { IsText id.now (rows_of (found_of values.now)) result.now }
+{
+    values.get_str(id).unwrap()
+}
+
+// The number of an argument that has one, within each range that its value keeps.
+fn number_in(values: &ArgMatches<'_>, id: &str) -> u64
+    requires { HasSomeNumber id.now (rows_of (found_of values.now)) }
+    ensures { (least most : ℕ) → HasNumber id.now least most (rows_of (found_of values.now))
+        → IsNumberIn id.now least most (rows_of (found_of values.now)) result }
+{
+    values.get_one::<u64>(id).unwrap()
 }
