@@ -45,9 +45,6 @@ pub sum_more_64 : {X : Type 0} (f : X → ℤ) (s s' : Sum) (xs : List X) (x : X
     → s'.sum ≡ s.sum +ℤ to_z w64 (of_z w64 (f x)) → IsSum s' (map f (xs ++ x ∷ []))
 sum_more_64 f s s' xs x fit h c e = sum_more f s s' xs x h c (e ∙ ap (λ (z : ℤ). s.sum +ℤ z) (to_z-of_z w64 (f x) fit))
 
-pub length-snoc : {X : Type 0} (xs : List X) (x : X) → length (xs ++ x ∷ []) ≡ length xs + 1
-length-snoc xs x = length-append xs (x ∷ [])
-
 -- a row that passes is counted, and another isn't
 pub filter_counts : {X : Type 0} (p : X → Bool) (xs : List X) (x : X) → p x ≡ true → length (filter p (xs ++ x ∷ [])) ≡ length (filter p xs) + 1
 filter_counts p xs x t = ap length (filter-append p xs (x ∷ [])) ∙ rw t (length-append (filter p xs) (x ∷ []))

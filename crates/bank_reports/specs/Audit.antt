@@ -13,25 +13,13 @@ use Rattle.bank_reports.specs.declared.audit.BranchLine.{BranchLine}
 use Rattle.bank_reports.specs.declared.audit.Audit.{Audit}
 use Rattle.bank_reports.specs.Stored.{StoredTables}
 
+-- ---- branches
+
 abbrev pub branch_balance : StoredBranch → ℤ
 branch_balance r = r.balance
 
 abbrev pub teller_balance : StoredTeller → ℤ
 teller_balance r = r.balance
-
-abbrev pub account_balance : StoredAccount → ℤ
-account_balance r = r.balance
-
-abbrev pub delta_of : StoredPosting → ℤ
-delta_of r = r.delta
-
-abbrev pub posting_ordinal : StoredPosting → ℕ
-posting_ordinal r = r.ordinal
-
-abbrev pub request_ordinal : StoredRequest → ℕ
-request_ordinal r = r.ordinal
-
--- ---- branches
 
 -- the balances of the tellers that a branch's number gives, added up
 abbrev pub teller_sum : List StoredTeller → ℕ → ℤ
@@ -49,6 +37,12 @@ abbrev pub lines_of : List StoredTeller → List StoredBranch → List BranchLin
 lines_of tellers branches = filter differs (map (line_of tellers) branches)
 
 -- ---- ordinals
+
+abbrev pub posting_ordinal : StoredPosting → ℕ
+posting_ordinal r = r.ordinal
+
+abbrev pub request_ordinal : StoredRequest → ℕ
+request_ordinal r = r.ordinal
 
 -- the outcome is 00
 abbrev pub is_posted : StoredRequest → Bool
@@ -85,20 +79,32 @@ unmatched t = map request_ordinal (filter (is_odd_request t) t.requests) ++ map 
 
 -- ---- the audit
 
-abbrev pub audit_of : StoredTables → Audit
-audit_of t = record {
-  branches = length t.branches;
-  tellers = length t.tellers;
-  accounts = length t.accounts;
-  requests = length t.requests;
-  history = length t.history;
-  account_sum = total (map account_balance t.accounts);
-  teller_sum = total (map teller_balance t.tellers);
-  branch_sum = total (map branch_balance t.branches);
-  history_sum = total (map delta_of t.history);
-  unmatched = length (unmatched t);
-  lines = lines_of t.tellers t.branches;
+abbrev pub account_balance : StoredAccount → ℤ
+account_balance r = r.balance
+
+abbrev pub delta_of : StoredPosting → ℤ
+delta_of r = r.delta
+
+-- what an audit says of these rows, and of requests and postings of which it knows so many, what they add up to and how many
+-- aren't matched
+abbrev pub audit_with : List StoredBranch → List StoredTeller → List StoredAccount → (requests history : ℕ) → (deltas : ℤ) → (unmatched : ℕ) → Audit
+audit_with branches tellers accounts requests history deltas unmatched = record {
+  branches = length branches;
+  tellers = length tellers;
+  accounts = length accounts;
+  requests = requests;
+  history = history;
+  account_sum = total (map account_balance accounts);
+  teller_sum = total (map teller_balance tellers);
+  branch_sum = total (map branch_balance branches);
+  history_sum = deltas;
+  unmatched = unmatched;
+  lines = lines_of tellers branches;
 }
+
+abbrev pub audit_of : StoredTables → Audit
+audit_of t =
+    audit_with t.branches t.tellers t.accounts (length t.requests) (length t.history) (total (map delta_of t.history)) (length (unmatched t))
 
 -- the four sums are equal, each branch is the sum of its tellers, and each ordinal is matched
 abbrev pub is_sound : Audit → Bool

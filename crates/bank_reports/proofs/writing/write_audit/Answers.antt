@@ -1,5 +1,5 @@
 -- The numbers, the branches that differ, and the verdict.
-use Rattle.std.proofs.Common.{◌≡◌, ℕ, List, [], ◌∷◌, ◌++◌, map, sym, ap, ◌∙◌, append-nil}
+use Rattle.std.proofs.Common.{◌≡◌, ℕ, List, [], ◌∷◌, ◌++◌, map, Option, sym, ap, ◌∙◌, append-nil}
 use Rattle.std.proofs.KnownBytes.{Appends-trans}
 use Rattle.std.specs.Io.KnownBytes.{Appends}
 use Rattle.posting_core.specs.Told.{IsFlush}
@@ -37,6 +37,19 @@ numbers_are : (a : Audit) (bytes shown : List ℕ) → shown ≡ bytes → bytes
 unfolding numbers
 numbers_are a bytes shown e f = e ∙ f
 
+module _ (a : Audit) (old mid late new : Option (List ℕ)) (one : Appends old mid (numbers a)) (two : Appends mid late (branches a)) where
+  -- the third behind the first two
+  all_three : Appends late new (verdict a) → Appends old new (audit_text a)
+  all_three last =
+      same_all old new (parts a) (Appends-trans old mid new (numbers a) (branches a ++ verdict a) one
+      (Appends-trans mid late new (branches a) (verdict a) two last))
+
+  -- a beginning of it behind them
+  two_and_part : AppendsPart late new (verdict a) → AppendsPart old new (audit_text a)
+  two_and_part last =
+      same_part old new (parts a) (then_part old mid new (numbers a) (branches a ++ verdict a) one
+      (then_part mid late new (branches a) (verdict a) two last))
+
 pub returns-in_err-put-clause-err : goal.returns-in_err-put-clause-err
 returns-in_err-put-clause-err g c =
     let a = c.args.audit.now in
@@ -63,29 +76,17 @@ returns-in_err-put_branches-clause-failed g c =
 
 pub returns-clause-ok : goal.returns-clause-ok
 returns-clause-ok g c =
-    let a = c.args.audit.now in
-    let old = g.W.Sink.contents c.args.writer.now in
-    let mid = g.W.Sink.contents c.put.new.writer in
-    let late = g.W.Sink.contents c.put_branches.new.writer in
-    let new = g.W.Sink.contents c.put_last.new.writer in
-    let one = same_all old mid (numbers_are a _ _ c.as_str.ensures.value c.numbers_text.ensures) c.in_ok-put.ensures.ok in
-    let two = same_all mid late (ap shown c.as_slice.ensures) c.in_ok-put_branches.ensures.ok in
     let said = c.verdict_text.ensures ∙ ap verdict_line c.is_consistent.ensures in
-    on_ok c.put_last.result (λ last. same_all old new (parts a) (Appends-trans old mid new (numbers a) (branches a ++ verdict a) one
-    (Appends-trans mid late new (branches a) (verdict a) two (same_all late new said last)))) c.put_last.ensures.ok
+    on_ok c.put_last.result (λ last. all_three c.args.audit.now _ _ _ _
+    (same_all _ _ (numbers_are _ _ _ c.as_str.ensures.value c.numbers_text.ensures) c.in_ok-put.ensures.ok)
+    (same_all _ _ (ap shown c.as_slice.ensures) c.in_ok-put_branches.ensures.ok) (same_all _ _ said last)) c.put_last.ensures.ok
 
 pub returns-clause-err : goal.returns-clause-err
 returns-clause-err g c =
-    let a = c.args.audit.now in
-    let old = g.W.Sink.contents c.args.writer.now in
-    let mid = g.W.Sink.contents c.put.new.writer in
-    let late = g.W.Sink.contents c.put_branches.new.writer in
-    let new = g.W.Sink.contents c.put_last.new.writer in
-    let one = same_all old mid (numbers_are a _ _ c.as_str.ensures.value c.numbers_text.ensures) c.in_ok-put.ensures.ok in
-    let two = same_all mid late (ap shown c.as_slice.ensures) c.in_ok-put_branches.ensures.ok in
     let said = c.verdict_text.ensures ∙ ap verdict_line c.is_consistent.ensures in
-    on_err c.put_last.result (λ last. same_part old new (parts a) (then_part old mid new (numbers a) (branches a ++ verdict a) one
-    (then_part mid late new (branches a) (verdict a) two (same_part late new said last)))) c.put_last.ensures.err
+    on_err c.put_last.result (λ last. two_and_part c.args.audit.now _ _ _ _
+    (same_all _ _ (numbers_are _ _ _ c.as_str.ensures.value c.numbers_text.ensures) c.in_ok-put.ensures.ok)
+    (same_all _ _ (ap shown c.as_slice.ensures) c.in_ok-put_branches.ensures.ok) (same_part _ _ said last)) c.put_last.ensures.err
 
 pub returns-clause-flushed : goal.returns-clause-flushed
 returns-clause-flushed g c = on_ok c.put_last.result (λ e. more_last IsFlush (more_more c.in_ok-put.ensures.more c.in_ok-put_branches.ensures.more) e) c.put_last.ensures.flushed
