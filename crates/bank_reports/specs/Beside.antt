@@ -1,5 +1,7 @@
--- The rows that an audit is given, each request and each posting with what stands beside it, and the audit of these.
-use Rattle.std.specs.Prelude.{◌≡◌, ℤ, ◌+◌, Bool, not, List, [], length, map, filter, Option, Some, is_some}
+-- The rows that an audit is given, each request and each posting with what stands beside it, and the audit of
+-- these.
+use Rattle.std.specs.Prelude.{◌≡◌, ℤ, ◌+◌, Bool, not, List, [], length, map, filter, Option, Some}
+use Rattle.std.specs.Prelude.{is_some}
 use Rattle.posting_rules.specs.Laws.{total}
 use Rattle.bank_walks.specs.declared.branches.StoredBranch.{StoredBranch}
 use Rattle.bank_walks.specs.declared.tellers.StoredTeller.{StoredTeller}
@@ -35,7 +37,8 @@ delta_in p = p.0.delta
 
 abbrev pub audit_of_rows : AuditRows → Audit
 audit_of_rows g =
-    audit_with g.branches g.tellers g.accounts (length g.requests) (length g.history) (total (map delta_in g.history))
+    audit_with g.branches g.tellers g.accounts (length g.requests) (length g.history)
+    (total (map delta_in g.history))
     (length (filter is_odd g.requests) + length (filter is_alone g.history))
 
 -- the rows of tables, each beside the other of its ordinal
