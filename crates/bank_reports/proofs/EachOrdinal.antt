@@ -1,5 +1,6 @@
 -- Ordinals are matched where none is told.
-use Rattle.std.proofs.Common.{◌≡◌, ℕ, false, eqb, List, [], ◌∷◌, map, Some, refl, subst, inl, inr}
+use Rattle.std.proofs.Common.{◌≡◌, ℕ, false, eqb, List, [], ◌∷◌, map, Some, refl, subst, inl}
+use Rattle.std.proofs.Common.{inr}
 use Rattle.std.specs.Prelude.{nat_eq}
 use Rattle.std.specs.List.{AllByRecursion}
 use Rattle.std.proofs.lemmas.Bool.{cases_Bool, eqb-true, eq-eqb}
@@ -8,22 +9,26 @@ use Rattle.posting_rules.specs.Tables.{row_at, HasKeys}
 
 module _ {R : Type 0} (key : R → ℕ) where
   -- a row that is found has the key, and what holds of all rows holds of it
-  pub found : (P : R → Type 0) (rows : List R) (o : ℕ) (r : R) → row_at key rows o ≡ Some r → AllByRecursion P rows → (key r ≡ o) × P r
+  pub found : (P : R → Type 0) (rows : List R) (o : ℕ) (r : R) → row_at key rows o ≡ Some r
+      → AllByRecursion P rows → (key r ≡ o) × P r
   found P [] o r h all = absurd cc
   found P (x ∷ xs) o r h all = elim (cases_Bool (eqb (key x) o)) [
-    | inl t ↦ let same : x ≡ r = let e = rw t at h in cc in subst (λ y. (key y ≡ o) × P y) same (eqb-true (key x) o t, all.0)
+    | inl t ↦ let same : x ≡ r = let e = rw t at h in cc in
+        subst (λ y. (key y ≡ o) × P y) same (eqb-true (key x) o t, all.0)
     | inr f ↦ found P xs o r (rw f at h) all.1
   ]
 
   -- each row is found under its key, if that is its alone
-  pub each_found : (P : R → Type 0) (rows : List R) → HasKeys key rows → ((r : R) → row_at key rows (key r) ≡ Some r → P r) → AllByRecursion P rows
+  pub each_found : (P : R → Type 0) (rows : List R) → HasKeys key rows
+      → ((r : R) → row_at key rows (key r) ≡ Some r → P r) → AllByRecursion P rows
   each_found P [] keys f = tt
   each_found P (x ∷ xs) keys f = (
     f x (rw (eq-eqb (key x) (key x) refl) refl),
     each_found P xs (IsDistinct-tail nat_eq (key x) (map key xs) keys) (λ r is. f r (later r is)),
   )
     where
-      apart : (rows : List R) → AllByRecursion (λ j. nat_eq (key x) j ≡ false) (map key rows) → (o : ℕ) (r : R) → row_at key rows o ≡ Some r → eqb (key x) o ≡ false
+      apart : (rows : List R) → AllByRecursion (λ j. nat_eq (key x) j ≡ false) (map key rows)
+          → (o : ℕ) (r : R) → row_at key rows o ≡ Some r → eqb (key x) o ≡ false
       apart [] none o r is = absurd cc
       apart (y ∷ ys) none o r is = elim (cases_Bool (eqb (key y) o)) [
         | inl t ↦ subst (λ n. eqb (key x) n ≡ false) (eqb-true (key y) o t) none.0

@@ -23,10 +23,24 @@ branch n accounts balance = record { branch = n; accounts = accounts; balance = 
 
 -- five dollars to account 1, and seven from account 100001
 deposit : StoredPosting
-deposit = record { ordinal = 1; account = pos 1; teller = pos 1; branch = pos 1; delta = pos 500; moment = 1000 }
+deposit = record {
+  ordinal = 1;
+  account = pos 1;
+  teller = pos 1;
+  branch = pos 1;
+  delta = pos 500;
+  moment = 1000;
+}
 
 withdrawal : StoredPosting
-withdrawal = record { ordinal = 2; account = pos 100001; teller = pos 1; branch = pos 1; delta = negsuc 699; moment = 2000 }
+withdrawal = record {
+  ordinal = 2;
+  account = pos 100001;
+  teller = pos 1;
+  branch = pos 1;
+  delta = negsuc 699;
+  moment = 2000;
+}
 
 asked : StoredPosting → ℕ → ℤ → StoredRequest
 asked h number balance = record {
@@ -45,11 +59,16 @@ damaged : StoredTables
 unfolding teller account branch deposit withdrawal asked
 damaged = record {
   branches = branch 1 3 (negsuc 199) ∷ branch 2 2 (pos 0) ∷ [];
-  tellers = teller 1 (negsuc 299) ∷ teller 2 (pos 0) ∷ teller 3 (pos 0) ∷ teller 4 (pos 0) ∷ teller 5 (pos 0)
-      ∷ teller 6 (pos 0) ∷ teller 7 (pos 0) ∷ teller 8 (pos 0) ∷ teller 9 (pos 0) ∷ teller 10 (pos 0)
-      ∷ teller 11 (pos 100) ∷ teller 12 (pos 0) ∷ teller 13 (pos 0) ∷ teller 14 (pos 0) ∷ teller 15 (pos 0)
-      ∷ teller 16 (pos 0) ∷ teller 17 (pos 0) ∷ teller 18 (pos 0) ∷ teller 19 (pos 0) ∷ teller 20 (pos 0) ∷ [];
-  accounts = account 1 (pos 500) ∷ account 2 (pos 0) ∷ account 3 (pos 0) ∷ account 100001 (negsuc 699) ∷ account 100002 (pos 0) ∷ [];
+  tellers = teller 1 (negsuc 299) ∷ teller 2 (pos 0) ∷ teller 3 (pos 0) ∷ teller 4 (pos 0)
+      ∷ teller 5 (pos 0)
+      ∷ teller 6 (pos 0) ∷ teller 7 (pos 0) ∷ teller 8 (pos 0) ∷ teller 9 (pos 0)
+      ∷ teller 10 (pos 0)
+      ∷ teller 11 (pos 100) ∷ teller 12 (pos 0) ∷ teller 13 (pos 0) ∷ teller 14 (pos 0)
+      ∷ teller 15 (pos 0)
+      ∷ teller 16 (pos 0) ∷ teller 17 (pos 0) ∷ teller 18 (pos 0) ∷ teller 19 (pos 0)
+      ∷ teller 20 (pos 0) ∷ [];
+  accounts = account 1 (pos 500) ∷ account 2 (pos 0) ∷ account 3 (pos 0) ∷ account 100001 (negsuc 699)
+      ∷ account 100002 (pos 0) ∷ [];
   history = deposit ∷ withdrawal ∷ [];
   requests = asked deposit 1 (pos 500) ∷ asked withdrawal 2 (negsuc 699) ∷ [];
 }
@@ -67,7 +86,8 @@ found = record {
   branch_sum = negsuc 199;
   history_sum = negsuc 199;
   unmatched = 0;
-  lines = record { branch = 1; tellers = negsuc 299; balance = negsuc 199 } ∷ record { branch = 2; tellers = pos 100; balance = pos 0 } ∷ [];
+  lines = record { branch = 1; tellers = negsuc 299; balance = negsuc 199 }
+      ∷ record { branch = 2; tellers = pos 100; balance = pos 0 } ∷ [];
 }
 
 audit_finds_damage : audit_of damaged ≡ found

@@ -1,17 +1,11 @@
 -- Small facts of lists, tests and look-ups.
-use Rattle.std.proofs.Common.{◌≡◌, Bool, true, false, not, ◌&&◌, List, [], ◌∷◌, ◌++◌, map, filter, length, refl, inl, inr, arith}
+use Rattle.std.proofs.Common.{◌≡◌, Bool, true, false, not, ◌&&◌, List, [], ◌∷◌, ◌++◌, map}
+use Rattle.std.proofs.Common.{filter, length, refl, inl, inr, arith}
 use Rattle.std.specs.Prelude.{ℤ, ◌==◌}
 use Rattle.std.specs.List.{AllByRecursion}
 use Rattle.std.specs.Ordering.{int_eq}
 use Rattle.std.proofs.lemmas.Bool.{cases_Bool, eqb-true}
 use Rattle.std.proofs.lemmas.Int.{ints}
-
-pub and_both : (a b : Bool) → (a && b) ≡ true → (a ≡ true) × (b ≡ true)
-and_both true b h = (refl, h)
-and_both false b h = absurd cc
-
-pub both_and : (a b : Bool) → a ≡ true → b ≡ true → (a && b) ≡ true
-both_and a b h k = rw (h, k) refl
 
 pub not_false : (b : Bool) → not b ≡ false → b ≡ true
 not_false true h = refl
@@ -28,14 +22,16 @@ int_same a b h = grind (arith, ints, h)
 
 -- ---- lists
 
-pub none_pass : {X : Type 0} (p : X → Bool) (xs : List X) → filter p xs ≡ [] → AllByRecursion (λ x. p x ≡ false) xs
+pub none_pass : {X : Type 0} (p : X → Bool) (xs : List X) → filter p xs ≡ []
+    → AllByRecursion (λ x. p x ≡ false) xs
 none_pass p [] h = tt
 none_pass p (x ∷ xs) h = elim (cases_Bool (p x)) [
   | inl t ↦ absurd (let e = rw t at h in cc)
   | inr f ↦ (f, none_pass p xs (rw f at h))
 ]
 
-pub pass_none : {X : Type 0} (p : X → Bool) (xs : List X) → AllByRecursion (λ x. p x ≡ false) xs → filter p xs ≡ []
+pub pass_none : {X : Type 0} (p : X → Bool) (xs : List X) → AllByRecursion (λ x. p x ≡ false) xs
+    → filter p xs ≡ []
 pass_none p [] all = refl
 pass_none p (x ∷ xs) all = rw all.0 (pass_none p xs all.1)
 
@@ -49,13 +45,11 @@ no_parts (x ∷ xs) ys h = absurd cc
 
 pub empty_list : {X : Type 0} (xs : List X) → (length xs == 0) ≡ true → xs ≡ []
 empty_list [] h = refl
-empty_list (x ∷ xs) h = absurd (let e : length (x ∷ xs) ≡ 0 = eqb-true (length (x ∷ xs)) 0 h in omega (arith, e))
+empty_list (x ∷ xs) h =
+    absurd (let e : length (x ∷ xs) ≡ 0 = eqb-true (length (x ∷ xs)) 0 h in omega (arith, e))
 
-pub all_as : {X : Type 0} (P Q : X → Type 0) (xs : List X) → ((x : X) → P x → Q x) → AllByRecursion P xs → AllByRecursion Q xs
-all_as P Q [] f all = tt
-all_as P Q (x ∷ xs) f all = (f x all.0, all_as P Q xs f all.1)
-
-pub five : (a b c d e : Bool) → (a && b && c && d && e) ≡ true → (a ≡ true) × (b ≡ true) × (c ≡ true) × (d ≡ true) × (e ≡ true)
+pub five : (a b c d e : Bool) → (a && b && c && d && e) ≡ true → (a ≡ true) × (b ≡ true)
+    × (c ≡ true) × (d ≡ true) × (e ≡ true)
 five true true true true true h = (refl, refl, refl, refl, refl)
 five true true true true false h = absurd cc
 five true true true false e h = absurd cc
@@ -63,10 +57,12 @@ five true true false d e h = absurd cc
 five true false c d e h = absurd cc
 five false b c d e h = absurd cc
 
-pub all_five : (a b c d e : Bool) → a ≡ true → b ≡ true → c ≡ true → d ≡ true → e ≡ true → (a && b && c && d && e) ≡ true
+pub all_five : (a b c d e : Bool) → a ≡ true → b ≡ true → c ≡ true → d ≡ true → e ≡ true
+    → (a && b && c && d && e) ≡ true
 all_five a b c d e p q r s t = rw (p, q, r, s, t) refl
 
-pub one_four : (p a b c d : Bool) → (p && (a && b && c && d)) ≡ true → (p ≡ true) × (a ≡ true) × (b ≡ true) × (c ≡ true) × (d ≡ true)
+pub one_four : (p a b c d : Bool) → (p && (a && b && c && d)) ≡ true → (p ≡ true) × (a ≡ true)
+    × (b ≡ true) × (c ≡ true) × (d ≡ true)
 one_four true true true true true h = (refl, refl, refl, refl, refl)
 one_four true true true true false h = absurd cc
 one_four true true true false d h = absurd cc
@@ -74,5 +70,6 @@ one_four true true false c d h = absurd cc
 one_four true false b c d h = absurd cc
 one_four false a b c d h = absurd cc
 
-pub all_one_four : (p a b c d : Bool) → p ≡ true → a ≡ true → b ≡ true → c ≡ true → d ≡ true → (p && (a && b && c && d)) ≡ true
+pub all_one_four : (p a b c d : Bool) → p ≡ true → a ≡ true → b ≡ true → c ≡ true → d
+    ≡ true → (p && (a && b && c && d)) ≡ true
 all_one_four p a b c d h q r s t = rw (h, q, r, s, t) refl

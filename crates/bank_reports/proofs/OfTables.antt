@@ -1,5 +1,6 @@
 -- The same of tables of a bank.
-use Rattle.std.proofs.Common.{◌≡◌, ℕ, pos, Bool, true, eqb, List, [], ◌∷◌, map, filter, Option, Some, None, refl, sym, ap, subst, ◌∙◌, inl, inr, arith}
+use Rattle.std.proofs.Common.{◌≡◌, ℕ, pos, Bool, true, eqb, List, [], ◌∷◌, map, filter, Option}
+use Rattle.std.proofs.Common.{Some, None, refl, sym, ap, subst, ◌∙◌, inl, inr, arith}
 use Rattle.std.specs.Prelude.{ℤ, ◌&&◌, nat_eq, nat_le, option_map}
 use Rattle.std.specs.List.{AllByRecursion, IsDistinct}
 use Rattle.std.specs.Ordering.{int_eq}
@@ -7,7 +8,9 @@ use Rattle.std.proofs.lemmas.Bool.{cases_Bool}
 use Rattle.std.proofs.lemmas.Int.{ints}
 use Rattle.message_records.specs.Outcomes.{code_of, has_balance}
 use Rattle.message_records.specs.declared.records.Outcome.{Outcome}
-use Rattle.message_records.specs.declared.records.Outcome.TheVariants.{Posted, NoTeller, WrongBranch, NoAccount, OverLimit, ReusedNumber, Full, Malformed}
+use Rattle.message_records.specs.declared.records.Outcome.TheVariants.{Posted, NoTeller, WrongBranch}
+use Rattle.message_records.specs.declared.records.Outcome.TheVariants.{NoAccount, OverLimit, ReusedNumber}
+use Rattle.message_records.specs.declared.records.Outcome.TheVariants.{Full, Malformed}
 use Rattle.posting_rules.specs.declared.rows.HistoryRow.{HistoryRow}
 use Rattle.posting_rules.specs.declared.rows.RequestRow.{RequestRow}
 use Rattle.posting_rules.specs.declared.rows.TellerRow.{TellerRow}
@@ -16,32 +19,49 @@ use Rattle.posting_rules.specs.Commands.{branch_of_teller}
 use Rattle.posting_rules.specs.Laws.{total, tellers_of, Match, IsConsistent}
 use Rattle.posting_rules.specs.LookUps.{balance_of_teller, balance_of_account, balance_of_branch}
 use Rattle.posting_rules.specs.Tables.{Tables, row_at, history_key, request_key}
-use Rattle.bank_reports.specs.Stored.{StoredTables, stored, posting_stored, request_stored, teller_stored, branch_stored, account_stored}
-use Rattle.bank_reports.specs.Audit.{is_matched, teller_sum, teller_balance, branch_balance, account_balance, delta_of, request_under, posting_under, posting_ordinal, request_ordinal}
+use Rattle.bank_reports.specs.Stored.{StoredTables, stored, posting_stored, request_stored, teller_stored}
+use Rattle.bank_reports.specs.Stored.{branch_stored, account_stored}
+use Rattle.bank_reports.specs.Audit.{is_matched, teller_sum, teller_balance, branch_balance, account_balance}
+use Rattle.bank_reports.specs.Audit.{delta_of, request_under, posting_under, posting_ordinal, request_ordinal}
 use Rattle.bank_reports.specs.Consistency.{TellsOfTables, IsSoundFile, HasOrdinals}
 use Rattle.bank_reports.proofs.Lists.{one_four, all_one_four, same_int, int_same}
 use Rattle.bank_reports.proofs.Telling.{tells}
 
 -- a value of each row
-values : {X Y : Type 0} (f : X → Y) (v : Y → ℤ) (w : X → ℤ) → ((x : X) → v (f x) ≡ w x) → (xs : List X) → map v (map f xs) ≡ map w xs
+values : {X Y : Type 0} (f : X → Y) (v : Y → ℤ) (w : X → ℤ) → ((x : X) → v (f x) ≡ w x)
+    → (xs : List X) → map v (map f xs) ≡ map w xs
 values f v w same [] = refl
 values f v w same (x ∷ xs) = rw (same x, values f v w same xs) refl
 
-keys_are : {X Y : Type 0} (f : X → Y) (v : Y → ℕ) (w : X → ℕ) → ((x : X) → v (f x) ≡ w x) → (xs : List X) → map v (map f xs) ≡ map w xs
+keys_are : {X Y : Type 0} (f : X → Y) (v : Y → ℕ) (w : X → ℕ) → ((x : X) → v (f x) ≡ w x)
+    → (xs : List X) → map v (map f xs) ≡ map w xs
 keys_are f v w same [] = refl
 keys_are f v w same (x ∷ xs) = rw (same x, keys_are f v w same xs) refl
 
 -- the row under a key
-under : {X Y : Type 0} (f : X → Y) (v : Y → ℕ) (w : X → ℕ) → ((x : X) → v (f x) ≡ w x) → (xs : List X) (o : ℕ) → row_at v (map f xs) o ≡ option_map f (row_at w xs o)
+under : {X Y : Type 0} (f : X → Y) (v : Y → ℕ) (w : X → ℕ) → ((x : X) → v (f x) ≡ w x)
+    → (xs : List X) (o : ℕ) → row_at v (map f xs) o ≡ option_map f (row_at w xs o)
 under f v w same [] o = refl
-under f v w same (x ∷ xs) o = rw (same x) (elim (cases_Bool (eqb (w x) o)) [ inl t ↦ rw t refl | inr g ↦ rw g (under f v w same xs o) ])
+under f v w same (x ∷ xs) o =
+    rw (same x) (elim (cases_Bool (eqb (w x) o)) [
+      | inl t ↦ rw t refl
+      | inr g ↦ rw g (under f v w same xs o)
+    ])
 
-tellers_kept : (b : ℕ) (rows : List TellerRow) → filter (λ r. nat_le 1 r.teller && nat_eq (branch_of_teller r.teller) b) (map teller_stored rows) ≡ map teller_stored (tellers_of b rows)
+tellers_kept : (b : ℕ) (rows : List TellerRow)
+    → filter (λ r. nat_le 1 r.teller && nat_eq (branch_of_teller r.teller) b) (map teller_stored rows)
+    ≡ map teller_stored (tellers_of b rows)
 tellers_kept b [] = refl
-tellers_kept b (r ∷ rows) = elim (cases_Bool (nat_le 1 r.teller && nat_eq (branch_of_teller r.teller) b)) [ inl t ↦ rw t (ap (λ l. teller_stored r ∷ l) (tellers_kept b rows)) | inr f ↦ rw f (tellers_kept b rows) ]
+tellers_kept b (r ∷ rows) =
+    elim (cases_Bool (nat_le 1 r.teller && nat_eq (branch_of_teller r.teller) b)) [
+      | inl t ↦ rw t (ap (λ l. teller_stored r ∷ l) (tellers_kept b rows))
+      | inr f ↦ rw f (tellers_kept b rows)
+    ]
 
-sum_is : (b : ℕ) (rows : List TellerRow) → teller_sum (map teller_stored rows) b ≡ total (map balance_of_teller (tellers_of b rows))
-sum_is b rows = ap (λ l. total (map teller_balance l)) (tellers_kept b rows) ∙ ap total (values teller_stored teller_balance balance_of_teller (λ x. refl) (tellers_of b rows))
+sum_is : (b : ℕ) (rows : List TellerRow) → teller_sum (map teller_stored rows) b
+    ≡ total (map balance_of_teller (tellers_of b rows))
+sum_is b rows = ap (λ l. total (map teller_balance l)) (tellers_kept b rows)
+    ∙ ap total (values teller_stored teller_balance balance_of_teller (λ x. refl) (tellers_of b rows))
 
 -- ---- ordinals
 
@@ -69,16 +89,28 @@ match_is None None h = tt
 match_is (Some r) None h = λ posted. absurd (let e = rw (posted_is r.kept.outcome, posted) at h in cc)
 match_is None (Some x) h = absurd cc
 match_is (Some r) (Some x) h =
-    let it = one_four (int_eq (pos (code_of r.kept.outcome)) (pos 0)) (int_eq (pos x.account) (pos r.kept.account)) (int_eq (pos x.teller) (pos r.teller)) (int_eq (pos x.branch) (pos r.kept.branch)) (int_eq x.delta r.kept.delta) h in
-    (sym (posted_is r.kept.outcome) ∙ it.0, same_pos _ _ it.1, same_pos _ _ it.2, same_pos _ _ it.3, same_int _ _ it.4)
+    let it = one_four (int_eq (pos (code_of r.kept.outcome)) (pos 0))
+    (int_eq (pos x.account) (pos r.kept.account)) (int_eq (pos x.teller) (pos r.teller))
+    (int_eq (pos x.branch) (pos r.kept.branch)) (int_eq x.delta r.kept.delta) h in (
+      sym (posted_is r.kept.outcome) ∙ it.0,
+      same_pos _ _ it.1,
+      same_pos _ _ it.2,
+      same_pos _ _ it.3,
+      same_int _ _ it.4,
+    )
 
 is_match : (a : Option RequestRow) (b : Option HistoryRow) → Match a b → both a b ≡ true
 is_match None None m = refl
-is_match (Some r) None m = elim (cases_Bool (has_balance r.kept.outcome)) [ inl t ↦ absurd (m t) | inr f ↦ rw (posted_is r.kept.outcome, f) refl ]
+is_match (Some r) None m =
+    elim (cases_Bool (has_balance r.kept.outcome))
+    [ inl t ↦ absurd (m t) | inr f ↦ rw (posted_is r.kept.outcome, f) refl ]
 is_match None (Some x) m = absurd m
 is_match (Some r) (Some x) m =
-    all_one_four (int_eq (pos (code_of r.kept.outcome)) (pos 0)) (int_eq (pos x.account) (pos r.kept.account)) (int_eq (pos x.teller) (pos r.teller)) (int_eq (pos x.branch) (pos r.kept.branch)) (int_eq x.delta r.kept.delta)
-    (posted_is r.kept.outcome ∙ m.0) (pos_same _ _ m.1) (pos_same _ _ m.2) (pos_same _ _ m.3) (int_same _ _ m.4)
+    all_one_four (int_eq (pos (code_of r.kept.outcome)) (pos 0)) (int_eq (pos x.account) (pos r.kept.account))
+    (int_eq (pos x.teller) (pos r.teller)) (int_eq (pos x.branch) (pos r.kept.branch))
+    (int_eq x.delta r.kept.delta)
+    (posted_is r.kept.outcome ∙ m.0) (pos_same _ _ m.1) (pos_same _ _ m.2) (pos_same _ _ m.3)
+    (int_same _ _ m.4)
 
 module _ (t : Tables) where
   abbrev f : StoredTables
@@ -96,14 +128,23 @@ module _ (t : Tables) where
   history_is : map delta_of f.history ≡ map Rattle.posting_rules.specs.Laws.delta_of t.history
   history_is = values posting_stored delta_of Rattle.posting_rules.specs.Laws.delta_of (λ x. refl) t.history
 
-  under_both : (o : ℕ) → is_matched (request_under f o) (posting_under f o) ≡ both (row_at request_key t.requests o) (row_at history_key t.history o)
-  under_both o = rw (under request_stored request_ordinal request_key (λ x. refl) t.requests o, under posting_stored posting_ordinal history_key (λ x. refl) t.history o) refl
+  under_both : (o : ℕ) → is_matched (request_under f o) (posting_under f o)
+      ≡ both (row_at request_key t.requests o) (row_at history_key t.history o)
+  under_both o = rw (
+    under request_stored request_ordinal request_key (λ x. refl) t.requests o,
+    under posting_stored posting_ordinal history_key (λ x. refl) t.history o,
+  ) refl
 
-  to : (bs : List BranchRow) → AllByRecursion (λ r. teller_sum f.tellers r.branch ≡ r.balance) (map branch_stored bs) → AllByRecursion (λ r. total (map balance_of_teller (tellers_of r.branch t.tellers)) ≡ r.balance) bs
+  to : (bs : List BranchRow)
+      → AllByRecursion (λ r. teller_sum f.tellers r.branch ≡ r.balance) (map branch_stored bs)
+      → AllByRecursion (λ r. total (map balance_of_teller (tellers_of r.branch t.tellers)) ≡ r.balance)
+      bs
   to [] all = tt
   to (b ∷ bs) all = (sym (sum_is b.branch t.tellers) ∙ all.0, to bs all.1)
 
-  from : (bs : List BranchRow) → AllByRecursion (λ r. total (map balance_of_teller (tellers_of r.branch t.tellers)) ≡ r.balance) bs → AllByRecursion (λ r. teller_sum f.tellers r.branch ≡ r.balance) (map branch_stored bs)
+  from : (bs : List BranchRow)
+      → AllByRecursion (λ r. total (map balance_of_teller (tellers_of r.branch t.tellers)) ≡ r.balance)
+      bs → AllByRecursion (λ r. teller_sum f.tellers r.branch ≡ r.balance) (map branch_stored bs)
   from [] all = tt
   from (b ∷ bs) all = (sum_is b.branch t.tellers ∙ all.0, from bs all.1)
 
@@ -129,8 +170,10 @@ module _ (t : Tables) where
 pub tells_of_tables : TellsOfTables
 tells_of_tables t hs rs =
     let keys : HasOrdinals (stored t) = record {
-      requests = subst (IsDistinct nat_eq) (sym (keys_are request_stored request_ordinal request_key (λ x. refl) t.requests)) rs;
-      history = subst (IsDistinct nat_eq) (sym (keys_are posting_stored posting_ordinal history_key (λ x. refl) t.history)) hs;
+      requests = subst (IsDistinct nat_eq)
+          (sym (keys_are request_stored request_ordinal request_key (λ x. refl) t.requests)) rs;
+      history = subst (IsDistinct nat_eq)
+          (sym (keys_are posting_stored posting_ordinal history_key (λ x. refl) t.history)) hs;
     } in
     let it = tells (stored t) keys in
     (λ h. consistent t (it.0 h), λ c. it.1 (sound t c))

@@ -1,5 +1,6 @@
 -- Texts that are written one after another.
-use Rattle.std.proofs.Common.{◌≡◌, ◌+◌, ℕ, List, [], ◌∷◌, ◌++◌, map, length, take, drop, get_or, Option, Result, Ok, Err, sym, ap, subst, ◌∙◌, arith}
+use Rattle.std.proofs.Common.{◌≡◌, ◌+◌, ℕ, List, [], ◌∷◌, ◌++◌, map, length, take, drop}
+use Rattle.std.proofs.Common.{get_or, Option, Result, Ok, Err, sym, ap, subst, ◌∙◌, arith}
 use Rattle.std.specs.Prelude.{OnErr, OnOk, ◌<◌}
 use Rattle.std.specs.Io.KnownBytes.{Appends}
 use Rattle.std.proofs.KnownBytes.{Appends-trans}
@@ -28,15 +29,18 @@ module _ (old new : Option (List ℕ)) where
   same_all e h = subst (λ (t : List ℕ). Appends old new t) e h
 
 -- the first text, and a beginning of the second
-pub then_part : (old mid new : Option (List ℕ)) (a b : List ℕ) → Appends old mid a → AppendsPart mid new b → AppendsPart old new (a ++ b)
+pub then_part : (old mid new : Option (List ℕ)) (a b : List ℕ) → Appends old mid a
+    → AppendsPart mid new b → AppendsPart old new (a ++ b)
 then_part old mid new a b h k = record {
   count = length a + k.count;
   within = omega (arith, k.within, length-append a b);
-  wrote = subst (λ (t : List ℕ). Appends old new t) (sym (take-append-add a b k.count)) (Appends-trans old mid new a (take k.count b) h k.wrote);
+  wrote = subst (λ (t : List ℕ). Appends old new t) (sym (take-append-add a b k.count))
+      (Appends-trans old mid new a (take k.count b) h k.wrote);
 }
 
 -- a failure behind what was written
-pub later_failed : {old mid new : Option (List WriteTold)} → HasMore old mid → HasWriteFailed mid new → HasWriteFailed old new
+pub later_failed : {old mid new : Option (List WriteTold)} → HasMore old mid → HasWriteFailed mid new
+    → HasWriteFailed old new
 later_failed h f = more_failed IsWriteFailure h f
 
 -- ---- how a call ended
@@ -60,11 +64,14 @@ module _ {X : Type 0} (line : X → List ℕ) where
   pub lines_more : (xs : List X) (i : ℕ) (d : X) → i < length xs
       → text_of (map line (take (i + 1) xs)) ≡ text_of (map line (take i xs)) ++ line (get_or xs i d)
   lines_more xs i d lt =
-      ap (λ (l : List X). text_of (map line l)) (take_more xs i d lt) ∙ ap text_of (map-append line (take i xs) (get_or xs i d ∷ []))
+      ap (λ (l : List X). text_of (map line l)) (take_more xs i d lt)
+      ∙ ap text_of (map-append line (take i xs) (get_or xs i d ∷ []))
       ∙ text_of-snoc (map line (take i xs)) (line (get_or xs i d))
 
   -- behind them stand those of the rest
-  pub lines_split : (xs : List X) (i : ℕ) → text_of (map line (take i xs)) ++ text_of (map line (drop i xs)) ≡ text_of (map line xs)
+  pub lines_split : (xs : List X) (i : ℕ) → text_of (map line (take i xs))
+      ++ text_of (map line (drop i xs)) ≡ text_of (map line xs)
   lines_split xs i =
-      sym (text_of-append (map line (take i xs)) (map line (drop i xs))) ∙ ap text_of (sym (map-append line (take i xs) (drop i xs)))
+      sym (text_of-append (map line (take i xs)) (map line (drop i xs)))
+      ∙ ap text_of (sym (map-append line (take i xs) (drop i xs)))
       ∙ ap (λ (l : List X). text_of (map line l)) (take-append-drop i xs)

@@ -1,5 +1,6 @@
 -- The text of an audit.
-use Rattle.std.specs.Prelude.{ℕ, ℤ, pos, Bool, List, [], ◌∷◌, ◌++◌, codes, map, decimal, if◌then◌else◌}
+use Rattle.std.specs.Prelude.{ℕ, ℤ, pos, Bool, List, [], ◌∷◌, ◌++◌, codes, map, decimal}
+use Rattle.std.specs.Prelude.{if◌then◌else◌}
 use Rattle.std.specs.Fmt.{signed_decimal}
 use Rattle.bank_reports.specs.declared.audit.BranchLine.{BranchLine}
 use Rattle.bank_reports.specs.declared.audit.Audit.{Audit}
@@ -27,7 +28,8 @@ number_lines a =
 
 -- a branch that isn't the sum of its tellers
 unfoldable pub branch_line : BranchLine → List ℕ
-branch_line l = line (codes "branch " ++ decimal l.branch ++ codes " tellers " ++ signed_decimal l.tellers ++ codes " balance " ++ signed_decimal l.balance)
+branch_line l = line (codes "branch " ++ decimal l.branch ++ codes " tellers " ++ signed_decimal l.tellers
+    ++ codes " balance " ++ signed_decimal l.balance)
 
 abbrev pub verdict_line : Bool → List ℕ
 verdict_line sound = line (if sound then codes "CONSISTENT" else codes "INCONSISTENT")

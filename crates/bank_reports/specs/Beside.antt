@@ -1,5 +1,7 @@
--- The rows that an audit is given, each request and each posting with what stands beside it, and the audit of these.
-use Rattle.std.specs.Prelude.{◌≡◌, ℤ, ◌+◌, Bool, not, List, [], length, map, filter, Option, Some, is_some}
+-- The rows that an audit is given, each request and each posting with what stands beside it, and the audit of
+-- these.
+use Rattle.std.specs.Prelude.{◌≡◌, ℤ, ◌+◌, Bool, not, List, [], length, map, filter, Option, Some}
+use Rattle.std.specs.Prelude.{is_some}
 use Rattle.posting_rules.specs.Laws.{total}
 use Rattle.bank_walks.specs.declared.branches.StoredBranch.{StoredBranch}
 use Rattle.bank_walks.specs.declared.tellers.StoredTeller.{StoredTeller}
@@ -8,7 +10,7 @@ use Rattle.bank_walks.specs.declared.postings.StoredPosting.{StoredPosting}
 use Rattle.bank_walks.specs.declared.requests.StoredRequest.{StoredRequest}
 use Rattle.bank_reports.specs.declared.audit.Audit.{Audit}
 use Rattle.bank_reports.specs.Stored.{StoredTables}
-use Rattle.bank_reports.specs.Audit.{audit_of, is_matched, lines_of, request_under, posting_under, branch_balance, teller_balance, account_balance}
+use Rattle.bank_reports.specs.Audit.{audit_of, audit_with, is_matched, request_under, posting_under}
 
 pub record AuditRows : Type 0 where
   pub tellers : List StoredTeller
@@ -34,19 +36,10 @@ abbrev pub delta_in : StoredPosting × Option StoredRequest → ℤ
 delta_in p = p.0.delta
 
 abbrev pub audit_of_rows : AuditRows → Audit
-audit_of_rows g = record {
-  branches = length g.branches;
-  tellers = length g.tellers;
-  accounts = length g.accounts;
-  requests = length g.requests;
-  history = length g.history;
-  account_sum = total (map account_balance g.accounts);
-  teller_sum = total (map teller_balance g.tellers);
-  branch_sum = total (map branch_balance g.branches);
-  history_sum = total (map delta_in g.history);
-  unmatched = length (filter is_odd g.requests) + length (filter is_alone g.history);
-  lines = lines_of g.tellers g.branches;
-}
+audit_of_rows g =
+    audit_with g.branches g.tellers g.accounts (length g.requests) (length g.history)
+    (total (map delta_in g.history))
+    (length (filter is_odd g.requests) + length (filter is_alone g.history))
 
 -- the rows of tables, each beside the other of its ordinal
 abbrev pub rows_of : StoredTables → AuditRows

@@ -4,7 +4,9 @@ use Rattle.std.specs.List.{AllByRecursion}
 use Rattle.posting_rules.specs.Laws.{total, IsConsistent}
 use Rattle.posting_rules.specs.Tables.{Tables, HasKeys, history_key, request_key}
 use Rattle.bank_reports.specs.Stored.{StoredTables, stored}
-use Rattle.bank_reports.specs.Audit.{audit_of, is_sound, is_matched, request_under, posting_under, teller_sum, branch_balance, teller_balance, account_balance, delta_of, request_ordinal, posting_ordinal}
+use Rattle.bank_reports.specs.Audit.{audit_of, is_sound, is_matched, request_under, posting_under, teller_sum}
+use Rattle.bank_reports.specs.Audit.{branch_balance, teller_balance, account_balance, delta_of}
+use Rattle.bank_reports.specs.Audit.{request_ordinal, posting_ordinal}
 
 pub record IsSoundFile (t : StoredTables) : Type 0 where
   -- accounts, tellers and branches have one sum
@@ -24,9 +26,11 @@ pub record HasOrdinals (t : StoredTables) : Type 0 where
 
 -- the audit says that tables are consistent exactly where they are
 abbrev pub TellsOfStored : Type 0
-TellsOfStored = (t : StoredTables) → HasOrdinals t → (is_sound (audit_of t) ≡ true → IsSoundFile t) × (IsSoundFile t → is_sound (audit_of t) ≡ true)
+TellsOfStored = (t : StoredTables) → HasOrdinals t → (is_sound (audit_of t) ≡ true → IsSoundFile t)
+    × (IsSoundFile t → is_sound (audit_of t) ≡ true)
 
 -- so it does of the tables of a bank
 abbrev pub TellsOfTables : Type 0
 TellsOfTables = (t : Tables) → HasKeys history_key t.history → HasKeys request_key t.requests
-    → (is_sound (audit_of (stored t)) ≡ true → IsConsistent t) × (IsConsistent t → is_sound (audit_of (stored t)) ≡ true)
+    → (is_sound (audit_of (stored t)) ≡ true → IsConsistent t)
+    × (IsConsistent t → is_sound (audit_of (stored t)) ≡ true)

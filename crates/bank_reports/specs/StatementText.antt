@@ -11,30 +11,36 @@ heading_line account = line (codes "STATEMENT ACCOUNT " ++ filled_to 48 12 (deci
 -- six texts, each right in the places of its column, joined by one space
 abbrev pub columns : List ℕ → List ℕ → List ℕ → List ℕ → List ℕ → List ℕ → List ℕ
 columns ordinal moment teller branch delta balance =
-    line (right_in 13 ordinal ++ codes " " ++ right_in 12 moment ++ codes " " ++ right_in 8 teller ++ codes " " ++ right_in 6 branch ++ codes " "
+    line (right_in 13 ordinal ++ codes " " ++ right_in 12 moment ++ codes " " ++ right_in 8 teller
+    ++ codes " " ++ right_in 6 branch ++ codes " "
     ++ right_in 14 delta ++ codes " " ++ right_in 14 balance)
 
 -- the names of the columns
 abbrev pub names_line : List ℕ
-names_line = columns (codes "ordinal") (codes "moment") (codes "teller") (codes "branch") (codes "delta") (codes "balance")
+names_line = columns (codes "ordinal") (codes "moment") (codes "teller") (codes "branch") (codes "delta")
+    (codes "balance")
 
 -- a posting, and the running balance with it
 abbrev pub posting_line : StoredPosting → ℤ → List ℕ
 posting_line r balance =
-    columns (decimal r.ordinal) (decimal r.moment) (signed_decimal r.teller) (signed_decimal r.branch) (with_sign r.delta) (signed_decimal balance)
+    columns (decimal r.ordinal) (decimal r.moment) (signed_decimal r.teller) (signed_decimal r.branch)
+    (with_sign r.delta) (signed_decimal balance)
 
 -- a running balance is the sum of the account's deltas up to its line and with it
 abbrev pub posting_lines : ℤ → List StoredPosting → List (List ℕ)
 posting_lines before [] = []
-posting_lines before (r ∷ rows) = posting_line r (before +ℤ r.delta) ∷ posting_lines (before +ℤ r.delta) rows
+posting_lines before (r ∷ rows) = posting_line r (before +ℤ r.delta)
+    ∷ posting_lines (before +ℤ r.delta) rows
 
 -- the balance of the account's row
 abbrev pub closing_line : ℤ → List ℕ
-closing_line balance = line (left_in 57 (codes "closing balance") ++ codes " " ++ right_in 14 (signed_decimal balance))
+closing_line balance =
+    line (left_in 57 (codes "closing balance") ++ codes " " ++ right_in 14 (signed_decimal balance))
 
 -- an account opens at zero
 abbrev pub statement_lines : ℕ → List StoredPosting → ℤ → List (List ℕ)
-statement_lines account rows balance = heading_line account ∷ names_line ∷ (posting_lines (pos 0) rows ++ closing_line balance ∷ [])
+statement_lines account rows balance = heading_line account ∷ names_line
+    ∷ (posting_lines (pos 0) rows ++ closing_line balance ∷ [])
 
 unfoldable pub statement_text : ℕ → List StoredPosting → ℤ → List ℕ
 statement_text account rows balance = text_of (statement_lines account rows balance)

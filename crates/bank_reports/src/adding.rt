@@ -18,7 +18,8 @@ pub fn audit_of_sums(
     ordinals: OrdinalSums,
 ) -> Audit
     ensures { (rows : AuditRows) → HasTellers tellers.now rows.tellers
-        → HasBranches branches rows.tellers rows.branches → IsSum accounts (map account_balance rows.accounts)
+        → HasBranches branches rows.tellers rows.branches
+        → IsSum accounts (map account_balance rows.accounts)
         → HasBeside ordinals rows.requests rows.history → result ≡ audit_of_rows rows }
 {
     Audit {

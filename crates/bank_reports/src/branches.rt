@@ -1,5 +1,6 @@
 //! The branches, and those that aren't the sums of their tellers.
-ghost use Rattle.std.specs.Prelude.{◌≡◌, ◌<◌, ◌≤◌, ◌++◌, ◌∷◌, [], IfOk, List, length, take};
+ghost use Rattle.std.specs.Prelude.{◌≡◌, ◌<◌, ◌≤◌, ◌++◌, ◌∷◌, [], IfOk, List};
+ghost use Rattle.std.specs.Prelude.{length, take};
 ghost use Rattle.bank_reports.specs.declared.limits.TheConstants.{BRANCHES};
 ghost use Rattle.bank_walks.specs.declared.branches.StoredBranch.{StoredBranch};
 ghost use Rattle.bank_walks.specs.declared.tellers.StoredTeller.{StoredTeller};
@@ -12,8 +13,8 @@ use bank_walks::StoredBranch;
 use posting_rules::LAST_BRANCH;
 use std::alloc::{AllocError, Global};
 
-/// What branches add up to, and which of them differ from their tellers. It has room for every branch from its
-/// beginning on.
+/// What branches add up to, and which of them differ from their tellers. It has room for every branch from
+/// its beginning on.
 #[derive(Drop)]
 pub struct BranchSums {
     all: Sum,

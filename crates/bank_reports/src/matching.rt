@@ -7,8 +7,8 @@ use bank_walks::{StoredPosting, StoredRequest};
 // The code of the outcome that is posted.
 const POSTED: i64 = 0;
 
-/// Whether a request and the posting of its ordinal, if there is one, belong together: it is posted just where
-/// there is one, and then they agree.
+/// Whether a request and the posting of its ordinal, if there is one, belong together: it is posted just
+/// where there is one, and then they agree.
 pub(crate) fn is_matched(request: &StoredRequest, posting: Option<StoredPosting>) -> bool
     ensures { result ≡ matches (Some request.now) posting }
 {

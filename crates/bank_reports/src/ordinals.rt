@@ -1,5 +1,6 @@
 //! The ordinals that aren't matched.
-ghost use Rattle.std.specs.Prelude.{◌≡◌, ◌<◌, ◌≤◌, ◌+◌, ◌++◌, ◌∷◌, [], List, Option, length};
+ghost use Rattle.std.specs.Prelude.{◌≡◌, ◌<◌, ◌≤◌, ◌+◌, ◌++◌, ◌∷◌, [], List};
+ghost use Rattle.std.specs.Prelude.{Option, length};
 ghost use Rattle.bank_reports.specs.declared.limits.TheConstants.{MOST_ROWS};
 ghost use Rattle.bank_walks.specs.declared.postings.StoredPosting.{StoredPosting};
 ghost use Rattle.bank_walks.specs.declared.requests.StoredRequest.{StoredRequest};
@@ -9,7 +10,8 @@ use crate::matching::is_matched;
 use crate::sum::Sum;
 use bank_walks::{StoredPosting, StoredRequest};
 
-/// How many requests and postings there are, what the postings add up to, and how many ordinals aren't matched.
+/// How many requests and postings there are, what the postings add up to, and how many ordinals aren't
+/// matched.
 #[derive(Clone, Copy, Debug, PartialEq, Eq)]
 pub struct OrdinalSums {
     requests: u64,

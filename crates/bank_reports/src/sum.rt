@@ -5,7 +5,8 @@ ghost use Rattle.bank_reports.specs.Sums.{IsSmall};
 
 use crate::limits::MOST_ROWS;
 
-/// How many amounts were added, and their sum. It has 128 bits, which `MOST_ROWS` amounts of 64 bits don't leave.
+/// How many amounts were added, and their sum. It has 128 bits, which `MOST_ROWS` amounts of 64 bits don't
+/// leave.
 #[derive(Clone, Copy, Debug, PartialEq, Eq)]
 pub struct Sum {
     pub count: u64,

@@ -1,5 +1,6 @@
 //! The sums of the tellers of each branch.
-ghost use Rattle.std.specs.Prelude.{◌≡◌, ◌<◌, ◌≤◌, ◌++◌, ◌∷◌, [], IfOk, List, length};
+ghost use Rattle.std.specs.Prelude.{◌≡◌, ◌<◌, ◌≤◌, ◌++◌, ◌∷◌, [], IfOk, List};
+ghost use Rattle.std.specs.Prelude.{length};
 ghost use Rattle.bank_reports.specs.Audit.{teller_sum};
 ghost use Rattle.bank_reports.specs.declared.limits.TheConstants.{BRANCHES};
 ghost use Rattle.bank_walks.specs.declared.tellers.StoredTeller.{StoredTeller};

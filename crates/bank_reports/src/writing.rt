@@ -86,7 +86,8 @@ fn verdict_text(sound: bool) -> &'static str
     }
 }
 
-/// Writes the text of an audit and flushes. At a fault a beginning of the text was written. It takes no memory.
+/// Writes the text of an audit and flushes. At a fault a beginning of the text was written. It takes no
+/// memory.
 pub fn write_audit<W: Sink>(audit: &Audit, writer: &mut W) -> Result<(), WriteFault>
     ensures ok { OnOk result
         (Appends (W.contents writer.old) (W.contents writer.new) (audit_text audit.now)) }

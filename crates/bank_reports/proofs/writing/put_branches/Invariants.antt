@@ -8,6 +8,7 @@ use Rattle.bank_reports.proofs.writing.put_branches.Given as goal
 -- the lines so far were written
 abbrev pub invariant-loop-line : goal.invariant-loop-line
 invariant-loop-line g l = record {
-  wrote : Appends (g.W.Sink.contents l.fn.writer) (g.W.Sink.contents l.writer) (text_of (map branch_line (take l.line-index l.lines)));
+  wrote : Appends (g.W.Sink.contents l.fn.writer) (g.W.Sink.contents l.writer)
+      (text_of (map branch_line (take l.line-index l.lines)));
   more : HasMore (g.W.Sink.told l.fn.writer) (g.W.Sink.told l.writer);
 }

@@ -4,7 +4,8 @@ use Rattle.std.specs.Int.{w128}
 use Rattle.std.proofs.lemmas.Int.{to_z-of_z}
 use Rattle.std.proofs.lemmas.List.{length-map}
 use Rattle.bank_reports.specs.Audit.{branch_balance}
-use Rattle.bank_reports.proofs.OneMore.{sum_more_64, line_is, line_none, lines_after, branch_differs, branch_agrees}
+use Rattle.bank_reports.proofs.OneMore.{sum_more_64, line_is, line_none, lines_after, branch_differs}
+use Rattle.bank_reports.proofs.OneMore.{branch_agrees}
 use Rattle.bank_reports.proofs.branches.BranchSums.add.Goals as goal
 
 pub returns-then-tellers-from : goal.returns-then-tellers-from
@@ -23,10 +24,13 @@ returns-then-tellers-from c = record {
       let room = s.room in
       let low : s.differing < length s.lines.items = omega (arith, all, same, few, below, room) in
       record {
-        all = sum_more_64 branch_balance s.all c.plus-self.result branches b fit k.all c.plus-self.ensures.count c.plus-self.ensures.sum;
+        all = sum_more_64 branch_balance s.all c.plus-self.result branches b fit k.all
+            c.plus-self.ensures.count c.plus-self.ensures.sum;
         lines = lines_after s.lines.items s.differing _ tellers branches b low k.lines
-            (line_is tellers b c.get.result _ _ c.get.ensures.value (to_z-of_z w128 c.of-tellers.result wide ∙ sum) balance)
-            (branch_differs tellers b c.of-tellers.result c.from.result sum (c.from.ensures ∙ balance) c.if-tellers-from.true);
+            (line_is tellers b c.get.result _ _ c.get.ensures.value
+            (to_z-of_z w128 c.of-tellers.result wide ∙ sum) balance)
+            (branch_differs tellers b c.of-tellers.result c.from.result sum (c.from.ensures ∙ balance)
+            c.if-tellers-from.true);
       };
 }
 
@@ -38,8 +42,11 @@ returns-else-tellers-from c = record {
       let wide : FitsSigned w128 c.of-tellers.result = search rules in
       let from_wide : FitsSigned w128 c.from.result = search rules in
       record {
-        all = sum_more_64 branch_balance c.args.self.now.all c.plus-self.result branches b fit k.all c.plus-self.ensures.count c.plus-self.ensures.sum;
+        all = sum_more_64 branch_balance c.args.self.now.all c.plus-self.result branches b fit k.all
+            c.plus-self.ensures.count c.plus-self.ensures.sum;
         lines = k.lines ∙ sym (line_none tellers branches b
-            (branch_agrees tellers b c.of-tellers.result c.from.result wide from_wide (c.of-tellers.ensures tellers h) (c.from.ensures ∙ to_z-of_z w64 b.balance fit) c.if-tellers-from.false));
+            (branch_agrees tellers b c.of-tellers.result c.from.result wide from_wide
+            (c.of-tellers.ensures tellers h) (c.from.ensures ∙ to_z-of_z w64 b.balance fit)
+            c.if-tellers-from.false));
       };
 }

@@ -12,8 +12,10 @@ returns c =
       added = λ requests history h.
           record {
             requests = h.requests;
-            history = sum_more_64 delta_in c.args.self.now.history c.plus.result history (c.args.posting, c.args.request) fit h.history c.plus.ensures.count c.plus.ensures.sum;
-            unmatched = alone_more history c.args.posting c.args.request c.is_none.result c.args.self.now.unmatched (length (filter is_odd requests)) c.from-alone.result
+            history = sum_more_64 delta_in c.args.self.now.history c.plus.result history
+                (c.args.posting, c.args.request) fit h.history c.plus.ensures.count c.plus.ensures.sum;
+            unmatched = alone_more history c.args.posting c.args.request c.is_none.result
+                c.args.self.now.unmatched (length (filter is_odd requests)) c.from-alone.result
                 c.is_none.ensures c.from-alone.ensures h.unmatched;
           };
     }

@@ -1,8 +1,10 @@
 -- One more teller, under its branch.
-use Rattle.std.proofs.Common.{rules, ◌≡◌, ◌≤◌, ◌<◌, ◌-◌, ◌/◌, ◌*◌, ℕ, length, get_or, ap, ◌∙◌, subst, sym, arith, w64, FitsSigned}
+use Rattle.std.proofs.Common.{rules, ◌≡◌, ◌≤◌, ◌<◌, ◌-◌, ◌/◌, ◌*◌, ℕ, length}
+use Rattle.std.proofs.Common.{get_or, ap, ◌∙◌, subst, sym, arith, w64, FitsSigned}
 use Rattle.std.specs.Prelude.{ℤ, pos, ◌+ℤ◌, nat_abs}
 use Rattle.bank_reports.specs.Audit.{teller_balance}
-use Rattle.bank_reports.proofs.OneMore.{any_default, sum_fits, sum_is, small_after, branches_after, sum_more_64}
+use Rattle.bank_reports.proofs.OneMore.{any_default, sum_fits, sum_is, small_after, branches_after}
+use Rattle.bank_reports.proofs.OneMore.{sum_more_64}
 use Rattle.bank_reports.proofs.tellers.TellerSums.add.Goals as goal
 
 pub overflow_add-sum : goal.overflow_add-sum
@@ -12,8 +14,10 @@ overflow_add-sum c =
     let v : ℤ = c.index-sum.result.now in
     let room = s.every_branch in
     let low : p < length s.by_branch.items = omega (arith, c.get.ensures.most, room) in
-    let stands : v ≡ get_or s.by_branch.items p (pos 0) = c.index-sum.ensures ∙ any_default s.by_branch.items p (pos 0) v low in
-    let small : nat_abs v ≤ 9223372036854775808 * s.all.count = subst (λ (z : ℤ). nat_abs z ≤ 9223372036854775808 * s.all.count) (sym stands) (s.small p) in
+    let stands : v ≡ get_or s.by_branch.items p (pos 0) = c.index-sum.ensures
+    ∙ any_default s.by_branch.items p (pos 0) v low in
+    let small : nat_abs v ≤ 9223372036854775808 * s.all.count =
+    subst (λ (z : ℤ). nat_abs z ≤ 9223372036854775808 * s.all.count) (sym stands) (s.small p) in
     let fit : FitsSigned w64 c.args.teller.balance = search rules in
     sum_fits v c.args.teller.balance c.from.result s.all.count fit c.from.ensures small s.all.few
 
@@ -24,11 +28,14 @@ invariant_of-self-clause-small c =
     let v : ℤ = c.index-sum.result.now in
     let room = s.every_branch in
     let low : p < length s.by_branch.items = omega (arith, c.get.ensures.most, room) in
-    let stands : v ≡ get_or s.by_branch.items p (pos 0) = c.index-sum.ensures ∙ any_default s.by_branch.items p (pos 0) v low in
-    let small : nat_abs v ≤ 9223372036854775808 * s.all.count = subst (λ (z : ℤ). nat_abs z ≤ 9223372036854775808 * s.all.count) (sym stands) (s.small p) in
+    let stands : v ≡ get_or s.by_branch.items p (pos 0) = c.index-sum.ensures
+    ∙ any_default s.by_branch.items p (pos 0) v low in
+    let small : nat_abs v ≤ 9223372036854775808 * s.all.count =
+    subst (λ (z : ℤ). nat_abs z ≤ 9223372036854775808 * s.all.count) (sym stands) (s.small p) in
     let fit : FitsSigned w64 c.args.teller.balance = search rules in
     small_after s.by_branch.items p s.all.count c.plus-self.result.count _ c.args.teller.balance s.small
-    (sum_is v c.args.teller.balance c.from.result s.all.count fit c.from.ensures small s.all.few ∙ ap (λ (z : ℤ). z +ℤ c.args.teller.balance) stands) fit c.plus-self.ensures.count low
+    (sum_is v c.args.teller.balance c.from.result s.all.count fit c.from.ensures small s.all.few
+    ∙ ap (λ (z : ℤ). z +ℤ c.args.teller.balance) stands) fit c.plus-self.ensures.count low
 
 pub returns : goal.returns
 returns c =
@@ -37,15 +44,19 @@ returns c =
     let v : ℤ = c.index-sum.result.now in
     let room = s.every_branch in
     let low : p < length s.by_branch.items = omega (arith, c.get.ensures.most, room) in
-    let stands : v ≡ get_or s.by_branch.items p (pos 0) = c.index-sum.ensures ∙ any_default s.by_branch.items p (pos 0) v low in
-    let small : nat_abs v ≤ 9223372036854775808 * s.all.count = subst (λ (z : ℤ). nat_abs z ≤ 9223372036854775808 * s.all.count) (sym stands) (s.small p) in
+    let stands : v ≡ get_or s.by_branch.items p (pos 0) = c.index-sum.ensures
+    ∙ any_default s.by_branch.items p (pos 0) v low in
+    let small : nat_abs v ≤ 9223372036854775808 * s.all.count =
+    subst (λ (z : ℤ). nat_abs z ≤ 9223372036854775808 * s.all.count) (sym stands) (s.small p) in
     let fit : FitsSigned w64 c.args.teller.balance = search rules in
     let one : 1 ≤ c.args.teller.teller = omega (arith, c.get.ensures.value, c.get.ensures.least) in
     let place : p ≡ (c.args.teller.teller - 1) / 10 = ap (λ (n : ℕ). (n - 1) / 10) c.get.ensures.value in
     record {
       added = λ tellers h. record {
-        all = sum_more_64 teller_balance s.all c.plus-self.result tellers c.args.teller fit h.all c.plus-self.ensures.count c.plus-self.ensures.sum;
+        all = sum_more_64 teller_balance s.all c.plus-self.result tellers c.args.teller fit h.all
+            c.plus-self.ensures.count c.plus-self.ensures.sum;
         by_branch = branches_after s.by_branch.items tellers c.args.teller p _ one place low
-            (sum_is v c.args.teller.balance c.from.result s.all.count fit c.from.ensures small s.all.few ∙ ap (λ (z : ℤ). z +ℤ c.args.teller.balance) stands) h.by_branch;
+            (sum_is v c.args.teller.balance c.from.result s.all.count fit c.from.ensures small s.all.few
+            ∙ ap (λ (z : ℤ). z +ℤ c.args.teller.balance) stands) h.by_branch;
       };
     }
