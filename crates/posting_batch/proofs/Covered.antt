@@ -1,10 +1,10 @@
 -- Slots that are placed for records, and filled from tables.
-use Rattle.std.proofs.Common.{◌≡◌, ℕ, Bool, true, eqb, List, [], ◌∷◌, map, Option, Some, None, Result, Ok}
-use Rattle.std.proofs.Common.{Err, refl, sym, ap, subst, ◌∙◌, inl, inr}
+use Rattle.std.proofs.Common.{◌≡◌, ℕ, Bool, eqb, List, [], ◌∷◌, map, Option, Some, None, Result, Ok, Err}
+use Rattle.std.proofs.Common.{refl, sym, ap, subst, ◌∙◌, inl, inr}
 use Rattle.std.specs.Prelude.{IsSome, IfSome}
 use Rattle.std.specs.List.{find, AllByRecursion}
 use Rattle.std.specs.Option.{option_map}
-use Rattle.std.proofs.lemmas.Bool.{eqb-true, eq-eqb}
+use Rattle.std.proofs.lemmas.Bool.{eqb-true}
 use Rattle.message_records.specs.declared.faults.Bad.{Bad}
 use Rattle.message_records.specs.Records.{RequestFields}
 use Rattle.posting_rules.specs.Commands.{branch_of_teller, branch_of_account}
@@ -18,138 +18,21 @@ use Rattle.posting_batch.specs.Batch.{CoversAll, HasRisingSlots, HasHomes, IsUnc
 use Rattle.posting_batch.specs.Batch.{teller_filled, account_filled, request_filled}
 use Rattle.posting_batch.specs.Overlay.{Overlay, by_slot, over, put_account, put_teller, put_branch}
 use Rattle.posting_batch.specs.Overlay.{tables_over}
-use Rattle.posting_batch.specs.Placed.{placed, number_below, number_same, request_below, request_same}
+use Rattle.posting_batch.specs.Placed.{placed, number_below, number_same, request_below}
 use Rattle.posting_batch.specs.Slots.{is_for, account_slot_key, teller_slot_key, branch_slot_key}
-use Rattle.posting_batch.specs.Slots.{empty_account, empty_teller, empty_branch, empty_request}
+use Rattle.posting_batch.specs.Slots.{empty_account, empty_teller, empty_branch}
 use Rattle.posting_batch.proofs.KeptSlots.{find-map, both_true}
-use Rattle.posting_batch.proofs.Orders.{placed_has, placed_keeps, all-placed, placed_rises, number_order}
-use Rattle.posting_batch.proofs.Orders.{request_order, rising_mapped}
+use Rattle.posting_batch.proofs.Orders.{all-placed, rising_mapped}
 use Rattle.posting_batch.proofs.Overlaid.{Fits, tables_made}
-
--- ---- one slot is placed
-
-module _ {S : Type 0} (key : S → ℕ) (e : S) (xs : List S) where
-  has_number : IsSome (row_at key (placed (number_below key) (number_same key) e xs) (key e))
-  has_number = placed_has (number_below key) (number_same key) e (eq-eqb (key e) (key e) refl) xs
-
-  keeps_number : (n : ℕ) → IsSome (row_at key xs n)
-      → IsSome (row_at key (placed (number_below key) (number_same key) e xs) n)
-  keeps_number n there = placed_keeps (number_below key) (number_same key) e (λ s. eqb (key s) n) xs there
-
-own : (e : RequestSlot) → request_same e e ≡ true
-own e =
-    let p : eqb e.teller e.teller ≡ true = eq-eqb e.teller e.teller refl in
-    let q : eqb e.number e.number ≡ true = eq-eqb e.number e.number refl in
-    rw (p, q) refl
-
-has_request : (e : RequestSlot) (xs : List RequestSlot)
-    → IsSome (find (is_for e.teller e.number) (placed request_below request_same e xs))
-has_request e xs = placed_has request_below request_same e (own e) xs
-
-keeps_request : (e : RequestSlot) (xs : List RequestSlot) (n m : ℕ) → IsSome (find (is_for n m) xs)
-    → IsSome (find (is_for n m) (placed request_below request_same e xs))
-keeps_request e xs n m there = placed_keeps request_below request_same e (is_for n m) xs there
-
--- ---- slots for a record
-
-covers_new : (o : Overlay) (read : Result RequestFields Bad) → CoversRead (covering o read) read
-covers_new o (Err fault) = tt
-covers_new o (Ok r) =
-    let first = with_branch_slot (branch_of_teller r.teller) o.branches in
-    record {
-      branch = keeps_number branch_slot_key (empty_branch (branch_of_account r.account)) first
-          (branch_of_teller r.teller)
-          (has_number branch_slot_key (empty_branch (branch_of_teller r.teller)) o.branches);
-      teller = has_number teller_slot_key (empty_teller r.teller) o.tellers;
-      account = has_number account_slot_key (empty_account r.account) o.accounts;
-      its_branch = has_number branch_slot_key (empty_branch (branch_of_account r.account)) first;
-      kept = has_request (empty_request r.teller r.number) o.kept;
-    }
-
-covers_still : (o : Overlay) (read other : Result RequestFields Bad) → CoversRead o other
-    → CoversRead (covering o read) other
-covers_still o (Err fault) other covers = covers
-covers_still o (Ok r) (Err fault) covers = tt
-covers_still o (Ok r) (Ok q) covers =
-    let first = with_branch_slot (branch_of_teller r.teller) o.branches in
-    let keeps : (n : ℕ) → IsSome (row_at branch_slot_key o.branches n) → IsSome
-    (row_at branch_slot_key (covering o (Ok r)).branches n) =
-    λ n there. keeps_number branch_slot_key (empty_branch (branch_of_account r.account)) first n
-    (keeps_number branch_slot_key (empty_branch (branch_of_teller r.teller)) o.branches n there) in
-    record {
-      branch = keeps (branch_of_teller q.teller) covers.branch;
-      teller = keeps_number teller_slot_key (empty_teller r.teller) o.tellers q.teller covers.teller;
-      account = keeps_number account_slot_key (empty_account r.account) o.accounts q.account covers.account;
-      its_branch = keeps (branch_of_account q.account) covers.its_branch;
-      kept = keeps_request (empty_request r.teller r.number) o.kept q.teller q.number covers.kept;
-    }
-
-covers_on : (o : Overlay) (reads : List (Result RequestFields Bad)) (other : Result RequestFields Bad)
-    → CoversRead o other → CoversRead (covering_all o reads) other
-covers_on o [] other covers = covers
-covers_on o (read ∷ reads) other covers = covers_on (covering o read) reads other
-    (covers_still o read other covers)
-
-pub covers_all : (o : Overlay) (reads : List (Result RequestFields Bad))
-    → CoversAll (covering_all o reads) reads
-covers_all o [] = tt
-covers_all o (read ∷ reads) = (covers_on (covering o read) reads read (covers_new o read), covers_all (covering o read) reads)
-
--- ---- in their order, and nothing is changed
-
--- so are slots that were made
-pub record IsMade (o : Overlay) : Type 0 where
-  pub unchanged : IsUnchanged o
-  pub rising : HasRisingSlots o
-
-made_with : (o : Overlay) (read : Result RequestFields Bad) → IsMade o → IsMade (covering o read)
-made_with o (Err fault) made = made
-made_with o (Ok r) made =
-    let home = empty_branch (branch_of_teller r.teller) in
-    let its = empty_branch (branch_of_account r.account) in
-    let first = with_branch_slot (branch_of_teller r.teller) o.branches in
-    record {
-      unchanged = record {
-        branches = all-placed (number_below branch_slot_key) (number_same branch_slot_key) its
-            (λ s. s.changed ≡ None) first refl
-            (all-placed (number_below branch_slot_key) (number_same branch_slot_key) home (λ s. s.changed ≡ None) o.branches refl made.unchanged.branches);
-        tellers = all-placed (number_below teller_slot_key) (number_same teller_slot_key)
-            (empty_teller r.teller) (λ s. s.changed ≡ None) o.tellers refl made.unchanged.tellers;
-        accounts = all-placed (number_below account_slot_key) (number_same account_slot_key)
-            (empty_account r.account) (λ s. s.changed ≡ None) o.accounts refl
-            made.unchanged.accounts;
-        history = made.unchanged.history;
-        requests = made.unchanged.requests;
-      };
-      rising = record {
-        branches = placed_rises (number_below branch_slot_key) (number_same branch_slot_key)
-            (number_order branch_slot_key) its first
-            (placed_rises (number_below branch_slot_key) (number_same branch_slot_key) (number_order branch_slot_key) home o.branches made.rising.branches);
-        tellers = placed_rises (number_below teller_slot_key) (number_same teller_slot_key)
-            (number_order teller_slot_key) (empty_teller r.teller) o.tellers made.rising.tellers;
-        accounts = placed_rises (number_below account_slot_key) (number_same account_slot_key)
-            (number_order account_slot_key) (empty_account r.account) o.accounts
-            made.rising.accounts;
-        kept = placed_rises request_below request_same request_order
-            (empty_request r.teller r.number) o.kept made.rising.kept;
-      };
-    }
-
-made_on : (o : Overlay) (reads : List (Result RequestFields Bad)) → IsMade o → IsMade (covering_all o reads)
-made_on o [] made = made
-made_on o (read ∷ reads) made = made_on (covering o read) reads (made_with o read made)
-
-pub made_all : (reads : List (Result RequestFields Bad)) → IsMade (covering_all no_slots reads)
-made_all reads = made_on no_slots reads (record {
-  unchanged = record { branches = tt; tellers = tt; accounts = tt; history = refl; requests = refl };
-  rising = record { branches = tt; tellers = tt; accounts = tt; kept = tt };
-})
+use Rattle.posting_batch.proofs.SlotsForRecords.{has_number, keeps_number, covers_all}
+use Rattle.posting_batch.proofs.SlotsInOrder.{made_all}
 
 -- ---- the branch of each teller and of each account has a slot
 
 homes_kept : {S : Type 0} (branch_of : S → ℕ) (e : BranchSlot) (bs : List BranchSlot) (xs : List S)
     → AllByRecursion (λ s. IsSome (row_at branch_slot_key bs (branch_of s))) xs
-    → AllByRecursion (λ s. IsSome (row_at branch_slot_key (placed (number_below branch_slot_key) (number_same branch_slot_key) e bs) (branch_of s))) xs
+    → AllByRecursion (λ s. IsSome (row_at branch_slot_key
+    (placed (number_below branch_slot_key) (number_same branch_slot_key) e bs) (branch_of s))) xs
 homes_kept branch_of e bs [] all = tt
 homes_kept branch_of e bs (x ∷ xs) all =
     (keeps_number branch_slot_key e bs (branch_of x) all.0, homes_kept branch_of e bs xs all.1)
@@ -163,13 +46,18 @@ homes_with o (Ok r) has =
     record {
       tellers = all-placed (number_below teller_slot_key) (number_same teller_slot_key)
           (empty_teller r.teller)
-          (λ s. IsSome (row_at branch_slot_key (covering o (Ok r)).branches (branch_of_teller s.teller))) o.tellers
-          (keeps_number branch_slot_key its first (branch_of_teller r.teller) (has_number branch_slot_key home o.branches))
-          (homes_kept (λ s. branch_of_teller s.teller) its first o.tellers (homes_kept (λ s. branch_of_teller s.teller) home o.branches o.tellers has.tellers));
+          (λ s. IsSome (row_at branch_slot_key (covering o (Ok r)).branches (branch_of_teller s.teller)))
+          o.tellers
+          (keeps_number branch_slot_key its first (branch_of_teller r.teller)
+          (has_number branch_slot_key home o.branches))
+          (homes_kept (λ s. branch_of_teller s.teller) its first o.tellers
+          (homes_kept (λ s. branch_of_teller s.teller) home o.branches o.tellers has.tellers));
       accounts = all-placed (number_below account_slot_key) (number_same account_slot_key)
           (empty_account r.account)
-          (λ s. IsSome (row_at branch_slot_key (covering o (Ok r)).branches (branch_of_account s.account))) o.accounts (has_number branch_slot_key its first)
-          (homes_kept (λ s. branch_of_account s.account) its first o.accounts (homes_kept (λ s. branch_of_account s.account) home o.branches o.accounts has.accounts));
+          (λ s. IsSome (row_at branch_slot_key (covering o (Ok r)).branches (branch_of_account s.account)))
+          o.accounts (has_number branch_slot_key its first)
+          (homes_kept (λ s. branch_of_account s.account) its first o.accounts
+          (homes_kept (λ s. branch_of_account s.account) home o.branches o.accounts has.accounts));
     }
 
 homes_on : (o : Overlay) (reads : List (Result RequestFields Bad)) → HasHomes o
@@ -253,7 +141,8 @@ kept_at_key t (s ∷ slots) n m =
     elim (by_test (is_for n m s)) [
       | inl h ↦
           let both = both_true (eqb s.teller n) (eqb s.number m) h in
-          rw h (ap (λ (j : ℕ). kept_in t.requests j s.number) (eqb-true s.teller n both.0) ∙ ap (λ (j : ℕ). kept_in t.requests n j) (eqb-true s.number m both.1))
+          rw h (ap (λ (j : ℕ). kept_in t.requests j s.number) (eqb-true s.teller n both.0)
+          ∙ ap (λ (j : ℕ). kept_in t.requests n j) (eqb-true s.number m both.1))
       | inr g ↦ rw g (kept_at_key t slots n m)
     ]
 
@@ -285,11 +174,17 @@ unchanged_over : (o : Overlay) (t : Tables) → IsUnchanged o → o.decided ≡ 
 unchanged_over o t un counted =
     tables_made _ _ _ _ _ _ _ _ _ _ _ _ counted
     (same_rows branch_slot_key branch_key put_branch o.branches
-    (λ n r. weaker (λ s. s.changed ≡ None) (λ s. put_branch s r ≡ r) (λ s h. rw h refl) (row_at branch_slot_key o.branches n) (found_all (λ s. s.changed ≡ None) (λ s. eqb s.branch n) o.branches un.branches)) t.branches)
+    (λ n r. weaker (λ s. s.changed ≡ None) (λ s. put_branch s r ≡ r) (λ s h. rw h refl)
+    (row_at branch_slot_key o.branches n)
+    (found_all (λ s. s.changed ≡ None) (λ s. eqb s.branch n) o.branches un.branches)) t.branches)
     (same_rows teller_slot_key teller_key put_teller o.tellers
-    (λ n r. weaker (λ s. s.changed ≡ None) (λ s. put_teller s r ≡ r) (λ s h. rw h refl) (row_at teller_slot_key o.tellers n) (found_all (λ s. s.changed ≡ None) (λ s. eqb s.teller n) o.tellers un.tellers)) t.tellers)
+    (λ n r. weaker (λ s. s.changed ≡ None) (λ s. put_teller s r ≡ r) (λ s h. rw h refl)
+    (row_at teller_slot_key o.tellers n)
+    (found_all (λ s. s.changed ≡ None) (λ s. eqb s.teller n) o.tellers un.tellers)) t.tellers)
     (same_rows account_slot_key account_key put_account o.accounts
-    (λ n r. weaker (λ s. s.changed ≡ None) (λ s. put_account s r ≡ r) (λ s h. rw h refl) (row_at account_slot_key o.accounts n) (found_all (λ s. s.changed ≡ None) (λ s. eqb s.account n) o.accounts un.accounts)) t.accounts)
+    (λ n r. weaker (λ s. s.changed ≡ None) (λ s. put_account s r ≡ r) (λ s h. rw h refl)
+    (row_at account_slot_key o.accounts n)
+    (found_all (λ s. s.changed ≡ None) (λ s. eqb s.account n) o.accounts un.accounts)) t.accounts)
     (rw un.history refl) (rw un.requests refl)
 
 -- ---- slots that were made for records, filled from tables
@@ -319,7 +214,8 @@ stands t reads =
             (λ s. refl) o.tellers n;
         accounts = λ n. filled_at account_slot_key (account_filled t)
             (λ k s. s.stored ≡ account_balance_in t k) (λ s. refl) o.accounts n;
-        kept = λ n m. subst (λ (u : Tables). IfSome (find (is_for n m) (filled t o).kept) (λ s. s.kept ≡ kept_in u.requests n m)) (sym is) (kept_at_key t o.kept n m);
+        kept = λ n m. subst (λ (u : Tables). IfSome (find (is_for n m) (filled t o).kept)
+            (λ s. s.kept ≡ kept_in u.requests n m)) (sym is) (kept_at_key t o.kept n m);
       };
       same = is;
       unchanged = un;

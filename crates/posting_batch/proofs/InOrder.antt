@@ -29,7 +29,8 @@ use Rattle.posting_batch.specs.Slots.{teller_slot_key, with_teller_changed, bran
 use Rattle.posting_batch.specs.Slots.{with_branch_changed}
 use Rattle.posting_batch.proofs.KeptSlots.{slot_for-kept}
 use Rattle.posting_batch.proofs.Orders.{rising_mapped}
-use Rattle.posting_batch.proofs.Overlaid.{Fits, found_is, with_is, with_fits}
+use Rattle.posting_batch.proofs.Overlaid.{Fits, found_is}
+use Rattle.posting_batch.proofs.StillFits.{with_is, with_fits}
 
 -- ---- slots go on covering what they covered
 
@@ -163,11 +164,13 @@ all_replies o t m (bytes ∷ records) fits covers =
     ap (λ (x : List ℕ). x ∷ map reply_spelling (replies_over next m (map request_of records)))
     (reply_is o t read fits covers.0)
     ∙ ap (λ (rest : List (List ℕ)). reply_read (tables_over o t) read ∷ rest)
-    (all_replies next t m records (with_fits o t m read fits covers.0) (still_covers o m read (map request_of records) covers.1)
+    (all_replies next t m records (with_fits o t m read fits covers.0)
+    (still_covers o m read (map request_of records) covers.1)
     ∙ ap (λ (u : Tables). replies_past_all u m records) (with_is o t m read fits covers.0))
 
 -- what is made of an overlay and its records is made of what they are
 pub judged : {before after old : Overlay} {reads items : List (Result RequestFields Bad)} (m : ℕ)
-    → after ≡ overlay_with_all before m items → items ≡ reads → before ≡ old → after ≡ overlay_with_all old m reads
+    → after ≡ overlay_with_all before m items → items ≡ reads → before ≡ old
+    → after ≡ overlay_with_all old m reads
 judged {before = before} {reads = reads} m is same start =
     is ∙ ap (overlay_with_all before m) same ∙ ap (λ (o : Overlay). overlay_with_all o m reads) start

@@ -113,7 +113,8 @@ kept_fits slots rows x none fits n m =
               let xm : x.number ≡ m = eqb-true x.number m tb.1 in
               let hit : is_for x.teller x.number s ≡ true = flip ∙ t in
               let free : find (is_of n m) rows ≡ None =
-              map_none kept_of_row (find (is_of n m) rows) (ap (λ (j : ℕ). kept_in rows j m) (sym xn) ∙ ap (λ (j : ℕ). kept_in rows x.teller j) (sym xm) ∙ none) in
+              map_none kept_of_row (find (is_of n m) rows) (ap (λ (j : ℕ). kept_in rows j m) (sym xn)
+              ∙ ap (λ (j : ℕ). kept_in rows x.teller j) (sym xm) ∙ none) in
               rw hit (sym (ap (option_map kept_of_row) (find-put_here x n m t rows free)))
           | inr f ↦
               let miss : is_for x.teller x.number s ≡ false = flip ∙ f in

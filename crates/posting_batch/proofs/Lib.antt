@@ -2,7 +2,11 @@ pub mod Ranks
 pub mod Walked
 pub mod KeptSlots
 pub mod Orders
+pub mod OverlaidRows
 pub mod Overlaid
+pub mod StillFits
+pub mod SlotsForRecords
+pub mod SlotsInOrder
 pub mod Covered
 pub mod InOrder
 pub mod NewRows

@@ -36,7 +36,9 @@ use Rattle.posting_batch.specs.Overlay.{tables_over}
 use Rattle.posting_batch.specs.Slots.{account_slot_key, with_account_changed, teller_slot_key}
 use Rattle.posting_batch.specs.Slots.{with_teller_changed, branch_slot_key, with_branch_changed}
 use Rattle.posting_batch.proofs.InOrder.{still_covers}
-use Rattle.posting_batch.proofs.Overlaid.{Fits, found_is, with_is, with_fits, row_at-over, put_same}
+use Rattle.posting_batch.proofs.Overlaid.{Fits, found_is}
+use Rattle.posting_batch.proofs.StillFits.{with_is, with_fits}
+use Rattle.posting_batch.proofs.OverlaidRows.{row_at-over, put_same}
 
 -- ---- what leaves a row its key
 
@@ -70,7 +72,8 @@ under {S} {R} slot_key key put slots same rows n there =
 
 rows_under : (o : Overlay) (t : Tables) (r : RequestFields) → HasRowsOf (tables_over o t) r → HasRowsOf t r
 rows_under o t r has = record {
-  account = under account_slot_key account_key put_account o.accounts account_same t.accounts r.account has.account;
+  account = under account_slot_key account_key put_account o.accounts account_same t.accounts r.account
+      has.account;
   teller = under teller_slot_key teller_key put_teller o.tellers teller_same t.tellers r.teller has.teller;
   branch = under branch_slot_key branch_key put_branch o.branches branch_same t.branches r.branch has.branch;
   its_branch = has.its_branch;
@@ -80,14 +83,20 @@ all-changed : {S : Type 0} (key : S → ℕ) (k : ℕ) (set : S → S) (P : S �
     → ((s : S) → key s ≡ k → P (set s)) → (slots : List S) → AllByRecursion P slots
     → AllByRecursion P (row_changed key set k slots)
 all-changed key k set P sets [] all = tt
-all-changed key k set P sets (s ∷ slots) all =
-    (elim (by_test (eqb (key s) k)) [ inl t ↦ rw t (sets s (eqb-true (key s) k t)) | inr f ↦ rw f all.0 ], all-changed key k set P sets slots all.1)
+all-changed key k set P sets (s ∷ slots) all = (
+  elim (by_test (eqb (key s) k)) [ inl t ↦ rw t (sets s (eqb-true (key s) k t)) | inr f ↦ rw f all.0 ],
+  all-changed key k set P sets slots all.1,
+)
 
 changes_after : (o : Overlay) (t : Tables) (m : ℕ) (r : RequestFields) (v : Verdict) → ChangesRows o t
     → ((a te b : ℤ) → v ≡ Posted a te b → HasRowsOf t r) → ChangesRows (overlay_after o m r v) t
 changes_after o t m r (Unkept x) there has = there
 changes_after o t m r (Again x) there has = there
-changes_after o t m r (Refused x) there has = record { branches = there.branches; tellers = there.tellers; accounts = there.accounts }
+changes_after o t m r (Refused x) there has = record {
+  branches = there.branches;
+  tellers = there.tellers;
+  accounts = there.accounts;
+}
 changes_after o t m r (Posted a te b) there has =
     let rows = has a te b refl in
     let home : IsSome (row_at branch_key t.branches (branch_of_teller r.teller)) = subst
@@ -95,13 +104,16 @@ changes_after o t m r (Posted a te b) there has =
     record {
       branches = all-changed branch_slot_key (branch_of_teller r.teller) (with_branch_changed b)
           (λ s. IfSome s.changed (λ z. IsSome (row_at branch_key t.branches s.branch)))
-          (λ s is. subst (λ (n : ℕ). IsSome (row_at branch_key t.branches n)) (sym is) home) o.branches there.branches;
+          (λ s is. subst (λ (n : ℕ). IsSome (row_at branch_key t.branches n)) (sym is) home) o.branches
+          there.branches;
       tellers = all-changed teller_slot_key r.teller (with_teller_changed te)
           (λ s. IfSome s.changed (λ z. IsSome (row_at teller_key t.tellers s.teller)))
-          (λ s is. subst (λ (n : ℕ). IsSome (row_at teller_key t.tellers n)) (sym is) rows.teller) o.tellers there.tellers;
+          (λ s is. subst (λ (n : ℕ). IsSome (row_at teller_key t.tellers n)) (sym is) rows.teller) o.tellers
+          there.tellers;
       accounts = all-changed account_slot_key r.account (with_account_changed a)
           (λ s. IfSome s.changed (λ z. IsSome (row_at account_key t.accounts s.account)))
-          (λ s is. subst (λ (n : ℕ). IsSome (row_at account_key t.accounts n)) (sym is) rows.account) o.accounts there.accounts;
+          (λ s is. subst (λ (n : ℕ). IsSome (row_at account_key t.accounts n)) (sym is) rows.account)
+          o.accounts there.accounts;
     }
 
 changes_with : (o : Overlay) (t : Tables) (m : ℕ) (read : Result RequestFields Bad) → Fits o t
@@ -109,7 +121,8 @@ changes_with : (o : Overlay) (t : Tables) (m : ℕ) (read : Result RequestFields
 changes_with o t m (Err fault) fits covers there = there
 changes_with o t m (Ok r) fits covers there =
     changes_after o t m r (case_of (found_over o r) r) there
-    (λ a te b e. rows_under o t r (posted_rows (tables_over o t) r a te b (ap (λ (f : Found). case_of f r) (sym (found_is o t r fits covers)) ∙ e)))
+    (λ a te b e. rows_under o t r (posted_rows (tables_over o t) r a te b
+    (ap (λ (f : Found). case_of f r) (sym (found_is o t r fits covers)) ∙ e)))
 
 changes_on : (o : Overlay) (t : Tables) (m : ℕ) (reads : List (Result RequestFields Bad)) → Fits o t
     → CoversAll o reads → ChangesRows o t → ChangesRows (overlay_with_all o m reads) t
@@ -176,7 +189,8 @@ adds_on o t log m (bytes ∷ records) fits covers shows adds =
     let read = request_of bytes in
     adds_on (overlay_with o m read) t (Post m bytes ∷ log) m records (with_fits o t m read fits covers.0)
     (still_covers o m read (map request_of records) covers.1)
-    (subst (λ (u : Tables). Shows u (Post m bytes ∷ log)) (sym (with_is o t m read fits covers.0)) (past_shown (tables_over o t) log m bytes shows))
+    (subst (λ (u : Tables). Shows u (Post m bytes ∷ log)) (sym (with_is o t m read fits covers.0))
+    (past_shown (tables_over o t) log m bytes shows))
     (adds_with o t m read (ready_shown (tables_over o t) log shows) adds)
 
 -- the keys of the new rows of a batch are free
@@ -184,4 +198,5 @@ pub all_adds : (o : Overlay) (t : Tables) (log : List Command) (m : ℕ) (record
     → IsUnchanged o → CoversAll o (map request_of records)
     → Shows (tables_over o t) log → AddsRows (overlay_with_all o m (map request_of records)) t
 all_adds o t log m records fits un covers shows =
-    adds_on o t log m records fits covers shows (record { history = rw un.history tt; requests = rw un.requests tt })
+    adds_on o t log m records fits covers shows
+    (record { history = rw un.history tt; requests = rw un.requests tt })

@@ -29,7 +29,8 @@ module _ {S : Type 0} (below same : S → S → Bool) (e : S) where
   placed_keeps test [] there = absurd cc
   placed_keeps test (s ∷ xs) there =
       elim (by_test (below s e)) [
-        | inl t ↦ rw t (elim (by_test (test s)) [ inl u ↦ rw u refl | inr g ↦ rw g (placed_keeps test xs (let h = rw g at there in h)) ])
+        | inl t ↦ rw t (elim (by_test (test s))
+            [ inl u ↦ rw u refl | inr g ↦ rw g (placed_keeps test xs (let h = rw g at there in h)) ])
         | inr f ↦ elim (by_test (same s e)) [
           | inl u ↦ rw (f, u) there
           | inr g ↦ rw (f, g) (elim (by_test (test e)) [ inl v ↦ rw v refl | inr w ↦ rw w there ])
@@ -94,10 +95,14 @@ module _ {S : Type 0} (below same : S → S → Bool) (order : IsOrder below sam
   placed_rises e [] rises = (tt, tt)
   placed_rises e (s ∷ xs) rises =
       elim (by_test (below s e)) [
-        | inl t ↦ rw t (all-placed below same e (λ x. IsTrue (below s x)) xs t rises.0, placed_rises e xs rises.1)
+        | inl t ↦ rw t (
+          all-placed below same e (λ x. IsTrue (below s x)) xs t rises.0,
+          placed_rises e xs rises.1,
+        )
         | inr f ↦ elim (by_test (same s e)) [
           | inl u ↦ rw (f, u) rises
-          | inr g ↦ let low : below e s ≡ true = order.third s e f g in rw (f, g) ((low, all_above e s xs low rises.0), rises)
+          | inr g ↦ let low : below e s ≡ true = order.third s e f g in
+              rw (f, g) ((low, all_above e s xs low rises.0), rises)
         ]
       ]
 

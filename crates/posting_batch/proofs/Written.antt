@@ -12,7 +12,7 @@ use Rattle.posting_rules.specs.Tables.{HasKeys, row_at}
 use Rattle.posting_rules.proofs.Keyed.{by_test}
 use Rattle.posting_rules.proofs.RowChanges.{eqb-flip}
 use Rattle.posting_batch.specs.Overlay.{by_slot, over, changed_to}
-use Rattle.posting_batch.proofs.Overlaid.{key-by_slot, row_at-over}
+use Rattle.posting_batch.proofs.OverlaidRows.{key-by_slot, row_at-over}
 
 -- no slot in front of another has its key
 pub not_before : {S : Type 0} (key : S → ℕ) (front : List S) (s : S) (rest : List S)
@@ -51,7 +51,8 @@ module _ {S R : Type 0} (slot_key : S → ℕ) (key : R → ℕ) (change_of : S 
   over_changed s z e [] = refl
   over_changed s z e (r ∷ rows) =
       ap (λ (x : R). x ∷ row_changed key (set z) (slot_key s) rows)
-      (changed_one s z e r (eqb (key r) (slot_key s)) (eqb (slot_key s) (key r)) (eqb-flip (key r) (slot_key s)))
+      (changed_one s z e r (eqb (key r) (slot_key s)) (eqb (slot_key s) (key r))
+      (eqb-flip (key r) (slot_key s)))
       ∙ ap (λ (rs : List R). by_slot put (row_at slot_key (s ∷ []) (key r)) r ∷ rs) (over_changed s z e rows)
 
   unchanged_one : (s : S) → change_of s ≡ None → (r : R) (hit : Bool)
@@ -76,11 +77,14 @@ module _ {S R : Type 0} (slot_key : S → ℕ) (key : R → ℕ) (change_of : S 
             let none : row_at slot_key front (key r) ≡ None = ap (row_at slot_key front)
             (sym (eqb-true (slot_key s) (key r) t)) ∙ free in
             ap (λ (o : Option S). by_slot put (row_at slot_key (s ∷ []) (key r)) (by_slot put o r)) none
-            ∙ sym (ap (λ (o : Option S). by_slot put o r) (at_more ∙ ap (λ (o : Option S). option_or o (row_at slot_key (s ∷ []) (key r))) none))
+            ∙ sym (ap (λ (o : Option S). by_slot put o r) (at_more
+            ∙ ap (λ (o : Option S). option_or o (row_at slot_key (s ∷ []) (key r))) none))
         | inr f ↦
-            ap (λ (b : Bool). by_slot put (cond b (Some s) None) (by_slot put (row_at slot_key front (key r)) r)) f
+            ap (λ (b : Bool). by_slot put (cond b (Some s) None)
+            (by_slot put (row_at slot_key front (key r)) r)) f
             ∙ sym (ap (λ (o : Option S). by_slot put o r)
-            (at_more ∙ ap (λ (b : Bool). option_or (row_at slot_key front (key r)) (cond b (Some s) None)) f ∙ or_none (row_at slot_key front (key r))))
+            (at_more ∙ ap (λ (b : Bool). option_or (row_at slot_key front (key r)) (cond b (Some s) None)) f
+            ∙ or_none (row_at slot_key front (key r))))
       ]
     where
       at_more : row_at slot_key (front ++ s ∷ []) (key r) ≡ option_or (row_at slot_key front (key r))
@@ -97,7 +101,8 @@ module _ {S R : Type 0} (slot_key : S → ℕ) (key : R → ℕ) (change_of : S 
   over_more front s free [] = refl
   over_more front s free (r ∷ rows) =
       let y = by_slot put (row_at slot_key front (key r)) r in
-      ap (λ (n : ℕ). by_slot put (row_at slot_key (s ∷ []) n) y ∷ over slot_key key put (s ∷ []) (over slot_key key put front rows))
+      ap (λ (n : ℕ). by_slot put (row_at slot_key (s ∷ []) n) y ∷ over slot_key key put (s ∷ [])
+      (over slot_key key put front rows))
       (key-by_slot slot_key key put same (row_at slot_key front (key r)) r)
       ∙ ap (λ (x : R). x ∷ over slot_key key put (s ∷ []) (over slot_key key put front rows))
       (one_more front s free r)

@@ -53,7 +53,15 @@ covering_all o [] = o
 covering_all o (read ∷ reads) = covering_all (covering o read) reads
 
 abbrev pub no_slots : Overlay
-no_slots = record { branches = []; tellers = []; accounts = []; kept = []; decided = 0; history = []; requests = [] }
+no_slots = record {
+  branches = [];
+  tellers = [];
+  accounts = [];
+  kept = [];
+  decided = 0;
+  history = [];
+  requests = [];
+}
 
 -- every key that a request can touch has its slot
 pub record Covers (o : Overlay) (r : RequestFields) : Type 0 where
@@ -79,8 +87,10 @@ pub record HasRisingSlots (o : Overlay) : Type 0 where
 
 -- the branch of each teller and of each account has a slot
 pub record HasHomes (o : Overlay) : Type 0 where
-  pub tellers : AllByRecursion (λ s. IsSome (row_at branch_slot_key o.branches (branch_of_teller s.teller))) o.tellers
-  pub accounts : AllByRecursion (λ s. IsSome (row_at branch_slot_key o.branches (branch_of_account s.account))) o.accounts
+  pub tellers : AllByRecursion (λ s. IsSome (row_at branch_slot_key o.branches (branch_of_teller s.teller)))
+      o.tellers
+  pub accounts : AllByRecursion
+      (λ s. IsSome (row_at branch_slot_key o.branches (branch_of_account s.account))) o.accounts
 
 -- nothing is changed yet, and no row is new
 pub record IsUnchanged (o : Overlay) : Type 0 where
@@ -118,9 +128,12 @@ filled t o = record o {
 
 -- a balance is changed only where the row is there
 pub record ChangesRows (o : Overlay) (t : Tables) : Type 0 where
-  pub branches : AllByRecursion (λ s. IfSome s.changed (λ z. IsSome (row_at branch_key t.branches s.branch))) o.branches
-  pub tellers : AllByRecursion (λ s. IfSome s.changed (λ z. IsSome (row_at teller_key t.tellers s.teller))) o.tellers
-  pub accounts : AllByRecursion (λ s. IfSome s.changed (λ z. IsSome (row_at account_key t.accounts s.account))) o.accounts
+  pub branches : AllByRecursion (λ s. IfSome s.changed (λ z. IsSome (row_at branch_key t.branches s.branch)))
+      o.branches
+  pub tellers : AllByRecursion (λ s. IfSome s.changed (λ z. IsSome (row_at teller_key t.tellers s.teller)))
+      o.tellers
+  pub accounts : AllByRecursion
+      (λ s. IfSome s.changed (λ z. IsSome (row_at account_key t.accounts s.account))) o.accounts
 
 -- rows that are put in one after another, each under a key that is free by then
 abbrev pub PutsFree : {R : Type 0} → (R → ℕ) → List R → List R → Type 0

@@ -17,7 +17,7 @@ use posting_rules::RECORDS_PER_BATCH;
 use std::alloc::{AllocError, Global};
 
 /// Records, a slot for each key that they can touch, and room for all that they come to.
-#[derive(Drop)]
+#[derive(Debug, Drop)]
 pub struct Batch {
     reads: Vec<Result<Request, Bad>>,
     /// Its slots are filled from the tables before the records are judged.
@@ -29,12 +29,13 @@ pub struct Batch {
     ghost history: { vec_len overlay.history + length reads.items ≤ vec_capacity overlay.history },
 }
 
-/// A batch whose records are judged.
-#[derive(Drop)]
+/// A batch whose records are judged: what is to be written, and what is to be answered then.
+#[derive(Debug, Drop)]
+#[must_use]
 pub struct Judged {
     /// The changed rows and the new ones.
     pub overlay: Overlay,
-    /// The replies in order.
+    /// The replies of 200 bytes in order, one to each record.
     pub replies: Vec<[u8; 200]>,
 }
 
@@ -42,7 +43,7 @@ impl Batch {
     ghost use Rattle.posting_batch.specs.View.{view, reads_of, IsMadeOf, IsFilledFrom};
 
     /// Decodes up to `RECORDS_PER_BATCH` records, and places an empty slot under every key that they can
-    /// touch. All that a batch ever takes of memory is taken here.
+    /// touch. All that a batch ever takes of memory is taken here; where it was refused, nothing is left.
     pub fn new(alloc: Global, records: &[[u8; 100]]) -> Result<Self, AllocError>
         requires { length records.now ≤ RECORDS_PER_BATCH }
         ensures made { IfOk result (λ batch. IsMadeOf batch records.now) }
@@ -77,7 +78,8 @@ impl Batch {
         })
     }
 
-    /// Judges the records of a batch that is filled, in order: each sees what the ones before it left.
+    /// Judges the records of a batch that is filled, in order (TPC-B 1.2): each sees what the ones before it
+    /// left. It takes no memory, and can't fail. The moment is that of every posting.
     pub fn judge(self, moment: Moment) -> Judged
         // What it leaves and answers is what the records leave of the tables and are answered.
         ensures tables { (t : Tables) (records : List (List ℕ)) → IsFilledFrom self t records
@@ -87,15 +89,19 @@ impl Batch {
 
         // Of a log that the tables show: it comes to the log with the records behind it, and answers their
         // replies.
-        ensures shows { (t : Tables) (records : List (List ℕ)) → IsFilledFrom self t records → (log : List Command) → Shows t log
+        ensures shows { (t : Tables) (records : List (List ℕ)) → IsFilledFrom self t records
+            → (log : List Command) → Shows t log
             → Shows (tables_over (view result.overlay) t) (behind log (posts moment records)) }
-        ensures answers { (t : Tables) (records : List (List ℕ)) → IsFilledFrom self t records → (log : List Command) → Shows t log
+        ensures answers { (t : Tables) (records : List (List ℕ)) → IsFilledFrom self t records
+            → (log : List Command) → Shows t log
             → result.replies.items ≡ replies_to log (posts moment records) }
 
         // Each changed row is there, and is written once; each new row has a key that is free.
-        ensures changes { (t : Tables) (records : List (List ℕ)) → IsFilledFrom self t records → ChangesRows (view result.overlay) t }
+        ensures changes { (t : Tables) (records : List (List ℕ)) → IsFilledFrom self t records
+            → ChangesRows (view result.overlay) t }
         ensures rising { HasRisingSlots (view self.overlay) → HasRisingSlots (view result.overlay) }
-        ensures adds { (t : Tables) (records : List (List ℕ)) → IsFilledFrom self t records → (log : List Command) → Shows t log
+        ensures adds { (t : Tables) (records : List (List ℕ)) → IsFilledFrom self t records
+            → (log : List Command) → Shows t log
             → AddsRows (view result.overlay) t }
 
         // Each record has its reply, and each decided request is counted. Where none is decided, nothing is
@@ -103,7 +109,8 @@ impl Batch {
         ensures count { length result.replies.items ≡ length (reads_of self) }
         ensures counts { result.overlay.decided + length self.overlay.requests.items
             ≡ self.overlay.decided + length result.overlay.requests.items }
-        ensures idle { result.overlay.decided ≡ self.overlay.decided → view result.overlay ≡ view self.overlay }
+        ensures idle { result.overlay.decided ≡ self.overlay.decided
+            → view result.overlay ≡ view self.overlay }
     {
         let Batch {
             reads,

@@ -11,7 +11,9 @@ use crate::slots::{AccountSlot, BranchSlot, RequestSlot, TellerSlot};
 use message_records::{Account, Bad, Request, decode_request};
 use posting_rules::{ACCOUNTS_PER_BRANCH, branch_of_teller};
 
-/// The number of the branch that an account's number gives.
+/// The number of the branch that an account's number gives: the first `ACCOUNTS_PER_BRANCH` accounts are
+/// those of branch 1, and so on. It may be beyond `LAST_BRANCH`.
+#[must_use]
 pub fn branch_of_account(account: Account) -> u64
     ensures { result ≡ branch_of_account account }
 {
@@ -85,9 +87,11 @@ pub(crate) fn decode_all(
     overlay: &mut Overlay,
 )
     requires reads { vec_len reads.old + length records.now ≤ vec_capacity reads.old }
-    requires branches { vec_len overlay.old.branches + 2 * length records.now ≤ vec_capacity overlay.old.branches }
+    requires branches { vec_len overlay.old.branches + 2 * length records.now
+        ≤ vec_capacity overlay.old.branches }
     requires tellers { vec_len overlay.old.tellers + length records.now ≤ vec_capacity overlay.old.tellers }
-    requires accounts { vec_len overlay.old.accounts + length records.now ≤ vec_capacity overlay.old.accounts }
+    requires accounts { vec_len overlay.old.accounts + length records.now
+        ≤ vec_capacity overlay.old.accounts }
     requires kept { vec_len overlay.old.kept + length records.now ≤ vec_capacity overlay.old.kept }
     ensures reads { reads.new.items ≡ reads.old.items ++ map request_of records.now }
     ensures overlay { view overlay.new ≡ covering_all (view overlay.old) (map request_of records.now) }

@@ -37,7 +37,8 @@ fn told_branch(slots: &[BranchSlot], number: u64) -> Option<Option<BranchRow>>
         .map(|slot| slot.stored)
 }
 
-/// The row of a branch as its slot was filled, none where it has no row.
+/// The row of a branch as its slot was filled; none where it has no row, or no slot.
+#[must_use]
 pub fn stored_branch(slots: &[BranchSlot], number: u64) -> Option<BranchRow>
     ensures { result ≡ in_slot row_of_slot (row_at branch_slot_key slots.now number) }
 {

@@ -27,11 +27,15 @@ pub(crate) fn put<T: Drop>(items: &mut Vec<T>, item: T)
 }
 
 /// What is known of the rows that a batch can touch, and the rows that are new.
-#[derive(Drop)]
+#[derive(Debug, Drop)]
 pub struct Overlay {
+    /// The branches of its tellers and of its accounts, by rising numbers.
     pub branches: Vec<BranchSlot>,
+    /// Its tellers, by rising numbers.
     pub tellers: Vec<TellerSlot>,
+    /// Its accounts, by rising numbers.
     pub accounts: Vec<AccountSlot>,
+    /// What is kept of its requests, by rising tellers and numbers.
     pub kept: Vec<RequestSlot>,
     /// How many requests are decided: 0..=`MAX_DECIDED`.
     pub decided: u64,
@@ -55,10 +59,7 @@ impl Overlay {
         let teller = balance_at(&self.tellers, request.teller().get());
         let branch = balance_at(&self.branches, branch_of_teller(request.teller()));
         Found {
-            teller: match (teller, branch) {
-                (Some(teller), Some(branch)) => Some((teller, branch)),
-                _ => None,
-            },
+            teller: teller.zip(branch),
             kept: kept_at(&self.kept, request.teller(), request.number()),
             decided: self.decided,
             account: balance_at(&self.accounts, request.account().get()),
@@ -74,7 +75,8 @@ impl Overlay {
             × (vec_capacity self.old.requests ≤ vec_capacity self.new.requests) }
         ensures history { self.new.history ≡ self.old.history }
         ensures overlay { view self.new
-            ≡ overlay_kept (view self.old) (record { moment = 0; request = request.now; outcome = outcome; balance = balance }) }
+            ≡ overlay_kept (view self.old)
+            (record { moment = 0; request = request.now; outcome = outcome; balance = balance }) }
     {
         let kept = Kept::new(
             request.account(),
@@ -184,7 +186,8 @@ impl Overlay {
         requires history { vec_len self.old.history + length reads.now ≤ vec_capacity self.old.history }
         requires replies { vec_len replies.old + length reads.now ≤ vec_capacity replies.old }
         ensures overlay { view self.new ≡ overlay_with_all (view self.old) moment reads.now }
-        ensures replies { replies.new.items ≡ replies.old.items ++ map reply_spelling (replies_over (view self.old) moment reads.now) }
+        ensures replies { replies.new.items ≡ replies.old.items
+            ++ map reply_spelling (replies_over (view self.old) moment reads.now) }
     {
         for read in reads {
             let reply = self.answer(moment, read);

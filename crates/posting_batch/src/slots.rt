@@ -8,20 +8,22 @@ use posting_rules::{BranchRow, Kept};
 /// What is known of an account.
 #[derive(Clone, Copy, Debug)]
 pub struct AccountSlot {
+    /// Its number.
     pub account: Account,
-    /// Its balance in the tables, none where it has no row.
+    /// Its balance in the tables; none where it has no row.
     pub stored: Option<Cents>,
-    /// The balance that its row is to have.
+    /// The balance that its row is to have, where a posting changes it.
     pub changed: Option<Cents>,
 }
 
 /// What is known of a teller.
 #[derive(Clone, Copy, Debug)]
 pub struct TellerSlot {
+    /// Its number.
     pub teller: Teller,
-    /// Its balance in the tables, none where it has no row.
+    /// Its balance in the tables; none where it has no row.
     pub stored: Option<Cents>,
-    /// The balance that its row is to have.
+    /// The balance that its row is to have, where a posting changes it.
     pub changed: Option<Cents>,
 }
 
@@ -30,17 +32,20 @@ pub struct TellerSlot {
 pub struct BranchSlot {
     /// The number that a teller or an account gives. It may be beyond those of branches.
     pub branch: u64,
-    /// Its row in the tables, none where it has none.
+    /// Its row in the tables; none where it has none.
     pub stored: Option<BranchRow>,
-    /// The balance that its row is to have.
+    /// The balance that its row is to have, where a posting changes it.
     pub changed: Option<Cents>,
 }
 
 /// What is kept under a teller and a number.
 #[derive(Clone, Copy, Debug)]
 pub struct RequestSlot {
+    /// The teller that asks.
     pub teller: Teller,
+    /// The teller's own number for the request.
     pub number: Number,
+    /// What is kept; none where no request was decided under the two.
     pub kept: Option<Kept>,
 }
 

@@ -120,7 +120,13 @@ by_sums before moment bytes r d its open_a =
         | inl y ↦ elim (by_limit (branch_balance (decided before) r.branch +ℤ r.delta)) [
           | inr f ↦ none (λ p. f p.branch_limit)
           | inl z ↦ posted before moment bytes r d
-              (record { branch = its; account = open_a; account_limit = x; teller_limit = y; branch_limit = z })
+              (record {
+                branch = its;
+                account = open_a;
+                account_limit = x;
+                teller_limit = y;
+                branch_limit = z;
+              })
         ]
       ]
     ]

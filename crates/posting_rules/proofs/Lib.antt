@@ -10,6 +10,7 @@ pub mod NumbersInARow
 pub mod Opened
 pub mod Totals
 pub mod BalanceLimits
+pub mod PostedSums
 pub mod Consistent
 pub mod Alike
 pub mod Answering
@@ -17,6 +18,8 @@ pub mod VerdictsStated
 pub mod AsStated
 pub mod Sequence
 pub mod Remaining
+pub mod SettledReplies
+pub mod StaysSettled
 pub mod Settled
 pub mod Resends
 pub mod SoundEntries

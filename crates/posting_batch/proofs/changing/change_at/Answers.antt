@@ -17,11 +17,13 @@ loop-slot-preserved g c =
     let x = c.slot-item.result in
     let lt : i < length xs = omega arith in
     elim c.if-number.branch [
-      | then-number w ↦ walk_hit test change xs ys c.if-number.slots i x lt c.loop-slot.invariant c.slot-item.is
+      | then-number w ↦ walk_hit test change xs ys c.if-number.slots i x lt c.loop-slot.invariant
+          c.slot-item.is
           (eq-eqb (key (get_or ys i x)) n (sym c.number.ensures ∙ w.if-number.true))
           (w.slots-is ∙ ap (λ slot. set ys i slot) w.change.ensures)
       | else-number w ↦
           let miss : eqb (key (get_or ys i x)) n ≡ false =
           (let apart = w.if-number.false in let is = c.number.ensures in grind (arith, nat_tests)) in
-          walk_miss test change xs ys c.if-number.slots i x lt c.loop-slot.invariant c.slot-item.is miss w.slots-is
+          walk_miss test change xs ys c.if-number.slots i x lt c.loop-slot.invariant c.slot-item.is miss
+          w.slots-is
     ]

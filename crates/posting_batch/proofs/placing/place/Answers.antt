@@ -11,7 +11,8 @@ pub returns-then-is_same-clause-items : goal.returns-then-is_same-clause-items
 returns-then-is_same-clause-items g c =
     let below = g.T.Ranked.below in
     let at = c.rank-before.ensures.value ∙ ap (rank below c.args.empty) c.deref.ensures.value in
-    placed_hit below g.T.Ranked.same c.args.empty c.args.slots.now.items c.rank-before.result c.index.result.now at
+    placed_hit below g.T.Ranked.same c.args.empty c.args.slots.now.items c.rank-before.result
+    c.index.result.now at
     (omega (arith, c.if-before-len.true, c.len.ensures)) c.index.ensures
     (sym c.is_same.ensures ∙ c.if-is_same.true)
 
@@ -31,6 +32,7 @@ returns-clause-items g c =
           placed_miss below same e xs b w.index.result.now at
           (omega (arith, w.if-before-len.true, c.len.ensures)) w.index.ensures
           (sym w.is_same.ensures ∙ w.if-is_same.false)
-      | else-before-len-via-else-before-len w ↦ placed_last below same e xs b at (omega (arith, w.if-before-len.false, c.len.ensures))
+      | else-before-len-via-else-before-len w ↦ placed_last below same e xs b at
+          (omega (arith, w.if-before-len.false, c.len.ensures))
     ] in
     put ∙ end

@@ -36,8 +36,10 @@ returns-clause-replies c t records is =
     let it = stands t reads in
     let told : c.answer_all.new.replies.items ≡ replies_past_all t m records =
     c.answer_all.ensures.replies
-    ∙ ap (λ (items : List (List ℕ)). items ++ map reply_spelling (replies_over (view c.args.self.overlay) m c.deref.result.now)) c.args.self.fresh
-    ∙ ap (λ (rs : List (Result RequestFields Bad)). map reply_spelling (replies_over (view c.args.self.overlay) m rs)) (c.deref.ensures.value ∙ is.reads)
+    ∙ ap (λ (items : List (List ℕ)). items
+    ++ map reply_spelling (replies_over (view c.args.self.overlay) m c.deref.result.now)) c.args.self.fresh
+    ∙ ap (λ (rs : List (Result RequestFields Bad)). map reply_spelling
+    (replies_over (view c.args.self.overlay) m rs)) (c.deref.ensures.value ∙ is.reads)
     ∙ ap (λ (o : Overlay). map reply_spelling (replies_over o m reads)) is.overlay
     ∙ all_replies old t m records it.fits it.covers ∙ ap
     (λ (u : Tables). replies_past_all u m records) it.same in
@@ -73,7 +75,8 @@ returns-clause-count c =
     let old = view c.args.self.overlay in
     let reads = c.deref.result.now in
     ap length c.answer_all.ensures.replies
-    ∙ ap (λ (items : List (List ℕ)). length (items ++ map reply_spelling (replies_over old c.args.moment reads))) c.args.self.fresh
+    ∙ ap (λ (items : List (List ℕ)). length (items
+    ++ map reply_spelling (replies_over old c.args.moment reads))) c.args.self.fresh
     ∙ all_answered old c.args.moment reads ∙ ap length c.deref.ensures.value
 
 pub returns-clause-adds : goal.returns-clause-adds
@@ -84,7 +87,8 @@ returns-clause-adds c t records is log shows =
     let it = stands t reads in
     let after = judged m c.answer_all.ensures.overlay (c.deref.ensures.value ∙ is.reads) is.overlay in
     subst (λ (o : Overlay). AddsRows o t) (sym after)
-    (all_adds old t log m records it.fits it.unchanged it.covers (subst (λ (u : Tables). Shows u log) (sym it.same) shows))
+    (all_adds old t log m records it.fits it.unchanged it.covers
+    (subst (λ (u : Tables). Shows u log) (sym it.same) shows))
 
 pub returns-clause-counts : goal.returns-clause-counts
 returns-clause-counts c =

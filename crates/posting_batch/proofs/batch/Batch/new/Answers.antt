@@ -5,7 +5,8 @@ use Rattle.message_records.specs.Records.{RequestFields}
 use Rattle.posting_batch.specs.Batch.{CoversAll, HasRisingSlots, covering_all, no_slots}
 use Rattle.posting_batch.specs.Overlay.{Overlay}
 use Rattle.posting_batch.specs.View.{view}
-use Rattle.posting_batch.proofs.Covered.{covers_all, made_all}
+use Rattle.posting_batch.proofs.SlotsForRecords.{covers_all}
+use Rattle.posting_batch.proofs.SlotsInOrder.{made_all}
 use Rattle.posting_batch.proofs.batch.Batch.new.Goals as goal
 
 pub returns-clause-covers : goal.returns-clause-covers

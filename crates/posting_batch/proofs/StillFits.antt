@@ -1,0 +1,116 @@
+-- The slots of a batch go on telling what is in the tables, record by record.
+use Rattle.std.proofs.Common.{◌≡◌, ℕ, ◌+◌, Bool, true, false, cond, eqb, List, Option, Some, None, Result, Ok}
+use Rattle.std.proofs.Common.{Err, refl, sym, ap, subst, ◌∙◌}
+use Rattle.std.specs.Prelude.{IfSome}
+use Rattle.std.specs.List.{find}
+use Rattle.std.specs.Option.{option_map}
+use Rattle.message_records.specs.declared.faults.Bad.{Bad}
+use Rattle.message_records.specs.Records.{RequestFields}
+use Rattle.posting_rules.specs.declared.facts.Found.{Found}
+use Rattle.posting_rules.specs.declared.facts.Verdict.{Verdict}
+use Rattle.posting_rules.specs.declared.facts.Verdict.TheVariants.{Unkept, Again, Refused, Posted}
+use Rattle.posting_rules.specs.declared.rows.RequestRow.{RequestRow}
+use Rattle.posting_rules.specs.Cases.{case_of, plus_within}
+use Rattle.posting_rules.specs.Changes.{row_changed, tables_after, tables_read}
+use Rattle.posting_rules.specs.Commands.{branch_of_teller}
+use Rattle.posting_rules.specs.Entries.{Entry, refused_entry, posted_entry}
+use Rattle.posting_rules.specs.LookUps.{kept_in, account_balance_in, balance_of_teller, found_in}
+use Rattle.posting_rules.specs.Tables.{Tables, row_at, branch_key, teller_key, request_key, request_row_of}
+use Rattle.posting_rules.proofs.RowChanges.{row_at-changed}
+use Rattle.posting_rules.proofs.Verdicts.{by_posting, by_account, by_new, by_known, by_teller}
+use Rattle.posting_batch.specs.Batch.{CoversRead}
+use Rattle.posting_batch.specs.Judging.{found_over, overlay_kept, overlay_after, overlay_with}
+use Rattle.posting_batch.specs.Overlay.{Overlay, each_put, tables_over}
+use Rattle.posting_batch.specs.Slots.{is_for, account_slot_key, with_account_changed, teller_slot_key}
+use Rattle.posting_batch.specs.Slots.{with_teller_changed, branch_slot_key, with_branch_changed}
+use Rattle.posting_batch.proofs.KeptSlots.{kept_fits}
+use Rattle.posting_batch.proofs.Overlaid.{Fits, found_is, each_put-append, after_is}
+
+-- ---- the slots go on telling what is in the tables
+
+-- what was not kept before
+abbrev pub IsNewIn : Found → Verdict → Type 0
+IsNewIn f (Unkept outcome) = Unit {0}
+IsNewIn f (Again reply) = Unit {0}
+IsNewIn f (Refused outcome) = f.kept ≡ None
+IsNewIn f (Posted account teller branch) = f.kept ≡ None
+
+-- what is decided now was not
+pub new_case_of : (f : Found) (r : RequestFields) → IsNewIn f (case_of f r)
+unfolding case_of
+new_case_of f r =
+    let P = λ (v : Verdict). IsNewIn f v in
+    by_teller P f.teller f r tt (λ z tellers.
+    by_known P f.kept f r z.0 z.1 tt (λ reply. tt) (λ new.
+    by_new P f r z.0 z.1 tt (λ room. new) (λ room its.
+    by_account P f.account z.0 z.1 r.delta new (λ a accounts.
+    by_posting P (plus_within a r.delta) (plus_within z.0 r.delta) (plus_within z.1 r.delta) new
+    (λ x y w ex ey ew. new)))))
+
+-- a change of a slot that keeps a property
+module _ {S : Type 0} (key : S → ℕ) (k : ℕ) (set : S → S) (kept : (s : S) → key (set s) ≡ key s)
+    (P : S → Type 0) (keeps : (s : S) → P s → P (set s)) where
+  mapped : (b : Bool) (o : Option S) → IfSome o P → IfSome (option_map (λ s. cond b (set s) s) o) P
+  mapped b None is = tt
+  mapped true (Some s) is = keeps s is
+  mapped false (Some s) is = is
+
+  fits_changed : (slots : List S) (n : ℕ) → IfSome (row_at key slots n) P
+      → IfSome (row_at key (row_changed key set k slots) n) P
+  fits_changed slots n is =
+      subst (λ (x : Option S). IfSome x P) (sym (row_at-changed key k set kept slots n))
+      (mapped (eqb k n) (row_at key slots n) is)
+
+more_kept : (o : Overlay) (t : Tables) (e : Entry) → Fits o t
+    → kept_in (tables_over o t).requests e.request.teller e.request.number ≡ None
+    → (n m : ℕ)
+    → IfSome (find (is_for n m) (overlay_kept o e).kept)
+    (λ s. s.kept ≡ kept_in (tables_over (overlay_kept o e) t).requests n m)
+more_kept o t e fits none n m =
+    subst (λ (rows : List RequestRow). IfSome (find (is_for n m) (overlay_kept o e).kept)
+    (λ s. s.kept ≡ kept_in rows n m))
+    (sym (each_put-append request_key o.requests (request_row_of (o.decided + 1) e) t.requests))
+    (kept_fits o.kept (each_put request_key o.requests t.requests) (request_row_of (o.decided + 1) e) none
+    fits.kept n m)
+
+-- a verdict on what was looked up leaves slots that tell what is in the tables
+pub after_fits : (o : Overlay) (t : Tables) (m : ℕ) (r : RequestFields) (v : Verdict) → Fits o t
+    → IsNewIn (found_in (tables_over o t) r) v → Fits (overlay_after o m r v) t
+after_fits o t m r (Unkept x) fits new = fits
+after_fits o t m r (Again x) fits new = fits
+after_fits o t m r (Refused x) fits new =
+    record {
+      branches = fits.branches;
+      tellers = fits.tellers;
+      accounts = fits.accounts;
+      kept = more_kept o t (refused_entry m r x) fits new;
+    }
+after_fits o t m r (Posted a te b) fits new = record {
+  branches = λ n. fits_changed branch_slot_key (branch_of_teller r.teller) (with_branch_changed b) (λ s. refl)
+      (λ s. s.stored ≡ row_at branch_key t.branches n) (λ s h. h) o.branches n (fits.branches n);
+  tellers = λ n. fits_changed teller_slot_key r.teller (with_teller_changed te) (λ s. refl)
+      (λ s. s.stored ≡ option_map balance_of_teller (row_at teller_key t.tellers n)) (λ s h. h) o.tellers n
+      (fits.tellers n);
+  accounts = λ n. fits_changed account_slot_key r.account (with_account_changed a) (λ s. refl)
+      (λ s. s.stored ≡ account_balance_in t n) (λ s h. h) o.accounts n (fits.accounts n);
+  kept = more_kept o t (posted_entry m r a) fits new;
+}
+
+-- ---- a record
+
+-- the tables with the overlay after a record are those that the record leaves
+pub with_is : (o : Overlay) (t : Tables) (m : ℕ) (read : Result RequestFields Bad) → Fits o t
+    → CoversRead o read
+    → tables_over (overlay_with o m read) t ≡ tables_read (tables_over o t) m read
+with_is o t m (Err fault) fits covers = refl
+with_is o t m (Ok r) fits covers =
+    after_is o t m r (case_of (found_over o r) r) covers
+    ∙ ap (λ (f : Found). tables_after (tables_over o t) m r (case_of f r)) (found_is o t r fits covers)
+
+pub with_fits : (o : Overlay) (t : Tables) (m : ℕ) (read : Result RequestFields Bad) → Fits o t
+    → CoversRead o read → Fits (overlay_with o m read) t
+with_fits o t m (Err fault) fits covers = fits
+with_fits o t m (Ok r) fits covers =
+    after_fits o t m r (case_of (found_over o r) r) fits
+    (subst (λ (f : Found). IsNewIn (found_in (tables_over o t) r) (case_of f r))
+    (sym (found_is o t r fits covers)) (new_case_of (found_in (tables_over o t) r) r))

@@ -1,0 +1,122 @@
+-- The three ways in which a reply is settled: what is settled is replied so, and nothing is decided.
+use Rattle.std.proofs.Common.{◌≡◌, ℕ, Bool, true, false, cond, leb, List, length, Option, Some, None, Ok}
+use Rattle.std.proofs.Common.{refl, sym, ap, ◌∙◌, inl, inr}
+use Rattle.std.specs.Prelude.{ℤ, ◌⊎◌}
+use Rattle.posting_rules.specs.declared.limits.TheConstants.{MAX_DECIDED}
+use Rattle.message_records.specs.declared.records.Outcome.TheVariants as outcome
+use Rattle.message_records.specs.Records.{RequestFields, ReplyFields}
+use Rattle.posting_rules.specs.declared.facts.Found.{Found}
+use Rattle.posting_rules.specs.declared.facts.Verdict.{Verdict}
+use Rattle.posting_rules.specs.declared.facts.Verdict.TheVariants.{Unkept, Again}
+use Rattle.posting_rules.specs.Kept.{KeptFields}
+use Rattle.posting_rules.specs.Commands.{opened, branch_of_teller, is_teller_open}
+use Rattle.posting_rules.specs.Cases.{case_of, teller_case, known_case, new_case, is_same, reply_in}
+use Rattle.posting_rules.specs.Cases.{kept_reply}
+use Rattle.posting_rules.specs.Entries.{Entry, facts, kept, teller_balance, branch_balance, with_verdict}
+use Rattle.posting_rules.specs.Entries.{with_record, reply_to}
+use Rattle.posting_rules.proofs.Keyed.{by_test}
+
+-- the verdict on a request under whose teller and number one is kept
+abbrev known_verdict : KeptFields → RequestFields → Verdict
+known_verdict k r = cond (is_same k r) (Again (kept_reply k r)) (Unkept outcome.ReusedNumber)
+
+-- ---- the three ways in which a reply is settled
+
+-- the teller isn't open
+pub record IsClosed (opened : ℕ → Option ℕ) (r : RequestFields) (out : ReplyFields) : Type 0 where
+  pub teller : is_teller_open opened r.teller ≡ false
+  pub is_reply : out ≡ reply_in (Unkept outcome.NoTeller) r
+
+-- a request is kept under the teller and number
+pub record IsKnown (opened : ℕ → Option ℕ) (es : List Entry) (r : RequestFields)
+    (out : ReplyFields) : Type 0 where
+  pub teller : is_teller_open opened r.teller ≡ true
+  pub fields : KeptFields
+  pub is_kept : kept es r.teller r.number ≡ Some fields
+  pub is_reply : out ≡ reply_in (known_verdict fields r) r
+
+-- no more requests are decided
+pub record IsFull (opened : ℕ → Option ℕ) (es : List Entry) (r : RequestFields) (out : ReplyFields) : Type 0 where
+  pub teller : is_teller_open opened r.teller ≡ true
+  pub none : kept es r.teller r.number ≡ None
+  pub full : leb MAX_DECIDED (length es) ≡ true
+  pub is_reply : out ≡ reply_in (Unkept outcome.Full) r
+
+abbrev pub IsSettled : (ℕ → Option ℕ) → List Entry → RequestFields → ReplyFields → Type 0
+IsSettled opened es r out = IsClosed opened r out ⊎ IsKnown opened es r out ⊎ IsFull opened es r out
+
+-- ---- what is settled is replied so, and nothing is decided
+
+abbrev SaysSame : (ℕ → Option ℕ) → List Entry → RequestFields → ReplyFields → Type 0
+SaysSame opened es r out = (reply_to (Ok r) opened es ≡ out) × ((m : ℕ) → with_record m (Ok r) opened es ≡ es)
+
+by_verdict : (opened : ℕ → Option ℕ) (es : List Entry) (r : RequestFields) (out : ReplyFields) (v : Verdict)
+    → case_of (facts opened es r) r ≡ v → reply_in v r ≡ out
+    → ((m : ℕ) → with_verdict m r v es ≡ es) → SaysSame opened es r out
+by_verdict opened es r out v e eo ed =
+    (ap (λ (x : Verdict). reply_in x r) e ∙ eo, λ m. ap (λ (x : Verdict). with_verdict m r x es) e ∙ ed m)
+
+-- a known request decides nothing
+known_same : (k : KeptFields) (r : RequestFields) (m : ℕ) (es : List Entry)
+    → with_verdict m r (known_verdict k r) es ≡ es
+known_same k r m es = elim (by_test (is_same k r)) [ inl h ↦ rw h refl | inr h ↦ rw h refl ]
+
+-- the case where the teller isn't open
+pub closed_case : (opened : ℕ → Option ℕ) (es : List Entry) (r : RequestFields)
+    → is_teller_open opened r.teller ≡ false
+    → case_of (facts opened es r) r ≡ Unkept outcome.NoTeller
+unfolding case_of
+closed_case opened es r e =
+    ap (λ (b : Bool). teller_case (cond b (Some (
+      teller_balance es r.teller,
+      branch_balance es (branch_of_teller r.teller),
+    )) None) (facts opened es r) r) e
+
+-- where it is open, what is kept decides
+open_case : (opened : ℕ → Option ℕ) (es : List Entry) (r : RequestFields)
+    → is_teller_open opened r.teller ≡ true
+    → case_of (facts opened es r) r
+    ≡ known_case (kept es r.teller r.number) (facts opened es r) r (teller_balance es r.teller)
+    (branch_balance es (branch_of_teller r.teller))
+unfolding case_of
+open_case opened es r e =
+    ap (λ (b : Bool). teller_case (cond b (Some (
+      teller_balance es r.teller,
+      branch_balance es (branch_of_teller r.teller),
+    )) None) (facts opened es r) r) e
+
+-- where a request is kept, it is a known one
+pub known_is : (opened : ℕ → Option ℕ) (es : List Entry) (r : RequestFields) (k : KeptFields)
+    → is_teller_open opened r.teller ≡ true
+    → kept es r.teller r.number ≡ Some k → case_of (facts opened es r) r ≡ known_verdict k r
+known_is opened es r k e ek =
+    open_case opened es r e
+    ∙ ap (λ (o : Option KeptFields). known_case o (facts opened es r) r (teller_balance es r.teller)
+    (branch_balance es (branch_of_teller r.teller))) ek
+
+-- where none is kept, it is a new one
+pub new_is : (opened : ℕ → Option ℕ) (es : List Entry) (r : RequestFields)
+    → is_teller_open opened r.teller ≡ true
+    → kept es r.teller r.number ≡ None
+    → case_of (facts opened es r) r ≡ new_case (facts opened es r) r (teller_balance es r.teller)
+    (branch_balance es (branch_of_teller r.teller))
+new_is opened es r e ek =
+    open_case opened es r e
+    ∙ ap (λ (o : Option KeptFields). known_case o (facts opened es r) r (teller_balance es r.teller)
+    (branch_balance es (branch_of_teller r.teller))) ek
+
+pub full_is : (f : Found) (r : RequestFields) (t b : ℤ) → leb MAX_DECIDED f.decided ≡ true
+    → new_case f r t b ≡ Unkept outcome.Full
+full_is f r t b e = rw e refl
+
+pub settled_says : (opened : ℕ → Option ℕ) (es : List Entry) (r : RequestFields) (out : ReplyFields)
+    → IsSettled opened es r out → SaysSame opened es r out
+settled_says opened es r out (inl h) = by_verdict opened es r out (Unkept outcome.NoTeller)
+    (closed_case opened es r h.teller) (sym h.is_reply) (λ m. refl)
+settled_says opened es r out (inr (inl h)) =
+    by_verdict opened es r out (known_verdict h.fields r) (known_is opened es r h.fields h.teller h.is_kept)
+    (sym h.is_reply) (λ m. known_same h.fields r m es)
+settled_says opened es r out (inr (inr h)) =
+    by_verdict opened es r out (Unkept outcome.Full)
+    (new_is opened es r h.teller h.none ∙ full_is (facts opened es r) r _ _ h.full) (sym h.is_reply)
+    (λ m. refl)

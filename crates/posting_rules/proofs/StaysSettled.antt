@@ -1,0 +1,78 @@
+-- What is settled stays settled, whatever is decided later.
+use Rattle.std.proofs.Common.{◌≡◌, ℕ, Bool, true, false, eqb, leb, List, ◌∷◌, length, Option, Some, None}
+use Rattle.std.proofs.Common.{Result, Ok, Err, refl, sym, ap, subst, ◌∙◌, arith, inl, inr}
+use Rattle.std.specs.Prelude.{◌&&◌}
+use Rattle.std.proofs.lemmas.Bool.{eqb-true, leb-true}
+use Rattle.posting_rules.specs.declared.limits.TheConstants.{MAX_DECIDED}
+use Rattle.message_records.specs.declared.faults.Bad.{Bad}
+use Rattle.message_records.specs.Records.{RequestFields, ReplyFields}
+use Rattle.posting_rules.specs.declared.facts.Verdict.{Verdict}
+use Rattle.posting_rules.specs.declared.facts.Verdict.TheVariants.{Unkept, Again, Refused, Posted}
+use Rattle.posting_rules.specs.Kept.{KeptFields}
+use Rattle.posting_rules.specs.Commands.{opened}
+use Rattle.posting_rules.specs.Cases.{case_of}
+use Rattle.posting_rules.specs.Entries.{Entry, facts, kept, with_verdict, with_record}
+use Rattle.posting_rules.proofs.Keyed.{by_test}
+use Rattle.posting_rules.proofs.Verdicts.{IsVerdict, verdict_is}
+use Rattle.posting_rules.proofs.SettledReplies.{IsSettled}
+
+both_true : (a b : Bool) → (a && b) ≡ true → (a ≡ true) × (b ≡ true)
+both_true true b e = (refl, e)
+both_true false b e = absurd cc
+
+-- a request that is new isn't the one that is kept
+other_number : (es : List Entry) (x r : RequestFields) (k : KeptFields) → kept es x.teller x.number ≡ None
+    → kept es r.teller r.number ≡ Some k
+    → ((eqb x.teller r.teller) && (eqb x.number r.number)) ≡ false
+other_number es x r k none some =
+    elim (by_test ((eqb x.teller r.teller) && (eqb x.number r.number))) [
+      | inl t ↦ let two = both_true (eqb x.teller r.teller) (eqb x.number r.number) t in
+          let et = eqb-true x.teller r.teller two.0 in
+          let en = eqb-true x.number r.number two.1 in
+          let e : kept es r.teller r.number ≡ None = ap (λ (i : ℕ). kept es i r.number) (sym et) ∙ ap
+          (λ (i : ℕ). kept es x.teller i) (sym en) ∙ none in
+          absurd cc
+      | inr f ↦ f
+    ]
+
+kept_behind : (es : List Entry) (e : Entry) (r : RequestFields) (k : KeptFields)
+    → ((eqb e.request.teller r.teller) && (eqb e.request.number r.number)) ≡ false
+    → kept es r.teller r.number ≡ Some k → kept (e ∷ es) r.teller r.number ≡ Some k
+kept_behind es e r k other is = rw other is
+
+-- what is kept stays kept
+kept_stays : (opened : ℕ → Option ℕ) (es : List Entry) (x r : RequestFields) (k : KeptFields) (m : ℕ)
+    (v : Verdict) → IsVerdict opened es x v
+    → kept es r.teller r.number ≡ Some k → kept (with_verdict m x v es) r.teller r.number ≡ Some k
+kept_stays opened es x r k m (Unkept o) h is = is
+kept_stays opened es x r k m (Again a) h is = is
+kept_stays opened es x r k m (Refused o) h is = kept_behind es _ r k (other_number es x r k h.new is) is
+kept_stays opened es x r k m (Posted a t b) h is = kept_behind es _ r k (other_number es x r k h.new is) is
+
+-- where no more are decided, nothing changes
+full_stays : (opened : ℕ → Option ℕ) (es : List Entry) (x : RequestFields) (m : ℕ) (v : Verdict)
+    → IsVerdict opened es x v
+    → leb MAX_DECIDED (length es) ≡ true → with_verdict m x v es ≡ es
+full_stays opened es x m (Unkept o) h e = refl
+full_stays opened es x m (Again a) h e = refl
+full_stays opened es x m (Refused o) h e = let le = leb-true _ _ e in let lt = h.room in absurd (omega arith)
+full_stays opened es x m (Posted a t b) h e = let le = leb-true _ _ e in let lt = h.room in absurd
+    (omega arith)
+
+pub settled_stays : (opened : ℕ → Option ℕ) (es : List Entry) (r : RequestFields) (out : ReplyFields) (m : ℕ)
+    (read : Result RequestFields Bad)
+    → IsSettled opened es r out → IsSettled opened (with_record m read opened es) r out
+settled_stays opened es r out m (Err e) h = h
+settled_stays opened es r out m (Ok x) (inl h) = inl h
+settled_stays opened es r out m (Ok x) (inr (inl h)) =
+    let v = case_of (facts opened es x) x in
+    inr (inl (record {
+      teller = h.teller;
+      fields = h.fields;
+      is_kept =
+          kept_stays opened es x r h.fields m v (verdict_is opened es x) h.is_kept;
+      is_reply = h.is_reply;
+    }))
+settled_stays opened es r out m (Ok x) (inr (inr h)) =
+    let same = full_stays opened es x m (case_of (facts opened es x) x) (verdict_is opened es x) h.full in
+    subst (λ (ds : List Entry). IsSettled opened ds r out) (sym same) (inr (inr h))
