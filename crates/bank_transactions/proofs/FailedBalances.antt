@@ -1,6 +1,6 @@
 -- A balance that is looked for, and couldn't be read.
-use Rattle.std.proofs.Common.{◌≡◌, Result, Err, refl, sym, subst, ℕ}
-use Rattle.sqlite.specs.State.{KeepsCommit, State}
+use Rattle.std.proofs.Common.{Err, ℕ}
+use Rattle.sqlite.specs.State.{KeepsCommit}
 use Rattle.sqlite.specs.declared.transaction.Transaction.{Transaction}
 use Rattle.sqlite_trees.specs.declared.store.Store.{Ghosts}
 use Rattle.posting_rules.specs.Damage.{IsUndamaged}

@@ -1,5 +1,5 @@
 -- The balances that a posting changes: of an account, of a teller and of a branch (TPC-B 1.2).
-use Rattle.std.specs.Prelude.{ℕ, ℤ, IsSome}
+use Rattle.std.specs.Prelude.{ℤ, IsSome}
 use Rattle.posting_rules.specs.Changes.{with_account_balance, with_teller_balance, with_branch_balance}
 use Rattle.posting_rules.specs.Tables.{Tables, row_at, account_key, teller_key, branch_key}
 use Rattle.bank_transactions.specs.declared.balances.Holder.{Holder}

@@ -52,10 +52,7 @@ pub fn write_balance<S: Alter>(
 }
 
 /// Writes how many requests are decided.
-pub fn write_decided<S: Alter>(
-    tx: &mut Transaction<'_, S>,
-    decided: u64,
-) -> Result<(), TableFault>
+pub fn write_decided<S: Alter>(tx: &mut Transaction<'_, S>, decided: u64) -> Result<(), TableFault>
     requires { decided ≤ MAX_DECIDED }
     ensures { Does S.Store tx.old tx.new (λ _. ⊤) (with_decided decided) (λ _. tt) result }
 {

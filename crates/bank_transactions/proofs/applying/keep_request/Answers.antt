@@ -1,12 +1,12 @@
 -- What a kept request leaves.
-use Rattle.std.proofs.Common.{◌≡◌, Result, Err, rules, refl, ap, ◌∙◌, ℕ, None}
+use Rattle.std.proofs.Common.{◌≡◌, Result, Err, rules, refl, ap, None}
 use Rattle.std.specs.Prelude.{is_some}
 use Rattle.sqlite.specs.declared.transaction.Transaction.{Transaction}
 use Rattle.sqlite_trees.specs.declared.store.Store.{Ghosts}
 use Rattle.posting_rules.specs.declared.rows.RequestRow.{RequestRow}
 use Rattle.posting_rules.specs.Changes.{with_decided, with_request}
 use Rattle.posting_rules.specs.Entries.{Entry}
-use Rattle.posting_rules.specs.Tables.{Tables, row_at, request_key, request_row_of}
+use Rattle.posting_rules.specs.Tables.{row_at, request_key, request_row_of}
 use Rattle.sql_meanings.specs.Calls.{Says, Inside}
 use Rattle.store_rows.specs.Calls.{OfTables}
 use Rattle.store_rows.specs.Failures.{Puts}

@@ -1,5 +1,5 @@
 -- What the balances of a posting leave.
-use Rattle.std.proofs.Common.{◌≡◌, Result, false, Ok, Err, rules, refl, ap, ◌∙◌, ℕ, None}
+use Rattle.std.proofs.Common.{◌≡◌, Result, false, Ok, Err, rules, refl, ap, ℕ, None}
 use Rattle.std.specs.Prelude.{ℤ, is_some}
 use Rattle.sqlite.specs.declared.transaction.Transaction.{Transaction}
 use Rattle.sqlite_trees.specs.declared.store.Store.{Ghosts}
@@ -7,7 +7,6 @@ use Rattle.message_records.specs.Records.{RequestFields}
 use Rattle.posting_rules.specs.declared.rows.HistoryRow.{HistoryRow}
 use Rattle.posting_rules.specs.Changes.{HasRowsOf, tables_moved, with_history}
 use Rattle.posting_rules.specs.Changes.{with_account_balance, with_teller_balance, with_branch_balance}
-use Rattle.posting_rules.specs.Commands.{branch_of_teller}
 use Rattle.posting_rules.specs.Entries.{posted_entry}
 use Rattle.posting_rules.specs.Tables.{Tables, row_at, history_key, history_row_of}
 use Rattle.store_rows.specs.SixTables.{history}

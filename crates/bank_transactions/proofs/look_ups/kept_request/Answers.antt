@@ -1,7 +1,6 @@
 -- What the row of a kept request tells.
 use Rattle.std.proofs.Common.{◌≡◌, ◌≤◌, Err, Some, rules, sym, ap, subst, ◌∙◌}
 use Rattle.std.specs.Prelude.{nat_abs, is_some}
-use Rattle.posting_rules.specs.LookUps.{kept_in}
 use Rattle.store_rows.specs.Columns.{request_in}
 use Rattle.store_rows.specs.Outcomes.{IsNoRequest}
 use Rattle.bank_transactions.proofs.Broken.{delta_broken, request_broken}

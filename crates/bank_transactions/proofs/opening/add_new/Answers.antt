@@ -1,5 +1,5 @@
 -- A row more, with nothing on it.
-use Rattle.std.proofs.Common.{◌≡◌, Result, false, rules, refl, sym, subst, ap, ◌∙◌, ℕ}
+use Rattle.std.proofs.Common.{◌≡◌, Result, false, rules, refl, ap, ◌∙◌, ℕ}
 use Rattle.std.specs.Prelude.{Bool, is_some}
 use Rattle.sqlite.specs.Table.{Table}
 use Rattle.sqlite.specs.declared.transaction.Transaction.{Transaction}
