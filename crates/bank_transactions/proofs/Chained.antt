@@ -98,23 +98,7 @@ does_err {S} {X} {Y} {g} {old} {new} {So} {So'} {after} {after'} {w} {w'} {e} {M
   };
 }
 
--- the same, said in other words, with another answer
-pub does_as : {S X Y : Type 0} {g : Ghosts S} {old new : Transaction S} {So So' : Tables → Type 0} {after after' : Tables → Tables}
-    {w : Tables → X} {w' : Tables → Y} {x : X} {y : Y} {Met : Damage S} → DoesBy Met g old new So after w (Ok x)
-    → ((t : Tables) → So' t → So t × (after t ≡ after' t) × (x ≡ w t → y ≡ w' t)) → DoesBy Met g old new So' after' w' (Ok y)
-does_as {S} {X} {Y} {g} {old} {new} part same = record {
-  says = record {
-    same_reference = part.says.same_reference;
-    told = λ clean live t shows so.
-        let is = same t so in
-        let it = part.says.told clean live t shows is.0 in
-        (is.2 it.0, subst (λ (u : Tables). Shows (state g new.conn.now).now u) is.1 it.1);
-    kept = part.says.kept;
-    survives = part.says.survives;
-  };
-}
-
--- the same, whatever the answer
+-- the same, said in other words
 pub does_for : {S X : Type 0} {g : Ghosts S} {old new : Transaction S} {So So' : Tables → Type 0} {after after' : Tables → Tables}
     {w w' : Tables → X} {r : Result X TableFault} {Met : Damage S} → DoesBy Met g old new So after w r
     → ((t : Tables) → So' t → So t × (after t ≡ after' t) × (w t ≡ w' t)) → DoesBy Met g old new So' after' w' r

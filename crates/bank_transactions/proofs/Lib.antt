@@ -2,6 +2,7 @@
 pub mod Blamed
 pub mod Broken
 pub mod Chained
+pub mod FailedBalances
 pub mod NextRow
 pub mod Opened
 pub mod Reading

@@ -1,14 +1,18 @@
 -- Reads one after another, and reads that fail.
-use Rattle.std.proofs.Common.{◌≡◌, Ok, Err, sym, subst, ◌∙◌, inl, inr}
+use Rattle.std.proofs.Common.{◌≡◌, Option, Some, Ok, Err, sym, subst, ◌∙◌, inl, inr}
 use Rattle.sqlite.specs.Effect.{Database}
 use Rattle.sqlite.specs.State.{State, KeepsCommit, IsUnchanged}
 use Rattle.sqlite.specs.Held.{Held, state}
 use Rattle.sqlite.specs.declared.transaction.Transaction.{Transaction}
 use Rattle.sqlite_trees.specs.declared.store.Store.{Ghosts}
 use Rattle.posting_rules.specs.Tables.{Tables}
+use Rattle.posting_rules.specs.declared.fault.Rule.{Rule}
+use Rattle.sql_meanings.specs.Calls.{Says}
 use Rattle.sql_meanings.specs.Outcomes.{WriteFails}
 use Rattle.sql_meanings.proofs.Saying.{says_then}
+use Rattle.store_rows.specs.Calls.{OfTables}
 use Rattle.store_rows.specs.Failures.{HasReason}
+use Rattle.store_rows.specs.Outcomes.{Finds}
 use Rattle.store_rows.specs.View.{Shows}
 use Rattle.store_rows.specs.declared.faults.TableFault.{TableFault}
 use Rattle.store_rows.specs.declared.faults.TableFault.TheVariants.{Sqlite, Damaged}
@@ -16,6 +20,7 @@ use Rattle.store_rows.specs.Rules.{IsBroken}
 use Rattle.bank_transactions.specs.Doing.{IsBefore, IsFault, IsFirstBroken, LooksUp, Reads, Stays}
 use Rattle.bank_transactions.proofs.Blamed.{comes, failed_here, fault_within, same_moment}
 use Rattle.bank_transactions.proofs.Broken.{IsOf}
+use Rattle.bank_transactions.proofs.SoundRows.{err_found}
 
 -- ---- a read that failed
 
@@ -49,6 +54,27 @@ second_failed g old mid new fault one same it = (
   behind g old mid new fault one same.0.now_is it.1,
 )
 
+-- what is looked for under a key, and couldn't be read: the tables don't have it so, or the rows that were there break the rule
+pub find_failed : {S Y : Type 0} {g : Ghosts S} {old new : Transaction S} {So : Tables → Type 0}
+    {Rows : State → State → Type 0} (wanted : Tables → Option Y) (Breaks : Y → Rule → Type 0) (fault : TableFault)
+    → ((t : Tables) (y : Y) (rule : Rule) → So t → wanted t ≡ Some y → Breaks y rule → ⊥)
+    → (Rows (state g old.conn.now) (state g new.conn.now) → IsOf (state g old.conn.now).now fault)
+    → Says g old new (OfTables (λ before now t. Finds before now (wanted t) Breaks (Err fault)))
+    (λ before now. (WriteFails before now × HasReason before now fault) × Rows before now)
+    → Says g old new (OfTables (λ before now t. So t → LooksUp {X = Unit {0}} before now tt (Err fault)))
+    (λ before now. KeepsCommit before now × IsFault (IsFirstBroken g) g old.conn.now new.conn.now fault)
+find_failed {S} {Y} {g} {old} {new} {So} {Rows} wanted Breaks fault unbroken of says =
+    let a = state g old.conn.now in
+    let b = state g new.conn.now in
+    record {
+      same_reference = says.same_reference;
+      told = λ clean t shows so.
+          err_found {Y = Unit {0}} a b a b (wanted t) Breaks tt fault (λ y rule is. unbroken t y rule so is)
+          (says.told clean t shows);
+      kept = λ clean. let it = says.kept clean in read_failed g old.conn.now new.conn.now fault (of it.1) it.0;
+      survives = says.survives;
+    }
+
 -- ---- two reads
 
 pub stays_then : (old mid new : State) → Stays old mid → Stays mid new → Stays old new
@@ -75,7 +101,8 @@ reads_both {S} {X} {Y} {g} {old} {mid} {new} {w} {w'} {x} {y} one two =
     (pair first.0 last.0, stays_then (state g old.conn.now) (state g mid.conn.now) (state g new.conn.now) first.1 last.1))
     (λ kept kept'. (stays_then (state g old.conn.now) (state g mid.conn.now) (state g new.conn.now) kept.0 kept'.0, tt))
 
-still_fails : (old mid new : State) (e : TableFault) → LooksUp {X = Unit {0}} mid new tt (Err e) → LooksUp {X = Unit {0}} old new tt (Err e)
+still_fails : (old mid new : State) (e : TableFault) → LooksUp {X = Unit {0}} mid new tt (Err e)
+    → LooksUp {X = Unit {0}} old new tt (Err e)
 still_fails old mid new (Sqlite e) it = tt
 still_fails old mid new (Damaged rule) it = it
 
@@ -91,3 +118,14 @@ reads_but {S} {X} {g} {old} {mid} {new} {w} {x} e one two =
       record { was_open = λ h. kept.0.goes_on.opened (kept'.0.was_open h); committed = λ h. kept'.0.committed h ∙ kept.0.goes_on.committed },
       behind g old.conn.now mid.conn.now new.conn.now e (comes one.survives) kept.0.now kept'.1,
     ))
+
+-- the same, behind a statement that changed nothing
+pub behind_found : {S : Type 0} {g : Ghosts S} {old mid new : Transaction S} {Told Rows : State → State → Type 0} (e : TableFault)
+    → Says g old mid Told (λ before now. IsUnchanged before now × Rows before now)
+    → Reads {X = Unit {0}} g mid new (λ t. tt {0}) (Err e) → Reads {X = Unit {0}} g old new (λ t. tt {0}) (Err e)
+behind_found {S} {g} {old} {mid} {new} {Told} {Rows} e one two =
+    says_then g old mid new one two
+    (λ told same told' t shows sound.
+    still_fails (state g old.conn.now) (state g mid.conn.now) (state g new.conn.now) e
+    (told' t (subst (λ (db : Database). Shows db t) (sym same.0.0.now_is) shows) sound))
+    (λ same kept'. second_failed g old.conn.now mid.conn.now new.conn.now e (comes one.survives) same.0 kept')

@@ -10,13 +10,12 @@ use Rattle.sqlite.proofs.Callers.{survives_begin}
 use Rattle.sqlite.proofs.StateLemmas.{survives_then}
 use Rattle.posting_rules.specs.Tables.{Tables}
 use Rattle.posting_rules.specs.Sound.{AreSound}
-use Rattle.posting_rules.specs.declared.fault.Rule.{Rule}
 use Rattle.store_rows.specs.View.{Shows, ShowsTrees}
 use Rattle.store_rows.specs.Failures.{Committing}
 use Rattle.store_rows.specs.declared.faults.TableFault.{TableFault}
 use Rattle.store_rows.specs.declared.faults.TableFault.TheVariants.{Sqlite, Damaged}
 use Rattle.bank_transactions.specs.Doing.{Acts, Answers, Blames, Completes, Damage, DoesBy, Ends, EndsWith, Keeps}
-use Rattle.bank_transactions.specs.Doing.{IsBefore, IsBrokenOrMet, IsFirstBroken, Leaves, MayCommit, Reads, Undoes}
+use Rattle.bank_transactions.specs.Doing.{IsBefore, IsFirstBroken, Leaves, MayCommit, Reads, Undoes}
 use Rattle.bank_transactions.specs.Doing.{Consults, Transacts, TransactsBy}
 use Rattle.bank_transactions.proofs.Blamed.{Widens, comes, fault_within, met_within, same_moment, then_moment}
 use Rattle.bank_transactions.proofs.Chained.{does_for, does_read}

@@ -7,26 +7,13 @@ ghost use Rattle.posting_rules.specs.Kept.{is_kept_with};
 ghost use Rattle.posting_rules.specs.LookUps.{found_in};
 ghost use Rattle.posting_rules.specs.Sound.{AreSound};
 ghost use Rattle.posting_rules.specs.Tables.{row_at, history_key, request_key};
-ghost use Rattle.bank_transactions.specs.Doing.{Does, expected};
+ghost use Rattle.bank_transactions.specs.Doing.{Does};
 
+use crate::balances::{Holder, write_balance, write_decided};
 use message_records::{Cents, Moment, Outcome, Request};
-use posting_rules::{Found, HistoryRow, Kept, Ordinal, RequestRow, Rule, Verdict};
-use sqlite::{Alter, Error, Transaction};
-use store_rows::{
-    TableFault, add_history, add_request, set_account_balance, set_branch_balance, set_decided,
-    set_teller_balance,
-};
-
-/// A row that is written was looked up, so it is there, or its rule is broken.
-pub fn expect_row(answer: Result<bool, Error>, rule: Rule) -> Result<(), TableFault>
-    ensures { result ≡ expected answer rule }
-{
-    match answer {
-        Ok(true) => Ok(()),
-        Ok(false) => Err(TableFault::Damaged(rule)),
-        Err(e) => Err(TableFault::Sqlite(e)),
-    }
-}
+use posting_rules::{Found, HistoryRow, Kept, Ordinal, RequestRow, Verdict};
+use sqlite::{Alter, Transaction};
+use store_rows::{TableFault, add_history, add_request};
 
 // Keeps a decided request under its ordinal, and counts it.
 fn keep_request<S: Alter>(
@@ -56,7 +43,7 @@ fn keep_request<S: Alter>(
         kept: kept.unwrap(),
     };
     add_request(tx, row)?;
-    expect_row(set_decided(tx, ordinal.get()), Rule::Meta)
+    write_decided(tx, ordinal.get())
 }
 
 // Writes the new balances of an account, its teller and the teller's branch, and the row of history (TPC-B 1.2).
@@ -73,18 +60,9 @@ fn move_money<S: Alter>(
         (λ tables. HasRowsOf tables request.now × (row_at history_key tables.history ordinal ≡ None))
         (λ tables. tables_moved tables ordinal (posted_entry moment request.now account) teller branch) (λ _. tt) result }
 {
-    expect_row(
-        set_account_balance(tx, request.account(), account),
-        Rule::Account,
-    )?;
-    expect_row(
-        set_teller_balance(tx, request.teller(), teller),
-        Rule::Teller,
-    )?;
-    expect_row(
-        set_branch_balance(tx, request.branch(), branch),
-        Rule::Teller,
-    )?;
+    write_balance(tx, Holder::Account(request.account()), account)?;
+    write_balance(tx, Holder::Teller(request.teller()), teller)?;
+    write_balance(tx, Holder::Branch(request.branch()), branch)?;
     let row = HistoryRow {
         ordinal,
         account: request.account(),

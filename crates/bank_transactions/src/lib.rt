@@ -2,13 +2,14 @@
 #![tactic(auto)]
 
 mod applying;
+mod balances;
 mod look_ups;
 mod next_branch;
 mod opening;
 mod posting;
 mod transactions;
 
-pub use applying::expect_row;
+pub use balances::{Holder, write_balance, write_decided};
 pub use look_ups::{
     branch_at, decided, kept_request, open_balance, place_of_account, teller_balances,
 };

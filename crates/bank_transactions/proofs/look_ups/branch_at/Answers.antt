@@ -1,13 +1,12 @@
 -- What the row of a branch tells.
 use Rattle.std.proofs.Common.{◌≡◌, ap, Err, Some, rules, sym, ◌∙◌, inl, inr, arith}
-use Rattle.sqlite.specs.Held.{state}
 use Rattle.posting_rules.specs.Tables.{row_at, branch_key}
 use Rattle.store_rows.specs.Outcomes.{IsNoBranch}
 use Rattle.std.specs.Prelude.{option_and_then}
 use Rattle.store_rows.specs.Rules.{branch_under, row_under}
 use Rattle.bank_transactions.proofs.Broken.{branch_broken, count_broken, openable_under}
-use Rattle.bank_transactions.proofs.Reading.{read_failed}
-use Rattle.bank_transactions.proofs.SoundRows.{err_found, no_branch_beyond, branch_is, branch_unbroken}
+use Rattle.bank_transactions.proofs.Reading.{find_failed}
+use Rattle.bank_transactions.proofs.SoundRows.{no_branch_beyond, branch_is, branch_unbroken}
 use Rattle.bank_transactions.proofs.look_ups.branch_at.Goals as goal
 
 pub returns-in_default-clause-says : goal.returns-in_default-clause-says
@@ -20,24 +19,12 @@ returns-in_default-clause-says g c = record {
 }
 
 pub returns-in_err-row-clause-says : goal.returns-in_err-row-clause-says
-returns-in_err-row-clause-says g c = record {
-  told = λ clean t shows sound.
-      let same : c.from_residual.result ≡ Err c.in_err-row.field-0.0 = search rules in
-      let key : c.in-Some.branch ≡ c.args.number = search rules in
-      let before = state g.S.Store c.args.tx.now.conn.now in
-      let after = state g.S.Store c.find_branch.new.tx.conn.now in
-      rw same
-      (err_found before after before after (row_at branch_key t.branches c.in-Some.branch) IsNoBranch
-      (row_at branch_key t.branches c.args.number) c.in_err-row.field-0.0
-      (λ r broken is breaks. branch_unbroken t c.in-Some.branch r broken sound is breaks)
-      (c.in_err-row.ensures.told clean t shows));
-  same_reference = search rules;
-  kept = λ clean.
-      let same : c.from_residual.result ≡ Err c.in_err-row.field-0.0 = search rules in
-      rw same (read_failed g.S.Store c.args.tx.now.conn.now c.find_branch.new.tx.conn.now c.in_err-row.field-0.0
-      (branch_broken _ c.in-Some.branch c.in_err-row.field-0.0 (c.in_err-row.ensures.kept clean).1) (c.in_err-row.ensures.kept clean).0);
-  survives = search rules;
-}
+returns-in_err-row-clause-says g c =
+    let fault = c.in_err-row.field-0.0 in
+    let same : c.from_residual.result ≡ Err fault = search rules in
+    rw same (find_failed (λ t. row_at branch_key t.branches c.in-Some.branch) IsNoBranch fault
+    (λ t r rule sound. branch_unbroken t c.in-Some.branch r rule sound) (branch_broken _ c.in-Some.branch fault)
+    c.in_err-row.ensures)
 
 pub returns-then-number-gt-LAST_BRANCH-clause-says : goal.returns-then-number-gt-LAST_BRANCH-clause-says
 returns-then-number-gt-LAST_BRANCH-clause-says g c = record {

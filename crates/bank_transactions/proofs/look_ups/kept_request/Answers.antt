@@ -1,34 +1,21 @@
 -- What the row of a kept request tells.
 use Rattle.std.proofs.Common.{◌≡◌, ◌≤◌, Err, Some, rules, sym, ap, subst, ◌∙◌}
 use Rattle.std.specs.Prelude.{nat_abs, is_some}
-use Rattle.sqlite.specs.Held.{state}
-use Rattle.posting_rules.specs.LookUps.{kept_in}
 use Rattle.store_rows.specs.Columns.{request_in}
 use Rattle.store_rows.specs.Outcomes.{IsNoRequest}
 use Rattle.bank_transactions.proofs.Broken.{delta_broken, request_broken}
-use Rattle.bank_transactions.proofs.Reading.{read_failed}
-use Rattle.bank_transactions.proofs.SoundRows.{err_found, is_a_request, request_is, request_unbroken}
+use Rattle.bank_transactions.proofs.Reading.{find_failed}
+use Rattle.bank_transactions.proofs.SoundRows.{is_a_request, request_is, request_unbroken}
 use Rattle.message_records.specs.declared.limits.TheConstants.{MAX_DELTA}
 use Rattle.bank_transactions.proofs.look_ups.kept_request.Goals as goal
 
 pub returns-in_err-row : goal.returns-in_err-row
-returns-in_err-row g c = record {
-  told = λ clean t shows sound.
-      let same : c.from_residual.result ≡ Err c.in_err-row.field-0.0 = search rules in
-      let before = state g.S.Store c.args.tx.now.conn.now in
-      let after = state g.S.Store c.find_request.new.tx.conn.now in
-      rw same
-      (err_found before after before after (request_in t c.args.teller c.args.number) IsNoRequest
-      (kept_in t.requests c.args.teller c.args.number) c.in_err-row.field-0.0
-      (λ r broken is breaks. request_unbroken t c.args.teller c.args.number r broken sound is breaks)
-      (c.in_err-row.ensures.told clean t shows));
-  same_reference = search rules;
-  kept = λ clean.
-      let same : c.from_residual.result ≡ Err c.in_err-row.field-0.0 = search rules in
-      rw same (read_failed g.S.Store c.args.tx.now.conn.now c.find_request.new.tx.conn.now c.in_err-row.field-0.0
-      (request_broken _ c.args.teller c.args.number c.in_err-row.field-0.0 (c.in_err-row.ensures.kept clean).1) (c.in_err-row.ensures.kept clean).0);
-  survives = search rules;
-}
+returns-in_err-row g c =
+    let fault = c.in_err-row.field-0.0 in
+    let same : c.from_residual.result ≡ Err fault = search rules in
+    rw same (find_failed (λ t. request_in t c.args.teller c.args.number) IsNoRequest fault
+    (λ t r rule sound. request_unbroken t c.args.teller c.args.number r rule sound)
+    (request_broken _ c.args.teller c.args.number fault) c.in_err-row.ensures)
 
 pub returns-then-is_none : goal.returns-then-is_none
 returns-then-is_none g c = record {

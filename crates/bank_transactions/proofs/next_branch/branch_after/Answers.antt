@@ -1,33 +1,20 @@
 -- What the row of the next branch tells.
 use Rattle.std.proofs.Common.{◌≡◌, Err, Some, rules, sym, ◌∙◌, inl, inr, arith}
-use Rattle.sqlite.specs.Held.{state}
 use Rattle.store_rows.specs.Columns.{branch_above}
 use Rattle.store_rows.specs.Outcomes.{IsNoBranch}
 use Rattle.bank_transactions.proofs.NextRow.{next_sound, next_unbroken}
 use Rattle.sql_meanings.specs.Entries.{is_above}
 use Rattle.std.specs.Prelude.{pos}
 use Rattle.bank_transactions.proofs.Broken.{above_broken, next_broken, range_broken}
-use Rattle.bank_transactions.proofs.Reading.{read_failed}
-use Rattle.bank_transactions.proofs.SoundRows.{err_found}
+use Rattle.bank_transactions.proofs.Reading.{find_failed}
 use Rattle.bank_transactions.proofs.next_branch.branch_after.Goals as goal
 
 pub returns-in_err-row-clause-says : goal.returns-in_err-row-clause-says
-returns-in_err-row-clause-says g c = record {
-  told = λ clean t shows sound.
-      let same : c.from_residual.result ≡ Err c.in_err-row.field-0.0 = search rules in
-      let before = state g.S.Store c.args.tx.now.conn.now in
-      let after = state g.S.Store c.next_branch.new.tx.conn.now in
-      rw same
-      (err_found before after before after (branch_above t c.args.after) IsNoBranch (branch_above t c.args.after)
-      c.in_err-row.field-0.0 (λ r broken is breaks. next_unbroken t c.args.after r broken sound is breaks)
-      (c.in_err-row.ensures.told clean t shows));
-  same_reference = search rules;
-  kept = λ clean.
-      let same : c.from_residual.result ≡ Err c.in_err-row.field-0.0 = search rules in
-      rw same (read_failed g.S.Store c.args.tx.now.conn.now c.next_branch.new.tx.conn.now c.in_err-row.field-0.0
-      (next_broken _ c.args.after c.in_err-row.field-0.0 (c.in_err-row.ensures.kept clean).1) (c.in_err-row.ensures.kept clean).0);
-  survives = search rules;
-}
+returns-in_err-row-clause-says g c =
+    let fault = c.in_err-row.field-0.0 in
+    let same : c.from_residual.result ≡ Err fault = search rules in
+    rw same (find_failed (λ t. branch_above t c.args.after) IsNoBranch fault
+    (λ t r rule sound. next_unbroken t c.args.after r rule sound) (next_broken _ c.args.after fault) c.in_err-row.ensures)
 
 -- a number of undamaged tables is above the one that was asked for, and in its range
 pub returns-then-number-from-clause-says : goal.returns-then-number-from-clause-says

@@ -1,46 +1,45 @@
 -- A row more, with nothing on it.
-use Rattle.std.proofs.Common.{◌≡◌, false, rules, refl, sym, subst, ap, ◌∙◌, ℕ}
-use Rattle.std.specs.Prelude.{is_some}
+use Rattle.std.proofs.Common.{◌≡◌, Result, false, rules, refl, ap, ◌∙◌, ℕ}
+use Rattle.std.specs.Prelude.{Bool, is_some}
+use Rattle.sqlite.specs.Table.{Table}
+use Rattle.sqlite.specs.declared.transaction.Transaction.{Transaction}
+use Rattle.sqlite_trees.specs.declared.store.Store.{Ghosts}
 use Rattle.posting_rules.specs.Changes.{with_teller, with_account, new_teller, new_account}
-use Rattle.posting_rules.specs.Tables.{row_at, teller_key, account_key}
+use Rattle.posting_rules.specs.Tables.{Tables, row_at, teller_key, account_key}
 use Rattle.posting_rules.specs.declared.rows.AccountRow.{AccountRow}
 use Rattle.posting_rules.specs.declared.rows.TellerRow.{TellerRow}
+use Rattle.sql_meanings.specs.Calls.{Says, Inside}
+use Rattle.store_rows.specs.Calls.{OfTables}
+use Rattle.store_rows.specs.Failures.{Puts}
+use Rattle.store_rows.specs.Outcomes.{Adds}
 use Rattle.store_rows.specs.SixTables.{account, teller}
+use Rattle.store_rows.specs.declared.faults.TableFault.{TableFault}
+use Rattle.bank_transactions.specs.Doing.{Does}
 use Rattle.bank_transactions.specs.NewRows.{is_taken, with_new}
 use Rattle.bank_transactions.specs.declared.opening.NewRows.{NewRows}
+use Rattle.bank_transactions.specs.declared.opening.NewRows.TheVariants.{Tellers, Accounts}
 use Rattle.bank_transactions.proofs.Chained.{does_for, does_add}
 use Rattle.bank_transactions.proofs.opening.add_new.Goals as goal
 
+-- of either kind: the row is the new one of its number
+added : {S R : Type 0} {g : Ghosts S} {old new : Transaction S} {r : Result (Unit {0}) TableFault} (table : Table)
+    (taken : R → Tables → Bool) (more : R → Tables → Tables) (kind : NewRows) (n : ℕ) (row fresh : R) → row ≡ fresh
+    → ((t : Tables) → taken fresh t ≡ is_taken kind n t) → ((t : Tables) → more fresh t ≡ with_new kind n t)
+    → Says g old new (Inside (OfTables (λ before now t. Adds before now table (taken row t) (more row t) r)))
+    (Inside (λ before now. Puts before now r))
+    → Does g old new (λ t. is_taken kind n t ≡ false) (with_new kind n) (λ _. tt) r
+added {S} {R} {g} {old} {new} {r} table taken more kind n row fresh is at by says =
+    does_for (does_add {So = λ t. taken row t ≡ false} g old new table (taken row) (more row) r says (λ t free. free))
+    (λ t free. (ap (λ (x : R). taken x t) is ∙ at t ∙ free, ap (λ (x : R). more x t) is ∙ by t, refl))
+
 pub returns-in-Tellers : goal.returns-in-Tellers
 returns-in-Tellers g c =
-    let n = c.args.number in
     let row : TellerRow = record { teller = c.unwrap-teller.result; balance = c.unwrap-balance.result } in
-    let number : c.unwrap-teller.result ≡ n = search rules in
-    let is : row ≡ new_teller n = search rules in
-    let add = c.add_teller.ensures in
-    does_for (does_add {So = λ t. is_some (row_at teller_key t.tellers row.teller) ≡ false} g.S.Store c.args.tx.now c.add_teller.new.tx teller
-    (λ t. is_some (row_at teller_key t.tellers row.teller)) (λ t. with_teller row t) c.add_teller.result
-    (record { same_reference = add.same_reference; told = add.told; kept = add.kept; survives = add.survives }) (λ t free. free))
-    (λ t so.
-    let free = subst (λ (k : NewRows). is_taken k n t ≡ false) c.in-Tellers.is so in (
-      subst (λ (m : ℕ). is_some (row_at teller_key t.tellers m) ≡ false) (sym number) free,
-      ap (λ (r : TellerRow). with_teller r t) is ∙ ap (λ (k : NewRows). with_new k n t) (sym c.in-Tellers.is),
-      refl,
-    ))
+    rw c.in-Tellers.is (added teller (λ x t. is_some (row_at teller_key t.tellers x.teller)) (λ x t. with_teller x t)
+    Tellers c.args.number row (new_teller c.args.number) (search rules) (λ t. refl) (λ t. refl) c.add_teller.ensures)
 
 pub returns-in-Accounts : goal.returns-in-Accounts
 returns-in-Accounts g c =
-    let n = c.args.number in
     let row : AccountRow = record { account = c.unwrap-account.result; balance = c.unwrap-balance.result } in
-    let number : c.unwrap-account.result ≡ n = search rules in
-    let is : row ≡ new_account n = search rules in
-    let add = c.add_account.ensures in
-    does_for (does_add {So = λ t. is_some (row_at account_key t.accounts row.account) ≡ false} g.S.Store c.args.tx.now c.add_account.new.tx account
-    (λ t. is_some (row_at account_key t.accounts row.account)) (λ t. with_account row t) c.add_account.result
-    (record { same_reference = add.same_reference; told = add.told; kept = add.kept; survives = add.survives }) (λ t free. free))
-    (λ t so.
-    let free = subst (λ (k : NewRows). is_taken k n t ≡ false) c.in-Accounts.is so in (
-      subst (λ (m : ℕ). is_some (row_at account_key t.accounts m) ≡ false) (sym number) free,
-      ap (λ (r : AccountRow). with_account r t) is ∙ ap (λ (k : NewRows). with_new k n t) (sym c.in-Accounts.is),
-      refl,
-    ))
+    rw c.in-Accounts.is (added account (λ x t. is_some (row_at account_key t.accounts x.account)) (λ x t. with_account x t)
+    Accounts c.args.number row (new_account c.args.number) (search rules) (λ t. refl) (λ t. refl) c.add_account.ensures)

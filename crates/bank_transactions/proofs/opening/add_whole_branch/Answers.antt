@@ -18,7 +18,7 @@ returns-in_err-add_branch g c =
     let e = c.in_err-add_branch.field-0.0 in
     let same : c.from_residual.result ≡ Err e = search rules in
     rw same (does_err (does_add g.S.Store c.args.tx.now c.add_branch.new.tx branch (λ t. is_some (row_at branch_key t.branches b)) (λ t. with_branch row t) (Err e)
-    (record { same_reference = c.in_err-add_branch.ensures.same_reference; told = c.in_err-add_branch.ensures.told; kept = c.in_err-add_branch.ensures.kept; survives = c.in_err-add_branch.ensures.survives })
+    c.in_err-add_branch.ensures
     (λ t free. free)) (λ t so. ap is_some so.1))
 
 pub returns-in_err-add_rows : goal.returns-in_err-add_rows
@@ -35,7 +35,7 @@ returns-in_err-add_rows g c =
     let same : c.from_residual-in_err-add_rows.result ≡ Err c.in_err-add_rows.field-0.0 = search rules in
     rw same (does_err (does_then (does_for
     (does_add g.S.Store c.args.tx.now c.add_branch.new.tx branch (λ t. is_some (row_at branch_key t.branches b)) (λ t. with_branch row t) (Ok tt)
-    (record { same_reference = c.in_ok-add_branch.ensures.same_reference; told = c.in_ok-add_branch.ensures.told; kept = c.in_ok-add_branch.ensures.kept; survives = c.in_ok-add_branch.ensures.survives }) (λ t so. ap is_some so.1))
+    c.in_ok-add_branch.ensures (λ t so. ap is_some so.1))
     (λ t so. (so, ap (λ r. with_branch r t) is, refl))) c.in_err-add_rows.ensures
     (λ t so n lt. next_teller t b count teller account from start so.0 above so.1 n lt)) (λ t so. so))
 
@@ -52,7 +52,7 @@ returns g c =
     let is : row ≡ branch_row_of b (pos 0) count = search rules in
     does_for (does_then (does_then (does_for
     (does_add g.S.Store c.args.tx.now c.add_branch.new.tx branch (λ t. is_some (row_at branch_key t.branches b)) (λ t. with_branch row t) (Ok tt)
-    (record { same_reference = c.in_ok-add_branch.ensures.same_reference; told = c.in_ok-add_branch.ensures.told; kept = c.in_ok-add_branch.ensures.kept; survives = c.in_ok-add_branch.ensures.survives }) (λ t so. ap is_some so.1))
+    c.in_ok-add_branch.ensures (λ t so. ap is_some so.1))
     (λ t so. (so, ap (λ r. with_branch r t) is, refl))) c.in_ok-add_rows.ensures
     (λ t so n lt. next_teller t b count teller account from start so.0 above so.1 n lt)) c.add_rows-2.ensures
     (λ t so n lt. next_account t b count teller account from start so.0 above so.1 n c.requires.few (subst (λ m. n < m) c.from.ensures lt)))
