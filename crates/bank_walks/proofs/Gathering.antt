@@ -132,12 +132,3 @@ module _ {R : Type 0} (entry : R → Entry) (Breaks : Entry → Type 0) (width m
           broke.0,
           (it.0, rows_from (it.0.key +ℤ pos 1) rows, so_far ∙ ap (λ l. map entry l ++ rows_from next rows) none ∙ first_left next rows it.0 rise it.1, broke.1),
         )
-
-  -- none was found
-  pub none_found : (next : ℤ) → found ≡ [] → 0 < most → rows_from from rows ≡ []
-  none_found next none some = go most (rows_from from rows) (sym is ∙ none) some
-    where
-      go : (n : ℕ) (es : List Entry) → shown (take n es) ≡ [] → 0 < n → es ≡ []
-      go n [] h some = refl
-      go zero (e ∷ es) h some = absurd (omega arith)
-      go (suc n) (e ∷ es) h some = absurd (cc)

@@ -14,9 +14,6 @@ le_le a b c one two = omega (arith, ints)
 pub le_from : (a b : ℤ) → is_ge (int_cmp a b) ≡ true → b ≤ℤ a
 le_from a b is = grind (arith, ints)
 
-pub from_le : (a b : ℤ) → b ≤ℤ a → is_ge (int_cmp a b) ≡ true
-from_le a b low = grind (arith, ints)
-
 module _ {R : Type 0} (key : R → ℤ) where
   abbrev Rises : ℤ → List R → Option ℤ → Type 0
   Rises from rs rest = RisesFrom from (map key rs) rest

@@ -43,3 +43,6 @@ returns-else-key-from-clause-told g c all rise wide is =
     subst (λ k. rows_from from all ≡ rows_from k all) (sym key) (from_its_key from all broke.1.0 broke.1.1 rise broke.1.2) in
     let whole : to_z w64 (of_z w64 c.in_ok-key-in-Err-Damaged.key) ≡ c.in_ok-key-in-Err-Damaged.key = search (rules, to_z-of_z) in
     rw (c.clear.ensures, whole) it
+
+pub returns-else-key-from-clause-beyond : goal.returns-else-key-from-clause-beyond
+returns-else-key-from-clause-beyond g c = search rules

@@ -1,5 +1,5 @@
 -- The row is these numbers.
-use Rattle.std.proofs.Common.{◌≡◌, pos, sym, ◌∙◌, rules, get_or, length, w64, to_z, of_z}
+use Rattle.std.proofs.Common.{◌≡◌, ◌<◌, ℕ, pos, sym, ◌∙◌, rules, lit≤, get_or, length, w64, to_z, of_z}
 use Rattle.std.proofs.lemmas.Int.{to_z-of_z}
 use Rattle.bank_walks.proofs.Widths.{six_are}
 use Rattle.bank_walks.proofs.postings.StoredPosting.of.Goals as goal
@@ -8,10 +8,8 @@ pub returns : goal.returns
 returns c =
     let ns = c.args.numbers in
     let wide : length ns ≡ 6 = search rules in
-    let same_0 : to_z w64 (of_z w64 (get_or ns 0 (pos 0))) ≡ get_or ns 0 (pos 0) = search (rules, to_z-of_z) in
-    let same_1 : to_z w64 (of_z w64 (get_or ns 1 (pos 0))) ≡ get_or ns 1 (pos 0) = search (rules, to_z-of_z) in
-    let same_2 : to_z w64 (of_z w64 (get_or ns 2 (pos 0))) ≡ get_or ns 2 (pos 0) = search (rules, to_z-of_z) in
-    let same_3 : to_z w64 (of_z w64 (get_or ns 3 (pos 0))) ≡ get_or ns 3 (pos 0) = search (rules, to_z-of_z) in
-    let same_4 : to_z w64 (of_z w64 (get_or ns 4 (pos 0))) ≡ get_or ns 4 (pos 0) = search (rules, to_z-of_z) in
-    let same_5 : to_z w64 (of_z w64 (get_or ns 5 (pos 0))) ≡ get_or ns 5 (pos 0) = search (rules, to_z-of_z) in
-    rw (same_1, same_2, same_3, same_4) (six_are ns (pos c.in_ok-whole.field-0) (pos c.in_ok-whole-2.field-0) wide (sym same_0 ∙ c.in_ok-whole.ensures) (sym same_5 ∙ c.in_ok-whole-2.ensures))
+    let same : (k : ℕ) → k < 6 → to_z w64 (of_z w64 (get_or ns k (pos 0))) ≡ get_or ns k (pos 0) =
+    λ k low. search (rules, to_z-of_z) in
+    rw (same 1 (lit≤ tt), same 2 (lit≤ tt), same 3 (lit≤ tt), same 4 (lit≤ tt))
+    (six_are ns (pos c.in_ok-whole.field-0) (pos c.in_ok-whole-2.field-0) wide
+    (sym (same 0 (lit≤ tt)) ∙ c.in_ok-whole.ensures) (sym (same 5 (lit≤ tt)) ∙ c.in_ok-whole-2.ensures))
