@@ -1,6 +1,7 @@
 //! A database is made in files that hold nothing yet.
-ghost use Rattle.std.specs.Prelude.{◌≡◌, ◌↔◌, [], IsTrue, IfOk};
+ghost use Rattle.std.specs.Prelude.{◌≡◌, ◌↔◌, [], IsTrue, IfErr, IfOk};
 ghost use Rattle.sqlite.specs.Files.{image_of};
+ghost use Rattle.sqlite.specs.Opening.{is_open_error};
 ghost use Rattle.sqlite_pool.specs.Opening.{IsBlankFile};
 ghost use Rattle.sqlite_store.specs.FileStore.{state, view};
 ghost use Rattle.sqlite_store.specs.Unopened.{AreUsable, files_of, state_of, wanted_by};
@@ -37,6 +38,7 @@ pub(crate) fn are_blank<D: Disk>(alloc: Global, files: &mut Files<D>) -> Result<
         → (IsTrue b ↔ IsBlankFile PAGE_BYTES (image_of D.Disk files.old))) }
     ensures log { OnlyReads D.Disk files.old.log files.new.log }
     ensures db { OnlyReads D.Disk files.old.db files.new.db }
+    ensures named { IfErr result (λ e. IsTrue (is_open_error e)) }
 {
     match probe_blank(alloc, files, page_size(), false) {
         Ok(are_blank) => Ok(are_blank),
@@ -53,6 +55,7 @@ fn unopened<D: Disk + Drop>(
     ensures files { IfOk result (λ it. files_of it ≡ (files.log, files.db)) }
     ensures size { IfOk result (λ it. (state_of it).page_size ≡ PAGE_BYTES) }
     ensures none { IfOk result (λ it. wanted_by it ≡ []) }
+    ensures named { IfErr result (λ e. IsTrue (is_open_error e)) }
 {
     let Ok(pager) = Pager::new(alloc, files, page_size(), options) else {
         return Err(NO_MEMORY);
@@ -71,6 +74,7 @@ fn made<D: Disk + Drop>(files: Unopened<D>) -> Result<FileStore<D>, Error>
     ensures ok { IfOk result (λ store. IsTrue (view store).is_clean → IsMadeEmpty (view store)) }
     ensures size { IfOk result (λ store. IsTrue (view store).is_clean
         → (state store).page_size ≡ (state_of files).page_size) }
+    ensures named { IfErr result (λ e. IsTrue (is_open_error e)) }
 {
     match files.create() {
         Ok(store) => Ok(store),
@@ -91,6 +95,7 @@ pub(crate) fn make_store<D: Disk + Drop>(
     ensures ok { IfOk result (λ store. IsTrue (view store).is_clean → IsMadeEmpty (view store)) }
     ensures size { IfOk result (λ store. IsTrue (view store).is_clean
         → (state store).page_size ≡ PAGE_BYTES) }
+    ensures named { IfErr result (λ e. IsTrue (is_open_error e)) }
 {
     made(unopened(alloc, files, options)?)
 }

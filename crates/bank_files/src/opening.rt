@@ -1,7 +1,8 @@
 //! A connection over a bank's files.
-ghost use Rattle.std.specs.Prelude.{◌<◌, true, false, IsTrue, IfOk};
+ghost use Rattle.std.specs.Prelude.{◌<◌, true, false, IsTrue, IfErr, IfOk};
 ghost use Rattle.sqlite.specs.Files.{file_state, image_of};
 ghost use Rattle.sqlite.specs.Held.{IsNew};
+ghost use Rattle.sqlite.specs.Opening.{is_open_error};
 ghost use Rattle.sqlite.specs.State.{HasCleanDisk};
 ghost use Rattle.sqlite_std_file.specs.File.{file_is_usable, IsFresh};
 ghost use Rattle.sqlite_wal.specs.Files.{image_at};
@@ -61,6 +62,7 @@ fn make_over<D: Disk + Drop>(
     ensures honest { IfOk result (λ conn. HasCleanDisk (file_state conn)
         → AreClean D.Disk files.log files.db) }
     ensures made { IfOk result (λ conn. HasCleanDisk (file_state conn) → IsMadeOver (file_state conn)) }
+    ensures named { IfErr result (λ e. IsTrue (is_open_error e)) }
 {
     let store = make_store(alloc, files, options)?;
     match Connection::over(alloc, store) {
@@ -81,6 +83,8 @@ pub fn open_over<D: Disk + Drop>(
     ensures fresh { IfOk result IsNew }
     ensures opened { IfOk result (λ conn. HasCleanDisk (file_state conn)
         → IsOpenedOn (image_of D.Disk files) (file_state conn)) }
+    // An error is one of the kinds that an open of `sqlite` has.
+    ensures named { IfErr result (λ e. IsTrue (is_open_error e)) }
 {
     if are_blank(alloc, &mut files)? {
         return make_over(alloc, files, options(PAGE_BYTES, seed));
@@ -97,6 +101,7 @@ fn files_at<S: Start>(rt: &HostRuntime, path: &str, start: S) -> Result<Files<Fi
     ensures usable { IfOk result (λ files. IsTrue (file_is_usable S.Start files.log)
         × IsTrue (file_is_usable S.Start files.db)) }
     ensures fresh { IfOk result (λ files. IsFresh true files.log × IsFresh false files.db) }
+    ensures named { IfErr result (λ e. IsTrue (is_open_error e)) }
 {
     if path == ":memory:" || path.starts_with("file:") {
         return Err(CANNOT_OPEN);
@@ -117,6 +122,7 @@ pub fn open<S: Start>(
     ensures fresh { IfOk result IsNew }
     ensures opened { IfOk result (λ conn. HasCleanDisk (file_state conn)
         → IsOpenedOn (image_at S.Start) (file_state conn)) }
+    ensures named { IfErr result (λ e. IsTrue (is_open_error e)) }
 {
     let files = files_at(rt, path, start)?;
     let Ok(random) = RandomState::new(rt) else {
