@@ -13,6 +13,8 @@
 //!   `record TEXT`       gives the next run a record, which spaces fill to 100 bytes
 //!   `line TEXT`         gives it a record and an end of line
 //!   `part TEXT`         gives the next run these bytes
+//!   `from FILE`         gives it what a file holds
+//!   `like FILE`         tells whether the last run wrote what a file holds
 //!   `broken END`        gives the next run an `input` that fails, or an `output` that does
 //!   `bank WORD..`       runs the program on these words
 #![tactic(auto)]

@@ -18,11 +18,12 @@ enum Fails {
     Output,
 }
 
-/// What the next run is given.
+/// What the next run is given, and what the last one wrote.
 #[derive(Drop)]
 pub struct Script {
     input: Vec<u8>,
     fails: Fails,
+    output: Vec<u8>,
 }
 
 impl Script {
@@ -31,6 +32,7 @@ impl Script {
         Script {
             input: Vec::new(alloc),
             fails: Fails::Neither,
+            output: Vec::new(alloc),
         }
     }
 
@@ -51,6 +53,8 @@ impl Script {
                 self.input.push(b'\n')?;
             }
             "part" => self.input.extend_from_slice(rest.as_bytes())?,
+            "from" => self.input = fs::read(rt, rest)?,
+            "like" => self.compare(rt, rest)?,
             "broken" if rest == "input" => self.fails = Fails::Input,
             "broken" if rest == "output" => self.fails = Fails::Output,
             "bank" => self.run(rt, line)?,
@@ -84,7 +88,18 @@ impl Script {
         println!(rt; "  status: {status:?}")?;
         self.input.clear();
         self.fails = Fails::Neither;
+        self.output = output;
         Ok(())
+    }
+
+    // Tells whether the last run wrote what a file holds.
+    fn compare(&self, rt: &HostRuntime, file: &str) -> io::Result<()> {
+        let wanted = fs::read(rt, file)?;
+        if self.output.as_slice() == wanted.as_slice() {
+            println!(rt; "  the same")
+        } else {
+            println!(rt; "  not the same")
+        }
     }
 }
 
