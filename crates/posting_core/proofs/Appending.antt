@@ -67,7 +67,8 @@ record_shown t log m bytes s = by_read (request_of bytes) refl
     by_read : (read : Result RequestFields Bad) → request_of bytes ≡ read
         → Shows (tables_with t m read) (Post m bytes ∷ log)
     by_read (Ok r) e = post_shown t (tables_after t m r (case_of (found_in t r) r)) log m bytes r e s
-        (subst (λ n. IsStep t (tables_after t m r (case_of (found_in t r) r)) (n + 1) m r (case_of (found_in t r) r))
+        (subst (λ n. IsStep t (tables_after t m r (case_of (found_in t r) r)) (n + 1) m r
+        (case_of (found_in t r) r))
         s.rows.decided (step_is t m r (case_of (found_in t r) r) (ready_shown t log s)))
     by_read (Err fault) e = malformed_shown t log m bytes fault e s
 
@@ -79,7 +80,8 @@ reply_is t log bytes s = by_read (request_of bytes) refl
     by_read : (read : Result RequestFields Bad) → request_of bytes ≡ read
         → reply_in_tables t read ≡ reply log bytes
     by_read (Ok r) e = reply_shown t log bytes r e s
-    by_read (Err fault) e = ap (λ (x : Result RequestFields Bad). reply_to x (λ b. opened log b) (decided log)) (sym e)
+    by_read (Err fault) e = ap (λ (x : Result RequestFields Bad). reply_to x (λ b. opened log b)
+        (decided log)) (sym e)
 
 -- ---- an opening
 

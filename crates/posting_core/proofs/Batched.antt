@@ -79,7 +79,8 @@ chunks_joined n (suc k) xs le =
     let chunks = joined (first_chunks n k (drop n xs)) in
     append_assoc (take n xs) chunks (drop (suc k * n) xs)
     ∙ ap (λ (t : List ℕ). take n xs ++ t)
-    (ap (λ (j : ℕ). chunks ++ drop j xs) parts ∙ ap (λ (t : List ℕ). chunks ++ t) (sym (drop-drop (k * n) n xs)) ∙ chunks_joined n k (drop n xs) rest_le)
+    (ap (λ (j : ℕ). chunks ++ drop j xs) parts ∙ ap (λ (t : List ℕ). chunks ++ t)
+    (sym (drop-drop (k * n) n xs)) ∙ chunks_joined n k (drop n xs) rest_le)
     ∙ take-append-drop n xs
 
 chunks_whole : (n k : ℕ) (xs : List ℕ) → k * n ≤ length xs

@@ -29,7 +29,8 @@ or_put false None x none = refl
 pub row_behind : {R : Type 0} (key : R → ℕ) (rows : List R) (x : R) → HasKeys key rows
     → row_at key rows (key x) ≡ None → AddsRow key x rows (rows ++ x ∷ [])
 row_behind key rows x keys none =
-    let apart = list_any_none (nat_eq (key x)) (map key rows) (All-from_recursion (λ j. nat_eq (key x) j ≡ false) (map key rows) (free_apart key rows (key x) none)) in
+    let apart = list_any_none (nat_eq (key x)) (map key rows) (All-from_recursion
+    (λ j. nat_eq (key x) j ≡ false) (map key rows) (free_apart key rows (key x) none)) in
     record {
       rows = λ n. find-append (λ r. eqb (key r) n) rows (x ∷ [])
           ∙ or_put (eqb (key x) n) (row_at key rows n) x

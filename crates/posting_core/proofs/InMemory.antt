@@ -23,7 +23,14 @@ use Rattle.posting_rules.proofs.Sequence.{commands_behind}
 
 pub empty_from : (bs : List BranchRow) (ts : List TellerRow) (xs : List AccountRow) (hs : List HistoryRow)
     (rs : List RequestRow) → bs ≡ [] → ts ≡ [] → xs ≡ [] → hs ≡ [] → rs ≡ []
-    → Shows (record { decided = length rs; branches = bs; tellers = ts; accounts = xs; history = hs; requests = rs }) []
+    → Shows (record {
+      decided = length rs;
+      branches = bs;
+      tellers = ts;
+      accounts = xs;
+      history = hs;
+      requests = rs;
+    }) []
 empty_from bs ts xs hs rs eb et ea eh er = rw (eb, et, ea, eh, er) empty_shown
 
 -- ---- the rows after room was made for more
@@ -80,7 +87,12 @@ plain_shows bank log s = subst (λ (t : Tables). Shows t log) s.are s.shows
 
 pub shows_plain : (bank : PlainBank) (log : List Command) → AreCommands log → Shows (plain_tables bank) log
     → ShowsLog (plain_seen bank) log
-shows_plain bank log commands s = record { commands = commands; tables = plain_tables bank; are = refl; shows = s }
+shows_plain bank log commands s = record {
+  commands = commands;
+  tables = plain_tables bank;
+  are = refl;
+  shows = s;
+}
 
 stands_plain : (bank : PlainBank) (log : List Command) → AreCommands log → Shows (plain_tables bank) log
     → StandsAt (plain_seen bank) log

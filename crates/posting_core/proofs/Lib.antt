@@ -7,6 +7,8 @@ pub mod Timeless
 pub mod Batched
 pub mod Stops
 pub mod Streaming
+pub mod StreamedBatches
+pub mod StreamEnds
 pub mod Through
 pub mod Refused
 pub mod Output

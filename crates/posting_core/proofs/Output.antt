@@ -96,15 +96,22 @@ output_of {w = w} {w' = w'} (Err Write) s =
     record {
       bytes = joined (records_of (s.taken ++ s.refused)) ++ s.rest;
       read = s.read;
-      writes = λ h log shows. (n, subst (λ (t : List ℕ). Appends w w' t) (s.replies h log shows ∙ ap (take n) (text_of s log s.ends)) s.wrote);
+      writes = λ h log shows. (
+        n,
+        subst (λ (t : List ℕ). Appends w w' t) (s.replies h log shows
+            ∙ ap (take n) (text_of s log s.ends)) s.wrote,
+      );
     }
 output_of {w = w} {w' = w'} (Err (Bank fault)) s = record {
   bytes = joined (records_of (s.taken ++ s.refused)) ++ s.rest;
   read = s.read;
   writes = λ h log shows.
       let n = length (joined (replies_to log (posts_of s.taken))) in
-      let text = text_is log (s.taken ++ s.refused) s.rest s.whole s.few in
-      (n, subst (λ (t : List ℕ). Appends w w' t) (s.replies h log shows ∙ text_begins log s.taken s.refused ∙ ap (take n) text) s.wrote);
+      let text = text_is log (s.taken ++ s.refused) s.rest s.whole s.few in (
+        n,
+        subst (λ (t : List ℕ). Appends w w' t) (s.replies h log shows ∙ text_begins log s.taken s.refused
+            ∙ ap (take n) text) s.wrote,
+      );
 }
 
 -- ---- what a stop leaves

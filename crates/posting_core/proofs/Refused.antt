@@ -15,7 +15,8 @@ use Rattle.posting_core.specs.Batches.{Batch, IsRecord, joined, records_of, post
 use Rattle.posting_core.specs.Stream.{IfBank, IfTaken, IsRefusedBehind, UnlessDown, posted_records}
 use Rattle.posting_core.specs.Stream.{whole_records}
 use Rattle.posting_core.proofs.Batched.{all_posts, posted_is, posts_of_one_more, whole_records_are}
-use Rattle.posting_core.proofs.Streaming.{Going, read_batch, whole_batch}
+use Rattle.posting_core.proofs.Streaming.{Going}
+use Rattle.posting_core.proofs.StreamedBatches.{read_batch, whole_batch}
 
 -- ---- how many commands there are
 
@@ -23,7 +24,8 @@ one_post_each : (bs : List Batch) → length (posts_of bs) ≡ length (records_o
 one_post_each [] = refl
 one_post_each (b ∷ bs) =
     length-append (posts b.moment b.records) (posts_of bs)
-    ∙ (rw (length-map b.records (Post b.moment), one_post_each bs) (sym (length-append b.records (records_of bs))))
+    ∙ (rw (length-map b.records (Post b.moment), one_post_each bs)
+    (sym (length-append b.records (records_of bs))))
 
 none_long : {A : Type 0} (xs : List A) → length xs ≡ 0 → xs ≡ []
 none_long [] e = refl
@@ -39,7 +41,8 @@ still_down Store old new cs u e = u.down
 still_down Down old new cs u e = u.after
 still_down (Damaged rule) old new cs u e = u.down
 
-pub refused_broken : {C : Type 0} (seen : C → Seen) (old stood new : C) {r r' w w' k k' : Option (List ℕ)} {count : ℕ} (v v' : Option (List ℕ)) (fault : StreamFault)
+pub refused_broken : {C : Type 0} (seen : C → Seen) (old stood new : C) {r r' w w' k k' : Option (List ℕ)}
+    {count : ℕ} (v v' : Option (List ℕ)) (fault : StreamFault)
     (m : ℕ) (all rest : List ℕ) (rs : List (List ℕ)) → Going r r' w w' k k' (seen old) (seen stood) all count
     → (all ≡ joined rs ++ rest) × AllByRecursion IsRecord rs → length rest < 100 → 1 ≤ length rs
     → length rs ≤ RECORDS_PER_BATCH
@@ -60,7 +63,8 @@ refused_broken seen old stood new {r = r} {r' = r'} {count = count} v v'
       taken = posts_of g.batches;
       batch = posts m rs;
       posts = subst (λ (cs : List Command). ArePosts cs) made (all_posts bs);
-      records = subst (λ (cs : List Command). posted_records cs ≡ whole_records (joined (records_of bs) ++ rest)) made
+      records = subst (λ (cs : List Command). posted_records cs ≡ whole_records (joined (records_of bs)
+          ++ rest)) made
           (posted_is bs ∙ sym (whole_records_are (records_of bs) rest whole few));
       some = rw (length-map rs (Post m)) some;
       few = rw (length-map rs (Post m)) most;

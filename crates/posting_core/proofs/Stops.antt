@@ -61,7 +61,13 @@ stop_part c log cs ds es e stop = leaves_weaker c (ShowsBeginning (behind log cs
 pub refused_stop : (fault : Fault) (c c' : Seen) (log cs : List Command) → Refuses fault c c' cs → c'.honest
     → StandsAt c log → LeavesOnly c' (ShowsBeginning log cs 0)
 refused_stop Memory c c' log cs u h s = leaves_weaker c' (λ t. Shows t log) (ShowsBeginning log cs 0)
-    (λ t shown. record { count = 0; holds = omega arith; within = omega arith; are = s.shows.commands; shows = shown })
+    (λ t shown. record {
+      count = 0;
+      holds = omega arith;
+      within = omega arith;
+      are = s.shows.commands;
+      shows = shown;
+    })
     (leaves_still c c' (λ t. Shows t log) u.left s.stop)
 refused_stop Store c c' log cs u h s = u.stop h log s
 refused_stop Down c c' log cs u h s = absurd (s.up u.before)

@@ -12,7 +12,7 @@ use denote.Enum.Bare.{sameb}
 use Rattle.std.specs.declared.io.ErrorKind.TheVariants.{Interrupted}
 use Rattle.posting_core.specs.Told.{Adds, EndsWith, HasMore, HasReadFailed, HasWriteFailed, IsEndOfInput}
 use Rattle.posting_core.specs.Told.{IsReadFailure, IsWornOut, IsWriteFailure, ReadTold, WriteTold, read_told}
-use Rattle.posting_core.specs.Told.{write_told, flush_told}
+use Rattle.posting_core.specs.Told.{write_told, flush_told, IsFlush}
 
 adds-more : {A : Type 0} (a b c : Option (List A)) (xs ys : List A) → Adds a b xs → Adds b c ys
     → Adds a c (xs ++ ys)
@@ -49,7 +49,8 @@ made_one {a = a} {b = b} {c = c} x count' h y e = record {
 -- the last of them
 pub made_last : {A : Type 0} (P : A → Type 0) {a b c : Option (List A)} {count : ℕ} (x : A)
     → HasMade a b count → Adds b c (x ∷ []) → P x → EndsWith P a c
-made_last P {a = a} {b = b} {c = c} x h y p = record { earlier = h.calls; last = x; made = adds-more a b c h.calls (x ∷ []) h.made y; is = p }
+made_last P {a = a} {b = b} {c = c} x h y p =
+    record { earlier = h.calls; last = x; made = adds-more a b c h.calls (x ∷ []) h.made y; is = p }
 
 -- as many as there can be
 pub made_many : {A : Type 0} {a b : Option (List A)} {count : ℕ} → HasMade a b count → 2 ^ 64 - 1 ≤ count
@@ -62,7 +63,8 @@ pub more_none : {A : Type 0} (a : Option (List A)) → HasMore a a
 more_none a = record { calls = []; made = adds-none a }
 
 pub more_more : {A : Type 0} {a b c : Option (List A)} → HasMore a b → HasMore b c → HasMore a c
-more_more {a = a} {b = b} {c = c} x y = record { calls = x.calls ++ y.calls; made = adds-more a b c x.calls y.calls x.made y.made }
+more_more {a = a} {b = b} {c = c} x y =
+    record { calls = x.calls ++ y.calls; made = adds-more a b c x.calls y.calls x.made y.made }
 
 pub more_last : {A : Type 0} (P : A → Type 0) {a b c : Option (List A)} → HasMore a b → EndsWith P b c
     → EndsWith P a c
@@ -123,4 +125,11 @@ write_failed bytes r e h tells is kind = inl
 pub flush_failed : {A : Type 0} {a b c : Option (List WriteTold)} (r : Result A Error) (e : Error)
     → HasMore a b → Adds b c (flush_told r ∷ []) → r ≡ Err e
     → HasWriteFailed a c
-flush_failed r e h tells is = inl (more_last IsWriteFailure h (record { earlier = []; last = flush_told r; made = tells; is = rw is tt }))
+flush_failed r e h tells is = inl
+    (more_last IsWriteFailure h (record { earlier = []; last = flush_told r; made = tells; is = rw is tt }))
+
+pub flush_done : {A : Type 0} {a b c : Option (List WriteTold)} (r : Result A Error) (x : A)
+    → HasMore a b → Adds b c (flush_told r ∷ []) → r ≡ Ok x
+    → EndsWith IsFlush a c
+flush_done r x h tells is = more_last IsFlush h
+    (record { earlier = []; last = flush_told r; made = tells; is = rw is tt })

@@ -24,7 +24,8 @@ use Rattle.posting_rules.proofs.Sequence.{replies_to-append}
 
 abbrev pub zeroed : List Entry → List Entry
 zeroed [] = []
-zeroed (e ∷ es) = record { moment = 0; request = e.request; outcome = e.outcome; balance = e.balance } ∷ zeroed es
+zeroed (e ∷ es) = record { moment = 0; request = e.request; outcome = e.outcome; balance = e.balance }
+    ∷ zeroed es
 
 pub sum_zeroed : (test : RequestFields → Bool) (es : List Entry)
     → posted_sum test (zeroed es) ≡ posted_sum test es

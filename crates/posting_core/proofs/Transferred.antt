@@ -17,11 +17,16 @@ grown xs ys f k n within fits =
     let after = ys ++ post_of f k xs in
     let front = take f xs in
     let len : length front ≡ f = length-take-le f xs within in
-    take-add f n (front ++ after) ∙ (rw (take_at front after f len, drop_at front after f len, take-append-le n ys (post_of f k xs) fits) refl)
+    take-add f n (front ++ after) ∙ (rw (
+      take_at front after f len,
+      drop_at front after f len,
+      take-append-le n ys (post_of f k xs) fits,
+    ) refl)
 
 pub fill_ok : {E : Type 0} (r : Result ℕ E) (old new : Option (List ℕ)) (xs ys : List ℕ) (f k : ℕ)
     → f ≤ length xs → ReadsAtMost r ys → ReadConsumes old new r ys
-    → IfOk r (λ n. (bytes : List ℕ) × (take (f + n) (put_mid f k xs ys) ≡ take f xs ++ bytes) × Consumes old new bytes)
+    → IfOk r (λ n. (bytes : List ℕ) × (take (f + n) (put_mid f k xs ys) ≡ take f xs ++ bytes)
+    × Consumes old new bytes)
 fill_ok (Ok n) old new xs ys f k within most consumes =
     (take n ys, grown xs ys f k n within most.0, consumes.0)
 fill_ok (Err e) old new xs ys f k within most consumes = tt
@@ -46,4 +51,5 @@ pub wrote_write : (u v w : Option (List ℕ)) (bs : List ℕ) (done n after : �
     → Appends v w (take n (take (length bs - done) (drop done bs))) → after ≡ done + n
     → Appends u w (take after bs)
 wrote_write u v w bs done n after x y e =
-    subst (λ (k : ℕ). Appends u w (take k bs)) (sym e) (wrote_more u v w bs done n x (subst (λ (t : List ℕ). Appends v w (take n t)) (between_to_end bs done (length bs) (omega arith)) y))
+    subst (λ (k : ℕ). Appends u w (take k bs)) (sym e) (wrote_more u v w bs done n x
+    (subst (λ (t : List ℕ). Appends v w (take n t)) (between_to_end bs done (length bs) (omega arith)) y))

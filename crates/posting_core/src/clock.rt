@@ -5,7 +5,7 @@ ghost use Rattle.posting_core.specs.Clock.{IsReading};
 use message_records::Moment;
 use std::marker::Model;
 
-/// What tells the moment that a record is submitted at.
+/// What tells the moment that a record is submitted at, in seconds since 1970-01-01T00:00:00Z.
 pub trait Clock {
     /// The readings to come, where they are known.
     ghost readings: { Self → Option (List ℕ) } = { λ _. None };
@@ -16,7 +16,7 @@ pub trait Clock {
 }
 
 /// A clock that tells stored moments, and the moment 0 after the last of them.
-#[derive(Drop)]
+#[derive(Debug, Drop)]
 pub struct StoredClock {
     moments: Vec<Moment>,
     // How many of them were told.
@@ -34,6 +34,7 @@ impl Model for StoredClock {
 
 impl StoredClock {
     /// A clock that tells these moments in order.
+    #[must_use]
     pub fn new(moments: Vec<Moment>) -> Self
         ensures { result ≡ moments.items }
     {

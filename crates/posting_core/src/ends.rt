@@ -15,7 +15,7 @@ pub trait Source {
     /// What each read told so far, where it is known.
     ghost told: { Self → Option (List ReadTold) } = { λ _. None };
 
-    /// One read into the buffer.
+    /// One read into the buffer. It answers how many bytes it gave, and 0 at the end of the input.
     fn give(&mut self, buffer: &mut [u8]) -> io::Result<usize>
         ensures bound { ReadsAtMost result buffer.new }
         ensures bytes { ReadConsumes (remaining self.old) (remaining self.new) result buffer.new }
@@ -30,7 +30,7 @@ pub trait Sink {
     /// What each write and flush told so far, where it is known.
     ghost told: { Self → Option (List WriteTold) } = { λ _. None };
 
-    /// One write of bytes at the front of these.
+    /// One write of bytes at the front of these. It answers how many it took.
     fn take(&mut self, bytes: &[u8]) -> io::Result<usize>
         ensures bound { WritesAtMost result bytes.now }
         ensures bytes { WriteAppends (contents self.old) (contents self.new) result bytes.now }

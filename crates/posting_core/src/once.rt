@@ -10,19 +10,21 @@ use message_records::Moment;
 use posting_rules::{Counter, Fault};
 use std::fmt;
 
-/// Why a record wasn't answered, or not wholly.
+/// Why a record wasn't answered, or not wholly, and what stands after it.
 #[derive(Clone, Copy, Debug, PartialEq, Eq)]
 pub enum OnceFault {
     /// The input ended within the record. Nothing was submitted.
     Short,
     /// The reader failed. Nothing was submitted.
     Read,
-    /// The writer failed, or took no byte. The record was submitted.
+    /// The writer failed, or took no byte. The record was submitted, and a beginning of the reply was
+    /// written.
     Write,
-    /// The counter refused the record.
+    /// The counter refused the record, and its fault says what stands. Nothing was written.
     Bank(Fault),
 }
 
+/// A text of a line. A fault of the counter has its own.
 impl fmt::Display for OnceFault {
     ghost use Rattle.std.specs.Prelude.{Some};
     ghost use Rattle.posting_core.specs.Faults.{once_text};
@@ -50,9 +52,11 @@ pub fn answer_once<R: Source, W: Sink, C: Counter>(
     moment: Moment,
     bank: &mut C,
 ) -> Result<(), OnceFault>
-    ensures ok { OnOk result (IsAnswered (R.remaining reader.old) (R.remaining reader.new) (W.contents writer.old) (W.contents writer.new)
+    ensures ok { OnOk result (IsAnswered (R.remaining reader.old) (R.remaining reader.new)
+        (W.contents writer.old) (W.contents writer.new)
         (C.seen bank.old) (C.seen bank.new) moment) }
-    ensures fault { IfErr result (λ fault. Leaves fault (R.remaining reader.old) (R.remaining reader.new) (W.contents writer.old) (W.contents writer.new)
+    ensures fault { IfErr result (λ fault. Leaves fault (R.remaining reader.old) (R.remaining reader.new)
+        (W.contents writer.old) (W.contents writer.new)
         (C.seen bank.old) (C.seen bank.new) moment) }
     ensures ended { IsErrOf result OnceFault.Short
         → EndsWith IsEndOfInput (R.told reader.old) (R.told reader.new) }

@@ -22,6 +22,7 @@ use posting_rules::{
 };
 use std::alloc::Global;
 
+// A balance of zero.
 fn zero() -> Cents
     ensures { result ≡ pos 0 }
 {
@@ -34,7 +35,8 @@ fn keep(requests: &mut Vec<RequestRow>, request: &Request, outcome: Outcome, bal
     requires few { vec_len requests.old < MAX_DECIDED }
     requires kept { IsTrue (is_kept_with outcome balance) }
     ensures items { requests.new.items ≡ requests.old.items
-        ++ request_row_of (length requests.old.items + 1) (record { moment = 0; request = request.now; outcome = outcome; balance = balance }) ∷ [] }
+        ++ request_row_of (length requests.old.items + 1)
+        (record { moment = 0; request = request.now; outcome = outcome; balance = balance }) ∷ [] }
     ensures len { vec_len requests.new ≡ vec_len requests.old + 1 }
     ensures capacity { vec_capacity requests.old ≤ vec_capacity requests.new }
 {
@@ -64,7 +66,12 @@ fn record_posting(
 )
     requires room { vec_len history.old < vec_capacity history.old }
     ensures items { history.new.items ≡ history.old.items
-        ++ history_row_of ordinal (record { moment = moment; request = request.now; outcome = Outcome.Posted; balance = balance }) ∷ [] }
+        ++ history_row_of ordinal (record {
+          moment = moment;
+          request = request.now;
+          outcome = Outcome.Posted;
+          balance = balance;
+        }) ∷ [] }
     ensures len { vec_len history.new ≡ vec_len history.old + 1 }
     ensures capacity { vec_capacity history.old ≤ vec_capacity history.new }
 {
@@ -113,7 +120,7 @@ fn put_accounts(rows: &mut Vec<AccountRow>, first: u64, count: u64)
 
 /// A bank in memory, which finds its rows by walking. It is never down, and refuses a call only for want of
 /// memory, before it changed anything.
-#[derive(Drop)]
+#[derive(Debug, Drop)]
 pub struct PlainBank {
     alloc: Global,
     branches: Vec<BranchRow>,
@@ -135,6 +142,7 @@ impl PlainBank {
     ghost use Rattle.posting_core.specs.Plain.{plain_tables};
 
     /// A bank with no branch. It takes no memory.
+    #[must_use]
     pub fn new(alloc: Global) -> Self
         ensures { Shows (plain_tables result) [] }
     {
@@ -156,10 +164,7 @@ impl PlainBank {
         let teller = balance_at(&self.tellers, request.teller().get());
         let branch = balance_at(&self.branches, branch_of_teller(request.teller()));
         Found {
-            teller: match (teller, branch) {
-                (Some(teller), Some(branch)) => Some((teller, branch)),
-                _ => None,
-            },
+            teller: teller.zip(branch),
             kept: kept_at(&self.requests, request.teller(), request.number()),
             decided: self.requests.len() as u64,
             account: balance_at(&self.accounts, request.account().get()),
@@ -171,9 +176,12 @@ impl PlainBank {
         requires proper { IsProper (found_in (plain_tables self.old) request.now) verdict.now }
         requires requests { vec_len self.old.requests < vec_capacity self.old.requests }
         requires history { vec_len self.old.history < vec_capacity self.old.history }
-        ensures requests { (vec_len self.new.requests ≤ vec_len self.old.requests + 1) × (vec_capacity self.old.requests ≤ vec_capacity self.new.requests) }
-        ensures history { (vec_len self.new.history ≤ vec_len self.old.history + 1) × (vec_capacity self.old.history ≤ vec_capacity self.new.history) }
-        ensures tables { plain_tables self.new ≡ tables_after (plain_tables self.old) moment request.now verdict.now }
+        ensures requests { (vec_len self.new.requests ≤ vec_len self.old.requests + 1)
+            × (vec_capacity self.old.requests ≤ vec_capacity self.new.requests) }
+        ensures history { (vec_len self.new.history ≤ vec_len self.old.history + 1)
+            × (vec_capacity self.old.history ≤ vec_capacity self.new.history) }
+        ensures tables { plain_tables self.new ≡ tables_after (plain_tables self.old) moment request.now
+            verdict.now }
     {
         match verdict {
             Verdict::Unkept(_) | Verdict::Again(_) => {}
@@ -198,10 +206,14 @@ impl PlainBank {
     fn answer(&mut self, moment: Moment, bytes: &[u8; 100]) -> [u8; 200]
         requires requests { vec_len self.old.requests < vec_capacity self.old.requests }
         requires history { vec_len self.old.history < vec_capacity self.old.history }
-        ensures requests { (vec_len self.new.requests ≤ vec_len self.old.requests + 1) × (vec_capacity self.old.requests ≤ vec_capacity self.new.requests) }
-        ensures history { (vec_len self.new.history ≤ vec_len self.old.history + 1) × (vec_capacity self.old.history ≤ vec_capacity self.new.history) }
-        ensures reply { result ≡ reply_spelling (reply_in_tables (plain_tables self.old) (request_of bytes.now)) }
-        ensures tables { plain_tables self.new ≡ tables_with (plain_tables self.old) moment (request_of bytes.now) }
+        ensures requests { (vec_len self.new.requests ≤ vec_len self.old.requests + 1)
+            × (vec_capacity self.old.requests ≤ vec_capacity self.new.requests) }
+        ensures history { (vec_len self.new.history ≤ vec_len self.old.history + 1)
+            × (vec_capacity self.old.history ≤ vec_capacity self.new.history) }
+        ensures reply { result ≡ reply_spelling
+            (reply_in_tables (plain_tables self.old) (request_of bytes.now)) }
+        ensures tables { plain_tables self.new ≡ tables_with (plain_tables self.old) moment
+            (request_of bytes.now) }
     {
         let Ok(request) = decode_request(bytes) else {
             return encode_reply(&Reply::new(Outcome::Malformed, None, None).unwrap());
@@ -219,7 +231,8 @@ impl PlainBank {
         requires replies { vec_len replies.old + length records.now ≤ vec_capacity replies.old }
         ensures count { length replies.new.items ≡ length replies.old.items + length records.now }
         ensures commands { AreCommands (posts moment records.now) }
-        ensures shows { (log : List Command) → Shows (plain_tables self.old) log → Shows (plain_tables self.new) (behind log (posts moment records.now)) }
+        ensures shows { (log : List Command) → Shows (plain_tables self.old) log
+            → Shows (plain_tables self.new) (behind log (posts moment records.now)) }
         ensures replies { (log : List Command) → Shows (plain_tables self.old) log →
             replies.new.items ≡ replies.old.items ++ replies_to log (posts moment records.now) }
     {
@@ -319,7 +332,8 @@ impl Counter for PlainBank {
     // It takes no memory, and always answers.
     fn balance(&mut self, account: Account) -> Result<Option<Cents>, Fault>
         ensures ok { IsOk result }
-        ensures value { IfOk result (λ balance. (log : List Command) → Shows (plain_tables self.old) log → balance ≡ balance_behind log account) }
+        ensures value { IfOk result (λ balance. (log : List Command) → Shows (plain_tables self.old) log
+            → balance ≡ balance_behind log account) }
         ensures stays { plain_tables self.new ≡ plain_tables self.old }
     {
         Ok(balance_at(&self.accounts, account.get()))

@@ -23,19 +23,21 @@ const BUFFER: usize = RECORD * RECORDS_PER_BATCH;
 /// How many replies were written.
 pub type Count = u128;
 
-/// Why a stream ended before its input did, or within a record.
+/// Why a stream ended before its input did, or within a record, and what stands after it.
 #[derive(Clone, Copy, Debug, PartialEq, Eq)]
 pub enum StreamFault {
     /// The input ended so many bytes, 1..=99, into a record. The records before it were answered.
     Truncated(u8),
     /// The reader failed. The whole records that were read before were answered.
     Read,
-    /// The writer failed, or took no byte. What was read was submitted.
+    /// The writer failed, or took no byte. What was read was submitted, and of the replies a beginning was
+    /// written.
     Write,
-    /// The bank refused a batch, to which nothing was replied.
+    /// The bank refused a batch, to which nothing was replied, and its fault says what stands.
     Bank(Fault),
 }
 
+/// A text of a line. A fault of the bank has its own.
 impl fmt::Display for StreamFault {
     ghost use Rattle.std.specs.Prelude.{Some};
     ghost use Rattle.posting_core.specs.Faults.{stream_text};
@@ -74,8 +76,10 @@ fn answer_batch<W: Sink, K: Clock, C: Counter>(
     requires few { length records.now ≤ RECORDS_PER_BATCH }
     ensures answers { (moment : ℕ) × IsReading (K.readings clock.old) (K.readings clock.new) moment
         × MatchResult result
-        (λ _. IsAnswered (W.contents writer.old) (W.contents writer.new) (C.seen bank.old) (C.seen bank.new) (posts moment records.now))
-        (λ fault. BreaksOff fault (W.contents writer.old) (W.contents writer.new) (C.seen bank.old) (C.seen bank.new) (posts moment records.now)) }
+        (λ _. IsAnswered (W.contents writer.old) (W.contents writer.new) (C.seen bank.old) (C.seen bank.new)
+        (posts moment records.now))
+        (λ fault. BreaksOff fault (W.contents writer.old) (W.contents writer.new) (C.seen bank.old)
+        (C.seen bank.new) (posts moment records.now)) }
     ensures flushed { OnOk result (EndsWith IsFlush (W.told writer.old) (W.told writer.new)) }
     ensures unwritten { IsErrOf result StreamFault.Write
         → HasWriteFailed (W.told writer.old) (W.told writer.new) }
@@ -108,13 +112,17 @@ pub fn post_stream<R: Source, W: Sink, K: Clock, C: Counter>(
     clock: &mut K,
     bank: &mut C,
 ) -> Result<Count, StreamFault>
-    ensures stream { Streamed (R.remaining reader.old) (R.remaining reader.new) (W.contents writer.old) (W.contents writer.new)
+    ensures stream { Streamed (R.remaining reader.old) (R.remaining reader.new) (W.contents writer.old)
+        (W.contents writer.new)
         (K.readings clock.old) (K.readings clock.new) (C.seen bank.old) (C.seen bank.new) result }
-    ensures output { Outputs (R.remaining reader.old) (R.remaining reader.new) (W.contents writer.old) (W.contents writer.new)
+    ensures output { Outputs (R.remaining reader.old) (R.remaining reader.new) (W.contents writer.old)
+        (W.contents writer.new)
         (C.seen bank.old) (C.seen bank.new) result }
-    ensures stop { Survives (R.remaining reader.old) (R.remaining reader.new) (W.contents writer.old) (W.contents writer.new)
+    ensures stop { Survives (R.remaining reader.old) (R.remaining reader.new) (W.contents writer.old)
+        (W.contents writer.new)
         (C.seen bank.old) (C.seen bank.new) }
-    ensures resend { Resends (R.remaining reader.old) (R.remaining reader.new) (C.seen bank.old) (C.seen bank.new) result }
+    ensures resend { Resends (R.remaining reader.old) (R.remaining reader.new) (C.seen bank.old)
+        (C.seen bank.new) result }
     ensures refused { IfErr result (λ fault. IfBank fault
         (IsRefusedBehind C.seen bank.old bank.new (R.remaining reader.old) (R.remaining reader.new))) }
     ensures up { UnlessDown result ((C.seen bank.new).is_down → (C.seen bank.old).is_down) }

@@ -6,25 +6,51 @@ ghost use Rattle.posting_core.specs.Told.{Adds, EndsWith, HasMore, HasReadFailed
 ghost use Rattle.posting_core.specs.Told.{IsEndOfInput, IsFlush, read_told};
 
 use crate::ends::{Sink, Source};
-use std::io;
 use std::io::ErrorKind;
+use std::{fmt, io};
 
-/// The reader failed.
+/// The reader failed. What it gave before is in the buffer.
 #[derive(Clone, Copy, Debug, PartialEq, Eq)]
 pub struct ReadFailed;
 
-/// The writer failed, or took no byte.
+impl fmt::Display for ReadFailed {
+    ghost use Rattle.std.specs.Prelude.{Some, codes};
+
+    ghost output = { λ _. Some (codes "read failed") };
+
+    fn fmt<W: fmt::Write>(&self, f: &mut fmt::Formatter<W>) -> fmt::Result {
+        write!(f, "read failed")
+    }
+}
+
+impl std::error::Error for ReadFailed {}
+
+/// The writer failed, or took no byte. A beginning of what was to be written may have been taken.
 #[derive(Clone, Copy, Debug, PartialEq, Eq)]
 pub struct WriteFailed;
+
+impl fmt::Display for WriteFailed {
+    ghost use Rattle.std.specs.Prelude.{Some, codes};
+
+    ghost output = { λ _. Some (codes "write failed") };
+
+    fn fmt<W: fmt::Write>(&self, f: &mut fmt::Formatter<W>) -> fmt::Result {
+        write!(f, "write failed")
+    }
+}
+
+impl std::error::Error for WriteFailed {}
 
 /// One read into what is left of a buffer.
 pub fn fill<R: Source>(reader: &mut R, buffer: &mut [u8], filled: usize) -> io::Result<usize>
     requires { filled < length buffer.old }
     ensures fits { IfOk result (λ n. filled + n ≤ length buffer.new) }
-    ensures ok { IfOk result (λ n. (bytes : List ℕ) × (take (filled + n) buffer.new ≡ take filled buffer.old ++ bytes)
+    ensures ok { IfOk result (λ n. (bytes : List ℕ)
+        × (take (filled + n) buffer.new ≡ take filled buffer.old ++ bytes)
         × Consumes (R.remaining reader.old) (R.remaining reader.new) bytes) }
     ensures end { IfOk result (λ n. n ≡ 0 → IsAtEnd (R.remaining reader.new)) }
-    ensures err { OnErr result (Keeps (R.remaining reader.old) (R.remaining reader.new) × (take filled buffer.new ≡ take filled buffer.old)) }
+    ensures err { OnErr result (Keeps (R.remaining reader.old) (R.remaining reader.new)
+        × (take filled buffer.new ≡ take filled buffer.old)) }
     ensures tells { Adds (R.told reader.old) (R.told reader.new) (read_told result ∷ []) }
 {
     reader.give(&mut buffer[filled..])
@@ -34,7 +60,8 @@ pub fn fill<R: Source>(reader: &mut R, buffer: &mut [u8], filled: usize) -> io::
 /// read is made again. A reader that was asked 2^64 - 1 times counts as failed.
 pub fn read_full<R: Source>(reader: &mut R, buffer: &mut [u8]) -> Result<usize, ReadFailed>
     ensures within { IfOk result (λ n. n ≤ length buffer.new) }
-    ensures bytes { IfOk result (λ n. Consumes (R.remaining reader.old) (R.remaining reader.new) (take n buffer.new)) }
+    ensures bytes { IfOk result
+        (λ n. Consumes (R.remaining reader.old) (R.remaining reader.new) (take n buffer.new)) }
     ensures end { IfOk result (λ n. n < length buffer.new → IsAtEnd (R.remaining reader.new)) }
     ensures ended { IfOk result (λ n. n < length buffer.new
         → EndsWith IsEndOfInput (R.told reader.old) (R.told reader.new)) }
@@ -57,7 +84,8 @@ pub fn read_full<R: Source>(reader: &mut R, buffer: &mut [u8]) -> Result<usize, 
 
 /// Writes the bytes and flushes, up to a write that fails or takes none. An interrupted write is made again.
 pub fn write_out<W: Sink>(writer: &mut W, bytes: &[u8]) -> Result<(), WriteFailed>
-    ensures written { (n : ℕ) × (n ≤ length bytes.now) × Appends (W.contents writer.old) (W.contents writer.new) (take n bytes.now)
+    ensures written { (n : ℕ) × (n ≤ length bytes.now)
+        × Appends (W.contents writer.old) (W.contents writer.new) (take n bytes.now)
         × OnOk result (n ≡ length bytes.now) }
     ensures flushed { OnOk result (EndsWith IsFlush (W.told writer.old) (W.told writer.new)) }
     ensures failed { OnErr result (HasWriteFailed (W.told writer.old) (W.told writer.new)) }
@@ -71,7 +99,8 @@ pub fn write_out<W: Sink>(writer: &mut W, bytes: &[u8]) -> Result<(), WriteFaile
 
 /// Writes the bytes, up to a write that fails or takes none.
 pub fn write_each<W: Sink>(writer: &mut W, bytes: &[u8]) -> Result<(), WriteFailed>
-    ensures written { (n : ℕ) × (n ≤ length bytes.now) × Appends (W.contents writer.old) (W.contents writer.new) (take n bytes.now)
+    ensures written { (n : ℕ) × (n ≤ length bytes.now)
+        × Appends (W.contents writer.old) (W.contents writer.new) (take n bytes.now)
         × OnOk result (n ≡ length bytes.now) }
     ensures more { OnOk result (HasMore (W.told writer.old) (W.told writer.new)) }
     ensures failed { OnErr result (HasWriteFailed (W.told writer.old) (W.told writer.new)) }

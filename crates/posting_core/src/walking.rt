@@ -18,12 +18,15 @@ pub(crate) trait BalanceRow {
 
     ghost with_balance: { ℤ → Self → Self };
 
+    /// The number.
     fn number(&self) -> u64
         ensures { result ≡ key self.now };
 
+    /// The balance.
     fn balance(&self) -> Cents
         ensures { result ≡ balance_in self.now };
 
+    /// Gives it another balance.
     fn set_balance(&mut self, balance: Cents)
         ensures { self.new ≡ with_balance balance self.old };
 }

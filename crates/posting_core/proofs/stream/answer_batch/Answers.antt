@@ -10,3 +10,6 @@ returns-in-Err-clause-answers g c = search rules
 
 pub returns-clause-answers : goal.returns-clause-answers
 returns-clause-answers g c = grind (arith, common_steps)
+
+pub returns-in-Err-clause-unasked : goal.returns-in-Err-clause-unasked
+returns-in-Err-clause-unasked g c = search rules

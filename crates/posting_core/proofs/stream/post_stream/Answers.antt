@@ -4,8 +4,10 @@ use Rattle.std.proofs.lemmas.Result.{err_from_is_err_and}
 use Rattle.posting_core.specs.declared.stream.TheConstants.{BUFFER}
 use Rattle.posting_core.proofs.Batched.{cut_into, cut_and_moved}
 use Rattle.posting_core.proofs.Output.{output_of, survives_of, resends_of}
-use Rattle.posting_core.proofs.Streaming.{going_first, going_filled, going_on, going_unread, going_batch}
-use Rattle.posting_core.proofs.Streaming.{end_whole, end_in_record, end_unread, end_broken, at_ok, few_left}
+use Rattle.posting_core.proofs.Streaming.{going_first, going_filled, going_on, going_unread}
+use Rattle.posting_core.proofs.StreamedBatches.{going_batch}
+use Rattle.posting_core.proofs.StreamEnds.{end_whole, end_in_record, end_unread, end_broken}
+use Rattle.posting_core.proofs.Streaming.{at_ok, few_left}
 use Rattle.posting_core.proofs.Telling.{made_many, made_none, made_one, other_kind, read_ended, read_failed}
 use Rattle.posting_core.proofs.Refused.{refused_broken, up_broken}
 use Rattle.posting_core.proofs.Through.{ends_broken, through_batch, through_first}
@@ -14,7 +16,16 @@ use Rattle.posting_core.proofs.stream.post_stream.Goals.{then-filled-ge-RECORD+i
 use Rattle.posting_core.proofs.stream.post_stream.Goals.{else-filled-ge-RECORD, in-Ok, in-Err}
 
 pub reads-init : goal.reads-init
-reads-init g c = record { few = omega arith; room = refl; bound = omega arith; going = going_first _ refl; first = λ none. refl; up = λ down. (down, refl); made = made_none _; through = through_first _ }
+reads-init g c = record {
+  few = omega arith;
+  room = refl;
+  bound = omega arith;
+  going = going_first _ refl;
+  first = λ none. refl;
+  up = λ down. (down, refl);
+  made = made_none _;
+  through = through_first _;
+}
 
 -- the reader was asked too often
 pub returns : goal.returns
@@ -37,7 +48,8 @@ returns-in-Err-2 g c =
     let long : length c.fill.new.buffer ≡ BUFFER = omega
     (arith, c.fill.auto.buffer, c.reads.invariant.room) in
     let s =
-    end_unread _ (going_unread c.reads.buffer c.fill.new.buffer c.reads.filled c.reads.filled c.reads.invariant.going c.in-Err.ensures.err refl)
+    end_unread _ (going_unread c.reads.buffer c.fill.new.buffer c.reads.filled c.reads.filled
+    c.reads.invariant.going c.in-Err.ensures.err refl)
     (few_left c.reads.filled c.fill.new.buffer c.reads.invariant.few long) in
     record {
       stream = s;
@@ -61,7 +73,8 @@ returns-in-Ok-eq0 g c =
     let empty : c.reads.filled ≡ 0 = c.if-filled-eq0.true in
     let s =
     end_whole (take c.reads.filled c.fill.new.buffer)
-    (going_filled c.reads.buffer c.fill.new.buffer c.reads.filled c.reads.filled n c.reads.invariant.going (at_ok _ c.fill.result n c.in-Ok-eq0.is c.fill.ensures.ok) (omega arith))
+    (going_filled c.reads.buffer c.fill.new.buffer c.reads.filled c.reads.filled n c.reads.invariant.going
+    (at_ok _ c.fill.result n c.in-Ok-eq0.is c.fill.ensures.ok) (omega arith))
     (at_ok _ c.fill.result n c.in-Ok-eq0.is c.fill.ensures.end none) (rw empty refl) in
     record {
       stream = s;
@@ -70,7 +83,10 @@ returns-in-Ok-eq0 g c =
       resend = resends_of _ s;
       refused = tt;
       up = λ down. (c.reads.invariant.up down).0;
-      ends = (read_ended c.fill.result n c.reads.invariant.made c.fill.ensures.tells c.in-Ok-eq0.is none, c.reads.invariant.through);
+      ends = (
+        read_ended c.fill.result n c.reads.invariant.made c.fill.ensures.tells c.in-Ok-eq0.is none,
+        c.reads.invariant.through,
+      );
     }
 
 pub returns-in-Ok-eq0-2 : goal.returns-in-Ok-eq0-2
@@ -81,7 +97,8 @@ returns-in-Ok-eq0-2 g c =
     (arith, c.reads.invariant.few, c.fill.auto.buffer, c.reads.invariant.room) in
     let s =
     end_in_record (take c.reads.filled c.fill.new.buffer) c.reads.filled
-    (going_filled c.reads.buffer c.fill.new.buffer c.reads.filled c.reads.filled n c.reads.invariant.going (at_ok _ c.fill.result n c.in-Ok-eq0.is c.fill.ensures.ok) (omega arith))
+    (going_filled c.reads.buffer c.fill.new.buffer c.reads.filled c.reads.filled n c.reads.invariant.going
+    (at_ok _ c.fill.result n c.in-Ok-eq0.is c.fill.ensures.ok) (omega arith))
     (at_ok _ c.fill.result n c.in-Ok-eq0.is c.fill.ensures.end none)
     (length-take-le c.reads.filled c.fill.new.buffer within) (omega arith) c.reads.invariant.few in
     record {
@@ -91,7 +108,10 @@ returns-in-Ok-eq0-2 g c =
       resend = resends_of _ s;
       refused = tt;
       up = λ down. (c.reads.invariant.up down).0;
-      ends = (read_ended c.fill.result n c.reads.invariant.made c.fill.ensures.tells c.in-Ok-eq0.is none, c.reads.invariant.through);
+      ends = (
+        read_ended c.fill.result n c.reads.invariant.made c.fill.ensures.tells c.in-Ok-eq0.is none,
+        c.reads.invariant.through,
+      );
     }
 
 -- a batch broke off
@@ -103,24 +123,30 @@ returns-in_err-answer_batch g c =
     let long : length c.fill.new.buffer ≡ BUFFER = omega
     (arith, c.fill.auto.buffer, c.reads.invariant.room) in
     let on =
-    going_on c.reads.buffer c.fill.new.buffer c.reads.filled c.match-fill.filled c.reads.invariant.going c.reads.invariant.few long
+    going_on c.reads.buffer c.fill.new.buffer c.reads.filled c.match-fill.filled c.reads.invariant.going
+    c.reads.invariant.few long
     (elim c.match-fill.branch [
       | in-Ok w ↦ inl (w.in-Ok.n, w.in-Ok.ensures.ok, omega (arith, w.in-Ok.ensures.fits), w.filled-is)
       | in-Err w ↦ inr (w.in-Err.ensures.err, w.filled-is)
     ]) in
     let len : length (take c.match-fill.filled c.fill.new.buffer) ≡ c.match-fill.filled =
     length-take-le c.match-fill.filled c.fill.new.buffer on.1 in
-    let cut = cut_into (take c.match-fill.filled c.fill.new.buffer) c.as_chunks.result.0.now c.as_chunks.result.1.now c.as_chunks.ensures.front c.as_chunks.ensures.back in
+    let cut = cut_into (take c.match-fill.filled c.fill.new.buffer) c.as_chunks.result.0.now
+    c.as_chunks.result.1.now c.as_chunks.ensures.front c.as_chunks.ensures.back in
     let s =
-    end_broken fault a.0 (take c.match-fill.filled c.fill.new.buffer) c.as_chunks.result.1.now c.as_chunks.result.0.now on.0 cut
+    end_broken fault a.0 (take c.match-fill.filled c.fill.new.buffer) c.as_chunks.result.1.now
+    c.as_chunks.result.0.now on.0 cut
     (omega (arith, c.as_chunks.ensures.back_len)) a.1 c.in_err-answer_batch.ensures.honest a.2 in
     rw (told.1, told.2) (record {
       stream = s;
       output = output_of _ s;
       stop = survives_of _ s;
       resend = resends_of _ s;
-      refused = refused_broken g.C.Counter.seen c.args.bank.now c.reads.bank c.answer_batch.new.bank _ _ fault a.0 _ _ c.as_chunks.result.0.now on.0 cut
-          (omega (arith, c.as_chunks.ensures.back_len)) (omega (arith, c.as_chunks.ensures.front_len, len)) (omega (arith, c.as_chunks.ensures.front_len, len)) c.reads.invariant.first c.reads.invariant.up c.in_err-answer_batch.ensures.honest a.2
+      refused = refused_broken g.C.Counter.seen c.args.bank.now c.reads.bank c.answer_batch.new.bank _ _
+          fault a.0 _ _ c.as_chunks.result.0.now on.0 cut
+          (omega (arith, c.as_chunks.ensures.back_len)) (omega (arith, c.as_chunks.ensures.front_len, len))
+          (omega (arith, c.as_chunks.ensures.front_len, len)) c.reads.invariant.first c.reads.invariant.up
+          c.in_err-answer_batch.ensures.honest a.2
           (λ down. let e = c.in_err-answer_batch.ensures.down down in cc e);
       up = up_broken _ _ (g.C.Counter.seen c.args.bank.now) (g.C.Counter.seen c.reads.bank)
           (g.C.Counter.seen c.answer_batch.new.bank) _ fault a.2 c.in_err-answer_batch.ensures.up
@@ -134,7 +160,8 @@ reads-preserved g c =
     let long : length c.fill.new.buffer ≡ BUFFER = omega
     (arith, c.fill.auto.buffer, c.reads.invariant.room) in
     let on =
-    going_on c.reads.buffer c.fill.new.buffer c.reads.filled c.match-fill.filled c.reads.invariant.going c.reads.invariant.few long
+    going_on c.reads.buffer c.fill.new.buffer c.reads.filled c.match-fill.filled c.reads.invariant.going
+    c.reads.invariant.few long
     (elim c.match-fill.branch [
       | in-Ok w ↦ inl (w.in-Ok.n, w.in-Ok.ensures.ok, omega (arith, w.in-Ok.ensures.fits), w.filled-is)
       | in-Err w ↦ inr (w.in-Err.ensures.err, w.filled-is)
@@ -147,7 +174,8 @@ reads-preserved g c =
           let after = w.move_to_front.new.buffer in
           let len : length (take c.match-fill.filled c.fill.new.buffer) ≡ c.match-fill.filled =
           length-take-le c.match-fill.filled c.fill.new.buffer on.1 in
-          let cut = cut_and_moved c.fill.new.buffer after c.match-fill.filled left rs on.1 w.as_chunks.ensures.front w.as_chunks.ensures.back_len w.move_to_front.ensures in
+          let cut = cut_and_moved c.fill.new.buffer after c.match-fill.filled left rs on.1
+          w.as_chunks.ensures.front w.as_chunks.ensures.back_len w.move_to_front.ensures in
           rw (w.writer-is, w.clock-is, w.bank-is, w.buffer-is, w.filled-is, w.count-is) (record {
             few = omega (arith, w.as_chunks.ensures.back_len);
             room = w.move_to_front.array_long;

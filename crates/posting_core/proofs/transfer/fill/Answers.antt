@@ -5,4 +5,5 @@ use Rattle.posting_core.proofs.transfer.fill.Goals as goal
 pub returns-clause-ok : goal.returns-clause-ok
 returns-clause-ok g c =
     let within : c.args.filled ≤ length c.args.buffer.now = omega arith in
-    fill_ok c.give.result _ _ c.args.buffer.now c.give.new.buffer c.args.filled _ within c.give.ensures.bound c.give.ensures.bytes
+    fill_ok c.give.result _ _ c.args.buffer.now c.give.new.buffer c.args.filled _ within c.give.ensures.bound
+    c.give.ensures.bytes

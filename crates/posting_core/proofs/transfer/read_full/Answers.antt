@@ -8,7 +8,8 @@ use Rattle.posting_core.proofs.transfer.read_full.Goals.{in-Ok, in-Err}
 
 pub returns-in-Ok-eq0-clause-ended : goal.returns-in-Ok-eq0-clause-ended
 returns-in-Ok-eq0-clause-ended g c short =
-    read_ended c.fill.result c.in-Ok-eq0.field-0 c.reads.invariant.made c.fill.ensures.tells c.in-Ok-eq0.is c.in-Ok-eq0.field-0-test
+    read_ended c.fill.result c.in-Ok-eq0.field-0 c.reads.invariant.made c.fill.ensures.tells c.in-Ok-eq0.is
+    c.in-Ok-eq0.field-0-test
 
 pub returns-in-Err-2-clause-failed : goal.returns-in-Err-2-clause-failed
 returns-in-Err-2-clause-failed g c =
@@ -36,7 +37,8 @@ reads-preserved g c =
         read =
             let (kept, same) = w.in-Err.ensures.err in
             Consumes-kept before now after new
-            (subst (λ (t : List ℕ). Consumes before now t) (sym (ap (λ (k : ℕ). take k c.fill.new.buffer) w.filled-is ∙ same)) c.reads.invariant.read) kept;
+            (subst (λ (t : List ℕ). Consumes before now t) (sym
+            (ap (λ (k : ℕ). take k c.fill.new.buffer) w.filled-is ∙ same)) c.reads.invariant.read) kept;
         made = made_one _ _ c.reads.invariant.made c.fill.ensures.tells refl;
       }
     ]

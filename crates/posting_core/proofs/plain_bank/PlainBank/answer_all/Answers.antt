@@ -17,13 +17,20 @@ loop-bytes-preserved c =
           (omega (arith, c.get-seconds.ensures.value, c.get-seconds.ensures.most))
           (search rules) c.loop-bytes.invariant.commands;
       shows = λ log s. shows_one_more new log c.args.moment rs i lt
-          (record_from old old new (behind log (posts c.args.moment (take i rs))) c.args.moment (get_or rs i []) c.answer-reply.ensures.tables refl (c.loop-bytes.invariant.shows log s));
+          (record_from old old new (behind log (posts c.args.moment (take i rs))) c.args.moment
+          (get_or rs i []) c.answer-reply.ensures.tables refl (c.loop-bytes.invariant.shows log s));
       replies = λ log s. replies_one_more log c.args.moment rs i _ _ _ _ lt
           (c.loop-bytes.invariant.replies log s)
-          (reply_from old old (behind log (posts c.args.moment (take i rs))) (get_or rs i []) _ c.answer-reply.ensures.reply refl (c.loop-bytes.invariant.shows log s))
+          (reply_from old old (behind log (posts c.args.moment (take i rs))) (get_or rs i []) _
+          c.answer-reply.ensures.reply refl (c.loop-bytes.invariant.shows log s))
           c.put.ensures.items;
       count = omega (arith, c.loop-bytes.invariant.count, c.put.ensures.len);
-      replies_room = omega (arith, c.loop-bytes.invariant.replies_room, c.put.ensures.len, c.put.ensures.capacity);
+      replies_room = omega (
+        arith,
+        c.loop-bytes.invariant.replies_room,
+        c.put.ensures.len,
+        c.put.ensures.capacity,
+      );
       requests_room = omega (arith, c.loop-bytes.invariant.requests_room, c.answer-reply.ensures.requests);
       history_room = omega (arith, c.loop-bytes.invariant.history_room, c.answer-reply.ensures.history);
     }

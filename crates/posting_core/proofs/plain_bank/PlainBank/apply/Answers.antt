@@ -23,7 +23,8 @@ changed_in_range : (number : ℕ) (balance : ℤ) (rows : List BranchRow) → Al
     → All IsInRange (row_changed branch_key (with_branch_balance balance) number rows)
 changed_in_range number balance rows h =
     All-map IsInRange (changed_at branch_key number (with_branch_balance balance)) rows
-    (λ k d lt. still_in_range (eqb (branch_key (get_or rows k d)) number) balance (get_or rows k d) (h k d lt))
+    (λ k d lt. still_in_range (eqb (branch_key (get_or rows k d)) number) balance (get_or rows k d)
+    (h k d lt))
 
 pub invariant_of-self-in-Posted-1-clause-in_range : goal.invariant_of-self-in-Posted-1-clause-in_range
 invariant_of-self-in-Posted-1-clause-in_range c =

@@ -14,6 +14,8 @@ returns-clause-done c =
     ((c.add_branch.ensures.above, c.requires.branch, c.requires.some, c.requires.few), tt) (λ log s.
     opened_from (plain_tables c.args.self.now) _
     (plain_tables c.add_branch.new.self) log c.args.branch c.args.count c.add_branch.ensures.tables
-    (branches_as_before (plain_tables c.args.self.now) _ _ _ c.reserve.ensures.items c.reserve-2.ensures.items c.reserve-3.ensures.items)
-    (ap (λ (rows : List BranchRow). option_map count_of_branch (row_at branch_key rows c.args.branch)) (sym c.deref.ensures.value) ∙ sym c.count_at.ensures ∙ c.in_default.is)
+    (branches_as_before (plain_tables c.args.self.now) _ _ _ c.reserve.ensures.items
+    c.reserve-2.ensures.items c.reserve-3.ensures.items)
+    (ap (λ (rows : List BranchRow). option_map count_of_branch (row_at branch_key rows c.args.branch))
+    (sym c.deref.ensures.value) ∙ sym c.count_at.ensures ∙ c.in_default.is)
     c.add_branch.ensures.above c.requires.few s)

@@ -8,7 +8,8 @@ use Rattle.posting_core.proofs.plain_bank.PlainBankCounter.submit.Goals as goal
 pub returns-clause-reply : goal.returns-clause-reply
 returns-clause-reply c = λ h log s.
     reply_from (plain_tables c.args.self.now) _ log c.args.bytes.now _ c.answer.ensures.reply
-    (requests_as_before (plain_tables c.args.self.now) _ _ refl c.reserve.ensures.items c.reserve-2.ensures.items) (plain_shows c.args.self.now log s)
+    (requests_as_before (plain_tables c.args.self.now) _ _ refl c.reserve.ensures.items
+    c.reserve-2.ensures.items) (plain_shows c.args.self.now log s)
 
 pub returns-clause-done : goal.returns-clause-done
 returns-clause-done c =
@@ -16,4 +17,5 @@ returns-clause-done c =
     ((omega (arith, c.get-seconds.ensures.value, c.get-seconds.ensures.most), search rules), tt) (λ log s.
     record_from (plain_tables c.args.self.now) _
     (plain_tables c.answer.new.self) log c.args.moment c.args.bytes.now c.answer.ensures.tables
-    (requests_as_before (plain_tables c.args.self.now) _ _ refl c.reserve.ensures.items c.reserve-2.ensures.items) s)
+    (requests_as_before (plain_tables c.args.self.now) _ _ refl c.reserve.ensures.items
+    c.reserve-2.ensures.items) s)

@@ -1,4 +1,4 @@
-use Rattle.std.proofs.Common.{refl, subst, sym}
+use Rattle.std.proofs.Common.{refl, subst, sym, rules}
 use Rattle.posting_rules.specs.Tables.{Tables, Shows}
 use Rattle.posting_core.specs.Plain.{plain_tables}
 use Rattle.posting_rules.specs.Runs.{posts}
@@ -7,7 +7,20 @@ use Rattle.posting_core.proofs.plain_bank.PlainBankCounter.submit_all.Goals as g
 
 pub returns-clause-done : goal.returns-clause-done
 returns-clause-done c =
-    let same = requests_as_before (plain_tables c.args.self.now) _ _ refl c.reserve-2.ensures.items c.reserve-3.ensures.items in
+    let same = requests_as_before (plain_tables c.args.self.now) _ _ refl c.reserve-2.ensures.items
+    c.reserve-3.ensures.items in
     takes_plain c.args.self.now c.answer_all.new.self
     (posts c.args.moment c.args.records.now) c.answer_all.ensures.commands
     (λ log s. c.answer_all.ensures.shows log (subst (λ (t : Tables). Shows t log) (sym same) s))
+
+pub returns-in_err-reserve-clause-fault : goal.returns-in_err-reserve-clause-fault
+returns-in_err-reserve-clause-fault c = search rules
+
+pub returns-in_err-reserve-2-clause-fault : goal.returns-in_err-reserve-2-clause-fault
+returns-in_err-reserve-2-clause-fault c = search rules
+
+pub returns-in_err-reserve-3-clause-fault : goal.returns-in_err-reserve-3-clause-fault
+returns-in_err-reserve-3-clause-fault c = search rules
+
+pub returns-clause-replies : goal.returns-clause-replies
+returns-clause-replies c = search rules

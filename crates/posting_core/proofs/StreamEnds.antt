@@ -1,0 +1,173 @@
+-- How a stream ends: where all that was read was taken, and at a batch.
+use Rattle.std.proofs.Common.{◌≡◌, ℕ, ◌<◌, ◌≤◌, List, [], ◌∷◌, ◌++◌, length, take, Option, Result, Ok}
+use Rattle.std.proofs.Common.{Err, refl, sym, ap, subst, ◌∙◌, append-nil, arith}
+use Rattle.std.specs.List.{AllByRecursion}
+use Rattle.std.specs.Io.KnownBytes.{Consumes, IsAtEnd}
+use Rattle.std.proofs.KnownBytes.{Appends-trans, Appends-kept}
+use Rattle.posting_rules.specs.declared.fault.Fault.{Fault}
+use Rattle.posting_rules.specs.declared.fault.Fault.TheVariants.{Memory, Store, Down, Damaged}
+use Rattle.posting_core.specs.declared.stream.StreamFault.{StreamFault}
+use Rattle.posting_core.specs.declared.stream.StreamFault.TheVariants.{Truncated, Read, Write, Bank}
+use Rattle.posting_rules.specs.Commands.{Command}
+use Rattle.posting_rules.specs.Tables.{Shows}
+use Rattle.posting_rules.specs.Counter.{Seen, ShowsLog, StandsAt, Refuses, IsUnchanged}
+use Rattle.posting_rules.specs.Runs.{behind, posts, replies_to}
+use Rattle.posting_core.specs.Clock.{IsReading, AreReadings}
+use Rattle.posting_core.specs.Batches.{Batch, IsRecord, joined, moments_of, records_of, posts_of, BreaksOff}
+use Rattle.posting_core.specs.Stream.{Ends, IsWritten, IfUp, UnlessDown, Streamed}
+use Rattle.posting_rules.proofs.Remaining.{leaves_still}
+use Rattle.posting_core.proofs.Stops.{refused_stop, stop_all, stop_part, written_part}
+use Rattle.posting_core.proofs.Batched.{posts_of_one_more, replies_of_one_more}
+use Rattle.posting_core.proofs.Streaming.{Going}
+use Rattle.posting_core.proofs.StreamedBatches.{takes_batch, read_batch, whole_batch, clock_batch}
+
+-- ---- ends where all that was read was taken
+
+-- whatever the result says of what was written, it says it here
+pub record FitsAll (result : Result ℕ StreamFault) : Type 1 where
+  pub written : (t s : List ℕ) → t ≡ s → IsWritten result t s
+  pub up : (P : Type 0) → P → UnlessDown result P
+
+end_of : {r r' w w' k k' : Option (List ℕ)} {c c' : Seen} {rest : List ℕ} {count : ℕ}
+    (result : Result ℕ StreamFault) (g : Going r r' w w' k k' c c' rest count)
+    → FitsAll result → length rest < 100 → Ends result r' g.batches [] rest
+    → Streamed r r' w w' k k' c c' result
+end_of {r = r} {r' = r'} {k = k} {k' = k'} {c' = c'} {rest = rest} result g fits few ends =
+    let none : g.batches ++ [] ≡ g.batches = append-nil g.batches in
+    record {
+      taken = g.batches;
+      refused = [];
+      rest = rest;
+      read = subst (λ (bs : List Batch). Consumes r r' (joined (records_of bs) ++ rest)) (sym none) g.read;
+      whole = subst (λ (bs : List Batch). AllByRecursion IsRecord (records_of bs)) (sym none) g.whole;
+      few = few;
+      clock = subst (λ (bs : List Batch). AreReadings k k' (moments_of bs)) (sym none) g.clock;
+      written = g.written;
+      wrote = g.wrote;
+      ends = ends;
+      honest = g.honest;
+      replies = λ h log s. fits.written g.written (joined (replies_to log (posts_of g.batches)))
+          (g.replies h log s);
+      shows = λ h log s. fits.up (ShowsLog c' (behind log (posts_of g.batches))) (g.takes.shows h log s);
+      stands = λ h log s. fits.up (StandsAt c' (behind log (posts_of g.batches))) (g.takes.stands h log s);
+      stop = λ h log s. stop_all c' log (posts_of (g.batches ++ [])) (posts_of g.batches) (ap posts_of none)
+          (g.takes.stands h log s);
+    }
+
+-- the input ended with a record
+pub end_whole : {r r' w w' k k' : Option (List ℕ)} {c c' : Seen} {count : ℕ} (rest : List ℕ)
+    → Going r r' w w' k k' c c' rest count → IsAtEnd r' → rest ≡ []
+    → Streamed r r' w w' k k' c c' (Ok count)
+end_whole {count = count} rest g ended none =
+    let len = ap length none in
+    end_of (Ok count) g (record { written = λ t s e. e; up = λ P p. p }) (omega arith)
+    (record { ended = ended; no_rest = none; all_taken = refl; count_is = g.count_is })
+
+-- it ended within one
+pub end_in_record : {r r' w w' k k' : Option (List ℕ)} {c c' : Seen} {count : ℕ} (rest : List ℕ) (n : ℕ)
+    → Going r r' w w' k k' c c' rest count → IsAtEnd r'
+    → length rest ≡ n → 1 ≤ n → n < 100 → Streamed r r' w w' k k' c c' (Err (Truncated n))
+end_in_record rest n g ended is some few =
+    end_of (Err (Truncated n)) g (record { written = λ t s e. e; up = λ P p. p }) (omega (arith, is))
+    (record { ended = ended; some = some; rest_is = is; all_taken = refl })
+
+-- the reader failed
+pub end_unread : {r r' w w' k k' : Option (List ℕ)} {c c' : Seen} {count : ℕ} (rest : List ℕ)
+    → Going r r' w w' k k' c c' rest count → length rest < 100
+    → Streamed r r' w w' k k' c c' (Err Read)
+end_unread rest g few = end_of (Err Read) g (record { written = λ t s e. e; up = λ P p. p }) few refl
+
+-- ---- ends at a batch
+
+-- an unchanged bank shows what it showed
+unchanged_shows : (c c' : Seen) (log : List Command) → IsUnchanged c c' → ShowsLog c log → ShowsLog c' log
+unchanged_shows c c' log u s = record {
+  commands = s.commands;
+  tables = s.tables;
+  are = u.tables s.tables s.are;
+  shows = s.shows;
+}
+
+refused_shows : (fault : Fault) (c c' : Seen) (log cs : List Command) → Refuses fault c c' cs → ShowsLog c log
+    → IfUp fault (ShowsLog c' log)
+refused_shows Memory c c' log cs u s = unchanged_shows c c' log u s
+refused_shows Store c c' log cs u s = tt
+refused_shows Down c c' log cs u s = tt
+refused_shows (Damaged rule) c c' log cs u s = tt
+
+refused_stands : (fault : Fault) (c c' : Seen) (log cs : List Command) → Refuses fault c c' cs
+    → StandsAt c log → IfUp fault (StandsAt c' log)
+refused_stands Memory c c' log cs u s = record {
+  shows = unchanged_shows c c' log u s.shows;
+  up = λ d. s.up (u.down d);
+  stop = leaves_still c c' (λ t. Shows t log) u.left s.stop;
+}
+refused_stands Store c c' log cs u s = tt
+refused_stands Down c c' log cs u s = tt
+refused_stands (Damaged rule) c c' log cs u s = tt
+
+-- a batch broke off
+pub end_broken : (fault : StreamFault) {r r' w w' w'' k k' k'' : Option (List ℕ)} {c c' c'' : Seen}
+    {count : ℕ} (m : ℕ) (all rest : List ℕ) (rs : List (List ℕ))
+    → Going r r' w w' k k' c c' all count → (all ≡ joined rs ++ rest) × AllByRecursion IsRecord rs
+    → length rest < 100
+    → IsReading k' k'' m → (c''.honest → c'.honest) → BreaksOff fault w' w'' c' c'' (posts m rs)
+    → Streamed r r' w w'' k k'' c c'' (Err fault)
+end_broken Write {r = r} {r' = r'} {w = w} {w' = w'} {w'' = w''} {k = k} {k' = k'} {k'' = k''} {c = c}
+    {c' = c'} {c'' = c''} m all rest rs g cut few reading honest a =
+    let b : Batch = record { moment = m; records = rs } in
+    let bs = g.batches ++ b ∷ [] in
+    let none : (g.batches ++ b ∷ []) ++ [] ≡ g.batches ++ b ∷ [] = append-nil (g.batches ++ b ∷ []) in
+    let takes = takes_batch c c' c'' g.batches b honest g.takes a.takes in
+    record {
+      taken = bs;
+      refused = [];
+      rest = rest;
+      read = subst (λ (x : List Batch). Consumes r r' (joined (records_of x) ++ rest)) (sym none)
+          (read_batch r r' g.batches b all rest g.read cut.0);
+      whole = subst (λ (x : List Batch). AllByRecursion IsRecord (records_of x)) (sym none)
+          (whole_batch g.batches b g.whole cut.1);
+      few = few;
+      clock = subst (λ (x : List Batch). AreReadings k k'' (moments_of x)) (sym none)
+          (clock_batch k k' k'' g.batches b g.clock reading);
+      written = g.written ++ a.written;
+      wrote = Appends-trans w w' w'' g.written a.written g.wrote a.wrote;
+      ends = refl;
+      honest = λ h. g.honest (honest h);
+      replies = λ h log s.
+          written_part g.written a.written _ _ (g.replies (honest h) log s)
+          (a.replies h (behind log (posts_of g.batches)) (g.takes.shows (honest h) log s))
+          ∙ ap (λ (x : List ℕ). take (length (g.written ++ a.written)) x)
+          (sym (replies_of_one_more log g.batches b));
+      shows = λ h log s. takes.shows h log s;
+      stands = λ h log s. takes.stands h log s;
+      stop = λ h log s. stop_all c'' log (posts_of (bs ++ [])) (posts_of bs) (ap posts_of none)
+          (takes.stands h log s);
+    }
+end_broken (Bank fault) {r = r} {r' = r'} {w = w} {w' = w'} {w'' = w''} {k = k} {k' = k'} {k'' = k''} {c = c}
+    {c' = c'} {c'' = c''} m all rest rs g cut few reading honest a =
+    let b : Batch = record { moment = m; records = rs } in
+    record {
+      taken = g.batches;
+      refused = b ∷ [];
+      rest = rest;
+      read = read_batch r r' g.batches b all rest g.read cut.0;
+      whole = whole_batch g.batches b g.whole cut.1;
+      few = few;
+      clock = clock_batch k k' k'' g.batches b g.clock reading;
+      written = g.written;
+      wrote = Appends-kept w w' w'' g.written g.wrote a.wrote;
+      ends = refl;
+      honest = λ h. g.honest (honest h);
+      replies = λ h log s. g.replies (honest h) log s;
+      shows = λ h log s. refused_shows fault c' c'' (behind log (posts_of g.batches)) (posts m rs) a.refuses
+          (g.takes.shows (honest h) log s);
+      stands = λ h log s. refused_stands fault c' c'' (behind log (posts_of g.batches)) (posts m rs) a.refuses
+          (g.takes.stands (honest h) log s);
+      stop = λ h log s. stop_part c'' log (posts_of g.batches) (posts m rs) (posts_of (g.batches ++ b ∷ []))
+          (posts_of_one_more g.batches b)
+          (refused_stop fault c' c'' (behind log (posts_of g.batches)) (posts m rs) a.refuses h
+          (g.takes.stands (honest h) log s));
+    }
+end_broken Read m all rest rs g cut few reading honest a = absurd a
+end_broken (Truncated n) m all rest rs g cut few reading honest a = absurd a

@@ -1,0 +1,95 @@
+-- A stream goes on by a batch.
+use Rattle.std.proofs.Common.{◌≡◌, ℕ, ◌+◌, List, [], ◌∷◌, ◌++◌, length, Option, sym, ap, subst, ◌∙◌}
+use Rattle.std.specs.List.{AllByRecursion}
+use Rattle.std.specs.Io.KnownBytes.{Consumes}
+use Rattle.std.proofs.KnownBytes.{Appends-trans}
+use Rattle.std.proofs.lemmas.List.{length-append, map-append}
+use Rattle.posting_rules.specs.Commands.{Command}
+use Rattle.posting_rules.specs.Counter.{Seen, ShowsLog, StandsAt, Takes}
+use Rattle.posting_rules.specs.Runs.{behind, posts, replies_to}
+use Rattle.posting_core.specs.Clock.{after_one, IsNext, IsReading, AreReadings}
+use Rattle.posting_core.specs.Batches.{Batch, IsRecord, joined, moment_of, moments_of, records_of, posts_in}
+use Rattle.posting_core.specs.Batches.{posts_of, IsAnswered}
+use Rattle.posting_rules.proofs.Sequence.{behind-append}
+use Rattle.posting_core.proofs.Batched.{joined_one_more, records_one_more, posts_of_one_more}
+use Rattle.posting_core.proofs.Batched.{replies_of_one_more}
+use Rattle.posting_core.proofs.Streaming.{Going}
+
+all_more : {A : Type 0} (P : A → Type 0) (xs ys : List A) → AllByRecursion P xs → AllByRecursion P ys
+    → AllByRecursion P (xs ++ ys)
+all_more P [] ys a b = b
+all_more P (x ∷ xs) ys a b = (a.0, all_more P xs ys a.1 b)
+
+readings_more : (k k' k'' : Option (List ℕ)) (ms : List ℕ) (m : ℕ) → AreReadings k k' ms → IsReading k' k'' m
+    → AreReadings k k'' (ms ++ m ∷ [])
+readings_more k k' k'' [] m e r = (subst (λ (o : Option (List ℕ)). IsNext o m) e r.0, r.1 ∙ ap after_one e)
+readings_more k k' k'' (x ∷ ms) m e r = (e.0, readings_more (after_one k) k' k'' ms m e.1 r)
+
+-- commands that were taken, and then others
+takes_more : (c c' c'' : Seen) (cs ds : List Command) → (c''.honest → c'.honest) → Takes c c' cs
+    → Takes c' c'' ds → Takes c c'' (cs ++ ds)
+takes_more c c' c'' cs ds honest a b =
+    let same : (log : List Command) → behind (behind log cs) ds ≡ behind log (cs ++ ds) = λ log. sym
+    (behind-append log cs ds) in
+    record {
+      shows = λ h log s. subst (λ (l : List Command). ShowsLog c'' l) (same log)
+          (b.shows h (behind log cs) (a.shows (honest h) log s));
+      stands = λ h log s. subst (λ (l : List Command). StandsAt c'' l) (same log)
+          (b.stands h (behind log cs) (a.stands (honest h) log s));
+    }
+
+pub takes_batch : (c c' c'' : Seen) (bs : List Batch) (b : Batch) → (c''.honest → c'.honest)
+    → Takes c c' (posts_of bs) → Takes c' c'' (posts_in b)
+    → Takes c c'' (posts_of (bs ++ b ∷ []))
+takes_batch c c' c'' bs b honest x y =
+    subst (λ (t : List Command). Takes c c'' t) (sym (posts_of_one_more bs b))
+    (takes_more c c' c'' (posts_of bs) (posts_in b) honest x y)
+
+pub read_batch : (r r' : Option (List ℕ)) (bs : List Batch) (b : Batch) (all rest : List ℕ)
+    → Consumes r r' (joined (records_of bs) ++ all)
+    → all ≡ joined b.records ++ rest → Consumes r r' (joined (records_of (bs ++ b ∷ [])) ++ rest)
+read_batch r r' bs b all rest got e =
+    subst (λ (t : List ℕ). Consumes r r' t)
+    (ap (λ (t : List ℕ). joined (records_of bs) ++ t) e ∙ sym (joined_one_more bs b rest)) got
+
+pub whole_batch : (bs : List Batch) (b : Batch) → AllByRecursion IsRecord (records_of bs)
+    → AllByRecursion IsRecord b.records
+    → AllByRecursion IsRecord (records_of (bs ++ b ∷ []))
+whole_batch bs b x y =
+    subst (λ (t : List (List ℕ)). AllByRecursion IsRecord t) (sym (records_one_more bs b))
+    (all_more IsRecord (records_of bs) b.records x y)
+
+pub clock_batch : (k k' k'' : Option (List ℕ)) (bs : List Batch) (b : Batch)
+    → AreReadings k k' (moments_of bs) → IsReading k' k'' b.moment
+    → AreReadings k k'' (moments_of (bs ++ b ∷ []))
+clock_batch k k' k'' bs b x y =
+    subst (λ (t : List ℕ). AreReadings k k'' t) (sym (map-append moment_of bs (b ∷ [])))
+    (readings_more k k' k'' (moments_of bs) b.moment x y)
+
+-- a batch was answered
+pub going_batch : {r r' w w' w'' k k' k'' : Option (List ℕ)} {c c' c'' : Seen} {count : ℕ} (m : ℕ)
+    (all rest : List ℕ) (count' : ℕ) (rs : List (List ℕ))
+    → Going r r' w w' k k' c c' all count → (all ≡ joined rs ++ rest) × AllByRecursion IsRecord rs
+    → count' ≡ count + length rs
+    → IsReading k' k'' m → (c''.honest → c'.honest) → IsAnswered w' w'' c' c'' (posts m rs)
+    → Going r r' w w'' k k'' c c'' rest count'
+going_batch {r = r} {r' = r'} {w = w} {w' = w'} {w'' = w''} {k = k} {k' = k'} {k'' = k''} {c = c} {c' = c'}
+    {c'' = c''} m all rest count' rs g cut n reading honest a =
+    let b : Batch = record { moment = m; records = rs } in
+    let bs = g.batches in
+    record {
+      batches = bs ++ b ∷ [];
+      written = g.written ++ a.written;
+      read = read_batch r r' bs b all rest g.read cut.0;
+      whole = whole_batch bs b g.whole cut.1;
+      clock = clock_batch k k' k'' bs b g.clock reading;
+      wrote = Appends-trans w w' w'' g.written a.written g.wrote a.wrote;
+      count_is = n ∙ ap (λ (j : ℕ). j + length rs) g.count_is ∙ sym
+          (ap length (records_one_more bs b) ∙ length-append (records_of bs) rs);
+      honest = λ h. g.honest (honest h);
+      takes = takes_batch c c' c'' bs b honest g.takes a.takes;
+      replies = λ h log s. ap (λ (t : List ℕ). t ++ a.written) (g.replies (honest h) log s)
+          ∙ ap (λ (t : List ℕ). joined (replies_to log (posts_of bs)) ++ t)
+          (a.replies h (behind log (posts_of bs)) (g.takes.shows (honest h) log s))
+          ∙ sym (replies_of_one_more log bs b);
+    }
