@@ -14,6 +14,7 @@ pub mod EntryLists
 pub mod Expressions
 pub mod Failures
 pub mod Growing
+pub mod Keyed
 pub mod KeyedAnswers
 pub mod ListedTexts
 pub mod MakeFailures

@@ -1,5 +1,5 @@
 -- The CHECK of `meta`.
-use Rattle.std.proofs.Common.{◌≡◌, ◌⊎◌, inl, inr, ℤ, pos, Bool, true, false, List, [], ◌∷◌, map, Ordering, Less, Equal, Greater, int_cmp, refl, sym, subst, arith}
+use Rattle.std.proofs.Common.{◌≡◌, ◌⊎◌, inl, inr, ℤ, pos, true, false, List, [], ◌∷◌, map, Ordering, Less, Equal, Greater, int_cmp, refl, sym, subst, arith}
 use Rattle.std.specs.Ordering.{int_eq}
 use Rattle.std.proofs.lemmas.Bool.{cases_Bool}
 use Rattle.std.proofs.lemmas.Int.{ints}
@@ -9,7 +9,7 @@ use Rattle.sqlite_rules.specs.Lists.{Has}
 use Rattle.sqlite_rules.proofs.RuleLemmas.{keeps_at}
 use Rattle.sqlite_schema.specs.declared.schema.Constraint.TheVariants.{Check}
 use Rattle.sql_meanings.specs.Entries.{Entry, numbers, stored}
-use Rattle.sql_meanings.specs.Tables.{Holds, placed_at, tree_of}
+use Rattle.sql_meanings.specs.Tables.{placed_at, tree_of}
 use Rattle.sql_meanings.proofs.Steps.{standing}
 use Rattle.store_rows.specs.View.{HoldsRows}
 use Rattle.sqlite.specs.Order.{Row}

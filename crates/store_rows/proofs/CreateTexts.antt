@@ -17,37 +17,33 @@ pub sequence : (t : Table) × IsMakeable sequence_text t
 unfolding everything listing_tests
 sequence = (_, makeable sequence_text _ refl refl refl refl refl refl refl refl)
 
-meta_creates : CreatesOnly MAKE_META.now six.meta
+-- what stands in meta, and each balance
+of_numbers : CreatesOnly MAKE_META.now six.meta × CreatesOnly MAKE_BRANCH.now six.branch
+    × CreatesOnly MAKE_TELLER.now six.teller × CreatesOnly MAKE_ACCOUNT.now six.account
 unfolding everything listing_tests
-meta_creates = creates_by MAKE_META.now six.meta (makeable MAKE_META.now six.meta refl refl refl refl refl refl refl refl) refl _ _ _
-    refl refl refl refl refl refl refl (lit≤ tt) refl
+of_numbers = (
+  creates_by _ _ (makeable MAKE_META.now six.meta refl refl refl refl refl refl refl refl) refl _ _ _
+      refl refl refl refl refl refl refl (lit≤ tt) refl,
+  creates_by _ _ (makeable MAKE_BRANCH.now six.branch refl refl refl refl refl refl refl refl) refl _ _ _
+      refl refl refl refl refl refl refl (lit≤ tt) refl,
+  creates_by _ _ (makeable MAKE_TELLER.now six.teller refl refl refl refl refl refl refl refl) refl _ _ _
+      refl refl refl refl refl refl refl (lit≤ tt) refl,
+  creates_by _ _ (makeable MAKE_ACCOUNT.now six.account refl refl refl refl refl refl refl refl) refl _ _ _
+      refl refl refl refl refl refl refl (lit≤ tt) refl,
+)
 
-branch_creates : CreatesOnly MAKE_BRANCH.now six.branch
+-- what was asked
+of_records : CreatesOnly MAKE_HISTORY.now six.history × CreatesOnly MAKE_REQUEST.now six.request
 unfolding everything listing_tests
-branch_creates = creates_by MAKE_BRANCH.now six.branch (makeable MAKE_BRANCH.now six.branch refl refl refl refl refl refl refl refl) refl _ _ _
-    refl refl refl refl refl refl refl (lit≤ tt) refl
-
-teller_creates : CreatesOnly MAKE_TELLER.now six.teller
-unfolding everything listing_tests
-teller_creates = creates_by MAKE_TELLER.now six.teller (makeable MAKE_TELLER.now six.teller refl refl refl refl refl refl refl refl) refl _ _ _
-    refl refl refl refl refl refl refl (lit≤ tt) refl
-
-account_creates : CreatesOnly MAKE_ACCOUNT.now six.account
-unfolding everything listing_tests
-account_creates = creates_by MAKE_ACCOUNT.now six.account (makeable MAKE_ACCOUNT.now six.account refl refl refl refl refl refl refl refl) refl _ _ _
-    refl refl refl refl refl refl refl (lit≤ tt) refl
-
-history_creates : CreatesOnly MAKE_HISTORY.now six.history
-unfolding everything listing_tests
-history_creates = creates_by MAKE_HISTORY.now six.history (makeable MAKE_HISTORY.now six.history refl refl refl refl refl refl refl refl) refl _ _ _
-    refl refl refl refl refl refl refl (lit≤ tt) refl
-
-request_creates : CreatesOnly MAKE_REQUEST.now six.request
-unfolding everything listing_tests
-request_creates = creates_by MAKE_REQUEST.now six.request (makeable MAKE_REQUEST.now six.request refl refl refl refl refl refl refl refl) refl _ _ _
-    refl refl refl refl refl refl refl (lit≤ tt) refl
+of_records = (
+  creates_by _ _ (makeable MAKE_HISTORY.now six.history refl refl refl refl refl refl refl refl) refl _ _ _
+      refl refl refl refl refl refl refl (lit≤ tt) refl,
+  creates_by _ _ (makeable MAKE_REQUEST.now six.request refl refl refl refl refl refl refl refl) refl _ _ _
+      refl refl refl refl refl refl refl (lit≤ tt) refl,
+)
 
 -- each text makes its table, which counts no rows
 pub each_creates : AllByRecursion (λ it. CreatesOnly it.0 it.1 × (it.1.is_counted ≡ false)) six_texts
 each_creates =
-    ((meta_creates, refl), ((branch_creates, refl), ((teller_creates, refl), ((account_creates, refl), ((history_creates, refl), ((request_creates, refl), tt))))))
+    let n = of_numbers in let r = of_records in
+    ((n.0, refl), ((n.1, refl), ((n.2, refl), ((n.3, refl), ((r.0, refl), ((r.1, refl), tt))))))

@@ -278,9 +278,3 @@ module _ (old mid new : State) (e : Error) where
     undone_since (begun old) mid new true shows store.3,
   )
   fails_committed shows more (inr ended) = absurd (let live = shows.mode in let off = ended.1 in cc)
-
--- whichever way, nothing was committed
-pub creation_leaves : (old new : State) (e : Error) → CreatesBank old new (Err e) → KeepsCommit old new
-creation_leaves old new e (inl store) = kept old new (inr store.3)
-creation_leaves old new e (inr refused) =
-    record { was_open = λ live. refused.1.0.was_open; committed = λ live. refused.1.0.committed_is }

@@ -28,9 +28,9 @@ use Rattle.store_rows.specs.View.{HoldsRows, Shows, contents, meta_entry}
 use Rattle.store_rows.specs.declared.metas.TheConstants.{META_ID}
 use Rattle.store_rows.specs.declared.texts.TheConstants.{GET_META, SET_META}
 use Rattle.store_rows.proofs.Failing.{forbidden, key_fits}
-use Rattle.store_rows.proofs.Getting.{reads_meta}
+use Rattle.store_rows.proofs.Getting.{gets}
 use Rattle.store_rows.proofs.Lookups.{one_written as one_met}
-use Rattle.store_rows.proofs.Setting.{set_second, sets_meta}
+use Rattle.store_rows.proofs.Setting.{set_second, sets}
 
 -- it is a table of a key and numbers
 pub numbered : IsOfNumbers six.meta
@@ -76,7 +76,7 @@ tells_meta old new rows has r h =
     subst (λ o. TellsRow old new o r)
     (shown_is (pos META_ID) (find (has_key (pos META_ID)) rows)
     (λ e found. found_all (λ x. length x.values ≡ 2) (has_key (pos META_ID)) rows e has.holds.rows.wide found))
-    (reads_key old new six.meta refl has.sound rows has.holds GET_META.now project (pos META_ID) (reads_meta (pos META_ID)) r h)
+    (reads_key old new six.meta refl has.sound rows has.holds GET_META.now project (pos META_ID) (gets.meta.reads (pos META_ID)) r h)
 
 -- ---- what is written
 
@@ -93,7 +93,7 @@ module _ (old new : State) (t : Tables) (shows : Shows old.now t) (n : ℕ) wher
   unfolding with_decided
   set count h =
       let done = sets_row old new six.meta numbered shows.sound _ (holds_one old.now t shows) SET_META.now (pos META_ID) _ (set_second (pos n))
-      (sets_meta (pos n)) count h.0 in (
+      (sets.meta (pos n)) count h.0 in (
         one_met count true done.1,
         record { sound = ∣ done.0.sound ∣₁; each = meta_written old new (contents t) shows.each (meta_entry t.decided ∷ []) _ refl done.0 },
         (h.1, done.0.marks),
@@ -108,7 +108,7 @@ module _ (old new : State) (t : Tables) (shows : Shows old.now t) (n : ℕ) wher
       set_fails_as old new six.meta _ e (IsForbidden old.now.schema six.meta (with_decided n t))
       (forbidden old.now.schema (with_decided n t) six.meta (meta_entry n ∷ []) (λ db s. holds_one db (with_decided n t) s))
       (refuses_update old new six.meta numbered shows.sound _ (holds_one old.now t shows) SET_META.now (pos META_ID) _ (set_second (pos n))
-      (sets_meta (pos n)) (key_fits META_ID (lit≤ tt)) e h)
+      (sets.meta (pos n)) (key_fits META_ID (lit≤ tt)) e h)
 
   -- either
   pub tells_decided : (answer : Result Bool Error) → MeetsOne SET_META.now (Int (pos META_ID) ∷ Int (pos n) ∷ []) old new answer

@@ -18,10 +18,9 @@ use Rattle.sqlite_typing.specs.Types.{accepts_program}
 use Rattle.posting_rules.specs.Tables.{Tables, branch_key}
 use Rattle.sql_meanings.specs.Entries.{is_above, stored}
 use Rattle.sql_meanings.specs.Outcomes.{OnlyShows, TellsRow}
-use Rattle.sql_meanings.specs.Plain.{key_column}
 use Rattle.sql_meanings.specs.Queries.{ascending, next_above, key_above}
 use Rattle.sql_meanings.specs.Tables.{placed_at}
-use Rattle.sql_meanings.proofs.ByKey.{Tests, key_at}
+use Rattle.sql_meanings.proofs.ByKey.{key_at}
 use Rattle.sql_meanings.proofs.Means.{Means, means}
 use Rattle.sql_meanings.proofs.ReadRows.{reads_next}
 use Rattle.sql_meanings.proofs.ReadTables.{ReadsAs}
@@ -34,12 +33,9 @@ use Rattle.store_rows.specs.SixTables.{branch}
 use Rattle.store_rows.specs.declared.texts.TheConstants.{NEXT_BRANCH}
 use Rattle.store_rows.specs.View.{Shows, branch_entry}
 use Rattle.store_rows.proofs.BankTables.{holds}
+use Rattle.store_rows.proofs.Getting.{keys}
 use Rattle.store_rows.proofs.TheTables.{branches}
 use Rattle.store_rows.proofs.RowLists.{is_row_above, shown_by, shown_itself}
-
-by_id : (tree : ℕ) → Tests (placed_at branch tree) (codes "bid") 0
-unfolding everything
-by_id tree = record { place = 0; column = key_column (codes "bid"); named = refl; there = refl; is_at = refl; by_bytes = refl }
 
 abbrev outputs : ℕ → List Output
 outputs tree = outputs_at (placed_at branch tree) (0 ∷ 1 ∷ 2 ∷ [])
@@ -59,9 +55,9 @@ module _ (schema : Schema) (p tree : ℕ) (has : HasTable schema (codes "branch"
   typed = rw (has.low, has.found)
 
   meant : Means schema NEXT_BRANCH.now 1 (Select (record { lets = []; body = next_above tree project }) (codes "bid" ∷ codes "accounts" ∷ codes "balance" ∷ []))
-  unfolding everything is_next by_id
+  unfolding everything is_next keys
   meant =
-      means schema NEXT_BRANCH.now 1 _ _ (select_rising schema (codes "branch") p (placed_at branch tree) has Beyond NEXT_BRANCH.now is_next.P is_next.s is_next.core is_next.source is_next.shown _ _ _ _ _ _ (codes "bid") _ _ 0 1 (by_id tree) (outputs tree) _
+      means schema NEXT_BRANCH.now 1 _ _ (select_rising schema (codes "branch") p (placed_at branch tree) has Beyond NEXT_BRANCH.now is_next.P is_next.s is_next.core is_next.source is_next.shown _ _ _ _ _ _ (codes "bid") _ _ 0 1 (keys.branch tree) (outputs tree) _
       refl refl refl refl refl refl refl refl refl refl refl refl refl refl (shows_named (placed_at branch tree) is_next.shown (outputs tree) (is_next.shows tree))
       (refl, (refl, (refl, tt)))
       (key_at schema (codes "branch") p (outputs tree) false) refl refl refl refl refl

@@ -1,23 +1,21 @@
 -- What each look-up of a row looks up.
-use Rattle.std.proofs.Common.{◌≡◌, ℕ, ℤ, pos, List, [], ◌∷◌, find, length, slice_get, Some, Option, option_map, refl, subst}
-use Rattle.sqlite.specs.Order.{Row}
+use Rattle.std.proofs.Common.{◌≡◌, ℕ, ℤ, pos, List, [], ◌∷◌, find, slice_get, Some, option_map, refl}
 use Rattle.sqlite.specs.Term.{Term, col, eval_all}
 use Rattle.sqlite.specs.declared.types.Value.TheVariants.{Int}
-use Rattle.posting_rules.specs.Tables.{Tables, branch_key, row_at}
+use Rattle.posting_rules.specs.Tables.{branch_key, row_at}
 use Rattle.sql_meanings.specs.Entries.{Entry, has_two, is_above, stored}
-use Rattle.sql_meanings.specs.Outcomes.{TellsRow}
-use Rattle.sql_meanings.specs.Queries.{by_key}
 use Rattle.sql_meanings.specs.Tables.{width_of}
-use Rattle.sql_meanings.proofs.ReadTables.{ReadsAs}
-use Rattle.sql_meanings.proofs.Texts.{IsSelect, only_reads}
+use Rattle.sql_meanings.proofs.Keyed.{Gets}
+use Rattle.sql_meanings.proofs.Texts.{only_reads}
 use Rattle.store_rows.specs.Columns.{account_balance_in, account_balance_of, balance_shown, branch_above, branch_shown}
-use Rattle.store_rows.specs.Columns.{request_in, request_shown, teller_balance_in, teller_balance_of}
+use Rattle.store_rows.specs.Columns.{request_in, teller_balance_in, teller_balance_of}
+use Rattle.store_rows.specs.Forms.{balance_form, branch_form, request_form}
 use Rattle.store_rows.specs.Rules.{StoredRows, row_under, six_lists}
-use Rattle.store_rows.specs.Stored.{balance_stored, branch_stored, request_stored}
+use Rattle.store_rows.specs.Stored.{balance_stored, branch_stored}
 use Rattle.store_rows.specs.declared.texts.TheConstants.{GET_ACCOUNT, GET_BRANCH, GET_REQUEST, GET_TELLER, NEXT_BRANCH}
 use Rattle.store_rows.proofs.BankTables.{Kind, table_of, tells_row, tells_whole}
 use Rattle.store_rows.proofs.GetRequest as request
-use Rattle.store_rows.proofs.Getting.{is_get_account, is_get_branch, is_get_teller, reads_account, reads_branch, reads_teller}
+use Rattle.store_rows.proofs.Getting.{gets}
 use Rattle.store_rows.proofs.NextBranch as next
 use Rattle.store_rows.proofs.StoredRows.{branch_project, one_number, stored_next, stored_request, stored_under, two_numbers}
 use Rattle.store_rows.proofs.Telling.{Seeks}
@@ -33,41 +31,40 @@ seeks_balance : {R : Type 0} (kind : Kind R) (value : R → ℤ)
     → ((k : ℕ) (r : R) → eval_all balance_project ((Int (pos k) ∷ []) ∷ stored (kind.entry r) ∷ []) ≡ balance_shown (value r))
     → width_of (table_of kind) ≡ 1 → (rows_of : StoredRows → List Entry)
     → ((rows : StoredRows) → slice_get (six_lists rows) kind.place ≡ Some (rows_of rows))
-    → (text : List ℕ) → IsSelect (table_of kind) text 1 (1 ∷ [])
-    → ((k : ℤ) → ReadsAs (table_of kind) text (Int k ∷ []) (λ tree. by_key tree balance_project))
-    → (k : ℕ) → Seeks text (Int (pos k) ∷ []) 1 balance_shown (λ t. option_map value (row_at kind.key (kind.rows t) k))
-    balance_stored (λ rows. row_under (rows_of rows) k)
-seeks_balance kind value same wide rows_of there text is reads k = record {
-  only = only_reads is;
-  told = λ old new t shows. tells_row kind old new t shows text balance_project k (reads (pos k)) balance_shown value (same k);
-  kept = stored_under kind.place (table_of kind) kind.numbered.free kind.listed rows_of there text balance_project k (reads (pos k)) balance_stored
+    → (text : List ℕ) → Gets (table_of kind) text (1 ∷ []) balance_project
+    → (k : ℕ) → Seeks text (Int (pos k) ∷ []) 1 balance_form (λ t. option_map value (row_at kind.key (kind.rows t) k))
+    (λ rows. row_under (rows_of rows) k)
+seeks_balance kind value same wide rows_of there text get k = record {
+  only = only_reads get.is;
+  told = λ old new t shows. tells_row kind old new t shows text balance_project k (get.reads (pos k)) balance_shown value (same k);
+  kept = stored_under kind.place (table_of kind) kind.numbered.free kind.listed rows_of there text balance_project k (get.reads (pos k)) balance_stored
       (λ e w. one_number (pos k) e.key e.values (rw wide at w));
 }
 
 -- of an account
-pub seeks_account : (k : ℕ) → Seeks GET_ACCOUNT.now (Int (pos k) ∷ []) 1 balance_shown (λ t. account_balance_in t k) balance_stored
+pub seeks_account : (k : ℕ) → Seeks GET_ACCOUNT.now (Int (pos k) ∷ []) 1 balance_form (λ t. account_balance_in t k)
     (λ rows. row_under rows.accounts k)
-seeks_account = seeks_balance accounts account_balance_of (λ _ _. refl) refl (λ rows. rows.accounts) (λ _. refl) _ is_get_account reads_account
+seeks_account = seeks_balance accounts account_balance_of (λ _ _. refl) refl (λ rows. rows.accounts) (λ _. refl) _ gets.account
 
 -- of a teller
-pub seeks_teller : (k : ℕ) → Seeks GET_TELLER.now (Int (pos k) ∷ []) 1 balance_shown (λ t. teller_balance_in t k) balance_stored
+pub seeks_teller : (k : ℕ) → Seeks GET_TELLER.now (Int (pos k) ∷ []) 1 balance_form (λ t. teller_balance_in t k)
     (λ rows. row_under rows.tellers k)
-seeks_teller = seeks_balance tellers teller_balance_of (λ _ _. refl) refl (λ rows. rows.tellers) (λ _. refl) _ is_get_teller reads_teller
+seeks_teller = seeks_balance tellers teller_balance_of (λ _ _. refl) refl (λ rows. rows.tellers) (λ _. refl) _ gets.teller
 
 -- ---- whole rows
 
 -- the branch under a number
-pub seeks_branch : (k : ℕ) → Seeks GET_BRANCH.now (Int (pos k) ∷ []) 1 branch_shown (λ t. row_at branch_key t.branches k) branch_stored
+pub seeks_branch : (k : ℕ) → Seeks GET_BRANCH.now (Int (pos k) ∷ []) 1 branch_form (λ t. row_at branch_key t.branches k)
     (λ rows. row_under rows.branches k)
 seeks_branch k = record {
-  only = only_reads is_get_branch;
-  told = λ old new t shows. tells_whole branches old new t shows _ _ k (reads_branch (pos k)) branch_shown (λ _. refl);
-  kept = stored_under 1 (table_of branches) refl refl (λ rows. rows.branches) (λ _. refl) _ branch_project k (reads_branch (pos k)) branch_stored
+  only = only_reads gets.branch.is;
+  told = λ old new t shows. tells_whole branches old new t shows _ _ k (gets.branch.reads (pos k)) branch_shown (λ _. refl);
+  kept = stored_under 1 (table_of branches) refl refl (λ rows. rows.branches) (λ _. refl) _ branch_project k (gets.branch.reads (pos k)) branch_stored
       (λ e wide. two_numbers (pos k) e.key e.values wide);
 }
 
 -- the branch with the least number above one
-pub seeks_next : (k : ℕ) → Seeks NEXT_BRANCH.now (Int (pos k) ∷ []) 1 branch_shown (λ t. branch_above t k) branch_stored
+pub seeks_next : (k : ℕ) → Seeks NEXT_BRANCH.now (Int (pos k) ∷ []) 1 branch_form (λ t. branch_above t k)
     (λ rows. find (is_above (pos k)) rows.branches)
 seeks_next k = record {
   only = next.only;
@@ -76,7 +73,7 @@ seeks_next k = record {
 }
 
 -- the request of a teller under its number
-pub seeks_request : (a b : ℕ) → Seeks GET_REQUEST.now (Int (pos a) ∷ Int (pos b) ∷ []) 2 request_shown (λ t. request_in t a b) request_stored
+pub seeks_request : (a b : ℕ) → Seeks GET_REQUEST.now (Int (pos a) ∷ Int (pos b) ∷ []) 2 request_form (λ t. request_in t a b)
     (λ rows. find (has_two (pos a) (pos b)) rows.requests)
 seeks_request a b = record {
   only = request.only;

@@ -1,17 +1,16 @@
 -- What each UPDATE under a key changes.
-use Rattle.std.proofs.Common.{◌≡◌, ℤ, pos, false, List, [], ◌∷◌, codes, length, lit≤, refl, arith}
+use Rattle.std.proofs.Common.{◌≡◌, ℤ, pos, List, [], ◌∷◌, length, lit≤, refl, arith}
 use Rattle.sqlite.specs.Term.{Term, col, lit, eval_all}
 use Rattle.sqlite.specs.declared.types.Value.TheVariants.{Null, Int}
 use Rattle.sqlite_tied.specs.Compute.{everything}
 use Rattle.sqlite_resolve.specs.Program as program
 use Rattle.sql_meanings.specs.Entries.{Entry, numbers, stored}
-use Rattle.sql_meanings.proofs.ByKey.{key_at, update_by_key}
-use Rattle.sql_meanings.proofs.Means.{means}
+use Rattle.sql_meanings.proofs.Keyed.{sets_by}
 use Rattle.sql_meanings.proofs.SetRows.{ChangesAs}
 use Rattle.store_rows.specs.SixTables as six
 use Rattle.store_rows.specs.declared.texts.TheConstants.{SET_META, SET_BRANCH, SET_TELLER, SET_ACCOUNT}
 use Rattle.store_rows.proofs.Checked.{meta_checked}
-use Rattle.store_rows.proofs.Getting.{key_of_account, key_of_branch, key_of_meta, key_of_teller}
+use Rattle.store_rows.proofs.Getting.{keys}
 
 -- ---- the one number behind the key
 
@@ -48,58 +47,26 @@ second_wide v [] wide = wide
 second_wide v (a ∷ []) wide = wide
 second_wide v (a ∷ b ∷ more) wide = wide
 
-pub sets_account : (k v : ℤ) → ChangesAs six.account SET_ACCOUNT.now k (Int v ∷ []) (set_first v)
-unfolding everything program.program
-sets_account k v = record {
-  project = first_set;
-  means = λ schema p tree has. means schema SET_ACCOUNT.now 2 _ _ (update_by_key schema (codes "account") p _ has SET_ACCOUNT.now _ _ _ _ _ _ _ _ _ _ _ _
-      (key_of_account tree) _ refl refl refl refl refl refl refl refl refl (key_at schema (codes "account") p [] false)
-      (rw (has.low, has.found))) refl (lit≤ tt) refl refl refl;
-  projects = λ e wide. refl;
-  keeps_key = λ e. refl;
-  keeps_width = λ e wide. refl;
-  accepts = λ schema p tree has. rw (has.low, has.found);
-  passes = λ e wide key. refl;
-}
+pub record SetsNumbers : Type 0 where
+  pub meta : (v : ℤ) → ChangesAs six.meta SET_META.now (pos 1) (Int v ∷ []) (set_second v)
+  pub branch : (k v : ℤ) → ChangesAs six.branch SET_BRANCH.now k (Int v ∷ []) (set_second v)
+  pub teller : (k v : ℤ) → ChangesAs six.teller SET_TELLER.now k (Int v ∷ []) (set_first v)
+  pub account : (k v : ℤ) → ChangesAs six.account SET_ACCOUNT.now k (Int v ∷ []) (set_first v)
 
-pub sets_teller : (k v : ℤ) → ChangesAs six.teller SET_TELLER.now k (Int v ∷ []) (set_first v)
+pub sets : SetsNumbers
 unfolding everything program.program
-sets_teller k v = record {
-  project = first_set;
-  means = λ schema p tree has. means schema SET_TELLER.now 2 _ _ (update_by_key schema (codes "teller") p _ has SET_TELLER.now _ _ _ _ _ _ _ _ _ _ _ _
-      (key_of_teller tree) _ refl refl refl refl refl refl refl refl refl (key_at schema (codes "teller") p [] false)
-      (rw (has.low, has.found))) refl (lit≤ tt) refl refl refl;
-  projects = λ e wide. refl;
-  keeps_key = λ e. refl;
-  keeps_width = λ e wide. refl;
-  accepts = λ schema p tree has. rw (has.low, has.found);
-  passes = λ e wide key. refl;
-}
-
-pub sets_branch : (k v : ℤ) → ChangesAs six.branch SET_BRANCH.now k (Int v ∷ []) (set_second v)
-unfolding everything program.program
-sets_branch k v = record {
-  project = second_set;
-  means = λ schema p tree has. means schema SET_BRANCH.now 2 _ _ (update_by_key schema (codes "branch") p _ has SET_BRANCH.now _ _ _ _ _ _ _ _ _ _ _ _
-      (key_of_branch tree) _ refl refl refl refl refl refl refl refl refl (key_at schema (codes "branch") p [] false)
-      (rw (has.low, has.found))) refl (lit≤ tt) refl refl refl;
-  projects = λ e wide. second_shown k v e.key e.values wide;
-  keeps_key = λ e. refl;
-  keeps_width = λ e wide. second_wide v e.values wide;
-  accepts = λ schema p tree has. rw (has.low, has.found);
-  passes = λ e wide key. refl;
-}
-
-pub sets_meta : (v : ℤ) → ChangesAs six.meta SET_META.now (pos 1) (Int v ∷ []) (set_second v)
-unfolding everything program.program
-sets_meta v = record {
-  project = second_set;
-  means = λ schema p tree has. means schema SET_META.now 2 _ _ (update_by_key schema (codes "meta") p _ has SET_META.now _ _ _ _ _ _ _ _ _ _ _ _
-      (key_of_meta tree) _ refl refl refl refl refl refl refl refl refl (key_at schema (codes "meta") p [] false)
-      (rw (has.low, has.found))) refl (lit≤ tt) refl refl refl;
-  projects = λ e wide. second_shown (pos 1) v e.key e.values wide;
-  keeps_key = λ e. refl;
-  keeps_width = λ e wide. second_wide v e.values wide;
-  accepts = λ schema p tree has. rw (has.low, has.found);
-  passes = λ e wide key. meta_checked e.key (Null ∷ numbers (second_as v e.values)) key;
+sets = record {
+  meta = λ v. sets_by six.meta SET_META.now set_second second_set (pos 1) v _ _ _ _ _ _ _ _ keys.meta refl refl refl (lit≤ tt) refl refl refl refl refl
+      (λ _. refl) (λ _. refl) (λ _ _ _ has. rw (has.low, has.found)) (λ _ _ _ has. rw (has.low, has.found))
+      (λ e. second_shown (pos 1) v e.key e.values) (λ _. refl) (λ e. second_wide v e.values)
+      (λ e _. meta_checked e.key (Null ∷ numbers (second_as v e.values)));
+  branch = λ k v. sets_by six.branch SET_BRANCH.now set_second second_set k v _ _ _ _ _ _ _ _ keys.branch refl refl refl (lit≤ tt) refl refl refl refl refl
+      (λ _. refl) (λ _. refl) (λ _ _ _ has. rw (has.low, has.found)) (λ _ _ _ has. rw (has.low, has.found))
+      (λ e. second_shown k v e.key e.values) (λ _. refl) (λ e. second_wide v e.values) (λ _ _ _. refl);
+  teller = λ k v. sets_by six.teller SET_TELLER.now set_first first_set k v _ _ _ _ _ _ _ _ keys.teller refl refl refl (lit≤ tt) refl refl refl refl refl
+      (λ _. refl) (λ _. refl) (λ _ _ _ has. rw (has.low, has.found)) (λ _ _ _ has. rw (has.low, has.found))
+      (λ _ _. refl) (λ _. refl) (λ _ _. refl) (λ _ _ _. refl);
+  account = λ k v. sets_by six.account SET_ACCOUNT.now set_first first_set k v _ _ _ _ _ _ _ _ keys.account refl refl refl (lit≤ tt) refl refl refl refl refl
+      (λ _. refl) (λ _. refl) (λ _ _ _ has. rw (has.low, has.found)) (λ _ _ _ has. rw (has.low, has.found))
+      (λ _ _. refl) (λ _. refl) (λ _ _. refl) (λ _ _ _. refl);
 }

@@ -1,11 +1,9 @@
 -- Trees show one bank at most, and who opens on them finds it.
-use mathlib.Core.HLevel.{Σ_prop_path}
 use Rattle.std.proofs.Common.{◌≡◌, ℕ, ℤ, pos, nat_abs, List, [], ◌∷◌, map, refl, sym, ap, subst, ◌∙◌}
 use Rattle.std.specs.Prelude.{slice_index_or}
 use Rattle.sqlite.specs.Order.{Row}
 use Rattle.sqlite.specs.declared.types.Value.{Value}
 use Rattle.sqlite.specs.declared.types.Value.TheVariants.{Null, Int, Real, Text, Blob}
-use Rattle.sqlite.specs.Schema.{Schema}
 use Rattle.sqlite.specs.Table.{Table}
 use Rattle.sqlite.specs.Tree.{Trees}
 use Rattle.sqlite.specs.Effect.{Database, IsDatabase}
@@ -18,22 +16,17 @@ use Rattle.posting_rules.specs.declared.rows.RequestRow.{RequestRow}
 use Rattle.sql_meanings.specs.Entries.{Entry, stored}
 use Rattle.sql_meanings.specs.Tables.{Holds}
 use Rattle.sql_meanings.specs.Contents.{HoldsEach}
-use Rattle.sql_meanings.proofs.Contents.{HoldsEach-prop}
 use Rattle.sql_meanings.proofs.Trees.{same_schema}
 use Rattle.store_rows.specs.SixTables.{bank_tables}
 use Rattle.store_rows.specs.View.{Shows, ShowsTrees, contents, branch_entry, teller_entry, account_entry, history_entry, request_entry}
 use Rattle.store_rows.proofs.KeptRows.{decode, decoded}
 
--- what can be told back is told once
+-- what can be told back is told once, and so are lists of it
 module _ {X Y : Type 0} (f : X → Y) (back : Y → X) (same : (x : X) → back (f x) ≡ x) where
-  told_once : (x y : X) → f x ≡ f y → x ≡ y
-  told_once x y e = sym (same x) ∙ ap back e ∙ same y
-
   all_back : (xs : List X) → map back (map f xs) ≡ xs
   all_back [] = refl
   all_back (x ∷ xs) = ap (λ y. y ∷ map back (map f xs)) (same x) ∙ ap (λ l. x ∷ l) (all_back xs)
 
-  -- so are lists
   lists_once : (xs ys : List X) → map f xs ≡ map f ys → xs ≡ ys
   lists_once xs ys e = sym (all_back xs) ∙ ap (map back) e ∙ all_back ys
 
@@ -157,13 +150,3 @@ pub one_bank : (trees : Trees) (a b : Tables) → ShowsTrees trees a → ShowsTr
 one_bank trees a b p q =
     let db : Database = record { schema = p.0; trees = trees } in
     one_database db a b p.1 (moved db b p.1.sound q)
-
--- the view is a proposition
-pub Shows-prop : (db : Database) (t : Tables) → IsProp (Shows db t)
-Shows-prop db t = let each = HoldsEach-prop db bank_tables (contents t) in hlevel each
-
--- so is what trees show
-pub ShowsTrees-prop : (trees : Trees) (t : Tables) → IsProp (ShowsTrees trees t)
-ShowsTrees-prop trees t p q =
-    let db : Database = record { schema = q.0; trees = trees } in
-    Σ_prop_path (λ (s : Schema). Shows-prop (record { schema = s; trees = trees }) t) (same_schema db p.0 q.1.sound p.1.sound)

@@ -1,5 +1,5 @@
 -- What a call tells of the tables, by the statement that was run.
-use Rattle.std.proofs.Common.{◌≡◌, ℕ, List, Option, option_map, Result}
+use Rattle.std.proofs.Common.{ℕ, List, Option, option_map, Result}
 use Rattle.sqlite.specs.Listing.{understood}
 use Rattle.sqlite.specs.Order.{Row}
 use Rattle.sqlite.specs.Schema.{Schema}
@@ -8,12 +8,12 @@ use Rattle.sqlite.specs.declared.error.Error.{Error}
 use Rattle.sqlite.specs.declared.transaction.Transaction.{Transaction}
 use Rattle.sqlite_trees.specs.declared.store.Store.{Ghosts}
 use Rattle.posting_rules.specs.Tables.{Tables}
-use Rattle.posting_rules.specs.declared.fault.Rule.{Rule}
 use Rattle.sql_meanings.specs.Calls.{Inside, Says}
 use Rattle.sql_meanings.specs.Entries.{Entry}
 use Rattle.sql_meanings.specs.Outcomes.{OnlyShows, TellsRow}
 use Rattle.store_rows.specs.Calls.{LooksUp, OfTables}
 use Rattle.store_rows.specs.Failures.{Asks, ReadsAnswer}
+use Rattle.store_rows.specs.Forms.{Form}
 use Rattle.store_rows.specs.Outcomes.{ReadsRow}
 use Rattle.store_rows.specs.Rules.{HoldsBank, StoredRows}
 use Rattle.store_rows.specs.Stored.{ReadsStored}
@@ -24,29 +24,32 @@ use Rattle.store_rows.proofs.Reasons.{looks}
 use Rattle.store_rows.proofs.StoredReads.{stores}
 
 -- with these values the text looks up what is wanted of the tables that are shown, and this of the rows that are held
-pub record Seeks {X : Type 0} (text : List ℕ) (params : Row) (count : ℕ) (shown : X → Row) (wanted : Tables → Option X)
-    (held : Entry → Row) (stored : StoredRows → Option Entry) : Type 1 where
+pub record Seeks {X : Type 0} (text : List ℕ) (params : Row) (count : ℕ) (form : Form X) (wanted : Tables → Option X)
+    (stored : StoredRows → Option Entry) : Type 1 where
   pub only : (schema : Schema) → OnlyShows text count (understood schema text)
   pub told : (old new : State) (t : Tables) → Shows old.now t → (r : Result Row Error) → QueriesRowInside text params old new r
-      → TellsRow old new (option_map shown (wanted t)) r
+      → TellsRow old new (option_map form.shown (wanted t)) r
   pub kept : (old new : State) (rows : StoredRows) → HoldsBank old.now rows → (r : Result Row Error)
-      → QueriesRowInside text params old new r → TellsRow old new (option_map held (stored rows)) r
+      → QueriesRowInside text params old new r → TellsRow old new (option_map form.held (stored rows)) r
 
 module _ {S : Type 0} (g : Ghosts S) (old new : Transaction S) where
   -- a look-up tells what its text looks up
-  pub looks_up : {X : Type 0} {text : List ℕ} {params : Row} {count : ℕ} {shown : X → Row} {wanted : Tables → Option X} {held : Entry → Row}
-      {stored : StoredRows → Option Entry} → Seeks text params count shown wanted held stored
-      → (Breaks : X → Rule → Type 0) (Is : X → Entry → Type 0) (Keeps : Rule → Entry → Type 0) (answer : Result Row Error) (result : Result (Option X) TableFault)
-      → ReadsAnswer (ReadsRow shown Breaks) answer result → ReadsAnswer (ReadsStored held Is Keeps) answer result
+  pub looks_up : {X : Type 0} {text : List ℕ} {params : Row} {count : ℕ} {form : Form X} {wanted : Tables → Option X}
+      {stored : StoredRows → Option Entry} → Seeks text params count form wanted stored
+      → (answer : Result Row Error) (result : Result (Option X) TableFault)
+      → ReadsAnswer (ReadsRow form.shown form.Breaks) answer result
+      → ReadsAnswer (ReadsStored form.held form.Is form.Keeps) answer result
       → Says g old new (λ old new. QueriesRowInside text params old new answer)
       (λ old new. OnlyShows text count (understood old.now.schema text) → Asks old new answer)
-      → LooksUp g old new wanted Breaks stored Is Keeps result
-  looks_up {shown = shown} {wanted = wanted} {held = held} {stored = stored} seeks Breaks Is Keeps answer result read read_stored says = record {
+      → LooksUp g old new form wanted stored result
+  looks_up {form = form} {wanted = wanted} {stored = stored} seeks answer result read read_stored says = record {
     same_reference = says.same_reference;
-    told = λ clean t shows. finds _ _ shown Breaks (wanted t) answer result read (seeks.told _ _ t shows answer (says.told clean));
+    told = λ clean t shows.
+        finds _ _ form.shown form.Breaks (wanted t) answer result read (seeks.told _ _ t shows answer (says.told clean));
     kept = λ clean. (
-      looks _ _ (ReadsRow shown Breaks) answer result read (says.kept clean (seeks.only _)),
-      λ rows has. stores _ _ held Is Keeps (stored rows) answer result read_stored (seeks.kept _ _ rows has answer (says.told clean)),
+      looks _ _ (ReadsRow form.shown form.Breaks) answer result read (says.kept clean (seeks.only _)),
+      λ rows has. stores _ _ form.held form.Is form.Keeps (stored rows) answer result read_stored
+          (seeks.kept _ _ rows has answer (says.told clean)),
     );
     survives = says.survives;
   }

@@ -7,7 +7,6 @@ use Rattle.posting_rules.specs.Changes.{row_changed, row_put, with_account, with
 use Rattle.posting_rules.specs.Changes.{with_history, with_request, with_teller, with_teller_balance}
 use Rattle.posting_rules.specs.Tables.{Tables, row_at}
 use Rattle.sql_meanings.specs.Entries.{Entry}
-use Rattle.sql_meanings.proofs.PutRows.{PutsAs}
 use Rattle.sql_meanings.proofs.SetRows.{ChangesAs}
 use Rattle.store_rows.specs.Outcomes.{Adds, Writes}
 use Rattle.store_rows.specs.Statements.{MeetsOne, PutsIn}
@@ -16,8 +15,8 @@ use Rattle.store_rows.specs.declared.faults.TableFault.{TableFault}
 use Rattle.store_rows.specs.declared.statements.TheConstants.{MAX_KEY}
 use Rattle.store_rows.specs.declared.texts.TheConstants as text
 use Rattle.store_rows.proofs.BankTables.{Kind, table_of, tells_added, tells_write}
-use Rattle.store_rows.proofs.Puts.{given, puts_account, puts_branch, puts_history, puts_request, puts_teller}
-use Rattle.store_rows.proofs.Setting.{set_first, set_second, sets_account, sets_branch, sets_teller}
+use Rattle.store_rows.proofs.Puts.{Puts, given, puts as each}
+use Rattle.store_rows.proofs.Setting.{set_first, set_second, sets as numbers}
 use Rattle.store_rows.proofs.TheTables.{accounts, branches, history, requests, tellers}
 
 -- the text writes a balance so
@@ -42,7 +41,7 @@ module _ {R : Type 0} (kind : Kind R) (text : List ℕ) where
   sets change change_entry changes same k low z before after t shows answer h =
       tells_write kind before after t shows text k (Int z ∷ []) (change z) (change_entry z) (changes (pos k) z) (same z) low answer h
 
-  puts : ((r : R) → PutsAs (table_of kind) text (given (kind.entry r)) (kind.entry r))
+  puts : ((r : R) → Puts (table_of kind) text (kind.entry r))
       → PutsEach kind text (λ r t. kind.having (row_put kind.key r (kind.rows t)) t)
   puts given_so r low before after t shows answer h =
       rw h.2 (tells_added kind before after t shows text (given (kind.entry r)) r (given_so r) low h.0 h.1)
@@ -56,9 +55,9 @@ pub record SetsBalances : Type 1 where
 pub balances_set : SetsBalances
 unfolding with_branch_balance with_teller_balance with_account_balance
 balances_set = record {
-  branch = sets branches text.SET_BRANCH.now (λ z r. record r { balance = z }) set_second sets_branch (λ _ _. refl);
-  teller = sets tellers text.SET_TELLER.now (λ z r. record r { balance = z }) set_first sets_teller (λ _ _. refl);
-  account = sets accounts text.SET_ACCOUNT.now (λ z r. record r { balance = z }) set_first sets_account (λ _ _. refl);
+  branch = sets branches text.SET_BRANCH.now (λ z r. record r { balance = z }) set_second numbers.branch (λ _ _. refl);
+  teller = sets tellers text.SET_TELLER.now (λ z r. record r { balance = z }) set_first numbers.teller (λ _ _. refl);
+  account = sets accounts text.SET_ACCOUNT.now (λ z r. record r { balance = z }) set_first numbers.account (λ _ _. refl);
 }
 
 -- each text puts its row in
@@ -72,9 +71,9 @@ pub record PutsRows : Type 1 where
 pub rows_put : PutsRows
 unfolding with_branch with_teller with_account with_history with_request
 rows_put = record {
-  branch = puts branches text.ADD_BRANCH.now puts_branch;
-  teller = puts tellers text.ADD_TELLER.now puts_teller;
-  account = puts accounts text.ADD_ACCOUNT.now puts_account;
-  posting = puts history text.ADD_HISTORY.now puts_history;
-  request = puts requests text.ADD_REQUEST.now puts_request;
+  branch = puts branches text.ADD_BRANCH.now each.branch;
+  teller = puts tellers text.ADD_TELLER.now each.teller;
+  account = puts accounts text.ADD_ACCOUNT.now each.account;
+  posting = puts history text.ADD_HISTORY.now each.posting;
+  request = puts requests text.ADD_REQUEST.now each.request;
 }

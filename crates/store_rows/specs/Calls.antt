@@ -7,11 +7,11 @@ use Rattle.sqlite.specs.declared.error.Error.{Error}
 use Rattle.sqlite.specs.declared.transaction.Transaction.{Transaction}
 use Rattle.sqlite_trees.specs.declared.store.Store.{Ghosts}
 use Rattle.posting_rules.specs.Tables.{Tables}
-use Rattle.posting_rules.specs.declared.fault.Rule.{Rule}
 use Rattle.sql_meanings.specs.Calls.{Inside, Says}
 use Rattle.sql_meanings.specs.Outcomes.{TellsProbe, TellsUnderstood}
 use Rattle.sql_meanings.specs.Entries.{Entry}
 use Rattle.store_rows.specs.Failures.{Changes, Looks, Puts}
+use Rattle.store_rows.specs.Forms.{Form}
 use Rattle.store_rows.specs.Outcomes.{Adds, Finds, Writes}
 use Rattle.store_rows.specs.Rules.{OfRows, StoredRows}
 use Rattle.store_rows.specs.SixTables.{meta}
@@ -28,11 +28,11 @@ abbrev pub OfMeta : (State → State → List Entry → Type 0) → State → St
 OfMeta Told old new = (rows : List Entry) → HoldsRows old.now meta rows → Told old new rows
 
 -- A look-up finds what is wanted of the tables that are shown; whatever rows are held, it tells the one that it looks for.
-abbrev pub LooksUp : {S X : Type 0} → Ghosts S → Transaction S → Transaction S → (Tables → Option X) → (X → Rule → Type 0)
-    → (StoredRows → Option Entry) → (X → Entry → Type 0) → (Rule → Entry → Type 0) → Result (Option X) TableFault → Type 0
-LooksUp g old new wanted Breaks stored Is Keeps result =
-    Says g old new (OfTables (λ old new tables. Finds old new (wanted tables) Breaks result))
-    (λ old new. Looks old new result × OfRows (λ rows. FindsStored (stored rows) Is Keeps result) old.now)
+abbrev pub LooksUp : {S X : Type 0} → Ghosts S → Transaction S → Transaction S → Form X → (Tables → Option X)
+    → (StoredRows → Option Entry) → Result (Option X) TableFault → Type 0
+LooksUp g old new form wanted stored result =
+    Says g old new (OfTables (λ old new tables. Finds old new (wanted tables) form.Breaks result))
+    (λ old new. Looks old new result × OfRows (λ rows. FindsStored (stored rows) form.Is form.Keeps result) old.now)
 
 -- By this text a number of a row of the table is written, where the row is there, and the tables are these after it.
 abbrev pub SetsNumber : {S : Type 0} → Ghosts S → Transaction S → Transaction S → Table → List ℕ → (Tables → Bool)

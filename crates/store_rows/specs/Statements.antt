@@ -1,13 +1,17 @@
 -- What a statement of one table was run as.
-use Rattle.std.specs.Prelude.{◌≡◌, ◌⊎◌, ℕ, pos, List, [], ◌∷◌, nat_eq, slice_get, Bool, Some, Result, Ok, Err, ⊤}
+use Rattle.std.specs.Prelude.{◌≡◌, ◌⊎◌, ℕ, ℤ, pos, List, [], ◌∷◌, nat_eq, slice_get, Bool, Some, Result, Ok, Err, ⊤}
 use Rattle.sqlite.specs.Effect.{Database, Reads, ReadsFirst}
 use Rattle.sqlite.specs.Listing.{IsSourceOf, reads_listing, understood}
 use Rattle.sqlite.specs.Order.{Row}
 use Rattle.sqlite.specs.State.{State, ExecutesInside}
 use Rattle.sqlite.specs.declared.error.Error.{Error}
+use Rattle.sqlite.specs.declared.transaction.Transaction.{Transaction}
 use Rattle.sqlite.specs.declared.types.Value.TheVariants.{Int}
+use Rattle.sqlite_trees.specs.declared.store.Store.{Ghosts}
 use Rattle.sqlite_resolve.specs.declared.compiled.Compiled.{Compiled}
+use Rattle.sql_meanings.specs.Calls.{Inside, Says}
 use Rattle.store_rows.specs.Columns.{meta_shown}
+use Rattle.store_rows.specs.Failures.{Changes}
 use Rattle.store_rows.specs.Faults.{added}
 use Rattle.store_rows.specs.declared.faults.TableFault.{TableFault}
 use Rattle.store_rows.specs.declared.faults.TableFault.TheVariants.{Sqlite, Damaged}
@@ -19,6 +23,12 @@ use Rattle.store_rows.specs.declared.texts.TheConstants.{GET_META}
 abbrev pub MeetsOne : List ℕ → Row → State → State → Result Bool Error → Type 0
 MeetsOne text params old new (Ok met) = (count : ℕ) × ExecutesInside 0 text params old new (Ok count) × (met ≡ nat_eq count 1)
 MeetsOne text params old new (Err e) = ExecutesInside 0 text params old new (Err e)
+
+-- The text was run with a key and a number. Whatever it was, the transaction goes on, or an error leaves it as it was.
+abbrev pub RunsUnder : {S : Type 0} → Ghosts S → Transaction S → Transaction S → List ℕ → ℕ → ℤ → Result Bool Error → Type 0
+RunsUnder g old new text key number result =
+    Says g old new (Inside (λ old new. MeetsOne text (Int (pos key) ∷ Int number ∷ []) old new result))
+    (Inside (λ old new. Changes text old new result))
 
 -- the text was run with these values, and the answer is told as that of an INSERT
 abbrev pub PutsIn : List ℕ → Row → State → State → Result (Unit {0}) TableFault → Type 0

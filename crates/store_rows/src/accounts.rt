@@ -4,9 +4,8 @@ ghost use Rattle.posting_rules.specs.Tables.{row_at, account_key};
 ghost use Rattle.posting_rules.specs.Changes.{with_account, with_account_balance};
 ghost use Rattle.store_rows.specs.Calls.{AddsRow, LooksUp, SetsNumber};
 ghost use Rattle.store_rows.specs.Columns.{account_balance_in};
-ghost use Rattle.store_rows.specs.Outcomes.{IsNoBalance};
+ghost use Rattle.store_rows.specs.Forms.{balance_form};
 ghost use Rattle.store_rows.specs.Rules.{row_under};
-ghost use Rattle.store_rows.specs.Stored.{BalanceKeeps, IsBalance};
 ghost use Rattle.store_rows.specs.declared.texts.TheConstants.{SET_ACCOUNT as text};
 ghost use Rattle.store_rows.specs.SixTables.{account as table};
 
@@ -23,8 +22,8 @@ pub fn account_balance<S: Alter>(
     tx: &mut Transaction<'_, S>,
     account: Account,
 ) -> Result<Option<Cents>, TableFault>
-    ensures { LooksUp S.Store tx.old tx.new (λ tables. account_balance_in tables account) IsNoBalance
-        (λ rows. row_under rows.accounts account) IsBalance BalanceKeeps result }
+    ensures { LooksUp S.Store tx.old tx.new balance_form (λ tables. account_balance_in tables account)
+        (λ rows. row_under rows.accounts account) result }
 {
     found(row_under(tx, GET_ACCOUNT, account.get()))
 }

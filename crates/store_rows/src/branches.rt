@@ -5,9 +5,8 @@ ghost use Rattle.posting_rules.specs.Tables.{row_at, branch_key};
 ghost use Rattle.posting_rules.specs.Changes.{with_branch, with_branch_balance};
 ghost use Rattle.store_rows.specs.Calls.{AddsRow, LooksUp, SetsNumber};
 ghost use Rattle.store_rows.specs.Columns.{branch_above};
-ghost use Rattle.store_rows.specs.Outcomes.{IsNoBranch};
-ghost use Rattle.store_rows.specs.Rules.{BranchKeeps, row_under};
-ghost use Rattle.store_rows.specs.Stored.{IsBranch};
+ghost use Rattle.store_rows.specs.Forms.{branch_form};
+ghost use Rattle.store_rows.specs.Rules.{row_under};
 ghost use Rattle.store_rows.specs.declared.texts.TheConstants.{SET_BRANCH as text};
 ghost use Rattle.store_rows.specs.SixTables.{branch as table};
 
@@ -21,18 +20,9 @@ use posting_rules::{BranchRow, Rule};
 use sqlite::{Alter, Error, Row, Transaction, params};
 
 impl FromRow for BranchRow {
-    ghost use Rattle.store_rows.specs.Columns.{branch_shown};
-    ghost use Rattle.store_rows.specs.Stored.{branch_stored};
+    ghost use Rattle.store_rows.specs.Forms.{branch_form as form};
 
-    ghost shown = { branch_shown };
-
-    ghost Breaks = { IsNoBranch };
-
-    ghost held = { branch_stored };
-
-    ghost Is = { IsBranch };
-
-    ghost Keeps = { BranchKeeps };
+    ghost form = { form };
 
     fn from_row(row: &Row) -> Result<Self, TableFault> {
         Ok(BranchRow {
@@ -48,8 +38,8 @@ pub fn find_branch<S: Alter>(
     tx: &mut Transaction<'_, S>,
     branch: Branch,
 ) -> Result<Option<BranchRow>, TableFault>
-    ensures { LooksUp S.Store tx.old tx.new (λ tables. row_at branch_key tables.branches branch) IsNoBranch
-        (λ rows. row_under rows.branches branch) IsBranch BranchKeeps result }
+    ensures { LooksUp S.Store tx.old tx.new branch_form (λ tables. row_at branch_key tables.branches branch)
+        (λ rows. row_under rows.branches branch) result }
 {
     found(row_under(tx, GET_BRANCH, branch.get()))
 }
@@ -59,8 +49,8 @@ pub fn next_branch<S: Alter>(
     tx: &mut Transaction<'_, S>,
     after: u32,
 ) -> Result<Option<BranchRow>, TableFault>
-    ensures { LooksUp S.Store tx.old tx.new (λ tables. branch_above tables after) IsNoBranch
-        (λ rows. find (is_above (pos after)) rows.branches) IsBranch BranchKeeps result }
+    ensures { LooksUp S.Store tx.old tx.new branch_form (λ tables. branch_above tables after)
+        (λ rows. find (is_above (pos after)) rows.branches) result }
 {
     found(row_under(tx, NEXT_BRANCH, u64::from(after)))
 }

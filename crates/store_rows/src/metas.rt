@@ -40,18 +40,9 @@ pub struct StoredMeta {
 }
 
 impl FromRow for StoredMeta {
-    ghost use Rattle.std.specs.Prelude.{⊤};
-    ghost use Rattle.store_rows.specs.Columns.{meta_numbers};
+    ghost use Rattle.store_rows.specs.Forms.{meta_form as form};
 
-    ghost shown = { meta_shown };
-
-    ghost Breaks = { Never };
-
-    ghost held = { λ row. meta_shown (meta_numbers row) };
-
-    ghost Is = { λ meta row. meta ≡ meta_numbers row };
-
-    ghost Keeps = { λ _ _. ⊤ };
+    ghost form = { form };
 
     fn from_row(row: &Row) -> Result<Self, TableFault> {
         Ok(StoredMeta {

@@ -5,11 +5,12 @@ ghost use Rattle.posting_rules.specs.Tables.{row_at, request_key};
 ghost use Rattle.posting_rules.specs.Changes.{with_request};
 ghost use Rattle.store_rows.specs.Calls.{AddsRow, LooksUp};
 ghost use Rattle.store_rows.specs.Columns.{request_in};
+ghost use Rattle.store_rows.specs.Forms.{request_form};
 ghost use Rattle.store_rows.specs.Failures.{IsUnreadable};
-ghost use Rattle.store_rows.specs.Outcomes.{IsNoRequest, ReadsKept};
+ghost use Rattle.store_rows.specs.Outcomes.{ReadsKept};
 ghost use Rattle.store_rows.specs.Rules.{RequestKeeps};
 ghost use Rattle.store_rows.specs.SixTables.{request as table};
-ghost use Rattle.store_rows.specs.Stored.{IsKept, IsRequest, ReadsStored, request_stored};
+ghost use Rattle.store_rows.specs.Stored.{IsKept, ReadsStored, request_stored};
 
 use crate::columns::{cents_at, outcome_at, whole_at};
 use crate::faults::TableFault;
@@ -35,17 +36,9 @@ fn kept_from(row: &Row) -> Result<Kept, TableFault>
 }
 
 impl FromRow for RequestRow {
-    ghost use Rattle.store_rows.specs.Columns.{request_shown};
+    ghost use Rattle.store_rows.specs.Forms.{request_form as form};
 
-    ghost shown = { request_shown };
-
-    ghost Breaks = { IsNoRequest };
-
-    ghost held = { request_stored };
-
-    ghost Is = { IsRequest };
-
-    ghost Keeps = { RequestKeeps };
+    ghost form = { form };
 
     fn from_row(row: &Row) -> Result<Self, TableFault> {
         Ok(RequestRow {
@@ -63,8 +56,8 @@ pub fn find_request<S: Alter>(
     teller: Teller,
     number: Number,
 ) -> Result<Option<RequestRow>, TableFault>
-    ensures { LooksUp S.Store tx.old tx.new (λ tables. request_in tables teller number) IsNoRequest
-        (λ rows. find (has_two (pos teller) (pos number)) rows.requests) IsRequest RequestKeeps result }
+    ensures { LooksUp S.Store tx.old tx.new request_form (λ tables. request_in tables teller number)
+        (λ rows. find (has_two (pos teller) (pos number)) rows.requests) result }
 {
     found(row_under_two(tx, GET_REQUEST, teller.get(), number.get()))
 }

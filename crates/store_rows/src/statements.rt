@@ -6,8 +6,8 @@ ghost use Rattle.sqlite.specs.Values.{bound};
 ghost use Rattle.sqlite.specs.declared.types.Value.TheVariants.{Int};
 ghost use Rattle.sql_meanings.specs.Calls.{Says, Inside};
 ghost use Rattle.sql_meanings.specs.Outcomes.{OnlyShows};
-ghost use Rattle.store_rows.specs.Failures.{Asks, Changes, Puts};
-ghost use Rattle.store_rows.specs.Statements.{MeetsOne, PutsIn};
+ghost use Rattle.store_rows.specs.Failures.{Asks, Puts};
+ghost use Rattle.store_rows.specs.Statements.{PutsIn, RunsUnder};
 
 use crate::faults::{TableFault, added};
 use message_records::Cents;
@@ -59,9 +59,7 @@ pub(crate) fn write_under<S: Alter>(
     number: i64,
 ) -> Result<bool, Error>
     requires { key ≤ MAX_KEY }
-    ensures { Says S.Store tx.old tx.new
-        (Inside (λ old new. MeetsOne text.now (Int (pos key) ∷ Int number ∷ []) old new result))
-        (Inside (λ old new. Changes text.now old new result)) }
+    ensures { RunsUnder S.Store tx.old tx.new text.now key number result }
 {
     let key = key as i64;
     let count = tx.execute(text, params![key, number])?;
@@ -76,9 +74,7 @@ pub(crate) fn write_balance<S: Alter>(
     balance: Cents,
 ) -> Result<bool, Error>
     requires { key ≤ MAX_KEY }
-    ensures { Says S.Store tx.old tx.new
-        (Inside (λ old new. MeetsOne text.now (Int (pos key) ∷ Int balance ∷ []) old new result))
-        (Inside (λ old new. Changes text.now old new result)) }
+    ensures { RunsUnder S.Store tx.old tx.new text.now key balance result }
 {
     write_under(tx, text, key, balance.get())
 }

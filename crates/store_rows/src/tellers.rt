@@ -4,9 +4,8 @@ ghost use Rattle.posting_rules.specs.Tables.{row_at, teller_key};
 ghost use Rattle.posting_rules.specs.Changes.{with_teller, with_teller_balance};
 ghost use Rattle.store_rows.specs.Calls.{AddsRow, LooksUp, SetsNumber};
 ghost use Rattle.store_rows.specs.Columns.{teller_balance_in};
-ghost use Rattle.store_rows.specs.Outcomes.{IsNoBalance};
+ghost use Rattle.store_rows.specs.Forms.{balance_form};
 ghost use Rattle.store_rows.specs.Rules.{row_under};
-ghost use Rattle.store_rows.specs.Stored.{BalanceKeeps, IsBalance};
 ghost use Rattle.store_rows.specs.declared.texts.TheConstants.{SET_TELLER as text};
 ghost use Rattle.store_rows.specs.SixTables.{teller as table};
 
@@ -23,8 +22,8 @@ pub fn teller_balance<S: Alter>(
     tx: &mut Transaction<'_, S>,
     teller: Teller,
 ) -> Result<Option<Cents>, TableFault>
-    ensures { LooksUp S.Store tx.old tx.new (λ tables. teller_balance_in tables teller) IsNoBalance
-        (λ rows. row_under rows.tellers teller) IsBalance BalanceKeeps result }
+    ensures { LooksUp S.Store tx.old tx.new balance_form (λ tables. teller_balance_in tables teller)
+        (λ rows. row_under rows.tellers teller) result }
 {
     found(row_under(tx, GET_TELLER, teller.get()))
 }

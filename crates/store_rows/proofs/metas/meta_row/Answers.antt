@@ -1,7 +1,7 @@
 -- What the look-up tells.
 use Rattle.std.proofs.Common.{rules}
 use Rattle.sql_meanings.proofs.Texts.{only_reads}
-use Rattle.store_rows.proofs.Getting.{is_get_meta}
+use Rattle.store_rows.proofs.Getting.{gets}
 use Rattle.store_rows.proofs.MetaRow.{tells_meta}
 use Rattle.store_rows.proofs.OtherValue.{first_told}
 use Rattle.store_rows.proofs.metas.meta_row.Goals as goal
@@ -10,7 +10,7 @@ pub returns : goal.returns
 returns g c = record {
   told = λ clean rows has. tells_meta _ _ rows has c.row_under.result (c.row_under.ensures.told clean);
   kept = λ clean.
-      let only = only_reads is_get_meta c.args.tx.now.conn.now.schema in
+      let only = only_reads gets.meta.is c.args.tx.now.conn.now.schema in
       (c.row_under.ensures.kept clean only, first_told _ _ _ _ c.row_under.result only (c.row_under.ensures.told clean));
   same_reference = search rules;
   survives = search rules;

@@ -1,0 +1,41 @@
+-- What the rows of a look-up stand for, each as a typed row.
+use Rattle.std.specs.Prelude.{◌≡◌, ℤ, ⊤}
+use Rattle.sqlite.specs.Order.{Row}
+use Rattle.posting_rules.specs.declared.fault.Rule.{Rule}
+use Rattle.posting_rules.specs.declared.rows.BranchRow.{BranchRow}
+use Rattle.posting_rules.specs.declared.rows.RequestRow.{RequestRow}
+use Rattle.sql_meanings.specs.Entries.{Entry}
+use Rattle.store_rows.specs.Columns.{balance_shown, branch_shown, meta_numbers, meta_shown, request_shown}
+use Rattle.store_rows.specs.Outcomes.{IsNoBalance, IsNoBranch, IsNoRequest, Never}
+use Rattle.store_rows.specs.Rules.{BranchKeeps, RequestKeeps}
+use Rattle.store_rows.specs.Stored.{BalanceKeeps, IsBalance, IsBranch, IsRequest, balance_stored, branch_stored, request_stored}
+use Rattle.store_rows.specs.declared.metas.StoredMeta.{StoredMeta}
+
+-- how a row stands for such a value
+pub record Form (X : Type 0) : Type 1 where
+  -- what the row of a value shows, and which rule a value breaks
+  pub shown : X → Row
+  pub Breaks : X → Rule → Type 0
+  -- whatever numbers a file holds: what its row shows, that a value was made of it, and that it keeps a rule
+  pub held : Entry → Row
+  pub Is : X → Entry → Type 0
+  pub Keeps : Rule → Entry → Type 0
+
+abbrev pub balance_form : Form ℤ
+balance_form = record { shown = balance_shown; Breaks = IsNoBalance; held = balance_stored; Is = IsBalance; Keeps = BalanceKeeps }
+
+abbrev pub branch_form : Form BranchRow
+branch_form = record { shown = branch_shown; Breaks = IsNoBranch; held = branch_stored; Is = IsBranch; Keeps = BranchKeeps }
+
+abbrev pub request_form : Form RequestRow
+request_form = record { shown = request_shown; Breaks = IsNoRequest; held = request_stored; Is = IsRequest; Keeps = RequestKeeps }
+
+-- any numbers are numbers of meta
+abbrev pub meta_form : Form StoredMeta
+meta_form = record {
+  shown = meta_shown;
+  Breaks = Never;
+  held = λ row. meta_shown (meta_numbers row);
+  Is = λ meta row. meta ≡ meta_numbers row;
+  Keeps = λ _ _. ⊤;
+}
