@@ -83,10 +83,6 @@ none_or_all_down {S} {X} {So} {after} {wanted} g old mid new r holds cs is D E d
     (survives_then (state g old) (state g mid) (state g new) (Leaves (state g old) So after) (λ _. ⊥) (Leaves (state g old) So after)
     (λ clean db h. h) (λ clean db none. absurd none) does.stop quiet)
 
--- where nothing was tried a stop leaves none of them
-pub none_left : (s : State) (D E : Type 0) (cs : List Command) → LeavesNoneOrAll (seen_in s D) (seen_in s E) cs
-none_left s D E cs = λ clean log at trees may. let it = at.stop trees may in (it.0, it.1, inl it.2)
-
 -- a call that was answered
 pub takes : {S X : Type 0} {So : Tables → Type 0} {after : Tables → Tables} {wanted : Tables → X} {g : Ghosts S} {old new : Held S} {x : X}
     {Met : Damage S} (holds : HoldsOfLogs So)

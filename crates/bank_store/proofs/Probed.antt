@@ -1,15 +1,21 @@
 -- What the probes tell of several tables, and that nothing has changed.
-use Rattle.std.proofs.Common.{ℕ, Bool, true, false, List, [], ◌∷◌, ◌++◌, Ok, refl, subst, ◌∙◌, inl, inr}
+use Rattle.std.proofs.Common.{◌≡◌, ◌<◌, ◌+◌, suc, ℕ, Bool, true, false, List, [], ◌∷◌, ◌++◌, length, map, take, get_or, Ok, refl, ap, subst, ◌∙◌, inl, inr, arith}
+use Rattle.std.proofs.Math.Seq.{take-suc}
+use Rattle.std.proofs.lemmas.List.{map-append}
 use Rattle.std.specs.List.{AllByRecursion}
 use Rattle.sqlite.specs.Table.{Table}
 use Rattle.sqlite.specs.Effect.{Database}
-use Rattle.sqlite.specs.State.{State}
+use Rattle.sqlite.specs.State.{State, HasCleanDisk}
+use Rattle.sqlite.specs.Held.{Held, state}
+use Rattle.sqlite_trees.specs.declared.store.Store.{Ghosts}
 use Rattle.sqlite_rules.specs.Lists.{Has}
 use Rattle.sqlite_trees.proofs.ListLemmas.{all-append}
 use Rattle.sql_meanings.specs.Outcomes.{TellsProbe, TellsUnderstood}
+use Rattle.store_rows.specs.Calls.{Probes}
+use Rattle.bank_store.specs.declared.probing.BankTable.{BankTable}
 use Rattle.bank_store.specs.declared.probing.Presence.{Presence}
 use Rattle.bank_store.specs.declared.probing.Presence.TheVariants.{Absent, Partial, Whole}
-use Rattle.bank_store.specs.Opening.{IsReadable, Lacks, OneOf, IsPresent, presence_of, joined, IsAsBefore}
+use Rattle.bank_store.specs.Opening.{IsReadable, Lacks, OneOf, IsPresent, presence_of, joined, probe_of, IsAsBefore}
 
 -- a table, and the statement that reads all its columns
 abbrev Probe : Type 0
@@ -77,11 +83,18 @@ pub then_present : (a b c : State) (x : Probe) (xs : List Probe) (y : Probe) (ys
 then_present a b c x xs y ys p q one two =
     (both_present a.now x xs y ys p q one.0 (present_before a b (y ∷ ys) q one.1 two.0), as_before a b c one.1 two.1)
 
--- three tables, one after another
-pub three_probed : (a b c d : State) (x y z : Probe) (is_x is_y is_z : Bool) → TellsProbe a b x.1 (Ok is_x) → TellsUnderstood a b x.0 (Ok is_x)
-    → TellsProbe b c y.1 (Ok is_y) → TellsUnderstood b c y.0 (Ok is_y) → TellsProbe c d z.1 (Ok is_z) → TellsUnderstood c d z.0 (Ok is_z)
-    → IsPresent a.now (x ∷ y ∷ z ∷ []) (joined (joined (presence_of is_x) (presence_of is_y)) (presence_of is_z)) × IsAsBefore a d
-three_probed a b c d x y z is_x is_y is_z one text1 two text2 three text3 =
-    then_present a c d x (y ∷ []) z [] (joined (presence_of is_x) (presence_of is_y)) (presence_of is_z)
-    (then_present a b c x [] y [] (presence_of is_x) (presence_of is_y) (probed a b x is_x one text1) (probed b c y is_y two text2))
-    (probed c d z is_z three text3)
+-- one more table
+pub one_more : {S : Type 0} (g : Ghosts S) (old mid new : Held S) (x : Probe) (xs : List Probe) (y : Probe) (p : Presence) (is : Bool)
+    → IsPresent (state g old).now (x ∷ xs) p × IsAsBefore (state g old) (state g mid) → Probes g mid new y (Ok is) → HasCleanDisk (state g new)
+    → IsPresent (state g old).now ((x ∷ xs) ++ y ∷ []) (joined p (presence_of is)) × IsAsBefore (state g old) (state g new)
+one_more g old mid new x xs y p is so_far told clean =
+    then_present (state g old) (state g mid) (state g new) x xs y [] p (presence_of is) so_far
+    (probed (state g mid) (state g new) y is (told.told clean) (told.text clean))
+
+-- the probes of the tables up to one, and of that one
+pub next_probe : (first : BankTable) (others : List BankTable) (at : ℕ) (d : BankTable) → at < length others
+    → map probe_of (first ∷ take (at + 1) others) ≡ map probe_of (first ∷ take at others) ++ probe_of (get_or others at d) ∷ []
+next_probe first others at d low =
+    let more : at + 1 ≡ suc at = omega arith in
+    ap (λ n. map probe_of (first ∷ take n others)) more ∙ ap (λ l. map probe_of (first ∷ l)) (take-suc others at d low)
+    ∙ map-append probe_of (first ∷ take at others) (get_or others at d ∷ [])

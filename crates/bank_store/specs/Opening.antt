@@ -5,7 +5,7 @@ use Rattle.std.specs.List.{AllByRecursion}
 use Rattle.sqlite.specs.Table.{Table}
 use Rattle.sqlite.specs.Tree.{Trees}
 use Rattle.sqlite.specs.Effect.{Database, IsDatabase}
-use Rattle.sqlite.specs.State.{State}
+use Rattle.sqlite.specs.State.{State, HasCleanDisk}
 use Rattle.sqlite.specs.State.{Shows as StateShows}
 use Rattle.sqlite.specs.Held.{Held, state}
 use Rattle.sqlite.specs.declared.error.Error.{Error}
@@ -13,6 +13,7 @@ use Rattle.sqlite.specs.declared.error.Error.TheVariants.{SqliteFailure}
 use Rattle.sqlite.specs.declared.error.ErrorCode.TheVariants as code
 use Rattle.sqlite_trees.specs.declared.store.Store.{Ghosts}
 use Rattle.sqlite_rules.specs.Lists.{Has}
+use Rattle.bank_transactions.specs.Doing.{HasFailedBetween, IsBefore}
 use Rattle.posting_rules.specs.Counter.{Seen}
 use Rattle.posting_rules.specs.Rules.{number_of_rule}
 use Rattle.posting_rules.specs.declared.fault.Rule.TheVariants.{Meta, Value}
@@ -20,8 +21,9 @@ use Rattle.sql_meanings.specs.Making.{KeepsTables}
 use Rattle.sql_meanings.specs.Outcomes.{IsThere, IsUnderstood}
 use Rattle.sql_meanings.specs.Tables.{Defines}
 use Rattle.store_rows.specs.Columns.{meta_in}
-use Rattle.store_rows.specs.Creation.{IsAlone, RefusedIn, new_tables}
+use Rattle.store_rows.specs.Creation.{CreatesBank, IsAlone, RefusedIn, new_tables}
 use Rattle.store_rows.specs.Probes.{IsNotUnderstood, six_probes}
+use Rattle.store_rows.specs.Probes as probe
 use Rattle.store_rows.specs.SixTables as six
 use Rattle.store_rows.specs.Statements.{HasOtherValue}
 use Rattle.sql_meanings.specs.Entries.{Entry}
@@ -32,6 +34,8 @@ use Rattle.store_rows.specs.declared.faults.TableFault.{TableFault}
 use Rattle.store_rows.specs.declared.faults.TableFault.TheVariants.{Sqlite, Damaged as Broken}
 use Rattle.bank_store.specs.Seen.{seen_in}
 use Rattle.bank_store.specs.declared.bank.Bank.{Bank}
+use Rattle.bank_store.specs.declared.probing.BankTable.{BankTable}
+use Rattle.bank_store.specs.declared.probing.BankTable.TheVariants as one
 use Rattle.bank_store.specs.declared.probing.Presence.{Presence}
 use Rattle.bank_store.specs.declared.probing.Presence.TheVariants.{Absent, Partial, Whole}
 use Rattle.bank_store.specs.declared.refused.OpenFault.{OpenFault}
@@ -57,6 +61,15 @@ abbrev pub IsUndone : State → State → Type 0
 IsUndone old new = IsTrue new.is_open → IsAsBefore old new
 
 -- ---- the six tables
+
+-- the probe of a table
+abbrev pub probe_of : BankTable → List ℕ × Table
+probe_of one.Meta = probe.meta
+probe_of one.Branch = probe.branch
+probe_of one.Teller = probe.teller
+probe_of one.Account = probe.account
+probe_of one.History = probe.history
+probe_of one.Request = probe.request
 
 -- the table can be read: its probe is understood, and a table or a view has its name
 abbrev pub IsReadable : Database → List ℕ × Table → Type 0
@@ -95,6 +108,17 @@ joined Whole Whole = Whole
 abbrev pub TellsPresence : {E : Type 0} → State → State → List (List ℕ × Table) → Result Presence E → Type 0
 TellsPresence old new probes (Ok presence) = IsPresent old.now probes presence × IsAsBefore old new
 TellsPresence old new probes (Err e) = IsUndone old new
+
+-- ---- why the store is told to have failed
+
+-- between these two moments of a connection a call of `sqlite` failed
+abbrev pub CallFailed : {S : Type 0} → Ghosts S → Held S → Held S → Type 0
+CallFailed g old new = (e : Error) × HasFailedBetween g old new e
+
+-- where the store is told to have failed, a call of `sqlite` did
+abbrev pub KnowsCause : {S : Type 0} → Ghosts S → Held S → Held S → OpenFault → Type 0
+KnowsCause g old new Store = HasCleanDisk (state g new) → CallFailed g old new
+KnowsCause g old new _ = ⊤
 
 -- ---- the row of the bank
 
@@ -211,6 +235,22 @@ IsTaken old = OneOf six_probes (IsReadable old.now) ⊎ IsRefused old
 -- why a bank isn't made
 abbrev pub IsUnmade : OpenFault → Type 0
 IsUnmade fault = (fault ≡ Store) ⊎ (fault ≡ NotBlank)
+
+-- between these two moments of a connection the tables could not be made, by an error of the store's own
+pub record MakingFailed {S : Type 0} (g : Ghosts S) (old new : Held S) : Type 0 where
+  -- the connection before they were made, and after it
+  pub start : Held S
+  pub end : Held S
+  pub error : Error
+  pub before : IsBefore (state g old) (state g start)
+  pub failed : CreatesBank (state g start) (state g end) (Err error)
+  pub own : of_the_store error ≡ true
+  pub after : IsBefore (state g end) (state g new)
+
+-- where the store is told to have failed, a call of `sqlite` did, or the tables could not be made
+abbrev pub KnowsWhyUnmade : {S : Type 0} → Ghosts S → Held S → Held S → OpenFault → Type 0
+KnowsWhyUnmade g old new Store = HasCleanDisk (state g new) → CallFailed g old new ⊎ MakingFailed g old new
+KnowsWhyUnmade g old new _ = ⊤
 
 -- ---- the texts
 

@@ -9,7 +9,7 @@ ghost use Rattle.store_rows.specs.Columns.{meta_in};
 ghost use Rattle.sql_meanings.specs.Entries.{Entry};
 ghost use Rattle.store_rows.specs.SixTables.{meta as table};
 ghost use Rattle.store_rows.specs.View.{HoldsRows};
-ghost use Rattle.bank_store.specs.Opening.{conn_seen, state_in, ChecksMeta, TellsMeta, IsReadOnly, IsUndone, IsUnread, IsOfOtherType, IsFound, SeeksBank, Misses, IsAsBefore};
+ghost use Rattle.bank_store.specs.Opening.{conn_seen, state_in, ChecksMeta, KnowsCause, TellsMeta, IsReadOnly, IsUndone, IsUnread, IsOfOtherType, IsFound, SeeksBank, Misses, IsAsBefore};
 ghost use Rattle.bank_store.specs.Seen.{bank_seen, connection_of};
 
 use crate::bank::Bank;
@@ -30,6 +30,7 @@ fn stored_meta<S: Alter>(conn: &mut Connection<S>) -> Result<Option<StoredMeta>,
     ensures undone { HasCleanDisk (state S.Store conn.new) → IsUndone (state S.Store conn.old) (state S.Store conn.new) }
     ensures fault { IfErr result IsUnread }
     ensures other { HasCleanDisk (state S.Store conn.new) → IfErr result (IsOfOtherType (state S.Store conn.old).now) }
+    ensures cause { IfErr result (KnowsCause S.Store conn.old conn.new) }
     ensures mode { conn.new.in_transaction ≡ false }
     ensures survives { Survives (state S.Store conn.old) (state S.Store conn.new) (λ _. ⊥) }
 {
@@ -49,6 +50,7 @@ fn settled_meta<S: Alter>(conn: &mut Connection<S>) -> Result<Option<StoredMeta>
     ensures same { HasCleanDisk (state S.Store conn.new) → IsReadOnly (state S.Store conn.old) (state S.Store conn.new) result }
     ensures fault { IfErr result IsUnread }
     ensures other { HasCleanDisk (state S.Store conn.new) → IfErr result (IsOfOtherType (state S.Store conn.old).now) }
+    ensures cause { IfErr result (KnowsCause S.Store conn.old conn.new) }
     ensures mode { conn.new.in_transaction ≡ false }
     ensures survives { Survives (state S.Store conn.old) (state S.Store conn.new) (λ _. ⊥) }
 {
@@ -77,6 +79,7 @@ fn check_meta(meta: &StoredMeta) -> Result<(), OpenFault>
 fn find_bank<S: Alter>(conn: &mut Connection<S>) -> Result<(), OpenFault>
     requires { conn.old.in_transaction ≡ false }
     ensures told { HasCleanDisk (state S.Store conn.new) → SeeksBank (state S.Store conn.old) (state S.Store conn.new) result }
+    ensures cause { IfErr result (KnowsCause S.Store conn.old conn.new) }
     ensures mode { conn.new.in_transaction ≡ false }
     ensures survives { Survives (state S.Store conn.old) (state S.Store conn.new) (λ _. ⊥) }
 {
@@ -116,6 +119,7 @@ pub fn adopt<S: Alter>(alloc: Global, mut conn: Connection<S>) -> Result<Bank<S>
         → StandsAt (conn_seen S.Store conn) log → StandsAt (bank_seen S.Store bank) log) }
     ensures up { IfOk result (λ bank. (bank_seen S.Store bank).is_down → ⊥) }
     ensures missed { IfErr result (λ refused. HasCleanDisk (state S.Store refused.conn) → Misses (state S.Store conn) refused.fault) }
+    ensures cause { IfErr result (λ refused. KnowsCause S.Store conn refused.conn refused.fault) }
     ensures same { IfErr result (λ refused. HasCleanDisk (state S.Store refused.conn) → refused.fault ≢ OpenFault.Store
         → IsAsBefore (state S.Store conn) (state S.Store refused.conn)) }
     ensures undone { IfErr result (λ refused. HasCleanDisk (state S.Store refused.conn)

@@ -8,7 +8,7 @@ ghost use Rattle.sql_meanings.specs.Making.{KeepsTables};
 ghost use Rattle.store_rows.specs.Creation.{HasNewBank, IsAlone, IsEmpty};
 ghost use Rattle.store_rows.specs.Probes.{six_probes};
 ghost use Rattle.store_rows.specs.View.{Shows};
-ghost use Rattle.bank_store.specs.Opening.{state_in, IsPresent, IsMade, IsUndone, IsUnmade, IsRefused, IsTaken};
+ghost use Rattle.bank_store.specs.Opening.{state_in, IsPresent, IsMade, IsUndone, IsUnmade, IsRefused, IsTaken, KnowsWhyUnmade};
 ghost use Rattle.bank_store.specs.Seen.{bank_seen, connection_of};
 ghost use Rattle.bank_store.specs.declared.probing.Presence.TheVariants.{Absent};
 
@@ -29,6 +29,7 @@ fn make_tables<S: Alter>(conn: &mut Connection<S>) -> Result<(), OpenFault>
     ensures fault { IfErr result IsUnmade }
     ensures refused { HasCleanDisk (state S.Store conn.new)
         → IfErr result (λ fault. fault ≡ OpenFault.NotBlank → IsRefused (state S.Store conn.old)) }
+    ensures cause { IfErr result (KnowsWhyUnmade S.Store conn.old conn.new) }
     ensures stop { Survives (state S.Store conn.old) (state S.Store conn.new) (HasNewBank (state S.Store conn.old).now) }
     ensures mode { conn.new.in_transaction ≡ false }
 {
@@ -53,6 +54,7 @@ fn make_bank<S: Alter>(conn: &mut Connection<S>) -> Result<(), OpenFault>
     ensures fault { IfErr result IsUnmade }
     ensures refused { HasCleanDisk (state S.Store conn.new)
         → IfErr result (λ fault. fault ≡ OpenFault.NotBlank → IsTaken (state S.Store conn.old)) }
+    ensures cause { IfErr result (KnowsWhyUnmade S.Store conn.old conn.new) }
     ensures stop { Survives (state S.Store conn.old) (state S.Store conn.new) (HasNewBank (state S.Store conn.old).now) }
     ensures mode { conn.new.in_transaction ≡ false }
 {
@@ -90,6 +92,7 @@ pub fn create<S: Alter>(alloc: Global, mut conn: Connection<S>) -> Result<Bank<S
     ensures fault { IfErr result (λ refused. IsUnmade refused.fault) }
     ensures refused { IfErr result (λ refused. HasCleanDisk (state S.Store refused.conn)
         → refused.fault ≡ OpenFault.NotBlank → IsTaken (state S.Store conn)) }
+    ensures cause { IfErr result (λ refused. KnowsWhyUnmade S.Store conn refused.conn refused.fault) }
     ensures empty { IfErr result (λ refused. HasCleanDisk (state S.Store refused.conn)
         → IsEmpty (state S.Store conn).now → refused.fault ≡ OpenFault.Store) }
     ensures idle { IfErr result (λ refused. refused.conn.in_transaction ≡ false) }

@@ -1,9 +1,10 @@
-//! How many of the six tables are there.
-ghost use Rattle.std.specs.Prelude.{◌≡◌, ◌∷◌, [], IfErr, false};
+//! Which of the six tables are there.
+ghost use Rattle.std.specs.Prelude.{◌≡◌, ◌∷◌, IfErr, false, map};
 ghost use Rattle.sqlite.specs.State.{HasCleanDisk, Survives};
 ghost use Rattle.sqlite.specs.Held.{state};
-ghost use Rattle.store_rows.specs.Probes.{meta, branch, teller, account, history, request, six_probes};
-ghost use Rattle.bank_store.specs.Opening.{joined, presence_of, TellsPresence};
+ghost use Rattle.store_rows.specs.Calls.{Probes};
+ghost use Rattle.store_rows.specs.Probes.{six_probes};
+ghost use Rattle.bank_store.specs.Opening.{joined, presence_of, probe_of, KnowsCause, TellsPresence};
 
 use crate::refused::OpenFault;
 use sqlite::{Alter, Connection, Error};
@@ -14,16 +15,12 @@ use store_rows::{
 /// How many of some tables are there.
 #[derive(Clone, Copy, Debug, PartialEq, Eq)]
 pub(crate) enum Presence {
-    /// None of them.
     Absent,
-    /// Some of them, and not all.
     Partial,
-    /// All of them.
     Whole,
 }
 
 impl Presence {
-    // The presence of one table.
     fn of(is_there: bool) -> Presence
         ensures { result ≡ presence_of is_there }
     {
@@ -34,7 +31,6 @@ impl Presence {
         }
     }
 
-    // The presence of these tables and of the others, taken together.
     fn and(self, other: Presence) -> Presence
         ensures { result ≡ joined self other }
     {
@@ -46,50 +42,75 @@ impl Presence {
     }
 }
 
-// Of `meta`, `branch` and `teller`.
-fn first_three<S: Alter>(conn: &mut Connection<S>) -> Result<Presence, Error>
+/// One of the six tables.
+#[derive(Clone, Copy, Debug, PartialEq, Eq)]
+pub(crate) enum BankTable {
+    Meta,
+    Branch,
+    Teller,
+    Account,
+    History,
+    Request,
+}
+
+// Whether the probe of the table is understood.
+fn probe<S: Alter>(conn: &mut Connection<S>, table: BankTable) -> Result<bool, Error>
+    ensures { Probes S.Store conn.old conn.new (probe_of table) result }
+{
+    match table {
+        BankTable::Meta => probe_meta(conn),
+        BankTable::Branch => probe_branches(conn),
+        BankTable::Teller => probe_tellers(conn),
+        BankTable::Account => probe_accounts(conn),
+        BankTable::History => probe_history(conn),
+        BankTable::Request => probe_requests(conn),
+    }
+}
+
+// How many there are of a table and of others.
+fn count_tables<S: Alter>(
+    conn: &mut Connection<S>,
+    first: BankTable,
+    others: &[BankTable],
+) -> Result<Presence, OpenFault>
     requires { conn.old.in_transaction ≡ false }
-    ensures told { HasCleanDisk (state S.Store conn.new)
-        → TellsPresence (state S.Store conn.old) (state S.Store conn.new) (meta ∷ branch ∷ teller ∷ []) result }
+    ensures told { HasCleanDisk (state S.Store conn.new) → TellsPresence (state S.Store conn.old)
+        (state S.Store conn.new) (map probe_of (first ∷ others.now)) result }
+    ensures fault { IfErr result (λ fault. fault ≡ OpenFault.Store) }
+    ensures cause { IfErr result (KnowsCause S.Store conn.old conn.new) }
     ensures mode { conn.new.in_transaction ≡ false }
     ensures survives { Survives (state S.Store conn.old) (state S.Store conn.new) (λ _. ⊥) }
 {
     let _outside = conn.is_autocommit();
-    let meta = Presence::of(probe_meta(conn)?);
-    let branches = Presence::of(probe_branches(conn)?);
-    let tellers = Presence::of(probe_tellers(conn)?);
-    Ok(meta.and(branches).and(tellers))
+    let Ok(is_there) = probe(conn, first) else {
+        return Err(OpenFault::Store);
+    };
+    let mut there = Presence::of(is_there);
+    for table in others {
+        let Ok(is_there) = probe(conn, *table) else {
+            return Err(OpenFault::Store);
+        };
+        there = there.and(Presence::of(is_there));
+    }
+    Ok(there)
 }
 
-// Of `account`, `history` and `request`.
-fn last_three<S: Alter>(conn: &mut Connection<S>) -> Result<Presence, Error>
-    requires { conn.old.in_transaction ≡ false }
-    ensures told { HasCleanDisk (state S.Store conn.new)
-        → TellsPresence (state S.Store conn.old) (state S.Store conn.new) (account ∷ history ∷ request ∷ []) result }
-    ensures mode { conn.new.in_transaction ≡ false }
-    ensures survives { Survives (state S.Store conn.old) (state S.Store conn.new) (λ _. ⊥) }
-{
-    let _outside = conn.is_autocommit();
-    let accounts = Presence::of(probe_accounts(conn)?);
-    let history = Presence::of(probe_history(conn)?);
-    let requests = Presence::of(probe_requests(conn)?);
-    Ok(accounts.and(history).and(requests))
-}
-
-/// How many of the six tables are there. The only fault is `Store`, and nothing is changed.
+/// How many of the six tables are there.
 pub(crate) fn tables_there<S: Alter>(conn: &mut Connection<S>) -> Result<Presence, OpenFault>
     requires { conn.old.in_transaction ≡ false }
     ensures told { HasCleanDisk (state S.Store conn.new)
         → TellsPresence (state S.Store conn.old) (state S.Store conn.new) six_probes result }
     ensures fault { IfErr result (λ fault. fault ≡ OpenFault.Store) }
+    ensures cause { IfErr result (KnowsCause S.Store conn.old conn.new) }
     ensures mode { conn.new.in_transaction ≡ false }
     ensures survives { Survives (state S.Store conn.old) (state S.Store conn.new) (λ _. ⊥) }
 {
-    let Ok(one) = first_three(conn) else {
-        return Err(OpenFault::Store);
-    };
-    let Ok(two) = last_three(conn) else {
-        return Err(OpenFault::Store);
-    };
-    Ok(one.and(two))
+    let others = [
+        BankTable::Branch,
+        BankTable::Teller,
+        BankTable::Account,
+        BankTable::History,
+        BankTable::Request,
+    ];
+    count_tables(conn, BankTable::Meta, &others)
 }

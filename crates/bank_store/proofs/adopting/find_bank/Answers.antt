@@ -6,6 +6,8 @@ use Rattle.store_rows.specs.Probes.{six_probes}
 use Rattle.bank_store.specs.Opening.{IsPresent, IsAsBefore, SeeksBank}
 use Rattle.bank_store.specs.declared.probing.Presence.{Presence}
 use Rattle.bank_store.specs.declared.refused.OpenFault.{OpenFault}
+use Rattle.bank_transactions.proofs.Blamed.{comes, same_moment}
+use Rattle.bank_store.proofs.Causes.{checks_known, known_within}
 use Rattle.bank_store.proofs.Finding.{looked, missed}
 use Rattle.bank_store.proofs.adopting.find_bank.Goals as goal
 
@@ -31,3 +33,16 @@ returns-in-Some-clause-told g c clean =
     looked old mid new (Some c.in-Some.meta) there.0 there.1
     (λ rows has. sym c.in-Some.is ∙ c.in_ok-settled_meta-in-Whole.ensures.told clean rows has)
     (c.in_ok-settled_meta-in-Whole.ensures.same clean) c.check_meta.result c.check_meta.ensures
+
+pub returns-in_err-settled_meta-in-Whole-clause-cause : goal.returns-in_err-settled_meta-in-Whole-clause-cause
+returns-in_err-settled_meta-in-Whole-clause-cause g c =
+    let mid = c.tables_there.new.conn in
+    let new = c.settled_meta.new.conn in
+    let e = c.in_err-settled_meta-in-Whole in
+    let is : c.from_residual-in_err-settled_meta-in-Whole.result ≡ Err e.field-0.0 = search rules in
+    rw is (known_within g.S.Store c.args.conn.now mid new new (comes c.tables_there.ensures.survives) (λ clean. clean)
+    (same_moment (state g.S.Store new)) e.field-0.0 e.ensures.cause)
+
+pub returns-in-Some-clause-cause : goal.returns-in-Some-clause-cause
+returns-in-Some-clause-cause g c =
+    checks_known g.S.Store c.args.conn.now c.settled_meta.new.conn (Some c.in-Some.meta) c.check_meta.result c.check_meta.ensures

@@ -4,9 +4,11 @@ use Rattle.std.specs.Prelude.{OnOk}
 use Rattle.sqlite.specs.State.{HasCleanDisk}
 use Rattle.sqlite.specs.Held.{state}
 use Rattle.store_rows.specs.Probes.{six_probes}
-use Rattle.bank_store.specs.Opening.{IsPresent, IsAsBefore, IsRefused, IsTaken}
+use Rattle.bank_transactions.proofs.Blamed.{comes, same_moment}
+use Rattle.bank_store.specs.Opening.{IsPresent, IsAsBefore, IsRefused, IsTaken, KnowsWhyUnmade}
 use Rattle.bank_store.specs.declared.refused.OpenFault.TheVariants.{NotBlank}
 use Rattle.bank_store.specs.declared.probing.Presence.{Presence}
+use Rattle.bank_store.proofs.Causes.{unmade_as_known, unmade_within}
 use Rattle.bank_store.proofs.Taken.{if_err, refused_before, some_there}
 use Rattle.bank_store.proofs.creating.make_bank.Goals as goal
 
@@ -40,6 +42,22 @@ returns-in_default g c = record {
   fault = search rules;
   refused = λ clean taken. inl (some_there (state g.S.Store c.args.conn.now).now c.in_ok-tables_there.field-0 c.in_default.not-Absent
       (c.in_ok-tables_there.ensures.told clean).0);
+  cause = search rules;
   stop = search rules;
   mode = search rules;
 }
+
+pub returns-in_err-tables_there-clause-cause : goal.returns-in_err-tables_there-clause-cause
+returns-in_err-tables_there-clause-cause g c =
+    let e = c.in_err-tables_there in
+    let is : c.from_residual.result ≡ Err e.field-0.0 = search rules in
+    rw is (unmade_as_known g.S.Store c.args.conn.now c.tables_there.new.conn e.field-0.0 e.ensures.cause)
+
+pub returns-in-Absent-clause-cause : goal.returns-in-Absent-clause-cause
+returns-in-Absent-clause-cause g c =
+    let old = c.args.conn.now in
+    let mid = c.tables_there.new.conn in
+    let new = c.make_tables.new.conn in
+    if_err (KnowsWhyUnmade g.S.Store mid new) (KnowsWhyUnmade g.S.Store old new)
+    (unmade_within g.S.Store old mid new new (comes c.tables_there.ensures.survives) (λ clean. clean) (same_moment (state g.S.Store new)))
+    c.make_tables.result c.make_tables.ensures.cause

@@ -6,9 +6,11 @@ use Rattle.posting_rules.proofs.Calls.{stays}
 use Rattle.posting_rules.proofs.NextBranch.{next_shown}
 use Rattle.posting_rules.proofs.Stepping.{sound_tables}
 use Rattle.store_rows.specs.Columns.{branch_above}
-use Rattle.bank_store.proofs.Broke.{consulted}
-use Rattle.bank_store.proofs.Countered.{failed_between, keeps_file, kept_error, refuses, takes}
+use Rattle.bank_store.proofs.Countered.{takes}
+use Rattle.bank_store.proofs.Refusing.{consult_refused, Refusal}
 use Rattle.bank_transactions.proofs.NextRow.{next_is}
+use Rattle.bank_transactions.specs.Doing.{IsFirstBroken}
+use Rattle.bank_store.proofs.bank.BankCounter.next_branch.Given.{Over}
 use Rattle.bank_store.proofs.bank.BankCounter.next_branch.Goals as goal
 
 pub returns-in-Ok-clause-line : goal.returns-in-Ok-clause-line
@@ -26,27 +28,21 @@ returns-in-Ok-clause-done g c =
     let Down = IsSome c.args.self.now.fault in
     takes sound_tables [] stays tt Down Down (search rules) c.in-Ok.ensures.says
 
+-- what its refusal says
+refused : (g : Over) (c : goal.After-go_down g)
+    → Refusal g.S.Store c.args.self.now c.go_down.new.self [] (IsFirstBroken g.S.Store) c.go_down.result
+refused g c =
+    consult_refused g.S.Store c.args.self.now c.go_down.new.self c.read_next_branch.new.conn sound_tables [] stays tt c.in-Err.fault
+    c.go_down.result c.go_down.ensures.down c.go_down.ensures.survives c.in-Err.ensures.says
+
 pub returns-in-Err-clause-fault : goal.returns-in-Err-clause-fault
-returns-in-Err-clause-fault g c =
-    refuses g.S.Store c.args.self.now.conn c.read_next_branch.new.conn c.go_down.new.self.conn sound_tables [] stays tt (IsSome c.args.self.now.fault)
-    c.in-Err.fault c.go_down.new.self.fault c.go_down.result c.in-Err.ensures.says c.go_down.ensures.down c.go_down.ensures.survives
+returns-in-Err-clause-fault g c = (refused g c).fault
 
 pub returns-in-Err-clause-kept : goal.returns-in-Err-clause-kept
-returns-in-Err-clause-kept g c damage clean =
-    keeps_file g.S.Store c.args.self.now.conn c.read_next_branch.new.conn c.go_down.new.self.conn c.in-Err.fault c.go_down.new.self.fault c.go_down.result
-    c.in-Err.ensures.says c.go_down.ensures.down c.go_down.ensures.survives damage clean
+returns-in-Err-clause-kept g c = (refused g c).kept
 
 pub returns-in-Err-clause-cause : goal.returns-in-Err-clause-cause
-returns-in-Err-clause-cause g c tells =
-    let down = c.go_down.ensures.down in
-    let quiet = c.go_down.ensures.survives in
-    record {
-      kept = kept_error _ _ c.go_down.new.self.fault c.go_down.result c.in-Err.fault down tells;
-      failed = failed_between g.S.Store c.args.self.now.conn c.read_next_branch.new.conn c.go_down.new.self.conn c.go_down.new.self.fault c.go_down.result quiet
-          c.in-Err.fault c.in-Err.ensures.says down;
-    }
+returns-in-Err-clause-cause g c = (refused g c).cause
 
 pub returns-in-Err-clause-broken : goal.returns-in-Err-clause-broken
-returns-in-Err-clause-broken g c =
-    consulted g.S.Store c.args.self.now.conn c.read_next_branch.new.conn c.go_down.new.self.conn c.go_down.new.self.fault c.go_down.result c.go_down.ensures.survives
-    c.in-Err.fault c.in-Err.ensures.says c.go_down.ensures.down
+returns-in-Err-clause-broken g c = (refused g c).broken

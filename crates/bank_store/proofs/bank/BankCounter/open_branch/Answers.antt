@@ -4,8 +4,10 @@ use Rattle.std.specs.Prelude.{IsSome}
 use Rattle.posting_rules.specs.Commands.{Open, AreCommands}
 use Rattle.posting_rules.proofs.Calls.{opens, answers}
 use Rattle.posting_rules.proofs.Stepping.{sound_tables}
-use Rattle.bank_store.proofs.Broke.{transacted}
-use Rattle.bank_store.proofs.Countered.{failed_between, keeps_file, kept_error, refuses, takes}
+use Rattle.bank_store.proofs.Countered.{takes}
+use Rattle.bank_store.proofs.Refusing.{transaction_refused, Refusal}
+use Rattle.bank_transactions.specs.Doing.{IsBrokenOrMet}
+use Rattle.bank_store.proofs.bank.BankCounter.open_branch.Given.{Over}
 use Rattle.bank_store.proofs.bank.BankCounter.open_branch.Goals as goal
 
 pub returns-in-Ok-clause-answer : goal.returns-in-Ok-clause-answer
@@ -22,32 +24,26 @@ returns-in-Ok-clause-done g c =
     let Down = IsSome c.args.self.now.fault in
     takes sound_tables (Open b count ∷ []) (opens b count above c.requires.few) are Down Down (search rules) c.in-Ok.ensures
 
-pub returns-in-Err-clause-fault : goal.returns-in-Err-clause-fault
-returns-in-Err-clause-fault g c =
+-- what its refusal says
+refused : (g : Over) (c : goal.After-go_down g)
+    → Refusal g.S.Store c.args.self.now c.go_down.new.self (Open c.args.branch c.args.count ∷ []) (IsBrokenOrMet g.S.Store) c.go_down.result
+refused g c =
     let b = c.args.branch in
     let count = c.args.count in
     let above : 1 ≤ b = omega (arith, c.get-number.ensures.value, c.get-number.ensures.least) in
     let are : AreCommands (Open b count ∷ []) = ((above, c.requires.branch, c.requires.some, c.requires.few), tt) in
-    refuses g.S.Store c.args.self.now.conn c.open_branch.new.conn c.go_down.new.self.conn sound_tables (Open b count ∷ [])
-    (opens b count above c.requires.few) are (IsSome c.args.self.now.fault)
-    c.in-Err.fault c.go_down.new.self.fault c.go_down.result c.in-Err.ensures c.go_down.ensures.down c.go_down.ensures.survives
+    transaction_refused g.S.Store c.args.self.now c.go_down.new.self c.open_branch.new.conn sound_tables (Open b count ∷ [])
+    (opens b count above c.requires.few) are c.in-Err.fault c.go_down.result c.go_down.ensures.down c.go_down.ensures.survives
+    c.in-Err.ensures
+
+pub returns-in-Err-clause-fault : goal.returns-in-Err-clause-fault
+returns-in-Err-clause-fault g c = (refused g c).fault
 
 pub returns-in-Err-clause-kept : goal.returns-in-Err-clause-kept
-returns-in-Err-clause-kept g c damage clean =
-    keeps_file g.S.Store c.args.self.now.conn c.open_branch.new.conn c.go_down.new.self.conn c.in-Err.fault c.go_down.new.self.fault c.go_down.result
-    c.in-Err.ensures c.go_down.ensures.down c.go_down.ensures.survives damage clean
+returns-in-Err-clause-kept g c = (refused g c).kept
 
 pub returns-in-Err-clause-cause : goal.returns-in-Err-clause-cause
-returns-in-Err-clause-cause g c tells =
-    let down = c.go_down.ensures.down in
-    let quiet = c.go_down.ensures.survives in
-    record {
-      kept = kept_error _ _ c.go_down.new.self.fault c.go_down.result c.in-Err.fault down tells;
-      failed = failed_between g.S.Store c.args.self.now.conn c.open_branch.new.conn c.go_down.new.self.conn c.go_down.new.self.fault c.go_down.result quiet
-          c.in-Err.fault c.in-Err.ensures down;
-    }
+returns-in-Err-clause-cause g c = (refused g c).cause
 
 pub returns-in-Err-clause-broken : goal.returns-in-Err-clause-broken
-returns-in-Err-clause-broken g c =
-    transacted g.S.Store c.args.self.now.conn c.open_branch.new.conn c.go_down.new.self.conn c.go_down.new.self.fault c.go_down.result c.go_down.ensures.survives
-    c.in-Err.fault c.in-Err.ensures c.go_down.ensures.down
+returns-in-Err-clause-broken g c = (refused g c).broken

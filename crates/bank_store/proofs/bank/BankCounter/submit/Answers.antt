@@ -5,8 +5,10 @@ use Rattle.message_records.specs.Reading.{request_of}
 use Rattle.posting_rules.specs.Commands.{Post, AreCommands}
 use Rattle.posting_rules.proofs.Calls.{posts, replies}
 use Rattle.posting_rules.proofs.Stepping.{sound_tables}
-use Rattle.bank_store.proofs.Broke.{transacted}
-use Rattle.bank_store.proofs.Countered.{failed_between, keeps_file, kept_error, refuses, takes}
+use Rattle.bank_store.proofs.Countered.{takes}
+use Rattle.bank_store.proofs.Refusing.{transaction_refused, Refusal}
+use Rattle.bank_transactions.specs.Doing.{IsBrokenOrMet}
+use Rattle.bank_store.proofs.bank.BankCounter.submit.Given.{Over}
 use Rattle.bank_store.proofs.bank.BankCounter.submit.Goals as goal
 
 pub returns-in-Ok-post-clause-reply : goal.returns-in-Ok-post-clause-reply
@@ -24,32 +26,26 @@ returns-in-Ok-post-clause-done g c =
     let Down = IsSome c.args.self.now.fault in
     takes sound_tables (Post m bytes ∷ []) (posts m bytes c.in-Ok.request read) are Down Down (search rules) c.in-Ok-post.ensures
 
-pub returns-in-Err-clause-fault : goal.returns-in-Err-clause-fault
-returns-in-Err-clause-fault g c =
+-- what its refusal says
+refused : (g : Over) (c : goal.After-go_down g)
+    → Refusal g.S.Store c.args.self.now c.go_down.new.self (Post c.args.moment c.args.bytes.now ∷ []) (IsBrokenOrMet g.S.Store) c.go_down.result
+refused g c =
     let m = c.args.moment in
     let bytes = c.args.bytes.now in
     let read : request_of bytes ≡ Ok c.in-Ok.request = search rules in
     let are : AreCommands (Post m bytes ∷ []) = ((omega (arith, c.get-seconds.ensures.value, c.get-seconds.ensures.most), search rules), tt) in
-    refuses g.S.Store c.args.self.now.conn c.post.new.conn c.go_down.new.self.conn sound_tables (Post m bytes ∷ [])
-    (posts m bytes c.in-Ok.request read) are (IsSome c.args.self.now.fault)
-    c.in-Err.fault c.go_down.new.self.fault c.go_down.result c.in-Err.ensures c.go_down.ensures.down c.go_down.ensures.survives
+    transaction_refused g.S.Store c.args.self.now c.go_down.new.self c.post.new.conn sound_tables (Post m bytes ∷ [])
+    (posts m bytes c.in-Ok.request read) are c.in-Err.fault c.go_down.result c.go_down.ensures.down c.go_down.ensures.survives
+    c.in-Err.ensures
+
+pub returns-in-Err-clause-fault : goal.returns-in-Err-clause-fault
+returns-in-Err-clause-fault g c = (refused g c).fault
 
 pub returns-in-Err-clause-kept : goal.returns-in-Err-clause-kept
-returns-in-Err-clause-kept g c damage clean =
-    keeps_file g.S.Store c.args.self.now.conn c.post.new.conn c.go_down.new.self.conn c.in-Err.fault c.go_down.new.self.fault c.go_down.result
-    c.in-Err.ensures c.go_down.ensures.down c.go_down.ensures.survives damage clean
+returns-in-Err-clause-kept g c = (refused g c).kept
 
 pub returns-in-Err-clause-cause : goal.returns-in-Err-clause-cause
-returns-in-Err-clause-cause g c tells =
-    let down = c.go_down.ensures.down in
-    let quiet = c.go_down.ensures.survives in
-    record {
-      kept = kept_error _ _ c.go_down.new.self.fault c.go_down.result c.in-Err.fault down tells;
-      failed = failed_between g.S.Store c.args.self.now.conn c.post.new.conn c.go_down.new.self.conn c.go_down.new.self.fault c.go_down.result quiet
-          c.in-Err.fault c.in-Err.ensures down;
-    }
+returns-in-Err-clause-cause g c = (refused g c).cause
 
 pub returns-in-Err-clause-broken : goal.returns-in-Err-clause-broken
-returns-in-Err-clause-broken g c =
-    transacted g.S.Store c.args.self.now.conn c.post.new.conn c.go_down.new.self.conn c.go_down.new.self.fault c.go_down.result c.go_down.ensures.survives
-    c.in-Err.fault c.in-Err.ensures c.go_down.ensures.down
+returns-in-Err-clause-broken g c = (refused g c).broken
