@@ -11,7 +11,7 @@ use Rattle.sqlite_trees.specs.declared.store.Store.{Ghosts}
 use Rattle.sqlite_resolve.specs.declared.compiled.Compiled.{Compiled}
 use Rattle.sql_meanings.specs.Calls.{Inside, Says}
 use Rattle.store_rows.specs.Columns.{meta_shown}
-use Rattle.store_rows.specs.Failures.{Changes}
+use Rattle.store_rows.specs.Failures.{Changes, Puts}
 use Rattle.store_rows.specs.Faults.{added}
 use Rattle.store_rows.specs.declared.faults.TableFault.{TableFault}
 use Rattle.store_rows.specs.declared.faults.TableFault.TheVariants.{Sqlite, Damaged}
@@ -33,6 +33,12 @@ RunsUnder g old new text key number result =
 -- the text was run with these values, and the answer is told as that of an INSERT
 abbrev pub PutsIn : List ℕ → Row → State → State → Result (Unit {0}) TableFault → Type 0
 PutsIn text params old new r = (answer : Result ℕ Error) × ExecutesInside 0 text params old new answer × (r ≡ added answer)
+
+-- The text was run with these values. Whatever it was, the transaction goes on, or an error leaves it as it was.
+abbrev pub PutsRow : {S : Type 0} → Ghosts S → Transaction S → Transaction S → List ℕ → Row
+    → Result (Unit {0}) TableFault → Type 0
+PutsRow g old new text values result =
+    Says g old new (Inside (λ old new. PutsIn text values old new result)) (Inside (λ old new. Puts old new result))
 
 -- run on this database with these values, the text shows this row first
 abbrev pub ShowsFirst : List ℕ → Row → Database → Row → Type 0
