@@ -4,7 +4,8 @@ use Rattle.sqlite.specs.declared.error.Error.{Error}
 use Rattle.sqlite.specs.declared.transaction.Transaction.{Transaction}
 use Rattle.sqlite.specs.declared.types.Value.TheVariants.{Int}
 use Rattle.sqlite_trees.specs.declared.store.Store.{Ghosts}
-use Rattle.posting_rules.specs.Changes.{row_changed, row_put, with_account, with_account_balance, with_branch, with_branch_balance}
+use Rattle.posting_rules.specs.Changes.{row_changed, row_put, with_account, with_account_balance, with_branch}
+use Rattle.posting_rules.specs.Changes.{with_branch_balance}
 use Rattle.posting_rules.specs.Changes.{with_history, with_request, with_teller, with_teller_balance}
 use Rattle.posting_rules.specs.Tables.{Tables, row_at}
 use Rattle.sql_meanings.specs.Entries.{Entry}
@@ -23,16 +24,19 @@ use Rattle.store_rows.proofs.TheTables.{accounts, branches, history, requests, t
 -- a call that runs the text writes a balance so
 abbrev Sets : {R : Type 0} → Kind R → List ℕ → (ℕ → ℤ → Tables → Tables) → Type 1
 Sets kind text with =
-    (S : Type 0) (g : Ghosts S) (old new : Transaction S) (k : ℕ) → k ≤ MAX_KEY → (z : ℤ) (answer : Result Bool Error)
+    (S : Type 0) (g : Ghosts S) (old new : Transaction S) (k : ℕ) → k ≤ MAX_KEY
+    → (z : ℤ) (answer : Result Bool Error)
     → RunsUnder g old new text k z answer
-    → SetsNumber g old new (table_of kind) text (λ t. is_some (row_at kind.key (kind.rows t) k)) (with k z) answer
+    → SetsNumber g old new (table_of kind) text (λ t. is_some (row_at kind.key (kind.rows t) k)) (with k z)
+    answer
 
 -- a call that runs the text puts a row in so
 abbrev PutsEach : {R : Type 0} → Kind R → List ℕ → (R → Tables → Tables) → Type 1
 PutsEach {R} kind text with =
     (S : Type 0) (g : Ghosts S) (old new : Transaction S) (r : R) → kind.key r ≤ MAX_KEY
     → (answer : Result (Unit {0}) TableFault) → PutsRow g old new text (given (kind.entry r)) answer
-    → AddsRow g old new (table_of kind) (λ t. is_some (row_at kind.key (kind.rows t) (kind.key r))) (with r) answer
+    → AddsRow g old new (table_of kind) (λ t. is_some (row_at kind.key (kind.rows t) (kind.key r))) (with r)
+    answer
 
 module _ {R : Type 0} (kind : Kind R) (text : List ℕ) where
   sets : (change : ℤ → R → R) (change_entry : ℤ → Entry → Entry)
@@ -40,7 +44,8 @@ module _ {R : Type 0} (kind : Kind R) (text : List ℕ) where
       → ((z : ℤ) (r : R) → change_entry z (kind.entry r) ≡ kind.entry (change z r))
       → Sets kind text (λ k z t. kind.having (row_changed kind.key (change z) k (kind.rows t)) t)
   sets change change_entry changes same S g old new k low z answer =
-      tells_tables g old new (λ before after t shows. tells_write kind before after t shows text k (Int z ∷ []) (change z)
+      tells_tables g old new (λ before after t shows. tells_write kind before after t shows text k
+      (Int z ∷ []) (change z)
       (change_entry z) (changes (pos k) z) (same z) low answer)
 
   puts : ((r : R) → Puts (table_of kind) text (kind.entry r))
@@ -58,9 +63,12 @@ pub record SetsBalances : Type 1 where
 pub balances_set : SetsBalances
 unfolding with_branch_balance with_teller_balance with_account_balance
 balances_set = record {
-  branch = sets branches text.SET_BRANCH.now (λ z r. record r { balance = z }) set_second numbers.branch (λ _ _. refl);
-  teller = sets tellers text.SET_TELLER.now (λ z r. record r { balance = z }) set_first numbers.teller (λ _ _. refl);
-  account = sets accounts text.SET_ACCOUNT.now (λ z r. record r { balance = z }) set_first numbers.account (λ _ _. refl);
+  branch = sets branches text.SET_BRANCH.now (λ z r. record r { balance = z }) set_second numbers.branch
+      (λ _ _. refl);
+  teller = sets tellers text.SET_TELLER.now (λ z r. record r { balance = z }) set_first numbers.teller
+      (λ _ _. refl);
+  account = sets accounts text.SET_ACCOUNT.now (λ z r. record r { balance = z }) set_first numbers.account
+      (λ _ _. refl);
 }
 
 -- each text puts its row in

@@ -7,7 +7,8 @@ ghost use Rattle.sql_meanings.specs.Calls.{Says, Inside};
 ghost use Rattle.sql_meanings.specs.Making.{CreatesOnly, KeepsTables};
 ghost use Rattle.sql_meanings.specs.Outcomes.{WriteKept, WritesKept, MakesTold};
 ghost use Rattle.store_rows.specs.View.{Shows};
-ghost use Rattle.store_rows.specs.Creation.{AreEmpty, new_tables, six_texts, MakesAll, StartsBank, CreatesBank, CreationFails, HasNewBank, IsAlone};
+ghost use Rattle.store_rows.specs.Creation.{AreEmpty, new_tables, six_texts, MakesAll, StartsBank};
+ghost use Rattle.store_rows.specs.Creation.{CreatesBank, CreationFails, HasNewBank, IsAlone};
 
 use crate::metas::{META_ID, VERSION};
 use crate::texts::{ADD_META, MAKE_TABLES};

@@ -8,5 +8,6 @@ pub returns : goal.returns
 returns g c = rows_put.branch _ g.S.Store _ _ c.args.row (omega arith) c.put_in.result (rw (
   whole_column c.params-to_sql.ensures c.get-key.ensures.value (omega arith),
   whole_column (rw c.from-accounts.ensures at c.params-to_sql-2.ensures) refl (omega arith),
-  amount_column c.params-to_sql-3.ensures c.get-balance.ensures.value c.get-balance.ensures.least c.get-balance.ensures.most,
+  amount_column c.params-to_sql-3.ensures c.get-balance.ensures.value c.get-balance.ensures.least
+      c.get-balance.ensures.most,
 ) at c.put_in.ensures)

@@ -10,6 +10,7 @@ returns g c = rows_put.posting _ g.S.Store _ _ c.args.row (omega arith) c.put_in
   whole_column c.params-to_sql-2.ensures c.get-account.ensures.value (omega arith),
   whole_column c.params-to_sql-3.ensures c.get-teller.ensures.value (omega arith),
   whole_column c.params-to_sql-4.ensures c.get-branch.ensures.value (omega arith),
-  amount_column c.params-to_sql-5.ensures c.get-delta.ensures.value c.get-delta.ensures.least c.get-delta.ensures.most,
+  amount_column c.params-to_sql-5.ensures c.get-delta.ensures.value c.get-delta.ensures.least
+      c.get-delta.ensures.most,
   whole_column c.params-to_sql-6.ensures c.get-moment.ensures.value (omega arith),
 ) at c.put_in.ensures)
