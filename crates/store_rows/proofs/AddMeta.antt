@@ -21,15 +21,22 @@ none_yet : (db : Database) → AreEmpty db → Holds db six.meta []
 none_yet db empty = held db bank_tables no_rows empty.each 0 six.meta [] refl refl
 
 -- the new bank is there, and every table but meta is as it was; or why the row can't be put in
-pub starts : (old new : State) (r : Result ℕ Error) → AreEmpty old.now → ExecutesInside 0 ADD_META.now (given first_row) old new r
+pub starts : (old new : State) (r : Result ℕ Error) → AreEmpty old.now
+    → ExecutesInside 0 ADD_META.now (given first_row) old new r
     → StartsBank old new r
 starts old new (Ok count) made h =
-    let done = puts_row old new six.meta numbered made.sound [] (none_yet old.now made) ADD_META.now _ _ puts.meta count h.0 in
-    (record { sound = ∣ done.0.sound ∣₁; each = meta_written old new no_rows made.each [] _ refl done.0 }, done.2, done.0.steps.schema)
+    let done = puts_row old new six.meta numbered made.sound [] (none_yet old.now made) ADD_META.now _ _
+    puts.meta count h.0 in (
+      record { sound = ∣ done.0.sound ∣₁; each = meta_written old new no_rows made.each [] _ refl done.0 },
+      done.2,
+      done.0.steps.schema,
+    )
 starts old new (Err e) made h =
-    elim (refuses_insert old new six.meta numbered made.sound [] (none_yet old.now made) ADD_META.now (given first_row) first_row
+    elim (refuses_insert old new six.meta numbered made.sound [] (none_yet old.now made) ADD_META.now
+    (given first_row) first_row
     puts.meta (key_fits 1 (lit≤ tt)) e h) [
       | inl taken ↦ absurd (let none = taken.1 in cc)
       | inr fails ↦ put_fails_as old new six.meta _ e (IsForbidden old.now.schema six.meta new_tables)
-          (forbidden old.now.schema new_tables six.meta (first_row ∷ []) (λ db shows. holds_one db new_tables shows)) fails
+          (forbidden old.now.schema new_tables six.meta (first_row ∷ [])
+          (λ db shows. holds_one db new_tables shows)) fails
     ]

@@ -1,5 +1,8 @@
--- The tables of the bank, each with its typed rows: what a statement on one of them leaves is said once for all.
-use Rattle.std.proofs.Common.{◌≡◌, ℕ, ◌≤◌, pos, Bool, true, cond, nat_eq, is_some, List, [], ◌∷◌, map, find, slice_get, slice_set, Some, Option, option_map, Ok, Err, Result, refl, sym, ap, subst, ◌∙◌}
+-- The tables of the bank, each with its typed rows: what a statement on one of them leaves is said once for
+-- all.
+use Rattle.std.proofs.Common.{◌≡◌, ℕ, ◌≤◌, pos, Bool, true, cond, nat_eq, is_some, List, [], ◌∷◌, map, find}
+use Rattle.std.proofs.Common.{slice_get, slice_set, Some, Option, option_map, Ok, Err, Result, refl, sym, ap}
+use Rattle.std.proofs.Common.{subst, ◌∙◌}
 use Rattle.sqlite.specs.Order.{Row}
 use Rattle.sqlite.specs.Effect.{Database}
 use Rattle.sqlite.specs.State.{State, ExecutesInside, QueriesRowInside}
@@ -47,31 +50,45 @@ pub record Kind (R : Type 0) : Type 0 where
   pub keyed : (r : R) → (entry r).key ≡ pos (key r)
   pub listed : slice_get bank_tables place ≡ Some (uncounted table)
   pub has : (t : Tables) → slice_get (contents t) place ≡ Some (map entry (rows t))
-  pub replaced : (t : Tables) (rs : List R) → slice_set (contents t) place (map entry rs) ≡ contents (having rs t)
+  pub replaced : (t : Tables) (rs : List R) → slice_set (contents t) place (map entry rs)
+      ≡ contents (having rs t)
   pub again : (t : Tables) (rs : List R) → rows (having rs t) ≡ rs
   pub numbered : IsOfNumbers (uncounted table)
 
 -- a table of a key and numbers, where all that computes
-abbrev pub kind_of : {R : Type 0} (place : ℕ) (table : Table) (key : R → ℕ) (entry : R → Entry) (rows : Tables → List R)
-    (having : List R → Tables → Tables) → ((r : R) → (entry r).key ≡ pos (key r)) → slice_get bank_tables place ≡ Some (uncounted table)
+abbrev pub kind_of : {R : Type 0} (place : ℕ) (table : Table) (key : R → ℕ) (entry : R → Entry)
+    (rows : Tables → List R)
+    (having : List R → Tables → Tables) → ((r : R) → (entry r).key ≡ pos (key r))
+    → slice_get bank_tables place ≡ Some (uncounted table)
     → ((t : Tables) → slice_get (contents t) place ≡ Some (map entry (rows t)))
     → ((t : Tables) (rs : List R) → slice_set (contents t) place (map entry rs) ≡ contents (having rs t))
-    → ((t : Tables) (rs : List R) → rows (having rs t) ≡ rs) → (k : List ℕ) (names : List (List ℕ)) → table.references ≡ []
-    → table.key ≡ Some 0 → table.computed ≡ [] → width_of table ≤ 1999 → table.columns ≡ key_column k ∷ map number_column names → Kind R
-kind_of place table key entry rows having keyed listed has replaced again k names free at_first uncomputed narrow columns = record {
-  place = place;
-  table = table;
-  key = key;
-  entry = entry;
-  rows = rows;
-  having = having;
-  keyed = keyed;
-  listed = listed;
-  has = has;
-  replaced = replaced;
-  again = again;
-  numbered = record { free = free; keyed = at_first; uncomputed = uncomputed; narrow = narrow; key = k; names = names; columns = columns };
-}
+    → ((t : Tables) (rs : List R) → rows (having rs t) ≡ rs) → (k : List ℕ) (names : List (List ℕ))
+    → table.references ≡ []
+    → table.key ≡ Some 0 → table.computed ≡ [] → width_of table ≤ 1999 → table.columns ≡ key_column k
+    ∷ map number_column names → Kind R
+kind_of place table key entry rows having keyed listed has replaced again k names free at_first uncomputed
+    narrow columns = record {
+      place = place;
+      table = table;
+      key = key;
+      entry = entry;
+      rows = rows;
+      having = having;
+      keyed = keyed;
+      listed = listed;
+      has = has;
+      replaced = replaced;
+      again = again;
+      numbered = record {
+        free = free;
+        keyed = at_first;
+        uncomputed = uncomputed;
+        narrow = narrow;
+        key = k;
+        names = names;
+        columns = columns;
+      };
+    }
 
 -- the table itself
 abbrev pub table_of : {R : Type 0} → Kind R → Table
@@ -86,46 +103,62 @@ module _ {R : Type 0} (kind : Kind R) where
 
   -- what is shown is held
   pub holds : (db : Database) (t : Tables) → Shows db t → Holds db table (map kind.entry (kind.rows t))
-  holds db t shows = held db bank_tables (contents t) shows.each kind.place table (map kind.entry (kind.rows t)) kind.listed (kind.has t)
+  holds db t shows = held db bank_tables (contents t) shows.each kind.place table
+      (map kind.entry (kind.rows t)) kind.listed (kind.has t)
 
   -- after a write the database shows the same tables, but for this one
-  pub written : (old new : State) (t : Tables) → Shows old.now t → (rs : List R) → Leaves old new table (map kind.entry rs)
+  pub written : (old new : State) (t : Tables) → Shows old.now t → (rs : List R)
+      → Leaves old new table (map kind.entry rs)
       → Shows new.now (kind.having rs t)
   written old new t shows rs left = record {
     sound = ∣ left.sound ∣₁;
-    each = subst (HoldsEach new.now bank_tables) (kind.replaced t rs) (one_written old new table kind.numbered.free (map kind.entry (kind.rows t)) (map kind.entry rs)
+    each = subst (HoldsEach new.now bank_tables) (kind.replaced t rs)
+        (one_written old new table kind.numbered.free (map kind.entry (kind.rows t)) (map kind.entry rs)
         (holds old.now t shows) left bank_tables (contents t) refl shows.each kind.place kind.listed);
   }
 
-  shows_rows : (t : Tables) (rs : List R) (db : Database) → Shows db (kind.having rs t) → Holds db table (map kind.entry rs)
-  shows_rows t rs db shows = subst (λ x. Holds db table (map kind.entry x)) (kind.again t rs) (holds db (kind.having rs t) shows)
+  shows_rows : (t : Tables) (rs : List R) (db : Database) → Shows db (kind.having rs t)
+      → Holds db table (map kind.entry rs)
+  shows_rows t rs db shows = subst (λ x. Holds db table (map kind.entry x)) (kind.again t rs)
+      (holds db (kind.having rs t) shows)
 
   -- ---- a row more
 
   module _ (old new : State) (t : Tables) (shows : Shows old.now t) (text : List ℕ) (params : Row) (r : R)
       (puts : PutsAs table text params (kind.entry r)) (low : kind.key r ≤ MAX_KEY) where
-    taken_is : is_some (find (has_key (kind.entry r).key) (map kind.entry (kind.rows t))) ≡ is_some (under t (kind.key r))
+    taken_is : is_some (find (has_key (kind.entry r).key) (map kind.entry (kind.rows t)))
+        ≡ is_some (under t (kind.key r))
     taken_is = rw (kind.keyed r) (taken_row_key kind.key kind.entry kind.keyed (kind.key r) (kind.rows t))
 
-    -- the row is there now, and each other row and table is as it was; or the key was taken; or why it isn't there
+    -- the row is there now, and each other row and table is as it was; or the key was taken; or why it isn't
+    -- there
     pub tells_added : (answer : Result ℕ Error) → ExecutesInside 0 text params old new answer
-        → Adds old new table (is_some (under t (kind.key r))) (kind.having (row_put kind.key r (kind.rows t)) t) (added answer)
+        → Adds old new table (is_some (under t (kind.key r)))
+        (kind.having (row_put kind.key r (kind.rows t)) t) (added answer)
     tells_added (Ok count) h =
-        let done = puts_row old new kind.table kind.numbered shows.sound _ (holds old.now t shows) text params (kind.entry r) puts count h.0 in
+        let done = puts_row old new kind.table kind.numbered shows.sound _ (holds old.now t shows) text params
+        (kind.entry r) puts count h.0 in
         let free = sym taken_is ∙ done.1 in
-        let rows = put_rows kind.key kind.entry kind.keyed r (kind.rows t) free in
-        (free, written old new t shows _ (subst (Leaves old new table) rows done.0), (h.1, done.0.marks), done.2)
+        let rows = put_rows kind.key kind.entry kind.keyed r (kind.rows t) free in (
+          free,
+          written old new t shows _ (subst (Leaves old new table) rows done.0),
+          (h.1, done.0.marks),
+          done.2,
+        )
     tells_added (Err e) h =
         let after = row_put kind.key r (kind.rows t) in
         adds_err old new table _ _ _ _ e taken_is
-        (forbidden_put kind.key kind.entry kind.keyed old.now.schema (kind.having after t) table r (kind.rows t) (holds old.now t shows).rows.rise
+        (forbidden_put kind.key kind.entry kind.keyed old.now.schema (kind.having after t) table r
+        (kind.rows t) (holds old.now t shows).rows.rise
         (shows_rows t after))
-        (refuses_insert old new kind.table kind.numbered shows.sound _ (holds old.now t shows) text params (kind.entry r) puts
+        (refuses_insert old new kind.table kind.numbered shows.sound _ (holds old.now t shows) text params
+        (kind.entry r) puts
         (subst (λ z. fits_i64 z ≡ true) (sym (kind.keyed r)) (key_fits (kind.key r) low)) e h)
 
   -- ---- a number of a row
 
-  module _ (old new : State) (t : Tables) (shows : Shows old.now t) (text : List ℕ) (k : ℕ) (more : Row) (change : R → R)
+  module _ (old new : State) (t : Tables) (shows : Shows old.now t) (text : List ℕ) (k : ℕ) (more : Row)
+      (change : R → R)
       (change_entry : Entry → Entry) (changes : ChangesAs table text (pos k) more change_entry)
       (same : (r : R) → change_entry (kind.entry r) ≡ kind.entry (change r)) where
     abbrev after : List R
@@ -138,8 +171,10 @@ module _ {R : Type 0} (kind : Kind R) where
     tells_set : (count : ℕ) → ExecutesInside 0 text (Int (pos k) ∷ more) old new (Ok count)
         → Writes old new table (is_some (under t k)) (kind.having after t) (Ok (nat_eq count 1))
     tells_set count h =
-        let done = sets_row old new table kind.numbered shows.sound _ (holds old.now t shows) text (pos k) more change_entry changes count h.0 in (
-          one_met count _ (done.1 ∙ ap (λ b. cond b 1 0) (taken_row_key kind.key kind.entry kind.keyed k (kind.rows t))),
+        let done = sets_row old new table kind.numbered shows.sound _ (holds old.now t shows) text (pos k)
+        more change_entry changes count h.0 in (
+          one_met count _ (done.1 ∙ ap (λ b. cond b 1 0)
+              (taken_row_key kind.key kind.entry kind.keyed k (kind.rows t))),
           written old new t shows _ (subst (Leaves old new table) rows_are done.0),
           (h.1, done.0.marks),
           spares_standing old new table _ done.0,
@@ -150,34 +185,45 @@ module _ {R : Type 0} (kind : Kind R) where
         → Writes old new table (is_some (under t k)) (kind.having after t) (Err e)
     fails_to_set low e h =
         set_fails_as old new table _ e (IsForbidden old.now.schema table (kind.having after t))
-        (λ none. forbidden old.now.schema (kind.having after t) table _ (shows_rows t after) (subst (Forbids old.now.schema table) rows_are none))
-        (refuses_update old new table kind.numbered shows.sound _ (holds old.now t shows) text (pos k) more change_entry changes
+        (λ none. forbidden old.now.schema (kind.having after t) table _ (shows_rows t after)
+        (subst (Forbids old.now.schema table) rows_are none))
+        (refuses_update old new table kind.numbered shows.sound _ (holds old.now t shows) text (pos k) more
+        change_entry changes
         (key_fits k low) e h)
 
     -- either
-    pub tells_write : k ≤ MAX_KEY → (answer : Result Bool Error) → MeetsOne text (Int (pos k) ∷ more) old new answer
+    pub tells_write : k ≤ MAX_KEY → (answer : Result Bool Error)
+        → MeetsOne text (Int (pos k) ∷ more) old new answer
         → Writes old new table (is_some (under t k)) (kind.having after t) answer
     tells_write low (Ok met) h =
-        subst (λ b. Writes old new table (is_some (under t k)) (kind.having after t) (Ok b)) (sym h.2) (tells_set h.0 h.1)
+        subst (λ b. Writes old new table (is_some (under t k)) (kind.having after t) (Ok b)) (sym h.2)
+        (tells_set h.0 h.1)
     tells_write low (Err e) h = fails_to_set low e h
 
   -- ---- a row under its key
 
   -- it tells what is shown of the row
-  pub tells_row : (old new : State) (t : Tables) → Shows old.now t → (text : List ℕ) (project : List Term) (k : ℕ)
-      → ReadsAs table text (Int (pos k) ∷ []) (λ tree. by_key tree project) → {X : Type 0} (shown : X → Row) (value : R → X)
+  pub tells_row : (old new : State) (t : Tables) → Shows old.now t
+      → (text : List ℕ) (project : List Term) (k : ℕ)
+      → ReadsAs table text (Int (pos k) ∷ []) (λ tree. by_key tree project)
+      → {X : Type 0} (shown : X → Row) (value : R → X)
       → ((r : R) → eval_all project ((Int (pos k) ∷ []) ∷ stored (kind.entry r) ∷ []) ≡ shown (value r))
       → (r : Result Row Error) → QueriesRowInside text (Int (pos k) ∷ []) old new r
       → TellsRow old new (option_map shown (option_map value (under t k))) r
   tells_row old new t shows text project k reads shown value same r h =
       subst (λ o. TellsRow old new o r)
-      (shown_row kind.key kind.entry kind.keyed (λ e. eval_all project ((Int (pos k) ∷ []) ∷ stored e ∷ [])) shown value same k (kind.rows t))
-      (reads_key old new table kind.numbered.free shows.sound _ (holds old.now t shows) text project (pos k) reads r h)
+      (shown_row kind.key kind.entry kind.keyed (λ e. eval_all project ((Int (pos k) ∷ []) ∷ stored e ∷ []))
+      shown value same k (kind.rows t))
+      (reads_key old new table kind.numbered.free shows.sound _ (holds old.now t shows) text project (pos k)
+      reads r h)
 
   -- the same of the whole row
-  pub tells_whole : (old new : State) (t : Tables) → Shows old.now t → (text : List ℕ) (project : List Term) (k : ℕ)
+  pub tells_whole : (old new : State) (t : Tables) → Shows old.now t
+      → (text : List ℕ) (project : List Term) (k : ℕ)
       → ReadsAs table text (Int (pos k) ∷ []) (λ tree. by_key tree project) → (shown : R → Row)
       → ((r : R) → eval_all project ((Int (pos k) ∷ []) ∷ stored (kind.entry r) ∷ []) ≡ shown r)
-      → (r : Result Row Error) → QueriesRowInside text (Int (pos k) ∷ []) old new r → TellsRow old new (option_map shown (under t k)) r
+      → (r : Result Row Error) → QueriesRowInside text (Int (pos k) ∷ []) old new r
+      → TellsRow old new (option_map shown (under t k)) r
   tells_whole old new t shows text project k reads shown same r h =
-      subst (λ o. TellsRow old new o r) (shown_itself shown (under t k)) (tells_row old new t shows text project k reads shown (λ x. x) same r h)
+      subst (λ o. TellsRow old new o r) (shown_itself shown (under t k))
+      (tells_row old new t shows text project k reads shown (λ x. x) same r h)

@@ -1,5 +1,6 @@
 -- The CHECK of `meta`.
-use Rattle.std.proofs.Common.{◌≡◌, ◌⊎◌, inl, inr, ℤ, pos, true, false, List, [], ◌∷◌, map, Ordering, Less, Equal, Greater, int_cmp, refl, sym, subst, arith}
+use Rattle.std.proofs.Common.{◌≡◌, ◌⊎◌, inl, inr, ℤ, pos, true, false, List, [], ◌∷◌, map, Ordering, Less}
+use Rattle.std.proofs.Common.{Equal, Greater, int_cmp, refl, sym, subst, arith}
 use Rattle.std.specs.Ordering.{int_eq}
 use Rattle.std.proofs.lemmas.Bool.{cases_Bool}
 use Rattle.std.proofs.lemmas.Int.{ints}
@@ -31,7 +32,8 @@ pub meta_checked : (key : ℤ) (rest : Row) → key ≡ pos 1 → passes_checks 
 meta_checked key rest is = subst (λ z. passes_checks meta (Int z ∷ rest) ≡ true) (sym is) (first_checked rest)
 
 -- a row that passes it has the key 1
-by_order : (key : ℤ) (rest : Row) (o : Ordering) → value_cmp (Int key) (Int (pos 1)) ≡ o → passes_checks meta (Int key ∷ rest) ≡ true → o ≡ Equal
+by_order : (key : ℤ) (rest : Row) (o : Ordering) → value_cmp (Int key) (Int (pos 1)) ≡ o
+    → passes_checks meta (Int key ∷ rest) ≡ true → o ≡ Equal
 unfolding everything binary
 by_order key rest Less is h = absurd (let g = rw is at h in cc)
 by_order key rest Equal is h = refl
@@ -44,13 +46,17 @@ is_one : (key : ℤ) → int_eq key (pos 1) ≡ true → key ≡ pos 1
 is_one key same = grind (arith, ints)
 
 module _ (db : Database) (rows : List Entry) (has : HoldsRows db meta rows) where
-  not_other : (e : Entry) → Has (map stored rows) (stored e) → int_eq e.key (pos 1) ≡ false → IsDatabase db → ⊥
+  not_other : (e : Entry) → Has (map stored rows) (stored e) → int_eq e.key (pos 1) ≡ false → IsDatabase db
+      → ⊥
   not_other e there other sound =
       let at = standing db meta refl ∣ sound ∣₁ has.holds.defined in
       let tree = tree_of db.schema meta.name in
-      let passed : passes_checks meta (stored e) ≡ true = keeps_at Check db.schema db.trees (placed_at meta tree) (stored e)
-      (sound.obeys.rules Check) at.stands.listed (subst (λ rs. Has rs (stored e)) (sym has.holds.rows.are) there) in
-      same_key e.key (by_order e.key (Null ∷ numbers e.values) (int_cmp e.key (pos 1)) (value_cmp-Int e.key (pos 1)) passed) other
+      let passed : passes_checks meta (stored e)
+      ≡ true = keeps_at Check db.schema db.trees (placed_at meta tree) (stored e)
+      (sound.obeys.rules Check) at.stands.listed
+      (subst (λ rs. Has rs (stored e)) (sym has.holds.rows.are) there) in
+      same_key e.key (by_order e.key (Null ∷ numbers e.values) (int_cmp e.key (pos 1))
+      (value_cmp-Int e.key (pos 1)) passed) other
 
   has_key_one : (e : Entry) → Has (map stored rows) (stored e) → e.key ≡ pos 1
   has_key_one e there = elim (cases_Bool (int_eq e.key (pos 1))) [
@@ -62,9 +68,11 @@ not_below : (a b : ℤ) → a ≡ pos 1 → b ≡ pos 1 → int_cmp a b ≡ Less
 not_below a b one two low = let h = rw (one, two) at low in cc
 
 -- so `meta` has one row at most
-pub one_at_most : (db : Database) (rows : List Entry) → HoldsRows db meta rows → (rows ≡ []) ⊎ ((e : Entry) × (rows ≡ e ∷ []) × (e.key ≡ pos 1))
+pub one_at_most : (db : Database) (rows : List Entry) → HoldsRows db meta rows → (rows ≡ [])
+    ⊎ ((e : Entry) × (rows ≡ e ∷ []) × (e.key ≡ pos 1))
 one_at_most db [] has = inl refl
 one_at_most db (e ∷ []) has = inr (e, refl, has_key_one db (e ∷ []) has e (inl refl))
 one_at_most db (e ∷ f ∷ rows) has =
-    absurd (not_below e.key f.key (has_key_one db (e ∷ f ∷ rows) has e (inl refl)) (has_key_one db (e ∷ f ∷ rows) has f (inr (inl refl)))
+    absurd (not_below e.key f.key (has_key_one db (e ∷ f ∷ rows) has e (inl refl))
+    (has_key_one db (e ∷ f ∷ rows) has f (inr (inl refl)))
     has.holds.rows.rise.0.0)

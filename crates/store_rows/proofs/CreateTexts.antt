@@ -1,4 +1,5 @@
--- The CREATE texts, each of its table under any schema that takes it, and the text of the table that counts for AUTOINCREMENT.
+-- The CREATE texts, each of its table under any schema that takes it, and the text of the table that counts
+-- for AUTOINCREMENT.
 use Rattle.std.proofs.Common.{lit≤, refl}
 use Rattle.sqlite.specs.Does.{sequence_text}
 use Rattle.sqlite.specs.Table.{Table}
@@ -10,7 +11,8 @@ use Rattle.sql_meanings.proofs.ListedTexts.{listing_tests}
 use Rattle.sql_meanings.proofs.Makeable.{creates_by, makeable}
 use Rattle.store_rows.specs.Creation.{six_texts}
 use Rattle.store_rows.specs.SixTables as six
-use Rattle.store_rows.specs.declared.texts.TheConstants.{MAKE_META, MAKE_BRANCH, MAKE_TELLER, MAKE_ACCOUNT, MAKE_HISTORY, MAKE_REQUEST}
+use Rattle.store_rows.specs.declared.texts.TheConstants.{MAKE_META, MAKE_BRANCH, MAKE_TELLER, MAKE_ACCOUNT}
+use Rattle.store_rows.specs.declared.texts.TheConstants.{MAKE_HISTORY, MAKE_REQUEST}
 
 -- the table that counts for AUTOINCREMENT
 pub sequence : (t : Table) × IsMakeable sequence_text t

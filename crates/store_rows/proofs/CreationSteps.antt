@@ -1,5 +1,6 @@
 -- How the creation of a bank goes on from statement to statement, and how it fails.
-use Rattle.std.proofs.Common.{length, ◌≡◌, ◌≢◌, ◌⊎◌, inl, inr, ℕ, suc, ◌<◌, ◌≤◌, List, [], ◌∷◌, map, take, slice_get, Some, Ok, Err, IsTrue, refl, sym, ap, subst, ◌∙◌, arith, true, false}
+use Rattle.std.proofs.Common.{length, ◌≡◌, ◌≢◌, ◌⊎◌, inl, inr, ℕ, suc, ◌<◌, ◌≤◌, List, [], ◌∷◌, map, take}
+use Rattle.std.proofs.Common.{slice_get, Some, Ok, Err, IsTrue, refl, sym, ap, subst, ◌∙◌, arith, true, false}
 use Rattle.std.specs.List.{AllByRecursion}
 use Rattle.sqlite.specs.Schema.{Schema}
 use Rattle.sqlite.specs.Table.{Table}
@@ -9,7 +10,8 @@ use Rattle.sqlite_catalog.proofs.StepLemmas.{table_below}
 use Rattle.sqlite.specs.Held.{Held, state}
 use Rattle.sqlite.specs.declared.transaction.Transaction.{Transaction}
 use Rattle.sqlite_trees.specs.declared.store.Store.{Ghosts}
-use Rattle.sqlite.specs.State.{State, HasCleanDisk, Survives, IsRolledBack, IsUnchanged, KeepsCommit, KeepsCounts}
+use Rattle.sqlite.specs.State.{State, HasCleanDisk, Survives, IsRolledBack, IsUnchanged, KeepsCommit}
+use Rattle.sqlite.specs.State.{KeepsCounts}
 use Rattle.sqlite.specs.Steps.{FailsToCommit}
 use Rattle.sqlite.specs.State.{Shows as StateShows}
 use Rattle.sqlite.specs.declared.error.Error.{Error}
@@ -23,7 +25,8 @@ use Rattle.sql_meanings.proofs.Makings.{holds_none, kept}
 use Rattle.sql_meanings.proofs.Places.{all_more, fold_more, some_at}
 use Rattle.sql_meanings.proofs.Standing.{counts_created, then_keeps}
 use Rattle.store_rows.specs.SixTables as six
-use Rattle.store_rows.specs.Creation.{CreatesBank, CreationFails, IsMade, MakesAll, MakesWide, six_texts, with_first}
+use Rattle.store_rows.specs.Creation.{CreatesBank, CreationFails, IsMade, MakesAll, MakesWide, six_texts}
+use Rattle.store_rows.specs.Creation.{with_first}
 
 -- a text for each place
 pub next_at : (at : ℕ) → at < length six_texts → (it : List ℕ × Table) × (slice_get six_texts at ≡ Some it)
@@ -46,10 +49,12 @@ stays_new old mid new t since is = record {
   apart = is.apart;
 }
 
-stay_new : (old mid new : Database) (ts : List (List ℕ × Table)) → Keeps mid new → AllByRecursion (λ it. IsNew old mid it.1) ts
+stay_new : (old mid new : Database) (ts : List (List ℕ × Table)) → Keeps mid new
+    → AllByRecursion (λ it. IsNew old mid it.1) ts
     → AllByRecursion (λ it. IsNew old new it.1) ts
 stay_new old mid new [] since all = tt
-stay_new old mid new (it ∷ ts) since all = (stays_new old mid new it.1 since all.0, stay_new old mid new ts since all.1)
+stay_new old mid new (it ∷ ts) since all =
+    (stays_new old mid new it.1 since all.0, stay_new old mid new ts since all.1)
 
 made_new : (old mid new : Database) (t : Table) → Keeps old mid → Adds mid new t → IsNew old new t
 made_new old mid new t before made = record {
@@ -68,7 +73,8 @@ pub record Reached (old mid : State) (made : ℕ) : Type 0 where
   pub faults : old.faults ≤ mid.faults
   pub sound : IsDatabase mid.now
   pub new : AllByRecursion (λ it. IsNew old.now mid.now it.1) (take made six_texts)
-  pub alone : counts_rows old.now.schema ≡ false → (counts_rows mid.now.schema ≡ false) × (mid.now.schema ≡ with_first made old.now.schema)
+  pub alone : counts_rows old.now.schema ≡ false → (counts_rows mid.now.schema ≡ false)
+      × (mid.now.schema ≡ with_first made old.now.schema)
 
 -- the same, or none was made and nothing has changed
 abbrev pub Begun : {S : Type 0} → Ghosts S → Held S → Held S → ℕ → Type 0
@@ -77,11 +83,13 @@ Begun g old mid made = ((made ≡ 0) × (mid ≡ old)) ⊎ Reached (state g old)
 -- what the loop keeps
 pub record Going {S : Type 0} (g : Ghosts S) (old mid : Transaction S) (made : ℕ) : Type 0 where
   pub same_reference : mid.conn.ghost_name ≡ old.conn.ghost_name
-  pub begun : HasCleanDisk (state g mid.conn.now) → IsTrue old.conn.now.in_transaction → Begun g old.conn.now mid.conn.now made
+  pub begun : HasCleanDisk (state g mid.conn.now) → IsTrue old.conn.now.in_transaction
+      → Begun g old.conn.now mid.conn.now made
   pub survives : Survives (state g old.conn.now) (state g mid.conn.now) (λ _. ⊥)
 
 -- the new schema, where no table counts its rows
-grown : (old new : Schema) (t : Table) → t.is_counted ≡ false → (counts_rows (created old t) ≡ false → new ≡ created old t) → counts_rows old ≡ false
+grown : (old new : Schema) (t : Table) → t.is_counted ≡ false
+    → (counts_rows (created old t) ≡ false → new ≡ created old t) → counts_rows old ≡ false
     → (counts_rows new ≡ false) × (new ≡ created old t)
 grown old new t uncounted alone none =
     let more = counts_created old t uncounted none in
@@ -91,10 +99,12 @@ grown old new t uncounted alone none =
 keeps_itself : (a : Database) → Keeps a a
 keeps_itself a = record { stands = λ t h. h; has = λ t h. h; rows = λ t h. refl }
 
-module _ (old mid new : State) (made : ℕ) (it : List ℕ × Table) (has : slice_get six_texts made ≡ Some it) where
+module _ (old mid new : State) (made : ℕ) (it : List ℕ × Table)
+    (has : slice_get six_texts made ≡ Some it) where
   -- ---- one more
 
-  module _ (uncounted : it.1.is_counted ≡ false) (told : MakesTold mid new it.0 it.1 (Ok 0)) (shows : StateShows mid new new.now mid.committed true)
+  module _ (uncounted : it.1.is_counted ≡ false) (told : MakesTold mid new it.0 it.1 (Ok 0))
+      (shows : StateShows mid new new.now mid.committed true)
       (more : mid.faults ≤ new.faults) where
     after_some : Reached old mid made → Reached old new (suc made)
     after_some reached = record {
@@ -113,12 +123,16 @@ module _ (old mid new : State) (made : ℕ) (it : List ℕ × Table) (has : slic
       keeps = then_keeps old.now mid.now new.now reached.keeps told.0.keeps;
       faults = let before = reached.faults in omega arith;
       sound = told.1;
-      new = all_more (λ x. IsNew old.now new.now x.1) six_texts made it has (stay_new old.now mid.now new.now (take made six_texts) told.0.keeps reached.new)
+      new = all_more (λ x. IsNew old.now new.now x.1) six_texts made it has
+          (stay_new old.now mid.now new.now (take made six_texts) told.0.keeps reached.new)
           (made_new old.now mid.now new.now it.1 reached.keeps told.0);
       alone = λ none.
           let before = reached.alone none in
-          let grew = grown mid.now.schema new.now.schema it.1 uncounted told.0.alone before.0 in
-          (grew.0, grew.1 ∙ ap (λ s. created s it.1) before.1 ∙ sym (fold_more (λ s x. created s x.1) six_texts made it has old.now.schema));
+          let grew = grown mid.now.schema new.now.schema it.1 uncounted told.0.alone before.0 in (
+            grew.0,
+            grew.1 ∙ ap (λ s. created s it.1) before.1
+                ∙ sym (fold_more (λ s x. created s x.1) six_texts made it has old.now.schema),
+          );
     }
 
     after_none : made ≡ 0 → Reached mid new (suc made)
@@ -129,7 +143,8 @@ module _ (old mid new : State) (made : ℕ) (it : List ℕ × Table) (has : slic
       keeps = told.0.keeps;
       faults = more;
       sound = told.1;
-      new = all_more (λ x. IsNew mid.now new.now x.1) six_texts made it has (subst (λ n. AllByRecursion (λ x. IsNew mid.now new.now x.1) (take n six_texts)) (sym none) tt)
+      new = all_more (λ x. IsNew mid.now new.now x.1) six_texts made it has
+          (subst (λ n. AllByRecursion (λ x. IsNew mid.now new.now x.1) (take n six_texts)) (sym none) tt)
           (made_new mid.now mid.now new.now it.1 (keeps_itself mid.now) told.0);
       alone = λ nothing.
           let grew = grown mid.now.schema new.now.schema it.1 uncounted told.0.alone nothing in (
@@ -154,7 +169,11 @@ module _ (old mid new : State) (made : ℕ) (it : List ℕ × Table) (has : slic
       },
       same.2 ∙ reached.marks,
     ),
-    record { changes = same.1.changes ∙ reached.counts.changes; last_rowid = same.1.last_rowid ∙ reached.counts.last_rowid },
+    record {
+      changes = same.1.changes ∙ reached.counts.changes;
+      last_rowid = same.1.last_rowid
+          ∙ reached.counts.last_rowid;
+    },
   )
 
   fails_after : (e : Error) → MakeFails mid new it.0 it.1 e → Reached old mid made → MakesAll old new (Err e)
@@ -178,7 +197,8 @@ module _ (old mid new : State) (made : ℕ) (it : List ℕ × Table) (has : slic
         after.1,
       )
 
-  fails_first : (e : Error) → IsTrue mid.in_transaction → MakeFails mid new it.0 it.1 e → made ≡ 0 → MakesAll mid new (Err e)
+  fails_first : (e : Error) → IsTrue mid.in_transaction → MakeFails mid new it.0 it.1 e → made ≡ 0
+      → MakesAll mid new (Err e)
   fails_first e live (inl store) none = inl store
   fails_first e live (inr (refused, same)) none = inr (
     record {
@@ -188,7 +208,11 @@ module _ (old mid new : State) (made : ℕ) (it : List ℕ × Table) (has : slic
       alone = λ nothing. ap (λ (d : Database). d.schema) same.0.now_is;
       refused = subst (λ (d : Database). NotMade d.schema it.0 it.1 e) (sym same.0.now_is) refused;
     },
-    λ t listed. (subst (λ (d : Database). Has d.schema.tables t) (sym same.0.now_is) listed, ap (λ (d : Database). d.trees t.tree) same.0.now_is),
+    λ t listed. (
+      subst (λ (d : Database). Has d.schema.tables t) (sym same.0.now_is) listed,
+      ap
+          (λ (d : Database). d.trees t.tree) same.0.now_is,
+    ),
     (
       record {
         was_open = same.0.was_open;
@@ -202,27 +226,34 @@ module _ (old mid new : State) (made : ℕ) (it : List ℕ × Table) (has : slic
     same.1,
   )
 
-module _ {S : Type 0} (g : Ghosts S) (old mid : Held S) (new : State) (made : ℕ) (it : List ℕ × Table) (has : slice_get six_texts made ≡ Some it)
+module _ {S : Type 0} (g : Ghosts S) (old mid : Held S) (new : State) (made : ℕ) (it : List ℕ × Table)
+    (has : slice_get six_texts made ≡ Some it)
   where
     -- one table more
     pub one_more : it.1.is_counted ≡ false → MakesTold (state g mid) new it.0 it.1 (Ok 0)
-        → StateShows (state g mid) new new.now (state g mid).committed true → (state g mid).faults ≤ new.faults → Begun g old mid made
+        → StateShows (state g mid) new new.now (state g mid).committed true
+        → (state g mid).faults ≤ new.faults → Begun g old mid made
         → Reached (state g old) new (suc made)
     one_more uncounted told shows more (inl none) =
         subst (λ h. Reached (state g h) new (suc made)) none.1
         (after_none (state g mid) (state g mid) new made it has uncounted told shows more none.0)
-    one_more uncounted told shows more (inr reached) = after_some (state g old) (state g mid) new made it has uncounted told shows more reached
+    one_more uncounted told shows more (inr reached) = after_some (state g old) (state g mid) new made it has
+        uncounted told shows more reached
 
     -- a table is refused after those before it were made
-    pub then_fails : (e : Error) → IsTrue mid.in_transaction → MakeFails (state g mid) new it.0 it.1 e → Begun g old mid made
+    pub then_fails : (e : Error) → IsTrue mid.in_transaction → MakeFails (state g mid) new it.0 it.1 e
+        → Begun g old mid made
         → MakesAll (state g old) new (Err e)
     then_fails e live fails (inl none) =
-        subst (λ h. MakesAll (state g h) new (Err e)) none.1 (fails_first (state g mid) (state g mid) new made it has e live fails none.0)
-    then_fails e live fails (inr reached) = fails_after (state g old) (state g mid) new made it has e fails reached
+        subst (λ h. MakesAll (state g h) new (Err e)) none.1
+        (fails_first (state g mid) (state g mid) new made it has e live fails none.0)
+    then_fails e live fails (inr reached) = fails_after (state g old) (state g mid) new made it has e fails
+        reached
 
 -- ---- all of them
 
-none_held : (old g : Database) (its : List (List ℕ × Table)) → IsDatabase g → AllByRecursion (λ it. IsNew old g it.1) its
+none_held : (old g : Database) (its : List (List ℕ × Table)) → IsDatabase g
+    → AllByRecursion (λ it. IsNew old g it.1) its
     → HoldsEach g (map (λ it. it.1) its) (map (λ it. []) its)
 none_held old g [] sound all = tt
 none_held old g (it ∷ its) sound all =
@@ -231,11 +262,16 @@ none_held old g (it ∷ its) sound all =
 -- the six are made
 pub all_made : (old new : State) → Reached old new (length six_texts) → IsMade old.now new.now
 all_made old new reached = record {
-  empty = record { sound = ∣ reached.sound ∣₁; each = none_held old.now new.now six_texts reached.sound reached.new };
+  empty = record {
+    sound = ∣ reached.sound ∣₁;
+    each = none_held old.now new.now six_texts reached.sound
+        reached.new;
+  };
   keeps = λ t h. (reached.keeps.has t h, reached.keeps.rows t h);
   alone = λ none. (reached.alone none).1;
   apart = λ t h same. reached.new.0.apart t h
-      (same ∙ (holds_none new.now six.meta reached.new.0.tree reached.sound reached.new.0.stands reached.new.0.empty).1);
+      (same ∙ (holds_none new.now six.meta reached.new.0.tree reached.sound reached.new.0.stands
+      reached.new.0.empty).1);
 }
 
 module _ {S : Type 0} (g : Ghosts S) (old mid : Held S) where
@@ -253,7 +289,11 @@ module _ {S : Type 0} (g : Ghosts S) (old mid : Held S) where
 -- a refusal commits nothing
 pub makes_leave : (old new : State) (e : Error) → MakesAll old new (Err e) → KeepsCommit old new
 makes_leave old new e (inl store) = kept old new (inr store.3)
-makes_leave old new e (inr refused) = record { was_open = λ live. refused.2.0.was_open; committed = λ live. refused.2.0.committed_is }
+makes_leave old new e (inr refused) = record {
+  was_open = λ live. refused.2.0.was_open;
+  committed = λ live.
+      refused.2.0.committed_is;
+}
 
 -- ---- in a transaction of its own
 
@@ -263,15 +303,21 @@ begun old = record old { in_transaction = true }
 
 module _ (old mid new : State) (e : Error) where
   -- a statement fails, and the transaction is dropped
-  pub fails_created : CreatesBank (begun old) mid (Err e) → mid.faults ≤ new.faults → IsRolledBack mid new → CreationFails old new e
+  pub fails_created : CreatesBank (begun old) mid (Err e) → mid.faults ≤ new.faults → IsRolledBack mid new
+      → CreationFails old new e
   fails_created (inl store) more back = (
     inl (names_on (begun old) mid new (MakesWide old.now) (MakesWide old.now) (λ x. x) e more store),
     undone_twice (begun old) mid new store.3 back,
   )
-  fails_created (inr refused) more back = (inr (mid.now, refused.0), undone_since (begun old) mid new true refused.1.0 back)
+  fails_created (inr refused) more back = (
+    inr (mid.now, refused.0),
+    undone_since (begun old) mid new true
+        refused.1.0 back,
+  )
 
   -- the commit fails
-  pub fails_committed : StateShows (begun old) mid mid.now old.committed true → old.faults ≤ mid.faults → FailsToCommit mid new e
+  pub fails_committed : StateShows (begun old) mid mid.now old.committed true → old.faults ≤ mid.faults
+      → FailsToCommit mid new e
       → CreationFails old new e
   fails_committed shows more (inl store) = (
     inl (names_since (begun old) mid new ⊥ (MakesWide old.now) (λ x. absurd x) e shows.is_open more store),

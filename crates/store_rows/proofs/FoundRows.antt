@@ -1,5 +1,6 @@
 -- What was read of a row, and what is told of it.
-use Rattle.std.proofs.Common.{◌≡◌, ℤ, [], inl, inr, Option, Some, None, option_map, Result, Ok, Err, refl, sym, subst, ap}
+use Rattle.std.proofs.Common.{◌≡◌, ℤ, [], inl, inr, Option, Some, None, option_map, Result, Ok, Err, refl}
+use Rattle.std.proofs.Common.{sym, subst, ap}
 use Rattle.sqlite.specs.Order.{Row, column}
 use Rattle.sqlite.specs.State.{State, IsUnchanged}
 use Rattle.sqlite.specs.declared.error.Error.{Error}
@@ -25,29 +26,35 @@ module _ {X : Type 0} (old new : State) (shown : X → Row) (Breaks : X → Rule
   found_ok (Some y) x told read = (ap Some (read y (the_row told.0)), told.1)
 
   -- a value that could not be read breaks a rule, or memory was refused
-  found_err : (wanted : Option X) (fault : TableFault) → (option_map shown wanted ≡ Some row) × IsUnchanged old new
+  found_err : (wanted : Option X) (fault : TableFault) → (option_map shown wanted ≡ Some row)
+      × IsUnchanged old new
       → ReadsRow shown Breaks row (Err fault) → Finds old new wanted Breaks (Err fault)
   found_err None fault told read = absurd (let e = told.0 in cc)
   found_err (Some y) (Sqlite e) told read = inr (inl (read y (the_row told.0)), told.1)
   found_err (Some y) (Damaged broken) told read = ((y, refl, read y (the_row told.0)), told.1)
 
   -- no row is told where none was looked for
-  found_none : (wanted : Option X) → TellsRow old new (option_map shown wanted) (Err QueryReturnedNoRows) → Finds old new wanted Breaks (Ok None)
+  found_none : (wanted : Option X) → TellsRow old new (option_map shown wanted) (Err QueryReturnedNoRows)
+      → Finds old new wanted Breaks (Ok None)
   found_none None (inl none) = (refl, none.2)
   found_none (Some y) (inl none) = absurd (let e = none.1 in cc)
   found_none wanted (inr (inl fails)) = absurd (no_rows_error fails.0 fails.1)
   found_none wanted (inr (inr limit)) = absurd (let e = limit.0 in cc)
 
 -- what is told of the answer of a query is what was looked for
-pub finds : {X : Type 0} (old new : State) (shown : X → Row) (Breaks : X → Rule → Type 0) (wanted : Option X) (answer : Result Row Error)
+pub finds : {X : Type 0} (old new : State) (shown : X → Row) (Breaks : X → Rule → Type 0) (wanted : Option X)
+    (answer : Result Row Error)
     (result : Result (Option X) TableFault) → ReadsAnswer (ReadsRow shown Breaks) answer result
     → TellsRow old new (option_map shown wanted) answer → Finds old new wanted Breaks result
-finds old new shown Breaks wanted (Ok row) (Ok (Some x)) read told = found_ok old new shown Breaks row wanted x told read
+finds old new shown Breaks wanted (Ok row) (Ok (Some x)) read told = found_ok old new shown Breaks row wanted
+    x told read
 finds old new shown Breaks wanted (Ok row) (Ok None) read told = absurd read
-finds old new shown Breaks wanted (Ok row) (Err fault) read told = found_err old new shown Breaks row wanted fault told read.0
+finds old new shown Breaks wanted (Ok row) (Err fault) read told = found_err old new shown Breaks row wanted
+    fault told read.0
 finds old new shown Breaks wanted (Err e) (Ok (Some x)) read told = absurd read
 finds old new shown Breaks wanted (Err e) (Ok None) read told =
-    found_none old new shown Breaks [] wanted (subst (λ e. TellsRow old new (option_map shown wanted) (Err e)) read told)
+    found_none old new shown Breaks [] wanted
+    (subst (λ e. TellsRow old new (option_map shown wanted) (Err e)) read told)
 finds {X = X} old new shown Breaks wanted (Err e) (Err fault) read told =
     subst (λ f. Finds {X = X} old new wanted Breaks (Err f)) (sym read.0) (failed told)
   where
@@ -57,7 +64,8 @@ finds {X = X} old new shown Breaks wanted (Err e) (Err fault) read told =
     failed (inr (inr limit)) = inr (inr (limit.0, limit.1), limit.2)
 
 -- the balance of a row of one balance
-pub reads_balance : (row : Row) (r : Result ℤ TableFault) → ReadsCents Balance (column row 0) r → ReadsRow balance_shown IsNoBalance row r
+pub reads_balance : (row : Row) (r : Result ℤ TableFault) → ReadsCents Balance (column row 0) r
+    → ReadsRow balance_shown IsNoBalance row r
 reads_balance row (Ok z) read = λ y is. read y (ap (λ x. column x 0) is)
 reads_balance row (Err (Sqlite e)) read = λ y is. read y (ap (λ x. column x 0) is)
 reads_balance row (Err (Damaged broken)) read = λ y is. read y (ap (λ x. column x 0) is)

@@ -1,5 +1,6 @@
 -- The look-up of a request by its teller and number, of which UNIQUE leaves one at most.
-use Rattle.std.proofs.Common.{◌≡◌, ◌&&◌, ◌==◌, ℕ, ℤ, pos, true, false, List, [], ◌∷◌, codes, lit≤, refl, subst, option_map, Ok, Result, ◌∙◌}
+use Rattle.std.proofs.Common.{◌≡◌, ◌&&◌, ◌==◌, ℕ, ℤ, pos, true, false, List, [], ◌∷◌, codes, lit≤, refl}
+use Rattle.std.proofs.Common.{subst, option_map, Ok, Result, ◌∙◌}
 use Rattle.sqlite.specs.Order.{Row}
 use Rattle.sqlite.specs.Schema.{Schema}
 use Rattle.sqlite.specs.Command.TheVariants.{Select}
@@ -40,11 +41,26 @@ use Rattle.store_rows.proofs.RowLists.{same_number, shown_by, shown_itself}
 
 by_tid : (tree : ℕ) → Tests (placed_at request tree) (codes "tid") 2
 unfolding everything
-by_tid tree = record { place = 1; column = number_column (codes "tid"); named = refl; there = refl; is_at = refl; by_bytes = refl }
+by_tid tree = record {
+  place = 1;
+  column = number_column (codes "tid");
+  named = refl;
+  there = refl;
+  is_at =
+      refl;
+  by_bytes = refl;
+}
 
 by_number : (tree : ℕ) → Tests (placed_at request tree) (codes "number") 3
 unfolding everything
-by_number tree = record { place = 2; column = number_column (codes "number"); named = refl; there = refl; is_at = refl; by_bytes = refl }
+by_number tree = record {
+  place = 2;
+  column = number_column (codes "number");
+  named = refl;
+  there = refl;
+  is_at = refl;
+  by_bytes = refl;
+}
 
 abbrev outputs : ℕ → List Output
 outputs tree = outputs_at (placed_at request tree) (0 ∷ 1 ∷ 2 ∷ 3 ∷ 4 ∷ 5 ∷ 6 ∷ 7 ∷ [])
@@ -57,21 +73,30 @@ unfolding everything
 is_get = select_of request GET_REQUEST.now 2 _ _ _ _ _ _ _ _ _ refl refl refl (lit≤ tt) refl refl refl refl
     (λ tree. refl) (lit≤ tt)
 
-module _ (schema : Schema) (p tree : ℕ) (has : HasTable schema (codes "request") p (placed_at request tree)) where
-  typed : program.program schema [] (ungrouped (Inner tree ∷ []) (two_are 2 3) (outputs tree) false [] no_limit (number 0))
+module _ (schema : Schema) (p tree : ℕ) (has : HasTable schema (codes "request") p
+    (placed_at request tree)) where
+  typed : program.program schema [] (ungrouped (Inner tree ∷ []) (two_are 2 3) (outputs tree) false []
+      no_limit (number 0))
       ≡ Ok (record { lets = []; body = by_two 2 3 tree project })
   unfolding program.program ungrouped
   typed = rw (has.low, has.found)
 
-  meant : Means schema GET_REQUEST.now 2 (Select (record { lets = []; body = by_two 2 3 tree project }) (codes "ordinal" ∷ codes "tid" ∷ codes "number" ∷ codes "aid" ∷ codes "bid" ∷ codes "delta" ∷ codes "outcome" ∷ codes "balance" ∷ []))
+  meant : Means schema GET_REQUEST.now 2 (Select (record { lets = []; body = by_two 2 3 tree project })
+      (codes "ordinal" ∷ codes "tid" ∷ codes "number" ∷ codes "aid" ∷ codes "bid" ∷ codes "delta"
+      ∷ codes "outcome" ∷ codes "balance" ∷ []))
   unfolding everything is_get
   meant =
-      means schema GET_REQUEST.now 2 _ _ (select_by_two schema (codes "request") p (placed_at request tree) has GET_REQUEST.now is_get.P is_get.s is_get.core is_get.source is_get.shown _ _ _ _ _ _ _ (codes "tid") (codes "number") 2 1 3 2
+      means schema GET_REQUEST.now 2 _ _ (select_by_two schema (codes "request") p (placed_at request tree)
+      has GET_REQUEST.now is_get.P is_get.s is_get.core is_get.source is_get.shown _ _ _ _ _ _ _
+      (codes "tid") (codes "number") 2 1 3 2
       (by_tid tree) (by_number tree) (outputs tree) _
-      refl refl refl refl refl refl refl refl refl refl refl refl refl (shows_named (placed_at request tree) is_get.shown (outputs tree) (is_get.shows tree))
+      refl refl refl refl refl refl refl refl refl refl refl refl refl
+      (shows_named (placed_at request tree) is_get.shown (outputs tree) (is_get.shows tree))
       (refl, (refl, (refl, (refl, (refl, (refl, (refl, (refl, tt))))))))
-      (number_at schema p (placed_at request tree) has.listed (codes "request") (outputs tree) false 1 (number_column (codes "tid")) refl refl)
-      (number_at schema p (placed_at request tree) has.listed (codes "request") (outputs tree) false 2 (number_column (codes "number")) refl refl)
+      (number_at schema p (placed_at request tree) has.listed (codes "request") (outputs tree) false 1
+      (number_column (codes "tid")) refl refl)
+      (number_at schema p (placed_at request tree) has.listed (codes "request") (outputs tree) false 2
+      (number_column (codes "number")) refl refl)
       refl refl refl refl refl refl refl
       typed) refl (lit≤ tt) refl refl refl
 
@@ -80,9 +105,18 @@ module _ (schema : Schema) (p tree : ℕ) (has : HasTable schema (codes "request
   accepts a b = rw (has.low, has.found)
 
 pub reads : (a b : ℤ) → ReadsAs request GET_REQUEST.now (Int a ∷ Int b ∷ []) (λ t. by_two 2 3 t project)
-reads a b = record { names = codes "ordinal" ∷ codes "tid" ∷ codes "number" ∷ codes "aid" ∷ codes "bid" ∷ codes "delta" ∷ codes "outcome" ∷ codes "balance" ∷ []; means = meant; accepts = λ schema p tree has. accepts schema p tree has a b; unfolded = λ _. refl; ungrouped = λ _. refl }
+reads a b = record {
+  names = codes "ordinal" ∷ codes "tid" ∷ codes "number" ∷ codes "aid" ∷ codes "bid"
+      ∷ codes "delta" ∷ codes "outcome" ∷ codes "balance"
+      ∷ [];
+  means = meant;
+  accepts = λ schema p tree has. accepts schema p tree has a b;
+  unfolded = λ _. refl;
+  ungrouped = λ _. refl;
+}
 
-has_both : (a b : ℕ) (r : RequestRow) → has_two (pos a) (pos b) (request_entry r) ≡ ((r.teller == a) && (r.number == b))
+has_both : (a b : ℕ) (r : RequestRow) → has_two (pos a) (pos b) (request_entry r)
+    ≡ ((r.teller == a) && (r.number == b))
 has_both a b r = rw (same_number r.teller a, same_number r.number b) refl
 
 -- it tells the request of the teller under the number
@@ -91,11 +125,13 @@ pub tells : (old new : State) (t : Tables) (a b : ℕ) (r : Result Row Error) �
     → TellsRow old new (option_map request_shown (request_in t a b)) r
 tells old new t a b r shows h =
     subst (λ o. TellsRow old new o r)
-    (shown_by request_key request_entry (λ _. refl) (λ e. eval_all project ((Int (pos a) ∷ Int (pos b) ∷ []) ∷ stored e ∷ []))
+    (shown_by request_key request_entry (λ _. refl)
+    (λ e. eval_all project ((Int (pos a) ∷ Int (pos b) ∷ []) ∷ stored e ∷ []))
     request_shown (λ x. x) (λ _. refl)
     (has_two (pos a) (pos b)) (λ x. (x.teller == a) && (x.number == b)) (has_both a b) t.requests
     ∙ shown_itself request_shown (request_in t a b))
-    (reads_two old new request refl shows.sound _ (holds requests old.now t shows) GET_REQUEST.now project (pos a) (pos b) refl refl
+    (reads_two old new request refl shows.sound _ (holds requests old.now t shows) GET_REQUEST.now project
+    (pos a) (pos b) refl refl
     (reads (pos a) (pos b)) r h)
 
 -- under any schema it only shows rows

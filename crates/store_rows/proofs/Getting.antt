@@ -20,10 +20,41 @@ pub record Keys : Type 0 where
 unfoldable pub keys : Keys
 unfolding everything
 keys = record {
-  meta = λ _. record { place = 0; column = key_column (codes "id"); named = refl; there = refl; is_at = refl; by_bytes = refl };
-  branch = λ _. record { place = 0; column = key_column (codes "bid"); named = refl; there = refl; is_at = refl; by_bytes = refl };
-  teller = λ _. record { place = 0; column = key_column (codes "tid"); named = refl; there = refl; is_at = refl; by_bytes = refl };
-  account = λ _. record { place = 0; column = key_column (codes "aid"); named = refl; there = refl; is_at = refl; by_bytes = refl };
+  meta = λ _. record {
+    place = 0;
+    column = key_column (codes "id");
+    named = refl;
+    there = refl;
+    is_at = refl;
+    by_bytes = refl;
+  };
+  branch = λ _. record {
+    place = 0;
+    column = key_column (codes "bid");
+    named = refl;
+    there = refl;
+    is_at =
+        refl;
+    by_bytes = refl;
+  };
+  teller = λ _. record {
+    place = 0;
+    column = key_column (codes "tid");
+    named = refl;
+    there = refl;
+    is_at =
+        refl;
+    by_bytes = refl;
+  };
+  account = λ _. record {
+    place = 0;
+    column = key_column (codes "aid");
+    named = refl;
+    there = refl;
+    is_at =
+        refl;
+    by_bytes = refl;
+  };
 }
 
 pub record GetsRows : Type 0 where
@@ -35,12 +66,20 @@ pub record GetsRows : Type 0 where
 pub gets : GetsRows
 unfolding everything program.program ungrouped
 gets = record {
-  meta = gets_by (select_of six.meta GET_META.now 1 _ _ _ _ _ _ _ _ _ refl refl refl (lit≤ tt) refl refl refl refl (λ _. refl) (lit≤ tt))
-      _ _ _ _ _ keys.meta refl refl refl refl refl refl (λ _ _ _ has. rw (has.low, has.found)) (λ _ _ _ _ has. rw (has.low, has.found));
-  branch = gets_by (select_of six.branch GET_BRANCH.now 1 _ _ _ _ _ _ _ _ _ refl refl refl (lit≤ tt) refl refl refl refl (λ _. refl) (lit≤ tt))
-      _ _ _ _ _ keys.branch refl refl refl refl refl refl (λ _ _ _ has. rw (has.low, has.found)) (λ _ _ _ _ has. rw (has.low, has.found));
-  teller = gets_by (select_of six.teller GET_TELLER.now 1 _ _ _ _ _ _ _ _ _ refl refl refl (lit≤ tt) refl refl refl refl (λ _. refl) (lit≤ tt))
-      _ _ _ _ _ keys.teller refl refl refl refl refl refl (λ _ _ _ has. rw (has.low, has.found)) (λ _ _ _ _ has. rw (has.low, has.found));
-  account = gets_by (select_of six.account GET_ACCOUNT.now 1 _ _ _ _ _ _ _ _ _ refl refl refl (lit≤ tt) refl refl refl refl (λ _. refl) (lit≤ tt))
-      _ _ _ _ _ keys.account refl refl refl refl refl refl (λ _ _ _ has. rw (has.low, has.found)) (λ _ _ _ _ has. rw (has.low, has.found));
+  meta = gets_by (select_of six.meta GET_META.now 1 _ _ _ _ _ _ _ _ _ refl refl refl (lit≤ tt) refl refl refl
+      refl (λ _. refl) (lit≤ tt))
+      _ _ _ _ _ keys.meta refl refl refl refl refl refl (λ _ _ _ has. rw (has.low, has.found))
+      (λ _ _ _ _ has. rw (has.low, has.found));
+  branch = gets_by (select_of six.branch GET_BRANCH.now 1 _ _ _ _ _ _ _ _ _ refl refl refl (lit≤ tt) refl refl
+      refl refl (λ _. refl) (lit≤ tt))
+      _ _ _ _ _ keys.branch refl refl refl refl refl refl (λ _ _ _ has. rw (has.low, has.found))
+      (λ _ _ _ _ has. rw (has.low, has.found));
+  teller = gets_by (select_of six.teller GET_TELLER.now 1 _ _ _ _ _ _ _ _ _ refl refl refl (lit≤ tt) refl refl
+      refl refl (λ _. refl) (lit≤ tt))
+      _ _ _ _ _ keys.teller refl refl refl refl refl refl (λ _ _ _ has. rw (has.low, has.found))
+      (λ _ _ _ _ has. rw (has.low, has.found));
+  account = gets_by (select_of six.account GET_ACCOUNT.now 1 _ _ _ _ _ _ _ _ _ refl refl refl (lit≤ tt) refl
+      refl refl refl (λ _. refl) (lit≤ tt))
+      _ _ _ _ _ keys.account refl refl refl refl refl refl (λ _ _ _ has. rw (has.low, has.found))
+      (λ _ _ _ _ has. rw (has.low, has.found));
 }

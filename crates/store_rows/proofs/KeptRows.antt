@@ -1,5 +1,6 @@
 -- What a row keeps of a request.
-use Rattle.std.proofs.Common.{◌≡◌, ◌==◌, ℕ, ℤ, pos, Bool, true, false, cond, Some, None, Ok, Err, refl, sym, ap, subst, ◌∙◌}
+use Rattle.std.proofs.Common.{◌≡◌, ◌==◌, ℕ, ℤ, pos, Bool, true, false, cond, Some, None, Ok, Err, refl, sym}
+use Rattle.std.proofs.Common.{ap, subst, ◌∙◌}
 use Rattle.std.specs.Option.{ok_or}
 use Rattle.sqlite.specs.Order.{Row, column}
 use Rattle.message_records.specs.Outcomes.{code_of}
@@ -49,15 +50,19 @@ same_number a b h = cc
 
 module _ (row : Row) (account branch : ℕ) (delta : ℤ) (outcome : Outcome) (balance : ℤ)
     (one : ReadsWhole 1 MAX_ACCOUNT Request (column row 3) (Ok account))
-    (two : ReadsWhole 1 MAX_BRANCH Request (column row 4) (Ok branch)) (three : ReadsCents Request (column row 5) (Ok delta))
-    (four : ReadsOutcome (column row 6) (Ok outcome)) (five : ReadsCents Request (column row 7) (Ok balance)) where
+    (two : ReadsWhole 1 MAX_BRANCH Request (column row 4) (Ok branch))
+    (three : ReadsCents Request (column row 5) (Ok delta))
+    (four : ReadsOutcome (column row 6) (Ok outcome))
+    (five : ReadsCents Request (column row 7) (Ok balance)) where
   abbrev fields : KeptFields
   fields = record { account = account; branch = branch; delta = delta; outcome = outcome; balance = balance }
 
   same_fields : (r : RequestRow) → row ≡ request_shown r → fields ≡ r.kept
   same_fields r is =
-      let a : account ≡ r.kept.account = sym (same_number _ _ (one (pos r.kept.account) (ap (λ x. column x 3) is))) in
-      let b : branch ≡ r.kept.branch = sym (same_number _ _ (two (pos r.kept.branch) (ap (λ x. column x 4) is))) in
+      let a : account ≡ r.kept.account = sym (same_number _ _
+      (one (pos r.kept.account) (ap (λ x. column x 3) is))) in
+      let b : branch ≡ r.kept.branch = sym (same_number _ _
+      (two (pos r.kept.branch) (ap (λ x. column x 4) is))) in
       let d : delta ≡ r.kept.delta = three r.kept.delta (ap (λ x. column x 5) is) in
       let o : outcome ≡ r.kept.outcome = same_outcome _ _
       (sym (same_number _ _ (four (pos (code_of r.kept.outcome)) (ap (λ x. column x 6) is)))) in
@@ -68,7 +73,8 @@ module _ (row : Row) (account branch : ℕ) (delta : ℤ) (outcome : Outcome) (b
   pub keeps : ReadsKept row (ok_or (kept_from account branch delta outcome balance) (Damaged Request))
   keeps = go (is_kept_with outcome balance) refl
     where
-      go : (b : Bool) → is_kept_with outcome balance ≡ b → ReadsKept row (ok_or (cond b (Some fields) None) (Damaged Request))
+      go : (b : Bool) → is_kept_with outcome balance ≡ b
+          → ReadsKept row (ok_or (cond b (Some fields) None) (Damaged Request))
       go true is = λ r shown. same_fields r shown
       go false is = λ r shown. (
         refl,
@@ -79,12 +85,22 @@ module _ (row : Row) (account branch : ℕ) (delta : ℤ) (outcome : Outcome) (b
 
 -- ---- an amount that couldn't be read
 
-pub no_delta : (row : Row) (e : TableFault) → ReadsCents Request (column row 5) (Err e) → ReadsKept row (Err e)
+pub no_delta : (row : Row) (e : TableFault) → ReadsCents Request (column row 5) (Err e)
+    → ReadsKept row (Err e)
 no_delta row (Sqlite e) read = λ r is. read r.kept.delta (ap (λ x. column x 5) is)
 no_delta row (Damaged broken) read = λ r is.
-    let it = read r.kept.delta (ap (λ x. column x 5) is) in (it.0, λ can. let none = it.1 in let some = can.delta in cc)
+    let it = read r.kept.delta (ap (λ x. column x 5) is) in (
+      it.0,
+      λ can. let none = it.1 in let some =
+          can.delta in cc,
+    )
 
-pub no_balance : (row : Row) (e : TableFault) → ReadsCents Request (column row 7) (Err e) → ReadsKept row (Err e)
+pub no_balance : (row : Row) (e : TableFault) → ReadsCents Request (column row 7) (Err e)
+    → ReadsKept row (Err e)
 no_balance row (Sqlite e) read = λ r is. read r.kept.balance (ap (λ x. column x 7) is)
 no_balance row (Damaged broken) read = λ r is.
-    let it = read r.kept.balance (ap (λ x. column x 7) is) in (it.0, λ can. let none = it.1 in let some = can.balance in cc)
+    let it = read r.kept.balance (ap (λ x. column x 7) is) in (
+      it.0,
+      λ can. let none = it.1 in let some =
+          can.balance in cc,
+    )

@@ -1,9 +1,11 @@
 -- Small facts about what was looked up.
-use Rattle.std.proofs.Common.{◌≡◌, ℕ, zero, suc, ◌<◌, ℤ, Bool, true, false, cond, nat_eq, [], ◌∷◌, length, refl, arith}
+use Rattle.std.proofs.Common.{◌≡◌, ℕ, zero, suc, ◌<◌, ℤ, Bool, true, false, cond, nat_eq, [], ◌∷◌, length}
+use Rattle.std.proofs.Common.{refl, arith}
 use Rattle.std.proofs.Common.{◌≤◌, ap, ◌∙◌, w64, to_z, of_z, pos, ◌≤ℤ◌, FitsSigned}
 use Rattle.std.specs.Prelude.{neg_ℤ}
 use Rattle.std.proofs.lemmas.Int.{ints, to_z_pos, to_z-of_z}
 use Rattle.sqlite.specs.Order.{Row, column}
+use Rattle.sqlite.specs.declared.types.Value.{Value}
 use Rattle.sqlite.specs.declared.types.Value.TheVariants.{Int}
 use Rattle.message_records.specs.declared.limits.TheConstants.{MAX_BALANCE}
 use Rattle.store_rows.specs.declared.statements.TheConstants.{MAX_KEY}
@@ -28,5 +30,16 @@ fits : (z : ℤ) → neg_ℤ (pos MAX_BALANCE) ≤ℤ z → z ≤ℤ pos MAX_BAL
 fits z least most = omega (arith, ints)
 
 -- so is an amount
-pub as_amount : (z y : ℤ) → z ≡ y → neg_ℤ (pos MAX_BALANCE) ≤ℤ z → z ≤ℤ pos MAX_BALANCE → to_z w64 (of_z w64 z) ≡ y
+pub as_amount : (z y : ℤ) → z ≡ y → neg_ℤ (pos MAX_BALANCE) ≤ℤ z → z ≤ℤ pos MAX_BALANCE
+    → to_z w64 (of_z w64 z) ≡ y
 as_amount z y same least most = to_z-of_z w64 z (fits z least most) ∙ same
+
+-- ---- the value that is handed in for a column
+
+pub whole_column : {v : Value} {n k : ℕ} → v ≡ Int (to_z w64 n) → n ≡ k → n ≤ MAX_KEY → v ≡ Int (pos k)
+whole_column is same low = is ∙ ap (λ z. Int z) (as_integer _ _ same low)
+
+pub amount_column : {v : Value} {z y : ℤ} → v ≡ Int (to_z w64 (of_z w64 z)) → z ≡ y
+    → neg_ℤ (pos MAX_BALANCE) ≤ℤ z → z ≤ℤ pos MAX_BALANCE
+    → v ≡ Int y
+amount_column is same least most = is ∙ ap (λ z. Int z) (as_amount _ _ same least most)

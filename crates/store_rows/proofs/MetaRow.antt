@@ -1,5 +1,7 @@
 -- The one row of `meta`: what is read of it, and what a write of the count leaves.
-use Rattle.std.proofs.Common.{◌≡◌, ℕ, ℤ, pos, Bool, true, nat_eq, List, [], ◌∷◌, codes, find, length, slice_get, slice_set, Some, None, Option, option_map, Ok, Err, Result, lit≤, refl, sym, ap, subst, arith}
+use Rattle.std.proofs.Common.{◌≡◌, ℕ, ℤ, pos, Bool, true, nat_eq, List, [], ◌∷◌, codes, find, length}
+use Rattle.std.proofs.Common.{slice_get, slice_set, Some, None, Option, option_map, Ok, Err, Result, lit≤}
+use Rattle.std.proofs.Common.{refl, sym, ap, subst, arith}
 use Rattle.sqlite.specs.Order.{Row}
 use Rattle.sqlite.specs.Effect.{Database}
 use Rattle.sqlite.specs.State.{State, ExecutesInside, QueriesRowInside}
@@ -46,7 +48,8 @@ numbered = record {
 
 -- where tables are shown, it is the one row with their count
 pub holds_one : (db : Database) (t : Tables) → Shows db t → Holds db six.meta (meta_entry t.decided ∷ [])
-holds_one db t shows = held db bank_tables (contents t) shows.each 0 six.meta (meta_entry t.decided ∷ []) refl refl
+holds_one db t shows = held db bank_tables (contents t) shows.each 0 six.meta (meta_entry t.decided ∷ []) refl
+    refl
 
 pub has_one : (db : Database) (t : Tables) → Shows db t → HoldsRows db six.meta (meta_entry t.decided ∷ [])
 has_one db t shows = record { sound = shows.sound; holds = holds_one db t shows }
@@ -65,26 +68,34 @@ two_shown k key (a ∷ b ∷ []) wide = refl
 two_shown k key (a ∷ b ∷ c ∷ more) wide = absurd (omega arith)
 
 shown_is : (k : ℤ) (o : Option Entry) → ((e : Entry) → o ≡ Some e → length e.values ≡ 2)
-    → option_map (λ e. eval_all project ((Int k ∷ []) ∷ stored e ∷ [])) o ≡ option_map meta_shown (option_map meta_numbers o)
+    → option_map (λ e. eval_all project ((Int k ∷ []) ∷ stored e ∷ [])) o
+    ≡ option_map meta_shown (option_map meta_numbers o)
 shown_is k None wide = refl
 shown_is k (Some e) wide = ap Some (two_shown k e.key e.values (wide e refl))
 
 -- the row under the bank's id is told
-pub tells_meta : (old new : State) (rows : List Entry) → HoldsRows old.now six.meta rows → (r : Result Row Error)
-    → QueriesRowInside GET_META.now (Int (pos META_ID) ∷ []) old new r → TellsRow old new (option_map meta_shown (meta_in rows)) r
+pub tells_meta : (old new : State) (rows : List Entry) → HoldsRows old.now six.meta rows
+    → (r : Result Row Error)
+    → QueriesRowInside GET_META.now (Int (pos META_ID) ∷ []) old new r
+    → TellsRow old new (option_map meta_shown (meta_in rows)) r
 tells_meta old new rows has r h =
     subst (λ o. TellsRow old new o r)
     (shown_is (pos META_ID) (find (has_key (pos META_ID)) rows)
-    (λ e found. found_all (λ x. length x.values ≡ 2) (has_key (pos META_ID)) rows e has.holds.rows.wide found))
-    (reads_key old new six.meta refl has.sound rows has.holds GET_META.now project (pos META_ID) (gets.meta.reads (pos META_ID)) r h)
+    (λ e found. found_all (λ x. length x.values ≡ 2) (has_key (pos META_ID)) rows e has.holds.rows.wide
+    found))
+    (reads_key old new six.meta refl has.sound rows has.holds GET_META.now project (pos META_ID)
+    (gets.meta.reads (pos META_ID)) r h)
 
 -- ---- what is written
 
 -- after a write of `meta` each other table holds what it held
-pub meta_written : (old new : State) (all : List (List Entry)) → HoldsEach old.now bank_tables all → (before after : List Entry)
-    → slice_get all 0 ≡ Some before → Leaves old new six.meta after → HoldsEach new.now bank_tables (slice_set all 0 after)
+pub meta_written : (old new : State) (all : List (List Entry)) → HoldsEach old.now bank_tables all
+    → (before after : List Entry)
+    → slice_get all 0 ≡ Some before → Leaves old new six.meta after
+    → HoldsEach new.now bank_tables (slice_set all 0 after)
 meta_written old new all each before after is left =
-    one_written old new six.meta refl before after (held old.now bank_tables all each 0 six.meta before refl is) left bank_tables all refl each 0 refl
+    one_written old new six.meta refl before after
+    (held old.now bank_tables all each 0 six.meta before refl is) left bank_tables all refl each 0 refl
 
 module _ (old new : State) (t : Tables) (shows : Shows old.now t) (n : ℕ) where
   -- the count is written, since the row is there
@@ -92,10 +103,15 @@ module _ (old new : State) (t : Tables) (shows : Shows old.now t) (n : ℕ) wher
       → Writes old new six.meta true (with_decided n t) (Ok (nat_eq count 1))
   unfolding with_decided
   set count h =
-      let done = sets_row old new six.meta numbered shows.sound _ (holds_one old.now t shows) SET_META.now (pos META_ID) _ (set_second (pos n))
+      let done = sets_row old new six.meta numbered shows.sound _ (holds_one old.now t shows) SET_META.now
+      (pos META_ID) _ (set_second (pos n))
       (sets.meta (pos n)) count h.0 in (
         one_met count true done.1,
-        record { sound = ∣ done.0.sound ∣₁; each = meta_written old new (contents t) shows.each (meta_entry t.decided ∷ []) _ refl done.0 },
+        record {
+          sound = ∣ done.0.sound ∣₁;
+          each = meta_written old new (contents t) shows.each
+              (meta_entry t.decided ∷ []) _ refl done.0;
+        },
         (h.1, done.0.marks),
         spares_standing old new six.meta _ done.0,
       )
@@ -106,12 +122,16 @@ module _ (old new : State) (t : Tables) (shows : Shows old.now t) (n : ℕ) wher
   unfolding with_decided
   fails e h =
       set_fails_as old new six.meta _ e (IsForbidden old.now.schema six.meta (with_decided n t))
-      (forbidden old.now.schema (with_decided n t) six.meta (meta_entry n ∷ []) (λ db s. holds_one db (with_decided n t) s))
-      (refuses_update old new six.meta numbered shows.sound _ (holds_one old.now t shows) SET_META.now (pos META_ID) _ (set_second (pos n))
+      (forbidden old.now.schema (with_decided n t) six.meta (meta_entry n ∷ [])
+      (λ db s. holds_one db (with_decided n t) s))
+      (refuses_update old new six.meta numbered shows.sound _ (holds_one old.now t shows) SET_META.now
+      (pos META_ID) _ (set_second (pos n))
       (sets.meta (pos n)) (key_fits META_ID (lit≤ tt)) e h)
 
   -- either
-  pub tells_decided : (answer : Result Bool Error) → MeetsOne SET_META.now (Int (pos META_ID) ∷ Int (pos n) ∷ []) old new answer
+  pub tells_decided : (answer : Result Bool Error)
+      → MeetsOne SET_META.now (Int (pos META_ID) ∷ Int (pos n) ∷ []) old new answer
       → Writes old new six.meta true (with_decided n t) answer
-  tells_decided (Ok met) h = subst (λ b. Writes old new six.meta true (with_decided n t) (Ok b)) (sym h.2) (set h.0 h.1)
+  tells_decided (Ok met) h = subst (λ b. Writes old new six.meta true (with_decided n t) (Ok b)) (sym h.2)
+      (set h.0 h.1)
   tells_decided (Err e) h = fails e h

@@ -1,5 +1,6 @@
 -- The look-up of the branch with the least number above one.
-use Rattle.std.proofs.Common.{◌≡◌, nat_lt, ℕ, ℤ, pos, true, false, List, [], ◌∷◌, codes, lit≤, refl, subst, option_map, Ok, Result, ◌∙◌}
+use Rattle.std.proofs.Common.{◌≡◌, nat_lt, ℕ, ℤ, pos, true, false, List, [], ◌∷◌, codes, lit≤, refl, subst}
+use Rattle.std.proofs.Common.{option_map, Ok, Result, ◌∙◌}
 use Rattle.sqlite.specs.Order.{Row}
 use Rattle.sqlite.specs.Schema.{Schema}
 use Rattle.sqlite.specs.Command.TheVariants.{Select}
@@ -48,17 +49,23 @@ unfolding everything
 is_next = select_of branch NEXT_BRANCH.now 1 _ _ _ _ _ _ _ _ _ refl refl refl (lit≤ tt) refl refl refl refl
     (λ tree. refl) (lit≤ tt)
 
-module _ (schema : Schema) (p tree : ℕ) (has : HasTable schema (codes "branch") p (placed_at branch tree)) where
-  typed : program.program schema [] (ungrouped (Inner tree ∷ []) key_above (outputs tree) false ascending (lit (Int (pos 1))) (number 0))
+module _ (schema : Schema) (p tree : ℕ) (has : HasTable schema (codes "branch") p
+    (placed_at branch tree)) where
+  typed : program.program schema [] (ungrouped (Inner tree ∷ []) key_above (outputs tree) false ascending
+      (lit (Int (pos 1))) (number 0))
       ≡ Ok (record { lets = []; body = next_above tree project })
   unfolding program.program ungrouped
   typed = rw (has.low, has.found)
 
-  meant : Means schema NEXT_BRANCH.now 1 (Select (record { lets = []; body = next_above tree project }) (codes "bid" ∷ codes "accounts" ∷ codes "balance" ∷ []))
+  meant : Means schema NEXT_BRANCH.now 1 (Select (record { lets = []; body = next_above tree project })
+      (codes "bid" ∷ codes "accounts" ∷ codes "balance" ∷ []))
   unfolding everything is_next keys
   meant =
-      means schema NEXT_BRANCH.now 1 _ _ (select_rising schema (codes "branch") p (placed_at branch tree) has Beyond NEXT_BRANCH.now is_next.P is_next.s is_next.core is_next.source is_next.shown _ _ _ _ _ _ (codes "bid") _ _ 0 1 (keys.branch tree) (outputs tree) _
-      refl refl refl refl refl refl refl refl refl refl refl refl refl refl (shows_named (placed_at branch tree) is_next.shown (outputs tree) (is_next.shows tree))
+      means schema NEXT_BRANCH.now 1 _ _ (select_rising schema (codes "branch") p (placed_at branch tree) has
+      Beyond NEXT_BRANCH.now is_next.P is_next.s is_next.core is_next.source is_next.shown _ _ _ _ _ _
+      (codes "bid") _ _ 0 1 (keys.branch tree) (outputs tree) _
+      refl refl refl refl refl refl refl refl refl refl refl refl refl refl
+      (shows_named (placed_at branch tree) is_next.shown (outputs tree) (is_next.shows tree))
       (refl, (refl, (refl, tt)))
       (key_at schema (codes "branch") p (outputs tree) false) refl refl refl refl refl
       typed) refl (lit≤ tt) refl refl refl
@@ -68,7 +75,14 @@ module _ (schema : Schema) (p tree : ℕ) (has : HasTable schema (codes "branch"
   accepts k = rw (has.low, has.found)
 
 pub reads : (k : ℤ) → ReadsAs branch NEXT_BRANCH.now (Int k ∷ []) (λ t. next_above t project)
-reads k = record { names = codes "bid" ∷ codes "accounts" ∷ codes "balance" ∷ []; means = meant; accepts = λ schema p tree has. accepts schema p tree has k; unfolded = λ _. refl; ungrouped = λ _. refl }
+reads k = record {
+  names = codes "bid" ∷ codes "accounts" ∷ codes "balance"
+      ∷ [];
+  means = meant;
+  accepts = λ schema p tree has. accepts schema p tree has k;
+  unfolded = λ _. refl;
+  ungrouped = λ _. refl;
+}
 
 -- it tells the row with the least key above
 pub tells : (old new : State) (t : Tables) (k : ℕ) (r : Result Row Error) → Shows old.now t
@@ -76,11 +90,14 @@ pub tells : (old new : State) (t : Tables) (k : ℕ) (r : Result Row Error) → 
     → TellsRow old new (option_map branch_shown (branch_above t k)) r
 tells old new t k r shows h =
     subst (λ o. TellsRow old new o r)
-    (shown_by branch_key branch_entry (λ _. refl) (λ e. eval_all project ((Int (pos k) ∷ []) ∷ stored e ∷ [])) branch_shown (λ x. x)
+    (shown_by branch_key branch_entry (λ _. refl) (λ e. eval_all project ((Int (pos k) ∷ []) ∷ stored e ∷ []))
+    branch_shown (λ x. x)
     (λ _. refl)
-    (is_above (pos k)) (λ x. nat_lt k x.branch) (is_row_above branch_key branch_entry (λ _. refl) k) t.branches
+    (is_above (pos k)) (λ x. nat_lt k x.branch) (is_row_above branch_key branch_entry (λ _. refl) k)
+    t.branches
     ∙ shown_itself branch_shown (branch_above t k))
-    (reads_next old new branch refl shows.sound _ (holds branches old.now t shows) NEXT_BRANCH.now project (pos k) (reads (pos k)) r h)
+    (reads_next old new branch refl shows.sound _ (holds branches old.now t shows) NEXT_BRANCH.now project
+    (pos k) (reads (pos k)) r h)
 
 -- under any schema it only shows rows
 pub only : (schema : Schema) → OnlyShows NEXT_BRANCH.now 1 (understood schema NEXT_BRANCH.now)

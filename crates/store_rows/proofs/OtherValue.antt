@@ -1,5 +1,6 @@
 -- A value of another type in the row of the bank.
-use Rattle.std.proofs.Common.{◌≡◌, ℕ, pos, List, [], ◌∷◌, append-nil, length, inl, inr, Ok, Err, Option, Result, ap, ◌∙◌}
+use Rattle.std.proofs.Common.{◌≡◌, ℕ, pos, List, [], ◌∷◌, append-nil, length, inl, inr, Ok, Err, Option}
+use Rattle.std.proofs.Common.{Result, ap, ◌∙◌}
 use Rattle.std.specs.Prelude.{IfErr, IfOk}
 use Rattle.sqlite.specs.Clock.{timed}
 use Rattle.sqlite.specs.Effect.{Database}
@@ -19,7 +20,8 @@ use Rattle.store_rows.specs.declared.metas.TheConstants.{META_ID}
 use Rattle.store_rows.specs.declared.texts.TheConstants.{GET_META}
 use Rattle.sqlite.specs.declared.types.Value.TheVariants.{Int}
 
-untimed : (params : Row) (formats : List (List ℕ)) (now : ℕ) → formats ≡ [] → timed params formats now ≡ params
+untimed : (params : Row) (formats : List (List ℕ)) (now : ℕ) → formats ≡ [] → timed params formats now
+    ≡ params
 untimed params formats now none = ap (λ fs. timed params fs now) none ∙ append-nil params
 
 -- what a text that only shows rows told is what it shows
@@ -41,7 +43,8 @@ first_told old new text params (Ok row) only (inr whole) =
 
 -- a row that can't be read has such a value
 pub other_told : (db : Database) (answer : Result Row Error) (result : Result (Option StoredMeta) TableFault)
-    → IfOk answer (ShowsFirst GET_META.now (Int (pos META_ID) ∷ []) db) → ReadsAnswer (ReadsRow meta_shown Never) answer result
+    → IfOk answer (ShowsFirst GET_META.now (Int (pos META_ID) ∷ []) db)
+    → ReadsAnswer (ReadsRow meta_shown Never) answer result
     → IfErr result (TellsOther db)
 other_told db answer (Ok found) shows read = tt
 other_told db answer (Err (Sqlite e)) shows read = tt

@@ -13,7 +13,8 @@ use Rattle.sql_meanings.specs.Entries.{Entry, numbers}
 use Rattle.sql_meanings.proofs.PutRows.{PutsAs}
 use Rattle.sql_meanings.proofs.Texts.{puts_by}
 use Rattle.store_rows.specs.SixTables as six
-use Rattle.store_rows.specs.View.{meta_entry, branch_entry, teller_entry, account_entry, history_entry, request_entry}
+use Rattle.store_rows.specs.View.{meta_entry, branch_entry, teller_entry, account_entry, history_entry}
+use Rattle.store_rows.specs.View.{request_entry}
 use Rattle.store_rows.specs.declared.texts.TheConstants as text
 use Rattle.store_rows.proofs.Checked.{meta_checked}
 
@@ -40,11 +41,17 @@ pub record PutsEntries : Type 0 where
 pub puts : PutsEntries
 unfolding everything
 puts = record {
-  meta = puts_by six.meta text.ADD_META.now (given first_row) first_row 2 _ _ _ refl refl refl refl (λ _ _. refl) (lit≤ tt) refl (λ _. refl) refl (λ _. refl)
+  meta = puts_by six.meta text.ADD_META.now (given first_row) first_row 2 _ _ _ refl refl refl refl
+      (λ _ _. refl) (lit≤ tt) refl (λ _. refl) refl (λ _. refl)
       (meta_checked (pos 1) (Null ∷ Int (pos 1) ∷ Int (pos 0) ∷ []) refl);
-  branch = λ r. puts_by six.branch text.ADD_BRANCH.now (given (branch_entry r)) (branch_entry r) 2 _ _ _ refl refl refl refl (λ _ _. refl) (lit≤ tt) refl (λ _. refl) refl (λ _. refl) refl;
-  teller = λ r. puts_by six.teller text.ADD_TELLER.now (given (teller_entry r)) (teller_entry r) 1 _ _ _ refl refl refl refl (λ _ _. refl) (lit≤ tt) refl (λ _. refl) refl (λ _. refl) refl;
-  account = λ r. puts_by six.account text.ADD_ACCOUNT.now (given (account_entry r)) (account_entry r) 1 _ _ _ refl refl refl refl (λ _ _. refl) (lit≤ tt) refl (λ _. refl) refl (λ _. refl) refl;
-  posting = λ r. puts_by six.history text.ADD_HISTORY.now (given (history_entry r)) (history_entry r) 5 _ _ _ refl refl refl refl (λ _ _. refl) (lit≤ tt) refl (λ _. refl) refl (λ _. refl) refl;
-  request = λ r. puts_by six.request text.ADD_REQUEST.now (given (request_entry r)) (request_entry r) 7 _ _ _ refl refl refl refl (λ _ _. refl) (lit≤ tt) refl (λ _. refl) refl (λ _. refl) refl;
+  branch = λ r. puts_by six.branch text.ADD_BRANCH.now (given (branch_entry r)) (branch_entry r) 2 _ _ _ refl
+      refl refl refl (λ _ _. refl) (lit≤ tt) refl (λ _. refl) refl (λ _. refl) refl;
+  teller = λ r. puts_by six.teller text.ADD_TELLER.now (given (teller_entry r)) (teller_entry r) 1 _ _ _ refl
+      refl refl refl (λ _ _. refl) (lit≤ tt) refl (λ _. refl) refl (λ _. refl) refl;
+  account = λ r. puts_by six.account text.ADD_ACCOUNT.now (given (account_entry r)) (account_entry r) 1 _ _ _
+      refl refl refl refl (λ _ _. refl) (lit≤ tt) refl (λ _. refl) refl (λ _. refl) refl;
+  posting = λ r. puts_by six.history text.ADD_HISTORY.now (given (history_entry r)) (history_entry r) 5 _ _ _
+      refl refl refl refl (λ _ _. refl) (lit≤ tt) refl (λ _. refl) refl (λ _. refl) refl;
+  request = λ r. puts_by six.request text.ADD_REQUEST.now (given (request_entry r)) (request_entry r) 7 _ _ _
+      refl refl refl refl (λ _ _. refl) (lit≤ tt) refl (λ _. refl) refl (λ _. refl) refl;
 }

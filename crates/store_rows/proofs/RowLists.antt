@@ -1,5 +1,7 @@
 -- The rows of a bank and the entries that a file holds of them.
-use Rattle.std.proofs.Common.{◌≡◌, ◌==◌, ℕ, pos, List, [], ◌∷◌, map, find, is_some, cond, nat_lt, Bool, true, false, Some, None, Option, option_map, Ordering, Less, Greater, int_cmp, refl, ap, ◌∙◌, arith}
+use Rattle.std.proofs.Common.{◌≡◌, ◌==◌, ℕ, pos, List, [], ◌∷◌, map, find, is_some, cond, nat_lt, Bool, true}
+use Rattle.std.proofs.Common.{false, Some, None, Option, option_map, Ordering, Less, Greater, int_cmp, refl}
+use Rattle.std.proofs.Common.{ap, ◌∙◌, arith}
 use Rattle.std.proofs.lemmas.Int.{ints}
 use Rattle.std.specs.Ordering.{int_eq, is_gt, match_ordering}
 use Rattle.sqlite.specs.Order.{Row}
@@ -21,7 +23,8 @@ above : (a b : ℕ) → is_gt (int_cmp (pos b) (pos a)) ≡ nat_lt a b
 above a b = grind (arith, ints)
 
 -- where a whole row is looked for, what is shown of it is what is shown of what was looked for
-pub shown_itself : {X : Type 0} (shown : X → Row) (o : Option X) → option_map shown (option_map (λ x. x) o) ≡ option_map shown o
+pub shown_itself : {X : Type 0} (shown : X → Row) (o : Option X) → option_map shown (option_map (λ x. x) o)
+    ≡ option_map shown o
 shown_itself shown None = refl
 shown_itself shown (Some x) = refl
 
@@ -38,19 +41,23 @@ module _ {R : Type 0} (key : R → ℕ) (entry : R → Entry) (keyed : (r : R) �
   pub found_by : (p : Entry → Bool) (q : R → Bool) → ((r : R) → p (entry r) ≡ q r) → (rows : List R)
       → find p (map entry rows) ≡ option_map entry (find q rows)
   found_by p q same [] = refl
-  found_by p q same (r ∷ rows) = ap (λ b. cond b (Some (entry r)) (find p (map entry rows))) (same r) ∙ go (q r) (found_by p q same rows)
+  found_by p q same (r ∷ rows) = ap (λ b. cond b (Some (entry r)) (find p (map entry rows))) (same r)
+      ∙ go (q r) (found_by p q same rows)
     where
       go : (b : Bool) → find p (map entry rows) ≡ option_map entry (find q rows)
-          → cond b (Some (entry r)) (find p (map entry rows)) ≡ option_map entry (cond b (Some r) (find q rows))
+          → cond b (Some (entry r)) (find p (map entry rows))
+          ≡ option_map entry (cond b (Some r) (find q rows))
       go true more = refl
       go false more = more
 
   -- what a statement shows of the entry it shows of what was looked for
-  pub shown_by : {X : Type 0} (show : Entry → Row) (shown : X → Row) (value : R → X) → ((r : R) → show (entry r) ≡ shown (value r))
+  pub shown_by : {X : Type 0} (show : Entry → Row) (shown : X → Row) (value : R → X)
+      → ((r : R) → show (entry r) ≡ shown (value r))
       → (p : Entry → Bool) (q : R → Bool)
       → ((r : R) → p (entry r) ≡ q r) → (rows : List R)
       → option_map show (find p (map entry rows)) ≡ option_map shown (option_map value (find q rows))
-  shown_by show shown value same p q test rows = ap (option_map show) (found_by p q test rows) ∙ go (find q rows)
+  shown_by show shown value same p q test rows = ap (option_map show) (found_by p q test rows)
+      ∙ go (find q rows)
     where
       go : (o : Option R) → option_map show (option_map entry o) ≡ option_map shown (option_map value o)
       go None = refl
@@ -61,31 +68,42 @@ module _ {R : Type 0} (key : R → ℕ) (entry : R → Entry) (keyed : (r : R) �
   there (Some r) = refl
 
   -- a key is taken where a row has it
-  pub taken_row_key : (k : ℕ) (rows : List R) → is_some (find (has_key (pos k)) (map entry rows)) ≡ is_some (row_at key rows k)
-  taken_row_key k rows = ap is_some (found_by (has_key (pos k)) (λ r. key r == k) (has_row_key k) rows) ∙ there (row_at key rows k)
+  pub taken_row_key : (k : ℕ) (rows : List R) → is_some (find (has_key (pos k)) (map entry rows))
+      ≡ is_some (row_at key rows k)
+  taken_row_key k rows = ap is_some (found_by (has_key (pos k)) (λ r. key r == k) (has_row_key k) rows)
+      ∙ there (row_at key rows k)
 
   -- the same under a key
-  pub shown_row : {X : Type 0} (show : Entry → Row) (shown : X → Row) (value : R → X) → ((r : R) → show (entry r) ≡ shown (value r))
+  pub shown_row : {X : Type 0} (show : Entry → Row) (shown : X → Row) (value : R → X)
+      → ((r : R) → show (entry r) ≡ shown (value r))
       → (k : ℕ) (rows : List R)
-      → option_map show (find (has_key (pos k)) (map entry rows)) ≡ option_map shown (option_map value (row_at key rows k))
-  shown_row show shown value same k rows = shown_by show shown value same (has_key (pos k)) (λ r. key r == k) (has_row_key k) rows
+      → option_map show (find (has_key (pos k)) (map entry rows))
+      ≡ option_map shown (option_map value (row_at key rows k))
+  shown_row show shown value same k rows = shown_by show shown value same (has_key (pos k)) (λ r. key r == k)
+      (has_row_key k) rows
 
   -- to change the entry under a key is to change the row under it
-  pub changed_rows : (change : R → R) (change_entry : Entry → Entry) → ((r : R) → change_entry (entry r) ≡ entry (change r))
+  pub changed_rows : (change : R → R) (change_entry : Entry → Entry)
+      → ((r : R) → change_entry (entry r) ≡ entry (change r))
       → (k : ℕ) (rows : List R)
       → changed change_entry (pos k) (map entry rows) ≡ map entry (row_changed key change k rows)
   changed_rows change change_entry same k [] = refl
   changed_rows change change_entry same k (r ∷ rows) =
-      ap (λ b. cond b (change_entry (entry r)) (entry r) ∷ changed change_entry (pos k) (map entry rows)) (has_row_key k r)
-      ∙ go (key r == k) ∙ ap (λ l. entry (cond (key r == k) (change r) r) ∷ l) (changed_rows change change_entry same k rows)
+      ap (λ b. cond b (change_entry (entry r)) (entry r) ∷ changed change_entry (pos k) (map entry rows))
+      (has_row_key k r)
+      ∙ go (key r == k) ∙ ap (λ l. entry (cond (key r == k) (change r) r) ∷ l)
+      (changed_rows change change_entry same k rows)
     where
-      go : (b : Bool) → cond b (change_entry (entry r)) (entry r) ∷ changed change_entry (pos k) (map entry rows)
+      go : (b : Bool) → cond b (change_entry (entry r)) (entry r)
+          ∷ changed change_entry (pos k) (map entry rows)
           ≡ entry (cond b (change r) r) ∷ changed change_entry (pos k) (map entry rows)
       go true = ap (λ e. e ∷ changed change_entry (pos k) (map entry rows)) (same r)
       go false = refl
 
-  order_of : (new r : R) (o : Ordering) → int_cmp (pos (key r)) (pos (key new)) ≡ o → int_cmp (entry r).key (entry new).key ≡ o
-  order_of new r o h = ap (λ z. int_cmp z (entry new).key) (keyed r) ∙ ap (int_cmp (pos (key r))) (keyed new) ∙ h
+  order_of : (new r : R) (o : Ordering) → int_cmp (pos (key r)) (pos (key new)) ≡ o
+      → int_cmp (entry r).key (entry new).key ≡ o
+  order_of new r o h = ap (λ z. int_cmp z (entry new).key) (keyed r) ∙ ap (int_cmp (pos (key r))) (keyed new)
+      ∙ h
 
   -- to put an entry under a free key in is to put the row in
   pub put_rows : (new : R) (rows : List R) → is_some (row_at key rows (key new)) ≡ false
@@ -94,19 +112,26 @@ module _ {R : Type 0} (key : R → ℕ) (entry : R → Entry) (keyed : (r : R) �
   put_rows new (r ∷ rows) free = other (key r == key new) refl free (put_rows new rows)
     where
       placed : (o : Ordering) → int_cmp (entry r).key (entry new).key ≡ o
-          → put (entry new) (entry r ∷ map entry rows) ≡ match_ordering o (entry r ∷ put (entry new) (map entry rows))
+          → put (entry new) (entry r ∷ map entry rows)
+          ≡ match_ordering o (entry r ∷ put (entry new) (map entry rows))
           (entry new ∷ map entry rows) (entry new ∷ entry r ∷ map entry rows)
-      placed o is = ap (λ o. match_ordering o (entry r ∷ put (entry new) (map entry rows)) (entry new ∷ map entry rows)
+      placed o is = ap (λ o. match_ordering o (entry r ∷ put (entry new) (map entry rows))
+          (entry new ∷ map entry rows)
           (entry new ∷ entry r ∷ map entry rows)) is
 
       side : (b : Bool) → nat_lt (key r) (key new) ≡ b → (key r == key new) ≡ false
           → put (entry new) (map entry rows) ≡ map entry (row_put key new rows)
-          → put (entry new) (entry r ∷ map entry rows) ≡ map entry (cond b (r ∷ row_put key new rows) (new ∷ r ∷ rows))
-      side true low apart more = placed Less (order_of new r Less (below (key r) (key new) low)) ∙ ap (λ l. entry r ∷ l) more
-      side false high apart more = placed Greater (order_of new r Greater (not_below (key r) (key new) high apart))
+          → put (entry new) (entry r ∷ map entry rows)
+          ≡ map entry (cond b (r ∷ row_put key new rows) (new ∷ r ∷ rows))
+      side true low apart more = placed Less (order_of new r Less (below (key r) (key new) low))
+          ∙ ap (λ l. entry r ∷ l) more
+      side false high apart more = placed Greater
+          (order_of new r Greater (not_below (key r) (key new) high apart))
 
-      other : (b : Bool) → (key r == key new) ≡ b → is_some (cond b (Some r) (row_at key rows (key new))) ≡ false
-          → (is_some (row_at key rows (key new)) ≡ false → put (entry new) (map entry rows) ≡ map entry (row_put key new rows))
+      other : (b : Bool) → (key r == key new) ≡ b → is_some (cond b (Some r) (row_at key rows (key new)))
+          ≡ false
+          → (is_some (row_at key rows (key new)) ≡ false → put (entry new) (map entry rows)
+          ≡ map entry (row_put key new rows))
           → put (entry new) (entry r ∷ map entry rows)
           ≡ map entry (cond (nat_lt (key r) (key new)) (r ∷ row_put key new rows) (new ∷ r ∷ rows))
       other true is none more = absurd cc

@@ -7,17 +7,20 @@ use Rattle.sql_meanings.specs.Entries.{Entry, has_two, is_above, stored}
 use Rattle.sql_meanings.specs.Tables.{width_of}
 use Rattle.sql_meanings.proofs.Keyed.{Gets}
 use Rattle.sql_meanings.proofs.Texts.{only_reads}
-use Rattle.store_rows.specs.Columns.{account_balance_in, account_balance_of, balance_shown, branch_above, branch_shown}
+use Rattle.store_rows.specs.Columns.{account_balance_in, account_balance_of, balance_shown, branch_above}
+use Rattle.store_rows.specs.Columns.{branch_shown}
 use Rattle.store_rows.specs.Columns.{request_in, teller_balance_in, teller_balance_of}
 use Rattle.store_rows.specs.Forms.{balance_form, branch_form, request_form}
 use Rattle.store_rows.specs.Rules.{StoredRows, row_under, six_lists}
 use Rattle.store_rows.specs.Stored.{balance_stored, branch_stored}
-use Rattle.store_rows.specs.declared.texts.TheConstants.{GET_ACCOUNT, GET_BRANCH, GET_REQUEST, GET_TELLER, NEXT_BRANCH}
+use Rattle.store_rows.specs.declared.texts.TheConstants.{GET_ACCOUNT, GET_BRANCH, GET_REQUEST, GET_TELLER}
+use Rattle.store_rows.specs.declared.texts.TheConstants.{NEXT_BRANCH}
 use Rattle.store_rows.proofs.BankTables.{Kind, table_of, tells_row, tells_whole}
 use Rattle.store_rows.proofs.GetRequest as request
 use Rattle.store_rows.proofs.Getting.{gets}
 use Rattle.store_rows.proofs.NextBranch as next
-use Rattle.store_rows.proofs.StoredRows.{branch_project, one_number, stored_next, stored_request, stored_under, two_numbers}
+use Rattle.store_rows.proofs.StoredRows.{branch_project, one_number, stored_next, stored_request}
+use Rattle.store_rows.proofs.StoredRows.{stored_under, two_numbers}
 use Rattle.store_rows.proofs.Telling.{Seeks}
 use Rattle.store_rows.proofs.TheTables.{accounts, branches, tellers}
 
@@ -28,38 +31,49 @@ balance_project = col 1 2 ∷ []
 
 -- the balance of a row of a table that keeps it alone
 seeks_balance : {R : Type 0} (kind : Kind R) (value : R → ℤ)
-    → ((k : ℕ) (r : R) → eval_all balance_project ((Int (pos k) ∷ []) ∷ stored (kind.entry r) ∷ []) ≡ balance_shown (value r))
+    → ((k : ℕ) (r : R) → eval_all balance_project ((Int (pos k) ∷ []) ∷ stored (kind.entry r) ∷ [])
+    ≡ balance_shown (value r))
     → width_of (table_of kind) ≡ 1 → (rows_of : StoredRows → List Entry)
     → ((rows : StoredRows) → slice_get (six_lists rows) kind.place ≡ Some (rows_of rows))
     → (text : List ℕ) → Gets (table_of kind) text (1 ∷ []) balance_project
-    → (k : ℕ) → Seeks text (Int (pos k) ∷ []) 1 balance_form (λ t. option_map value (row_at kind.key (kind.rows t) k))
+    → (k : ℕ) → Seeks text (Int (pos k) ∷ []) 1 balance_form
+    (λ t. option_map value (row_at kind.key (kind.rows t) k))
     (λ rows. row_under (rows_of rows) k)
 seeks_balance kind value same wide rows_of there text get k = record {
   only = only_reads get.is;
-  told = λ old new t shows. tells_row kind old new t shows text balance_project k (get.reads (pos k)) balance_shown value (same k);
-  kept = stored_under kind.place (table_of kind) kind.numbered.free kind.listed rows_of there text balance_project k (get.reads (pos k)) balance_stored
+  told = λ old new t shows. tells_row kind old new t shows text balance_project k (get.reads (pos k))
+      balance_shown value (same k);
+  kept = stored_under kind.place (table_of kind) kind.numbered.free kind.listed rows_of there text
+      balance_project k (get.reads (pos k)) balance_stored
       (λ e w. one_number (pos k) e.key e.values (rw wide at w));
 }
 
 -- of an account
-pub seeks_account : (k : ℕ) → Seeks GET_ACCOUNT.now (Int (pos k) ∷ []) 1 balance_form (λ t. account_balance_in t k)
+pub seeks_account : (k : ℕ) → Seeks GET_ACCOUNT.now (Int (pos k) ∷ []) 1 balance_form
+    (λ t. account_balance_in t k)
     (λ rows. row_under rows.accounts k)
-seeks_account = seeks_balance accounts account_balance_of (λ _ _. refl) refl (λ rows. rows.accounts) (λ _. refl) _ gets.account
+seeks_account = seeks_balance accounts account_balance_of (λ _ _. refl) refl (λ rows. rows.accounts)
+    (λ _. refl) _ gets.account
 
 -- of a teller
-pub seeks_teller : (k : ℕ) → Seeks GET_TELLER.now (Int (pos k) ∷ []) 1 balance_form (λ t. teller_balance_in t k)
+pub seeks_teller : (k : ℕ) → Seeks GET_TELLER.now (Int (pos k) ∷ []) 1 balance_form
+    (λ t. teller_balance_in t k)
     (λ rows. row_under rows.tellers k)
-seeks_teller = seeks_balance tellers teller_balance_of (λ _ _. refl) refl (λ rows. rows.tellers) (λ _. refl) _ gets.teller
+seeks_teller = seeks_balance tellers teller_balance_of (λ _ _. refl) refl (λ rows. rows.tellers) (λ _. refl) _
+    gets.teller
 
 -- ---- whole rows
 
 -- the branch under a number
-pub seeks_branch : (k : ℕ) → Seeks GET_BRANCH.now (Int (pos k) ∷ []) 1 branch_form (λ t. row_at branch_key t.branches k)
+pub seeks_branch : (k : ℕ) → Seeks GET_BRANCH.now (Int (pos k) ∷ []) 1 branch_form
+    (λ t. row_at branch_key t.branches k)
     (λ rows. row_under rows.branches k)
 seeks_branch k = record {
   only = only_reads gets.branch.is;
-  told = λ old new t shows. tells_whole branches old new t shows _ _ k (gets.branch.reads (pos k)) branch_shown (λ _. refl);
-  kept = stored_under 1 (table_of branches) refl refl (λ rows. rows.branches) (λ _. refl) _ branch_project k (gets.branch.reads (pos k)) branch_stored
+  told = λ old new t shows. tells_whole branches old new t shows _ _ k (gets.branch.reads (pos k))
+      branch_shown (λ _. refl);
+  kept = stored_under 1 (table_of branches) refl refl (λ rows. rows.branches) (λ _. refl) _ branch_project k
+      (gets.branch.reads (pos k)) branch_stored
       (λ e wide. two_numbers (pos k) e.key e.values wide);
 }
 
@@ -73,7 +87,8 @@ seeks_next k = record {
 }
 
 -- the request of a teller under its number
-pub seeks_request : (a b : ℕ) → Seeks GET_REQUEST.now (Int (pos a) ∷ Int (pos b) ∷ []) 2 request_form (λ t. request_in t a b)
+pub seeks_request : (a b : ℕ) → Seeks GET_REQUEST.now (Int (pos a) ∷ Int (pos b) ∷ []) 2 request_form
+    (λ t. request_in t a b)
     (λ rows. find (has_two (pos a) (pos b)) rows.requests)
 seeks_request a b = record {
   only = request.only;

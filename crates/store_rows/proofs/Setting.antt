@@ -56,17 +56,21 @@ pub record SetsNumbers : Type 0 where
 pub sets : SetsNumbers
 unfolding everything program.program
 sets = record {
-  meta = λ v. sets_by six.meta SET_META.now set_second second_set (pos 1) v _ _ _ _ _ _ _ _ keys.meta refl refl refl (lit≤ tt) refl refl refl refl refl
+  meta = λ v. sets_by six.meta SET_META.now set_second second_set (pos 1) v _ _ _ _ _ _ _ _ keys.meta refl
+      refl refl (lit≤ tt) refl refl refl refl refl
       (λ _. refl) (λ _. refl) (λ _ _ _ has. rw (has.low, has.found)) (λ _ _ _ has. rw (has.low, has.found))
       (λ e. second_shown (pos 1) v e.key e.values) (λ _. refl) (λ e. second_wide v e.values)
       (λ e _. meta_checked e.key (Null ∷ numbers (second_as v e.values)));
-  branch = λ k v. sets_by six.branch SET_BRANCH.now set_second second_set k v _ _ _ _ _ _ _ _ keys.branch refl refl refl (lit≤ tt) refl refl refl refl refl
+  branch = λ k v. sets_by six.branch SET_BRANCH.now set_second second_set k v _ _ _ _ _ _ _ _ keys.branch refl
+      refl refl (lit≤ tt) refl refl refl refl refl
       (λ _. refl) (λ _. refl) (λ _ _ _ has. rw (has.low, has.found)) (λ _ _ _ has. rw (has.low, has.found))
       (λ e. second_shown k v e.key e.values) (λ _. refl) (λ e. second_wide v e.values) (λ _ _ _. refl);
-  teller = λ k v. sets_by six.teller SET_TELLER.now set_first first_set k v _ _ _ _ _ _ _ _ keys.teller refl refl refl (lit≤ tt) refl refl refl refl refl
+  teller = λ k v. sets_by six.teller SET_TELLER.now set_first first_set k v _ _ _ _ _ _ _ _ keys.teller refl
+      refl refl (lit≤ tt) refl refl refl refl refl
       (λ _. refl) (λ _. refl) (λ _ _ _ has. rw (has.low, has.found)) (λ _ _ _ has. rw (has.low, has.found))
       (λ _ _. refl) (λ _. refl) (λ _ _. refl) (λ _ _ _. refl);
-  account = λ k v. sets_by six.account SET_ACCOUNT.now set_first first_set k v _ _ _ _ _ _ _ _ keys.account refl refl refl (lit≤ tt) refl refl refl refl refl
+  account = λ k v. sets_by six.account SET_ACCOUNT.now set_first first_set k v _ _ _ _ _ _ _ _ keys.account
+      refl refl refl (lit≤ tt) refl refl refl refl refl
       (λ _. refl) (λ _. refl) (λ _ _ _ has. rw (has.low, has.found)) (λ _ _ _ has. rw (has.low, has.found))
       (λ _ _. refl) (λ _. refl) (λ _ _. refl) (λ _ _ _. refl);
 }

@@ -18,7 +18,8 @@ use Rattle.sql_meanings.specs.Tables.{Holds}
 use Rattle.sql_meanings.specs.Contents.{HoldsEach}
 use Rattle.sql_meanings.proofs.Trees.{same_schema}
 use Rattle.store_rows.specs.SixTables.{bank_tables}
-use Rattle.store_rows.specs.View.{Shows, ShowsTrees, contents, branch_entry, teller_entry, account_entry, history_entry, request_entry}
+use Rattle.store_rows.specs.View.{Shows, ShowsTrees, contents, branch_entry, teller_entry, account_entry}
+use Rattle.store_rows.specs.View.{history_entry, request_entry}
 use Rattle.store_rows.proofs.KeptRows.{decode, decoded}
 
 -- what can be told back is told once, and so are lists of it
@@ -73,14 +74,29 @@ abbrev account_in : Entry → AccountRow
 account_in e = record { account = nat_abs e.key; balance = amount e 0 }
 
 abbrev history_in : Entry → HistoryRow
-history_in e = record { ordinal = nat_abs e.key; account = at e 0; teller = at e 1; branch = at e 2; delta = amount e 3; moment = at e 4 }
+history_in e = record {
+  ordinal = nat_abs e.key;
+  account = at e 0;
+  teller = at e 1;
+  branch = at e 2;
+  delta =
+      amount e 3;
+  moment = at e 4;
+}
 
 abbrev request_in : Entry → RequestRow
 request_in e = record {
   ordinal = nat_abs e.key;
   teller = at e 0;
   number = at e 1;
-  kept = record { account = at e 2; branch = at e 3; delta = amount e 4; outcome = decode (at e 5); balance = amount e 6 };
+  kept = record {
+    account = at e 2;
+    branch = at e 3;
+    delta = amount e 4;
+    outcome = decode (at e 5);
+    balance =
+        amount e 6;
+  };
 }
 
 request_back : (r : RequestRow) → request_in (request_entry r) ≡ r
@@ -119,10 +135,12 @@ tables_back t = rw (
   all_back request_entry request_in request_back t.requests,
 ) refl
 
-entries_once : (db : Database) (table : Table) (xs ys : List Entry) → Holds db table xs → Holds db table ys → xs ≡ ys
+entries_once : (db : Database) (table : Table) (xs ys : List Entry) → Holds db table xs → Holds db table ys
+    → xs ≡ ys
 entries_once db table xs ys p q = lists_once stored entry_in entry_back xs ys (sym p.rows.are ∙ q.rows.are)
 
-each_once : (db : Database) (tables : List Table) (xs ys : List (List Entry)) → HoldsEach db tables xs → HoldsEach db tables ys → xs ≡ ys
+each_once : (db : Database) (tables : List Table) (xs ys : List (List Entry)) → HoldsEach db tables xs
+    → HoldsEach db tables ys → xs ≡ ys
 each_once db [] [] [] p q = refl
 each_once db [] [] (y ∷ ys) p q = absurd q
 each_once db [] (x ∷ xs) ys p q = absurd p
@@ -132,14 +150,16 @@ each_once db (t ∷ tables) (x ∷ xs) (y ∷ ys) p q =
     let one = entries_once db t x y p.0 q.0 in let rest = each_once db tables xs ys p.1 q.1 in cc
 
 one_database : (db : Database) (a b : Tables) → Shows db a → Shows db b → a ≡ b
-one_database db a b p q = sym (tables_back a) ∙ ap tables_in (each_once db bank_tables (contents a) (contents b) p.each q.each) ∙ tables_back b
+one_database db a b p q = sym (tables_back a)
+    ∙ ap tables_in (each_once db bank_tables (contents a) (contents b) p.each q.each) ∙ tables_back b
 
 -- what a connection shows its trees show
 pub to_trees : (db : Database) (t : Tables) → Shows db t → ShowsTrees db.trees t
 to_trees db t shows = (db.schema, shows)
 
 moved : (db : Database) (t : Tables) (sound : ∥ IsDatabase db ∥₁) (left : ShowsTrees db.trees t) → Shows db t
-moved db t sound left = subst (λ s. Shows (record { schema = s; trees = db.trees }) t) (same_schema db left.0 sound left.1.sound) left.1
+moved db t sound left = subst (λ s. Shows (record { schema = s; trees = db.trees }) t)
+    (same_schema db left.0 sound left.1.sound) left.1
 
 -- a sound database over trees that show a bank shows that bank
 pub of_trees : (db : Database) (t : Tables) → IsDatabase db → ShowsTrees db.trees t → Shows db t

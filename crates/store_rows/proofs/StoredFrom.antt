@@ -1,5 +1,6 @@
 -- What is kept of a stored request, whatever numbers its row has.
-use Rattle.std.proofs.Common.{◌≡◌, pos, Bool, true, false, cond, ℕ, ℤ, Some, None, Ok, Err, refl, sym, ap, subst, ◌∙◌}
+use Rattle.std.proofs.Common.{◌≡◌, pos, Bool, true, false, cond, ℕ, ℤ, Some, None, Ok, Err, refl, sym, ap}
+use Rattle.std.proofs.Common.{subst, ◌∙◌}
 use Rattle.std.specs.Option.{ok_or}
 use Rattle.sqlite.specs.Order.{Row, column}
 use Rattle.message_records.specs.Outcomes.{code_of}
@@ -33,11 +34,13 @@ module _ (row : Row) (account branch : ℕ) (delta : ℤ) (outcome : Outcome) (b
   fields = record { account = account; branch = branch; delta = delta; outcome = outcome; balance = balance }
 
   -- what belongs together is what is kept, and what doesn't breaks the rule
-  pub keeps_stored : ReadsStored request_stored IsKept RequestKeeps row (ok_or (kept_from account branch delta outcome balance) (Damaged Request))
+  pub keeps_stored : ReadsStored request_stored IsKept RequestKeeps row
+      (ok_or (kept_from account branch delta outcome balance) (Damaged Request))
   keeps_stored = go (is_kept_with outcome balance) refl
     where
       go : (b : Bool) → is_kept_with outcome balance ≡ b
-          → ReadsStored request_stored IsKept RequestKeeps row (ok_or (cond b (Some fields) None) (Damaged Request))
+          → ReadsStored request_stored IsKept RequestKeeps row
+          (ok_or (cond b (Some fields) None) (Damaged Request))
       go true is = λ r shown. sym (three (number_at 4 r) (ap (λ x. column x 5) shown))
       go false is = λ r shown request.
           let o = request.outcome in

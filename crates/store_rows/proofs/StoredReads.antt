@@ -1,5 +1,6 @@
 -- What was made of a stored row, whatever numbers it has, and which rule it breaks.
-use Rattle.std.proofs.Common.{◌≡◌, ◌≤◌, ℕ, ℤ, leb, true, inl, inr, Option, Some, None, option_map, Result, Ok, Err, refl, sym, subst, ap, ◌∙◌, arith}
+use Rattle.std.proofs.Common.{◌≡◌, ◌≤◌, ℕ, ℤ, leb, true, inl, inr, Option, Some, None, option_map, Result, Ok}
+use Rattle.std.proofs.Common.{Err, refl, sym, subst, ap, ◌∙◌, arith}
 use Rattle.std.specs.Prelude.{nat_abs, ◌&&◌}
 use Rattle.std.proofs.lemmas.Bool.Decides.{nat_tests}
 use Rattle.sqlite.specs.Order.{Row, column}
@@ -26,24 +27,30 @@ use Rattle.store_rows.proofs.FoundRows.{the_row}
 -- ---- numbers and amounts in their ranges
 
 -- a number in its range isn't outside a wider one
-pub whole_inside : (least most low high n : ℕ) → low ≤ least → most ≤ high → least ≤ n → n ≤ most → whole_within low high n ≡ None → ⊥
+pub whole_inside : (least most low high n : ℕ) → low ≤ least → most ≤ high → least ≤ n → n ≤ most
+    → whole_within low high n ≡ None → ⊥
 whole_inside least most low high n under over above below none =
     let test : (leb low n && leb n high) ≡ true = grind (arith, nat_tests) in let h = rw test at none in cc
 
 -- nor is an amount
-pub cents_inside : (limit high : ℕ) (z : ℤ) → limit ≤ high → nat_abs z ≤ limit → cents_within high z ≡ None → ⊥
-cents_inside limit high z over le none = let test : leb (nat_abs z) high ≡ true = grind (arith, nat_tests) in let h = rw test at none in cc
+pub cents_inside : (limit high : ℕ) (z : ℤ) → limit ≤ high → nat_abs z ≤ limit → cents_within high z ≡ None
+    → ⊥
+cents_inside limit high z over le none = let test : leb (nat_abs z) high
+    ≡ true = grind (arith, nat_tests) in let h = rw test at none in cc
 
 -- ---- a value that couldn't be read
 
-module _ {X : Type 0} (shown : Entry → Row) (Is : X → Entry → Type 0) (Keeps : Rule → Entry → Type 0) (row : Row) (broken : Rule) (at : ℕ)
+module _ {X : Type 0} (shown : Entry → Row) (Is : X → Entry → Type 0) (Keeps : Rule → Entry → Type 0)
+    (row : Row) (broken : Rule) (at : ℕ)
     (number : Entry → ℤ) (shows : (r : Entry) → column (shown r) at ≡ Int (number r)) where
   is_number : (r : Entry) → row ≡ shown r → column row at ≡ Int (number r)
   is_number r is = ap (λ x. column x at) is ∙ shows r
 
   -- it is a number outside the range
-  pub unread_whole : (low high least most : ℕ) → low ≤ least → most ≤ high → ((r : Entry) → Keeps broken r → IsFrom least most (number r))
-      → (fault : TableFault) → ReadsWhole low high broken (column row at) (Err fault) → ReadsStored {X = X} shown Is Keeps row (Err fault)
+  pub unread_whole : (low high least most : ℕ) → low ≤ least → most ≤ high
+      → ((r : Entry) → Keeps broken r → IsFrom least most (number r))
+      → (fault : TableFault) → ReadsWhole low high broken (column row at) (Err fault)
+      → ReadsStored {X = X} shown Is Keeps row (Err fault)
   unread_whole low high least most under over keeps (Sqlite e) read = tt
   unread_whole low high least most under over keeps (Damaged rule) read = λ r is kept.
       let out = read (number r) (is_number r is) in
@@ -51,25 +58,31 @@ module _ {X : Type 0} (shown : Entry → Row) (Is : X → Entry → Type 0) (Kee
       whole_inside least most low high from.0 under over from.2 from.3 (out.1 from.0 from.1)
 
   -- it is an amount beyond the limit
-  pub unread_cents : (limit : ℕ) → limit ≤ MAX_BALANCE → ((r : Entry) → Keeps broken r → nat_abs (number r) ≤ limit)
-      → (fault : TableFault) → ReadsCents broken (column row at) (Err fault) → ReadsStored {X = X} shown Is Keeps row (Err fault)
+  pub unread_cents : (limit : ℕ) → limit ≤ MAX_BALANCE
+      → ((r : Entry) → Keeps broken r → nat_abs (number r) ≤ limit)
+      → (fault : TableFault) → ReadsCents broken (column row at) (Err fault)
+      → ReadsStored {X = X} shown Is Keeps row (Err fault)
   unread_cents limit over keeps (Sqlite e) read = tt
   unread_cents limit over keeps (Damaged rule) read = λ r is kept.
       let out = read (number r) (is_number r is) in
-      cents_inside limit MAX_BALANCE (number r) over (keeps r (subst (λ (x : Rule). Keeps x r) out.0 kept)) out.1
+      cents_inside limit MAX_BALANCE (number r) over (keeps r (subst (λ (x : Rule). Keeps x r) out.0 kept))
+      out.1
 
 -- the balance of a row of one balance
 pub reads_balance_stored : (row : Row) (r : Result ℤ TableFault) → ReadsCents Balance (column row 0) r
     → ReadsStored balance_stored IsBalance BalanceKeeps row r
 reads_balance_stored row (Ok z) read = λ r is. sym (read (number_at 0 r) (ap (λ x. column x 0) is))
 reads_balance_stored row (Err fault) read =
-    unread_cents balance_stored IsBalance BalanceKeeps row Balance 0 (number_at 0) (λ _. refl) MAX_BALANCE (omega arith) (λ r le. le) fault read
+    unread_cents balance_stored IsBalance BalanceKeeps row Balance 0 (number_at 0) (λ _. refl) MAX_BALANCE
+    (omega arith) (λ r le. le) fault read
 
 -- ---- what is told of the row
 
-module _ {X : Type 0} (old new : State) (shown : Entry → Row) (Is : X → Entry → Type 0) (Keeps : Rule → Entry → Type 0) (stored : Option Entry) where
+module _ {X : Type 0} (old new : State) (shown : Entry → Row) (Is : X → Entry → Type 0)
+    (Keeps : Rule → Entry → Type 0) (stored : Option Entry) where
   -- a value that was read is of the row that is stored
-  stored_ok : (row : Row) (x : X) → TellsRow old new (option_map shown stored) (Ok row) → ReadsStored shown Is Keeps row (Ok x)
+  stored_ok : (row : Row) (x : X) → TellsRow old new (option_map shown stored) (Ok row)
+      → ReadsStored shown Is Keeps row (Ok x)
       → FindsStored stored Is Keeps (Ok (Some x))
   stored_ok row x told read = go stored told.0
     where
@@ -83,12 +96,14 @@ module _ {X : Type 0} (old new : State) (shown : Entry → Row) (Is : X → Entr
   stored_err row (Sqlite e) told read = tt
   stored_err row (Damaged rule) told read = go stored told.0
     where
-      go : (o : Option Entry) → option_map shown o ≡ Some row → FindsStored {X = X} o Is Keeps (Err (Damaged rule))
+      go : (o : Option Entry) → option_map shown o ≡ Some row
+          → FindsStored {X = X} o Is Keeps (Err (Damaged rule))
       go None is = absurd cc
       go (Some r) is = (r, refl, read r (the_row is))
 
   -- no row is told where none is stored
-  stored_none : TellsRow old new (option_map shown stored) (Err QueryReturnedNoRows) → FindsStored {X = X} stored Is Keeps (Ok None)
+  stored_none : TellsRow old new (option_map shown stored) (Err QueryReturnedNoRows)
+      → FindsStored {X = X} stored Is Keeps (Ok None)
   stored_none (inl none) = go stored none.1
     where
       go : (o : Option Entry) → option_map shown o ≡ None → o ≡ None
@@ -98,11 +113,14 @@ module _ {X : Type 0} (old new : State) (shown : Entry → Row) (Is : X → Entr
   stored_none (inr (inr limit)) = absurd (let e = limit.0 in cc)
 
   -- what is told of the answer of a query is of the row that is stored
-  pub stores : (answer : Result Row Error) (result : Result (Option X) TableFault) → ReadsAnswer (ReadsStored shown Is Keeps) answer result
+  pub stores : (answer : Result Row Error) (result : Result (Option X) TableFault)
+      → ReadsAnswer (ReadsStored shown Is Keeps) answer result
       → TellsRow old new (option_map shown stored) answer → FindsStored stored Is Keeps result
   stores (Ok row) (Ok (Some x)) read told = stored_ok row x told read
   stores (Ok row) (Ok None) read told = absurd read
   stores (Ok row) (Err fault) read told = stored_err row fault told read.0
   stores (Err e) (Ok (Some x)) read told = absurd read
-  stores (Err e) (Ok None) read told = stored_none (subst (λ e. TellsRow old new (option_map shown stored) (Err e)) read told)
-  stores (Err e) (Err fault) read told = subst (λ f. FindsStored {X = X} stored Is Keeps (Err f)) (sym read.0) tt
+  stores (Err e) (Ok None) read told = stored_none
+      (subst (λ e. TellsRow old new (option_map shown stored) (Err e)) read told)
+  stores (Err e) (Err fault) read told = subst (λ f. FindsStored {X = X} stored Is Keeps (Err f)) (sym read.0)
+      tt

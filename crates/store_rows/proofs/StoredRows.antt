@@ -1,5 +1,6 @@
 -- What each look-up tells of the rows that a file holds, whatever numbers they have.
-use Rattle.std.proofs.Common.{◌≡◌, ℕ, ℤ, pos, List, [], ◌∷◌, find, length, slice_get, Some, None, Option, option_map, Result, refl, ap, subst, arith}
+use Rattle.std.proofs.Common.{◌≡◌, ℕ, ℤ, pos, List, [], ◌∷◌, find, length, slice_get, Some, None, Option}
+use Rattle.std.proofs.Common.{option_map, Result, refl, ap, subst, arith}
 use Rattle.sqlite.specs.Effect.{Database}
 use Rattle.sqlite.specs.Order.{Row}
 use Rattle.sqlite.specs.State.{State, QueriesRowInside}
@@ -24,28 +25,35 @@ use Rattle.store_rows.proofs.GetRequest as request
 use Rattle.store_rows.proofs.NextBranch as next
 
 -- the rows of one table
-pub holds_list : (db : Database) (rows : StoredRows) → HoldsBank db rows → (at : ℕ) (t : Table) (es : List Entry)
+pub holds_list : (db : Database) (rows : StoredRows) → HoldsBank db rows
+    → (at : ℕ) (t : Table) (es : List Entry)
     → slice_get bank_tables at ≡ Some t → slice_get (six_lists rows) at ≡ Some es → Holds db t es
 holds_list db rows has at t es is are = held db bank_tables (six_lists rows) has.each at t es is are
 
 -- what is shown of a row that is found
-same_shown : (width : ℕ) (show shown : Entry → Row) → ((r : Entry) → length r.values ≡ width → show r ≡ shown r) → (o : Option Entry)
+same_shown : (width : ℕ) (show shown : Entry → Row)
+    → ((r : Entry) → length r.values ≡ width → show r ≡ shown r) → (o : Option Entry)
     → ((r : Entry) → o ≡ Some r → length r.values ≡ width) → option_map show o ≡ option_map shown o
 same_shown width show shown same None wide = refl
 same_shown width show shown same (Some r) wide = ap Some (same r (wide r refl))
 
 -- of the row under a key
-pub stored_under : (at : ℕ) (t : Table) → t.references ≡ [] → slice_get bank_tables at ≡ Some t → (rows_of : StoredRows → List Entry)
-    → ((rows : StoredRows) → slice_get (six_lists rows) at ≡ Some (rows_of rows)) → (text : List ℕ) (project : List Term) (k : ℕ)
+pub stored_under : (at : ℕ) (t : Table) → t.references ≡ [] → slice_get bank_tables at ≡ Some t
+    → (rows_of : StoredRows → List Entry)
+    → ((rows : StoredRows) → slice_get (six_lists rows) at ≡ Some (rows_of rows))
+    → (text : List ℕ) (project : List Term) (k : ℕ)
     → ReadsAs t text (Int (pos k) ∷ []) (λ tree. by_key tree project) → (held : Entry → Row)
-    → ((e : Entry) → length e.values ≡ width_of t → eval_all project ((Int (pos k) ∷ []) ∷ stored e ∷ []) ≡ held e)
+    → ((e : Entry) → length e.values ≡ width_of t → eval_all project ((Int (pos k) ∷ []) ∷ stored e ∷ [])
+    ≡ held e)
     → (old new : State) (rows : StoredRows) → HoldsBank old.now rows → (r : Result Row Error)
-    → QueriesRowInside text (Int (pos k) ∷ []) old new r → TellsRow old new (option_map held (row_under (rows_of rows) k)) r
+    → QueriesRowInside text (Int (pos k) ∷ []) old new r
+    → TellsRow old new (option_map held (row_under (rows_of rows) k)) r
 stored_under at t free listed rows_of there text project k reads held same old new rows has r h =
     let holds = holds_list old.now rows has at t (rows_of rows) listed (there rows) in
     subst (λ o. TellsRow old new o r)
     (same_shown (width_of t) _ held same (row_under (rows_of rows) k)
-    (λ e found. found_all (λ x. length x.values ≡ width_of t) (has_key (pos k)) (rows_of rows) e holds.rows.wide found))
+    (λ e found. found_all (λ x. length x.values ≡ width_of t) (has_key (pos k)) (rows_of rows) e
+    holds.rows.wide found))
     (reads_key old new t free has.sound (rows_of rows) holds text project (pos k) reads r h)
 
 -- ---- balances
@@ -71,15 +79,19 @@ two_numbers k key (a ∷ b ∷ []) wide = refl
 two_numbers k key (a ∷ b ∷ c ∷ more) wide = absurd (omega arith)
 
 -- the branch with the least number above one
-pub stored_next : (old new : State) (rows : StoredRows) → HoldsBank old.now rows → (k : ℕ) (r : Result Row Error)
+pub stored_next : (old new : State) (rows : StoredRows) → HoldsBank old.now rows
+    → (k : ℕ) (r : Result Row Error)
     → QueriesRowInside NEXT_BRANCH.now (Int (pos k) ∷ []) old new r
     → TellsRow old new (option_map branch_stored (find (is_above (pos k)) rows.branches)) r
 stored_next old new rows has k r h =
     let holds = holds_list old.now rows has 1 six.branch rows.branches refl refl in
     subst (λ o. TellsRow old new o r)
-    (same_shown 2 _ branch_stored (λ e wide. two_numbers (pos k) e.key e.values wide) (find (is_above (pos k)) rows.branches)
-    (λ e found. found_all (λ x. length x.values ≡ 2) (is_above (pos k)) rows.branches e holds.rows.wide found))
-    (reads_next old new six.branch refl has.sound rows.branches holds NEXT_BRANCH.now branch_project (pos k) (next.reads (pos k)) r h)
+    (same_shown 2 _ branch_stored (λ e wide. two_numbers (pos k) e.key e.values wide)
+    (find (is_above (pos k)) rows.branches)
+    (λ e found. found_all (λ x. length x.values ≡ 2) (is_above (pos k)) rows.branches e holds.rows.wide
+    found))
+    (reads_next old new six.branch refl has.sound rows.branches holds NEXT_BRANCH.now branch_project (pos k)
+    (next.reads (pos k)) r h)
 
 -- ---- requests
 
@@ -97,13 +109,17 @@ seven_numbers a b key (c ∷ d ∷ e ∷ f ∷ g ∷ h ∷ i ∷ []) wide = refl
 seven_numbers a b key (c ∷ d ∷ e ∷ f ∷ g ∷ h ∷ i ∷ j ∷ more) wide = absurd (omega arith)
 
 -- the request of a teller under its number
-pub stored_request : (old new : State) (rows : StoredRows) → HoldsBank old.now rows → (a b : ℕ) (r : Result Row Error)
+pub stored_request : (old new : State) (rows : StoredRows) → HoldsBank old.now rows
+    → (a b : ℕ) (r : Result Row Error)
     → QueriesRowInside GET_REQUEST.now (Int (pos a) ∷ Int (pos b) ∷ []) old new r
     → TellsRow old new (option_map request_stored (find (has_two (pos a) (pos b)) rows.requests)) r
 stored_request old new rows has a b r h =
     let holds = holds_list old.now rows has 5 six.request rows.requests refl refl in
     subst (λ o. TellsRow old new o r)
-    (same_shown 7 _ request_stored (λ e wide. seven_numbers (pos a) (pos b) e.key e.values wide) (find (has_two (pos a) (pos b)) rows.requests)
-    (λ e found. found_all (λ x. length x.values ≡ 7) (has_two (pos a) (pos b)) rows.requests e holds.rows.wide found))
-    (reads_two old new six.request refl has.sound rows.requests holds GET_REQUEST.now request.project (pos a) (pos b) refl refl
+    (same_shown 7 _ request_stored (λ e wide. seven_numbers (pos a) (pos b) e.key e.values wide)
+    (find (has_two (pos a) (pos b)) rows.requests)
+    (λ e found. found_all (λ x. length x.values ≡ 7) (has_two (pos a) (pos b)) rows.requests e holds.rows.wide
+    found))
+    (reads_two old new six.request refl has.sound rows.requests holds GET_REQUEST.now request.project (pos a)
+    (pos b) refl refl
     (request.reads (pos a) (pos b)) r h)

@@ -23,18 +23,22 @@ use Rattle.store_rows.proofs.FoundRows.{finds}
 use Rattle.store_rows.proofs.Reasons.{looks}
 use Rattle.store_rows.proofs.StoredReads.{stores}
 
--- with these values the text looks up what is wanted of the tables that are shown, and this of the rows that are held
-pub record Seeks {X : Type 0} (text : List ℕ) (params : Row) (count : ℕ) (form : Form X) (wanted : Tables → Option X)
+-- with these values the text looks up what is wanted of the tables that are shown, and this of the rows that
+-- are held
+pub record Seeks {X : Type 0} (text : List ℕ) (params : Row) (count : ℕ) (form : Form X)
+    (wanted : Tables → Option X)
     (stored : StoredRows → Option Entry) : Type 1 where
   pub only : (schema : Schema) → OnlyShows text count (understood schema text)
-  pub told : (old new : State) (t : Tables) → Shows old.now t → (r : Result Row Error) → QueriesRowInside text params old new r
+  pub told : (old new : State) (t : Tables) → Shows old.now t → (r : Result Row Error)
+      → QueriesRowInside text params old new r
       → TellsRow old new (option_map form.shown (wanted t)) r
   pub kept : (old new : State) (rows : StoredRows) → HoldsBank old.now rows → (r : Result Row Error)
       → QueriesRowInside text params old new r → TellsRow old new (option_map form.held (stored rows)) r
 
 module _ {S : Type 0} (g : Ghosts S) (old new : Transaction S) where
   -- a look-up tells what its text looks up
-  pub looks_up : {X : Type 0} {text : List ℕ} {params : Row} {count : ℕ} {form : Form X} {wanted : Tables → Option X}
+  pub looks_up : {X : Type 0} {text : List ℕ} {params : Row} {count : ℕ} {form : Form X}
+      {wanted : Tables → Option X}
       {stored : StoredRows → Option Entry} → Seeks text params count form wanted stored
       → (answer : Result Row Error) (result : Result (Option X) TableFault)
       → ReadsAnswer (ReadsRow form.shown form.Breaks) answer result
@@ -42,17 +46,19 @@ module _ {S : Type 0} (g : Ghosts S) (old new : Transaction S) where
       → Says g old new (λ old new. QueriesRowInside text params old new answer)
       (λ old new. OnlyShows text count (understood old.now.schema text) → Asks old new answer)
       → LooksUp g old new form wanted stored result
-  looks_up {form = form} {wanted = wanted} {stored = stored} seeks answer result read read_stored says = record {
-    same_reference = says.same_reference;
-    told = λ clean t shows.
-        finds _ _ form.shown form.Breaks (wanted t) answer result read (seeks.told _ _ t shows answer (says.told clean));
-    kept = λ clean. (
-      looks _ _ (ReadsRow form.shown form.Breaks) answer result read (says.kept clean (seeks.only _)),
-      λ rows has. stores _ _ form.held form.Is form.Keeps (stored rows) answer result read_stored
-          (seeks.kept _ _ rows has answer (says.told clean)),
-    );
-    survives = says.survives;
-  }
+  looks_up {form = form} {wanted = wanted} {stored = stored} seeks answer result read read_stored
+      says = record {
+        same_reference = says.same_reference;
+        told = λ clean t shows.
+            finds _ _ form.shown form.Breaks (wanted t) answer result read
+            (seeks.told _ _ t shows answer (says.told clean));
+        kept = λ clean. (
+          looks _ _ (ReadsRow form.shown form.Breaks) answer result read (says.kept clean (seeks.only _)),
+          λ rows has. stores _ _ form.held form.Is form.Keeps (stored rows) answer result read_stored
+              (seeks.kept _ _ rows has answer (says.told clean)),
+        );
+        survives = says.survives;
+      }
 
   -- a write tells what its statement leaves
   pub tells_tables : {Ran Kept : State → State → Type 0} {Told : State → State → Tables → Type 0}

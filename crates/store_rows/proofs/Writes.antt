@@ -1,50 +1,58 @@
 -- What each UPDATE of a balance and each INSERT of a row leaves of the tables.
 use Rattle.std.proofs.Common.{◌≡◌, ◌≤◌, ℕ, ℤ, pos, is_some, List, [], ◌∷◌, Bool, Result, refl}
-use Rattle.sqlite.specs.State.{State}
 use Rattle.sqlite.specs.declared.error.Error.{Error}
+use Rattle.sqlite.specs.declared.transaction.Transaction.{Transaction}
 use Rattle.sqlite.specs.declared.types.Value.TheVariants.{Int}
-use Rattle.posting_rules.specs.Changes.{row_changed, row_put, with_account, with_account_balance, with_branch, with_branch_balance}
+use Rattle.sqlite_trees.specs.declared.store.Store.{Ghosts}
+use Rattle.posting_rules.specs.Changes.{row_changed, row_put, with_account, with_account_balance, with_branch}
+use Rattle.posting_rules.specs.Changes.{with_branch_balance}
 use Rattle.posting_rules.specs.Changes.{with_history, with_request, with_teller, with_teller_balance}
 use Rattle.posting_rules.specs.Tables.{Tables, row_at}
 use Rattle.sql_meanings.specs.Entries.{Entry}
 use Rattle.sql_meanings.proofs.SetRows.{ChangesAs}
-use Rattle.store_rows.specs.Outcomes.{Adds, Writes}
-use Rattle.store_rows.specs.Statements.{MeetsOne, PutsIn}
-use Rattle.store_rows.specs.View.{Shows}
+use Rattle.store_rows.specs.Calls.{AddsRow, SetsNumber}
+use Rattle.store_rows.specs.Statements.{PutsRow, RunsUnder}
 use Rattle.store_rows.specs.declared.faults.TableFault.{TableFault}
 use Rattle.store_rows.specs.declared.statements.TheConstants.{MAX_KEY}
 use Rattle.store_rows.specs.declared.texts.TheConstants as text
 use Rattle.store_rows.proofs.BankTables.{Kind, table_of, tells_added, tells_write}
 use Rattle.store_rows.proofs.Puts.{Puts, given, puts as each}
 use Rattle.store_rows.proofs.Setting.{set_first, set_second, sets as numbers}
+use Rattle.store_rows.proofs.Telling.{tells_tables}
 use Rattle.store_rows.proofs.TheTables.{accounts, branches, history, requests, tellers}
 
--- the text writes a balance so
+-- a call that runs the text writes a balance so
 abbrev Sets : {R : Type 0} → Kind R → List ℕ → (ℕ → ℤ → Tables → Tables) → Type 1
 Sets kind text with =
-    (k : ℕ) → k ≤ MAX_KEY → (z : ℤ) → (before after : State) (t : Tables) → Shows before.now t → (answer : Result Bool Error)
-    → MeetsOne text (Int (pos k) ∷ Int z ∷ []) before after answer
-    → Writes before after (table_of kind) (is_some (row_at kind.key (kind.rows t) k)) (with k z t) answer
+    (S : Type 0) (g : Ghosts S) (old new : Transaction S) (k : ℕ) → k ≤ MAX_KEY
+    → (z : ℤ) (answer : Result Bool Error)
+    → RunsUnder g old new text k z answer
+    → SetsNumber g old new (table_of kind) text (λ t. is_some (row_at kind.key (kind.rows t) k)) (with k z)
+    answer
 
--- the text puts a row in so
+-- a call that runs the text puts a row in so
 abbrev PutsEach : {R : Type 0} → Kind R → List ℕ → (R → Tables → Tables) → Type 1
 PutsEach {R} kind text with =
-    (r : R) → kind.key r ≤ MAX_KEY → (before after : State) (t : Tables) → Shows before.now t → (answer : Result (Unit {0}) TableFault)
-    → PutsIn text (given (kind.entry r)) before after answer
-    → Adds before after (table_of kind) (is_some (row_at kind.key (kind.rows t) (kind.key r))) (with r t) answer
+    (S : Type 0) (g : Ghosts S) (old new : Transaction S) (r : R) → kind.key r ≤ MAX_KEY
+    → (answer : Result (Unit {0}) TableFault) → PutsRow g old new text (given (kind.entry r)) answer
+    → AddsRow g old new (table_of kind) (λ t. is_some (row_at kind.key (kind.rows t) (kind.key r))) (with r)
+    answer
 
 module _ {R : Type 0} (kind : Kind R) (text : List ℕ) where
   sets : (change : ℤ → R → R) (change_entry : ℤ → Entry → Entry)
       → ((k z : ℤ) → ChangesAs (table_of kind) text k (Int z ∷ []) (change_entry z))
       → ((z : ℤ) (r : R) → change_entry z (kind.entry r) ≡ kind.entry (change z r))
       → Sets kind text (λ k z t. kind.having (row_changed kind.key (change z) k (kind.rows t)) t)
-  sets change change_entry changes same k low z before after t shows answer h =
-      tells_write kind before after t shows text k (Int z ∷ []) (change z) (change_entry z) (changes (pos k) z) (same z) low answer h
+  sets change change_entry changes same S g old new k low z answer =
+      tells_tables g old new (λ before after t shows. tells_write kind before after t shows text k
+      (Int z ∷ []) (change z)
+      (change_entry z) (changes (pos k) z) (same z) low answer)
 
   puts : ((r : R) → Puts (table_of kind) text (kind.entry r))
       → PutsEach kind text (λ r t. kind.having (row_put kind.key r (kind.rows t)) t)
-  puts given_so r low before after t shows answer h =
-      rw h.2 (tells_added kind before after t shows text (given (kind.entry r)) r (given_so r) low h.0 h.1)
+  puts given_so S g old new r low answer =
+      tells_tables g old new (λ before after t shows h. rw h.2
+      (tells_added kind before after t shows text (given (kind.entry r)) r (given_so r) low h.0 h.1))
 
 -- each text writes its balance
 pub record SetsBalances : Type 1 where
@@ -55,9 +63,12 @@ pub record SetsBalances : Type 1 where
 pub balances_set : SetsBalances
 unfolding with_branch_balance with_teller_balance with_account_balance
 balances_set = record {
-  branch = sets branches text.SET_BRANCH.now (λ z r. record r { balance = z }) set_second numbers.branch (λ _ _. refl);
-  teller = sets tellers text.SET_TELLER.now (λ z r. record r { balance = z }) set_first numbers.teller (λ _ _. refl);
-  account = sets accounts text.SET_ACCOUNT.now (λ z r. record r { balance = z }) set_first numbers.account (λ _ _. refl);
+  branch = sets branches text.SET_BRANCH.now (λ z r. record r { balance = z }) set_second numbers.branch
+      (λ _ _. refl);
+  teller = sets tellers text.SET_TELLER.now (λ z r. record r { balance = z }) set_first numbers.teller
+      (λ _ _. refl);
+  account = sets accounts text.SET_ACCOUNT.now (λ z r. record r { balance = z }) set_first numbers.account
+      (λ _ _. refl);
 }
 
 -- each text puts its row in

@@ -27,30 +27,38 @@ OfTables Told old new = (tables : Tables) → Shows old.now tables → Told old 
 abbrev pub OfMeta : (State → State → List Entry → Type 0) → State → State → Type 0
 OfMeta Told old new = (rows : List Entry) → HoldsRows old.now meta rows → Told old new rows
 
--- A look-up finds what is wanted of the tables that are shown; whatever rows are held, it tells the one that it looks for.
+-- A look-up finds what is wanted of the tables that are shown; whatever rows are held, it tells the one that
+-- it looks for.
 abbrev pub LooksUp : {S X : Type 0} → Ghosts S → Transaction S → Transaction S → Form X → (Tables → Option X)
     → (StoredRows → Option Entry) → Result (Option X) TableFault → Type 0
 LooksUp g old new form wanted stored result =
     Says g old new (OfTables (λ old new tables. Finds old new (wanted tables) form.Breaks result))
-    (λ old new. Looks old new result × OfRows (λ rows. FindsStored (stored rows) form.Is form.Keeps result) old.now)
+    (λ old new. Looks old new result
+    × OfRows (λ rows. FindsStored (stored rows) form.Is form.Keeps result) old.now)
 
--- By this text a number of a row of the table is written, where the row is there, and the tables are these after it.
-abbrev pub SetsNumber : {S : Type 0} → Ghosts S → Transaction S → Transaction S → Table → List ℕ → (Tables → Bool)
+-- By this text a number of a row of the table is written, where the row is there, and the tables are these
+-- after it.
+abbrev pub SetsNumber : {S : Type 0} → Ghosts S → Transaction S → Transaction S → Table → List ℕ
+    → (Tables → Bool)
     → (Tables → Tables) → Result Bool Error → Type 0
 SetsNumber g old new table text there after result =
-    Says g old new (Inside (OfTables (λ old new tables. Writes old new table (there tables) (after tables) result)))
+    Says g old new (Inside
+    (OfTables (λ old new tables. Writes old new table (there tables) (after tables) result)))
     (Inside (λ old new. Changes text old new result))
 
 -- A row of the table is put in, where its key isn't taken, and the tables are these after it.
 abbrev pub AddsRow : {S : Type 0} → Ghosts S → Transaction S → Transaction S → Table → (Tables → Bool)
     → (Tables → Tables) → Result (Unit {0}) TableFault → Type 0
 AddsRow g old new table taken after result =
-    Says g old new (Inside (OfTables (λ old new tables. Adds old new table (taken tables) (after tables) result)))
+    Says g old new (Inside
+    (OfTables (λ old new tables. Adds old new table (taken tables) (after tables) result)))
     (Inside (λ old new. Puts old new result))
 
--- Whether the probe of a table is understood, on an honest disk, and so what is there of the table. Only a fault shuts the store, and a stop
+-- Whether the probe of a table is understood, on an honest disk, and so what is there of the table. Only a
+-- fault shuts the store, and a stop
 -- leaves nothing new.
-pub record Probes {S : Type 0} (g : Ghosts S) (old new : Held S) (probe : List ℕ × Table) (answer : Result Bool Error) : Type 0 where
+pub record Probes {S : Type 0} (g : Ghosts S) (old new : Held S) (probe : List ℕ × Table)
+    (answer : Result Bool Error) : Type 0 where
   pub told : HasCleanDisk (state g new) → TellsProbe (state g old) (state g new) probe.1 answer
   pub text : HasCleanDisk (state g new) → TellsUnderstood (state g old) (state g new) probe.0 answer
   pub mode : old.in_transaction ≡ false → new.in_transaction ≡ false

@@ -1,5 +1,6 @@
 -- What the reading statements show of a row, and what they look for.
-use Rattle.std.specs.Prelude.{◌&&◌, ◌==◌, ℕ, ℤ, pos, List, [], ◌∷◌, Option, find, nat_lt, option_map, slice_index_or}
+use Rattle.std.specs.Prelude.{◌&&◌, ◌==◌, ℕ, ℤ, pos, List, [], ◌∷◌, Option, find, nat_lt, option_map}
+use Rattle.std.specs.Prelude.{slice_index_or}
 use Rattle.sqlite.specs.Order.{Row}
 use Rattle.sqlite.specs.declared.types.Value.TheVariants.{Int}
 use Rattle.message_records.specs.Outcomes.{code_of}

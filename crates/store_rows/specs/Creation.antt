@@ -1,5 +1,6 @@
 -- The six tables come to be, beside whatever the file has.
-use Rattle.std.specs.Prelude.{◌≡◌, ◌≢◌, ◌⊎◌, List, [], ◌∷◌, codes, fold, length, map, take, slice_get, false, Some, Result, Ok, Err, ℕ}
+use Rattle.std.specs.Prelude.{◌≡◌, ◌≢◌, ◌⊎◌, List, [], ◌∷◌, codes, fold, length, map, take, slice_get, false}
+use Rattle.std.specs.Prelude.{Some, Result, Ok, Err, ℕ}
 use Rattle.sqlite.specs.Schema.{Schema}
 use Rattle.sqlite.specs.Table.{Table}
 use Rattle.sqlite.specs.Tree.{Trees}
@@ -39,14 +40,16 @@ pub record AreEmpty (db : Database) : Type 0 where
 -- the six texts, each with its table
 abbrev pub six_texts : List (List ℕ × Table)
 six_texts =
-    (text.MAKE_META.now, six.meta) ∷ (text.MAKE_BRANCH.now, six.branch) ∷ (text.MAKE_TELLER.now, six.teller) ∷ (text.MAKE_ACCOUNT.now, six.account)
+    (text.MAKE_META.now, six.meta) ∷ (text.MAKE_BRANCH.now, six.branch) ∷ (text.MAKE_TELLER.now, six.teller)
+    ∷ (text.MAKE_ACCOUNT.now, six.account)
     ∷ (text.MAKE_HISTORY.now, six.history) ∷ (text.MAKE_REQUEST.now, six.request) ∷ []
 
 -- the schema with the first so many of them more, and nothing else
 abbrev pub with_first : ℕ → Schema → Schema
 with_first n schema = fold (λ s it. created s it.1) schema (take n six_texts)
 
--- The six tables are there and empty, and every table that was there is there, with its rows. Where no table counts its rows, nothing else
+-- The six tables are there and empty, and every table that was there is there, with its rows. Where no table
+-- counts its rows, nothing else
 -- is new.
 pub record IsMade (old new : Database) : Type 0 where
   pub empty : AreEmpty new
@@ -54,7 +57,8 @@ pub record IsMade (old new : Database) : Type 0 where
   pub alone : counts_rows old.schema ≡ false → new.schema ≡ with_first (length six_texts) old.schema
   pub apart : (t : Table) → Has old.schema.tables t → t.tree ≢ tree_of new.schema (codes "meta")
 
--- The first so many of the six are made, and the next is refused under the schema that stands now. Where no table counts its rows, that
+-- The first so many of the six are made, and the next is refused under the schema that stands now. Where no
+-- table counts its rows, that
 -- schema has those tables more, and nothing else.
 pub record RefusesNext (old now : Schema) (e : Error) : Type 0 where
   pub made : ℕ
@@ -63,11 +67,13 @@ pub record RefusesNext (old now : Schema) (e : Error) : Type 0 where
   pub alone : counts_rows old ≡ false → now ≡ with_first made old
   pub refused : NotMade now next.0 next.1 e
 
--- All six were made. Or the store failed, and the transaction is rolled back; or one is refused, beside what was there and those before it.
+-- All six were made. Or the store failed, and the transaction is rolled back; or one is refused, beside what
+-- was there and those before it.
 abbrev pub MakesAll : State → State → Result (Unit {0}) Error → Type 0
 MakesAll old new (Ok done) = IsMade old.now new.now × GoesOn old new × KeepsCounts old new
 MakesAll old new (Err e) =
-    Fails old new ⊥ e ⊎ (RefusesNext old.now.schema new.now.schema e × KeepsTables old.now new.now × GoesOn old new × KeepsCounts old new)
+    Fails old new ⊥ e ⊎ (RefusesNext old.now.schema new.now.schema e × KeepsTables old.now new.now
+    × GoesOn old new × KeepsCounts old new)
 
 -- the first row is there, and every table but meta is as it was; or why the row can't be put in
 abbrev pub StartsBank : State → State → Result ℕ Error → Type 0
@@ -79,27 +85,33 @@ StartsBank old new (Err e) = PutFails old new six.meta (IsForbidden old.now.sche
 abbrev pub MakesWide : Database → Type 0
 MakesWide old = (made : Database) × IsMade old made × HasWideIndex made.schema six.meta
 
--- A statement is refused in this database: one of the six tables, where only those before it were made; or the first row, since the limit
+-- A statement is refused in this database: one of the six tables, where only those before it were made; or
+-- the first row, since the limit
 -- on steps was met, or since a UNIQUE of the file's own allows no such row.
 abbrev pub RefusedIn : State → Database → Error → Type 0
 RefusedIn old db e =
     (RefusesNext old.now.schema db.schema e × KeepsTables old.now db)
-    ⊎ ((IsInterrupted old e ⊎ ((e ≡ SqliteFailure (ConstraintViolation Unique)) × IsForbidden db.schema six.meta new_tables)) × IsMade old.now db)
+    ⊎ ((IsInterrupted old e ⊎ ((e ≡ SqliteFailure (ConstraintViolation Unique))
+    × IsForbidden db.schema six.meta new_tables)) × IsMade old.now db)
 
 -- where no table counts its rows, the six tables are new, and nothing else is
 abbrev pub IsAlone : Database → Database → Type 0
 IsAlone old new = counts_rows old.schema ≡ false → new.schema ≡ with_first (length six_texts) old.schema
 
--- The tables of a new bank are there, and every table that was there is there, with its rows, and nothing else is. Or the store failed, and
+-- The tables of a new bank are there, and every table that was there is there, with its rows, and nothing
+-- else is. Or the store failed, and
 -- the transaction is rolled back; or a statement is refused in the database that stands now.
 abbrev pub CreatesBank : State → State → Result (Unit {0}) Error → Type 0
-CreatesBank old new (Ok done) = Shows new.now new_tables × KeepsTables old.now new.now × IsAlone old.now new.now
+CreatesBank old new (Ok done) = Shows new.now new_tables × KeepsTables old.now new.now
+    × IsAlone old.now new.now
 CreatesBank old new (Err e) =
     Fails old new (MakesWide old.now) e ⊎ (RefusedIn old new.now e × GoesOn old new × KeepsCounts old new)
 
--- why there is no new bank: the store failed, or a statement was refused in a database on the way; and all is undone
+-- why there is no new bank: the store failed, or a statement was refused in a database on the way; and all is
+-- undone
 abbrev pub CreationFails : State → State → Error → Type 0
-CreationFails old new e = (NamesCause old new (MakesWide old.now) e ⊎ ((db : Database) × RefusedIn old db e)) × IsUndone old new
+CreationFails old new e = (NamesCause old new (MakesWide old.now) e ⊎ ((db : Database) × RefusedIn old db e))
+    × IsUndone old new
 
 -- no table, no index and no view is there
 abbrev pub IsEmpty : Database → Type 0

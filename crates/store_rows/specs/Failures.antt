@@ -1,5 +1,6 @@
 -- A call of `sqlite` that failed, and the error with which it did.
-use Rattle.std.specs.Prelude.{◌≡◌, ◌≢◌, ◌⊎◌, ℕ, List, nat_eq, true, false, Bool, Option, Some, None, Result, Ok, Err, ⊤}
+use Rattle.std.specs.Prelude.{◌≡◌, ◌≢◌, ◌⊎◌, ℕ, List, nat_eq, true, false, Bool, Option, Some, None, Result}
+use Rattle.std.specs.Prelude.{Ok, Err, ⊤}
 use Rattle.sqlite.specs.Order.{Row}
 use Rattle.sqlite.specs.Reading.{IsReadError}
 use Rattle.sqlite.specs.State.{State, ExecutesInside, QueriesRowInside}
@@ -18,11 +19,14 @@ use Rattle.store_rows.specs.declared.faults.TableFault.TheVariants.{Sqlite, Dama
 -- the call of `sqlite` that led from one state to the other answered this error
 pub data HasFailed (old new : State) (e : Error) : Type 0 where
   -- a query failed: that it finds no row is no failure
-  Asking : (text : List ℕ) (params : Row) → QueriesRowInside text params old new (Err e) → e ≢ QueryReturnedNoRows → HasFailed old new e
+  Asking : (text : List ℕ) (params : Row) → QueriesRowInside text params old new (Err e) → e
+      ≢ QueryReturnedNoRows → HasFailed old new e
   -- a row couldn't be changed
-  Changing : (text : List ℕ) (params : Row) → ExecutesInside 0 text params old new (Err e) → HasFailed old new e
+  Changing : (text : List ℕ) (params : Row) → ExecutesInside 0 text params old new (Err e)
+      → HasFailed old new e
   -- a row couldn't be put in: that its key is taken is no failure
-  Putting : (text : List ℕ) (params : Row) → ExecutesInside 0 text params old new (Err e) → is_taken_key e ≡ false → HasFailed old new e
+  Putting : (text : List ℕ) (params : Row) → ExecutesInside 0 text params old new (Err e) → is_taken_key e
+      ≡ false → HasFailed old new e
   -- a value of a row couldn't be read
   Reading : (at : ℕ) (value : Value) → IsReadError at value e → HasFailed old new e
   -- a commit failed, or the store did
@@ -37,11 +41,13 @@ HasReason old new (Damaged rule) = ⊤
 
 -- a row was to be put in, and its key is taken
 abbrev pub TakesKey : State → State → Type 0
-TakesKey old new = (text : List ℕ) × (params : Row) × (e : Error) × ExecutesInside 0 text params old new (Err e) × (is_taken_key e ≡ true)
+TakesKey old new = (text : List ℕ) × (params : Row) × (e : Error)
+    × ExecutesInside 0 text params old new (Err e) × (is_taken_key e ≡ true)
 
 -- the text was to change one row, and did not
 abbrev pub MeetsNone : List ℕ → State → State → Type 0
-MeetsNone text old new = (params : Row) × (count : ℕ) × ExecutesInside 0 text params old new (Ok count) × (nat_eq count 1 ≡ false)
+MeetsNone text old new = (params : Row) × (count : ℕ) × ExecutesInside 0 text params old new (Ok count)
+    × (nat_eq count 1 ≡ false)
 
 -- the text changes a row that the rule wants
 abbrev pub IsUpdateOf : Rule → List ℕ → Type 0
@@ -50,7 +56,8 @@ IsUpdateOf Teller text = (text ≡ SET_TELLER.now) ⊎ (text ≡ SET_BRANCH.now)
 IsUpdateOf Account text = text ≡ SET_ACCOUNT.now
 IsUpdateOf _ text = ⊥
 
--- the statement that led from one state to the other met that the rule is broken: a key is taken, or a row isn't there
+-- the statement that led from one state to the other met that the rule is broken: a key is taken, or a row
+-- isn't there
 abbrev pub HasMet : State → State → Rule → Type 0
 HasMet old new Key = TakesKey old new
 HasMet old new rule = (text : List ℕ) × IsUpdateOf rule text × MeetsNone text old new
@@ -65,8 +72,10 @@ abbrev pub IsUnreadable : TableFault → Type 0
 IsUnreadable (Sqlite e) = (at : ℕ) × (value : Value) × IsReadError at value e
 IsUnreadable (Damaged rule) = ⊤
 
--- What is told of what a query answered: the row as what it stands for, none where it found no row, or the error of either.
-abbrev pub ReadsAnswer : {X : Type 0} → (Row → Result X TableFault → Type 0) → Result Row Error → Result (Option X) TableFault
+-- What is told of what a query answered: the row as what it stands for, none where it found no row, or the
+-- error of either.
+abbrev pub ReadsAnswer : {X : Type 0} → (Row → Result X TableFault → Type 0) → Result Row Error
+    → Result (Option X) TableFault
     → Type 0
 ReadsAnswer Reads (Ok row) (Ok (Some x)) = Reads row (Ok x)
 ReadsAnswer Reads (Ok row) (Ok None) = ⊥
@@ -77,10 +86,12 @@ ReadsAnswer Reads (Err e) (Err fault) = (fault ≡ Sqlite e) × (e ≢ QueryRetu
 
 -- ---- whatever the rows
 
--- a query leaves everything as it was, or the store failed and the transaction is rolled back; what else than no row it tells is a failure
+-- a query leaves everything as it was, or the store failed and the transaction is rolled back; what else than
+-- no row it tells is a failure
 abbrev pub Asks : State → State → Result Row Error → Type 0
 Asks old new (Ok row) = IsUnchanged old new
-Asks old new (Err e) = (Fails old new ⊥ e ⊎ IsUnchanged old new) × (e ≢ QueryReturnedNoRows → HasFailed old new e)
+Asks old new (Err e) = (Fails old new ⊥ e ⊎ IsUnchanged old new)
+    × (e ≢ QueryReturnedNoRows → HasFailed old new e)
 
 -- a read leaves everything as it was, or the transaction is rolled back
 abbrev pub Looks : {X : Type 0} → State → State → Result X TableFault → Type 0
@@ -89,7 +100,8 @@ Looks old new (Err fault) = WriteFails old new × HasReason old new fault
 
 -- a change of a row: the transaction goes on, or an error leaves it as it was or rolls it back
 abbrev pub Changes : List ℕ → State → State → Result Bool Error → Type 0
-Changes text old new (Ok there) = StateShows old new new.now old.committed true × (there ≡ false → MeetsNone text old new)
+Changes text old new (Ok there) = StateShows old new new.now old.committed true
+    × (there ≡ false → MeetsNone text old new)
 Changes text old new (Err e) = WriteFails old new × HasFailed old new e
 
 -- the same of a row that is put in

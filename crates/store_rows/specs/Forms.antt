@@ -8,7 +8,8 @@ use Rattle.sql_meanings.specs.Entries.{Entry}
 use Rattle.store_rows.specs.Columns.{balance_shown, branch_shown, meta_numbers, meta_shown, request_shown}
 use Rattle.store_rows.specs.Outcomes.{IsNoBalance, IsNoBranch, IsNoRequest, Never}
 use Rattle.store_rows.specs.Rules.{BranchKeeps, RequestKeeps}
-use Rattle.store_rows.specs.Stored.{BalanceKeeps, IsBalance, IsBranch, IsRequest, balance_stored, branch_stored, request_stored}
+use Rattle.store_rows.specs.Stored.{BalanceKeeps, IsBalance, IsBranch, IsRequest, balance_stored}
+use Rattle.store_rows.specs.Stored.{branch_stored, request_stored}
 use Rattle.store_rows.specs.declared.metas.StoredMeta.{StoredMeta}
 
 -- how a row stands for such a value
@@ -22,13 +23,32 @@ pub record Form (X : Type 0) : Type 1 where
   pub Keeps : Rule → Entry → Type 0
 
 abbrev pub balance_form : Form ℤ
-balance_form = record { shown = balance_shown; Breaks = IsNoBalance; held = balance_stored; Is = IsBalance; Keeps = BalanceKeeps }
+balance_form = record {
+  shown = balance_shown;
+  Breaks = IsNoBalance;
+  held = balance_stored;
+  Is = IsBalance;
+  Keeps = BalanceKeeps;
+}
 
 abbrev pub branch_form : Form BranchRow
-branch_form = record { shown = branch_shown; Breaks = IsNoBranch; held = branch_stored; Is = IsBranch; Keeps = BranchKeeps }
+branch_form = record {
+  shown = branch_shown;
+  Breaks = IsNoBranch;
+  held = branch_stored;
+  Is = IsBranch;
+  Keeps =
+      BranchKeeps;
+}
 
 abbrev pub request_form : Form RequestRow
-request_form = record { shown = request_shown; Breaks = IsNoRequest; held = request_stored; Is = IsRequest; Keeps = RequestKeeps }
+request_form = record {
+  shown = request_shown;
+  Breaks = IsNoRequest;
+  held = request_stored;
+  Is = IsRequest;
+  Keeps = RequestKeeps;
+}
 
 -- any numbers are numbers of meta
 abbrev pub meta_form : Form StoredMeta

@@ -1,5 +1,6 @@
 -- What a call on the tables of a bank tells, and what it leaves.
-use Rattle.std.specs.Prelude.{◌≡◌, ◌≢◌, ◌⊎◌, IsTrue, ℕ, ℤ, pos, Bool, true, false, Option, Some, None, Result, Ok, Err}
+use Rattle.std.specs.Prelude.{◌≡◌, ◌≢◌, ◌⊎◌, IsTrue, ℕ, ℤ, pos, Bool, true, false, Option, Some, None, Result}
+use Rattle.std.specs.Prelude.{Ok, Err}
 use Rattle.sqlite.specs.State.{State, IsUnchanged}
 use Rattle.sqlite.specs.Order.{Row}
 use Rattle.sqlite.specs.declared.types.Value.{Value}
@@ -25,15 +26,19 @@ use Rattle.store_rows.specs.declared.faults.TableFault.{TableFault}
 use Rattle.store_rows.specs.declared.faults.TableFault.TheVariants.{Sqlite, Damaged}
 use Rattle.store_rows.specs.Columns.{request_shown}
 use Rattle.store_rows.specs.View.{Shows}
-use Rattle.message_records.specs.declared.limits.TheConstants.{MAX_ACCOUNT, MAX_BALANCE, MAX_BRANCH, MAX_NUMBER, MAX_TELLER}
+use Rattle.message_records.specs.declared.limits.TheConstants.{MAX_ACCOUNT, MAX_BALANCE, MAX_BRANCH}
+use Rattle.message_records.specs.declared.limits.TheConstants.{MAX_NUMBER, MAX_TELLER}
 use Rattle.posting_rules.specs.declared.limits.TheConstants.{MAX_DECIDED}
 
--- The answer is what was looked for and nothing has changed; or the store failed; or what is there breaks a rule in this way, and nothing
+-- The answer is what was looked for and nothing has changed; or the store failed; or what is there breaks a
+-- rule in this way, and nothing
 -- has changed.
-abbrev pub Finds : {X : Type 0} → State → State → Option X → (X → Rule → Type 0) → Result (Option X) TableFault → Type 0
+abbrev pub Finds : {X : Type 0} → State → State → Option X → (X → Rule → Type 0)
+    → Result (Option X) TableFault → Type 0
 Finds old new wanted Breaks (Ok found) = (found ≡ wanted) × IsUnchanged old new
 Finds old new wanted Breaks (Err (Sqlite e)) = IsStoreError old new e
-Finds {X} old new wanted Breaks (Err (Damaged broken)) = ((x : X) × (wanted ≡ Some x) × Breaks x broken) × IsUnchanged old new
+Finds {X} old new wanted Breaks (Err (Damaged broken)) = ((x : X) × (wanted ≡ Some x) × Breaks x broken)
+    × IsUnchanged old new
 
 -- the balance is outside the limits
 abbrev pub IsNoBalance : ℤ → Rule → Type 0
@@ -42,7 +47,8 @@ IsNoBalance z broken = (broken ≡ rule.Balance) × (cents_within MAX_BALANCE z 
 -- the number is outside the numbers of branches, the count is no count, or the balance is outside the limits
 abbrev pub IsNoBranch : BranchRow → Rule → Type 0
 IsNoBranch r broken =
-    ((broken ≡ rule.Value) × ((whole_within 1 MAX_BRANCH r.branch ≡ None) ⊎ (whole_within 0 4_294_967_295 r.accounts ≡ None)))
+    ((broken ≡ rule.Value) × ((whole_within 1 MAX_BRANCH r.branch ≡ None)
+    ⊎ (whole_within 0 4_294_967_295 r.accounts ≡ None)))
     ⊎ ((broken ≡ rule.Balance) × (cents_within MAX_BALANCE r.balance ≡ None))
 
 -- the request is one that can be kept
@@ -58,7 +64,8 @@ abbrev pub IsNoRequest : RequestRow → Rule → Type 0
 IsNoRequest r broken =
     ((broken ≡ rule.Value) × (whole_within 1 MAX_DECIDED r.ordinal ≡ None))
     ⊎ ((broken ≡ rule.Request)
-    × ((whole_within 1 MAX_TELLER r.teller ≡ None) ⊎ ((whole_within 1 MAX_NUMBER r.number ≡ None) ⊎ (¬ CanBeKept r.kept))))
+    × ((whole_within 1 MAX_TELLER r.teller ≡ None)
+    ⊎ ((whole_within 1 MAX_NUMBER r.number ≡ None) ⊎ (¬ CanBeKept r.kept))))
 
 -- no rule is broken so
 abbrev pub Never : {X : Type 0} → X → Rule → Type 0
@@ -66,20 +73,25 @@ Never x broken = ⊥
 
 -- a UNIQUE of the schema is on the table, and no sound file with this schema shows these tables
 abbrev pub IsForbidden : Schema → Table → Tables → Type 0
-IsForbidden schema table t = IsTrue (has_unique schema table) × ((trees : Trees) → ¬ Shows (record { schema = schema; trees = trees }) t)
+IsForbidden schema table t = IsTrue (has_unique schema table)
+    × ((trees : Trees) → ¬ Shows (record { schema = schema; trees = trees }) t)
 
--- the answer tells whether the row is there; the tables are these now, and every table but this one that stands alone is as it was
+-- the answer tells whether the row is there; the tables are these now, and every table but this one that
+-- stands alone is as it was
 abbrev pub Writes : State → State → Table → Bool → Tables → Result Bool Error → Type 0
 Writes old new table there after (Ok answer) = (answer ≡ there) × Shows new.now after × GoesOn old new
     × SparesStanding old.now new.now table.name
 Writes old new table there after (Err e) = SetFails old new table (IsForbidden old.now.schema table after) e
 
--- the row is put in, where its key is free, and every table but this one is as it was; a taken key is told, and nothing has changed
+-- the row is put in, where its key is free, and every table but this one is as it was; a taken key is told,
+-- and nothing has changed
 abbrev pub Adds : State → State → Table → Bool → Tables → Result (Unit {0}) TableFault → Type 0
 Adds old new table taken after (Ok done) = (taken ≡ false) × Shows new.now after × GoesOn old new
     × SparesTables old.now new.now table.name
-Adds old new table taken after (Err (Sqlite e)) = PutFails old new table (IsForbidden old.now.schema table after) e
-Adds old new table taken after (Err (Damaged broken)) = (broken ≡ rule.Key) × (taken ≡ true) × IsUnchanged old new
+Adds old new table taken after (Err (Sqlite e)) = PutFails old new table
+    (IsForbidden old.now.schema table after) e
+Adds old new table taken after (Err (Damaged broken)) = (broken ≡ rule.Key) × (taken ≡ true)
+    × IsUnchanged old new
 
 -- ---- a stored number, as its type
 
@@ -93,19 +105,22 @@ ReadsInteger v (Err (Damaged broken)) = (z : ℤ) → v ≡ Int z → ⊥
 abbrev pub ReadsWhole : ℕ → ℕ → Rule → Value → Result ℕ TableFault → Type 0
 ReadsWhole least most broken v (Ok n) = (z : ℤ) → v ≡ Int z → z ≡ pos n
 ReadsWhole least most broken v (Err (Sqlite e)) = (z : ℤ) → v ≡ Int z → e ≡ SqliteFailure OutOfMemory
-ReadsWhole least most broken v (Err (Damaged rule)) = (z : ℤ) → v ≡ Int z → (rule ≡ broken) × ((n : ℕ) → z ≡ pos n → whole_within least most n ≡ None)
+ReadsWhole least most broken v (Err (Damaged rule)) = (z : ℤ) → v ≡ Int z → (rule ≡ broken)
+    × ((n : ℕ) → z ≡ pos n → whole_within least most n ≡ None)
 
 -- the amount that the value is, or it is outside the limits, or memory was refused
 abbrev pub ReadsCents : Rule → Value → Result ℤ TableFault → Type 0
 ReadsCents broken v (Ok n) = (z : ℤ) → v ≡ Int z → n ≡ z
 ReadsCents broken v (Err (Sqlite e)) = (z : ℤ) → v ≡ Int z → e ≡ SqliteFailure OutOfMemory
-ReadsCents broken v (Err (Damaged rule)) = (z : ℤ) → v ≡ Int z → (rule ≡ broken) × (cents_within MAX_BALANCE z ≡ None)
+ReadsCents broken v (Err (Damaged rule)) = (z : ℤ) → v ≡ Int z → (rule ≡ broken)
+    × (cents_within MAX_BALANCE z ≡ None)
 
 -- the outcome whose code the value is, or it is no code, or memory was refused
 abbrev pub ReadsOutcome : Value → Result Outcome TableFault → Type 0
 ReadsOutcome v (Ok o) = (z : ℤ) → v ≡ Int z → z ≡ pos (code_of o)
 ReadsOutcome v (Err (Sqlite e)) = (z : ℤ) → v ≡ Int z → e ≡ SqliteFailure OutOfMemory
-ReadsOutcome v (Err (Damaged broken)) = (z : ℤ) → v ≡ Int z → (broken ≡ rule.Request) × ((o : Outcome) → z ≢ pos (code_of o))
+ReadsOutcome v (Err (Damaged broken)) = (z : ℤ) → v ≡ Int z → (broken ≡ rule.Request)
+    × ((o : Outcome) → z ≢ pos (code_of o))
 
 -- what a row shows, or it breaks a rule in this way, or memory was refused
 abbrev pub ReadsRow : {X : Type 0} → (X → Row) → (X → Rule → Type 0) → Row → Result X TableFault → Type 0
@@ -117,4 +132,5 @@ ReadsRow {X} shown Breaks row (Err (Damaged broken)) = (y : X) → row ≡ shown
 abbrev pub ReadsKept : Row → Result KeptFields TableFault → Type 0
 ReadsKept row (Ok k) = (r : RequestRow) → row ≡ request_shown r → k ≡ r.kept
 ReadsKept row (Err (Sqlite e)) = (r : RequestRow) → row ≡ request_shown r → e ≡ SqliteFailure OutOfMemory
-ReadsKept row (Err (Damaged broken)) = (r : RequestRow) → row ≡ request_shown r → (broken ≡ rule.Request) × ¬ CanBeKept r.kept
+ReadsKept row (Err (Damaged broken)) = (r : RequestRow) → row ≡ request_shown r → (broken ≡ rule.Request)
+    × ¬ CanBeKept r.kept

@@ -1,15 +1,19 @@
--- The rows of the six tables as a file holds them, whatever numbers they are, and the seven rules that the rows of a bank keep.
-use Rattle.std.specs.Prelude.{◌≡◌, ◌≤◌, ◌<◌, ◌≤ℤ◌, ℕ, ℤ, pos, nat_abs, List, [], ◌∷◌, find, Option, Some, None, option_and_then, IsSome, IsTrue, ⊤}
+-- The rows of the six tables as a file holds them, whatever numbers they are, and the seven rules that the
+-- rows of a bank keep.
+use Rattle.std.specs.Prelude.{◌≡◌, ◌≤◌, ◌<◌, ◌≤ℤ◌, ℕ, ℤ, pos, nat_abs, List, [], ◌∷◌, find, Option, Some}
+use Rattle.std.specs.Prelude.{None, option_and_then, IsSome, IsTrue, ⊤}
 use Rattle.std.specs.List.{AllByRecursion}
 use Rattle.sqlite.specs.Effect.{Database, IsDatabase}
 use Rattle.message_records.specs.Outcomes.{code_of}
 use Rattle.message_records.specs.Ranges.{whole_within}
 use Rattle.message_records.specs.declared.records.Outcome.{Outcome}
-use Rattle.message_records.specs.declared.limits.TheConstants.{MAX_ACCOUNT, MAX_BALANCE, MAX_BRANCH, MAX_DELTA, MAX_MOMENT, MAX_NUMBER, MAX_TELLER}
+use Rattle.message_records.specs.declared.limits.TheConstants.{MAX_ACCOUNT, MAX_BALANCE, MAX_BRANCH}
+use Rattle.message_records.specs.declared.limits.TheConstants.{MAX_DELTA, MAX_MOMENT, MAX_NUMBER, MAX_TELLER}
 use Rattle.posting_rules.specs.Commands.{branch_of_teller, branch_of_account, place_of_account}
 use Rattle.posting_rules.specs.Kept.{is_kept_with}
 use Rattle.posting_rules.specs.declared.fault.Rule.{Rule}
-use Rattle.posting_rules.specs.declared.fault.Rule.TheVariants.{Meta, Teller, Account, Balance, Request, Value, Key}
+use Rattle.posting_rules.specs.declared.fault.Rule.TheVariants.{Meta, Teller, Account, Balance, Request}
+use Rattle.posting_rules.specs.declared.fault.Rule.TheVariants.{Value, Key}
 use Rattle.posting_rules.specs.declared.limits.TheConstants.{LAST_BRANCH, MAX_DECIDED, MOST_ACCOUNTS}
 use Rattle.sql_meanings.specs.Contents.{HoldsEach}
 use Rattle.sql_meanings.specs.Entries.{Entry, has_key}
@@ -74,7 +78,8 @@ abbrev pub PostingKeeps : Rule → Entry → Type 0
 PostingKeeps Value r = IsFrom 1 MAX_DECIDED r.key × IsFrom 0 MAX_MOMENT (number_at 4 r)
 PostingKeeps _ r = ⊤
 
--- the row is of a request that can be kept: each field is in its range, and the outcome is kept with such a balance
+-- the row is of a request that can be kept: each field is in its range, and the outcome is kept with such a
+-- balance
 pub record IsOfARequest (r : Entry) : Type 0 where
   pub teller : IsFrom 1 MAX_TELLER (number_at 0 r)
   pub number : IsFrom 1 MAX_NUMBER (number_at 1 r)
@@ -101,11 +106,13 @@ EachKeeps rule rows =
 
 -- `meta` has exactly one row, and this many requests are decided
 abbrev pub HasDecided : StoredRows → ℕ → Type 0
-HasDecided rows decided = (version : ℤ) × (rows.meta ≡ record { key = pos META_ID; values = version ∷ pos decided ∷ [] } ∷ [])
+HasDecided rows decided = (version : ℤ)
+    × (rows.meta ≡ record { key = pos META_ID; values = version ∷ pos decided ∷ [] } ∷ [])
 
 -- the place of an account is within its branch's count
 abbrev pub IsCounted : StoredRows → ℕ → Type 0
-IsCounted rows n = (branch : Entry) × (branch_under rows (branch_of_account n) ≡ Some branch) × (pos (place_of_account n) ≤ℤ number_at 0 branch)
+IsCounted rows n = (branch : Entry) × (branch_under rows (branch_of_account n) ≡ Some branch)
+    × (pos (place_of_account n) ≤ℤ number_at 0 branch)
 
 -- a teller has a row just where its branch has one
 abbrev pub TellersFit : StoredRows → Type 0
@@ -116,14 +123,17 @@ TellersFit rows = (n : ℕ) → 1 ≤ n → n ≤ MAX_TELLER
 -- an account has a row just where its place is within its branch's count
 abbrev pub AccountsFit : StoredRows → Type 0
 AccountsFit rows = (n : ℕ) → 1 ≤ n → n ≤ MAX_ACCOUNT
-    → (IsSome (row_under rows.accounts n) → IsCounted rows n) × (IsCounted rows n → IsSome (row_under rows.accounts n))
+    → (IsSome (row_under rows.accounts n) → IsCounted rows n)
+    × (IsCounted rows n → IsSome (row_under rows.accounts n))
 
 -- no ordinal above those that are decided is taken, and no teller and no account of a branch that isn't there
 pub record AreFree (rows : StoredRows) : Type 0 where
   pub requests : (decided n : ℕ) → HasDecided rows decided → decided < n → row_under rows.requests n ≡ None
   pub postings : (decided n : ℕ) → HasDecided rows decided → decided < n → row_under rows.history n ≡ None
-  pub tellers : (n : ℕ) → 1 ≤ n → branch_under rows (branch_of_teller n) ≡ None → row_under rows.tellers n ≡ None
-  pub accounts : (n : ℕ) → 1 ≤ n → branch_under rows (branch_of_account n) ≡ None → row_under rows.accounts n ≡ None
+  pub tellers : (n : ℕ) → 1 ≤ n → branch_under rows (branch_of_teller n) ≡ None → row_under rows.tellers n
+      ≡ None
+  pub accounts : (n : ℕ) → 1 ≤ n → branch_under rows (branch_of_account n) ≡ None → row_under rows.accounts n
+      ≡ None
 
 -- the seven rules
 abbrev pub Keeps : Rule → StoredRows → Type 0

@@ -29,12 +29,14 @@ account = plain_table (codes "account") (codes "aid") (codes "balance" ∷ [])
 
 -- the postings, by the ordinal of their request
 abbrev pub history : Table
-history = plain_table (codes "history") (codes "ordinal") (codes "aid" ∷ codes "tid" ∷ codes "bid" ∷ codes "delta" ∷ codes "moment" ∷ [])
+history = plain_table (codes "history") (codes "ordinal")
+    (codes "aid" ∷ codes "tid" ∷ codes "bid" ∷ codes "delta" ∷ codes "moment" ∷ [])
 
 -- no two rows have the same teller and number
 abbrev pub request : Table
 request = record (plain_table (codes "request") (codes "ordinal")
-    (codes "tid" ∷ codes "number" ∷ codes "aid" ∷ codes "bid" ∷ codes "delta" ∷ codes "outcome" ∷ codes "balance" ∷ [])) {
+    (codes "tid" ∷ codes "number" ∷ codes "aid" ∷ codes "bid" ∷ codes "delta" ∷ codes "outcome"
+    ∷ codes "balance" ∷ [])) {
       uniques = (2 ∷ 3 ∷ []) ∷ [];
       orders = plain ∷ [];
     }

@@ -1,5 +1,6 @@
 -- What a statement of one table was run as.
-use Rattle.std.specs.Prelude.{◌≡◌, ◌⊎◌, ℕ, ℤ, pos, List, [], ◌∷◌, nat_eq, slice_get, Bool, Some, Result, Ok, Err, ⊤}
+use Rattle.std.specs.Prelude.{◌≡◌, ◌⊎◌, ℕ, ℤ, pos, List, [], ◌∷◌, nat_eq, slice_get, Bool, Some, Result, Ok}
+use Rattle.std.specs.Prelude.{Err, ⊤}
 use Rattle.sqlite.specs.Effect.{Database, Reads, ReadsFirst}
 use Rattle.sqlite.specs.Listing.{IsSourceOf, reads_listing, understood}
 use Rattle.sqlite.specs.Order.{Row}
@@ -11,7 +12,7 @@ use Rattle.sqlite_trees.specs.declared.store.Store.{Ghosts}
 use Rattle.sqlite_resolve.specs.declared.compiled.Compiled.{Compiled}
 use Rattle.sql_meanings.specs.Calls.{Inside, Says}
 use Rattle.store_rows.specs.Columns.{meta_shown}
-use Rattle.store_rows.specs.Failures.{Changes}
+use Rattle.store_rows.specs.Failures.{Changes, Puts}
 use Rattle.store_rows.specs.Faults.{added}
 use Rattle.store_rows.specs.declared.faults.TableFault.{TableFault}
 use Rattle.store_rows.specs.declared.faults.TableFault.TheVariants.{Sqlite, Damaged}
@@ -21,28 +22,42 @@ use Rattle.store_rows.specs.declared.texts.TheConstants.{GET_META}
 
 -- the text was run with these values, and the answer tells whether it met one row
 abbrev pub MeetsOne : List ℕ → Row → State → State → Result Bool Error → Type 0
-MeetsOne text params old new (Ok met) = (count : ℕ) × ExecutesInside 0 text params old new (Ok count) × (met ≡ nat_eq count 1)
+MeetsOne text params old new (Ok met) = (count : ℕ) × ExecutesInside 0 text params old new (Ok count)
+    × (met ≡ nat_eq count 1)
 MeetsOne text params old new (Err e) = ExecutesInside 0 text params old new (Err e)
 
--- The text was run with a key and a number. Whatever it was, the transaction goes on, or an error leaves it as it was.
-abbrev pub RunsUnder : {S : Type 0} → Ghosts S → Transaction S → Transaction S → List ℕ → ℕ → ℤ → Result Bool Error → Type 0
+-- The text was run with a key and a number. Whatever it was, the transaction goes on, or an error leaves it
+-- as it was.
+abbrev pub RunsUnder : {S : Type 0} → Ghosts S → Transaction S → Transaction S → List ℕ → ℕ → ℤ
+    → Result Bool Error → Type 0
 RunsUnder g old new text key number result =
     Says g old new (Inside (λ old new. MeetsOne text (Int (pos key) ∷ Int number ∷ []) old new result))
     (Inside (λ old new. Changes text old new result))
 
 -- the text was run with these values, and the answer is told as that of an INSERT
 abbrev pub PutsIn : List ℕ → Row → State → State → Result (Unit {0}) TableFault → Type 0
-PutsIn text params old new r = (answer : Result ℕ Error) × ExecutesInside 0 text params old new answer × (r ≡ added answer)
+PutsIn text params old new r = (answer : Result ℕ Error) × ExecutesInside 0 text params old new answer
+    × (r ≡ added answer)
+
+-- The text was run with these values. Whatever it was, the transaction goes on, or an error leaves it as it
+-- was.
+abbrev pub PutsRow : {S : Type 0} → Ghosts S → Transaction S → Transaction S → List ℕ → Row
+    → Result (Unit {0}) TableFault → Type 0
+PutsRow g old new text values result =
+    Says g old new (Inside (λ old new. PutsIn text values old new result))
+    (Inside (λ old new. Puts old new result))
 
 -- run on this database with these values, the text shows this row first
 abbrev pub ShowsFirst : List ℕ → Row → Database → Row → Type 0
 ShowsFirst text params db row = (c : Compiled) × (understood db.schema text ≡ Ok c) × (source : Database)
     × IsSourceOf (reads_listing db.schema text) db source
-    × (ReadsFirst c.command source params (row ∷ []) ⊎ ((rows : List Row) × Reads c.command source params rows × (slice_get rows 0 ≡ Some row)))
+    × (ReadsFirst c.command source params (row ∷ [])
+    ⊎ ((rows : List Row) × Reads c.command source params rows × (slice_get rows 0 ≡ Some row)))
 
 -- the row of the bank has a value that is no whole number, whatever table `meta` is
 abbrev pub HasOtherValue : Database → Type 0
-HasOtherValue db = (row : Row) × ShowsFirst GET_META.now (Int (pos META_ID) ∷ []) db row × ((m : StoredMeta) → row ≡ meta_shown m → ⊥)
+HasOtherValue db = (row : Row) × ShowsFirst GET_META.now (Int (pos META_ID) ∷ []) db row
+    × ((m : StoredMeta) → row ≡ meta_shown m → ⊥)
 
 -- what damage at the row of the bank says
 abbrev pub TellsOther : Database → TableFault → Type 0

@@ -26,7 +26,8 @@ branch_stored r = Int r.key ∷ Int (number_at 0 r) ∷ Int (number_at 1 r) ∷ 
 -- ordinal, tid, number, aid, bid, delta, outcome, balance
 abbrev pub request_stored : Entry → Row
 request_stored r =
-    Int r.key ∷ Int (number_at 0 r) ∷ Int (number_at 1 r) ∷ Int (number_at 2 r) ∷ Int (number_at 3 r) ∷ Int (number_at 4 r)
+    Int r.key ∷ Int (number_at 0 r) ∷ Int (number_at 1 r) ∷ Int (number_at 2 r) ∷ Int (number_at 3 r)
+    ∷ Int (number_at 4 r)
     ∷ Int (number_at 5 r) ∷ Int (number_at 6 r) ∷ []
 
 -- ---- what was made of a row
@@ -55,13 +56,15 @@ BalanceKeeps _ r = ⊤
 -- ---- what is told
 
 -- what is shown of a row is read so; or the row doesn't keep the rule; or memory was refused
-abbrev pub ReadsStored : {X : Type 0} → (Entry → Row) → (X → Entry → Type 0) → (Rule → Entry → Type 0) → Row → Result X TableFault → Type 0
+abbrev pub ReadsStored : {X : Type 0} → (Entry → Row) → (X → Entry → Type 0) → (Rule → Entry → Type 0) → Row
+    → Result X TableFault → Type 0
 ReadsStored shown Is Keeps row (Ok x) = (r : Entry) → row ≡ shown r → Is x r
 ReadsStored shown Is Keeps row (Err (Sqlite e)) = ⊤
 ReadsStored shown Is Keeps row (Err (Damaged rule)) = (r : Entry) → row ≡ shown r → ¬ Keeps rule r
 
 -- the stored row is told, and that there is none; or it doesn't keep the rule; or the store failed
-abbrev pub FindsStored : {X : Type 0} → Option Entry → (X → Entry → Type 0) → (Rule → Entry → Type 0) → Result (Option X) TableFault → Type 0
+abbrev pub FindsStored : {X : Type 0} → Option Entry → (X → Entry → Type 0) → (Rule → Entry → Type 0)
+    → Result (Option X) TableFault → Type 0
 FindsStored stored Is Keeps (Ok None) = stored ≡ None
 FindsStored stored Is Keeps (Ok (Some x)) = (r : Entry) × (stored ≡ Some r) × Is x r
 FindsStored stored Is Keeps (Err (Sqlite e)) = ⊤

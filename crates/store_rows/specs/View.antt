@@ -37,7 +37,11 @@ account_entry r = record { key = pos r.account; values = r.balance ∷ [] }
 
 -- a row of `history`
 abbrev pub history_entry : HistoryRow → Entry
-history_entry r = record { key = pos r.ordinal; values = pos r.account ∷ pos r.teller ∷ pos r.branch ∷ r.delta ∷ pos r.moment ∷ [] }
+history_entry r = record {
+  key = pos r.ordinal;
+  values = pos r.account ∷ pos r.teller ∷ pos r.branch ∷ r.delta
+      ∷ pos r.moment ∷ [];
+}
 
 -- an outcome is held as its code
 abbrev pub request_entry : RequestRow → Entry
@@ -57,7 +61,8 @@ pub record HoldsRows (db : Database) (table : Table) (rows : List Entry) : Type 
 -- the rows of each table as a file holds them, in the order of `bank_tables`
 abbrev pub contents : Tables → List (List Entry)
 contents t =
-    (meta_entry t.decided ∷ []) ∷ map branch_entry t.branches ∷ map teller_entry t.tellers ∷ map account_entry t.accounts
+    (meta_entry t.decided ∷ []) ∷ map branch_entry t.branches ∷ map teller_entry t.tellers
+    ∷ map account_entry t.accounts
     ∷ map history_entry t.history ∷ map request_entry t.requests ∷ []
 
 -- a sound database defines the tables of a bank and holds these rows by rising keys, whatever else it has

@@ -34,15 +34,16 @@ pub fn set_account_balance<S: Alter>(
     account: Account,
     balance: Cents,
 ) -> Result<bool, Error>
-    ensures { SetsNumber S.Store tx.old tx.new table text.now (λ tables. is_some (row_at account_key tables.accounts account))
-        (with_account_balance account balance) result }
+    ensures { SetsNumber S.Store tx.old tx.new table text.now
+        (λ tables. is_some (row_at account_key tables.accounts account)) (with_account_balance account balance) result }
 {
     write_balance(tx, SET_ACCOUNT, account.get(), balance)
 }
 
 /// Adds an account. `Damaged(Rule::Key)` is a number that is taken.
 pub fn add_account<S: Alter>(tx: &mut Transaction<'_, S>, row: AccountRow) -> Result<(), TableFault>
-    ensures { AddsRow S.Store tx.old tx.new table (λ tables. is_some (row_at account_key tables.accounts row.account)) (with_account row) result }
+    ensures { AddsRow S.Store tx.old tx.new table
+        (λ tables. is_some (row_at account_key tables.accounts row.account)) (with_account row) result }
 {
     put_balance(tx, ADD_ACCOUNT, row.account.get(), row.balance)
 }

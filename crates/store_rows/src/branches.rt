@@ -61,15 +61,16 @@ pub fn set_branch_balance<S: Alter>(
     branch: Branch,
     balance: Cents,
 ) -> Result<bool, Error>
-    ensures { SetsNumber S.Store tx.old tx.new table text.now (λ tables. is_some (row_at branch_key tables.branches branch))
-        (with_branch_balance branch balance) result }
+    ensures { SetsNumber S.Store tx.old tx.new table text.now
+        (λ tables. is_some (row_at branch_key tables.branches branch)) (with_branch_balance branch balance) result }
 {
     write_balance(tx, SET_BRANCH, branch.get(), balance)
 }
 
 /// Adds a branch. `Damaged(Rule::Key)` is a number that is taken.
 pub fn add_branch<S: Alter>(tx: &mut Transaction<'_, S>, row: BranchRow) -> Result<(), TableFault>
-    ensures { AddsRow S.Store tx.old tx.new table (λ tables. is_some (row_at branch_key tables.branches row.branch)) (with_branch row) result }
+    ensures { AddsRow S.Store tx.old tx.new table
+        (λ tables. is_some (row_at branch_key tables.branches row.branch)) (with_branch row) result }
 {
     let key = row.branch.get() as i64;
     let accounts = i64::from(row.accounts);

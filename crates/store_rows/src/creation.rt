@@ -7,7 +7,8 @@ ghost use Rattle.sql_meanings.specs.Calls.{Says, Inside};
 ghost use Rattle.sql_meanings.specs.Making.{CreatesOnly, KeepsTables};
 ghost use Rattle.sql_meanings.specs.Outcomes.{WriteKept, WritesKept, MakesTold};
 ghost use Rattle.store_rows.specs.View.{Shows};
-ghost use Rattle.store_rows.specs.Creation.{AreEmpty, new_tables, six_texts, MakesAll, StartsBank, CreatesBank, CreationFails, HasNewBank, IsAlone};
+ghost use Rattle.store_rows.specs.Creation.{AreEmpty, new_tables, six_texts, MakesAll, StartsBank};
+ghost use Rattle.store_rows.specs.Creation.{CreatesBank, CreationFails, HasNewBank, IsAlone};
 
 use crate::metas::{META_ID, VERSION};
 use crate::texts::{ADD_META, MAKE_TABLES};
@@ -16,7 +17,8 @@ use sqlite::{Alter, Connection, Error, Transaction, params};
 // Makes the table that the text defines.
 fn make_table<S: Alter>(tx: &mut Transaction<'_, S>, text: &str) -> Result<usize, Error>
     ensures { Says S.Store tx.old tx.new
-        (Inside (λ old new. (table : Table) → CreatesOnly text.now table → MakesTold old new text.now table result))
+        (Inside (λ old new. (table : Table) → CreatesOnly text.now table
+        → MakesTold old new text.now table result))
         (Inside (λ old new. WriteKept old new result)) }
 {
     tx.execute(text, &[])
@@ -66,14 +68,16 @@ pub fn create_tables<S: Alter>(tx: &mut Transaction<'_, S>) -> Result<(), Error>
 pub fn create<S: Alter>(conn: &mut Connection<S>) -> Result<(), Error>
     requires { conn.old.in_transaction ≡ false }
     ensures ok { HasCleanDisk (state S.Store conn.new)
-        → OnOk result (Shows (state S.Store conn.new).now new_tables × Shows (state S.Store conn.new).committed new_tables
+        → OnOk result (Shows (state S.Store conn.new).now new_tables
+        × Shows (state S.Store conn.new).committed new_tables
         × KeepsTables (state S.Store conn.old).now (state S.Store conn.new).now
         × IsAlone (state S.Store conn.old).now (state S.Store conn.new).now) }
     ensures err { HasCleanDisk (state S.Store conn.new) → IsTrue (state S.Store conn.new).is_open
         → OnErr result ((state S.Store conn.new).committed ≡ (state S.Store conn.old).committed) }
     ensures cause { HasCleanDisk (state S.Store conn.new)
         → IfErr result (CreationFails (state S.Store conn.old) (state S.Store conn.new)) }
-    ensures stop { Survives (state S.Store conn.old) (state S.Store conn.new) (HasNewBank (state S.Store conn.old).now) }
+    ensures stop { Survives (state S.Store conn.old) (state S.Store conn.new)
+        (HasNewBank (state S.Store conn.old).now) }
     ensures mode { conn.new.in_transaction ≡ false }
 {
     let mut tx = conn.transaction();

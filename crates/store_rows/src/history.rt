@@ -13,7 +13,8 @@ use sqlite::{Alter, Transaction, params};
 
 /// Adds a posting. `Damaged(Rule::Key)` is an ordinal that is taken.
 pub fn add_history<S: Alter>(tx: &mut Transaction<'_, S>, row: HistoryRow) -> Result<(), TableFault>
-    ensures { AddsRow S.Store tx.old tx.new table (λ tables. is_some (row_at history_key tables.history row.ordinal)) (with_history row) result }
+    ensures { AddsRow S.Store tx.old tx.new table
+        (λ tables. is_some (row_at history_key tables.history row.ordinal)) (with_history row) result }
 {
     let key = row.ordinal.get() as i64;
     let account = row.account.get() as i64;

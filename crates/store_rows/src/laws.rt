@@ -7,7 +7,8 @@ ghost use Rattle.store_rows.specs.View.{Shows, ShowsTrees};
 
 use sqlite::{Alter, Connection};
 
-/// A connection shows what its trees show, and trees show one bank at most: so who opens what a stop left finds it.
+/// A connection shows what its trees show, and trees show one bank at most: so who opens what a stop left
+/// finds it.
 pub fn trees_law<S: Alter>(conn: &Connection<S>)
     ensures leaves { (tables : Tables) → Shows (state S.Store conn.now).now tables
         → ShowsTrees (state S.Store conn.now).now.trees tables }

@@ -66,7 +66,8 @@ pub fn read_meta<S: Alter>(tx: &mut Transaction<'_, S>) -> Result<Option<StoredM
     ensures says { Says S.Store tx.old tx.new
         (OfMeta (λ old new rows. Finds old new (meta_in rows) Never result))
         (λ old new. Looks old new result) }
-    ensures other { HasCleanDisk (state S.Store tx.new.conn.now) → IfErr result (TellsOther (state S.Store tx.old.conn.now).now) }
+    ensures other { HasCleanDisk (state S.Store tx.new.conn.now)
+        → IfErr result (TellsOther (state S.Store tx.old.conn.now).now) }
 {
     found(meta_row(tx))
 }

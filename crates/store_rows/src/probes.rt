@@ -21,7 +21,8 @@ fn is_refusal(e: &Error) -> bool
 
 // Whether the text is a statement under the schema.
 fn is_understood<S: Alter>(conn: &mut Connection<S>, text: &str) -> Result<bool, Error>
-    ensures told { HasCleanDisk (state S.Store conn.new) → OnlyShows text.now 0 (understood conn.old.schema text.now)
+    ensures told { HasCleanDisk (state S.Store conn.new)
+        → OnlyShows text.now 0 (understood conn.old.schema text.now)
         → TellsUnderstood (state S.Store conn.old) (state S.Store conn.new) text.now result }
     ensures mode { conn.old.in_transaction ≡ false → conn.new.in_transaction ≡ false }
     ensures survives { Survives (state S.Store conn.old) (state S.Store conn.new) (λ _. ⊥) }

@@ -64,7 +64,8 @@ pub fn find_request<S: Alter>(
 
 /// Adds a decided request. `Damaged(Rule::Key)` is an ordinal that is taken.
 pub fn add_request<S: Alter>(tx: &mut Transaction<'_, S>, row: RequestRow) -> Result<(), TableFault>
-    ensures { AddsRow S.Store tx.old tx.new table (λ tables. is_some (row_at request_key tables.requests row.ordinal)) (with_request row) result }
+    ensures { AddsRow S.Store tx.old tx.new table
+        (λ tables. is_some (row_at request_key tables.requests row.ordinal)) (with_request row) result }
 {
     let key = row.ordinal.get() as i64;
     let teller = row.teller.get() as i64;

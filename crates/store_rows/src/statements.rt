@@ -4,10 +4,10 @@ ghost use Rattle.sqlite.specs.Listing.{understood};
 ghost use Rattle.sqlite.specs.State.{QueriesRowInside};
 ghost use Rattle.sqlite.specs.Values.{bound};
 ghost use Rattle.sqlite.specs.declared.types.Value.TheVariants.{Int};
-ghost use Rattle.sql_meanings.specs.Calls.{Says, Inside};
+ghost use Rattle.sql_meanings.specs.Calls.{Says};
 ghost use Rattle.sql_meanings.specs.Outcomes.{OnlyShows};
-ghost use Rattle.store_rows.specs.Failures.{Asks, Puts};
-ghost use Rattle.store_rows.specs.Statements.{PutsIn, RunsUnder};
+ghost use Rattle.store_rows.specs.Failures.{Asks};
+ghost use Rattle.store_rows.specs.Statements.{PutsRow, RunsUnder};
 
 use crate::faults::{TableFault, added};
 use message_records::Cents;
@@ -85,9 +85,7 @@ pub(crate) fn put_in<S: Alter>(
     text: &str,
     values: &[ValueRef<'_>],
 ) -> Result<(), TableFault>
-    ensures { Says S.Store tx.old tx.new
-        (Inside (λ old new. PutsIn text.now (bound values.now) old new result))
-        (Inside (λ old new. Puts old new result)) }
+    ensures { PutsRow S.Store tx.old tx.new text.now (bound values.now) result }
 {
     let answer = tx.execute(text, values);
     added(answer)
@@ -101,9 +99,7 @@ pub(crate) fn put_balance<S: Alter>(
     balance: Cents,
 ) -> Result<(), TableFault>
     requires { key ≤ MAX_KEY }
-    ensures { Says S.Store tx.old tx.new
-        (Inside (λ old new. PutsIn text.now (Int (pos key) ∷ Int balance ∷ []) old new result))
-        (Inside (λ old new. Puts old new result)) }
+    ensures { PutsRow S.Store tx.old tx.new text.now (Int (pos key) ∷ Int balance ∷ []) result }
 {
     let key = key as i64;
     let balance = balance.get();

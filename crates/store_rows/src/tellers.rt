@@ -34,15 +34,16 @@ pub fn set_teller_balance<S: Alter>(
     teller: Teller,
     balance: Cents,
 ) -> Result<bool, Error>
-    ensures { SetsNumber S.Store tx.old tx.new table text.now (λ tables. is_some (row_at teller_key tables.tellers teller))
-        (with_teller_balance teller balance) result }
+    ensures { SetsNumber S.Store tx.old tx.new table text.now
+        (λ tables. is_some (row_at teller_key tables.tellers teller)) (with_teller_balance teller balance) result }
 {
     write_balance(tx, SET_TELLER, teller.get(), balance)
 }
 
 /// Adds a teller. `Damaged(Rule::Key)` is a number that is taken.
 pub fn add_teller<S: Alter>(tx: &mut Transaction<'_, S>, row: TellerRow) -> Result<(), TableFault>
-    ensures { AddsRow S.Store tx.old tx.new table (λ tables. is_some (row_at teller_key tables.tellers row.teller)) (with_teller row) result }
+    ensures { AddsRow S.Store tx.old tx.new table
+        (λ tables. is_some (row_at teller_key tables.tellers row.teller)) (with_teller row) result }
 {
     put_balance(tx, ADD_TELLER, row.teller.get(), row.balance)
 }

@@ -1,12 +1,12 @@
 //! The statements, letter for letter.
 
 /// Makes the table `meta`.
-pub(crate) const MAKE_META: &str =
-    "CREATE TABLE meta (id INTEGER PRIMARY KEY CHECK (id = 1), version INTEGER NOT NULL, decided INTEGER NOT NULL) STRICT";
+pub(crate) const MAKE_META: &str = "CREATE TABLE meta (id INTEGER PRIMARY KEY CHECK (id = 1), \
+     version INTEGER NOT NULL, decided INTEGER NOT NULL) STRICT";
 
 /// Makes the table `branch`.
-pub(crate) const MAKE_BRANCH: &str =
-    "CREATE TABLE branch (bid INTEGER PRIMARY KEY, accounts INTEGER NOT NULL, balance INTEGER NOT NULL) STRICT";
+pub(crate) const MAKE_BRANCH: &str = "CREATE TABLE branch (bid INTEGER PRIMARY KEY, \
+     accounts INTEGER NOT NULL, balance INTEGER NOT NULL) STRICT";
 
 /// Makes the table `teller`.
 pub(crate) const MAKE_TELLER: &str =
@@ -18,11 +18,14 @@ pub(crate) const MAKE_ACCOUNT: &str =
 
 /// Makes the table `history`.
 pub(crate) const MAKE_HISTORY: &str =
-    "CREATE TABLE history (ordinal INTEGER PRIMARY KEY, aid INTEGER NOT NULL, tid INTEGER NOT NULL, bid INTEGER NOT NULL, delta INTEGER NOT NULL, moment INTEGER NOT NULL) STRICT";
+    "CREATE TABLE history (ordinal INTEGER PRIMARY KEY, aid INTEGER NOT NULL, tid INTEGER NOT NULL, \
+     bid INTEGER NOT NULL, delta INTEGER NOT NULL, moment INTEGER NOT NULL) STRICT";
 
 /// Makes the table `request`.
 pub(crate) const MAKE_REQUEST: &str =
-    "CREATE TABLE request (ordinal INTEGER PRIMARY KEY, tid INTEGER NOT NULL, number INTEGER NOT NULL, aid INTEGER NOT NULL, bid INTEGER NOT NULL, delta INTEGER NOT NULL, outcome INTEGER NOT NULL, balance INTEGER NOT NULL, UNIQUE (tid, number)) STRICT";
+    "CREATE TABLE request (ordinal INTEGER PRIMARY KEY, tid INTEGER NOT NULL, number INTEGER NOT NULL, \
+     aid INTEGER NOT NULL, bid INTEGER NOT NULL, delta INTEGER NOT NULL, outcome INTEGER NOT NULL, \
+     balance INTEGER NOT NULL, UNIQUE (tid, number)) STRICT";
 
 /// The texts that make the tables, in the order in which they are made.
 pub(crate) const MAKE_TABLES: [&str; 6] = [
@@ -81,11 +84,13 @@ pub(crate) const ADD_HISTORY: &str =
 
 /// A decided request more.
 pub(crate) const ADD_REQUEST: &str =
-    "INSERT INTO request (ordinal, tid, number, aid, bid, delta, outcome, balance) VALUES (?1, ?2, ?3, ?4, ?5, ?6, ?7, ?8)";
+    "INSERT INTO request (ordinal, tid, number, aid, bid, delta, outcome, balance) \
+     VALUES (?1, ?2, ?3, ?4, ?5, ?6, ?7, ?8)";
 
 /// The request of a teller under a number.
 pub(crate) const GET_REQUEST: &str =
-    "SELECT ordinal, tid, number, aid, bid, delta, outcome, balance FROM request WHERE tid = ?1 AND number = ?2";
+    "SELECT ordinal, tid, number, aid, bid, delta, outcome, balance FROM request \
+     WHERE tid = ?1 AND number = ?2";
 
 /// Names every column of `meta`.
 pub(crate) const PROBE_META: &str = "SELECT id, version, decided FROM meta";

@@ -15,11 +15,15 @@ returns-in_err-create_tables-clause-cause g c =
     let live : c.transaction-tx.result.conn.now.in_transaction ≡ true = ap (λ h. h.in_transaction) begun in
     let same : c.from_residual.result ≡ Err e.field-0.0 = search rules in
     let it : HasCleanDisk (state g.S.Store c.drop-tx.new.self.0)
-    → IfErr c.from_residual.result (CreationFails (state g.S.Store c.args.conn.now) (state g.S.Store c.drop-tx.new.self.0)) =
-    λ clean. let clean0 : HasCleanDisk (state g.S.Store c.create_tables.new.tx.conn.now) = omega (arith, c.drop-tx.ensures.survives.clean) in
-    let told = subst (λ h. CreatesBank (state g.S.Store h) (state g.S.Store c.create_tables.new.tx.conn.now) (Err e.field-0.0)) begun
+    → IfErr c.from_residual.result (CreationFails (state g.S.Store c.args.conn.now)
+    (state g.S.Store c.drop-tx.new.self.0)) =
+    λ clean. let clean0 : HasCleanDisk (state g.S.Store c.create_tables.new.tx.conn.now) = omega
+    (arith, c.drop-tx.ensures.survives.clean) in
+    let told = subst (λ h. CreatesBank (state g.S.Store h) (state g.S.Store c.create_tables.new.tx.conn.now)
+    (Err e.field-0.0)) begun
     (e.ensures.told clean0 live) in
-    rw same (fails_created (state g.S.Store c.args.conn.now) (state g.S.Store c.create_tables.new.tx.conn.now) (state g.S.Store c.drop-tx.new.self.0)
+    rw same (fails_created (state g.S.Store c.args.conn.now) (state g.S.Store c.create_tables.new.tx.conn.now)
+    (state g.S.Store c.drop-tx.new.self.0)
     e.field-0.0 told c.drop-tx.ensures.survives.counts (c.drop-tx.ensures.undone clean)) in
     search (rules, it)
 
@@ -31,11 +35,16 @@ returns-in_err-commit-clause-cause g c =
     let same : c.from_residual-in_err-commit.result ≡ Err e.field-0.0 = search rules in
     let made = c.in_ok-create_tables.ensures in
     let it : HasCleanDisk (state g.S.Store c.commit.new.self.0)
-    → IfErr c.from_residual-in_err-commit.result (CreationFails (state g.S.Store c.args.conn.now) (state g.S.Store c.commit.new.self.0)) =
-    λ clean. let clean0 : HasCleanDisk (state g.S.Store c.create_tables.new.tx.conn.now) = omega (arith, e.ensures.survives.clean) in
+    → IfErr c.from_residual-in_err-commit.result
+    (CreationFails (state g.S.Store c.args.conn.now) (state g.S.Store c.commit.new.self.0)) =
+    λ clean. let clean0 : HasCleanDisk (state g.S.Store c.create_tables.new.tx.conn.now) = omega
+    (arith, e.ensures.survives.clean) in
     let shows = subst (λ h. StateShows (state g.S.Store h) (state g.S.Store c.create_tables.new.tx.conn.now)
-    (state g.S.Store c.create_tables.new.tx.conn.now).now (state g.S.Store h).committed true) begun (made.kept clean0 live) in
-    let more = subst (λ h. (state g.S.Store h).faults ≤ (state g.S.Store c.create_tables.new.tx.conn.now).faults) begun made.survives.counts in
-    rw same (fails_committed (state g.S.Store c.args.conn.now) (state g.S.Store c.create_tables.new.tx.conn.now) (state g.S.Store c.commit.new.self.0)
+    (state g.S.Store c.create_tables.new.tx.conn.now).now (state g.S.Store h).committed true) begun
+    (made.kept clean0 live) in
+    let more = subst (λ h. (state g.S.Store h).faults ≤
+    (state g.S.Store c.create_tables.new.tx.conn.now).faults) begun made.survives.counts in
+    rw same (fails_committed (state g.S.Store c.args.conn.now)
+    (state g.S.Store c.create_tables.new.tx.conn.now) (state g.S.Store c.commit.new.self.0)
     e.field-0.0 shows more (e.ensures.err clean)) in
     search (rules, it)

@@ -6,7 +6,8 @@ use Rattle.store_rows.proofs.creation.make_table.Goals as goal
 
 pub returns : goal.returns
 returns g c = record {
-  told = λ clean live t creates. makes_told _ _ c.args.text.now t creates sequence.0 sequence.1 c.execute.result
+  told = λ clean live t creates. makes_told _ _ c.args.text.now t creates sequence.0 sequence.1
+      c.execute.result
       (c.execute.ensures.runs clean live);
   kept = search rules;
   same_reference = search rules;

@@ -7,7 +7,8 @@ pub returns-clause-leaves : goal.returns-clause-leaves
 returns-clause-leaves g c t shows = to_trees (state g.S.Store c.args.conn.now).now t shows
 
 pub returns-clause-finds : goal.returns-clause-finds
-returns-clause-finds g c live t left = of_trees (state g.S.Store c.args.conn.now).now t (c.schema-schema.ensures.live live).0 left
+returns-clause-finds g c live t left = of_trees (state g.S.Store c.args.conn.now).now t
+    (c.schema-schema.ensures.live live).0 left
 
 pub returns-clause-once : goal.returns-clause-once
 returns-clause-once g c trees a b p q = one_bank trees a b p q

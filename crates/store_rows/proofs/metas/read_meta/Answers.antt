@@ -9,9 +9,11 @@ use Rattle.store_rows.proofs.metas.read_meta.Goals as goal
 
 pub returns-clause-says : goal.returns-clause-says
 returns-clause-says g c = record {
-  told = λ clean rows has. finds _ _ meta_shown Never (meta_in rows) c.meta_row.result c.found.result c.found.ensures.reads
+  told = λ clean rows has. finds _ _ meta_shown Never (meta_in rows) c.meta_row.result c.found.result
+      c.found.ensures.reads
       (c.meta_row.ensures.told clean rows has);
-  kept = λ clean. looks _ _ (ReadsRow meta_shown Never) c.meta_row.result c.found.result c.found.ensures.reads (c.meta_row.ensures.kept clean).0;
+  kept = λ clean. looks _ _ (ReadsRow meta_shown Never) c.meta_row.result c.found.result c.found.ensures.reads
+      (c.meta_row.ensures.kept clean).0;
   same_reference = search rules;
   survives = search rules;
 }

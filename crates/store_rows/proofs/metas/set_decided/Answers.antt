@@ -7,7 +7,8 @@ use Rattle.store_rows.proofs.metas.set_decided.Goals as goal
 pub returns : goal.returns
 returns g c = record {
   told = λ clean live t shows. tells_decided _ _ t shows c.args.decided c.write_under.result
-      (rw (as_integer c.args.decided c.args.decided refl (omega arith)) at (c.write_under.ensures.told clean live));
+      (rw (as_integer c.args.decided c.args.decided refl (omega arith)) at
+      (c.write_under.ensures.told clean live));
   kept = search rules;
   same_reference = search rules;
   survives = search rules;

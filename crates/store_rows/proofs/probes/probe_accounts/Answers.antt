@@ -6,7 +6,8 @@ use Rattle.store_rows.proofs.probes.probe_accounts.Goals as goal
 
 pub returns : goal.returns
 returns g c = record {
-  told = λ clean. tells_probe _ _ probes_account refl _ _ c.is_understood.result (c.is_understood.ensures.told clean (probes_account.shows _));
+  told = λ clean. tells_probe _ _ probes_account refl _ _ c.is_understood.result
+      (c.is_understood.ensures.told clean (probes_account.shows _));
   text = λ clean. c.is_understood.ensures.told clean (probes_account.shows _);
   mode = search rules;
   survives = search rules;

@@ -4,5 +4,6 @@ use Rattle.store_rows.proofs.Telling.{looks_up}
 use Rattle.store_rows.proofs.requests.find_request.Goals as goal
 
 pub returns : goal.returns
-returns g c = looks_up g.S.Store _ _ (seeks_request c.args.teller c.args.number) c.row_under_two.result c.found.result c.found.ensures.reads c.found.ensures.stored
+returns g c = looks_up g.S.Store _ _ (seeks_request c.args.teller c.args.number) c.row_under_two.result
+    c.found.result c.found.ensures.reads c.found.ensures.stored
     (rw (c.get.ensures.value, c.get-2.ensures.value) at c.row_under_two.ensures)

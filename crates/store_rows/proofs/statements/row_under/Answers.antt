@@ -7,9 +7,11 @@ use Rattle.store_rows.proofs.statements.row_under.Goals as goal
 
 pub returns : goal.returns
 returns g c = record {
-  told = λ clean. rw (c.params-to_sql.ensures, as_integer c.args.key c.args.key refl (omega arith)) at (c.query_row.ensures.row clean);
+  told = λ clean. rw (c.params-to_sql.ensures, as_integer c.args.key c.args.key refl (omega arith)) at
+      (c.query_row.ensures.row clean);
   kept = λ clean only.
-      asked _ _ _ _ c.query_row.result (c.query_row.ensures.row clean) (kept_reading _ _ _ _ c.query_row.result only (c.query_row.ensures.row clean));
+      asked _ _ _ _ c.query_row.result (c.query_row.ensures.row clean)
+      (kept_reading _ _ _ _ c.query_row.result only (c.query_row.ensures.row clean));
   same_reference = search rules;
   survives = search rules;
 }

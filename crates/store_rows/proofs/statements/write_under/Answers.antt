@@ -37,7 +37,10 @@ returns-in_err-count g c =
         as_integer c.args.key c.args.key refl (omega arith),
         to_z-of_z w64 c.args.number c.ranges.number,
       ) at (e.ensures.runs clean live));
-      kept = λ clean live. rw same (kept_inside _ _ _ _ (Err e.field-0.0) (e.ensures.runs clean live), Changing _ _ (e.ensures.runs clean live));
+      kept = λ clean live. rw same (
+        kept_inside _ _ _ _ (Err e.field-0.0) (e.ensures.runs clean live),
+        Changing _ _ (e.ensures.runs clean live),
+      );
       same_reference = search rules;
       survives = search rules;
     }

@@ -14,19 +14,22 @@ pub returns-in_err-whole_at-clause-stored : goal.returns-in_err-whole_at-clause-
 returns-in_err-whole_at-clause-stored c =
     let e = c.in_err-whole_at in
     let same : c.from_residual.result ≡ Err e.field-0.0 = search rules in
-    rw same (unread_whole branch_stored IsBranch BranchKeeps c.args.row.now Value 0 (λ (r : Entry). r.key) (λ _. refl) 1 MAX_BRANCH 1 LAST_BRANCH
+    rw same (unread_whole branch_stored IsBranch BranchKeeps c.args.row.now Value 0 (λ (r : Entry). r.key)
+    (λ _. refl) 1 MAX_BRANCH 1 LAST_BRANCH
     (omega arith) (omega arith) (λ r kept. kept.0) e.field-0.0 e.ensures.reads)
 
 pub returns-in_err-count_at-clause-stored : goal.returns-in_err-count_at-clause-stored
 returns-in_err-count_at-clause-stored c =
     let e = c.in_err-count_at in
     let same : c.from_residual-in_err-count_at.result ≡ Err e.field-0.0 = search rules in
-    rw same (unread_whole branch_stored IsBranch BranchKeeps c.args.row.now Value 1 (number_at 0) (λ _. refl) 0 4_294_967_295 1 MOST_ACCOUNTS
+    rw same (unread_whole branch_stored IsBranch BranchKeeps c.args.row.now Value 1 (number_at 0) (λ _. refl)
+    0 4_294_967_295 1 MOST_ACCOUNTS
     (omega arith) (omega arith) (λ r kept. kept.1) e.field-0.0 e.ensures.reads)
 
 pub returns-in_err-cents_at-clause-stored : goal.returns-in_err-cents_at-clause-stored
 returns-in_err-cents_at-clause-stored c =
     let e = c.in_err-cents_at in
     let same : c.from_residual-in_err-cents_at.result ≡ Err e.field-0.0 = search rules in
-    rw same (unread_cents branch_stored IsBranch BranchKeeps c.args.row.now Balance 2 (number_at 1) (λ _. refl) MAX_BALANCE (omega arith)
+    rw same (unread_cents branch_stored IsBranch BranchKeeps c.args.row.now Balance 2 (number_at 1)
+    (λ _. refl) MAX_BALANCE (omega arith)
     (λ r kept. kept) e.field-0.0 e.ensures.reads)
