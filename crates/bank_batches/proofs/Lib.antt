@@ -6,3 +6,4 @@ pub mod Rows
 pub mod Whole
 pub mod Together
 pub mod Answered
+pub mod Idle

@@ -11,6 +11,7 @@ use Rattle.store_rows.specs.declared.faults.TableFault.{TableFault}
 use Rattle.bank_transactions.specs.Doing.{Does}
 use Rattle.bank_transactions.proofs.Chained.{does_then, does_for}
 use Rattle.bank_batches.specs.Filling.{ReadsWhere}
+use Rattle.bank_batches.specs.InTurn.{InTurn}
 use Rattle.bank_batches.proofs.Reading.{reads_both}
 
 -- ---- places of a list
@@ -64,9 +65,7 @@ split_at {A} xs i x lt = sym (take-append-drop i xs) ∙ ap (λ (rest : List A).
 -- one more of the changes that are made one after another
 pub make_more : {S A : Type 0} {g : Ghosts S} {old mid new : Transaction S} {r : Result (Unit {0}) TableFault} (made : List A → Tables → Tables)
     (May : List A → Tables → Type 0)
-    → ((front : List A) (x : A) (rest : List A) (t : Tables) → May (front ++ x ∷ rest) t
-    → May (x ∷ []) (made front t) × (made (x ∷ []) (made front t) ≡ made (front ++ x ∷ []) t))
-    → (xs : List A) (i : ℕ) (x : A) → i < length xs → x ≡ get_or xs i x
+    → InTurn made May → (xs : List A) (i : ℕ) (x : A) → i < length xs → x ≡ get_or xs i x
     → Does {X = Unit {0}} g old mid (May xs) (made (take i xs)) (λ _. tt {0}) (Ok (tt {0}))
     → Does {X = Unit {0}} g mid new (May (x ∷ [])) (made (x ∷ [])) (λ _. tt {0}) r
     → Does {X = Unit {0}} g old new (May xs) (made (take (i + 1) xs)) (λ _. tt {0}) r
@@ -75,6 +74,6 @@ make_more {S} {A} {g} {old} {mid} {new} {r} made May law xs i x lt is before one
     let next : Does {X = Unit {0}} g mid new (May (it ∷ [])) (made (it ∷ [])) (λ _. tt {0}) r =
     subst (λ (s : A). Does {X = Unit {0}} g mid new (May (s ∷ [])) (made (s ∷ [])) (λ _. tt {0}) r) is one in
     let so : (t : Tables) → May xs t → May (it ∷ []) (made (take i xs) t) × (made (it ∷ []) (made (take i xs) t) ≡ made (take i xs ++ it ∷ []) t) =
-    λ t may. law (take i xs) it (drop (suc i) xs) t (subst (λ (ys : List A). May ys t) (split_at xs i x lt) may) in
+    λ t may. law.next (take i xs) it (drop (suc i) xs) t (subst (λ (ys : List A). May ys t) (split_at xs i x lt) may) in
     does_for (does_then before next (λ t may. (so t may).0))
     (λ t may. (may, (so t may).1 ∙ ap (λ (ys : List A). made ys t) (sym (take_more xs i x lt)), refl))

@@ -12,11 +12,11 @@ ghost use Rattle.bank_batches.specs.Batches.{items_of, DecidesNone, WritesNothin
 
 use crate::filling::fill;
 use crate::writing::write;
-use bank_transactions::begin;
+use bank_transactions::{begin, finish};
 use message_records::Moment;
 use posting_batch::{Batch, Judged};
 use sqlite::{Alter, Connection, Transaction};
-use store_rows::{TableFault, commit};
+use store_rows::TableFault;
 
 /// Answers the records that a batch is made of, in order. A batch in which nothing is decided writes nothing.
 pub fn answer_batch<S: Alter>(
@@ -58,7 +58,6 @@ pub fn post_all<S: Alter>(
         → HasOnly (state S.Store conn.old) (state S.Store conn.new) tables) }
 {
     let mut tx = begin(conn);
-    let replies = answer_batch(&mut tx, moment, batch)?;
-    commit(tx)?;
-    Ok(replies)
+    let replies = answer_batch(&mut tx, moment, batch);
+    finish(tx, replies)
 }

@@ -1,21 +1,22 @@
 //! What a batch has changed is written, each row once.
-ghost use Rattle.std.specs.Prelude.{◌≡◌, [], ◌∷◌, ◌++◌, List};
+ghost use Rattle.std.specs.Prelude.{[], ◌∷◌, List};
 ghost use Rattle.posting_rules.specs.Damage.{IsUndamaged};
 ghost use Rattle.posting_rules.specs.Tables.{Tables};
 ghost use Rattle.posting_batch.specs.Batch.{HasRisingSlots, ChangesRows, AddsRows};
-ghost use Rattle.posting_batch.specs.Overlay.{tables_over};
+ghost use Rattle.posting_batch.specs.Overlay.{tables_over, accounts_over, tellers_over, branches_over, history_put, requests_put};
 ghost use Rattle.posting_batch.specs.View.{view};
 ghost use Rattle.bank_transactions.specs.Doing.{Does};
+ghost use Rattle.bank_batches.specs.InTurn.{InTurn, accounts_in_turn, tellers_in_turn, branches_in_turn};
+ghost use Rattle.bank_batches.specs.InTurn.{postings_in_turn, requests_in_turn};
+ghost use Rattle.bank_batches.specs.Writing.{MayChangeAccounts, MayChangeTellers, MayChangeBranches};
+ghost use Rattle.bank_batches.specs.Writing.{MayAddPostings, MayAddRequests};
 
-use bank_transactions::expect_row;
+use bank_transactions::{Holder, write_balance, write_decided};
 use message_records::Branch;
 use posting_batch::{AccountSlot, BranchSlot, Overlay, TellerSlot};
-use posting_rules::{HistoryRow, RequestRow, Rule};
+use posting_rules::{HistoryRow, RequestRow};
 use sqlite::{Alter, Transaction};
-use store_rows::{
-    TableFault, add_history, add_request, set_account_balance, set_branch_balance, set_decided,
-    set_teller_balance,
-};
+use store_rows::{TableFault, add_history, add_request};
 
 /// A change of one table: a slot with what it has changed, or a row that is new.
 trait Change {
@@ -29,66 +30,41 @@ trait Change {
     fn make<S: Alter>(&self, tx: &mut Transaction<'_, S>) -> Result<(), TableFault>
         ensures { Does S.Store tx.old tx.new (May (self.now ∷ [])) (made (self.now ∷ [])) (λ _. tt) result };
 
-    /// No change leaves the tables as they were.
-    ghost none: { (t : Tables) → t ≡ made [] t };
-
-    /// Changes that may be made together may be made one after another, and come to the same.
-    ghost next: { (front : List Self) (change : Self) (rest : List Self) (t : Tables) → May (front ++ change ∷ rest) t
-        → May (change ∷ []) (made front t) × (made (change ∷ []) (made front t) ≡ made (front ++ change ∷ []) t) };
+    /// They may be made one after another, and come to the same.
+    ghost in_turn: { InTurn made May };
 }
 
 impl Change for AccountSlot {
-    ghost use Rattle.posting_batch.specs.Overlay.{accounts_over};
-    ghost use Rattle.bank_batches.specs.Writing.{MayChangeAccounts};
-    ghost use Rattle.bank_batches.specs.InTurn.{no_accounts, accounts_next};
-
     ghost made = { accounts_over };
 
     ghost May = { MayChangeAccounts };
 
     fn make<S: Alter>(&self, tx: &mut Transaction<'_, S>) -> Result<(), TableFault> {
         match self.changed {
-            Some(balance) => expect_row(
-                set_account_balance(tx, self.account, balance),
-                Rule::Account,
-            ),
+            Some(balance) => write_balance(tx, Holder::Account(self.account), balance),
             None => Ok(()),
         }
     }
 
-    ghost none = { no_accounts };
-
-    ghost next = { accounts_next };
+    ghost in_turn = { accounts_in_turn };
 }
 
 impl Change for TellerSlot {
-    ghost use Rattle.posting_batch.specs.Overlay.{tellers_over};
-    ghost use Rattle.bank_batches.specs.Writing.{MayChangeTellers};
-    ghost use Rattle.bank_batches.specs.InTurn.{no_tellers, tellers_next};
-
     ghost made = { tellers_over };
 
     ghost May = { MayChangeTellers };
 
     fn make<S: Alter>(&self, tx: &mut Transaction<'_, S>) -> Result<(), TableFault> {
         match self.changed {
-            Some(balance) => {
-                expect_row(set_teller_balance(tx, self.teller, balance), Rule::Teller)
-            }
+            Some(balance) => write_balance(tx, Holder::Teller(self.teller), balance),
             None => Ok(()),
         }
     }
 
-    ghost none = { no_tellers };
-
-    ghost next = { tellers_next };
+    ghost in_turn = { tellers_in_turn };
 }
 
 impl Change for BranchSlot {
-    ghost use Rattle.posting_batch.specs.Overlay.{branches_over};
-    ghost use Rattle.bank_batches.specs.Writing.{MayChangeBranches};
-    ghost use Rattle.bank_batches.specs.InTurn.{no_branches, branches_next};
-
     ghost made = { branches_over };
 
     ghost May = { MayChangeBranches };
@@ -97,24 +73,17 @@ impl Change for BranchSlot {
         let Some(balance) = self.changed else {
             return Ok(());
         };
-        // A number that is none of branches has no row, and so none that has changed.
+        // A number that is none of branches has no row to change: `May` refuses such a slot by its `AreNumbers`.
         let Some(branch) = Branch::new(self.branch) else {
             return Ok(());
         };
-        expect_row(set_branch_balance(tx, branch, balance), Rule::Teller)
+        write_balance(tx, Holder::Branch(branch), balance)
     }
 
-    ghost none = { no_branches };
-
-    ghost next = { branches_next };
+    ghost in_turn = { branches_in_turn };
 }
 
 impl Change for HistoryRow {
-    ghost use Rattle.std.proofs.Common.{refl};
-    ghost use Rattle.posting_batch.specs.Overlay.{history_put};
-    ghost use Rattle.bank_batches.specs.Writing.{MayAddPostings};
-    ghost use Rattle.bank_batches.specs.InTurn.{postings_next};
-
     ghost made = { history_put };
 
     ghost May = { MayAddPostings };
@@ -123,17 +92,10 @@ impl Change for HistoryRow {
         add_history(tx, *self)
     }
 
-    ghost none = { λ t. refl };
-
-    ghost next = { postings_next };
+    ghost in_turn = { postings_in_turn };
 }
 
 impl Change for RequestRow {
-    ghost use Rattle.std.proofs.Common.{refl};
-    ghost use Rattle.posting_batch.specs.Overlay.{requests_put};
-    ghost use Rattle.bank_batches.specs.Writing.{MayAddRequests};
-    ghost use Rattle.bank_batches.specs.InTurn.{requests_next};
-
     ghost made = { requests_put };
 
     ghost May = { MayAddRequests };
@@ -142,9 +104,7 @@ impl Change for RequestRow {
         add_request(tx, *self)
     }
 
-    ghost none = { λ t. refl };
-
-    ghost next = { requests_next };
+    ghost in_turn = { requests_in_turn };
 }
 
 // Makes changes, one after another.
@@ -171,5 +131,5 @@ pub fn write<S: Alter>(tx: &mut Transaction<'_, S>, overlay: &Overlay) -> Result
     make_all(tx, &overlay.branches)?;
     make_all(tx, &overlay.history)?;
     make_all(tx, &overlay.requests)?;
-    expect_row(set_decided(tx, overlay.decided), Rule::Meta)
+    write_decided(tx, overlay.decided)
 }

@@ -19,14 +19,8 @@ returns-in_err-write-clause-says g c records made =
     let judged = c.judge-overlay.ensures in
     let o = view c.judge-overlay.result.overlay in
     let items = c.judge-overlay.result.replies.items in
-    let judges : Judges c.fill.new.batch c.args.moment records o items = record {
-      tables = λ t is. judged.tables t records is;
-      replies = λ t is. judged.replies t records is;
-      changes = λ t is. judged.changes t records is;
-      rising = judged.rising;
-      adds = λ t is. judged.adds t records is;
-      idle = judged.idle;
-    } in
+    let judges : Judges c.fill.new.batch c.args.moment o items =
+    record { tables = judged.tables; replies = judged.replies; changes = judged.changes; rising = judged.rising; adds = judged.adds; idle = judged.idle } in
     let same : c.from_residual-in_err-write.result ≡ Err c.in_err-write.field-0.0 = search rules in
     rw same (answered_not {g = g.S.Store} c.args.batch c.fill.new.batch records c.args.moment o items made c.in_ok-fill.ensures.reads judges
     (does_look c.in_ok-fill.ensures.says) c.in_err-write.ensures)
@@ -36,14 +30,8 @@ returns-clause-says g c records made =
     let judged = c.judge-overlay.ensures in
     let o = view c.judge-overlay.result.overlay in
     let items = c.judge-overlay.result.replies.items in
-    let judges : Judges c.fill.new.batch c.args.moment records o items = record {
-      tables = λ t is. judged.tables t records is;
-      replies = λ t is. judged.replies t records is;
-      changes = λ t is. judged.changes t records is;
-      rising = judged.rising;
-      adds = λ t is. judged.adds t records is;
-      idle = judged.idle;
-    } in
+    let judges : Judges c.fill.new.batch c.args.moment o items =
+    record { tables = judged.tables; replies = judged.replies; changes = judged.changes; rising = judged.rising; adds = judged.adds; idle = judged.idle } in
     elim c.if-overlay-before.branch [
       | then-overlay-before+in_ok-write w ↦
           rw w.tx-is (answered_written {g = g.S.Store} c.args.batch c.fill.new.batch records c.args.moment o items made c.in_ok-fill.ensures.reads judges
@@ -58,14 +46,8 @@ returns-clause-idle g c clean records made t shows so none =
     let judged = c.judge-overlay.ensures in
     let o = view c.judge-overlay.result.overlay in
     let items = c.judge-overlay.result.replies.items in
-    let judges : Judges c.fill.new.batch c.args.moment records o items = record {
-      tables = λ t is. judged.tables t records is;
-      replies = λ t is. judged.replies t records is;
-      changes = λ t is. judged.changes t records is;
-      rising = judged.rising;
-      adds = λ t is. judged.adds t records is;
-      idle = judged.idle;
-    } in
+    let judges : Judges c.fill.new.batch c.args.moment o items =
+    record { tables = judged.tables; replies = judged.replies; changes = judged.changes; rising = judged.rising; adds = judged.adds; idle = judged.idle } in
     let fill = c.in_ok-fill.ensures in
     elim c.if-overlay-before.branch [
       | then-overlay-before+in_ok-write w ↦

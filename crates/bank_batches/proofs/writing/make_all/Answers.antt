@@ -6,13 +6,13 @@ use Rattle.bank_batches.proofs.Loops.{make_more}
 use Rattle.bank_batches.proofs.writing.make_all.Goals as goal
 
 pub loop-change-init : goal.loop-change-init
-loop-change-init g c = does_for (does_none (search rules)) (λ t so. (so, g.met.C.Change.none t, refl))
+loop-change-init g c = does_for (does_none (search rules)) (λ t so. (so, g.met.C.Change.in_turn.none t, refl))
 
 pub loop-change-preserved : goal.loop-change-preserved
 loop-change-preserved g c =
     let i = c.loop-change.change-index in
     let lt : i < length c.args.changes.now = omega arith in
-    make_more g.C.Change.made g.C.Change.May g.met.C.Change.next c.args.changes.now i c.change-item.result lt c.change-item.is
+    make_more g.C.Change.made g.C.Change.May g.met.C.Change.in_turn c.args.changes.now i c.change-item.result lt c.change-item.is
     c.loop-change.invariant c.in_ok-make.ensures
 
 pub returns-in_err-make : goal.returns-in_err-make
@@ -20,7 +20,7 @@ returns-in_err-make g c =
     let same : c.from_residual.result ≡ Err c.in_err-make.field-0.0 = search rules in
     let i = c.loop-change.change-index in
     let lt : i < length c.args.changes.now = omega arith in
-    rw same (does_err (make_more g.C.Change.made g.C.Change.May g.met.C.Change.next c.args.changes.now i c.change-item.result lt c.change-item.is
+    rw same (does_err (make_more g.C.Change.made g.C.Change.May g.met.C.Change.in_turn c.args.changes.now i c.change-item.result lt c.change-item.is
     c.loop-change.invariant c.in_err-make.ensures) (λ t so. so))
 
 pub returns : goal.returns

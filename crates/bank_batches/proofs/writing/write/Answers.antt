@@ -1,13 +1,10 @@
 -- The tables of a batch that are written one after another.
-use Rattle.std.proofs.Common.{◌≡◌, Err, rules, true, refl, ℕ}
-use Rattle.std.specs.Prelude.{⊤}
-use Rattle.posting_rules.specs.declared.fault.Rule.TheVariants.{Meta}
+use Rattle.std.proofs.Common.{◌≡◌, Err, rules, refl, ℕ}
 use Rattle.posting_rules.specs.Changes.{with_decided}
 use Rattle.posting_rules.specs.Tables.{Tables}
 use Rattle.posting_batch.specs.Overlay.{decided_put, accounts_over, tellers_over, branches_over, history_put, requests_put}
 use Rattle.posting_batch.specs.View.{view}
-use Rattle.store_rows.specs.SixTables.{meta}
-use Rattle.bank_transactions.proofs.Chained.{does_none, does_then, does_err, does_for, does_write}
+use Rattle.bank_transactions.proofs.Chained.{does_none, does_then, does_err, does_for}
 use Rattle.bank_batches.specs.Writing.{MayChangeAccounts, MayChangeTellers, MayChangeBranches, MayAddPostings, MayAddRequests}
 use Rattle.bank_batches.proofs.Together.{So, step, accounts_may, tellers_may, branches_may}
 use Rattle.bank_batches.proofs.writing.write.Goals as goal
@@ -59,13 +56,9 @@ returns-in_err-make_all-5 g c =
 pub returns : goal.returns
 returns g c =
     let o = view c.args.overlay.now in
-    let count = c.set_decided.ensures in
     let s1 = step {g = g.S.Store} o accounts_over MayChangeAccounts _ c.deref.result.now o.accounts c.deref.ensures.value (does_none {So = So o} (search rules)) c.in_ok-make_all.ensures (accounts_may o) in
     let s2 = step {g = g.S.Store} o tellers_over MayChangeTellers _ c.deref-2.result.now o.tellers c.deref-2.ensures.value s1 c.in_ok-make_all-2.ensures (λ t so. tellers_may o t so) in
     let s3 = step {g = g.S.Store} o branches_over MayChangeBranches _ c.deref-3.result.now o.branches c.deref-3.ensures.value s2 c.in_ok-make_all-3.ensures (λ t so. branches_may o t so) in
     let s4 = step {g = g.S.Store} o history_put MayAddPostings _ c.deref-4.result.now o.history c.deref-4.ensures.value s3 c.in_ok-make_all-4.ensures (λ t so. so.3.history) in
     let s5 = step {g = g.S.Store} o requests_put MayAddRequests _ c.deref-5.result.now o.requests c.deref-5.ensures.value s4 c.in_ok-make_all-5.ensures (λ t so. so.3.requests) in
-    does_for (does_then s5 (does_write {So = λ t. ⊤} g.S.Store c.make_all-5.new.tx c.set_decided.new.tx meta (λ t. true) (λ t. with_decided o.decided t)
-    c.set_decided.result Meta c.expect_row.result _ refl c.expect_row.ensures
-    (record { same_reference = count.same_reference; told = count.told; kept = count.kept; survives = count.survives }) (λ t so. refl)) (λ t so. tt))
-    (λ t so. (so, counted o.decided _, refl))
+    does_for (does_then s5 c.write_decided.ensures (λ t so. tt)) (λ t so. (so, counted o.decided _, refl))

@@ -1,32 +1,29 @@
 -- The changed balance of one slot.
-use Rattle.std.proofs.Common.{◌≡◌, ℕ, [], ◌∷◌, Some, Option, rules, inr, refl, sym, ap, subst, ◌∙◌}
-use Rattle.std.specs.Prelude.{ℤ, is_some, IsSome, IfSome}
+use Rattle.std.proofs.Common.{◌≡◌, ℕ, [], ◌∷◌, Some, Option, rules, refl, sym, ap, subst, ◌∙◌}
+use Rattle.std.specs.Prelude.{ℤ}
 use Rattle.message_records.specs.Ranges.{whole_within}
 use Rattle.message_records.specs.declared.limits.TheConstants.{MAX_BRANCH}
-use Rattle.posting_rules.specs.declared.fault.Rule.TheVariants.{Teller}
 use Rattle.posting_rules.specs.Changes.{with_branch_balance}
-use Rattle.posting_rules.specs.Tables.{Tables, row_at, branch_key}
-use Rattle.store_rows.specs.SixTables.{branch}
+use Rattle.posting_rules.specs.Tables.{Tables}
 use Rattle.posting_batch.specs.declared.slots.BranchSlot.{BranchSlot}
-use Rattle.bank_transactions.proofs.Chained.{does_none, does_for, does_write}
+use Rattle.bank_transactions.specs.Holders.{HasRow}
+use Rattle.bank_transactions.specs.declared.balances.Holder.TheVariants.{Branch}
+use Rattle.bank_transactions.proofs.Chained.{does_none, does_for}
 use Rattle.bank_batches.specs.Writing.{MayChangeBranches}
-use Rattle.bank_batches.proofs.Rows.{branch_written, branch_unwritten}
+use Rattle.bank_batches.proofs.Rows.{asked, branch_written, branch_unwritten}
 use Rattle.bank_batches.proofs.writing.BranchSlotChange.make.Goals as goal
 
 -- a number within the range is the one that it was made of
 same_number : (n b : ℕ) (o : Option ℕ) → o ≡ Some b → o ≡ whole_within 1 MAX_BRANCH n → whole_within 1 MAX_BRANCH n ≡ Some n → b ≡ n
 same_number n b o is made within = cc
 
-number_of : (s : BranchSlot) (z : ℤ) (t : Tables) → s.changed ≡ Some z → MayChangeBranches (s ∷ []) t → whole_within 1 MAX_BRANCH s.branch ≡ Some s.branch
-number_of s z t is so = subst (λ (o : Option ℤ). IfSome o (λ y. whole_within 1 MAX_BRANCH s.branch ≡ Some s.branch)) is so.1.0
-
-row_of : (s : BranchSlot) (z : ℤ) (t : Tables) → s.changed ≡ Some z → MayChangeBranches (s ∷ []) t → IsSome (row_at branch_key t.branches s.branch)
-row_of s z t is so = subst (λ (o : Option ℤ). IfSome o (λ y. IsSome (row_at branch_key t.branches s.branch))) is so.0.1.0
+number_of : (s : BranchSlot) (z : ℤ) (t : Tables) → s.changed ≡ Some z → MayChangeBranches (s ∷ []) t
+    → whole_within 1 MAX_BRANCH s.branch ≡ Some s.branch
+number_of s z t is so = asked (whole_within 1 MAX_BRANCH s.branch ≡ Some s.branch) s.changed z is so.1.0
 
 pub returns-in_default : goal.returns-in_default
 returns-in_default g c =
-    let s = c.args.self.now in
-    does_for (does_none (search rules)) (λ t so. (so, branch_unwritten s t c.in_default.is, refl))
+    does_for (does_none (search rules)) (λ t so. (so, branch_unwritten c.args.self.now t c.in_default.is, refl))
 
 pub returns : goal.returns
 returns g c =
@@ -34,11 +31,11 @@ returns g c =
     let z = c.in-Some.balance in
     let b = c.in-Some-new.branch in
     let is : s.changed ≡ Some z = c.in-Some.is in
-    let set = c.set_branch_balance.ensures in
     let same : (t : Tables) → MayChangeBranches (s ∷ []) t → b ≡ s.branch =
     λ t so. same_number s.branch b c.new.result c.in-Some-new.is c.new.ensures (number_of s z t is so) in
-    does_for (does_write {So = MayChangeBranches (s ∷ [])} g.S.Store c.args.tx.now c.set_branch_balance.new.tx branch
-    (λ t. is_some (row_at branch_key t.branches b)) (λ t. with_branch_balance b z t) c.set_branch_balance.result Teller c.expect_row.result _ (inr refl) c.expect_row.ensures
-    (record { same_reference = set.same_reference; told = set.told; kept = set.kept; survives = set.survives })
-    (λ t so. subst (λ (n : ℕ). IsSome (row_at branch_key t.branches n)) (sym (same t so)) (row_of s z t is so)))
-    (λ t so. (so, ap (λ (n : ℕ). with_branch_balance n z t) (same t so) ∙ branch_written s t z is, refl))
+    does_for c.write_balance.ensures
+    (λ t so. (
+      subst (λ (n : ℕ). HasRow (Branch n) t) (sym (same t so)) (asked (HasRow (Branch s.branch) t) s.changed z is so.0.1.0),
+      ap (λ (n : ℕ). with_branch_balance n z t) (same t so) ∙ branch_written s t z is,
+      refl,
+    ))
