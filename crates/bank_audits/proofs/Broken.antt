@@ -1,7 +1,8 @@
 -- A broken row of one table is one of the file.
 use Rattle.std.proofs.Common.{inl, inr}
 use Rattle.bank_walks.specs.Pairs.{paired}
-use Rattle.bank_walks.specs.Stored.{IsNoAccount, IsNoAsked, IsNoBranch, IsNoPosted, IsNoPosting, IsNoRequest, IsNoTeller}
+use Rattle.bank_walks.specs.Stored.{IsNoAccount, IsNoAsked, IsNoBranch, IsNoPosted, IsNoPosting, IsNoRequest}
+use Rattle.bank_walks.specs.Stored.{IsNoTeller}
 use Rattle.bank_audits.specs.Files.{FileRows, HasBroken, HasBrokenRow}
 use Rattle.bank_audits.proofs.Passed.{pair_broken}
 
@@ -22,7 +23,9 @@ module _ (f : FileRows) where
   broken_request h = inr (inr (inr (inr h)))
 
   pub broken_asked : HasBroken IsNoAsked (paired f.history f.requests) → HasBrokenRow f
-  broken_asked h = elim (pair_broken IsNoRequest IsNoPosting f.history f.requests h) [ inl own ↦ broken_request own | inr other ↦ broken_posting other ]
+  broken_asked h = elim (pair_broken IsNoRequest IsNoPosting f.history f.requests h)
+      [ inl own ↦ broken_request own | inr other ↦ broken_posting other ]
 
   pub broken_posted : HasBroken IsNoPosted (paired f.requests f.history) → HasBrokenRow f
-  broken_posted h = elim (pair_broken IsNoPosting IsNoRequest f.requests f.history h) [ inl own ↦ broken_posting own | inr other ↦ broken_request other ]
+  broken_posted h = elim (pair_broken IsNoPosting IsNoRequest f.requests f.history h)
+      [ inl own ↦ broken_posting own | inr other ↦ broken_request other ]

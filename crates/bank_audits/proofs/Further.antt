@@ -1,5 +1,7 @@
 -- The lines of an account's postings, one after another.
-use Rattle.std.proofs.Common.{◌≡◌, ◌≤◌, ◌+◌, ◌-◌, ◌^◌, ◌++◌, ℕ, List, [], ◌∷◌, length, map, Option, Result, Ok, Err, refl, sym, ap, subst, ◌∙◌, inl, inr, append_assoc, arith}
+use Rattle.std.proofs.Common.{◌≡◌, ◌≤◌, ◌+◌, ◌-◌, ◌^◌, ◌++◌, ℕ, List, []}
+use Rattle.std.proofs.Common.{◌∷◌, length, map, Option, Result, Ok, Err, refl, sym, ap, subst}
+use Rattle.std.proofs.Common.{◌∙◌, inl, inr, append_assoc, arith}
 use Rattle.std.specs.Prelude.{ℤ, pos, ◌+ℤ◌, ◌<◌, nat_abs}
 use Rattle.std.specs.Io.KnownBytes.{Appends}
 use Rattle.std.proofs.KnownBytes.{Appends-nil, Appends-trans}
@@ -9,7 +11,8 @@ use Rattle.message_records.specs.declared.limits.TheConstants.{MAX_BALANCE}
 use Rattle.posting_rules.specs.declared.fault.Fault.{Fault}
 use Rattle.posting_rules.specs.declared.fault.Fault.TheVariants.{Memory, Store, Down, Damaged}
 use Rattle.posting_rules.specs.declared.fault.Rule.{Rule}
-use Rattle.posting_rules.specs.declared.fault.Rule.TheVariants.{Meta, Teller, Account, Balance, Request, Value, Key}
+use Rattle.posting_rules.specs.declared.fault.Rule.TheVariants.{Meta, Teller, Account, Balance, Request}
+use Rattle.posting_rules.specs.declared.fault.Rule.TheVariants.{Value, Key}
 use Rattle.sql_meanings.specs.Entries.{Entry}
 use Rattle.bank_walks.specs.declared.postings.StoredPosting.{StoredPosting}
 use Rattle.bank_walks.specs.Stored.{posting_entry, IsNoPosting}
@@ -24,15 +27,18 @@ use Rattle.bank_audits.specs.declared.fault.ReportFault.TheVariants.{NoAccount, 
 use Rattle.bank_audits.specs.Postings.{sum_of, WritesLine, WritesPostings, Why}
 use Rattle.bank_audits.proofs.Lined.{lines-snoc, sum_of-snoc}
 
--- of these rows those given are written, and those to come aren't; so many were given, and this is the balance behind them
-pub record IsFar (all coming : List Entry) (old new : Option (List ℕ)) (balance : ℤ) (count : ℕ) : Type 0 where
+-- of these rows those given are written, and those to come aren't; so many were given, and this is the
+-- balance behind them
+pub record IsFar (all coming : List Entry) (old new : Option (List ℕ)) (balance : ℤ)
+    (count : ℕ) : Type 0 where
   pub given : List StoredPosting
   pub are : map posting_entry given ++ coming ≡ all
   pub wrote : Appends old new (text_of (posting_lines (pos 0) given))
   pub sum : balance ≡ sum_of given
   pub many : length given ≡ count
 
-pub at_first : (all coming : List Entry) (old : Option (List ℕ)) → coming ≡ all → IsFar all coming old old (pos 0) 0
+pub at_first : (all coming : List Entry) (old : Option (List ℕ)) → coming ≡ all
+    → IsFar all coming old old (pos 0) 0
 at_first all coming old is = record { given = []; are = is; wrote = Appends-nil old; sum = refl; many = refl }
 
 -- nothing is a beginning of a text
@@ -40,7 +46,8 @@ pub nothing_written : (old : Option (List ℕ)) (text : List ℕ) → AppendsPar
 nothing_written old text = record { count = 0; within = omega arith; wrote = Appends-nil old }
 
 -- all of a text is a beginning of it
-pub whole_part : (old new : Option (List ℕ)) (text : List ℕ) → Appends old new text → AppendsPart old new text
+pub whole_part : (old new : Option (List ℕ)) (text : List ℕ) → Appends old new text
+    → AppendsPart old new text
 whole_part old new text wrote = record {
   count = length text;
   within = omega arith;
@@ -55,25 +62,41 @@ error_is {A} {E} e f same = ap error_in same
     error_in (Ok x) = f
     error_in (Err x) = x
 
+-- the bank's fault in a report's
+pub bank_fault : (e f : Fault) → Bank e ≡ Bank f → e ≡ f
+bank_fault e f same = ap fault_in same
+  where
+    fault_in : ReportFault → Fault
+    fault_in NoAccount = f
+    fault_in Write = f
+    fault_in (Bank x) = x
+
 module _ (all : List Entry) (old : Option (List ℕ)) where
   -- the text of one more
   text_more : (given : List StoredPosting) (r : StoredPosting)
-      → text_of (posting_lines (pos 0) given) ++ posting_line r (sum_of given +ℤ r.delta) ≡ text_of (posting_lines (pos 0) (given ++ r ∷ []))
+      → text_of (posting_lines (pos 0) given) ++ posting_line r (sum_of given +ℤ r.delta)
+      ≡ text_of (posting_lines (pos 0) (given ++ r ∷ []))
   text_more given r =
-      sym (text_of-snoc (posting_lines (pos 0) given) (posting_line r (sum_of given +ℤ r.delta))) ∙ ap text_of (sym (lines-snoc given r))
+      sym (text_of-snoc (posting_lines (pos 0) given) (posting_line r (sum_of given +ℤ r.delta)))
+      ∙ ap text_of (sym (lines-snoc given r))
 
-  are_more : (given : List StoredPosting) (r : StoredPosting) (coming left : List Entry) → coming ≡ posting_entry r ∷ left
+  are_more : (given : List StoredPosting) (r : StoredPosting) (coming left : List Entry) → coming
+      ≡ posting_entry r ∷ left
       → map posting_entry given ++ coming ≡ all → map posting_entry (given ++ r ∷ []) ++ left ≡ all
   are_more given r coming left is are =
-      ap (λ l. l ++ left) (map-append posting_entry given (r ∷ [])) ∙ append_assoc (map posting_entry given) (posting_entry r ∷ []) left
+      ap (λ l. l ++ left) (map-append posting_entry given (r ∷ []))
+      ∙ append_assoc (map posting_entry given) (posting_entry r ∷ []) left
       ∙ ap (λ l. map posting_entry given ++ l) (sym is) ∙ are
 
-  module _ (coming left : List Entry) (mid new : Option (List ℕ)) (balance : ℤ) (count : ℕ) (r : StoredPosting)
+  module _ (coming left : List Entry) (mid new : Option (List ℕ)) (balance : ℤ) (count : ℕ)
+      (r : StoredPosting)
       (is : coming ≡ posting_entry r ∷ left) (far : IsFar all coming old mid balance count) where
     -- one line more
-    pub one_line : (after : ℤ) → WritesLine r balance mid new (Ok after) → IsFar all left old new after (count + 1)
+    pub one_line : (after : ℤ) → WritesLine r balance mid new (Ok after)
+        → IsFar all left old new after (count + 1)
     one_line after wrote =
-        let same : after ≡ sum_of far.given +ℤ r.delta = wrote.0 ∙ ap (λ (z : ℤ). z +ℤ r.delta) far.sum in
+        let same : after ≡ sum_of far.given +ℤ r.delta = wrote.0
+        ∙ ap (λ (z : ℤ). z +ℤ r.delta) far.sum in
         record {
           given = far.given ++ r ∷ [];
           are = are_more far.given r coming left is far.are;
@@ -83,7 +106,8 @@ module _ (all : List Entry) (old : Option (List ℕ)) where
           many = length-append far.given (r ∷ []) ∙ ap (λ n. n + 1) far.many;
         }
 
-    line_damaged : (rule : Rule) → WritesLine r balance mid new (Err (Bank (Damaged rule))) → WritesPostings all old new (Err (Bank (Damaged rule)))
+    line_damaged : (rule : Rule) → WritesLine r balance mid new (Err (Bank (Damaged rule)))
+        → WritesPostings all old new (Err (Bank (Damaged rule)))
     line_damaged Meta wrote = absurd wrote
     line_damaged Teller wrote = absurd wrote
     line_damaged Account wrote = absurd wrote
@@ -92,14 +116,17 @@ module _ (all : List Entry) (old : Option (List ℕ)) where
       rest = coming;
       are = far.are;
       why = (r, left, is, subst (λ (z : ℤ). MAX_BALANCE < nat_abs (z +ℤ r.delta)) far.sum wrote.1);
-      wrote = whole_part old new _ (subst (λ (o : Option (List ℕ)). Appends old o (text_of (posting_lines (pos 0) far.given))) (sym wrote.0) far.wrote);
+      wrote = whole_part old new _
+          (subst (λ (o : Option (List ℕ)). Appends old o (text_of (posting_lines (pos 0) far.given)))
+          (sym wrote.0) far.wrote);
     }
     line_damaged Request wrote = absurd wrote
     line_damaged Value wrote = absurd wrote
     line_damaged Key wrote = absurd wrote
 
     -- a line that ended it
-    pub line_err : (fault : ReportFault) → WritesLine r balance mid new (Err fault) → WritesPostings all old new (Err fault)
+    pub line_err : (fault : ReportFault) → WritesLine r balance mid new (Err fault)
+        → WritesPostings all old new (Err fault)
     line_err NoAccount wrote = absurd wrote
     line_err Write wrote = record {
       given = far.given ++ r ∷ [];
@@ -107,26 +134,33 @@ module _ (all : List Entry) (old : Option (List ℕ)) where
       are = are_more far.given r coming left is far.are;
       why = tt;
       wrote = same_part old new (text_more far.given r)
-          (then_part old mid new _ _ far.wrote (same_part mid new (ap (λ (z : ℤ). posting_line r (z +ℤ r.delta)) far.sum) wrote));
+          (then_part old mid new _ _ far.wrote
+          (same_part mid new (ap (λ (z : ℤ). posting_line r (z +ℤ r.delta)) far.sum) wrote));
     }
     line_err (Bank Memory) wrote = absurd wrote
     line_err (Bank Store) wrote = absurd wrote
     line_err (Bank Down) wrote = absurd wrote
     line_err (Bank (Damaged rule)) wrote = line_damaged rule wrote
 
-  module _ (coming : List Entry) (new : Option (List ℕ)) (balance : ℤ) (count : ℕ) (far : IsFar all coming old new balance count) where
-    -- all were given
-    pub all_lines : coming ≡ [] → WritesPostings all old new (Ok tt)
-    all_lines none = record { given = far.given; rest = coming; are = far.are; why = none; wrote = far.wrote }
-
-    so_far : (fault : ReportFault) → Why far.given coming (Err fault) → WritesPostings all old new (Err fault)
-    so_far fault why = record { given = far.given; rest = coming; are = far.are; why = why; wrote = whole_part old new _ far.wrote }
+  module _ (coming : List Entry) (new : Option (List ℕ)) (balance : ℤ) (count : ℕ)
+      (far : IsFar all coming old new balance count) where
+    so_far : (fault : ReportFault) → Why far.given coming (Err fault)
+        → WritesPostings all old new (Err fault)
+    so_far fault why = record {
+      given = far.given;
+      rest = coming;
+      are = far.are;
+      why = why;
+      wrote = whole_part old new _ far.wrote;
+    }
 
     -- a row that can't be read ended it
-    pub value_err : (rule : Rule) → (rule ≡ Value) × ((e : Entry) × (more : List Entry) × (coming ≡ e ∷ more) × IsNoPosting e)
+    pub value_err : (rule : Rule) → (rule ≡ Value)
+        × ((e : Entry) × (more : List Entry) × (coming ≡ e ∷ more) × IsNoPosting e)
         → WritesPostings all old new (Err (Bank (Damaged rule)))
     value_err rule told =
-        subst (λ (x : Rule). WritesPostings all old new (Err (Bank (Damaged x)))) (sym told.0) (so_far (Bank (Damaged Value)) (inl told.1))
+        subst (λ (x : Rule). WritesPostings all old new (Err (Bank (Damaged x)))) (sym told.0)
+        (so_far (Bank (Damaged Value)) (inl told.1))
 
     pub store_err : WritesPostings all old new (Err (Bank Store))
     store_err = so_far (Bank Store) tt
@@ -139,7 +173,8 @@ module _ (all : List Entry) (old : Option (List ℕ)) where
     worn_out many = so_far (Bank (Damaged Value)) (inr (omega (arith, many, far.many)))
 
     -- a step of the walk ended it
-    pub walk_err : (after : List Entry) (fault : Fault) → Steps {R = StoredPosting} posting_entry IsNoPosting coming after (Err fault)
+    pub walk_err : (after : List Entry) (fault : Fault)
+        → Steps {R = StoredPosting} posting_entry IsNoPosting coming after (Err fault)
         → WritesPostings all old new (Err (Bank fault))
     walk_err after Memory told = absurd told
     walk_err after Store told = store_err

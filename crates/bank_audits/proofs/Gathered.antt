@@ -1,15 +1,19 @@
 -- Rows that were added one after another.
-use Rattle.std.proofs.Common.{◌≡◌, ◌≤◌, ◌+◌, ◌++◌, ℕ, List, [], ◌∷◌, length, map, Ok, Err, sym, ap, ◌∙◌, append_assoc, append-nil, inl, inr, arith}
+use Rattle.std.proofs.Common.{◌≡◌, ◌≤◌, ◌+◌, ◌++◌, ℕ, List, [], ◌∷◌, length, map}
+use Rattle.std.proofs.Common.{Ok, Err, refl, sym, ap, ◌∙◌, append_assoc, append-nil, inl, inr, arith}
 use Rattle.std.specs.Prelude.{ℤ, pos, ◌+ℤ◌, ◌≤ℤ◌, ◌<ℤ◌}
 use Rattle.std.proofs.lemmas.Int.{ints}
 use Rattle.std.proofs.lemmas.List.{length-append, map-append}
 use Rattle.sqlite.specs.Effect.{Database}
 use Rattle.sqlite.specs.State.{State, HasCleanDisk, Survives}
 use Rattle.posting_rules.specs.declared.fault.Fault.{Fault}
+use Rattle.posting_rules.specs.declared.fault.Fault.TheVariants as told
+use Rattle.bank_store.specs.Walking.{Steps}
 use Rattle.bank_store.specs.Walks.{IsStill, IsUndone}
 use Rattle.bank_reports.specs.Beside.{AuditRows}
 use Rattle.bank_reports.specs.declared.limits.TheConstants.{MOST_ROWS}
 use Rattle.bank_audits.specs.Adding.{Adds, HasSums, IsBehind, IsPassed}
+use Rattle.bank_audits.specs.Failures.{Says}
 use Rattle.bank_audits.specs.Files.{HasBroken}
 use Rattle.bank_audits.specs.declared.sums.Sums.{Sums}
 use Rattle.bank_audits.proofs.Kept.{quiet_then, still_then, still_undone, undone_then}
@@ -17,51 +21,79 @@ use Rattle.bank_audits.proofs.Kept.{quiet_then, still_then, still_undone, undone
 -- ---- the rows
 
 -- so many rows were added, which are the first of those that were to come; the rest are to come
-pub record IsGathered {R X : Type 0} (item : R → X) (HasItems : Database → List X → Type 0) (with_rows : AuditRows → List R → AuditRows) (db : Database)
+pub record IsGathered {R X : Type 0} (item : R → X) (HasItems : Database → List X → Type 0)
+    (with_rows : AuditRows → List R → AuditRows) (db : Database)
     (Clean : Type 0) (old new : Sums) (all coming : List X → List X) (count : ℕ) : Type 0 where
   pub given : List R
   pub many : length given ≡ count
   pub are : Clean → (items : List X) → HasItems db items → map item given ++ coming items ≡ all items
   pub added : Adds with_rows old new given
 
-module _ {R X : Type 0} (item : R → X) (HasItems : Database → List X → Type 0) (with_rows : AuditRows → List R → AuditRows) (db : Database)
-    (Clean Later : Type 0) (old mid : Sums) (all coming : List X → List X) (count : ℕ) (before : Later → Clean)
+module _ {R X : Type 0} (item : R → X) (HasItems : Database → List X → Type 0)
+    (with_rows : AuditRows → List R → AuditRows) (db : Database)
+    (Clean Later : Type 0) (old mid : Sums) (all coming : List X → List X) (count : ℕ)
+    (before : Later → Clean)
     (it : IsGathered item HasItems with_rows db Clean old mid all coming count) where
   -- one more
   pub one_more_row : (new : Sums) (left : List X → List X) (r : R)
       → (Later → (items : List X) → HasItems db items → coming items ≡ item r ∷ left items)
-      → ((rows : AuditRows) (given : List R) → HasSums mid (with_rows rows given) → HasSums new (with_rows rows (given ++ r ∷ [])))
+      → ((rows : AuditRows) (given : List R) → HasSums mid (with_rows rows given)
+      → HasSums new (with_rows rows (given ++ r ∷ [])))
       → IsGathered item HasItems with_rows db Later old new all left (count + 1)
   one_more_row new left r step adds = record {
     given = it.given ++ r ∷ [];
     many = length-append it.given (r ∷ []) ∙ ap (λ n. n + 1) it.many;
     are = λ late items has.
-        ap (λ l. l ++ left items) (map-append item it.given (r ∷ [])) ∙ append_assoc (map item it.given) (item r ∷ []) (left items)
+        ap (λ l. l ++ left items) (map-append item it.given (r ∷ []))
+        ∙ append_assoc (map item it.given) (item r ∷ []) (left items)
         ∙ ap (λ l. map item it.given ++ l) (sym (step late items has)) ∙ it.are (before late) items has;
     added = λ rows none. adds rows it.given (it.added rows none);
   }
 
   -- none is to come
-  pub all_given : Later → (items : List X) → HasItems db items → coming items ≡ [] → map item it.given ≡ all items
+  pub all_given : Later → (items : List X) → HasItems db items → coming items ≡ []
+      → map item it.given ≡ all items
   all_given late items there none =
-      sym (append-nil (map item it.given)) ∙ ap (λ l. map item it.given ++ l) (sym none) ∙ it.are (before late) items there
+      sym (append-nil (map item it.given)) ∙ ap (λ l. map item it.given ++ l) (sym none)
+      ∙ it.are (before late) items there
 
   -- the first to come is broken
-  pub broken_row : (Breaks : X → Type 0) → Later → (items : List X) → HasItems db items → (e : X) (more : List X) → coming items ≡ e ∷ more → Breaks e
+  broken_row : (Breaks : X → Type 0) → Later → (items : List X) → HasItems db items
+      → (e : X) (more : List X) → coming items ≡ e ∷ more → Breaks e
       → HasBroken Breaks (all items)
-  broken_row Breaks late items there e more is breaks =
-      (map item it.given, e, more, sym (it.are (before late) items there) ∙ ap (λ l. map item it.given ++ l) is, breaks)
+  broken_row Breaks late items there e more is breaks = (
+    map item it.given,
+    e,
+    more,
+    sym (it.are (before late) items there)
+        ∙ ap (λ l. map item it.given ++ l) is,
+    breaks,
+  )
+
+  -- what a step that failed says of all of them
+  pub failed_row : (Breaks : X → Type 0) (Failed : Type 0) → Later → (items : List X)
+      → HasItems db items → (left : List X)
+      → (fault : Fault) → Steps {R = R} item Breaks (coming items) left (Err fault)
+      → (fault ≡ told.Store → Failed)
+      → Says (HasBroken Breaks (all items)) Failed fault
+  failed_row Breaks Failed late items there left told.Memory step failed = step
+  failed_row Breaks Failed late items there left told.Store step failed = failed refl
+  failed_row Breaks Failed late items there left told.Down step failed = tt
+  failed_row Breaks Failed late items there left (told.Damaged rule) step failed =
+      (step.0, broken_row Breaks late items there step.1.0 step.1.1 step.1.2 step.1.3)
 
 -- ---- how many there are
 
--- so many rows were added, with lesser keys than those to come; all keys are above 0, and there are no more than can be
+-- so many rows were added, with lesser keys than those to come; all keys are above 0, and there are no more
+-- than can be
 pub record IsAlong (Comes : ℤ → Type 0) (count : ℕ) : Type 0 where
   pub next : ℤ
   pub comes : Comes next
   pub behind : IsBehind count next
   pub few : count ≤ MOST_ROWS
 
-module _ (Comes Later : ℤ → Type 0) (count : ℕ) (key : ℤ) (it : IsAlong Comes count) (from : it.next ≤ℤ key) where
+module _ (Comes Later : ℤ → Type 0) (count : ℕ) (key : ℤ) (it : IsAlong Comes count)
+    (from : it.next ≤ℤ key) where
   pub behind_row : IsBehind count key
   behind_row = elim it.behind [
     | inl none ↦ inl none
@@ -74,14 +106,21 @@ module _ (Comes Later : ℤ → Type 0) (count : ℕ) (key : ℤ) (it : IsAlong 
     | inr above ↦ above
   ]
 
-  pub along_more : Later (key +ℤ pos 1) → pos 1 ≤ℤ key → key ≤ℤ pos MOST_ROWS → IsAlong Later (count + 1)
+  pub along_more : Later (key +ℤ pos 1) → pos 1 ≤ℤ key → key ≤ℤ pos MOST_ROWS
+      → IsAlong Later (count + 1)
   along_more comes least most =
       let low = below least in
-      record { next = key +ℤ pos 1; comes = comes; behind = inr (omega (arith, ints, low)); few = omega (arith, ints, low, most) }
+      record {
+        next = key +ℤ pos 1;
+        comes = comes;
+        behind = inr (omega (arith, ints, low));
+        few = omega (arith, ints, low, most);
+      }
 
 -- ---- what a pass leaves
 
-module _ (old mid new : State) (survived : Survives old mid (λ _. ⊥)) (still : HasCleanDisk mid → IsStill old mid) (survives : Survives mid new (λ _. ⊥)) where
+module _ (old mid new : State) (survived : Survives old mid (λ _. ⊥))
+    (still : HasCleanDisk mid → IsStill old mid) (survives : Survives mid new (λ _. ⊥)) where
   before : HasCleanDisk new → HasCleanDisk mid
   before clean = omega (arith, survives.clean, clean)
 
@@ -94,7 +133,8 @@ module _ (old mid new : State) (survived : Survives old mid (λ _. ⊥)) (still 
   }
 
   -- a step that failed
-  pub passed_err : (fault : Fault) → (HasCleanDisk new → IsUndone mid new) → IsPassed old new (Err fault)
+  pub passed_err : (fault : Fault) → (HasCleanDisk new → IsUndone mid new)
+      → IsPassed old new (Err fault)
   passed_err fault undone = record {
     survives = quiet_then old mid new survived survives;
     still = λ clean. tt;

@@ -9,7 +9,8 @@ use Rattle.bank_walks.specs.Rows.{HasRows}
 use Rattle.bank_store.specs.Walks.{IsUndone, IsStill}
 
 -- a connection that sees what it saw has the same rows
-pub still_has : (old new : State) (table : Table) (rows : List Entry) → IsStill old new → HasRows old.now table rows → HasRows new.now table rows
+pub still_has : (old new : State) (table : Table) (rows : List Entry) → IsStill old new
+    → HasRows old.now table rows → HasRows new.now table rows
 still_has old new table rows still = subst (λ (d : Database). HasRows d table rows) (sym still.0)
 
 -- a step more
@@ -30,8 +31,16 @@ undone_then old mid new a b is_open =
 -- nothing is to be undone
 pub still_undone : (old new : State) → IsStill old new → IsUndone old new
 still_undone old new a is_open =
-    record { was_open = subst IsTrue a.3 is_open; is_open = is_open; now_is = a.0; committed_is = a.1; mode = a.2 }
+    record {
+      was_open = subst IsTrue a.3 is_open;
+      is_open = is_open;
+      now_is = a.0;
+      committed_is = a.1;
+      mode = a.2;
+    }
 
 -- a stop leaves what it could leave before
-pub quiet_then : (old mid new : State) → Survives old mid (λ _. ⊥) → Survives mid new (λ _. ⊥) → Survives old new (λ _. ⊥)
-quiet_then old mid new a b = survives_then old mid new (λ _. ⊥) (λ _. ⊥) (λ _. ⊥) (λ clean db h. h) (λ clean db h. h) a b
+pub quiet_then : (old mid new : State) → Survives old mid (λ _. ⊥) → Survives mid new (λ _. ⊥)
+    → Survives old new (λ _. ⊥)
+quiet_then old mid new a b =
+    survives_then old mid new (λ _. ⊥) (λ _. ⊥) (λ _. ⊥) (λ clean db h. h) (λ clean db h. h) a b

@@ -11,6 +11,7 @@ pub mod Standing
 pub mod Gathered
 pub mod Read
 pub mod Passed
+pub mod OfAll
 pub mod Broken
 pub mod OncePosted
 pub mod LogFiles

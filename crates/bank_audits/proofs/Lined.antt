@@ -1,5 +1,6 @@
 -- The lines of a statement, over the postings that a file has and behind a log.
-use Rattle.std.proofs.Common.{◌≡◌, ◌<◌, ◌≤◌, ◌+◌, ◌++◌, ℕ, Bool, true, false, cond, List, [], ◌∷◌, length, map, refl, sym, ap, subst, ◌∙◌, arith}
+use Rattle.std.proofs.Common.{◌≡◌, ◌<◌, ◌≤◌, ◌+◌, ◌++◌, ℕ, Bool, true, false, cond}
+use Rattle.std.proofs.Common.{List, [], ◌∷◌, length, map, refl, sym, ap, subst, ◌∙◌, arith}
 use Rattle.std.specs.Prelude.{ℤ, pos, ◌+ℤ◌, nat_abs}
 use Rattle.std.proofs.lemmas.Int.{ints}
 use Rattle.std.proofs.lemmas.List.{length-append, map-append}
@@ -17,7 +18,8 @@ delta_of r = r.delta
 
 total-append : (xs ys : List ℤ) → total (xs ++ ys) ≡ total xs +ℤ total ys
 total-append [] ys = omega (arith, ints)
-total-append (x ∷ xs) ys = ap (λ (z : ℤ). x +ℤ z) (total-append xs ys) ∙ sym (+ℤ_assoc x (total xs) (total ys))
+total-append (x ∷ xs) ys = ap (λ (z : ℤ). x +ℤ z) (total-append xs ys)
+    ∙ sym (+ℤ_assoc x (total xs) (total ys))
 
 total-snoc : (xs : List ℤ) (z : ℤ) → total (xs ++ z ∷ []) ≡ total xs +ℤ z
 total-snoc xs z = total-append xs (z ∷ []) ∙ ap (λ (y : ℤ). total xs +ℤ y) (omega (arith, ints))
@@ -26,22 +28,28 @@ total-snoc xs z = total-append xs (z ∷ []) ∙ ap (λ (y : ℤ). total xs +ℤ
 abbrev pub sum_of : List StoredPosting → ℤ
 sum_of rs = total (map delta_of rs)
 
-pub sum_of-snoc : (rs : List StoredPosting) (r : StoredPosting) → sum_of (rs ++ r ∷ []) ≡ sum_of rs +ℤ r.delta
+pub sum_of-snoc : (rs : List StoredPosting) (r : StoredPosting) → sum_of (rs ++ r ∷ []) ≡ sum_of rs
+    +ℤ r.delta
 sum_of-snoc rs r = ap total (map-append delta_of rs (r ∷ [])) ∙ total-snoc (map delta_of rs) r.delta
 
 -- one more line
 pub posting_lines-snoc : (before : ℤ) (rs : List StoredPosting) (r : StoredPosting)
-    → posting_lines before (rs ++ r ∷ []) ≡ posting_lines before rs ++ posting_line r ((before +ℤ sum_of rs) +ℤ r.delta) ∷ []
+    → posting_lines before (rs ++ r ∷ []) ≡ posting_lines before rs
+    ++ posting_line r ((before +ℤ sum_of rs) +ℤ r.delta) ∷ []
 posting_lines-snoc before [] r = ap (λ (z : ℤ). posting_line r z ∷ []) (omega (arith, ints))
 posting_lines-snoc before (x ∷ rs) r =
     ap (λ l. posting_line x (before +ℤ x.delta) ∷ l)
     (posting_lines-snoc (before +ℤ x.delta) rs r
-    ∙ ap (λ (z : ℤ). posting_lines (before +ℤ x.delta) rs ++ posting_line r (z +ℤ r.delta) ∷ []) (+ℤ_assoc before x.delta (sum_of rs)))
+    ∙ ap (λ (z : ℤ). posting_lines (before +ℤ x.delta) rs ++ posting_line r (z +ℤ r.delta) ∷ [])
+    (+ℤ_assoc before x.delta (sum_of rs)))
 
 -- from an empty account on
 pub lines-snoc : (rs : List StoredPosting) (r : StoredPosting)
-    → posting_lines (pos 0) (rs ++ r ∷ []) ≡ posting_lines (pos 0) rs ++ posting_line r (sum_of rs +ℤ r.delta) ∷ []
-lines-snoc rs r = posting_lines-snoc (pos 0) rs r ∙ ap (λ (z : ℤ). posting_lines (pos 0) rs ++ posting_line r (z +ℤ r.delta) ∷ []) (omega (arith, ints))
+    → posting_lines (pos 0) (rs ++ r ∷ []) ≡ posting_lines (pos 0) rs
+    ++ posting_line r (sum_of rs +ℤ r.delta) ∷ []
+lines-snoc rs r = posting_lines-snoc (pos 0) rs r
+    ∙ ap (λ (z : ℤ). posting_lines (pos 0) rs ++ posting_line r (z +ℤ r.delta) ∷ [])
+    (omega (arith, ints))
 
 -- ---- behind a log
 
@@ -53,7 +61,8 @@ sum_is_balance a (e ∷ es) = last (is_posted_to a e) (sum_is_balance a es)
     last : (b : Bool) → sum_of (postings_to a es) ≡ account_balance es a
         → sum_of (cond b (postings_to a es ++ posting_of (length es + 1) e ∷ []) (postings_to a es))
         ≡ cond b (account_balance es a +ℤ e.request.delta) (account_balance es a)
-    last true earlier = sum_of-snoc (postings_to a es) (posting_of (length es + 1) e) ∙ ap (λ (z : ℤ). z +ℤ e.request.delta) earlier
+    last true earlier = sum_of-snoc (postings_to a es) (posting_of (length es + 1) e)
+        ∙ ap (λ (z : ℤ). z +ℤ e.request.delta) earlier
     last false earlier = earlier
 
 -- the running balance of a line is the account's balance behind it
@@ -61,14 +70,22 @@ pub lines_are : (a : ℕ) (es : List Entry) → posting_lines (pos 0) (postings_
 lines_are a [] = refl
 lines_are a (e ∷ es) = last (is_posted_to a e) refl (lines_are a es)
   where
-    last : (b : Bool) → is_posted_to a e ≡ b → posting_lines (pos 0) (postings_to a es) ≡ lines_to a es
-        → posting_lines (pos 0) (cond b (postings_to a es ++ posting_of (length es + 1) e ∷ []) (postings_to a es))
-        ≡ cond b (lines_to a es ++ posting_line (posting_of (length es + 1) e) (account_balance (e ∷ es) a) ∷ []) (lines_to a es)
+    last : (b : Bool) → is_posted_to a e ≡ b → posting_lines (pos 0) (postings_to a es)
+        ≡ lines_to a es
+        → posting_lines (pos 0)
+        (cond b (postings_to a es ++ posting_of (length es + 1) e ∷ []) (postings_to a es))
+        ≡ cond b (lines_to a es
+        ++ posting_line (posting_of (length es + 1) e) (account_balance (e ∷ es) a) ∷ [])
+        (lines_to a es)
     last true is earlier =
         lines-snoc (postings_to a es) (posting_of (length es + 1) e)
-        ∙ ap (λ (z : ℤ). posting_lines (pos 0) (postings_to a es) ++ posting_line (posting_of (length es + 1) e) (z +ℤ e.request.delta) ∷ []) (sum_is_balance a es)
-        ∙ ap (λ l. l ++ posting_line (posting_of (length es + 1) e) (account_balance es a +ℤ e.request.delta) ∷ []) earlier
-        ∙ ap (λ (z : ℤ). lines_to a es ++ posting_line (posting_of (length es + 1) e) z ∷ []) (sym (rw is refl))
+        ∙ ap (λ (z : ℤ). posting_lines (pos 0) (postings_to a es)
+        ++ posting_line (posting_of (length es + 1) e) (z +ℤ e.request.delta) ∷ [])
+        (sum_is_balance a es)
+        ∙ ap (λ l. l ++ posting_line (posting_of (length es + 1) e)
+        (account_balance es a +ℤ e.request.delta) ∷ []) earlier
+        ∙ ap (λ (z : ℤ). lines_to a es ++ posting_line (posting_of (length es + 1) e) z ∷ [])
+        (sym (rw is refl))
     last false is earlier = earlier
 
 -- so many at most
@@ -77,8 +94,14 @@ few_postings a [] = omega arith
 few_postings a (e ∷ es) = last (is_posted_to a e) (few_postings a es)
   where
     last : (b : Bool) → length (postings_to a es) ≤ length es
-        → length (cond b (postings_to a es ++ posting_of (length es + 1) e ∷ []) (postings_to a es)) ≤ length (e ∷ es)
-    last true earlier = omega (arith, earlier, length-append (postings_to a es) (posting_of (length es + 1) e ∷ []))
+        → length (cond b (postings_to a es ++ posting_of (length es + 1) e ∷ []) (postings_to a es))
+        ≤ length (e ∷ es)
+    last true earlier = omega (
+      arith,
+      earlier,
+      length-append (postings_to a es)
+          (posting_of (length es + 1) e ∷ []),
+    )
     last false earlier = omega (arith, earlier)
 
 -- ---- running balances
@@ -92,9 +115,11 @@ plus_zero z y = omega (arith, ints)
 -- each running balance on the way through the postings is within the limit
 abbrev pub AllRunWithin : ℤ → List StoredPosting → Type 0
 AllRunWithin before [] = Unit {0}
-AllRunWithin before (r ∷ rs) = (nat_abs (before +ℤ r.delta) ≤ MAX_BALANCE) × AllRunWithin (before +ℤ r.delta) rs
+AllRunWithin before (r ∷ rs) = (nat_abs (before +ℤ r.delta) ≤ MAX_BALANCE)
+    × AllRunWithin (before +ℤ r.delta) rs
 
-run_more : (before : ℤ) (rs : List StoredPosting) (r : StoredPosting) → AllRunWithin before rs → nat_abs ((before +ℤ sum_of rs) +ℤ r.delta) ≤ MAX_BALANCE
+run_more : (before : ℤ) (rs : List StoredPosting) (r : StoredPosting) → AllRunWithin before rs
+    → nat_abs ((before +ℤ sum_of rs) +ℤ r.delta) ≤ MAX_BALANCE
     → AllRunWithin before (rs ++ r ∷ [])
 run_more before [] r all low =
     let same : (before +ℤ pos 0) +ℤ r.delta ≡ before +ℤ r.delta = omega (arith, ints) in
@@ -102,7 +127,8 @@ run_more before [] r all low =
 run_more before (x ∷ rs) r all low = (
   all.0,
   run_more (before +ℤ x.delta) rs r all.1
-      (subst (λ (z : ℤ). nat_abs (z +ℤ r.delta) ≤ MAX_BALANCE) (sym (+ℤ_assoc before x.delta (sum_of rs))) low),
+      (subst (λ (z : ℤ). nat_abs (z +ℤ r.delta) ≤ MAX_BALANCE)
+      (sym (+ℤ_assoc before x.delta (sum_of rs))) low),
 )
 
 -- behind a log they are
@@ -111,20 +137,25 @@ runs_within a [] all = tt
 runs_within a (e ∷ es) all = last (is_posted_to a e) refl (runs_within a es all.1)
   where
     last : (b : Bool) → is_posted_to a e ≡ b → AllRunWithin (pos 0) (postings_to a es)
-        → AllRunWithin (pos 0) (cond b (postings_to a es ++ posting_of (length es + 1) e ∷ []) (postings_to a es))
+        → AllRunWithin (pos 0)
+        (cond b (postings_to a es ++ posting_of (length es + 1) e ∷ []) (postings_to a es))
     last true is earlier =
         let now : nat_abs (account_balance es a +ℤ e.request.delta) ≤ MAX_BALANCE = rw is at all.0 in
-        let same : account_balance es a ≡ pos 0 +ℤ sum_of (postings_to a es) = sym (sum_is_balance a es) ∙ sym (zero_plus (sum_of (postings_to a es))) in
+        let same : account_balance es a ≡ pos 0 +ℤ sum_of (postings_to a es) = sym (sum_is_balance a es)
+        ∙ sym (zero_plus (sum_of (postings_to a es))) in
         run_more (pos 0) (postings_to a es) (posting_of (length es + 1) e) earlier
         (subst (λ (z : ℤ). nat_abs (z +ℤ e.request.delta) ≤ MAX_BALANCE) same now)
     last false is earlier = earlier
 
 -- none is beyond it
-pub never_beyond : (before : ℤ) (given : List StoredPosting) (r : StoredPosting) (more : List StoredPosting) → AllRunWithin before (given ++ r ∷ more)
+pub never_beyond : (before : ℤ) (given : List StoredPosting) (r : StoredPosting) (more : List StoredPosting)
+    → AllRunWithin before (given ++ r ∷ more)
     → MAX_BALANCE < nat_abs ((before +ℤ sum_of given) +ℤ r.delta) → ⊥
 never_beyond before [] r more all high =
-    let low : nat_abs ((before +ℤ pos 0) +ℤ r.delta) ≤ MAX_BALANCE = subst (λ (z : ℤ). nat_abs z ≤ MAX_BALANCE) (sym (plus_zero before r.delta)) all.0 in
+    let low : nat_abs ((before +ℤ pos 0) +ℤ r.delta) ≤ MAX_BALANCE =
+    subst (λ (z : ℤ). nat_abs z ≤ MAX_BALANCE) (sym (plus_zero before r.delta)) all.0 in
     omega (arith, low, high)
 never_beyond before (x ∷ given) r more all high =
     never_beyond (before +ℤ x.delta) given r more all.1
-    (subst (λ (z : ℤ). MAX_BALANCE < nat_abs (z +ℤ r.delta)) (sym (+ℤ_assoc before x.delta (sum_of given))) high)
+    (subst (λ (z : ℤ). MAX_BALANCE < nat_abs (z +ℤ r.delta))
+    (sym (+ℤ_assoc before x.delta (sum_of given))) high)

@@ -1,19 +1,23 @@
 -- Rows under rising keys, and what look-ups find of them.
-use Rattle.std.proofs.Common.{◌≡◌, ◌<◌, ◌++◌, ℕ, Bool, false, eqb, List, [], ◌∷◌, find, Some, None, refl, sym, ap, subst, ◌∙◌, inl, inr, arith}
+use Rattle.std.proofs.Common.{◌≡◌, ◌<◌, ◌++◌, ℕ, Bool, false, eqb, List, [], ◌∷◌, find}
+use Rattle.std.proofs.Common.{Some, None, refl, sym, ap, subst, ◌∙◌, inl, inr, arith}
 use Rattle.std.specs.List.{AllByRecursion}
 use Rattle.std.proofs.lemmas.Bool.{cases_Bool, eqb-true, eq-eqb}
 use Rattle.posting_rules.specs.Tables.{row_at}
 
-pub all-append : {X : Type 0} (P : X → Type 0) (xs ys : List X) → AllByRecursion P xs → AllByRecursion P ys → AllByRecursion P (xs ++ ys)
+pub all-append : {X : Type 0} (P : X → Type 0) (xs ys : List X) → AllByRecursion P xs
+    → AllByRecursion P ys → AllByRecursion P (xs ++ ys)
 all-append P [] ys all more = more
 all-append P (x ∷ xs) ys all more = (all.0, all-append P xs ys all.1 more)
 
-pub all_as : {X : Type 0} (P Q : X → Type 0) → ((x : X) → P x → Q x) → (xs : List X) → AllByRecursion P xs → AllByRecursion Q xs
+pub all_as : {X : Type 0} (P Q : X → Type 0) → ((x : X) → P x → Q x) → (xs : List X)
+    → AllByRecursion P xs → AllByRecursion Q xs
 all_as P Q f [] all = tt
 all_as P Q f (x ∷ xs) all = (f x all.0, all_as P Q f xs all.1)
 
 -- what isn't found in front is looked for behind
-pub find_behind : {X : Type 0} (p : X → Bool) (xs ys : List X) → find p xs ≡ None → find p (xs ++ ys) ≡ find p ys
+pub find_behind : {X : Type 0} (p : X → Bool) (xs ys : List X) → find p xs ≡ None → find p (xs ++ ys)
+    ≡ find p ys
 find_behind p [] ys none = refl
 find_behind p (x ∷ xs) ys none = elim (cases_Bool (p x)) [
   | inl t ↦ absurd (let e = rw t at none in cc)
@@ -21,7 +25,8 @@ find_behind p (x ∷ xs) ys none = elim (cases_Bool (p x)) [
 ]
 
 -- a last one that doesn't pass is as good as none
-pub find_before : {X : Type 0} (p : X → Bool) (xs : List X) (y : X) → p y ≡ false → find p (xs ++ y ∷ []) ≡ find p xs
+pub find_before : {X : Type 0} (p : X → Bool) (xs : List X) (y : X) → p y ≡ false
+    → find p (xs ++ y ∷ []) ≡ find p xs
 find_before p [] y away = rw away refl
 find_before p (x ∷ xs) y away = elim (cases_Bool (p x)) [
   | inl t ↦ rw t refl
@@ -34,12 +39,15 @@ module _ {R : Type 0} (key : R → ℕ) where
   Rising [] = Unit {0}
   Rising (r ∷ rs) = AllByRecursion (λ x. key r < key x) rs × Rising rs
 
-  pub rising_more : (rs : List R) (r : R) → Rising rs → AllByRecursion (λ x. key x < key r) rs → Rising (rs ++ r ∷ [])
+  pub rising_more : (rs : List R) (r : R) → Rising rs → AllByRecursion (λ x. key x < key r) rs
+      → Rising (rs ++ r ∷ [])
   rising_more [] r rise below = (tt, tt)
-  rising_more (x ∷ rs) r rise below = (all-append (λ y. key x < key y) rs (r ∷ []) rise.0 (below.0, tt), rising_more rs r rise.1 below.1)
+  rising_more (x ∷ rs) r rise below =
+      (all-append (λ y. key x < key y) rs (r ∷ []) rise.0 (below.0, tt), rising_more rs r rise.1 below.1)
 
   -- a key that no row has
-  pub not_under : (o : ℕ) (rs : List R) → AllByRecursion (λ x. key x ≡ o → ⊥) rs → row_at key rs o ≡ None
+  pub not_under : (o : ℕ) (rs : List R) → AllByRecursion (λ x. key x ≡ o → ⊥) rs
+      → row_at key rs o ≡ None
   not_under o [] away = refl
   not_under o (r ∷ rs) away = elim (cases_Bool (eqb (key r) o)) [
     | inl t ↦ absurd (away.0 (eqb-true (key r) o t))
@@ -47,36 +55,51 @@ module _ {R : Type 0} (key : R → ℕ) where
   ]
 
   -- a row that is found has the key, and what holds of all rows holds of it
-  pub found_under : (P : R → Type 0) (rows : List R) (o : ℕ) (r : R) → row_at key rows o ≡ Some r → AllByRecursion P rows → (key r ≡ o) × P r
+  pub found_under : (P : R → Type 0) (rows : List R) (o : ℕ) (r : R) → row_at key rows o ≡ Some r
+      → AllByRecursion P rows → (key r ≡ o) × P r
   found_under P [] o r h all = absurd cc
   found_under P (x ∷ xs) o r h all = elim (cases_Bool (eqb (key x) o)) [
-    | inl t ↦ let same : x ≡ r = let e = rw t at h in cc in subst (λ y. (key y ≡ o) × P y) same (eqb-true (key x) o t, all.0)
+    | inl t ↦ let same : x ≡ r = let e = rw t at h in cc in
+        subst (λ y. (key y ≡ o) × P y) same (eqb-true (key x) o t, all.0)
     | inr f ↦ found_under P xs o r (rw f at h) all.1
   ]
 
-  above_not : (k o : ℕ) (rs : List R) → k ≡ o → AllByRecursion (λ x. k < key x) rs → AllByRecursion (λ x. key x ≡ o → ⊥) rs
-  above_not k o rs same above = all_as (λ x. k < key x) (λ x. key x ≡ o → ⊥) (λ x low is. omega (arith, low, is, same)) rs above
+  above_not : (k o : ℕ) (rs : List R) → k ≡ o → AllByRecursion (λ x. k < key x) rs
+      → AllByRecursion (λ x. key x ≡ o → ⊥) rs
+  above_not k o rs same above =
+      all_as (λ x. k < key x) (λ x. key x ≡ o → ⊥) (λ x low is. omega (arith, low, is, same)) rs
+      above
 
   -- rows under rising keys are known by what is found under each
-  pub rising_once : (xs ys : List R) → Rising xs → Rising ys → ((o : ℕ) → row_at key xs o ≡ row_at key ys o) → xs ≡ ys
+  pub rising_once : (xs ys : List R) → Rising xs → Rising ys
+      → ((o : ℕ) → row_at key xs o ≡ row_at key ys o) → xs ≡ ys
   rising_once [] [] a b same = refl
-  rising_once [] (y ∷ ys) a b same = absurd (let e = rw (eq-eqb (key y) (key y) refl) at (same (key y)) in cc)
-  rising_once (x ∷ xs) [] a b same = absurd (let e = rw (eq-eqb (key x) (key x) refl) at (same (key x)) in cc)
+  rising_once [] (y ∷ ys) a b same =
+      absurd (let e = rw (eq-eqb (key y) (key y) refl) at (same (key y)) in cc)
+  rising_once (x ∷ xs) [] a b same =
+      absurd (let e = rw (eq-eqb (key x) (key x) refl) at (same (key x)) in cc)
   rising_once (x ∷ xs) (y ∷ ys) a b same = elim (cases_Bool (eqb (key y) (key x))) [
     | inl t ↦
         let keys : key y ≡ key x = eqb-true (key y) (key x) t in
         let head : x ≡ y = (let e = rw (eq-eqb (key x) (key x) refl, t) at (same (key x)) in cc) in
-        let tails : (o : ℕ) → row_at key xs o ≡ row_at key ys o = (λ o. elim (cases_Bool (eqb (key x) o)) [
+        let tails : (o : ℕ) → row_at key xs o ≡ row_at key ys o =
+        (λ o. elim (cases_Bool (eqb (key x) o)) [
           | inl u ↦
               let at : key x ≡ o = eqb-true (key x) o u in
-              not_under o xs (above_not (key x) o xs at a.0) ∙ sym (not_under o ys (above_not (key y) o ys (keys ∙ at) b.0))
-          | inr f ↦ let g : eqb (key y) o ≡ false = (subst (λ (k : ℕ). eqb k o ≡ false) (sym keys) f) in rw (f, g) at (same o)
+              not_under o xs (above_not (key x) o xs at a.0)
+              ∙ sym (not_under o ys (above_not (key y) o ys (keys ∙ at) b.0))
+          | inr f ↦ let g : eqb (key y) o ≡ false =
+              (subst (λ (k : ℕ). eqb k o ≡ false) (sym keys) f) in rw (f, g) at (same o)
         ]) in
         ap (λ z. z ∷ xs) head ∙ ap (λ l. y ∷ l) (rising_once xs ys a.1 b.1 tails)
     | inr f ↦
         let g : eqb (key x) (key y) ≡ false = other (key x) (key y) f in
-        let low : (key x ≡ key x) × (key y < key x) = found_under (λ z. key y < key z) ys (key x) x (sym (rw (eq-eqb (key x) (key x) refl, f) at (same (key x)))) b.0 in
-        let high : (key y ≡ key y) × (key x < key y) = found_under (λ z. key x < key z) xs (key y) y (rw (eq-eqb (key y) (key y) refl, g) at (same (key y))) a.0 in
+        let low : (key x ≡ key x) × (key y < key x) =
+        found_under (λ z. key y < key z) ys (key x) x
+        (sym (rw (eq-eqb (key x) (key x) refl, f) at (same (key x)))) b.0 in
+        let high : (key y ≡ key y) × (key x < key y) =
+        found_under (λ z. key x < key z) xs (key y) y
+        (rw (eq-eqb (key y) (key y) refl, g) at (same (key y))) a.0 in
         absurd (omega (arith, low.1, high.1))
   ]
     where

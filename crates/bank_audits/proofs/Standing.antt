@@ -1,5 +1,6 @@
 -- What a report leaves of a bank that stands at a log.
-use Rattle.std.proofs.Common.{◌≡◌, ℕ, zero, suc, List, [], take, Ok, Err, Result, refl, sym, subst, inl, inr, arith}
+use Rattle.std.proofs.Common.{◌≡◌, ℕ, zero, suc, List, [], take, Ok, Err, Result, refl, sym, subst}
+use Rattle.std.proofs.Common.{inl, inr, arith}
 use Rattle.std.specs.Prelude.{OnErr, OnOk}
 use Rattle.sqlite.specs.Effect.{Database}
 use Rattle.sqlite.specs.State.{State, HasCleanDisk, Survives}
@@ -25,24 +26,35 @@ of_err (Ok x) f = tt
 of_err (Err e) f = f e refl
 
 -- what was answered for an open account
-pub written_of : (r : Result (Unit {0}) ReportFault) → (r ≡ Err NoAccount → ⊥) → HasAnswered r → HasWritten r
+pub written_of : (r : Result (Unit {0}) ReportFault) → (r ≡ Err NoAccount → ⊥) → HasAnswered r
+    → HasWritten r
 written_of (Ok done) found answered = tt
 written_of (Err NoAccount) found answered = absurd (found refl)
 written_of (Err Write) found answered = tt
 written_of (Err (Bank fault)) found answered = absurd answered
 
-leaves_same : (old new : Seen) (log : List Command) → LeavesNoMore old new → LeavesOnly old (λ t. Shows t log) → LeavesOnly new (λ t. Shows t log)
+leaves_same : (old new : Seen) (log : List Command) → LeavesNoMore old new
+    → LeavesOnly old (λ t. Shows t log) → LeavesOnly new (λ t. Shows t log)
 leaves_same old new log no_more only remains left =
     let before = no_more remains left in
     let it = only before.0 before.1 in
     (it.0, before.2 it.0 it.1, it.2)
+
+-- a call that was refused for want of anything but memory leaves the counter down
+pub refused_down : (fault : Fault) (old new : Seen) (commands : List Command) → (fault ≡ Memory → ⊥)
+    → Refuses fault old new commands → new.is_down
+refused_down Memory old new commands frugal refused = absurd (frugal refl)
+refused_down Store old new commands frugal refused = refused.down
+refused_down Down old new commands frugal refused = refused.after
+refused_down (Damaged rule) old new commands frugal refused = refused.down
 
 none_taken : (n : ℕ) → take n (let none : List Command = [] in none) ≡ []
 none_taken zero = refl
 none_taken (suc n) = refl
 
 -- a call of no commands that was refused leaves what shows the log
-pub refused_leaves : (fault : Fault) (old new : Seen) → Refuses fault old new [] → new.honest → (log : List Command) → StandsAt old log
+pub refused_leaves : (fault : Fault) (old new : Seen) → Refuses fault old new [] → new.honest
+    → (log : List Command) → StandsAt old log
     → LeavesOnly new (λ t. Shows t log)
 refused_leaves Memory old new refused honest log at = leaves_same old new log refused.left at.stop
 refused_leaves Store old new refused honest log at = λ remains left.
@@ -52,7 +64,8 @@ refused_leaves Down old new refused honest log at = leaves_same old new log refu
 refused_leaves (Damaged rule) old new refused honest log at = absurd (refused.never_shown honest log at.shows)
 
 -- where the connection sees what it saw, all stands as it stood
-pub takes_then : (old mid new : State) (D E F : Type 0) → Takes (seen_in old D) (seen_in mid E) [] → (HasCleanDisk new → IsStill mid new)
+pub takes_then : (old mid new : State) (D E F : Type 0) → Takes (seen_in old D) (seen_in mid E) []
+    → (HasCleanDisk new → IsStill mid new)
     → Survives mid new (λ _. ⊥) → (F → E) → Takes (seen_in old D) (seen_in new F) []
 takes_then old mid new D E F takes still quiet up = record {
   shows = λ clean log s. shown clean log (takes.shows (before clean) log s);
@@ -71,7 +84,8 @@ takes_then old mid new D E F takes still quiet up = record {
     before : HasCleanDisk new → HasCleanDisk mid
     before clean = omega (arith, quiet.clean)
 
-    shown : HasCleanDisk new → (log : List Command) → ShowsLog (seen_in mid E) log → ShowsLog (seen_in new F) log
+    shown : HasCleanDisk new → (log : List Command) → ShowsLog (seen_in mid E) log
+        → ShowsLog (seen_in new F) log
     shown clean log s = record {
       commands = s.commands;
       tables = s.tables;

@@ -1,5 +1,7 @@
 -- What is told of a statement of a bank that shows a log.
-use Rattle.std.proofs.Common.{◌≡◌, ◌<◌, ◌≤◌, ◌+◌, ◌++◌, ℕ, Bool, true, false, cond, List, [], ◌∷◌, length, map, Option, Some, None, Ok, Err, refl, sym, ap, subst, ◌∙◌, inl, inr, arith}
+use Rattle.std.proofs.Common.{◌≡◌, ◌<◌, ◌≤◌, ◌+◌, ◌++◌, ℕ, Bool, true, false, cond}
+use Rattle.std.proofs.Common.{List, [], ◌∷◌, length, map, Option, Some, None, Ok, Err, refl, sym, ap}
+use Rattle.std.proofs.Common.{subst, ◌∙◌, inl, inr, arith}
 use Rattle.std.specs.Prelude.{ℤ, pos, ◌+ℤ◌, nat_abs}
 use Rattle.std.specs.List.{AllByRecursion}
 use Rattle.std.specs.Io.KnownBytes.{Appends}
@@ -8,7 +10,8 @@ use Rattle.std.proofs.lemmas.List.{length-append}
 use Rattle.message_records.specs.declared.limits.TheConstants.{MAX_BALANCE, MAX_MOMENT}
 use Rattle.posting_rules.specs.declared.limits.TheConstants.{MAX_DECIDED}
 use Rattle.posting_rules.specs.declared.fault.Rule.{Rule}
-use Rattle.posting_rules.specs.declared.fault.Rule.TheVariants.{Meta, Teller, Account, Balance, Request, Value, Key}
+use Rattle.posting_rules.specs.declared.fault.Rule.TheVariants.{Meta, Teller, Account, Balance, Request}
+use Rattle.posting_rules.specs.declared.fault.Rule.TheVariants.{Value, Key}
 use Rattle.posting_rules.specs.declared.fault.Fault.TheVariants.{Damaged}
 use Rattle.posting_rules.specs.Commands.{Command, AreCommands, is_account_open, opened}
 use Rattle.posting_rules.specs.Entries.{Entry, decided, account_balance, balance_behind}
@@ -22,7 +25,8 @@ use Rattle.bank_reports.proofs.Written.{first_part, same_all, same_part}
 use Rattle.bank_audits.specs.declared.fault.ReportFault.{ReportFault}
 use Rattle.bank_audits.specs.declared.fault.ReportFault.TheVariants.{Bank}
 use Rattle.bank_audits.specs.Behind.{is_posted_to, posting_of, postings_to, statement_behind}
-use Rattle.bank_audits.specs.Postings.{StopsAtBalance, StopsAtValue, WhyDamaged, WritesStatement, sum_of, text_so_far}
+use Rattle.bank_audits.specs.Postings.{StopsAtBalance, StopsAtValue, WhyDamaged, WritesStatement, sum_of}
+use Rattle.bank_audits.specs.Postings.{text_so_far}
 use Rattle.bank_audits.proofs.LogHistory.{each_within}
 use Rattle.bank_audits.proofs.Lined.{AllRunWithin, few_postings, never_beyond, runs_within}
 use Rattle.bank_audits.proofs.OnLogs.{beginning, one_entry, text_begins, text_ends}
@@ -38,12 +42,15 @@ readable a [] sound = tt
 readable a (e ∷ es) sound = last (is_posted_to a e) (few_enough (e ∷ es) sound) (readable a es sound.2)
   where
     last : (b : Bool) → length (e ∷ es) ≤ MAX_DECIDED → AllByRecursion IsReadable (postings_to a es)
-        → AllByRecursion IsReadable (cond b (postings_to a es ++ posting_of (length es + 1) e ∷ []) (postings_to a es))
+        → AllByRecursion IsReadable
+        (cond b (postings_to a es ++ posting_of (length es + 1) e ∷ []) (postings_to a es))
     last true few earlier =
-        all-append IsReadable (postings_to a es) (posting_of (length es + 1) e ∷ []) earlier ((omega arith, omega (arith, few), sound.0.moment), tt)
+        all-append IsReadable (postings_to a es) (posting_of (length es + 1) e ∷ []) earlier
+        ((omega arith, omega (arith, few), sound.0.moment), tt)
     last false few earlier = earlier
 
-pub outside_none : (least most n : ℕ) → least ≤ n → n ≤ most → IsOutside least most (pos n) → ⊥
+pub outside_none : (least most n : ℕ) → least ≤ n → n ≤ most → IsOutside least most (pos n)
+    → ⊥
 outside_none least most n low high (inl under) = omega (arith, ints, under)
 outside_none least most n low high (inr over) = omega (arith, ints, over)
 
@@ -51,7 +58,8 @@ not_broken : (r : StoredPosting) → IsReadable r → IsNoPosting (posting_entry
 not_broken r can (inl ordinal) = outside_none 1 MAX_DECIDED r.ordinal can.0 can.1 ordinal
 not_broken r can (inr moment) = outside_none 0 MAX_MOMENT r.moment (omega arith) can.2 moment
 
-pub all_behind : {X : Type 0} (P : X → Type 0) (xs ys : List X) → AllByRecursion P (xs ++ ys) → AllByRecursion P ys
+pub all_behind : {X : Type 0} (P : X → Type 0) (xs ys : List X) → AllByRecursion P (xs ++ ys)
+    → AllByRecursion P ys
 all_behind P [] ys all = all
 all_behind P (x ∷ xs) ys all = all_behind P xs ys all.1
 
@@ -64,13 +72,18 @@ first_head {X} x y xs ys same = ap head same
 
 -- ---- what is told of damage
 
-module _ (a : ℕ) (log : List Command) (are : AreCommands log) (given more : List StoredPosting) (is : postings_to a (decided log) ≡ given ++ more) where
-  no_value : (left : List StoredPosting) → left ≡ more → (rest : List Stored) → rest ≡ map posting_entry left → StopsAtValue given rest → ⊥
+module _ (a : ℕ) (log : List Command) (are : AreCommands log) (given more : List StoredPosting)
+    (is : postings_to a (decided log) ≡ given ++ more) where
+  no_value : (left : List StoredPosting) → left ≡ more → (rest : List Stored) → rest
+      ≡ map posting_entry left → StopsAtValue given rest → ⊥
   no_value [] same rest read (inl broken) = absurd (let e = sym broken.2 ∙ read in cc)
   no_value (r ∷ left) same rest read (inl broken) =
-      let e : broken.0 ≡ posting_entry r = first_head broken.0 (posting_entry r) broken.1 (map posting_entry left) (sym broken.2 ∙ read) in
-      let all = subst (λ rs. AllByRecursion IsReadable rs) is (readable a (decided log) (are_sound log are)) in
-      let behind : AllByRecursion IsReadable (r ∷ left) = subst (λ rs. AllByRecursion IsReadable rs) (sym same) (all_behind IsReadable given more all) in
+      let e : broken.0 ≡ posting_entry r =
+      first_head broken.0 (posting_entry r) broken.1 (map posting_entry left) (sym broken.2 ∙ read) in
+      let all = subst (λ rs. AllByRecursion IsReadable rs) is
+      (readable a (decided log) (are_sound log are)) in
+      let behind : AllByRecursion IsReadable (r ∷ left) =
+      subst (λ rs. AllByRecursion IsReadable rs) (sym same) (all_behind IsReadable given more all) in
       not_broken r behind.0 (subst (λ x. IsNoPosting x) e broken.3)
   no_value left same rest read (inr many) =
       let few = few_postings a (decided log) in
@@ -78,17 +91,23 @@ module _ (a : ℕ) (log : List Command) (are : AreCommands log) (given more : Li
       let count = ap (λ l. length l) is ∙ length-append given more in
       omega (arith, many, few, fewer, count)
 
-  no_balance : (left : List StoredPosting) → left ≡ more → (rest : List Stored) → rest ≡ map posting_entry left → StopsAtBalance given rest → ⊥
+  no_balance : (left : List StoredPosting) → left ≡ more → (rest : List Stored) → rest
+      ≡ map posting_entry left → StopsAtBalance given rest → ⊥
   no_balance [] same rest read broken = absurd (let e = sym broken.2 ∙ read in cc)
   no_balance (r ∷ left) same rest read broken =
-      let e : broken.0 ≡ r = one_entry broken.0 r (first_head (posting_entry broken.0) (posting_entry r) broken.1 (map posting_entry left) (sym broken.2 ∙ read)) in
+      let e : broken.0 ≡ r =
+      one_entry broken.0 r
+      (first_head (posting_entry broken.0) (posting_entry r) broken.1 (map posting_entry left)
+      (sym broken.2 ∙ read)) in
       let all = runs_within a (decided log) (each_within log a) in
       let zero : sum_of given ≡ pos 0 +ℤ sum_of given = omega (arith, ints) in
-      never_beyond (pos 0) given r left (subst (λ rs. AllRunWithin (pos 0) rs) (is ∙ ap (λ l. given ++ l) (sym same)) all)
+      never_beyond (pos 0) given r left
+      (subst (λ rs. AllRunWithin (pos 0) rs) (is ∙ ap (λ l. given ++ l) (sym same)) all)
       (subst (λ (z : ℤ). MAX_BALANCE < nat_abs (z +ℤ r.delta)) zero
       (subst (λ (x : StoredPosting). MAX_BALANCE < nat_abs (sum_of given +ℤ x.delta)) e broken.3))
 
-  no_damage : (rest : List Stored) (rule : Rule) → rest ≡ map posting_entry more → WhyDamaged given rest rule → ⊥
+  no_damage : (rest : List Stored) (rule : Rule) → rest ≡ map posting_entry more
+      → WhyDamaged given rest rule → ⊥
   no_damage rest Meta read why = why
   no_damage rest Teller read why = why
   no_damage rest Account read why = why
@@ -100,14 +119,17 @@ module _ (a : ℕ) (log : List Command) (are : AreCommands log) (given more : Li
 -- ---- what is told of the whole
 
 -- an open account has its balance
-pub balance_is : (log : List Command) (a : ℕ) (z : ℤ) → Some z ≡ balance_behind log a → z ≡ account_balance (decided log) a
+pub balance_is : (log : List Command) (a : ℕ) (z : ℤ) → Some z ≡ balance_behind log a → z
+    ≡ account_balance (decided log) a
 balance_is log a z is = by_test (is_account_open (λ b. opened log b) a) is
   where
-    by_test : (b : Bool) → Some z ≡ cond b (Some (account_balance (decided log) a)) None → z ≡ account_balance (decided log) a
+    by_test : (b : Bool) → Some z ≡ cond b (Some (account_balance (decided log) a)) None → z
+        ≡ account_balance (decided log) a
     by_test true same = cc
     by_test false same = absurd cc
 
-module _ (a : ℕ) (balance : ℤ) (log : List Command) (is : balance ≡ account_balance (decided log) a) (all : List Stored)
+module _ (a : ℕ) (balance : ℤ) (log : List Command) (is : balance ≡ account_balance (decided log) a)
+    (all : List Stored)
     (rows : all ≡ map posting_entry (postings_to a (decided log))) (old new : Option (List ℕ)) where
   -- the statement is that of the log
   pub told_whole : WritesStatement a balance all old new (Ok tt) → Appends old new (statement_behind log a)
@@ -118,14 +140,18 @@ module _ (a : ℕ) (balance : ℤ) (log : List Command) (is : balance ≡ accoun
       ∙ text_ends a log w.given b.0 b.1 (sym w.why ∙ b.2)) w.wrote
 
   -- at a fault a beginning of it was written
-  pub told_part : (fault : ReportFault) → WritesStatement a balance all old new (Err fault) → AppendsPart old new (statement_behind log a)
+  pub told_part : (fault : ReportFault) → WritesStatement a balance all old new (Err fault)
+      → AppendsPart old new (statement_behind log a)
   told_part fault w =
       let b = beginning w.given (postings_to a (decided log)) w.rest (w.are ∙ rows) in
       let it = text_begins a log w.given b.0 w.rest b.1 b.2 in
-      same_part old new it.1 (first_part old new _ it.0 (same_part old new (ap (λ (z : ℤ). text_so_far a z w.given w.rest) is) w.wrote))
+      same_part old new it.1
+      (first_part old new _ it.0
+      (same_part old new (ap (λ (z : ℤ). text_so_far a z w.given w.rest) is) w.wrote))
 
   -- no damage is told
-  pub told_sound : AreCommands log → (rule : Rule) → WritesStatement a balance all old new (Err (Bank (Damaged rule))) → ⊥
+  pub told_sound : AreCommands log → (rule : Rule)
+      → WritesStatement a balance all old new (Err (Bank (Damaged rule))) → ⊥
   told_sound are rule w =
       let b = beginning w.given (postings_to a (decided log)) w.rest (w.are ∙ rows) in
       no_damage a log are w.given b.0 b.1 w.rest rule b.2 w.why

@@ -1,5 +1,6 @@
 -- What an audit has added up, and what a pass over the rows of a table leaves.
-use Rattle.std.specs.Prelude.{◌≡◌, ◌⊎◌, ◌<ℤ◌, ℕ, ℤ, pos, List, [], map, Option, Result, OnOk}
+use Rattle.std.specs.Prelude.{◌≡◌, ◌⊎◌, ◌<ℤ◌, ℕ, ℤ, pos, List, [], map, Option, Result}
+use Rattle.std.specs.Prelude.{OnOk}
 use Rattle.sqlite.specs.State.{State, HasCleanDisk, Survives}
 use Rattle.posting_rules.specs.declared.fault.Fault.{Fault}
 use Rattle.bank_walks.specs.declared.accounts.StoredAccount.{StoredAccount}
@@ -50,13 +51,15 @@ abbrev pub IsBehind : ℕ → ℤ → Type 0
 IsBehind count key = (count ≡ 0) ⊎ (pos count <ℤ key)
 
 -- all of the rows given were added to the sums
-abbrev pub Adds : {R : Type 0} → (AuditRows → List R → AuditRows) → Sums → Sums → List R → Type 0
-Adds with_rows old new given = (rows : AuditRows) → HasSums old (with_rows rows []) → HasSums new (with_rows rows given)
+abbrev pub Adds : {R : Type 0} → (AuditRows → List R → AuditRows) → Sums → Sums → List R
+    → Type 0
+Adds with_rows old new given = (rows : AuditRows) → HasSums old (with_rows rows [])
+    → HasSums new (with_rows rows given)
 
 -- ---- what a pass leaves of a connection
 
--- A stop leaves what it could leave before. At Ok the connection sees what it saw, and at a fault too, as long as the store
--- is open.
+-- A stop leaves what it could leave before. At Ok the connection sees what it saw, and at a fault too, as
+-- long as the store is open.
 pub record IsPassed (old new : State) (result : Result (Unit {0}) Fault) : Type 0 where
   pub survives : Survives old new (λ _. ⊥)
   pub still : HasCleanDisk new → OnOk result (IsStill old new)

@@ -1,5 +1,6 @@
 -- The statement of an account behind a log: its posted requests in order, each with the balance behind it.
-use Rattle.std.specs.Prelude.{ℕ, pos, ◌+◌, ◌==◌, ◌&&◌, Bool, List, [], ◌∷◌, ◌++◌, length, if◌then◌else◌}
+use Rattle.std.specs.Prelude.{ℕ, pos, ◌+◌, ◌==◌, ◌&&◌, Bool, List, [], ◌∷◌, ◌++◌}
+use Rattle.std.specs.Prelude.{length, if◌then◌else◌}
 use Rattle.bank_walks.specs.declared.postings.StoredPosting.{StoredPosting}
 use Rattle.posting_rules.specs.Commands.{Command}
 use Rattle.posting_rules.specs.Entries.{Entry, is_posted, account_balance, decided}
@@ -24,15 +25,21 @@ is_posted_to a e = is_posted e && (e.request.account == a)
 -- the postings to an account, the oldest first
 abbrev pub postings_to : ℕ → List Entry → List StoredPosting
 postings_to a [] = []
-postings_to a (e ∷ es) = if is_posted_to a e then postings_to a es ++ posting_of (length es + 1) e ∷ [] else postings_to a es
+postings_to a (e ∷ es) =
+    if is_posted_to a e
+    then postings_to a es ++ posting_of (length es + 1) e ∷ []
+    else postings_to a es
 
 -- their lines, each with the account's balance behind it
 abbrev pub lines_to : ℕ → List Entry → List (List ℕ)
 lines_to a [] = []
 lines_to a (e ∷ es) =
-    if is_posted_to a e then lines_to a es ++ posting_line (posting_of (length es + 1) e) (account_balance (e ∷ es) a) ∷ [] else lines_to a es
+    if is_posted_to a e
+    then lines_to a es ++ posting_line (posting_of (length es + 1) e) (account_balance (e ∷ es) a) ∷ []
+    else lines_to a es
 
 -- the statement of an account behind a log
 unfoldable pub statement_behind : List Command → ℕ → List ℕ
 statement_behind log a =
-    text_of (heading_line a ∷ names_line ∷ (lines_to a (decided log) ++ closing_line (account_balance (decided log) a) ∷ []))
+    text_of (heading_line a ∷ names_line
+    ∷ (lines_to a (decided log) ++ closing_line (account_balance (decided log) a) ∷ []))

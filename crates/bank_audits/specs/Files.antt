@@ -2,9 +2,12 @@
 use Rattle.std.specs.Prelude.{◌≡◌, ◌⊎◌, ◌++◌, ◌∷◌, List, map}
 use Rattle.sqlite.specs.Effect.{Database}
 use Rattle.sql_meanings.specs.Entries.{Entry}
-use Rattle.store_rows.specs.SixTables.{account as account_table, branch as branch_table, history as history_table, request as request_table, teller as teller_table}
+use Rattle.store_rows.specs.SixTables.{account as account_table, branch as branch_table}
+use Rattle.store_rows.specs.SixTables.{history as history_table, request as request_table}
+use Rattle.store_rows.specs.SixTables.{teller as teller_table}
 use Rattle.bank_walks.specs.Rows.{HasRows}
-use Rattle.bank_walks.specs.Stored.{account_entry, branch_entry, posting_entry, request_entry, teller_entry, IsNoAccount, IsNoBranch, IsNoPosting, IsNoRequest, IsNoTeller}
+use Rattle.bank_walks.specs.Stored.{account_entry, branch_entry, posting_entry, request_entry, teller_entry}
+use Rattle.bank_walks.specs.Stored.{IsNoAccount, IsNoBranch, IsNoPosting, IsNoRequest, IsNoTeller}
 use Rattle.bank_reports.specs.Stored.{StoredTables}
 
 -- the rows of five tables
@@ -35,7 +38,8 @@ rows_in t = record {
 
 -- one of these is broken
 abbrev pub HasBroken : {X : Type 0} → (X → Type 0) → List X → Type 0
-HasBroken {X} Breaks xs = (before : List X) × (x : X) × (more : List X) × (xs ≡ before ++ x ∷ more) × Breaks x
+HasBroken {X} Breaks xs = (before : List X) × (x : X) × (more : List X) × (xs ≡ before ++ x ∷ more)
+    × Breaks x
 
 -- a key, a count of accounts or a moment is out of its range
 abbrev pub HasBrokenRow : FileRows → Type 0

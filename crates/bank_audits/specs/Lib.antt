@@ -4,4 +4,5 @@ pub mod Postings
 pub mod Behind
 pub mod Files
 pub mod Adding
+pub mod Failures
 pub mod Differing

@@ -1,5 +1,7 @@
 -- What is written of the postings of an account, and why not all of them are.
-use Rattle.std.specs.Prelude.{◌≡◌, ◌⊎◌, ◌<◌, ◌≤◌, ◌-◌, ◌^◌, ◌+ℤ◌, ℕ, ℤ, pos, nat_abs, List, [], ◌∷◌, ◌++◌, map, length, Option, Result, Ok, Err, ⊤}
+use Rattle.std.specs.Prelude.{◌≡◌, ◌⊎◌, ◌<◌, ◌≤◌, ◌-◌, ◌^◌, ◌+ℤ◌, ℕ}
+use Rattle.std.specs.Prelude.{ℤ, pos, nat_abs, List, [], ◌∷◌, ◌++◌, map, length, Option, Result}
+use Rattle.std.specs.Prelude.{Ok, Err, ⊤}
 use Rattle.std.specs.Io.KnownBytes.{Appends}
 use Rattle.message_records.specs.declared.limits.TheConstants.{MAX_BALANCE}
 use Rattle.posting_rules.specs.declared.fault.Fault.TheVariants.{Memory, Store, Down, Damaged}
@@ -11,7 +13,8 @@ use Rattle.bank_walks.specs.declared.postings.StoredPosting.{StoredPosting}
 use Rattle.bank_walks.specs.Stored.{posting_entry, IsNoPosting}
 use Rattle.bank_reports.specs.Audit.{delta_of}
 use Rattle.bank_reports.specs.Lines.{text_of}
-use Rattle.bank_reports.specs.StatementText.{heading_line, names_line, posting_line, posting_lines, closing_line}
+use Rattle.bank_reports.specs.StatementText.{heading_line, names_line, posting_line, posting_lines}
+use Rattle.bank_reports.specs.StatementText.{closing_line}
 use Rattle.bank_reports.specs.Written.{AppendsPart}
 use Rattle.bank_audits.specs.declared.fault.ReportFault.{ReportFault}
 use Rattle.bank_audits.specs.declared.fault.ReportFault.TheVariants.{NoAccount, Write, Bank}
@@ -20,22 +23,27 @@ use Rattle.bank_audits.specs.declared.fault.ReportFault.TheVariants.{NoAccount, 
 abbrev pub sum_of : List StoredPosting → ℤ
 sum_of rows = total (map delta_of rows)
 
--- The line of a posting was written, and this is the balance behind it; or a beginning of it was; or that balance is out of its
--- limits, and nothing was written.
-abbrev pub WritesLine : StoredPosting → ℤ → Option (List ℕ) → Option (List ℕ) → Result ℤ ReportFault → Type 0
-WritesLine r before old new (Ok after) = (after ≡ before +ℤ r.delta) × Appends old new (posting_line r after)
+-- The line of a posting was written, and this is the balance behind it; or a beginning of it was; or that
+-- balance is out of its limits, and nothing was written.
+abbrev pub WritesLine : StoredPosting → ℤ → Option (List ℕ) → Option (List ℕ)
+    → Result ℤ ReportFault → Type 0
+WritesLine r before old new (Ok after) = (after ≡ before +ℤ r.delta)
+    × Appends old new (posting_line r after)
 WritesLine r before old new (Err Write) = AppendsPart old new (posting_line r (before +ℤ r.delta))
-WritesLine r before old new (Err (Bank (Damaged Balance))) = (new ≡ old) × (MAX_BALANCE < nat_abs (before +ℤ r.delta))
+WritesLine r before old new (Err (Bank (Damaged Balance))) = (new ≡ old)
+    × (MAX_BALANCE < nat_abs (before +ℤ r.delta))
 WritesLine r before old new (Err _) = ⊥
 
 -- the first row that wasn't given can't be read, or there are 2^64 - 1 rows
 abbrev pub StopsAtValue : List StoredPosting → List Entry → Type 0
-StopsAtValue given rest = ((e : Entry) × (more : List Entry) × (rest ≡ e ∷ more) × IsNoPosting e) ⊎ (2 ^ 64 - 1 ≤ length given)
+StopsAtValue given rest = ((e : Entry) × (more : List Entry) × (rest ≡ e ∷ more) × IsNoPosting e)
+    ⊎ (2 ^ 64 - 1 ≤ length given)
 
 -- the balance behind the first row that wasn't given is out of its limits
 abbrev pub StopsAtBalance : List StoredPosting → List Entry → Type 0
 StopsAtBalance given rest =
-    (r : StoredPosting) × (more : List Entry) × (rest ≡ posting_entry r ∷ more) × (MAX_BALANCE < nat_abs (sum_of given +ℤ r.delta))
+    (r : StoredPosting) × (more : List Entry) × (rest ≡ posting_entry r ∷ more)
+    × (MAX_BALANCE < nat_abs (sum_of given +ℤ r.delta))
 
 -- why rows are told to be damaged
 abbrev pub WhyDamaged : List StoredPosting → List Entry → Rule → Type 0
@@ -54,12 +62,15 @@ Why given rest (Err (Bank Down)) = ⊤
 Why given rest (Err (Bank (Damaged rule))) = WhyDamaged given rest rule
 
 -- all of a text was written, or at a fault a beginning of it
-abbrev pub WritesText : {E : Type 0} → List ℕ → Option (List ℕ) → Option (List ℕ) → Result (Unit {0}) E → Type 0
+abbrev pub WritesText : {E : Type 0} → List ℕ → Option (List ℕ) → Option (List ℕ)
+    → Result (Unit {0}) E → Type 0
 WritesText text old new (Ok done) = Appends old new text
 WritesText text old new (Err e) = AppendsPart old new text
 
--- of these rows the first were given and the rest weren't, and the lines of those that were given were written
-pub record WritesPostings (all : List Entry) (old new : Option (List ℕ)) (result : Result (Unit {0}) ReportFault) : Type 0 where
+-- of these rows the first were given and the rest weren't, and the lines of those that were given were
+-- written
+pub record WritesPostings (all : List Entry) (old new : Option (List ℕ))
+    (result : Result (Unit {0}) ReportFault) : Type 0 where
   pub given : List StoredPosting
   pub rest : List Entry
   pub are : map posting_entry given ++ rest ≡ all
@@ -74,10 +85,12 @@ closing_behind (e ∷ rest) balance = []
 -- the statement so far
 abbrev pub text_so_far : ℕ → ℤ → List StoredPosting → List Entry → List ℕ
 text_so_far account balance given rest =
-    text_of (heading_line account ∷ names_line ∷ (posting_lines (pos 0) given ++ closing_behind rest balance))
+    text_of (heading_line account ∷ names_line
+    ∷ (posting_lines (pos 0) given ++ closing_behind rest balance))
 
 -- the same of the whole statement
-pub record WritesStatement (account : ℕ) (balance : ℤ) (all : List Entry) (old new : Option (List ℕ)) (result : Result (Unit {0}) ReportFault) : Type 0 where
+pub record WritesStatement (account : ℕ) (balance : ℤ) (all : List Entry) (old new : Option (List ℕ))
+    (result : Result (Unit {0}) ReportFault) : Type 0 where
   pub given : List StoredPosting
   pub rest : List Entry
   pub are : map posting_entry given ++ rest ≡ all

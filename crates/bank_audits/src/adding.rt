@@ -1,19 +1,19 @@
 //! All rows of a bank are added up.
-ghost use Rattle.std.specs.Prelude.{◌≡◌, ◌≢◌, Err, OnOk};
+ghost use Rattle.std.specs.Prelude.{◌≡◌, ◌≢◌, Err, IfErr, OnOk};
 ghost use Rattle.sqlite.specs.State.{HasCleanDisk};
 ghost use Rattle.sqlite.specs.Held.{state};
-ghost use Rattle.posting_rules.specs.declared.fault.Fault.TheVariants.{Damaged, Memory};
-ghost use Rattle.posting_rules.specs.declared.fault.Rule.{Rule as Broken};
-ghost use Rattle.posting_rules.specs.declared.fault.Rule.TheVariants as rule;
+ghost use Rattle.posting_rules.specs.declared.fault.Fault.TheVariants.{Memory};
 ghost use Rattle.bank_reports.specs.Beside.{no_rows, rows_of};
 ghost use Rattle.bank_reports.specs.Stored.{StoredTables};
 ghost use Rattle.bank_store.specs.Seen.{connection_of, database_of, fault_of};
 ghost use Rattle.bank_audits.specs.Adding.{HasSums, IsPassed};
+ghost use Rattle.bank_audits.specs.Failures.{HasFailedToRead, Says};
 ghost use Rattle.bank_audits.specs.Files.{FileRows, HasBrokenRow, HasFile, rows_in};
 
-use crate::passes::{add_accounts, add_branches, add_history, add_requests, add_tellers};
+use crate::passes::Added;
 use crate::sums::Sums;
 use bank_store::Bank;
+use bank_walks::{Joined, StoredAccount, StoredBranch, StoredPosting, StoredRequest, StoredTeller};
 use posting_rules::Fault;
 use sqlite::Alter;
 
@@ -23,17 +23,18 @@ pub(crate) fn add_all<S: Alter>(bank: &mut Bank<S>, sums: &mut Sums) -> Result<(
     ensures added { HasCleanDisk (state S.Store (connection_of bank.new)) → (f : FileRows)
         → HasFile (database_of S.Store bank.old) f
         → OnOk result ((t : StoredTables) × (rows_in t ≡ f) × HasSums sums.new (rows_of t)) }
-    ensures damaged { (broken : Broken) → result ≡ Err (Damaged broken)
-        → HasCleanDisk (state S.Store (connection_of bank.new)) → (f : FileRows)
-        → HasFile (database_of S.Store bank.old) f → (broken ≡ rule.Value) × HasBrokenRow f }
+    ensures told { HasCleanDisk (state S.Store (connection_of bank.new)) → (f : FileRows)
+        → HasFile (database_of S.Store bank.old) f → IfErr result (Says (HasBrokenRow f)
+        (HasFailedToRead S.Store (connection_of bank.old) (connection_of bank.new))) }
     ensures frugal { result ≢ Err Memory }
-    ensures passed { IsPassed (state S.Store (connection_of bank.old)) (state S.Store (connection_of bank.new)) result }
+    ensures passed { IsPassed (state S.Store (connection_of bank.old))
+        (state S.Store (connection_of bank.new)) result }
     ensures up { fault_of bank.new ≡ fault_of bank.old }
 {
-    add_tellers(bank, sums)?;
-    add_branches(bank, sums)?;
-    add_accounts(bank, sums)?;
-    add_requests(bank, sums)?;
-    add_history(bank, sums)?;
+    StoredTeller::add_each(bank, sums)?;
+    StoredBranch::add_each(bank, sums)?;
+    StoredAccount::add_each(bank, sums)?;
+    Joined::<StoredRequest, StoredPosting>::add_each(bank, sums)?;
+    Joined::<StoredPosting, StoredRequest>::add_each(bank, sums)?;
     Ok(())
 }

@@ -1,14 +1,13 @@
 //! Rows of a walk that are added up.
-ghost use Rattle.std.specs.Prelude.{◌≡◌, ◌≢◌, [], List, Err, IfOk, map};
+ghost use Rattle.std.specs.Prelude.{◌≡◌, ◌≢◌, [], List, Err, IfErr, IfOk, map};
 ghost use Rattle.sqlite.specs.State.{HasCleanDisk};
-ghost use Rattle.posting_rules.specs.declared.fault.Fault.TheVariants.{Damaged, Memory};
-ghost use Rattle.posting_rules.specs.declared.fault.Rule.{Rule as Broken};
-ghost use Rattle.posting_rules.specs.declared.fault.Rule.TheVariants as rule;
+ghost use Rattle.posting_rules.specs.declared.fault.Fault.TheVariants.{Memory};
 ghost use Rattle.bank_reports.specs.Beside.{AuditRows};
 ghost use Rattle.bank_walks.specs.Rows.{LEAST};
-ghost use Rattle.bank_store.specs.Seen.{fault_of};
+ghost use Rattle.bank_store.specs.Seen.{connection_of, fault_of};
 ghost use Rattle.bank_store.specs.Walking.{ComesFrom, items_to_come, lent, lent_state, loan_of};
 ghost use Rattle.bank_audits.specs.Adding.{Adds, HasSums, IsPassed};
+ghost use Rattle.bank_audits.specs.Failures.{HasFailedToRead, Says};
 ghost use Rattle.bank_audits.specs.Files.{HasBroken};
 
 use crate::sums::{Summed, Sums};
@@ -27,10 +26,13 @@ pub(crate) fn add_rows<S: Alter, R: Summed>(
     ensures added { IfOk result (λ _. (given : List R) × Adds R.Summed.with_rows sums.old sums.new given
         × (HasCleanDisk (lent_state S.Store walk.new) → (all : List R.WalkedRow.Item)
         → R.WalkedRow.HasItems (lent_state S.Store walk.old).now all
-        → map R.WalkedRow.item given ≡ items_to_come R.WalkedRow.key R.WalkedRow.item R.WalkedRow.is_given all walk.old)) }
-    ensures damaged { (broken : Broken) → result ≡ Err (Damaged broken) → HasCleanDisk (lent_state S.Store walk.new)
-        → (all : List R.WalkedRow.Item) → R.WalkedRow.HasItems (lent_state S.Store walk.old).now all → (broken ≡ rule.Value)
-        × HasBroken R.WalkedRow.is_broken (items_to_come R.WalkedRow.key R.WalkedRow.item R.WalkedRow.is_given all walk.old) }
+        → map R.WalkedRow.item given
+        ≡ items_to_come R.WalkedRow.key R.WalkedRow.item R.WalkedRow.is_given all walk.old)) }
+    ensures told { HasCleanDisk (lent_state S.Store walk.new) → (all : List R.WalkedRow.Item)
+        → R.WalkedRow.HasItems (lent_state S.Store walk.old).now all → let coming =
+        items_to_come R.WalkedRow.key R.WalkedRow.item R.WalkedRow.is_given all walk.old
+        in IfErr result (Says (HasBroken R.WalkedRow.is_broken coming)
+        (HasFailedToRead S.Store (connection_of (lent walk.old)) (connection_of (lent walk.new)))) }
     ensures frugal { result ≢ Err Memory }
     ensures passed { IsPassed (lent_state S.Store walk.old) (lent_state S.Store walk.new) result }
     ensures up { fault_of (lent walk.new) ≡ fault_of (lent walk.old) }

@@ -1,24 +1,28 @@
 //! The statement of an account.
-ghost use Rattle.std.specs.Prelude.{◌≡◌, ◌≢◌, [], List, Err, None, OnErr, OnOk, Some, IsSome, IsTrue, filter};
+ghost use Rattle.std.specs.Prelude.{◌≡◌, ◌≢◌, ℤ, [], List, Err, None, OnErr, OnOk, Some};
+ghost use Rattle.std.specs.Prelude.{IsSome, IsTrue, filter, map};
 ghost use Rattle.std.specs.Io.KnownBytes.{Appends};
 ghost use Rattle.sqlite.specs.State.{HasCleanDisk, Survives};
-ghost use Rattle.sqlite.specs.Held.{state};
-ghost use Rattle.posting_rules.specs.declared.fault.Fault.TheVariants.{Damaged, Down, Memory};
+ghost use Rattle.sqlite.specs.Held.{Held, state};
+ghost use Rattle.posting_rules.specs.declared.fault.Fault.TheVariants.{Damaged, Down, Memory, Store};
 ghost use Rattle.posting_rules.specs.declared.fault.Rule.{Rule as Broken};
 ghost use Rattle.posting_rules.specs.Commands.{Command as Given};
 ghost use Rattle.posting_rules.specs.Counter.{LeavesOnly, ShowsLog, StandsAt, Takes};
 ghost use Rattle.posting_rules.specs.Entries.{balance_behind};
-ghost use Rattle.posting_rules.specs.Tables.{Shows};
+ghost use Rattle.posting_rules.specs.Tables.{Shows, Tables};
 ghost use Rattle.posting_core.specs.Told.{EndsWith, HasWriteFailed, IsFlush};
 ghost use Rattle.sql_meanings.specs.Entries.{Entry};
 ghost use Rattle.store_rows.specs.SixTables.{history as history_table};
+ghost use Rattle.store_rows.specs.View.{history_entry};
 ghost use Rattle.bank_walks.specs.Rows.{HasRows};
 ghost use Rattle.bank_walks.specs.Stored.{is_of};
 ghost use Rattle.bank_reports.specs.Written.{AppendsPart};
+ghost use Rattle.bank_store.specs.Down.{KeepsCause};
 ghost use Rattle.bank_store.specs.Seen.{bank_seen, connection_of, database_of};
 ghost use Rattle.bank_store.specs.Walks.{IsStill, IsUndone};
 ghost use Rattle.bank_audits.specs.declared.fault.ReportFault.TheVariants.{Bank as OfBank, NoAccount, Write};
 ghost use Rattle.bank_audits.specs.Behind.{statement_behind};
+ghost use Rattle.bank_audits.specs.Failures.{HasFailedToRead};
 ghost use Rattle.bank_audits.specs.Postings.{HasAnswered, HasWritten, WritesStatement};
 
 use crate::fault::ReportFault;
@@ -39,8 +43,13 @@ fn write_lines<S: Alter, W: Sink>(
 ) -> Result<(), ReportFault>
     ensures told { HasCleanDisk (state S.Store (connection_of bank.new)) → (rows : List Entry)
         → HasRows (database_of S.Store bank.old) history_table rows
-        → WritesStatement account balance (filter (is_of (Some account)) rows) (W.contents writer.old) (W.contents writer.new) result }
+        → WritesStatement account balance (filter (is_of (Some account)) rows) (W.contents writer.old)
+        (W.contents writer.new) result }
     ensures found { result ≢ Err NoAccount }
+    ensures store { result ≡ Err (OfBank Store) → HasCleanDisk (state S.Store (connection_of bank.new))
+        → (rows : List Entry)
+        → HasRows (database_of S.Store bank.old) history_table rows
+        → HasFailedToRead S.Store (connection_of bank.old) (connection_of bank.new) }
     ensures flushed { OnOk result (EndsWith IsFlush (W.told writer.old) (W.told writer.new)) }
     ensures failed { result ≡ Err Write → HasWriteFailed (W.told writer.old) (W.told writer.new) }
     ensures still { HasCleanDisk (state S.Store (connection_of bank.new)) → HasWritten result
@@ -48,7 +57,8 @@ fn write_lines<S: Alter, W: Sink>(
     ensures undone { HasCleanDisk (state S.Store (connection_of bank.new))
         → IsUndone (state S.Store (connection_of bank.old)) (state S.Store (connection_of bank.new)) }
     ensures up { (bank_seen S.Store bank.new).is_down → (bank_seen S.Store bank.old).is_down }
-    ensures survives { Survives (state S.Store (connection_of bank.old)) (state S.Store (connection_of bank.new)) (λ _. ⊥) }
+    ensures survives { Survives (state S.Store (connection_of bank.old))
+        (state S.Store (connection_of bank.new)) (λ _. ⊥) }
 {
     put(writer, statement_heading(account).as_str())?;
     put(writer, statement_names().as_str())?;
@@ -57,10 +67,10 @@ fn write_lines<S: Alter, W: Sink>(
     Ok(())
 }
 
-/// Writes the statement of an account: its postings by their ordinals, each with the running balance, and its balance at the
-/// end. At a fault a beginning of the text was written, and where the account isn't open nothing was. A balance of the
-/// account beyond its limits is a fault of the bank's `balance`, and brings it down; a running balance beyond them, and any
-/// other fault of the rows, leaves the bank as it was.
+/// Writes the statement of an account: its postings by their ordinals, each with the running balance, and its
+/// balance at the end. At a fault a beginning of the text was written, and where the account isn't open
+/// nothing was. A balance of the account beyond its limits is a fault of the bank's `balance`, and brings it
+/// down; a running balance beyond them, and any other fault of the rows, leaves the bank as it was.
 pub fn write_statement<S: Alter + Drop, W: Sink>(
     bank: &mut Bank<S>,
     account: Account,
@@ -77,17 +87,41 @@ pub fn write_statement<S: Alter + Drop, W: Sink>(
     ensures part { OnErr result ((bank_seen S.Store bank.new).honest → (log : List Given)
         → ShowsLog (bank_seen S.Store bank.old) log
         → AppendsPart (W.contents writer.old) (W.contents writer.new) (statement_behind log account)) }
+    // Of a bank's tables, be they of a log or not: the account's postings are written by their ordinals, all
+    // of them or, at a fault, the first, and then a balance.
+    ensures tables { (bank_seen S.Store bank.new).honest → ((bank_seen S.Store bank.new).is_down → ⊥)
+        → result ≢ Err NoAccount → (t : Tables) → (bank_seen S.Store bank.old).tables t
+        → (balance : ℤ) × WritesStatement account balance
+        (filter (is_of (Some account)) (map history_entry t.history))
+        (W.contents writer.old) (W.contents writer.new) result }
+    // Of any file so are the rows of history that it holds at the end, as long as the store is open.
+    ensures rows { (bank_seen S.Store bank.new).honest → ((bank_seen S.Store bank.new).is_down → ⊥)
+        → result ≢ Err NoAccount → IsTrue (state S.Store (connection_of bank.new)).is_open
+        → (rows : List Entry)
+        → HasRows (database_of S.Store bank.new) history_table rows
+        → (balance : ℤ) × WritesStatement account balance (filter (is_of (Some account)) rows)
+        (W.contents writer.old) (W.contents writer.new) result }
     ensures flushed { OnOk result (EndsWith IsFlush (W.told writer.old) (W.told writer.new)) }
     // The last write or flush failed, or it was asked too often.
     ensures failed { result ≡ Err Write → HasWriteFailed (W.told writer.old) (W.told writer.new) }
     // A bank that shows a log is never told to be damaged.
-    ensures sound { (rule : Broken) → result ≡ Err (OfBank (Damaged rule)) → (bank_seen S.Store bank.new).honest
+    ensures sound { (rule : Broken) → result ≡ Err (OfBank (Damaged rule))
+        → (bank_seen S.Store bank.new).honest
         → (log : List Given) → ShowsLog (bank_seen S.Store bank.old) log → ⊥ }
     ensures frugal { result ≡ Err (OfBank Memory) → (bank_seen S.Store bank.new).honest
         → (log : List Given) → ShowsLog (bank_seen S.Store bank.old) log → ⊥ }
-    ensures down { (bank_seen S.Store bank.old).is_down → (result ≡ Err (OfBank Down)) × (writer.new ≡ writer.old) }
+    ensures down { (bank_seen S.Store bank.old).is_down → (result ≡ Err (OfBank Down))
+        × (writer.new ≡ writer.old) }
+    // The store is told to have failed where the bank went down with its error, or where a read of the
+    // postings failed.
+    ensures cause { result ≡ Err (OfBank Store) → (bank_seen S.Store bank.new).is_down
+        → KeepsCause S.Store bank.old bank.new }
+    ensures store { result ≡ Err (OfBank Store) → ((bank_seen S.Store bank.new).is_down → ⊥)
+        → (bank_seen S.Store bank.new).honest → (t : Tables) → (bank_seen S.Store bank.old).tables t
+        → (mid : Held S) × HasFailedToRead S.Store mid (connection_of bank.new) }
     // Whatever it answers, a stop leaves what shows the log.
-    ensures left { (bank_seen S.Store bank.new).honest → (log : List Given) → StandsAt (bank_seen S.Store bank.old) log
+    ensures left { (bank_seen S.Store bank.new).honest → (log : List Given)
+        → StandsAt (bank_seen S.Store bank.old) log
         → LeavesOnly (bank_seen S.Store bank.new) (λ t. Shows t log) }
     ensures done { HasAnswered result → Takes (bank_seen S.Store bank.old) (bank_seen S.Store bank.new) [] }
     // As long as the store is open, a bank that isn't down stands where it stood.

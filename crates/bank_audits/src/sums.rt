@@ -1,5 +1,6 @@
 //! What an audit adds up.
-ghost use Rattle.std.specs.Prelude.{◌≡◌, ◌≤ℤ◌, ◌++◌, ◌∷◌, [], List, IfOk, length, pos};
+ghost use Rattle.std.specs.Prelude.{◌≡◌, ◌≤ℤ◌, ◌++◌, ◌∷◌, [], List, IfErr, IfOk};
+ghost use Rattle.std.specs.Prelude.{length, pos};
 ghost use Rattle.bank_reports.specs.Beside.{AuditRows, audit_of_rows, no_rows};
 ghost use Rattle.bank_audits.specs.Adding.{HasSums, IsBehind};
 

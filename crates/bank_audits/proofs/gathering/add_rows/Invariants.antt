@@ -16,8 +16,10 @@ invariant-rows g l =
       survives : Survives old now (λ _. ⊥);
       up : l.walk.bank.now.fault ≡ l.fn.walk.bank.now.fault;
       still : HasCleanDisk now → IsStill old now;
-      gathered : IsGathered g.R.WalkedRow.item g.R.WalkedRow.HasItems g.R.Summed.with_rows old.now (HasCleanDisk now) l.fn.sums l.sums
+      gathered : IsGathered g.R.WalkedRow.item g.R.WalkedRow.HasItems g.R.Summed.with_rows old.now
+          (HasCleanDisk now) l.fn.sums l.sums
           (λ all. items_to_come g.R.WalkedRow.key g.R.WalkedRow.item g.R.WalkedRow.is_given all l.fn.walk)
-          (λ all. items_to_come g.R.WalkedRow.key g.R.WalkedRow.item g.R.WalkedRow.is_given all l.walk) l.counter;
+          (λ all. items_to_come g.R.WalkedRow.key g.R.WalkedRow.item g.R.WalkedRow.is_given all l.walk)
+          l.counter;
       along : IsAlong (λ k. ComesFrom (λ r. g.R.WalkedRow.key (g.R.WalkedRow.item r)) k l.walk) l.counter;
     }

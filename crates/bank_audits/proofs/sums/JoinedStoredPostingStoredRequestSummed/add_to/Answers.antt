@@ -10,6 +10,7 @@ returns-clause-added c rows given h = record {
   tellers = h.tellers;
   branches = h.branches;
   accounts = h.accounts;
-  ordinals = subst (λ l. HasBeside c.add_posting.new.self rows.requests l) (sym (map-append both given (c.args.self ∷ [])))
+  ordinals = subst (λ l. HasBeside c.add_posting.new.self rows.requests l)
+      (sym (map-append both given (c.args.self ∷ [])))
       (c.add_posting.ensures.added rows.requests (map both given) h.ordinals);
 }

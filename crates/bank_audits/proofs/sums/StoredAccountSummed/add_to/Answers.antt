@@ -10,6 +10,7 @@ returns-clause-added c rows given h =
     record {
       tellers = h.tellers;
       branches = h.branches;
-      accounts = sum_more_64 account_balance c.args.sums.now.accounts c.plus-sums.result given c.args.self fit h.accounts c.plus-sums.ensures.count c.plus-sums.ensures.sum;
+      accounts = sum_more_64 account_balance c.args.sums.now.accounts c.plus-sums.result given c.args.self fit
+          h.accounts c.plus-sums.ensures.count c.plus-sums.ensures.sum;
       ordinals = h.ordinals;
     }
