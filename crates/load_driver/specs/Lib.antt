@@ -3,3 +3,4 @@ pub mod Words
 pub mod Requests
 pub mod OfPlan
 pub mod Counts
+pub mod Faults
