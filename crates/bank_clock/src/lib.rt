@@ -52,15 +52,15 @@ impl<T: TimeSource> TimeTeller for T {
     }
 }
 
-/// A clock in whole seconds since 1970-01-01T00:00:00Z, over a source of the time. It may go back when its
-/// source does.
-#[derive(Drop)]
+/// The clock of the system, in whole seconds since 1970-01-01T00:00:00Z: 0..=`MAX_MOMENT`.
+#[derive(Debug, Drop)]
 pub struct SystemClock<T> {
     source: T,
 }
 
 impl<T: TimeTeller> SystemClock<T> {
-    /// The clock that reads this source. For the system's time the source is `&rt`.
+    /// The clock that reads this source.
+    #[must_use]
     pub fn new(source: T) -> Self
         ensures { source_of result ≡ source }
     {
@@ -79,9 +79,9 @@ impl<T: TimeTeller> Clock for SystemClock<T> {
     }
 }
 
-/// The moment of a reading, in whole seconds since 1970-01-01T00:00:00Z with the fraction cut off:
-/// 0..=`MAX_MOMENT`. It is `MAX_MOMENT` for a later time, and 0 for a time before 1970 or a reading that
-/// failed.
+/// The moment of a reading: the last one where the time is later, and 0 where there is no time, as
+/// before 1970. It never fails.
+#[must_use]
 pub fn moment_of(reading: io::Result<SystemTime>) -> Moment
     ensures { result ≡ moment_at (reading_of reading) }
 {

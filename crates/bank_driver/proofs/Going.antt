@@ -13,7 +13,7 @@ use Rattle.posting_core.specs.Batches.{Batch, moments_of, posts_of, records_of}
 use Rattle.posting_core.specs.Clock.{AreReadings, IsReading}
 use Rattle.posting_core.proofs.Batched.{posts_of_one_more, records_one_more}
 use Rattle.posting_core.proofs.Stops.{refused_stop, stop_all, stop_part}
-use Rattle.posting_core.proofs.Streaming.{clock_batch, takes_batch}
+use Rattle.posting_core.proofs.StreamedBatches.{clock_batch, takes_batch}
 use Rattle.branch_loader.specs.Plans.{Rows}
 use Rattle.load_driver.specs.Counts.{Driving}
 use Rattle.bank_driver.specs.declared.driving.Driven.{Driven}

@@ -24,7 +24,8 @@ within most n low high = let test : (leb 1 n && leb n most) ≡ true = grind (ar
 
 -- a row in its ranges, of a branch that no row before names
 row_is : (before : Rows) (p : Row) → IsRow p → names p.0 before ≡ false → row_of_pair before p ≡ Ok p
-row_is before p row new = rw (within LAST_BRANCH p.0 row.0 row.1, within MOST_ACCOUNTS p.1 row.2 row.3, new) refl
+row_is before p row new = rw (within LAST_BRANCH p.0 row.0 row.1, within MOST_ACCOUNTS p.1 row.2 row.3, new)
+    refl
 
 -- rows behind those that were read
 rows_by-append : (before list after rows : Rows) → rows_by row_of_pair before list ≡ Ok rows

@@ -1,4 +1,4 @@
-//! A drive: the records of a seed over the open branches of a counter.
+//! A drive: the records of a seed over the open branches of a counter (TPC-B 5.3, the 85/15 rule).
 ghost use Rattle.std.specs.Prelude.{◌≡◌, ◌≤◌, ◌↔◌, [], List, IfOk, IfErr, OnOk, Err};
 ghost use Rattle.std.specs.Result.{IsErrOf};
 ghost use Rattle.posting_rules.specs.Commands.{Command};
@@ -15,10 +15,10 @@ use load_driver::{Driver, DriverFault};
 use posting_core::{Clock, Counter, Fault, RECORDS_PER_BATCH};
 use std::alloc::Global;
 
-/// How many records can be asked for at most.
+/// How many records can be asked for in one drive.
 pub const MAX_DRIVEN: u64 = 1_000_000_000;
 
-/// How many records of a drive got which reply. Together they are all of them.
+/// How many records got which reply. The two add up to the records that were asked for.
 #[derive(Clone, Copy, Debug, PartialEq, Eq)]
 pub struct Driven {
     /// Those with the outcome POSTED, also for a record that was posted before.

@@ -3,16 +3,17 @@ use posting_core::Fault;
 use std::alloc::AllocError;
 use std::fmt;
 
-/// Why a drive ended before its last record. The batches before were answered, and are kept.
+/// Why a drive ended before its last record. What was answered before stands.
 #[derive(Clone, Copy, Debug, PartialEq, Eq)]
 pub enum DriveFault {
     /// No branch is open. Nothing was submitted.
     NoBranches,
-    /// The bank refused a call: to name the next branch, or to take a batch, to which nothing was replied.
-    /// Memory that was refused to the drive itself is `Memory` too.
+    /// The bank refused a call, and its fault says what stands of that. Memory that was refused to the drive
+    /// itself is `Memory` too.
     Bank(Fault),
 }
 
+/// A text of a line. A fault of the bank has its own.
 impl fmt::Display for DriveFault {
     ghost use Rattle.std.specs.Prelude.{Some};
     ghost use Rattle.bank_driver.specs.Faults.{drive_text};

@@ -185,7 +185,8 @@ short_front {shown = shown} old new filled n going got none many fits fits' wait
 pub short_read : {r r' r'' w w' k k' : Option (List ℕ)} {q q' q'' : Option (List ReadTold)} {c c' : Seen}
     {count calls : ℕ} {shown : Bool} (old new : List ℕ) (filled n : ℕ) (told : Result ℕ Error)
     → Going r r' w w' k k' c c' (take filled old) count → told ≡ Ok n → n ≡ 0
-    → IfOk told (λ m. (bytes : List ℕ) × (take (filled + m) new ≡ take filled old ++ bytes) × Consumes r' r'' bytes)
+    → IfOk told (λ m. (bytes : List ℕ) × (take (filled + m) new ≡ take filled old ++ bytes)
+    × Consumes r' r'' bytes)
     → IfOk told (λ m. m ≡ 0 → IsAtEnd r'')
     → HasMade q q' calls → Adds q' q'' (read_told told ∷ [])
     → 0 < filled → filled ≤ length old → length old ≡ length new → IsUnfinished (take filled old) shown

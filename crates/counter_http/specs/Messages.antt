@@ -59,7 +59,8 @@ Ends Closed rest = ⊥
 Ends No_head rest = (rest ≢ []) × BeginsWithNoHead rest
 Ends (No_body h) rest =
     IsHead h
-    × ((behind : List ℕ) × (rest ≡ print_request h ++ behind) × LacksBody (body_length (named_values h)) behind)
+    × ((behind : List ℕ) × (rest ≡ print_request h ++ behind)
+    × LacksBody (body_length (named_values h)) behind)
 
 -- the input is these messages, and then the walk ends so: after a message that closes the connection,
 -- whatever follows

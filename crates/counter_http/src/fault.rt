@@ -9,13 +9,14 @@ pub enum ServeFault {
     Read,
     /// The writer failed, or took no byte. Of the answers a beginning was written.
     Write,
-    /// The bank refused a call. A 503 was written to the message that made it, behind the answers to those
-    /// before.
+    /// The bank refused a call, and its fault says what stands of that. A 503 was written to the message that
+    /// made it, behind the answers to those before.
     Bank(Fault),
     /// Memory was refused before anything was read, and nothing was done.
     Memory,
 }
 
+/// A text of a line. A fault of the bank has its own.
 impl fmt::Display for ServeFault {
     ghost use Rattle.std.specs.Prelude.{Some};
     ghost use Rattle.counter_http.specs.Faults.{fault_text};

@@ -15,7 +15,12 @@ use http::StatusCode;
 
 /// An answer that says no more than its code.
 pub(crate) fn bare(body: &'static [u8], status: StatusCode) -> Response<'static>
-    ensures { said result ≡ record { code = status; media = codes "text/plain"; allow = None; body = body.now } }
+    ensures { said result ≡ record {
+      code = status;
+      media = codes "text/plain";
+      allow = None;
+      body = body.now;
+    } }
 {
     Response {
         status,

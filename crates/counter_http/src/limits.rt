@@ -1,12 +1,12 @@
 //! The limits of what a connection is asked. Code, contracts and definitions take them from here.
 
-/// The length of the longest head that is taken, with the empty line behind it.
+/// The length in bytes of the longest head that is taken, with the empty line behind it.
 pub const MAX_HEAD: usize = 8192;
 
 /// How many fields a head may have.
 pub const MAX_FIELDS: usize = 32;
 
-/// The length of the longest body that is taken.
+/// The length in bytes of the longest body that is taken.
 pub const MAX_BODY: usize = 4096;
 
 /// The length of the buffer: the longest message.

@@ -24,7 +24,8 @@ pub(crate) fn line_of_account(
 
 // The line of a branch.
 fn line_of_branch(alloc: Global, line: &BranchLine) -> Result<String, AllocError>
-    ensures { IfOk result (λ text. string_bytes text ≡ branch_line line.now.branch line.now.accounts line.now.balance) }
+    ensures { IfOk result (λ text. string_bytes text ≡ branch_line line.now.branch line.now.accounts
+        line.now.balance) }
 {
     let branch = line.branch.get();
     let accounts = line.accounts;

@@ -24,6 +24,7 @@ pub(crate) struct Whole<'b> {
 /// What stands at the front of what was read.
 #[derive(Clone, Copy)]
 pub(crate) enum Next<'b> {
+    /// A whole message.
     Message(Whole<'b>),
     /// Bytes are missing. Where none follow it is answered by a 400, with its body or without.
     Unfinished(bool),

@@ -9,8 +9,11 @@ use std::alloc::Global;
 /// What a path leads to.
 #[derive(Clone, Copy, Debug, PartialEq, Eq)]
 pub(crate) enum Route {
+    /// `/post`: a record is submitted.
     Posting,
+    /// `/account/` and a number: the balance of the account is read.
     Account,
+    /// `/branches`: the open branches are read.
     Branches,
 }
 

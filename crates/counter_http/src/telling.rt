@@ -77,7 +77,8 @@ fn put_last<W: Sink>(
 ) -> bool
     ensures text { (before : Option (List ℕ)) (text : List ℕ) → IsTold before
         (W.contents writer.old) going held.old.items text
-        → IsTold before (W.contents writer.new) result held.new.items (text ++ last_lines (said response.now) closes) }
+        → IsTold before (W.contents writer.new) result held.new.items (text
+        ++ last_lines (said response.now) closes) }
     ensures ends { (before : Option (List WriteTold)) → HasTaken going before (W.told writer.old)
         → HasTaken result before (W.told writer.new) }
 {

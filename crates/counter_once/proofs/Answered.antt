@@ -16,7 +16,8 @@ use Rattle.counter_once.specs.First.{two_branches, IsAnswered, Leaves}
 pub answered : {T : Type 0} (result : Result T OnceFault) (r r' w w' : Option (List ℕ)) (c c' : Seen)
     (moment : ℕ) → c'.honest → ShowsLog c two_branches
     → OnOk result (once.IsAnswered r r' w w' c c' moment) → OnOk result (IsAnswered r r' w w')
-answered (Ok x) r r' w w' c c' moment honest shows a = record { bytes = a.bytes; whole = a.whole; read = a.read; written = a.written honest two_branches shows }
+answered (Ok x) r r' w w' c c' moment honest shows a =
+    record { bytes = a.bytes; whole = a.whole; read = a.read; written = a.written honest two_branches shows }
 answered (Err fault) r r' w w' c c' moment honest shows a = tt
 
 -- a bank in memory is never down, so that it refuses for want of memory alone
@@ -30,11 +31,26 @@ only_memory (Damaged rule) a b cs u = absurd u.down
 left : (fault : OnceFault) (r r' w w' : Option (List ℕ)) (a b : PlainBank) (moment : ℕ)
     → ShowsLog (plain_seen a) two_branches
     → once.Leaves fault r r' w w' (plain_seen a) (plain_seen b) moment → Leaves fault r r' w w'
-left Short r r' w w' a b moment shows x = record { bytes = x.bytes; few = x.few; read = x.read; ended = x.ended; written = x.written }
+left Short r r' w w' a b moment shows x = record {
+  bytes = x.bytes;
+  few = x.few;
+  read = x.read;
+  ended = x.ended;
+  written = x.written;
+}
 left Read r r' w w' a b moment shows x = x.written
 left Write r r' w w' a b moment shows x =
-    record { bytes = x.bytes; whole = x.whole; read = x.read; count = x.count; written = x.written tt two_branches shows }
-left (Bank fault) r r' w w' a b moment shows x = record { memory = only_memory fault a b _ x.refuses; written = x.written }
+    record {
+      bytes = x.bytes;
+      whole = x.whole;
+      read = x.read;
+      count = x.count;
+      written = x.written tt two_branches shows;
+    }
+left (Bank fault) r r' w w' a b moment shows x = record {
+  memory = only_memory fault a b _ x.refuses;
+  written = x.written;
+}
 
 pub faulted : {T : Type 0} (result : Result T OnceFault) (r r' w w' : Option (List ℕ)) (a b : PlainBank)
     (moment : ℕ) → ShowsLog (plain_seen a) two_branches
@@ -44,7 +60,10 @@ faulted (Ok x) r r' w w' a b moment shows left_so = tt
 faulted {T} (Err fault) r r' w w' a b moment shows left_so = left fault r r' w w' a b moment shows left_so
 
 pub two_are_commands : AreCommands two_branches
-two_are_commands = ((omega arith, omega arith, omega arith, omega arith), ((omega arith, omega arith, omega arith, omega arith), tt))
+two_are_commands = (
+  (omega arith, omega arith, omega arith, omega arith),
+  ((omega arith, omega arith, omega arith, omega arith), tt),
+)
 
 -- the two branches by their numbers
 pub numbered : (t : Tables) (one two : ℕ) → one ≡ 1 → two ≡ 2 → Shows t (Open two 2 ∷ Open one 3 ∷ [])

@@ -39,8 +39,10 @@ pub fn answer_first<R: Source, W: Sink>(
     reader: &mut R,
     writer: &mut W,
 ) -> Result<(), OnceFault>
-    ensures ok { OnOk result (IsAnswered (R.remaining reader.old) (R.remaining reader.new) (W.contents writer.old) (W.contents writer.new)) }
-    ensures fault { IfErr result (λ fault. Leaves fault (R.remaining reader.old) (R.remaining reader.new) (W.contents writer.old) (W.contents writer.new)) }
+    ensures ok { OnOk result (IsAnswered (R.remaining reader.old) (R.remaining reader.new)
+        (W.contents writer.old) (W.contents writer.new)) }
+    ensures fault { IfErr result (λ fault. Leaves fault (R.remaining reader.old) (R.remaining reader.new)
+        (W.contents writer.old) (W.contents writer.new)) }
     ensures ended { IsErrOf result OnceFault.Short
         → EndsWith IsEndOfInput (R.told reader.old) (R.told reader.new) }
     ensures unread { IsErrOf result OnceFault.Read → HasReadFailed (R.told reader.old) (R.told reader.new) }

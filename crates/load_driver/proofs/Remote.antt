@@ -29,7 +29,8 @@ pub at-behind : (branch : ℕ) (p : Row) (rest : Rows) (left : ℕ) → ¬ (p.0 
     → get_or (remote_accounts branch (p ∷ rest)) left 0 ≡ get_or (remote_accounts branch rest) (left - p.1) 0
 at-behind branch p rest left e past =
     let t : nat_eq p.0 branch ≡ false = grind (arith, nat_tests, e) in
-    rw t (get_or-append_right (accounts_of p) (remote_accounts branch rest) p.1 left 0 (length-range_with_len (first_account p.0) p.1) past)
+    rw t (get_or-append_right (accounts_of p) (remote_accounts branch rest) p.1 left 0
+    (length-range_with_len (first_account p.0) p.1) past)
 
 -- the account of the teller's branch
 pub account-home : (rows : Rows) (home : Row) (choice pick : ℕ) → is_home rows (draw choice 100) ≡ true

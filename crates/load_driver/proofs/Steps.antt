@@ -81,7 +81,8 @@ counts-more rows seed n place counts plan at within h =
     by t small (inl e) =
         let here : t ≡ place = grind (arith, nat_tests, e) in
         let room : place < length counts = omega (arith, h.len) in
-        rw here (rw get_or-set_same (sym (earlier-same rows seed (teller_of rows place) n (ap (teller_of rows) at))))
+        rw here (rw get_or-set_same
+        (sym (earlier-same rows seed (teller_of rows place) n (ap (teller_of rows) at))))
     by t small (inr e) =
         let ne : t ≢ place = grind (arith, nat_tests, e) in
         let apart : teller_of rows t ≢ teller_of rows (place_at rows seed n) =

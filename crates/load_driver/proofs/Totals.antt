@@ -76,7 +76,8 @@ count-others (p ∷ rows) home distinct there = by (first_or_rest p rows home th
     by (inl e) more =
         let t : nat_eq p.0 p.0 ≡ true = grind (arith, nat_tests) in
         let same : count_of (p ∷ rows) ≡ p.1 + count_of (others p.0 (p ∷ rows)) =
-        rw t (count-cons p rows ∙ ap (λ (rest : Rows). p.1 + count_of rest) (sym (none-here p.0 rows distinct.0))) in
+        rw t (count-cons p rows ∙ ap (λ (rest : Rows). p.1 + count_of rest)
+        (sym (none-here p.0 rows distinct.0))) in
         subst (λ (h : Row). count_of (p ∷ rows) ≡ h.1 + count_of (others h.0 (p ∷ rows))) e same
     by (inr rest) more =
         let t : nat_eq p.0 home.0 ≡ false = not-named p.0 rows home distinct.0 rest in
@@ -141,7 +142,8 @@ elsewhere branch (p ∷ rows) place all within =
   where
     by : (nat_eq p.0 branch ≡ true) ⊎ (nat_eq p.0 branch ≡ false)
         → (nat_lt place p.1 ≡ true) ⊎ (nat_lt place p.1 ≡ false)
-        → ((left : ℕ) → left < count_of (others branch rows) → IsElsewhere rows branch (get_or (remote_accounts branch rows) left 0))
+        → ((left : ℕ) → left < count_of (others branch rows)
+        → IsElsewhere rows branch (get_or (remote_accounts branch rows) left 0))
         → IsElsewhere (p ∷ rows) branch (get_or (remote_accounts branch (p ∷ rows)) place 0)
     by (inl same) c more =
         let here : p.0 ≡ branch = grind (arith, nat_tests, same) in
@@ -151,7 +153,12 @@ elsewhere branch (p ∷ rows) place all within =
         let other : p.0 ≢ branch = grind (arith, nat_tests, apart) in
         let small : place < p.1 = grind (arith, nat_tests, first) in
         rw (at-other branch p rows place other small)
-        (record { row = p; planned = (0, omega arith, refl); other = other; within = within-row p place (all 0 p (omega arith)) small })
+        (record {
+          row = p;
+          planned = (0, omega arith, refl);
+          other = other;
+          within = within-row p place (all 0 p (omega arith)) small;
+        })
     by (inr apart) (inr behind) more =
         let other : p.0 ≢ branch = grind (arith, nat_tests, apart) in
         let large : p.1 ≤ place = grind (arith, nat_tests, behind) in
@@ -171,7 +178,10 @@ remote-for rows home test place plan is small =
       row = there.row;
       planned = there.planned;
       within = there.within;
-      at_home = (λ t. absurd (false≢true (sym is ∙ t)), λ e. absurd (there.other (sym there.within.branch ∙ e)));
+      at_home = (
+        λ t. absurd (false≢true (sym is ∙ t)),
+        λ e. absurd (there.other (sym there.within.branch ∙ e)),
+      );
     }
 
 -- ---- a teller has one place

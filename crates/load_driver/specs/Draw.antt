@@ -9,7 +9,8 @@ use Rattle.rand.specs.Uniform.{canon}
 
 -- the number below a bound that is drawn by the small generator that is made of a word
 unfoldable pub draw : ℕ → ℕ → ℕ
-draw word bound = (canon (2 ^ 64) next_u64 bound (stream_of (steps_u32 pcg32) (pcg32_of_seed (pcg32_seed 16 word)))).0
+draw word bound = (canon (2 ^ 64) next_u64 bound
+    (stream_of (steps_u32 pcg32) (pcg32_of_seed (pcg32_seed 16 word)))).0
 
 -- the generator of the words of a seed
 unfoldable pub generator : ℕ → Lcg

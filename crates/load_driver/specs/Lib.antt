@@ -4,3 +4,4 @@ pub mod Words
 pub mod Requests
 pub mod OfPlan
 pub mod Counts
+pub mod Faults

@@ -41,7 +41,8 @@ ghost use Rattle.load_driver.specs.Words.{TakesWords};
 
 // Takes the four words of the next record.
 pub(crate) fn take_words(generator: &mut Lcg128Xsl64) -> Words
-    ensures { (seed n : ℕ) → generator.old ≡ words_after seed (4 * n) → TakesWords seed n result generator.new }
+    ensures { (seed n : ℕ) → generator.old ≡ words_after seed (4 * n)
+        → TakesWords seed n result generator.new }
 {
     let teller = generator.next_word();
     let choice = generator.next_word();

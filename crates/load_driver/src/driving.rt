@@ -22,16 +22,22 @@ use std::alloc::{AllocError, Global};
 use std::fmt;
 use std::marker::Model;
 
-/// Why [`Driver::new`] made no driver.
+/// Why there is no driver. Nothing was drawn.
 #[derive(Clone, Copy, Debug, PartialEq, Eq)]
 pub enum DriverFault {
     /// The plan has no branch, so that there is no teller to draw.
     Empty,
-    /// Memory was refused for the rows of the plan or for the counts of its tellers.
+    /// Memory was refused for the branches or for the counts of their tellers.
     Memory,
 }
 
+/// A text of a line, as `no branches`.
 impl fmt::Display for DriverFault {
+    ghost use Rattle.std.specs.Prelude.{Some};
+    ghost use Rattle.load_driver.specs.Faults.{driver_text};
+
+    ghost output = { λ fault. Some (driver_text fault) };
+
     fn fmt<W: fmt::Write>(&self, f: &mut fmt::Formatter<W>) -> fmt::Result {
         match self {
             DriverFault::Empty => write!(f, "no branches"),
@@ -87,9 +93,8 @@ fn request_by(rows: &[(Branch, u32)], place: u64, words: Words, number: u64) -> 
     Request::new(account, teller, branch, number, amount_by(words.amount)).unwrap()
 }
 
-/// A driver: it draws the requests of a plan, one after another, from the words of a seed. The same branches
-/// and the same seed give the same records, on any machine. Each teller numbers its own requests from 1 on.
-#[derive(Drop)]
+/// A driver: it draws the requests of a plan, one after the other, from the words of a seed (TPC-B 5.3).
+#[derive(Debug, Drop)]
 pub struct Driver {
     // the plan's rows, ascending
     rows: Vec<(Branch, u32)>,
@@ -109,12 +114,8 @@ impl Model for Driver {
 }
 
 impl Driver {
-    /// The driver of a plan and a seed, before its first record. It takes memory for the rows of the plan and
-    /// for a count of each teller, and no later call takes any.
-    ///
-    /// # Errors
-    ///
-    /// [`DriverFault::Empty`] just where the plan has no branch, and [`DriverFault::Memory`].
+    /// The driver of a plan and a seed. It makes room for the branches and for the count of each teller, and
+    /// takes no more memory later. `Empty` comes just where the plan has no branch.
     pub fn new(alloc: Global, plan: &Plan, seed: u64) -> Result<Driver, DriverFault>
         ensures empty { (result ≡ Err DriverFault.Empty) ↔ (plan.now ≡ []) }
         ensures rows { IfOk result (λ driver. IsAscending plan.now driver.rows) }
@@ -144,7 +145,8 @@ impl Driver {
     fn draw_next(&mut self) -> Request
         requires { self.old.given < MOST_RECORDS }
         ensures value { result ≡ request_at self.old.rows self.old.seed self.old.given }
-        ensures of_plan { IsOfPlan self.old.rows (is_home self.old.rows (x_at self.old.seed self.old.given)) result }
+        ensures of_plan { IsOfPlan self.old.rows (is_home self.old.rows (x_at self.old.seed self.old.given))
+            result }
         ensures goes_on { self.new ≡ record self.old { given = self.old.given + 1 } }
     {
         let words = take_words(&mut self.words);
@@ -155,19 +157,20 @@ impl Driver {
         request_by(self.rows.as_slice(), place, words, number)
     }
 
-    /// The 100 bytes of the next request, none after the first [`MOST_RECORDS`]. It names a teller of the
-    /// plan, that teller's branch and an account of the plan, and
-    /// [`decode_request`](message_records::decode_request) reads it.
+    /// The 100 bytes of the next request; none after the first `MOST_RECORDS`. It takes no memory.
+    #[must_use]
     pub fn next(&mut self) -> Option<[u8; 100]>
         ensures bytes { self.old.given < MOST_RECORDS →
             result ≡ Some (request_spelling (request_at self.old.rows self.old.seed self.old.given)) }
         ensures of_plan { self.old.given < MOST_RECORDS →
             IsOfPlan self.old.rows (is_home self.old.rows (x_at self.old.seed self.old.given))
             (request_at self.old.rows self.old.seed self.old.given) }
-        ensures goes_on { self.old.given < MOST_RECORDS → self.new ≡ record self.old { given = self.old.given + 1 } }
+        ensures goes_on { self.old.given < MOST_RECORDS
+            → self.new ≡ record self.old { given = self.old.given + 1 } }
 
         // The bytes are read as the request again.
-        ensures read_again { IfSome result (λ bytes. request_of bytes ≡ Ok (request_at self.old.rows self.old.seed self.old.given)) }
+        ensures read_again { IfSome result
+            (λ bytes. request_of bytes ≡ Ok (request_at self.old.rows self.old.seed self.old.given)) }
 
         ensures ended { MOST_RECORDS ≤ self.old.given → result ≡ None }
         ensures stays { MOST_RECORDS ≤ self.old.given → self.new ≡ self.old }

@@ -1,21 +1,17 @@
 -- The texts of the faults of records.
-use Rattle.std.specs.Prelude.{ℕ, List, ◌++◌, codes}
+use Rattle.std.specs.Prelude.{ℕ, List, codes}
 use Rattle.message_records.specs.declared.faults.BadReply.{BadReply}
 use Rattle.message_records.specs.declared.faults.BadReply.TheVariants.{Tag, Outcome, Account, Teller, Branch}
 use Rattle.message_records.specs.declared.faults.BadReply.TheVariants.{Number, Delta, Balance, Name, Filler}
 
--- the name of the faulty field
-abbrev pub field_of : BadReply → List ℕ
-field_of Tag = codes "tag"
-field_of Outcome = codes "outcome"
-field_of Account = codes "account"
-field_of Teller = codes "teller"
-field_of Branch = codes "branch"
-field_of Number = codes "number"
-field_of Delta = codes "delta"
-field_of Balance = codes "balance"
-field_of Name = codes "name"
-field_of Filler = codes "filler"
-
 abbrev pub fault_text : BadReply → List ℕ
-fault_text fault = codes "faulty " ++ field_of fault
+fault_text Tag = codes "faulty tag"
+fault_text Outcome = codes "faulty outcome"
+fault_text Account = codes "faulty account"
+fault_text Teller = codes "faulty teller"
+fault_text Branch = codes "faulty branch"
+fault_text Number = codes "faulty number"
+fault_text Delta = codes "faulty delta"
+fault_text Balance = codes "faulty balance"
+fault_text Name = codes "faulty name"
+fault_text Filler = codes "faulty filler"

@@ -1,6 +1,6 @@
 //! Which field of a record is faulty.
 ghost use Rattle.std.specs.Prelude.{◌≡◌};
-ghost use Rattle.message_records.specs.Faults.{fault_text, field_of};
+ghost use Rattle.message_records.specs.Faults.{fault_text};
 
 use std::fmt;
 
@@ -49,27 +49,6 @@ pub enum BadReply {
     Filler,
 }
 
-impl BadReply {
-    /// The field's name, as the text of the fault has it.
-    #[must_use]
-    pub fn field(self) -> &'static str
-        ensures { result.now ≡ field_of self }
-    {
-        match self {
-            BadReply::Tag => "tag",
-            BadReply::Outcome => "outcome",
-            BadReply::Account => "account",
-            BadReply::Teller => "teller",
-            BadReply::Branch => "branch",
-            BadReply::Number => "number",
-            BadReply::Delta => "delta",
-            BadReply::Balance => "balance",
-            BadReply::Name => "name",
-            BadReply::Filler => "filler",
-        }
-    }
-}
-
 /// The word `faulty`, and the field's name.
 impl fmt::Display for BadReply {
     ghost use Rattle.std.specs.Prelude.{Some};
@@ -77,8 +56,18 @@ impl fmt::Display for BadReply {
     ghost output = { λ fault. Some (fault_text fault) };
 
     fn fmt<W: fmt::Write>(&self, f: &mut fmt::Formatter<W>) -> fmt::Result {
-        let field = self.field();
-        write!(f, "faulty {field}")
+        match self {
+            BadReply::Tag => write!(f, "faulty tag"),
+            BadReply::Outcome => write!(f, "faulty outcome"),
+            BadReply::Account => write!(f, "faulty account"),
+            BadReply::Teller => write!(f, "faulty teller"),
+            BadReply::Branch => write!(f, "faulty branch"),
+            BadReply::Number => write!(f, "faulty number"),
+            BadReply::Delta => write!(f, "faulty delta"),
+            BadReply::Balance => write!(f, "faulty balance"),
+            BadReply::Name => write!(f, "faulty name"),
+            BadReply::Filler => write!(f, "faulty filler"),
+        }
     }
 }
 

@@ -75,7 +75,6 @@ impl Request {
     }
 
     /// The account that the amount is to be added to. It may be one of another branch.
-    #[must_use]
     pub fn account(&self) -> Account
         ensures { result ≡ self.now.account }
     {
@@ -83,7 +82,6 @@ impl Request {
     }
 
     /// The teller that asks.
-    #[must_use]
     pub fn teller(&self) -> Teller
         ensures { result ≡ self.now.teller }
     {
@@ -91,7 +89,6 @@ impl Request {
     }
 
     /// The branch that the request states: the teller's, unless it is to be refused.
-    #[must_use]
     pub fn branch(&self) -> Branch
         ensures { result ≡ self.now.branch }
     {
@@ -99,7 +96,6 @@ impl Request {
     }
 
     /// The teller's own number for the request.
-    #[must_use]
     pub fn number(&self) -> Number
         ensures { result ≡ self.now.number }
     {
@@ -107,7 +103,6 @@ impl Request {
     }
 
     /// What is to be added, in cents, within `MAX_DELTA` of zero. Below zero it is taken from the account.
-    #[must_use]
     pub fn delta(&self) -> Cents
         ensures value { result ≡ self.now.delta }
         ensures limit { nat_abs result ≤ MAX_DELTA }
@@ -238,7 +233,6 @@ impl Reply {
     }
 
     /// What became of the request.
-    #[must_use]
     pub fn outcome(&self) -> Outcome
         ensures { result ≡ self.now.outcome }
     {
@@ -246,7 +240,6 @@ impl Reply {
     }
 
     /// The request; none where the bytes that came in were none.
-    #[must_use]
     pub fn request(&self) -> Option<Request>
         ensures { result ≡ self.now.request }
     {
@@ -254,7 +247,6 @@ impl Reply {
     }
 
     /// The account's new balance, where the request was posted.
-    #[must_use]
     pub fn balance(&self) -> Option<Cents>
         ensures { result ≡ self.now.balance }
     {

@@ -1,5 +1,5 @@
 -- What is posted names what is open, and goes on to name it where branches are opened.
-use Rattle.std.proofs.Common.{◌≡◌, ℕ, Bool, true, false, cond, eqb, leb, List, [], ◌∷◌, Option, Some, None}
+use Rattle.std.proofs.Common.{ap, ◌∙◌, ◌≡◌, ℕ, Bool, true, false, cond, eqb, leb, List, [], ◌∷◌, Option, Some, None}
 use Rattle.std.proofs.Common.{Result, Ok, Err, refl}
 use Rattle.std.specs.Prelude.{is_some, ◌&&◌}
 use Rattle.std.specs.List.{AllByRecursion}
@@ -91,3 +91,11 @@ all_name_open [] = tt
 all_name_open (Open b count ∷ log) = all_stay (λ x. opened log x) b count (decided log) (all_name_open log)
 all_name_open (Post m bytes ∷ log) = all_record (λ b. opened log b) (decided log) m (request_of bytes)
     (all_name_open log)
+
+-- the branch of a teller that is open is open
+pub open_home : (opened : ℕ → Option ℕ) (e : Entry) → NamesOpen opened e → is_posted e ≡ true
+    → is_some (opened e.request.branch) ≡ true
+open_home opened e named p =
+    ap (λ (b : ℕ). is_some (opened b)) (named.branch p)
+    ∙ (both (leb 1 e.request.teller) (is_some (opened (branch_of_teller e.request.teller)))
+    (named.teller p)).1

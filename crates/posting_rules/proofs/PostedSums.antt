@@ -14,7 +14,7 @@ use Rattle.posting_rules.specs.Tables.{branch_row_of, teller_row_of, account_row
 use Rattle.posting_rules.specs.LookUps.{balance_of_branch, balance_of_teller, balance_of_account}
 use Rattle.posting_rules.specs.Laws.{total}
 use Rattle.posting_rules.proofs.Keyed.{by_test}
-use Rattle.posting_rules.proofs.NamedOpen.{AllNameOpen, both}
+use Rattle.posting_rules.proofs.NamedOpen.{AllNameOpen, NamesOpen, open_home}
 use Rattle.posting_rules.proofs.Totals.{sum_where, HaveRows, spread, values_are, each_under_its_key}
 use Rattle.posting_rules.proofs.Totals.{all_follow}
 
@@ -116,49 +116,34 @@ mapped_is : {A B : Type 0} (f : A → B) (o : Option A) → is_some o ≡ true �
 mapped_is f (Some x) e = refl
 mapped_is f None e = absurd cc
 
+-- each posting names a number under which there is a row
+rows_have : {R : Type 0} (key : R → ℕ) (rows : List R) (name : RequestFields → ℕ) (es : List Entry)
+    → AllByRecursion (λ e. is_posted e ≡ true → is_some (row_at key rows (name e.request)) ≡ true) es
+    → HaveRows key rows (posted_under name es)
+rows_have key rows name [] h = tt
+rows_have key rows name (e ∷ es) h =
+    elim (by_test (is_posted e)) [
+      | inl p ↦ rw p (h.0 p, rows_have key rows name es h.1)
+      | inr f ↦ rw f (rows_have key rows name es h.1)
+    ]
+
 pub tellers_have : (t : Tables) (opened : ℕ → Option ℕ) (all es : List Entry) → HasRows t opened all
     → AllNameOpen opened es → HaveRows teller_key t.tellers (posted_under (λ r. r.teller) es)
-tellers_have t opened all [] s h = tt
-tellers_have t opened all (e ∷ es) s h =
-    elim (by_test (is_posted e)) [
-      | inl p ↦ rw p (
-        ap is_some (s.tellers e.request.teller) ∙
-            some_is (is_teller_open opened e.request.teller) (teller_row_of e.request.teller
-            (teller_balance all e.request.teller)) (h.0.teller p),
-        tellers_have t opened all es s h.1,
-      )
-      | inr f ↦ rw f (tellers_have t opened all es s h.1)
-    ]
+tellers_have t opened all es s h =
+    rows_have teller_key t.tellers (λ r. r.teller) es (all_follow (NamesOpen opened) _ es
+    (λ e named p. let n = e.request.teller in ap is_some (s.tellers n)
+    ∙ some_is (is_teller_open opened n) (teller_row_of n (teller_balance all n)) (named.teller p)) h)
 
 pub accounts_have : (t : Tables) (opened : ℕ → Option ℕ) (all es : List Entry) → HasRows t opened all
     → AllNameOpen opened es → HaveRows account_key t.accounts (posted_under (λ r. r.account) es)
-accounts_have t opened all [] s h = tt
-accounts_have t opened all (e ∷ es) s h =
-    elim (by_test (is_posted e)) [
-      | inl p ↦ rw p (
-        ap is_some (s.accounts e.request.account) ∙
-            some_is (is_account_open opened e.request.account) (account_row_of e.request.account
-            (account_balance all e.request.account)) (h.0.account p),
-        accounts_have t opened all es s h.1,
-      )
-      | inr f ↦ rw f (accounts_have t opened all es s h.1)
-    ]
+accounts_have t opened all es s h =
+    rows_have account_key t.accounts (λ r. r.account) es (all_follow (NamesOpen opened) _ es
+    (λ e named p. let n = e.request.account in ap is_some (s.accounts n)
+    ∙ some_is (is_account_open opened n) (account_row_of n (account_balance all n)) (named.account p)) h)
 
 pub branches_have : (t : Tables) (opened : ℕ → Option ℕ) (all es : List Entry) → HasRows t opened all
     → AllNameOpen opened es → HaveRows branch_key t.branches (posted_under (λ r. r.branch) es)
-branches_have t opened all [] s h = tt
-branches_have t opened all (e ∷ es) s h =
-    elim (by_test (is_posted e)) [
-      | inl p ↦
-          let home : is_some (opened e.request.branch) ≡ true =
-          ap (λ (b : ℕ). is_some (opened b)) (h.0.branch p)
-          ∙ (both (leb 1 e.request.teller) (is_some (opened (branch_of_teller e.request.teller)))
-          (h.0.teller p)).1 in
-          rw p (
-            ap is_some (s.branches e.request.branch) ∙
-                mapped_is (branch_row_of e.request.branch (branch_balance all e.request.branch))
-                (opened e.request.branch) home,
-            branches_have t opened all es s h.1,
-          )
-      | inr f ↦ rw f (branches_have t opened all es s h.1)
-    ]
+branches_have t opened all es s h =
+    rows_have branch_key t.branches (λ r. r.branch) es (all_follow (NamesOpen opened) _ es
+    (λ e named p. let n = e.request.branch in ap is_some (s.branches n)
+    ∙ mapped_is (branch_row_of n (branch_balance all n)) (opened n) (open_home opened e named p)) h)

@@ -36,7 +36,8 @@ pub record IsKnown (opened : ℕ → Option ℕ) (es : List Entry) (r : RequestF
   pub is_reply : out ≡ reply_in (known_verdict fields r) r
 
 -- no more requests are decided
-pub record IsFull (opened : ℕ → Option ℕ) (es : List Entry) (r : RequestFields) (out : ReplyFields) : Type 0 where
+pub record IsFull (opened : ℕ → Option ℕ) (es : List Entry) (r : RequestFields)
+    (out : ReplyFields) : Type 0 where
   pub teller : is_teller_open opened r.teller ≡ true
   pub none : kept es r.teller r.number ≡ None
   pub full : leb MAX_DECIDED (length es) ≡ true

@@ -78,7 +78,6 @@ impl Kept {
     }
 
     /// The account that the request named.
-    #[must_use]
     pub fn account(&self) -> Account
         ensures { result ≡ self.now.account }
     {
@@ -86,7 +85,6 @@ impl Kept {
     }
 
     /// The branch that the request stated.
-    #[must_use]
     pub fn branch(&self) -> Branch
         ensures { result ≡ self.now.branch }
     {
@@ -94,7 +92,6 @@ impl Kept {
     }
 
     /// The amount of the request, in cents.
-    #[must_use]
     pub fn delta(&self) -> Cents
         ensures { result ≡ self.now.delta }
     {
@@ -102,7 +99,6 @@ impl Kept {
     }
 
     /// What became of it.
-    #[must_use]
     pub fn outcome(&self) -> Outcome
         ensures value { result ≡ self.now.outcome }
         ensures belongs { IsTrue (is_kept_with self.now.outcome self.now.balance) }
@@ -111,7 +107,6 @@ impl Kept {
     }
 
     /// The account's balance in cents behind the posting, and zero where there was none.
-    #[must_use]
     pub fn balance(&self) -> Cents
         ensures { result ≡ self.now.balance }
     {

@@ -31,7 +31,8 @@ returns-in_err-posted-clause-submits g c =
     (g.K.Clock.readings c.args.clock.now)
     (g.K.Clock.readings c.loop-left.clock) (g.K.Clock.readings c.submit_batch.new.clock) c.args.driver.now
     driver c.args.count
-    c.loop-left.left size a.0 records c.loop-left.driven c.loop-left.invariant.going part.is part.long part.some
+    c.loop-left.left size a.0 records c.loop-left.driven c.loop-left.invariant.going part.is part.long
+    part.some
     part.few part.within a.1
     c.in_err-posted.ensures.honest c.in_err-posted.field-0.0 a.2)
 
@@ -63,7 +64,8 @@ loop-left-preserved g c =
           (g.K.Clock.readings c.args.clock.now)
           (g.K.Clock.readings c.loop-left.clock) (g.K.Clock.readings c.submit_batch.new.clock)
           c.args.driver.now driver c.args.count
-          c.loop-left.left size a.0 records c.loop-left.driven c.loop-left.invariant.going part.is part.long part.some
+          c.loop-left.left size a.0 records c.loop-left.driven c.loop-left.invariant.going part.is part.long
+          part.some
           part.few part.within a.1
           c.in_ok-posted.ensures.honest c.in_ok-posted.posted c.submit_batch.new.driver _ goes_on refl refl
           part.full a.2

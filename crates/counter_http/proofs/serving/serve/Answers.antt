@@ -56,7 +56,8 @@ returns-in-Ok-eq0-clause-served g c =
 pub returns-in-Ok-eq0-2-clause-served : goal.returns-in-Ok-eq0-2-clause-served
 returns-in-Ok-eq0-2-clause-served g c =
     let short =
-    short_read c.reads.buffer c.fill.new.buffer c.reads.filled c.in-Ok-eq0.field-0 c.fill.result c.reads.invariant.going
+    short_read c.reads.buffer c.fill.new.buffer c.reads.filled c.in-Ok-eq0.field-0 c.fill.result
+    c.reads.invariant.going
     c.in-Ok-eq0.is c.in-Ok-eq0.field-0-test c.fill.ensures.ok c.fill.ensures.end c.reads.invariant.made
     c.fill.ensures.tells (omega (arith, c.if-filled-eq0.false))
     (omega (arith, c.reads.invariant.few, c.reads.invariant.room)) (omega (arith, c.fill.auto.buffer))
@@ -68,7 +69,8 @@ returns-in-Ok-eq0-2-clause-served g c =
 pub returns-in_err-refuse-in-Ok-eq0-2-clause-served : goal.returns-in_err-refuse-in-Ok-eq0-2-clause-served
 returns-in_err-refuse-in-Ok-eq0-2-clause-served g c =
     let short =
-    short_read c.reads.buffer c.fill.new.buffer c.reads.filled c.in-Ok-eq0.field-0 c.fill.result c.reads.invariant.going
+    short_read c.reads.buffer c.fill.new.buffer c.reads.filled c.in-Ok-eq0.field-0 c.fill.result
+    c.reads.invariant.going
     c.in-Ok-eq0.is c.in-Ok-eq0.field-0-test c.fill.ensures.ok c.fill.ensures.end c.reads.invariant.made
     c.fill.ensures.tells (omega (arith, c.if-filled-eq0.false))
     (omega (arith, c.reads.invariant.few, c.reads.invariant.room)) (omega (arith, c.fill.auto.buffer))

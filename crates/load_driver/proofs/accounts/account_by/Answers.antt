@@ -40,4 +40,5 @@ returns-else-rows-eq1-clause-of_plan c =
     let within : c.draw-place.result < count_of (others c.args.home.0 rows) =
     omega (arith, c.draw-place.ensures.below, c.count_of.ensures, c.from-accounts.ensures) in
     rw c.remote_account.ensures
-    (remote-for rows c.args.home (is_home rows (draw c.args.choice 100)) c.draw-place.result c.requires.plan away within)
+    (remote-for rows c.args.home (is_home rows (draw c.args.choice 100)) c.draw-place.result c.requires.plan
+    away within)

@@ -8,7 +8,8 @@ returns-then-left-accounts c =
     let ne = rw (c.get-in-loop-row.ensures.value, c.get.ensures.value) at c.if-get.true in
     let lt : c.loop-row.left < c.row-item.result.1 = omega arith in
     rw c.first_account.ensures.value
-    (sym (go-other c.args.rows.now c.loop-row.row-index c.row-item.result c.args.branch c.args.place c.loop-row.left (omega arith)
+    (sym (go-other c.args.rows.now c.loop-row.row-index c.row-item.result c.args.branch c.args.place
+    c.loop-row.left (omega arith)
     c.row-item.is ne lt c.loop-row.invariant))
 
 pub loop-row-preserved : goal.loop-row-preserved
@@ -17,10 +18,12 @@ loop-row-preserved c = elim c.if-get.branch [
       let ne = rw (c.get-in-loop-row.ensures.value, c.get.ensures.value) at w.if-get.true in
       let le : c.row-item.result.1 ≤ c.loop-row.left = omega arith in
       rw (w.left-is, c.from-accounts.ensures)
-      (go-behind c.args.rows.now c.loop-row.row-index c.row-item.result c.args.branch c.args.place c.loop-row.left (omega arith)
+      (go-behind c.args.rows.now c.loop-row.row-index c.row-item.result c.args.branch c.args.place
+      c.loop-row.left (omega arith)
       c.row-item.is ne le c.loop-row.invariant)
   | else-get w ↦
       let eq = rw (c.get-in-loop-row.ensures.value, c.get.ensures.value) at w.if-get.false in
-      rw w.left-is (go-home c.args.rows.now c.loop-row.row-index c.row-item.result c.args.branch c.args.place c.loop-row.left (omega arith)
+      rw w.left-is (go-home c.args.rows.now c.loop-row.row-index c.row-item.result c.args.branch c.args.place
+      c.loop-row.left (omega arith)
       c.row-item.is eq c.loop-row.invariant)
 ]

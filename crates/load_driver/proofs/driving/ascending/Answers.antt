@@ -24,21 +24,31 @@ rising : (ys : Rows) → IsNonDecreasingBy (λ p. p.0) ys → IsNonDecreasing (m
 rising ys h i j d le lt =
     let within : j < length ys = rw length-map at lt in
     let before : i < length ys = omega arith in
-    rw (get_or-map (λ (q : Row). q.0) ys i (d, 0) d before, get_or-map (λ (q : Row). q.0) ys j (d, 0) d within) (h i j (d, 0) le within)
+    rw (
+      get_or-map (λ (q : Row). q.0) ys i (d, 0) d before,
+      get_or-map (λ (q : Row). q.0) ys j (d, 0) d within,
+    ) (h i j (d, 0) le within)
 
 sorted : (xs ys : Rows) → IsPermutation xs ys → IsPlan xs → IsNonDecreasingBy (λ p. p.0) ys
     → IsAscending xs ys
 sorted xs ys same plan sorted_by =
     let plan_ys = moved xs ys same plan in
-    record { same = same; rising = IsStrictlyIncreasing-from_distinct _ (rising ys sorted_by) plan_ys.distinct }
+    record {
+      same = same;
+      rising = IsStrictlyIncreasing-from_distinct _ (rising ys sorted_by)
+          plan_ys.distinct;
+    }
 
 pub returns-clause-plan : goal.returns-clause-plan
 returns-clause-plan c =
     moved c.args.rows.now _
-    (let e : c.in_ok-rows.rows.items ≡ c.args.rows.now = search rules in rw e at c.sort_unstable_by_key.ensures.permutation) c.requires
+    (let e : c.in_ok-rows.rows.items ≡ c.args.rows.now = search rules in
+    rw e at c.sort_unstable_by_key.ensures.permutation) c.requires
 
 pub returns-clause-ascending : goal.returns-clause-ascending
 returns-clause-ascending c =
     sorted c.args.rows.now c.sort_unstable_by_key.new.self.items
-    (let e : c.in_ok-rows.rows.items ≡ c.args.rows.now = search rules in rw e at c.sort_unstable_by_key.ensures.permutation) c.requires
-    (IsNonDecreasingBy-from_sort_by_key (λ (p : Row). p.0) _ c.sort_unstable_by_key.ensures.sorted (λ a r q k. search rules))
+    (let e : c.in_ok-rows.rows.items ≡ c.args.rows.now = search rules in
+    rw e at c.sort_unstable_by_key.ensures.permutation) c.requires
+    (IsNonDecreasingBy-from_sort_by_key (λ (p : Row). p.0) _ c.sort_unstable_by_key.ensures.sorted
+    (λ a r q k. search rules))

@@ -70,6 +70,7 @@ pub returns-in-Ok-eq0 : goal.returns-in-Ok-eq0
 returns-in-Ok-eq0 g c =
     let n = c.in-Ok-eq0.field-0 in
     let none : c.in-Ok-eq0.field-0 ≡ 0 = c.in-Ok-eq0.field-0-test in
+    let ended = read_ended c.fill.result n c.reads.invariant.made c.fill.ensures.tells c.in-Ok-eq0.is none in
     let empty : c.reads.filled ≡ 0 = c.if-filled-eq0.true in
     let s =
     end_whole (take c.reads.filled c.fill.new.buffer)
@@ -83,16 +84,14 @@ returns-in-Ok-eq0 g c =
       resend = resends_of _ s;
       refused = tt;
       up = λ down. (c.reads.invariant.up down).0;
-      ends = (
-        read_ended c.fill.result n c.reads.invariant.made c.fill.ensures.tells c.in-Ok-eq0.is none,
-        c.reads.invariant.through,
-      );
+      ends = (ended, c.reads.invariant.through);
     }
 
 pub returns-in-Ok-eq0-2 : goal.returns-in-Ok-eq0-2
 returns-in-Ok-eq0-2 g c =
     let n = c.in-Ok-eq0.field-0 in
     let none : c.in-Ok-eq0.field-0 ≡ 0 = c.in-Ok-eq0.field-0-test in
+    let ended = read_ended c.fill.result n c.reads.invariant.made c.fill.ensures.tells c.in-Ok-eq0.is none in
     let within : c.reads.filled ≤ length c.fill.new.buffer = omega
     (arith, c.reads.invariant.few, c.fill.auto.buffer, c.reads.invariant.room) in
     let s =
@@ -108,10 +107,7 @@ returns-in-Ok-eq0-2 g c =
       resend = resends_of _ s;
       refused = tt;
       up = λ down. (c.reads.invariant.up down).0;
-      ends = (
-        read_ended c.fill.result n c.reads.invariant.made c.fill.ensures.tells c.in-Ok-eq0.is none,
-        c.reads.invariant.through,
-      );
+      ends = (ended, c.reads.invariant.through);
     }
 
 -- a batch broke off

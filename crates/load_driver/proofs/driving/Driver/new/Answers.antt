@@ -25,7 +25,8 @@ invariant_of-result c =
       within = omega arith;
       words_at = c.words_of.ensures;
       counts_at = record {
-        len = rw items (length-replicate (TELLERS_PER_BRANCH * c.len.result) 0 ∙ ap (λ (n : ℕ). TELLERS_PER_BRANCH * n) many);
+        len = rw items (length-replicate (TELLERS_PER_BRANCH * c.len.result) 0
+            ∙ ap (λ (n : ℕ). TELLERS_PER_BRANCH * n) many);
         of_each = λ place small. rw items
             (get_or-replicate (TELLERS_PER_BRANCH * c.len.result) place 0 0 (omega arith));
       };

@@ -1,5 +1,16 @@
-use Rattle.std.proofs.Common.{rules}
+use Rattle.std.proofs.Common.{List, ap, ◌∙◌}
+use Rattle.std.specs.Option.{option_map}
+use Rattle.posting_rules.specs.declared.rows.AccountRow.{AccountRow}
+use Rattle.posting_rules.specs.LookUps.{account_balance_in, balance_of_account}
+use Rattle.posting_rules.specs.Tables.{account_key, row_at}
+use Rattle.posting_rules.proofs.Looked.{balance_shown}
+use Rattle.posting_core.specs.Plain.{plain_tables}
 use Rattle.posting_core.proofs.plain_bank.PlainBankCounter.balance.Goals as goal
 
 pub returns-clause-value : goal.returns-clause-value
-returns-clause-value c = search rules
+returns-clause-value c log shows =
+    let t = plain_tables c.args.self.now in
+    c.balance_at.ensures
+    ∙ ap (λ (rows : List AccountRow). option_map balance_of_account (row_at account_key rows c.get.result))
+    c.deref.ensures.value
+    ∙ ap (account_balance_in t) c.get.ensures.value ∙ balance_shown t log c.args.account shows
