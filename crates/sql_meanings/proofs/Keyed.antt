@@ -41,33 +41,42 @@ pub record Gets (table : Table) (text : List ℕ) (places : List ℕ) (terms : L
   pub is : IsSelect table text 1 places
   pub reads : (k : ℤ) → ReadsAs table text (Int k ∷ []) (λ tree. by_key tree terms)
 
-pub gets_by : {table : Table} {text places : List ℕ} (is : IsSelect table text 1 places) (terms : List Term) (test a b : Expr) (key : List ℕ)
+pub gets_by : {table : Table} {text places : List ℕ} (is : IsSelect table text 1 places) (terms : List Term)
+    (test a b : Expr) (key : List ℕ)
     → IsFirst table key → is.order ≡ [] → is.limit ≡ None → is.filter ≡ Some test
-    → out-Expr test ≡ Expr-F.Binary binary.Eq a b → out-Expr a ≡ Expr-F.Column None key → out-Expr b ≡ Expr-F.Parameter 1
+    → out-Expr test ≡ Expr-F.Binary binary.Eq a b → out-Expr a ≡ Expr-F.Column None key → out-Expr b
+    ≡ Expr-F.Parameter 1
     → ((schema : Schema) (p tree : ℕ) → HasTable schema table.name p (placed_at table tree)
-    → program.program schema [] (ungrouped (Inner tree ∷ []) key_is (outputs_at (placed_at table tree) places) false [] no_limit (number 0))
+    → program.program schema [] (ungrouped (Inner tree ∷ []) key_is (outputs_at (placed_at table tree) places)
+    false [] no_limit (number 0))
     ≡ Ok (record { lets = []; body = by_key tree terms }))
     → ((k : ℤ) (schema : Schema) (p tree : ℕ) → HasTable schema table.name p (placed_at table tree)
     → accepts_program schema [] (by_key tree terms) (Int k ∷ []) ≡ true)
     → Gets table text places terms
-gets_by {table = table} {text = text} {places = places} is terms test a b key first unordered unlimited filtered equal left right typed accepts =
+gets_by {table = table} {text = text} {places = places} is terms test a b key first unordered unlimited
+    filtered equal left right typed accepts =
     record {
       is = is;
-      reads = λ k. reads_by table text places is terms test a b key first unordered unlimited filtered equal left right typed k (accepts k);
+      reads = λ k. reads_by table text places is terms test a b key first unordered unlimited filtered equal
+          left right typed k (accepts k);
     }
 
 -- ---- UPDATE table SET column = ?2 WHERE key = ?1
 
-pub sets_by : (table : Table) (text : List ℕ) (change : ℤ → Entry → Entry) (project : List Term) (k v : ℤ) (P : Parsed)
+pub sets_by : (table : Table) (text : List ℕ) (change : ℤ → Entry → Entry) (project : List Term) (k v : ℤ)
+    (P : Parsed)
     (key wanted : List ℕ) (e test a b : Expr) (places : List ℕ) → IsFirst table key
-    → first text ≡ Ok P → P.statement ≡ written.Update table.name ((wanted, e) ∷ []) (Some test) [] → P.formats ≡ []
+    → first text ≡ Ok P → P.statement ≡ written.Update table.name ((wanted, e) ∷ []) (Some test) []
+    → P.formats ≡ []
     → length text ≤ P.tail → 2 ≡ length P.names
-    → out-Expr e ≡ Expr-F.Parameter 2 → out-Expr test ≡ Expr-F.Binary binary.Eq a b → out-Expr a ≡ Expr-F.Column None key
+    → out-Expr e ≡ Expr-F.Parameter 2 → out-Expr test ≡ Expr-F.Binary binary.Eq a b → out-Expr a
+    ≡ Expr-F.Column None key
     → out-Expr b ≡ Expr-F.Parameter 1
     → ((tree : ℕ) → write.with_place (placed_at table tree) [] wanted ≡ Ok places)
     → ((tree : ℕ) → write.row (placed_at table tree) None places (col 1 0 ∷ []) (col 0 1 ∷ []) ≡ Ok project)
     → ((schema : Schema) (p tree : ℕ) → HasTable schema table.name p (placed_at table tree)
-    → program.program schema [] (write.simple (Inner tree ∷ []) (op2 (Compare Eq Binary) (col 1 0) (col 0 0) ∷ []) project)
+    → program.program schema [] (write.simple (Inner tree ∷ [])
+    (op2 (Compare Eq Binary) (col 1 0) (col 0 0) ∷ []) project)
     ≡ Ok (record { lets = []; body = by_key tree project }))
     → ((schema : Schema) (p tree : ℕ) → HasTable schema table.name p (placed_at table tree)
     → accepts_program schema [] (by_key tree project) (Int k ∷ Int v ∷ []) ≡ true)
@@ -75,12 +84,15 @@ pub sets_by : (table : Table) (text : List ℕ) (change : ℤ → Entry → Entr
     → eval_all project ((Int k ∷ Int v ∷ []) ∷ stored e ∷ []) ≡ Int e.key ∷ stored (change v e))
     → ((e : Entry) → (change v e).key ≡ e.key)
     → ((e : Entry) → length e.values ≡ width_of table → length (change v e).values ≡ width_of table)
-    → ((e : Entry) → length e.values ≡ width_of table → e.key ≡ k → passes_checks table (stored (change v e)) ≡ true)
+    → ((e : Entry) → length e.values ≡ width_of table → e.key ≡ k → passes_checks table (stored (change v e))
+    ≡ true)
     → ChangesAs table text k (Int v ∷ []) (change v)
-sets_by table text change project k v P key wanted e test a b places tests parsed is plain whole given value equal left right place row typed
+sets_by table text change project k v P key wanted e test a b places tests parsed is plain whole given value
+    equal left right place row typed
     accepts projects keeps_key keeps_width passes = record {
       project = project;
-      means = λ schema p tree has. means schema text 2 _ _ (update_by_key schema table.name p (placed_at table tree) has text P wanted key e test a b 2 1 0
+      means = λ schema p tree has. means schema text 2 _ _
+          (update_by_key schema table.name p (placed_at table tree) has text P wanted key e test a b 2 1 0
           places project (tests tree) _ parsed is plain value equal left right (place tree) (row tree)
           (key_at schema table.name p [] false) (typed schema p tree has)) refl whole given refl refl;
       projects = projects;

@@ -35,7 +35,8 @@ pub fn set_account_balance<S: Alter>(
     balance: Cents,
 ) -> Result<bool, Error>
     ensures { SetsNumber S.Store tx.old tx.new table text.now
-        (λ tables. is_some (row_at account_key tables.accounts account)) (with_account_balance account balance) result }
+        (λ tables. is_some (row_at account_key tables.accounts account))
+        (with_account_balance account balance) result }
 {
     write_balance(tx, SET_ACCOUNT, account.get(), balance)
 }

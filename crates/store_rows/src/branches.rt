@@ -62,7 +62,8 @@ pub fn set_branch_balance<S: Alter>(
     balance: Cents,
 ) -> Result<bool, Error>
     ensures { SetsNumber S.Store tx.old tx.new table text.now
-        (λ tables. is_some (row_at branch_key tables.branches branch)) (with_branch_balance branch balance) result }
+        (λ tables. is_some (row_at branch_key tables.branches branch))
+        (with_branch_balance branch balance) result }
 {
     write_balance(tx, SET_BRANCH, branch.get(), balance)
 }

@@ -35,7 +35,8 @@ pub fn set_teller_balance<S: Alter>(
     balance: Cents,
 ) -> Result<bool, Error>
     ensures { SetsNumber S.Store tx.old tx.new table text.now
-        (λ tables. is_some (row_at teller_key tables.tellers teller)) (with_teller_balance teller balance) result }
+        (λ tables. is_some (row_at teller_key tables.tellers teller))
+        (with_teller_balance teller balance) result }
 {
     write_balance(tx, SET_TELLER, teller.get(), balance)
 }
