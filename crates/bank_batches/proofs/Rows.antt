@@ -1,6 +1,8 @@
 -- What one slot writes.
-use Rattle.std.proofs.Common.{◌≡◌, ℕ, List, [], ◌∷◌, Option, Result, Some, None, refl, sym, ap, subst}
+use Rattle.std.proofs.Common.{◌≡◌, ℕ, List, [], ◌∷◌, Option, Result, Some, None, Ok, refl, sym, ap, subst}
 use Rattle.std.specs.Prelude.{ℤ, is_some, IfSome}
+use Rattle.sqlite.specs.Held.{state}
+use Rattle.sqlite.specs.State.{Survives}
 use Rattle.sqlite.specs.Table.{Table}
 use Rattle.sqlite.specs.declared.transaction.Transaction.{Transaction}
 use Rattle.sqlite_trees.specs.declared.store.Store.{Ghosts}
@@ -15,17 +17,17 @@ use Rattle.store_rows.specs.Failures.{Puts}
 use Rattle.store_rows.specs.Outcomes.{Adds}
 use Rattle.store_rows.specs.declared.faults.TableFault.{TableFault}
 use Rattle.bank_transactions.specs.Doing.{Does}
-use Rattle.bank_transactions.proofs.Chained.{does_add, does_for}
-use Rattle.posting_rules.specs.declared.rows.BranchRow.{BranchRow}
-use Rattle.posting_rules.specs.declared.rows.TellerRow.{TellerRow}
-use Rattle.posting_rules.specs.declared.rows.AccountRow.{AccountRow}
-use Rattle.posting_rules.specs.Changes.{with_branch_balance, with_teller_balance, with_account_balance}
+use Rattle.bank_transactions.specs.Holders.{HasRow, with_balance}
+use Rattle.bank_transactions.specs.declared.balances.Holder.{Holder}
+use Rattle.bank_transactions.specs.declared.balances.Holder.TheVariants.{Account, Teller, Branch}
+use Rattle.bank_transactions.proofs.Chained.{does_add, does_for, does_none}
+use Rattle.posting_rules.specs.Changes.{row_changed, with_branch_balance, with_teller_balance, with_account_balance}
 use Rattle.posting_rules.specs.Steps as steps
 use Rattle.posting_rules.specs.Tables.{Tables, row_at, branch_key, teller_key, account_key}
 use Rattle.posting_batch.specs.declared.slots.AccountSlot.{AccountSlot}
 use Rattle.posting_batch.specs.declared.slots.TellerSlot.{TellerSlot}
 use Rattle.posting_batch.specs.declared.slots.BranchSlot.{BranchSlot}
-use Rattle.posting_batch.specs.Overlay.{accounts_over, tellers_over, branches_over}
+use Rattle.posting_batch.specs.Overlay.{changed_to, over, accounts_over, tellers_over, branches_over}
 use Rattle.posting_batch.specs.Slots.{account_slot_key, teller_slot_key, branch_slot_key}
 use Rattle.posting_batch.proofs.NewRows.{account_same, teller_same, branch_same}
 use Rattle.posting_batch.proofs.Written.{over_changed, over_unchanged}
@@ -56,41 +58,61 @@ pub request_put : (row : RequestRow) (t : Tables) → with_request row t ≡ req
 unfolding with_request
 request_put row t = refl
 
--- ---- accounts
+-- ---- slots
 
-pub account_written : (s : AccountSlot) (t : Tables) (z : ℤ) → s.changed ≡ Some z → with_account_balance s.account z t ≡ accounts_over (s ∷ []) t
+-- the tables with what a slot changes
+abbrev pub by_change : Option ℤ → (ℤ → Tables) → Tables → Tables
+by_change None written t = t
+by_change (Some z) written t = written z
+
+-- a slot that is changed: its row is written
+pub changed : {S : Type 0} {g : Ghosts S} {old new : Transaction S} {r : Result (Unit {0}) TableFault} {May : Tables → Type 0}
+    {made : Tables → Tables} (holder : Holder) (c : Option ℤ) (z : ℤ) → c ≡ Some z
+    → ((t : Tables) → by_change c (λ y. with_balance holder y t) t ≡ made t)
+    → ((t : Tables) → May t → IfSome c (λ _. HasRow holder t))
+    → Does g old new (HasRow holder) (with_balance holder z) (λ _. tt) r → Does g old new May made (λ _. tt) r
+changed {S} {g} {old} {new} {r} {May} {made} holder c z is comes there does = does_for does (λ t may. (
+  asked (HasRow holder t) c z is (there t may),
+  subst (λ (o : Option ℤ). by_change o (λ y. with_balance holder y t) t ≡ made t) is (comes t),
+  refl,
+))
+
+-- one that isn't: nothing is
+pub unchanged : {S : Type 0} {g : Ghosts S} {tx : Transaction S} {May : Tables → Type 0} {made : Tables → Tables}
+    (holder : Holder) (c : Option ℤ) → c ≡ None → ((t : Tables) → by_change c (λ y. with_balance holder y t) t ≡ made t)
+    → Survives (state g tx.conn.now) (state g tx.conn.now) (λ _. ⊥)
+    → Does {X = Unit {0}} g tx tx May made (λ _. tt {0}) (Ok (tt {0}))
+unchanged {S} {g} {tx} {May} {made} holder c is comes stays = does_for (does_none {So = May} stays) (λ t may. (
+  may,
+  subst (λ (o : Option ℤ). by_change o (λ y. with_balance holder y t) t ≡ made t) is (comes t),
+  refl,
+))
+
+-- one slot
+slot_made : {A R : Type 0} (slot_key : A → ℕ) (key : R → ℕ) (changed : A → Option ℤ) (set : ℤ → R → R)
+    (same : (s : A) (r : R) → key (changed_to set (changed s) r) ≡ key r) (with_rows : List R → Tables) (s : A) (rows : List R)
+    (c : Option ℤ) → changed s ≡ c
+    → by_change c (λ z. with_rows (row_changed key (set z) (slot_key s) rows)) (with_rows rows)
+    ≡ with_rows (over slot_key key (λ x r. changed_to set (changed x) r) (s ∷ []) rows)
+slot_made slot_key key changed set same with_rows s rows None e =
+    ap with_rows (sym (over_unchanged slot_key key changed set same s e rows))
+slot_made slot_key key changed set same with_rows s rows (Some z) e =
+    ap with_rows (over_changed slot_key key changed set same s z e rows)
+
+pub account_made : (s : AccountSlot) (t : Tables)
+    → by_change s.changed (λ z. with_balance (Account s.account) z t) t ≡ accounts_over (s ∷ []) t
 unfolding with_account_balance
-account_written s t z e =
-    ap (λ (rows : List AccountRow). let u : Tables = record t { accounts = rows } in u)
-    (over_changed account_slot_key account_key (λ s. s.changed) steps.with_account_balance account_same s z e t.accounts)
+account_made s t = slot_made account_slot_key account_key (λ x. x.changed) steps.with_account_balance account_same
+    (λ rows. record t { accounts = rows }) s t.accounts s.changed refl
 
-pub account_unwritten : (s : AccountSlot) (t : Tables) → s.changed ≡ None → t ≡ accounts_over (s ∷ []) t
-account_unwritten s t e =
-    ap (λ (rows : List AccountRow). let u : Tables = record t { accounts = rows } in u)
-    (sym (over_unchanged account_slot_key account_key (λ s. s.changed) steps.with_account_balance account_same s e t.accounts))
-
--- ---- tellers
-
-pub teller_written : (s : TellerSlot) (t : Tables) (z : ℤ) → s.changed ≡ Some z → with_teller_balance s.teller z t ≡ tellers_over (s ∷ []) t
+pub teller_made : (s : TellerSlot) (t : Tables)
+    → by_change s.changed (λ z. with_balance (Teller s.teller) z t) t ≡ tellers_over (s ∷ []) t
 unfolding with_teller_balance
-teller_written s t z e =
-    ap (λ (rows : List TellerRow). let u : Tables = record t { tellers = rows } in u)
-    (over_changed teller_slot_key teller_key (λ s. s.changed) steps.with_teller_balance teller_same s z e t.tellers)
+teller_made s t = slot_made teller_slot_key teller_key (λ x. x.changed) steps.with_teller_balance teller_same
+    (λ rows. record t { tellers = rows }) s t.tellers s.changed refl
 
-pub teller_unwritten : (s : TellerSlot) (t : Tables) → s.changed ≡ None → t ≡ tellers_over (s ∷ []) t
-teller_unwritten s t e =
-    ap (λ (rows : List TellerRow). let u : Tables = record t { tellers = rows } in u)
-    (sym (over_unchanged teller_slot_key teller_key (λ s. s.changed) steps.with_teller_balance teller_same s e t.tellers))
-
--- ---- branches
-
-pub branch_written : (s : BranchSlot) (t : Tables) (z : ℤ) → s.changed ≡ Some z → with_branch_balance s.branch z t ≡ branches_over (s ∷ []) t
+pub branch_made : (s : BranchSlot) (t : Tables)
+    → by_change s.changed (λ z. with_balance (Branch s.branch) z t) t ≡ branches_over (s ∷ []) t
 unfolding with_branch_balance
-branch_written s t z e =
-    ap (λ (rows : List BranchRow). let u : Tables = record t { branches = rows } in u)
-    (over_changed branch_slot_key branch_key (λ s. s.changed) steps.with_branch_balance branch_same s z e t.branches)
-
-pub branch_unwritten : (s : BranchSlot) (t : Tables) → s.changed ≡ None → t ≡ branches_over (s ∷ []) t
-branch_unwritten s t e =
-    ap (λ (rows : List BranchRow). let u : Tables = record t { branches = rows } in u)
-    (sym (over_unchanged branch_slot_key branch_key (λ s. s.changed) steps.with_branch_balance branch_same s e t.branches))
+branch_made s t = slot_made branch_slot_key branch_key (λ x. x.changed) steps.with_branch_balance branch_same
+    (λ rows. record t { branches = rows }) s t.branches s.changed refl

@@ -11,7 +11,7 @@ use Rattle.posting_batch.specs.declared.slots.AccountSlot.{AccountSlot}
 use Rattle.posting_batch.specs.declared.slots.TellerSlot.{TellerSlot}
 use Rattle.posting_batch.specs.declared.slots.BranchSlot.{BranchSlot}
 use Rattle.posting_batch.specs.declared.slots.RequestSlot.{RequestSlot}
-use Rattle.posting_batch.specs.Batch.{HasHomes, branch_filled}
+use Rattle.posting_batch.specs.Batch.{HasHomes, branch_filled, teller_filled, account_filled, request_filled}
 use Rattle.posting_batch.specs.Overlay.{Overlay}
 use Rattle.bank_transactions.specs.Doing.{Reads}
 use Rattle.bank_batches.specs.Filling.{ReadsWhere, TellsBranch}
@@ -71,7 +71,7 @@ for_accounts o p t told xs so e same is =
 
 -- ---- the count, and the slots of one table more
 
-pub counted : {S : Type 0} {g : Ghosts S} {a b : Transaction S} (o : Overlay) (n : ℕ) → Reads g a b (λ t. t.decided) (Ok n)
+counted : {S : Type 0} {g : Ghosts S} {a b : Transaction S} (o : Overlay) (n : ℕ) → Reads g a b (λ t. t.decided) (Ok n)
     → ReadsWhere g a b (So o) (λ t. with_count t.decided o) (Ok (with_count n o))
 counted o n reads = record {
   says = record {
@@ -82,9 +82,81 @@ counted o n reads = record {
   };
 }
 
-pub part : {S A : Type 0} {g : Ghosts S} {a b c : Transaction S} {So' : Tables → Type 0} (o : Overlay) (put : List A → Overlay → Overlay) (fill : Tables → A → A)
-    (p : Overlay) (f : Tables → Overlay) (xs zs ys : List A) → xs ≡ zs → ReadsWhere g a b (So o) f (Ok p) → ReadsWhere g b c So' (λ t. map (fill t) xs) (Ok ys)
+part : {S A : Type 0} {g : Ghosts S} {a b c : Transaction S} {So' : Tables → Type 0} (o : Overlay)
+    (put : List A → Overlay → Overlay) (fill : Tables → A → A) (p : Overlay) (f : Tables → Overlay) (xs zs ys : List A) → xs ≡ zs
+    → ReadsWhere g a b (So o) f (Ok p) → ReadsWhere g b c So' (λ t. map (fill t) xs) (Ok ys)
     → ((t : Tables) → So o t → p ≡ f t → So' t) → ReadsWhere g a c (So o) (λ t. put (map (fill t) zs) (f t)) (Ok (put ys p))
 part {S} {A} o put fill p f xs zs ys same first second ready =
     reads_both first second ready (λ t so e h.
     ap (put ys) e ∙ ap (λ (ws : List A). put ws (f t)) (h ∙ ap (λ (ws : List A). map (fill t) ws) same))
+
+-- so far filled: the count; and the branches; and the tellers; and the accounts; and all
+abbrev pub with_counted : Overlay → Tables → Overlay
+with_counted o t = with_count t.decided o
+
+abbrev pub to_branches : Overlay → Tables → Overlay
+to_branches o t = with_branches (map (branch_filled t) o.branches) (with_counted o t)
+
+abbrev pub to_tellers : Overlay → Tables → Overlay
+to_tellers o t = with_tellers (map (teller_filled t) o.tellers) (to_branches o t)
+
+abbrev pub to_accounts : Overlay → Tables → Overlay
+to_accounts o t = with_accounts (map (account_filled t) o.accounts) (to_tellers o t)
+
+abbrev pub to_kept : Overlay → Tables → Overlay
+to_kept o t = with_kept (map (request_filled t) o.kept) (to_accounts o t)
+
+-- slots of which nothing is asked of the branches
+abbrev Plain : {A : Type 0} → List A → Tables → Type 0
+Plain xs t = IsUndamaged t × AllByRecursion (λ _. ⊤) xs
+
+-- slots of tellers, and of accounts, whose branches are told
+abbrev OfTellers : List BranchSlot → List TellerSlot → Tables → Type 0
+OfTellers told xs t = IsUndamaged t × AllByRecursion (λ s. TellsBranch told t (branch_of_teller s.teller)) xs
+
+abbrev OfAccounts : List BranchSlot → List AccountSlot → Tables → Type 0
+OfAccounts told xs t = IsUndamaged t × AllByRecursion (λ s. TellsBranch told t (branch_of_account s.account)) xs
+
+module _ (o p : Overlay) where
+  -- what each fill asks for is so behind the one before it
+  pub plain : {A : Type 0} (f : Tables → Overlay) (xs : List A) (t : Tables) → So o t → p ≡ f t → Plain xs t
+  plain f xs t so e = (so.0, nothing_asked xs)
+
+  pub tellers_ready : (told : List BranchSlot) (xs : List TellerSlot) → told ≡ p.branches → xs ≡ o.tellers → (t : Tables)
+      → So o t → p ≡ to_branches o t → OfTellers told xs t
+  tellers_ready told xs same is t so e = for_tellers o p t told xs so (ap (λ (q : Overlay). q.branches) e) same is
+
+  pub accounts_ready : (told : List BranchSlot) (xs : List AccountSlot) → told ≡ p.branches → xs ≡ o.accounts → (t : Tables)
+      → So o t → p ≡ to_tellers o t → OfAccounts told xs t
+  accounts_ready told xs same is t so e = for_accounts o p t told xs so (ap (λ (q : Overlay). q.branches) e) same is
+
+module _ {S : Type 0} {g : Ghosts S} {a b : Transaction S} (o : Overlay) where
+  pub count_in : (n : ℕ) → Reads g a b (λ t. t.decided) (Ok n) → ReadsWhere g a b (So o) (with_counted o) (Ok (with_count n o))
+  count_in n reads = counted o n reads
+
+  module _ {c : Transaction S} (p : Overlay) where
+    pub branches_in : (xs ys : List BranchSlot) → ReadsWhere g a b (So o) (with_counted o) (Ok p) → xs ≡ o.branches
+        → ReadsWhere g b c (Plain xs) (λ t. map (branch_filled t) xs) (Ok ys)
+        → ReadsWhere g a c (So o) (to_branches o) (Ok (with_branches ys p))
+    branches_in xs ys first is second =
+        part o with_branches branch_filled p (with_counted o) xs o.branches ys is first second (plain o p (with_counted o) xs)
+
+    pub tellers_in : (told : List BranchSlot) (xs ys : List TellerSlot) → ReadsWhere g a b (So o) (to_branches o) (Ok p)
+        → told ≡ p.branches → xs ≡ o.tellers
+        → ReadsWhere g b c (OfTellers told xs) (λ t. map (teller_filled t) xs) (Ok ys)
+        → ReadsWhere g a c (So o) (to_tellers o) (Ok (with_tellers ys p))
+    tellers_in told xs ys first same is second =
+        part o with_tellers teller_filled p (to_branches o) xs o.tellers ys is first second (tellers_ready o p told xs same is)
+
+    pub accounts_in : (told : List BranchSlot) (xs ys : List AccountSlot) → ReadsWhere g a b (So o) (to_tellers o) (Ok p)
+        → told ≡ p.branches → xs ≡ o.accounts
+        → ReadsWhere g b c (OfAccounts told xs) (λ t. map (account_filled t) xs) (Ok ys)
+        → ReadsWhere g a c (So o) (to_accounts o) (Ok (with_accounts ys p))
+    accounts_in told xs ys first same is second =
+        part o with_accounts account_filled p (to_tellers o) xs o.accounts ys is first second (accounts_ready o p told xs same is)
+
+    pub kept_in : (xs ys : List RequestSlot) → ReadsWhere g a b (So o) (to_accounts o) (Ok p) → xs ≡ o.kept
+        → ReadsWhere g b c (Plain xs) (λ t. map (request_filled t) xs) (Ok ys)
+        → ReadsWhere g a c (So o) (to_kept o) (Ok (with_kept ys p))
+    kept_in xs ys first is second =
+        part o with_kept request_filled p (to_accounts o) xs o.kept ys is first second (plain o p (to_accounts o) xs)

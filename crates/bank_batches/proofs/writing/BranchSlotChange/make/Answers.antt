@@ -6,15 +6,17 @@ use Rattle.message_records.specs.declared.limits.TheConstants.{MAX_BRANCH}
 use Rattle.posting_rules.specs.Changes.{with_branch_balance}
 use Rattle.posting_rules.specs.Tables.{Tables}
 use Rattle.posting_batch.specs.declared.slots.BranchSlot.{BranchSlot}
+use Rattle.posting_batch.specs.Overlay.{branches_over}
 use Rattle.bank_transactions.specs.Holders.{HasRow}
 use Rattle.bank_transactions.specs.declared.balances.Holder.TheVariants.{Branch}
-use Rattle.bank_transactions.proofs.Chained.{does_none, does_for}
+use Rattle.bank_transactions.proofs.Chained.{does_for}
 use Rattle.bank_batches.specs.Writing.{MayChangeBranches}
-use Rattle.bank_batches.proofs.Rows.{asked, branch_written, branch_unwritten}
+use Rattle.bank_batches.proofs.Rows.{asked, branch_made, by_change, unchanged}
 use Rattle.bank_batches.proofs.writing.BranchSlotChange.make.Goals as goal
 
 -- a number within the range is the one that it was made of
-same_number : (n b : ℕ) (o : Option ℕ) → o ≡ Some b → o ≡ whole_within 1 MAX_BRANCH n → whole_within 1 MAX_BRANCH n ≡ Some n → b ≡ n
+same_number : (n b : ℕ) (o : Option ℕ) → o ≡ Some b → o ≡ whole_within 1 MAX_BRANCH n
+    → whole_within 1 MAX_BRANCH n ≡ Some n → b ≡ n
 same_number n b o is made within = cc
 
 number_of : (s : BranchSlot) (z : ℤ) (t : Tables) → s.changed ≡ Some z → MayChangeBranches (s ∷ []) t
@@ -23,7 +25,8 @@ number_of s z t is so = asked (whole_within 1 MAX_BRANCH s.branch ≡ Some s.bra
 
 pub returns-in_default : goal.returns-in_default
 returns-in_default g c =
-    does_for (does_none (search rules)) (λ t so. (so, branch_unwritten c.args.self.now t c.in_default.is, refl))
+    let s = c.args.self.now in
+    unchanged (Branch s.branch) s.changed c.in_default.is (branch_made s) (search rules)
 
 pub returns : goal.returns
 returns g c =
@@ -36,6 +39,8 @@ returns g c =
     does_for c.write_balance.ensures
     (λ t so. (
       subst (λ (n : ℕ). HasRow (Branch n) t) (sym (same t so)) (asked (HasRow (Branch s.branch) t) s.changed z is so.0.1.0),
-      ap (λ (n : ℕ). with_branch_balance n z t) (same t so) ∙ branch_written s t z is,
+      ap (λ (n : ℕ). with_branch_balance n z t) (same t so)
+          ∙ subst (λ (o : Option ℤ). by_change o (λ y. with_branch_balance s.branch y t) t ≡ branches_over (s ∷ []) t) is
+          (branch_made s t),
       refl,
     ))
