@@ -2,15 +2,16 @@
 use posting_core::Fault;
 use std::fmt;
 
-/// Why no more connections were served.
+/// Why no more connections were served. What was answered before stands.
 #[derive(Clone, Copy, Debug, PartialEq, Eq)]
 pub enum ListenFault {
     /// The listener gave no connection.
     Network,
-    /// The bank refused a call for another cause than memory.
+    /// The bank refused a call for another cause than memory, and is down.
     Bank(Fault),
 }
 
+/// A text of a line. A fault of the bank has its own.
 impl fmt::Display for ListenFault {
     ghost use Rattle.std.specs.Prelude.{Some};
     ghost use Rattle.counter_tcp.specs.Faults.{fault_text};
