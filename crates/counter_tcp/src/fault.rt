@@ -2,16 +2,16 @@
 use posting_core::Fault;
 use std::fmt;
 
-/// Why no more connections were served. All that were taken before were served to their ends.
+/// Why no more connections were served. What was answered before stands.
 #[derive(Clone, Copy, Debug, PartialEq, Eq)]
 pub enum ListenFault {
     /// The listener gave no connection. The bank can be used.
     Network,
-    /// The bank refused a call of the last connection, for another cause than memory. Its client got a 503
-    /// for that message. The bank is down.
+    /// The bank refused a call for another cause than memory, and is down.
     Bank(Fault),
 }
 
+/// A text of a line. A fault of the bank has its own.
 impl fmt::Display for ListenFault {
     ghost use Rattle.std.specs.Prelude.{Some};
     ghost use Rattle.counter_tcp.specs.Faults.{fault_text};

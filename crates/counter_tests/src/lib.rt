@@ -1,5 +1,5 @@
-//! Tests of what no scenario of a bank reaches: records and plans, fault by fault, streams over ends and banks
-//! that fail, a clock that stores moments, the verdict of a full bank, and the laws.
+//! Tests of what no scenario of a bank reaches: records and plans, fault by fault, streams over ends and
+//! banks that fail, a clock that stores moments, the verdict of a full bank, and the laws.
 #![tactic(auto)]
 
 #[cfg(test)]

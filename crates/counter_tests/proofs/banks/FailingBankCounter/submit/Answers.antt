@@ -18,7 +18,14 @@ returns-then-self-eq0-clause-fault c = record {
         up = λ down. down;
         stop = at.stop;
       }) in
-      leaves_weaker (plain_seen c.submit.new.self) (λ t. Shows t (post ∷ log)) (ShowsBeginning log (post ∷ []) 0)
-      (λ t shows. record { count = 1; holds = omega arith; within = omega arith; are = after.shows.commands; shows = shows })
+      leaves_weaker (plain_seen c.submit.new.self) (λ t. Shows t (post ∷ log))
+      (ShowsBeginning log (post ∷ []) 0)
+      (λ t shows. record {
+        count = 1;
+        holds = omega arith;
+        within = omega arith;
+        are = after.shows.commands;
+        shows = shows;
+      })
       after.stop;
 }
