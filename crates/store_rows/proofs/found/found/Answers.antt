@@ -1,0 +1,6 @@
+-- An error is passed on.
+use Rattle.std.proofs.Common.{rules}
+use Rattle.store_rows.proofs.found.found.Goals as goal
+
+pub returns-in-Err : goal.returns-in-Err
+returns-in-Err g c = search rules
