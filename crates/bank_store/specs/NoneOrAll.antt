@@ -5,10 +5,12 @@ use Rattle.posting_rules.specs.Counter.{Seen, LeavesOnly, StandsAt}
 use Rattle.posting_rules.specs.Runs.{behind}
 use Rattle.posting_rules.specs.Tables.{Tables, Shows}
 
--- wherever the counter stood at a log, everything that a stop may leave now shows the log, or the log with all the commands behind it
+-- wherever the counter stood at a log, everything that a stop may leave now shows the log, or the log with
+-- all the commands behind it
 abbrev pub LeavesNoneOrAll : Seen → Seen → List Command → Type 0
 LeavesNoneOrAll old new commands =
-    new.honest → (log : List Command) → StandsAt old log → LeavesOnly new (λ t. Shows t log ⊎ Shows t (behind log commands))
+    new.honest → (log : List Command) → StandsAt old log
+    → LeavesOnly new (λ t. Shows t log ⊎ Shows t (behind log commands))
 
 -- these tables are there, and everything that a stop may leave has them and no others
 pub record HasOnly (seen : Seen) (t : Tables) : Type 0 where

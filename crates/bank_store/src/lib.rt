@@ -1,5 +1,5 @@
-//! A bank in a SQLite file: each request and each opening is one transaction. The names that a caller of a bank needs are given
-//! again here.
+//! A bank in a SQLite file: each request and each opening is one transaction. The names that a caller of a
+//! bank needs are given again here.
 #![tactic(auto)]
 
 mod adopting;

@@ -20,7 +20,8 @@ pub enum OpenFault {
     Foreign,
     /// The tables are those of another version.
     Version(i64),
-    /// The row of the bank is missing or out of its range (`Rule::Meta`), or has a value of another type (`Rule::Value`).
+    /// The row of the bank is missing or out of its range (`Rule::Meta`), or has a value of another type
+    /// (`Rule::Value`).
     Damaged(Rule),
 }
 
