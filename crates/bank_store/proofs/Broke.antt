@@ -12,18 +12,22 @@ use Rattle.bank_transactions.specs.Doing.{Damage, IsBrokenOrMet, IsFirstBroken, 
 use Rattle.bank_transactions.proofs.Blamed.{comes, met_within, same_moment}
 use Rattle.bank_store.specs.Down.{GoesDown, OfDamage}
 
-module _ {S X : Type 0} {So : Tables → Type 0} {after : Tables → Tables} {wanted : Tables → X} (g : Ghosts S) (old mid new : Held S)
+module _ {S X : Type 0} {So : Tables → Type 0} {after : Tables → Tables} {wanted : Tables → X} (g : Ghosts S)
+    (old mid new : Held S)
     (kept : Option TableFault) (fault : Fault) (quiet : Survives (state g mid) (state g new) (λ _. ⊥)) where
   of_damage : (Met : Damage S) → ((rule : Rule) → Met old mid rule → Met old new rule) → (e : TableFault)
-      → TransactsBy {X = X} Met g old mid So after wanted (Err e) → GoesDown (state g mid) (state g new) e kept fault
+      → TransactsBy {X = X} Met g old mid So after wanted (Err e)
+      → GoesDown (state g mid) (state g new) e kept fault
       → OfDamage fault (λ rule. HasCleanDisk (state g new) → Met old new rule)
   of_damage Met wide (Sqlite error) does went =
-      subst (λ (f : Fault). OfDamage f (λ rule. HasCleanDisk (state g new) → Met old new rule)) (sym went.1) tt
+      subst (λ (f : Fault). OfDamage f (λ rule. HasCleanDisk (state g new) → Met old new rule)) (sym went.1)
+      tt
   of_damage Met wide (Damaged rule) does (inl went) =
       subst (λ (f : Fault). OfDamage f (λ rule. HasCleanDisk (state g new) → Met old new rule)) (sym went.1)
       (λ clean. wide rule (does.cause (omega (arith, quiet.clean))))
   of_damage Met wide (Damaged rule) does (inr went) =
-      subst (λ (f : Fault). OfDamage f (λ rule. HasCleanDisk (state g new) → Met old new rule)) (sym went.0) tt
+      subst (λ (f : Fault). OfDamage f (λ rule. HasCleanDisk (state g new) → Met old new rule)) (sym went.0)
+      tt
 
   -- of a call that only reads
   pub consulted : (e : TableFault) → TransactsBy {X = X} (IsFirstBroken g) g old mid So after wanted (Err e)
@@ -32,7 +36,8 @@ module _ {S X : Type 0} {So : Tables → Type 0} {after : Tables → Tables} {wa
   consulted e does went = of_damage (IsFirstBroken g) (λ rule it. it) e does went
 
   -- of a call that writes
-  pub transacted : (e : TableFault) → Transacts {X = X} g old mid So after wanted (Err e) → GoesDown (state g mid) (state g new) e kept fault
+  pub transacted : (e : TableFault) → Transacts {X = X} g old mid So after wanted (Err e)
+      → GoesDown (state g mid) (state g new) e kept fault
       → OfDamage fault (λ rule. HasCleanDisk (state g new) → IsBrokenOrMet g old new rule)
   transacted e does went = of_damage (IsBrokenOrMet g) (λ rule it. elim it [
     | inl broken ↦ inl broken

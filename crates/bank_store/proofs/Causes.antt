@@ -17,17 +17,21 @@ use Rattle.store_rows.specs.declared.faults.TableFault.TheVariants.{Sqlite, Dama
 use Rattle.bank_transactions.specs.Doing.{IsBefore}
 use Rattle.bank_transactions.proofs.Blamed.{failed_here, failed_within, same_moment, then_moment}
 use Rattle.store_rows.specs.declared.metas.StoredMeta.{StoredMeta}
-use Rattle.bank_store.specs.Opening.{CallFailed, ChecksMeta, KnowsCause, KnowsWhyUnmade, MakingFailed, of_the_store, unmade_by, unread_by}
+use Rattle.bank_store.specs.Opening.{CallFailed, ChecksMeta, KnowsCause, KnowsWhyUnmade, MakingFailed}
+use Rattle.bank_store.specs.Opening.{of_the_store, unmade_by, unread_by}
 use Rattle.bank_store.specs.declared.refused.OpenFault.{OpenFault}
-use Rattle.bank_store.specs.declared.refused.OpenFault.TheVariants.{Store, NotBlank, Blank, Foreign, Version, Damaged}
+use Rattle.bank_store.specs.declared.refused.OpenFault.TheVariants.{Store, NotBlank, Blank, Foreign, Version}
+use Rattle.bank_store.specs.declared.refused.OpenFault.TheVariants.{Damaged}
 
 module _ {S : Type 0} (g : Ghosts S) (old new : Held S) where
   -- a probe failed
-  pub probe_failed : (probe : List ℕ × Table) (e : Error) → Probes g old new probe (Err e) → KnowsCause g old new Store
+  pub probe_failed : (probe : List ℕ × Table) (e : Error) → Probes g old new probe (Err e)
+      → KnowsCause g old new Store
   probe_failed probe e told = λ clean. (e, failed_here g old new e (Committing (inl (told.told clean))))
 
   -- a row wasn't read
-  pub read_failed : (fault : TableFault) → (HasCleanDisk (state g new) → HasReason (state g old) (state g new) fault)
+  pub read_failed : (fault : TableFault)
+      → (HasCleanDisk (state g new) → HasReason (state g old) (state g new) fault)
       → KnowsCause g old new (unread_by fault)
   read_failed (Sqlite e) why = λ clean. (e, failed_here g old new e (why clean))
   read_failed (Broken rule) why = tt
@@ -38,7 +42,8 @@ module _ {S : Type 0} (g : Ghosts S) (old new : Held S) where
   commit_failed e why = λ clean. inl (e, failed_here g old new e (Committing (why clean)))
 
   -- a statement that makes the tables failed
-  pub making_failed : (e : Error) → (HasCleanDisk (state g new) → CreatesBank (state g old) (state g new) (Err e))
+  pub making_failed : (e : Error)
+      → (HasCleanDisk (state g new) → CreatesBank (state g old) (state g new) (Err e))
       → KnowsWhyUnmade g old new (unmade_by e)
   making_failed e why = elim (cases_Bool (of_the_store e)) [
     | inl own ↦ rw own (λ clean. inr (record {
@@ -54,7 +59,8 @@ module _ {S : Type 0} (g : Ghosts S) (old new : Held S) where
   ]
 
 -- what a call left clean was clean before it
-pub still_clean : {P : Trees → Type 0} {old new : State} → Survives old new P → HasCleanDisk new → HasCleanDisk old
+pub still_clean : {P : Trees → Type 0} {old new : State} → Survives old new P → HasCleanDisk new
+    → HasCleanDisk old
 still_clean s clean = omega (arith, s.clean)
 
 -- a transaction begins
@@ -64,7 +70,8 @@ begun_after g conn live = record { faults = (same_moment (state g conn)).faults;
 
 -- more came before it and after it
 module _ {S : Type 0} (g : Ghosts S) (old mid end new : Held S) (one : IsBefore (state g old) (state g mid))
-    (clean : HasCleanDisk (state g new) → HasCleanDisk (state g end)) (two : IsBefore (state g end) (state g new)) where
+    (clean : HasCleanDisk (state g new) → HasCleanDisk (state g end))
+    (two : IsBefore (state g end) (state g new)) where
   call_failed_within : CallFailed g mid end → CallFailed g old new
   call_failed_within it = (it.0, failed_within g old mid end new it.0 one two it.1)
 

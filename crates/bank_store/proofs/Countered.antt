@@ -1,5 +1,6 @@
 -- A transaction on a connection, as a call of a counter.
-use Rattle.std.proofs.Common.{◌≡◌, List, length, Option, Some, Result, Ok, Err, refl, sym, subst, ◌∙◌, arith, inl, inr}
+use Rattle.std.proofs.Common.{◌≡◌, List, length, Option, Some, Result, Ok, Err, refl, sym, subst, ◌∙◌, arith}
+use Rattle.std.proofs.Common.{inl, inr}
 use Rattle.std.specs.Prelude.{IsSome}
 use Rattle.std.proofs.Math.Seq.{take-length}
 use Rattle.sqlite.specs.Effect.{Database}
@@ -11,7 +12,8 @@ use Rattle.sqlite.proofs.StateLemmas.{survives_then}
 use Rattle.posting_rules.specs.declared.fault.Fault.{Fault}
 use Rattle.posting_rules.specs.declared.fault.Fault.TheVariants as told
 use Rattle.posting_rules.specs.Commands.{Command, AreCommands}
-use Rattle.posting_rules.specs.Counter.{ShowsLog, ShowsBeginning, Takes, IsCutShort, IsDamaged, Refuses, TellsDamage}
+use Rattle.posting_rules.specs.Counter.{ShowsLog, ShowsBeginning, Takes, IsCutShort, IsDamaged, Refuses}
+use Rattle.posting_rules.specs.Counter.{TellsDamage}
 use Rattle.posting_rules.specs.Runs.{behind}
 use Rattle.posting_rules.specs.Tables.{Tables}
 use Rattle.posting_rules.specs.Tables.{Shows as Show}
@@ -28,7 +30,8 @@ use Rattle.bank_store.specs.NoneOrAll.{LeavesNoneOrAll}
 use Rattle.bank_store.specs.Seen.{error_in, seen_in}
 
 -- what the commands lead to is a beginning of them, and so is what was there
-all_of_them : (t : Tables) (log cs : List Command) → AreCommands (behind log cs) → Show t (behind log cs) → ShowsBeginning log cs 0 t
+all_of_them : (t : Tables) (log cs : List Command) → AreCommands (behind log cs) → Show t (behind log cs)
+    → ShowsBeginning log cs 0 t
 all_of_them t log cs are shows = record {
   count = length cs;
   holds = omega arith;
@@ -38,27 +41,33 @@ all_of_them t log cs are shows = record {
 }
 
 none_of_them : (t : Tables) (log cs : List Command) → AreCommands log → Show t log → ShowsBeginning log cs 0 t
-none_of_them t log cs are shows = record { count = 0; holds = omega arith; within = omega arith; are = are; shows = shows }
+none_of_them t log cs are shows =
+    record { count = 0; holds = omega arith; within = omega arith; are = are; shows = shows }
 
 -- the tables of every log are so
 abbrev pub HoldsOfLogs : (Tables → Type 0) → Type 0
 HoldsOfLogs Sound = (t : Tables) (log : List Command) → AreCommands log → Show t log → Sound t
 
-module _ {S X : Type 0} {So : Tables → Type 0} {after : Tables → Tables} {wanted : Tables → X} {g : Ghosts S} {old new : Held S} {r : Result X TableFault} {Met : Damage S}
-    (holds : HoldsOfLogs So) (cs : List Command) (is : IsChange after cs) (does : TransactsBy Met g old new So after wanted r) where
+module _ {S X : Type 0} {So : Tables → Type 0} {after : Tables → Tables} {wanted : Tables → X} {g : Ghosts S}
+    {old new : Held S} {r : Result X TableFault} {Met : Damage S}
+    (holds : HoldsOfLogs So) (cs : List Command) (is : IsChange after cs)
+    (does : TransactsBy Met g old new So after wanted r) where
   -- a call that a fault ended: what a stop leaves is what it could leave before, or all of the call
-  pub cut_short : AreCommands cs → (end : State) (D E : Type 0) → E → Survives (state g old) end (Leaves (state g old) So after)
+  pub cut_short : AreCommands cs → (end : State) (D E : Type 0) → E
+      → Survives (state g old) end (Leaves (state g old) So after)
       → IsCutShort (seen_in (state g old) D) (seen_in end E) cs
   cut_short are end D E down survives = record {
     down = down;
     stop = λ clean log at trees may.
         let s = at.shows in
         elim (survives.crash clean trees may) [
-          | inl before ↦ (let it = at.stop trees before in (it.0, it.1, none_of_them it.0 log cs s.commands it.2))
+          | inl before ↦
+              (let it = at.stop trees before in (it.0, it.1, none_of_them it.0 log cs s.commands it.2))
           | inr made ↦ (
             after s.tables,
             made s.tables s.are (holds s.tables log s.commands s.shows),
-            all_of_them (after s.tables) log cs (commands_behind log cs s.commands are) (is s.tables log s.shows),
+            all_of_them (after s.tables) log cs (commands_behind log cs s.commands are)
+                (is s.tables log s.shows),
           )
         ];
   }
@@ -70,28 +79,40 @@ module _ {S X : Type 0} {So : Tables → Type 0} {after : Tables → Tables} {wa
       let s = at.shows in
       elim (survives.crash clean trees may) [
         | inl before ↦ (let it = at.stop trees before in (it.0, it.1, inl it.2))
-        | inr made ↦ (after s.tables, made s.tables s.are (holds s.tables log s.commands s.shows), inr (is s.tables log s.shows))
+        | inr made ↦ (
+          after s.tables,
+          made s.tables s.are (holds s.tables log s.commands s.shows),
+          inr
+              (is s.tables log s.shows),
+        )
       ]
 
 -- the same after a fault that brought the bank down
-pub none_or_all_down : {S X : Type 0} {So : Tables → Type 0} {after : Tables → Tables} {wanted : Tables → X} {Met : Damage S} (g : Ghosts S) (old mid new : Held S)
-    (r : Result X TableFault) (holds : HoldsOfLogs So) (cs : List Command) (is : IsChange after cs) (D E : Type 0)
+pub none_or_all_down : {S X : Type 0} {So : Tables → Type 0} {after : Tables → Tables} {wanted : Tables → X}
+    {Met : Damage S} (g : Ghosts S) (old mid new : Held S)
+    (r : Result X TableFault) (holds : HoldsOfLogs So) (cs : List Command) (is : IsChange after cs)
+    (D E : Type 0)
     → TransactsBy {X = X} Met g old mid So after wanted r → Survives (state g mid) (state g new) (λ _. ⊥)
     → LeavesNoneOrAll (seen_in (state g old) D) (seen_in (state g new) E) cs
 none_or_all_down {S} {X} {So} {after} {wanted} g old mid new r holds cs is D E does quiet =
     none_or_all holds cs is does (state g new) D E
-    (survives_then (state g old) (state g mid) (state g new) (Leaves (state g old) So after) (λ _. ⊥) (Leaves (state g old) So after)
+    (survives_then (state g old) (state g mid) (state g new) (Leaves (state g old) So after) (λ _. ⊥)
+    (Leaves (state g old) So after)
     (λ clean db h. h) (λ clean db none. absurd none) does.stop quiet)
 
 -- a call that was answered
-pub takes : {S X : Type 0} {So : Tables → Type 0} {after : Tables → Tables} {wanted : Tables → X} {g : Ghosts S} {old new : Held S} {x : X}
+pub takes : {S X : Type 0} {So : Tables → Type 0} {after : Tables → Tables} {wanted : Tables → X}
+    {g : Ghosts S} {old new : Held S} {x : X}
     {Met : Damage S} (holds : HoldsOfLogs So)
-    (cs : List Command) → IsChange after cs → AreCommands cs → (D E : Type 0) → (E → ⊥) → TransactsBy Met g old new So after wanted (Ok x)
+    (cs : List Command) → IsChange after cs → AreCommands cs → (D E : Type 0) → (E → ⊥)
+    → TransactsBy Met g old new So after wanted (Ok x)
     → Takes (seen_in (state g old) D) (seen_in (state g new) E) cs
 takes {S} {X} {So} {after} {wanted} {g} {old} {new} {x} {Met} holds cs is are D E up does =
-    let told = λ (clean : HasCleanDisk (state g new)) (log : List Command) (s : ShowsLog (seen_in (state g old) D) log).
+    let told =
+    λ (clean : HasCleanDisk (state g new)) (log : List Command) (s : ShowsLog (seen_in (state g old) D) log).
     does.told clean s.tables s.are (holds s.tables log s.commands s.shows) in
-    let shows = λ (clean : HasCleanDisk (state g new)) (log : List Command) (s : ShowsLog (seen_in (state g old) D) log).
+    let shows =
+    λ (clean : HasCleanDisk (state g new)) (log : List Command) (s : ShowsLog (seen_in (state g old) D) log).
     let it : ShowsLog (seen_in (state g new) E) (behind log cs) = record {
       commands = commands_behind log cs s.commands are;
       tables = after s.tables;
@@ -103,11 +124,18 @@ takes {S} {X} {So} {after} {wanted} {g} {old} {new} {x} {Met} holds cs is are D 
       stands = λ clean log at. record {
         shows = shows clean log at.shows;
         up = up;
-        stop = λ trees may. (after at.shows.tables, (told clean log at.shows).2 trees may, is at.shows.tables log at.shows.shows);
+        stop =
+            λ trees may. (
+              after at.shows.tables,
+              (told clean log at.shows).2 trees may,
+              is at.shows.tables
+                  log at.shows.shows,
+            );
       };
     }
 
-pub is_damaged : (Sound : Tables → Type 0) (holds : HoldsOfLogs Sound) (old new : State) (D E : Type 0) → E → (HasCleanDisk new → (t : Tables) → Shows old.now t → Sound t → ⊥)
+pub is_damaged : (Sound : Tables → Type 0) (holds : HoldsOfLogs Sound) (old new : State) (D E : Type 0) → E
+    → (HasCleanDisk new → (t : Tables) → Shows old.now t → Sound t → ⊥)
     → (HasCleanDisk new → new.now ≡ old.now) → IsDamaged (seen_in old D) (seen_in new E)
 is_damaged Sound holds old new D E down never same = record {
   never_shown = λ clean log s. never clean s.tables s.are (holds s.tables log s.commands s.shows);
@@ -119,11 +147,15 @@ kept_down : (kept : Option TableFault) (fault : TableFault) → kept ≡ Some fa
 kept_down kept fault e = subst (λ (o : Option TableFault). IsSome o) (sym e) refl
 
 -- a call that a fault ended, and that brought the bank down
-pub refuses : {S X : Type 0} {So : Tables → Type 0} {after : Tables → Tables} {wanted : Tables → X} {Met : Damage S} (g : Ghosts S) (old mid new : Held S) (holds : HoldsOfLogs So)
-    (cs : List Command) (is : IsChange after cs) → AreCommands cs → (D : Type 0) (e : TableFault) (kept : Option TableFault) (fault : Fault)
-    → TransactsBy {X = X} Met g old mid So after wanted (Err e) → GoesDown (state g mid) (state g new) e kept fault → Survives (state g mid) (state g new) (λ _. ⊥)
+pub refuses : {S X : Type 0} {So : Tables → Type 0} {after : Tables → Tables} {wanted : Tables → X}
+    {Met : Damage S} (g : Ghosts S) (old mid new : Held S) (holds : HoldsOfLogs So)
+    (cs : List Command) (is : IsChange after cs) → AreCommands cs
+    → (D : Type 0) (e : TableFault) (kept : Option TableFault) (fault : Fault)
+    → TransactsBy {X = X} Met g old mid So after wanted (Err e)
+    → GoesDown (state g mid) (state g new) e kept fault → Survives (state g mid) (state g new) (λ _. ⊥)
     → Refuses fault (seen_in (state g old) D) (seen_in (state g new) (IsSome kept)) cs
-refuses {S} {X} {So} {after} {wanted} {Met} g old mid new holds cs is are D e kept fault does down quiet = by_fault e does down
+refuses {S} {X} {So} {after} {wanted} {Met} g old mid new holds cs is are D e kept fault does down quiet =
+    by_fault e does down
   where
     before : HasCleanDisk (state g new) → HasCleanDisk (state g mid)
     before clean = omega (arith, quiet.clean)
@@ -135,38 +167,50 @@ refuses {S} {X} {So} {after} {wanted} {Met} g old mid new holds cs is are D e ke
     failed f keeps same =
         subst Refused (sym same)
         (cut_short holds cs is does are (state g new) D (IsSome kept) (kept_down kept f keeps)
-        (survives_then (state g old) (state g mid) (state g new) (Leaves (state g old) So after) (λ _. ⊥) (Leaves (state g old) So after)
+        (survives_then (state g old) (state g mid) (state g new) (Leaves (state g old) So after) (λ _. ⊥)
+        (Leaves (state g old) So after)
         (λ clean db h. h) (λ clean db none. absurd none) does.stop quiet))
 
-    by_fault : (f : TableFault) → TransactsBy {X = X} Met g old mid So after wanted (Err f) → GoesDown (state g mid) (state g new) f kept fault → Refused fault
+    by_fault : (f : TableFault) → TransactsBy {X = X} Met g old mid So after wanted (Err f)
+        → GoesDown (state g mid) (state g new) f kept fault → Refused fault
     by_fault (Sqlite error) it went = failed (Sqlite error) went.0 went.1
     by_fault (Damaged rule) it (inl went) =
         subst Refused (sym went.1)
-        (is_damaged So holds (state g old) (state g new) D (IsSome kept) (kept_down kept (Damaged rule) went.0)
+        (is_damaged So holds (state g old) (state g new) D (IsSome kept)
+        (kept_down kept (Damaged rule) went.0)
         (λ clean t shows sound. it.told (before clean) t shows sound)
         (λ clean. let same = went.2 clean in same.0.now_is ∙ (it.undone (before clean) same.0.was_open).1))
     by_fault (Damaged rule) it (inr went) = failed (Sqlite went.1.0) went.1.1 went.0
 
 -- where rows are told to be damaged, all that the file holds is as it was
-pub keeps_file : {S X : Type 0} {So : Tables → Type 0} {after : Tables → Tables} {wanted : Tables → X} {Met : Damage S} (g : Ghosts S) (old mid new : Held S) (e : TableFault)
-    (kept : Option TableFault) (fault : Fault) → TransactsBy {X = X} Met g old mid So after wanted (Err e) → GoesDown (state g mid) (state g new) e kept fault
-    → Survives (state g mid) (state g new) (λ _. ⊥) → TellsDamage fault → HasCleanDisk (state g new) → (state g new).now ≡ (state g old).now
-keeps_file g old mid new (Sqlite error) kept fault does went quiet damage clean = absurd (subst TellsDamage went.1 damage)
+pub keeps_file : {S X : Type 0} {So : Tables → Type 0} {after : Tables → Tables} {wanted : Tables → X}
+    {Met : Damage S} (g : Ghosts S) (old mid new : Held S) (e : TableFault)
+    (kept : Option TableFault) (fault : Fault) → TransactsBy {X = X} Met g old mid So after wanted (Err e)
+    → GoesDown (state g mid) (state g new) e kept fault
+    → Survives (state g mid) (state g new) (λ _. ⊥) → TellsDamage fault → HasCleanDisk (state g new)
+    → (state g new).now ≡ (state g old).now
+keeps_file g old mid new (Sqlite error) kept fault does went quiet damage clean =
+    absurd (subst TellsDamage went.1 damage)
 keeps_file g old mid new (Damaged rule) kept fault does (inl went) quiet damage clean =
     let same = went.2 clean in same.0.now_is ∙ (does.undone (omega (arith, quiet.clean)) same.0.was_open).1
-keeps_file g old mid new (Damaged rule) kept fault does (inr went) quiet damage clean = absurd (subst TellsDamage went.0 damage)
+keeps_file g old mid new (Damaged rule) kept fault does (inr went) quiet damage clean =
+    absurd (subst TellsDamage went.0 damage)
 
-same_error : (kept : Option TableFault) (x e : Error) → kept ≡ Some (Sqlite e) → error_in kept ≡ Some x → e ≡ x
+same_error : (kept : Option TableFault) (x e : Error) → kept ≡ Some (Sqlite e) → error_in kept ≡ Some x
+    → e ≡ x
 same_error kept x e is says = let it = rw is at says in cc
 
 -- the error that is kept is one with which a call of `sqlite` failed
-module _ {S X : Type 0} {So : Tables → Type 0} {after : Tables → Tables} {wanted : Tables → X} {Met : Damage S} (g : Ghosts S) (old mid new : Held S) (kept : Option TableFault)
+module _ {S X : Type 0} {So : Tables → Type 0} {after : Tables → Tables} {wanted : Tables → X}
+    {Met : Damage S} (g : Ghosts S) (old mid new : Held S) (kept : Option TableFault)
     (fault : Fault) (quiet : Survives (state g mid) (state g new) (λ _. ⊥)) where
-  pub failed_between : (e : TableFault) → TransactsBy {X = X} Met g old mid So after wanted (Err e) → GoesDown (state g mid) (state g new) e kept fault
+  pub failed_between : (e : TableFault) → TransactsBy {X = X} Met g old mid So after wanted (Err e)
+      → GoesDown (state g mid) (state g new) e kept fault
       → HasCleanDisk (state g new) → (x : Error) → error_in kept ≡ Some x → HasFailedBetween g old new x
   failed_between (Sqlite error) does went clean x says =
       subst (HasFailedBetween g old new) (same_error kept x error went.0 says)
-      (failed_within g old old mid new error (same_moment (state g old)) (comes quiet) (does.cause (omega (arith, quiet.clean))))
+      (failed_within g old old mid new error (same_moment (state g old)) (comes quiet)
+      (does.cause (omega (arith, quiet.clean))))
   failed_between (Damaged rule) does (inl went) clean x says = absurd (let it = rw went.0 at says in cc)
   failed_between (Damaged rule) does (inr went) clean x says =
       subst (HasFailedBetween g old new) (same_error kept x went.1.0 went.1.1 says)
@@ -179,7 +223,8 @@ module _ {S X : Type 0} {So : Tables → Type 0} {after : Tables → Tables} {wa
       })
 
 -- and it is there
-pub kept_error : (old new : State) (kept : Option TableFault) (fault : Fault) (e : TableFault) → GoesDown old new e kept fault → TellsFailure fault
+pub kept_error : (old new : State) (kept : Option TableFault) (fault : Fault) (e : TableFault)
+    → GoesDown old new e kept fault → TellsFailure fault
     → IsSome (error_in kept)
 kept_error old new kept fault (Sqlite error) went tells = rw went.0 refl
 kept_error old new kept fault (Damaged rule) (inl went) tells = absurd (subst TellsFailure went.1 tells)

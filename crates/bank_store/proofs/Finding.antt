@@ -1,5 +1,6 @@
 -- What is found of a bank, and that nothing is missed where a log is shown.
-use Rattle.std.proofs.Common.{◌≡◌, ◌≤◌, ℕ, ℤ, pos, List, [], ◌∷◌, length, map, Option, Some, None, Ok, Err, Result, refl, sym, ap, subst, ◌∙◌, inl, inr, arith}
+use Rattle.std.proofs.Common.{◌≡◌, ◌≤◌, ℕ, ℤ, pos, List, [], ◌∷◌, length, map, Option, Some, None, Ok, Err}
+use Rattle.std.proofs.Common.{Result, refl, sym, ap, subst, ◌∙◌, inl, inr, arith}
 use Rattle.std.specs.Prelude.{◌⊎◌, ◌<ℤ◌}
 use Rattle.std.proofs.lemmas.Int.{ints}
 use Rattle.sqlite.specs.Table.{Table}
@@ -10,7 +11,8 @@ use Rattle.posting_rules.specs.Commands.{Command, AreCommands}
 use Rattle.posting_rules.specs.Damage.{IsUndamaged}
 use Rattle.posting_rules.specs.Tables.{Tables}
 use Rattle.posting_rules.specs.Tables.{Shows as Show}
-use Rattle.posting_rules.specs.declared.fault.Rule.TheVariants.{Meta, Teller, Account, Balance, Request, Value, Key}
+use Rattle.posting_rules.specs.declared.fault.Rule.TheVariants.{Meta, Teller, Account, Balance, Request}
+use Rattle.posting_rules.specs.declared.fault.Rule.TheVariants.{Value, Key}
 use Rattle.posting_rules.proofs.Undamaged.{undamaged}
 use Rattle.sql_meanings.proofs.Contents.{each_defined}
 use Rattle.sql_meanings.specs.Entries.{Entry}
@@ -22,10 +24,13 @@ use Rattle.store_rows.specs.SixTables.{bank_tables}
 use Rattle.store_rows.specs.Statements.{HasOtherValue}
 use Rattle.store_rows.specs.View.{HoldsRows, Shows, contents, meta_entry}
 use Rattle.store_rows.specs.declared.metas.StoredMeta.{StoredMeta}
-use Rattle.bank_store.specs.Opening.{Lacks, IsPresent, IsAsBefore, IsOurs, IsOfVersion, IsNoCount, ChecksMeta, TellsMeta, IsUnread, IsOfOtherType, IsReadOnly, MetaIs, Misses, SeeksBank}
+use Rattle.bank_store.specs.Opening.{Lacks, IsPresent, IsAsBefore, IsOurs, IsOfVersion, IsNoCount, ChecksMeta}
+use Rattle.bank_store.specs.Opening.{TellsMeta, IsUnread, IsOfOtherType, IsReadOnly, MetaIs, Misses}
+use Rattle.bank_store.specs.Opening.{SeeksBank}
 use Rattle.bank_store.specs.declared.probing.Presence.TheVariants.{Absent, Whole}
 use Rattle.bank_store.specs.declared.refused.OpenFault.{OpenFault}
-use Rattle.bank_store.specs.declared.refused.OpenFault.TheVariants.{Store, NotBlank, Blank, Foreign, Version, Damaged}
+use Rattle.bank_store.specs.declared.refused.OpenFault.TheVariants.{Store, NotBlank, Blank, Foreign, Version}
+use Rattle.bank_store.specs.declared.refused.OpenFault.TheVariants.{Damaged}
 use Rattle.store_rows.proofs.Checked.{one_at_most}
 use Rattle.store_rows.proofs.MetaRow.{has_one}
 use Rattle.store_rows.specs.declared.metas.TheConstants.{VERSION}
@@ -42,11 +47,13 @@ abbrev decided_in : Option StoredMeta → ℤ
 decided_in None = pos 0
 decided_in (Some m) = m.decided
 
-two_are : (a b : ℤ) (d : ℕ) → a ≡ VERSION → b ≡ pos d → (let it : Entry = record { key = pos 1; values = a ∷ b ∷ [] } in it) ≡ meta_entry d
+two_are : (a b : ℤ) (d : ℕ) → a ≡ VERSION → b ≡ pos d
+    → (let it : Entry = record { key = pos 1; values = a ∷ b ∷ [] } in it) ≡ meta_entry d
 two_are a b d version decided = rw (version, decided) refl
 
 whole_row : (values : List ℤ) (d : ℕ) → length values ≡ 2
-    → meta_in (record { key = pos 1; values = values } ∷ []) ≡ Some (record { version = VERSION; decided = pos d })
+    → meta_in (record { key = pos 1; values = values } ∷ [])
+    ≡ Some (record { version = VERSION; decided = pos d })
     → (let it : Entry = record { key = pos 1; values = values } in it) ≡ meta_entry d
 whole_row [] d wide told = absurd (omega arith)
 whole_row (a ∷ []) d wide told = absurd (omega arith)
@@ -54,11 +61,14 @@ whole_row (a ∷ b ∷ []) d wide told = two_are a b d (ap version_in told) (ap 
 whole_row (a ∷ b ∷ c ∷ more) d wide told = absurd (omega arith)
 
 one_row : (key : ℤ) (values : List ℤ) (d : ℕ) → key ≡ pos 1 → length values ≡ 2
-    → meta_in (record { key = key; values = values } ∷ []) ≡ Some (record { version = VERSION; decided = pos d })
+    → meta_in (record { key = key; values = values } ∷ [])
+    ≡ Some (record { version = VERSION; decided = pos d })
     → (let it : Entry = record { key = key; values = values } in it) ≡ meta_entry d
 one_row key values d is wide told =
     ap (λ (k : ℤ). let it : Entry = record { key = k; values = values } in it) is
-    ∙ whole_row values d wide (subst (λ (k : ℤ). meta_in (record { key = k; values = values } ∷ []) ≡ Some (record { version = VERSION; decided = pos d })) is told)
+    ∙ whole_row values d wide (subst
+    (λ (k : ℤ). meta_in (record { key = k; values = values } ∷ [])
+    ≡ Some (record { version = VERSION; decided = pos d })) is told)
 
 -- where it is ours, it is the one row of `meta`
 one_of_ours : (db : Database) (rows : List Entry) → HoldsRows db six.meta rows → IsOurs (meta_in rows)
@@ -68,15 +78,20 @@ one_of_ours db rows has ours = elim (one_at_most db rows has) [
   | inr one ↦
       let e = one.0 in
       let wide : length e.values ≡ 2 = (subst (HoldsRows db six.meta) one.1 has).holds.rows.wide.0 in
-      let told = subst (λ (rs : List Entry). meta_in rs ≡ Some (record { version = VERSION; decided = pos ours.0 })) one.1 ours.1 in
+      let told =
+      subst (λ (rs : List Entry). meta_in rs ≡ Some (record { version = VERSION; decided = pos ours.0 }))
+      one.1 ours.1 in
       (ours.0, one.1 ∙ ap (λ (r : Entry). r ∷ []) (one_row e.key e.values ours.0 one.2 wide told), ours.2)
 ]
 
 -- the row wasn't read
-module _ (old mid new : State) (tables : IsPresent old.now six_probes Whole) (first : IsAsBefore old mid) where
+module _ (old mid new : State) (tables : IsPresent old.now six_probes Whole)
+    (first : IsAsBefore old mid) where
   abbrev MissedAt : OpenFault → Type 0
   MissedAt fault =
-      ((rows : List Entry) → HoldsRows mid.now six.meta rows → TellsMeta (meta_in rows) (Err fault)) → IsOfOtherType mid.now fault → IsReadOnly {X = Option StoredMeta} mid new (Err fault) → SeeksBank old new (Err fault)
+      ((rows : List Entry) → HoldsRows mid.now six.meta rows → TellsMeta (meta_in rows) (Err fault))
+      → IsOfOtherType mid.now fault → IsReadOnly {X = Option StoredMeta} mid new (Err fault)
+      → SeeksBank old new (Err fault)
 
   at_store : MissedAt Store
   at_store tells other reads = (tt, λ still. as_before old mid new first (reads still))
@@ -96,10 +111,13 @@ module _ (old mid new : State) (tables : IsPresent old.now six_probes Whole) (fi
   missed fault (inr is) = subst MissedAt (sym is) at_value
 
 -- what was read of the row, and what was said against it
-module _ (old mid new : State) (stored : Option StoredMeta) (tables : IsPresent old.now six_probes Whole) (first : IsAsBefore old mid)
-    (read : (rows : List Entry) → HoldsRows mid.now six.meta rows → stored ≡ meta_in rows) (then : IsAsBefore mid new) where
+module _ (old mid new : State) (stored : Option StoredMeta) (tables : IsPresent old.now six_probes Whole)
+    (first : IsAsBefore old mid)
+    (read : (rows : List Entry) → HoldsRows mid.now six.meta rows → stored ≡ meta_in rows)
+    (then : IsAsBefore mid new) where
   row_is : (P : Option StoredMeta → Type 0) → P stored → MetaIs old P
-  row_is P holds rows has = subst P (read rows (subst (λ (db : Database). HoldsRows db six.meta rows) (sym first.now_is) has)) holds
+  row_is P holds rows has =
+      subst P (read rows (subst (λ (db : Database). HoldsRows db six.meta rows) (sym first.now_is) has)) holds
 
   same : IsAsBefore old new
   same = as_before old mid new first then
@@ -127,13 +145,17 @@ module _ (old mid new : State) (stored : Option StoredMeta) (tables : IsPresent 
 -- ---- where a log is shown
 
 -- a database that shows tables lacks none of the six
-has_its_table : (probes : List (List ℕ × Table)) (it : List ℕ × Table) → Has probes it → Has (map (λ p. p.1) probes) it.1
+has_its_table : (probes : List (List ℕ × Table)) (it : List ℕ × Table) → Has probes it
+    → Has (map (λ p. p.1) probes) it.1
 has_its_table [] it has = has
 has_its_table (p ∷ probes) it (inl is) = inl (ap (λ q. q.1) is)
 has_its_table (p ∷ probes) it (inr has) = inr (has_its_table probes it has)
 
-lacks_none : (db : Database) (t : Tables) → Shows db t → (it : List ℕ × Table) → Has six_probes it → Lacks db it → ⊥
-lacks_none db t shows it has lacks = lacks.1 shows.sound (each_defined db bank_tables (contents t) shows.each it.1 (has_its_table six_probes it has))
+lacks_none : (db : Database) (t : Tables) → Shows db t → (it : List ℕ × Table) → Has six_probes it
+    → Lacks db it → ⊥
+lacks_none db t shows it has lacks =
+    lacks.1 shows.sound (each_defined db bank_tables (contents t) shows.each it.1
+    (has_its_table six_probes it has))
 
 -- where none of the six is, no tables are shown
 pub no_bank : (db : Database) (t : Tables) → IsPresent db six_probes Absent → Shows db t → ⊥
@@ -153,19 +175,27 @@ not_outside z n most is le (inr above) = let h = rw is at above in omega (arith,
 not_missing : (stored : Option StoredMeta) → IsOurs stored → IsNoCount stored → ⊥
 not_missing stored ours (inl none) = let both = sym none ∙ ours.1 in cc
 not_missing stored ours (inr outside) =
-    not_outside outside.1 ours.0 MAX_DECIDED (sym (ap decided_in outside.2) ∙ ap decided_in ours.1) ours.2 outside.3
+    not_outside outside.1 ours.0 MAX_DECIDED (sym (ap decided_in outside.2) ∙ ap decided_in ours.1) ours.2
+    outside.3
 
 -- a bank that shows a log is missed only where the store failed
-pub known : (old : State) (fault : OpenFault) (t : Tables) (log : List Command) → Misses old fault → Shows old.now t → AreCommands log → Show t log → fault ≡ Store
+pub known : (old : State) (fault : OpenFault) (t : Tables) (log : List Command) → Misses old fault
+    → Shows old.now t → AreCommands log → Show t log → fault ≡ Store
 known old Store t log misses shows are log_shown = refl
 known old NotBlank t log misses shows are log_shown = absurd misses
 known old Blank t log misses shows are log_shown = absurd (no_bank old.now t misses shows)
-known old Foreign t log misses shows are log_shown = absurd (lacks_none old.now t shows misses.1.0 misses.1.1 misses.1.2)
-known old (Version n) t log misses shows are log_shown = absurd (not_other _ n (holds t (undamaged t log are log_shown)) (misses.1 (meta_entry t.decided ∷ []) (has_one old.now t shows)))
-known old (Damaged Meta) t log misses shows are log_shown = absurd (not_missing _ (holds t (undamaged t log are log_shown)) (misses.1 (meta_entry t.decided ∷ []) (has_one old.now t shows)))
+known old Foreign t log misses shows are log_shown =
+    absurd (lacks_none old.now t shows misses.1.0 misses.1.1 misses.1.2)
+known old (Version n) t log misses shows are log_shown =
+    absurd (not_other _ n (holds t (undamaged t log are log_shown))
+    (misses.1 (meta_entry t.decided ∷ []) (has_one old.now t shows)))
+known old (Damaged Meta) t log misses shows are log_shown =
+    absurd (not_missing _ (holds t (undamaged t log are log_shown))
+    (misses.1 (meta_entry t.decided ∷ []) (has_one old.now t shows)))
 known old (Damaged Teller) t log misses shows are log_shown = absurd misses
 known old (Damaged Account) t log misses shows are log_shown = absurd misses
 known old (Damaged Balance) t log misses shows are log_shown = absurd misses
 known old (Damaged Request) t log misses shows are log_shown = absurd misses
-known old (Damaged Value) t log misses shows are log_shown = absurd (misses.1 (meta_entry t.decided ∷ []) (has_one old.now t shows))
+known old (Damaged Value) t log misses shows are log_shown =
+    absurd (misses.1 (meta_entry t.decided ∷ []) (has_one old.now t shows))
 known old (Damaged Key) t log misses shows are log_shown = absurd misses

@@ -1,5 +1,6 @@
 -- What the probes tell of several tables, and that nothing has changed.
-use Rattle.std.proofs.Common.{◌≡◌, ◌<◌, ◌+◌, suc, ℕ, Bool, true, false, List, [], ◌∷◌, ◌++◌, length, map, take, get_or, Ok, refl, ap, subst, ◌∙◌, inl, inr, arith}
+use Rattle.std.proofs.Common.{◌≡◌, ◌<◌, ◌+◌, suc, ℕ, Bool, true, false, List, [], ◌∷◌, ◌++◌, length, map}
+use Rattle.std.proofs.Common.{take, get_or, Ok, refl, ap, subst, ◌∙◌, inl, inr, arith}
 use Rattle.std.proofs.Math.Seq.{take-suc}
 use Rattle.std.proofs.lemmas.List.{map-append}
 use Rattle.std.specs.List.{AllByRecursion}
@@ -15,7 +16,8 @@ use Rattle.store_rows.specs.Calls.{Probes}
 use Rattle.bank_store.specs.declared.probing.BankTable.{BankTable}
 use Rattle.bank_store.specs.declared.probing.Presence.{Presence}
 use Rattle.bank_store.specs.declared.probing.Presence.TheVariants.{Absent, Partial, Whole}
-use Rattle.bank_store.specs.Opening.{IsReadable, Lacks, OneOf, IsPresent, presence_of, joined, probe_of, IsAsBefore}
+use Rattle.bank_store.specs.Opening.{IsReadable, Lacks, OneOf, IsPresent, presence_of, joined, probe_of}
+use Rattle.bank_store.specs.Opening.{IsAsBefore}
 
 -- a table, and the statement that reads all its columns
 abbrev Probe : Type 0
@@ -47,18 +49,25 @@ module _ (P : Probe → Type 0) (x : Probe) (xs : List Probe) (y : Probe) (ys : 
   one_right p = (p.0, has_right (x ∷ xs) (y ∷ ys) p.0 p.1, p.2)
 
 -- how many there are of two parts, of which neither is empty
-pub both_present : (db : Database) (x : Probe) (xs : List Probe) (y : Probe) (ys : List Probe) (p q : Presence)
+pub both_present : (db : Database) (x : Probe) (xs : List Probe) (y : Probe) (ys : List Probe)
+    (p q : Presence)
     → IsPresent db (x ∷ xs) p → IsPresent db (y ∷ ys) q → IsPresent db ((x ∷ xs) ++ (y ∷ ys)) (joined p q)
 both_present db x xs y ys Absent Absent a b = all-append (Lacks db) (x ∷ xs) (y ∷ ys) a b
-both_present db x xs y ys Absent Partial a b = (one_right (IsReadable db) x xs y ys b.0, first_left (Lacks db) x xs y ys a)
-both_present db x xs y ys Absent Whole a b = (first_right (IsReadable db) x xs y ys b, first_left (Lacks db) x xs y ys a)
-both_present db x xs y ys Partial q a b = (one_left (IsReadable db) x xs y ys a.0, one_left (Lacks db) x xs y ys a.1)
-both_present db x xs y ys Whole Absent a b = (first_left (IsReadable db) x xs y ys a, first_right (Lacks db) x xs y ys b)
-both_present db x xs y ys Whole Partial a b = (first_left (IsReadable db) x xs y ys a, one_right (Lacks db) x xs y ys b.1)
+both_present db x xs y ys Absent Partial a b =
+    (one_right (IsReadable db) x xs y ys b.0, first_left (Lacks db) x xs y ys a)
+both_present db x xs y ys Absent Whole a b =
+    (first_right (IsReadable db) x xs y ys b, first_left (Lacks db) x xs y ys a)
+both_present db x xs y ys Partial q a b =
+    (one_left (IsReadable db) x xs y ys a.0, one_left (Lacks db) x xs y ys a.1)
+both_present db x xs y ys Whole Absent a b =
+    (first_left (IsReadable db) x xs y ys a, first_right (Lacks db) x xs y ys b)
+both_present db x xs y ys Whole Partial a b =
+    (first_left (IsReadable db) x xs y ys a, one_right (Lacks db) x xs y ys b.1)
 both_present db x xs y ys Whole Whole a b = all-append (IsReadable db) (x ∷ xs) (y ∷ ys) a b
 
 -- what one probe tells
-pub probed : (old new : State) (probe : Probe) (there : Bool) → TellsProbe old new probe.1 (Ok there) → TellsUnderstood old new probe.0 (Ok there)
+pub probed : (old new : State) (probe : Probe) (there : Bool) → TellsProbe old new probe.1 (Ok there)
+    → TellsUnderstood old new probe.0 (Ok there)
     → IsPresent old.now (probe ∷ []) (presence_of there) × IsAsBefore old new
 probed old new probe true told text = (((text.0, told.0), tt), told.1.0)
 probed old new probe false told text = (((text.0, told.0), tt), told.1.0)
@@ -73,28 +82,38 @@ as_before a b c one two = record {
   mode = two.mode ∙ one.mode;
 }
 
-present_before : (old new : State) (probes : List Probe) (p : Presence) → IsAsBefore old new → IsPresent new.now probes p → IsPresent old.now probes p
+present_before : (old new : State) (probes : List Probe) (p : Presence) → IsAsBefore old new
+    → IsPresent new.now probes p → IsPresent old.now probes p
 present_before old new probes p same = subst (λ (db : Database). IsPresent db probes p) same.now_is
 
 -- one part after another
-pub then_present : (a b c : State) (x : Probe) (xs : List Probe) (y : Probe) (ys : List Probe) (p q : Presence)
+pub then_present : (a b c : State) (x : Probe) (xs : List Probe) (y : Probe) (ys : List Probe)
+    (p q : Presence)
     → IsPresent a.now (x ∷ xs) p × IsAsBefore a b → IsPresent b.now (y ∷ ys) q × IsAsBefore b c
     → IsPresent a.now ((x ∷ xs) ++ (y ∷ ys)) (joined p q) × IsAsBefore a c
-then_present a b c x xs y ys p q one two =
-    (both_present a.now x xs y ys p q one.0 (present_before a b (y ∷ ys) q one.1 two.0), as_before a b c one.1 two.1)
+then_present a b c x xs y ys p q one two = (
+  both_present a.now x xs y ys p q one.0 (present_before a b (y ∷ ys) q one.1 two.0),
+  as_before a b c one.1
+      two.1,
+)
 
 -- one more table
-pub one_more : {S : Type 0} (g : Ghosts S) (old mid new : Held S) (x : Probe) (xs : List Probe) (y : Probe) (p : Presence) (is : Bool)
-    → IsPresent (state g old).now (x ∷ xs) p × IsAsBefore (state g old) (state g mid) → Probes g mid new y (Ok is) → HasCleanDisk (state g new)
-    → IsPresent (state g old).now ((x ∷ xs) ++ y ∷ []) (joined p (presence_of is)) × IsAsBefore (state g old) (state g new)
+pub one_more : {S : Type 0} (g : Ghosts S) (old mid new : Held S) (x : Probe) (xs : List Probe) (y : Probe)
+    (p : Presence) (is : Bool)
+    → IsPresent (state g old).now (x ∷ xs) p × IsAsBefore (state g old) (state g mid)
+    → Probes g mid new y (Ok is) → HasCleanDisk (state g new)
+    → IsPresent (state g old).now ((x ∷ xs) ++ y ∷ []) (joined p (presence_of is))
+    × IsAsBefore (state g old) (state g new)
 one_more g old mid new x xs y p is so_far told clean =
     then_present (state g old) (state g mid) (state g new) x xs y [] p (presence_of is) so_far
     (probed (state g mid) (state g new) y is (told.told clean) (told.text clean))
 
 -- the probes of the tables up to one, and of that one
 pub next_probe : (first : BankTable) (others : List BankTable) (at : ℕ) (d : BankTable) → at < length others
-    → map probe_of (first ∷ take (at + 1) others) ≡ map probe_of (first ∷ take at others) ++ probe_of (get_or others at d) ∷ []
+    → map probe_of (first ∷ take (at + 1) others)
+    ≡ map probe_of (first ∷ take at others) ++ probe_of (get_or others at d) ∷ []
 next_probe first others at d low =
     let more : at + 1 ≡ suc at = omega arith in
-    ap (λ n. map probe_of (first ∷ take n others)) more ∙ ap (λ l. map probe_of (first ∷ l)) (take-suc others at d low)
+    ap (λ n. map probe_of (first ∷ take n others)) more
+    ∙ ap (λ l. map probe_of (first ∷ l)) (take-suc others at d low)
     ∙ map-append probe_of (first ∷ take at others) (get_or others at d ∷ [])

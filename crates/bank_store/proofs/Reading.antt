@@ -30,8 +30,10 @@ by_store old new e (inr (inl memory, same)) = ap (λ (x : Error). unread_by (Sql
 by_store old new e (inr (inr limit, same)) = ap (λ (x : Error). unread_by (Sqlite x)) limit.0
 
 -- an error at a row that can be read is the store's
-pub read_err : (old new : State) (wanted : Option StoredMeta) (e : TableFault) → Finds old new wanted Never (Err e) → TellsMeta wanted (Err (unread_by e))
-read_err old new wanted (Sqlite e) finds = subst (λ (f : OpenFault). TellsMeta wanted (Err f)) (sym (by_store old new e finds)) tt
+pub read_err : (old new : State) (wanted : Option StoredMeta) (e : TableFault)
+    → Finds old new wanted Never (Err e) → TellsMeta wanted (Err (unread_by e))
+read_err old new wanted (Sqlite e) finds =
+    subst (λ (f : OpenFault). TellsMeta wanted (Err f)) (sym (by_store old new e finds)) tt
 read_err old new wanted (Damaged rule) finds = absurd finds.0.2
 
 -- what is told as a damaged value is one

@@ -18,24 +18,31 @@ use Rattle.bank_store.proofs.Broke.{consulted, transacted}
 use Rattle.bank_store.proofs.Countered.{HoldsOfLogs, failed_between, keeps_file, kept_error, refuses}
 
 -- it is refused as the trait says; damage leaves the file as it was; the cause is kept; and damage says this
-pub record Refusal {S : Type 0} (g : Ghosts S) (old new : Bank S g) (cs : List Command) (Met : Damage S) (told : Fault) : Type 0 where
+pub record Refusal {S : Type 0} (g : Ghosts S) (old new : Bank S g) (cs : List Command) (Met : Damage S)
+    (told : Fault) : Type 0 where
   pub fault : Refuses told (bank_seen g old) (bank_seen g new) cs
-  pub kept : TellsDamage told → HasCleanDisk (state g (connection_of new)) → database_of g new ≡ database_of g old
+  pub kept : TellsDamage told → HasCleanDisk (state g (connection_of new))
+      → database_of g new ≡ database_of g old
   pub cause : TellsFailure told → KeepsCause g old new
-  pub broken : OfDamage told (λ rule. HasCleanDisk (state g (connection_of new)) → Met (connection_of old) (connection_of new) rule)
+  pub broken : OfDamage told (λ rule. HasCleanDisk (state g (connection_of new))
+      → Met (connection_of old) (connection_of new) rule)
 
-module _ {S X : Type 0} {So : Tables → Type 0} {after : Tables → Tables} {wanted : Tables → X} (g : Ghosts S) (old new : Bank S g) (mid : Held S)
-    (holds : HoldsOfLogs So) (cs : List Command) (is : IsChange after cs) (are : AreCommands cs) (e : TableFault) (told : Fault)
+module _ {S X : Type 0} {So : Tables → Type 0} {after : Tables → Tables} {wanted : Tables → X} (g : Ghosts S)
+    (old new : Bank S g) (mid : Held S)
+    (holds : HoldsOfLogs So) (cs : List Command) (is : IsChange after cs) (are : AreCommands cs)
+    (e : TableFault) (told : Fault)
     (down : GoesDown (state g mid) (state g (connection_of new)) e (fault_of new) told)
     (quiet : Survives (state g mid) (state g (connection_of new)) (λ _. ⊥)) where
   refusal : (Met : Damage S) → TransactsBy {X = X} Met g (connection_of old) mid So after wanted (Err e)
-      → OfDamage told (λ rule. HasCleanDisk (state g (connection_of new)) → Met (connection_of old) (connection_of new) rule)
+      → OfDamage told (λ rule. HasCleanDisk (state g (connection_of new))
+      → Met (connection_of old) (connection_of new) rule)
       → Refusal g old new cs Met told
   refusal Met does broken =
       let a = connection_of old in
       let c = connection_of new in
       record {
-        fault = refuses g a mid c holds cs is are (IsSome (fault_of old)) e (fault_of new) told does down quiet;
+        fault =
+            refuses g a mid c holds cs is are (IsSome (fault_of old)) e (fault_of new) told does down quiet;
         kept = λ damage clean. keeps_file g a mid c e (fault_of new) told does down quiet damage clean;
         cause = λ tells. record {
           kept = kept_error _ _ (fault_of new) told e down tells;
@@ -45,7 +52,8 @@ module _ {S X : Type 0} {So : Tables → Type 0} {after : Tables → Tables} {wa
       }
 
   -- of a call that only reads
-  pub consult_refused : TransactsBy {X = X} (IsFirstBroken g) g (connection_of old) mid So after wanted (Err e)
+  pub consult_refused : TransactsBy {X = X} (IsFirstBroken g) g (connection_of old) mid So after wanted
+      (Err e)
       → Refusal g old new cs (IsFirstBroken g) told
   consult_refused does =
       refusal (IsFirstBroken g) does

@@ -6,7 +6,8 @@ use Rattle.sqlite.specs.Effect.{Database}
 use Rattle.sqlite.specs.State.{State, store_error}
 use Rattle.sqlite.specs.declared.error.Error.{Error}
 use Rattle.sqlite_trees.specs.declared.error.StoreError.{StoreError}
-use Rattle.sqlite_trees.specs.declared.error.StoreError.TheVariants.{OutOfMemory, Io, Corrupt, Full, Broken, Unstorable}
+use Rattle.sqlite_trees.specs.declared.error.StoreError.TheVariants.{OutOfMemory, Io, Corrupt, Full, Broken}
+use Rattle.sqlite_trees.specs.declared.error.StoreError.TheVariants.{Unstorable}
 use Rattle.sqlite_schema.specs.Names.{table_named, view_named}
 use Rattle.posting_rules.proofs.Keyed.{by_test}
 use Rattle.sql_meanings.specs.Making.{KeepsTables}
@@ -14,7 +15,8 @@ use Rattle.store_rows.specs.Creation.{CreatesBank, IsEmpty, IsMade, RefusesNext}
 use Rattle.store_rows.specs.Probes.{six_probes}
 use Rattle.store_rows.specs.Probes as probe
 use Rattle.store_rows.proofs.EmptyFile.{refused_on_nothing}
-use Rattle.bank_store.specs.Opening.{of_the_store, unmade_by, IsReadable, OneOf, IsPresent, IsRefused, IsTaken}
+use Rattle.bank_store.specs.Opening.{of_the_store, unmade_by, IsReadable, OneOf, IsPresent, IsRefused}
+use Rattle.bank_store.specs.Opening.{IsTaken}
 use Rattle.bank_store.specs.declared.probing.Presence.{Presence}
 use Rattle.bank_store.specs.declared.probing.Presence.TheVariants.{Absent, Partial, Whole}
 use Rattle.bank_store.specs.declared.refused.OpenFault.{OpenFault}
@@ -29,9 +31,11 @@ own_error Full = refl
 own_error Broken = refl
 own_error Unstorable = refl
 
-pub refused_because : (old new : State) (e : Error) (fault : OpenFault) → fault ≡ unmade_by e → CreatesBank old new (Err e) → fault ≡ NotBlank → IsRefused old
+pub refused_because : (old new : State) (e : Error) (fault : OpenFault) → fault ≡ unmade_by e
+    → CreatesBank old new (Err e) → fault ≡ NotBlank → IsRefused old
 refused_because old new e fault is (inl fails) taken =
-    absurd (let own : of_the_store e ≡ true = ap of_the_store fails.1 ∙ own_error fails.0 in let h = rw own at is in cc)
+    absurd (let own : of_the_store e ≡ true = ap of_the_store fails.1
+    ∙ own_error fails.0 in let h = rw own at is in cc)
 refused_because old new e fault is (inr refused) taken =
     elim (by_test (of_the_store e)) [
       | inl own ↦ absurd (let h = rw own at is in cc)
@@ -39,7 +43,8 @@ refused_because old new e fault is (inr refused) taken =
     ]
 
 -- what is refused where nothing was changed is refused before
-pub refused_before : (old mid : State) → mid.now ≡ old.now → mid.step_limit ≡ old.step_limit → IsRefused mid → IsRefused old
+pub refused_before : (old mid : State) → mid.now ≡ old.now → mid.step_limit ≡ old.step_limit → IsRefused mid
+    → IsRefused old
 refused_before old mid now limit (e, db, other, inl one) = (
   e,
   db,
@@ -60,11 +65,13 @@ refused_before old mid now limit (e, db, other, inr first) = (
   ),
 )
 
-pub if_err : {X E : Type 0} (P Q : E → Type 0) → ((e : E) → P e → Q e) → (r : Result X E) → IfErr r P → IfErr r Q
+pub if_err : {X E : Type 0} (P Q : E → Type 0) → ((e : E) → P e → Q e) → (r : Result X E) → IfErr r P
+    → IfErr r Q
 if_err P Q f (Ok x) h = tt
 if_err P Q f (Err e) h = f e h
 
-pub some_there : (db : Database) (p : Presence) → (p ≡ Absent → ⊥) → IsPresent db six_probes p → OneOf six_probes (IsReadable db)
+pub some_there : (db : Database) (p : Presence) → (p ≡ Absent → ⊥) → IsPresent db six_probes p
+    → OneOf six_probes (IsReadable db)
 some_there db Absent not_so here = absurd (not_so refl)
 some_there db Partial not_so here = here.0
 some_there db Whole not_so here = (probe.meta, inl refl, here.0)

@@ -1,5 +1,6 @@
 -- What a step of a walk gives, of what was read ahead.
-use Rattle.std.proofs.Common.{◌≡◌, ◌≤◌, ◌≤ℤ◌, ◌+ℤ◌, ◌+◌, pos, subst, ℕ, ℤ, zero, suc, List, [], ◌∷◌, ◌++◌, map, drop, length, slice_get, Some, None, Option, refl, sym, ap, ◌∙◌, arith}
+use Rattle.std.proofs.Common.{◌≡◌, ◌≤◌, ◌≤ℤ◌, ◌+ℤ◌, ◌+◌, pos, subst, ℕ, ℤ, zero, suc, List, [], ◌∷◌, ◌++◌}
+use Rattle.std.proofs.Common.{map, drop, length, slice_get, Some, None, Option, refl, sym, ap, ◌∙◌, arith}
 use Rattle.posting_rules.specs.declared.fault.Fault.{Fault}
 use Rattle.sqlite.specs.declared.error.Error.{Error}
 use Rattle.store_rows.specs.declared.faults.TableFault.{TableFault}
@@ -14,7 +15,8 @@ use Rattle.bank_store.specs.declared.walks.Stage.{Stage}
 use Rattle.bank_store.specs.declared.walks.Stage.TheVariants.{Going}
 
 -- what is told of a fault is the walk's fault
-pub told_of : {X : Type 0} (Because : Error → Type 0) (Breaks : X → Type 0) (items : List X) (f : TableFault) (fault : Fault) → Tells f fault
+pub told_of : {X : Type 0} (Because : Error → Type 0) (Breaks : X → Type 0) (items : List X) (f : TableFault)
+    (fault : Fault) → Tells f fault
     → BreaksFirst Because Breaks items f → IsTold Because Breaks items fault
 told_of Because Breaks items (Sqlite e) fault tells broke = rw tells (e, broke)
 told_of Because Breaks items (Damaged broken) fault tells broke = rw tells broke
@@ -25,7 +27,8 @@ drop_all zero (x ∷ xs) low = absurd (omega arith)
 drop_all (suc n) [] low = refl
 drop_all (suc n) (x ∷ xs) low = drop_all n xs (omega arith)
 
-next_of : {X : Type 0} (n : ℕ) (xs : List X) (x : X) → slice_get xs n ≡ Some x → drop n xs ≡ x ∷ drop (suc n) xs
+next_of : {X : Type 0} (n : ℕ) (xs : List X) (x : X) → slice_get xs n ≡ Some x
+    → drop n xs ≡ x ∷ drop (suc n) xs
 next_of n [] x is = absurd (cc)
 next_of zero (y ∷ ys) x is = ap (λ z. z ∷ ys) (let it = is in cc)
 next_of (suc n) (y ∷ ys) x is = next_of n ys x is
@@ -37,52 +40,68 @@ none_of (suc n) (y ∷ ys) is = let it = none_of n ys is in omega arith
 
 module _ {R X : Type 0} (key : X → ℤ) (entry : R → X) (stage : Stage) (going : stage ≡ Going) where
   -- where nothing that was read is left, those to come are those behind
-  pub only_rest : (rs : List R) (given : ℕ) (rest : List X) → length rs ≤ given → coming stage (map entry (drop given rs) ++ rest) ≡ rest
+  pub only_rest : (rs : List R) (given : ℕ) (rest : List X) → length rs ≤ given
+      → coming stage (map entry (drop given rs) ++ rest) ≡ rest
   only_rest rs given rest low =
-      ap (λ s. coming s (map entry (drop given rs) ++ rest)) going ∙ ap (λ l. map entry l ++ rest) (drop_all given rs low)
+      ap (λ s. coming s (map entry (drop given rs) ++ rest)) going
+      ∙ ap (λ l. map entry l ++ rest) (drop_all given rs low)
 
   -- the next of those that were read ahead is the first to come
   pub gives_next : (rs : List R) (given : ℕ) (rest : List X) (r : R) → slice_get rs given ≡ Some r
-      → coming stage (map entry (drop given rs) ++ rest) ≡ entry r ∷ coming stage (map entry (drop (given + 1) rs) ++ rest)
+      → coming stage (map entry (drop given rs) ++ rest)
+      ≡ entry r ∷ coming stage (map entry (drop (given + 1) rs) ++ rest)
   gives_next rs given rest r is =
       let more : suc given ≡ given + 1 = omega arith in
-      ap (λ s. coming s (map entry (drop given rs) ++ rest)) going ∙ ap (λ l. map entry l ++ rest) (next_of given rs r is)
+      ap (λ s. coming s (map entry (drop given rs) ++ rest)) going
+      ∙ ap (λ l. map entry l ++ rest) (next_of given rs r is)
       ∙ ap (λ n. entry r ∷ (map entry (drop n rs) ++ rest)) more
       ∙ ap (λ s. entry r ∷ coming s (map entry (drop (given + 1) rs) ++ rest)) (sym going)
 
   -- the rows that were read in their place are those to come
-  pub refilled : (rs : List R) (given : ℕ) (rest : Option ℤ) (from : ℤ) (all : List X) → length rs ≤ given → rest ≡ Some from
-      → (read : List R) (behind : Option ℤ) → items_from key from all ≡ map entry read ++ items_behind key behind all
-      → coming stage (map entry read ++ items_behind key behind all) ≡ coming stage (map entry (drop given rs) ++ items_behind key rest all)
+  pub refilled : (rs : List R) (given : ℕ) (rest : Option ℤ) (from : ℤ) (all : List X) → length rs ≤ given
+      → rest ≡ Some from
+      → (read : List R) (behind : Option ℤ)
+      → items_from key from all ≡ map entry read ++ items_behind key behind all
+      → coming stage (map entry read ++ items_behind key behind all)
+      ≡ coming stage (map entry (drop given rs) ++ items_behind key rest all)
   refilled rs given rest from all low is read behind told =
-      ap (λ s. coming s (map entry read ++ items_behind key behind all)) going ∙ sym told ∙ sym (ap (λ o. items_behind key o all) is)
+      ap (λ s. coming s (map entry read ++ items_behind key behind all)) going ∙ sym told
+      ∙ sym (ap (λ o. items_behind key o all) is)
       ∙ sym (only_rest rs given (items_behind key rest all) low)
 
   -- those from a number on are to come
-  pub from_rest : (rs : List R) (given : ℕ) (rest : Option ℤ) (from : ℤ) (all : List X) → length rs ≤ given → rest ≡ Some from
+  pub from_rest : (rs : List R) (given : ℕ) (rest : Option ℤ) (from : ℤ) (all : List X) → length rs ≤ given
+      → rest ≡ Some from
       → items_from key from all ≡ coming stage (map entry (drop given rs) ++ items_behind key rest all)
   from_rest rs given rest from all low is =
       sym (ap (λ o. items_behind key o all) is) ∙ sym (only_rest rs given (items_behind key rest all) low)
 
   -- none is to come
   pub none_to_come : (rs : List R) (given : ℕ) (rest : Option ℤ) (all : List X) → slice_get rs given ≡ None
-      → (length rs ≤ given → rest ≡ None) → coming stage (map entry (drop given rs) ++ items_behind key rest all) ≡ []
+      → (length rs ≤ given → rest ≡ None)
+      → coming stage (map entry (drop given rs) ++ items_behind key rest all) ≡ []
   none_to_come rs given rest all is left =
       let low = none_of given rs is in
       only_rest rs given (items_behind key rest all) low ∙ ap (λ o. items_behind key o all) (left low)
 
 -- those from the number on where all was given that was read
-pub rises_on : {R : Type 0} (key : R → ℤ) (k from : ℤ) (rs : List R) (given : ℕ) (rest : Option ℤ) → length rs ≤ given → rest ≡ Some from
-    → RisesFrom k (map key (drop given rs)) rest → (read : List R) (behind : Option ℤ) → RisesFrom from (map key read) behind
+pub rises_on : {R : Type 0} (key : R → ℤ) (k from : ℤ) (rs : List R) (given : ℕ) (rest : Option ℤ)
+    → length rs ≤ given → rest ≡ Some from
+    → RisesFrom k (map key (drop given rs)) rest → (read : List R) (behind : Option ℤ)
+    → RisesFrom from (map key read) behind
     → RisesFrom k (map key read) behind
 rises_on key k from rs given rest low is before read behind after =
-    let below : k ≤ℤ from = subst (RisesFrom k []) is (subst (λ l. RisesFrom k (map key l) rest) (drop_all given rs low) before) in
+    let below : k ≤ℤ from =
+    subst (RisesFrom k []) is (subst (λ l. RisesFrom k (map key l) rest) (drop_all given rs low) before) in
     from_lower key k from read behind below after
 
 -- the next of those that were read ahead
-pub rises_next : {R : Type 0} (key : R → ℤ) (k : ℤ) (rs : List R) (given : ℕ) (rest : Option ℤ) (r : R) → slice_get rs given ≡ Some r
-    → RisesFrom k (map key (drop given rs)) rest → (k ≤ℤ key r) × RisesFrom (key r +ℤ pos 1) (map key (drop (given + 1) rs)) rest
+pub rises_next : {R : Type 0} (key : R → ℤ) (k : ℤ) (rs : List R) (given : ℕ) (rest : Option ℤ) (r : R)
+    → slice_get rs given ≡ Some r
+    → RisesFrom k (map key (drop given rs)) rest
+    → (k ≤ℤ key r) × RisesFrom (key r +ℤ pos 1) (map key (drop (given + 1) rs)) rest
 rises_next key k rs given rest r is before =
     let more : suc given ≡ given + 1 = omega arith in
-    let both : RisesFrom k (map key (r ∷ drop (suc given) rs)) rest = subst (λ l. RisesFrom k (map key l) rest) (next_of given rs r is) before in
+    let both : RisesFrom k (map key (r ∷ drop (suc given) rs)) rest =
+    subst (λ l. RisesFrom k (map key l) rest) (next_of given rs r is) before in
     (both.0, subst (λ n. RisesFrom (key r +ℤ pos 1) (map key (drop n rs)) rest) more both.1)

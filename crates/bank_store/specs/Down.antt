@@ -16,13 +16,15 @@ use Rattle.bank_store.specs.declared.bank.Bank.{Bank}
 
 -- the store failed, and its error is kept
 abbrev pub HasFailed : State → State → Option TableFault → Fault → Type 0
-HasFailed old new kept fault = (fault ≡ told.Store) × ((e : Error) × (kept ≡ Some (Sqlite e)) × (HasCleanDisk new → Fails old new ⊥ e))
+HasFailed old new kept fault =
+    (fault ≡ told.Store) × ((e : Error) × (kept ≡ Some (Sqlite e)) × (HasCleanDisk new → Fails old new ⊥ e))
 
 -- an error of the store is kept; damage is reported if the store still answers, and nothing has changed
 abbrev pub GoesDown : State → State → TableFault → Option TableFault → Fault → Type 0
 GoesDown old new (Sqlite e) kept fault = (kept ≡ Some (Sqlite e)) × (fault ≡ told.Store)
 GoesDown old new (Damaged rule) kept fault =
-    ((kept ≡ Some (Damaged rule)) × (fault ≡ told.Damaged rule) × (HasCleanDisk new → IsUnchanged old new)) ⊎ HasFailed old new kept fault
+    ((kept ≡ Some (Damaged rule)) × (fault ≡ told.Damaged rule) × (HasCleanDisk new → IsUnchanged old new))
+    ⊎ HasFailed old new kept fault
 
 -- the fault says that the store failed
 abbrev pub TellsFailure : Fault → Type 0
@@ -30,8 +32,8 @@ TellsFailure told.Store = ⊤
 TellsFailure _ = ⊥
 
 -- The bank has an error for its cause. On an honest disk a call of `sqlite` failed with that error in
--- between: no error is made up, none says that there is no such row, and none says that the key of a new row
--- is taken.
+-- between: no error is made up, none says that a row isn't there, and none says that the key of a new row is
+-- taken.
 pub record KeepsCause {S : Type 0} (g : Ghosts S) (old new : Bank S g) : Type 0 where
   pub kept : IsSome (cause_of new)
   pub failed : HasCleanDisk (state g (connection_of new)) → (e : Error) → cause_of new ≡ Some e
@@ -48,6 +50,8 @@ OfDamage _ P = ⊤
 abbrev pub WasBroken : {S : Type 0} (g : Ghosts S) → Bank S g → Bank S g → Rule → Type 0
 WasBroken g old new rule = HasCleanDisk (state g (connection_of new)) → IsBroken rule (database_of g old)
 
--- they do; or a statement of the call met it as it wrote: a key that is taken, or a row that is missing
+-- they do; or a statement of the call met it as it wrote, which is of a key that is taken, or of a row that
+-- isn't there
 abbrev pub WasBrokenOrMet : {S : Type 0} (g : Ghosts S) → Bank S g → Bank S g → Rule → Type 0
-WasBrokenOrMet g old new rule = HasCleanDisk (state g (connection_of new)) → IsBrokenOrMet g (connection_of old) (connection_of new) rule
+WasBrokenOrMet g old new rule =
+    HasCleanDisk (state g (connection_of new)) → IsBrokenOrMet g (connection_of old) (connection_of new) rule

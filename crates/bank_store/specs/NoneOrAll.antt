@@ -9,7 +9,8 @@ use Rattle.posting_rules.specs.Tables.{Tables, Shows}
 -- all the commands behind it
 abbrev pub LeavesNoneOrAll : Seen → Seen → List Command → Type 0
 LeavesNoneOrAll old new commands =
-    new.honest → (log : List Command) → StandsAt old log → LeavesOnly new (λ t. Shows t log ⊎ Shows t (behind log commands))
+    new.honest → (log : List Command) → StandsAt old log
+    → LeavesOnly new (λ t. Shows t log ⊎ Shows t (behind log commands))
 
 -- these tables are there, and everything that a stop may leave has them and no others
 pub record HasOnly (seen : Seen) (t : Tables) : Type 0 where

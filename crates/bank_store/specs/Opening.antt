@@ -1,5 +1,6 @@
--- What a connection is seen as before a bank is made in it or found there, and what either call answers.
-use Rattle.std.specs.Prelude.{◌≡◌, ◌≢◌, ◌⊎◌, ◌≤◌, ◌<ℤ◌, if◌then◌else◌, IsTrue, ℕ, ℤ, pos, Bool, true, false, List, [], ◌∷◌, ◌++◌, codes, Option, Some, None, Result, Ok, Err, ⊤}
+-- What a connection is seen as before a bank is made in it or found there, and what either call tells.
+use Rattle.std.specs.Prelude.{◌≡◌, ◌≢◌, ◌⊎◌, ◌≤◌, ◌<ℤ◌, if◌then◌else◌, IsTrue, ℕ, ℤ, pos, Bool, true, false}
+use Rattle.std.specs.Prelude.{List, [], ◌∷◌, ◌++◌, codes, Option, Some, None, Result, Ok, Err, ⊤}
 use Rattle.std.specs.Fmt.{decimal, signed_decimal}
 use Rattle.std.specs.List.{AllByRecursion}
 use Rattle.sqlite.specs.Table.{Table}
@@ -39,7 +40,8 @@ use Rattle.bank_store.specs.declared.probing.BankTable.TheVariants as one
 use Rattle.bank_store.specs.declared.probing.Presence.{Presence}
 use Rattle.bank_store.specs.declared.probing.Presence.TheVariants.{Absent, Partial, Whole}
 use Rattle.bank_store.specs.declared.refused.OpenFault.{OpenFault}
-use Rattle.bank_store.specs.declared.refused.OpenFault.TheVariants.{Store, NotBlank, Blank, Foreign, Version, Damaged}
+use Rattle.bank_store.specs.declared.refused.OpenFault.TheVariants.{Store, NotBlank, Blank, Foreign, Version}
+use Rattle.bank_store.specs.declared.refused.OpenFault.TheVariants.{Damaged}
 use Rattle.bank_store.specs.declared.refused.Refused.{Refused}
 use Rattle.posting_rules.specs.declared.limits.TheConstants.{MAX_DECIDED}
 
@@ -124,17 +126,21 @@ KnowsCause g old new _ = ⊤
 
 -- it has our version, and a count within its range
 abbrev pub IsOurs : Option StoredMeta → Type 0
-IsOurs stored = (decided : ℕ) × (stored ≡ Some (record { version = VERSION; decided = pos decided })) × (decided ≤ MAX_DECIDED)
+IsOurs stored =
+    (decided : ℕ) × (stored ≡ Some (record { version = VERSION; decided = pos decided }))
+    × (decided ≤ MAX_DECIDED)
 
 -- it has this version, which isn't ours
 abbrev pub IsOfVersion : ℤ → Option StoredMeta → Type 0
-IsOfVersion version stored = (decided : ℤ) × (stored ≡ Some (record { version = version; decided = decided })) × (version ≢ VERSION)
+IsOfVersion version stored =
+    (decided : ℤ) × (stored ≡ Some (record { version = version; decided = decided })) × (version ≢ VERSION)
 
 -- it is missing, or its count is outside its range
 abbrev pub IsNoCount : Option StoredMeta → Type 0
 IsNoCount stored =
     (stored ≡ None)
-    ⊎ ((version decided : ℤ) × (stored ≡ Some (record { version = version; decided = decided })) × ((decided <ℤ pos 0) ⊎ (pos MAX_DECIDED <ℤ decided)))
+    ⊎ ((version decided : ℤ) × (stored ≡ Some (record { version = version; decided = decided }))
+    × ((decided <ℤ pos 0) ⊎ (pos MAX_DECIDED <ℤ decided)))
 
 -- what is said against the row
 abbrev pub ChecksMeta : Option StoredMeta → Result (Unit {0}) OpenFault → Type 0
@@ -179,7 +185,8 @@ MetaIs s P = (rows : List Entry) → HoldsRows s.now six.meta rows → P (meta_i
 pub record IsFound (old new : State) : Type 0 where
   pub tables : IsPresent old.now six_probes Whole
   pub meta : MetaIs old IsOurs
-  pub one : (rows : List Entry) → HoldsRows old.now six.meta rows → (decided : ℕ) × (rows ≡ meta_entry decided ∷ []) × (decided ≤ MAX_DECIDED)
+  pub one : (rows : List Entry) → HoldsRows old.now six.meta rows
+      → (decided : ℕ) × (rows ≡ meta_entry decided ∷ []) × (decided ≤ MAX_DECIDED)
   pub same : IsAsBefore old new
 
 -- why no bank is found, and everything is as it was

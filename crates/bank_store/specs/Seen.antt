@@ -1,5 +1,6 @@
 -- What a bank in a file shows, and what a stop may leave of it.
 use Rattle.std.specs.Prelude.{Option, Some, None, IsSome}
+use Rattle.std.specs.declared.alloc.Global.{Global}
 use Rattle.sqlite.specs.Tree.{Trees}
 use Rattle.sqlite.specs.Effect.{Database}
 use Rattle.sqlite.specs.State.{State, HasCleanDisk}
@@ -48,3 +49,7 @@ cause_of bank = error_in bank.fault
 -- what brought it down
 abbrev pub fault_of : {S : Type 0} {g : Ghosts S} → Bank S g → Option TableFault
 fault_of bank = bank.fault
+
+-- what its calls take memory from
+abbrev pub alloc_of : {S : Type 0} {g : Ghosts S} → Bank S g → Global
+alloc_of bank = bank.alloc

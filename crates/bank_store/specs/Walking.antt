@@ -1,5 +1,6 @@
 -- What a walk has yet to give, and what a step of it gives.
-use Rattle.std.specs.Prelude.{◌≡◌, ◌++◌, ◌≤ℤ◌, ◌+ℤ◌, pos, ℕ, ℤ, Bool, List, [], ◌∷◌, map, drop, filter, Option, Some, None, Result, Ok, Err, ⊤}
+use Rattle.std.specs.Prelude.{◌≡◌, ◌++◌, ◌≤ℤ◌, ◌+ℤ◌, pos, ℕ, ℤ, Bool, List, [], ◌∷◌, map, drop, filter}
+use Rattle.std.specs.Prelude.{Option, Some, None, Result, Ok, Err, ⊤}
 use Rattle.std.specs.Borrow.{GName}
 use Rattle.sqlite_trees.specs.declared.store.Store.{Ghosts}
 use Rattle.sqlite.specs.Held.{state}
@@ -41,12 +42,15 @@ coming Ended items = []
 coming Failed items = items
 
 -- those that were read ahead and not given yet, and those behind them
-abbrev pub items_to_come : {S R X : Type 0} {g : Ghosts S} → (X → ℤ) → (R → X) → (Option ℕ → X → Bool) → List X → Walk S R g → List X
+abbrev pub items_to_come : {S R X : Type 0} {g : Ghosts S} → (X → ℤ) → (R → X) → (Option ℕ → X → Bool)
+    → List X → Walk S R g → List X
 items_to_come key item is_given items w =
-    coming w.stage (map item (drop w.given w.rows.items) ++ items_behind key w.rest (filter (is_given w.of) items))
+    coming w.stage (map item (drop w.given w.rows.items) ++ items_behind key w.rest
+    (filter (is_given w.of) items))
 
 -- the same of the rows of one table
-abbrev pub to_come : {S R : Type 0} {g : Ghosts S} → (R → Entry) → (Option ℕ → Entry → Bool) → List Entry → Walk S R g → List Entry
+abbrev pub to_come : {S R : Type 0} {g : Ghosts S} → (R → Entry) → (Option ℕ → Entry → Bool) → List Entry
+    → Walk S R g → List Entry
 to_come = items_to_come entry_key
 
 -- the keys of those to come rise from a number on
@@ -68,11 +72,14 @@ HasFailed w = w.stage ≡ Failed
 
 -- ---- a step
 
--- The first row to come was given; or there is none; or a number of the first row to come is out of its range.
-abbrev pub Steps : {R X : Type 0} → (R → X) → (X → Type 0) → List X → List X → Result (Option R) Fault → Type 0
+-- The first row to come was given; or there is none; or a number of the first row to come is out of its
+-- range.
+abbrev pub Steps : {R X : Type 0} → (R → X) → (X → Type 0) → List X → List X → Result (Option R) Fault
+    → Type 0
 Steps item Breaks old new (Ok (Some r)) = old ≡ item r ∷ new
 Steps item Breaks old new (Ok None) = (old ≡ []) × (new ≡ [])
-Steps {R} {X} item Breaks old new (Err (told.Damaged broken)) = (broken ≡ rule.Value) × ((e : X) × (more : List X) × (old ≡ e ∷ more) × Breaks e)
+Steps {R} {X} item Breaks old new (Err (told.Damaged broken)) =
+    (broken ≡ rule.Value) × ((e : X) × (more : List X) × (old ≡ e ∷ more) × Breaks e)
 Steps item Breaks old new (Err told.Store) = ⊤
 Steps item Breaks old new (Err told.Down) = new ≡ old
 Steps item Breaks old new (Err told.Memory) = ⊥
@@ -81,10 +88,11 @@ Steps item Breaks old new (Err told.Memory) = ⊥
 abbrev pub StoreFailed : State → State → Type 0
 StoreFailed old new = (e : Error) × IsStoreError old new e
 
--- the fault is of the store, with an error of which this holds, or a number of the first to come is out of
--- its range
+-- a fault is told: of the store, with an error of which this holds, or a number of the first to come is out
+-- of its range
 abbrev pub IsTold : {X : Type 0} → (Error → Type 0) → (X → Type 0) → List X → Fault → Type 0
-IsTold {X} Because Breaks old (told.Damaged broken) = (broken ≡ rule.Value) × ((e : X) × (more : List X) × (old ≡ e ∷ more) × Breaks e)
+IsTold {X} Because Breaks old (told.Damaged broken) =
+    (broken ≡ rule.Value) × ((e : X) × (more : List X) × (old ≡ e ∷ more) × Breaks e)
 IsTold Because Breaks old told.Store = (e : Error) × Because e
 IsTold Because Breaks old told.Down = ⊥
 IsTold Because Breaks old told.Memory = ⊥

@@ -19,4 +19,5 @@ IsUndone old new = IsTrue new.is_open → StateShows old new old.now old.committ
 -- the connection sees what it saw
 abbrev pub IsStill : State → State → Type 0
 IsStill old new =
-    (new.now ≡ old.now) × (new.committed ≡ old.committed) × (new.in_transaction ≡ old.in_transaction) × (new.is_open ≡ old.is_open)
+    (new.now ≡ old.now) × (new.committed ≡ old.committed) × (new.in_transaction ≡ old.in_transaction)
+    × (new.is_open ≡ old.is_open)

@@ -9,7 +9,9 @@ ghost use Rattle.store_rows.specs.Columns.{meta_in};
 ghost use Rattle.sql_meanings.specs.Entries.{Entry};
 ghost use Rattle.store_rows.specs.SixTables.{meta as table};
 ghost use Rattle.store_rows.specs.View.{HoldsRows};
-ghost use Rattle.bank_store.specs.Opening.{conn_seen, state_in, ChecksMeta, KnowsCause, TellsMeta, IsReadOnly, IsUndone, IsUnread, IsOfOtherType, IsFound, SeeksBank, Misses, IsAsBefore};
+ghost use Rattle.bank_store.specs.Opening.{conn_seen, state_in, ChecksMeta, KnowsCause, TellsMeta};
+ghost use Rattle.bank_store.specs.Opening.{IsReadOnly, IsUndone, IsUnread, IsOfOtherType, IsFound, SeeksBank};
+ghost use Rattle.bank_store.specs.Opening.{Misses, IsAsBefore};
 ghost use Rattle.bank_store.specs.Seen.{bank_seen, connection_of};
 
 use crate::bank::Bank;
@@ -21,15 +23,17 @@ use sqlite::{Alter, Connection};
 use std::alloc::Global;
 use store_rows::{StoredMeta, VERSION, probe_meta, read_meta};
 
-// The row of the bank, if there is one, whatever its numbers. Nothing is written, so the transaction is
+// What the row of the bank holds, none where there is no such row. Nothing is written, so the transaction is
 // dropped.
 fn stored_meta<S: Alter>(conn: &mut Connection<S>) -> Result<Option<StoredMeta>, OpenFault>
     requires { conn.old.in_transaction ≡ false }
     ensures told { HasCleanDisk (state S.Store conn.new) → (rows : List Entry)
         → HoldsRows (state S.Store conn.old).now table rows → TellsMeta (meta_in rows) result }
-    ensures undone { HasCleanDisk (state S.Store conn.new) → IsUndone (state S.Store conn.old) (state S.Store conn.new) }
+    ensures undone { HasCleanDisk (state S.Store conn.new)
+        → IsUndone (state S.Store conn.old) (state S.Store conn.new) }
     ensures fault { IfErr result IsUnread }
-    ensures other { HasCleanDisk (state S.Store conn.new) → IfErr result (IsOfOtherType (state S.Store conn.old).now) }
+    ensures other { HasCleanDisk (state S.Store conn.new)
+        → IfErr result (IsOfOtherType (state S.Store conn.old).now) }
     ensures cause { IfErr result (KnowsCause S.Store conn.old conn.new) }
     ensures mode { conn.new.in_transaction ≡ false }
     ensures survives { Survives (state S.Store conn.old) (state S.Store conn.new) (λ _. ⊥) }
@@ -41,15 +45,17 @@ fn stored_meta<S: Alter>(conn: &mut Connection<S>) -> Result<Option<StoredMeta>,
     }
 }
 
-// The same. The store is asked for a table once more, so that it is known to be open and to have undone the
+// The same. The store is asked for a table again, so that it is known to be open, and to have undone the
 // transaction.
 fn settled_meta<S: Alter>(conn: &mut Connection<S>) -> Result<Option<StoredMeta>, OpenFault>
     requires { conn.old.in_transaction ≡ false }
     ensures told { HasCleanDisk (state S.Store conn.new) → (rows : List Entry)
         → HoldsRows (state S.Store conn.old).now table rows → TellsMeta (meta_in rows) result }
-    ensures same { HasCleanDisk (state S.Store conn.new) → IsReadOnly (state S.Store conn.old) (state S.Store conn.new) result }
+    ensures same { HasCleanDisk (state S.Store conn.new)
+        → IsReadOnly (state S.Store conn.old) (state S.Store conn.new) result }
     ensures fault { IfErr result IsUnread }
-    ensures other { HasCleanDisk (state S.Store conn.new) → IfErr result (IsOfOtherType (state S.Store conn.old).now) }
+    ensures other { HasCleanDisk (state S.Store conn.new)
+        → IfErr result (IsOfOtherType (state S.Store conn.old).now) }
     ensures cause { IfErr result (KnowsCause S.Store conn.old conn.new) }
     ensures mode { conn.new.in_transaction ≡ false }
     ensures survives { Survives (state S.Store conn.old) (state S.Store conn.new) (λ _. ⊥) }
@@ -78,7 +84,8 @@ fn check_meta(meta: &StoredMeta) -> Result<(), OpenFault>
 // Looks for the six tables, and then for the row of `meta`.
 fn find_bank<S: Alter>(conn: &mut Connection<S>) -> Result<(), OpenFault>
     requires { conn.old.in_transaction ≡ false }
-    ensures told { HasCleanDisk (state S.Store conn.new) → SeeksBank (state S.Store conn.old) (state S.Store conn.new) result }
+    ensures told { HasCleanDisk (state S.Store conn.new)
+        → SeeksBank (state S.Store conn.old) (state S.Store conn.new) result }
     ensures cause { IfErr result (KnowsCause S.Store conn.old conn.new) }
     ensures mode { conn.new.in_transaction ≡ false }
     ensures survives { Survives (state S.Store conn.old) (state S.Store conn.new) (λ _. ⊥) }
@@ -112,22 +119,26 @@ fn find_bank<S: Alter>(conn: &mut Connection<S>) -> Result<(), OpenFault>
 ///   is the only fault if the file has a bank of this version.
 pub fn adopt<S: Alter>(alloc: Global, mut conn: Connection<S>) -> Result<Bank<S>, Refused<S>>
     requires { conn.in_transaction ≡ false }
-    ensures found { IfOk result (λ bank. HasCleanDisk (state S.Store (connection_of bank)) → IsFound (state S.Store conn) (state S.Store (connection_of bank))) }
+    ensures found { IfOk result (λ bank. HasCleanDisk (state S.Store (connection_of bank))
+        → IsFound (state S.Store conn) (state S.Store (connection_of bank))) }
     ensures shows { IfOk result (λ bank. (bank_seen S.Store bank).honest → (log : List Command)
         → ShowsLog (conn_seen S.Store conn) log → ShowsLog (bank_seen S.Store bank) log) }
     ensures stands { IfOk result (λ bank. (bank_seen S.Store bank).honest → (log : List Command)
         → StandsAt (conn_seen S.Store conn) log → StandsAt (bank_seen S.Store bank) log) }
     ensures up { IfOk result (λ bank. (bank_seen S.Store bank).is_down → ⊥) }
-    ensures missed { IfErr result (λ refused. HasCleanDisk (state S.Store refused.conn) → Misses (state S.Store conn) refused.fault) }
+    ensures missed { IfErr result (λ refused. HasCleanDisk (state S.Store refused.conn)
+        → Misses (state S.Store conn) refused.fault) }
     ensures cause { IfErr result (λ refused. KnowsCause S.Store conn refused.conn refused.fault) }
-    ensures same { IfErr result (λ refused. HasCleanDisk (state S.Store refused.conn) → refused.fault ≢ OpenFault.Store
+    ensures same { IfErr result (λ refused. HasCleanDisk (state S.Store refused.conn)
+        → refused.fault ≢ OpenFault.Store
         → IsAsBefore (state S.Store conn) (state S.Store refused.conn)) }
     ensures undone { IfErr result (λ refused. HasCleanDisk (state S.Store refused.conn)
         → IsUndone (state S.Store conn) (state S.Store refused.conn)) }
     ensures known { IfErr result (λ refused. HasCleanDisk (state S.Store refused.conn) → (log : List Command)
         → ShowsLog (conn_seen S.Store conn) log → refused.fault ≡ OpenFault.Store) }
     ensures stop { IfErr result (λ refused. HasCleanDisk (state S.Store refused.conn) → (log : List Command)
-        → StandsAt (conn_seen S.Store conn) log → LeavesOnly (conn_seen S.Store refused.conn) (λ tables. Show tables log)) }
+        → StandsAt (conn_seen S.Store conn) log
+        → LeavesOnly (conn_seen S.Store refused.conn) (λ tables. Show tables log)) }
     ensures idle { IfErr result (λ refused. refused.conn.in_transaction ≡ false) }
     ensures survives { Survives (state S.Store conn) (state_in S.Store result) (λ _. ⊥) }
 {

@@ -1,6 +1,7 @@
 //! The bank over a connection: its calls, and how a fault brings it down.
 ghost use Rattle.posting_rules.specs.declared.fault.Fault.TheVariants as fault;
-ghost use Rattle.std.specs.Prelude.{◌≡◌, ◌≢◌, ◌≤◌, [], ◌∷◌, List, length, Err, IfOk, OnOk, IfErr, IfSome, None, false};
+ghost use Rattle.std.specs.Prelude.{◌≡◌, ◌≢◌, ◌≤◌, [], ◌∷◌, List, length, Err, IfOk, OnOk, IfErr, IfSome};
+ghost use Rattle.std.specs.Prelude.{None, false};
 ghost use Rattle.std.specs.Result.{IsErrOf};
 ghost use Rattle.sqlite.specs.State.{Survives};
 ghost use Rattle.sqlite.specs.Held.{state};
@@ -28,21 +29,8 @@ use sqlite::{Alter, Connection, Error};
 use std::alloc::Global;
 use store_rows::{TableFault, probe_meta};
 
-/// A bank over a connection, with the calls of [`Counter`]. Each call is one transaction, which is committed
-/// before the call answers `Ok`. Between calls no transaction is open.
-///
-/// # After a fault
-///
-/// - [`Fault::Memory`], of `submit_all` alone: nothing was tried, nothing has changed, and the bank can be
-///   used.
-/// - [`Fault::Store`]: the bank is down, and [`Bank::cause`] has the error. The file has all of the call or
-///   nothing of it. Release the connection, open the file again, [`adopt`](crate::adopt) the bank and send
-///   again what got no reply: what was posted is not posted twice.
-/// - [`Fault::Damaged`]: the file has rows that no bank writes, and that break this rule. Nothing has
-///   changed, and the bank is down.
-/// - [`Fault::Down`]: a fault brought the bank down before, and nothing was tried.
-///
-/// This holds of a disk that returns what was written, as long as nobody else writes the file.
+/// A bank over a connection. Each request and each opening is one transaction, and a fault brings the bank
+/// down.
 #[derive(Drop)]
 pub struct Bank<S: Alter> {
     alloc: Global,
@@ -75,7 +63,8 @@ impl<S: Alter> Bank<S> {
     pub fn release(self) -> Connection<S>
         ensures same { result ≡ connection_of self }
         ensures idle { result.in_transaction ≡ false }
-        ensures stands { (log : List Command) → StandsAt (bank_seen S.Store self) log → StandsAt (conn_seen S.Store result) log }
+        ensures stands { (log : List Command) → StandsAt (bank_seen S.Store self) log
+            → StandsAt (conn_seen S.Store result) log }
     {
         let Bank {
             alloc: _,
@@ -96,10 +85,11 @@ impl<S: Alter> Bank<S> {
         }
     }
 
-    // Brings the bank down. Before damage is reported, the store is asked for a table once more: if it
-    // answers, it is open and has undone the call, and otherwise the fault is the store's.
+    // A fault brings the bank down. Before rows are told to be damaged, the store is asked for a table, so
+    // that it is known to be open, and to have undone the call.
     fn go_down(&mut self, fault: TableFault) -> Fault
-        ensures down { GoesDown (state S.Store self.old.conn) (state S.Store self.new.conn) fault self.new.fault result }
+        ensures down { GoesDown (state S.Store self.old.conn) (state S.Store self.new.conn) fault
+            self.new.fault result }
         ensures survives { Survives (state S.Store self.old.conn) (state S.Store self.new.conn) (λ _. ⊥) }
     {
         let TableFault::Damaged(rule) = fault else {
@@ -126,6 +116,7 @@ impl<S: Alter> Bank<S> {
     ghost use Rattle.bank_walks.specs.Outcomes.{BreaksFirst};
     ghost use Rattle.bank_walks.specs.Rising.{RisesFrom};
     ghost use Rattle.bank_walks.specs.Rows.{items_behind, items_from};
+    ghost use Rattle.bank_store.specs.Seen.{alloc_of};
     ghost use Rattle.bank_store.specs.Walks.{IsStill, IsUndone};
 
     /// Whether a fault brought the bank down. Then each call answers [`Fault::Down`] and tries nothing.
@@ -135,8 +126,10 @@ impl<S: Alter> Bank<S> {
         self.fault.is_some()
     }
 
-    /// The allocator that the bank was made or taken up with.
-    pub fn alloc(&self) -> Global {
+    /// What its calls take memory from.
+    pub fn alloc(&self) -> Global
+        ensures { result ≡ alloc_of self.now }
+    {
         self.alloc
     }
 
@@ -148,14 +141,20 @@ impl<S: Alter> Bank<S> {
         from: i64,
         rows: &mut ArrayVec<R, AHEAD>,
     ) -> Result<Option<i64>, TableFault>
-        ensures told { HasCleanDisk (state S.Store self.new.conn) → (all : List R.WalkedRow.Item) → R.WalkedRow.HasItems (state S.Store self.old.conn).now all
+        ensures told { HasCleanDisk (state S.Store self.new.conn) → (all : List R.WalkedRow.Item)
+            → R.WalkedRow.HasItems (state S.Store self.old.conn).now all
             → let given = filter (R.WalkedRow.is_given of) all in MatchResult result
-            (λ rest. items_from R.WalkedRow.key from given ≡ map R.WalkedRow.item rows.new.items ++ items_behind R.WalkedRow.key rest given)
-            (BreaksFirst (IsStoreError (state S.Store self.old.conn) (state S.Store self.new.conn)) R.WalkedRow.is_broken (items_from R.WalkedRow.key from given)) }
+            (λ rest. items_from R.WalkedRow.key from given
+            ≡ map R.WalkedRow.item rows.new.items ++ items_behind R.WalkedRow.key rest given)
+            (BreaksFirst (IsStoreError (state S.Store self.old.conn) (state S.Store self.new.conn))
+            R.WalkedRow.is_broken (items_from R.WalkedRow.key from given)) }
         ensures ended { IfOk result (λ rest. rows.new.items ≡ [] → rest ≡ None) }
-        ensures rises { IfOk result (λ rest. RisesFrom from (map (λ r. R.WalkedRow.key (R.WalkedRow.item r)) rows.new.items) rest) }
-        ensures same { HasCleanDisk (state S.Store self.new.conn) → OnOk result (IsStill (state S.Store self.old.conn) (state S.Store self.new.conn)) }
-        ensures undone { HasCleanDisk (state S.Store self.new.conn) → IsUndone (state S.Store self.old.conn) (state S.Store self.new.conn) }
+        ensures rises { IfOk result (λ rest. RisesFrom from
+            (map (λ r. R.WalkedRow.key (R.WalkedRow.item r)) rows.new.items) rest) }
+        ensures same { HasCleanDisk (state S.Store self.new.conn)
+            → OnOk result (IsStill (state S.Store self.old.conn) (state S.Store self.new.conn)) }
+        ensures undone { HasCleanDisk (state S.Store self.new.conn)
+            → IsUndone (state S.Store self.old.conn) (state S.Store self.new.conn) }
         ensures up { self.new.fault ≡ self.old.fault }
         ensures survives { Survives (state S.Store self.old.conn) (state S.Store self.new.conn) (λ _. ⊥) }
     {
@@ -183,11 +182,14 @@ impl<S: Alter + Drop> Counter for Bank<S> {
     ghost leaves_something = { λ bank honest. S.Store.survives bank.conn.store honest };
 
     fn submit(&mut self, moment: Moment, bytes: &[u8; 100]) -> Result<[u8; 200], Fault>
-        ensures reply { IfOk result (λ out. (bank_seen S.Store self.new).honest → (log : List Command) → ShowsLog (bank_seen S.Store self.old) log →
+        ensures reply { IfOk result (λ out. (bank_seen S.Store self.new).honest → (log : List Command)
+            → ShowsLog (bank_seen S.Store self.old) log →
             out ≡ reply_spelling (reply log bytes.now)) }
-        ensures done { OnOk result (Takes (bank_seen S.Store self.old) (bank_seen S.Store self.new) (Post moment bytes.now ∷ [])) }
+        ensures done { OnOk result (Takes (bank_seen S.Store self.old) (bank_seen S.Store self.new)
+            (Post moment bytes.now ∷ [])) }
         ensures up { OnOk result ((bank_seen S.Store self.new).is_down → ⊥) }
-        ensures fault { IfErr result (λ fault. Refuses fault (bank_seen S.Store self.old) (bank_seen S.Store self.new) (Post moment bytes.now ∷ [])) }
+        ensures fault { IfErr result (λ fault. Refuses fault (bank_seen S.Store self.old)
+            (bank_seen S.Store self.new) (Post moment bytes.now ∷ [])) }
         ensures kept { IfErr result (λ fault. TellsDamage fault → (bank_seen S.Store self.new).honest
             → database_of S.Store self.new ≡ database_of S.Store self.old) }
         ensures frugal { result ≢ Err fault.Memory }
@@ -211,24 +213,31 @@ impl<S: Alter + Drop> Counter for Bank<S> {
         }
     }
 
-    // All room is made before the store is asked, so that `Memory` changes nothing. Each row that the records
-    // touch is read once, and each that they change is written once. They are committed together or not at
-    // all. A batch in which nothing is decided changes no table, and a stop in it leaves nothing else.
+    // All room is made before the store is asked for anything. Each row that the records touch is read once,
+    // and each that they change is written once; they stand together or not at all. Where none is decided, no
+    // table changes, and a stop leaves nothing else.
     fn submit_all(&mut self, moment: Moment, records: &[[u8; 100]]) -> Result<Vec<[u8; 200]>, Fault>
         requires some { 1 ≤ length records.now }
         requires few { length records.now ≤ RECORDS_PER_BATCH }
         ensures count { IfOk result (λ replies. length replies.items ≡ length records.now) }
-        ensures replies { IfOk result (λ replies. (bank_seen S.Store self.new).honest → (log : List Command) → ShowsLog (bank_seen S.Store self.old) log →
+        ensures replies { IfOk result (λ replies. (bank_seen S.Store self.new).honest → (log : List Command)
+            → ShowsLog (bank_seen S.Store self.old) log →
             replies.items ≡ replies_to log (posts moment records.now)) }
-        ensures done { OnOk result (Takes (bank_seen S.Store self.old) (bank_seen S.Store self.new) (posts moment records.now)) }
+        ensures done { OnOk result (Takes (bank_seen S.Store self.old) (bank_seen S.Store self.new)
+            (posts moment records.now)) }
         ensures up { OnOk result ((bank_seen S.Store self.new).is_down → ⊥) }
-        ensures fault { IfErr result (λ fault. Refuses fault (bank_seen S.Store self.old) (bank_seen S.Store self.new) (posts moment records.now)) }
-        ensures none_or_all { LeavesNoneOrAll (bank_seen S.Store self.old) (bank_seen S.Store self.new) (posts moment records.now) }
-        ensures idle { OnOk result ((bank_seen S.Store self.new).honest → (t : Tables) → (bank_seen S.Store self.old).tables t → AreOfALog t
+        ensures fault { IfErr result (λ fault. Refuses fault (bank_seen S.Store self.old)
+            (bank_seen S.Store self.new) (posts moment records.now)) }
+        ensures none_or_all { LeavesNoneOrAll (bank_seen S.Store self.old) (bank_seen S.Store self.new)
+            (posts moment records.now) }
+        ensures idle { OnOk result ((bank_seen S.Store self.new).honest → (t : Tables)
+            → (bank_seen S.Store self.old).tables t → AreOfALog t
             → DecidesNone t moment records.now → HasOnly (bank_seen S.Store self.new) t) }
         // Then all that the file holds is as it was.
-        ensures still { OnOk result ((bank_seen S.Store self.new).honest → (t : Tables) → (bank_seen S.Store self.old).tables t → AreOfALog t
-            → DecidesNone t moment records.now → database_of S.Store self.new ≡ database_of S.Store self.old) }
+        ensures still { OnOk result ((bank_seen S.Store self.new).honest → (t : Tables)
+            → (bank_seen S.Store self.old).tables t → AreOfALog t
+            → DecidesNone t moment records.now
+            → database_of S.Store self.new ≡ database_of S.Store self.old) }
         ensures kept { IfErr result (λ fault. TellsDamage fault → (bank_seen S.Store self.new).honest
             → database_of S.Store self.new ≡ database_of S.Store self.old) }
         ensures cause { IfErr result (λ fault. TellsFailure fault → KeepsCause S.Store self.old self.new) }
@@ -252,11 +261,14 @@ impl<S: Alter + Drop> Counter for Bank<S> {
         requires branch { branch ≤ LAST_BRANCH }
         requires some { 1 ≤ count }
         requires few { count ≤ MOST_ACCOUNTS }
-        ensures answer { IfOk result (λ opening. (bank_seen S.Store self.new).honest → (log : List Command) → ShowsLog (bank_seen S.Store self.old) log →
+        ensures answer { IfOk result (λ opening. (bank_seen S.Store self.new).honest → (log : List Command)
+            → ShowsLog (bank_seen S.Store self.old) log →
             opening ≡ opening_behind log branch count) }
-        ensures done { OnOk result (Takes (bank_seen S.Store self.old) (bank_seen S.Store self.new) (Open branch count ∷ [])) }
+        ensures done { OnOk result (Takes (bank_seen S.Store self.old) (bank_seen S.Store self.new)
+            (Open branch count ∷ [])) }
         ensures up { OnOk result ((bank_seen S.Store self.new).is_down → ⊥) }
-        ensures fault { IfErr result (λ fault. Refuses fault (bank_seen S.Store self.old) (bank_seen S.Store self.new) (Open branch count ∷ [])) }
+        ensures fault { IfErr result (λ fault. Refuses fault (bank_seen S.Store self.old)
+            (bank_seen S.Store self.new) (Open branch count ∷ [])) }
         ensures kept { IfErr result (λ fault. TellsDamage fault → (bank_seen S.Store self.new).honest
             → database_of S.Store self.new ≡ database_of S.Store self.old) }
         ensures frugal { result ≢ Err fault.Memory }
@@ -277,12 +289,15 @@ impl<S: Alter + Drop> Counter for Bank<S> {
     }
 
     fn balance(&mut self, account: Account) -> Result<Option<Cents>, Fault>
-        ensures value { IfOk result (λ balance. (bank_seen S.Store self.new).honest → (log : List Command) → ShowsLog (bank_seen S.Store self.old) log →
+        ensures value { IfOk result (λ balance. (bank_seen S.Store self.new).honest → (log : List Command)
+            → ShowsLog (bank_seen S.Store self.old) log →
             balance ≡ balance_behind log account) }
         ensures done { OnOk result (Takes (bank_seen S.Store self.old) (bank_seen S.Store self.new) []) }
-        ensures tables { OnOk result ((bank_seen S.Store self.new).honest → (t : Tables) → (bank_seen S.Store self.old).tables t → (bank_seen S.Store self.new).tables t) }
+        ensures tables { OnOk result ((bank_seen S.Store self.new).honest → (t : Tables)
+            → (bank_seen S.Store self.old).tables t → (bank_seen S.Store self.new).tables t) }
         ensures up { OnOk result ((bank_seen S.Store self.new).is_down → ⊥) }
-        ensures fault { IfErr result (λ fault. Refuses fault (bank_seen S.Store self.old) (bank_seen S.Store self.new) []) }
+        ensures fault { IfErr result (λ fault. Refuses fault (bank_seen S.Store self.old)
+            (bank_seen S.Store self.new) []) }
         ensures kept { IfErr result (λ fault. TellsDamage fault → (bank_seen S.Store self.new).honest
             → database_of S.Store self.new ≡ database_of S.Store self.old) }
         ensures frugal { result ≢ Err fault.Memory }

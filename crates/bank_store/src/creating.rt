@@ -8,7 +8,8 @@ ghost use Rattle.sql_meanings.specs.Making.{KeepsTables};
 ghost use Rattle.store_rows.specs.Creation.{HasNewBank, IsAlone, IsEmpty};
 ghost use Rattle.store_rows.specs.Probes.{six_probes};
 ghost use Rattle.store_rows.specs.View.{Shows};
-ghost use Rattle.bank_store.specs.Opening.{state_in, IsPresent, IsMade, IsUndone, IsUnmade, IsRefused, IsTaken, KnowsWhyUnmade};
+ghost use Rattle.bank_store.specs.Opening.{state_in, IsPresent, IsMade, IsUndone, IsUnmade, IsRefused};
+ghost use Rattle.bank_store.specs.Opening.{IsTaken, KnowsWhyUnmade};
 ghost use Rattle.bank_store.specs.Seen.{bank_seen, connection_of};
 ghost use Rattle.bank_store.specs.declared.probing.Presence.TheVariants.{Absent};
 
@@ -23,14 +24,16 @@ use store_rows::create_tables;
 // Makes the six tables and the first row of meta, in one transaction.
 fn make_tables<S: Alter>(conn: &mut Connection<S>) -> Result<(), OpenFault>
     requires { conn.old.in_transaction ≡ false }
-    ensures made { HasCleanDisk (state S.Store conn.new) → OnOk result (IsMade (state S.Store conn.old) (state S.Store conn.new)) }
+    ensures made { HasCleanDisk (state S.Store conn.new)
+        → OnOk result (IsMade (state S.Store conn.old) (state S.Store conn.new)) }
     ensures undone { HasCleanDisk (state S.Store conn.new)
         → OnErr result (IsUndone (state S.Store conn.old) (state S.Store conn.new)) }
     ensures fault { IfErr result IsUnmade }
     ensures refused { HasCleanDisk (state S.Store conn.new)
         → IfErr result (λ fault. fault ≡ OpenFault.NotBlank → IsRefused (state S.Store conn.old)) }
     ensures cause { IfErr result (KnowsWhyUnmade S.Store conn.old conn.new) }
-    ensures stop { Survives (state S.Store conn.old) (state S.Store conn.new) (HasNewBank (state S.Store conn.old).now) }
+    ensures stop { Survives (state S.Store conn.old) (state S.Store conn.new)
+        (HasNewBank (state S.Store conn.old).now) }
     ensures mode { conn.new.in_transaction ≡ false }
 {
     let mut tx = begin(conn);
@@ -47,15 +50,18 @@ fn make_tables<S: Alter>(conn: &mut Connection<S>) -> Result<(), OpenFault>
 // The same, where none of the tables is there.
 fn make_bank<S: Alter>(conn: &mut Connection<S>) -> Result<(), OpenFault>
     requires { conn.old.in_transaction ≡ false }
-    ensures blank { HasCleanDisk (state S.Store conn.new) → OnOk result (IsPresent (state S.Store conn.old).now six_probes Absent) }
-    ensures made { HasCleanDisk (state S.Store conn.new) → OnOk result (IsMade (state S.Store conn.old) (state S.Store conn.new)) }
+    ensures blank { HasCleanDisk (state S.Store conn.new)
+        → OnOk result (IsPresent (state S.Store conn.old).now six_probes Absent) }
+    ensures made { HasCleanDisk (state S.Store conn.new)
+        → OnOk result (IsMade (state S.Store conn.old) (state S.Store conn.new)) }
     ensures undone { HasCleanDisk (state S.Store conn.new)
         → OnErr result (IsUndone (state S.Store conn.old) (state S.Store conn.new)) }
     ensures fault { IfErr result IsUnmade }
     ensures refused { HasCleanDisk (state S.Store conn.new)
         → IfErr result (λ fault. fault ≡ OpenFault.NotBlank → IsTaken (state S.Store conn.old)) }
     ensures cause { IfErr result (KnowsWhyUnmade S.Store conn.old conn.new) }
-    ensures stop { Survives (state S.Store conn.old) (state S.Store conn.new) (HasNewBank (state S.Store conn.old).now) }
+    ensures stop { Survives (state S.Store conn.old) (state S.Store conn.new)
+        (HasNewBank (state S.Store conn.old).now) }
     ensures mode { conn.new.in_transaction ≡ false }
 {
     match tables_there(conn)? {
@@ -78,7 +84,8 @@ fn make_bank<S: Alter>(conn: &mut Connection<S>) -> Result<(), OpenFault>
 /// - [`OpenFault::Store`]: a call of `sqlite` failed.
 pub fn create<S: Alter>(alloc: Global, mut conn: Connection<S>) -> Result<Bank<S>, Refused<S>>
     requires { conn.in_transaction ≡ false }
-    ensures stands { IfOk result (λ bank. (bank_seen S.Store bank).honest → StandsAt (bank_seen S.Store bank) []) }
+    ensures stands { IfOk result (λ bank. (bank_seen S.Store bank).honest
+        → StandsAt (bank_seen S.Store bank) []) }
     ensures keeps { IfOk result (λ bank. HasCleanDisk (state S.Store (connection_of bank))
         → KeepsTables (state S.Store conn).now (state S.Store (connection_of bank)).now) }
     ensures alone { IfOk result (λ bank. HasCleanDisk (state S.Store (connection_of bank))
@@ -96,7 +103,8 @@ pub fn create<S: Alter>(alloc: Global, mut conn: Connection<S>) -> Result<Bank<S
     ensures empty { IfErr result (λ refused. HasCleanDisk (state S.Store refused.conn)
         → IsEmpty (state S.Store conn).now → refused.fault ≡ OpenFault.Store) }
     ensures idle { IfErr result (λ refused. refused.conn.in_transaction ≡ false) }
-    ensures stop { Survives (state S.Store conn) (state_in S.Store result) (HasNewBank (state S.Store conn).now) }
+    ensures stop { Survives (state S.Store conn) (state_in S.Store result)
+        (HasNewBank (state S.Store conn).now) }
 {
     match make_bank(&mut conn) {
         Ok(()) => Ok(Bank::over(alloc, conn)),

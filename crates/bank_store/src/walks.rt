@@ -1,5 +1,6 @@
-//! Walks over the rows of a bank, one row a step, by rising keys. They change nothing.
-ghost use Rattle.std.specs.Prelude.{◌≡◌, ◌≢◌, ◌<◌, ◌≤◌, OnSome, slice_get, [], List, false, None, Ok, Err, IfOk, IfErr, OnOk, MatchResult, filter, map, ◌++◌, drop, length, ℤ};
+//! Walks over the rows of a bank, one row a step, by rising keys.
+ghost use Rattle.std.specs.Prelude.{◌≡◌, ◌≢◌, ◌<◌, ◌≤◌, OnSome, slice_get, [], List, false, None, Ok, Err};
+ghost use Rattle.std.specs.Prelude.{IfOk, IfErr, OnOk, MatchResult, filter, map, ◌++◌, drop, length, ℤ};
 ghost use Rattle.std.specs.Borrow.{sem, RestsIfErr};
 ghost use Rattle.std.specs.Result.{IsErrOf};
 ghost use Rattle.sqlite.specs.State.{HasCleanDisk, Survives};
@@ -88,14 +89,20 @@ pub(crate) fn read_outside<S: Alter, R: WalkedRow>(
     rows: &mut ArrayVec<R, AHEAD>,
 ) -> Result<Option<i64>, TableFault>
     requires { conn.old.in_transaction ≡ false }
-    ensures told { HasCleanDisk (state S.Store conn.new) → (all : List R.WalkedRow.Item) → R.WalkedRow.HasItems (state S.Store conn.old).now all
+    ensures told { HasCleanDisk (state S.Store conn.new) → (all : List R.WalkedRow.Item)
+        → R.WalkedRow.HasItems (state S.Store conn.old).now all
         → let given = filter (R.WalkedRow.is_given of) all in MatchResult result
-        (λ rest. items_from R.WalkedRow.key from given ≡ map R.WalkedRow.item rows.new.items ++ items_behind R.WalkedRow.key rest given)
-        (BreaksFirst (IsStoreError (state S.Store conn.old) (state S.Store conn.new)) R.WalkedRow.is_broken (items_from R.WalkedRow.key from given)) }
+        (λ rest. items_from R.WalkedRow.key from given
+        ≡ map R.WalkedRow.item rows.new.items ++ items_behind R.WalkedRow.key rest given)
+        (BreaksFirst (IsStoreError (state S.Store conn.old) (state S.Store conn.new)) R.WalkedRow.is_broken
+        (items_from R.WalkedRow.key from given)) }
     ensures ended { IfOk result (λ rest. rows.new.items ≡ [] → rest ≡ None) }
-    ensures rises { IfOk result (λ rest. RisesFrom from (map (λ r. R.WalkedRow.key (R.WalkedRow.item r)) rows.new.items) rest) }
-    ensures same { HasCleanDisk (state S.Store conn.new) → OnOk result (IsStill (state S.Store conn.old) (state S.Store conn.new)) }
-    ensures undone { HasCleanDisk (state S.Store conn.new) → IsUndone (state S.Store conn.old) (state S.Store conn.new) }
+    ensures rises { IfOk result (λ rest. RisesFrom from
+        (map (λ r. R.WalkedRow.key (R.WalkedRow.item r)) rows.new.items) rest) }
+    ensures same { HasCleanDisk (state S.Store conn.new)
+        → OnOk result (IsStill (state S.Store conn.old) (state S.Store conn.new)) }
+    ensures undone { HasCleanDisk (state S.Store conn.new)
+        → IsUndone (state S.Store conn.old) (state S.Store conn.new) }
     ensures mode { conn.new.in_transaction ≡ false }
     ensures survives { Survives (state S.Store conn.old) (state S.Store conn.new) (λ _. ⊥) }
 {
@@ -105,7 +112,8 @@ pub(crate) fn read_outside<S: Alter, R: WalkedRow>(
 
 impl<'bank, S: Alter, R: WalkedRow> Walk<'bank, S, R> {
     ghost use Rattle.bank_store.specs.Seen.{database_of, fault_of};
-    ghost use Rattle.bank_store.specs.Walking.{ComesFrom, GivesFrom, HasFailed, IsEnded, IsTold, Steps, StoreFailed, items_to_come, lent, lent_state, loan_of};
+    ghost use Rattle.bank_store.specs.Walking.{ComesFrom, GivesFrom, HasFailed, IsEnded, IsTold, Steps};
+    ghost use Rattle.bank_store.specs.Walking.{StoreFailed, items_to_come, lent, lent_state, loan_of};
     ghost use Rattle.bank_store.specs.declared.walks.Stage.TheVariants.{Going};
 
     // A walk before its first row.
@@ -113,7 +121,8 @@ impl<'bank, S: Alter, R: WalkedRow> Walk<'bank, S, R> {
         ensures same_reference { loan_of result ≡ bank.entry.ghost_name }
         ensures same { lent result ≡ bank.old }
         ensures all { (all : List R.WalkedRow.Item) → R.WalkedRow.HasItems (database_of S.Store bank.old) all
-            → items_to_come R.WalkedRow.key R.WalkedRow.item R.WalkedRow.is_given all result ≡ filter (R.WalkedRow.is_given of) all }
+            → items_to_come R.WalkedRow.key R.WalkedRow.item R.WalkedRow.is_given all result
+            ≡ filter (R.WalkedRow.is_given of) all }
         ensures rises { ComesFrom (λ r. R.WalkedRow.key (R.WalkedRow.item r)) LEAST result }
     {
         Walk {
@@ -138,14 +147,21 @@ impl<'bank, S: Alter, R: WalkedRow> Walk<'bank, S, R> {
     fn refill(&mut self) -> Result<(), Fault>
         requires { self.old.stage ≡ Going }
         ensures same_reference { loan_of self.new ≡ loan_of self.old }
-        ensures told { HasCleanDisk (lent_state S.Store self.new) → (all : List R.WalkedRow.Item) → R.WalkedRow.HasItems (lent_state S.Store self.old).now all
+        ensures told { HasCleanDisk (lent_state S.Store self.new) → (all : List R.WalkedRow.Item)
+            → R.WalkedRow.HasItems (lent_state S.Store self.old).now all
             → MatchResult result
-            (λ _. items_to_come R.WalkedRow.key R.WalkedRow.item R.WalkedRow.is_given all self.new ≡ items_to_come R.WalkedRow.key R.WalkedRow.item R.WalkedRow.is_given all self.old)
-            (IsTold (IsStoreError (lent_state S.Store self.old) (lent_state S.Store self.new)) R.WalkedRow.is_broken (items_to_come R.WalkedRow.key R.WalkedRow.item R.WalkedRow.is_given all self.old)) }
-        ensures rises { (k : ℤ) → ComesFrom (λ r. R.WalkedRow.key (R.WalkedRow.item r)) k self.old → OnOk result (ComesFrom (λ r. R.WalkedRow.key (R.WalkedRow.item r)) k self.new) }
+            (λ _. items_to_come R.WalkedRow.key R.WalkedRow.item R.WalkedRow.is_given all self.new
+            ≡ items_to_come R.WalkedRow.key R.WalkedRow.item R.WalkedRow.is_given all self.old)
+            (IsTold (IsStoreError (lent_state S.Store self.old) (lent_state S.Store self.new))
+            R.WalkedRow.is_broken (items_to_come R.WalkedRow.key R.WalkedRow.item R.WalkedRow.is_given all
+            self.old)) }
+        ensures rises { (k : ℤ) → ComesFrom (λ r. R.WalkedRow.key (R.WalkedRow.item r)) k self.old
+            → OnOk result (ComesFrom (λ r. R.WalkedRow.key (R.WalkedRow.item r)) k self.new) }
         ensures left { OnOk result (length self.new.rows.items ≤ self.new.given → self.new.rest ≡ None) }
-        ensures same { HasCleanDisk (lent_state S.Store self.new) → OnOk result (IsStill (lent_state S.Store self.old) (lent_state S.Store self.new)) }
-        ensures undone { HasCleanDisk (lent_state S.Store self.new) → IsUndone (lent_state S.Store self.old) (lent_state S.Store self.new) }
+        ensures same { HasCleanDisk (lent_state S.Store self.new)
+            → OnOk result (IsStill (lent_state S.Store self.old) (lent_state S.Store self.new)) }
+        ensures undone { HasCleanDisk (lent_state S.Store self.new)
+            → IsUndone (lent_state S.Store self.old) (lent_state S.Store self.new) }
         ensures up { self.new.bank.now.fault ≡ self.old.bank.now.fault }
         ensures survives { Survives (lent_state S.Store self.old) (lent_state S.Store self.new) (λ _. ⊥) }
         ensures going { OnOk result (self.new.stage ≡ Going) }
@@ -182,22 +198,30 @@ impl<'bank, S: Alter, R: WalkedRow> Walk<'bank, S, R> {
     /// - [`Fault::Down`]: this walk has ended with a fault.
     pub fn next(&mut self) -> Result<Option<R>, Fault>
         ensures same_reference { loan_of self.new ≡ loan_of self.old }
-        ensures told { HasCleanDisk (lent_state S.Store self.new) → (all : List R.WalkedRow.Item) → R.WalkedRow.HasItems (lent_state S.Store self.old).now all
-            → Steps R.WalkedRow.item R.WalkedRow.is_broken (items_to_come R.WalkedRow.key R.WalkedRow.item R.WalkedRow.is_given all self.old)
+        ensures told { HasCleanDisk (lent_state S.Store self.new) → (all : List R.WalkedRow.Item)
+            → R.WalkedRow.HasItems (lent_state S.Store self.old).now all
+            → Steps R.WalkedRow.item R.WalkedRow.is_broken
+            (items_to_come R.WalkedRow.key R.WalkedRow.item R.WalkedRow.is_given all self.old)
             (items_to_come R.WalkedRow.key R.WalkedRow.item R.WalkedRow.is_given all self.new) result }
-        ensures store { HasCleanDisk (lent_state S.Store self.new) → (all : List R.WalkedRow.Item) → R.WalkedRow.HasItems (lent_state S.Store self.old).now all
-            → result ≡ Err fault.Store → StoreFailed (lent_state S.Store self.old) (lent_state S.Store self.new) }
+        ensures store { HasCleanDisk (lent_state S.Store self.new) → (all : List R.WalkedRow.Item)
+            → R.WalkedRow.HasItems (lent_state S.Store self.old).now all
+            → result ≡ Err fault.Store → StoreFailed (lent_state S.Store self.old)
+            (lent_state S.Store self.new) }
         // Each key is above those before it.
-        ensures rises { (k : ℤ) → ComesFrom (λ r. R.WalkedRow.key (R.WalkedRow.item r)) k self.old → IfOk result (λ row. GivesFrom (λ r. R.WalkedRow.key (R.WalkedRow.item r)) k self.new row) }
-        ensures same { HasCleanDisk (lent_state S.Store self.new) → OnOk result (IsStill (lent_state S.Store self.old) (lent_state S.Store self.new)) }
-        ensures undone { HasCleanDisk (lent_state S.Store self.new) → IsUndone (lent_state S.Store self.old) (lent_state S.Store self.new) }
+        ensures rises { (k : ℤ) → ComesFrom (λ r. R.WalkedRow.key (R.WalkedRow.item r)) k self.old
+            → IfOk result (λ row. GivesFrom (λ r. R.WalkedRow.key (R.WalkedRow.item r)) k self.new row) }
+        ensures same { HasCleanDisk (lent_state S.Store self.new)
+            → OnOk result (IsStill (lent_state S.Store self.old) (lent_state S.Store self.new)) }
+        ensures undone { HasCleanDisk (lent_state S.Store self.new)
+            → IsUndone (lent_state S.Store self.old) (lent_state S.Store self.new) }
         ensures up { fault_of (lent self.new) ≡ fault_of (lent self.old) }
         ensures survives { Survives (lent_state S.Store self.old) (lent_state S.Store self.new) (λ _. ⊥) }
         ensures ended { result ≡ Ok None → IsEnded self.new }
         ensures again { IsEnded self.old → (result ≡ Ok None) × (self.new ≡ self.old) }
         ensures failed { IfErr result (λ _. HasFailed self.new) }
         ensures frugal { result ≢ Err fault.Memory }
-        ensures down { (HasFailed self.old → IsErrOf result fault.Down) × (IsErrOf result fault.Down → HasFailed self.old × (self.new ≡ self.old)) }
+        ensures down { (HasFailed self.old → IsErrOf result fault.Down)
+            × (IsErrOf result fault.Down → HasFailed self.old × (self.new ≡ self.old)) }
     {
         match self.stage {
             Stage::Failed => return Err(Fault::Down),
@@ -225,18 +249,24 @@ ghost use Rattle.bank_store.specs.Seen.{bank_seen, database_of};
 ghost use Rattle.bank_store.specs.Walking.{ComesFrom, items_to_come, lent, loan_of, to_come};
 ghost use Rattle.bank_walks.specs.Pairs.{HasPairs, Pair, pair_key};
 ghost use Rattle.bank_walks.specs.Rows.{HasRows, LEAST, entry_key};
-ghost use Rattle.bank_walks.specs.Stored.{account_entry, asked_pair, branch_entry, is_of, posted_pair, posting_entry, teller_entry};
-ghost use Rattle.store_rows.specs.SixTables.{account as account_table, branch as branch_table, history as history_table, request as request_table, teller as teller_table};
+ghost use Rattle.bank_walks.specs.Stored.{account_entry, asked_pair, branch_entry, is_of, posted_pair};
+ghost use Rattle.bank_walks.specs.Stored.{posting_entry, teller_entry};
+ghost use Rattle.store_rows.specs.SixTables.{account as account_table, branch as branch_table};
+ghost use Rattle.store_rows.specs.SixTables.{history as history_table, request as request_table};
+ghost use Rattle.store_rows.specs.SixTables.{teller as teller_table};
 
 // Begins a walk over all rows of a kind. The only fault is `Down`.
 fn each<S: Alter, R: WalkedRow>(bank: &mut Bank<S>) -> Result<Walk<'_, S, R>, Fault>
-    ensures* refused { sem 𝓛 (RestsIfErr (the_row S.row S.Store) bank.entry loan_of result (λ last. last ≡ bank.old)) }
+    ensures* refused { sem 𝓛 (RestsIfErr (the_row S.row S.Store) bank.entry loan_of result
+        (λ last. last ≡ bank.old)) }
     ensures same_reference { IfOk result (λ it. loan_of it ≡ bank.entry.ghost_name) }
     ensures same { IfOk result (λ it. lent it ≡ bank.old) }
-    ensures all { IfOk result (λ it. (all : List R.WalkedRow.Item) → R.WalkedRow.HasItems (database_of S.Store bank.old) all
+    ensures all { IfOk result (λ it. (all : List R.WalkedRow.Item)
+        → R.WalkedRow.HasItems (database_of S.Store bank.old) all
         → items_to_come R.WalkedRow.key R.WalkedRow.item R.WalkedRow.is_given all it ≡ all) }
     ensures rises { IfOk result (λ it. ComesFrom (λ r. R.WalkedRow.key (R.WalkedRow.item r)) LEAST it) }
     ensures fault { IfErr result (λ f. (f ≡ fault.Down) × (bank_seen S.Store bank.old).is_down) }
+    ensures down { (bank_seen S.Store bank.old).is_down → IsErrOf result fault.Down }
 {
     if bank.is_down() {
         return Err(Fault::Down);
@@ -246,39 +276,48 @@ fn each<S: Alter, R: WalkedRow>(bank: &mut Bank<S>) -> Result<Walk<'_, S, R>, Fa
 
 /// Begins a walk over the rows of `branch`, by the branch's number. Its only error is [`Fault::Down`].
 pub fn each_branch<S: Alter>(bank: &mut Bank<S>) -> Result<Walk<'_, S, StoredBranch>, Fault>
-    ensures* refused { sem 𝓛 (RestsIfErr (the_row S.row S.Store) bank.entry loan_of result (λ last. last ≡ bank.old)) }
+    ensures* refused { sem 𝓛 (RestsIfErr (the_row S.row S.Store) bank.entry loan_of result
+        (λ last. last ≡ bank.old)) }
     ensures same_reference { IfOk result (λ it. loan_of it ≡ bank.entry.ghost_name) }
     ensures same { IfOk result (λ it. lent it ≡ bank.old) }
-    ensures all { IfOk result (λ it. (rows : List Entry) → HasRows (database_of S.Store bank.old) branch_table rows
+    ensures all { IfOk result (λ it. (rows : List Entry)
+        → HasRows (database_of S.Store bank.old) branch_table rows
         → to_come branch_entry (λ of e. true) rows it ≡ rows) }
     ensures rises { IfOk result (λ it. ComesFrom (λ r. entry_key (branch_entry r)) LEAST it) }
     ensures fault { IfErr result (λ f. (f ≡ fault.Down) × (bank_seen S.Store bank.old).is_down) }
+    ensures down { (bank_seen S.Store bank.old).is_down → IsErrOf result fault.Down }
 {
     each(bank)
 }
 
 /// Begins a walk over the rows of `teller`, by the teller's number. Its only error is [`Fault::Down`].
 pub fn each_teller<S: Alter>(bank: &mut Bank<S>) -> Result<Walk<'_, S, StoredTeller>, Fault>
-    ensures* refused { sem 𝓛 (RestsIfErr (the_row S.row S.Store) bank.entry loan_of result (λ last. last ≡ bank.old)) }
+    ensures* refused { sem 𝓛 (RestsIfErr (the_row S.row S.Store) bank.entry loan_of result
+        (λ last. last ≡ bank.old)) }
     ensures same_reference { IfOk result (λ it. loan_of it ≡ bank.entry.ghost_name) }
     ensures same { IfOk result (λ it. lent it ≡ bank.old) }
-    ensures all { IfOk result (λ it. (rows : List Entry) → HasRows (database_of S.Store bank.old) teller_table rows
+    ensures all { IfOk result (λ it. (rows : List Entry)
+        → HasRows (database_of S.Store bank.old) teller_table rows
         → to_come teller_entry (λ of e. true) rows it ≡ rows) }
     ensures rises { IfOk result (λ it. ComesFrom (λ r. entry_key (teller_entry r)) LEAST it) }
     ensures fault { IfErr result (λ f. (f ≡ fault.Down) × (bank_seen S.Store bank.old).is_down) }
+    ensures down { (bank_seen S.Store bank.old).is_down → IsErrOf result fault.Down }
 {
     each(bank)
 }
 
 /// Begins a walk over the rows of `account`, by the account's number. Its only error is [`Fault::Down`].
 pub fn each_account<S: Alter>(bank: &mut Bank<S>) -> Result<Walk<'_, S, StoredAccount>, Fault>
-    ensures* refused { sem 𝓛 (RestsIfErr (the_row S.row S.Store) bank.entry loan_of result (λ last. last ≡ bank.old)) }
+    ensures* refused { sem 𝓛 (RestsIfErr (the_row S.row S.Store) bank.entry loan_of result
+        (λ last. last ≡ bank.old)) }
     ensures same_reference { IfOk result (λ it. loan_of it ≡ bank.entry.ghost_name) }
     ensures same { IfOk result (λ it. lent it ≡ bank.old) }
-    ensures all { IfOk result (λ it. (rows : List Entry) → HasRows (database_of S.Store bank.old) account_table rows
+    ensures all { IfOk result (λ it. (rows : List Entry)
+        → HasRows (database_of S.Store bank.old) account_table rows
         → to_come account_entry (λ of e. true) rows it ≡ rows) }
     ensures rises { IfOk result (λ it. ComesFrom (λ r. entry_key (account_entry r)) LEAST it) }
     ensures fault { IfErr result (λ f. (f ≡ fault.Down) × (bank_seen S.Store bank.old).is_down) }
+    ensures down { (bank_seen S.Store bank.old).is_down → IsErrOf result fault.Down }
 {
     each(bank)
 }
@@ -289,13 +328,16 @@ pub fn history_of<S: Alter>(
     bank: &mut Bank<S>,
     account: Account,
 ) -> Result<Walk<'_, S, StoredPosting>, Fault>
-    ensures* refused { sem 𝓛 (RestsIfErr (the_row S.row S.Store) bank.entry loan_of result (λ last. last ≡ bank.old)) }
+    ensures* refused { sem 𝓛 (RestsIfErr (the_row S.row S.Store) bank.entry loan_of result
+        (λ last. last ≡ bank.old)) }
     ensures same_reference { IfOk result (λ it. loan_of it ≡ bank.entry.ghost_name) }
     ensures same { IfOk result (λ it. lent it ≡ bank.old) }
-    ensures all { IfOk result (λ it. (rows : List Entry) → HasRows (database_of S.Store bank.old) history_table rows
+    ensures all { IfOk result (λ it. (rows : List Entry)
+        → HasRows (database_of S.Store bank.old) history_table rows
         → to_come posting_entry is_of rows it ≡ filter (is_of (Some account)) rows) }
     ensures rises { IfOk result (λ it. ComesFrom (λ r. entry_key (posting_entry r)) LEAST it) }
     ensures fault { IfErr result (λ f. (f ≡ fault.Down) × (bank_seen S.Store bank.old).is_down) }
+    ensures down { (bank_seen S.Store bank.old).is_down → IsErrOf result fault.Down }
 {
     if bank.is_down() {
         return Err(Fault::Down);
@@ -308,13 +350,16 @@ pub fn history_of<S: Alter>(
 pub fn each_request<S: Alter>(
     bank: &mut Bank<S>,
 ) -> Result<Walk<'_, S, Joined<StoredRequest, StoredPosting>>, Fault>
-    ensures* refused { sem 𝓛 (RestsIfErr (the_row S.row S.Store) bank.entry loan_of result (λ last. last ≡ bank.old)) }
+    ensures* refused { sem 𝓛 (RestsIfErr (the_row S.row S.Store) bank.entry loan_of result
+        (λ last. last ≡ bank.old)) }
     ensures same_reference { IfOk result (λ it. loan_of it ≡ bank.entry.ghost_name) }
     ensures same { IfOk result (λ it. lent it ≡ bank.old) }
-    ensures all { IfOk result (λ it. (pairs : List Pair) → HasPairs (database_of S.Store bank.old) request_table history_table pairs
+    ensures all { IfOk result (λ it. (pairs : List Pair)
+        → HasPairs (database_of S.Store bank.old) request_table history_table pairs
         → items_to_come pair_key asked_pair (λ of p. true) pairs it ≡ pairs) }
     ensures rises { IfOk result (λ it. ComesFrom (λ j. pair_key (asked_pair j)) LEAST it) }
     ensures fault { IfErr result (λ f. (f ≡ fault.Down) × (bank_seen S.Store bank.old).is_down) }
+    ensures down { (bank_seen S.Store bank.old).is_down → IsErrOf result fault.Down }
 {
     each(bank)
 }
@@ -324,13 +369,16 @@ pub fn each_request<S: Alter>(
 pub fn each_history<S: Alter>(
     bank: &mut Bank<S>,
 ) -> Result<Walk<'_, S, Joined<StoredPosting, StoredRequest>>, Fault>
-    ensures* refused { sem 𝓛 (RestsIfErr (the_row S.row S.Store) bank.entry loan_of result (λ last. last ≡ bank.old)) }
+    ensures* refused { sem 𝓛 (RestsIfErr (the_row S.row S.Store) bank.entry loan_of result
+        (λ last. last ≡ bank.old)) }
     ensures same_reference { IfOk result (λ it. loan_of it ≡ bank.entry.ghost_name) }
     ensures same { IfOk result (λ it. lent it ≡ bank.old) }
-    ensures all { IfOk result (λ it. (pairs : List Pair) → HasPairs (database_of S.Store bank.old) history_table request_table pairs
+    ensures all { IfOk result (λ it. (pairs : List Pair)
+        → HasPairs (database_of S.Store bank.old) history_table request_table pairs
         → items_to_come pair_key posted_pair (λ of p. true) pairs it ≡ pairs) }
     ensures rises { IfOk result (λ it. ComesFrom (λ j. pair_key (posted_pair j)) LEAST it) }
     ensures fault { IfErr result (λ f. (f ≡ fault.Down) × (bank_seen S.Store bank.old).is_down) }
+    ensures down { (bank_seen S.Store bank.old).is_down → IsErrOf result fault.Down }
 {
     each(bank)
 }

@@ -1,5 +1,6 @@
 -- Keys that rise.
-use Rattle.std.proofs.Common.{◌≡◌, ◌≤ℤ◌, ◌+ℤ◌, ℤ, pos, List, [], ◌∷◌, ◌++◌, map, true, Some, None, Option, int_cmp, arith}
+use Rattle.std.proofs.Common.{◌≡◌, ◌≤ℤ◌, ◌+ℤ◌, ℤ, pos, List, [], ◌∷◌, ◌++◌, map, true, Some, None, Option}
+use Rattle.std.proofs.Common.{int_cmp, arith}
 use Rattle.std.specs.Ordering.{is_ge}
 use Rattle.std.proofs.lemmas.Int.{ints}
 use Rattle.bank_walks.specs.Rising.{RisesFrom}
@@ -25,13 +26,16 @@ module _ {R : Type 0} (key : R → ℤ) where
   one_more from (s ∷ rs) r next rises low = (rises.0, one_more (key s +ℤ pos 1) rs r next rises.1 low)
 
   -- the others follow from further on, or none do
-  pub rest_behind : (from : ℤ) (rs : List R) (next : ℤ) (rest : Option ℤ) → Rises from rs (Some next) → RisesFrom next [] rest → Rises from rs rest
+  pub rest_behind : (from : ℤ) (rs : List R) (next : ℤ) (rest : Option ℤ) → Rises from rs (Some next)
+      → RisesFrom next [] rest → Rises from rs rest
   rest_behind from [] next None rises more = tt
   rest_behind from [] next (Some k) rises more = le_le from next k rises more
-  rest_behind from (s ∷ rs) next rest rises more = (rises.0, rest_behind (key s +ℤ pos 1) rs next rest rises.1 more)
+  rest_behind from (s ∷ rs) next rest rises more =
+      (rises.0, rest_behind (key s +ℤ pos 1) rs next rest rises.1 more)
 
   -- from a lower number on
-  pub from_lower : (low from : ℤ) (rs : List R) (rest : Option ℤ) → low ≤ℤ from → Rises from rs rest → Rises low rs rest
+  pub from_lower : (low from : ℤ) (rs : List R) (rest : Option ℤ) → low ≤ℤ from → Rises from rs rest
+      → Rises low rs rest
   from_lower low from [] None below rises = tt
   from_lower low from [] (Some k) below rises = le_le low from k below rises
   from_lower low from (s ∷ rs) rest below rises = (le_le low from (key s) below rises.0, rises.1)

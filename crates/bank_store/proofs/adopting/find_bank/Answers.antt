@@ -18,10 +18,13 @@ returns-in_err-settled_meta-in-Whole-clause-told g c clean =
     let new = state g.S.Store c.settled_meta.new.conn in
     let e = c.in_err-settled_meta-in-Whole in
     let midway : HasCleanDisk mid = omega (arith, e.ensures.survives.clean) in
-    let there = subst (λ (p : Presence). IsPresent old.now six_probes p × IsAsBefore old mid) c.in-Whole.is (c.in_ok-tables_there.ensures.told midway) in
+    let there =
+    subst (λ (p : Presence). IsPresent old.now six_probes p × IsAsBefore old mid) c.in-Whole.is
+    (c.in_ok-tables_there.ensures.told midway) in
     let is : c.from_residual-in_err-settled_meta-in-Whole.result ≡ Err e.field-0.0 = search rules in
     subst (λ (r : Result (Unit {0}) OpenFault). SeeksBank old new r) (sym is)
-    (missed old mid new there.0 there.1 e.field-0.0 e.ensures.fault (e.ensures.told clean) (e.ensures.other clean) (e.ensures.same clean))
+    (missed old mid new there.0 there.1 e.field-0.0 e.ensures.fault (e.ensures.told clean)
+    (e.ensures.other clean) (e.ensures.same clean))
 
 pub returns-in-Some-clause-told : goal.returns-in-Some-clause-told
 returns-in-Some-clause-told g c clean =
@@ -29,7 +32,9 @@ returns-in-Some-clause-told g c clean =
     let mid = state g.S.Store c.tables_there.new.conn in
     let new = state g.S.Store c.settled_meta.new.conn in
     let midway : HasCleanDisk mid = omega (arith, c.in_ok-settled_meta-in-Whole.ensures.survives.clean) in
-    let there = subst (λ (p : Presence). IsPresent old.now six_probes p × IsAsBefore old mid) c.in-Whole.is (c.in_ok-tables_there.ensures.told midway) in
+    let there =
+    subst (λ (p : Presence). IsPresent old.now six_probes p × IsAsBefore old mid) c.in-Whole.is
+    (c.in_ok-tables_there.ensures.told midway) in
     looked old mid new (Some c.in-Some.meta) there.0 there.1
     (λ rows has. sym c.in-Some.is ∙ c.in_ok-settled_meta-in-Whole.ensures.told clean rows has)
     (c.in_ok-settled_meta-in-Whole.ensures.same clean) c.check_meta.result c.check_meta.ensures
@@ -40,9 +45,11 @@ returns-in_err-settled_meta-in-Whole-clause-cause g c =
     let new = c.settled_meta.new.conn in
     let e = c.in_err-settled_meta-in-Whole in
     let is : c.from_residual-in_err-settled_meta-in-Whole.result ≡ Err e.field-0.0 = search rules in
-    rw is (known_within g.S.Store c.args.conn.now mid new new (comes c.tables_there.ensures.survives) (λ clean. clean)
+    rw is (known_within g.S.Store c.args.conn.now mid new new (comes c.tables_there.ensures.survives)
+    (λ clean. clean)
     (same_moment (state g.S.Store new)) e.field-0.0 e.ensures.cause)
 
 pub returns-in-Some-clause-cause : goal.returns-in-Some-clause-cause
 returns-in-Some-clause-cause g c =
-    checks_known g.S.Store c.args.conn.now c.settled_meta.new.conn (Some c.in-Some.meta) c.check_meta.result c.check_meta.ensures
+    checks_known g.S.Store c.args.conn.now c.settled_meta.new.conn (Some c.in-Some.meta) c.check_meta.result
+    c.check_meta.ensures

@@ -21,7 +21,9 @@ returns-in-Absent-clause-blank g c clean =
     let old = state g.S.Store c.args.conn.now in
     let mid = state g.S.Store c.tables_there.new.conn in
     let midway : HasCleanDisk mid = omega (arith, c.make_tables.ensures.stop.clean) in
-    let there = subst (λ (p : Presence). IsPresent old.now six_probes p × IsAsBefore old mid) c.in-Absent.is (c.in_ok-tables_there.ensures.told midway) in
+    let there =
+    subst (λ (p : Presence). IsPresent old.now six_probes p × IsAsBefore old mid) c.in-Absent.is
+    (c.in_ok-tables_there.ensures.told midway) in
     on_ok _ there.0 c.make_tables.result
 
 pub returns-in-Absent-clause-refused : goal.returns-in-Absent-clause-refused
@@ -31,7 +33,8 @@ returns-in-Absent-clause-refused g c clean =
     let midway : HasCleanDisk mid = omega (arith, c.make_tables.ensures.stop.clean) in
     let there = c.in_ok-tables_there.ensures.told midway in
     if_err (λ fault. fault ≡ NotBlank → IsRefused mid) (λ fault. fault ≡ NotBlank → IsTaken old)
-    (λ fault refused taken. inr (refused_before old mid there.1.now_is c.tables_there.ensures.survives.limit (refused taken)))
+    (λ fault refused taken. inr (refused_before old mid there.1.now_is c.tables_there.ensures.survives.limit
+    (refused taken)))
     c.make_tables.result (c.make_tables.ensures.refused clean)
 
 pub returns-in_default : goal.returns-in_default
@@ -40,7 +43,9 @@ returns-in_default g c = record {
   made = search rules;
   undone = search rules;
   fault = search rules;
-  refused = λ clean taken. inl (some_there (state g.S.Store c.args.conn.now).now c.in_ok-tables_there.field-0 c.in_default.not-Absent
+  refused =
+      λ clean taken. inl (some_there (state g.S.Store c.args.conn.now).now c.in_ok-tables_there.field-0
+      c.in_default.not-Absent
       (c.in_ok-tables_there.ensures.told clean).0);
   cause = search rules;
   stop = search rules;
@@ -59,5 +64,6 @@ returns-in-Absent-clause-cause g c =
     let mid = c.tables_there.new.conn in
     let new = c.make_tables.new.conn in
     if_err (KnowsWhyUnmade g.S.Store mid new) (KnowsWhyUnmade g.S.Store old new)
-    (unmade_within g.S.Store old mid new new (comes c.tables_there.ensures.survives) (λ clean. clean) (same_moment (state g.S.Store new)))
+    (unmade_within g.S.Store old mid new new (comes c.tables_there.ensures.survives) (λ clean. clean)
+    (same_moment (state g.S.Store new)))
     c.make_tables.result c.make_tables.ensures.cause

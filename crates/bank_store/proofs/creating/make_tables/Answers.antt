@@ -13,11 +13,15 @@ use Rattle.bank_store.proofs.creating.make_tables.Goals as goal
 pub returns-in-Err-clause-refused : goal.returns-in-Err-clause-refused
 returns-in-Err-clause-refused g c clean taken =
     let same : c.drop-tx.new.self.0 ≡ c.conn-1.given.0 = search rules in
-    let ended : HasCleanDisk (state g.S.Store c.drop-tx.new.self.0) = subst (λ h. HasCleanDisk (state g.S.Store h)) (sym same) clean in
-    let midway : HasCleanDisk (state g.S.Store c.create_tables.new.tx.conn.now) = omega (arith, c.drop-tx.ensures.survives.clean) in
-    let live : c.begin-tx.result.conn.now.in_transaction ≡ true = ap (λ h. h.in_transaction) c.begin-tx.ensures.begun in
+    let ended : HasCleanDisk (state g.S.Store c.drop-tx.new.self.0) =
+    subst (λ h. HasCleanDisk (state g.S.Store h)) (sym same) clean in
+    let midway : HasCleanDisk (state g.S.Store c.create_tables.new.tx.conn.now) =
+    omega (arith, c.drop-tx.ensures.survives.clean) in
+    let live : c.begin-tx.result.conn.now.in_transaction ≡ true =
+    ap (λ h. h.in_transaction) c.begin-tx.ensures.begun in
     subst (λ h. IsRefused (state g.S.Store h)) c.begin-tx.ensures.begun
-    (refused_because (state g.S.Store c.begin-tx.result.conn.now) (state g.S.Store c.create_tables.new.tx.conn.now) c.in-Err.e c.unmade.result
+    (refused_because (state g.S.Store c.begin-tx.result.conn.now)
+    (state g.S.Store c.create_tables.new.tx.conn.now) c.in-Err.e c.unmade.result
     c.unmade.ensures.told (c.in-Err.ensures.told midway live) taken)
 
 pub returns-in-Err-clause-cause : goal.returns-in-Err-clause-cause
@@ -31,7 +35,8 @@ returns-in-Err-clause-cause g c =
     let live : at.in_transaction ≡ true = ap (λ h. h.in_transaction) c.begin-tx.ensures.begun in
     let ended = c.drop-tx.ensures.survives in
     rw (c.unmade.ensures.told, ← same)
-    (unmade_within g.S.Store old at then c.drop-tx.new.self.0 begun (still_clean ended) (comes ended) (unmade_by c.in-Err.e)
+    (unmade_within g.S.Store old at then c.drop-tx.new.self.0 begun (still_clean ended) (comes ended)
+    (unmade_by c.in-Err.e)
     (making_failed g.S.Store at then c.in-Err.e (λ clean. c.in-Err.ensures.told clean live)))
 
 pub returns-in-Err-commit-clause-cause : goal.returns-in-Err-commit-clause-cause
@@ -43,7 +48,12 @@ returns-in-Err-commit-clause-cause g c =
     let same : new ≡ c.conn-2-1.given.0 = search rules in
     let begun : IsBefore (state g.S.Store old) (state g.S.Store begin) =
     rw c.begin-tx.ensures.begun (begun_after g.S.Store old true) in
-    let made = then_moment (state g.S.Store old) (state g.S.Store begin) (state g.S.Store mid) begun (comes c.create_tables.ensures.survives) in
+    let made =
+    then_moment (state g.S.Store old) (state g.S.Store begin) (state g.S.Store mid) begun
+    (comes c.create_tables.ensures.survives) in
     rw (← same)
     (unmade_within g.S.Store old mid new new made (λ clean. clean) (same_moment (state g.S.Store new)) Store
     (commit_failed g.S.Store mid new c.in-Err-commit.field-0 c.in-Err-commit.ensures.err))
+
+pub returns-in-Ok-commit-clause-made : goal.returns-in-Ok-commit-clause-made
+returns-in-Ok-commit-clause-made g c = search rules

@@ -11,7 +11,8 @@ invariant-loop-table g l =
     let new = state g.S.Store l.conn in
     record {
       told : HasCleanDisk new
-          → IsPresent old.now (map probe_of (l.fn.first ∷ take l.table-index l.fn.others)) l.there × IsAsBefore old new;
+          → IsPresent old.now (map probe_of (l.fn.first ∷ take l.table-index l.fn.others)) l.there
+          × IsAsBefore old new;
       mode : l.conn.in_transaction ≡ false;
       survives : Survives old new (λ _. ⊥);
     }

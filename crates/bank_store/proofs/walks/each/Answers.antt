@@ -13,5 +13,6 @@ returns g c = (
     all = λ all has. c.over.ensures.all all has ∙ all_pass _ (g.met.R.WalkedRow.all_given) all;
     rises = c.over.ensures.rises;
     fault = tt;
+    down = λ down. absurd (let tells = c.is_down.ensures in let up = c.if-is_down.false in cc);
   },
 )

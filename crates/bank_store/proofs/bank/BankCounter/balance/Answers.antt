@@ -10,9 +10,18 @@ use Rattle.bank_transactions.specs.Doing.{IsFirstBroken}
 use Rattle.bank_store.proofs.bank.BankCounter.balance.Given.{Over}
 use Rattle.bank_store.proofs.bank.BankCounter.balance.Goals as goal
 
+-- what its refusal says
+refused : (g : Over) (c : goal.After-go_down g)
+    → Refusal g.S.Store c.args.self.now c.go_down.new.self [] (IsFirstBroken g.S.Store) c.go_down.result
+refused g c =
+    consult_refused g.S.Store c.args.self.now c.go_down.new.self c.read_balance.new.conn sound_tables [] stays
+    tt c.in-Err.fault
+    c.go_down.result c.go_down.ensures.down c.go_down.ensures.survives c.in-Err.ensures.says
+
 pub returns-in-Ok-clause-value : goal.returns-in-Ok-clause-value
 returns-in-Ok-clause-value g c clean log s =
-    (c.in-Ok.ensures.says.told clean s.tables s.are (sound_tables s.tables log s.commands s.shows)).0 ∙ balance_shown s.tables log c.args.account s.shows
+    (c.in-Ok.ensures.says.told clean s.tables s.are (sound_tables s.tables log s.commands s.shows)).0
+    ∙ balance_shown s.tables log c.args.account s.shows
 
 pub returns-in-Ok-clause-done : goal.returns-in-Ok-clause-done
 returns-in-Ok-clause-done g c =
@@ -22,12 +31,8 @@ returns-in-Ok-clause-done g c =
 pub returns-in-Ok-clause-tables : goal.returns-in-Ok-clause-tables
 returns-in-Ok-clause-tables g c clean t shows = c.in-Ok.ensures.same clean t shows
 
--- what its refusal says
-refused : (g : Over) (c : goal.After-go_down g)
-    → Refusal g.S.Store c.args.self.now c.go_down.new.self [] (IsFirstBroken g.S.Store) c.go_down.result
-refused g c =
-    consult_refused g.S.Store c.args.self.now c.go_down.new.self c.read_balance.new.conn sound_tables [] stays tt c.in-Err.fault
-    c.go_down.result c.go_down.ensures.down c.go_down.ensures.survives c.in-Err.ensures.says
+pub returns-in-Ok-clause-fault : goal.returns-in-Ok-clause-fault
+returns-in-Ok-clause-fault g c = tt
 
 pub returns-in-Err-clause-fault : goal.returns-in-Err-clause-fault
 returns-in-Err-clause-fault g c = (refused g c).fault

@@ -13,6 +13,14 @@ use Rattle.bank_transactions.specs.Doing.{IsFirstBroken}
 use Rattle.bank_store.proofs.bank.BankCounter.next_branch.Given.{Over}
 use Rattle.bank_store.proofs.bank.BankCounter.next_branch.Goals as goal
 
+-- what its refusal says
+refused : (g : Over) (c : goal.After-go_down g)
+    → Refusal g.S.Store c.args.self.now c.go_down.new.self [] (IsFirstBroken g.S.Store) c.go_down.result
+refused g c =
+    consult_refused g.S.Store c.args.self.now c.go_down.new.self c.read_next_branch.new.conn sound_tables []
+    stays tt c.in-Err.fault
+    c.go_down.result c.go_down.ensures.down c.go_down.ensures.survives c.in-Err.ensures.says
+
 pub returns-in-Ok-clause-line : goal.returns-in-Ok-clause-line
 returns-in-Ok-clause-line g c clean log s =
     let after = c.args.after in
@@ -27,13 +35,6 @@ pub returns-in-Ok-clause-done : goal.returns-in-Ok-clause-done
 returns-in-Ok-clause-done g c =
     let Down = IsSome c.args.self.now.fault in
     takes sound_tables [] stays tt Down Down (search rules) c.in-Ok.ensures.says
-
--- what its refusal says
-refused : (g : Over) (c : goal.After-go_down g)
-    → Refusal g.S.Store c.args.self.now c.go_down.new.self [] (IsFirstBroken g.S.Store) c.go_down.result
-refused g c =
-    consult_refused g.S.Store c.args.self.now c.go_down.new.self c.read_next_branch.new.conn sound_tables [] stays tt c.in-Err.fault
-    c.go_down.result c.go_down.ensures.down c.go_down.ensures.survives c.in-Err.ensures.says
 
 pub returns-in-Err-clause-fault : goal.returns-in-Err-clause-fault
 returns-in-Err-clause-fault g c = (refused g c).fault

@@ -10,6 +10,22 @@ use Rattle.bank_transactions.specs.Doing.{IsBrokenOrMet}
 use Rattle.bank_store.proofs.bank.BankCounter.open_branch.Given.{Over}
 use Rattle.bank_store.proofs.bank.BankCounter.open_branch.Goals as goal
 
+-- what its refusal says
+refused : (g : Over) (c : goal.After-go_down g)
+    → Refusal g.S.Store c.args.self.now c.go_down.new.self (Open c.args.branch c.args.count ∷ [])
+    (IsBrokenOrMet g.S.Store) c.go_down.result
+refused g c =
+    let b = c.args.branch in
+    let count = c.args.count in
+    let above : 1 ≤ b = omega (arith, c.get-number.ensures.value, c.get-number.ensures.least) in
+    let are : AreCommands (Open b count ∷ []) =
+    ((above, c.requires.branch, c.requires.some, c.requires.few), tt) in
+    transaction_refused g.S.Store c.args.self.now c.go_down.new.self c.open_branch.new.conn sound_tables
+    (Open b count ∷ [])
+    (opens b count above c.requires.few) are c.in-Err.fault c.go_down.result c.go_down.ensures.down
+    c.go_down.ensures.survives
+    c.in-Err.ensures
+
 pub returns-in-Ok-clause-answer : goal.returns-in-Ok-clause-answer
 returns-in-Ok-clause-answer g c clean log s =
     (c.in-Ok.ensures.told clean s.tables s.are (sound_tables s.tables log s.commands s.shows)).0
@@ -20,21 +36,11 @@ returns-in-Ok-clause-done g c =
     let b = c.args.branch in
     let count = c.args.count in
     let above : 1 ≤ b = omega (arith, c.get-number.ensures.value, c.get-number.ensures.least) in
-    let are : AreCommands (Open b count ∷ []) = ((above, c.requires.branch, c.requires.some, c.requires.few), tt) in
+    let are : AreCommands (Open b count ∷ []) =
+    ((above, c.requires.branch, c.requires.some, c.requires.few), tt) in
     let Down = IsSome c.args.self.now.fault in
-    takes sound_tables (Open b count ∷ []) (opens b count above c.requires.few) are Down Down (search rules) c.in-Ok.ensures
-
--- what its refusal says
-refused : (g : Over) (c : goal.After-go_down g)
-    → Refusal g.S.Store c.args.self.now c.go_down.new.self (Open c.args.branch c.args.count ∷ []) (IsBrokenOrMet g.S.Store) c.go_down.result
-refused g c =
-    let b = c.args.branch in
-    let count = c.args.count in
-    let above : 1 ≤ b = omega (arith, c.get-number.ensures.value, c.get-number.ensures.least) in
-    let are : AreCommands (Open b count ∷ []) = ((above, c.requires.branch, c.requires.some, c.requires.few), tt) in
-    transaction_refused g.S.Store c.args.self.now c.go_down.new.self c.open_branch.new.conn sound_tables (Open b count ∷ [])
-    (opens b count above c.requires.few) are c.in-Err.fault c.go_down.result c.go_down.ensures.down c.go_down.ensures.survives
-    c.in-Err.ensures
+    takes sound_tables (Open b count ∷ []) (opens b count above c.requires.few) are Down Down (search rules)
+    c.in-Ok.ensures
 
 pub returns-in-Err-clause-fault : goal.returns-in-Err-clause-fault
 returns-in-Err-clause-fault g c = (refused g c).fault

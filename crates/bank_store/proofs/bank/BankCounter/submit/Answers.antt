@@ -11,6 +11,22 @@ use Rattle.bank_transactions.specs.Doing.{IsBrokenOrMet}
 use Rattle.bank_store.proofs.bank.BankCounter.submit.Given.{Over}
 use Rattle.bank_store.proofs.bank.BankCounter.submit.Goals as goal
 
+-- what its refusal says
+refused : (g : Over) (c : goal.After-go_down g)
+    → Refusal g.S.Store c.args.self.now c.go_down.new.self (Post c.args.moment c.args.bytes.now ∷ [])
+    (IsBrokenOrMet g.S.Store) c.go_down.result
+refused g c =
+    let m = c.args.moment in
+    let bytes = c.args.bytes.now in
+    let read : request_of bytes ≡ Ok c.in-Ok.request = search rules in
+    let are : AreCommands (Post m bytes ∷ []) =
+    ((omega (arith, c.get-seconds.ensures.value, c.get-seconds.ensures.most), search rules), tt) in
+    transaction_refused g.S.Store c.args.self.now c.go_down.new.self c.post.new.conn sound_tables
+    (Post m bytes ∷ [])
+    (posts m bytes c.in-Ok.request read) are c.in-Err.fault c.go_down.result c.go_down.ensures.down
+    c.go_down.ensures.survives
+    c.in-Err.ensures
+
 pub returns-in-Ok-post-clause-reply : goal.returns-in-Ok-post-clause-reply
 returns-in-Ok-post-clause-reply g c clean log s =
     let read : request_of c.args.bytes.now ≡ Ok c.in-Ok.request = search rules in
@@ -22,21 +38,11 @@ returns-in-Ok-post-clause-done g c =
     let m = c.args.moment in
     let bytes = c.args.bytes.now in
     let read : request_of bytes ≡ Ok c.in-Ok.request = search rules in
-    let are : AreCommands (Post m bytes ∷ []) = ((omega (arith, c.get-seconds.ensures.value, c.get-seconds.ensures.most), search rules), tt) in
+    let are : AreCommands (Post m bytes ∷ []) =
+    ((omega (arith, c.get-seconds.ensures.value, c.get-seconds.ensures.most), search rules), tt) in
     let Down = IsSome c.args.self.now.fault in
-    takes sound_tables (Post m bytes ∷ []) (posts m bytes c.in-Ok.request read) are Down Down (search rules) c.in-Ok-post.ensures
-
--- what its refusal says
-refused : (g : Over) (c : goal.After-go_down g)
-    → Refusal g.S.Store c.args.self.now c.go_down.new.self (Post c.args.moment c.args.bytes.now ∷ []) (IsBrokenOrMet g.S.Store) c.go_down.result
-refused g c =
-    let m = c.args.moment in
-    let bytes = c.args.bytes.now in
-    let read : request_of bytes ≡ Ok c.in-Ok.request = search rules in
-    let are : AreCommands (Post m bytes ∷ []) = ((omega (arith, c.get-seconds.ensures.value, c.get-seconds.ensures.most), search rules), tt) in
-    transaction_refused g.S.Store c.args.self.now c.go_down.new.self c.post.new.conn sound_tables (Post m bytes ∷ [])
-    (posts m bytes c.in-Ok.request read) are c.in-Err.fault c.go_down.result c.go_down.ensures.down c.go_down.ensures.survives
-    c.in-Err.ensures
+    takes sound_tables (Post m bytes ∷ []) (posts m bytes c.in-Ok.request read) are Down Down (search rules)
+    c.in-Ok-post.ensures
 
 pub returns-in-Err-clause-fault : goal.returns-in-Err-clause-fault
 returns-in-Err-clause-fault g c = (refused g c).fault

@@ -9,7 +9,8 @@ returns-in-Some-clause-told g c clean rows has =
     let w = c.refill.new.self in
     let given = filter (g.R.WalkedRow.is_given w.of) rows in
     sym (c.in_ok-refill.ensures.told clean rows has)
-    ∙ gives_next g.R.WalkedRow.key g.R.WalkedRow.item w.stage c.in_ok-refill.ensures.going w.rows.items w.given (items_behind g.R.WalkedRow.key w.rest given) c.in-Some.row
+    ∙ gives_next g.R.WalkedRow.key g.R.WalkedRow.item w.stage c.in_ok-refill.ensures.going w.rows.items
+    w.given (items_behind g.R.WalkedRow.key w.rest given) c.in-Some.row
     (sym c.ahead-next.ensures.value ∙ c.in-Some.is)
 
 pub returns-in-None-clause-told : goal.returns-in-None-clause-told
@@ -17,7 +18,8 @@ returns-in-None-clause-told g c clean rows has =
     let w = c.refill.new.self in
     let given = filter (g.R.WalkedRow.is_given w.of) rows in (
       sym (c.in_ok-refill.ensures.told clean rows has)
-          ∙ none_to_come g.R.WalkedRow.key g.R.WalkedRow.item w.stage c.in_ok-refill.ensures.going w.rows.items w.given w.rest given
+          ∙ none_to_come g.R.WalkedRow.key g.R.WalkedRow.item w.stage c.in_ok-refill.ensures.going
+          w.rows.items w.given w.rest given
           (sym c.ahead-next.ensures.value ∙ c.in-None.is) c.in_ok-refill.ensures.left,
       refl,
     )

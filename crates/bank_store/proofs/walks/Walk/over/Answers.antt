@@ -9,7 +9,8 @@ pub returns-clause-all : goal.returns-clause-all
 returns-clause-all g c all has =
     let row = g.R.WalkedRow in
     let given = row.is_given c.args.of in
-    rw c.new.ensures (all_left row.key (filter given all) (keys_filter row.key given all (g.met.R.WalkedRow.have_keys _ all has)))
+    rw c.new.ensures (all_left row.key (filter given all)
+    (keys_filter row.key given all (g.met.R.WalkedRow.have_keys _ all has)))
 
 pub returns-clause-rises : goal.returns-clause-rises
 returns-clause-rises g c = rw c.new.ensures (le_itself LEAST)

@@ -1,0 +1,9 @@
+-- Which errors aren't the store's own.
+use Rattle.std.proofs.Common.{rules}
+use Rattle.bank_store.proofs.refused.is_of_the_store.Goals as goal
+
+pub returns-in_default : goal.returns-in_default
+returns-in_default c = search rules
+
+pub returns-in_default-2 : goal.returns-in_default-2
+returns-in_default-2 c = search rules
