@@ -32,8 +32,8 @@ TellsFailure told.Store = ⊤
 TellsFailure _ = ⊥
 
 -- The bank has an error for its cause. On an honest disk a call of `sqlite` failed with that error in
--- between: no error is made up, none says that a row isn't there, and none says that the key of a new row is
--- taken.
+-- between: no error is made up, none says that there is no such row, and none says that the key of a new row
+-- is taken.
 pub record KeepsCause {S : Type 0} (g : Ghosts S) (old new : Bank S g) : Type 0 where
   pub kept : IsSome (cause_of new)
   pub failed : HasCleanDisk (state g (connection_of new)) → (e : Error) → cause_of new ≡ Some e
@@ -50,8 +50,7 @@ OfDamage _ P = ⊤
 abbrev pub WasBroken : {S : Type 0} (g : Ghosts S) → Bank S g → Bank S g → Rule → Type 0
 WasBroken g old new rule = HasCleanDisk (state g (connection_of new)) → IsBroken rule (database_of g old)
 
--- they do; or a statement of the call met it as it wrote, which is of a key that is taken, or of a row that
--- isn't there
+-- they do; or a statement of the call met it as it wrote: a key that is taken, or a row that is missing
 abbrev pub WasBrokenOrMet : {S : Type 0} (g : Ghosts S) → Bank S g → Bank S g → Rule → Type 0
 WasBrokenOrMet g old new rule =
     HasCleanDisk (state g (connection_of new)) → IsBrokenOrMet g (connection_of old) (connection_of new) rule

@@ -1,4 +1,4 @@
--- What a connection is seen as before a bank is made in it or found there, and what either call tells.
+-- What a connection is seen as before a bank is made in it or found there, and what either call answers.
 use Rattle.std.specs.Prelude.{◌≡◌, ◌≢◌, ◌⊎◌, ◌≤◌, ◌<ℤ◌, if◌then◌else◌, IsTrue, ℕ, ℤ, pos, Bool, true, false}
 use Rattle.std.specs.Prelude.{List, [], ◌∷◌, ◌++◌, codes, Option, Some, None, Result, Ok, Err, ⊤}
 use Rattle.std.specs.Fmt.{decimal, signed_decimal}
@@ -111,13 +111,13 @@ abbrev pub TellsPresence : {E : Type 0} → State → State → List (List ℕ �
 TellsPresence old new probes (Ok presence) = IsPresent old.now probes presence × IsAsBefore old new
 TellsPresence old new probes (Err e) = IsUndone old new
 
--- ---- why the store is told to have failed
+-- ---- why a store fault is answered
 
 -- between these two moments of a connection a call of `sqlite` failed
 abbrev pub CallFailed : {S : Type 0} → Ghosts S → Held S → Held S → Type 0
 CallFailed g old new = (e : Error) × HasFailedBetween g old new e
 
--- where the store is told to have failed, a call of `sqlite` did
+-- where a store fault is answered, a call of `sqlite` failed
 abbrev pub KnowsCause : {S : Type 0} → Ghosts S → Held S → Held S → OpenFault → Type 0
 KnowsCause g old new Store = HasCleanDisk (state g new) → CallFailed g old new
 KnowsCause g old new _ = ⊤
@@ -254,7 +254,7 @@ pub record MakingFailed {S : Type 0} (g : Ghosts S) (old new : Held S) : Type 0 
   pub own : of_the_store error ≡ true
   pub after : IsBefore (state g end) (state g new)
 
--- where the store is told to have failed, a call of `sqlite` did, or the tables could not be made
+-- where a store fault is answered, a call of `sqlite` failed, or the tables could not be made
 abbrev pub KnowsWhyUnmade : {S : Type 0} → Ghosts S → Held S → Held S → OpenFault → Type 0
 KnowsWhyUnmade g old new Store = HasCleanDisk (state g new) → CallFailed g old new ⊎ MakingFailed g old new
 KnowsWhyUnmade g old new _ = ⊤

@@ -88,8 +88,8 @@ Steps item Breaks old new (Err told.Memory) = ⊥
 abbrev pub StoreFailed : State → State → Type 0
 StoreFailed old new = (e : Error) × IsStoreError old new e
 
--- a fault is told: of the store, with an error of which this holds, or a number of the first to come is out
--- of its range
+-- the fault is of the store, with an error of which this holds, or a number of the first to come is out of
+-- its range
 abbrev pub IsTold : {X : Type 0} → (Error → Type 0) → (X → Type 0) → List X → Fault → Type 0
 IsTold {X} Because Breaks old (told.Damaged broken) =
     (broken ≡ rule.Value) × ((e : X) × (more : List X) × (old ≡ e ∷ more) × Breaks e)

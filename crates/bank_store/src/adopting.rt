@@ -23,7 +23,7 @@ use sqlite::{Alter, Connection};
 use std::alloc::Global;
 use store_rows::{StoredMeta, VERSION, probe_meta, read_meta};
 
-// What the row of the bank holds, none where there is no such row. Nothing is written, so the transaction is
+// The row of the bank, if there is one, whatever its numbers. Nothing is written, so the transaction is
 // dropped.
 fn stored_meta<S: Alter>(conn: &mut Connection<S>) -> Result<Option<StoredMeta>, OpenFault>
     requires { conn.old.in_transaction ≡ false }
@@ -45,7 +45,7 @@ fn stored_meta<S: Alter>(conn: &mut Connection<S>) -> Result<Option<StoredMeta>,
     }
 }
 
-// The same. The store is asked for a table again, so that it is known to be open, and to have undone the
+// The same. The store is asked for a table once more, so that it is known to be open and to have undone the
 // transaction.
 fn settled_meta<S: Alter>(conn: &mut Connection<S>) -> Result<Option<StoredMeta>, OpenFault>
     requires { conn.old.in_transaction ≡ false }

@@ -29,8 +29,21 @@ use sqlite::{Alter, Connection, Error};
 use std::alloc::Global;
 use store_rows::{TableFault, probe_meta};
 
-/// A bank over a connection. Each request and each opening is one transaction, and a fault brings the bank
-/// down.
+/// A bank over a connection, with the calls of [`Counter`]. Each call is one transaction, which is committed
+/// before the call answers `Ok`. Between calls no transaction is open.
+///
+/// # After a fault
+///
+/// - [`Fault::Memory`], of `submit_all` alone: nothing was tried, nothing has changed, and the bank can be
+///   used.
+/// - [`Fault::Store`]: the bank is down, and [`Bank::cause`] has the error. The file has all of the call or
+///   nothing of it. Release the connection, open the file again, [`adopt`](crate::adopt) the bank and send
+///   again what got no reply: what was posted is not posted twice.
+/// - [`Fault::Damaged`]: the file has rows that no bank writes, and that break this rule. Nothing has
+///   changed, and the bank is down.
+/// - [`Fault::Down`]: a fault brought the bank down before, and nothing was tried.
+///
+/// This holds of a disk that returns what was written, as long as nobody else writes the file.
 #[derive(Drop)]
 pub struct Bank<S: Alter> {
     alloc: Global,
@@ -85,8 +98,8 @@ impl<S: Alter> Bank<S> {
         }
     }
 
-    // A fault brings the bank down. Before rows are told to be damaged, the store is asked for a table, so
-    // that it is known to be open, and to have undone the call.
+    // Brings the bank down. Before damage is reported, the store is asked for a table once more: if it
+    // answers, it is open and has undone the call, and otherwise the fault is the store's.
     fn go_down(&mut self, fault: TableFault) -> Fault
         ensures down { GoesDown (state S.Store self.old.conn) (state S.Store self.new.conn) fault
             self.new.fault result }
@@ -126,7 +139,7 @@ impl<S: Alter> Bank<S> {
         self.fault.is_some()
     }
 
-    /// What its calls take memory from.
+    /// The allocator that the bank was made or taken up with.
     pub fn alloc(&self) -> Global
         ensures { result ≡ alloc_of self.now }
     {
@@ -213,9 +226,9 @@ impl<S: Alter + Drop> Counter for Bank<S> {
         }
     }
 
-    // All room is made before the store is asked for anything. Each row that the records touch is read once,
-    // and each that they change is written once; they stand together or not at all. Where none is decided, no
-    // table changes, and a stop leaves nothing else.
+    // All room is made before the store is asked, so that `Memory` changes nothing. Each row that the records
+    // touch is read once, and each that they change is written once. They are committed together or not at
+    // all. A batch in which nothing is decided changes no table, and a stop in it leaves nothing else.
     fn submit_all(&mut self, moment: Moment, records: &[[u8; 100]]) -> Result<Vec<[u8; 200]>, Fault>
         requires some { 1 ≤ length records.now }
         requires few { length records.now ≤ RECORDS_PER_BATCH }

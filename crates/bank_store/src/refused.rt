@@ -22,8 +22,8 @@ pub enum OpenFault {
     Foreign,
     /// The six tables are there, and `meta` has this version, which isn't ours.
     Version(i64),
-    /// The row of the bank is missing or out of its range (`Rule::Meta`), or has a value of another type
-    /// (`Rule::Value`).
+    /// The row of `meta` is missing or its count of requests is out of range (`Rule::Meta`), or it has a
+    /// value of another type (`Rule::Value`).
     Damaged(Rule),
 }
 

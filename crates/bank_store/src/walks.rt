@@ -1,4 +1,4 @@
-//! Walks over the rows of a bank, one row a step, by rising keys.
+//! Walks over the rows of a bank, one row a step, by rising keys. They change nothing.
 ghost use Rattle.std.specs.Prelude.{◌≡◌, ◌≢◌, ◌<◌, ◌≤◌, OnSome, slice_get, [], List, false, None, Ok, Err};
 ghost use Rattle.std.specs.Prelude.{IfOk, IfErr, OnOk, MatchResult, filter, map, ◌++◌, drop, length, ℤ};
 ghost use Rattle.std.specs.Borrow.{sem, RestsIfErr};
