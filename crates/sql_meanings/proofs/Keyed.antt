@@ -1,5 +1,5 @@
 -- What a text means that reads or writes the row under its key, by what is computed of the text alone.
-use Rattle.std.proofs.Common.{◌≡◌, ◌≤◌, ℕ, ℤ, true, false, List, [], ◌∷◌, length, refl, Ok, Some, None}
+use Rattle.std.proofs.Common.{◌≡◌, ◌≤◌, ℕ, ℤ, true, false, List, [], ◌∷◌, length, refl, slice_get, Ok, Some, None}
 use Rattle.sqlite.specs.Schema.{Schema}
 use Rattle.sqlite.specs.Table.{Table}
 use Rattle.sqlite.specs.Term.{Term, col, op2, eval_all}
@@ -10,10 +10,13 @@ use Rattle.sqlite_ast.specs.declared.Expr.TheOpen.{Expr-F}
 use Rattle.sqlite_ast.specs.declared.Statement.TheVariants as written
 use Rattle.sqlite_draft.specs.declared.join.Step.TheVariants.{Inner}
 use Rattle.sqlite_resolve.specs.Compile.{first}
+use Rattle.sqlite_resolve.specs.Lowering.{chosen, nothing}
 use Rattle.sqlite_resolve.specs.Program as program
+use Rattle.sqlite_resolve.specs.Scope.{declared}
 use Rattle.sqlite_resolve.specs.Select.{ungrouped}
 use Rattle.sqlite_resolve.specs.Terms.{number}
 use Rattle.sqlite_resolve.specs.Write as write
+use Rattle.sqlite_schema.specs.Names.{column_named, place_of}
 use Rattle.sqlite_schema.specs.Rules.{passes_checks}
 use Rattle.sqlite_sql.specs.declared.ops.BinaryOp.TheVariants.{Compare}
 use Rattle.sqlite_sql.specs.declared.ops.CompareOp.TheVariants.{Eq}
@@ -21,6 +24,7 @@ use Rattle.sqlite_syntax.specs.declared.statement.Parsed.{Parsed}
 use Rattle.sqlite_typing.specs.Types.{accepts_program}
 use Rattle.sqlite_value.specs.declared.keys.Collation.TheVariants.{Binary}
 use Rattle.sql_meanings.specs.Entries.{Entry, stored}
+use Rattle.sql_meanings.specs.Plain.{key_column}
 use Rattle.sql_meanings.specs.Queries.{by_key, key_is, no_limit}
 use Rattle.sql_meanings.specs.Tables.{placed_at, width_of}
 use Rattle.sql_meanings.proofs.ByKey.{Tests, key_at, update_by_key}
@@ -35,6 +39,19 @@ use Rattle.sql_meanings.proofs.Texts.{IsSelect, reads_by}
 abbrev pub IsFirst : Table → List ℕ → Type 0
 IsFirst table key = (tree : ℕ) → Tests (placed_at table tree) key 0
 
+-- it does where that computes
+abbrev pub first_key : {table : Table} (key : List ℕ) → column_named table key ≡ Some 0
+    → slice_get table.columns 0 ≡ Some (key_column key) → place_of table 0 ≡ 0
+    → chosen (declared table 0 (key_column key)) nothing ≡ Binary → Tests table key 0
+first_key key named there is_at by_bytes = record {
+  place = 0;
+  column = key_column key;
+  named = named;
+  there = there;
+  is_at = is_at;
+  by_bytes = by_bytes;
+}
+
 -- ---- SELECT columns FROM table WHERE key = ?1
 
 pub record Gets (table : Table) (text : List ℕ) (places : List ℕ) (terms : List Term) : Type 0 where
@@ -44,8 +61,8 @@ pub record Gets (table : Table) (text : List ℕ) (places : List ℕ) (terms : L
 pub gets_by : {table : Table} {text places : List ℕ} (is : IsSelect table text 1 places) (terms : List Term)
     (test a b : Expr) (key : List ℕ)
     → IsFirst table key → is.order ≡ [] → is.limit ≡ None → is.filter ≡ Some test
-    → out-Expr test ≡ Expr-F.Binary binary.Eq a b → out-Expr a ≡ Expr-F.Column None key → out-Expr b
-    ≡ Expr-F.Parameter 1
+    → out-Expr test ≡ Expr-F.Binary binary.Eq a b → out-Expr a ≡ Expr-F.Column None key
+    → out-Expr b ≡ Expr-F.Parameter 1
     → ((schema : Schema) (p tree : ℕ) → HasTable schema table.name p (placed_at table tree)
     → program.program schema [] (ungrouped (Inner tree ∷ []) key_is (outputs_at (placed_at table tree) places)
     false [] no_limit (number 0))
@@ -69,8 +86,8 @@ pub sets_by : (table : Table) (text : List ℕ) (change : ℤ → Entry → Entr
     → first text ≡ Ok P → P.statement ≡ written.Update table.name ((wanted, e) ∷ []) (Some test) []
     → P.formats ≡ []
     → length text ≤ P.tail → 2 ≡ length P.names
-    → out-Expr e ≡ Expr-F.Parameter 2 → out-Expr test ≡ Expr-F.Binary binary.Eq a b → out-Expr a
-    ≡ Expr-F.Column None key
+    → out-Expr e ≡ Expr-F.Parameter 2 → out-Expr test ≡ Expr-F.Binary binary.Eq a b
+    → out-Expr a ≡ Expr-F.Column None key
     → out-Expr b ≡ Expr-F.Parameter 1
     → ((tree : ℕ) → write.with_place (placed_at table tree) [] wanted ≡ Ok places)
     → ((tree : ℕ) → write.row (placed_at table tree) None places (col 1 0 ∷ []) (col 0 1 ∷ []) ≡ Ok project)

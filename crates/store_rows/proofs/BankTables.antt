@@ -50,8 +50,8 @@ pub record Kind (R : Type 0) : Type 0 where
   pub keyed : (r : R) → (entry r).key ≡ pos (key r)
   pub listed : slice_get bank_tables place ≡ Some (uncounted table)
   pub has : (t : Tables) → slice_get (contents t) place ≡ Some (map entry (rows t))
-  pub replaced : (t : Tables) (rs : List R) → slice_set (contents t) place (map entry rs)
-      ≡ contents (having rs t)
+  pub replaced : (t : Tables) (rs : List R)
+      → slice_set (contents t) place (map entry rs) ≡ contents (having rs t)
   pub again : (t : Tables) (rs : List R) → rows (having rs t) ≡ rs
   pub numbered : IsOfNumbers (uncounted table)
 
@@ -64,8 +64,8 @@ abbrev pub kind_of : {R : Type 0} (place : ℕ) (table : Table) (key : R → ℕ
     → ((t : Tables) (rs : List R) → slice_set (contents t) place (map entry rs) ≡ contents (having rs t))
     → ((t : Tables) (rs : List R) → rows (having rs t) ≡ rs) → (k : List ℕ) (names : List (List ℕ))
     → table.references ≡ []
-    → table.key ≡ Some 0 → table.computed ≡ [] → width_of table ≤ 1999 → table.columns ≡ key_column k
-    ∷ map number_column names → Kind R
+    → table.key ≡ Some 0 → table.computed ≡ [] → width_of table ≤ 1999
+    → table.columns ≡ key_column k ∷ map number_column names → Kind R
 kind_of place table key entry rows having keyed listed has replaced again k names free at_first uncomputed
     narrow columns = record {
       place = place;

@@ -54,8 +54,8 @@ taken_at schema (x ∷ its) all (suc n) it is =
     let both = and_both (takes schema x) (takes_all (created schema x.1) its) all in taken_at
     (created schema x.1) its both.1 n it is
 
-none_passes : {A : Type 0} (p : A → Bool) (xs : List A) (x : A) → list_any p xs ≡ false → Has xs x → p x
-    ≡ true → ⊥
+none_passes : {A : Type 0} (p : A → Bool) (xs : List A) (x : A) → list_any p xs ≡ false → Has xs x
+    → p x ≡ true → ⊥
 none_passes p [] x none h passed = h
 none_passes p (y ∷ xs) x none h passed = elim (cases_Bool (p y)) [
   | inl first ↦ let bad = rw first at none in cc
@@ -82,8 +82,8 @@ not_refused schema it taken e refused =
   where
     go : is_ok (understood schema it.0) ≡ true → is_used schema it.1.name ≡ false
         → list_any (λ (i : Index). is_used schema i.name) (automatics it.1 0 0 it.1.uniques) ≡ false
-        → nat_lt (next_tree schema + length it.1.uniques) 65536 ≡ true → lacks_sequence (created schema it.1)
-        ≡ false
+        → nat_lt (next_tree schema + length it.1.uniques) 65536 ≡ true
+        → lacks_sequence (created schema it.1) ≡ false
         → NotMade schema it.0 it.1 e → ⊥
     go known free indexes room counted (inl (fault, is, tells)) = let bad = ap is_ok is in cc
     go known free indexes room counted (inr (inl (inl (tells, inl used)))) = cc

@@ -46,8 +46,7 @@ by_tid tree = record {
   column = number_column (codes "tid");
   named = refl;
   there = refl;
-  is_at =
-      refl;
+  is_at = refl;
   by_bytes = refl;
 }
 
@@ -115,8 +114,8 @@ reads a b = record {
   ungrouped = λ _. refl;
 }
 
-has_both : (a b : ℕ) (r : RequestRow) → has_two (pos a) (pos b) (request_entry r)
-    ≡ ((r.teller == a) && (r.number == b))
+has_both : (a b : ℕ) (r : RequestRow)
+    → has_two (pos a) (pos b) (request_entry r) ≡ ((r.teller == a) && (r.number == b))
 has_both a b r = rw (same_number r.teller a, same_number r.number b) refl
 
 -- it tells the request of the teller under the number

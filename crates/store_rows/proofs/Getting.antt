@@ -4,8 +4,7 @@ use Rattle.sqlite.specs.Term.{col}
 use Rattle.sqlite_tied.specs.Compute.{everything}
 use Rattle.sqlite_resolve.specs.Program as program
 use Rattle.sqlite_resolve.specs.Select.{ungrouped}
-use Rattle.sql_meanings.specs.Plain.{key_column}
-use Rattle.sql_meanings.proofs.Keyed.{Gets, IsFirst, gets_by}
+use Rattle.sql_meanings.proofs.Keyed.{Gets, IsFirst, first_key, gets_by}
 use Rattle.sql_meanings.proofs.Texts.{select_of}
 use Rattle.store_rows.specs.SixTables as six
 use Rattle.store_rows.specs.declared.texts.TheConstants.{GET_META, GET_BRANCH, GET_TELLER, GET_ACCOUNT}
@@ -20,41 +19,10 @@ pub record Keys : Type 0 where
 unfoldable pub keys : Keys
 unfolding everything
 keys = record {
-  meta = λ _. record {
-    place = 0;
-    column = key_column (codes "id");
-    named = refl;
-    there = refl;
-    is_at = refl;
-    by_bytes = refl;
-  };
-  branch = λ _. record {
-    place = 0;
-    column = key_column (codes "bid");
-    named = refl;
-    there = refl;
-    is_at =
-        refl;
-    by_bytes = refl;
-  };
-  teller = λ _. record {
-    place = 0;
-    column = key_column (codes "tid");
-    named = refl;
-    there = refl;
-    is_at =
-        refl;
-    by_bytes = refl;
-  };
-  account = λ _. record {
-    place = 0;
-    column = key_column (codes "aid");
-    named = refl;
-    there = refl;
-    is_at =
-        refl;
-    by_bytes = refl;
-  };
+  meta = λ _. first_key (codes "id") refl refl refl refl;
+  branch = λ _. first_key (codes "bid") refl refl refl refl;
+  teller = λ _. first_key (codes "tid") refl refl refl refl;
+  account = λ _. first_key (codes "aid") refl refl refl refl;
 }
 
 pub record GetsRows : Type 0 where

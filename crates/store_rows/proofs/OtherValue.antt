@@ -20,8 +20,8 @@ use Rattle.store_rows.specs.declared.metas.TheConstants.{META_ID}
 use Rattle.store_rows.specs.declared.texts.TheConstants.{GET_META}
 use Rattle.sqlite.specs.declared.types.Value.TheVariants.{Int}
 
-untimed : (params : Row) (formats : List (List ℕ)) (now : ℕ) → formats ≡ [] → timed params formats now
-    ≡ params
+untimed : (params : Row) (formats : List (List ℕ)) (now : ℕ) → formats ≡ []
+    → timed params formats now ≡ params
 untimed params formats now none = ap (λ fs. timed params fs now) none ∙ append-nil params
 
 -- what a text that only shows rows told is what it shows

@@ -23,8 +23,8 @@ above : (a b : ℕ) → is_gt (int_cmp (pos b) (pos a)) ≡ nat_lt a b
 above a b = grind (arith, ints)
 
 -- where a whole row is looked for, what is shown of it is what is shown of what was looked for
-pub shown_itself : {X : Type 0} (shown : X → Row) (o : Option X) → option_map shown (option_map (λ x. x) o)
-    ≡ option_map shown o
+pub shown_itself : {X : Type 0} (shown : X → Row) (o : Option X)
+    → option_map shown (option_map (λ x. x) o) ≡ option_map shown o
 shown_itself shown None = refl
 shown_itself shown (Some x) = refl
 
@@ -68,8 +68,8 @@ module _ {R : Type 0} (key : R → ℕ) (entry : R → Entry) (keyed : (r : R) �
   there (Some r) = refl
 
   -- a key is taken where a row has it
-  pub taken_row_key : (k : ℕ) (rows : List R) → is_some (find (has_key (pos k)) (map entry rows))
-      ≡ is_some (row_at key rows k)
+  pub taken_row_key : (k : ℕ) (rows : List R)
+      → is_some (find (has_key (pos k)) (map entry rows)) ≡ is_some (row_at key rows k)
   taken_row_key k rows = ap is_some (found_by (has_key (pos k)) (λ r. key r == k) (has_row_key k) rows)
       ∙ there (row_at key rows k)
 
@@ -94,8 +94,8 @@ module _ {R : Type 0} (key : R → ℕ) (entry : R → Entry) (keyed : (r : R) �
       ∙ go (key r == k) ∙ ap (λ l. entry (cond (key r == k) (change r) r) ∷ l)
       (changed_rows change change_entry same k rows)
     where
-      go : (b : Bool) → cond b (change_entry (entry r)) (entry r)
-          ∷ changed change_entry (pos k) (map entry rows)
+      go : (b : Bool)
+          → cond b (change_entry (entry r)) (entry r) ∷ changed change_entry (pos k) (map entry rows)
           ≡ entry (cond b (change r) r) ∷ changed change_entry (pos k) (map entry rows)
       go true = ap (λ e. e ∷ changed change_entry (pos k) (map entry rows)) (same r)
       go false = refl
@@ -128,8 +128,8 @@ module _ {R : Type 0} (key : R → ℕ) (entry : R → Entry) (keyed : (r : R) �
       side false high apart more = placed Greater
           (order_of new r Greater (not_below (key r) (key new) high apart))
 
-      other : (b : Bool) → (key r == key new) ≡ b → is_some (cond b (Some r) (row_at key rows (key new)))
-          ≡ false
+      other : (b : Bool) → (key r == key new) ≡ b
+          → is_some (cond b (Some r) (row_at key rows (key new))) ≡ false
           → (is_some (row_at key rows (key new)) ≡ false → put (entry new) (map entry rows)
           ≡ map entry (row_put key new rows))
           → put (entry new) (entry r ∷ map entry rows)

@@ -79,8 +79,7 @@ history_in e = record {
   account = at e 0;
   teller = at e 1;
   branch = at e 2;
-  delta =
-      amount e 3;
+  delta = amount e 3;
   moment = at e 4;
 }
 

@@ -49,8 +49,7 @@ abbrev pub with_first : ℕ → Schema → Schema
 with_first n schema = fold (λ s it. created s it.1) schema (take n six_texts)
 
 -- The six tables are there and empty, and every table that was there is there, with its rows. Where no table
--- counts its rows, nothing else
--- is new.
+-- counts its rows, nothing else is new.
 pub record IsMade (old new : Database) : Type 0 where
   pub empty : AreEmpty new
   pub keeps : KeepsTables old new
@@ -58,8 +57,7 @@ pub record IsMade (old new : Database) : Type 0 where
   pub apart : (t : Table) → Has old.schema.tables t → t.tree ≢ tree_of new.schema (codes "meta")
 
 -- The first so many of the six are made, and the next is refused under the schema that stands now. Where no
--- table counts its rows, that
--- schema has those tables more, and nothing else.
+-- table counts its rows, that schema has those tables more, and nothing else.
 pub record RefusesNext (old now : Schema) (e : Error) : Type 0 where
   pub made : ℕ
   pub next : List ℕ × Table
@@ -86,8 +84,7 @@ abbrev pub MakesWide : Database → Type 0
 MakesWide old = (made : Database) × IsMade old made × HasWideIndex made.schema six.meta
 
 -- A statement is refused in this database: one of the six tables, where only those before it were made; or
--- the first row, since the limit
--- on steps was met, or since a UNIQUE of the file's own allows no such row.
+-- the first row, since the limit on steps was met, or since a UNIQUE of the file's own allows no such row.
 abbrev pub RefusedIn : State → Database → Error → Type 0
 RefusedIn old db e =
     (RefusesNext old.now.schema db.schema e × KeepsTables old.now db)
@@ -99,8 +96,8 @@ abbrev pub IsAlone : Database → Database → Type 0
 IsAlone old new = counts_rows old.schema ≡ false → new.schema ≡ with_first (length six_texts) old.schema
 
 -- The tables of a new bank are there, and every table that was there is there, with its rows, and nothing
--- else is. Or the store failed, and
--- the transaction is rolled back; or a statement is refused in the database that stands now.
+-- else is. Or the store failed, and the transaction is rolled back; or a statement is refused in the database
+-- that stands now.
 abbrev pub CreatesBank : State → State → Result (Unit {0}) Error → Type 0
 CreatesBank old new (Ok done) = Shows new.now new_tables × KeepsTables old.now new.now
     × IsAlone old.now new.now

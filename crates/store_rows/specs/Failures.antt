@@ -19,14 +19,14 @@ use Rattle.store_rows.specs.declared.faults.TableFault.TheVariants.{Sqlite, Dama
 -- the call of `sqlite` that led from one state to the other answered this error
 pub data HasFailed (old new : State) (e : Error) : Type 0 where
   -- a query failed: that it finds no row is no failure
-  Asking : (text : List ℕ) (params : Row) → QueriesRowInside text params old new (Err e) → e
-      ≢ QueryReturnedNoRows → HasFailed old new e
+  Asking : (text : List ℕ) (params : Row) → QueriesRowInside text params old new (Err e)
+      → e ≢ QueryReturnedNoRows → HasFailed old new e
   -- a row couldn't be changed
   Changing : (text : List ℕ) (params : Row) → ExecutesInside 0 text params old new (Err e)
       → HasFailed old new e
   -- a row couldn't be put in: that its key is taken is no failure
-  Putting : (text : List ℕ) (params : Row) → ExecutesInside 0 text params old new (Err e) → is_taken_key e
-      ≡ false → HasFailed old new e
+  Putting : (text : List ℕ) (params : Row) → ExecutesInside 0 text params old new (Err e)
+      → is_taken_key e ≡ false → HasFailed old new e
   -- a value of a row couldn't be read
   Reading : (at : ℕ) (value : Value) → IsReadError at value e → HasFailed old new e
   -- a commit failed, or the store did

@@ -37,8 +37,7 @@ branch_form = record {
   Breaks = IsNoBranch;
   held = branch_stored;
   Is = IsBranch;
-  Keeps =
-      BranchKeeps;
+  Keeps = BranchKeeps;
 }
 
 abbrev pub request_form : Form RequestRow

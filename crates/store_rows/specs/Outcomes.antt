@@ -31,8 +31,7 @@ use Rattle.message_records.specs.declared.limits.TheConstants.{MAX_NUMBER, MAX_T
 use Rattle.posting_rules.specs.declared.limits.TheConstants.{MAX_DECIDED}
 
 -- The answer is what was looked for and nothing has changed; or the store failed; or what is there breaks a
--- rule in this way, and nothing
--- has changed.
+-- rule in this way, and nothing has changed.
 abbrev pub Finds : {X : Type 0} → State → State → Option X → (X → Rule → Type 0)
     → Result (Option X) TableFault → Type 0
 Finds old new wanted Breaks (Ok found) = (found ≡ wanted) × IsUnchanged old new

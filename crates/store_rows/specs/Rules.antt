@@ -130,10 +130,10 @@ AccountsFit rows = (n : ℕ) → 1 ≤ n → n ≤ MAX_ACCOUNT
 pub record AreFree (rows : StoredRows) : Type 0 where
   pub requests : (decided n : ℕ) → HasDecided rows decided → decided < n → row_under rows.requests n ≡ None
   pub postings : (decided n : ℕ) → HasDecided rows decided → decided < n → row_under rows.history n ≡ None
-  pub tellers : (n : ℕ) → 1 ≤ n → branch_under rows (branch_of_teller n) ≡ None → row_under rows.tellers n
-      ≡ None
-  pub accounts : (n : ℕ) → 1 ≤ n → branch_under rows (branch_of_account n) ≡ None → row_under rows.accounts n
-      ≡ None
+  pub tellers : (n : ℕ) → 1 ≤ n → branch_under rows (branch_of_teller n) ≡ None
+      → row_under rows.tellers n ≡ None
+  pub accounts : (n : ℕ) → 1 ≤ n → branch_under rows (branch_of_account n) ≡ None
+      → row_under rows.accounts n ≡ None
 
 -- the seven rules
 abbrev pub Keeps : Rule → StoredRows → Type 0

@@ -11,8 +11,7 @@ ghost use Rattle.store_rows.specs.View.{Shows, ShowsTrees};
 use sqlite::{Alter, Error, Transaction};
 
 /// Commits a transaction. Alone among these calls it adds to what a stop may leave, also where it fails. It
-/// fails where
-/// the store does, or where an earlier failure has ended the transaction.
+/// fails where the store does, or where an earlier failure has ended the transaction.
 pub fn commit<S: Alter>(tx: Transaction<'_, S>) -> Result<(), Error>
     ensures ended { tx.exit.0.now.in_transaction ≡ false }
     ensures ok { HasCleanDisk (state S.Store tx.exit.0.now) → (tables : Tables)
