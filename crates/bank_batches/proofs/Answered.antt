@@ -23,9 +23,12 @@ use Rattle.bank_batches.specs.Batches.{DecidesNone}
 use Rattle.bank_batches.proofs.Both.{does_both}
 
 -- the same, said in other words where the answer is known
-pub does_so : {S X Y : Type 0} {g : Ghosts S} {old new : Transaction S} {So : Tables → Type 0} {after after' : Tables → Tables}
-    {w : Tables → X} {w' : Tables → Y} {x : X} {y : Y} {Met : Damage S} → DoesBy Met g old new So after w (Ok x)
-    → ((t : Tables) → So t → x ≡ w t → (after t ≡ after' t) × (y ≡ w' t)) → DoesBy Met g old new So after' w' (Ok y)
+pub does_so : {S X Y : Type 0} {g : Ghosts S} {old new : Transaction S} {So : Tables → Type 0}
+    {after after' : Tables → Tables}
+    {w : Tables → X} {w' : Tables → Y} {x : X} {y : Y} {Met : Damage S}
+    → DoesBy Met g old new So after w (Ok x)
+    → ((t : Tables) → So t → x ≡ w t → (after t ≡ after' t) × (y ≡ w' t))
+    → DoesBy Met g old new So after' w' (Ok y)
 does_so {S} {X} {Y} {g} {old} {new} part same = record {
   says = record {
     same_reference = part.says.same_reference;
@@ -40,11 +43,14 @@ does_so {S} {X} {Y} {g} {old} {new} part same = record {
 
 -- what judging a filled batch comes to
 pub record Judges (b : Batch) (m : ℕ) (o : Overlay) (items : List (List ℕ)) : Type 0 where
-  pub tables : (t : Tables) (records : List (List ℕ)) → IsFilledFrom b t records → tables_over o t ≡ tables_past_all t m records
-  pub replies : (t : Tables) (records : List (List ℕ)) → IsFilledFrom b t records → items ≡ replies_past_all t m records
+  pub tables : (t : Tables) (records : List (List ℕ)) → IsFilledFrom b t records → tables_over o t
+      ≡ tables_past_all t m records
+  pub replies : (t : Tables) (records : List (List ℕ)) → IsFilledFrom b t records → items
+      ≡ replies_past_all t m records
   pub changes : (t : Tables) (records : List (List ℕ)) → IsFilledFrom b t records → ChangesRows o t
   pub rising : HasRisingSlots (view b.overlay) → HasRisingSlots o
-  pub adds : (t : Tables) (records : List (List ℕ)) → IsFilledFrom b t records → (log : List Command) → Shows t log → AddsRows o t
+  pub adds : (t : Tables) (records : List (List ℕ)) → IsFilledFrom b t records → (log : List Command)
+      → Shows t log → AddsRows o t
   pub idle : o.decided ≡ b.overlay.decided → o ≡ view b.overlay
 
 abbrev pub Ready : Overlay → Tables → Type 0
@@ -56,52 +62,79 @@ Written o t = IsUndamaged t × HasRisingSlots o × ChangesRows o t × AddsRows o
 sound : (t : Tables) → AreOfALog t → IsUndamaged t
 sound t it = undamaged t it.0 it.1 it.2
 
-pub ready : (b : Batch) (records : List (List ℕ)) → IsMadeOf b records → (t : Tables) → AreOfALog t → Ready (view b.overlay) t
-ready b records made t it = (sound t it, subst HasHomes (sym made.overlay) (homes_all (map request_of records)))
+pub ready : (b : Batch) (records : List (List ℕ)) → IsMadeOf b records → (t : Tables) → AreOfALog t
+    → Ready (view b.overlay) t
+ready b records made t it =
+    (sound t it, subst HasHomes (sym made.overlay) (homes_all (map request_of records)))
 
-module _ {S : Type 0} {g : Ghosts S} {old mid : Transaction S} (b b' : Batch) (records : List (List ℕ)) (m : ℕ) (o : Overlay) (items : List (List ℕ))
+module _ {S : Type 0} {g : Ghosts S} {old mid : Transaction S} (b b' : Batch) (records : List (List ℕ))
+    (m : ℕ) (o : Overlay) (items : List (List ℕ))
     (made : IsMadeOf b records) (same : reads_of b' ≡ reads_of b) (judges : Judges b' m o items)
-    (first : DoesBy (IsFirstBroken g) g old mid (Ready (view b.overlay)) (λ t. t) (λ t. filled t (view b.overlay)) (Ok (view b'.overlay))) where
+    (first : DoesBy (IsFirstBroken g) g old mid (Ready (view b.overlay)) (λ t. t)
+    (λ t. filled t (view b.overlay)) (Ok (view b'.overlay))) where
   is_filled : (t : Tables) → view b'.overlay ≡ filled t (view b.overlay) → IsFilledFrom b' t records
   is_filled t e = record {
     reads = same ∙ made.reads;
     overlay = e ∙ ap (λ (p : Overlay). filled t p) made.overlay;
   }
 
-  filled_so : DoesBy (IsFirstBroken g) g old mid AreOfALog (λ t. t) (λ t. filled t (view b.overlay)) (Ok (view b'.overlay))
+  filled_so : DoesBy (IsFirstBroken g) g old mid AreOfALog (λ t. t) (λ t. filled t (view b.overlay))
+      (Ok (view b'.overlay))
   filled_so = does_for first (λ t it. (ready b records made t it, refl, refl))
 
   may_write : (t : Tables) → AreOfALog t → view b'.overlay ≡ filled t (view b.overlay) → Written o t
   may_write t it e =
       let is = is_filled t e in
-      let it_stands = stands t (map request_of records) in
-      (sound t it, judges.rising (subst HasRisingSlots (sym is.overlay) it_stands.rising), judges.changes t records is, judges.adds t records is it.0 it.2)
+      let it_stands = stands t (map request_of records) in (
+        sound t it,
+        judges.rising
+            (subst HasRisingSlots
+            (sym is.overlay) it_stands.rising),
+        judges.changes t records is,
+        judges.adds t records is it.0 it.2,
+      )
 
   -- where nothing is decided, the records lead to the tables that were there
-  pub leads_back : o.decided ≡ b'.overlay.decided → (t : Tables) → view b'.overlay ≡ filled t (view b.overlay) → tables_past_all t m records ≡ t
+  pub leads_back : o.decided ≡ b'.overlay.decided → (t : Tables) → view b'.overlay ≡ filled t (view b.overlay)
+      → tables_past_all t m records ≡ t
   leads_back none t e =
       let is = is_filled t e in
-      sym (judges.tables t records is) ∙ ap (λ (p : Overlay). tables_over p t) (judges.idle none ∙ is.overlay) ∙ (stands t (map request_of records)).same
+      sym (judges.tables t records is) ∙ ap (λ (p : Overlay). tables_over p t) (judges.idle none ∙ is.overlay)
+      ∙ (stands t (map request_of records)).same
 
   -- and then the count is the one that was read
-  pub counts_none : (t : Tables) → view b'.overlay ≡ filled t (view b.overlay) → DecidesNone t m records → o.decided ≡ b'.overlay.decided
-  counts_none t e none = ap (λ (u : Tables). u.decided) (judges.tables t records (is_filled t e)) ∙ none ∙ sym (ap (λ (p : Overlay). p.decided) e)
+  pub counts_none : (t : Tables) → view b'.overlay ≡ filled t (view b.overlay) → DecidesNone t m records
+      → o.decided ≡ b'.overlay.decided
+  counts_none t e none = ap (λ (u : Tables). u.decided) (judges.tables t records (is_filled t e)) ∙ none
+      ∙ sym (ap (λ (p : Overlay). p.decided) e)
 
   -- nothing is written, and the tables are as they were
-  pub answered_idle : o.decided ≡ b'.overlay.decided → Acts g old mid AreOfALog (λ t. tables_past_all t m records) (λ t. replies_past_all t m records) (Ok items)
-  answered_idle none = acts_read (does_so filled_so (λ t it e. (sym (leads_back none t e), judges.replies t records (is_filled t e))))
+  pub answered_idle : o.decided ≡ b'.overlay.decided
+      → Acts g old mid AreOfALog (λ t. tables_past_all t m records) (λ t. replies_past_all t m records)
+      (Ok items)
+  answered_idle none =
+      acts_read (does_so filled_so
+      (λ t it e. (sym (leads_back none t e), judges.replies t records (is_filled t e))))
 
   abbrev Knows : Tables → Type 0
   Knows t = AreOfALog t × (view b'.overlay ≡ filled t (view b.overlay))
 
-  written_so : {new : Transaction S} {r : Result (Unit {0}) TableFault} → Does {X = Unit {0}} g mid new (Written o) (λ t. tables_over o t) (λ _. tt {0}) r
+  written_so : {new : Transaction S} {r : Result (Unit {0}) TableFault}
+      → Does {X = Unit {0}} g mid new (Written o) (λ t. tables_over o t) (λ _. tt {0}) r
       → Does {X = Unit {0}} g mid new Knows (λ t. tables_past_all t m records) (λ _. tt {0}) r
-  written_so second = does_for second (λ t so. (may_write t so.0 so.1, judges.tables t records (is_filled t so.1), refl))
+  written_so second =
+      does_for second (λ t so. (may_write t so.0 so.1, judges.tables t records (is_filled t so.1), refl))
 
-  pub answered_written : {new : Transaction S} → Does {X = Unit {0}} g mid new (Written o) (λ t. tables_over o t) (λ _. tt {0}) (Ok (tt {0}))
-      → Acts g old new AreOfALog (λ t. tables_past_all t m records) (λ t. replies_past_all t m records) (Ok items)
-  answered_written second = acts_wrote (does_both filled_so (written_so second) (λ t it e. (it, e)) (λ t it e f. judges.replies t records (is_filled t e)))
+  pub answered_written : {new : Transaction S}
+      → Does {X = Unit {0}} g mid new (Written o) (λ t. tables_over o t) (λ _. tt {0}) (Ok (tt {0}))
+      → Acts g old new AreOfALog (λ t. tables_past_all t m records) (λ t. replies_past_all t m records)
+      (Ok items)
+  answered_written second =
+      acts_wrote (does_both filled_so (written_so second) (λ t it e. (it, e))
+      (λ t it e f. judges.replies t records (is_filled t e)))
 
-  pub answered_not : {new : Transaction S} {e : TableFault} → Does {X = Unit {0}} g mid new (Written o) (λ t. tables_over o t) (λ _. tt {0}) (Err e)
-      → Acts {X = List (List ℕ)} g old new AreOfALog (λ t. tables_past_all t m records) (λ t. replies_past_all t m records) (Err e)
+  pub answered_not : {new : Transaction S} {e : TableFault}
+      → Does {X = Unit {0}} g mid new (Written o) (λ t. tables_over o t) (λ _. tt {0}) (Err e)
+      → Acts {X = List (List ℕ)} g old new AreOfALog (λ t. tables_past_all t m records)
+      (λ t. replies_past_all t m records) (Err e)
   answered_not second = acts_wrote (does_but filled_so (written_so second) (λ t it e. (it, e)))

@@ -13,7 +13,8 @@ use Rattle.bank_transactions.specs.Doing.{Ends}
 use Rattle.bank_batches.specs.Batches.{items_of, DecidesNone, WritesNothing, HasOnly}
 
 -- the replies without where they lie in memory end the same way
-pub ends_items : {S Z : Type 0} (g : Ghosts S) (last new : Held S) (answer result : Result (Vec (List ℕ) Z) TableFault)
+pub ends_items : {S Z : Type 0} (g : Ghosts S) (last new : Held S)
+    (answer result : Result (Vec (List ℕ) Z) TableFault)
     → Ends g last new answer result → Ends g last new (items_of answer) (items_of result)
 ends_items g last new (Ok x) (Ok y) ends =
     record { mode = ends.mode; given = ap items_of ends.given; told = ends.told; survives = ends.survives }
@@ -36,14 +37,16 @@ ends_items g last new (Err fault) (Err other) ends = record {
 module _ (Made : List (List ℕ) → Type 0) (moment : ℕ) {S : Type 0} (g : Ghosts S) where
   -- within its transaction
   abbrev IdleWithin : Held S → Held S → Type 0
-  IdleWithin begun last = HasCleanDisk (state g last) → (records : List (List ℕ)) → Made records → (t : Tables)
+  IdleWithin begun last = HasCleanDisk (state g last) → (records : List (List ℕ)) → Made records
+      → (t : Tables)
       → Shows (state g begun).now t → AreOfALog t → DecidesNone t moment records
       → WritesNothing (state g begun) (state g last) t moment records
 
   -- after it
   abbrev IdleAfter : Held S → Held S → Type 0
   IdleAfter old new = HasCleanDisk (state g new) → (records : List (List ℕ)) → Made records → (t : Tables)
-      → Shows (state g old).now t → AreOfALog t → DecidesNone t moment records → HasOnly (state g old) (state g new) t
+      → Shows (state g old).now t → AreOfALog t → DecidesNone t moment records
+      → HasOnly (state g old) (state g new) t
 
   pub idle_after : {X : Type 0} (old begun last end new : Held S) (answer result : Result X TableFault)
       → begun ≡ record old { in_transaction = true } → Ends g last end answer result
@@ -52,7 +55,8 @@ module _ (Made : List (List ℕ) → Type 0) (moment : ℕ) {S : Type 0} (g : Gh
   idle_after old begun last end new answer (Err fault) is ends same idle = tt
   idle_after old begun last end new (Err fault) (Ok y) is ends same idle = absurd (let no = ends.given in cc)
   idle_after old begun last end new (Ok x) (Ok y) is ends same idle = λ clean records made t shows so none.
-      let ended : HasCleanDisk (state g end) = subst (λ (h : Held S). HasCleanDisk (state g h)) (sym (same records made)) clean in
+      let ended : HasCleanDisk (state g end) = subst (λ (h : Held S). HasCleanDisk (state g h))
+      (sym (same records made)) clean in
       let before : HasCleanDisk (state g last) = omega (arith, ends.survives.clean) in
       let first : Shows (state g begun).now t = rw is shows in
       let it = idle before records made t first so none in

@@ -21,7 +21,8 @@ use Rattle.bank_transactions.specs.Holders.{HasRow, with_balance}
 use Rattle.bank_transactions.specs.declared.balances.Holder.{Holder}
 use Rattle.bank_transactions.specs.declared.balances.Holder.TheVariants.{Account, Teller, Branch}
 use Rattle.bank_transactions.proofs.Chained.{does_add, does_for, does_none}
-use Rattle.posting_rules.specs.Changes.{row_changed, with_branch_balance, with_teller_balance, with_account_balance}
+use Rattle.posting_rules.specs.Changes.{row_changed, with_branch_balance, with_teller_balance}
+use Rattle.posting_rules.specs.Changes.{with_account_balance}
 use Rattle.posting_rules.specs.Steps as steps
 use Rattle.posting_rules.specs.Tables.{Tables, row_at, branch_key, teller_key, account_key}
 use Rattle.posting_batch.specs.declared.slots.AccountSlot.{AccountSlot}
@@ -39,11 +40,14 @@ asked P changed z is so = subst (λ (o : Option ℤ). IfSome o (λ _. P)) is so
 -- ---- new rows
 
 -- a row is put in under a key that is free
-pub row_added : {S R : Type 0} {g : Ghosts S} {old new : Transaction S} {r : Result (Unit {0}) TableFault} (table : Table)
-    (key : R → ℕ) (rows : Tables → List R) (put : R → Tables → Tables) (made : List R → Tables → Tables) (row : R)
+pub row_added : {S R : Type 0} {g : Ghosts S} {old new : Transaction S} {r : Result (Unit {0}) TableFault}
+    (table : Table)
+    (key : R → ℕ) (rows : Tables → List R) (put : R → Tables → Tables) (made : List R → Tables → Tables)
+    (row : R)
     → ((t : Tables) → put row t ≡ made (row ∷ []) t)
     → Says g old new (Inside (OfTables (λ before now t.
-    Adds before now table (is_some (row_at key (rows t) (key row))) (put row t) r))) (Inside (λ before now. Puts before now r))
+    Adds before now table (is_some (row_at key (rows t) (key row))) (put row t) r)))
+    (Inside (λ before now. Puts before now r))
     → Does g old new (λ t. PutsFree key (row ∷ []) (rows t)) (made (row ∷ [])) (λ _. tt) r
 row_added {S} {R} {g} {old} {new} {r} table key rows put made row is says =
     does_for (does_add {So = λ t. PutsFree key (row ∷ []) (rows t)} g old new table
@@ -66,7 +70,8 @@ by_change None written t = t
 by_change (Some z) written t = written z
 
 -- a slot that is changed: its row is written
-pub changed : {S : Type 0} {g : Ghosts S} {old new : Transaction S} {r : Result (Unit {0}) TableFault} {May : Tables → Type 0}
+pub changed : {S : Type 0} {g : Ghosts S} {old new : Transaction S} {r : Result (Unit {0}) TableFault}
+    {May : Tables → Type 0}
     {made : Tables → Tables} (holder : Holder) (c : Option ℤ) (z : ℤ) → c ≡ Some z
     → ((t : Tables) → by_change c (λ y. with_balance holder y t) t ≡ made t)
     → ((t : Tables) → May t → IfSome c (λ _. HasRow holder t))
@@ -78,19 +83,23 @@ changed {S} {g} {old} {new} {r} {May} {made} holder c z is comes there does = do
 ))
 
 -- one that isn't: nothing is
-pub unchanged : {S : Type 0} {g : Ghosts S} {tx : Transaction S} {May : Tables → Type 0} {made : Tables → Tables}
-    (holder : Holder) (c : Option ℤ) → c ≡ None → ((t : Tables) → by_change c (λ y. with_balance holder y t) t ≡ made t)
+pub unchanged : {S : Type 0} {g : Ghosts S} {tx : Transaction S} {May : Tables → Type 0}
+    {made : Tables → Tables}
+    (holder : Holder) (c : Option ℤ) → c ≡ None
+    → ((t : Tables) → by_change c (λ y. with_balance holder y t) t ≡ made t)
     → Survives (state g tx.conn.now) (state g tx.conn.now) (λ _. ⊥)
     → Does {X = Unit {0}} g tx tx May made (λ _. tt {0}) (Ok (tt {0}))
-unchanged {S} {g} {tx} {May} {made} holder c is comes stays = does_for (does_none {So = May} stays) (λ t may. (
-  may,
-  subst (λ (o : Option ℤ). by_change o (λ y. with_balance holder y t) t ≡ made t) is (comes t),
-  refl,
-))
+unchanged {S} {g} {tx} {May} {made} holder c is comes stays =
+    does_for (does_none {So = May} stays) (λ t may. (
+      may,
+      subst (λ (o : Option ℤ). by_change o (λ y. with_balance holder y t) t ≡ made t) is (comes t),
+      refl,
+    ))
 
 -- one slot
 slot_made : {A R : Type 0} (slot_key : A → ℕ) (key : R → ℕ) (changed : A → Option ℤ) (set : ℤ → R → R)
-    (same : (s : A) (r : R) → key (changed_to set (changed s) r) ≡ key r) (with_rows : List R → Tables) (s : A) (rows : List R)
+    (same : (s : A) (r : R) → key (changed_to set (changed s) r) ≡ key r) (with_rows : List R → Tables)
+    (s : A) (rows : List R)
     (c : Option ℤ) → changed s ≡ c
     → by_change c (λ z. with_rows (row_changed key (set z) (slot_key s) rows)) (with_rows rows)
     ≡ with_rows (over slot_key key (λ x r. changed_to set (changed x) r) (s ∷ []) rows)
@@ -102,7 +111,8 @@ slot_made slot_key key changed set same with_rows s rows (Some z) e =
 pub account_made : (s : AccountSlot) (t : Tables)
     → by_change s.changed (λ z. with_balance (Account s.account) z t) t ≡ accounts_over (s ∷ []) t
 unfolding with_account_balance
-account_made s t = slot_made account_slot_key account_key (λ x. x.changed) steps.with_account_balance account_same
+account_made s t =
+    slot_made account_slot_key account_key (λ x. x.changed) steps.with_account_balance account_same
     (λ rows. record t { accounts = rows }) s t.accounts s.changed refl
 
 pub teller_made : (s : TellerSlot) (t : Tables)

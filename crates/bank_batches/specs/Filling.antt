@@ -15,10 +15,13 @@ abbrev pub handing : {X Y : Type 0} → Y → Result X TableFault → Result Y T
 handing y (Ok x) = Ok y
 handing y (Err e) = Err e
 
--- In tables that are so, the answer is what was looked for. Whatever the rows, nothing has changed after `Ok`,
+-- In tables that are so, the answer is what was looked for. Whatever the rows, nothing has changed after
+-- `Ok`,
 -- and damage is of the rows that were there.
-pub record ReadsWhere {S X : Type 0} (g : Ghosts S) (old new : Transaction S) (So : Tables → Type 0) (wanted : Tables → X) (result : Result X TableFault) : Type 0 where
-  pub says : Says g old new (OfTables (λ before now tables. So tables → LooksUp before now (wanted tables) result))
+pub record ReadsWhere {S X : Type 0} (g : Ghosts S) (old new : Transaction S) (So : Tables → Type 0)
+    (wanted : Tables → X) (result : Result X TableFault) : Type 0 where
+  pub says : Says g old new
+      (OfTables (λ before now tables. So tables → LooksUp before now (wanted tables) result))
       (λ before now. Looks before now result × Blames (IsFirstBroken g) g old.conn.now new.conn.now result)
 
 -- the slot under a number tells the row of that branch

@@ -1,31 +1,39 @@
--- Changes of one table are made one after another: what is so of all is so of the next one, behind those before it.
+-- Changes of one table are made one after another: what is so of all is so of the next one, behind those
+-- before it.
 use Rattle.std.proofs.Common.{◌≡◌, ℕ, List, [], ◌∷◌, ◌++◌, Option, Some, None, refl, sym, ap, subst, ◌∙◌}
 use Rattle.std.specs.Prelude.{ℤ, IsSome, IfSome}
 use Rattle.std.specs.List.{AllByRecursion, IsDistinct}
 use Rattle.posting_rules.specs.Changes.{row_put}
 use Rattle.posting_rules.specs.Steps.{with_branch_balance, with_teller_balance, with_account_balance}
-use Rattle.posting_rules.specs.Tables.{Tables, HasKeys, row_at, branch_key, teller_key, account_key, history_key, request_key}
+use Rattle.posting_rules.specs.Tables.{Tables, HasKeys, row_at, branch_key, teller_key, account_key}
+use Rattle.posting_rules.specs.Tables.{history_key, request_key}
 use Rattle.posting_batch.specs.Batch.{PutsFree}
-use Rattle.posting_batch.specs.Overlay.{each_put, over, changed_to, accounts_over, tellers_over, branches_over, history_put, requests_put}
+use Rattle.posting_batch.specs.Overlay.{each_put, over, changed_to, accounts_over, tellers_over}
+use Rattle.posting_batch.specs.Overlay.{branches_over, history_put, requests_put}
 use Rattle.posting_batch.specs.Slots.{account_slot_key, teller_slot_key, branch_slot_key}
 use Rattle.posting_batch.proofs.NewRows.{account_same, teller_same, branch_same}
 use Rattle.posting_batch.proofs.Overlaid.{each_put-append}
 use Rattle.posting_batch.proofs.Written.{not_before, over_none, over_more, over_there}
-use Rattle.bank_batches.specs.Writing.{MayChange, MayChangeAccounts, MayChangeTellers, MayChangeBranches, MayAddPostings, MayAddRequests}
+use Rattle.bank_batches.specs.Writing.{MayChange, MayChangeAccounts, MayChangeTellers, MayChangeBranches}
+use Rattle.bank_batches.specs.Writing.{MayAddPostings, MayAddRequests}
 
--- No change leaves the tables as they were. Changes that may be made together may be made one after another, and come to the same.
-pub record InTurn {A : Type 0} (made : List A → Tables → Tables) (May : List A → Tables → Type 0) : Type 0 where
+-- No change leaves the tables as they were. Changes that may be made together may be made one after another,
+-- and come to the same.
+pub record InTurn {A : Type 0} (made : List A → Tables → Tables)
+    (May : List A → Tables → Type 0) : Type 0 where
   pub none : (t : Tables) → t ≡ made [] t
   pub next : (front : List A) (change : A) (rest : List A) (t : Tables) → May (front ++ change ∷ rest) t
       → May (change ∷ []) (made front t) × (made (change ∷ []) (made front t) ≡ made (front ++ change ∷ []) t)
 
 -- the rows of one of the tables, and the tables with other rows there
-pub record ArePlaced {R : Type 0} (rows : Tables → List R) (with_rows : Tables → List R → Tables) : Type 0 where
+pub record ArePlaced {R : Type 0} (rows : Tables → List R)
+    (with_rows : Tables → List R → Tables) : Type 0 where
   pub own : (t : Tables) → t ≡ with_rows t (rows t)
   pub held : (t : Tables) (rs : List R) → rows (with_rows t rs) ≡ rs
   pub again : (t : Tables) (rs others : List R) → with_rows (with_rows t rs) others ≡ with_rows t others
 
-all_behind : {A : Type 0} (P : A → Type 0) (front : List A) (x : A) (rest : List A) → AllByRecursion P (front ++ x ∷ rest) → P x
+all_behind : {A : Type 0} (P : A → Type 0) (front : List A) (x : A) (rest : List A)
+    → AllByRecursion P (front ++ x ∷ rest) → P x
 all_behind P [] x rest all = all.0
 all_behind P (y ∷ front) x rest all = all_behind P front x rest all.1
 
@@ -50,7 +58,8 @@ module _ {A R : Type 0} (slot_key : A → ℕ) (key : R → ℕ) (changed : A �
       → MayChange slot_key changed key rows (front ++ s ∷ rest)
       → MayChange slot_key changed key (under front rows) (s ∷ [])
   may_next front s rest rows may =
-      let asked = all_behind (λ x. IfSome (changed x) (λ z. IsSome (row_at key rows (slot_key x)))) front s rest may.1 in
+      let asked = all_behind
+      (λ x. IfSome (changed x) (λ z. IsSome (row_at key rows (slot_key x)))) front s rest may.1 in
       (one_key slot_key s, (there (changed s) front rows (slot_key s) asked, tt))
 
   under_next : (front : List A) (s : A) (rest : List A) (rows : List R) → HasKeys slot_key (front ++ s ∷ rest)
@@ -59,7 +68,8 @@ module _ {A R : Type 0} (slot_key : A → ℕ) (key : R → ℕ) (changed : A �
       over_more slot_key key changed set same front s (not_before slot_key front s rest keys) rows
 
   slots_in_turn : (rows : Tables → List R) (with_rows : Tables → List R → Tables) → ArePlaced rows with_rows
-      → InTurn (λ slots t. with_rows t (under slots (rows t))) (λ slots t. MayChange slot_key changed key (rows t) slots)
+      → InTurn (λ slots t. with_rows t (under slots (rows t)))
+      (λ slots t. MayChange slot_key changed key (rows t) slots)
   slots_in_turn rows with_rows placed = record {
     none = λ t. placed.own t ∙ ap (with_rows t) (sym (over_none slot_key key changed set same (rows t)));
     next = λ front s rest t may.
@@ -74,19 +84,24 @@ module _ {A R : Type 0} (slot_key : A → ℕ) (key : R → ℕ) (changed : A �
 
 pub accounts_in_turn : InTurn accounts_over MayChangeAccounts
 accounts_in_turn =
-    slots_in_turn account_slot_key account_key (λ s. s.changed) with_account_balance account_same (λ t. t.accounts)
-    (λ t rows. record t { accounts = rows }) (record { own = λ t. refl; held = λ t rs. refl; again = λ t rs others. refl })
+    slots_in_turn account_slot_key account_key (λ s. s.changed) with_account_balance account_same
+    (λ t. t.accounts)
+    (λ t rows. record t { accounts = rows })
+    (record { own = λ t. refl; held = λ t rs. refl; again = λ t rs others. refl })
 
 pub tellers_in_turn : InTurn tellers_over MayChangeTellers
 tellers_in_turn =
     slots_in_turn teller_slot_key teller_key (λ s. s.changed) with_teller_balance teller_same (λ t. t.tellers)
-    (λ t rows. record t { tellers = rows }) (record { own = λ t. refl; held = λ t rs. refl; again = λ t rs others. refl })
+    (λ t rows. record t { tellers = rows })
+    (record { own = λ t. refl; held = λ t rs. refl; again = λ t rs others. refl })
 
 -- and their numbers are those of branches
 pub branches_in_turn : InTurn branches_over MayChangeBranches
 branches_in_turn =
-    let slots = slots_in_turn branch_slot_key branch_key (λ s. s.changed) with_branch_balance branch_same (λ t. t.branches)
-    (λ t rows. record t { branches = rows }) (record { own = λ t. refl; held = λ t rs. refl; again = λ t rs others. refl }) in
+    let slots = slots_in_turn branch_slot_key branch_key (λ s. s.changed) with_branch_balance branch_same
+    (λ t. t.branches)
+    (λ t rows. record t { branches = rows })
+    (record { own = λ t. refl; held = λ t rs. refl; again = λ t rs others. refl }) in
     record {
       none = slots.none;
       next = λ front s rest t may.

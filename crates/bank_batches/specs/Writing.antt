@@ -5,7 +5,8 @@ use Rattle.message_records.specs.Ranges.{whole_within}
 use Rattle.message_records.specs.declared.limits.TheConstants.{MAX_BRANCH}
 use Rattle.posting_rules.specs.declared.rows.HistoryRow.{HistoryRow}
 use Rattle.posting_rules.specs.declared.rows.RequestRow.{RequestRow}
-use Rattle.posting_rules.specs.Tables.{Tables, HasKeys, row_at, branch_key, teller_key, account_key, history_key, request_key}
+use Rattle.posting_rules.specs.Tables.{Tables, HasKeys, row_at, branch_key, teller_key, account_key}
+use Rattle.posting_rules.specs.Tables.{history_key, request_key}
 use Rattle.posting_batch.specs.declared.slots.AccountSlot.{AccountSlot}
 use Rattle.posting_batch.specs.declared.slots.TellerSlot.{TellerSlot}
 use Rattle.posting_batch.specs.declared.slots.BranchSlot.{BranchSlot}
@@ -15,7 +16,8 @@ use Rattle.posting_batch.specs.Slots.{account_slot_key, teller_slot_key, branch_
 -- each slot has a key of its own, and each changed one has its row
 abbrev pub MayChange : {A R : Type 0} → (A → ℕ) → (A → Option ℤ) → (R → ℕ) → List R → List A → Type 0
 MayChange slot_key changed key rows slots =
-    HasKeys slot_key slots × AllByRecursion (λ s. IfSome (changed s) (λ z. IsSome (row_at key rows (slot_key s)))) slots
+    HasKeys slot_key slots
+    × AllByRecursion (λ s. IfSome (changed s) (λ z. IsSome (row_at key rows (slot_key s)))) slots
 
 abbrev pub MayChangeAccounts : List AccountSlot → Tables → Type 0
 MayChangeAccounts slots t = MayChange account_slot_key (λ s. s.changed) account_key t.accounts slots
@@ -25,10 +27,12 @@ MayChangeTellers slots t = MayChange teller_slot_key (λ s. s.changed) teller_ke
 
 -- the number of each changed branch is one of branches
 abbrev pub AreNumbers : List BranchSlot → Type 0
-AreNumbers slots = AllByRecursion (λ s. IfSome s.changed (λ z. whole_within 1 MAX_BRANCH s.branch ≡ Some s.branch)) slots
+AreNumbers slots =
+    AllByRecursion (λ s. IfSome s.changed (λ z. whole_within 1 MAX_BRANCH s.branch ≡ Some s.branch)) slots
 
 abbrev pub MayChangeBranches : List BranchSlot → Tables → Type 0
-MayChangeBranches slots t = MayChange branch_slot_key (λ s. s.changed) branch_key t.branches slots × AreNumbers slots
+MayChangeBranches slots t = MayChange branch_slot_key (λ s. s.changed) branch_key t.branches slots
+    × AreNumbers slots
 
 -- the key of each new row is free by then
 abbrev pub MayAddPostings : List HistoryRow → Tables → Type 0

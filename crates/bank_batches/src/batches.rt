@@ -28,9 +28,12 @@ pub fn answer_batch<S: Alter>(
         → Acts S.Store tx.old tx.new AreOfALog (λ tables. tables_past_all tables moment records)
         (λ tables. replies_past_all tables moment records) (items_of result) }
     ensures count { IfOk result (λ replies. length replies.items ≡ length (reads_of batch)) }
-    ensures idle { OnOk result (HasCleanDisk (state S.Store tx.new.conn.now) → (records : List (List ℕ)) → IsMadeOf batch records
-        → (tables : Tables) → Shows (state S.Store tx.old.conn.now).now tables → AreOfALog tables → DecidesNone tables moment records
-        → WritesNothing (state S.Store tx.old.conn.now) (state S.Store tx.new.conn.now) tables moment records) }
+    ensures idle { OnOk result
+        (HasCleanDisk (state S.Store tx.new.conn.now) → (records : List (List ℕ)) → IsMadeOf batch records
+        → (tables : Tables) → Shows (state S.Store tx.old.conn.now).now tables → AreOfALog tables
+        → DecidesNone tables moment records
+        → WritesNothing (state S.Store tx.old.conn.now)
+        (state S.Store tx.new.conn.now) tables moment records) }
 {
     fill(tx, &mut batch)?;
     let before = batch.overlay.decided;
@@ -41,8 +44,8 @@ pub fn answer_batch<S: Alter>(
     Ok(replies)
 }
 
-/// Answers the records that a batch is made of, in order. They stand together or not at all. Where none of them is decided, the
-/// tables are as they were, and a stop leaves nothing else.
+/// Answers the records that a batch is made of, in order. They stand together or not at all. Where none of
+/// them is decided, the tables are as they were, and a stop leaves nothing else.
 pub fn post_all<S: Alter>(
     conn: &mut Connection<S>,
     moment: Moment,
@@ -53,8 +56,10 @@ pub fn post_all<S: Alter>(
         → Transacts S.Store conn.old conn.new AreOfALog (λ tables. tables_past_all tables moment records)
         (λ tables. replies_past_all tables moment records) (items_of result) }
     ensures count { IfOk result (λ replies. length replies.items ≡ length (reads_of batch)) }
-    ensures idle { OnOk result (HasCleanDisk (state S.Store conn.new) → (records : List (List ℕ)) → IsMadeOf batch records
-        → (tables : Tables) → Shows (state S.Store conn.old).now tables → AreOfALog tables → DecidesNone tables moment records
+    ensures idle { OnOk result
+        (HasCleanDisk (state S.Store conn.new) → (records : List (List ℕ)) → IsMadeOf batch records
+        → (tables : Tables) → Shows (state S.Store conn.old).now tables → AreOfALog tables
+        → DecidesNone tables moment records
         → HasOnly (state S.Store conn.old) (state S.Store conn.new) tables) }
 {
     let mut tx = begin(conn);

@@ -37,7 +37,8 @@ trait Slot: Copy {
         tx: &mut Transaction<'_, S>,
         branches: &[BranchSlot],
     ) -> Result<Self, TableFault>
-        ensures { ReadsWhere S.Store tx.old tx.new (λ tables. IsUndamaged tables × Knows branches.now tables self)
+        ensures { ReadsWhere S.Store tx.old tx.new
+            (λ tables. IsUndamaged tables × Knows branches.now tables self)
             (λ tables. filled_from tables self) result };
 }
 
@@ -66,7 +67,8 @@ fn teller_beside<S: Alter>(
     tx: &mut Transaction<'_, S>,
     teller: Teller,
 ) -> Result<Option<Cents>, TableFault>
-    ensures { Reads S.Store tx.old tx.new (λ tables. option_map balance_of_teller (row_at teller_key tables.tellers teller)) result }
+    ensures { Reads S.Store tx.old tx.new
+        (λ tables. option_map balance_of_teller (row_at teller_key tables.tellers teller)) result }
 {
     // A teller is in its range.
     let _number = teller.get();
@@ -76,15 +78,16 @@ fn teller_beside<S: Alter>(
     }
 }
 
-// The balance of a teller, none where it isn't open, by the row of its branch. Where the two don't belong together, both are
-// looked up again: they are told to be damaged.
+// The balance of a teller, none where it isn't open, by the row of its branch. Where the two don't belong
+// together, both are looked up again: they are told to be damaged.
 fn teller_within<S: Alter>(
     tx: &mut Transaction<'_, S>,
     teller: Teller,
     branch: Option<BranchRow>,
 ) -> Result<Option<Cents>, TableFault>
     ensures { ReadsWhere S.Store tx.old tx.new
-        (λ tables. IsUndamaged tables × (branch ≡ row_at branch_key tables.branches (branch_of_teller teller)))
+        (λ tables. IsUndamaged tables
+        × (branch ≡ row_at branch_key tables.branches (branch_of_teller teller)))
         (λ tables. option_map balance_of_teller (row_at teller_key tables.tellers teller)) result }
 {
     let balance = teller_balance(tx, teller)?;
@@ -116,15 +119,16 @@ impl Slot for TellerSlot {
     }
 }
 
-// The balance of an account, none where it isn't open, by the row of its branch. Where the two don't belong together, both are
-// looked up again: they are told to be damaged.
+// The balance of an account, none where it isn't open, by the row of its branch. Where the two don't belong
+// together, both are looked up again: they are told to be damaged.
 fn account_within<S: Alter>(
     tx: &mut Transaction<'_, S>,
     account: Account,
     branch: Option<BranchRow>,
 ) -> Result<Option<Cents>, TableFault>
     ensures { ReadsWhere S.Store tx.old tx.new
-        (λ tables. IsUndamaged tables × (branch ≡ row_at branch_key tables.branches (branch_of_account account)))
+        (λ tables. IsUndamaged tables
+        × (branch ≡ row_at branch_key tables.branches (branch_of_account account)))
         (λ tables. account_balance_in tables account) result }
 {
     let balance = account_balance(tx, account)?;
@@ -186,7 +190,8 @@ fn fill_all<S: Alter, T: Slot>(
     slots: &mut [T],
     branches: &[BranchSlot],
 ) -> Result<(), TableFault>
-    ensures { ReadsWhere S.Store tx.old tx.new (λ tables. IsUndamaged tables × AllByRecursion (T.Knows branches.now tables) slots.old)
+    ensures { ReadsWhere S.Store tx.old tx.new
+        (λ tables. IsUndamaged tables × AllByRecursion (T.Knows branches.now tables) slots.old)
         (λ tables. map (T.filled_from tables) slots.old) (handing slots.new result) }
 {
     for slot in slots.iter_mut() {
@@ -198,7 +203,8 @@ fn fill_all<S: Alter, T: Slot>(
 /// Fills a batch: each slot with what is in the tables under its key, and how many requests are decided.
 pub fn fill<S: Alter>(tx: &mut Transaction<'_, S>, batch: &mut Batch) -> Result<(), TableFault>
     ensures reads { reads_of batch.new ≡ reads_of batch.old }
-    ensures says { ReadsWhere S.Store tx.old tx.new (λ tables. IsUndamaged tables × HasHomes (view batch.old.overlay))
+    ensures says { ReadsWhere S.Store tx.old tx.new
+        (λ tables. IsUndamaged tables × HasHomes (view batch.old.overlay))
         (λ tables. filled tables (view batch.old.overlay)) (handing (view batch.new.overlay) result) }
 {
     batch.overlay.decided = decided(tx)?;

@@ -1,4 +1,5 @@
-//! A batch of records in one transaction: each row that its records touch is read once, each row that they change is written once.
+//! A batch of records in one transaction: each row that its records touch is read once, each row that they
+//! change is written once.
 #![tactic(auto)]
 
 mod batches;

@@ -3,7 +3,8 @@ ghost use Rattle.std.specs.Prelude.{[], ◌∷◌, List};
 ghost use Rattle.posting_rules.specs.Damage.{IsUndamaged};
 ghost use Rattle.posting_rules.specs.Tables.{Tables};
 ghost use Rattle.posting_batch.specs.Batch.{HasRisingSlots, ChangesRows, AddsRows};
-ghost use Rattle.posting_batch.specs.Overlay.{tables_over, accounts_over, tellers_over, branches_over, history_put, requests_put};
+ghost use Rattle.posting_batch.specs.Overlay.{tables_over, accounts_over, tellers_over, branches_over};
+ghost use Rattle.posting_batch.specs.Overlay.{history_put, requests_put};
 ghost use Rattle.posting_batch.specs.View.{view};
 ghost use Rattle.bank_transactions.specs.Doing.{Does};
 ghost use Rattle.bank_batches.specs.InTurn.{InTurn, accounts_in_turn, tellers_in_turn, branches_in_turn};
@@ -73,7 +74,8 @@ impl Change for BranchSlot {
         let Some(balance) = self.changed else {
             return Ok(());
         };
-        // A number that is none of branches has no row to change: `May` refuses such a slot by its `AreNumbers`.
+        // A number that is none of branches has no row to change: `May` refuses such a slot by its
+        // `AreNumbers`.
         let Some(branch) = Branch::new(self.branch) else {
             return Ok(());
         };
@@ -123,7 +125,8 @@ fn make_all<S: Alter, C: Change>(
 /// Writes what a batch has changed, each row once, and how many requests are decided.
 pub fn write<S: Alter>(tx: &mut Transaction<'_, S>, overlay: &Overlay) -> Result<(), TableFault>
     ensures { Does S.Store tx.old tx.new
-        (λ tables. IsUndamaged tables × HasRisingSlots (view overlay.now) × ChangesRows (view overlay.now) tables × AddsRows (view overlay.now) tables)
+        (λ tables. IsUndamaged tables × HasRisingSlots (view overlay.now)
+        × ChangesRows (view overlay.now) tables × AddsRows (view overlay.now) tables)
         (λ tables. tables_over (view overlay.now) tables) (λ _. tt) result }
 {
     make_all(tx, &overlay.accounts)?;

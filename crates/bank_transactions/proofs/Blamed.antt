@@ -9,7 +9,8 @@ use Rattle.store_rows.specs.Failures.{HasFailed, HasMet, Puts}
 use Rattle.store_rows.specs.declared.faults.TableFault.{TableFault}
 use Rattle.store_rows.specs.declared.faults.TableFault.TheVariants.{Sqlite, Damaged}
 use Rattle.posting_rules.specs.declared.fault.Rule.{Rule}
-use Rattle.bank_transactions.specs.Doing.{IsBefore, HasFailedBetween, HasMetBetween, Damage, IsBrokenOrMet, IsFault, Blames}
+use Rattle.bank_transactions.specs.Doing.{IsBefore, HasFailedBetween, HasMetBetween, Damage, IsBrokenOrMet}
+use Rattle.bank_transactions.specs.Doing.{IsFault, Blames}
 
 -- nothing is forgotten by a call
 pub comes : {P : Trees → Type 0} {old new : State} → Survives old new P → IsBefore old new
@@ -19,14 +20,24 @@ pub same_moment : (s : State) → IsBefore s s
 same_moment s = record { faults = omega arith; limit = refl }
 
 pub then_moment : (old mid new : State) → IsBefore old mid → IsBefore mid new → IsBefore old new
-then_moment old mid new one two = record { faults = let a = one.faults in let b = two.faults in omega arith; limit = two.limit ∙ one.limit }
+then_moment old mid new one two =
+    record { faults = let a = one.faults in let b = two.faults in omega arith; limit = two.limit ∙ one.limit }
 
 -- the failing call is the whole part
-pub failed_here : {S : Type 0} (g : Ghosts S) (old new : Held S) (e : Error) → HasFailed (state g old) (state g new) e → HasFailedBetween g old new e
-failed_here g old new e failed = record { at = old; then = new; before = same_moment (state g old); failed = failed; after = same_moment (state g new) }
+pub failed_here : {S : Type 0} (g : Ghosts S) (old new : Held S) (e : Error)
+    → HasFailed (state g old) (state g new) e → HasFailedBetween g old new e
+failed_here g old new e failed =
+    record {
+      at = old;
+      then = new;
+      before = same_moment (state g old);
+      failed = failed;
+      after = same_moment (state g new);
+    }
 
 -- a part that failed, behind others and before others
-pub failed_within : {S : Type 0} (g : Ghosts S) (old mid end new : Held S) (e : Error) → IsBefore (state g old) (state g mid)
+pub failed_within : {S : Type 0} (g : Ghosts S) (old mid end new : Held S) (e : Error)
+    → IsBefore (state g old) (state g mid)
     → IsBefore (state g end) (state g new) → HasFailedBetween g mid end e → HasFailedBetween g old new e
 failed_within g old mid end new e one two it = record {
   at = it.at;
@@ -37,7 +48,8 @@ failed_within g old mid end new e one two it = record {
 }
 
 -- the same of damage that was met
-pub met_within : {S : Type 0} (g : Ghosts S) (old mid end new : Held S) (rule : Rule) → IsBefore (state g old) (state g mid)
+pub met_within : {S : Type 0} (g : Ghosts S) (old mid end new : Held S) (rule : Rule)
+    → IsBefore (state g old) (state g mid)
     → IsBefore (state g end) (state g new) → HasMetBetween g mid end rule → HasMetBetween g old new rule
 met_within g old mid end new rule one two it = record {
   at = it.at;
@@ -51,35 +63,52 @@ met_within g old mid end new rule one two it = record {
 abbrev pub Widens : {S : Type 0} → Damage S → Held S → Held S → Held S → Held S → Type 0
 Widens Met old mid end new = (rule : Rule) → Met mid end rule → Met old new rule
 
-pub fault_within : {S : Type 0} (Met : Damage S) (g : Ghosts S) (old mid end new : Held S) (fault : TableFault) → Widens Met old mid end new
-    → IsBefore (state g old) (state g mid) → IsBefore (state g end) (state g new) → IsFault Met g mid end fault → IsFault Met g old new fault
+pub fault_within : {S : Type 0} (Met : Damage S) (g : Ghosts S) (old mid end new : Held S)
+    (fault : TableFault) → Widens Met old mid end new
+    → IsBefore (state g old) (state g mid) → IsBefore (state g end) (state g new)
+    → IsFault Met g mid end fault → IsFault Met g old new fault
 fault_within Met g old mid end new (Sqlite e) wide one two it = failed_within g old mid end new e one two it
 fault_within Met g old mid end new (Damaged rule) wide one two it = wide rule it
 
-pub blames_after : {S X : Type 0} (Met : Damage S) (g : Ghosts S) (old mid new : Held S) (r : Result X TableFault) → Widens Met old mid new new
+pub blames_after : {S X : Type 0} (Met : Damage S) (g : Ghosts S) (old mid new : Held S)
+    (r : Result X TableFault) → Widens Met old mid new new
     → IsBefore (state g old) (state g mid) → Blames Met g mid new r → Blames Met g old new r
 blames_after Met g old mid new (Ok x) wide one it = tt
-blames_after Met g old mid new (Err fault) wide one it = fault_within Met g old mid new new fault wide one (same_moment (state g new)) it
+blames_after Met g old mid new (Err fault) wide one it =
+    fault_within Met g old mid new new fault wide one (same_moment (state g new)) it
 
 -- a part that only writes
-pub met_after : {S X : Type 0} (g : Ghosts S) (old mid new : Held S) (r : Result X TableFault) → IsBefore (state g old) (state g mid)
+pub met_after : {S X : Type 0} (g : Ghosts S) (old mid new : Held S) (r : Result X TableFault)
+    → IsBefore (state g old) (state g mid)
     → Blames (HasMetBetween g) g mid new r → Blames (HasMetBetween g) g old new r
 met_after g old mid new r one =
-    blames_after (HasMetBetween g) g old mid new r (λ rule. met_within g old mid new new rule one (same_moment (state g new))) one
+    blames_after (HasMetBetween g) g old mid new r
+    (λ rule. met_within g old mid new new rule one (same_moment (state g new))) one
 
 -- the statement is the whole part
-pub met_here : {S : Type 0} (g : Ghosts S) (old new : Held S) (rule : Rule) → HasMet (state g old) (state g new) rule → HasMetBetween g old new rule
-met_here g old new rule met = record { at = old; then = new; before = same_moment (state g old); met = met; after = same_moment (state g new) }
+pub met_here : {S : Type 0} (g : Ghosts S) (old new : Held S) (rule : Rule)
+    → HasMet (state g old) (state g new) rule → HasMetBetween g old new rule
+met_here g old new rule met =
+    record {
+      at = old;
+      then = new;
+      before = same_moment (state g old);
+      met = met;
+      after = same_moment (state g new);
+    }
 
-pub blames_put : {S : Type 0} (g : Ghosts S) (old new : Held S) (r : Result (Unit {0}) TableFault) → Puts (state g old) (state g new) r
+pub blames_put : {S : Type 0} (g : Ghosts S) (old new : Held S) (r : Result (Unit {0}) TableFault)
+    → Puts (state g old) (state g new) r
     → Blames (HasMetBetween g) g old new r
 blames_put g old new (Ok done) kept = tt
 blames_put g old new (Err (Sqlite e)) kept = failed_here g old new e kept.1
 blames_put g old new (Err (Damaged rule)) kept = met_here g old new rule kept.1
 
 -- what is said of rows that were there, or was met
-pub broken_or_met : {S X : Type 0} (Met : Damage S) (g : Ghosts S) (old new : Held S) (r : Result X TableFault)
-    → ((rule : Rule) → Met old new rule → IsBrokenOrMet g old new rule) → Blames Met g old new r → Blames (IsBrokenOrMet g) g old new r
+pub broken_or_met : {S X : Type 0} (Met : Damage S) (g : Ghosts S) (old new : Held S)
+    (r : Result X TableFault)
+    → ((rule : Rule) → Met old new rule → IsBrokenOrMet g old new rule) → Blames Met g old new r
+    → Blames (IsBrokenOrMet g) g old new r
 broken_or_met Met g old new (Ok x) weaker it = tt
 broken_or_met Met g old new (Err (Sqlite e)) weaker it = it
 broken_or_met Met g old new (Err (Damaged rule)) weaker it = weaker rule it

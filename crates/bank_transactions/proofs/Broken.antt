@@ -1,12 +1,14 @@
 -- What is told to be damaged, and that the rows that the file holds break that rule.
-use Rattle.std.proofs.Common.{◌≡◌, ◌≤◌, ◌<◌, ℕ, ℤ, pos, Bool, true, find, List, Option, Some, Ok, Err, refl, sym, ap, subst, ◌∙◌, arith}
+use Rattle.std.proofs.Common.{◌≡◌, ◌≤◌, ◌<◌, ℕ, ℤ, pos, Bool, true, find, List, Option, Some, Ok, Err, refl}
+use Rattle.std.proofs.Common.{sym, ap, subst, ◌∙◌, arith}
 use Rattle.std.specs.Prelude.{nat_abs}
 use Rattle.std.proofs.lemmas.Int.{ints}
 use Rattle.sqlite.specs.Effect.{Database}
 use Rattle.sqlite.specs.State.{State}
 use Rattle.message_records.specs.declared.limits.TheConstants.{MAX_DELTA}
 use Rattle.posting_rules.specs.declared.fault.Rule.{Rule}
-use Rattle.posting_rules.specs.declared.fault.Rule.TheVariants.{Meta, Teller, Account, Balance, Request, Value, Key}
+use Rattle.posting_rules.specs.declared.fault.Rule.TheVariants.{Meta, Teller, Account, Balance, Request}
+use Rattle.posting_rules.specs.declared.fault.Rule.TheVariants.{Value, Key}
 use Rattle.posting_rules.specs.declared.limits.TheConstants.{LAST_BRANCH, MAX_DECIDED, MOST_ACCOUNTS}
 use Rattle.posting_rules.specs.declared.rows.BranchRow.{BranchRow}
 use Rattle.posting_rules.specs.declared.rows.RequestRow.{RequestRow}
@@ -33,7 +35,8 @@ IsOf db (Damaged rule) = IsBroken rule db
 
 -- ---- a row that is found keeps the rules that all rows keep
 
-pub branch_keeps : (rule : Rule) (rows : StoredRows) → Keeps rule rows → (p : Entry → Bool) (r : Entry) → find p rows.branches ≡ Some r → BranchKeeps rule r
+pub branch_keeps : (rule : Rule) (rows : StoredRows) → Keeps rule rows → (p : Entry → Bool) (r : Entry)
+    → find p rows.branches ≡ Some r → BranchKeeps rule r
 branch_keeps Meta rows keeps p r found = tt
 branch_keeps Teller rows keeps p r found = tt
 branch_keeps Account rows keeps p r found = tt
@@ -42,7 +45,8 @@ branch_keeps Request rows keeps p r found = tt
 branch_keeps Value rows keeps p r found = found_all (BranchKeeps Value) p rows.branches r keeps.0 found
 branch_keeps Key rows keeps p r found = tt
 
-teller_keeps : (rule : Rule) (rows : StoredRows) → Keeps rule rows → (p : Entry → Bool) (r : Entry) → find p rows.tellers ≡ Some r → BalanceKeeps rule r
+teller_keeps : (rule : Rule) (rows : StoredRows) → Keeps rule rows → (p : Entry → Bool) (r : Entry)
+    → find p rows.tellers ≡ Some r → BalanceKeeps rule r
 teller_keeps Meta rows keeps p r found = tt
 teller_keeps Teller rows keeps p r found = tt
 teller_keeps Account rows keeps p r found = tt
@@ -51,7 +55,8 @@ teller_keeps Request rows keeps p r found = tt
 teller_keeps Value rows keeps p r found = tt
 teller_keeps Key rows keeps p r found = tt
 
-account_keeps : (rule : Rule) (rows : StoredRows) → Keeps rule rows → (p : Entry → Bool) (r : Entry) → find p rows.accounts ≡ Some r → BalanceKeeps rule r
+account_keeps : (rule : Rule) (rows : StoredRows) → Keeps rule rows → (p : Entry → Bool) (r : Entry)
+    → find p rows.accounts ≡ Some r → BalanceKeeps rule r
 account_keeps Meta rows keeps p r found = tt
 account_keeps Teller rows keeps p r found = tt
 account_keeps Account rows keeps p r found = tt
@@ -60,7 +65,8 @@ account_keeps Request rows keeps p r found = tt
 account_keeps Value rows keeps p r found = tt
 account_keeps Key rows keeps p r found = tt
 
-request_keeps : (rule : Rule) (rows : StoredRows) → Keeps rule rows → (p : Entry → Bool) (r : Entry) → find p rows.requests ≡ Some r → RequestKeeps rule r
+request_keeps : (rule : Rule) (rows : StoredRows) → Keeps rule rows → (p : Entry → Bool) (r : Entry)
+    → find p rows.requests ≡ Some r → RequestKeeps rule r
 request_keeps Meta rows keeps p r found = tt
 request_keeps Teller rows keeps p r found = tt
 request_keeps Account rows keeps p r found = tt
@@ -71,37 +77,54 @@ request_keeps Key rows keeps p r found = tt
 
 -- ---- a row that doesn't
 
-find_broken : {X : Type 0} (db : Database) (stored : StoredRows → Option Entry) (Is : X → Entry → Type 0) (RowKeeps : Rule → Entry → Type 0)
-    → ((rule : Rule) (rows : StoredRows) → Keeps rule rows → (r : Entry) → stored rows ≡ Some r → RowKeeps rule r) → (fault : TableFault)
+find_broken : {X : Type 0} (db : Database) (stored : StoredRows → Option Entry) (Is : X → Entry → Type 0)
+    (RowKeeps : Rule → Entry → Type 0)
+    → ((rule : Rule) (rows : StoredRows) → Keeps rule rows → (r : Entry) → stored rows ≡ Some r
+    → RowKeeps rule r) → (fault : TableFault)
     → OfRows (λ rows. FindsStored {X = X} (stored rows) Is RowKeeps (Err fault)) db → IsOf db fault
 find_broken db stored Is RowKeeps all (Sqlite e) finds = tt
 find_broken db stored Is RowKeeps all (Damaged rule) finds = λ rows has keeps.
     let it = finds rows has in it.2 (all rule rows keeps it.0 it.1)
 
 pub branch_broken : (db : Database) (n : ℕ) (fault : TableFault)
-    → OfRows (λ rows. FindsStored (row_under rows.branches n) IsBranch BranchKeeps (Err fault)) db → IsOf db fault
-branch_broken db n = find_broken db (λ rows. row_under rows.branches n) IsBranch BranchKeeps (λ rule rows keeps. branch_keeps rule rows keeps (has_key (pos n)))
+    → OfRows (λ rows. FindsStored (row_under rows.branches n) IsBranch BranchKeeps (Err fault)) db
+    → IsOf db fault
+branch_broken db n =
+    find_broken db (λ rows. row_under rows.branches n) IsBranch BranchKeeps
+    (λ rule rows keeps. branch_keeps rule rows keeps (has_key (pos n)))
 
 pub next_broken : (db : Database) (n : ℕ) (fault : TableFault)
-    → OfRows (λ rows. FindsStored (find (is_above (pos n)) rows.branches) IsBranch BranchKeeps (Err fault)) db → IsOf db fault
-next_broken db n = find_broken db (λ rows. find (is_above (pos n)) rows.branches) IsBranch BranchKeeps (λ rule rows keeps. branch_keeps rule rows keeps (is_above (pos n)))
+    → OfRows (λ rows. FindsStored (find (is_above (pos n)) rows.branches) IsBranch BranchKeeps (Err fault)) db
+    → IsOf db fault
+next_broken db n =
+    find_broken db (λ rows. find (is_above (pos n)) rows.branches) IsBranch BranchKeeps
+    (λ rule rows keeps. branch_keeps rule rows keeps (is_above (pos n)))
 
 pub teller_broken : (db : Database) (n : ℕ) (fault : TableFault)
-    → OfRows (λ rows. FindsStored (row_under rows.tellers n) IsBalance BalanceKeeps (Err fault)) db → IsOf db fault
-teller_broken db n = find_broken db (λ rows. row_under rows.tellers n) IsBalance BalanceKeeps (λ rule rows keeps. teller_keeps rule rows keeps (has_key (pos n)))
+    → OfRows (λ rows. FindsStored (row_under rows.tellers n) IsBalance BalanceKeeps (Err fault)) db
+    → IsOf db fault
+teller_broken db n =
+    find_broken db (λ rows. row_under rows.tellers n) IsBalance BalanceKeeps
+    (λ rule rows keeps. teller_keeps rule rows keeps (has_key (pos n)))
 
 pub account_broken : (db : Database) (n : ℕ) (fault : TableFault)
-    → OfRows (λ rows. FindsStored (row_under rows.accounts n) IsBalance BalanceKeeps (Err fault)) db → IsOf db fault
-account_broken db n = find_broken db (λ rows. row_under rows.accounts n) IsBalance BalanceKeeps (λ rule rows keeps. account_keeps rule rows keeps (has_key (pos n)))
+    → OfRows (λ rows. FindsStored (row_under rows.accounts n) IsBalance BalanceKeeps (Err fault)) db
+    → IsOf db fault
+account_broken db n =
+    find_broken db (λ rows. row_under rows.accounts n) IsBalance BalanceKeeps
+    (λ rule rows keeps. account_keeps rule rows keeps (has_key (pos n)))
 
 pub request_broken : (db : Database) (a b : ℕ) (fault : TableFault)
-    → OfRows (λ rows. FindsStored (find (has_two (pos a) (pos b)) rows.requests) IsRequest RequestKeeps (Err fault)) db → IsOf db fault
-request_broken db a b = find_broken db (λ rows. find (has_two (pos a) (pos b)) rows.requests) IsRequest RequestKeeps
+    → OfRows (λ rows. FindsStored (find (has_two (pos a) (pos b)) rows.requests) IsRequest RequestKeeps
+    (Err fault)) db → IsOf db fault
+request_broken db a b =
+    find_broken db (λ rows. find (has_two (pos a) (pos b)) rows.requests) IsRequest RequestKeeps
     (λ rule rows keeps. request_keeps rule rows keeps (has_two (pos a) (pos b)))
 
 -- a request whose amount is beyond the limit of requests
 pub delta_broken : (db : Database) (a b : ℕ) (row : RequestRow)
-    → OfRows (λ rows. FindsStored (find (has_two (pos a) (pos b)) rows.requests) IsRequest RequestKeeps (Ok (Some row))) db
+    → OfRows (λ rows. FindsStored (find (has_two (pos a) (pos b)) rows.requests) IsRequest RequestKeeps
+    (Ok (Some row))) db
     → (nat_abs row.kept.delta ≤ MAX_DELTA → ⊥) → IsBroken Request db
 delta_broken db a b row finds beyond = λ rows has keeps.
     let it = finds rows has in
@@ -131,7 +154,8 @@ range_broken db p b finds beyond = λ rows has keeps.
     let it = finds rows has in beyond (openable b it.0 it.2 (branch_keeps Value rows keeps p it.0 it.1))
 
 -- the same of the branch under a number
-pub openable_under : (es : List Entry) (n : ℕ) (b : BranchRow) (r : Entry) → row_under es n ≡ Some r → IsBranch b r → BranchKeeps Value r
+pub openable_under : (es : List Entry) (n : ℕ) (b : BranchRow) (r : Entry) → row_under es n ≡ Some r
+    → IsBranch b r → BranchKeeps Value r
     → (n ≤ LAST_BRANCH) × (1 ≤ b.accounts) × (b.accounts ≤ MOST_ACCOUNTS)
 openable_under es n b r found is keeps =
     let same : b.branch ≡ n = same_number _ _ (sym is.0 ∙ found_key (pos n) es r found) in
@@ -143,14 +167,16 @@ pub count_broken : (db : Database) (n : ℕ) (b : BranchRow)
     → ((n ≤ LAST_BRANCH) × (1 ≤ b.accounts) × (b.accounts ≤ MOST_ACCOUNTS) → ⊥) → IsBroken Value db
 count_broken db n b finds beyond = λ rows has keeps.
     let it = finds rows has in
-    beyond (openable_under rows.branches n b it.0 it.1 it.2 (branch_keeps Value rows keeps (has_key (pos n)) it.0 it.1))
+    beyond (openable_under rows.branches n b it.0 it.1 it.2
+    (branch_keeps Value rows keeps (has_key (pos n)) it.0 it.1))
 
 number_above : (a b : ℕ) → is_gt (int_cmp (pos b) (pos a)) ≡ true → a < b
 number_above a b h = grind (arith, ints)
 
 -- the branch above a number isn't above it, or its own number is beyond those that can be opened
 pub above_broken : (db : Database) (n : ℕ) (b : BranchRow)
-    → OfRows (λ rows. FindsStored (find (is_above (pos n)) rows.branches) IsBranch BranchKeeps (Ok (Some b))) db
+    → OfRows (λ rows. FindsStored (find (is_above (pos n)) rows.branches) IsBranch BranchKeeps
+    (Ok (Some b))) db
     → (n < b.branch → b.branch ≤ LAST_BRANCH → ⊥) → IsBroken Value db
 above_broken db n b finds beyond = λ rows has keeps.
     let it = finds rows has in
@@ -161,23 +187,27 @@ above_broken db n b finds beyond = λ rows has keeps.
 -- ---- the row of the bank
 
 meta_rows : (db : Database) (rows : StoredRows) → HoldsBank db rows → HoldsRows db six.meta rows.meta
-meta_rows db rows has = record { sound = has.sound; holds = holds_list db rows has 0 six.meta rows.meta refl refl }
+meta_rows db rows has =
+    record { sound = has.sound; holds = holds_list db rows has 0 six.meta rows.meta refl refl }
 
 -- a row of whole numbers is never told to be damaged
-pub never_broken : (old new : State) (fault : TableFault) → OfMeta (λ before now rows. Finds before now (meta_in rows) Never (Err fault)) old new
+pub never_broken : (old new : State) (fault : TableFault)
+    → OfMeta (λ before now rows. Finds before now (meta_in rows) Never (Err fault)) old new
     → IsOf old.now fault
 never_broken old new (Sqlite e) told = tt
 never_broken old new (Damaged rule) told = λ rows has keeps.
     let it = told rows.meta (meta_rows old.now rows has) in it.0.2
 
-decided_is : (rows : StoredRows) (decided : ℕ) → HasDecided rows decided → (m : Option StoredMeta) → m ≡ meta_in rows.meta
+decided_is : (rows : StoredRows) (decided : ℕ) → HasDecided rows decided → (m : Option StoredMeta) → m
+    ≡ meta_in rows.meta
     → (version : ℤ) × (m ≡ Some (record { version = version; decided = pos decided }))
 decided_is rows decided has m is = (has.0, is ∙ ap meta_in has.1)
 
 -- no row under the bank's id, or a count out of its range
 pub meta_broken : (old new : State) (m : Option StoredMeta)
     → OfMeta (λ before now rows. Finds before now (meta_in rows) Never (Ok m)) old new
-    → ((decided : ℕ) (version : ℤ) → m ≡ Some (record { version = version; decided = pos decided }) → decided ≤ MAX_DECIDED → ⊥)
+    → ((decided : ℕ) (version : ℤ) → m ≡ Some (record { version = version; decided = pos decided })
+    → decided ≤ MAX_DECIDED → ⊥)
     → IsBroken Meta old.now
 meta_broken old new m told none = λ rows has keeps.
     let it = told rows.meta (meta_rows old.now rows has) in

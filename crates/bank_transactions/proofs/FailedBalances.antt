@@ -20,7 +20,8 @@ use Rattle.bank_transactions.proofs.Reading.{find_failed}
 use Rattle.bank_transactions.proofs.SoundRows.{account_unbroken, teller_unbroken}
 
 -- the look-up failed with this fault, of tables that are so
-abbrev pub Failed : {S : Type 0} → Ghosts S → Transaction S → Transaction S → (Tables → Type 0) → TableFault → Type 0
+abbrev pub Failed : {S : Type 0} → Ghosts S → Transaction S → Transaction S → (Tables → Type 0) → TableFault
+    → Type 0
 Failed g old new So fault =
     Says g old new (OfTables (λ before now t. So t → LooksUp {X = Unit {0}} before now tt (Err fault)))
     (λ before now. KeepsCommit before now × IsFault (IsFirstBroken g) g old.conn.now new.conn.now fault)
@@ -34,15 +35,18 @@ module _ {S : Type 0} {g : Ghosts S} {old new : Transaction S} {So : Tables → 
       × OfRows (λ rows. FindsStored (row_under rows.tellers n) IsBalance BalanceKeeps (Err fault)) before.now)
       → Failed g old new So fault
   teller_failed says =
-      find_failed (λ t. teller_balance_in t n) IsNoBalance fault (λ t z rule so. teller_unbroken t n z rule (sound t so))
+      find_failed (λ t. teller_balance_in t n) IsNoBalance fault
+      (λ t z rule so. teller_unbroken t n z rule (sound t so))
       (teller_broken _ n fault) says
 
   -- of an account
   pub account_failed : Says g old new
       (OfTables (λ before now t. Finds before now (account_balance_in t n) IsNoBalance (Err fault)))
       (λ before now. (WriteFails before now × HasReason before now fault)
-      × OfRows (λ rows. FindsStored (row_under rows.accounts n) IsBalance BalanceKeeps (Err fault)) before.now)
+      × OfRows (λ rows. FindsStored (row_under rows.accounts n) IsBalance BalanceKeeps
+      (Err fault)) before.now)
       → Failed g old new So fault
   account_failed says =
-      find_failed (λ t. account_balance_in t n) IsNoBalance fault (λ t z rule so. account_unbroken t n z rule (sound t so))
+      find_failed (λ t. account_balance_in t n) IsNoBalance fault
+      (λ t z rule so. account_unbroken t n z rule (sound t so))
       (account_broken _ n fault) says

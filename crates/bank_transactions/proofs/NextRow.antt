@@ -1,5 +1,6 @@
 -- The first row above a number, where rows stand by rising numbers.
-use Rattle.std.proofs.Common.{◌≡◌, ℕ, suc, pos, ◌<◌, ◌≤◌, nat_lt, true, false, List, [], ◌∷◌, map, Option, Some, None, refl, subst, arith, inl, inr}
+use Rattle.std.proofs.Common.{◌≡◌, ℕ, suc, pos, ◌<◌, ◌≤◌, nat_lt, true, false, List, [], ◌∷◌, map, Option}
+use Rattle.std.proofs.Common.{Some, None, refl, subst, arith, inl, inr}
 use Rattle.std.specs.Prelude.{All, find}
 use Rattle.std.specs.List.{AllByRecursion}
 use Rattle.std.specs.Ordering.{int_cmp}
@@ -39,7 +40,8 @@ behind_first row (r ∷ rows) after h =
     (λ high. let lt = rising row.branch r.branch h.0 in omega arith) (behind_first row rows after h.1)
 
 -- a row that isn't above the number, in front of the others
-next_behind : (row : BranchRow) (rows : List BranchRow) (after : ℕ) (next : Option BranchRow) → row.branch ≤ after
+next_behind : (row : BranchRow) (rows : List BranchRow) (after : ℕ) (next : Option BranchRow)
+    → row.branch ≤ after
     → IsNextIn rows after next → IsNextIn (row ∷ rows) after next
 next_behind row rows after None low is = All-cons (λ r. r.branch ≤ after) row rows low is
 next_behind row rows after (Some found) low is =
@@ -49,7 +51,8 @@ next_behind row rows after (Some found) low is =
       stands = (suc place.0, omega arith, place.2);
       above = is.above;
       least =
-          All-cons (λ r. after < r.branch → found.branch ≤ r.branch) row rows (λ high. absurd (omega arith)) is.least;
+          All-cons (λ r. after < r.branch → found.branch ≤ r.branch) row rows
+          (λ high. absurd (omega arith)) is.least;
     }
 
 first_above : (rows : List BranchRow) (after : ℕ) → Rise (map branch_entry rows)
@@ -69,7 +72,8 @@ first_above (row ∷ rows) after rise =
     ]
 
 -- the branch above a number that a database shows is the one with the least number
-pub next_is : (db : Database) (t : Tables) (after : ℕ) → Shows db t → IsNextIn t.branches after (branch_above t after)
+pub next_is : (db : Database) (t : Tables) (after : ℕ) → Shows db t
+    → IsNextIn t.branches after (branch_above t after)
 next_is db t after shows = first_above t.branches after shows.each.1.0.rows.rise
 
 -- it breaks no rule of undamaged tables
@@ -82,5 +86,6 @@ next_unbroken t after r broken sound e =
 pub next_sound : (db : Database) (t : Tables) (after : ℕ) (r : BranchRow) → Shows db t → IsUndamaged t
     → branch_above t after ≡ Some r → (after < r.branch) × IsSoundBranch r
 next_sound db t after r shows sound e =
-    let next : IsNextIn t.branches after (Some r) = subst (IsNextIn t.branches after) e (next_is db t after shows) in
+    let next : IsNextIn t.branches after (Some r) = subst (IsNextIn t.branches after) e
+    (next_is db t after shows) in
     (next.above, sound.each_branch r (found_within (λ x. nat_lt after x.branch) t.branches r e))

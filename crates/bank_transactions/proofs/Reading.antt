@@ -25,38 +25,50 @@ use Rattle.bank_transactions.proofs.SoundRows.{err_found}
 -- ---- a read that failed
 
 not_committed : (old new : State) → WriteFails old new → KeepsCommit old new
-not_committed old new (inl same) = record { was_open = λ h. same.0.was_open; committed = λ h. same.0.committed_is }
-not_committed old new (inr undone) = record { was_open = undone.was_open; committed = λ h. (undone.undone h).1 }
+not_committed old new (inl same) =
+    record { was_open = λ h. same.0.was_open; committed = λ h. same.0.committed_is }
+not_committed old new (inr undone) =
+    record { was_open = undone.was_open; committed = λ h. (undone.undone h).1 }
 
 -- what a fault says: damage is of the rows that were there
-first_fault : {S : Type 0} (g : Ghosts S) (old new : Held S) (fault : TableFault) → IsOf (state g old).now fault
+first_fault : {S : Type 0} (g : Ghosts S) (old new : Held S) (fault : TableFault)
+    → IsOf (state g old).now fault
     → HasReason (state g old) (state g new) fault → IsFault (IsFirstBroken g) g old new fault
 first_fault g old new (Sqlite e) of why = failed_here g old new e why
 first_fault g old new (Damaged rule) of why = of
 
 -- one statement
-pub read_failed : {S : Type 0} (g : Ghosts S) (old new : Held S) (fault : TableFault) → IsOf (state g old).now fault
+pub read_failed : {S : Type 0} (g : Ghosts S) (old new : Held S) (fault : TableFault)
+    → IsOf (state g old).now fault
     → WriteFails (state g old) (state g new) × HasReason (state g old) (state g new) fault
     → KeepsCommit (state g old) (state g new) × IsFault (IsFirstBroken g) g old new fault
-read_failed g old new fault of it = (not_committed (state g old) (state g new) it.0, first_fault g old new fault of it.1)
+read_failed g old new fault of it =
+    (not_committed (state g old) (state g new) it.0, first_fault g old new fault of it.1)
 
-pub behind : {S : Type 0} (g : Ghosts S) (old mid new : Held S) (fault : TableFault) → IsBefore (state g old) (state g mid)
-    → (state g mid).now ≡ (state g old).now → IsFault (IsFirstBroken g) g mid new fault → IsFault (IsFirstBroken g) g old new fault
+pub behind : {S : Type 0} (g : Ghosts S) (old mid new : Held S) (fault : TableFault)
+    → IsBefore (state g old) (state g mid)
+    → (state g mid).now ≡ (state g old).now → IsFault (IsFirstBroken g) g mid new fault
+    → IsFault (IsFirstBroken g) g old new fault
 behind g old mid new fault one same it =
-    fault_within (IsFirstBroken g) g old mid new new fault (λ rule. subst (IsBroken rule) same) one (same_moment (state g new)) it
+    fault_within (IsFirstBroken g) g old mid new new fault (λ rule. subst (IsBroken rule) same) one
+    (same_moment (state g new)) it
 
 -- the second of two
-pub second_failed : {S : Type 0} (g : Ghosts S) (old mid new : Held S) (fault : TableFault) → IsBefore (state g old) (state g mid)
-    → IsUnchanged (state g old) (state g mid) → KeepsCommit (state g mid) (state g new) × IsFault (IsFirstBroken g) g mid new fault
+pub second_failed : {S : Type 0} (g : Ghosts S) (old mid new : Held S) (fault : TableFault)
+    → IsBefore (state g old) (state g mid)
+    → IsUnchanged (state g old) (state g mid) → KeepsCommit (state g mid) (state g new)
+    × IsFault (IsFirstBroken g) g mid new fault
     → KeepsCommit (state g old) (state g new) × IsFault (IsFirstBroken g) g old new fault
 second_failed g old mid new fault one same it = (
   record { was_open = λ h. same.0.was_open; committed = λ h. it.0.committed h ∙ same.0.committed_is },
   behind g old mid new fault one same.0.now_is it.1,
 )
 
--- what is looked for under a key, and couldn't be read: the tables don't have it so, or the rows that were there break the rule
+-- what is looked for under a key, and couldn't be read: the tables don't have it so, or the rows that were
+-- there break the rule
 pub find_failed : {S Y : Type 0} {g : Ghosts S} {old new : Transaction S} {So : Tables → Type 0}
-    {Rows : State → State → Type 0} (wanted : Tables → Option Y) (Breaks : Y → Rule → Type 0) (fault : TableFault)
+    {Rows : State → State → Type 0} (wanted : Tables → Option Y) (Breaks : Y → Rule → Type 0)
+    (fault : TableFault)
     → ((t : Tables) (y : Y) (rule : Rule) → So t → wanted t ≡ Some y → Breaks y rule → ⊥)
     → (Rows (state g old.conn.now) (state g new.conn.now) → IsOf (state g old.conn.now).now fault)
     → Says g old new (OfTables (λ before now t. Finds before now (wanted t) Breaks (Err fault)))
@@ -71,7 +83,8 @@ find_failed {S} {Y} {g} {old} {new} {So} {Rows} wanted Breaks fault unbroken of 
       told = λ clean t shows so.
           err_found {Y = Unit {0}} a b a b (wanted t) Breaks tt fault (λ y rule is. unbroken t y rule so is)
           (says.told clean t shows);
-      kept = λ clean. let it = says.kept clean in read_failed g old.conn.now new.conn.now fault (of it.1) it.0;
+      kept = λ clean. let it =
+          says.kept clean in read_failed g old.conn.now new.conn.now fault (of it.1) it.0;
       survives = says.survives;
     }
 
@@ -91,15 +104,20 @@ pair : {X Y : Type 0} {a x : X} {b y : Y} → a ≡ x → b ≡ y → ◌≡◌ 
 pair e f = cc
 
 -- both answers
-pub reads_both : {S X Y : Type 0} {g : Ghosts S} {old mid new : Transaction S} {w : Tables → X} {w' : Tables → Y} {x : X} {y : Y} → Reads g old mid w (Ok x)
+pub reads_both : {S X Y : Type 0} {g : Ghosts S} {old mid new : Transaction S} {w : Tables → X}
+    {w' : Tables → Y} {x : X} {y : Y} → Reads g old mid w (Ok x)
     → Reads g mid new w' (Ok y) → Reads {X = X × Y} g old new (λ t. (w t, w' t)) (Ok (x, y))
 reads_both {S} {X} {Y} {g} {old} {mid} {new} {w} {w'} {x} {y} one two =
     says_then g old mid new one two
     (λ told kept told' t shows sound.
     let first = told t shows sound in
-    let last = told' t (subst (λ (db : Database). Shows db t) (sym first.1.now) shows) sound in
-    (pair first.0 last.0, stays_then (state g old.conn.now) (state g mid.conn.now) (state g new.conn.now) first.1 last.1))
-    (λ kept kept'. (stays_then (state g old.conn.now) (state g mid.conn.now) (state g new.conn.now) kept.0 kept'.0, tt))
+    let last = told' t (subst (λ (db : Database). Shows db t) (sym first.1.now) shows) sound in (
+      pair first.0 last.0,
+      stays_then (state g old.conn.now) (state g mid.conn.now)
+          (state g new.conn.now) first.1 last.1,
+    ))
+    (λ kept kept'.
+    (stays_then (state g old.conn.now) (state g mid.conn.now) (state g new.conn.now) kept.0 kept'.0, tt))
 
 still_fails : (old mid new : State) (e : TableFault) → LooksUp {X = Unit {0}} mid new tt (Err e)
     → LooksUp {X = Unit {0}} old new tt (Err e)
@@ -107,22 +125,29 @@ still_fails old mid new (Sqlite e) it = tt
 still_fails old mid new (Damaged rule) it = it
 
 -- the second failed, whatever it looked for
-pub reads_but : {S X : Type 0} {g : Ghosts S} {old mid new : Transaction S} {w : Tables → X} {x : X} (e : TableFault) → Reads g old mid w (Ok x)
-    → Reads {X = Unit {0}} g mid new (λ t. tt {0}) (Err e) → Reads {X = Unit {0}} g old new (λ t. tt {0}) (Err e)
+pub reads_but : {S X : Type 0} {g : Ghosts S} {old mid new : Transaction S} {w : Tables → X} {x : X}
+    (e : TableFault) → Reads g old mid w (Ok x)
+    → Reads {X = Unit {0}} g mid new (λ t. tt {0}) (Err e)
+    → Reads {X = Unit {0}} g old new (λ t. tt {0}) (Err e)
 reads_but {S} {X} {g} {old} {mid} {new} {w} {x} e one two =
     says_then g old mid new one two
     (λ told kept told' t shows sound.
     still_fails (state g old.conn.now) (state g mid.conn.now) (state g new.conn.now) e
     (told' t (subst (λ (db : Database). Shows db t) (sym (told t shows sound).1.now) shows) sound))
     (λ kept kept'. (
-      record { was_open = λ h. kept.0.goes_on.opened (kept'.0.was_open h); committed = λ h. kept'.0.committed h ∙ kept.0.goes_on.committed },
+      record {
+        was_open = λ h. kept.0.goes_on.opened (kept'.0.was_open h);
+        committed = λ h. kept'.0.committed h ∙ kept.0.goes_on.committed;
+      },
       behind g old.conn.now mid.conn.now new.conn.now e (comes one.survives) kept.0.now kept'.1,
     ))
 
 -- the same, behind a statement that changed nothing
-pub behind_found : {S : Type 0} {g : Ghosts S} {old mid new : Transaction S} {Told Rows : State → State → Type 0} (e : TableFault)
+pub behind_found : {S : Type 0} {g : Ghosts S} {old mid new : Transaction S}
+    {Told Rows : State → State → Type 0} (e : TableFault)
     → Says g old mid Told (λ before now. IsUnchanged before now × Rows before now)
-    → Reads {X = Unit {0}} g mid new (λ t. tt {0}) (Err e) → Reads {X = Unit {0}} g old new (λ t. tt {0}) (Err e)
+    → Reads {X = Unit {0}} g mid new (λ t. tt {0}) (Err e)
+    → Reads {X = Unit {0}} g old new (λ t. tt {0}) (Err e)
 behind_found {S} {g} {old} {mid} {new} {Told} {Rows} e one two =
     says_then g old mid new one two
     (λ told same told' t shows sound.

@@ -1,5 +1,6 @@
 -- The rows of undamaged tables are sound: nothing that is read of them is told to be damaged.
-use Rattle.std.proofs.Common.{◌≡◌, ◌⊎◌, ℕ, suc, ◌≤◌, Bool, true, false, leb, List, [], ◌∷◌, Option, Some, None, Err, refl, sym, subst, arith, inl, inr}
+use Rattle.std.proofs.Common.{◌≡◌, ◌⊎◌, ℕ, suc, ◌≤◌, Bool, true, false, leb, List, [], ◌∷◌, Option, Some}
+use Rattle.std.proofs.Common.{None, Err, refl, sym, subst, arith, inl, inr}
 use Rattle.std.specs.Prelude.{ℤ, nat_abs, nat_eq, is_some, ◌&&◌}
 use Rattle.std.specs.List.{find, Contains}
 use Rattle.std.proofs.lemmas.Bool.{eqb-true}
@@ -11,7 +12,8 @@ use Rattle.posting_rules.specs.declared.rows.RequestRow.{RequestRow}
 use Rattle.posting_rules.specs.declared.rows.TellerRow.{TellerRow}
 use Rattle.posting_rules.specs.declared.rows.AccountRow.{AccountRow}
 use Rattle.posting_rules.specs.declared.fault.Rule.{Rule}
-use Rattle.posting_rules.specs.Damage.{IsUndamaged, IsSoundBranch, IsSoundTeller, IsSoundAccount, IsSoundRequest}
+use Rattle.posting_rules.specs.Damage.{IsUndamaged, IsSoundBranch, IsSoundTeller, IsSoundAccount}
+use Rattle.posting_rules.specs.Damage.{IsSoundRequest}
 use Rattle.posting_rules.specs.Tables.{Tables, row_at, branch_key, teller_key, account_key}
 use Rattle.posting_rules.proofs.Keyed.{by_test, found_passes}
 use Rattle.store_rows.specs.Columns.{teller_balance_in, account_balance_in, request_in}
@@ -20,7 +22,8 @@ use Rattle.store_rows.specs.declared.faults.TableFault.{TableFault}
 use Rattle.store_rows.specs.declared.faults.TableFault.TheVariants.{Sqlite, Damaged}
 use Rattle.sqlite.specs.State.{State}
 use Rattle.bank_transactions.specs.Doing.{LooksUp}
-use Rattle.message_records.specs.declared.limits.TheConstants.{MAX_ACCOUNT, MAX_BALANCE, MAX_BRANCH, MAX_DELTA, MAX_NUMBER, MAX_TELLER}
+use Rattle.message_records.specs.declared.limits.TheConstants.{MAX_ACCOUNT, MAX_BALANCE, MAX_BRANCH}
+use Rattle.message_records.specs.declared.limits.TheConstants.{MAX_DELTA, MAX_NUMBER, MAX_TELLER}
 use Rattle.posting_rules.specs.declared.limits.TheConstants.{MAX_DECIDED}
 
 -- there is a value or there is none
@@ -31,7 +34,8 @@ by_option (Some x) = inr (x, refl)
 -- ---- rows that are found
 
 -- what a test finds is one of the rows
-pub found_within : {X : Type 0} (test : X → Bool) (xs : List X) (x : X) → find test xs ≡ Some x → Contains xs x
+pub found_within : {X : Type 0} (test : X → Bool) (xs : List X) (x : X) → find test xs ≡ Some x
+    → Contains xs x
 found_within test [] x e = absurd cc
 found_within test (y ∷ ys) x e =
     elim (by_test (test y)) [
@@ -42,13 +46,15 @@ found_within test (y ∷ ys) x e =
           (suc rest.0, omega arith, rest.2)
     ]
 
-key_of_found : {R : Type 0} (key : R → ℕ) (rows : List R) (n : ℕ) (r : R) → row_at key rows n ≡ Some r → key r ≡ n
+key_of_found : {R : Type 0} (key : R → ℕ) (rows : List R) (n : ℕ) (r : R) → row_at key rows n ≡ Some r → key r
+    ≡ n
 key_of_found key rows n r e = eqb-true (key r) n (found_passes (λ x. nat_eq (key x) n) rows r e)
 
 -- ---- numbers and amounts in their ranges
 
 within_range : (least most n : ℕ) → least ≤ n → n ≤ most → whole_within least most n ≡ Some n
-within_range least most n low high = let test : (leb least n && leb n most) ≡ true = grind (arith, nat_tests) in rw test refl
+within_range least most n low high = let test : (leb least n && leb n most) ≡ true =
+    grind (arith, nat_tests) in rw test refl
 
 pub not_outside : (least most n : ℕ) → least ≤ n → n ≤ most → whole_within least most n ≡ None → ⊥
 not_outside least most n low high e = let within = within_range least most n low high in cc
@@ -61,12 +67,17 @@ not_beyond limit z le e = let inside = cents_inside limit z le in cc
 
 -- ---- branches
 
-pub branch_is : (t : Tables) (n : ℕ) (r : BranchRow) → IsUndamaged t → row_at branch_key t.branches n ≡ Some r → (r.branch ≡ n) × IsSoundBranch r
-branch_is t n r sound e =
-    (key_of_found branch_key t.branches n r e, sound.each_branch r (found_within (λ x. nat_eq x.branch n) t.branches r e))
+pub branch_is : (t : Tables) (n : ℕ) (r : BranchRow) → IsUndamaged t → row_at branch_key t.branches n ≡ Some r
+    → (r.branch ≡ n) × IsSoundBranch r
+branch_is t n r sound e = (
+  key_of_found branch_key t.branches n r e,
+  sound.each_branch r
+      (found_within (λ x. nat_eq x.branch n) t.branches r e),
+)
 
 -- no branch has a number outside those of branches
-pub no_branch_beyond : (t : Tables) (n : ℕ) → IsUndamaged t → whole_within 1 MAX_BRANCH n ≡ None → None ≡ row_at branch_key t.branches n
+pub no_branch_beyond : (t : Tables) (n : ℕ) → IsUndamaged t → whole_within 1 MAX_BRANCH n ≡ None → None
+    ≡ row_at branch_key t.branches n
 no_branch_beyond t n sound e =
     elim (by_option (row_at branch_key t.branches n)) [
       | inl none ↦ sym none
@@ -74,7 +85,8 @@ no_branch_beyond t n sound e =
           let same = is.0 in
           let low = is.1.some in
           let high = is.1.most in
-          not_outside 1 MAX_BRANCH n (rw (← same) low) (let le : some.0.branch ≤ MAX_BRANCH = omega arith in rw (← same) le) e)
+          not_outside 1 MAX_BRANCH n (rw (← same) low)
+          (let le : some.0.branch ≤ MAX_BRANCH = omega arith in rw (← same) le) e)
     ]
 
 -- a row in its ranges breaks no rule
@@ -97,33 +109,40 @@ branch_unbroken t n r broken sound e = sound_unbroken r broken (branch_is t n r 
 
 -- ---- balances
 
-teller_sound : (t : Tables) (n : ℕ) (r : TellerRow) → IsUndamaged t → row_at teller_key t.tellers n ≡ Some r → IsSoundTeller r
+teller_sound : (t : Tables) (n : ℕ) (r : TellerRow) → IsUndamaged t → row_at teller_key t.tellers n ≡ Some r
+    → IsSoundTeller r
 teller_sound t n r sound e = sound.each_teller r (found_within (λ x. nat_eq x.teller n) t.tellers r e)
 
-pub teller_unbroken : (t : Tables) (n : ℕ) (z : ℤ) (broken : Rule) → IsUndamaged t → teller_balance_in t n ≡ Some z → IsNoBalance z broken → ⊥
+pub teller_unbroken : (t : Tables) (n : ℕ) (z : ℤ) (broken : Rule) → IsUndamaged t → teller_balance_in t n
+    ≡ Some z → IsNoBalance z broken → ⊥
 teller_unbroken t n z broken sound e breaks =
     elim (by_option (row_at teller_key t.tellers n)) [
       | inl none ↦ let h = rw none at e in cc
       | inr some ↦
           let is : some.0.balance ≡ z = (let h = rw some.1 at e in cc) in
-          not_beyond MAX_BALANCE z (subst (λ b. nat_abs b ≤ MAX_BALANCE) is (teller_sound t n some.0 sound some.1).balance) breaks.1
+          not_beyond MAX_BALANCE z
+          (subst (λ b. nat_abs b ≤ MAX_BALANCE) is (teller_sound t n some.0 sound some.1).balance) breaks.1
     ]
 
-account_sound : (t : Tables) (n : ℕ) (r : AccountRow) → IsUndamaged t → row_at account_key t.accounts n ≡ Some r → IsSoundAccount r
+account_sound : (t : Tables) (n : ℕ) (r : AccountRow) → IsUndamaged t → row_at account_key t.accounts n
+    ≡ Some r → IsSoundAccount r
 account_sound t n r sound e = sound.each_account r (found_within (λ x. nat_eq x.account n) t.accounts r e)
 
-pub account_unbroken : (t : Tables) (n : ℕ) (z : ℤ) (broken : Rule) → IsUndamaged t → account_balance_in t n ≡ Some z → IsNoBalance z broken → ⊥
+pub account_unbroken : (t : Tables) (n : ℕ) (z : ℤ) (broken : Rule) → IsUndamaged t → account_balance_in t n
+    ≡ Some z → IsNoBalance z broken → ⊥
 account_unbroken t n z broken sound e breaks =
     elim (by_option (row_at account_key t.accounts n)) [
       | inl none ↦ let h = rw none at e in cc
       | inr some ↦
           let is : some.0.balance ≡ z = (let h = rw some.1 at e in cc) in
-          not_beyond MAX_BALANCE z (subst (λ b. nat_abs b ≤ MAX_BALANCE) is (account_sound t n some.0 sound some.1).balance) breaks.1
+          not_beyond MAX_BALANCE z
+          (subst (λ b. nat_abs b ≤ MAX_BALANCE) is (account_sound t n some.0 sound some.1).balance) breaks.1
     ]
 
 -- ---- kept requests
 
-pub request_is : (t : Tables) (teller number : ℕ) (r : RequestRow) → IsUndamaged t → request_in t teller number ≡ Some r → IsSoundRequest r
+pub request_is : (t : Tables) (teller number : ℕ) (r : RequestRow) → IsUndamaged t
+    → request_in t teller number ≡ Some r → IsSoundRequest r
 request_is t teller number r sound e = sound.each_request r (found_within _ t.requests r e)
 
 can_be_kept : (r : RequestRow) → IsSoundRequest r → CanBeKept r.kept
@@ -135,7 +154,8 @@ can_be_kept r is = record {
   outcome = is.kept;
 }
 
-pub request_unbroken : (t : Tables) (teller number : ℕ) (r : RequestRow) (broken : Rule) → IsUndamaged t → request_in t teller number ≡ Some r → IsNoRequest r broken → ⊥
+pub request_unbroken : (t : Tables) (teller number : ℕ) (r : RequestRow) (broken : Rule) → IsUndamaged t
+    → request_in t teller number ≡ Some r → IsNoRequest r broken → ⊥
 request_unbroken t teller number r broken sound e breaks =
     let is = request_is t teller number r sound e in
     elim breaks [
@@ -150,11 +170,16 @@ request_unbroken t teller number r broken sound e breaks =
     ]
 
 -- the fields of a kept request are those of a request
-pub is_a_request : (a t b n : ℕ) (z : ℤ) → nat_abs z ≤ MAX_DELTA → is_some (request_from a t b n z) ≡ false → ⊥
-is_a_request a t b n z le e = let test : leb (nat_abs z) MAX_DELTA ≡ true = grind (arith, nat_tests) in let h = rw test at e in cc
+pub is_a_request : (a t b n : ℕ) (z : ℤ) → nat_abs z ≤ MAX_DELTA → is_some (request_from a t b n z) ≡ false
+    → ⊥
+is_a_request a t b n z le e = let test : leb (nat_abs z) MAX_DELTA ≡ true =
+    grind (arith, nat_tests) in let h = rw test at e in cc
 
 -- so what is found is never told to be damaged
-pub err_found : {X Y : Type 0} (old new before after : State) (wanted : Option X) (Breaks : X → Rule → Type 0) (looked : Y) (e : TableFault)
-    → ((x : X) (broken : Rule) → wanted ≡ Some x → Breaks x broken → ⊥) → Finds old new wanted Breaks (Err e) → LooksUp before after looked (Err e)
+pub err_found : {X Y : Type 0} (old new before after : State) (wanted : Option X) (Breaks : X → Rule → Type 0)
+    (looked : Y) (e : TableFault)
+    → ((x : X) (broken : Rule) → wanted ≡ Some x → Breaks x broken → ⊥) → Finds old new wanted Breaks (Err e)
+    → LooksUp before after looked (Err e)
 err_found old new before after wanted Breaks looked (Sqlite e) unbroken finds = tt
-err_found old new before after wanted Breaks looked (Damaged rule) unbroken finds = unbroken finds.0.0 rule finds.0.1 finds.0.2
+err_found old new before after wanted Breaks looked (Damaged rule) unbroken finds =
+    unbroken finds.0.0 rule finds.0.1 finds.0.2

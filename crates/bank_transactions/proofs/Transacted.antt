@@ -14,7 +14,8 @@ use Rattle.store_rows.specs.View.{Shows, ShowsTrees}
 use Rattle.store_rows.specs.Failures.{Committing}
 use Rattle.store_rows.specs.declared.faults.TableFault.{TableFault}
 use Rattle.store_rows.specs.declared.faults.TableFault.TheVariants.{Sqlite, Damaged}
-use Rattle.bank_transactions.specs.Doing.{Acts, Answers, Blames, Completes, Damage, DoesBy, Ends, EndsWith, Keeps}
+use Rattle.bank_transactions.specs.Doing.{Acts, Answers, Blames, Completes, Damage, DoesBy, Ends, EndsWith}
+use Rattle.bank_transactions.specs.Doing.{Keeps}
 use Rattle.bank_transactions.specs.Doing.{IsBefore, IsFirstBroken, Leaves, MayCommit, Reads, Undoes}
 use Rattle.bank_transactions.specs.Doing.{Consults, Transacts, TransactsBy}
 use Rattle.bank_transactions.proofs.Blamed.{Widens, comes, fault_within, met_within, same_moment, then_moment}
@@ -27,7 +28,8 @@ not_done : {X : Type 0} (last new : State) (after : Tables) (wanted : X) (fault 
 not_done last new after wanted (Sqlite e) told = tt
 not_done last new after wanted (Damaged rule) told = told
 
-completes : {X : Type 0} (last new : State) (after : Tables) (wanted : X) (answer result : Result X TableFault)
+completes : {X : Type 0} (last new : State) (after : Tables) (wanted : X)
+    (answer result : Result X TableFault)
     → IfOk result (λ x. answer ≡ Ok x) → Answers last after wanted answer → EndsWith last new answer result
     → Completes new after wanted result
 completes last new after wanted (Ok x) (Ok y) given told ends =
@@ -40,7 +42,8 @@ completes {X} last new after wanted (Err fault) result given told ends =
     subst (λ (r : Result X TableFault). Completes new after wanted r) (sym ends.0)
     (not_done last new after wanted fault told)
 
-undone_by : (X : Type 0) (old last new : State) (fault : TableFault) → (IsTrue old.is_open → old.now ≡ old.committed)
+undone_by : (X : Type 0) (old last new : State) (fault : TableFault)
+    → (IsTrue old.is_open → old.now ≡ old.committed)
     → KeepsCommit old last → IsRolledBack last new → Undoes {X = X} old new (Err fault)
 undone_by X old last new (Sqlite e) settled kept back = tt
 undone_by X old last new (Damaged rule) settled kept back = λ is_open.
@@ -58,14 +61,18 @@ undoes {X} old last new (Err fault) result settled kept ends =
     subst (λ (r : Result X TableFault). Undoes old new r) (sym ends.0)
     (undone_by X old last new fault settled kept ends.1)
 
-left_by : {X : Type 0} (last : State) (after : Tables) (wanted : X) (answer : Result X TableFault) (left : Trees)
+left_by : {X : Type 0} (last : State) (after : Tables) (wanted : X) (answer : Result X TableFault)
+    (left : Trees)
     → Answers last after wanted answer → MayCommit last answer left → ShowsTrees left after
 left_by last after wanted (Ok x) left told made = made after told.1
 left_by last after wanted (Err fault) left told made = absurd made
 
-blamed : {S X : Type 0} (Met : Damage S) (g : Ghosts S) (old start last new : Held S) (answer result : Result X TableFault)
-    → IsBefore (state g old) (state g start) → IsBefore (state g start) (state g last) → IsBefore (state g last) (state g new)
-    → Widens Met old start last new → Blames Met g start last answer → EndsWith (state g last) (state g new) answer result
+blamed : {S X : Type 0} (Met : Damage S) (g : Ghosts S) (old start last new : Held S)
+    (answer result : Result X TableFault)
+    → IsBefore (state g old) (state g start) → IsBefore (state g start) (state g last)
+    → IsBefore (state g last) (state g new)
+    → Widens Met old start last new → Blames Met g start last answer
+    → EndsWith (state g last) (state g new) answer result
     → Blames Met g old new result
 blamed Met g old start last new (Ok x) (Ok y) first then end wide it ends = tt
 blamed Met g old start last new (Ok x) (Err (Sqlite e)) first then end wide it ends = record {
@@ -84,7 +91,8 @@ blamed {S} {X} Met g old start last new (Err fault) result first then end wide i
 
 -- the connection, the transaction as it begins and after its parts, the connection after it
 module _ {S X : Type 0} {Met : Damage S} {So : Tables → Type 0} {after : Tables → Tables} {w : Tables → X}
-    {answer result : Result X TableFault} (g : Ghosts S) (old : Held S) (begun last : Transaction S) (new : Held S)
+    {answer result : Result X TableFault} (g : Ghosts S) (old : Held S) (begun last : Transaction S)
+    (new : Held S)
     (is : begun.conn.now ≡ record old { in_transaction = true })
     (settled : IsTrue (state g old).is_open → (state g old).now ≡ (state g old).committed)
     (does : DoesBy Met g begun last So after w answer) (ends : Ends g last.conn.now new answer result) where
@@ -101,7 +109,8 @@ module _ {S X : Type 0} {Met : Damage S} {So : Tables → Type 0} {after : Table
   kept_so : HasCleanDisk (state g last.conn.now)
       → Keeps (state g start) (state g last.conn.now) answer × Blames Met g start last.conn.now answer
   kept_so clean =
-      subst (λ (h : Held S). Keeps (state g h) (state g last.conn.now) answer × Blames Met g h last.conn.now answer) is
+      subst (λ (h : Held S). Keeps (state g h) (state g last.conn.now) answer
+      × Blames Met g h last.conn.now answer) is
       (does.says.kept clean (rw is refl))
 
   from_start : IsBefore (state g old) (state g start)
@@ -115,9 +124,11 @@ module _ {S X : Type 0} {Met : Damage S} {So : Tables → Type 0} {after : Table
       survives_begin g old (state g new) (Leaves (state g old) So after)
       (subst (λ (h : Held S). Survives (state g h) (state g new) (Leaves (state g old) So after)) is
       (survives_then (state g begun.conn.now) (state g last.conn.now) (state g new) (λ _. ⊥)
-      (MayCommit (state g last.conn.now) answer) (Leaves (state g old) So after) (λ clean left none. absurd none)
+      (MayCommit (state g last.conn.now) answer) (Leaves (state g old) So after)
+      (λ clean left none. absurd none)
       (λ clean left made t shows so.
-      left_by (state g last.conn.now) (after t) (w t) answer left (told_so (clean_before clean) t shows so) made)
+      left_by (state g last.conn.now) (after t) (w t) answer left
+      (told_so (clean_before clean) t shows so) made)
       does.says.survives ends.survives))
 
   transacted : Widens Met old start last.conn.now new → TransactsBy Met g old new So after w result
@@ -137,7 +148,8 @@ module _ {S X : Type 0} {Met : Damage S} {So : Tables → Type 0} {after : Table
 
 -- of parts that read and then write
 pub transacts : {S X : Type 0} {So : Tables → Type 0} {after : Tables → Tables} {w : Tables → X}
-    {answer result : Result X TableFault} (g : Ghosts S) (old : Held S) (begun last : Transaction S) (end new : Held S)
+    {answer result : Result X TableFault} (g : Ghosts S) (old : Held S) (begun last : Transaction S)
+    (end new : Held S)
     → begun.conn.now ≡ record old { in_transaction = true }
     → (IsTrue (state g old).is_open → (state g old).now ≡ (state g old).committed)
     → Acts g begun last So after w answer → Ends g last.conn.now end answer result → end ≡ new
@@ -151,14 +163,16 @@ transacts {S} {X} {So} {after} {w} {answer} {result} g old begun last end new is
     ]))
 
 -- of parts that only read
-pub consults : {S X : Type 0} {w : Tables → X} {answer result : Result X TableFault} (g : Ghosts S) (old : Held S)
+pub consults : {S X : Type 0} {w : Tables → X} {answer result : Result X TableFault} (g : Ghosts S)
+    (old : Held S)
     (begun last : Transaction S) (end new : Held S) → begun.conn.now ≡ record old { in_transaction = true }
     → (IsTrue (state g old).is_open → (state g old).now ≡ (state g old).committed)
     → Reads g begun last w answer → Ends g last.conn.now end answer result → end ≡ new
     → Consults g old new AreSound w result
 consults {S} {X} {w} {answer} {result} g old begun last end new is settled reads ends same =
     subst (λ (h : Held S). Consults g old h AreSound w result) same
-    (transacted {Met = IsFirstBroken g} {So = AreSound} {after = λ t. t} {w = w} g old begun last end is settled
+    (transacted {Met = IsFirstBroken g} {So = AreSound} {after = λ t. t}
+    {w = w} g old begun last end is settled
     (does_for (does_read g begun last w answer reads) (λ t sound. (sound.undamaged, refl, refl))) ends
     (λ rule it. it))
 

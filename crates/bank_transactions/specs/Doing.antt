@@ -31,7 +31,8 @@ pub record Stays (old new : State) : Type 0 where
 
 -- ---- why a part failed
 
--- the second state came after the first: no fault of the disk was forgotten, and the limit on steps is the same
+-- the second state came after the first: no fault of the disk was forgotten, and the limit on steps is the
+-- same
 pub record IsBefore (first second : State) : Type 0 where
   pub faults : first.faults ≤ second.faults
   pub limit : second.step_limit ≡ first.step_limit
@@ -90,9 +91,11 @@ LooksUp old new wanted (Err (Sqlite e)) = ⊤
 LooksUp old new wanted (Err (Damaged rule)) = ⊥
 
 -- in undamaged tables it is what was looked for; damage is of the rows that were there
-abbrev pub Reads : {S X : Type 0} → Ghosts S → Transaction S → Transaction S → (Tables → X) → Result X TableFault → Type 0
+abbrev pub Reads : {S X : Type 0} → Ghosts S → Transaction S → Transaction S → (Tables → X)
+    → Result X TableFault → Type 0
 Reads g old new wanted result =
-    Says g old new (OfTables (λ before now tables. IsUndamaged tables → LooksUp before now (wanted tables) result))
+    Says g old new
+    (OfTables (λ before now tables. IsUndamaged tables → LooksUp before now (wanted tables) result))
     (λ before now. Looks before now result × Blames (IsFirstBroken g) g old.conn.now new.conn.now result)
 
 -- ---- a part that writes
@@ -115,18 +118,22 @@ expected (Ok false) rule = Err (Damaged rule)
 expected (Err e) rule = Err (Sqlite e)
 
 -- tables that are so become these, and the answer is this one; damage says this
-pub record DoesBy {S X : Type 0} (Met : Damage S) (g : Ghosts S) (old new : Transaction S) (So : Tables → Type 0) (after : Tables → Tables)
+pub record DoesBy {S X : Type 0} (Met : Damage S) (g : Ghosts S) (old new : Transaction S)
+    (So : Tables → Type 0) (after : Tables → Tables)
     (wanted : Tables → X) (result : Result X TableFault) : Type 0 where
-  pub says : Says g old new (Inside (OfTables (λ before now tables. So tables → Answers now (after tables) (wanted tables) result)))
+  pub says : Says g old new
+      (Inside (OfTables (λ before now tables. So tables → Answers now (after tables) (wanted tables) result)))
       (Inside (λ before now. Keeps before now result × Blames Met g old.conn.now new.conn.now result))
 
 -- a part that only writes: damage was met by a statement as it wrote
-abbrev pub Does : {S X : Type 0} → Ghosts S → Transaction S → Transaction S → (Tables → Type 0) → (Tables → Tables) → (Tables → X)
+abbrev pub Does : {S X : Type 0} → Ghosts S → Transaction S → Transaction S → (Tables → Type 0)
+    → (Tables → Tables) → (Tables → X)
     → Result X TableFault → Type 0
 Does g = DoesBy (HasMetBetween g) g
 
 -- a part that reads and then writes: damage is of the rows that were there, or was met as it wrote
-abbrev pub Acts : {S X : Type 0} → Ghosts S → Transaction S → Transaction S → (Tables → Type 0) → (Tables → Tables) → (Tables → X)
+abbrev pub Acts : {S X : Type 0} → Ghosts S → Transaction S → Transaction S → (Tables → Type 0)
+    → (Tables → Tables) → (Tables → X)
     → Result X TableFault → Type 0
 Acts g = DoesBy (IsBrokenOrMet g) g
 
@@ -147,7 +154,8 @@ EndsWith last new (Ok x) (Err (Damaged rule)) = ⊥
 EndsWith last new (Err fault) result = (result ≡ Err fault) × IsRolledBack last new
 
 -- A transaction of which the parts gave this answer has ended with that one.
-pub record Ends {S X : Type 0} (g : Ghosts S) (last new : Held S) (answer result : Result X TableFault) : Type 0 where
+pub record Ends {S X : Type 0} (g : Ghosts S) (last new : Held S)
+    (answer result : Result X TableFault) : Type 0 where
   pub mode : new.in_transaction ≡ false
   pub given : IfOk result (λ x. answer ≡ Ok x)
   pub told : HasCleanDisk (state g new) → EndsWith (state g last) (state g new) answer result
@@ -157,7 +165,8 @@ pub record Ends {S X : Type 0} (g : Ghosts S) (last new : Held S) (answer result
 
 -- the tables are these now, and a stop leaves them; the answer is this one; they are never told to be damaged
 abbrev pub Completes : {X : Type 0} → State → Tables → X → Result X TableFault → Type 0
-Completes new after wanted (Ok x) = (x ≡ wanted) × Shows new.now after × ((left : Trees) → new.may_leave left → ShowsTrees left after)
+Completes new after wanted (Ok x) = (x ≡ wanted) × Shows new.now after
+    × ((left : Trees) → new.may_leave left → ShowsTrees left after)
 Completes new after wanted (Err (Sqlite e)) = ⊤
 Completes new after wanted (Err (Damaged rule)) = ⊥
 
@@ -166,13 +175,18 @@ abbrev pub Undoes : {X : Type 0} → State → State → Result X TableFault →
 Undoes old new (Err (Damaged rule)) = IsTrue new.is_open → IsTrue old.is_open × (new.now ≡ old.now)
 Undoes old new _ = ⊤
 
--- what a stop may leave besides what it could leave before: tables that are so, as the transaction leaves them
+-- what a stop may leave besides what it could leave before: tables that are so, as the transaction leaves
+-- them
 abbrev pub Leaves : State → (Tables → Type 0) → (Tables → Tables) → Trees → Type 0
-Leaves old So after left = (tables : Tables) → Shows old.now tables → So tables → ShowsTrees left (after tables)
+Leaves old So after left = (tables : Tables) → Shows old.now tables → So tables
+    → ShowsTrees left (after tables)
 
--- Tables that are so become these, and the answer is this one. Damage undoes all. A stop leaves what it could leave before, or what the
--- transaction leaves. An error of `sqlite` is one with which a call of it failed, and damage says this. No transaction goes on.
-pub record TransactsBy {S X : Type 0} (Met : Damage S) (g : Ghosts S) (old new : Held S) (So : Tables → Type 0) (after : Tables → Tables)
+-- Tables that are so become these, and the answer is this one. Damage undoes all. A stop leaves what it could
+-- leave before, or what the
+-- transaction leaves. An error of `sqlite` is one with which a call of it failed, and damage says this. No
+-- transaction goes on.
+pub record TransactsBy {S X : Type 0} (Met : Damage S) (g : Ghosts S) (old new : Held S)
+    (So : Tables → Type 0) (after : Tables → Tables)
     (wanted : Tables → X) (result : Result X TableFault) : Type 0 where
   pub told : HasCleanDisk (state g new) → (tables : Tables) → Shows (state g old).now tables → So tables
       → Completes (state g new) (after tables) (wanted tables) result
@@ -182,10 +196,12 @@ pub record TransactsBy {S X : Type 0} (Met : Damage S) (g : Ghosts S) (old new :
   pub mode : new.in_transaction ≡ false
 
 -- damage is of the rows that the file held as the transaction began, or a statement met it as it wrote
-abbrev pub Transacts : {S X : Type 0} → Ghosts S → Held S → Held S → (Tables → Type 0) → (Tables → Tables) → (Tables → X)
+abbrev pub Transacts : {S X : Type 0} → Ghosts S → Held S → Held S → (Tables → Type 0) → (Tables → Tables)
+    → (Tables → X)
     → Result X TableFault → Type 0
 Transacts g = TransactsBy (IsBrokenOrMet g) g
 
 -- a transaction that only reads: damage is of the rows that the file held as it began
-abbrev pub Consults : {S X : Type 0} → Ghosts S → Held S → Held S → (Tables → Type 0) → (Tables → X) → Result X TableFault → Type 0
+abbrev pub Consults : {S X : Type 0} → Ghosts S → Held S → Held S → (Tables → Type 0) → (Tables → X)
+    → Result X TableFault → Type 0
 Consults g old new So = TransactsBy (IsFirstBroken g) g old new So (λ tables. tables)

@@ -26,7 +26,8 @@ fn keep_request<S: Alter>(
     requires { IsTrue (is_kept_with outcome balance) }
     ensures { Does S.Store tx.old tx.new
         (λ tables. row_at request_key tables.requests ordinal ≡ None)
-        (λ tables. tables_kept tables ordinal (record { moment = 0; request = request.now; outcome = outcome; balance = balance }))
+        (λ tables. tables_kept tables ordinal
+        (record { moment = 0; request = request.now; outcome = outcome; balance = balance }))
         (λ _. tt) result }
 {
     let kept = Kept::new(
@@ -46,7 +47,8 @@ fn keep_request<S: Alter>(
     write_decided(tx, ordinal.get())
 }
 
-// Writes the new balances of an account, its teller and the teller's branch, and the row of history (TPC-B 1.2).
+// Writes the new balances of an account, its teller and the teller's branch, and the row of history
+// (TPC-B 1.2).
 fn move_money<S: Alter>(
     tx: &mut Transaction<'_, S>,
     moment: Moment,
@@ -58,7 +60,8 @@ fn move_money<S: Alter>(
 ) -> Result<(), TableFault>
     ensures { Does S.Store tx.old tx.new
         (λ tables. HasRowsOf tables request.now × (row_at history_key tables.history ordinal ≡ None))
-        (λ tables. tables_moved tables ordinal (posted_entry moment request.now account) teller branch) (λ _. tt) result }
+        (λ tables. tables_moved tables ordinal (posted_entry moment request.now account) teller branch)
+        (λ _. tt) result }
 {
     write_balance(tx, Holder::Account(request.account()), account)?;
     write_balance(tx, Holder::Teller(request.teller()), teller)?;
@@ -84,7 +87,8 @@ pub(crate) fn apply<S: Alter>(
 ) -> Result<(), TableFault>
     requires { IsProper found.now verdict.now }
     ensures { Does S.Store tx.old tx.new
-        (λ tables. AreSound tables × (found.now ≡ found_in tables request.now) × (verdict.now ≡ case_of found.now request.now))
+        (λ tables. AreSound tables × (found.now ≡ found_in tables request.now)
+        × (verdict.now ≡ case_of found.now request.now))
         (λ tables. tables_after tables moment request.now verdict.now) (λ _. tt) result }
 {
     match verdict {

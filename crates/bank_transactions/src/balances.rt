@@ -1,4 +1,5 @@
-//! The balances that a posting changes are written. A row that is written was looked up, so it is there, or its rule is broken.
+//! The balances that a posting changes are written. A row that is written was looked up, so it is there, or
+//! its rule is broken.
 ghost use Rattle.std.specs.Prelude.{◌≡◌, ◌≤◌, ⊤};
 ghost use Rattle.posting_rules.specs.Changes.{with_decided};
 ghost use Rattle.bank_transactions.specs.Doing.{Does, expected};

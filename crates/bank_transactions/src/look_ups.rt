@@ -1,4 +1,5 @@
-//! What is looked up in the tables. Rows that belong together are read together, and told as damage where they differ.
+//! What is looked up in the tables. Rows that belong together are read together, and told as damage where
+//! they differ.
 ghost use Rattle.std.specs.Prelude.{◌≡◌, ◌≤◌, IfOk};
 ghost use Rattle.posting_rules.specs.Commands.{branch_of_account, place_of_account};
 ghost use Rattle.posting_rules.specs.LookUps.{teller_balances_in, account_balance_in, kept_in, found_in};
@@ -40,7 +41,8 @@ pub fn branch_at<S: Alter>(
 ) -> Result<Option<BranchRow>, TableFault>
     ensures says { Reads S.Store tx.old tx.new (λ tables. row_at branch_key tables.branches number) result }
     ensures stored { HasCleanDisk (state S.Store tx.new.conn.now)
-        → OfRows (λ rows. FindsStored (branch_under rows number) IsBranch BranchKeeps result) (state S.Store tx.old.conn.now).now }
+        → OfRows (λ rows. FindsStored (branch_under rows number) IsBranch BranchKeeps result)
+        (state S.Store tx.old.conn.now).now }
 {
     let Some(branch) = Branch::new(number) else {
         return Ok(None);

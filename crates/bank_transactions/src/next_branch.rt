@@ -44,7 +44,8 @@ pub fn read_next_branch<S: Alter>(
     ensures says { Consults S.Store conn.old conn.new AreSound (λ tables. branch_above tables after) result }
     ensures within { IfOk result (λ next. IfSome next (λ row. IsLineAbove after (line_of row))) }
     ensures same { HasCleanDisk (state S.Store conn.new) → (tables : Tables)
-        → Shows (state S.Store conn.old).now tables → OnOk result (Shows (state S.Store conn.new).now tables) }
+        → Shows (state S.Store conn.old).now tables
+        → OnOk result (Shows (state S.Store conn.new).now tables) }
 {
     let mut tx = begin(conn);
     let next = branch_after(&mut tx, after);

@@ -32,7 +32,8 @@ fn add_new<S: Alter>(
 ) -> Result<(), TableFault>
     requires above { 1 ≤ number }
     requires below { number ≤ last_of kind }
-    ensures { Does S.Store tx.old tx.new (λ tables. is_taken kind number tables ≡ false) (with_new kind number) (λ _. tt) result }
+    ensures { Does S.Store tx.old tx.new (λ tables. is_taken kind number tables ≡ false)
+        (with_new kind number) (λ _. tt) result }
 {
     let balance = Cents::new(0).unwrap();
     match kind {
@@ -57,7 +58,8 @@ fn add_rows<S: Alter>(
     requires above { 1 ≤ first }
     requires below { first + count ≤ last_of kind + 1 }
     ensures { Does S.Store tx.old tx.new
-        (λ tables. (n : ℕ) → n < count → is_taken kind (first + n) (with_new_rows kind first n tables) ≡ false)
+        (λ tables. (n : ℕ) → n < count → is_taken kind (first + n) (with_new_rows kind first n tables)
+        ≡ false)
         (with_new_rows kind first count) (λ _. tt) result }
 {
     for place in 0..count {
@@ -74,7 +76,8 @@ fn add_whole_branch<S: Alter>(
 ) -> Result<(), TableFault>
     requires branch { branch ≤ LAST_BRANCH }
     requires few { count ≤ MOST_ACCOUNTS }
-    ensures { Does S.Store tx.old tx.new (λ tables. AreSound tables × (row_at branch_key tables.branches branch ≡ None))
+    ensures { Does S.Store tx.old tx.new
+        (λ tables. AreSound tables × (row_at branch_key tables.branches branch ≡ None))
         (λ tables. tables_opened tables branch count) (λ _. tt) result }
 {
     let before = branch.get() - 1;

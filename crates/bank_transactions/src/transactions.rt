@@ -23,7 +23,8 @@ pub fn begin<S: Alter>(conn: &mut Connection<S>) -> Transaction<'_, S>
     requires { conn.old.in_transaction ≡ false }
     ensures same_reference { result.conn.ghost_name ≡ conn.entry.ghost_name }
     ensures begun { result.conn.now ≡ record conn.old { in_transaction = true } }
-    ensures settled { IsTrue (state S.Store conn.old).is_open → (state S.Store conn.old).now ≡ (state S.Store conn.old).committed }
+    ensures settled { IsTrue (state S.Store conn.old).is_open → (state S.Store conn.old).now
+        ≡ (state S.Store conn.old).committed }
 {
     let _outside = conn.is_autocommit();
     conn.transaction()
@@ -79,9 +80,11 @@ pub fn read_balance<S: Alter>(
     account: Account,
 ) -> Result<Option<Cents>, TableFault>
     requires { conn.old.in_transaction ≡ false }
-    ensures says { Consults S.Store conn.old conn.new AreSound (λ tables. account_balance_in tables account) result }
+    ensures says { Consults S.Store conn.old conn.new AreSound
+        (λ tables. account_balance_in tables account) result }
     ensures same { HasCleanDisk (state S.Store conn.new) → (tables : Tables)
-        → Shows (state S.Store conn.old).now tables → OnOk result (Shows (state S.Store conn.new).now tables) }
+        → Shows (state S.Store conn.old).now tables
+        → OnOk result (Shows (state S.Store conn.new).now tables) }
 {
     let mut tx = begin(conn);
     let balance = open_balance(&mut tx, account);

@@ -13,11 +13,14 @@ returns-clause-says g c records made =
 
 pub returns-clause-count : goal.returns-clause-count
 returns-clause-count g c =
-    of_given _ c.answer_batch-replies.result c.finish.result c.finish.ensures.given c.answer_batch-replies.ensures.count
+    of_given _ c.answer_batch-replies.result c.finish.result c.finish.ensures.given
+    c.answer_batch-replies.ensures.count
 
 pub returns-clause-idle : goal.returns-clause-idle
 returns-clause-idle g c =
     idle_after (IsMadeOf c.args.batch) c.args.moment g.S.Store c.args.conn.now c.begin-tx.result.conn.now
-    c.answer_batch-replies.new.tx.conn.now c.finish.new.tx.0 c.conn-1.given.0 c.answer_batch-replies.result c.finish.result
-    c.begin-tx.ensures.begun c.finish.ensures (λ records made. let does = c.answer_batch-replies.ensures.says records made in search rules)
+    c.answer_batch-replies.new.tx.conn.now c.finish.new.tx.0 c.conn-1.given.0 c.answer_batch-replies.result
+    c.finish.result
+    c.begin-tx.ensures.begun c.finish.ensures
+    (λ records made. let does = c.answer_batch-replies.ensures.says records made in search rules)
     c.answer_batch-replies.ensures.idle

@@ -34,4 +34,5 @@ pub returns : goal.returns
 returns g c =
     let xs = c.args.slots.now in
     let at_end : c.loop-slot.slot-index ≡ length xs = omega arith in
-    reads_so c.loop-slot.invariant (λ t so. (so, λ e. e ∙ all_filled g.T.Slot.filled_from xs c.loop-slot.slot-index t at_end))
+    reads_so c.loop-slot.invariant
+    (λ t so. (so, λ e. e ∙ all_filled g.T.Slot.filled_from xs c.loop-slot.slot-index t at_end))

@@ -8,5 +8,6 @@ use Rattle.bank_batches.proofs.filling.fill_all.Given as goal
 
 abbrev pub invariant-loop-slot : goal.invariant-loop-slot
 invariant-loop-slot g l =
-    ReadsWhere g.S.Store l.fn.tx l.tx (λ t. IsUndamaged t × AllByRecursion (g.T.Slot.Knows l.branches t) l.fn.slots)
+    ReadsWhere g.S.Store l.fn.tx l.tx
+    (λ t. IsUndamaged t × AllByRecursion (g.T.Slot.Knows l.branches t) l.fn.slots)
     (filled_so_far g.T.Slot.filled_from l.fn.slots l.slot-index) (Ok l.slots)

@@ -10,7 +10,8 @@ use Rattle.posting_rules.specs.declared.rows.TellerRow.{TellerRow}
 use Rattle.bank_batches.proofs.filling.teller_beside.Goals as goal
 
 not_one : (a : Option TellerRow) (b : Option BranchRow) → is_some a ≡ is_some b
-    → None ≡ both_of (option_map balance_of_teller a) (option_map balance_of_branch b) → None ≡ option_map balance_of_teller a
+    → None ≡ both_of (option_map balance_of_teller a) (option_map balance_of_branch b) → None
+    ≡ option_map balance_of_teller a
 not_one None b same none = refl
 not_one (Some x) (Some y) same none = absurd cc
 not_one (Some x) None same none = absurd cc
@@ -18,7 +19,8 @@ not_one (Some x) None same none = absurd cc
 no_balance : (t : Tables) (n : ℕ) → IsUndamaged t → 1 ≤ n → None ≡ teller_balances_in t n
     → None ≡ option_map balance_of_teller (row_at teller_key t.tellers n)
 no_balance t n sound least none =
-    not_one (row_at teller_key t.tellers n) (row_at branch_key t.branches (branch_of_teller n)) (sound.tellers n least) none
+    not_one (row_at teller_key t.tellers n) (row_at branch_key t.branches (branch_of_teller n))
+    (sound.tellers n least) none
 
 pub returns-in-None : goal.returns-in-None
 returns-in-None g c = record {

@@ -18,13 +18,15 @@ use Rattle.bank_transactions.proofs.Chained.{does_then, does_err, does_for, does
 use Rattle.bank_transactions.proofs.applying.keep_request.Goals as goal
 
 -- a row more, where its ordinal is free
-put : {S : Type 0} {g : Ghosts S} {old new : Transaction S} (row : RequestRow) (r : Result (Unit {0}) TableFault)
+put : {S : Type 0} {g : Ghosts S} {old new : Transaction S} (row : RequestRow)
+    (r : Result (Unit {0}) TableFault)
     → Says g old new (Inside (OfTables (λ before now t.
     Adds before now request (is_some (row_at request_key t.requests row.ordinal)) (with_request row t) r)))
     (Inside (λ before now. Puts before now r))
     → Does g old new (λ t. row_at request_key t.requests row.ordinal ≡ None) (with_request row) (λ _. tt) r
 put {S} {g} {old} {new} row r says =
-    does_add g old new request (λ t. is_some (row_at request_key t.requests row.ordinal)) (with_request row) r says
+    does_add g old new request (λ t. is_some (row_at request_key t.requests row.ordinal))
+    (with_request row) r says
     (λ t free. ap is_some free)
 
 pub returns-in_err-add_request : goal.returns-in_err-add_request

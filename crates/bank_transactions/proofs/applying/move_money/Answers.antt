@@ -19,7 +19,8 @@ use Rattle.bank_transactions.proofs.Chained.{does_then, does_err, does_for, does
 use Rattle.bank_transactions.proofs.applying.move_money.Goals as goal
 
 -- the write of a balance
-abbrev Sets : {S : Type 0} → Ghosts S → Transaction S → Transaction S → Holder → ℤ → Result (Unit {0}) TableFault → Type 0
+abbrev Sets : {S : Type 0} → Ghosts S → Transaction S → Transaction S → Holder → ℤ
+    → Result (Unit {0}) TableFault → Type 0
 Sets g old new holder balance r = Does g old new (HasRow holder) (with_balance holder balance) (λ _. tt) r
 
 -- a request whose rows are there, and the ordinal and the balances of its posting
@@ -51,15 +52,19 @@ module _ (r : RequestFields) (ordinal : ℕ) (x y z : ℤ) where
   free t may = ap is_some may.1
 
   module _ {S : Type 0} {g : Ghosts S} {a b : Transaction S} where
-    account_set : {e : Result (Unit {0}) TableFault} → Sets g a b (Account r.account) x e → Does g a b May one (λ _. tt) e
+    account_set : {e : Result (Unit {0}) TableFault} → Sets g a b (Account r.account) x e
+        → Does g a b May one (λ _. tt) e
     account_set first = does_for first (λ t may. (may.0.account, refl, refl))
 
-    teller_set : {c : Transaction S} {e : Result (Unit {0}) TableFault} → Sets g a b (Account r.account) x (Ok tt)
+    teller_set : {c : Transaction S} {e : Result (Unit {0}) TableFault}
+        → Sets g a b (Account r.account) x (Ok tt)
         → Sets g b c (Teller r.teller) y e → Does g a c May two (λ _. tt) e
     teller_set first second = does_then (account_set first) second teller_there
 
-    branch_set : {c d : Transaction S} {e : Result (Unit {0}) TableFault} → Sets g a b (Account r.account) x (Ok tt)
-        → Sets g b c (Teller r.teller) y (Ok tt) → Sets g c d (Branch r.branch) z e → Does g a d May three (λ _. tt) e
+    branch_set : {c d : Transaction S} {e : Result (Unit {0}) TableFault}
+        → Sets g a b (Account r.account) x (Ok tt)
+        → Sets g b c (Teller r.teller) y (Ok tt) → Sets g c d (Branch r.branch) z e
+        → Does g a d May three (λ _. tt) e
     branch_set first second third = does_then (teller_set first second) third branch_there
 
   moved : (t : Tables) (moment : ℕ) (row : HistoryRow) → May t
@@ -71,24 +76,29 @@ pub returns-in_err-write_balance : goal.returns-in_err-write_balance
 returns-in_err-write_balance g c =
     let same : c.from_residual.result ≡ Err c.in_err-write_balance.field-0.0 = search rules in
     let one = rw c.account.ensures at c.in_err-write_balance.ensures in
-    rw same (does_err (account_set c.args.request.now c.args.ordinal c.args.account c.args.teller c.args.branch one)
+    rw same (does_err
+    (account_set c.args.request.now c.args.ordinal c.args.account c.args.teller c.args.branch one)
     (λ t may. may))
 
 pub returns-in_err-write_balance-2 : goal.returns-in_err-write_balance-2
 returns-in_err-write_balance-2 g c =
-    let same : c.from_residual-in_err-write_balance-2.result ≡ Err c.in_err-write_balance-2.field-0.0 = search rules in
+    let same : c.from_residual-in_err-write_balance-2.result
+    ≡ Err c.in_err-write_balance-2.field-0.0 = search rules in
     let one = rw c.account.ensures at c.in_ok-write_balance.ensures in
     let two = rw c.teller.ensures at c.in_err-write_balance-2.ensures in
-    rw same (does_err (teller_set c.args.request.now c.args.ordinal c.args.account c.args.teller c.args.branch one two)
+    rw same (does_err
+    (teller_set c.args.request.now c.args.ordinal c.args.account c.args.teller c.args.branch one two)
     (λ t may. may))
 
 pub returns-in_err-write_balance-3 : goal.returns-in_err-write_balance-3
 returns-in_err-write_balance-3 g c =
-    let same : c.from_residual-in_err-write_balance-3.result ≡ Err c.in_err-write_balance-3.field-0.0 = search rules in
+    let same : c.from_residual-in_err-write_balance-3.result
+    ≡ Err c.in_err-write_balance-3.field-0.0 = search rules in
     let one = rw c.account.ensures at c.in_ok-write_balance.ensures in
     let two = rw c.teller.ensures at c.in_ok-write_balance-2.ensures in
     let three = rw c.branch-request.ensures at c.in_err-write_balance-3.ensures in
-    rw same (does_err (branch_set c.args.request.now c.args.ordinal c.args.account c.args.teller c.args.branch one two three)
+    rw same (does_err
+    (branch_set c.args.request.now c.args.ordinal c.args.account c.args.teller c.args.branch one two three)
     (λ t may. may))
 
 pub returns : goal.returns
@@ -108,7 +118,8 @@ returns g c =
     let two = rw c.teller.ensures at c.in_ok-write_balance-2.ensures in
     let three = rw c.branch-request.ensures at c.in_ok-write_balance-3.ensures in
     let put = does_add {So = λ t. is_some (row_at history_key t.history n) ≡ false} g.S.Store _ _ history
-    (λ t. is_some (row_at history_key t.history n)) (with_history row) c.add_history.result c.add_history.ensures (λ t so. so) in
+    (λ t. is_some (row_at history_key t.history n))
+    (with_history row) c.add_history.result c.add_history.ensures (λ t so. so) in
     does_for (does_then (branch_set r n c.args.account c.args.teller c.args.branch one two three) put
     (free r n c.args.account c.args.teller c.args.branch))
     (λ t may. (may, moved r n c.args.account c.args.teller c.args.branch t c.args.moment row may is, refl))

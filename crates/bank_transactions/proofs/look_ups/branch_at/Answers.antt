@@ -23,14 +23,16 @@ returns-in_err-row-clause-says g c =
     let fault = c.in_err-row.field-0.0 in
     let same : c.from_residual.result ≡ Err fault = search rules in
     rw same (find_failed (λ t. row_at branch_key t.branches c.in-Some.branch) IsNoBranch fault
-    (λ t r rule sound. branch_unbroken t c.in-Some.branch r rule sound) (branch_broken _ c.in-Some.branch fault)
+    (λ t r rule sound. branch_unbroken t c.in-Some.branch r rule sound)
+    (branch_broken _ c.in-Some.branch fault)
     c.in_err-row.ensures)
 
 pub returns-then-number-gt-LAST_BRANCH-clause-says : goal.returns-then-number-gt-LAST_BRANCH-clause-says
 returns-then-number-gt-LAST_BRANCH-clause-says g c = record {
   told = λ clean t shows sound.
       let told = (c.in_ok-row.ensures.told clean t shows).0 in
-      let found : row_at branch_key t.branches c.in-Some.branch ≡ Some c.in-Some-2.row = sym told ∙ c.in-Some-2.is in
+      let found : row_at branch_key t.branches c.in-Some.branch ≡ Some c.in-Some-2.row = sym told
+      ∙ c.in-Some-2.is in
       let is = branch_is t c.in-Some.branch c.in-Some-2.row sound found in
       let same = is.0 in
       let most = is.1.most in
@@ -39,7 +41,11 @@ returns-then-number-gt-LAST_BRANCH-clause-says g c = record {
       let key : c.in-Some.branch ≡ c.args.number = search rules in
       elim c.then-number-gt-LAST_BRANCH.either [
         | inl above ↦ omega arith
-        | inr count ↦ elim count [ inl none ↦ (let lt = none.1 in omega arith) | inr over ↦ (let lt = over.2 in omega arith) ]
+        | inr count ↦ elim count [
+          | inl none ↦ (let lt = none.1 in omega arith)
+          | inr over ↦
+              (let lt = over.2 in omega arith)
+        ]
       ];
   same_reference = search rules;
   kept = λ clean.
@@ -51,7 +57,11 @@ returns-then-number-gt-LAST_BRANCH-clause-says g c = record {
             let many = is.2 in
             elim c.then-number-gt-LAST_BRANCH.either [
               | inl above ↦ (let key : c.in-Some.branch ≡ c.args.number = search rules in omega arith)
-              | inr count ↦ elim count [ inl none ↦ (let lt = none.1 in omega arith) | inr over ↦ (let lt = over.2 in omega arith) ]
+              | inr count ↦ elim count [
+                | inl none ↦ (let lt = none.1 in omega arith)
+                | inr over ↦
+                    (let lt = over.2 in omega arith)
+              ]
             ]),
       );
   survives = search rules;
@@ -74,6 +84,10 @@ returns-then-number-gt-LAST_BRANCH-clause-stored g c = λ clean rows has.
           let many = is.2 in
           elim c.then-number-gt-LAST_BRANCH.either [
             | inl above ↦ (let key : c.in-Some.branch ≡ c.args.number = search rules in omega arith)
-            | inr count ↦ elim count [ inl none ↦ (let lt = none.1 in omega arith) | inr over ↦ (let lt = over.2 in omega arith) ]
+            | inr count ↦ elim count [
+              | inl none ↦ (let lt = none.1 in omega arith)
+              | inr over ↦
+                  (let lt = over.2 in omega arith)
+            ]
           ],
     )

@@ -21,8 +21,10 @@ pub returns-then-is_none : goal.returns-then-is_none
 returns-then-is_none g c = record {
   told = λ clean t shows sound.
       let row = c.in-Some.row in
-      let found : request_in t c.args.teller c.args.number ≡ Some row = sym (c.in_ok-row.ensures.told clean t shows).0 ∙ c.in-Some.is in
-      let within : nat_abs row.kept.delta ≤ MAX_DELTA = (request_is t c.args.teller c.args.number row sound found).fields.delta in
+      let found : request_in t c.args.teller c.args.number
+      ≡ Some row = sym (c.in_ok-row.ensures.told clean t shows).0 ∙ c.in-Some.is in
+      let within : nat_abs
+      row.kept.delta ≤ MAX_DELTA = (request_is t c.args.teller c.args.number row sound found).fields.delta in
       is_a_request c.account.result row.teller c.branch-kept.result row.number c.delta.result
       (subst (λ z. nat_abs z ≤ MAX_DELTA) (sym c.delta.ensures) within)
       (ap is_some (sym c.new-stored.ensures) ∙ c.if-is_none.ensures);

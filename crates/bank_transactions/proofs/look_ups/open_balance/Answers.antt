@@ -7,11 +7,17 @@ use Rattle.bank_transactions.proofs.look_ups.open_balance.Goals as goal
 pub returns-in_err-balance : goal.returns-in_err-balance
 returns-in_err-balance g c =
     let same : c.from_residual.result ≡ Err c.in_err-balance.field-0.0 = search rules in
-    rw same (account_failed (λ t sound. sound) c.args.account c.in_err-balance.field-0.0 c.in_err-balance.ensures)
+    rw same (account_failed
+    (λ t sound. sound) c.args.account c.in_err-balance.field-0.0 c.in_err-balance.ensures)
 
 pub returns-then-is_some-is_open : goal.returns-then-is_some-is_open
 returns-then-is_some-is_open g c =
-    record { told = search rules; same_reference = search rules; kept = search rules; survives = search rules }
+    record {
+      told = search rules;
+      same_reference = search rules;
+      kept = search rules;
+      survives = search rules;
+    }
 
 pub returns-in_err-branch : goal.returns-in_err-branch
 returns-in_err-branch g c =

@@ -14,14 +14,16 @@ returns-in_err-row-clause-says g c =
     let fault = c.in_err-row.field-0.0 in
     let same : c.from_residual.result ≡ Err fault = search rules in
     rw same (find_failed (λ t. branch_above t c.args.after) IsNoBranch fault
-    (λ t r rule sound. next_unbroken t c.args.after r rule sound) (next_broken _ c.args.after fault) c.in_err-row.ensures)
+    (λ t r rule sound. next_unbroken t c.args.after r rule sound)
+    (next_broken _ c.args.after fault) c.in_err-row.ensures)
 
 -- a number of undamaged tables is above the one that was asked for, and in its range
 pub returns-then-number-from-clause-says : goal.returns-then-number-from-clause-says
 returns-then-number-from-clause-says g c = record {
   told = λ clean t shows sound.
       let row = c.in-Some.row in
-      let found : branch_above t c.args.after ≡ Some row = sym (c.in_ok-row.ensures.told clean t shows).0 ∙ c.in-Some.is in
+      let found : branch_above t c.args.after ≡ Some row = sym (c.in_ok-row.ensures.told clean t shows).0
+      ∙ c.in-Some.is in
       let is = next_sound _ t c.args.after row shows sound found in
       let above = is.0 in
       let most = is.1.most in
@@ -47,7 +49,8 @@ pub returns-then-row-lt1-clause-says : goal.returns-then-row-lt1-clause-says
 returns-then-row-lt1-clause-says g c = record {
   told = λ clean t shows sound.
       let row = c.in-Some.row in
-      let found : branch_above t c.args.after ≡ Some row = sym (c.in_ok-row.ensures.told clean t shows).0 ∙ c.in-Some.is in
+      let found : branch_above t c.args.after ≡ Some row = sym (c.in_ok-row.ensures.told clean t shows).0
+      ∙ c.in-Some.is in
       let is = (next_sound _ t c.args.after row shows sound found).1 in
       let few = is.few in
       let many = is.many in
@@ -59,7 +62,11 @@ returns-then-row-lt1-clause-says g c = record {
         range_broken _ (is_above (pos c.args.after)) c.in-Some.row (rw c.in-Some.is at looked.1) (λ is.
             let few = is.1 in
             let many = is.2 in
-            elim c.then-row-lt1.either [ inl none ↦ omega arith | inr over ↦ (let gt = over.1 in omega arith) ]),
+            elim c.then-row-lt1.either [
+              | inl none ↦ omega arith
+              | inr over ↦
+                  (let gt = over.1 in omega arith)
+            ]),
       );
   survives = search rules;
 }

@@ -5,9 +5,11 @@ use Rattle.bank_transactions.proofs.next_branch.read_next_branch.Goals as goal
 
 pub returns-clause-says : goal.returns-clause-says
 returns-clause-says g c =
-    consults g.S.Store c.args.conn.now c.begin-tx.result c.branch_after-next.new.tx c.finish.new.tx.0 _ c.begin-tx.ensures.begun
+    consults g.S.Store c.args.conn.now c.begin-tx.result c.branch_after-next.new.tx c.finish.new.tx.0 _
+    c.begin-tx.ensures.begun
     c.begin-tx.ensures.settled c.branch_after-next.ensures.says c.finish.ensures (search rules)
 
 pub returns-clause-within : goal.returns-clause-within
 returns-clause-within g c =
-    of_given _ c.branch_after-next.result c.finish.result c.finish.ensures.given c.branch_after-next.ensures.within
+    of_given _ c.branch_after-next.result c.finish.result c.finish.ensures.given
+    c.branch_after-next.ensures.within

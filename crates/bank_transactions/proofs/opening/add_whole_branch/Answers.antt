@@ -17,7 +17,9 @@ returns-in_err-add_branch g c =
     let row : BranchRow = record { branch = b; accounts = c.args.count; balance = c.unwrap.result } in
     let e = c.in_err-add_branch.field-0.0 in
     let same : c.from_residual.result ≡ Err e = search rules in
-    rw same (does_err (does_add g.S.Store c.args.tx.now c.add_branch.new.tx branch (λ t. is_some (row_at branch_key t.branches b)) (λ t. with_branch row t) (Err e)
+    rw same (does_err
+    (does_add g.S.Store c.args.tx.now c.add_branch.new.tx branch
+    (λ t. is_some (row_at branch_key t.branches b)) (λ t. with_branch row t) (Err e)
     c.in_err-add_branch.ensures
     (λ t free. free)) (λ t so. ap is_some so.1))
 
@@ -28,13 +30,15 @@ returns-in_err-add_rows g c =
     let teller : ℕ = 10 * (c.get-before.result - 1) + 1 in
     let account : ℕ = ACCOUNTS_PER_BRANCH * (c.get-before.result - 1) + 1 in
     let from : teller ≡ first_teller b = ap (λ n. 10 * (n - 1) + 1) c.get-before.ensures.value in
-    let start : account ≡ first_account b = ap (λ n. ACCOUNTS_PER_BRANCH * (n - 1) + 1) c.get-before.ensures.value in
+    let start : account
+    ≡ first_account b = ap (λ n. ACCOUNTS_PER_BRANCH * (n - 1) + 1) c.get-before.ensures.value in
     let above : 1 ≤ b = omega (arith, c.get-before.ensures.value, c.get-before.ensures.least) in
     let row : BranchRow = record { branch = b; accounts = count; balance = c.unwrap.result } in
     let is : row ≡ branch_row_of b (pos 0) count = search rules in
     let same : c.from_residual-in_err-add_rows.result ≡ Err c.in_err-add_rows.field-0.0 = search rules in
     rw same (does_err (does_then (does_for
-    (does_add g.S.Store c.args.tx.now c.add_branch.new.tx branch (λ t. is_some (row_at branch_key t.branches b)) (λ t. with_branch row t) (Ok tt)
+    (does_add g.S.Store c.args.tx.now c.add_branch.new.tx branch
+    (λ t. is_some (row_at branch_key t.branches b)) (λ t. with_branch row t) (Ok tt)
     c.in_ok-add_branch.ensures (λ t so. ap is_some so.1))
     (λ t so. (so, ap (λ r. with_branch r t) is, refl))) c.in_err-add_rows.ensures
     (λ t so n lt. next_teller t b count teller account from start so.0 above so.1 n lt)) (λ t so. so))
@@ -46,14 +50,17 @@ returns g c =
     let teller : ℕ = 10 * (c.get-before.result - 1) + 1 in
     let account : ℕ = ACCOUNTS_PER_BRANCH * (c.get-before.result - 1) + 1 in
     let from : teller ≡ first_teller b = ap (λ n. 10 * (n - 1) + 1) c.get-before.ensures.value in
-    let start : account ≡ first_account b = ap (λ n. ACCOUNTS_PER_BRANCH * (n - 1) + 1) c.get-before.ensures.value in
+    let start : account
+    ≡ first_account b = ap (λ n. ACCOUNTS_PER_BRANCH * (n - 1) + 1) c.get-before.ensures.value in
     let above : 1 ≤ b = omega (arith, c.get-before.ensures.value, c.get-before.ensures.least) in
     let row : BranchRow = record { branch = b; accounts = count; balance = c.unwrap.result } in
     let is : row ≡ branch_row_of b (pos 0) count = search rules in
     does_for (does_then (does_then (does_for
-    (does_add g.S.Store c.args.tx.now c.add_branch.new.tx branch (λ t. is_some (row_at branch_key t.branches b)) (λ t. with_branch row t) (Ok tt)
+    (does_add g.S.Store c.args.tx.now c.add_branch.new.tx branch
+    (λ t. is_some (row_at branch_key t.branches b)) (λ t. with_branch row t) (Ok tt)
     c.in_ok-add_branch.ensures (λ t so. ap is_some so.1))
     (λ t so. (so, ap (λ r. with_branch r t) is, refl))) c.in_ok-add_rows.ensures
     (λ t so n lt. next_teller t b count teller account from start so.0 above so.1 n lt)) c.add_rows-2.ensures
-    (λ t so n lt. next_account t b count teller account from start so.0 above so.1 n c.requires.few (subst (λ m. n < m) c.from.ensures lt)))
+    (λ t so n lt. next_account t b count teller account from start so.0 above so.1 n c.requires.few
+    (subst (λ m. n < m) c.from.ensures lt)))
     (λ t so. (so, opened_is t b count teller account from start c.from.result c.from.ensures, refl))

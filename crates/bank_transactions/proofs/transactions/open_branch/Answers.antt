@@ -5,5 +5,6 @@ use Rattle.bank_transactions.proofs.transactions.open_branch.Goals as goal
 
 pub returns : goal.returns
 returns g c =
-    transacts g.S.Store c.args.conn.now c.begin-tx.result c.open_inside-opening.new.tx c.finish.new.tx.0 _ c.begin-tx.ensures.begun
+    transacts g.S.Store c.args.conn.now c.begin-tx.result c.open_inside-opening.new.tx c.finish.new.tx.0 _
+    c.begin-tx.ensures.begun
     c.begin-tx.ensures.settled c.open_inside-opening.ensures c.finish.ensures (search rules)

@@ -38,9 +38,11 @@ returns g c =
     λ t so. same_number s.branch b c.new.result c.in-Some-new.is c.new.ensures (number_of s z t is so) in
     does_for c.write_balance.ensures
     (λ t so. (
-      subst (λ (n : ℕ). HasRow (Branch n) t) (sym (same t so)) (asked (HasRow (Branch s.branch) t) s.changed z is so.0.1.0),
+      subst (λ (n : ℕ). HasRow (Branch n) t) (sym (same t so))
+          (asked (HasRow (Branch s.branch) t) s.changed z is so.0.1.0),
       ap (λ (n : ℕ). with_branch_balance n z t) (same t so)
-          ∙ subst (λ (o : Option ℤ). by_change o (λ y. with_branch_balance s.branch y t) t ≡ branches_over (s ∷ []) t) is
+          ∙ subst (λ (o : Option ℤ). by_change o (λ y. with_branch_balance s.branch y t) t
+          ≡ branches_over (s ∷ []) t) is
           (branch_made s t),
       refl,
     ))

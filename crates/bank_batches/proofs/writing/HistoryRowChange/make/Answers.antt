@@ -9,4 +9,5 @@ use Rattle.bank_batches.proofs.writing.HistoryRowChange.make.Goals as goal
 pub returns : goal.returns
 returns g c =
     let row = c.args.self.now in
-    row_added history history_key (λ t. t.history) with_history history_put row (posting_put row) c.add_history.ensures
+    row_added history history_key (λ t. t.history) with_history history_put row
+    (posting_put row) c.add_history.ensures

@@ -9,4 +9,5 @@ use Rattle.bank_batches.proofs.writing.RequestRowChange.make.Goals as goal
 pub returns : goal.returns
 returns g c =
     let row = c.args.self.now in
-    row_added request request_key (λ t. t.requests) with_request requests_put row (request_put row) c.add_request.ensures
+    row_added request request_key (λ t. t.requests) with_request requests_put row
+    (request_put row) c.add_request.ensures

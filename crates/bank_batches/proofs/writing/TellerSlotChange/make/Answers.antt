@@ -7,7 +7,8 @@ use Rattle.bank_batches.proofs.writing.TellerSlotChange.make.Goals as goal
 pub returns-in-Some : goal.returns-in-Some
 returns-in-Some g c =
     let s = c.args.self.now in
-    changed (Teller s.teller) s.changed _ c.in-Some.is (teller_made s) (λ t may. may.1.0) c.write_balance.ensures
+    changed (Teller s.teller) s.changed _ c.in-Some.is (teller_made s)
+    (λ t may. may.1.0) c.write_balance.ensures
 
 pub returns-in-None : goal.returns-in-None
 returns-in-None g c =
