@@ -20,7 +20,7 @@ use Rattle.bank_words.specs.Words.{AskToDrive, AskToInit, AskToLoad, AskToPost, 
 use Rattle.bank_words.specs.declared.reading.Command.{Command}
 use Rattle.bank_words.specs.declared.reading.Command.TheVariants.{Audit, Drive, Init, Load, Post, Serve}
 use Rattle.bank_words.specs.declared.reading.Command.TheVariants.{Statement}
-use Rattle.bank_commands.specs.Commands.{DrivesIn, IsUntouched, LoadsIn, MakesIn, PostsIn, said_of}
+use Rattle.bank_commands.specs.Commands.{DrivesIn, LoadsIn, MakesIn, PostsIn, said_of}
 use Rattle.bank_program.specs.Running.{Does, EndsUnfound, ended_by, status_after}
 use Rattle.bank_program.proofs.Driven.{word_at}
 use Rattle.bank_program.proofs.Endings.{memory_ends, mistake_keeps}

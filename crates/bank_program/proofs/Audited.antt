@@ -7,8 +7,6 @@ use Rattle.clap.specs.declared.error.kind.ErrorKind.{ErrorKind}
 use Rattle.clap.specs.declared.error.kind.ErrorKind.TheVariants.{OutOfMemory}
 use Rattle.sqlite_wal.specs.Recovery.{Image}
 use Rattle.posting_rules.specs.Counter.{Seen}
-use Rattle.posting_rules.specs.declared.fault.Fault.{Fault}
-use Rattle.bank_reports.specs.declared.audit.Audit.{Audit as Found}
 use Rattle.bank_endings.specs.Looking.{IsOfOpening}
 use Rattle.bank_endings.specs.Lines.{IsRequest, IsShown}
 use Rattle.bank_endings.specs.declared.fault.CommandFault.{CommandFault}

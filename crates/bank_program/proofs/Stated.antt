@@ -1,6 +1,6 @@
 -- What a run of `statement` wrote, by its words.
 use Rattle.std.proofs.Common.{◌≡◌, ◌⊎◌, ◌∙◌, ap, refl, sym, subst, inl, inr, arith, ℕ, List, Option, Result}
-use Rattle.std.proofs.Common.{Ok, Err, drop, codes}
+use Rattle.std.proofs.Common.{Ok, Err, drop}
 use Rattle.std.specs.Prelude.{IsErrAnd}
 use Rattle.std.specs.Io.KnownBytes.{Keeps}
 use Rattle.clap.specs.Words.{Text}
@@ -8,7 +8,6 @@ use Rattle.clap.specs.declared.error.kind.ErrorKind.{ErrorKind}
 use Rattle.clap.specs.declared.error.kind.ErrorKind.TheVariants.{OutOfMemory}
 use Rattle.sqlite_wal.specs.Recovery.{Image}
 use Rattle.posting_rules.specs.Counter.{Seen}
-use Rattle.bank_audits.specs.declared.fault.ReportFault.{ReportFault}
 use Rattle.bank_endings.specs.Looking.{IsOfOpening}
 use Rattle.bank_endings.specs.Lines.{IsRequest, IsShown}
 use Rattle.bank_endings.specs.declared.fault.CommandFault.{CommandFault}

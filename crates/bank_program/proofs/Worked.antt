@@ -1,6 +1,5 @@
 -- What is known of a command over the bank of its files, said of how the program ends.
-use Rattle.std.proofs.Common.{◌≡◌, ◌⊎◌, ap, refl, inl, inr, ℕ, List, Option, Result, Ok, Err}
-use Rattle.std.specs.Io.KnownBytes.{Appends, Keeps}
+use Rattle.std.proofs.Common.{◌≡◌, ap, inl, inr, ℕ, List, Option, Result, Ok, Err}
 use Rattle.clap.specs.declared.error.kind.ErrorKind.{ErrorKind}
 use Rattle.clap.specs.declared.error.kind.ErrorKind.TheVariants.{OutOfMemory}
 use Rattle.sqlite_wal.specs.Recovery.{Image}
