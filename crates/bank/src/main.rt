@@ -3,7 +3,7 @@
 #![tactic(auto)]
 
 use bank_clock::SystemClock;
-use bank_commands::{run, words_of};
+use bank_program::{run, words_of};
 use bank_endings::tell_no_words;
 use sqlite::Unknown;
 use std::process::ExitCode;

@@ -1,8 +1,1 @@
-pub mod Asked
-pub mod Audited
-pub mod Driven
-pub mod Endings
 pub mod Worked
-pub mod Found
-pub mod Served
-pub mod Stated

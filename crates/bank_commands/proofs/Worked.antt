@@ -1,90 +1,82 @@
--- What is known of a command over the bank of its files, said of another end that follows from it.
-use Rattle.std.proofs.Common.{◌≡◌, ◌⊎◌, ap, refl, inl, inr, ℕ, List, Option, Result, Ok, Err}
-use Rattle.std.specs.Io.KnownBytes.{Appends, Keeps}
-use Rattle.clap.specs.declared.error.kind.ErrorKind.{ErrorKind}
-use Rattle.clap.specs.declared.error.kind.ErrorKind.TheVariants.{OutOfMemory}
+-- The bank that was found is the one that the command worked with.
+use Rattle.std.proofs.Common.{◌≡◌, ◌⊎◌, inl, inr, subst, ℕ, List, Option, Result, Ok, Err, OnOk, OnErr, IfErr}
+use Rattle.std.proofs.Common.{IsErrOf}
 use Rattle.sqlite_wal.specs.Recovery.{Image}
 use Rattle.posting_rules.specs.Counter.{Seen}
 use Rattle.posting_rules.specs.declared.fault.Fault.{Fault}
-use Rattle.branch_loader.specs.declared.loading.Loaded.{Loaded}
-use Rattle.bank_driver.specs.declared.driving.Driven.{Driven}
-use Rattle.bank_driver.specs.declared.fault.DriveFault.{DriveFault}
-use Rattle.counter_tcp.specs.declared.fault.ListenFault.{ListenFault}
-use Rattle.bank_endings.specs.Lines.{IsShown}
+use Rattle.posting_core.specs.Stream.{Streamed, Outputs, Survives, Resends}
+use Rattle.posting_core.specs.declared.stream.StreamFault.{StreamFault}
+use Rattle.bank_reports.specs.declared.audit.Audit.{Audit as Found}
+use Rattle.bank_audits.specs.declared.fault.ReportFault.{ReportFault}
 use Rattle.bank_endings.specs.declared.fault.CommandFault.{CommandFault}
-use Rattle.bank_endings.specs.declared.fault.CommandFault.TheVariants.{Memory}
+use Rattle.bank_endings.specs.declared.fault.CommandFault.TheVariants.{Write}
 use Rattle.bank_endings.specs.declared.status.Status.{Status}
-use Rattle.bank_commands.specs.InFile.{IsFoundIn, WorksIn}
-use Rattle.bank_commands.specs.Running.{DrivesIn, LoadsIn, ServesIn, status_after}
-use Rattle.bank_commands.specs.Working.{EndsInFault, EndsWithLine, RunsIn, TellsDrive, TellsLoad, TellsServing, Works}
-use Rattle.bank_commands.proofs.Endings.{memory_ends}
+use Rattle.bank_endings.specs.Looking.{IsOfOpening}
+use Rattle.bank_openings.specs.InFile.{IsFoundIn}
+use Rattle.bank_work.specs.Auditing.{Prints}
+use Rattle.bank_commands.specs.Auditing.{Audits, AuditsIn}
+use Rattle.bank_commands.specs.Commands.{PostsIn, RunsIn, said_of}
+use Rattle.bank_commands.specs.Stating.{States, StatesIn, said_of_statement}
 
-module _ {C X : Type 0} (seen : C → Seen) (image : Image) (Idle : Type 0) (Tells : X → Type 0) (Did : X → C → C → Type 0) where
-  -- the bank that was found is the one that was worked with
-  pub runs : (first last : C) → IsFoundIn image (seen first) → Works Idle Tells Did first last
-      → RunsIn seen image Idle Tells Did
+pub on_ok : {X E : Type 0} {P : Type 0} (r : Result X E) → P → OnOk r P
+on_ok (Ok x) h = h
+on_ok (Err e) h = tt
+
+-- a fault of opening is none of writing
+pub opening_is_no_write : {Q : Type 0} (fault : CommandFault) → IsOfOpening fault → fault ≡ Write → Q
+opening_is_no_write fault of_opening is = absurd (subst IsOfOpening is of_opening)
+
+pub on_err : {X : Type 0} {Q : Type 0} (P : CommandFault → Type 0) (r : Result X CommandFault) → Q
+    → IfErr r (λ fault. P fault → Q)
+on_err P (Ok x) q = tt
+on_err P (Err fault) q = λ _. q
+
+-- where only the print can fail
+pub only_write : {X : Type 0} (P : CommandFault → Type 0) (r : Result X CommandFault)
+    → OnErr r (IsErrOf r Write)
+    → IfErr r (λ fault. (fault ≡ Write) ⊎ P fault)
+only_write P (Ok x) is = tt
+only_write P (Err fault) is = inl (let same : fault ≡ Write = cc in same)
+
+module _ {C : Type 0} (seen : C → Seen) (image : Image) (Unfound : Type 0) (P : C → C → Type 0) where
+  pub runs : (first last : C) → IsFoundIn image (seen first) → P first last → RunsIn seen image Unfound P
   runs first last found works = inr record { first = first; last = last; found = found; works = works }
 
-  module _ (Idle' : Type 0) (Tells' : X → Type 0) (idle : Idle → Idle') (tells : (told : X) → Tells told → Tells' told) where
-    works_lift : (old new : C) → Works Idle Tells Did old new → Works Idle' Tells' Did old new
-    works_lift old new (inl (was, same)) = inl (idle was, same)
-    works_lift old new (inr (told, says, did)) = inr (told, tells told says, did)
+module _ {C : Type 0} (seen : C → Seen) (image : Image) (r r' w w' k k' : Option (List ℕ)) where
+  -- a stream that was posted to the bank that was found
+  pub posted : (first last : C) (told : Result ℕ StreamFault) (result : Result ℕ CommandFault) (None : Type 0)
+      → result ≡ said_of told → IsFoundIn image (seen first)
+      → Streamed r r' w w' k k' (seen first) (seen last) told
+      → Outputs r r' w w' (seen first) (seen last) told
+      → Survives r r' w w' (seen first) (seen last) → Resends r r' (seen first) (seen last) told
+      → PostsIn seen image r r' w w' k k' None (λ t. result ≡ said_of t)
+  posted first last told result None is found stream output stop resend =
+      inr (
+        told,
+        is,
+        record {
+          first = first;
+          last = last;
+          found = found;
+          works = record { stream = stream; output = output; stop = stop; resend = resend };
+        },
+      )
 
-    pub runs_lift : RunsIn seen image Idle Tells Did → RunsIn seen image Idle' Tells' Did
-    runs_lift (inl was) = inl (idle was)
-    runs_lift (inr it) = inr record {
-      first = it.first;
-      last = it.last;
-      found = it.found;
-      works = works_lift it.first it.last it.works;
-    }
+module _ {C : Type 0} (seen : C → Seen) (image : Image) (account : ℕ) (w w' : Option (List ℕ)) where
+  -- the bank that was found is the one of the statement
+  pub stated : (first last : C) (told : Result (Unit {0}) ReportFault)
+      (result : Result (Unit {0}) CommandFault) (Unfound : Type 0)
+      → result ≡ said_of_statement account told → IsFoundIn image (seen first)
+      → States (seen first) (seen last) account w w' told
+      → StatesIn seen image account w w' Unfound (λ t. result ≡ said_of_statement account t)
+  stated first last told result Unfound is found states =
+      inr (told, is, record { first = first; last = last; found = found; works = states })
 
-module _ (result : Result Status CommandFault) where
-  abbrev pub Ends : Result Status CommandFault → Type 0
-  Ends end = result ≡ end
-
-  -- the status is the end's
-  abbrev pub Ends' : Result Status CommandFault → Type 0
-  Ends' end = status_after result ≡ status_after end
-
-  lift : (end : Result Status CommandFault) → Ends end → Ends' end
-  lift end is = ap status_after is
-
-  in_fault : EndsInFault Ends → EndsInFault Ends'
-  in_fault (fault, ends) = (fault, lift (Err fault) ends)
-
-  with_line : (w w' : Option (List ℕ)) (status : Status) (line : List ℕ) → EndsWithLine Ends w w' status line
-      → EndsWithLine Ends' w w' status line
-  with_line w w' status line (inl (ends, printed)) = inl (lift _ ends, printed)
-  with_line w w' status line (inr ends) = inr (lift _ ends)
-
-  tells_load : (w w' : Option (List ℕ)) (told : Result Loaded Fault) → TellsLoad Ends w w' told
-      → TellsLoad Ends' w w' told
-  tells_load w w' (Ok loaded) ends = with_line w w' _ _ ends
-  tells_load w w' (Err fault) (ends, silent) = (lift _ ends, silent)
-
-  tells_drive : (w w' : Option (List ℕ)) (count : ℕ) (told : Result Driven DriveFault)
-      → TellsDrive Ends w w' count told → TellsDrive Ends' w w' count told
-  tells_drive w w' count (Ok driven) ends = with_line w w' _ _ ends
-  tells_drive w w' count (Err fault) (ends, silent) = (lift _ ends, silent)
-
-  tells_serving : (told : Result (Unit {0}) ListenFault) → TellsServing Ends told → TellsServing Ends' told
-  tells_serving (Ok done) ends = lift _ ends
-  tells_serving (Err fault) ends = lift _ ends
-
-  module _ {C : Type 0} (seen : C → Seen) (image : Image) (k k' w w' : Option (List ℕ)) where
-    pub loads_lift : LoadsIn seen image w w' Ends → LoadsIn seen image w w' Ends'
-    loads_lift = runs_lift seen image _ _ _ _ _ (λ idle. (in_fault idle.0, idle.1)) (tells_load w w')
-
-    pub drives_lift : (seed count : ℕ) → DrivesIn seen image k k' w w' seed count Ends
-        → DrivesIn seen image k k' w w' seed count Ends'
-    drives_lift seed count =
-        runs_lift seen image _ _ _ _ _ (λ idle. (in_fault idle.0, idle.1, idle.2)) (tells_drive w w' count)
-
-    pub serves_lift : (count : ℕ) → ServesIn seen image k k' count Ends → ServesIn seen image k k' count Ends'
-    serves_lift count = runs_lift seen image _ _ _ _ _ (λ idle. (in_fault idle.0, idle.1)) tells_serving
-
--- where memory ran out before the command was read
-pub none_run : (kind : ErrorKind) (status : Status) → kind ≡ OutOfMemory → IsShown kind status
-    → EndsInFault (λ end. status ≡ status_after end)
-none_run kind status memory shown = (Memory, memory_ends kind status memory shown)
+module _ {C : Type 0} (seen : C → Seen) (image : Image) (w w' : Option (List ℕ)) where
+  -- the bank that was found is the one of the audit
+  pub audited : (first last : C) (told : Result Found Fault) (result : Result Status CommandFault)
+      (Unfound : Type 0)
+      → Prints told w w' result → IsFoundIn image (seen first) → Audits (seen first) (seen last) told
+      → AuditsIn seen image w w' Unfound (λ t. Prints t w w' result)
+  audited first last told result Unfound prints found audits =
+      inr (told, prints, record { first = first; last = last; found = found; works = audits })

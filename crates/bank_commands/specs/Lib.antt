@@ -1,6 +1,3 @@
-pub mod InFile
-pub mod Working
+pub mod Commands
 pub mod Stating
 pub mod Auditing
-pub mod Looking
-pub mod Running

@@ -16,7 +16,7 @@ use Rattle.bank_audits.specs.declared.fault.ReportFault.TheVariants as report
 use Rattle.bank_endings.specs.Faults.{fault_of_bank}
 use Rattle.bank_endings.specs.declared.fault.CommandFault.{CommandFault}
 use Rattle.bank_endings.specs.declared.fault.CommandFault.TheVariants as fault
-use Rattle.bank_commands.specs.InFile.{WorksIn}
+use Rattle.bank_openings.specs.InFile.{WorksIn}
 
 -- what the command says of a statement of this account
 abbrev pub said_of_statement : ℕ → Result (Unit {0}) ReportFault → Result (Unit {0}) CommandFault
@@ -25,13 +25,15 @@ said_of_statement account (Err report.NoAccount) = Err (fault.NoAccount account)
 said_of_statement account (Err report.Write) = Err fault.Write
 said_of_statement account (Err (report.Bank cause)) = Err (fault_of_bank cause)
 
--- The statement of an account behind the bank's log was written, or at a fault a beginning of it; nothing was where the
--- account isn't open. The bank took no command, and a stop leaves what it showed.
-pub record States (old new : Seen) (account : ℕ) (w w' : Option (List ℕ)) (told : Result (Unit {0}) ReportFault)
+-- The statement of an account behind the bank's log was written, or at a fault a beginning of it; nothing
+-- was where the account isn't open. The bank took no command, and a stop leaves what it showed.
+pub record States (old new : Seen) (account : ℕ) (w w' : Option (List ℕ))
+    (told : Result (Unit {0}) ReportFault)
     : Type 0 where
   pub text : OnOk told (new.honest → (log : List Command) → ShowsLog old log
       → Appends w w' (statement_behind log account))
-  pub found : OnOk told (new.honest → (log : List Command) → ShowsLog old log → IsSome (balance_behind log account))
+  pub found : OnOk told (new.honest → (log : List Command) → ShowsLog old log
+      → IsSome (balance_behind log account))
   pub missing : told ≡ Err report.NoAccount → new.honest → (log : List Command) → ShowsLog old log
       → balance_behind log account ≡ None
   pub silent : told ≡ Err report.NoAccount → w' ≡ w

@@ -1,26 +1,23 @@
-//! The four commands.
-ghost use Rattle.std.specs.Prelude.{◌≡◌, ◌≢◌, ◌≤◌, IfErr, IfOk, IsErr, OnOk, Result};
+//! The commands that make a bank in a file, and that open branches of it and post to it.
+ghost use Rattle.std.specs.Prelude.{◌≡◌, ◌≢◌, ◌⊎◌, ◌≤◌, IfErr, IfOk, IsErrAnd, OnOk};
 ghost use Rattle.std.specs.Io.KnownBytes.{Appends, IsAtEnd, Keeps};
 ghost use Rattle.sqlite_wal.specs.Files.{image_at};
 ghost use Rattle.bank_store.specs.Seen.{bank_seen};
 ghost use Rattle.bank_endings.specs.Faults.{IsOfFile};
 ghost use Rattle.bank_endings.specs.Lines.{created_line, loaded_line};
-ghost use Rattle.bank_driver.specs.Drives.{Drives};
-ghost use Rattle.bank_driver.specs.declared.driving.Driven.{Driven};
-ghost use Rattle.bank_driver.specs.declared.fault.DriveFault.{DriveFault};
-ghost use Rattle.bank_commands.specs.Running.{DrivesIn, LoadsIn, MakesIn, TellsDriven, done_after, ended_by_load};
-ghost use Rattle.bank_commands.specs.Working.{LoadsOver, PostsIn, TellsDrive, said_of};
+ghost use Rattle.bank_endings.specs.Looking.{IsOfOpening};
+ghost use Rattle.bank_work.specs.Working.{TellsDriven, done_after, ended_by_load};
+ghost use Rattle.bank_commands.specs.Commands.{DrivesIn, LoadsIn, MakesIn, PostsIn, said_of};
 
-use crate::files::{close, find_bank, make_bank, plan_in};
-use bank_driver::{MAX_DRIVEN, drive_records};
-use bank_endings::{CommandFault, print_created, print_driven, print_loaded};
-use branch_loader::{Loaded, load};
-use posting_core::{Clock, Count, Counter, post_stream};
+use bank_driver::MAX_DRIVEN;
+use bank_endings::{CommandFault, print_created};
+use bank_openings::{close, find_bank, make_bank};
+use bank_work::{drive_into, load_into};
+use branch_loader::Loaded;
+use posting_core::{Clock, Count, post_stream};
 use sqlite::{FileFrom, FileStore, Start};
 use sqlite_trees::store::Store;
-use std::alloc::Global;
 use std::io::{Read, Write};
-use std::rt::Files;
 
 /// Makes a bank in the file, and prints `created`.
 pub fn init<S: Start, W: Write>(
@@ -31,6 +28,9 @@ pub fn init<S: Start, W: Write>(
 ) -> Result<(), CommandFault>
     ensures made { OnOk result (MakesIn (bank_seen ⟦<FileStore<FileFrom<S>> as Store>⟧) (image_at S.Start)) }
     ensures line { OnOk result (Appends (W.contents output.old) (W.contents output.new) created_line) }
+    ensures unprinted { IfErr result (λ fault. fault ≡ CommandFault.Write
+        → MakesIn (bank_seen ⟦<FileStore<FileFrom<S>> as Store>⟧) (image_at S.Start)) }
+    ensures fault { IfErr result (λ fault. (fault ≡ CommandFault.Write) ⊎ IsOfOpening fault) }
     ensures silent { IfErr result
         (λ fault. fault ≢ CommandFault.Write → Keeps (W.contents output.old) (W.contents output.new)) }
 {
@@ -60,26 +60,6 @@ pub fn load_plan<S: Start, W: Write>(
     loaded
 }
 
-// Opens the branches of the plan in a file, and prints how many got each answer.
-fn load_into<R: Files + AllocGlobal, C: Counter, W: Write>(
-    rt: &R,
-    path: &str,
-    bank: &mut C,
-    output: &mut W,
-) -> Result<Loaded, CommandFault>
-    ensures loads { LoadsOver C.seen (W.contents output.old) (W.contents output.new)
-        (λ end. ended_by_load result ≡ end) bank.old bank.new }
-    ensures line { IfOk result
-        (λ loaded. Appends (W.contents output.old) (W.contents output.new) (loaded_line loaded)) }
-    ensures silent { IfErr result
-        (λ fault. fault ≢ CommandFault.Write → Keeps (W.contents output.old) (W.contents output.new)) }
-{
-    let plan = plan_in(rt, path)?;
-    let loaded = load(&plan, bank)?;
-    print_loaded(loaded, output)?;
-    Ok(loaded)
-}
-
 /// Posts the records of the input to the file's bank, and writes their replies.
 pub fn post<S: Start, R: Read, W: Write, K: Clock>(
     rt: &HostRuntime,
@@ -91,7 +71,8 @@ pub fn post<S: Start, R: Read, W: Write, K: Clock>(
 ) -> Result<Count, CommandFault>
     ensures posts { PostsIn (bank_seen ⟦<FileStore<FileFrom<S>> as Store>⟧) (image_at S.Start)
         (R.remaining input.old) (R.remaining input.new) (W.contents output.old) (W.contents output.new)
-        (K.readings clock.old) (K.readings clock.new) (IsErr result) (λ told. result ≡ said_of told) }
+        (K.readings clock.old) (K.readings clock.new) (IsErrAnd result IsOfOpening)
+        (λ told. result ≡ said_of told) }
     ensures ended { OnOk result (IsAtEnd (R.remaining input.new)) }
     ensures unread { IfErr result (λ fault. IsOfFile fault → R.remaining input.new ≡ R.remaining input.old) }
     ensures silent { IfErr result
@@ -127,26 +108,4 @@ pub fn drive<S: Start, W: Write, K: Clock>(
     let driven = drive_into(rt.alloc(), &mut bank, seed, count, output, clock);
     close(bank);
     driven
-}
-
-// Posts the first `count` records of a seed over the open branches of a bank, and prints how many were posted.
-fn drive_into<C: Counter, W: Write, K: Clock>(
-    alloc: Global,
-    bank: &mut C,
-    seed: u64,
-    count: u64,
-    output: &mut W,
-    clock: &mut K,
-) -> Result<(), CommandFault>
-    requires some { 1 ≤ count }
-    requires few { count ≤ MAX_DRIVEN }
-    ensures drives { (told : Result Driven DriveFault)
-        × TellsDrive (λ end. done_after result ≡ end) (W.contents output.old) (W.contents output.new) count told
-        × Drives C.seen bank.old bank.new (K.readings clock.old) (K.readings clock.new) seed count told }
-    ensures line { OnOk result (TellsDriven count (W.contents output.old) (W.contents output.new)) }
-    ensures silent { IfErr result
-        (λ fault. fault ≢ CommandFault.Write → Keeps (W.contents output.old) (W.contents output.new)) }
-{
-    let driven = drive_records(alloc, bank, clock, seed, count)?;
-    print_driven(count, driven, output)
 }

@@ -1,11 +1,12 @@
 -- The faults of commands: what each is made of, its text, and the status after it.
-use Rattle.std.specs.Prelude.{ℕ, List, ◌++◌, codes, Option, None, Some, ⊤}
+use Rattle.std.specs.Prelude.{ℕ, List, ◌++◌, codes, ⊤}
 use Rattle.std.specs.Fmt.{decimal, signed_decimal}
 use Rattle.posting_rules.specs.Rules.{number_of_rule}
 use Rattle.posting_rules.specs.declared.fault.Fault.{Fault}
 use Rattle.posting_rules.specs.declared.fault.Fault.TheVariants as bank
 use Rattle.posting_core.specs.declared.stream.StreamFault.{StreamFault}
 use Rattle.posting_core.specs.declared.stream.StreamFault.TheVariants as stream
+use Rattle.branch_loader.specs.Faults.{plan_text}
 use Rattle.branch_loader.specs.declared.fault.PlanFault.{PlanFault}
 use Rattle.branch_loader.specs.declared.fault.PlanFault.TheVariants as plan
 use Rattle.bank_driver.specs.declared.fault.DriveFault.{DriveFault}
@@ -37,21 +38,21 @@ status_of (fault.NoAccount account) = Input
 status_of fault.Network = System
 
 -- the text of a fault; that of a plan's fault is its own
-abbrev pub fault_text : CommandFault → Option (List ℕ)
-fault_text fault.Store = Some (codes "store fault")
-fault_text fault.Memory = Some (codes "no memory")
-fault_text (fault.Damaged rule) = Some (codes "damaged rule " ++ decimal (number_of_rule rule))
-fault_text fault.Read = Some (codes "read failed")
-fault_text fault.Write = Some (codes "write failed")
-fault_text (fault.Truncated count) = Some (codes "truncated " ++ decimal count ++ codes " bytes")
-fault_text (fault.Plan plan) = None
-fault_text fault.AlreadyBank = Some (codes "already a bank")
-fault_text fault.NoBank = Some (codes "no bank")
-fault_text fault.Foreign = Some (codes "foreign tables")
-fault_text (fault.Version version) = Some (codes "version " ++ signed_decimal version)
-fault_text fault.NoBranches = Some (codes "no branches")
-fault_text (fault.NoAccount account) = Some (codes "no account " ++ decimal account)
-fault_text fault.Network = Some (codes "network failed")
+abbrev pub fault_text : CommandFault → List ℕ
+fault_text fault.Store = codes "store fault"
+fault_text fault.Memory = codes "no memory"
+fault_text (fault.Damaged rule) = codes "damaged rule " ++ decimal (number_of_rule rule)
+fault_text fault.Read = codes "read failed"
+fault_text fault.Write = codes "write failed"
+fault_text (fault.Truncated count) = codes "truncated " ++ decimal count ++ codes " bytes"
+fault_text (fault.Plan plan) = plan_text plan
+fault_text fault.AlreadyBank = codes "already a bank"
+fault_text fault.NoBank = codes "no bank"
+fault_text fault.Foreign = codes "foreign tables"
+fault_text (fault.Version version) = codes "version " ++ signed_decimal version
+fault_text fault.NoBranches = codes "no branches"
+fault_text (fault.NoAccount account) = codes "no account " ++ decimal account
+fault_text fault.Network = codes "network failed"
 
 -- why a bank wasn't made or found
 abbrev pub fault_of_opening : OpenFault → CommandFault

@@ -2,3 +2,4 @@
 pub mod Statuses
 pub mod Faults
 pub mod Lines
+pub mod Looking

@@ -1,5 +1,7 @@
 //! Why a command ends before its work is done, and what each fault of a library becomes.
 ghost use Rattle.std.specs.Prelude.{◌≡◌};
+ghost use Rattle.std.specs.IoError.{error_kind};
+ghost use Rattle.bank_endings.specs.Looking.{IsOfLook, fault_of_look};
 ghost use Rattle.bank_endings.specs.Faults.{fault_of_bank, fault_of_drive, fault_of_opening, fault_of_plan};
 ghost use Rattle.bank_endings.specs.Faults.{fault_of_serving, fault_of_stream, status_of};
 
@@ -11,6 +13,7 @@ use counter_tcp::ListenFault;
 use message_records::Account;
 use posting_core::{Fault, Rule, StreamFault};
 use std::fmt;
+use std::io::{self, ErrorKind};
 
 /// Why a command ended before its work was done. `{}` writes the text that follows `bank: ` on standard
 /// error, and [`CommandFault::status`] gives the exit status: 3 where the machine or the file failed, 4 where
@@ -49,6 +52,19 @@ pub enum CommandFault {
 }
 
 impl CommandFault {
+    /// Why a file isn't found: it isn't there, or what is before it in its path is no folder, so that there
+    /// is no bank; or memory or the system failed.
+    pub fn of_look(error: &io::Error) -> CommandFault
+        ensures is { result ≡ fault_of_look (error_kind error.now) }
+        ensures kind { IsOfLook result }
+    {
+        match error.kind() {
+            ErrorKind::NotFound | ErrorKind::NotADirectory => CommandFault::NoBank,
+            ErrorKind::OutOfMemory => CommandFault::Memory,
+            _ => CommandFault::Store,
+        }
+    }
+
     /// How the program ends after this fault: [`Status::System`] or [`Status::Input`].
     pub fn status(self) -> Status
         ensures { result ≡ status_of self }
@@ -73,9 +89,10 @@ impl CommandFault {
 }
 
 impl fmt::Display for CommandFault {
+    ghost use Rattle.std.specs.Prelude.{Some};
     ghost use Rattle.bank_endings.specs.Faults.{fault_text};
 
-    ghost output = { fault_text };
+    ghost output = { λ fault. Some (fault_text fault) };
 
     fn fmt<W: fmt::Write>(&self, f: &mut fmt::Formatter<W>) -> fmt::Result {
         match self {

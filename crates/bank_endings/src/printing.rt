@@ -1,10 +1,12 @@
 //! What the program prints: one line for a command that did its work, and one on standard error for a fault.
 ghost use Rattle.std.specs.Prelude.{◌≡◌, ◌⊎◌, IsOk, OnErr, OnOk, IsErrOf};
 ghost use Rattle.std.specs.Io.KnownBytes.{Appends, Keeps};
+ghost use Rattle.std.specs.IoError.{error_kind};
 ghost use Rattle.clap.specs.Words.{kind_of};
 ghost use Rattle.bank_endings.specs.Faults.{status_of};
 ghost use Rattle.bank_endings.specs.Lines.{IsRequest, IsShown, created_line, driven_line, listening_line};
 ghost use Rattle.bank_endings.specs.Lines.{loaded_line};
+ghost use Rattle.bank_endings.specs.Statuses.{status_of_no_words};
 
 use crate::fault::CommandFault;
 use crate::status::Status;
@@ -127,10 +129,14 @@ fn show<W: Write, E: Write>(error: &clap::Error, output: &mut W, faults: &mut E)
 
 /// Reports on standard error that the words couldn't be read, and returns the status that the program ends
 /// with: 3 if memory was refused, and 2 if a word isn't UTF-8.
-pub fn tell_no_words<E: Write>(error: &io::Error, faults: &mut E) -> Status {
-    if error.kind() == io::ErrorKind::OutOfMemory {
-        return tell(CommandFault::Memory, faults);
+pub fn tell_no_words<E: Write>(error: &io::Error, faults: &mut E) -> Status
+    ensures { result ≡ status_of_no_words (error_kind error.now) }
+{
+    match error.kind() {
+        io::ErrorKind::OutOfMemory => tell(CommandFault::Memory, faults),
+        _ => {
+            let _ = writeln!(faults, "error: a word isn't UTF-8");
+            Status::Usage
+        }
     }
-    let _ = writeln!(faults, "error: a word isn't UTF-8");
-    Status::Usage
 }

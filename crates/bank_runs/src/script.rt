@@ -2,7 +2,7 @@
 use crate::ends::Broken;
 use crate::showing::shown;
 use anyhow::bail;
-use bank_commands::run;
+use bank_program::run;
 use bank_endings::Status;
 use posting_core::StoredClock;
 use sqlite::{Connection, Error, Unknown};

@@ -1,5 +1,5 @@
 -- The bank that was found is the one that was driven.
-use Rattle.std.proofs.Common.{◌≡◌, refl, rules, inl, inr, Err}
+use Rattle.std.proofs.Common.{◌≡◌, refl, rules, inl, Err}
 use Rattle.std.proofs.KnownBytes.{Keeps-refl}
 use Rattle.bank_commands.proofs.Worked.{runs}
 use Rattle.bank_commands.proofs.commands.drive.Goals as goal
@@ -8,9 +8,13 @@ pub returns-in_err-bank-clause-drives : goal.returns-in_err-bank-clause-drives
 returns-in_err-bank-clause-drives g c =
     let f = c.in_err-bank.field-0.0 in
     let same : c.from_residual.result ≡ Err f = search rules in
-    rw same (inl ((f, refl), Keeps-refl (g.W.Write.contents c.args.output.now), refl))
+    rw same (inl (
+      (f, c.in_err-bank.ensures.fault, refl),
+      Keeps-refl (g.W.Write.contents c.args.output.now),
+      refl,
+    ))
 
 pub returns-clause-drives : goal.returns-clause-drives
 returns-clause-drives g c =
-    runs _ _ _ _ _ c.in_ok-bank.bank c.drive_into-driven.new.bank c.in_ok-bank.ensures
-    (inr c.drive_into-driven.ensures.drives)
+    runs _ _ _ _ c.in_ok-bank.bank c.drive_into-driven.new.bank c.in_ok-bank.ensures.found
+    c.drive_into-driven.ensures.drives

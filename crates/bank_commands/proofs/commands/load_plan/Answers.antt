@@ -8,8 +8,9 @@ pub returns-in_err-bank-clause-loads : goal.returns-in_err-bank-clause-loads
 returns-in_err-bank-clause-loads g c =
     let f = c.in_err-bank.field-0.0 in
     let same : c.from_residual.result ≡ Err f = search rules in
-    rw same (inl ((f, refl), Keeps-refl (g.W.Write.contents c.args.output.now)))
+    rw same (inl ((f, c.in_err-bank.ensures.fault, refl), Keeps-refl (g.W.Write.contents c.args.output.now)))
 
 pub returns-clause-loads : goal.returns-clause-loads
 returns-clause-loads g c =
-    runs _ _ _ _ _ c.in_ok-bank.bank c.load_into-loaded.new.bank c.in_ok-bank.ensures c.load_into-loaded.ensures.loads
+    runs _ _ _ _ c.in_ok-bank.bank c.load_into-loaded.new.bank c.in_ok-bank.ensures.found
+    c.load_into-loaded.ensures.loads

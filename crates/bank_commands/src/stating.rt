@@ -1,0 +1,44 @@
+//! The command that writes the statement of an account.
+ghost use Rattle.std.specs.Prelude.{◌≡◌, IsErrAnd};
+ghost use Rattle.sqlite_wal.specs.Files.{image_at};
+ghost use Rattle.bank_store.specs.Seen.{bank_seen};
+ghost use Rattle.bank_endings.specs.Looking.{IsOfOpening};
+ghost use Rattle.bank_commands.specs.Stating.{StatesIn, said_of_statement};
+
+use bank_audits::{ReportFault, write_statement};
+use bank_endings::CommandFault;
+use bank_openings::{close, find_bank};
+use message_records::Account;
+use sqlite::{FileFrom, FileStore, Start};
+use sqlite_trees::store::Store;
+use std::io::Write;
+
+/// Writes the statement of an account of the file's bank.
+pub fn statement<S: Start, W: Write>(
+    rt: &HostRuntime,
+    start: S,
+    file: &str,
+    account: Account,
+    output: &mut W,
+) -> Result<(), CommandFault>
+    ensures { StatesIn (bank_seen ⟦<FileStore<FileFrom<S>> as Store>⟧) (image_at S.Start) account
+        (W.contents output.old) (W.contents output.new) (IsErrAnd result IsOfOpening)
+        (λ told. result ≡ said_of_statement account told) }
+{
+    let mut bank = find_bank(rt, start, file)?;
+    let told = write_statement(&mut bank, account, output);
+    close(bank);
+    said_of(account, told)
+}
+
+// What the command says of a statement.
+fn said_of(account: Account, told: Result<(), ReportFault>) -> Result<(), CommandFault>
+    ensures { result ≡ said_of_statement account told }
+{
+    match told {
+        Ok(()) => Ok(()),
+        Err(ReportFault::NoAccount) => Err(CommandFault::NoAccount(account)),
+        Err(ReportFault::Write) => Err(CommandFault::Write),
+        Err(ReportFault::Bank(fault)) => Err(CommandFault::from(fault)),
+    }
+}

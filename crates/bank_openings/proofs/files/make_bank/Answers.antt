@@ -1,0 +1,10 @@
+use Rattle.std.proofs.lemmas.Result.{IfOk-weaker}
+use Rattle.sqlite.specs.Files.{file_state}
+use Rattle.bank_openings.proofs.Found.{new_in}
+use Rattle.bank_openings.proofs.files.make_bank.Goals as goal
+
+pub returns-clause-made : goal.returns-clause-made
+returns-clause-made g c =
+    IfOk-weaker c.create_over.result _ _
+    (λ bank made. new_in _ (file_state c.in_ok-conn.conn) _ c.in_ok-conn.ensures.opened made)
+    c.create_over.ensures.made

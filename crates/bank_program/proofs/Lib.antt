@@ -1,0 +1,7 @@
+pub mod Asked
+pub mod Audited
+pub mod Driven
+pub mod Endings
+pub mod Worked
+pub mod Served
+pub mod Stated

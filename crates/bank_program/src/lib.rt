@@ -1,0 +1,7 @@
+//! A run of the program: from the words of the command line, over the command that they tell, to the status
+//! that the program ends with.
+#![tactic(auto)]
+
+mod running;
+
+pub use running::{run, words_of};
