@@ -1,4 +1,4 @@
-use Rattle.std.proofs.Common.{◌≡◌, ◌∙◌, ℕ, List, ap, sym, length, take, rules}
+use Rattle.std.proofs.Common.{◌∙◌, ℕ, ap, sym, take, rules}
 use Rattle.std.proofs.Math.Seq.{take-length}
 use Rattle.std.proofs.lemmas.List.{length-take-le}
 use Rattle.posting_rules.specs.Runs.{posts, replies_to}
