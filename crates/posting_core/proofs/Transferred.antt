@@ -9,6 +9,7 @@ use Rattle.std.proofs.lemmas.List.{take_at, drop_at, take-append-le, length-take
 use Rattle.std.proofs.lemmas.Slice.{between_to_end}
 use borrow.Rule.Slice.PartMut.{put_mid, post_of}
 use lib.Seq.{take-add}
+use Rattle.std.proofs.Math.Seq.{take-length}
 
 -- a read into what is left of a buffer
 grown : (xs ys : List ℕ) (f k n : ℕ) → f ≤ length xs → n ≤ length ys
@@ -53,3 +54,9 @@ pub wrote_write : (u v w : Option (List ℕ)) (bs : List ℕ) (done n after : �
 wrote_write u v w bs done n after x y e =
     subst (λ (k : ℕ). Appends u w (take k bs)) (sym e) (wrote_more u v w bs done n x
     (subst (λ (t : List ℕ). Appends v w (take n t)) (between_to_end bs done (length bs) (omega arith)) y))
+
+-- a buffer that a read filled
+pub read_whole : (r r' : Option (List ℕ)) (bytes : List ℕ) (n : ℕ) → n ≡ length bytes
+    → Consumes r r' (take n bytes) → Consumes r r' bytes
+read_whole r r' bytes n full h =
+    subst (λ (t : List ℕ). Consumes r r' t) (ap (λ (k : ℕ). take k bytes) full ∙ take-length bytes) h

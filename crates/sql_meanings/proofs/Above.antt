@@ -88,7 +88,8 @@ pub lower_start : (k : Start) (cx : Context) (e a b : Expr) (x y : Term) (p q : 
     → lower_to d cx b (st next b1 p) ≡ Ok (y, st next b2 q)
     → lower_to (suc d) cx e (st next budget l)
     ≡ Ok (compared cx (by.Compare (compared_by k) (chosen p q)) x y, st next b2 nothing)
-unfolding lower_to node spend begin opened finish passes operation both wanted_truth tests_truth tests_alias combine
+unfolding lower_to node spend begin opened finish passes operation both wanted_truth tests_truth tests_alias
+    combine
 lower_start Beyond cx e a b x y p q d next budget b1 b2 l is enough left right = rw (is, enough, left, right)
 lower_start Onwards cx e a b x y p q d next budget b1 b2 l is enough left right = rw (is, enough, left, right)
 
@@ -120,7 +121,14 @@ module _ (schema : Schema) where
   pub paged_is : (s : written_select.Select) (core : Core) (source : From) (from : Name) (order : List Sort)
       (limit : Expr) (most : Term)
       (shown : Draft × List Name × List (Option Collation))
-      → out-Select s ≡ record { with = []; first = core; others = []; order = order; limit = Some limit; offset = None }
+      → out-Select s ≡ record {
+        with = [];
+        first = core;
+        others = [];
+        order = order;
+        limit = Some limit;
+        offset = None;
+      }
       → (out-Core core).from ≡ source ∷ [] → (out-Source source).origin ≡ origin.Table from
       → constant schema limit ≡ Ok most
       → named schema core order (most, number 0) ≡ Ok shown
@@ -137,8 +145,22 @@ module _ (schema : Schema) (name : Name) (p : ℕ) (table : Table) (has : HasTab
       (t : Tests table wanted at) (os : List Output)
       (q : Program)
       → first text ≡ Ok P → P.statement ≡ written.Select s → P.formats ≡ []
-      → out-Select s ≡ record { with = []; first = core; others = []; order = sort ∷ []; limit = Some limit; offset = None }
-      → out-Core core ≡ record { distinct = false; shown = shown; from = source ∷ []; filter = Some test; group = []; having = None }
+      → out-Select s ≡ record {
+        with = [];
+        first = core;
+        others = [];
+        order = sort ∷ [];
+        limit = Some limit;
+        offset = None;
+      }
+      → out-Core core ≡ record {
+        distinct = false;
+        shown = shown;
+        from = source ∷ [];
+        filter = Some test;
+        group = [];
+        having = None;
+      }
       → one_table name source
       → out-Expr test ≡ Expr-F.Binary (written_as k) a b → out-Expr a ≡ Expr-F.Column None wanted
       → out-Expr b ≡ Expr-F.Parameter m
@@ -156,7 +178,8 @@ module _ (schema : Schema) (name : Name) (p : ℕ) (table : Table) (has : HasTab
       (op2 (by.Compare (compared_by k) Binary) (col 1 at) (col 0 (m - 1)) ∷ []) os false
       ((col 1 at, record { collation = Binary; descending = false }) ∷ []) (lit v) (number 0)) ≡ Ok q
       → compiled schema text ≡ Ok (with_command P ([], (Select q (map (λ o. o.name) os), None)))
-  select_rising k text P s core source shown test a b e limit sort wanted most v at m t os q parsed is plain select body from above left
+  select_rising k text P s core source shown test a b e limit sort wanted most v at m t os q parsed is plain
+      select body from above left
       right sorts e_is none cap value shows room number r0 r1 r2 r3 bytes typed =
       let cx = over_one schema name p os false in
       let B = spent 100000 os in
@@ -168,7 +191,12 @@ module _ (schema : Schema) (name : Name) (p : ℕ) (table : Table) (has : HasTab
         op2 (by.Compare (compared_by k) Binary) (col 1 at) (col 0 (m - 1)),
         st 2 (B - 1 - 1 - 1) nothing,
       ) = lower_start k cx test a b _ _ _ _ 699 2 B _ _ (last_of nothing os) above r0 x y
-      ∙ rw (t.by_bytes, t.is_at, compared_start k cx at (m - 1) number (parameter_at schema name p os false (m - 1))) in
+      ∙ rw (
+        t.by_bytes,
+        t.is_at,
+        compared_start k cx at (m - 1) number
+            (parameter_at schema name p os false (m - 1)),
+      ) in
       let there = column_is schema p table has.listed name os false wanted t.place t.column
       (st 2 (B - 1 - 1 - 1 - 1) nothing) t.named t.there in
       let z = lower_column cx e wanted _ _ 699 2 (B - 1 - 1 - 1) nothing e_is r3 (there

@@ -50,7 +50,10 @@ module _ (schema : Schema) (keys : Keys) where
   good_by depth tree moves child ref (Some deed) None w h = absurd (cc)
   good_by depth tree moves child ref (Some deed) (Some key) w h =
       elim (cases_Bool ((key.0 == tree) && list_any (loses key.2 key.1) moves)) [
-        | inl acts ↦ let e = rw acts at h in (ap (λ (x : Work). x.child) (sym (some_same e)), ap (λ (x : Work). x.ref) (sym (some_same e)))
+        | inl acts ↦ let e = rw acts at h in (
+          ap (λ (x : Work). x.child) (sym (some_same e)),
+          ap (λ (x : Work). x.ref) (sym (some_same e)),
+        )
         | inr none ↦ absurd (let e = rw none at h in cc)
       ]
     where
@@ -69,7 +72,8 @@ module _ (schema : Schema) (keys : Keys) where
   good_of depth tree olds news child [] w h = absurd h
   good_of depth tree olds news child (ref ∷ refs) w h =
       elim (cons_has (work_for schema keys depth tree olds news child ref) _ w h) [
-        | inl is ↦ let g = good_by depth tree (pairs olds news) child ref (deed_for keys (length news == 0) ref)
+        | inl is ↦ let g = good_by depth tree (pairs olds news) child ref
+            (deed_for keys (length news == 0) ref)
             (parent_key schema.tables ref) w is in (g.0, inl g.1)
         | inr more ↦ let g = good_of depth tree olds news child refs w more in (g.0, inr g.1)
       ]
@@ -77,12 +81,15 @@ module _ (schema : Schema) (keys : Keys) where
   good_in : (depth tree : ℕ) (olds news : List Row) (tables : List Table)
       → ((t : Table) → Has tables t → Has schema.tables t)
       → (w : Work)
-      → Has (flat_map (λ child. filter_map (work_for schema keys depth tree olds news child) child.references) tables) w → Good schema w
+      → Has (flat_map (λ child. filter_map (work_for schema keys depth tree olds news child)
+      child.references) tables) w → Good schema w
   good_in depth tree olds news [] within w h = absurd h
   good_in depth tree olds news (t ∷ tables) within w h =
       elim (has_either (filter_map (work_for schema keys depth tree olds news t) t.references) _ w h) [
-        | inl here ↦ let g = good_of depth tree olds news t t.references w here in
-            (subst (Has schema.tables) (sym g.0) (within t (inl refl)), subst (λ (u : Table). Has u.references w.ref) (sym g.0) g.1)
+        | inl here ↦ let g = good_of depth tree olds news t t.references w here in (
+          subst (Has schema.tables) (sym g.0) (within t (inl refl)),
+          subst (λ (u : Table). Has u.references w.ref) (sym g.0) g.1,
+        )
         | inr later ↦ good_in depth tree olds news tables (λ u k. within u (inr k)) w later
       ]
 
@@ -116,7 +123,8 @@ module _ (schema : Schema) (keys : Keys) where
       goes_on ids (inl refused) = absurd (let e = refused.2 in cc)
       goes_on ids (inr (inl big)) = absurd (let e = big.3 in cc)
       goes_on ids (inr (inr on)) =
-          rests on.0 _ (λ x h. elim (has_either below (works schema keys (w.depth + 1) w.child.tree (taken_by db (action_edit db w ids))
+          rests on.0 _ (λ x h. elim (has_either below
+          (works schema keys (w.depth + 1) w.child.tree (taken_by db (action_edit db w ids))
           (action_edit db w ids).news) x h) [
             | inl old ↦ under x old
             | inr new ↦ good_works (w.depth + 1) w.child.tree

@@ -22,7 +22,8 @@ module _ (old mid new : State) where
       → IsRolledBack old new
   rolled_since mode shows counts back = record {
     was_open = λ live. shows.was_open;
-    undone = λ live. let undone = back.undone live in (undone.0 ∙ shows.committed_is, undone.1 ∙ shows.committed_is);
+    undone = λ live. let undone = back.undone live in
+        (undone.0 ∙ shows.committed_is, undone.1 ∙ shows.committed_is);
     autocommit = back.autocommit;
     unmarked = back.unmarked;
     counts = record {
@@ -35,7 +36,12 @@ module _ (old mid new : State) where
   pub undone_since : (mode : Bool) → StateShows old mid mid.now old.committed mode → IsRolledBack mid new
       → IsUndone old new
   undone_since mode shows back = (
-    λ live. let undone = back.undone live in (shows.was_open, undone.0 ∙ shows.committed_is, undone.1 ∙ shows.committed_is),
+    λ live. let undone = back.undone live in (
+      shows.was_open,
+      undone.0 ∙ shows.committed_is,
+      undone.1
+          ∙ shows.committed_is,
+    ),
     back.autocommit,
     back.unmarked,
   )

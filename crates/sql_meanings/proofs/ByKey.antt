@@ -113,7 +113,11 @@ module _ (schema : Schema) (p : ℕ) (table : Table) (listed : slice_get schema.
       let y = lower_parameter here b m d next (budget - 1 - 1)
       (declared table t.place t.column) right three in
       lower_equal here e a b _ _ _ _ (suc d) next budget _ _ l is one x y
-      ∙ rw (t.by_bytes, t.is_at, compared_is here at (m - 1) number (parameter_at schema name p shown may (m - 1)))
+      ∙ rw (
+        t.by_bytes,
+        t.is_at,
+        compared_is here at (m - 1) number (parameter_at schema name p shown may (m - 1)),
+      )
 
 -- UPDATE t SET c = ?n WHERE k = ?m
 module _ (schema : Schema) (name : Name) (p : ℕ) (table : Table) (has : HasTable schema name p table) where
@@ -129,12 +133,15 @@ module _ (schema : Schema) (name : Name) (p : ℕ) (table : Table) (has : HasTab
       → w.with_place table [] wanted ≡ Ok places
       → w.row table None places (col 1 0 ∷ []) (col 0 (n - 1) ∷ []) ≡ Ok project
       → affinity_of (over_one schema table.name p [] false) (col 1 at) ≡ affinity.Numeric
-      → prog.program schema [] (w.simple (Inner table.tree ∷ []) (op2 (Compare Eq Binary) (col 1 at) (col 0 (m - 1)) ∷ []) project) ≡ Ok q
+      → prog.program schema [] (w.simple (Inner table.tree ∷ [])
+      (op2 (Compare Eq Binary) (col 1 at) (col 0 (m - 1)) ∷ []) project) ≡ Ok q
       → compiled schema text ≡ Ok (with_command P ([], (Update p q, None)))
-  update_by_key text P wanted key e test a b n m at places project t q parsed is plain value equal left right place whole number typed =
+  update_by_key text P wanted key e test a b n m at places project t q parsed is plain value equal left right
+      place whole number typed =
       updates schema name p table has text P wanted e test places _ _ project _ _ _ _ q parsed is plain place
       (lower_parameter _ e n 699 2 100000 nothing value refl)
       whole
-      (key_test schema p table has.listed table.name [] false test a b key at m t 698 2 99999 nothing equal left right number refl refl
+      (key_test schema p table has.listed table.name [] false test a b key at m t 698 2 99999 nothing equal
+      left right number refl refl
       refl)
       typed

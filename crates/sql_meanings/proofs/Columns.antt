@@ -55,7 +55,10 @@ module _ (schema : Schema) (p : ℕ) (table : Table) (at : slice_get schema.tabl
   pub column_is : (name : Name) (shown : List Output) (may : Bool) (wanted : Name) (k : ℕ) (c : Column)
       (s : State)
       → column_named table wanted ≡ Some k → slice_get table.columns k ≡ Some c
-      → column (over_one schema name p shown may) None wanted s ≡ Ok (col 1 (place_of table k), record s { last = declared table k c })
+      → column (over_one schema name p shown may) None wanted s ≡ Ok (
+        col 1 (place_of table k),
+        record s { last = declared table k c },
+      )
   unfolding column term_of
   column_is name shown may wanted k c s is there = rw
       (found_is name shown may wanted k is, column_at_is 1 k c there)

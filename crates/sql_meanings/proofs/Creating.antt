@@ -57,17 +57,20 @@ use Rattle.sql_meanings.specs.Making.{IsCreation}
 
 -- it is made, or refused as a name that is taken
 abbrev pub Outcome : {A : Type 0} → A → Checked A → Type 0
-Outcome a r = (r ≡ Ok a) ⊎ ((e : CompileError) × (r ≡ Err e) × ((e ≡ Unsupported) ⊎ ((e ≡ Misuse) ⊎ (e ≡ Exists))))
+Outcome a r = (r ≡ Ok a) ⊎ ((e : CompileError) × (r ≡ Err e)
+    × ((e ≡ Unsupported) ⊎ ((e ≡ Misuse) ⊎ (e ≡ Exists))))
 
 module _ (schema : Schema) (formats : List Name) (def : CreateTable) (t : Table)
     (missing : def.if_missing ≡ false)
     (defined : define.table formats def ≡ Ok t)
     (stamped : (length t.computed == length t.stamps.places && not def.resolves) ≡ true) where
   made_by : (a r o s : Bool) → Outcome MakeTable (if a then Err Unsupported else
-      and_then (if r then Err Misuse else (if o then Err Exists else (if s then (if false then Ok false else Err Exists) else Ok true)))
+      and_then (if r then Err Misuse else (if o then Err Exists
+      else (if s then (if false then Ok false else Err Exists) else Ok true)))
       (λ is_new.
       if is_new then and_then (define.table formats def)
-      (λ t. if length t.computed == length t.stamps.places && not def.resolves then Ok MakeTable else Err Unsupported) else Ok
+      (λ t. if length t.computed == length t.stamps.places && not def.resolves then Ok MakeTable
+      else Err Unsupported) else Ok
       Nothing))
   made_by true r o s = inr (Unsupported, refl, inl refl)
   made_by false true o s = inr (Misuse, refl, inr (inl refl))
@@ -78,7 +81,8 @@ module _ (schema : Schema) (formats : List Name) (def : CreateTable) (t : Table)
   -- the definition is taken, or refused as a name that is taken
   pub create_is : Outcome MakeTable (create_table schema formats def)
   unfolding create_table creates define.table define.unchecked
-  create_is = rw missing (made_by (is_attached schema def.name) (is_reserved def.name) (is_some (index_named schema def.name))
+  create_is = rw missing (made_by (is_attached schema def.name) (is_reserved def.name)
+      (is_some (index_named schema def.name))
       (is_some (option_or (table_named schema def.name) (view_named schema def.name))))
 
 -- the whole text

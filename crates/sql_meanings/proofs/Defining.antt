@@ -44,7 +44,8 @@ defined_stands schema table free defines = record {
   free = free;
 }
   where
-    listed : (o : Option ℕ) → option_and_then (slice_get schema.tables) o ≡ Some (record table { tree = tree_of schema table.name })
+    listed : (o : Option ℕ) → option_and_then (slice_get schema.tables) o ≡
+        Some (record table { tree = tree_of schema table.name })
         → Has schema.tables (record table { tree = tree_of schema table.name })
     listed None h = absurd (cc)
     listed (Some at) h = place_has schema.tables at _ h
@@ -59,6 +60,7 @@ stands_defined schema db table sound stands =
       tree,
       record {
         found = rw tree found;
-        apart = all_from _ schema.tables (λ t h same. stands.apart t h (same ∙ tree) ∙ ap (λ n. record table { tree = n }) (sym tree));
+        apart = all_from _ schema.tables (λ t h same. stands.apart t h (same ∙ tree)
+            ∙ ap (λ n. record table { tree = n }) (sym tree));
       },
     )

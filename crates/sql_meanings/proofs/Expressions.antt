@@ -16,7 +16,14 @@ use Rattle.sqlite_resolve.specs.Expr.{tests_truth, tests_alias, combine}
 
 -- between two expressions of a query with no subquery
 abbrev pub st : ℕ → ℕ → Carried → State
-st next budget carried = record { next = next; steps = []; aggregates = []; budget = budget; written = None; last = carried }
+st next budget carried = record {
+  next = next;
+  steps = [];
+  aggregates = [];
+  budget = budget;
+  written = None;
+  last = carried;
+}
 
 -- a parameter
 pub lower_parameter : (cx : Context) (e : Expr) (n : ℕ) (d next budget : ℕ) (l : Carried)
@@ -43,7 +50,8 @@ pub lower_equal : (cx : Context) (e a b : Expr) (x y : Term) (p q : Carried) (d 
     → lower_to d cx b (st next b1 p) ≡ Ok (y, st next b2 q)
     → lower_to (suc d) cx e (st next budget l) ≡ Ok
     (compared cx (by.Compare compare.Eq (chosen p q)) x y, st next b2 nothing)
-unfolding lower_to node spend begin opened finish passes operation both wanted_truth tests_truth tests_alias combine
+unfolding lower_to node spend begin opened finish passes operation both wanted_truth tests_truth tests_alias
+    combine
 lower_equal cx e a b x y p q d next budget b1 b2 l is enough left right = rw (is, enough, left, right)
 
 -- two tests
@@ -53,5 +61,6 @@ pub lower_and : (cx : Context) (e a b : Expr) (x y : Term) (p q : Carried) (d ne
     → lower_to d cx a (st next (budget - 1) nothing) ≡ Ok (x, st next b1 p)
     → lower_to d cx b (st next b1 p) ≡ Ok (y, st next b2 q)
     → lower_to (suc d) cx e (st next budget l) ≡ Ok (op2 by.And x y, st next b2 nothing)
-unfolding lower_to node spend begin opened finish passes operation both wanted_truth tests_truth tests_alias combine
+unfolding lower_to node spend begin opened finish passes operation both wanted_truth tests_truth tests_alias
+    combine
 lower_and cx e a b x y p q d next budget b1 b2 l is enough left right = rw (is, enough, left, right)

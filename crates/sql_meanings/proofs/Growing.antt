@@ -21,7 +21,8 @@ zipped R (x ∷ xs) (z ∷ ys) y all (inr h) = zipped R xs ys y all.1 h
 -- the trees of a sound schema have low numbers
 pub low_tree : (schema : Schema) (db : Trees) (t : Table) → IsSound schema db → Has schema.tables t
     → t.tree < 65536
-low_tree schema db t sound h = (zipped IsTableRow _ schema.tables t sound.lists.listed.tables h).1.described.low
+low_tree schema db t sound h =
+    (zipped IsTableRow _ schema.tables t sound.lists.listed.tables h).1.described.low
 
 -- the table of AUTOINCREMENT is there, or is made
 pub sequenced : (old after : Database) → MakesSequence old (Ok after)

@@ -90,9 +90,11 @@ pub keyed_answer : (lost : Value) {width : ℕ} (t : ℕ) (project : List Term) 
 keyed_answer lost t project db k more rows es tree a =
     let q = query (inner t end) (is (col 1 0) (col 0 0) ∷ []) project [] no_limit in
     let found = listed (find (has_key k) es) in
-    let matched : flat_map (λ r. matches_as lost db (is (col 1 0) (col 0 0) ∷ []) end ((Int k ∷ more) ∷ r ∷ [])) (db t)
+    let matched : flat_map (λ r. matches_as lost db (is (col 1 0) (col 0 0) ∷ []) end
+    ((Int k ∷ more) ∷ r ∷ [])) (db t)
     ≡ map (met k more) found
-    = ap (flat_map (λ r. matches_as lost db (is (col 1 0) (col 0 0) ∷ []) end ((Int k ∷ more) ∷ r ∷ []))) tree.are
+    = ap (flat_map (λ r. matches_as lost db (is (col 1 0) (col 0 0) ∷ []) end ((Int k ∷ more) ∷ r ∷ [])))
+    tree.are
     ∙ keyed_matches lost db k more es ∙ ap (map (met k more)) (one_filter k es tree.rise) in
     let staged : a.staged ≡ map (met k more) found = a.grouped ∙ matched in
     let kept : a.kept ≡ map (λ e. output q (met k more e)) found = a.distinct ∙ ap (map (output q)) staged

@@ -38,7 +38,8 @@ module _ (text : List ℕ) (t : Table) (make : IsMakeable text t) (db : Database
   no_wide key = ap (λ n. index_reals n key) make.integral ∙ none_indexed key
 
   full : (65536 ≤ next_tree db.schema + length t.uniques)
-      ⊎ ((2 ^ 64 ≤ table_reals t) ⊎ ((key : List ℕ) × Has t.uniques key × (2 ^ 64 ≤ index_reals (table_reals t) key)))
+      ⊎ ((2 ^ 64 ≤ table_reals t)
+      ⊎ ((key : List ℕ) × Has t.uniques key × (2 ^ 64 ≤ index_reals (table_reals t) key)))
       → 65536 ≤ next_tree db.schema + length t.uniques
   full (inl h) = h
   full (inr (inl wide)) = absurd (let none = make.integral in omega arith)
@@ -55,11 +56,14 @@ module _ (text : List ℕ) (t : Table) (make : IsMakeable text t) (db : Database
   refused TooBig h = inr (
     refl,
     full (of_it (λ u. (65536 ≤ next_tree db.schema + length u.uniques)
-        ⊎ ((2 ^ 64 ≤ table_reals u) ⊎ ((key : List ℕ) × Has u.uniques key × (2 ^ 64 ≤ index_reals (table_reals u) key)))) h),
+        ⊎ ((2 ^ 64 ≤ table_reals u) ⊎ ((key : List ℕ) × Has u.uniques key
+        × (2 ^ 64 ≤ index_reals (table_reals u) key)))) h),
   )
-  refused BadKey h = absurd (let yes_formed = make.formed in let not_formed = of_it (λ u. is_formed u ≡ false) h in cc)
+  refused BadKey h = absurd (let yes_formed = make.formed in
+      let not_formed = of_it (λ u. is_formed u ≡ false) h in cc)
   refused BadText h = absurd (let fits = make.fit in
-      let not_fit = of_it (λ u. is_fit (Text (codes "table")) (Text u.name) (Text u.name) (Text text) ≡ false) h in cc)
+      let not_fit = of_it (λ u. is_fit (Text (codes "table")) (Text u.name) (Text u.name) (Text text) ≡
+      false) h in cc)
   refused (Violates rule) h = absurd h
 
   -- why the table is refused
@@ -110,13 +114,14 @@ module _ (old new : State) (text : List ℕ) (t : Table) (creates : CreatesOnly 
 
     make_stops : (stop : Option Error)
         → Does old.step_limit (mode_of old) [] old.now text None CreateTable (Err stop) → MakeStops stop
-    make_stops stop h = elim (stopped (Then (MakesTable text old.now) MakesSequence) (λ (db : Database). Gives (no_rows false, db)) stop h) [
-      | inl both ↦ elim (stopped (MakesTable text old.now) MakesSequence stop both) [
-        | inl table ↦ first stop table
-        | inr (mid, made, rest) ↦ after_first mid made stop rest
-      ]
-      | inr (db, made, gives) ↦ absurd (never gives)
-    ]
+    make_stops stop h = elim (stopped (Then (MakesTable text old.now) MakesSequence)
+        (λ (db : Database). Gives (no_rows false, db)) stop h) [
+          | inl both ↦ elim (stopped (MakesTable text old.now) MakesSequence stop both) [
+            | inl table ↦ first stop table
+            | inr (mid, made, rest) ↦ after_first mid made stop rest
+          ]
+          | inr (db, made, gives) ↦ absurd (never gives)
+        ]
 
     not_run : (e : Error) → IsNoStatement old text [] e → NotMade old.now.schema text t e
     not_run e (inl h) = inl h
@@ -131,12 +136,14 @@ module _ (old new : State) (text : List ℕ) (t : Table) (creates : CreatesOnly 
 
     -- why it can't be made
     pub refuses_create : (e : Error) → ExecutesInside 0 text [] old new (Err e) → MakeFails old new text t e
-    refuses_create e h = elim (stops old new text [] CreateTable refl e (λ c is. let it = creates.command old.now.schema c is in
+    refuses_create e h = elim (stops old new text [] CreateTable refl e
+        (λ c is. let it = creates.command old.now.schema c is in
         (it.command, it.bare, it.timeless)) h) [
           | inl none ↦ inr (not_run e none.0, none.1)
           | inr (inl fails) ↦ inl fails
           | inr (inr (c, is, how)) ↦ told e
-              (subst (λ sql. Stops old new sql CreateTable [] e) (creates.command old.now.schema c is).text_is how)
+              (subst (λ sql. Stops old new sql CreateTable [] e)
+              (creates.command old.now.schema c is).text_is how)
         ]
 
     -- what it tells

@@ -61,12 +61,20 @@ pub creates_by : (text : List ℕ) (t : Table) → IsMakeable text t → t.refer
     → (length made.computed == length made.stamps.places && not def.resolves) ≡ true
     → slice_range text P.start P.end ≡ text
     → length text ≤ P.tail → P.names ≡ [] → CreatesOnly text t
-creates_by text t makeable free P def made parsed is plain missing defined stamped whole to_end nameless = record {
-  makeable = makeable;
-  free = free;
-  command = λ schema c understood. known text schema c (
-    with_command P ([], (MakeTable, None)),
-    told schema text _ (compiled_create schema text P def made parsed is plain missing defined stamped),
-    record { command = refl; bare = refl; timeless = refl; text_is = whole; whole = to_end; nameless = nameless },
-  ) understood;
-}
+creates_by text t makeable free P def made parsed is plain missing defined stamped whole to_end
+    nameless = record {
+      makeable = makeable;
+      free = free;
+      command = λ schema c understood. known text schema c (
+        with_command P ([], (MakeTable, None)),
+        told schema text _ (compiled_create schema text P def made parsed is plain missing defined stamped),
+        record {
+          command = refl;
+          bare = refl;
+          timeless = refl;
+          text_is = whole;
+          whole = to_end;
+          nameless = nameless;
+        },
+      ) understood;
+    }

@@ -56,9 +56,11 @@ made_by old new text t count creates h =
     let whole : statement_of text (understood schema text) ≡ text = ap (statement_of text) is
     ∙ facts.text_is in
     let does : Does old.step_limit (mode_of old) [] old.now text None CreateTable (Ok (w.tally, new.now)) =
-    subst (λ sql. Does old.step_limit (mode_of old) [] old.now sql None CreateTable (Ok (w.tally, new.now))) whole w.changed in
+    subst (λ sql. Does old.step_limit (mode_of old) [] old.now sql None CreateTable (Ok (w.tally, new.now)))
+    whole w.changed in
     let none = counts_none old new.now text w.tally does in (
-      adds old.step_limit (mode_of old) [] old.now new.now text w.tally t creates.makeable.defined creates.free does,
+      adds old.step_limit (mode_of old) [] old.now new.now text w.tally t creates.makeable.defined
+          creates.free does,
       w.sound,
       record {
         changes = w.changes ∙ ap (λ (it : Tally). unwrap_or it.rows old.changes) none;
@@ -75,7 +77,8 @@ holds_none db t tree sound stands empty =
     let d = stands_defined db.schema db.trees (placed_at t tree) sound stands in (
       record {
         defined = record { found = d.1.found; apart = d.1.apart };
-        rows = subst (λ n. IsTree (width_of t) (db.trees n) []) (sym d.0) (record { are = empty; rise = tt; wide = tt });
+        rows = subst (λ n. IsTree (width_of t) (db.trees n) []) (sym d.0)
+            (record { are = empty; rise = tt; wide = tt });
       },
       d.0,
     )

@@ -36,7 +36,16 @@ pub means : (schema : Schema) (text : List ℕ) (count : ℕ) (command : Command
     → Means schema text count command
 means schema text count command c is meant whole given bare timeless =
     let both = understood_is schema text c is in
-    record { found = c; is = both.0; unlisted = both.1; meant = meant; whole = whole; given = given; bare = bare; timeless = timeless }
+    record {
+      found = c;
+      is = both.0;
+      unlisted = both.1;
+      meant = meant;
+      whole = whole;
+      given = given;
+      bare = bare;
+      timeless = timeless;
+    }
 
 module _ (schema : Schema) (text : List ℕ) (count : ℕ) (command : Command)
     (m : Means schema text count command) where

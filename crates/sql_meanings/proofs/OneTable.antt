@@ -39,14 +39,26 @@ use Rattle.sql_meanings.proofs.Statements.{HasTable}
 module _ (schema : Schema) (name : Name) (p : ℕ) (table : Table) (has : HasTable schema name p table) where
   -- FROM names the table
   pub bounds_are : (source : From) (budget : ℕ) (l : Carried)
-      → out-Source source ≡ record { is_left = false; origin = origin.Table name; alias = None; on = None; using = [] }
+      → out-Source source ≡ record {
+        is_left = false;
+        origin = origin.Table name;
+        alias = None;
+        on = None;
+        using = [];
+      }
       → bounds schema (source ∷ []) (st 1 budget l) ≡ Ok (bound_to name p ∷ [], st 2 budget l)
   unfolding bounds bound table_in take_slot
   bounds_are source budget l is = rw (is, has.named)
 
   -- and reads it whole
   pub joins_are : (source : From) (shown : List Output) (budget : ℕ) (l : Carried)
-      → out-Source source ≡ record { is_left = false; origin = origin.Table name; alias = None; on = None; using = [] }
+      → out-Source source ≡ record {
+        is_left = false;
+        origin = origin.Table name;
+        alias = None;
+        on = None;
+        using = [];
+      }
       → joins lower (over_one schema name p shown false) (bound_to name p ∷ []) (source ∷ []) (st 2 budget l)
       ≡ Ok (record { steps = Inner table.tree ∷ []; filter = [] }, st 2 budget l)
   unfolding joins join shared inner_join tests
@@ -56,8 +68,21 @@ module _ (schema : Schema) (name : Name) (p : ℕ) (table : Table) (has : HasTab
   pub parts_are : (core : Core) (source : From) (shown : List Shown) (filter : Option Expr)
       (order : List Sort) (os : List Output)
       (terms : List Term) (by : List (Term × Key)) (b1 b2 b3 : ℕ) (l1 l2 l3 : Carried)
-      → out-Core core ≡ record { distinct = false; shown = shown; from = source ∷ []; filter = filter; group = []; having = None }
-      → out-Source source ≡ record { is_left = false; origin = origin.Table name; alias = None; on = None; using = [] }
+      → out-Core core ≡ record {
+        distinct = false;
+        shown = shown;
+        from = source ∷ [];
+        filter = filter;
+        group = [];
+        having = None;
+      }
+      → out-Source source ≡ record {
+        is_left = false;
+        origin = origin.Table name;
+        alias = None;
+        on = None;
+        using = [];
+      }
       → outputs lower (over_one schema name p [] true) (bound_to name p ∷ []) shown (st 2 100000 nothing) ≡ Ok
       (os, st 2 b1 l1)
       → tests lower (over_one schema name p os false) [] filter (st 2 b1 l1) ≡ Ok (terms, st 2 b2 l2)
@@ -84,7 +109,14 @@ module _ (schema : Schema) where
   pub query_is : (s : written_select.Select) (core : Core) (source : From) (from : Name) (order : List Sort)
       (shown : Draft × List Name
       × List (Option Collation))
-      → out-Select s ≡ record { with = []; first = core; others = []; order = order; limit = None; offset = None }
+      → out-Select s ≡ record {
+        with = [];
+        first = core;
+        others = [];
+        order = order;
+        limit = None;
+        offset = None;
+      }
       → (out-Core core).from ≡ source ∷ [] → (out-Source source).origin ≡ origin.Table from
       → named schema core order (no_limit, number 0) ≡ Ok shown
       → query schema s ≡ Ok (shown, [])

@@ -41,7 +41,8 @@ module _ (text : List ℕ) (count : ℕ) (P : Parsed) (s : written_select.Select
     where
       go : (r : Checked Command) → read schema s ≡ r → OnlyShows text count (compiled schema text)
       go (Ok k) made c same =
-          subst (IsOne text count) (same_compiled (sym (compiled_select schema text P s k parsed is plain made) ∙ same))
+          subst (IsOne text count) (same_compiled
+          (sym (compiled_select schema text P s k parsed is plain made) ∙ same))
           (record { bare = refl; timeless = refl; whole = whole; given = given })
       go (Err e) made c same = absurd (let it = sym same ∙ refused schema e made in cc)
 

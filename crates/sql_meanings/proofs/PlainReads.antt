@@ -39,7 +39,8 @@ use Rattle.sql_meanings.proofs.Means.{Means, meant_is, plain_is, no_refusal}
 use Rattle.sql_meanings.specs.Outcomes.{ReadFails}
 
 module _ (schema : Schema) (text : List ℕ) (params : Row) (q : Query) (names : List (List ℕ))
-    (m : Means schema text (length params) (Select (record { lets = []; body = q }) names)) (typed : accepts_program schema [] q params
+    (m : Means schema text (length params) (Select (record { lets = []; body = q }) names))
+    (typed : accepts_program schema [] q params
     ≡ true) (folds : has_no_fold q.from ≡ true)
     (flat : q.group ≡ None) (old new : State) (has : old.now.schema ≡ schema) where
   is : command_of (understood schema text) ≡ Select (record { lets = []; body = q }) names
@@ -87,7 +88,8 @@ module _ (schema : Schema) (text : List ℕ) (params : Row) (q : Query) (names :
       let it = rw (bare.0, bare.1, append-nil params) at h.2 in
       let db : it.0 ≡ old.now = subst (λ b. IsSourceOf b old.now it.0)
       (ap (λ s. reads_listing s text) has ∙ unlisted) it.1 in
-      let why : RefusesToRead old.step_limit (Select (record { lets = []; body = q }) names) old.now params e =
+      let why : RefusesToRead old.step_limit (Select (record { lets = []; body = q }) names) old.now params
+      e =
       subst₂ (λ k d. RefusesToRead old.step_limit k d params e) (ap command_of (sym known) ∙ is) db it.2 in
       refused e it.3 why
 
@@ -103,7 +105,8 @@ module _ (schema : Schema) (text : List ℕ) (params : Row) (q : Query) (names :
 
   -- there is no row, or the read failed
   pub none_or_fails : (e : Error) → QueriesRowInside text params old new (Err e)
-      → ((e ≡ QueryReturnedNoRows) × IsSureAnswer q (overlay old.now.trees []) params [] × IsUnchanged old new) ⊎ ReadFails old new e
+      → ((e ≡ QueryReturnedNoRows) × IsSureAnswer q (overlay old.now.trees []) params []
+      × IsUnchanged old new) ⊎ ReadFails old new e
   unfolding QueriesRow
   none_or_fails e (inl (inl h)) = inr (fails_reading e h)
   none_or_fails e (inl (inr h)) = let a = shown_answers [] h.1 in inl (h.0, a.0, a.1)

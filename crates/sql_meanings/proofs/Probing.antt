@@ -85,7 +85,14 @@ module _ (schema : Schema) (name : Name) (no_table : table_named schema name ≡
   no_viewing core order page n lets is = rw is
 
   no_query : (s : written_select.Select) (core : Core) (from : From) (order : List Sort)
-      → out-Select s ≡ record { with = []; first = core; others = []; order = order; limit = None; offset = None }
+      → out-Select s ≡ record {
+        with = [];
+        first = core;
+        others = [];
+        order = order;
+        limit = None;
+        offset = None;
+      }
       → (out-Core core).from ≡ from ∷ [] → (out-Source from).origin ≡ origin.Table name
       → query schema s ≡ Err NoSuchTable
   unfolding query query_to level with whole paging constant_or alone single source sources
@@ -101,7 +108,14 @@ module _ (schema : Schema) (name : Name) (no_table : table_named schema name ≡
   pub refuses_query : (text : List ℕ) (P : Parsed) (s : written_select.Select) (core : Core) (from : From)
       (order : List Sort)
       → first text ≡ Ok P → P.statement ≡ written.Select s → P.formats ≡ []
-      → out-Select s ≡ record { with = []; first = core; others = []; order = order; limit = None; offset = None }
+      → out-Select s ≡ record {
+        with = [];
+        first = core;
+        others = [];
+        order = order;
+        limit = None;
+        offset = None;
+      }
       → (out-Core core).from ≡ from ∷ [] → (out-Source from).origin ≡ origin.Table name
       → compiled schema text ≡ Err NoSuchTable
   unfolding compiled planned timed meaning returning command read
@@ -118,7 +132,8 @@ understood_missing schema text a b = rw (a, b)
 pub not_run : (old new : State) (text : List ℕ) (e : Error)
     → OnlyShows text 0 (understood old.now.schema text)
     → IsNotRun old new text [] e
-    → ((fault : CompileError) × (e ≡ SqlInputError fault) × (understood old.now.schema text ≡ Err fault) × IsUnchanged old new)
+    → ((fault : CompileError) × (e ≡ SqlInputError fault) × (understood old.now.schema text ≡ Err fault)
+    × IsUnchanged old new)
     ⊎ Fails old new ⊥ e
 unfolding IsNotRun
 not_run old new text e only (inl (inl it, same)) = inl (it.0, it.2, it.1, same)
@@ -138,7 +153,8 @@ module _ (old new : State) (text : List ℕ) (only : OnlyShows text 0 (understoo
   not_stored Unstorable = refl
 
   by_error : (e : Error)
-      → ((f : CompileError) × (e ≡ SqlInputError f) × (understood old.now.schema text ≡ Err f) × IsUnchanged old new)
+      → ((f : CompileError) × (e ≡ SqlInputError f) × (understood old.now.schema text ≡ Err f)
+      × IsUnchanged old new)
       ⊎ Fails old new ⊥ e
       → (b : Bool) → is_refusal e ≡ b → TellsUnderstood old new text (cond b (Ok false) (Err e))
   by_error e (inl it) true is = ((it.0, it.2), it.3)
@@ -176,7 +192,8 @@ module _ (table : Table) (text : List ℕ) (probes : ProbesAs table text) (free 
           → IsThere schema table.name
       go (Some t) v is other = inl (λ none. let e = sym is ∙ none in cc)
       go None (Some v) other is = inr (λ none. let e = sym is ∙ none in cc)
-      go None None a b = absurd (let e : Ok ok.0 ≡ Err NoSuchTable = sym ok.1 ∙ probes.missing schema a b in cc)
+      go None None a b = absurd (let e : Ok ok.0 ≡ Err NoSuchTable = sym ok.1
+          ∙ probes.missing schema a b in cc)
 
   not_defined : (db : Database) (fault : CompileError) → understood db.schema text ≡ Err fault
       → ∥ IsDatabase db ∥₁

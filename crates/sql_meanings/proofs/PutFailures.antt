@@ -181,16 +181,20 @@ module _ (old new : State) (t : Table) (is : IsOfNumbers (uncounted t)) (sound :
 
   inserts_stop : (stop : Option Error) → Inserts task (from.Values puts.terms puts.width) db (Err stop)
       → PutStops stop
-  inserts_stop stop h = elim (stopped (Sourced old.step_limit old.now (stamped here params) (from.Values puts.terms puts.width))
-      (λ rows. Then (Counter task db) (λ counter. Then (Edited schema Enforced db (put_by rows)) (last rows counter))) stop h) [
+  inserts_stop stop h = elim (stopped
+      (Sourced old.step_limit old.now (stamped here params) (from.Values puts.terms puts.width))
+      (λ rows. Then (Counter task db)
+      (λ counter. Then (Edited schema Enforced db (put_by rows)) (last rows counter))) stop h) [
         | inl values ↦ sourced stop values
-        | inr some ↦ elim (stopped (Counter task db) (λ counter. Then (Edited schema Enforced db (put_by some.0)) (last some.0 counter))
+        | inr some ↦ elim (stopped (Counter task db)
+            (λ counter. Then (Edited schema Enforced db (put_by some.0)) (last some.0 counter))
             stop some.2) [
               | inl none ↦ absurd (never none)
-              | inr more ↦ elim (stopped (Edited schema Enforced db (put_by some.0)) (last some.0 more.0) stop more.2) [
-                | inl edit ↦ edit_is some.0 (given some.0 some.1.1) stop edit
-                | inr done ↦ elim done.2 [ inl none ↦ absurd (never none.1) | inr end ↦ absurd (never end.2) ]
-              ]
+              | inr more ↦ elim (stopped (Edited schema Enforced db (put_by some.0)) (last some.0 more.0)
+                  stop more.2) [
+                    | inl edit ↦ edit_is some.0 (given some.0 some.1.1) stop edit
+                    | inr done ↦ elim done.2 [ inl none ↦ absurd (never none.1) | inr end ↦ absurd (never end.2) ]
+                  ]
             ]
       ]
 
@@ -205,7 +209,8 @@ module _ (old new : State) (t : Table) (is : IsOfNumbers (uncounted t)) (sound :
       let trees : w.trees ≡ written.0 = ap (λ (it : Written). it.trees) (same_value counted.2)
       ∙ same_value counted.1 in
       let applies = put_in_applies schema Enforced db written.0 edit refl written.1 in
-      let others = λ (u : Table) (listed : Has schema.tables u). all_has _ schema.tables u applies.tables listed in
+      let others = λ (u : Table) (listed : Has schema.tables u). all_has _ schema.tables u applies.tables
+      listed in
       let grows = λ (r : Row) (there : Has (db tree) r). subst (λ rows. Has rows r) (sym applies.rows)
       (put_all_keeps edit.news (db tree) r applies.fresh there) in
       subst (Refers All schema) (sym trees)
@@ -216,16 +221,21 @@ module _ (old new : State) (t : Table) (is : IsOfNumbers (uncounted t)) (sound :
       → Concludes task (mode_of old) None w (Err stop) → PutStops stop
   concludes_stop w done stop h = elim (stopped (Tested (mode_of old) (λ among. Refers among schema w.trees))
       (λ in_doubt. Then (Returns task w None) (λ rows.
-      Gives (record { rows = Some (length w.rows); last = w.last; shown = rows; in_doubt = in_doubt }, record { schema = schema; trees = w.trees })))
+      Gives (
+        record { rows = Some (length w.rows); last = w.last; shown = rows; in_doubt = in_doubt },
+        record { schema = schema; trees = w.trees },
+      )))
       stop h) [
-        | inl tested ↦ absurd (∥∥₁_elim sound (λ x y. absurd x) (λ it. tested.0 (kept w done (it.obeys.rules ForeignKey))))
+        | inl tested ↦ absurd (∥∥₁_elim sound (λ x y. absurd x)
+            (λ it. tested.0 (kept w done (it.obeys.rules ForeignKey))))
         | inr on ↦ elim on.2 [ inl none ↦ absurd (never none.1) | inr end ↦ absurd (never end.2) ]
       ]
 
   put_stops : (sql : List ℕ) (stop : Option Error)
       → Does old.step_limit (mode_of old) params old.now sql None
       (Insert at.place (Values puts.terms puts.width)) (Err stop) → PutStops stop
-  put_stops sql stop h = elim (stopped (Inserts task (from.Values puts.terms puts.width) db) (Concludes task (mode_of old) None) stop
+  put_stops sql stop h = elim (stopped (Inserts task (from.Values puts.terms puts.width) db)
+      (Concludes task (mode_of old) None) stop
       (rw at.has.listed at h)) [
         | inl first ↦ inserts_stop stop first
         | inr rest ↦ concludes_stop rest.0 rest.1 stop rest.2
@@ -261,6 +271,7 @@ module _ (old new : State) (t : Table) (is : IsOfNumbers (uncounted t)) (sound :
       subst (λ (c : Compiled). (c.command ≡ command) × (c.returning ≡ None) × (c.formats ≡ [])) same
       (means.meant, means.bare, means.timeless)) h) [
         | inl none ↦ absurd (no_refusal text params command old error means none.0)
-        | inr (inl fails) ↦ inr (inl (fails_for old new error ⊥ (HasWideIndex schema table) (λ x. absurd x) fails))
+        | inr (inl fails) ↦ inr (inl
+            (fails_for old new error ⊥ (HasWideIndex schema table) (λ x. absurd x) fails))
         | inr (inr (c, is, how)) ↦ told (text_of text c) error how
       ]

@@ -31,7 +31,8 @@ module _ (old new : State) (table : Table) (free : table.references ≡ []) (sou
   -- the row under a key
   pub reads_key : (k : ℤ) → ReadsAs table text (Int k ∷ []) (λ t. by_key t project) → (r : Result Row Error)
       → QueriesRowInside text (Int k ∷ []) old new r
-      → TellsRow old new (option_map (λ e. eval_all project ((Int k ∷ []) ∷ stored e ∷ [])) (find (has_key k) es)) r
+      → TellsRow old new (option_map (λ e. eval_all project ((Int k ∷ []) ∷ stored e ∷ []))
+      (find (has_key k) es)) r
   reads_key k reads =
       reads_row old new table free sound holds.defined text (Int k ∷ []) (λ t. by_key t project) reads
       (find (has_key k) es)
@@ -43,7 +44,8 @@ module _ (old new : State) (table : Table) (free : table.references ≡ []) (sou
   pub reads_next : (k : ℤ) → ReadsAs table text (Int k ∷ []) (λ t. next_above t project)
       → (r : Result Row Error)
       → QueriesRowInside text (Int k ∷ []) old new r
-      → TellsRow old new (option_map (λ e. eval_all project ((Int k ∷ []) ∷ stored e ∷ [])) (find (is_above k) es)) r
+      → TellsRow old new (option_map (λ e. eval_all project ((Int k ∷ []) ∷ stored e ∷ []))
+      (find (is_above k) es)) r
   reads_next k reads =
       reads_row old new table free sound holds.defined text (Int k ∷ []) (λ t. next_above t project) reads
       (find (is_above k) es)
@@ -61,7 +63,8 @@ module _ (old new : State) (table : Table) (free : table.references ≡ []) (sou
       → get_or table.orders 0 plain ≡ plain
       → ReadsAs table text (Int one ∷ Int two ∷ []) (λ t. by_two 2 3 t project) → (r : Result Row Error)
       → QueriesRowInside text (Int one ∷ Int two ∷ []) old new r
-      → TellsRow old new (option_map (λ e. eval_all project ((Int one ∷ Int two ∷ []) ∷ stored e ∷ [])) (find (has_two one two) es)) r
+      → TellsRow old new (option_map (λ e. eval_all project ((Int one ∷ Int two ∷ []) ∷ stored e ∷ []))
+      (find (has_two one two) es)) r
   reads_two one two unique order reads =
       reads_row old new table free sound holds.defined text (Int one ∷ Int two ∷ [])
       (λ t. by_two 2 3 t project) reads

@@ -82,7 +82,8 @@ module _ (old new : State) (table : Table) (free : table.references ≡ []) (sou
 
   -- `query_row` answers the first row of what the query shows, where that is one row at most
   pub reads_row : {X : Type 0} (found : Option X) (show : X → Row)
-      → ((nat_le (2 ^ 31) tree ≡ false) → (rows : List Row) → IsSureAnswer (query tree) (overlay old.now.trees []) params rows
+      → ((nat_le (2 ^ 31) tree ≡ false) → (rows : List Row)
+      → IsSureAnswer (query tree) (overlay old.now.trees []) params rows
       → rows ≡ map show (listed found))
       → (r : Result Row Error) → QueriesRowInside text params old new r
       → TellsRow old new (option_map show found) r

@@ -104,8 +104,10 @@ module _ (schema : Schema) (table : Table) (stands : Stands schema table) where
 
   -- ---- what each row refers to is there afterwards
 
-  module _ (db next : Trees) (others : (t : Table) → Has schema.tables t → t.tree ≢ table.tree → next t.tree ≡ db t.tree)
-      (grows : (is_parent schema table ≡ false) ⊎ ((r : Row) → Has (db table.tree) r → Has (next table.tree) r)) where
+  module _ (db next : Trees) (others : (t : Table) → Has schema.tables t → t.tree ≢ table.tree
+      → next t.tree ≡ db t.tree)
+      (grows : (is_parent schema table ≡ false)
+      ⊎ ((r : Row) → Has (db table.tree) r → Has (next table.tree) r)) where
     stays : (child : Table) (ref : Reference) (key : ParentKey) → Has schema.tables child
         → Has child.references ref
         → parent_key schema.tables ref ≡ Some key → (r : Row) → Has (db key.0) r → Has (next key.0) r
@@ -135,7 +137,8 @@ module _ (schema : Schema) (table : Table) (stands : Stands schema table) where
         → has_parent schema.tables db row ref ≡ true → has_parent schema.tables next row ref ≡ true
     refers_on child ref row listed known h = elim (cases_Bool (has_null ref.columns row)) [
       | inl null ↦ rw null
-      | inr whole ↦ rw whole (held child ref row listed known (parent_key schema.tables ref) refl (rw whole at h))
+      | inr whole ↦ rw whole (held child ref row listed known (parent_key schema.tables ref) refl
+          (rw whole at h))
     ]
 
     -- each foreign key is kept
@@ -162,7 +165,8 @@ module _ (schema : Schema) (edit : Edit) (free : edit.table.references ≡ []) w
   asks_parent h =
       let removes = nat_lt 0 (length edit.gone) in
       let all = list_all (λ t. list_all (is_key_if_to schema edit.table) t.references) schema.tables in
-      let bad = (or_parts (not removes) all (asks_rest (nat_lt 0 (length edit.news)) (not removes || all) (rw free at h))).1 in
+      let bad = (or_parts (not removes) all
+      (asks_rest (nat_lt 0 (length edit.news)) (not removes || all) (rw free at h))).1 in
       let child = fails_has _ _ bad in
       let ref = fails_has _ _ child.2 in
       let named = (or_parts (not (same_name edit.table.name ref.0.parent)) _ ref.2).0 in

@@ -75,10 +75,17 @@ module _ (schema : Schema) (db : Trees) (edit : Edit) (is : IsOfNumbers edit.tab
   regular = record {
     typed = ap (list_all (passes Datatype schema db edit.table)) news ∙ all_stored edit.table
         (passes Datatype schema db edit.table)
-        (λ x h. rw (is.keyed, is.columns, is.uncomputed, entry_typed is.key is.names x (names_wide is.key is.names edit.table _ is.columns h.wide)) refl) xs fits;
+        (λ x h. rw (
+          is.keyed,
+          is.columns,
+          is.uncomputed,
+          entry_typed is.key is.names x
+              (names_wide is.key is.names edit.table _ is.columns h.wide),
+        ) refl) xs fits;
     present = ap (list_all (passes NotNull schema db edit.table)) news ∙ all_stored edit.table
         (passes NotNull schema db edit.table)
-        (λ x h. rw (is.keyed, is.columns) (entry_present is.key is.names x (names_wide is.key is.names edit.table _ is.columns h.wide))) xs fits;
+        (λ x h. rw (is.keyed, is.columns) (entry_present is.key is.names x
+        (names_wide is.key is.names edit.table _ is.columns h.wide))) xs fits;
     checked = ap (list_all (passes Check schema db edit.table)) news ∙ all_stored edit.table
         (passes Check schema db edit.table) (λ x h. h.checked) xs fits;
     keyed = ap have_rowids news ∙ all_stored edit.table _ (λ x h. refl) xs fits;
@@ -117,11 +124,13 @@ module _ (schema : Schema) (db : Trees) (edit : Edit) (is : IsOfNumbers edit.tab
       let x = one_stored xs fits row (subst (λ rows. Has rows row) news there) in
       let none = none_real edit.table is.key is.names is.columns in
       elim h [
-        | inl big ↦ absurd (big (subst (IsStorableRow (table_reals edit.table)) (sym x.1) (subst (λ n. IsStorableRow n (stored x.0)) (sym none)
+        | inl big ↦ absurd (big (subst (IsStorableRow (table_reals edit.table)) (sym x.1)
+            (subst (λ n. IsStorableRow n (stored x.0)) (sym none)
             (row_fits x.0 (let wide = x.2.wide in let narrow = is.narrow in omega arith)))))
         | inr (i, listed, of, big) ↦ elim (cases_lt 2000 (length i.columns)) [
           | inl wide ↦ (i, listed, of ∙ sym at, wide)
-          | inr few ↦ absurd (big (subst (IsStorable (index_reals (table_reals edit.table) i.columns)) (ap (entry_of i.columns) (sym x.1))
+          | inr few ↦ absurd (big (subst (IsStorable (index_reals (table_reals edit.table) i.columns))
+              (ap (entry_of i.columns) (sym x.1))
               (subst (λ n. IsStorable n (entry_of i.columns (stored x.0)))
               (sym (ap (λ n. index_reals n i.columns) none ∙ none_indexed i.columns))
               (entry_fits x.0 i.columns few))))
@@ -130,7 +139,8 @@ module _ (schema : Schema) (db : Trees) (edit : Edit) (is : IsOfNumbers edit.tab
 
   -- ---- how the edit may stop
 
-  module _ (Acts : Type 0) (acts : (works schema Enforced 0 edit.table.tree (taken_by db edit) edit.news ≡ []) ⊎ Acts)
+  module _ (Acts : Type 0) (acts : (works schema Enforced 0 edit.table.tree (taken_by db edit) edit.news ≡
+      []) ⊎ Acts)
       (asks : is_referred schema Enforced edit ≡ false → Acts)
       (at : tree_of schema edit.table.name ≡ edit.table.tree) where
     -- why the edit stops: it can't be stored, or the error of a rule
@@ -138,7 +148,8 @@ module _ (schema : Schema) (db : Trees) (edit : Edit) (is : IsOfNumbers edit.tab
     EditStops None = HasWideIndex schema edit.table ⊎ Acts
     EditStops (Some e) =
         ((e ≡ key_taken) × (are_fresh (left_by db edit) edit.news ≡ false))
-        ⊎ (((e ≡ SqliteFailure (code.ConstraintViolation Unique)) × ¬ Keeps Unique schema (with_tree db edit.table.tree (edited db edit)))
+        ⊎ (((e ≡ SqliteFailure (code.ConstraintViolation Unique))
+        × ¬ Keeps Unique schema (with_tree db edit.table.tree (edited db edit)))
         ⊎ (Acts × (why : Refusal) × (e ≡ edit_error why)))
 
     by_refusal : (why : Refusal) → IsRefused schema Enforced db edit why → EditStops (Some (edit_error why))
@@ -201,7 +212,8 @@ breaks_none schema db tree rows none keeps = keeps_from Unique schema (with_tree
     elim (cases_Bool (t.tree == tree)) [
       | inl here ↦ all_pass (λ (i : Index). i.is_unique && (i.table == tree))
           (λ (i : Index). not (guards i t && clashes i.order i.columns (with_tree db tree rows t.tree) row))
-          (λ i free. unclashed (guards i t) _ (subst (λ n. (i.is_unique && (i.table == n)) ≡ false) (same_tree t.tree tree here) free))
+          (λ i free. unclashed (guards i t) _
+          (subst (λ n. (i.is_unique && (i.table == n)) ≡ false) (same_tree t.tree tree here) free))
           schema.indexes none
       | inr away ↦ held_at schema db (with_tree db tree rows) t row listed (rw away refl) there keeps
     ])
@@ -216,12 +228,14 @@ forbids schema db table entries rows sound are broken = (
     | inr none ↦ absurd (∥∥₁_elim sound (λ x y. absurd x)
         (λ it. broken (breaks_none schema db (tree_of schema table.name) rows none (it.obeys.rules Unique))))
   ],
-  λ trees other same. ∥∥₁_elim sound (λ x y. absurd x) (λ it. broken (keeps_from Unique schema (with_tree db (tree_of schema table.name) rows) (λ t row listed there.
+  λ trees other same. ∥∥₁_elim sound (λ x y. absurd x) (λ it. broken
+      (keeps_from Unique schema (with_tree db (tree_of schema table.name) rows) (λ t row listed there.
       elim (cases_Bool (t.tree == tree_of schema table.name)) [
         | inl here ↦ held_at schema trees (with_tree db (tree_of schema table.name) rows) t row listed
             (rw here (are ∙ sym same ∙ ap trees (same_tree t.tree (tree_of schema table.name) here))) there
             (other.obeys.rules Unique)
-        | inr away ↦ held_at schema db (with_tree db (tree_of schema table.name) rows) t row listed (rw away refl) there
+        | inr away ↦ held_at schema db (with_tree db (tree_of schema table.name) rows) t row listed
+            (rw away refl) there
             (it.obeys.rules Unique)
       ]))),
 )

@@ -106,7 +106,8 @@ module _ {X : Type 0} (cmp : X → X → Ordering) (total : IsTotalOrder cmp) wh
       let up = joined x ys marked.1 (none_in eq ys none) in
       let lt = λ (z : X). is_lt (cmp x z) in
       subst (λ l. IsPermutation l ys) (above_first x xs (all_weaker _ _ (λ z h. ap is_lt h) xs low))
-      (subst (IsPermutation (filter lt (x ∷ xs))) (above_first x ys up) (IsPermutation-filter lt (x ∷ xs) (x ∷ ys) perm))
+      (subst (IsPermutation (filter lt (x ∷ xs))) (above_first x ys up)
+      (IsPermutation-filter lt (x ∷ xs) (x ∷ ys) perm))
 
   -- by neighbours
   pub only_order : (xs ys : List X) → IsAscending (λ a b. cmp a b ≡ Less) xs → IsAscending AtMost ys

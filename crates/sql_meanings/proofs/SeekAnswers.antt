@@ -41,7 +41,8 @@ passes_from : (k : ℤ) (e : Entry) → list_all (holds ((Int k ∷ []) ∷ stor
 passes_from k e = rw (int_from e.key k) (and_true (is_from k e))
 
 first_two : (one k key n : ℤ) (more : List ℤ)
-    → list_all (holds ((Int one ∷ Int k ∷ []) ∷ stored (record { key = key; values = n ∷ more }) ∷ [])) of_from
+    → list_all (holds ((Int one ∷ Int k ∷ []) ∷ stored (record { key = key; values = n ∷ more }) ∷ []))
+    of_from
     ≡ (int_eq n one && (is_ge (int_cmp key k) && true))
 first_two one k key n more = rw (int_equals n one, int_from key k)
 

@@ -34,7 +34,8 @@ use Rattle.sql_meanings.proofs.Texts.{IsSelect, left_over, many}
 
 module _ (table : Table) (text : List ℕ) (places : List ℕ) (most : ℕ) (terms : List Term) (key : Name)
     (keys : (tree : ℕ) → Tests (placed_at table tree) key 0)
-    (by_bytes : (tree : ℕ) → alone (declared (placed_at table tree) (keys tree).place (keys tree).column) ≡ Binary)
+    (by_bytes : (tree : ℕ) → alone (declared (placed_at table tree) (keys tree).place (keys tree).column) ≡
+    Binary)
     (unnamed : (tree : ℕ) → alias_of key (outputs_at (placed_at table tree) places) ≡ None) where
   -- SELECT columns FROM table WHERE key >= ?1 ORDER BY key LIMIT most
   pub seeks_by : (is : IsSelect table text 1 places) (sort : Sort) (cap test e a b : Expr) (most_text : Name)
@@ -45,29 +46,32 @@ module _ (table : Table) (text : List ℕ) (places : List ℕ) (most : ℕ) (ter
       → out-Expr b ≡ Expr-F.Parameter 1
       → out-Expr cap ≡ Expr-F.Integer most_text → integer false most_text ≡ Ok (Int (pos most))
       → ((schema : Schema) (p tree : ℕ) → HasTable schema table.name p (placed_at table tree)
-      → prog.program schema [] (ungrouped (Inner tree ∷ []) key_from (outputs_at (placed_at table tree) places) false ascending (lit (Int (pos most))) (number 0))
+      → prog.program schema [] (ungrouped (Inner tree ∷ []) key_from
+      (outputs_at (placed_at table tree) places) false ascending (lit (Int (pos most))) (number 0))
       ≡ Ok (record { lets = []; body = next_from most tree terms }))
       → (k : ℤ) → ((schema : Schema) (p tree : ℕ) → HasTable schema table.name p (placed_at table tree)
       → accepts_program schema [] (next_from most tree terms) (Int k ∷ []) ≡ true)
       → ReadsAs table text (Int k ∷ []) (λ tree. next_from most tree terms)
-  seeks_by is sort cap test e a b most_text ordered limited filtered sorts by_key above left right capped value typed k accepts = record {
-    names = map (λ o. o.name) (outputs_at table places);
-    means = λ schema p tree has.
-        let os = outputs_at (placed_at table tree) places in
-        let low = many (placed_at table tree) places is.few in
-        let rest = left_over (placed_at table tree) places is.few in
-        means schema text 1 _ _ (select_rising schema table.name p (placed_at table tree) has Onwards text is.P is.s is.core is.source is.shown test a b e cap
-        sort key most_text (Int (pos most)) 0 1 (keys tree) os _ is.parsed is.statement is.plain
-        (rw (ordered, limited) at is.select)
-        (rw filtered at is.body) is.from above left right sorts by_key (unnamed tree) capped value
-        (shows_named _ _ _ (is.shows tree))
-        (has_room 100000 _ (omega arith)) (key_at schema table.name p os false) (grind arith) (grind arith)
-        (grind arith) (grind arith)
-        (by_bytes tree) (typed schema p tree has)) refl is.whole is.given refl refl;
-    accepts = accepts;
-    unfolded = λ _. refl;
-    ungrouped = λ _. refl;
-  }
+  seeks_by is sort cap test e a b most_text ordered limited filtered sorts by_key above left right capped
+      value typed k accepts = record {
+        names = map (λ o. o.name) (outputs_at table places);
+        means = λ schema p tree has.
+            let os = outputs_at (placed_at table tree) places in
+            let low = many (placed_at table tree) places is.few in
+            let rest = left_over (placed_at table tree) places is.few in
+            means schema text 1 _ _ (select_rising schema table.name p (placed_at table tree) has Onwards text
+            is.P is.s is.core is.source is.shown test a b e cap
+            sort key most_text (Int (pos most)) 0 1 (keys tree) os _ is.parsed is.statement is.plain
+            (rw (ordered, limited) at is.select)
+            (rw filtered at is.body) is.from above left right sorts by_key (unnamed tree) capped value
+            (shows_named _ _ _ (is.shows tree))
+            (has_room 100000 _ (omega arith)) (key_at schema table.name p os false) (grind arith) (grind arith)
+            (grind arith) (grind arith)
+            (by_bytes tree) (typed schema p tree has)) refl is.whole is.given refl refl;
+        accepts = accepts;
+        unfolded = λ _. refl;
+        ungrouped = λ _. refl;
+      }
 
   -- SELECT columns FROM table WHERE one = ?1 AND key >= ?2 ORDER BY key LIMIT most
   pub seeks_of_by : (one : Name) (ones : (tree : ℕ) → Tests (placed_at table tree) one 2)
@@ -86,28 +90,31 @@ module _ (table : Table) (text : List ℕ) (places : List ℕ) (most : ℕ) (ter
       → affinity_of (over_one schema table.name p (outputs_at (placed_at table tree) places) false) (col 1 2)
       ≡ affinity.Numeric)
       → ((schema : Schema) (p tree : ℕ) → HasTable schema table.name p (placed_at table tree)
-      → prog.program schema [] (ungrouped (Inner tree ∷ []) of_from (outputs_at (placed_at table tree) places) false ascending (lit (Int (pos most))) (number 0))
+      → prog.program schema [] (ungrouped (Inner tree ∷ []) of_from
+      (outputs_at (placed_at table tree) places) false ascending (lit (Int (pos most))) (number 0))
       ≡ Ok (record { lets = []; body = next_of_from most tree terms }))
       → (n k : ℤ) → ((schema : Schema) (p tree : ℕ) → HasTable schema table.name p (placed_at table tree)
       → accepts_program schema [] (next_of_from most tree terms) (Int n ∷ Int k ∷ []) ≡ true)
       → ReadsAs table text (Int n ∷ Int k ∷ []) (λ tree. next_of_from most tree terms)
-  seeks_of_by one ones is sort cap both e test test' a b a' b' most_text ordered limited filtered sorts by_key and equal left right above left' right' capped value numeric typed n k accepts = record {
-    names = map (λ o. o.name) (outputs_at table places);
-    means = λ schema p tree has.
-        let os = outputs_at (placed_at table tree) places in
-        let low = many (placed_at table tree) places is.few in
-        let rest = left_over (placed_at table tree) places is.few in
-        means schema text 2 _ _ (select_two_from schema table.name p (placed_at table tree) has text is.P is.s is.core is.source is.shown both test a b
-        test' a' b' e cap sort one key most_text (Int (pos most)) 2 1 0 2 (ones tree)
-        (keys tree) os _ is.parsed is.statement is.plain
-        (rw (ordered, limited) at is.select)
-        (rw filtered at is.body) is.from and equal left right above left' right' sorts by_key (unnamed tree)
-        capped value (shows_named _ _ _ (is.shows tree)) (has_room 100000 _ (omega arith))
-        (numeric schema p tree has)
-        (key_at schema table.name p os false) (grind arith) (grind arith) (grind arith) (grind arith)
-        (grind arith) (grind arith) (grind arith)
-        (grind arith) (by_bytes tree) (typed schema p tree has)) refl is.whole is.given refl refl;
-    accepts = accepts;
-    unfolded = λ _. refl;
-    ungrouped = λ _. refl;
-  }
+  seeks_of_by one ones is sort cap both e test test' a b a' b' most_text ordered limited filtered sorts
+      by_key and equal left right above left' right' capped value numeric typed n k accepts = record {
+        names = map (λ o. o.name) (outputs_at table places);
+        means = λ schema p tree has.
+            let os = outputs_at (placed_at table tree) places in
+            let low = many (placed_at table tree) places is.few in
+            let rest = left_over (placed_at table tree) places is.few in
+            means schema text 2 _ _ (select_two_from schema table.name p (placed_at table tree) has text is.P
+            is.s is.core is.source is.shown both test a b
+            test' a' b' e cap sort one key most_text (Int (pos most)) 2 1 0 2 (ones tree)
+            (keys tree) os _ is.parsed is.statement is.plain
+            (rw (ordered, limited) at is.select)
+            (rw filtered at is.body) is.from and equal left right above left' right' sorts by_key (unnamed tree)
+            capped value (shows_named _ _ _ (is.shows tree)) (has_room 100000 _ (omega arith))
+            (numeric schema p tree has)
+            (key_at schema table.name p os false) (grind arith) (grind arith) (grind arith) (grind arith)
+            (grind arith) (grind arith) (grind arith)
+            (grind arith) (by_bytes tree) (typed schema p tree has)) refl is.whole is.given refl refl;
+        accepts = accepts;
+        unfolded = λ _. refl;
+        ungrouped = λ _. refl;
+      }

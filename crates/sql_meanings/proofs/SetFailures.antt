@@ -106,14 +106,23 @@ module _ (old new : State) (table : Table) (is : IsOfNumbers table) (sound : ∥
       entries = [];
       news = ap (λ rs. (set_by rs).news) are;
       fits = tt;
-      after = (set_rows old new table is sound es holds text k more change changes rows None found are).stands.are;
+      after = (set_rows old new table is sound es holds text k more change changes rows None found
+          are).stands.are;
       fresh = ap (λ rs. are_fresh (left_by db (set_by rs)) (set_by rs).news) are;
     }
     met_by rows (Some e) found are = record {
       entries = change e ∷ [];
       news = new_row;
-      fits = (record { wide = changes.keeps_width e wide; low = rw (changes.keeps_key e ∙ key) low; checked = changes.passes e wide key }, tt);
-      after = (set_rows old new table is sound es holds text k more change changes rows (Some e) found are).stands.are;
+      fits = (
+        record {
+          wide = changes.keeps_width e wide;
+          low = rw (changes.keeps_key e ∙ key) low;
+          checked = changes.passes e wide key;
+        },
+        tt,
+      );
+      after = (set_rows old new table is sound es holds text k more change changes rows (Some e) found
+          are).stands.are;
       fresh = still_fresh;
     }
       where
@@ -151,7 +160,8 @@ module _ (old new : State) (table : Table) (is : IsOfNumbers table) (sound : ∥
     SetStops None = HasWideIndex schema table ⊎ IsTrue (is_parent schema table)
     SetStops (Some e) =
         IsInterrupted old e
-        ⊎ (((e ≡ SqliteFailure (code.ConstraintViolation Unique)) × Forbids schema table (changed change k es))
+        ⊎ (((e ≡ SqliteFailure (code.ConstraintViolation Unique))
+        × Forbids schema table (changed change k es))
         ⊎ (IsTrue (is_parent schema table) × (why : Refusal) × (e ≡ edit_error why)))
 
     queried : (stop : Option Error) → Queried old.step_limit old.now program params (Err stop) → SetStops stop
@@ -160,7 +170,8 @@ module _ (old new : State) (table : Table) (is : IsOfNumbers table) (sound : ∥
         (let right = changes.accepts schema at.place tree at.has in let wrong = mismatch.1 in cc)
     queried (Some e) (inr (inl overflow)) = elim overflow.1 [
       | inl group ↦ absurd group
-      | inr folded ↦ absurd (no_fold_overflows (overlay db []) (by_key tree changes.project).from (params ∷ []) refl folded)
+      | inr folded ↦ absurd (no_fold_overflows (overlay db []) (by_key tree changes.project).from
+          (params ∷ []) refl folded)
     ]
     queried (Some e) (inr (inr limit)) = inl limit
 
@@ -169,7 +180,8 @@ module _ (old new : State) (table : Table) (is : IsOfNumbers table) (sound : ∥
         (is_parent schema table)
     acts rows = elim (cases_Bool (is_parent schema table)) [
       | inl parent ↦ inr parent
-      | inr none ↦ inl (nothing_set_off schema here at.stands (taken_by db (set_by rows)) (set_by rows).news none)
+      | inr none ↦ inl (nothing_set_off schema here at.stands (taken_by db (set_by rows)) (set_by rows).news
+          none)
     ]
 
     edit_is : (rows : List Row) (it : Met rows) (stop : Option Error)
@@ -191,11 +203,13 @@ module _ (old new : State) (table : Table) (is : IsOfNumbers table) (sound : ∥
     task = record { limit = old.step_limit; keys = Enforced; schema = schema; table = here; params = params }
 
     updates_stop : (stop : Option Error) → Updates task program params db (Err stop) → SetStops stop
-    updates_stop stop h = elim (stopped (Queried old.step_limit old.now program params) (λ rows. Then (Edited schema Enforced db (set_by rows))
+    updates_stop stop h = elim (stopped (Queried old.step_limit old.now program params)
+        (λ rows. Then (Edited schema Enforced db (set_by rows))
         (λ next. Gives (record { trees = next; rows = (set_by rows).news; last = None }))) stop h) [
           | inl query ↦ queried stop query
           | inr given ↦ elim (stopped (Edited schema Enforced db (set_by given.0))
-              (λ next. Gives (record { trees = next; rows = (set_by given.0).news; last = None })) stop given.2) [
+              (λ next. Gives (record { trees = next; rows = (set_by given.0).news; last = None })) stop
+              given.2) [
                 | inl edit ↦ edit_is given.0 (met given.0 given.1) stop edit
                 | inr done ↦ absurd (never done.2)
               ]
@@ -212,7 +226,8 @@ module _ (old new : State) (table : Table) (is : IsOfNumbers table) (sound : ∥
         let still = nothing_set_off schema here at.stands (taken_by db (set_by given.0))
         (set_by given.0).news none in
         let applies = one_step schema Enforced db written.0 (set_by given.0) still written.1 in
-        let others = λ (t : Table) (listed : Has schema.tables t). all_has _ schema.tables t applies.tables listed in
+        let others = λ (t : Table) (listed : Has schema.tables t). all_has _ schema.tables t applies.tables
+        listed in
         subst (Refers All schema) (sym trees)
         (refers_after schema here at.stands db written.0 others (inl none) refers)
 
@@ -220,11 +235,15 @@ module _ (old new : State) (table : Table) (is : IsOfNumbers table) (sound : ∥
         → Concludes task (mode_of old) None w (Err stop) → SetStops stop
     concludes_stop w done stop h = elim (stopped (Tested (mode_of old) (λ among. Refers among schema w.trees))
         (λ in_doubt. Then (Returns task w None) (λ rows.
-        Gives (record { rows = Some (length w.rows); last = w.last; shown = rows; in_doubt = in_doubt }, record { schema = schema; trees = w.trees })))
+        Gives (
+          record { rows = Some (length w.rows); last = w.last; shown = rows; in_doubt = in_doubt },
+          record { schema = schema; trees = w.trees },
+        )))
         stop h) [
           | inl tested ↦ subst SetStops (sym tested.1) (elim (cases_Bool (is_parent schema table)) [
             | inl parent ↦ inr (inr (parent, Violates ForeignKey, refl))
-            | inr none ↦ absurd (∥∥₁_elim sound (λ x y. absurd x) (λ it. tested.0 (kept none w done (it.obeys.rules ForeignKey))))
+            | inr none ↦ absurd (∥∥₁_elim sound (λ x y. absurd x)
+                (λ it. tested.0 (kept none w done (it.obeys.rules ForeignKey))))
           ])
           | inr on ↦ elim on.2 [ inl none ↦ absurd (never none.1) | inr last ↦ absurd (never last.2) ]
         ]
@@ -232,10 +251,11 @@ module _ (old new : State) (table : Table) (is : IsOfNumbers table) (sound : ∥
     set_stops : (sql : List ℕ) (stop : Option Error)
         → Does old.step_limit (mode_of old) params old.now sql None (Update at.place program) (Err stop)
         → SetStops stop
-    set_stops sql stop h = elim (stopped (Updates task program params db) (Concludes task (mode_of old) None) stop (rw at.has.listed at h)) [
-      | inl first ↦ updates_stop stop first
-      | inr rest ↦ concludes_stop rest.0 rest.1 stop rest.2
-    ]
+    set_stops sql stop h = elim (stopped (Updates task program params db) (Concludes task (mode_of old) None)
+        stop (rw at.has.listed at h)) [
+          | inl first ↦ updates_stop stop first
+          | inr rest ↦ concludes_stop rest.0 rest.1 stop rest.2
+        ]
 
     -- ---- the whole
 
@@ -252,8 +272,10 @@ module _ (old new : State) (table : Table) (is : IsOfNumbers table) (sound : ∥
       | inr (inl unique) ↦ inl (inr (inr unique, same))
       | inr (inr parent) ↦ inr (parent.0, inr ((parent.1, parent.2), same))
     ]
-    told sql e (inr fails) = elim (fails_split old new e (HasWideIndex schema table) (IsTrue (is_parent schema table))
-        (fails_for old new e _ (HasWideIndex schema table ⊎ IsTrue (is_parent schema table)) (set_stops sql None) fails)) [
+    told sql e (inr fails) = elim
+        (fails_split old new e (HasWideIndex schema table) (IsTrue (is_parent schema table))
+        (fails_for old new e _ (HasWideIndex schema table ⊎ IsTrue (is_parent schema table))
+        (set_stops sql None) fails)) [
           | inl store ↦ inl (inl store)
           | inr parent ↦ inr (parent.0, inl parent.1)
         ]
@@ -266,6 +288,7 @@ module _ (old new : State) (table : Table) (is : IsOfNumbers table) (sound : ∥
         subst (λ (c : Compiled). (c.command ≡ command) × (c.returning ≡ None) × (c.formats ≡ [])) same
         (means.meant, means.bare, means.timeless)) h) [
           | inl none ↦ absurd (no_refusal text params command old e means none.0)
-          | inr (inl fails) ↦ inl (inl (fails_for old new e ⊥ (HasWideIndex schema table) (λ x. absurd x) fails))
+          | inr (inl fails) ↦ inl (inl
+              (fails_for old new e ⊥ (HasWideIndex schema table) (λ x. absurd x) fails))
           | inr (inr (c, is, how)) ↦ told (text_of text c) e how
         ]

@@ -58,7 +58,8 @@ pub record ChangesAs (table : Table) (text : List ℕ) (k : ℤ) (more : Row)
     (change : Entry → Entry) : Type 0 where
   pub project : List Term
   pub means : (schema : Schema) (p tree : ℕ) → HasTable schema table.name p (placed_at table tree)
-      → Means schema text (length (Int k ∷ more)) (Update p (record { lets = []; body = by_key tree project }))
+      → Means schema text (length (Int k ∷ more))
+      (Update p (record { lets = []; body = by_key tree project }))
   pub projects : (e : Entry) → length e.values ≡ width_of table
       → eval_all project ((Int k ∷ more) ∷ stored e ∷ []) ≡ Int e.key ∷ stored (change e)
   pub keeps_key : (e : Entry) → (change e).key ≡ e.key

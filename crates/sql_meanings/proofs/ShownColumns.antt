@@ -80,7 +80,8 @@ Shows table (s ∷ ss) (o ∷ os) = ShowsOne table s o × Shows table ss os
 
 -- the columns at these places, as they are shown
 abbrev pub outputs_at : Table → List ℕ → List Output
-outputs_at table places = map (λ k. output_of table k (unwrap_or (slice_get table.columns k) (key_column []))) places
+outputs_at table places = map
+    (λ k. output_of table k (unwrap_or (slice_get table.columns k) (key_column []))) places
 
 -- what each expression takes of the budget
 abbrev pub spent : ℕ → List Output → ℕ
@@ -116,7 +117,8 @@ module _ (schema : Schema) (p : ℕ) (table : Table) (listed : slice_get schema.
       rw (
         it.written,
         lower_column (over_one schema name p [] may) it.e it.wanted _ _ 699 2 budget l it.is room
-            (column_is schema p table listed name [] may it.wanted it.place it.column (st 2 (budget - 1) nothing) it.named it.there),
+            (column_is schema p table listed name [] may it.wanted it.place it.column
+            (st 2 (budget - 1) nothing) it.named it.there),
         heading_is it.e it.text it.wanted it.place it.column it.is it.named it.there,
         it.is,
         it.out,

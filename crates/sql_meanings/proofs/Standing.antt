@@ -64,7 +64,8 @@ stands_after schema new table stands = record {
   listed = has_left schema.tables _ table stands.listed;
   apart = λ t h same. elim (has_either schema.tables (record new { tree = next_tree schema } ∷ []) t h) [
     | inl old ↦ stands.apart t old same
-    | inr (inl is) ↦ absurd (let low = table_below schema table stands.listed in let e : next_tree schema ≡ table.tree =
+    | inr (inl is) ↦ absurd (let low = table_below schema table stands.listed in
+        let e : next_tree schema ≡ table.tree =
         sym (ap (λ (u : Table). u.tree) is) ∙ same in omega arith)
     | inr (inr none) ↦ absurd none
   ];
@@ -108,7 +109,8 @@ found_apart [] table h apart = absurd h
 found_apart (u ∷ tables) table h apart = elim (test_cases (u.tree == table.tree)) [
   | inl same ↦ rw same (ap Some (apart u (inl refl) (eqb_true _ _ same)))
   | inr other ↦ rw other (elim h [
-    | inl is ↦ absurd (let e = eqb_itself table.tree in let f = subst (λ (t : Table). (t.tree == table.tree) ≡ false) (sym is) other in
+    | inl is ↦ absurd (let e = eqb_itself table.tree in let f =
+        subst (λ (t : Table). (t.tree == table.tree) ≡ false) (sym is) other in
         cc)
     | inr later ↦ found_apart tables table later (λ t k. apart t (inr k))
   ])

@@ -43,7 +43,8 @@ low : (db : Database) (table : Table) → table.references ≡ [] → ∥ IsData
     → nat_le (2 ^ 31) (tree_of db.schema table.name) ≡ false
 low db table free sound d =
     ∥∥₁_elim sound (Coded-set coded_bool _ _) (λ it. high_not (tree_of db.schema table.name)
-    (low_tree db.schema db.trees (placed_at table (tree_of db.schema table.name)) it (defined_stands db.schema table free d).listed))
+    (low_tree db.schema db.trees (placed_at table (tree_of db.schema table.name)) it
+    (defined_stands db.schema table free d).listed))
 
 -- a table that is defined is found, and stands
 pub standing : (db : Database) (table : Table) → table.references ≡ [] → ∥ IsDatabase db ∥₁
@@ -58,7 +59,8 @@ standing db table free sound d =
         named = at.named;
         listed = at.listed;
         found =
-            found_apart db.schema.tables (placed_at table (tree_of db.schema table.name)) stands.listed stands.apart;
+            found_apart db.schema.tables (placed_at table (tree_of db.schema table.name)) stands.listed
+            stands.apart;
         low =
             low db table free sound d;
       };

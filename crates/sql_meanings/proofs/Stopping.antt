@@ -88,7 +88,8 @@ shows_none c write bare = rw bare (go c.command write)
 
 module _ (old new : State) (text : List ℕ) (params : Row) (command : Command)
     (write : is_write command ≡ true) (e : Error)
-    (known : (c : Compiled) → understood old.now.schema text ≡ Ok c → (c.command ≡ command) × (c.returning ≡ None) × (c.formats ≡ []))
+    (known : (c : Compiled) → understood old.now.schema text ≡ Ok c → (c.command ≡ command)
+    × (c.returning ≡ None) × (c.formats ≡ []))
   where
     ran : (c : Compiled) → c.command ≡ command → c.returning ≡ None
         → RunsCommand old new text c params (Err e)
@@ -101,7 +102,8 @@ module _ (old new : State) (text : List ℕ) (params : Row) (command : Command)
     -- how it may end
     pub stops : ExecutesInside 0 text params old new (Err e)
         → (IsNoStatement old text params e × IsUnchanged old new)
-        ⊎ (Fails old new ⊥ e ⊎ ((c : Compiled) × (understood old.now.schema text ≡ Ok c) × Stops old new (text_of text c) command params e))
+        ⊎ (Fails old new ⊥ e ⊎ ((c : Compiled) × (understood old.now.schema text ≡ Ok c)
+        × Stops old new (text_of text c) command params e))
     unfolding ExecutesIn IsNotRun EndsScope
     stops (inl (inl (inl none), kept)) = inl none
     stops (inl (inl (inr fails), kept)) = inr (inl fails)
@@ -109,6 +111,12 @@ module _ (old new : State) (text : List ℕ) (params : Row) (command : Command)
         let facts = known c it.is in
         let full : timed params c.formats it.now ≡ params = rw facts.2 (append-nil params) in
         let runs = rw (shows_none c (ap is_write facts.0 ∙ write) facts.1) at alone in
-        inr (inr (c, it.is, ran c facts.0 facts.1 (subst (λ ps. RunsCommand old new text c ps (Err e)) full runs)))
+        inr (inr (
+          c,
+          it.is,
+          ran c facts.0 facts.1
+              (subst (λ ps. RunsCommand old new text c ps (Err e)) full runs),
+        ))
     stops (inr (ends, is, same)) =
-        absurd (no_escape old ends.0.command (ap is_write (known ends.0 ends.1.is).0 ∙ write) (let x : Escapes 0 old ends.0.command = ends.2 in x))
+        absurd (no_escape old ends.0.command (ap is_write (known ends.0 ends.1.is).0 ∙ write)
+        (let x : Escapes 0 old ends.0.command = ends.2 in x))

@@ -64,8 +64,22 @@ pub record IsSelect (table : Table) (text : List ℕ) (count : ℕ) (places : Li
   pub plain : P.formats ≡ []
   pub whole : length text ≤ P.tail
   pub given : count ≡ length P.names
-  pub select : out-Select s ≡ record { with = []; first = core; others = []; order = order; limit = limit; offset = None }
-  pub body : out-Core core ≡ record { distinct = false; shown = shown; from = source ∷ []; filter = filter; group = []; having = None }
+  pub select : out-Select s ≡ record {
+    with = [];
+    first = core;
+    others = [];
+    order = order;
+    limit = limit;
+    offset = None;
+  }
+  pub body : out-Core core ≡ record {
+    distinct = false;
+    shown = shown;
+    from = source ∷ [];
+    filter = filter;
+    group = [];
+    having = None;
+  }
   pub from : one_table table.name source
   pub shows : (tree : ℕ) → map (λ s. output_named (placed_at table tree) (shown_name (out-Shown s))) shown
       ≡ map Some (outputs_at (placed_at table tree) places)
@@ -77,13 +91,28 @@ abbrev pub select_of : (table : Table) (text : List ℕ) (count : ℕ) (places :
     (source : From) (shown : List Shown) (filter : Option Expr) (order : List Sort) (limit : Option Expr)
     → first text ≡ Ok P
     → P.statement ≡ written.Select s → P.formats ≡ [] → length text ≤ P.tail → count ≡ length P.names
-    → out-Select s ≡ record { with = []; first = core; others = []; order = order; limit = limit; offset = None }
-    → out-Core core ≡ record { distinct = false; shown = shown; from = source ∷ []; filter = filter; group = []; having = None }
+    → out-Select s ≡ record {
+      with = [];
+      first = core;
+      others = [];
+      order = order;
+      limit = limit;
+      offset = None;
+    }
+    → out-Core core ≡ record {
+      distinct = false;
+      shown = shown;
+      from = source ∷ [];
+      filter = filter;
+      group = [];
+      having = None;
+    }
     → one_table table.name source
     → ((tree : ℕ) → map (λ s. output_named (placed_at table tree) (shown_name (out-Shown s))) shown
     ≡ map Some (outputs_at (placed_at table tree) places))
     → length places < 1000 → IsSelect table text count places
-select_of table text count places P s core source shown filter order limit parsed statement plain whole given select body from shows few =
+select_of table text count places P s core source shown filter order limit parsed statement plain whole given
+    select body from shows few =
     record {
       P = P;
       s = s;
@@ -128,14 +157,16 @@ module _ (table : Table) (text : List ℕ) (places : List ℕ) where
       → is.order ≡ [] → is.limit ≡ None
       → is.filter ≡ None
       → ((schema : Schema) (p tree : ℕ) → HasTable schema table.name p (placed_at table tree)
-      → prog.program schema [] (ungrouped (Inner tree ∷ []) [] (outputs_at (placed_at table tree) places) false [] no_limit (number 0))
+      → prog.program schema [] (ungrouped (Inner tree ∷ []) [] (outputs_at (placed_at table tree) places)
+      false [] no_limit (number 0))
       ≡ Ok (record { lets = []; body = query (inner tree end) [] terms [] no_limit }))
       → compiled listing_schema text ≡ Err NoSuchTable → ProbesAs table text
   probes_by is terms unordered unlimited whole typed unlisted = record {
     shows = only_reads is;
     there = λ schema p tree has.
         let low = many (placed_at table tree) places is.few in
-        let m = means schema text 0 _ _ (select_all schema table.name p (placed_at table tree) has text is.P is.s is.core is.source is.shown
+        let m = means schema text 0 _ _ (select_all schema table.name p (placed_at table tree) has text is.P
+        is.s is.core is.source is.shown
         (outputs_at (placed_at table tree) places) _ is.parsed is.statement is.plain
         (rw (unordered, unlimited) at is.select) (rw whole at is.body) is.from
         (shows_named _ _ _ (is.shows tree)) (has_room 100000 _ (omega arith))
@@ -154,27 +185,30 @@ module _ (table : Table) (text : List ℕ) (places : List ℕ) where
       → out-Expr test ≡ Expr-F.Binary binary.Eq a b → out-Expr a ≡ Expr-F.Column None wanted
       → out-Expr b ≡ Expr-F.Parameter 1
       → ((schema : Schema) (p tree : ℕ) → HasTable schema table.name p (placed_at table tree)
-      → prog.program schema [] (ungrouped (Inner tree ∷ []) key_is (outputs_at (placed_at table tree) places) false [] no_limit (number 0))
+      → prog.program schema [] (ungrouped (Inner tree ∷ []) key_is (outputs_at (placed_at table tree) places)
+      false [] no_limit (number 0))
       ≡ Ok (record { lets = []; body = by_key tree terms }))
       → (k : ℤ) → ((schema : Schema) (p tree : ℕ) → HasTable schema table.name p (placed_at table tree)
       → accepts_program schema [] (by_key tree terms) (Int k ∷ []) ≡ true)
       → ReadsAs table text (Int k ∷ []) (λ tree. by_key tree terms)
-  reads_by is terms test a b wanted tests unordered unlimited filtered equal left right typed k accepts = record {
-    names = map (λ o. o.name) (outputs_at table places);
-    means = λ schema p tree has.
-        let os = outputs_at (placed_at table tree) places in
-        let low = many (placed_at table tree) places is.few in
-        let rest = left_over (placed_at table tree) places is.few in
-        means schema text 1 _ _ (select_by_key schema table.name p (placed_at table tree) has text is.P is.s is.core is.source is.shown test a b
-        wanted 0 1 (tests tree) os _ is.parsed is.statement is.plain (rw (unordered, unlimited) at is.select)
-        (rw filtered at is.body) is.from equal left
-        right (shows_named _ _ _ (is.shows tree)) (has_room 100000 _ (omega arith))
-        (key_at schema table.name p os false) (grind arith) (grind arith) (grind arith)
-        (typed schema p tree has)) refl is.whole is.given refl refl;
-    accepts = accepts;
-    unfolded = λ _. refl;
-    ungrouped = λ _. refl;
-  }
+  reads_by is terms test a b wanted tests unordered unlimited filtered equal left right typed k
+      accepts = record {
+        names = map (λ o. o.name) (outputs_at table places);
+        means = λ schema p tree has.
+            let os = outputs_at (placed_at table tree) places in
+            let low = many (placed_at table tree) places is.few in
+            let rest = left_over (placed_at table tree) places is.few in
+            means schema text 1 _ _ (select_by_key schema table.name p (placed_at table tree) has text is.P is.s
+            is.core is.source is.shown test a b
+            wanted 0 1 (tests tree) os _ is.parsed is.statement is.plain (rw (unordered, unlimited) at is.select)
+            (rw filtered at is.body) is.from equal left
+            right (shows_named _ _ _ (is.shows tree)) (has_room 100000 _ (omega arith))
+            (key_at schema table.name p os false) (grind arith) (grind arith) (grind arith)
+            (typed schema p tree has)) refl is.whole is.given refl refl;
+        accepts = accepts;
+        unfolded = λ _. refl;
+        ungrouped = λ _. refl;
+      }
 
 abbrev parameters : ℕ → ℕ → List Term
 parameters first zero = []
@@ -194,19 +228,22 @@ pub puts_by : (table : Table) (text : List ℕ) (params : Row) (new : Entry) (co
     → new_rows schema (placed_at table tree) (small P.names + 0) columns rows ≡ Ok
     (Values (put_terms count) (count + 2)))
     → length text ≤ P.tail → length params ≡ length P.names
-    → ((tree : ℕ) → value_rows (stamped (placed_at table tree) params) (count + 2) (length (put_terms count) / (count + 2)) (put_terms count)
+    → ((tree : ℕ) → value_rows (stamped (placed_at table tree) params) (count + 2)
+    (length (put_terms count) / (count + 2)) (put_terms count)
     ≡ stored new ∷ [])
     → length new.values ≡ width_of table
     → ((tree : ℕ) → accepts_terms (put_terms count) (stamped (placed_at table tree) params) ≡ true)
     → passes_checks table (stored new) ≡ true → PutsAs table text params new
-puts_by table text params new count P columns rows parsed is plain untimed made whole counted gives wide accepts passes = record {
-  terms = put_terms count;
-  width = count + 2;
-  means = λ schema p tree has. means schema text (length params) _ _
-      (inserts schema table.name p (placed_at table tree) has text P columns rows (Values (put_terms count) (count + 2)) parsed is plain untimed
-      (made schema tree)) refl whole counted refl refl;
-  gives = gives;
-  wide = wide;
-  accepts = accepts;
-  passes = passes;
-}
+puts_by table text params new count P columns rows parsed is plain untimed made whole counted gives wide
+    accepts passes = record {
+      terms = put_terms count;
+      width = count + 2;
+      means = λ schema p tree has. means schema text (length params) _ _
+          (inserts schema table.name p (placed_at table tree) has text P columns rows
+          (Values (put_terms count) (count + 2)) parsed is plain untimed
+          (made schema tree)) refl whole counted refl refl;
+      gives = gives;
+      wide = wide;
+      accepts = accepts;
+      passes = passes;
+    }

@@ -41,7 +41,9 @@ schema_once : (db : Trees) (s t : Schema) → IsSound s db → IsSound t db → 
 schema_once db s t p q = lists_once (db catalog_tree) s t p.lists q.lists
 
 -- two sound databases over the same trees have one schema
-pub same_schema : (db : Database) (other : Schema) → ∥ IsDatabase db ∥₁ → ∥ IsDatabase (record { schema = other; trees = db.trees }) ∥₁
+pub same_schema : (db : Database) (other : Schema) → ∥ IsDatabase db ∥₁
+    → ∥ IsDatabase (record { schema = other; trees = db.trees }) ∥₁
     → other ≡ db.schema
 same_schema db other p q = ∥∥₁_elim p (Schema-set other db.schema)
-    (λ ours. ∥∥₁_elim q (Schema-set other db.schema) (λ theirs. schema_once db.trees other db.schema theirs ours))
+    (λ ours. ∥∥₁_elim q (Schema-set other db.schema)
+    (λ theirs. schema_once db.trees other db.schema theirs ours))

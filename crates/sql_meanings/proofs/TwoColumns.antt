@@ -62,7 +62,8 @@ use Rattle.sql_meanings.proofs.Tests.{and_both}
 
 -- the test on the two columns
 first_two_test : (one two key : ℤ) (t n : ℤ) (more : List ℤ)
-    → list_all (holds ((Int one ∷ Int two ∷ []) ∷ stored (record { key = key; values = t ∷ n ∷ more }) ∷ [])) (two_are 2 3)
+    → list_all (holds ((Int one ∷ Int two ∷ []) ∷ stored (record { key = key; values = t ∷ n ∷ more }) ∷ []))
+    (two_are 2 3)
     ≡ (int_eq t one && (int_eq n two && true))
 first_two_test one two key t n more = rw (int_equals t one, int_equals n two)
 
@@ -76,7 +77,8 @@ and_false true = refl
 and_false false = refl
 
 passes_is : (one two key : ℤ) (values : List ℤ) → list_all
-    (holds ((Int one ∷ Int two ∷ []) ∷ stored (record { key = key; values = values }) ∷ [])) (two_are 2 3) ≡ begins_with one two values
+    (holds ((Int one ∷ Int two ∷ []) ∷ stored (record { key = key; values = values }) ∷ [])) (two_are 2 3) ≡
+    begins_with one two values
 unfolding binary
 passes_is one two key [] = refl
 passes_is one two key (t ∷ []) = and_false _
@@ -128,7 +130,14 @@ two_clash one two a b (t ∷ n ∷ more) (u ∷ []) low p q = absurd (cc)
 two_clash one two a b (t ∷ n ∷ more) (u ∷ m ∷ rest) low p q =
     let first = and_both (int_eq t one) (int_eq n two) p in
     let second = and_both (int_eq u one) (int_eq m two) q in
-    rw (int_equals t u, int_equals n m, int_differs a b, same_two t u one first.0 second.0, same_two n m two first.1 second.1, low) refl
+    rw (
+      int_equals t u,
+      int_equals n m,
+      int_differs a b,
+      same_two t u one first.0 second.0,
+      same_two n m two first.1 second.1,
+      low,
+    ) refl
 
 not_both : (all : List Entry) (one two : ℤ) (e x : Entry) → Clear all → Has all e → Has all x
     → int_cmp e.key x.key ≡ Less

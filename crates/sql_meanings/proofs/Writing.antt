@@ -95,7 +95,8 @@ module _ (old new : State) (text : List ℕ) (params : Row) (p : ℕ) (table : T
       let made = same_value written.2 in
       let edit = edit_of db table (ids_of given.0) Given 1 given.0 in
       let trees : done.0.trees ≡ written.0 = ap (λ (it : Written). it.trees) made in
-      let now : new.now ≡ record { schema = schema; trees = written.0 } = ap (λ (it : Tally × Database). it.1) last
+      let now : new.now ≡ record { schema = schema; trees = written.0 } = ap
+      (λ (it : Tally × Database). it.1) last
       ∙ ap (λ (t : Trees). let d : Database = record { schema = schema; trees = t } in d) trees in
       let tally : w.tally.rows ≡ Some (length done.0.rows) = ap (λ (it : Tally × Database). it.0.rows) last in
       let met : length done.0.rows ≡ length edit.news = ap (λ (it : Written). length it.rows) made in (
@@ -127,7 +128,8 @@ module _ (old new : State) (text : List ℕ) (params : Row) (p : ℕ) (t : Table
   pub inserts : (terms : List Term) (width : ℕ)
       → Means old.now.schema text (length params) (Insert p (Values terms width))
       → Executes text params old new (Ok count)
-      → Wrote old new (edit_of old.now.trees table [] Chosen 0 (value_rows (stamped table params) width (length terms / width) terms))
+      → Wrote old new (edit_of old.now.trees table [] Chosen 0
+      (value_rows (stamped table params) width (length terms / width) terms))
       count
   inserts terms width m h =
       let schema = old.now.schema in
@@ -143,7 +145,8 @@ module _ (old new : State) (text : List ℕ) (params : Row) (p : ℕ) (t : Table
       let made = same_value counted.2 in
       let edit = edit_of db table [] Chosen 0 given.0 in
       let trees : done.0.trees ≡ written.0 = ap (λ (it : Written). it.trees) made ∙ same_value counted.1 in
-      let now : new.now ≡ record { schema = schema; trees = written.0 } = ap (λ (it : Tally × Database). it.1) last
+      let now : new.now ≡ record { schema = schema; trees = written.0 } = ap
+      (λ (it : Tally × Database). it.1) last
       ∙ ap (λ (t : Trees). let d : Database = record { schema = schema; trees = t } in d) trees in
       let tally : w.tally.rows ≡ Some (length done.0.rows) = ap (λ (it : Tally × Database). it.0.rows) last in
       let met : length done.0.rows ≡ length edit.news = ap (λ (it : Written). length it.rows) made in

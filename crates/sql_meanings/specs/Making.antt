@@ -75,7 +75,8 @@ pub record CreatesOnly (text : List ℕ) (t : Table) : Type 0 where
 abbrev pub RefusesNew : Schema → Table → Error → Type 0
 RefusesNew schema t e =
     ((e ≡ SqliteFailure NameTaken)
-    × ((is_used schema t.name ≡ true) ⊎ ((i : Index) × Has (automatics t 0 0 t.uniques) i × (is_used schema i.name ≡ true))))
+    × ((is_used schema t.name ≡ true)
+    ⊎ ((i : Index) × Has (automatics t 0 0 t.uniques) i × (is_used schema i.name ≡ true))))
     ⊎ ((e ≡ SqliteFailure SchemaTooBig) × (65536 ≤ next_tree schema + length t.uniques))
 
 -- A CREATE TABLE is refused: under the schema the text isn't understood, as where an index has the name; or
@@ -84,7 +85,8 @@ abbrev pub NotMade : Schema → List ℕ → Table → Error → Type 0
 NotMade schema text t e =
     ((fault : CompileError) × (understood schema text ≡ Err fault) × (e ≡ SqlInputError fault))
     ⊎ (RefusesNew schema t e
-    ⊎ (IsTrue (lacks_sequence (created schema t)) × (counts : Table) × (table_defined_by sequence_text ≡ Ok counts)
+    ⊎ (IsTrue (lacks_sequence (created schema t)) × (counts : Table)
+    × (table_defined_by sequence_text ≡ Ok counts)
     × RefusesNew (created schema t) counts e))
 
 -- every table that was there is there, with its rows

@@ -36,7 +36,8 @@ ReadFails old new e = Fails old new ⊥ e ⊎
 -- the same, or memory for the answer was refused and nothing has changed
 abbrev pub IsStoreError : State → State → Error → Type 0
 IsStoreError old new e =
-    Fails old new ⊥ e ⊎ (((e ≡ SqliteFailure OutOfMemory) ⊎ ((e ≡ SqliteFailure OperationInterrupted) × IsSome old.step_limit))
+    Fails old new ⊥ e ⊎ (((e ≡ SqliteFailure OutOfMemory)
+    ⊎ ((e ≡ SqliteFailure OperationInterrupted) × IsSome old.step_limit))
     × IsUnchanged old new)
 
 -- the transaction goes on, and only what it shows now may differ
@@ -75,21 +76,24 @@ has_unique schema table = list_any (λ i. i.is_unique && (i.table == tree_of sch
 -- a UNIQUE is on the table, and no sound database with this schema has these rows in it
 abbrev pub Forbids : Schema → Table → List Entry → Type 0
 Forbids schema table entries = IsTrue (has_unique schema table)
-    × ((trees : Trees) → IsDatabase (record { schema = schema; trees = trees }) → trees (tree_of schema table.name) ≢ map stored entries)
+    × ((trees : Trees) → IsDatabase (record { schema = schema; trees = trees })
+    → trees (tree_of schema table.name) ≢ map stored entries)
 
 -- Why a row can't be put in: the store failed, and the transaction is rolled back; or the limit on steps was
 -- met, or a UNIQUE of the schema allows no such rows, and nothing has changed.
 abbrev pub PutFails : State → State → Table → Type 0 → Error → Type 0
 PutFails old new table NoSuchRows e =
     Fails old new (HasWideIndex old.now.schema table) e
-    ⊎ ((IsInterrupted old e ⊎ ((e ≡ SqliteFailure (ConstraintViolation Unique)) × NoSuchRows)) × IsUnchanged old new)
+    ⊎ ((IsInterrupted old e ⊎ ((e ≡ SqliteFailure (ConstraintViolation Unique)) × NoSuchRows))
+    × IsUnchanged old new)
 
 -- Why a row can't be changed: the same; or another table has a foreign key to this one, and what that sets
 -- off failed or broke a rule.
 abbrev pub SetFails : State → State → Table → Type 0 → Error → Type 0
 SetFails old new table NoSuchRows e =
     PutFails old new table NoSuchRows e
-    ⊎ (IsTrue (is_parent old.now.schema table) × (Fails old new ⊤ e ⊎ (((why : Refusal) × (e ≡ edit_error why)) × IsUnchanged old new)))
+    ⊎ (IsTrue (is_parent old.now.schema table)
+    × (Fails old new ⊤ e ⊎ (((why : Refusal) × (e ≡ edit_error why)) × IsUnchanged old new)))
 
 -- no transaction goes on, and a connection that is open shows what was last committed
 abbrev pub IsUndone : State → State → Type 0

@@ -8,11 +8,25 @@ use Rattle.sqlite_schema.specs.declared.schema.Column.{Column}
 
 -- the column of an INTEGER PRIMARY KEY
 abbrev pub key_column : List ℕ → Column
-key_column name = record { name = name; kind = Integer; is_strict = true; not_null = false; default = Null; collation = Binary }
+key_column name = record {
+  name = name;
+  kind = Integer;
+  is_strict = true;
+  not_null = false;
+  default = Null;
+  collation = Binary;
+}
 
 -- the column of an INTEGER NOT NULL
 abbrev pub number_column : List ℕ → Column
-number_column name = record { name = name; kind = Integer; is_strict = true; not_null = true; default = Null; collation = Binary }
+number_column name = record {
+  name = name;
+  kind = Integer;
+  is_strict = true;
+  not_null = true;
+  default = Null;
+  collation = Binary;
+}
 
 -- the table of this name, key and further columns, with no other rule; its tree is chosen as it is made
 abbrev pub plain_table : List ℕ → List ℕ → List (List ℕ) → Table

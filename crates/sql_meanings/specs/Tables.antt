@@ -23,7 +23,8 @@ placed_at table tree = record table { tree = tree }
 -- the name finds this table, but for its tree, and no other table has that tree
 pub record Defines (schema : Schema) (table : Table) : Type 0 where
   pub found : table_of schema table.name ≡ Some (placed_at table (tree_of schema table.name))
-  pub apart : AllByRecursion (λ t. t.tree ≡ tree_of schema table.name → t ≡ placed_at table (tree_of schema table.name)) schema.tables
+  pub apart : AllByRecursion (λ t. t.tree ≡ tree_of schema table.name
+      → t ≡ placed_at table (tree_of schema table.name)) schema.tables
 
 -- how many columns it has beside its key
 abbrev pub width_of : Table → ℕ

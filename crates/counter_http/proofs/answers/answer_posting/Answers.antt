@@ -41,3 +41,9 @@ returns-in-Err-clause-answers g c =
           c.in-Err.ensures.honest)
           c.fail.ensures.written.1 c.fail.ensures.written.2,
     )
+
+pub returns-in-Ok-clause-ends : goal.returns-in-Ok-clause-ends
+returns-in-Ok-clause-ends g c = c.say.ensures.ends
+
+pub returns-in-Err-clause-ends : goal.returns-in-Err-clause-ends
+returns-in-Err-clause-ends g c = c.fail.ensures.ends

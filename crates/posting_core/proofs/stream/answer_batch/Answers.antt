@@ -1,15 +1,51 @@
-use Rattle.std.proofs.Common.{arith, rules}
-use Rattle.std.proofs.lemmas.Grind.{common_steps}
+use Rattle.std.proofs.Common.{◌∙◌, ℕ, ap, sym, take, rules}
+use Rattle.std.proofs.Math.Seq.{take-length}
+use Rattle.std.proofs.lemmas.List.{length-take-le}
+use Rattle.posting_rules.specs.Runs.{posts, replies_to}
+use Rattle.posting_core.specs.Batches.{joined}
 use Rattle.posting_core.proofs.stream.answer_batch.Goals as goal
 
 pub returns-in-Ok-write_out-clause-answers : goal.returns-in-Ok-write_out-clause-answers
-returns-in-Ok-write_out-clause-answers g c = grind (arith, common_steps)
+returns-in-Ok-write_out-clause-answers g c =
+    let bytes = c.as_flattened.result.now in
+    let w = c.in-Ok-write_out.ensures.written in (
+      c.now-moment.result,
+      c.now-moment.ensures,
+      record {
+        written = take w.0 bytes;
+        wrote = w.2;
+        takes = c.in-Ok.ensures.done;
+        replies = λ h log s. ap (λ (n : ℕ). take n bytes) w.3 ∙ take-length bytes
+            ∙ c.as_flattened.ensures.value
+            ∙ ap joined (c.deref.ensures.value ∙ c.in-Ok.ensures.replies h log s);
+      },
+    )
+
+pub returns-in-Ok-write_out-clause-flushed : goal.returns-in-Ok-write_out-clause-flushed
+returns-in-Ok-write_out-clause-flushed g c = c.in-Ok-write_out.ensures.flushed
 
 pub returns-in-Err-clause-answers : goal.returns-in-Err-clause-answers
 returns-in-Err-clause-answers g c = search rules
 
-pub returns-clause-answers : goal.returns-clause-answers
-returns-clause-answers g c = grind (arith, common_steps)
-
 pub returns-in-Err-clause-unasked : goal.returns-in-Err-clause-unasked
 returns-in-Err-clause-unasked g c = search rules
+
+pub returns-clause-answers : goal.returns-clause-answers
+returns-clause-answers g c =
+    let bytes = c.as_flattened.result.now in
+    let w = c.in-Err-write_out.ensures.written in (
+      c.now-moment.result,
+      c.now-moment.ensures,
+      record {
+        written = take w.0 bytes;
+        wrote = w.2;
+        takes = c.in-Ok.ensures.done;
+        replies = λ h log s. ap (take w.0) (c.as_flattened.ensures.value
+            ∙ ap joined (c.deref.ensures.value ∙ c.in-Ok.ensures.replies h log s))
+            ∙ ap (λ (n : ℕ). take n (joined (replies_to log (posts c.now-moment.result c.args.records.now))))
+            (sym (length-take-le w.0 bytes w.1));
+      },
+    )
+
+pub returns-clause-unwritten : goal.returns-clause-unwritten
+returns-clause-unwritten g c = λ _. c.in-Err-write_out.ensures.failed
