@@ -110,24 +110,14 @@ module _ {C : Type 0} (seen : C → Seen) (image : Image) (r r' w w' k k' : Opti
       absurd (omega (arith, letter_of words (Load file plan) spelled, ap letter (ap (drop 1) asked.3)))
   made_by asked (Post file) result spelled does done =
       absurd (omega (arith, letter_of words (Post file) spelled, ap letter (ap (drop 1) asked.3)))
-  made_by asked (Drive file seed count) result spelled does done =
-      absurd (omega (arith, letter_of words (Drive file seed count) spelled, ap letter (ap (drop 1) asked.3)))
+  made_by asked (Drive f s n) result spelled does done =
+      absurd (omega (arith, letter_of words (Drive f s n) spelled, ap letter (ap (drop 1) asked.3)))
   made_by asked (Audit file) result spelled does done =
       absurd (omega (arith, letter_of words (Audit file) spelled, ap letter (ap (drop 1) asked.3)))
-  made_by asked (Statement file account) result spelled does done =
-      absurd (omega (
-        arith,
-        letter_of words (Statement file account) spelled,
-        ap letter
-            (ap (drop 1) asked.3),
-      ))
-  made_by asked (Serve file address connections) result spelled does done =
-      absurd (omega (
-        arith,
-        letter_of words (Serve file address connections) spelled,
-        ap letter
-            (ap (drop 1) asked.3),
-      ))
+  made_by asked (Statement f n) result spelled does done =
+      absurd (omega (arith, letter_of words (Statement f n) spelled, ap letter (ap (drop 1) asked.3)))
+  made_by asked (Serve f a n) result spelled does done =
+      absurd (omega (arith, letter_of words (Serve f a n) spelled, ap letter (ap (drop 1) asked.3)))
 
   pub loaded_by : AskToLoad words → (command : Command) (result : Result Status CommandFault)
       → IsSpelledBy words command
@@ -139,24 +129,14 @@ module _ {C : Type 0} (seen : C → Seen) (image : Image) (r r' w w' k k' : Opti
       absurd (omega (arith, letter_of words (Init file) spelled, ap letter (ap (drop 1) asked.5)))
   loaded_by asked (Post file) result spelled does =
       absurd (omega (arith, letter_of words (Post file) spelled, ap letter (ap (drop 1) asked.5)))
-  loaded_by asked (Drive file seed count) result spelled does =
-      absurd (omega (arith, letter_of words (Drive file seed count) spelled, ap letter (ap (drop 1) asked.5)))
+  loaded_by asked (Drive f s n) result spelled does =
+      absurd (omega (arith, letter_of words (Drive f s n) spelled, ap letter (ap (drop 1) asked.5)))
   loaded_by asked (Audit file) result spelled does =
       absurd (omega (arith, letter_of words (Audit file) spelled, ap letter (ap (drop 1) asked.5)))
-  loaded_by asked (Statement file account) result spelled does =
-      absurd (omega (
-        arith,
-        letter_of words (Statement file account) spelled,
-        ap letter
-            (ap (drop 1) asked.5),
-      ))
-  loaded_by asked (Serve file address connections) result spelled does =
-      absurd (omega (
-        arith,
-        letter_of words (Serve file address connections) spelled,
-        ap letter
-            (ap (drop 1) asked.5),
-      ))
+  loaded_by asked (Statement f n) result spelled does =
+      absurd (omega (arith, letter_of words (Statement f n) spelled, ap letter (ap (drop 1) asked.5)))
+  loaded_by asked (Serve f a n) result spelled does =
+      absurd (omega (arith, letter_of words (Serve f a n) spelled, ap letter (ap (drop 1) asked.5)))
 
   -- a run says what its command says
   said : (result : Result Status CommandFault)
@@ -177,24 +157,14 @@ module _ {C : Type 0} (seen : C → Seen) (image : Image) (r r' w w' k k' : Opti
       absurd (omega (arith, letter_of words (Init file) spelled, ap letter (ap (drop 1) asked.3)))
   posted_by asked (Load file plan) result spelled does =
       absurd (omega (arith, letter_of words (Load file plan) spelled, ap letter (ap (drop 1) asked.3)))
-  posted_by asked (Drive file seed count) result spelled does =
-      absurd (omega (arith, letter_of words (Drive file seed count) spelled, ap letter (ap (drop 1) asked.3)))
+  posted_by asked (Drive f s n) result spelled does =
+      absurd (omega (arith, letter_of words (Drive f s n) spelled, ap letter (ap (drop 1) asked.3)))
   posted_by asked (Audit file) result spelled does =
       absurd (omega (arith, letter_of words (Audit file) spelled, ap letter (ap (drop 1) asked.3)))
-  posted_by asked (Statement file account) result spelled does =
-      absurd (omega (
-        arith,
-        letter_of words (Statement file account) spelled,
-        ap letter
-            (ap (drop 1) asked.3),
-      ))
-  posted_by asked (Serve file address connections) result spelled does =
-      absurd (omega (
-        arith,
-        letter_of words (Serve file address connections) spelled,
-        ap letter
-            (ap (drop 1) asked.3),
-      ))
+  posted_by asked (Statement f n) result spelled does =
+      absurd (omega (arith, letter_of words (Statement f n) spelled, ap letter (ap (drop 1) asked.3)))
+  posted_by asked (Serve f a n) result spelled does =
+      absurd (omega (arith, letter_of words (Serve f a n) spelled, ap letter (ap (drop 1) asked.3)))
 
   pub driven_in : (asked : AskToDrive words) (command : Command) (result : Result Status CommandFault)
       → IsSpelledBy words command
@@ -217,20 +187,10 @@ module _ {C : Type 0} (seen : C → Seen) (image : Image) (r r' w w' k k' : Opti
       absurd (omega (arith, letter_of words (Post file) spelled, ap letter (ap (drop 1) asked.7)))
   driven_in asked (Audit file) result spelled does =
       absurd (omega (arith, letter_of words (Audit file) spelled, ap letter (ap (drop 1) asked.7)))
-  driven_in asked (Statement file account) result spelled does =
-      absurd (omega (
-        arith,
-        letter_of words (Statement file account) spelled,
-        ap letter
-            (ap (drop 1) asked.7),
-      ))
-  driven_in asked (Serve file address connections) result spelled does =
-      absurd (omega (
-        arith,
-        letter_of words (Serve file address connections) spelled,
-        ap letter
-            (ap (drop 1) asked.7),
-      ))
+  driven_in asked (Statement f n) result spelled does =
+      absurd (omega (arith, letter_of words (Statement f n) spelled, ap letter (ap (drop 1) asked.7)))
+  driven_in asked (Serve f a n) result spelled does =
+      absurd (omega (arith, letter_of words (Serve f a n) spelled, ap letter (ap (drop 1) asked.7)))
 
 -- ---- where memory ran out before the command was read
 

@@ -57,19 +57,9 @@ module _ {C : Type 0} (seen : C → Seen) (image : Image) (r r' w w' k k' : Opti
       absurd (omega (arith, letter_of words (Load file plan) spelled, ap letter (ap (drop 1) asked.3)))
   audited_in asked (Post file) result spelled does =
       absurd (omega (arith, letter_of words (Post file) spelled, ap letter (ap (drop 1) asked.3)))
-  audited_in asked (Drive file seed count) result spelled does =
-      absurd (omega (arith, letter_of words (Drive file seed count) spelled, ap letter (ap (drop 1) asked.3)))
-  audited_in asked (Statement file account) result spelled does =
-      absurd (omega (
-        arith,
-        letter_of words (Statement file account) spelled,
-        ap letter
-            (ap (drop 1) asked.3),
-      ))
-  audited_in asked (Serve file address connections) result spelled does =
-      absurd (omega (
-        arith,
-        letter_of words (Serve file address connections) spelled,
-        ap letter
-            (ap (drop 1) asked.3),
-      ))
+  audited_in asked (Drive f s n) result spelled does =
+      absurd (omega (arith, letter_of words (Drive f s n) spelled, ap letter (ap (drop 1) asked.3)))
+  audited_in asked (Statement f n) result spelled does =
+      absurd (omega (arith, letter_of words (Statement f n) spelled, ap letter (ap (drop 1) asked.3)))
+  audited_in asked (Serve f a n) result spelled does =
+      absurd (omega (arith, letter_of words (Serve f a n) spelled, ap letter (ap (drop 1) asked.3)))

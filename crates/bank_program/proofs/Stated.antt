@@ -77,8 +77,8 @@ module _ {C : Type 0} (seen : C → Seen) (image : Image) (r r' w w' k k' : Opti
       absurd (omega (arith, letter_of words (Load file plan) spelled, ap letter (ap (drop 1) asked.5)))
   stated_in asked (Post file) result spelled does =
       absurd (omega (arith, letter_of words (Post file) spelled, ap letter (ap (drop 1) asked.5)))
-  stated_in asked (Drive file seed count) result spelled does =
-      absurd (omega (arith, letter_of words (Drive file seed count) spelled, ap letter (ap (drop 1) asked.5)))
+  stated_in asked (Drive f s n) result spelled does =
+      absurd (omega (arith, letter_of words (Drive f s n) spelled, ap letter (ap (drop 1) asked.5)))
   stated_in asked (Audit file) result spelled does =
       absurd (omega (arith, letter_of words (Audit file) spelled, ap letter (ap (drop 1) asked.5)))
   stated_in asked (Serve file address connections) result spelled does =
