@@ -138,6 +138,14 @@ pub any_default : (l : List ℤ) (i : ℕ) (d d' : ℤ) → i < length l → get
 any_default l i d d' low = ap (λ x. get_or x i d') (sym (set-get_or l i d))
     ∙ get_or-set_same l i (get_or l i d) d' low
 
+-- where sums are small, so is the one at a place
+pub small_at : (sums : List ℤ) (p count : ℕ) (v : ℤ) → AreSmall sums count → p < length sums → v
+    ≡ get_or sums p v
+    → (v ≡ get_or sums p (pos 0)) × (nat_abs v ≤ 9223372036854775808 * count)
+small_at sums p count v small low is =
+    let stands : v ≡ get_or sums p (pos 0) = is ∙ any_default sums p (pos 0) v low in
+    (stands, subst (λ (z : ℤ). nat_abs z ≤ 9223372036854775808 * count) (sym stands) (small p))
+
 not_there : (p i : ℕ) → nat_eq p i ≡ false → i ≡ p → ⊥
 not_there p i e same = grind (arith, nat_tests)
 
