@@ -3,8 +3,8 @@
 #![tactic(auto)]
 
 use bank_clock::SystemClock;
-use bank_program::{run, words_of};
 use bank_endings::tell_no_words;
+use bank_program::{run, words_of};
 use sqlite::Unknown;
 use std::process::ExitCode;
 

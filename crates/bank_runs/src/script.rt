@@ -2,8 +2,8 @@
 use crate::ends::Broken;
 use crate::showing::shown;
 use anyhow::bail;
-use bank_program::run;
 use bank_endings::Status;
+use bank_program::run;
 use posting_core::StoredClock;
 use sqlite::{Connection, Error, Unknown};
 use std::alloc::{AllocError, Global};
