@@ -1,4 +1,5 @@
 //! A call in which the machine stops, on any bank and any store: what it adds, and how far it came.
+use crate::readings::{Reading, made_of_postings, read};
 use crate::sql::number;
 use bank_store::{Bank, OpenFault, Refused, adopt, create};
 use message_records::{Branch, Moment};
@@ -113,8 +114,8 @@ fn make<C: Counter>(rt: &impl Abort, bank: &mut C, call: Call) -> Result<(), Fau
     Ok(())
 }
 
-// Takes up the bank.
-fn taken_up<S: Alter + Drop>(
+/// Takes up the bank.
+pub fn taken_up<S: Alter + Drop>(
     rt: &(impl Abort + Alloc<A = Global>),
     conn: Connection<S>,
 ) -> Result<Bank<S>, OpenFault> {
@@ -125,8 +126,8 @@ fn taken_up<S: Alter + Drop>(
     }
 }
 
-// Makes a bank: branch 1 with three accounts and branch 2 with two.
-fn made<S: Alter + Drop>(
+/// Makes a bank: branch 1 with three accounts and branch 2 with two.
+pub fn made<S: Alter + Drop>(
     rt: &(impl Abort + Alloc<A = Global>),
     conn: Connection<S>,
 ) -> Result<Connection<S>, OpenFault> {
@@ -141,24 +142,23 @@ fn made<S: Alter + Drop>(
     }
 }
 
-// Takes up the bank and makes the call, until that ends or the machine stops.
-fn called<S: Alter + Drop>(
+// Takes up the bank, and gives the connection back where the machine stops.
+fn found<S: Alter + Drop>(
     rt: &(impl Abort + Alloc<A = Global>),
     conn: Connection<S>,
-    call: Call,
-) -> Worked<S> {
+) -> Result<Bank<S>, Connection<S>> {
     assert!(rt; conn.is_autocommit());
-    let mut bank = match adopt(rt.alloc(), conn) {
-        Ok(bank) => bank,
+    match adopt(rt.alloc(), conn) {
+        Ok(bank) => Ok(bank),
         Err(Refused { fault, conn }) => {
             assert_eq!(rt; fault, OpenFault::Store);
-            return Worked {
-                is_begun: false,
-                is_done: false,
-                conn,
-            };
+            Err(conn)
         }
-    };
+    }
+}
+
+// Makes the call, until that ends or the machine stops.
+fn called<S: Alter + Drop>(rt: &impl Abort, mut bank: Bank<S>, call: Call) -> Worked<S> {
     let answer = make(rt, &mut bank, call);
     match answer {
         Ok(()) => assert_eq!(rt; bank.cause(), None),
@@ -196,8 +196,12 @@ fn resent<S: Alter + Drop>(
 pub enum Task {
     /// Makes it, with two branches.
     Make,
+    /// Makes it, with many postings.
+    MakeOfPostings,
     /// Makes the call.
     Call(Call),
+    /// Reads all that was posted.
+    Read(Reading),
     /// Tests what the call left, which was answered or not, and makes it again.
     Resend(Call, bool),
 }
@@ -210,20 +214,43 @@ pub struct Worked<S: Alter> {
     pub conn: Connection<S>,
 }
 
-/// Does the task, until that ends or the machine stops. Only a call may stop.
+impl<S: Alter> Worked<S> {
+    // It came to its end.
+    fn done(conn: Connection<S>) -> Self {
+        Worked {
+            is_begun: true,
+            is_done: true,
+            conn,
+        }
+    }
+
+    // The machine stopped before it began.
+    fn not_begun(conn: Connection<S>) -> Self {
+        Worked {
+            is_begun: false,
+            is_done: false,
+            conn,
+        }
+    }
+}
+
+/// Does the task, until that ends or the machine stops. Only a call and a reading may stop.
 pub fn work<S: Alter + Drop>(
     rt: &(impl Abort + Alloc<A = Global>),
     conn: Connection<S>,
     task: Task,
 ) -> Result<Worked<S>, Fail> {
-    let conn = match task {
-        Task::Call(call) => return Ok(called(rt, conn, call)),
-        Task::Make => made(rt, conn)?,
-        Task::Resend(call, is_answered) => resent(rt, conn, call, is_answered)?,
-    };
-    Ok(Worked {
-        is_begun: true,
-        is_done: true,
-        conn,
-    })
+    match task {
+        Task::Make => Ok(Worked::done(made(rt, conn)?)),
+        Task::MakeOfPostings => Ok(Worked::done(made_of_postings(rt, conn)?)),
+        Task::Resend(call, is_answered) => Ok(Worked::done(resent(rt, conn, call, is_answered)?)),
+        Task::Call(call) => match found(rt, conn) {
+            Ok(bank) => Ok(called(rt, bank, call)),
+            Err(conn) => Ok(Worked::not_begun(conn)),
+        },
+        Task::Read(reading) => match found(rt, conn) {
+            Ok(bank) => read(rt, bank, reading),
+            Err(conn) => Ok(Worked::not_begun(conn)),
+        },
+    }
 }

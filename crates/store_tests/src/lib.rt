@@ -1,11 +1,15 @@
 //! Tests of the bank in tables that no scenario reaches: each statement of the six tables once, walks over rows that
-//! stand beside one another, and machines that stop.
+//! stand beside one another, machines that stop, files that fail while a bank is read, and reports that are cut.
 #![tactic(auto)]
 
 #[cfg(test)]
 mod calls;
 #[cfg(test)]
 mod files;
+#[cfg(test)]
+mod readings;
+#[cfg(test)]
+mod reports;
 #[cfg(test)]
 mod rows;
 #[cfg(test)]

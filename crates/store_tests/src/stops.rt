@@ -1,6 +1,7 @@
 //! A machine that stops in the middle of a call: what the files hold then, and what a resend gets.
 use crate::calls::{Call, Task, Worked, work};
 use crate::files::{Fused, Image, closed, crash, fused, opened, written};
+use crate::readings::Reading;
 use sqlite::Files;
 use std::alloc::{Alloc, Global};
 use std::process::Abort;
@@ -41,13 +42,13 @@ fn run(
     }
 }
 
-// A bank of two branches, in files.
-fn two_branches(rt: &(impl Abort + Alloc<A = Global>)) -> Result<Image, Fail> {
+// What making a bank leaves in files that hold nothing.
+fn made(rt: &(impl Abort + Alloc<A = Global>), task: Task) -> Result<Image, Fail> {
     let files = Files {
         log: fused(rt, &[], u64::MAX),
         db: fused(rt, &[], u64::MAX),
     };
-    let ended = run(rt, files, Task::Make)?;
+    let ended = run(rt, files, task)?;
     assert!(rt; ended.is_done);
     written(rt.alloc(), &ended.files)
 }
@@ -122,9 +123,72 @@ fn stop_at_each(
 
 // Stops at each call on the file while the bank works.
 fn stop_in(rt: &(impl Abort + Alloc<A = Global>), call: Call, stops_db: bool) -> Result<(), Fail> {
-    let start = two_branches(rt)?;
+    let start = made(rt, Task::Make)?;
     assert!(rt; stop_at_each(rt, &start, call, stops_db)? > 0);
     Ok(())
+}
+
+// Reads the files, each of which fails behind so many calls. Reading changes neither.
+fn read_until(
+    rt: &(impl Abort + Alloc<A = Global>),
+    start: &Image,
+    reading: Reading,
+    calls: u64,
+) -> Result<Ended, Fail> {
+    let files = Files {
+        db: fused(rt, &start.db, calls),
+        log: fused(rt, &start.log, calls),
+    };
+    let ended = run(rt, files, Task::Read(reading))?;
+    let left = written(rt.alloc(), &ended.files)?;
+    assert!(rt; left.db.as_slice() == start.db.as_slice());
+    assert!(rt; left.log.as_slice() == start.log.as_slice());
+    Ok(ended)
+}
+
+// The least number of calls behind which the reading has begun.
+fn calls_to_begin(
+    rt: &(impl Abort + Alloc<A = Global>),
+    start: &Image,
+    reading: Reading,
+) -> Result<u64, Fail> {
+    let mut low = 0u64;
+    let mut high = 4_096u64;
+    for _ in 0..12u8 {
+        let middle = low.midpoint(high);
+        if read_until(rt, start, reading, middle)?.is_begun {
+            high = middle;
+        } else {
+            low = middle;
+        }
+    }
+    Ok(high)
+}
+
+// Lets the files fail behind more and more calls, from the first reading that begins up to one that ends: the others stop
+// late.
+fn fail_while_reading(rt: &(impl Abort + Alloc<A = Global>), reading: Reading) -> Result<(), Fail> {
+    let start = made(rt, Task::MakeOfPostings)?;
+    let first = calls_to_begin(rt, &start, reading)?;
+    for more in 0..1_000u64 {
+        let ended = read_until(rt, &start, reading, first.saturating_add(more))?;
+        assert!(rt; ended.is_begun);
+        if ended.is_done {
+            assert!(rt; more > 0);
+            return Ok(());
+        }
+    }
+    Err("a reading that ends".into())
+}
+
+#[test]
+fn a_walk_stops_behind_its_first_row(rt: HostRuntime) -> Result<(), Fail> {
+    fail_while_reading(&rt, Reading::History)
+}
+
+#[test]
+fn an_audit_stops(rt: HostRuntime) -> Result<(), Fail> {
+    fail_while_reading(&rt, Reading::Audit)
 }
 
 #[test]
