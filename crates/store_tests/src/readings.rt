@@ -61,7 +61,8 @@ pub fn made_of_postings<S: Alter + Drop>(
     Ok(bank.release())
 }
 
-// How many postings a walk gives, in order and each with its request, and the fault that ended it, if one did.
+// How many postings a walk gives, in order and each with its request, and the fault that ended it, if one
+// did.
 fn given<S: Alter>(rt: &impl Abort, bank: &mut Bank<S>) -> Result<(u64, Option<Fault>), Fail> {
     let mut walk = each_history(bank)?;
     for count in 0..=POSTINGS {
@@ -94,7 +95,8 @@ fn audited<S: Alter>(rt: &impl Abort, bank: &mut Bank<S>) -> Option<Fault> {
     }
 }
 
-/// Reads until that ends or the store fails. A walk is begun where a row was given. Neither brings the bank down.
+/// Reads until that ends or the store fails. A walk is begun where a row was given. Neither brings the bank
+/// down.
 pub fn read<S: Alter + Drop>(
     rt: &impl Abort,
     mut bank: Bank<S>,

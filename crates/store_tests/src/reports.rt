@@ -39,8 +39,8 @@ fn post<C: Counter>(
     Ok(())
 }
 
-// The statement of account 1 to a writer that refuses after so many bytes, for each number of them, and a posting to
-// account 2 behind it.
+// The statement of account 1 to a writer that refuses after so many bytes, for each number of them, and a
+// posting to account 2 behind it.
 fn statement_is_cut<S: Alter + Drop>(
     rt: &(impl Abort + Alloc<A = Global>),
     bank: &mut Bank<S>,

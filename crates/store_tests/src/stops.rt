@@ -165,8 +165,8 @@ fn calls_to_begin(
     Ok(high)
 }
 
-// Lets the files fail behind more and more calls, from the first reading that begins up to one that ends: the others stop
-// late.
+// Lets the files fail behind more and more calls, from the first reading that begins up to one that ends: the
+// others stop late.
 fn fail_while_reading(rt: &(impl Abort + Alloc<A = Global>), reading: Reading) -> Result<(), Fail> {
     let start = made(rt, Task::MakeOfPostings)?;
     let first = calls_to_begin(rt, &start, reading)?;
