@@ -1,7 +1,6 @@
 //! The commands of the program over a bank in a file: `init` makes it, `load` opens its branches, `post`
-//! posts to it, `drive` posts what the driver draws, `serve` posts what comes over HTTP, `audit` tells
-//! whether the
-//! books agree, and `statement` writes the postings of an account.
+//! posts to it, `drive` posts what the driver draws, `serve` posts what comes over HTTP, `audit` says whether
+//! the books agree, and `statement` writes the postings of an account.
 #![tactic(auto)]
 
 mod auditing;
