@@ -9,10 +9,10 @@ use Rattle.sqlite.specs.State.{State, HasCleanDisk, Survives}
 use Rattle.posting_rules.specs.declared.fault.Fault.{Fault}
 use Rattle.posting_rules.specs.declared.fault.Fault.TheVariants as told
 use Rattle.bank_store.specs.Walking.{Steps}
-use Rattle.bank_store.specs.Walks.{IsStill, IsUndone}
+use Rattle.bank_store.specs.Walks.{IsStill, IsUntouchedIfOpen}
 use Rattle.bank_reports.specs.Beside.{AuditRows}
 use Rattle.bank_reports.specs.declared.limits.TheConstants.{MOST_ROWS}
-use Rattle.bank_audits.specs.Adding.{Adds, HasSums, IsBehind, IsPassed}
+use Rattle.bank_audits.specs.Adding.{AddsToSums, HasSums, IsBehind, IsPassed}
 use Rattle.bank_audits.specs.Failures.{Says}
 use Rattle.bank_audits.specs.Files.{HasBroken}
 use Rattle.bank_audits.specs.declared.sums.Sums.{Sums}
@@ -27,7 +27,7 @@ pub record IsGathered {R X : Type 0} (item : R → X) (HasItems : Database → L
   pub given : List R
   pub many : length given ≡ count
   pub are : Clean → (items : List X) → HasItems db items → map item given ++ coming items ≡ all items
-  pub added : Adds with_rows old new given
+  pub added : AddsToSums with_rows old new given
 
 module _ {R X : Type 0} (item : R → X) (HasItems : Database → List X → Type 0)
     (with_rows : AuditRows → List R → AuditRows) (db : Database)
@@ -133,7 +133,7 @@ module _ (old mid new : State) (survived : Survives old mid (λ _. ⊥))
   }
 
   -- a step that failed
-  pub passed_err : (fault : Fault) → (HasCleanDisk new → IsUndone mid new)
+  pub passed_err : (fault : Fault) → (HasCleanDisk new → IsUntouchedIfOpen mid new)
       → IsPassed old new (Err fault)
   passed_err fault undone = record {
     survives = quiet_then old mid new survived survives;

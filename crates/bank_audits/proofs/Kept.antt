@@ -5,19 +5,19 @@ use Rattle.sqlite.specs.Effect.{Database}
 use Rattle.sqlite.specs.State.{State, Survives}
 use Rattle.sqlite.proofs.StateLemmas.{survives_then}
 use Rattle.sql_meanings.specs.Entries.{Entry}
-use Rattle.bank_walks.specs.Rows.{HasRows}
-use Rattle.bank_store.specs.Walks.{IsUndone, IsStill}
+use Rattle.bank_walks.specs.Rows.{HasStoredRows}
+use Rattle.bank_store.specs.Walks.{IsUntouchedIfOpen, IsStill}
 
 -- a connection that sees what it saw has the same rows
 pub still_has : (old new : State) (table : Table) (rows : List Entry) → IsStill old new
-    → HasRows old.now table rows → HasRows new.now table rows
-still_has old new table rows still = subst (λ (d : Database). HasRows d table rows) (sym still.0)
+    → HasStoredRows old.now table rows → HasStoredRows new.now table rows
+still_has old new table rows still = subst (λ (d : Database). HasStoredRows d table rows) (sym still.0)
 
 -- a step more
 pub still_then : (old mid new : State) → IsStill old mid → IsStill mid new → IsStill old new
 still_then old mid new a b = (b.0 ∙ a.0, b.1 ∙ a.1, b.2 ∙ a.2, b.3 ∙ a.3)
 
-pub undone_then : (old mid new : State) → IsStill old mid → IsUndone mid new → IsUndone old new
+pub undone_then : (old mid new : State) → IsStill old mid → IsUntouchedIfOpen mid new → IsUntouchedIfOpen old new
 undone_then old mid new a b is_open =
     let it = b is_open in
     record {
@@ -29,7 +29,7 @@ undone_then old mid new a b is_open =
     }
 
 -- nothing is to be undone
-pub still_undone : (old new : State) → IsStill old new → IsUndone old new
+pub still_undone : (old new : State) → IsStill old new → IsUntouchedIfOpen old new
 still_undone old new a is_open =
     record {
       was_open = subst IsTrue a.3 is_open;

@@ -6,7 +6,7 @@ use Rattle.std.proofs.lemmas.Int.{ints}
 use Rattle.std.proofs.lemmas.List.{length-append, map-append}
 use Rattle.std.proofs.Math.IntN.{+ℤ_assoc}
 use Rattle.message_records.specs.declared.limits.TheConstants.{MAX_BALANCE}
-use Rattle.posting_rules.specs.Entries.{Entry, account_balance}
+use Rattle.posting_rules.specs.Entries.{DecidedRequest, account_balance}
 use Rattle.posting_rules.specs.Laws.{total}
 use Rattle.bank_walks.specs.declared.postings.StoredPosting.{StoredPosting}
 use Rattle.bank_reports.specs.StatementText.{posting_line, posting_lines}
@@ -54,7 +54,7 @@ lines-snoc rs r = posting_lines-snoc (pos 0) rs r
 -- ---- behind a log
 
 -- what is posted to an account is its balance
-pub sum_is_balance : (a : ℕ) (es : List Entry) → sum_of (postings_to a es) ≡ account_balance es a
+pub sum_is_balance : (a : ℕ) (es : List DecidedRequest) → sum_of (postings_to a es) ≡ account_balance es a
 sum_is_balance a [] = refl
 sum_is_balance a (e ∷ es) = last (is_posted_to a e) (sum_is_balance a es)
   where
@@ -66,7 +66,7 @@ sum_is_balance a (e ∷ es) = last (is_posted_to a e) (sum_is_balance a es)
     last false earlier = earlier
 
 -- the running balance of a line is the account's balance behind it
-pub lines_are : (a : ℕ) (es : List Entry) → posting_lines (pos 0) (postings_to a es) ≡ lines_to a es
+pub lines_are : (a : ℕ) (es : List DecidedRequest) → posting_lines (pos 0) (postings_to a es) ≡ lines_to a es
 lines_are a [] = refl
 lines_are a (e ∷ es) = last (is_posted_to a e) refl (lines_are a es)
   where
@@ -89,7 +89,7 @@ lines_are a (e ∷ es) = last (is_posted_to a e) refl (lines_are a es)
     last false is earlier = earlier
 
 -- so many at most
-pub few_postings : (a : ℕ) (es : List Entry) → length (postings_to a es) ≤ length es
+pub few_postings : (a : ℕ) (es : List DecidedRequest) → length (postings_to a es) ≤ length es
 few_postings a [] = omega arith
 few_postings a (e ∷ es) = last (is_posted_to a e) (few_postings a es)
   where
@@ -132,7 +132,7 @@ run_more before (x ∷ rs) r all low = (
 )
 
 -- behind a log they are
-pub runs_within : (a : ℕ) (es : List Entry) → EachWithin a es → AllRunWithin (pos 0) (postings_to a es)
+pub runs_within : (a : ℕ) (es : List DecidedRequest) → EachWithin a es → AllRunWithin (pos 0) (postings_to a es)
 runs_within a [] all = tt
 runs_within a (e ∷ es) all = last (is_posted_to a e) refl (runs_within a es all.1)
   where

@@ -10,14 +10,14 @@ use Rattle.sqlite.specs.Effect.{Database}
 use Rattle.posting_rules.specs.Commands.{Command, AreCommands}
 use Rattle.posting_rules.specs.Damage.{IsUndamaged}
 use Rattle.posting_rules.specs.Laws.{IsConsistent}
-use Rattle.posting_rules.specs.Tables.{Tables, Shows, history_key, request_key}
+use Rattle.posting_rules.specs.Tables.{Tables, AreTablesOf, history_key, request_key}
 use Rattle.posting_rules.proofs.Consistent.{consistent}
 use Rattle.posting_rules.proofs.Undamaged.{undamaged}
 use Rattle.sql_meanings.specs.Entries.{Entry, Rise}
 use Rattle.store_rows.specs.SixTables as six
 use Rattle.store_rows.specs.View as view
-use Rattle.store_rows.specs.View.{Shows as ShowsIn}
-use Rattle.bank_walks.specs.Rows.{HasRows}
+use Rattle.store_rows.specs.View.{AreTablesOf as ShowsIn}
+use Rattle.bank_walks.specs.Rows.{HasStoredRows}
 use Rattle.bank_walks.specs.Stored.{account_entry, branch_entry, posting_entry, request_entry, teller_entry}
 use Rattle.bank_walks.specs.Stored.{IsNoAccount, IsNoBranch, IsNoPosting, IsNoRequest, IsNoTeller}
 use Rattle.bank_walks.proofs.Shown.{has_accounts, has_branches, has_history, has_requests, has_tellers}
@@ -69,16 +69,16 @@ twice f g h is (x ∷ xs) = rw (is x, twice f g h is xs) refl
 
 pub has_file : (db : Database) (t : Tables) → ShowsIn db t → HasFile db (rows_in (stored t))
 has_file db t shows = record {
-  branches = subst (HasRows db six.branch)
+  branches = subst (HasStoredRows db six.branch)
       (twice branch_stored branch_entry view.branch_entry (λ r. refl) t.branches) (has_branches db t shows);
-  tellers = subst (HasRows db six.teller)
+  tellers = subst (HasStoredRows db six.teller)
       (twice teller_stored teller_entry view.teller_entry (λ r. refl) t.tellers) (has_tellers db t shows);
-  accounts = subst (HasRows db six.account)
+  accounts = subst (HasStoredRows db six.account)
       (twice account_stored account_entry view.account_entry (λ r. refl) t.accounts)
       (has_accounts db t shows);
-  history = subst (HasRows db six.history)
+  history = subst (HasStoredRows db six.history)
       (twice posting_stored posting_entry view.history_entry (λ r. refl) t.history) (has_history db t shows);
-  requests = subst (HasRows db six.request)
+  requests = subst (HasStoredRows db six.request)
       (twice request_stored request_entry view.request_entry (λ r. refl) t.requests)
       (has_requests db t shows);
 }
@@ -96,7 +96,7 @@ tells_in_file db t shows =
     (sym (twice request_stored request_ordinal request_key (λ r. refl) t.requests)) keys.requests)
 
 -- the audit of a log's tables says that they are consistent
-pub balanced : (t : Tables) (log : List Command) → Shows t log → is_sound (audit_of (stored t)) ≡ true
+pub balanced : (t : Tables) (log : List Command) → AreTablesOf t log → is_sound (audit_of (stored t)) ≡ true
 balanced t log shows =
     (tells_of_tables t shows.rows.history_keys shows.rows.request_keys).1 (consistent t log shows)
 
@@ -113,7 +113,7 @@ none_broken f entry Breaks P never xs each broken =
     let here = all_behind P it.0 (it.1 ∷ it.2) (subst (AllByRecursion P) it.3 all) in
     never it.1 here.0 (subst Breaks (row.4 ∙ ap entry it.4) broken.4)
 
-module _ (t : Tables) (log : List Command) (are : AreCommands log) (shows : Shows t log) where
+module _ (t : Tables) (log : List Command) (are : AreCommands log) (shows : AreTablesOf t log) where
   sound : IsUndamaged t
   sound = undamaged t log are shows
 

@@ -14,7 +14,7 @@ use Rattle.posting_rules.specs.declared.facts.Verdict.{Verdict}
 use Rattle.posting_rules.specs.declared.facts.Verdict.TheVariants.{Unkept, Again, Refused, Posted}
 use Rattle.posting_rules.specs.Commands.{Command, Open, Post, opened}
 use Rattle.posting_rules.specs.Cases.{case_of}
-use Rattle.posting_rules.specs.Entries.{Entry, is_posted, facts, account_balance, with_verdict, with_record}
+use Rattle.posting_rules.specs.Entries.{DecidedRequest, is_posted, facts, account_balance, with_verdict, with_record}
 use Rattle.posting_rules.specs.Entries.{decided}
 use Rattle.posting_rules.specs.Tables.{row_at, history_key, history_row, history_row_of}
 use Rattle.posting_rules.proofs.BalanceLimits.{stays_within}
@@ -22,12 +22,12 @@ use Rattle.bank_audits.proofs.RisingRows.{Rising, all-append, all_as, find_behin
 use Rattle.bank_audits.proofs.RisingRows.{rising_more}
 
 -- the postings of decided requests, the oldest first
-abbrev pub postings_of : List Entry → List HistoryRow
+abbrev pub postings_of : List DecidedRequest → List HistoryRow
 postings_of [] = []
 postings_of (e ∷ es) = if is_posted e then postings_of es ++ history_row_of (length es + 1) e
     ∷ [] else postings_of es
 
-ends : (es : List Entry) → AllByRecursion (λ r. history_key r ≤ length es) (postings_of es)
+ends : (es : List DecidedRequest) → AllByRecursion (λ r. history_key r ≤ length es) (postings_of es)
 ends [] = tt
 ends (e ∷ es) = last (is_posted e)
     (all_as (λ r. history_key r ≤ length es) (λ r. history_key r ≤ length (e ∷ es))
@@ -40,7 +40,7 @@ ends (e ∷ es) = last (is_posted e)
         (history_row_of (length es + 1) e ∷ []) earlier (omega arith, tt)
     last false earlier = earlier
 
-pub postings_rise : (es : List Entry) → Rising history_key (postings_of es)
+pub postings_rise : (es : List DecidedRequest) → Rising history_key (postings_of es)
 postings_rise [] = tt
 postings_rise (e ∷ es) = last (is_posted e) (postings_rise es)
   where
@@ -53,7 +53,7 @@ postings_rise (e ∷ es) = last (is_posted e) (postings_rise es)
     last false rise = rise
 
 -- under each ordinal stands what the log has there
-pub postings_under : (es : List Entry) (o : ℕ) → row_at history_key (postings_of es) o
+pub postings_under : (es : List DecidedRequest) (o : ℕ) → row_at history_key (postings_of es) o
     ≡ history_row es o
 postings_under [] o = refl
 postings_under (e ∷ es) o = last (is_posted e) (postings_under es o)
@@ -83,11 +83,11 @@ postings_under (e ∷ es) o = last (is_posted e) (postings_under es o)
 -- ---- balances
 
 -- after each of the requests the account's balance is within the limit
-abbrev pub EachWithin : ℕ → List Entry → Type 0
+abbrev pub EachWithin : ℕ → List DecidedRequest → Type 0
 EachWithin a [] = Unit {0}
 EachWithin a (e ∷ es) = (nat_abs (account_balance (e ∷ es) a) ≤ MAX_BALANCE) × EachWithin a es
 
-within_verdict : (a m : ℕ) (r : RequestFields) (v : Verdict) (es : List Entry)
+within_verdict : (a m : ℕ) (r : RequestFields) (v : Verdict) (es : List DecidedRequest)
     → nat_abs (account_balance (with_verdict m r v es) a) ≤ MAX_BALANCE
     → EachWithin a es → EachWithin a (with_verdict m r v es)
 within_verdict a m r (Unkept o) es now before = before
@@ -95,7 +95,7 @@ within_verdict a m r (Again x) es now before = before
 within_verdict a m r (Refused o) es now before = (now, before)
 within_verdict a m r (Posted x t b) es now before = (now, before)
 
-within_record : (a m : ℕ) (read : Result RequestFields Bad) (opened : ℕ → Option ℕ) (es : List Entry)
+within_record : (a m : ℕ) (read : Result RequestFields Bad) (opened : ℕ → Option ℕ) (es : List DecidedRequest)
     → nat_abs (account_balance (with_record m read opened es) a) ≤ MAX_BALANCE → EachWithin a es
     → EachWithin a (with_record m read opened es)
 within_record a m (Err fault) opened es now before = before

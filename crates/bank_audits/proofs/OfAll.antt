@@ -9,7 +9,7 @@ use Rattle.posting_rules.specs.declared.fault.Fault.{Fault}
 use Rattle.bank_reports.specs.Beside.{AuditRows}
 use Rattle.bank_store.specs.Seen.{connection_of, database_of}
 use Rattle.bank_store.specs.declared.bank.Bank.{Bank}
-use Rattle.bank_audits.specs.Adding.{Adds}
+use Rattle.bank_audits.specs.Adding.{AddsToSums}
 use Rattle.bank_audits.specs.Failures.{HasFailedToRead, Says}
 use Rattle.bank_audits.specs.Files.{HasBroken}
 use Rattle.bank_audits.specs.declared.sums.Sums.{Sums}
@@ -37,10 +37,10 @@ module _ {S X : Type 0} {g : Ghosts S} (HasItems : Database → List X → Type 
 
   pub added_of_all : {R : Type 0} (item : R → X) (with_rows : AuditRows → List R → AuditRows)
       (from to : Sums) {Clean Later : Type 0}
-      → IfOk r (λ _. (given : List R) × Adds with_rows from to given
+      → IfOk r (λ _. (given : List R) × AddsToSums with_rows from to given
       × (Clean → (all : List X) → HasItems (database_of g lent) all → map item given ≡ to_come all))
       → (Later → Clean)
-      → IfOk r (λ _. (given : List R) × Adds with_rows from to given
+      → IfOk r (λ _. (given : List R) × AddsToSums with_rows from to given
       × (Later → (all : List X) → HasItems (database_of g old) all → map item given ≡ all))
   added_of_all item with_rows from to added before =
       IfOk-weaker r _ _ (λ done it. (

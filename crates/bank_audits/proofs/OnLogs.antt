@@ -12,19 +12,19 @@ use Rattle.std.proofs.Math.IntN.{+ℤ_assoc}
 use Rattle.sqlite.specs.Effect.{Database}
 use Rattle.posting_rules.specs.declared.rows.HistoryRow.{HistoryRow}
 use Rattle.posting_rules.specs.Commands.{Command}
-use Rattle.posting_rules.specs.Entries.{Entry, is_posted, decided, account_balance}
-use Rattle.posting_rules.specs.Tables.{Tables, history_key, history_row_of, Shows}
+use Rattle.posting_rules.specs.Entries.{DecidedRequest, is_posted, decided, account_balance}
+use Rattle.posting_rules.specs.Tables.{Tables, history_key, history_row_of, AreTablesOf}
 use Rattle.sql_meanings.specs.Entries.{Rise}
-use Rattle.sql_meanings.specs.Entries.{Entry as Stored}
+use Rattle.sql_meanings.specs.Entries.{DecidedRequest as Stored}
 use Rattle.sql_meanings.specs.Seeks.{is_from}
 use Rattle.sql_meanings.proofs.Contents.{held}
 use Rattle.store_rows.specs.SixTables.{bank_tables}
 use Rattle.store_rows.specs.SixTables.{history as history_table}
 use Rattle.store_rows.specs.View.{history_entry, contents}
-use Rattle.store_rows.specs.View.{Shows as ShowsIn}
+use Rattle.store_rows.specs.View.{AreTablesOf as ShowsIn}
 use Rattle.bank_walks.specs.declared.postings.StoredPosting.{StoredPosting}
 use Rattle.bank_walks.specs.Stored.{posting_entry, number_behind, is_of}
-use Rattle.bank_walks.specs.Rows.{HasRows}
+use Rattle.bank_walks.specs.Rows.{HasStoredRows}
 use Rattle.bank_reports.specs.Lines.{text_of}
 use Rattle.bank_reports.specs.StatementText.{heading_line, names_line, posting_line, posting_lines}
 use Rattle.bank_reports.specs.StatementText.{closing_line}
@@ -52,7 +52,7 @@ rising_keys (r ∷ rs) rise = (above rs rise.0, rising_keys rs rise.1)
         less m n is = grind (arith, ints)
 
 -- a file that shows a log has its postings, the oldest first
-pub history_is : (db : Database) (t : Tables) (log : List Command) → ShowsIn db t → Shows t log
+pub history_is : (db : Database) (t : Tables) (log : List Command) → ShowsIn db t → AreTablesOf t log
     → t.history ≡ postings_of (decided log)
 history_is db t log in_file shows =
     let holds = held db bank_tables (contents t) in_file.each 4 history_table (map history_entry t.history)
@@ -62,7 +62,7 @@ history_is db t log in_file shows =
     (λ o. shows.rows.history o ∙ sym (postings_under (decided log) o))
 
 pub has_history : (db : Database) (t : Tables) → ShowsIn db t
-    → HasRows db history_table (map history_entry t.history)
+    → HasStoredRows db history_table (map history_entry t.history)
 has_history db t in_file = record {
   sound = in_file.sound;
   holds = held db bank_tables (contents t) in_file.each 4 history_table (map history_entry t.history) refl
@@ -77,14 +77,14 @@ has_history db t in_file = record {
 
 -- ---- those of an account
 
-mine : (a : ℕ) (e : Entry) (n : ℕ) → is_of (Some a) (history_entry (history_row_of n e))
+mine : (a : ℕ) (e : DecidedRequest) (n : ℕ) → is_of (Some a) (history_entry (history_row_of n e))
     ≡ (e.request.account == a)
 mine a e n = same e.request.account a
   where
     same : (m k : ℕ) → int_eq (pos m) (pos k) ≡ (m == k)
     same m k = grind (arith, ints)
 
-pub history_of_account : (a : ℕ) (es : List Entry)
+pub history_of_account : (a : ℕ) (es : List DecidedRequest)
     → filter (is_of (Some a)) (map history_entry (postings_of es)) ≡ map posting_entry (postings_to a es)
 history_of_account a [] = refl
 history_of_account a (e ∷ es) = posted (is_posted e) (e.request.account == a) refl (history_of_account a es)
@@ -220,7 +220,7 @@ text_ends a log given (p ∷ more) is left = absurd cc
 
 -- the postings of an account in a file that shows a log
 pub account_rows : (db : Database) (t : Tables) (log : List Command) (a : ℕ) → ShowsIn db t
-    → Shows t log
+    → AreTablesOf t log
     → filter (is_of (Some a)) (map history_entry t.history)
     ≡ map posting_entry (postings_to a (decided log))
 account_rows db t log a in_file shows =

@@ -9,15 +9,15 @@ use Rattle.std.proofs.lemmas.List.Kept.{AllPairs-cons}
 use Rattle.std.proofs.lemmas.Map.Keys.{IsDistinct-head, IsDistinct-tail}
 use Rattle.posting_rules.specs.declared.rows.RequestRow.{RequestRow}
 use Rattle.posting_rules.specs.Commands.{Command}
-use Rattle.posting_rules.specs.Entries.{Entry, decided, kept}
-use Rattle.posting_rules.specs.Tables.{Tables, Shows, request_key, request_row, request_row_of, row_at}
+use Rattle.posting_rules.specs.Entries.{DecidedRequest, decided, kept}
+use Rattle.posting_rules.specs.Tables.{Tables, AreTablesOf, request_key, request_row, request_row_of, row_at}
 use Rattle.posting_rules.proofs.Requests.{AreNew, are_new}
 use Rattle.posting_rules.proofs.Totals.{each_under_its_key}
 use Rattle.bank_audits.specs.Differing.{DifferIfPosted, EachPostedOnce}
 use Rattle.bank_audits.proofs.RisingRows.{all_as}
 
 -- where none of the entries is kept under a teller and a number, none of their rows has both
-row_apart : (t n : ℕ) (es : List Entry) (o : ℕ) (r : RequestRow) → kept es t n ≡ None
+row_apart : (t n : ℕ) (es : List DecidedRequest) (o : ℕ) (r : RequestRow) → kept es t n ≡ None
     → request_row es o ≡ Some r → r.teller ≡ t → r.number ≡ n → ⊥
 row_apart t n [] o r none row ts ns = absurd cc
 row_apart t n (e ∷ es) o r none row ts ns =
@@ -37,7 +37,7 @@ row_apart t n (e ∷ es) o r none row ts ns =
     ]
 
 -- rows that have both stand under one ordinal
-one_ordinal : (es : List Entry) → AreNew es → (o p : ℕ) (a b : RequestRow) → request_row es o
+one_ordinal : (es : List DecidedRequest) → AreNew es → (o p : ℕ) (a b : RequestRow) → request_row es o
     ≡ Some a → request_row es p ≡ Some b
     → a.teller ≡ b.teller → a.number ≡ b.number → o ≡ p
 one_ordinal [] new o p a b xs ys ts ns = absurd cc
@@ -60,7 +60,7 @@ one_ordinal (e ∷ es) new o p a b xs ys ts ns = elim (cases_Bool (length es + 1
   ]
 ]
 
-module _ (es : List Entry) (new : AreNew es) where
+module _ (es : List DecidedRequest) (new : AreNew es) where
   abbrev IsRow : RequestRow → Type 0
   IsRow r = request_row es r.ordinal ≡ Some r
 
@@ -84,7 +84,7 @@ module _ (es : List Entry) (new : AreNew es) where
       (apart r all.0 rs all.1 (IsDistinct-head nat_eq (request_key r) (map request_key rs) keys)))
       (each_once rs all.1 (IsDistinct-tail nat_eq (request_key r) (map request_key rs) keys))
 
-pub posted_once : (t : Tables) (log : List Command) → Shows t log → EachPostedOnce t
+pub posted_once : (t : Tables) (log : List Command) → AreTablesOf t log → EachPostedOnce t
 posted_once t log shows =
     each_once (decided log) (are_new log) t.requests
     (all_as (λ r. row_at request_key t.requests (request_key r) ≡ Some r)

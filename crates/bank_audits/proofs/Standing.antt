@@ -9,8 +9,8 @@ use Rattle.posting_rules.specs.declared.fault.Fault.TheVariants.{Memory, Store, 
 use Rattle.posting_rules.specs.Commands.{Command}
 use Rattle.posting_rules.specs.Counter.{Seen, ShowsLog, StandsAt, Takes, Refuses, LeavesNoMore, LeavesOnly}
 use Rattle.posting_rules.specs.Runs.{behind}
-use Rattle.posting_rules.specs.Tables.{Shows}
-use Rattle.store_rows.specs.View.{Shows as ShowsIn}
+use Rattle.posting_rules.specs.Tables.{AreTablesOf}
+use Rattle.store_rows.specs.View.{AreTablesOf as ShowsIn}
 use Rattle.bank_store.specs.Seen.{seen_in}
 use Rattle.bank_store.specs.Walks.{IsStill}
 use Rattle.bank_audits.specs.declared.fault.ReportFault.{ReportFault}
@@ -34,7 +34,7 @@ written_of (Err Write) found answered = tt
 written_of (Err (Bank fault)) found answered = absurd answered
 
 leaves_same : (old new : Seen) (log : List Command) → LeavesNoMore old new
-    → LeavesOnly old (λ t. Shows t log) → LeavesOnly new (λ t. Shows t log)
+    → LeavesOnly old (λ t. AreTablesOf t log) → LeavesOnly new (λ t. AreTablesOf t log)
 leaves_same old new log no_more only remains left =
     let before = no_more remains left in
     let it = only before.0 before.1 in
@@ -55,11 +55,11 @@ none_taken (suc n) = refl
 -- a call of no commands that was refused leaves what shows the log
 pub refused_leaves : (fault : Fault) (old new : Seen) → Refuses fault old new [] → new.honest
     → (log : List Command) → StandsAt old log
-    → LeavesOnly new (λ t. Shows t log)
+    → LeavesOnly new (λ t. AreTablesOf t log)
 refused_leaves Memory old new refused honest log at = leaves_same old new log refused.left at.stop
 refused_leaves Store old new refused honest log at = λ remains left.
     let it = refused.stop honest log at remains left in
-    (it.0, it.1, subst (λ cs. Shows it.0 (behind log cs)) (none_taken it.2.count) it.2.shows)
+    (it.0, it.1, subst (λ cs. AreTablesOf it.0 (behind log cs)) (none_taken it.2.count) it.2.shows)
 refused_leaves Down old new refused honest log at = leaves_same old new log refused.left at.stop
 refused_leaves (Damaged rule) old new refused honest log at = absurd (refused.never_shown honest log at.shows)
 

@@ -14,9 +14,9 @@ use Rattle.posting_rules.specs.declared.fault.Rule.TheVariants.{Meta, Teller, Ac
 use Rattle.posting_rules.specs.declared.fault.Rule.TheVariants.{Value, Key}
 use Rattle.posting_rules.specs.declared.fault.Fault.TheVariants.{Damaged}
 use Rattle.posting_rules.specs.Commands.{Command, AreCommands, is_account_open, opened}
-use Rattle.posting_rules.specs.Entries.{Entry, decided, account_balance, balance_behind}
+use Rattle.posting_rules.specs.Entries.{DecidedRequest, decided, account_balance, balance_behind}
 use Rattle.posting_rules.proofs.SoundEntries.{AreSound, are_sound, few_enough}
-use Rattle.sql_meanings.specs.Entries.{Entry as Stored}
+use Rattle.sql_meanings.specs.Entries.{DecidedRequest as Stored}
 use Rattle.bank_walks.specs.Reading.{IsOutside}
 use Rattle.bank_walks.specs.declared.postings.StoredPosting.{StoredPosting}
 use Rattle.bank_walks.specs.Stored.{posting_entry, IsNoPosting}
@@ -37,7 +37,7 @@ use Rattle.bank_audits.proofs.RisingRows.{all-append}
 abbrev IsReadable : StoredPosting → Type 0
 IsReadable r = (1 ≤ r.ordinal) × (r.ordinal ≤ MAX_DECIDED) × (r.moment ≤ MAX_MOMENT)
 
-readable : (a : ℕ) (es : List Entry) → AreSound es → AllByRecursion IsReadable (postings_to a es)
+readable : (a : ℕ) (es : List DecidedRequest) → AreSound es → AllByRecursion IsReadable (postings_to a es)
 readable a [] sound = tt
 readable a (e ∷ es) sound = last (is_posted_to a e) (few_enough (e ∷ es) sound) (readable a es sound.2)
   where

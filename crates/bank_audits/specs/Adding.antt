@@ -12,7 +12,7 @@ use Rattle.bank_walks.specs.declared.joined.Joined.{Joined}
 use Rattle.bank_reports.specs.Added.{IsSum, HasBeside, HasBranches, HasTellers}
 use Rattle.bank_reports.specs.Audit.{account_balance}
 use Rattle.bank_reports.specs.Beside.{AuditRows}
-use Rattle.bank_store.specs.Walks.{IsStill, IsUndone}
+use Rattle.bank_store.specs.Walks.{IsStill, IsUntouchedIfOpen}
 use Rattle.bank_audits.specs.declared.sums.Sums.{Sums}
 
 -- these rows were added
@@ -51,9 +51,9 @@ abbrev pub IsBehind : ℕ → ℤ → Type 0
 IsBehind count key = (count ≡ 0) ⊎ (pos count <ℤ key)
 
 -- all of the rows given were added to the sums
-abbrev pub Adds : {R : Type 0} → (AuditRows → List R → AuditRows) → Sums → Sums → List R
+abbrev pub AddsToSums : {R : Type 0} → (AuditRows → List R → AuditRows) → Sums → Sums → List R
     → Type 0
-Adds with_rows old new given = (rows : AuditRows) → HasSums old (with_rows rows [])
+AddsToSums with_rows old new given = (rows : AuditRows) → HasSums old (with_rows rows [])
     → HasSums new (with_rows rows given)
 
 -- ---- what a pass leaves of a connection
@@ -63,4 +63,4 @@ Adds with_rows old new given = (rows : AuditRows) → HasSums old (with_rows row
 pub record IsPassed (old new : State) (result : Result (Unit {0}) Fault) : Type 0 where
   pub survives : Survives old new (λ _. ⊥)
   pub still : HasCleanDisk new → OnOk result (IsStill old new)
-  pub undone : HasCleanDisk new → IsUndone old new
+  pub undone : HasCleanDisk new → IsUntouchedIfOpen old new

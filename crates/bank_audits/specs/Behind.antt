@@ -3,12 +3,12 @@ use Rattle.std.specs.Prelude.{ℕ, pos, ◌+◌, ◌==◌, ◌&&◌, Bool, List,
 use Rattle.std.specs.Prelude.{length, if◌then◌else◌}
 use Rattle.bank_walks.specs.declared.postings.StoredPosting.{StoredPosting}
 use Rattle.posting_rules.specs.Commands.{Command}
-use Rattle.posting_rules.specs.Entries.{Entry, is_posted, account_balance, decided}
+use Rattle.posting_rules.specs.Entries.{DecidedRequest, is_posted, account_balance, decided}
 use Rattle.bank_reports.specs.Lines.{text_of}
 use Rattle.bank_reports.specs.StatementText.{heading_line, names_line, posting_line, closing_line}
 
 -- a posting under its ordinal, as a file has it
-abbrev pub posting_of : ℕ → Entry → StoredPosting
+abbrev pub posting_of : ℕ → DecidedRequest → StoredPosting
 posting_of ordinal e = record {
   ordinal = ordinal;
   account = pos e.request.account;
@@ -19,11 +19,11 @@ posting_of ordinal e = record {
 }
 
 -- it was posted to this account
-abbrev pub is_posted_to : ℕ → Entry → Bool
+abbrev pub is_posted_to : ℕ → DecidedRequest → Bool
 is_posted_to a e = is_posted e && (e.request.account == a)
 
 -- the postings to an account, the oldest first
-abbrev pub postings_to : ℕ → List Entry → List StoredPosting
+abbrev pub postings_to : ℕ → List DecidedRequest → List StoredPosting
 postings_to a [] = []
 postings_to a (e ∷ es) =
     if is_posted_to a e
@@ -31,7 +31,7 @@ postings_to a (e ∷ es) =
     else postings_to a es
 
 -- their lines, each with the account's balance behind it
-abbrev pub lines_to : ℕ → List Entry → List (List ℕ)
+abbrev pub lines_to : ℕ → List DecidedRequest → List (List ℕ)
 lines_to a [] = []
 lines_to a (e ∷ es) =
     if is_posted_to a e

@@ -5,7 +5,7 @@ use Rattle.sql_meanings.specs.Entries.{Entry}
 use Rattle.store_rows.specs.SixTables.{account as account_table, branch as branch_table}
 use Rattle.store_rows.specs.SixTables.{history as history_table, request as request_table}
 use Rattle.store_rows.specs.SixTables.{teller as teller_table}
-use Rattle.bank_walks.specs.Rows.{HasRows}
+use Rattle.bank_walks.specs.Rows.{HasStoredRows}
 use Rattle.bank_walks.specs.Stored.{account_entry, branch_entry, posting_entry, request_entry, teller_entry}
 use Rattle.bank_walks.specs.Stored.{IsNoAccount, IsNoBranch, IsNoPosting, IsNoRequest, IsNoTeller}
 use Rattle.bank_reports.specs.Stored.{StoredTables}
@@ -20,11 +20,11 @@ pub record FileRows : Type 0 where
 
 -- a sound database has these rows
 pub record HasFile (db : Database) (f : FileRows) : Type 0 where
-  pub branches : HasRows db branch_table f.branches
-  pub tellers : HasRows db teller_table f.tellers
-  pub accounts : HasRows db account_table f.accounts
-  pub history : HasRows db history_table f.history
-  pub requests : HasRows db request_table f.requests
+  pub branches : HasStoredRows db branch_table f.branches
+  pub tellers : HasStoredRows db teller_table f.tellers
+  pub accounts : HasStoredRows db account_table f.accounts
+  pub history : HasStoredRows db history_table f.history
+  pub requests : HasStoredRows db request_table f.requests
 
 -- the rows of stored tables
 abbrev pub rows_in : StoredTables → FileRows

@@ -7,7 +7,7 @@ ghost use Rattle.posting_rules.specs.declared.fault.Rule.TheVariants as rule;
 ghost use Rattle.posting_rules.specs.Commands.{Command as Given};
 ghost use Rattle.posting_rules.specs.Laws.{IsConsistent};
 ghost use Rattle.posting_rules.specs.Counter.{LeavesOnly, ShowsLog, StandsAt, Takes};
-ghost use Rattle.posting_rules.specs.Tables.{Shows, Tables};
+ghost use Rattle.posting_rules.specs.Tables.{AreTablesOf, Tables};
 ghost use Rattle.bank_reports.specs.Audit.{audit_of, is_sound};
 ghost use Rattle.bank_reports.specs.Consistency.{IsSoundFile};
 ghost use Rattle.bank_reports.specs.Stored.{StoredTables, stored};
@@ -46,7 +46,7 @@ pub fn audit<S: Alter>(bank: &mut Bank<S>) -> Result<Audit, Fault>
         → ShowsLog (bank_seen S.Store bank.old) log
         → IfOk result (λ told. IsTrue (is_sound told)) }
     ensures once { OnOk result ((bank_seen S.Store bank.new).honest → (log : List Given) → (t : Tables)
-        → (bank_seen S.Store bank.old).tables t → Shows t log → EachPostedOnce t) }
+        → (bank_seen S.Store bank.old).tables t → AreTablesOf t log → EachPostedOnce t) }
     ensures damaged { (broken : Broken) → result ≡ Err (Damaged broken)
         → (bank_seen S.Store bank.new).honest
         → (f : FileRows) → HasFile (database_of S.Store bank.old) f → (broken ≡ rule.Value)
@@ -65,7 +65,7 @@ pub fn audit<S: Alter>(bank: &mut Bank<S>) -> Result<Audit, Fault>
     // Whatever it answers, a stop leaves what shows the log.
     ensures left { (bank_seen S.Store bank.new).honest → (log : List Given)
         → StandsAt (bank_seen S.Store bank.old) log
-        → LeavesOnly (bank_seen S.Store bank.new) (λ t. Shows t log) }
+        → LeavesOnly (bank_seen S.Store bank.new) (λ t. AreTablesOf t log) }
     ensures done { OnOk result (Takes (bank_seen S.Store bank.old) (bank_seen S.Store bank.new) []) }
     // As long as the store is open, it stands where it stood.
     ensures stands { (bank_seen S.Store bank.new).honest

@@ -6,7 +6,7 @@ ghost use Rattle.bank_reports.specs.Beside.{AuditRows};
 ghost use Rattle.bank_walks.specs.Rows.{LEAST};
 ghost use Rattle.bank_store.specs.Seen.{connection_of, fault_of};
 ghost use Rattle.bank_store.specs.Walking.{ComesFrom, items_to_come, lent, lent_state, loan_of};
-ghost use Rattle.bank_audits.specs.Adding.{Adds, HasSums, IsPassed};
+ghost use Rattle.bank_audits.specs.Adding.{AddsToSums, HasSums, IsPassed};
 ghost use Rattle.bank_audits.specs.Failures.{HasFailedToRead, Says};
 ghost use Rattle.bank_audits.specs.Files.{HasBroken};
 
@@ -23,7 +23,7 @@ pub(crate) fn add_rows<S: Alter, R: Summed>(
     requires has { (rows : AuditRows) × HasSums sums.old (R.Summed.with_rows rows []) }
     requires rises { ComesFrom (λ r. R.WalkedRow.key (R.WalkedRow.item r)) LEAST walk.old }
     ensures same_reference { loan_of walk.new ≡ loan_of walk.old }
-    ensures added { IfOk result (λ _. (given : List R) × Adds R.Summed.with_rows sums.old sums.new given
+    ensures added { IfOk result (λ _. (given : List R) × AddsToSums R.Summed.with_rows sums.old sums.new given
         × (HasCleanDisk (lent_state S.Store walk.new) → (all : List R.WalkedRow.Item)
         → R.WalkedRow.HasItems (lent_state S.Store walk.old).now all
         → map R.WalkedRow.item given

@@ -5,7 +5,7 @@ ghost use Rattle.sqlite.specs.Held.{state};
 ghost use Rattle.posting_rules.specs.declared.fault.Fault.TheVariants.{Memory};
 ghost use Rattle.bank_reports.specs.Beside.{AuditRows};
 ghost use Rattle.bank_store.specs.Seen.{connection_of, database_of, fault_of};
-ghost use Rattle.bank_audits.specs.Adding.{Adds, HasSums, IsPassed};
+ghost use Rattle.bank_audits.specs.Adding.{AddsToSums, HasSums, IsPassed};
 ghost use Rattle.bank_audits.specs.Failures.{HasFailedToRead, Says};
 ghost use Rattle.bank_audits.specs.Files.{HasBroken};
 
@@ -21,7 +21,7 @@ pub(crate) trait Added: Summed {
     /// Adds all that a bank has of them. A fault leaves the bank as it was.
     fn add_each<S: Alter>(bank: &mut Bank<S>, sums: &mut Sums) -> Result<(), Fault>
         requires { (rows : AuditRows) × HasSums sums.old (Self.with_rows rows []) }
-        ensures added { IfOk result (λ _. (given : List Self) × Adds Self.with_rows sums.old sums.new given
+        ensures added { IfOk result (λ _. (given : List Self) × AddsToSums Self.with_rows sums.old sums.new given
             × (HasCleanDisk (state S.Store (connection_of bank.new)) → (all : List Self.Item)
             → Self.HasItems (database_of S.Store bank.old) all → map Self.item given ≡ all)) }
         ensures told { HasCleanDisk (state S.Store (connection_of bank.new)) → (all : List Self.Item)

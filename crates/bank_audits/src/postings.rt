@@ -6,10 +6,10 @@ ghost use Rattle.posting_rules.specs.declared.fault.Fault.TheVariants.{Store};
 ghost use Rattle.posting_core.specs.Told.{HasMore, HasWriteFailed};
 ghost use Rattle.sql_meanings.specs.Entries.{Entry};
 ghost use Rattle.store_rows.specs.SixTables.{history as history_table};
-ghost use Rattle.bank_walks.specs.Rows.{HasRows};
+ghost use Rattle.bank_walks.specs.Rows.{HasStoredRows};
 ghost use Rattle.bank_walks.specs.Stored.{is_of};
 ghost use Rattle.bank_store.specs.Seen.{bank_seen, connection_of, database_of};
-ghost use Rattle.bank_store.specs.Walks.{IsStill, IsUndone};
+ghost use Rattle.bank_store.specs.Walks.{IsStill, IsUntouchedIfOpen};
 ghost use Rattle.bank_audits.specs.declared.fault.ReportFault.TheVariants.{Bank as OfBank, NoAccount, Write};
 ghost use Rattle.bank_audits.specs.Failures.{HasFailedToRead};
 ghost use Rattle.bank_audits.specs.Postings.{HasWritten, WritesPostings};
@@ -39,20 +39,20 @@ pub(crate) fn write_postings<S: Alter, W: Sink>(
     writer: &mut W,
 ) -> Result<(), ReportFault>
     ensures told { HasCleanDisk (state S.Store (connection_of bank.new)) → (rows : List Entry)
-        → HasRows (database_of S.Store bank.old) history_table rows
+        → HasStoredRows (database_of S.Store bank.old) history_table rows
         → WritesPostings (filter (is_of (Some account)) rows) (W.contents writer.old)
         (W.contents writer.new) result }
     ensures found { result ≢ Err NoAccount }
     ensures store { result ≡ Err (OfBank Store) → HasCleanDisk (state S.Store (connection_of bank.new))
         → (rows : List Entry)
-        → HasRows (database_of S.Store bank.old) history_table rows
+        → HasStoredRows (database_of S.Store bank.old) history_table rows
         → HasFailedToRead S.Store (connection_of bank.old) (connection_of bank.new) }
     ensures more { OnOk result (HasMore (W.told writer.old) (W.told writer.new)) }
     ensures failed { result ≡ Err Write → HasWriteFailed (W.told writer.old) (W.told writer.new) }
     ensures still { HasCleanDisk (state S.Store (connection_of bank.new)) → HasWritten result
         → IsStill (state S.Store (connection_of bank.old)) (state S.Store (connection_of bank.new)) }
     ensures undone { HasCleanDisk (state S.Store (connection_of bank.new))
-        → IsUndone (state S.Store (connection_of bank.old)) (state S.Store (connection_of bank.new)) }
+        → IsUntouchedIfOpen (state S.Store (connection_of bank.old)) (state S.Store (connection_of bank.new)) }
     ensures up { (bank_seen S.Store bank.new).is_down → (bank_seen S.Store bank.old).is_down }
     ensures survives { Survives (state S.Store (connection_of bank.old))
         (state S.Store (connection_of bank.new)) (λ _. ⊥) }

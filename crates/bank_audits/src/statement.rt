@@ -9,17 +9,17 @@ ghost use Rattle.posting_rules.specs.declared.fault.Rule.{Rule as Broken};
 ghost use Rattle.posting_rules.specs.Commands.{Command as Given};
 ghost use Rattle.posting_rules.specs.Counter.{LeavesOnly, ShowsLog, StandsAt, Takes};
 ghost use Rattle.posting_rules.specs.Entries.{balance_behind};
-ghost use Rattle.posting_rules.specs.Tables.{Shows, Tables};
+ghost use Rattle.posting_rules.specs.Tables.{AreTablesOf, Tables};
 ghost use Rattle.posting_core.specs.Told.{EndsWith, HasWriteFailed, IsFlush};
 ghost use Rattle.sql_meanings.specs.Entries.{Entry};
 ghost use Rattle.store_rows.specs.SixTables.{history as history_table};
 ghost use Rattle.store_rows.specs.View.{history_entry};
-ghost use Rattle.bank_walks.specs.Rows.{HasRows};
+ghost use Rattle.bank_walks.specs.Rows.{HasStoredRows};
 ghost use Rattle.bank_walks.specs.Stored.{is_of};
 ghost use Rattle.bank_reports.specs.Written.{AppendsPart};
 ghost use Rattle.bank_store.specs.Down.{KeepsCause};
 ghost use Rattle.bank_store.specs.Seen.{bank_seen, connection_of, database_of};
-ghost use Rattle.bank_store.specs.Walks.{IsStill, IsUndone};
+ghost use Rattle.bank_store.specs.Walks.{IsStill, IsUntouchedIfOpen};
 ghost use Rattle.bank_audits.specs.declared.fault.ReportFault.TheVariants.{Bank as OfBank, NoAccount, Write};
 ghost use Rattle.bank_audits.specs.Behind.{statement_behind};
 ghost use Rattle.bank_audits.specs.Failures.{HasFailedToRead};
@@ -42,20 +42,20 @@ fn write_lines<S: Alter, W: Sink>(
     writer: &mut W,
 ) -> Result<(), ReportFault>
     ensures told { HasCleanDisk (state S.Store (connection_of bank.new)) → (rows : List Entry)
-        → HasRows (database_of S.Store bank.old) history_table rows
+        → HasStoredRows (database_of S.Store bank.old) history_table rows
         → WritesStatement account balance (filter (is_of (Some account)) rows) (W.contents writer.old)
         (W.contents writer.new) result }
     ensures found { result ≢ Err NoAccount }
     ensures store { result ≡ Err (OfBank Store) → HasCleanDisk (state S.Store (connection_of bank.new))
         → (rows : List Entry)
-        → HasRows (database_of S.Store bank.old) history_table rows
+        → HasStoredRows (database_of S.Store bank.old) history_table rows
         → HasFailedToRead S.Store (connection_of bank.old) (connection_of bank.new) }
     ensures flushed { OnOk result (EndsWith IsFlush (W.told writer.old) (W.told writer.new)) }
     ensures failed { result ≡ Err Write → HasWriteFailed (W.told writer.old) (W.told writer.new) }
     ensures still { HasCleanDisk (state S.Store (connection_of bank.new)) → HasWritten result
         → IsStill (state S.Store (connection_of bank.old)) (state S.Store (connection_of bank.new)) }
     ensures undone { HasCleanDisk (state S.Store (connection_of bank.new))
-        → IsUndone (state S.Store (connection_of bank.old)) (state S.Store (connection_of bank.new)) }
+        → IsUntouchedIfOpen (state S.Store (connection_of bank.old)) (state S.Store (connection_of bank.new)) }
     ensures up { (bank_seen S.Store bank.new).is_down → (bank_seen S.Store bank.old).is_down }
     ensures survives { Survives (state S.Store (connection_of bank.old))
         (state S.Store (connection_of bank.new)) (λ _. ⊥) }
@@ -98,7 +98,7 @@ pub fn write_statement<S: Alter + Drop, W: Sink>(
     ensures rows { (bank_seen S.Store bank.new).honest → ((bank_seen S.Store bank.new).is_down → ⊥)
         → result ≢ Err NoAccount → IsTrue (state S.Store (connection_of bank.new)).is_open
         → (rows : List Entry)
-        → HasRows (database_of S.Store bank.new) history_table rows
+        → HasStoredRows (database_of S.Store bank.new) history_table rows
         → (balance : ℤ) × WritesStatement account balance (filter (is_of (Some account)) rows)
         (W.contents writer.old) (W.contents writer.new) result }
     ensures flushed { OnOk result (EndsWith IsFlush (W.told writer.old) (W.told writer.new)) }
@@ -122,7 +122,7 @@ pub fn write_statement<S: Alter + Drop, W: Sink>(
     // Whatever it answers, a stop leaves what shows the log.
     ensures left { (bank_seen S.Store bank.new).honest → (log : List Given)
         → StandsAt (bank_seen S.Store bank.old) log
-        → LeavesOnly (bank_seen S.Store bank.new) (λ t. Shows t log) }
+        → LeavesOnly (bank_seen S.Store bank.new) (λ t. AreTablesOf t log) }
     ensures done { HasAnswered result → Takes (bank_seen S.Store bank.old) (bank_seen S.Store bank.new) [] }
     // As long as the store is open, a bank that isn't down stands where it stood.
     ensures stands { (bank_seen S.Store bank.new).honest → ((bank_seen S.Store bank.new).is_down → ⊥)

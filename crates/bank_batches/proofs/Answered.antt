@@ -8,10 +8,10 @@ use Rattle.posting_rules.specs.Changes.{tables_past_all, replies_past_all}
 use Rattle.posting_rules.specs.Commands.{Command}
 use Rattle.posting_rules.specs.Damage.{IsUndamaged}
 use Rattle.posting_rules.specs.Sound.{AreOfALog}
-use Rattle.posting_rules.specs.Tables.{Tables, Shows}
+use Rattle.posting_rules.specs.Tables.{Tables, AreTablesOf}
 use Rattle.posting_rules.proofs.Undamaged.{undamaged}
 use Rattle.posting_batch.specs.declared.batch.Batch.{Batch}
-use Rattle.posting_batch.specs.Batch.{HasHomes, HasRisingSlots, ChangesRows, AddsRows, filled}
+use Rattle.posting_batch.specs.Batch.{HasHomes, HasRisingSlots, ChangesRows, AddsFreeRows, filled}
 use Rattle.posting_batch.specs.Overlay.{Overlay, tables_over}
 use Rattle.posting_batch.specs.View.{view, reads_of, IsMadeOf, IsFilledFrom}
 use Rattle.posting_batch.proofs.Covered.{stands, homes_all}
@@ -50,14 +50,14 @@ pub record Judges (b : Batch) (m : ℕ) (o : Overlay) (items : List (List ℕ)) 
   pub changes : (t : Tables) (records : List (List ℕ)) → IsFilledFrom b t records → ChangesRows o t
   pub rising : HasRisingSlots (view b.overlay) → HasRisingSlots o
   pub adds : (t : Tables) (records : List (List ℕ)) → IsFilledFrom b t records → (log : List Command)
-      → Shows t log → AddsRows o t
+      → AreTablesOf t log → AddsFreeRows o t
   pub idle : o.decided ≡ b.overlay.decided → o ≡ view b.overlay
 
 abbrev pub Ready : Overlay → Tables → Type 0
 Ready o t = IsUndamaged t × HasHomes o
 
 abbrev pub Written : Overlay → Tables → Type 0
-Written o t = IsUndamaged t × HasRisingSlots o × ChangesRows o t × AddsRows o t
+Written o t = IsUndamaged t × HasRisingSlots o × ChangesRows o t × AddsFreeRows o t
 
 sound : (t : Tables) → AreOfALog t → IsUndamaged t
 sound t it = undamaged t it.0 it.1 it.2

@@ -13,14 +13,14 @@ use Rattle.store_rows.specs.View.{Shows}
 use Rattle.store_rows.specs.declared.faults.TableFault.{TableFault}
 use Rattle.store_rows.specs.declared.faults.TableFault.TheVariants.{Sqlite, Damaged}
 use Rattle.store_rows.specs.Rules.{IsBroken}
-use Rattle.bank_transactions.specs.Doing.{DoesBy, IsFirstBroken, Looks, LooksUp, Reads, Stays}
+use Rattle.bank_transactions.specs.Doing.{DoesBy, IsFirstBroken, ChangesNothing, LooksUp, Reads, Stays}
 use Rattle.bank_transactions.proofs.Blamed.{blames_after, comes}
 use Rattle.bank_transactions.proofs.Chained.{looked, look_keeps}
 use Rattle.bank_transactions.proofs.Reading.{stays_then}
 use Rattle.bank_batches.specs.Filling.{ReadsWhere}
 
-looks_then : {X : Type 0} (old mid new : State) (r : Result X TableFault) → Stays old mid → Looks mid new r
-    → Looks old new r
+looks_then : {X : Type 0} (old mid new : State) (r : Result X TableFault) → Stays old mid → ChangesNothing mid new r
+    → ChangesNothing old new r
 looks_then old mid new (Ok x) one two = stays_then old mid new one two
 looks_then old mid new (Err e) one two = record {
   was_open = λ h. one.goes_on.opened (two.was_open h);

@@ -14,7 +14,7 @@ use Rattle.posting_batch.specs.Overlay.{history_put, requests_put}
 use Rattle.sql_meanings.specs.Calls.{Says, Inside}
 use Rattle.store_rows.specs.Calls.{OfTables}
 use Rattle.store_rows.specs.Failures.{Puts}
-use Rattle.store_rows.specs.Outcomes.{Adds}
+use Rattle.store_rows.specs.Outcomes.{PutsOneRow}
 use Rattle.store_rows.specs.declared.faults.TableFault.{TableFault}
 use Rattle.bank_transactions.specs.Doing.{Does}
 use Rattle.bank_transactions.specs.Holders.{HasRow, with_balance}
@@ -46,7 +46,7 @@ pub row_added : {S R : Type 0} {g : Ghosts S} {old new : Transaction S} {r : Res
     (row : R)
     → ((t : Tables) → put row t ≡ made (row ∷ []) t)
     → Says g old new (Inside (OfTables (λ before now t.
-    Adds before now table (is_some (row_at key (rows t) (key row))) (put row t) r)))
+    PutsOneRow before now table (is_some (row_at key (rows t) (key row))) (put row t) r)))
     (Inside (λ before now. Puts before now r))
     → Does g old new (λ t. PutsFree key (row ∷ []) (rows t)) (made (row ∷ [])) (λ _. tt) r
 row_added {S} {R} {g} {old} {new} {r} table key rows put made row is says =

@@ -12,7 +12,7 @@ use Rattle.posting_rules.specs.Damage.{IsUndamaged}
 use Rattle.posting_rules.specs.Tables.{Tables, row_at, branch_key}
 use Rattle.posting_rules.proofs.Keyed.{by_test}
 use Rattle.posting_batch.specs.declared.slots.BranchSlot.{BranchSlot}
-use Rattle.posting_batch.specs.Batch.{HasRisingSlots, ChangesRows, AddsRows}
+use Rattle.posting_batch.specs.Batch.{HasRisingSlots, ChangesRows, AddsFreeRows}
 use Rattle.posting_batch.specs.Overlay.{Overlay}
 use Rattle.posting_batch.specs.Slots.{account_slot_key, teller_slot_key, branch_slot_key}
 use Rattle.posting_batch.proofs.Orders.{rising_keys}
@@ -53,7 +53,7 @@ numbers t (s ∷ slots) sound all = (one s.changed all.0, numbers t slots sound 
 -- ---- the tables one after another
 
 abbrev pub So : Overlay → Tables → Type 0
-So o t = IsUndamaged t × HasRisingSlots o × ChangesRows o t × AddsRows o t
+So o t = IsUndamaged t × HasRisingSlots o × ChangesRows o t × AddsFreeRows o t
 
 -- the changes of one table more
 pub step : {S A : Type 0} {g : Ghosts S} {a b c : Transaction S} {r : Result (Unit {0}) TableFault}

@@ -8,7 +8,7 @@ use Rattle.posting_batch.specs.Slots.{in_slot, row_of_slot, branch_slot_key}
 use Rattle.sql_meanings.specs.Calls.{Says}
 use Rattle.store_rows.specs.Calls.{OfTables}
 use Rattle.store_rows.specs.declared.faults.TableFault.{TableFault}
-use Rattle.bank_transactions.specs.Doing.{Blames, IsFirstBroken, LooksUp, Looks}
+use Rattle.bank_transactions.specs.Doing.{Blames, IsFirstBroken, LooksUp, ChangesNothing}
 
 -- this is the answer, where the call was answered
 abbrev pub handing : {X Y : Type 0} → Y → Result X TableFault → Result Y TableFault
@@ -22,7 +22,7 @@ pub record ReadsWhere {S X : Type 0} (g : Ghosts S) (old new : Transaction S) (S
     (wanted : Tables → X) (result : Result X TableFault) : Type 0 where
   pub says : Says g old new
       (OfTables (λ before now tables. So tables → LooksUp before now (wanted tables) result))
-      (λ before now. Looks before now result × Blames (IsFirstBroken g) g old.conn.now new.conn.now result)
+      (λ before now. ChangesNothing before now result × Blames (IsFirstBroken g) g old.conn.now new.conn.now result)
 
 -- the slot under a number tells the row of that branch
 abbrev pub TellsBranch : List BranchSlot → Tables → ℕ → Type 0

@@ -2,7 +2,7 @@
 ghost use Rattle.std.specs.Prelude.{[], ◌∷◌, List};
 ghost use Rattle.posting_rules.specs.Damage.{IsUndamaged};
 ghost use Rattle.posting_rules.specs.Tables.{Tables};
-ghost use Rattle.posting_batch.specs.Batch.{HasRisingSlots, ChangesRows, AddsRows};
+ghost use Rattle.posting_batch.specs.Batch.{HasRisingSlots, ChangesRows, AddsFreeRows};
 ghost use Rattle.posting_batch.specs.Overlay.{tables_over, accounts_over, tellers_over, branches_over};
 ghost use Rattle.posting_batch.specs.Overlay.{history_put, requests_put};
 ghost use Rattle.posting_batch.specs.View.{view};
@@ -126,7 +126,7 @@ fn make_all<S: Alter, C: Change>(
 pub fn write<S: Alter>(tx: &mut Transaction<'_, S>, overlay: &Overlay) -> Result<(), TableFault>
     ensures { Does S.Store tx.old tx.new
         (λ tables. IsUndamaged tables × HasRisingSlots (view overlay.now)
-        × ChangesRows (view overlay.now) tables × AddsRows (view overlay.now) tables)
+        × ChangesRows (view overlay.now) tables × AddsFreeRows (view overlay.now) tables)
         (λ tables. tables_over (view overlay.now) tables) (λ _. tt) result }
 {
     make_all(tx, &overlay.accounts)?;

@@ -19,7 +19,7 @@
 
 ghost use Rattle.std.specs.Prelude.{◌≡◌, ℕ, List, [], ◌∷◌, Option, None};
 ghost use Rattle.posting_core.specs.Clock.{IsReading};
-ghost use Rattle.posting_core.specs.Told.{Adds};
+ghost use Rattle.posting_core.specs.Told.{GrowsBy};
 ghost use Rattle.bank_clock.specs.Readings.{Reading, moment_at, reading_of, source_of};
 
 #[cfg(test)]
@@ -43,7 +43,7 @@ pub trait TimeTeller {
     ///
     /// Those of the system. A later reading may succeed.
     fn tell(&mut self) -> io::Result<SystemTime>
-        ensures { Adds (told self.old) (told self.new) (reading_of result ∷ []) };
+        ensures { GrowsBy (told self.old) (told self.new) (reading_of result ∷ []) };
 }
 
 impl<T: TimeSource> TimeTeller for T {
@@ -73,7 +73,7 @@ impl<T: TimeTeller> Clock for SystemClock<T> {
     fn now(&mut self) -> Moment
         ensures reading { IsReading None None result }
         ensures told { (reading : Reading) × (result ≡ moment_at reading)
-            × Adds (T.told (source_of self.old)) (T.told (source_of self.new)) (reading ∷ []) }
+            × GrowsBy (T.told (source_of self.old)) (T.told (source_of self.new)) (reading ∷ []) }
     {
         moment_of(self.source.tell())
     }

@@ -4,7 +4,7 @@ use Rattle.std.proofs.Common.{IsErrOf}
 use Rattle.sqlite_wal.specs.Recovery.{Image}
 use Rattle.posting_rules.specs.Counter.{Seen}
 use Rattle.posting_rules.specs.declared.fault.Fault.{Fault}
-use Rattle.posting_core.specs.Stream.{Streamed, Outputs, Survives, Resends}
+use Rattle.posting_core.specs.Stream.{Streamed, OutputsReplies, SurvivesStream, Resends}
 use Rattle.posting_core.specs.declared.stream.StreamFault.{StreamFault}
 use Rattle.bank_reports.specs.declared.audit.Audit.{Audit as Found}
 use Rattle.bank_audits.specs.declared.fault.ReportFault.{ReportFault}
@@ -47,8 +47,8 @@ module _ {C : Type 0} (seen : C → Seen) (image : Image) (r r' w w' k k' : Opti
   pub posted : (first last : C) (told : Result ℕ StreamFault) (result : Result ℕ CommandFault) (None : Type 0)
       → result ≡ said_of told → IsFoundIn image (seen first)
       → Streamed r r' w w' k k' (seen first) (seen last) told
-      → Outputs r r' w w' (seen first) (seen last) told
-      → Survives r r' w w' (seen first) (seen last) → Resends r r' (seen first) (seen last) told
+      → OutputsReplies r r' w w' (seen first) (seen last) told
+      → SurvivesStream r r' w w' (seen first) (seen last) → Resends r r' (seen first) (seen last) told
       → PostsIn seen image r r' w w' k k' None (λ t. result ≡ said_of t)
   posted first last told result None is found stream output stop resend =
       inr (

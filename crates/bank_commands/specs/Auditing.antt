@@ -5,7 +5,7 @@ use Rattle.sqlite_wal.specs.Recovery.{Image}
 use Rattle.posting_rules.specs.Commands.{Command}
 use Rattle.posting_rules.specs.Counter.{Seen, LeavesOnly, ShowsLog, StandsAt, Takes}
 use Rattle.posting_rules.specs.Laws.{IsConsistent}
-use Rattle.posting_rules.specs.Tables.{Shows, Tables}
+use Rattle.posting_rules.specs.Tables.{AreTablesOf, Tables}
 use Rattle.posting_rules.specs.declared.fault.Fault.{Fault}
 use Rattle.posting_rules.specs.declared.fault.Fault.TheVariants.{Damaged}
 use Rattle.posting_rules.specs.declared.fault.Rule.{Rule}
@@ -24,7 +24,7 @@ pub record Audits (old new : Seen) (told : Result Audit Fault) : Type 0 where
   pub sound : (rule : Rule) → told ≡ Err (Damaged rule) → new.honest → (log : List Command) → ShowsLog old log
       → ⊥
   pub done : OnOk told (Takes old new [])
-  pub left : new.honest → (log : List Command) → StandsAt old log → LeavesOnly new (λ t. Shows t log)
+  pub left : new.honest → (log : List Command) → StandsAt old log → LeavesOnly new (λ t. AreTablesOf t log)
 
 -- no bank was found, and nothing was printed; or the files' bank was audited
 abbrev pub AuditsIn : {C : Type 0} → (C → Seen) → Image → (w w' : Option (List ℕ)) → (Unfound : Type 0)

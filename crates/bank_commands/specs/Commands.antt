@@ -4,7 +4,7 @@ use Rattle.std.specs.Prelude.{◌≡◌, ◌⊎◌, ℕ, List, Option, Result, O
 use Rattle.std.specs.Io.KnownBytes.{Keeps}
 use Rattle.sqlite_wal.specs.Recovery.{Image}
 use Rattle.posting_rules.specs.Counter.{Seen}
-use Rattle.posting_core.specs.Stream.{Streamed, Outputs, Survives, Resends}
+use Rattle.posting_core.specs.Stream.{Streamed, OutputsReplies, SurvivesStream, Resends}
 use Rattle.posting_core.specs.declared.stream.StreamFault.{StreamFault}
 use Rattle.bank_endings.specs.Faults.{fault_of_stream}
 use Rattle.bank_endings.specs.Looking.{IsOfOpening}
@@ -61,8 +61,8 @@ pub record IsUntouched (r r' w w' k k' : Option (List ℕ)) : Type 0 where
 pub record PostsTo {C : Type 0} (seen : C → Seen) (r r' w w' k k' : Option (List ℕ))
     (told : Result ℕ StreamFault) (old new : C) : Type 0 where
   pub stream : Streamed r r' w w' k k' (seen old) (seen new) told
-  pub output : Outputs r r' w w' (seen old) (seen new) told
-  pub stop : Survives r r' w w' (seen old) (seen new)
+  pub output : OutputsReplies r r' w w' (seen old) (seen new) told
+  pub stop : SurvivesStream r r' w w' (seen old) (seen new)
   pub resend : Resends r r' (seen old) (seen new) told
 
 -- no bank was found, and nothing was read or written; or the input was posted to the bank of the files

@@ -5,7 +5,7 @@ use Rattle.sqlite_wal.specs.Recovery.{Image}
 use Rattle.posting_rules.specs.Commands.{Command}
 use Rattle.posting_rules.specs.Counter.{Seen, LeavesOnly, ShowsLog, StandsAt, Takes}
 use Rattle.posting_rules.specs.Entries.{balance_behind}
-use Rattle.posting_rules.specs.Tables.{Shows}
+use Rattle.posting_rules.specs.Tables.{AreTablesOf}
 use Rattle.posting_rules.specs.declared.fault.Fault.TheVariants.{Damaged}
 use Rattle.posting_rules.specs.declared.fault.Rule.{Rule}
 use Rattle.bank_reports.specs.Written.{AppendsPart}
@@ -42,7 +42,7 @@ pub record States (old new : Seen) (account : ℕ) (w w' : Option (List ℕ))
   pub sound : (rule : Rule) → told ≡ Err (report.Bank (Damaged rule)) → new.honest → (log : List Command)
       → ShowsLog old log → ⊥
   pub done : HasAnswered told → Takes old new []
-  pub left : new.honest → (log : List Command) → StandsAt old log → LeavesOnly new (λ t. Shows t log)
+  pub left : new.honest → (log : List Command) → StandsAt old log → LeavesOnly new (λ t. AreTablesOf t log)
 
 -- no bank was found, and nothing was written; or the statement of an account of the files' bank was
 abbrev pub StatesIn : {C : Type 0} → (C → Seen) → Image → ℕ → (w w' : Option (List ℕ)) → (Unfound : Type 0)

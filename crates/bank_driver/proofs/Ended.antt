@@ -21,7 +21,7 @@ use Rattle.load_driver.specs.Requests.{IsAscending}
 use Rattle.bank_driver.specs.declared.driving.Driven.{Driven}
 use Rattle.bank_driver.specs.declared.fault.DriveFault.{DriveFault}
 use Rattle.bank_driver.specs.declared.fault.DriveFault.TheVariants.{NoBranches, Bank}
-use Rattle.bank_driver.specs.Drives.{Drives, Ends, IfListed, IsUnlisted, MayRefuse, Resends, Submits}
+use Rattle.bank_driver.specs.Drives.{Drives, EndsDrive, IfListed, IsUnlisted, MayRefuse, Resends, Submits}
 use Rattle.bank_driver.specs.Records.{NoneOpen, first_drawn, open_branches, open_up_to, row_if_open}
 use Rattle.bank_driver.proofs.Again.{posted_again, skips_again}
 use Rattle.bank_driver.proofs.Drawn.{drawn_none}
@@ -154,8 +154,8 @@ module _ {C : Type 0} (seen : C → Seen) (old mid new : C) (k k' : Option (List
     (listing : Takes (seen old) (seen mid) []) (honest_first : (seen mid).honest → (seen old).honest)
     (honest : (seen new).honest → (seen mid).honest) where
   ends_behind : (stood : C) (taken refused : List Batch) (result : Result Driven DriveFault)
-      → Ends seen mid stood new rows count taken refused result
-      → Ends seen old stood new rows count taken refused result
+      → EndsDrive seen mid stood new rows count taken refused result
+      → EndsDrive seen old stood new rows count taken refused result
   ends_behind stood taken refused (Ok driven) e = record {
     none_refused = e.none_refused;
     stays = e.stays;

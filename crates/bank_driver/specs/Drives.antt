@@ -50,19 +50,19 @@ pub record IsIdle {C : Type 0} (stood new : C) (rows : Rows) (taken refused : Li
   pub stays : new ≡ stood
 
 -- the bank refused a call: to list the branches, or to take a batch
-pub record IsRefused {C : Type 0} (seen : C → Seen) (stood new : C) (refused : List Batch) (fault : Fault)
+pub record HasRefusedCall {C : Type 0} (seen : C → Seen) (stood new : C) (refused : List Batch) (fault : Fault)
     : Type 0 where
   pub one : length refused ≤ 1
   pub refuses : Refuses fault (seen stood) (seen new) (posts_of refused)
 
 -- what each result says of the batches and of the counter
-abbrev pub Ends : {C : Type 0} → (C → Seen) → (old stood new : C) → Rows → (count : ℕ)
+abbrev pub EndsDrive : {C : Type 0} → (C → Seen) → (old stood new : C) → Rows → (count : ℕ)
     → (taken refused : List Batch)
     → Result Driven DriveFault → Type 0
-Ends seen old stood new rows count taken refused (Ok driven) =
+EndsDrive seen old stood new rows count taken refused (Ok driven) =
     IsDone seen old stood new count taken refused driven
-Ends seen old stood new rows count taken refused (Err NoBranches) = IsIdle stood new rows taken refused
-Ends seen old stood new rows count taken refused (Err (Bank fault)) = IsRefused seen stood new refused fault
+EndsDrive seen old stood new rows count taken refused (Err NoBranches) = IsIdle stood new rows taken refused
+EndsDrive seen old stood new rows count taken refused (Err (Bank fault)) = HasRefusedCall seen stood new refused fault
 
 -- ---- what it did, whatever its result
 
@@ -83,7 +83,7 @@ pub record Submits {C : Type 0} (seen : C
   pub honest_first : (seen stood).honest → (seen old).honest
   pub honest : (seen new).honest → (seen stood).honest
   pub takes : Takes (seen old) (seen stood) (posts_of taken)
-  pub ends : Ends seen old stood new rows count taken refused result
+  pub ends : EndsDrive seen old stood new rows count taken refused result
   -- a stop leaves all that it took
   pub stop : (seen new).honest → (log : List Command) → StandsAt (seen old) log
       → LeavesOnly (seen new) (ShowsBeginning log (posts_of (taken ++ refused)) (length (posts_of taken)))

@@ -35,8 +35,8 @@ abbrev pub listening_line : SocketAddr → List ℕ
 listening_line address = line (codes "listening " ++ socket_text address)
 
 -- help or the version was asked for
-abbrev pub IsRequest : ErrorKind → Type 0
-IsRequest asked = (asked ≡ kind.DisplayHelp) ⊎ (asked ≡ kind.DisplayVersion)
+abbrev pub IsHelpOrVersion : ErrorKind → Type 0
+IsHelpOrVersion asked = (asked ≡ kind.DisplayHelp) ⊎ (asked ≡ kind.DisplayVersion)
 
 -- how the program ends on an error of this kind
 abbrev pub IsShown : ErrorKind → Status → Type 0

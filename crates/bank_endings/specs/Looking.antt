@@ -33,7 +33,7 @@ IsOfOpening Store = ⊤
 IsOfOpening _ = ⊥
 
 -- the fault is one of a plan, or want of memory
-abbrev pub IsOfPlan : CommandFault → Type 0
-IsOfPlan Memory = ⊤
-IsOfPlan (Plan fault) = ⊤
-IsOfPlan _ = ⊥
+abbrev pub IsPlanFault : CommandFault → Type 0
+IsPlanFault Memory = ⊤
+IsPlanFault (Plan fault) = ⊤
+IsPlanFault _ = ⊥

@@ -6,7 +6,7 @@ use Rattle.posting_rules.specs.declared.fault.Fault.TheVariants.{Memory, Store, 
 use Rattle.posting_rules.specs.Commands.{Command, AreCommands}
 use Rattle.posting_rules.specs.Counter.{Seen, StandsAt, LeavesOnly, ShowsBeginning, ShowsLog, Takes, Refuses}
 use Rattle.posting_rules.specs.Runs.{behind}
-use Rattle.posting_rules.specs.Tables.{Shows}
+use Rattle.posting_rules.specs.Tables.{AreTablesOf}
 use Rattle.posting_rules.proofs.Remaining.{leaves_still, leaves_weaker}
 use Rattle.bank_lives.specs.Lives.{IsCall, given_to}
 
@@ -14,7 +14,7 @@ use Rattle.bank_lives.specs.Lives.{IsCall, given_to}
 pub all_shown : (c : Seen) (log commands : List Command) → StandsAt c (behind log commands)
     → LeavesOnly c (ShowsBeginning log commands (length commands))
 all_shown c log commands stands =
-    leaves_weaker c (λ t. Shows t (behind log commands)) (ShowsBeginning log commands (length commands))
+    leaves_weaker c (λ t. AreTablesOf t (behind log commands)) (ShowsBeginning log commands (length commands))
     (λ t shown. record {
       count = length commands;
       holds = omega arith;
@@ -37,7 +37,7 @@ taken_is_call old new commands are takes up honest = record {
 
 -- nothing was changed
 still : (old new : Seen) (log : List Command) → StandsAt old log → (new.is_down → old.is_down)
-    → (ShowsLog old log → ShowsLog new log) → (LeavesOnly old (λ t. Shows t log) → LeavesOnly new (λ t. Shows t log)) → StandsAt new log
+    → (ShowsLog old log → ShowsLog new log) → (LeavesOnly old (λ t. AreTablesOf t log) → LeavesOnly new (λ t. AreTablesOf t log)) → StandsAt new log
 still old new log stood down shows left =
     record { shows = shows stood.shows; up = λ d. stood.up (down d); stop = left stood.stop }
 
@@ -48,7 +48,7 @@ refused_is_call Memory old new commands are refuses up honest =
     let stands = λ (h : new.honest) (log : List Command) (stood : StandsAt old log).
     still old new log stood refuses.down
     (λ s. record { commands = s.commands; tables = s.tables; are = refuses.tables s.tables s.are; shows = s.shows })
-    (leaves_still old new (λ t. Shows t log) refuses.left) in
+    (leaves_still old new (λ t. AreTablesOf t log) refuses.left) in
     record {
       are = tt;
       within = omega arith;

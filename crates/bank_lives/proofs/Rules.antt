@@ -10,7 +10,7 @@ use Rattle.posting_rules.specs.Commands.{Command, AreCommands, branch_of_teller,
 use Rattle.posting_rules.specs.Damage.{IsUndamaged}
 use Rattle.posting_rules.specs.Entries.{decided}
 use Rattle.posting_rules.specs.LookUps.{count_of_branch}
-use Rattle.posting_rules.specs.Tables.{Tables, Shows, row_at, account_key, branch_key, history_key, request_key, teller_key}
+use Rattle.posting_rules.specs.Tables.{Tables, AreTablesOf, row_at, account_key, branch_key, history_key, request_key, teller_key}
 use Rattle.posting_rules.specs.declared.fault.Rule.{Rule}
 use Rattle.posting_rules.specs.declared.fault.Rule.TheVariants.{Meta, Teller, Account, Balance, Request, Value, Key}
 use Rattle.posting_rules.specs.declared.rows.BranchRow.{BranchRow}
@@ -18,7 +18,7 @@ use Rattle.posting_rules.proofs.Stepped.{history_row_past, request_row_past}
 use Rattle.posting_rules.proofs.Undamaged.{undamaged}
 use Rattle.sql_meanings.specs.Entries.{Entry, has_key}
 use Rattle.store_rows.specs.Columns.{number_at}
-use Rattle.store_rows.specs.Rules.{AccountKeeps, BranchKeeps, HasDecided, IsCounted, Keeps, PostingKeeps, RequestKeeps, TellerKeeps, branch_under, row_under}
+use Rattle.store_rows.specs.Rules.{AccountKeeps, BranchKeeps, HasDecided, IsWithinCount, KeepsRule, PostingKeeps, RequestKeeps, TellerKeeps, branch_under, row_under}
 use Rattle.store_rows.specs.View.{account_entry, branch_entry, history_entry, request_entry, teller_entry}
 use Rattle.store_rows.specs.declared.metas.TheConstants.{VERSION}
 use Rattle.store_rows.proofs.RowLists.{found_by, has_row_key, taken_row_key}
@@ -36,7 +36,7 @@ each_entry entry P (r ∷ rows) all = (
 )
 
 module _ (t : Tables) (sound : IsUndamaged t) where
-  keeps_balance : Keeps Balance (stored_rows t)
+  keeps_balance : KeepsRule Balance (stored_rows t)
   keeps_balance = (
     each_entry branch_entry (BranchKeeps Balance) t.branches (λ r has. (sound.each_branch r has).balance),
     each_entry teller_entry (TellerKeeps Balance) t.tellers (λ r has. (sound.each_teller r has).balance),
@@ -45,7 +45,7 @@ module _ (t : Tables) (sound : IsUndamaged t) where
     each_entry request_entry (RequestKeeps Balance) t.requests (λ r has. tt),
   )
 
-  keeps_request : Keeps Request (stored_rows t)
+  keeps_request : KeepsRule Request (stored_rows t)
   keeps_request = (
     each_entry branch_entry (BranchKeeps Request) t.branches (λ r has. tt),
     each_entry teller_entry (TellerKeeps Request) t.tellers (λ r has. tt),
@@ -62,7 +62,7 @@ module _ (t : Tables) (sound : IsUndamaged t) where
     }),
   )
 
-  keeps_value : Keeps Value (stored_rows t)
+  keeps_value : KeepsRule Value (stored_rows t)
   keeps_value = (
     each_entry branch_entry (BranchKeeps Value) t.branches (λ r has.
         let is = sound.each_branch r has in ((r.branch, refl, is.some, is.most), (r.accounts, refl, is.few, is.many))),
@@ -109,7 +109,7 @@ module _ (t : Tables) (sound : IsUndamaged t) where
   teller_there n least =
       taken_row_key teller_key teller_entry (λ _. refl) n t.tellers ∙ sound.tellers n least ∙ sym (branch_there (branch_of_teller n))
 
-  keeps_teller : Keeps Teller (stored_rows t)
+  keeps_teller : KeepsRule Teller (stored_rows t)
   keeps_teller n least most = (λ there. sym (teller_there n least) ∙ there, λ there. teller_there n least ∙ there)
 
   account_there : (n : ℕ) → 1 ≤ n → is_some (row_under (map account_entry t.accounts) n)
@@ -123,7 +123,7 @@ module _ (t : Tables) (sound : IsUndamaged t) where
   le_test a b le = grind (arith, nat_tests, ints)
 
   counted : (n : ℕ) (o : Option BranchRow) → branch_under (stored_rows t) (branch_of_account n) ≡ option_map branch_entry o
-      → is_within (place_of_account n) (option_map count_of_branch o) ≡ true → IsCounted (stored_rows t) n
+      → is_within (place_of_account n) (option_map count_of_branch o) ≡ true → IsWithinCount (stored_rows t) n
   counted n None is within = absurd cc
   counted n (Some r) is within = (branch_entry r, is, le_number (place_of_account n) r.accounts within)
 
@@ -131,14 +131,14 @@ module _ (t : Tables) (sound : IsUndamaged t) where
   same_entry o r s one two = cc
 
   uncounted : (n : ℕ) (o : Option BranchRow) → branch_under (stored_rows t) (branch_of_account n) ≡ option_map branch_entry o
-      → IsCounted (stored_rows t) n → is_within (place_of_account n) (option_map count_of_branch o) ≡ true
+      → IsWithinCount (stored_rows t) n → is_within (place_of_account n) (option_map count_of_branch o) ≡ true
   uncounted n None is it = let found = it.1 in absurd cc
   uncounted n (Some r) is it =
       le_test (place_of_account n) r.accounts
       (subst (λ (e : Entry). pos (place_of_account n) ≤ℤ number_at 0 e)
       (same_entry (branch_under (stored_rows t) (branch_of_account n)) (branch_entry r) it.0 is it.1) it.2)
 
-  keeps_account : Keeps Account (stored_rows t)
+  keeps_account : KeepsRule Account (stored_rows t)
   keeps_account n least most = (
     λ there. counted n (row_at branch_key t.branches (branch_of_account n)) (under_is (branch_of_account n)) (sym (account_there n least) ∙ there),
     λ it. account_there n least ∙ uncounted n (row_at branch_key t.branches (branch_of_account n)) (under_is (branch_of_account n)) it,
@@ -171,7 +171,7 @@ same_count a b version is = let same : ◌≡◌ {A = ℤ} (pos a) (pos b) = ap 
     second [] = pos 0
     second (e ∷ es) = number_at 1 e
 
-module _ (t : Tables) (log : List Command) (shows : Shows t log) where
+module _ (t : Tables) (log : List Command) (shows : AreTablesOf t log) where
   no_row : {R : Type 0} (key : R → ℕ) (entry : R → Entry) → ((r : R) → (entry r).key ≡ pos (key r)) → (rows : List R) (n : ℕ)
       → row_at key rows n ≡ None → row_under (map entry rows) n ≡ None
   no_row key entry keyed rows n none =
@@ -194,7 +194,7 @@ module _ (t : Tables) (log : List Command) (shows : Shows t log) where
       (shows.rows.history (suc n) ∙ history_row_past (decided log) n (omega (arith, length_is, count)))
 
 -- the tables of a log keep each rule
-pub keeps_all : (t : Tables) (log : List Command) → AreCommands log → Shows t log → (rule : Rule) → Keeps rule (stored_rows t)
+pub keeps_all : (t : Tables) (log : List Command) → AreCommands log → AreTablesOf t log → (rule : Rule) → KeepsRule rule (stored_rows t)
 keeps_all t log are shows Meta = (t.decided, (VERSION, refl), (undamaged t log are shows).decided)
 keeps_all t log are shows Teller = keeps_teller t (undamaged t log are shows)
 keeps_all t log are shows Account = keeps_account t (undamaged t log are shows)

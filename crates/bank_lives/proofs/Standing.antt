@@ -8,11 +8,11 @@ use Rattle.posting_rules.specs.Commands.{Command, AreCommands}
 use Rattle.posting_rules.specs.Counter.{Seen, StandsAt, ShowsBeginning}
 use Rattle.posting_rules.specs.Runs.{behind}
 use Rattle.posting_rules.specs.Tables.{Tables}
-use Rattle.posting_rules.specs.Tables.{Shows as Show}
+use Rattle.posting_rules.specs.Tables.{AreTablesOf as Show}
 use Rattle.store_rows.specs.View.{Shows, ShowsTrees}
 use Rattle.bank_store.specs.Seen.{seen_in}
 use Rattle.posting_rules.specs.Laws.{IsConsistent, NoneShares, TablesAreConsistent}
-use Rattle.bank_lives.specs.Lives.{IsFound}
+use Rattle.bank_lives.specs.Lives.{IsFoundAgain}
 
 -- it stands at what its trees show
 pub stands_opened : (s : State) (D : Type 0) → (D → ⊥) → Opens s → ((db : Trees) → s.may_leave db → db ≡ s.committed.trees)
@@ -47,7 +47,7 @@ begins_opened s log given least opens settled finds (t, left, b) = record {
 -- a bank that stands at a beginning
 pub found_at : (seen : Seen) (log given : List Command) (least count : ℕ) → least ≤ count → count ≤ length given → NoneShares
     → TablesAreConsistent → (stands : StandsAt seen (behind log (take count given)))
-    → ((other : Tables) → seen.tables other → other ≡ stands.shows.tables) → IsFound seen log given least
+    → ((other : Tables) → seen.tables other → other ≡ stands.shows.tables) → IsFoundAgain seen log given least
 found_at seen log given least count holds within none_shares consistent stands one = record {
   count = count;
   holds = holds;

@@ -52,7 +52,7 @@ pub data Life {C : Type 0} (seen : C → Seen) (first : C) : C → List Command 
 -- It shows the log that the life began with and a beginning of the commands that were given in it, which
 -- holds every one that was acknowledged, and so does whatever a stop leaves of it. Each request is posted
 -- once, and accounts, tellers, branches and the deltas of history have one sum (TPC-B clause 2).
-pub record IsFound (seen : Seen) (log given : List Command) (least : ℕ) : Type 0 where
+pub record IsFoundAgain (seen : Seen) (log given : List Command) (least : ℕ) : Type 0 where
   pub count : ℕ
   pub holds : least ≤ count
   pub within : count ≤ length given

@@ -7,9 +7,9 @@ ghost use Rattle.posting_rules.specs.declared.fault.Fault.{Fault as Told};
 ghost use Rattle.posting_rules.specs.declared.fault.Fault.TheVariants.{Down};
 ghost use Rattle.posting_rules.specs.Commands.{Command, AreCommands};
 ghost use Rattle.posting_rules.specs.Counter.{Takes, Refuses, StandsAt, LeavesOnly, ShowsBeginning};
-ghost use Rattle.posting_rules.specs.Tables.{Tables, Shows};
+ghost use Rattle.posting_rules.specs.Tables.{Tables, AreTablesOf};
 ghost use Rattle.posting_rules.specs.declared.fault.Rule.{Rule};
-ghost use Rattle.store_rows.specs.Rules.{Keeps};
+ghost use Rattle.store_rows.specs.Rules.{KeepsRule};
 ghost use Rattle.store_rows.specs.View.{ShowsTrees};
 ghost use Rattle.bank_lives.specs.Rules.{stored_rows};
 ghost use Rattle.bank_store.specs.Opening.{conn_seen};
@@ -48,7 +48,7 @@ pub fn life_law<C: Counter>(counter: &C)
 /// What a connection shows as it is opened, a stop leaves too: it stands at whatever log its trees show.
 pub fn opened_law<S: Alter>(conn: &Connection<S>)
     ensures { Opens (state S.Store conn.now) → (tables : Tables) (log : List Command) → AreCommands log
-        → ShowsTrees (state S.Store conn.now).now.trees tables → Shows tables log
+        → ShowsTrees (state S.Store conn.now).now.trees tables → AreTablesOf tables log
         → StandsAt (conn_seen S.Store conn.now) log }
 {
     trees_law(conn);
@@ -57,5 +57,5 @@ pub fn opened_law<S: Alter>(conn: &Connection<S>)
 /// The tables of every log of a bank's commands keep each of the seven rules of `Rule`, so that a file which
 /// breaks one of them holds no bank.
 pub fn rules_law()
-    ensures { (tables : Tables) (log : List Command) → AreCommands log → Shows tables log → (rule : Rule) → Keeps rule (stored_rows tables) }
+    ensures { (tables : Tables) (log : List Command) → AreCommands log → AreTablesOf tables log → (rule : Rule) → KeepsRule rule (stored_rows tables) }
 {}

@@ -5,7 +5,7 @@ ghost use Rattle.sqlite.specs.State.{HasCleanDisk, Opens};
 ghost use Rattle.posting_rules.specs.Commands.{Command};
 ghost use Rattle.posting_rules.specs.Counter.{StandsAt};
 ghost use Rattle.bank_store.specs.Seen.{bank_seen};
-ghost use Rattle.bank_lives.specs.Lives.{IsFound, Life};
+ghost use Rattle.bank_lives.specs.Lives.{IsFoundAgain, Life};
 
 use crate::laws::life_law;
 use bank_store::{Bank, OpenFault, Refused, adopt};
@@ -37,7 +37,7 @@ pub fn reopen<S: Alter + Drop, T: Alter>(
         → (bank_seen S.Store stopped.now).honest → (bank_seen S.Store stopped.now).left (state T.Store conn).now.trees
         → (first : _) (log given : List Command) (least : ℕ) → StandsAt (bank_seen S.Store first) log
         → Life (λ bank. bank_seen S.Store bank) first stopped.now given least
-        → IsFound (bank_seen T.Store bank) log given least) }
+        → IsFoundAgain (bank_seen T.Store bank) log given least) }
     ensures missed { IfErr result (λ refused. HasCleanDisk (state T.Store refused.conn) → Opens (state T.Store conn)
         → (bank_seen S.Store stopped.now).honest → (bank_seen S.Store stopped.now).left (state T.Store conn).now.trees
         → (first : _) (log given : List Command) (least : ℕ) → StandsAt (bank_seen S.Store first) log

@@ -18,7 +18,7 @@ use Rattle.posting_rules.specs.Tables.{Tables}
 use Rattle.store_rows.specs.View.{Shows, ShowsTrees}
 use Rattle.bank_store.specs.Opening.{conn_seen}
 use Rattle.bank_files.specs.Opening.{IsOpenedOn}
-use Rattle.bank_openings.specs.InFile.{HoldsLog, IsFoundIn, IsMadeOver, IsNewIn, IsTakenUp}
+use Rattle.bank_openings.specs.InFile.{HoldsLog, IsFoundIn, BankIsMadeOver, IsNewIn, IsTakenUp}
 
 -- the connection's trees show what the files held
 left_in : (image : Image) (s : State) (log : List Command) → IsOpenedOn image s → (holds : HoldsLog image log)
@@ -36,7 +36,7 @@ found_in image s seen opened taken honest log holds =
     taken.stands honest it.opens holds.tables log holds.commands (left_in image s log it holds) holds.shows
 
 pub new_in : (image : Image) (s : State) (seen : Seen) → (HasCleanDisk s → IsOpenedOn image s)
-    → IsMadeOver s seen
+    → BankIsMadeOver s seen
     → IsNewIn image seen
 new_in image s seen opened made = record {
   stands = made.stands;

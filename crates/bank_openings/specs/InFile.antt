@@ -7,7 +7,7 @@ use Rattle.sqlite_trees.specs.Tree.{Trees}
 use Rattle.sqlite_wal.specs.Recovery.{Image}
 use Rattle.posting_rules.specs.Commands.{Command, AreCommands}
 use Rattle.posting_rules.specs.Counter.{Seen, StandsAt}
-use Rattle.posting_rules.specs.Tables.{Tables, Shows}
+use Rattle.posting_rules.specs.Tables.{Tables, AreTablesOf}
 use Rattle.store_rows.specs.View.{ShowsTrees}
 
 -- the files hold a bank whose tables are those of a log
@@ -17,7 +17,7 @@ pub record HoldsLog (image : Image) (log : List Command) : Type 0 where
   pub holds : HoldsDatabase image trees
   pub tables : Tables
   pub are : ShowsTrees trees tables
-  pub shows : Shows tables log
+  pub shows : AreTablesOf tables log
 
 -- ---- a connection that was opened
 
@@ -25,10 +25,10 @@ pub record HoldsLog (image : Image) (log : List Command) : Type 0 where
 pub record IsTakenUp (s : State) (seen : Seen) : Type 0 where
   pub clean : seen.honest → HasCleanDisk s
   pub stands : seen.honest → Opens s → (tables : Tables) (log : List Command) → AreCommands log
-      → ShowsTrees s.now.trees tables → Shows tables log → StandsAt seen log
+      → ShowsTrees s.now.trees tables → AreTablesOf tables log → StandsAt seen log
 
 -- where the connection was opened, its trees showed no bank, and the bank stands at no command
-pub record IsMadeOver (s : State) (seen : Seen) : Type 0 where
+pub record BankIsMadeOver (s : State) (seen : Seen) : Type 0 where
   pub clean : seen.honest → HasCleanDisk s
   pub stands : seen.honest → StandsAt seen []
   pub fresh : seen.honest → Opens s → (tables : Tables) → ShowsTrees s.now.trees tables → ⊥

@@ -11,7 +11,7 @@ ghost use Rattle.posting_rules.specs.Counter.{StandsAt};
 ghost use Rattle.bank_store.specs.Seen.{bank_seen};
 ghost use Rattle.bank_endings.specs.Faults.{fault_of_opening};
 ghost use Rattle.bank_files.specs.Opening.{IsOpenedOn};
-ghost use Rattle.bank_openings.specs.InFile.{HoldsLog, IsFoundIn, IsMadeOver, IsNewIn, IsTakenUp};
+ghost use Rattle.bank_openings.specs.InFile.{HoldsLog, IsFoundIn, BankIsMadeOver, IsNewIn, IsTakenUp};
 ghost use Rattle.bank_endings.specs.Looking.{IsOfLook, IsOfOpening};
 
 use bank_endings::CommandFault;
@@ -59,7 +59,7 @@ pub fn find_bank<S: Start>(
 // Makes a bank over a connection, which is dropped where that is refused.
 fn create_over<S: Alter + Drop>(alloc: Global, conn: Connection<S>) -> Result<Bank<S>, CommandFault>
     requires { conn.in_transaction ≡ false }
-    ensures made { IfOk result (λ bank. IsMadeOver (state S.Store conn) (bank_seen S.Store bank)) }
+    ensures made { IfOk result (λ bank. BankIsMadeOver (state S.Store conn) (bank_seen S.Store bank)) }
     ensures fault { IfErr result IsOfOpening }
 {
     trees_law(&conn);

@@ -11,7 +11,7 @@ use Rattle.posting_rules.specs.Counter.{Seen}
 use Rattle.posting_core.specs.declared.stream.StreamFault.{StreamFault}
 use Rattle.bank_endings.specs.Faults.{status_of}
 use Rattle.bank_endings.specs.Looking.{IsOfOpening}
-use Rattle.bank_endings.specs.Lines.{IsRequest, IsShown}
+use Rattle.bank_endings.specs.Lines.{IsHelpOrVersion, IsShown}
 use Rattle.bank_endings.specs.declared.fault.CommandFault.{CommandFault}
 use Rattle.bank_endings.specs.declared.fault.CommandFault.TheVariants as fault
 use Rattle.bank_endings.specs.declared.status.Status.{Status}
@@ -21,7 +21,7 @@ use Rattle.bank_words.specs.declared.reading.Command.{Command}
 use Rattle.bank_words.specs.declared.reading.Command.TheVariants.{Audit, Drive, Init, Load, Post, Serve}
 use Rattle.bank_words.specs.declared.reading.Command.TheVariants.{Statement}
 use Rattle.bank_commands.specs.Commands.{DrivesIn, LoadsIn, MakesIn, PostsIn, said_of}
-use Rattle.bank_program.specs.Running.{Does, EndsUnfound, ended_by, status_after}
+use Rattle.bank_program.specs.Running.{DoesCommand, EndsUnfound, ended_by, status_after}
 use Rattle.bank_program.proofs.Driven.{word_at}
 use Rattle.bank_program.proofs.Endings.{memory_ends, mistake_keeps}
 use Rattle.bank_program.proofs.Worked.{drives_lift, loads_lift}
@@ -103,7 +103,7 @@ module _ {C : Type 0} (seen : C → Seen) (image : Image) (r r' w w' k k' : Opti
     (words : List Text) where
   pub made_by : AskToInit words → (command : Command) (result : Result Status CommandFault)
       → IsSpelledBy words command
-      → Does seen image r r' w w' k k' command result → status_after result ≡ Done → MakesIn seen image
+      → DoesCommand seen image r r' w w' k k' command result → status_after result ≡ Done → MakesIn seen image
   made_by asked (Init file) (Ok status) spelled does done = does
   made_by asked (Init file) (Err f) spelled does done = absurd (fault_is_not_done f done)
   made_by asked (Load file plan) result spelled does done =
@@ -121,7 +121,7 @@ module _ {C : Type 0} (seen : C → Seen) (image : Image) (r r' w w' k k' : Opti
 
   pub loaded_by : AskToLoad words → (command : Command) (result : Result Status CommandFault)
       → IsSpelledBy words command
-      → Does seen image r r' w w' k k' command result
+      → DoesCommand seen image r r' w w' k k' command result
       → LoadsIn seen image w w' (λ end. status_after result ≡ status_after end)
   loaded_by asked (Load file plan) result spelled does =
       loads_lift result seen image k k' w w' does
@@ -149,7 +149,7 @@ module _ {C : Type 0} (seen : C → Seen) (image : Image) (r r' w w' k k' : Opti
 
   pub posted_by : AskToPost words → (command : Command) (result : Result Status CommandFault)
       → IsSpelledBy words command
-      → Does seen image r r' w w' k k' command result
+      → DoesCommand seen image r r' w w' k k' command result
       → PostsIn seen image r r' w w' k k' (EndsUnfound (status_after result))
       (λ told. status_after result ≡ status_after (ended_by told))
   posted_by asked (Post file) result spelled does = said result does
@@ -168,7 +168,7 @@ module _ {C : Type 0} (seen : C → Seen) (image : Image) (r r' w w' k k' : Opti
 
   pub driven_in : (asked : AskToDrive words) (command : Command) (result : Result Status CommandFault)
       → IsSpelledBy words command
-      → Does seen image r r' w w' k k' command result
+      → DoesCommand seen image r r' w w' k k' command result
       → DrivesIn seen image k k' w w' (number_of asked.2) (number_of asked.3) (λ end. status_after result
       ≡ status_after end)
   driven_in asked (Drive file seed count) result spelled does =
@@ -194,7 +194,7 @@ module _ {C : Type 0} (seen : C → Seen) (image : Image) (r r' w w' k k' : Opti
 
 -- ---- where memory ran out before the command was read
 
-pub memory_is_no_request : (kind : ErrorKind) → kind ≡ OutOfMemory → IsRequest kind → ⊥
+pub memory_is_no_request : (kind : ErrorKind) → kind ≡ OutOfMemory → IsHelpOrVersion kind → ⊥
 memory_is_no_request kind memory (inl asked) = let bad : OutOfMemory ≡ DisplayHelp = sym memory ∙ asked in cc
 memory_is_no_request kind memory (inr asked) =
     let bad : OutOfMemory ≡ DisplayVersion = sym memory ∙ asked in cc
@@ -209,7 +209,7 @@ unfound kind status memory shown = (fault.Memory, tt, memory_ends kind status me
 
 pub nothing_posted : {C : Type 0} (seen : C → Seen) (image : Image) (r w w' k : Option (List ℕ))
     (kind : ErrorKind) (status : Status)
-    → kind ≡ OutOfMemory → IsShown kind status → Keeps w w' ⊎ IsRequest kind
+    → kind ≡ OutOfMemory → IsShown kind status → Keeps w w' ⊎ IsHelpOrVersion kind
     → PostsIn seen image r r w w' k k (EndsUnfound status) (λ told. status ≡ status_after (ended_by told))
 nothing_posted seen image r w w' k kind status memory shown silent =
     inl (

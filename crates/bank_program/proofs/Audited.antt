@@ -8,7 +8,7 @@ use Rattle.clap.specs.declared.error.kind.ErrorKind.TheVariants.{OutOfMemory}
 use Rattle.sqlite_wal.specs.Recovery.{Image}
 use Rattle.posting_rules.specs.Counter.{Seen}
 use Rattle.bank_endings.specs.Looking.{IsOfOpening}
-use Rattle.bank_endings.specs.Lines.{IsRequest, IsShown}
+use Rattle.bank_endings.specs.Lines.{IsHelpOrVersion, IsShown}
 use Rattle.bank_endings.specs.declared.fault.CommandFault.{CommandFault}
 use Rattle.bank_endings.specs.declared.status.Status.{Status}
 use Rattle.bank_words.specs.Words.{AskToAudit, IsSpelledBy}
@@ -17,7 +17,7 @@ use Rattle.bank_words.specs.declared.reading.Command.TheVariants.{Audit, Drive, 
 use Rattle.bank_words.specs.declared.reading.Command.TheVariants.{Statement}
 use Rattle.bank_work.specs.Auditing.{Prints}
 use Rattle.bank_commands.specs.Auditing.{AuditsIn}
-use Rattle.bank_program.specs.Running.{Does, EndsAudit, EndsUnfound, status_after}
+use Rattle.bank_program.specs.Running.{DoesCommand, EndsAudit, EndsUnfound, status_after}
 use Rattle.bank_program.proofs.Asked.{letter, letter_of, memory_is_no_request, unfound}
 use Rattle.bank_program.proofs.Endings.{mistake_keeps}
 
@@ -33,7 +33,7 @@ module _ {C : Type 0} (seen : C → Seen) (image : Image) (w w' : Option (List �
 
   -- and nothing is audited where memory ran out before the command was read
   pub nothing_audited : (kind : ErrorKind) (status : Status) → kind ≡ OutOfMemory → IsShown kind status
-      → Keeps w w' ⊎ IsRequest kind
+      → Keeps w w' ⊎ IsHelpOrVersion kind
       → AuditsIn seen image w w' (EndsUnfound status) (λ told. EndsAudit told w w' status)
   nothing_audited kind status memory shown silent =
       inl (
@@ -47,7 +47,7 @@ module _ {C : Type 0} (seen : C → Seen) (image : Image) (r r' w w' k k' : Opti
   -- words that ask for an audit tell no other command
   pub audited_in : (asked : AskToAudit words) (command : Command) (result : Result Status CommandFault)
       → IsSpelledBy words command
-      → Does seen image r r' w w' k k' command result
+      → DoesCommand seen image r r' w w' k k' command result
       → AuditsIn seen image w w' (EndsUnfound (status_after result))
       (λ told. EndsAudit told w w' (status_after result))
   audited_in asked (Audit file) result spelled does = run_audits seen image w w' result does

@@ -10,7 +10,7 @@ use Rattle.bank_words.specs.declared.reading.Command.TheVariants.{Audit, Drive, 
 use Rattle.bank_words.specs.declared.reading.Command.TheVariants.{Statement}
 use Rattle.bank_words.proofs.Getters.{apart}
 use Rattle.bank_work.specs.Working.{TellsDriven}
-use Rattle.bank_program.specs.Running.{Ends}
+use Rattle.bank_program.specs.Running.{EndsCommand}
 
 -- the word at a place
 abbrev pub word_at : ℕ → List Text → Text
@@ -24,7 +24,7 @@ others words asked spelled are other = apart (ap (word_at 0) (sym (ap (drop 1) a
 -- words that ask to drive tell no other command, and the count that they spell
 pub driven_by : (words : List Text) (asked : AskToDrive words) (command : Command) (status : Status)
     (old new : Option (List ℕ))
-    → IsSpelledBy words command → Ends command status old new
+    → IsSpelledBy words command → EndsCommand command status old new
     → TellsDriven (number_of asked.3) old new
 driven_by words asked (Init f) status old new spelled ends = absurd (others words asked _ spelled refl)
 driven_by words asked (Load f p) status old new spelled ends = absurd (others words asked _ spelled refl)

@@ -6,13 +6,13 @@ use Rattle.clap.specs.declared.error.kind.ErrorKind.{ErrorKind}
 use Rattle.clap.specs.declared.error.kind.ErrorKind.TheVariants.{DisplayHelp, DisplayVersion, OutOfMemory}
 use Rattle.bank_endings.specs.declared.status.Status.{Status}
 use Rattle.bank_endings.specs.declared.status.Status.TheVariants.{Done, Usage, System}
-use Rattle.bank_endings.specs.Lines.{IsRequest, IsShown}
+use Rattle.bank_endings.specs.Lines.{IsHelpOrVersion, IsShown}
 use Rattle.bank_words.specs.CommandLine.{bank_app}
 use Rattle.bank_program.specs.Running.{AreRefused}
 
 -- the error of words that are refused is no call for help
 pub not_asked : (words : List Text) (k : ErrorKind) → AreRefused words
-    → (k ≡ OutOfMemory) ⊎ IsAmong k (fault_of bank_app words) → IsRequest k → ⊥
+    → (k ≡ OutOfMemory) ⊎ IsAmong k (fault_of bank_app words) → IsHelpOrVersion k → ⊥
 not_asked words k refused (inl memory) (inl asked) =
     let bad : OutOfMemory ≡ DisplayHelp = sym memory ∙ asked in
     cc
@@ -22,7 +22,7 @@ not_asked words k refused (inl memory) (inr asked) =
 not_asked words k refused (inr among) asked = refused.no_request k among asked
 
 -- an error that is no call for help ends the program as a mistake in the words, or for want of memory
-pub mistake_ends : (k : ErrorKind) (status : Status) → (IsRequest k → ⊥) → IsShown k status
+pub mistake_ends : (k : ErrorKind) (status : Status) → (IsHelpOrVersion k → ⊥) → IsShown k status
     → (status ≡ Usage) ⊎ (status ≡ System)
 mistake_ends OutOfMemory status free shown = inr shown
 mistake_ends DisplayHelp status free shown = absurd (free (inl refl))
@@ -30,8 +30,8 @@ mistake_ends DisplayVersion status free shown = absurd (free (inr refl))
 mistake_ends other status free shown = inl shown
 
 -- and prints nothing
-pub mistake_keeps : (k : ErrorKind) (old new : Option (List ℕ)) → (IsRequest k → ⊥)
-    → Keeps old new ⊎ IsRequest k
+pub mistake_keeps : (k : ErrorKind) (old new : Option (List ℕ)) → (IsHelpOrVersion k → ⊥)
+    → Keeps old new ⊎ IsHelpOrVersion k
     → Keeps old new
 mistake_keeps k old new free (inl keeps) = keeps
 mistake_keeps k old new free (inr asked) = absurd (free asked)

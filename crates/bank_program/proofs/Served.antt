@@ -15,7 +15,7 @@ use Rattle.bank_words.specs.declared.reading.Command.TheVariants.{Statement}
 use Rattle.bank_words.proofs.Getters.{apart}
 use Rattle.bank_work.specs.Working.{TellsListening}
 use Rattle.bank_commands.specs.Commands.{ServesIn}
-use Rattle.bank_program.specs.Running.{Does, Ends, status_after}
+use Rattle.bank_program.specs.Running.{DoesCommand, EndsCommand, status_after}
 use Rattle.bank_program.proofs.Driven.{word_at}
 use Rattle.bank_program.proofs.Worked.{serves_lift}
 
@@ -30,7 +30,7 @@ others words asked spelled are other = apart (ap first_word (sym (ap (drop 1) as
 -- words that ask to serve tell no other command
 pub served_by : (words : List Text) (asked : AskToServe words) (command : Command) (status : Status)
     (old new : Option (List ℕ))
-    → IsSpelledBy words command → Ends command status old new
+    → IsSpelledBy words command → EndsCommand command status old new
     → TellsListening old new
 served_by words asked (Init f) status old new spelled ends = absurd (others words asked _ spelled refl)
 served_by words asked (Load f p) status old new spelled ends = absurd (others words asked _ spelled refl)
@@ -46,7 +46,7 @@ pub served_in : {C : Type 0} (seen : C → Seen) (image : Image) (r r' w w' k k'
     (words : List Text)
     (asked : AskToServe words) (command : Command) (result : Result Status CommandFault)
     → IsSpelledBy words command
-    → Does seen image r r' w w' k k' command result
+    → DoesCommand seen image r r' w w' k k' command result
     → ServesIn seen image k k' (number_of asked.3) (λ end. status_after result ≡ status_after end)
 served_in seen image r r' w w' k k' words asked (Serve f a n) result spelled does =
     let same : spelled.0 ≡ asked.3 = ap (word_at 4) (sym spelled.1 ∙ ap (drop 1) asked.7) in

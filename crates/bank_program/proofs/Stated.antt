@@ -9,7 +9,7 @@ use Rattle.clap.specs.declared.error.kind.ErrorKind.TheVariants.{OutOfMemory}
 use Rattle.sqlite_wal.specs.Recovery.{Image}
 use Rattle.posting_rules.specs.Counter.{Seen}
 use Rattle.bank_endings.specs.Looking.{IsOfOpening}
-use Rattle.bank_endings.specs.Lines.{IsRequest, IsShown}
+use Rattle.bank_endings.specs.Lines.{IsHelpOrVersion, IsShown}
 use Rattle.bank_endings.specs.declared.fault.CommandFault.{CommandFault}
 use Rattle.bank_endings.specs.declared.status.Status.{Status}
 use Rattle.bank_words.specs.Words.{AskForStatement, IsSpelledBy, number_of}
@@ -19,7 +19,7 @@ use Rattle.bank_words.specs.declared.reading.Command.TheVariants.{Statement}
 use Rattle.bank_words.proofs.Getters.{apart}
 use Rattle.bank_work.specs.Working.{done_after}
 use Rattle.bank_commands.specs.Stating.{StatesIn, said_of_statement}
-use Rattle.bank_program.specs.Running.{Does, EndsUnfound, stated_by, status_after}
+use Rattle.bank_program.specs.Running.{DoesCommand, EndsUnfound, stated_by, status_after}
 use Rattle.bank_program.proofs.Asked.{letter, letter_of, memory_is_no_request, unfound}
 use Rattle.bank_program.proofs.Driven.{word_at}
 use Rattle.bank_program.proofs.Endings.{mistake_keeps}
@@ -47,7 +47,7 @@ module _ {C : Type 0} (seen : C → Seen) (image : Image) (account : ℕ) (w w' 
 
   -- and nothing is stated where memory ran out before the command was read
   pub nothing_stated : (kind : ErrorKind) (status : Status) → kind ≡ OutOfMemory → IsShown kind status
-      → Keeps w w' ⊎ IsRequest kind
+      → Keeps w w' ⊎ IsHelpOrVersion kind
       → StatesIn seen image account w w' (EndsUnfound status)
       (λ told. status ≡ status_after (stated_by account told))
   nothing_stated kind status memory shown silent =
@@ -62,7 +62,7 @@ module _ {C : Type 0} (seen : C → Seen) (image : Image) (r r' w w' k k' : Opti
   -- words that ask for a statement tell no other command, and the account that they spell
   pub stated_in : (asked : AskForStatement words) (command : Command) (result : Result Status CommandFault)
       → IsSpelledBy words command
-      → Does seen image r r' w w' k k' command result
+      → DoesCommand seen image r r' w w' k k' command result
       → StatesIn seen image (number_of asked.2) w w' (EndsUnfound (status_after result))
       (λ told. status_after result ≡ status_after (stated_by (number_of asked.2) told))
   stated_in asked (Statement file account) result spelled does =

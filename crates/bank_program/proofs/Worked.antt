@@ -10,7 +10,7 @@ use Rattle.bank_driver.specs.declared.driving.Driven.{Driven}
 use Rattle.bank_driver.specs.declared.fault.DriveFault.{DriveFault}
 use Rattle.counter_tcp.specs.declared.fault.ListenFault.{ListenFault}
 use Rattle.bank_endings.specs.Lines.{IsShown}
-use Rattle.bank_endings.specs.Looking.{IsOfOpening, IsOfPlan}
+use Rattle.bank_endings.specs.Looking.{IsOfOpening, IsPlanFault}
 use Rattle.bank_endings.specs.declared.fault.CommandFault.{CommandFault}
 use Rattle.bank_endings.specs.declared.fault.CommandFault.TheVariants.{Memory}
 use Rattle.bank_endings.specs.declared.status.Status.{Status}
@@ -74,7 +74,7 @@ module _ (result : Result Status CommandFault) where
     pub loads_lift : LoadsIn seen image w w' Ends → LoadsIn seen image w w' Ends'
     loads_lift =
         runs_lift seen image _ _ _ _ (λ none. (in_fault IsOfOpening none.0, none.1))
-        (works_lift _ _ _ _ _ (λ idle. (in_fault IsOfPlan idle.0, idle.1)) (tells_load w w'))
+        (works_lift _ _ _ _ _ (λ idle. (in_fault IsPlanFault idle.0, idle.1)) (tells_load w w'))
 
     pub drives_lift : (seed count : ℕ) → DrivesIn seen image k k' w w' seed count Ends
         → DrivesIn seen image k k' w w' seed count Ends'

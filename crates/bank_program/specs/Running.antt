@@ -11,7 +11,7 @@ use Rattle.bank_words.specs.CommandLine.{bank_app}
 use Rattle.bank_words.specs.declared.reading.Command.{Command}
 use Rattle.bank_words.specs.declared.reading.Command.TheVariants.{Audit, Drive, Init, Load, Post, Serve}
 use Rattle.bank_words.specs.declared.reading.Command.TheVariants.{Statement}
-use Rattle.bank_endings.specs.Lines.{IsRequest, created_line, loaded_line}
+use Rattle.bank_endings.specs.Lines.{IsHelpOrVersion, created_line, loaded_line}
 use Rattle.bank_endings.specs.Statuses.{status_of_loaded}
 use Rattle.bank_endings.specs.Looking.{IsOfOpening}
 use Rattle.bank_endings.specs.Faults.{fault_of_stream, status_of}
@@ -30,21 +30,21 @@ use Rattle.bank_work.specs.Working.{TellsDriven, TellsListening, done_after}
 -- clap takes the words for no command, and not for a call for help either
 pub record AreRefused (words : List Text) : Type 0 where
   pub some : fault_of bank_app words ≢ []
-  pub no_request : (kind : ErrorKind) → IsAmong kind (fault_of bank_app words) → IsRequest kind → ⊥
+  pub no_request : (kind : ErrorKind) → IsAmong kind (fault_of bank_app words) → IsHelpOrVersion kind → ⊥
 
 -- so many branches got each answer, and the line that says it was printed
-abbrev pub Tells : Status → Option (List ℕ) → Option (List ℕ) → Loaded → Type 0
-Tells status old new loaded = (status ≡ status_of_loaded loaded) × Appends old new (loaded_line loaded)
+abbrev pub PrintsLoaded : Status → Option (List ℕ) → Option (List ℕ) → Loaded → Type 0
+PrintsLoaded status old new loaded = (status ≡ status_of_loaded loaded) × Appends old new (loaded_line loaded)
 
 -- what a command that did its work printed, and how the program ends
-abbrev pub Ends : Command → Status → Option (List ℕ) → Option (List ℕ) → Type 0
-Ends (Init file) status old new = (status ≡ Done) × Appends old new created_line
-Ends (Load file plan) status old new = (loaded : Loaded) × Tells status old new loaded
-Ends (Post file) status old new = status ≡ Done
-Ends (Drive file seed count) status old new = (status ≡ Done) × TellsDriven count old new
-Ends (Audit file) status old new = (status ≡ Done) ⊎ (status ≡ Inconsistent)
-Ends (Statement file account) status old new = status ≡ Done
-Ends (Serve file address connections) status old new = (status ≡ Done) × TellsListening old new
+abbrev pub EndsCommand : Command → Status → Option (List ℕ) → Option (List ℕ) → Type 0
+EndsCommand (Init file) status old new = (status ≡ Done) × Appends old new created_line
+EndsCommand (Load file plan) status old new = (loaded : Loaded) × PrintsLoaded status old new loaded
+EndsCommand (Post file) status old new = status ≡ Done
+EndsCommand (Drive file seed count) status old new = (status ≡ Done) × TellsDriven count old new
+EndsCommand (Audit file) status old new = (status ≡ Done) ⊎ (status ≡ Inconsistent)
+EndsCommand (Statement file account) status old new = status ≡ Done
+EndsCommand (Serve file address connections) status old new = (status ≡ Done) × TellsListening old new
 
 -- ---- what a command did to the bank in its files; r and r' are the known bytes of the input before and
 -- after, w and w' those of the output, k and k' the clock's known readings
@@ -71,18 +71,18 @@ abbrev pub EndsAudit : Result Audited Fault → Option (List ℕ) → Option (Li
 EndsAudit told w w' status = (result : Result Status CommandFault) × Prints told w w' result
     × (status ≡ status_after result)
 
-abbrev pub Does : {C : Type 0} → (C → Seen) → Image → (r r' w w' k k' : Option (List ℕ)) → Command
+abbrev pub DoesCommand : {C : Type 0} → (C → Seen) → Image → (r r' w w' k k' : Option (List ℕ)) → Command
     → Result Status CommandFault → Type 0
-Does seen image r r' w w' k k' (Init file) result = OnOk result (MakesIn seen image)
-Does seen image r r' w w' k k' (Load file plan) result =
+DoesCommand seen image r r' w w' k k' (Init file) result = OnOk result (MakesIn seen image)
+DoesCommand seen image r r' w w' k k' (Load file plan) result =
     LoadsIn seen image w w' (λ end. result ≡ end)
-Does seen image r r' w w' k k' (Post file) result =
+DoesCommand seen image r r' w w' k k' (Post file) result =
     PostsIn seen image r r' w w' k k' (IsErrAnd result IsOfOpening) (λ told. result ≡ ended_by told)
-Does seen image r r' w w' k k' (Drive file seed count) result =
+DoesCommand seen image r r' w w' k k' (Drive file seed count) result =
     DrivesIn seen image k k' w w' seed count (λ end. result ≡ end)
-Does seen image r r' w w' k k' (Audit file) result =
+DoesCommand seen image r r' w w' k k' (Audit file) result =
     AuditsIn seen image w w' (IsErrAnd result IsOfOpening) (λ told. Prints told w w' result)
-Does seen image r r' w w' k k' (Statement file account) result =
+DoesCommand seen image r r' w w' k k' (Statement file account) result =
     StatesIn seen image account w w' (IsErrAnd result IsOfOpening) (λ told. result ≡ stated_by account told)
-Does seen image r r' w w' k k' (Serve file address connections) result =
+DoesCommand seen image r r' w w' k k' (Serve file address connections) result =
     ServesIn seen image k k' connections (λ end. result ≡ end)

@@ -14,7 +14,7 @@ ghost use Rattle.bank_commands.specs.Auditing.{AuditsIn};
 ghost use Rattle.bank_commands.specs.Commands.{DrivesIn, LoadsIn, MakesIn, PostsIn, ServesIn};
 ghost use Rattle.bank_commands.specs.Stating.{StatesIn};
 ghost use Rattle.bank_program.specs.Running.{ended_by, stated_by, status_after};
-ghost use Rattle.bank_program.specs.Running.{AreRefused, Does, Ends, EndsAudit, EndsUnfound};
+ghost use Rattle.bank_program.specs.Running.{AreRefused, DoesCommand, EndsCommand, EndsAudit, EndsUnfound};
 
 use bank_commands::{audit_file, drive, init, load_plan, post, serve, statement};
 use bank_endings::{CommandFault, Status, explain, tell};
@@ -104,8 +104,8 @@ fn perform<S: Start, R: Read, W: Write, K: Clock>(
 ) -> Result<Status, CommandFault>
     requires { AreInRange command }
     ensures ends { IfOk result
-        (λ status. Ends command.entry status (W.contents output.old) (W.contents output.new)) }
-    ensures does { Does (bank_seen ⟦<FileStore<FileFrom<S>> as Store>⟧) (image_at S.Start)
+        (λ status. EndsCommand command.entry status (W.contents output.old) (W.contents output.new)) }
+    ensures does { DoesCommand (bank_seen ⟦<FileStore<FileFrom<S>> as Store>⟧) (image_at S.Start)
         (R.remaining input.old) (R.remaining input.new) (W.contents output.old) (W.contents output.new)
         (K.readings clock.old) (K.readings clock.new) command.entry result }
 {

@@ -16,14 +16,14 @@ use Rattle.posting_rules.specs.Counter.{ShowsLog, ShowsBeginning, Takes, IsCutSh
 use Rattle.posting_rules.specs.Counter.{TellsDamage}
 use Rattle.posting_rules.specs.Runs.{behind}
 use Rattle.posting_rules.specs.Tables.{Tables}
-use Rattle.posting_rules.specs.Tables.{Shows as Show}
+use Rattle.posting_rules.specs.Tables.{AreTablesOf as Show}
 use Rattle.posting_rules.proofs.Calls.{IsChange}
 use Rattle.posting_rules.proofs.Sequence.{commands_behind}
 use Rattle.store_rows.specs.View.{Shows}
 use Rattle.store_rows.specs.declared.faults.TableFault.{TableFault}
 use Rattle.store_rows.specs.declared.faults.TableFault.TheVariants.{Sqlite, Damaged}
 use Rattle.store_rows.specs.Failures.{Committing}
-use Rattle.bank_transactions.specs.Doing.{Damage, HasFailedBetween, Leaves, TransactsBy}
+use Rattle.bank_transactions.specs.Doing.{Damage, HasFailedBetween, MayLeaveAfter, TransactsBy}
 use Rattle.bank_transactions.proofs.Blamed.{comes, failed_within, same_moment}
 use Rattle.bank_store.specs.Down.{GoesDown, TellsFailure}
 use Rattle.bank_store.specs.NoneOrAll.{LeavesNoneOrAll}
@@ -54,7 +54,7 @@ module _ {S X : Type 0} {So : Tables → Type 0} {after : Tables → Tables} {wa
     (does : TransactsBy Met g old new So after wanted r) where
   -- a call that a fault ended: what a stop leaves is what it could leave before, or all of the call
   pub cut_short : AreCommands cs → (end : State) (D E : Type 0) → E
-      → Survives (state g old) end (Leaves (state g old) So after)
+      → Survives (state g old) end (MayLeaveAfter (state g old) So after)
       → IsCutShort (seen_in (state g old) D) (seen_in end E) cs
   cut_short are end D E down survives = record {
     down = down;
@@ -73,7 +73,7 @@ module _ {S X : Type 0} {So : Tables → Type 0} {after : Tables → Tables} {wa
   }
 
   -- whatever ended the call, a stop leaves none of the commands or all of them
-  pub none_or_all : (end : State) (D E : Type 0) → Survives (state g old) end (Leaves (state g old) So after)
+  pub none_or_all : (end : State) (D E : Type 0) → Survives (state g old) end (MayLeaveAfter (state g old) So after)
       → LeavesNoneOrAll (seen_in (state g old) D) (seen_in end E) cs
   none_or_all end D E survives = λ clean log at trees may.
       let s = at.shows in
@@ -96,8 +96,8 @@ pub none_or_all_down : {S X : Type 0} {So : Tables → Type 0} {after : Tables �
     → LeavesNoneOrAll (seen_in (state g old) D) (seen_in (state g new) E) cs
 none_or_all_down {S} {X} {So} {after} {wanted} g old mid new r holds cs is D E does quiet =
     none_or_all holds cs is does (state g new) D E
-    (survives_then (state g old) (state g mid) (state g new) (Leaves (state g old) So after) (λ _. ⊥)
-    (Leaves (state g old) So after)
+    (survives_then (state g old) (state g mid) (state g new) (MayLeaveAfter (state g old) So after) (λ _. ⊥)
+    (MayLeaveAfter (state g old) So after)
     (λ clean db h. h) (λ clean db none. absurd none) does.stop quiet)
 
 -- a call that was answered
@@ -167,8 +167,8 @@ refuses {S} {X} {So} {after} {wanted} {Met} g old mid new holds cs is are D e ke
     failed f keeps same =
         subst Refused (sym same)
         (cut_short holds cs is does are (state g new) D (IsSome kept) (kept_down kept f keeps)
-        (survives_then (state g old) (state g mid) (state g new) (Leaves (state g old) So after) (λ _. ⊥)
-        (Leaves (state g old) So after)
+        (survives_then (state g old) (state g mid) (state g new) (MayLeaveAfter (state g old) So after) (λ _. ⊥)
+        (MayLeaveAfter (state g old) So after)
         (λ clean db h. h) (λ clean db none. absurd none) does.stop quiet))
 
     by_fault : (f : TableFault) → TransactsBy {X = X} Met g old mid So after wanted (Err f)

@@ -10,7 +10,7 @@ use Rattle.sqlite_rules.specs.Lists.{Has}
 use Rattle.posting_rules.specs.Commands.{Command, AreCommands}
 use Rattle.posting_rules.specs.Damage.{IsUndamaged}
 use Rattle.posting_rules.specs.Tables.{Tables}
-use Rattle.posting_rules.specs.Tables.{Shows as Show}
+use Rattle.posting_rules.specs.Tables.{AreTablesOf as Show}
 use Rattle.posting_rules.specs.declared.fault.Rule.TheVariants.{Meta, Teller, Account, Balance, Request}
 use Rattle.posting_rules.specs.declared.fault.Rule.TheVariants.{Value, Key}
 use Rattle.posting_rules.proofs.Undamaged.{undamaged}

@@ -4,10 +4,10 @@ use Rattle.sqlite.specs.State.{State}
 use Rattle.posting_rules.specs.Counter.{StandsAt}
 use Rattle.posting_rules.proofs.Empty.{empty_shown}
 use Rattle.store_rows.specs.Creation.{new_tables}
-use Rattle.bank_store.specs.Opening.{IsMade}
+use Rattle.bank_store.specs.Opening.{BankIsMade}
 use Rattle.bank_store.specs.Seen.{seen_in}
 
-pub stands_empty : (old new : State) (D : Type 0) → (D → ⊥) → IsMade old new → StandsAt (seen_in new D) []
+pub stands_empty : (old new : State) (D : Type 0) → (D → ⊥) → BankIsMade old new → StandsAt (seen_in new D) []
 stands_empty old new D up made = record {
   shows = record { commands = tt; tables = new_tables; are = made.shows; shows = empty_shown };
   up = up;

@@ -11,11 +11,11 @@ use Rattle.sqlite_trees.specs.declared.error.StoreError.TheVariants.{Unstorable}
 use Rattle.sqlite_schema.specs.Names.{table_named, view_named}
 use Rattle.posting_rules.proofs.Keyed.{by_test}
 use Rattle.sql_meanings.specs.Making.{KeepsTables}
-use Rattle.store_rows.specs.Creation.{CreatesBank, IsEmpty, IsMade, RefusesNext}
+use Rattle.store_rows.specs.Creation.{CreatesBank, IsEmpty, TablesAreMade, RefusesNext}
 use Rattle.store_rows.specs.Probes.{six_probes}
 use Rattle.store_rows.specs.Probes as probe
 use Rattle.store_rows.proofs.EmptyFile.{refused_on_nothing}
-use Rattle.bank_store.specs.Opening.{of_the_store, unmade_by, IsReadable, OneOf, IsPresent, IsRefused}
+use Rattle.bank_store.specs.Opening.{of_the_store, unmade_by, IsReadable, OneOf, IsPresent, IsRefusedOnTheWay}
 use Rattle.bank_store.specs.Opening.{IsTaken}
 use Rattle.bank_store.specs.declared.probing.Presence.{Presence}
 use Rattle.bank_store.specs.declared.probing.Presence.TheVariants.{Absent, Partial, Whole}
@@ -32,7 +32,7 @@ own_error Broken = refl
 own_error Unstorable = refl
 
 pub refused_because : (old new : State) (e : Error) (fault : OpenFault) → fault ≡ unmade_by e
-    → CreatesBank old new (Err e) → fault ≡ NotBlank → IsRefused old
+    → CreatesBank old new (Err e) → fault ≡ NotBlank → IsRefusedOnTheWay old
 refused_because old new e fault is (inl fails) taken =
     absurd (let own : of_the_store e ≡ true = ap of_the_store fails.1
     ∙ own_error fails.0 in let h = rw own at is in cc)
@@ -43,8 +43,8 @@ refused_because old new e fault is (inr refused) taken =
     ]
 
 -- what is refused where nothing was changed is refused before
-pub refused_before : (old mid : State) → mid.now ≡ old.now → mid.step_limit ≡ old.step_limit → IsRefused mid
-    → IsRefused old
+pub refused_before : (old mid : State) → mid.now ≡ old.now → mid.step_limit ≡ old.step_limit → IsRefusedOnTheWay mid
+    → IsRefusedOnTheWay old
 refused_before old mid now limit (e, db, other, inl one) = (
   e,
   db,
@@ -61,7 +61,7 @@ refused_before old mid now limit (e, db, other, inr first) = (
       | inl met ↦ inl (met.0, subst (λ o. IsSome o) limit met.1)
       | inr none ↦ inr none
     ],
-    subst (λ (it : Database). IsMade it db) now first.1,
+    subst (λ (it : Database). TablesAreMade it db) now first.1,
   ),
 )
 

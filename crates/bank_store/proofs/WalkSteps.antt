@@ -9,15 +9,15 @@ use Rattle.bank_walks.specs.Outcomes.{BreaksFirst}
 use Rattle.bank_walks.specs.Rising.{RisesFrom}
 use Rattle.bank_walks.proofs.Rises.{from_lower}
 use Rattle.bank_walks.specs.Rows.{items_behind, items_from}
-use Rattle.bank_store.specs.Walks.{Tells}
-use Rattle.bank_store.specs.Walking.{IsTold, coming}
+use Rattle.bank_store.specs.Walks.{TellsFault}
+use Rattle.bank_store.specs.Walking.{IsToldFault, coming}
 use Rattle.bank_store.specs.declared.walks.Stage.{Stage}
 use Rattle.bank_store.specs.declared.walks.Stage.TheVariants.{Going}
 
 -- what is told of a fault is the walk's fault
 pub told_of : {X : Type 0} (Because : Error → Type 0) (Breaks : X → Type 0) (items : List X) (f : TableFault)
-    (fault : Fault) → Tells f fault
-    → BreaksFirst Because Breaks items f → IsTold Because Breaks items fault
+    (fault : Fault) → TellsFault f fault
+    → BreaksFirst Because Breaks items f → IsToldFault Because Breaks items fault
 told_of Because Breaks items (Sqlite e) fault tells broke = rw tells (e, broke)
 told_of Because Breaks items (Damaged broken) fault tells broke = rw tells broke
 

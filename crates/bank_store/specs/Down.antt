@@ -15,8 +15,8 @@ use Rattle.bank_store.specs.Seen.{cause_of, connection_of, database_of}
 use Rattle.bank_store.specs.declared.bank.Bank.{Bank}
 
 -- the store failed, and its error is kept
-abbrev pub HasFailed : State → State → Option TableFault → Fault → Type 0
-HasFailed old new kept fault =
+abbrev pub StoreHasFailed : State → State → Option TableFault → Fault → Type 0
+StoreHasFailed old new kept fault =
     (fault ≡ told.Store) × ((e : Error) × (kept ≡ Some (Sqlite e)) × (HasCleanDisk new → Fails old new ⊥ e))
 
 -- an error of the store is kept; damage is reported if the store still answers, and nothing has changed
@@ -24,7 +24,7 @@ abbrev pub GoesDown : State → State → TableFault → Option TableFault → F
 GoesDown old new (Sqlite e) kept fault = (kept ≡ Some (Sqlite e)) × (fault ≡ told.Store)
 GoesDown old new (Damaged rule) kept fault =
     ((kept ≡ Some (Damaged rule)) × (fault ≡ told.Damaged rule) × (HasCleanDisk new → IsUnchanged old new))
-    ⊎ HasFailed old new kept fault
+    ⊎ StoreHasFailed old new kept fault
 
 -- the fault says that the store failed
 abbrev pub TellsFailure : Fault → Type 0

@@ -59,8 +59,8 @@ abbrev pub IsAsBefore : State → State → Type 0
 IsAsBefore old new = StateShows old new old.now old.committed old.in_transaction
 
 -- as long as the store is open, everything is as it was
-abbrev pub IsUndone : State → State → Type 0
-IsUndone old new = IsTrue new.is_open → IsAsBefore old new
+abbrev pub IsUndoneIfOpen : State → State → Type 0
+IsUndoneIfOpen old new = IsTrue new.is_open → IsAsBefore old new
 
 -- ---- the six tables
 
@@ -109,7 +109,7 @@ joined Whole Whole = Whole
 -- how many there are, and everything is as it was; or the store failed
 abbrev pub TellsPresence : {E : Type 0} → State → State → List (List ℕ × Table) → Result Presence E → Type 0
 TellsPresence old new probes (Ok presence) = IsPresent old.now probes presence × IsAsBefore old new
-TellsPresence old new probes (Err e) = IsUndone old new
+TellsPresence old new probes (Err e) = IsUndoneIfOpen old new
 
 -- ---- why a store fault is answered
 
@@ -171,7 +171,7 @@ IsUnread fault = (fault ≡ Store) ⊎ (fault ≡ Damaged Value)
 
 -- everything is as it was; where the store failed, as long as it is open
 abbrev pub IsReadOnly : {X : Type 0} → State → State → Result X OpenFault → Type 0
-IsReadOnly old new (Err Store) = IsUndone old new
+IsReadOnly old new (Err Store) = IsUndoneIfOpen old new
 IsReadOnly old new _ = IsAsBefore old new
 
 -- ---- a bank is found
@@ -182,7 +182,7 @@ MetaIs s P = (rows : List Entry) → HoldsRows s.now six.meta rows → P (meta_i
 
 -- the six tables are there, `meta` with its one row, of our version and with a count within its range, and
 -- everything is as it was
-pub record IsFound (old new : State) : Type 0 where
+pub record BankIsFound (old new : State) : Type 0 where
   pub tables : IsPresent old.now six_probes Whole
   pub meta : MetaIs old IsOurs
   pub one : (rows : List Entry) → HoldsRows old.now six.meta rows
@@ -202,14 +202,14 @@ Misses old (Damaged _) = ⊥
 
 -- a bank is found, or why it isn't
 abbrev pub SeeksBank : State → State → Result (Unit {0}) OpenFault → Type 0
-SeeksBank old new (Ok done) = IsFound old new
+SeeksBank old new (Ok done) = BankIsFound old new
 SeeksBank old new (Err fault) = Misses old fault × IsReadOnly {X = Unit {0}} old new (Err fault)
 
 -- ---- a bank is made
 
 -- a bank with nothing in it is there, whatever a stop leaves, and every table that was there is there, with
 -- its rows, and nothing else is
-pub record IsMade (old new : State) : Type 0 where
+pub record BankIsMade (old new : State) : Type 0 where
   pub shows : Shows new.now new_tables
   pub left : (left : Trees) → new.may_leave left → ShowsTrees left new_tables
   pub keeps : KeepsTables old.now new.now
@@ -232,12 +232,12 @@ abbrev pub unmade_by : Error → OpenFault
 unmade_by e = if of_the_store e then Store else NotBlank
 
 -- a statement that makes the bank is refused in a database on the way, by an error that isn't the store's own
-abbrev pub IsRefused : State → Type 0
-IsRefused old = (e : Error) × (db : Database) × (of_the_store e ≡ false) × RefusedIn old db e
+abbrev pub IsRefusedOnTheWay : State → Type 0
+IsRefusedOnTheWay old = (e : Error) × (db : Database) × (of_the_store e ≡ false) × RefusedIn old db e
 
 -- why there is something already: one of the tables is there, or the bank can't be made
 abbrev pub IsTaken : State → Type 0
-IsTaken old = OneOf six_probes (IsReadable old.now) ⊎ IsRefused old
+IsTaken old = OneOf six_probes (IsReadable old.now) ⊎ IsRefusedOnTheWay old
 
 -- why a bank isn't made
 abbrev pub IsUnmade : OpenFault → Type 0

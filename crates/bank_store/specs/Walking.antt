@@ -67,8 +67,8 @@ abbrev pub IsEnded : {S R : Type 0} {g : Ghosts S} → Walk S R g → Type 0
 IsEnded w = w.stage ≡ Ended
 
 -- it has ended with a fault
-abbrev pub HasFailed : {S R : Type 0} {g : Ghosts S} → Walk S R g → Type 0
-HasFailed w = w.stage ≡ Failed
+abbrev pub HasToldFault : {S R : Type 0} {g : Ghosts S} → Walk S R g → Type 0
+HasToldFault w = w.stage ≡ Failed
 
 -- ---- a step
 
@@ -90,9 +90,9 @@ StoreFailed old new = (e : Error) × IsStoreError old new e
 
 -- the fault is of the store, with an error of which this holds, or a number of the first to come is out of
 -- its range
-abbrev pub IsTold : {X : Type 0} → (Error → Type 0) → (X → Type 0) → List X → Fault → Type 0
-IsTold {X} Because Breaks old (told.Damaged broken) =
+abbrev pub IsToldFault : {X : Type 0} → (Error → Type 0) → (X → Type 0) → List X → Fault → Type 0
+IsToldFault {X} Because Breaks old (told.Damaged broken) =
     (broken ≡ rule.Value) × ((e : X) × (more : List X) × (old ≡ e ∷ more) × Breaks e)
-IsTold Because Breaks old told.Store = (e : Error) × Because e
-IsTold Because Breaks old told.Down = ⊥
-IsTold Because Breaks old told.Memory = ⊥
+IsToldFault Because Breaks old told.Store = (e : Error) × Because e
+IsToldFault Because Breaks old told.Down = ⊥
+IsToldFault Because Breaks old told.Memory = ⊥

@@ -8,13 +8,13 @@ use Rattle.store_rows.specs.declared.faults.TableFault.{TableFault}
 use Rattle.store_rows.specs.declared.faults.TableFault.TheVariants.{Sqlite, Damaged}
 
 -- an error of the store, or the rule that is broken
-abbrev pub Tells : TableFault → Fault → Type 0
-Tells (Sqlite e) f = f ≡ told.Store
-Tells (Damaged rule) f = f ≡ told.Damaged rule
+abbrev pub TellsFault : TableFault → Fault → Type 0
+TellsFault (Sqlite e) f = f ≡ told.Store
+TellsFault (Damaged rule) f = f ≡ told.Damaged rule
 
 -- as long as the store is open, everything is as it was
-abbrev pub IsUndone : State → State → Type 0
-IsUndone old new = IsTrue new.is_open → StateShows old new old.now old.committed old.in_transaction
+abbrev pub IsUntouchedIfOpen : State → State → Type 0
+IsUntouchedIfOpen old new = IsTrue new.is_open → StateShows old new old.now old.committed old.in_transaction
 
 -- the connection sees what it saw
 abbrev pub IsStill : State → State → Type 0

@@ -4,13 +4,13 @@ ghost use Rattle.sqlite.specs.State.{HasCleanDisk, Survives};
 ghost use Rattle.sqlite.specs.Held.{state};
 ghost use Rattle.posting_rules.specs.Commands.{Command};
 ghost use Rattle.posting_rules.specs.Counter.{ShowsLog, StandsAt, LeavesOnly};
-ghost use Rattle.posting_rules.specs.Tables.{Shows as Show};
+ghost use Rattle.posting_rules.specs.Tables.{AreTablesOf as Show};
 ghost use Rattle.store_rows.specs.Columns.{meta_in};
 ghost use Rattle.sql_meanings.specs.Entries.{Entry};
 ghost use Rattle.store_rows.specs.SixTables.{meta as table};
 ghost use Rattle.store_rows.specs.View.{HoldsRows};
 ghost use Rattle.bank_store.specs.Opening.{conn_seen, state_in, ChecksMeta, KnowsCause, TellsMeta};
-ghost use Rattle.bank_store.specs.Opening.{IsReadOnly, IsUndone, IsUnread, IsOfOtherType, IsFound, SeeksBank};
+ghost use Rattle.bank_store.specs.Opening.{IsReadOnly, IsUndoneIfOpen, IsUnread, IsOfOtherType, BankIsFound, SeeksBank};
 ghost use Rattle.bank_store.specs.Opening.{Misses, IsAsBefore};
 ghost use Rattle.bank_store.specs.Seen.{bank_seen, connection_of};
 
@@ -30,7 +30,7 @@ fn stored_meta<S: Alter>(conn: &mut Connection<S>) -> Result<Option<StoredMeta>,
     ensures told { HasCleanDisk (state S.Store conn.new) → (rows : List Entry)
         → HoldsRows (state S.Store conn.old).now table rows → TellsMeta (meta_in rows) result }
     ensures undone { HasCleanDisk (state S.Store conn.new)
-        → IsUndone (state S.Store conn.old) (state S.Store conn.new) }
+        → IsUndoneIfOpen (state S.Store conn.old) (state S.Store conn.new) }
     ensures fault { IfErr result IsUnread }
     ensures other { HasCleanDisk (state S.Store conn.new)
         → IfErr result (IsOfOtherType (state S.Store conn.old).now) }
@@ -120,7 +120,7 @@ fn find_bank<S: Alter>(conn: &mut Connection<S>) -> Result<(), OpenFault>
 pub fn adopt<S: Alter>(alloc: Global, mut conn: Connection<S>) -> Result<Bank<S>, Refused<S>>
     requires { conn.in_transaction ≡ false }
     ensures found { IfOk result (λ bank. HasCleanDisk (state S.Store (connection_of bank))
-        → IsFound (state S.Store conn) (state S.Store (connection_of bank))) }
+        → BankIsFound (state S.Store conn) (state S.Store (connection_of bank))) }
     ensures shows { IfOk result (λ bank. (bank_seen S.Store bank).honest → (log : List Command)
         → ShowsLog (conn_seen S.Store conn) log → ShowsLog (bank_seen S.Store bank) log) }
     ensures stands { IfOk result (λ bank. (bank_seen S.Store bank).honest → (log : List Command)
@@ -133,7 +133,7 @@ pub fn adopt<S: Alter>(alloc: Global, mut conn: Connection<S>) -> Result<Bank<S>
         → refused.fault ≢ OpenFault.Store
         → IsAsBefore (state S.Store conn) (state S.Store refused.conn)) }
     ensures undone { IfErr result (λ refused. HasCleanDisk (state S.Store refused.conn)
-        → IsUndone (state S.Store conn) (state S.Store refused.conn)) }
+        → IsUndoneIfOpen (state S.Store conn) (state S.Store refused.conn)) }
     ensures known { IfErr result (λ refused. HasCleanDisk (state S.Store refused.conn) → (log : List Command)
         → ShowsLog (conn_seen S.Store conn) log → refused.fault ≡ OpenFault.Store) }
     ensures stop { IfErr result (λ refused. HasCleanDisk (state S.Store refused.conn) → (log : List Command)

@@ -130,7 +130,7 @@ impl<S: Alter> Bank<S> {
     ghost use Rattle.bank_walks.specs.Rising.{RisesFrom};
     ghost use Rattle.bank_walks.specs.Rows.{items_behind, items_from};
     ghost use Rattle.bank_store.specs.Seen.{alloc_of};
-    ghost use Rattle.bank_store.specs.Walks.{IsStill, IsUndone};
+    ghost use Rattle.bank_store.specs.Walks.{IsStill, IsUntouchedIfOpen};
 
     /// Whether a fault brought the bank down. Then each call answers [`Fault::Down`] and tries nothing.
     pub fn is_down(&self) -> bool
@@ -167,7 +167,7 @@ impl<S: Alter> Bank<S> {
         ensures same { HasCleanDisk (state S.Store self.new.conn)
             → OnOk result (IsStill (state S.Store self.old.conn) (state S.Store self.new.conn)) }
         ensures undone { HasCleanDisk (state S.Store self.new.conn)
-            → IsUndone (state S.Store self.old.conn) (state S.Store self.new.conn) }
+            → IsUntouchedIfOpen (state S.Store self.old.conn) (state S.Store self.new.conn) }
         ensures up { self.new.fault ≡ self.old.fault }
         ensures survives { Survives (state S.Store self.old.conn) (state S.Store self.new.conn) (λ _. ⊥) }
     {

@@ -8,7 +8,7 @@ ghost use Rattle.sql_meanings.specs.Making.{KeepsTables};
 ghost use Rattle.store_rows.specs.Creation.{HasNewBank, IsAlone, IsEmpty};
 ghost use Rattle.store_rows.specs.Probes.{six_probes};
 ghost use Rattle.store_rows.specs.View.{Shows};
-ghost use Rattle.bank_store.specs.Opening.{state_in, IsPresent, IsMade, IsUndone, IsUnmade, IsRefused};
+ghost use Rattle.bank_store.specs.Opening.{state_in, IsPresent, BankIsMade, IsUndoneIfOpen, IsUnmade, IsRefusedOnTheWay};
 ghost use Rattle.bank_store.specs.Opening.{IsTaken, KnowsWhyUnmade};
 ghost use Rattle.bank_store.specs.Seen.{bank_seen, connection_of};
 ghost use Rattle.bank_store.specs.declared.probing.Presence.TheVariants.{Absent};
@@ -25,12 +25,12 @@ use store_rows::create_tables;
 fn make_tables<S: Alter>(conn: &mut Connection<S>) -> Result<(), OpenFault>
     requires { conn.old.in_transaction ≡ false }
     ensures made { HasCleanDisk (state S.Store conn.new)
-        → OnOk result (IsMade (state S.Store conn.old) (state S.Store conn.new)) }
+        → OnOk result (BankIsMade (state S.Store conn.old) (state S.Store conn.new)) }
     ensures undone { HasCleanDisk (state S.Store conn.new)
-        → OnErr result (IsUndone (state S.Store conn.old) (state S.Store conn.new)) }
+        → OnErr result (IsUndoneIfOpen (state S.Store conn.old) (state S.Store conn.new)) }
     ensures fault { IfErr result IsUnmade }
     ensures refused { HasCleanDisk (state S.Store conn.new)
-        → IfErr result (λ fault. fault ≡ OpenFault.NotBlank → IsRefused (state S.Store conn.old)) }
+        → IfErr result (λ fault. fault ≡ OpenFault.NotBlank → IsRefusedOnTheWay (state S.Store conn.old)) }
     ensures cause { IfErr result (KnowsWhyUnmade S.Store conn.old conn.new) }
     ensures stop { Survives (state S.Store conn.old) (state S.Store conn.new)
         (HasNewBank (state S.Store conn.old).now) }
@@ -53,9 +53,9 @@ fn make_bank<S: Alter>(conn: &mut Connection<S>) -> Result<(), OpenFault>
     ensures blank { HasCleanDisk (state S.Store conn.new)
         → OnOk result (IsPresent (state S.Store conn.old).now six_probes Absent) }
     ensures made { HasCleanDisk (state S.Store conn.new)
-        → OnOk result (IsMade (state S.Store conn.old) (state S.Store conn.new)) }
+        → OnOk result (BankIsMade (state S.Store conn.old) (state S.Store conn.new)) }
     ensures undone { HasCleanDisk (state S.Store conn.new)
-        → OnErr result (IsUndone (state S.Store conn.old) (state S.Store conn.new)) }
+        → OnErr result (IsUndoneIfOpen (state S.Store conn.old) (state S.Store conn.new)) }
     ensures fault { IfErr result IsUnmade }
     ensures refused { HasCleanDisk (state S.Store conn.new)
         → IfErr result (λ fault. fault ≡ OpenFault.NotBlank → IsTaken (state S.Store conn.old)) }
@@ -95,7 +95,7 @@ pub fn create<S: Alter>(alloc: Global, mut conn: Connection<S>) -> Result<Bank<S
     ensures new { IfOk result (λ bank. HasCleanDisk (state S.Store (connection_of bank)) → (tables : Tables)
         → Shows (state S.Store conn).now tables → ⊥) }
     ensures undone { IfErr result (λ refused. HasCleanDisk (state S.Store refused.conn)
-        → IsUndone (state S.Store conn) (state S.Store refused.conn)) }
+        → IsUndoneIfOpen (state S.Store conn) (state S.Store refused.conn)) }
     ensures fault { IfErr result (λ refused. IsUnmade refused.fault) }
     ensures refused { IfErr result (λ refused. HasCleanDisk (state S.Store refused.conn)
         → refused.fault ≡ OpenFault.NotBlank → IsTaken (state S.Store conn)) }

@@ -11,7 +11,7 @@ ghost use Rattle.sql_meanings.specs.Outcomes.{IsStoreError};
 ghost use Rattle.bank_walks.specs.Outcomes.{BreaksFirst};
 ghost use Rattle.bank_walks.specs.Rising.{RisesFrom};
 ghost use Rattle.bank_walks.specs.Rows.{items_behind, items_from};
-ghost use Rattle.bank_store.specs.Walks.{IsStill, IsUndone, Tells};
+ghost use Rattle.bank_store.specs.Walks.{IsStill, IsUntouchedIfOpen, TellsFault};
 
 use crate::bank::Bank;
 use arrayvec::ArrayVec;
@@ -73,7 +73,7 @@ impl<S: Alter, R: WalkedRow> Drop for Walk<'_, S, R> {
 
 // The fault of a walk, which doesn't bring the bank down.
 fn told(fault: TableFault) -> Fault
-    ensures { Tells fault result }
+    ensures { TellsFault fault result }
 {
     match fault {
         TableFault::Sqlite(_) => Fault::Store,
@@ -102,7 +102,7 @@ pub(crate) fn read_outside<S: Alter, R: WalkedRow>(
     ensures same { HasCleanDisk (state S.Store conn.new)
         → OnOk result (IsStill (state S.Store conn.old) (state S.Store conn.new)) }
     ensures undone { HasCleanDisk (state S.Store conn.new)
-        → IsUndone (state S.Store conn.old) (state S.Store conn.new) }
+        → IsUntouchedIfOpen (state S.Store conn.old) (state S.Store conn.new) }
     ensures mode { conn.new.in_transaction ≡ false }
     ensures survives { Survives (state S.Store conn.old) (state S.Store conn.new) (λ _. ⊥) }
 {
@@ -112,7 +112,7 @@ pub(crate) fn read_outside<S: Alter, R: WalkedRow>(
 
 impl<'bank, S: Alter, R: WalkedRow> Walk<'bank, S, R> {
     ghost use Rattle.bank_store.specs.Seen.{database_of, fault_of};
-    ghost use Rattle.bank_store.specs.Walking.{ComesFrom, GivesFrom, HasFailed, IsEnded, IsTold, Steps};
+    ghost use Rattle.bank_store.specs.Walking.{ComesFrom, GivesFrom, HasToldFault, IsEnded, IsToldFault, Steps};
     ghost use Rattle.bank_store.specs.Walking.{StoreFailed, items_to_come, lent, lent_state, loan_of};
     ghost use Rattle.bank_store.specs.declared.walks.Stage.TheVariants.{Going};
 
@@ -152,7 +152,7 @@ impl<'bank, S: Alter, R: WalkedRow> Walk<'bank, S, R> {
             → MatchResult result
             (λ _. items_to_come R.WalkedRow.key R.WalkedRow.item R.WalkedRow.is_given all self.new
             ≡ items_to_come R.WalkedRow.key R.WalkedRow.item R.WalkedRow.is_given all self.old)
-            (IsTold (IsStoreError (lent_state S.Store self.old) (lent_state S.Store self.new))
+            (IsToldFault (IsStoreError (lent_state S.Store self.old) (lent_state S.Store self.new))
             R.WalkedRow.is_broken (items_to_come R.WalkedRow.key R.WalkedRow.item R.WalkedRow.is_given all
             self.old)) }
         ensures rises { (k : ℤ) → ComesFrom (λ r. R.WalkedRow.key (R.WalkedRow.item r)) k self.old
@@ -161,11 +161,11 @@ impl<'bank, S: Alter, R: WalkedRow> Walk<'bank, S, R> {
         ensures same { HasCleanDisk (lent_state S.Store self.new)
             → OnOk result (IsStill (lent_state S.Store self.old) (lent_state S.Store self.new)) }
         ensures undone { HasCleanDisk (lent_state S.Store self.new)
-            → IsUndone (lent_state S.Store self.old) (lent_state S.Store self.new) }
+            → IsUntouchedIfOpen (lent_state S.Store self.old) (lent_state S.Store self.new) }
         ensures up { self.new.bank.now.fault ≡ self.old.bank.now.fault }
         ensures survives { Survives (lent_state S.Store self.old) (lent_state S.Store self.new) (λ _. ⊥) }
         ensures going { OnOk result (self.new.stage ≡ Going) }
-        ensures failed { IfErr result (λ f. HasFailed self.new × (f ≢ fault.Down) × (f ≢ fault.Memory)) }
+        ensures failed { IfErr result (λ f. HasToldFault self.new × (f ≢ fault.Down) × (f ≢ fault.Memory)) }
     {
         if self.given < self.rows.len() {
             return Ok(());
@@ -213,15 +213,15 @@ impl<'bank, S: Alter, R: WalkedRow> Walk<'bank, S, R> {
         ensures same { HasCleanDisk (lent_state S.Store self.new)
             → OnOk result (IsStill (lent_state S.Store self.old) (lent_state S.Store self.new)) }
         ensures undone { HasCleanDisk (lent_state S.Store self.new)
-            → IsUndone (lent_state S.Store self.old) (lent_state S.Store self.new) }
+            → IsUntouchedIfOpen (lent_state S.Store self.old) (lent_state S.Store self.new) }
         ensures up { fault_of (lent self.new) ≡ fault_of (lent self.old) }
         ensures survives { Survives (lent_state S.Store self.old) (lent_state S.Store self.new) (λ _. ⊥) }
         ensures ended { result ≡ Ok None → IsEnded self.new }
         ensures again { IsEnded self.old → (result ≡ Ok None) × (self.new ≡ self.old) }
-        ensures failed { IfErr result (λ _. HasFailed self.new) }
+        ensures failed { IfErr result (λ _. HasToldFault self.new) }
         ensures frugal { result ≢ Err fault.Memory }
-        ensures down { (HasFailed self.old → IsErrOf result fault.Down)
-            × (IsErrOf result fault.Down → HasFailed self.old × (self.new ≡ self.old)) }
+        ensures down { (HasToldFault self.old → IsErrOf result fault.Down)
+            × (IsErrOf result fault.Down → HasToldFault self.old × (self.new ≡ self.old)) }
     {
         match self.stage {
             Stage::Failed => return Err(Fault::Down),
@@ -248,7 +248,7 @@ ghost use Rattle.bank_store.specs.contracts.bank.Bank.{the_row};
 ghost use Rattle.bank_store.specs.Seen.{bank_seen, database_of};
 ghost use Rattle.bank_store.specs.Walking.{ComesFrom, items_to_come, lent, loan_of, to_come};
 ghost use Rattle.bank_walks.specs.Pairs.{HasPairs, Pair, pair_key};
-ghost use Rattle.bank_walks.specs.Rows.{HasRows, LEAST, entry_key};
+ghost use Rattle.bank_walks.specs.Rows.{HasStoredRows, LEAST, entry_key};
 ghost use Rattle.bank_walks.specs.Stored.{account_entry, asked_pair, branch_entry, is_of, posted_pair};
 ghost use Rattle.bank_walks.specs.Stored.{posting_entry, teller_entry};
 ghost use Rattle.store_rows.specs.SixTables.{account as account_table, branch as branch_table};
@@ -281,7 +281,7 @@ pub fn each_branch<S: Alter>(bank: &mut Bank<S>) -> Result<Walk<'_, S, StoredBra
     ensures same_reference { IfOk result (λ it. loan_of it ≡ bank.entry.ghost_name) }
     ensures same { IfOk result (λ it. lent it ≡ bank.old) }
     ensures all { IfOk result (λ it. (rows : List Entry)
-        → HasRows (database_of S.Store bank.old) branch_table rows
+        → HasStoredRows (database_of S.Store bank.old) branch_table rows
         → to_come branch_entry (λ of e. true) rows it ≡ rows) }
     ensures rises { IfOk result (λ it. ComesFrom (λ r. entry_key (branch_entry r)) LEAST it) }
     ensures fault { IfErr result (λ f. (f ≡ fault.Down) × (bank_seen S.Store bank.old).is_down) }
@@ -297,7 +297,7 @@ pub fn each_teller<S: Alter>(bank: &mut Bank<S>) -> Result<Walk<'_, S, StoredTel
     ensures same_reference { IfOk result (λ it. loan_of it ≡ bank.entry.ghost_name) }
     ensures same { IfOk result (λ it. lent it ≡ bank.old) }
     ensures all { IfOk result (λ it. (rows : List Entry)
-        → HasRows (database_of S.Store bank.old) teller_table rows
+        → HasStoredRows (database_of S.Store bank.old) teller_table rows
         → to_come teller_entry (λ of e. true) rows it ≡ rows) }
     ensures rises { IfOk result (λ it. ComesFrom (λ r. entry_key (teller_entry r)) LEAST it) }
     ensures fault { IfErr result (λ f. (f ≡ fault.Down) × (bank_seen S.Store bank.old).is_down) }
@@ -313,7 +313,7 @@ pub fn each_account<S: Alter>(bank: &mut Bank<S>) -> Result<Walk<'_, S, StoredAc
     ensures same_reference { IfOk result (λ it. loan_of it ≡ bank.entry.ghost_name) }
     ensures same { IfOk result (λ it. lent it ≡ bank.old) }
     ensures all { IfOk result (λ it. (rows : List Entry)
-        → HasRows (database_of S.Store bank.old) account_table rows
+        → HasStoredRows (database_of S.Store bank.old) account_table rows
         → to_come account_entry (λ of e. true) rows it ≡ rows) }
     ensures rises { IfOk result (λ it. ComesFrom (λ r. entry_key (account_entry r)) LEAST it) }
     ensures fault { IfErr result (λ f. (f ≡ fault.Down) × (bank_seen S.Store bank.old).is_down) }
@@ -333,7 +333,7 @@ pub fn history_of<S: Alter>(
     ensures same_reference { IfOk result (λ it. loan_of it ≡ bank.entry.ghost_name) }
     ensures same { IfOk result (λ it. lent it ≡ bank.old) }
     ensures all { IfOk result (λ it. (rows : List Entry)
-        → HasRows (database_of S.Store bank.old) history_table rows
+        → HasStoredRows (database_of S.Store bank.old) history_table rows
         → to_come posting_entry is_of rows it ≡ filter (is_of (Some account)) rows) }
     ensures rises { IfOk result (λ it. ComesFrom (λ r. entry_key (posting_entry r)) LEAST it) }
     ensures fault { IfErr result (λ f. (f ≡ fault.Down) × (bank_seen S.Store bank.old).is_down) }

@@ -18,10 +18,10 @@ use Rattle.sql_meanings.proofs.Changes.{found_all, found_key, found_passes}
 use Rattle.store_rows.specs.Calls.{OfMeta}
 use Rattle.store_rows.specs.Columns.{meta_in}
 use Rattle.store_rows.specs.Outcomes.{Finds, Never}
-use Rattle.store_rows.specs.Rules.{HoldsBank, IsBroken, Keeps, OfRows, StoredRows, HasDecided}
+use Rattle.store_rows.specs.Rules.{HoldsBank, IsBroken, KeepsRule, OfRows, StoredRows, HasDecided}
 use Rattle.store_rows.specs.Rules.{BranchKeeps, TellerKeeps, AccountKeeps, RequestKeeps, row_under}
 use Rattle.store_rows.specs.SixTables as six
-use Rattle.store_rows.specs.Stored.{BalanceKeeps, FindsStored, IsBalance, IsBranch, IsRequest}
+use Rattle.store_rows.specs.Stored.{BalanceKeeps, FindsStored, IsBalance, IsBranch, IsSameRequest}
 use Rattle.store_rows.specs.View.{HoldsRows}
 use Rattle.store_rows.specs.declared.faults.TableFault.{TableFault}
 use Rattle.store_rows.specs.declared.faults.TableFault.TheVariants.{Sqlite, Damaged}
@@ -35,7 +35,7 @@ IsOf db (Damaged rule) = IsBroken rule db
 
 -- ---- a row that is found keeps the rules that all rows keep
 
-pub branch_keeps : (rule : Rule) (rows : StoredRows) → Keeps rule rows → (p : Entry → Bool) (r : Entry)
+pub branch_keeps : (rule : Rule) (rows : StoredRows) → KeepsRule rule rows → (p : Entry → Bool) (r : Entry)
     → find p rows.branches ≡ Some r → BranchKeeps rule r
 branch_keeps Meta rows keeps p r found = tt
 branch_keeps Teller rows keeps p r found = tt
@@ -45,7 +45,7 @@ branch_keeps Request rows keeps p r found = tt
 branch_keeps Value rows keeps p r found = found_all (BranchKeeps Value) p rows.branches r keeps.0 found
 branch_keeps Key rows keeps p r found = tt
 
-teller_keeps : (rule : Rule) (rows : StoredRows) → Keeps rule rows → (p : Entry → Bool) (r : Entry)
+teller_keeps : (rule : Rule) (rows : StoredRows) → KeepsRule rule rows → (p : Entry → Bool) (r : Entry)
     → find p rows.tellers ≡ Some r → BalanceKeeps rule r
 teller_keeps Meta rows keeps p r found = tt
 teller_keeps Teller rows keeps p r found = tt
@@ -55,7 +55,7 @@ teller_keeps Request rows keeps p r found = tt
 teller_keeps Value rows keeps p r found = tt
 teller_keeps Key rows keeps p r found = tt
 
-account_keeps : (rule : Rule) (rows : StoredRows) → Keeps rule rows → (p : Entry → Bool) (r : Entry)
+account_keeps : (rule : Rule) (rows : StoredRows) → KeepsRule rule rows → (p : Entry → Bool) (r : Entry)
     → find p rows.accounts ≡ Some r → BalanceKeeps rule r
 account_keeps Meta rows keeps p r found = tt
 account_keeps Teller rows keeps p r found = tt
@@ -65,7 +65,7 @@ account_keeps Request rows keeps p r found = tt
 account_keeps Value rows keeps p r found = tt
 account_keeps Key rows keeps p r found = tt
 
-request_keeps : (rule : Rule) (rows : StoredRows) → Keeps rule rows → (p : Entry → Bool) (r : Entry)
+request_keeps : (rule : Rule) (rows : StoredRows) → KeepsRule rule rows → (p : Entry → Bool) (r : Entry)
     → find p rows.requests ≡ Some r → RequestKeeps rule r
 request_keeps Meta rows keeps p r found = tt
 request_keeps Teller rows keeps p r found = tt
@@ -79,7 +79,7 @@ request_keeps Key rows keeps p r found = tt
 
 find_broken : {X : Type 0} (db : Database) (stored : StoredRows → Option Entry) (Is : X → Entry → Type 0)
     (RowKeeps : Rule → Entry → Type 0)
-    → ((rule : Rule) (rows : StoredRows) → Keeps rule rows → (r : Entry) → stored rows ≡ Some r
+    → ((rule : Rule) (rows : StoredRows) → KeepsRule rule rows → (r : Entry) → stored rows ≡ Some r
     → RowKeeps rule r) → (fault : TableFault)
     → OfRows (λ rows. FindsStored {X = X} (stored rows) Is RowKeeps (Err fault)) db → IsOf db fault
 find_broken db stored Is RowKeeps all (Sqlite e) finds = tt
@@ -115,15 +115,15 @@ account_broken db n =
     (λ rule rows keeps. account_keeps rule rows keeps (has_key (pos n)))
 
 pub request_broken : (db : Database) (a b : ℕ) (fault : TableFault)
-    → OfRows (λ rows. FindsStored (find (has_two (pos a) (pos b)) rows.requests) IsRequest RequestKeeps
+    → OfRows (λ rows. FindsStored (find (has_two (pos a) (pos b)) rows.requests) IsSameRequest RequestKeeps
     (Err fault)) db → IsOf db fault
 request_broken db a b =
-    find_broken db (λ rows. find (has_two (pos a) (pos b)) rows.requests) IsRequest RequestKeeps
+    find_broken db (λ rows. find (has_two (pos a) (pos b)) rows.requests) IsSameRequest RequestKeeps
     (λ rule rows keeps. request_keeps rule rows keeps (has_two (pos a) (pos b)))
 
 -- a request whose amount is beyond the limit of requests
 pub delta_broken : (db : Database) (a b : ℕ) (row : RequestRow)
-    → OfRows (λ rows. FindsStored (find (has_two (pos a) (pos b)) rows.requests) IsRequest RequestKeeps
+    → OfRows (λ rows. FindsStored (find (has_two (pos a) (pos b)) rows.requests) IsSameRequest RequestKeeps
     (Ok (Some row))) db
     → (nat_abs row.kept.delta ≤ MAX_DELTA → ⊥) → IsBroken Request db
 delta_broken db a b row finds beyond = λ rows has keeps.

@@ -14,14 +14,14 @@ use Rattle.sql_meanings.specs.Calls.{Says, Inside}
 use Rattle.sql_meanings.proofs.Saying.{says_then}
 use Rattle.store_rows.specs.Calls.{OfTables}
 use Rattle.store_rows.specs.Failures.{Changes, HasMet, IsUpdateOf, MeetsNone, Puts}
-use Rattle.store_rows.specs.Outcomes.{Adds, Writes}
+use Rattle.store_rows.specs.Outcomes.{PutsOneRow, SetsRow}
 use Rattle.store_rows.specs.View.{Shows}
 use Rattle.store_rows.specs.declared.faults.TableFault.{TableFault}
 use Rattle.store_rows.specs.declared.faults.TableFault.TheVariants.{Sqlite, Damaged}
 use Rattle.bank_transactions.proofs.Blamed.{blames_put, broken_or_met, comes, failed_here, met_after}
 use Rattle.bank_transactions.proofs.Blamed.{met_here}
-use Rattle.bank_transactions.specs.Doing.{GoesOn, HasMetBetween, Damage, IsFirstBroken, IsBrokenOrMet, Blames}
-use Rattle.bank_transactions.specs.Doing.{Keeps, Looks, LooksUp, Answers, Reads, DoesBy, Does, Acts, expected}
+use Rattle.bank_transactions.specs.Doing.{GoesOnUncommitted, HasMetBetween, Damage, IsFirstBroken, IsBrokenOrMet, Blames}
+use Rattle.bank_transactions.specs.Doing.{CommitsNothing, ChangesNothing, LooksUp, LeavesAndAnswers, Reads, DoesBy, Does, Acts, expected}
 use Rattle.posting_rules.specs.declared.fault.Rule.{Rule}
 use Rattle.posting_rules.specs.declared.fault.Rule.TheVariants.{Meta, Teller, Account, Balance, Request}
 use Rattle.posting_rules.specs.declared.fault.Rule.TheVariants.{Value, Key}
@@ -29,11 +29,11 @@ use Rattle.posting_rules.specs.declared.fault.Rule.TheVariants.{Value, Key}
 -- ---- what goes on
 
 -- a transaction that goes on is in the transaction still
-pub still_in : (old new : State) → GoesOn old new → IsTrue old.in_transaction → IsTrue new.in_transaction
+pub still_in : (old new : State) → GoesOnUncommitted old new → IsTrue old.in_transaction → IsTrue new.in_transaction
 still_in old new on live = subst (λ (b : Bool). IsTrue b) (sym on.mode) live
 
-keeps_then : {X : Type 0} (old mid new : State) (r : Result X TableFault) → GoesOn old mid → Keeps mid new r
-    → Keeps old new r
+keeps_then : {X : Type 0} (old mid new : State) (r : Result X TableFault) → GoesOnUncommitted old mid → CommitsNothing mid new r
+    → CommitsNothing old new r
 keeps_then old mid new (Ok x) on then = record {
   opened = λ h. on.opened (then.opened h);
   committed = then.committed ∙ on.committed;
@@ -46,7 +46,7 @@ keeps_then old mid new (Err e) on then = record {
 
 -- a row that is put in, as long as the transaction goes on
 write_keeps : (old new : State) (r : Result (Unit {0}) TableFault) → IsTrue old.in_transaction
-    → Puts old new r → Keeps old new r
+    → Puts old new r → CommitsNothing old new r
 write_keeps old new (Ok done) live kept =
     record { opened = λ h. kept.was_open; committed = kept.committed_is; mode = kept.mode ∙ sym live }
 write_keeps old new (Err e) live (inl same, why) =
@@ -58,7 +58,7 @@ write_keeps old new (Err e) live (inr undone, why) =
 
 -- no damage of a part is none of the whole
 same_fault : {X Y : Type 0} (new end : State) (one two : Tables) (x : X) (y : Y) (e : TableFault)
-    → Answers new one x (Err e) → Answers end two y (Err e)
+    → LeavesAndAnswers new one x (Err e) → LeavesAndAnswers end two y (Err e)
 same_fault new end one two x y (Sqlite e) told = tt
 same_fault new end one two x y (Damaged rule) told = told
 
@@ -126,8 +126,8 @@ does_for {S} {X} {g} {old} {new} {So} {So'} {after} {after'} {w} {w'} {r} part s
     same_reference = part.says.same_reference;
     told = λ clean live t shows so.
         let is = same t so in
-        subst (λ (u : Tables). Answers (state g new.conn.now) u (w' t) r) is.1
-        (subst (λ (x : X). Answers (state g new.conn.now) (after t) x r) is.2
+        subst (λ (u : Tables). LeavesAndAnswers (state g new.conn.now) u (w' t) r) is.1
+        (subst (λ (x : X). LeavesAndAnswers (state g new.conn.now) (after t) x r) is.2
         (part.says.told clean live t shows is.0));
     kept = part.says.kept;
     survives = part.says.survives;
@@ -172,12 +172,12 @@ does_but {S} {X} {Y} {Z} {g} {old} {mid} {new} {So} {So'} {after} {after'} {afte
 -- ---- what the statements do
 
 pub looked : {X : Type 0} (old new : State) (t : Tables) (w : X) (r : Result X TableFault) → Shows old.now t
-    → LooksUp old new w r → Answers new t w r
+    → LooksUp old new w r → LeavesAndAnswers new t w r
 looked old new t w (Ok x) shows told = (told.0, subst (λ (db : Database). Shows db t) (sym told.1.now) shows)
 looked old new t w (Err (Sqlite e)) shows told = tt
 looked old new t w (Err (Damaged rule)) shows told = told
 
-pub look_keeps : {X : Type 0} (old new : State) (r : Result X TableFault) → Looks old new r → Keeps old new r
+pub look_keeps : {X : Type 0} (old new : State) (r : Result X TableFault) → ChangesNothing old new r → CommitsNothing old new r
 look_keeps old new (Ok x) looks = looks.goes_on
 look_keeps old new (Err e) looks = looks
 
@@ -197,8 +197,8 @@ does_read g old new w r reads = record {
 }
 
 added : (old new : State) (table : Table) (taken : Bool) (after : Tables) (r : Result (Unit {0}) TableFault)
-    → taken ≡ false → Adds old new table taken after r
-    → Answers new after tt r
+    → taken ≡ false → PutsOneRow old new table taken after r
+    → LeavesAndAnswers new after tt r
 added old new table taken after (Ok done) free adds = (refl, adds.1)
 added old new table taken after (Err (Sqlite e)) free adds = tt
 added old new table taken after (Err (Damaged rule)) free adds = let is = adds.1 in cc
@@ -207,7 +207,7 @@ added old new table taken after (Err (Damaged rule)) free adds = let is = adds.1
 pub does_add : {S : Type 0} {So : Tables → Type 0} (g : Ghosts S) (old new : Transaction S) (table : Table)
     (taken : Tables → Bool) (more : Tables → Tables)
     (r : Result (Unit {0}) TableFault)
-    → Says g old new (Inside (OfTables (λ before now t. Adds before now table (taken t) (more t) r)))
+    → Says g old new (Inside (OfTables (λ before now t. PutsOneRow before now table (taken t) (more t) r)))
     (Inside (λ before now. Puts before now r))
     → ((t : Tables) → So t → taken t ≡ false) → Does g old new So more (λ _. tt) r
 does_add g old new table taken more r says free = record {
@@ -228,14 +228,14 @@ does_add g old new table taken more r says free = record {
 
 written : (old new : State) (table : Table) (there : Bool) (after : Tables) (r : Result Bool Error)
     (rule : Rule) → IsTrue there
-    → Writes old new table there after r → Answers new after tt (expected r rule)
+    → SetsRow old new table there after r → LeavesAndAnswers new after tt (expected r rule)
 written old new table there after (Ok true) rule is writes = (refl, writes.1)
 written old new table there after (Ok false) rule is writes = let no = writes.0 in cc
 written old new table there after (Err e) rule is writes = tt
 
 written_keeps : (old new : State) (text : List ℕ) (r : Result Bool Error) (rule : Rule)
     → IsTrue old.in_transaction → Changes text old new r
-    → Keeps old new (expected r rule)
+    → CommitsNothing old new (expected r rule)
 written_keeps old new text (Ok true) rule live kept = write_keeps old new (Ok tt) live kept.0
 written_keeps old new text (Ok false) rule live kept =
     record { was_open = λ h. kept.0.was_open; committed = λ h. kept.0.committed_is }
@@ -264,7 +264,7 @@ pub does_write : {S : Type 0} {So : Tables → Type 0} (g : Ghosts S) (old new :
     (there : Tables → Bool) (after : Tables → Tables)
     (answer : Result Bool Error) (rule : Rule) (r : Result (Unit {0}) TableFault) (text : List ℕ)
     → IsUpdateOf rule text → r ≡ expected answer rule
-    → Says g old new (Inside (OfTables (λ before now t. Writes before now table (there t) (after t) answer)))
+    → Says g old new (Inside (OfTables (λ before now t. SetsRow before now table (there t) (after t) answer)))
     (Inside (λ before now. Changes text before now answer))
     → ((t : Tables) → So t → IsTrue (there t)) → Does g old new So after (λ _. tt) r
 does_write {S} {So} g old new table there after answer rule r text of is says so =

@@ -10,7 +10,7 @@ use Rattle.sql_meanings.specs.Outcomes.{WriteFails}
 use Rattle.store_rows.specs.Calls.{OfTables}
 use Rattle.store_rows.specs.Columns.{account_balance_in, teller_balance_in}
 use Rattle.store_rows.specs.Failures.{HasReason}
-use Rattle.store_rows.specs.Outcomes.{Finds, IsNoBalance}
+use Rattle.store_rows.specs.Outcomes.{Finds, BreaksBalance}
 use Rattle.store_rows.specs.Rules.{OfRows, row_under}
 use Rattle.store_rows.specs.Stored.{BalanceKeeps, FindsStored, IsBalance}
 use Rattle.store_rows.specs.declared.faults.TableFault.{TableFault}
@@ -30,23 +30,23 @@ module _ {S : Type 0} {g : Ghosts S} {old new : Transaction S} {So : Tables → 
     (sound : (t : Tables) → So t → IsUndamaged t) (n : ℕ) (fault : TableFault) where
   -- of a teller
   pub teller_failed : Says g old new
-      (OfTables (λ before now t. Finds before now (teller_balance_in t n) IsNoBalance (Err fault)))
+      (OfTables (λ before now t. Finds before now (teller_balance_in t n) BreaksBalance (Err fault)))
       (λ before now. (WriteFails before now × HasReason before now fault)
       × OfRows (λ rows. FindsStored (row_under rows.tellers n) IsBalance BalanceKeeps (Err fault)) before.now)
       → Failed g old new So fault
   teller_failed says =
-      find_failed (λ t. teller_balance_in t n) IsNoBalance fault
+      find_failed (λ t. teller_balance_in t n) BreaksBalance fault
       (λ t z rule so. teller_unbroken t n z rule (sound t so))
       (teller_broken _ n fault) says
 
   -- of an account
   pub account_failed : Says g old new
-      (OfTables (λ before now t. Finds before now (account_balance_in t n) IsNoBalance (Err fault)))
+      (OfTables (λ before now t. Finds before now (account_balance_in t n) BreaksBalance (Err fault)))
       (λ before now. (WriteFails before now × HasReason before now fault)
       × OfRows (λ rows. FindsStored (row_under rows.accounts n) IsBalance BalanceKeeps
       (Err fault)) before.now)
       → Failed g old new So fault
   account_failed says =
-      find_failed (λ t. account_balance_in t n) IsNoBalance fault
+      find_failed (λ t. account_balance_in t n) BreaksBalance fault
       (λ t z rule so. account_unbroken t n z rule (sound t so))
       (account_broken _ n fault) says

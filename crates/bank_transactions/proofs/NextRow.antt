@@ -17,7 +17,7 @@ use Rattle.posting_rules.proofs.Keyed.{by_test}
 use Rattle.sqlite.specs.Effect.{Database}
 use Rattle.sql_meanings.specs.Entries.{Rise}
 use Rattle.store_rows.specs.Columns.{branch_above}
-use Rattle.store_rows.specs.Outcomes.{IsNoBranch}
+use Rattle.store_rows.specs.Outcomes.{BreaksBranch}
 use Rattle.store_rows.specs.View.{Shows, branch_entry}
 use Rattle.bank_transactions.proofs.SoundRows.{found_within, sound_unbroken}
 
@@ -78,7 +78,7 @@ next_is db t after shows = first_above t.branches after shows.each.1.0.rows.rise
 
 -- it breaks no rule of undamaged tables
 pub next_unbroken : (t : Tables) (after : ℕ) (r : BranchRow) (broken : Rule) → IsUndamaged t
-    → branch_above t after ≡ Some r → IsNoBranch r broken → ⊥
+    → branch_above t after ≡ Some r → BreaksBranch r broken → ⊥
 next_unbroken t after r broken sound e =
     sound_unbroken r broken (sound.each_branch r (found_within (λ x. nat_lt after x.branch) t.branches r e))
 

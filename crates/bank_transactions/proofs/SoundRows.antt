@@ -17,7 +17,7 @@ use Rattle.posting_rules.specs.Damage.{IsSoundRequest}
 use Rattle.posting_rules.specs.Tables.{Tables, row_at, branch_key, teller_key, account_key}
 use Rattle.posting_rules.proofs.Keyed.{by_test, found_passes}
 use Rattle.store_rows.specs.Columns.{teller_balance_in, account_balance_in, request_in}
-use Rattle.store_rows.specs.Outcomes.{Finds, IsNoBalance, IsNoBranch, IsNoRequest, CanBeKept}
+use Rattle.store_rows.specs.Outcomes.{Finds, BreaksBalance, BreaksBranch, BreaksRequest, CanBeKept}
 use Rattle.store_rows.specs.declared.faults.TableFault.{TableFault}
 use Rattle.store_rows.specs.declared.faults.TableFault.TheVariants.{Sqlite, Damaged}
 use Rattle.sqlite.specs.State.{State}
@@ -90,7 +90,7 @@ no_branch_beyond t n sound e =
     ]
 
 -- a row in its ranges breaks no rule
-pub sound_unbroken : (r : BranchRow) (broken : Rule) → IsSoundBranch r → IsNoBranch r broken → ⊥
+pub sound_unbroken : (r : BranchRow) (broken : Rule) → IsSoundBranch r → BreaksBranch r broken → ⊥
 sound_unbroken r broken is breaks =
     let low = is.some in
     let high = is.most in
@@ -104,7 +104,7 @@ sound_unbroken r broken is breaks =
     ]
 
 pub branch_unbroken : (t : Tables) (n : ℕ) (r : BranchRow) (broken : Rule) → IsUndamaged t
-    → row_at branch_key t.branches n ≡ Some r → IsNoBranch r broken → ⊥
+    → row_at branch_key t.branches n ≡ Some r → BreaksBranch r broken → ⊥
 branch_unbroken t n r broken sound e = sound_unbroken r broken (branch_is t n r sound e).1
 
 -- ---- balances
@@ -114,7 +114,7 @@ teller_sound : (t : Tables) (n : ℕ) (r : TellerRow) → IsUndamaged t → row_
 teller_sound t n r sound e = sound.each_teller r (found_within (λ x. nat_eq x.teller n) t.tellers r e)
 
 pub teller_unbroken : (t : Tables) (n : ℕ) (z : ℤ) (broken : Rule) → IsUndamaged t → teller_balance_in t n
-    ≡ Some z → IsNoBalance z broken → ⊥
+    ≡ Some z → BreaksBalance z broken → ⊥
 teller_unbroken t n z broken sound e breaks =
     elim (by_option (row_at teller_key t.tellers n)) [
       | inl none ↦ let h = rw none at e in cc
@@ -129,7 +129,7 @@ account_sound : (t : Tables) (n : ℕ) (r : AccountRow) → IsUndamaged t → ro
 account_sound t n r sound e = sound.each_account r (found_within (λ x. nat_eq x.account n) t.accounts r e)
 
 pub account_unbroken : (t : Tables) (n : ℕ) (z : ℤ) (broken : Rule) → IsUndamaged t → account_balance_in t n
-    ≡ Some z → IsNoBalance z broken → ⊥
+    ≡ Some z → BreaksBalance z broken → ⊥
 account_unbroken t n z broken sound e breaks =
     elim (by_option (row_at account_key t.accounts n)) [
       | inl none ↦ let h = rw none at e in cc
@@ -155,7 +155,7 @@ can_be_kept r is = record {
 }
 
 pub request_unbroken : (t : Tables) (teller number : ℕ) (r : RequestRow) (broken : Rule) → IsUndamaged t
-    → request_in t teller number ≡ Some r → IsNoRequest r broken → ⊥
+    → request_in t teller number ≡ Some r → BreaksRequest r broken → ⊥
 request_unbroken t teller number r broken sound e breaks =
     let is = request_is t teller number r sound e in
     elim breaks [

@@ -14,9 +14,9 @@ use Rattle.store_rows.specs.View.{Shows, ShowsTrees}
 use Rattle.store_rows.specs.Failures.{Committing}
 use Rattle.store_rows.specs.declared.faults.TableFault.{TableFault}
 use Rattle.store_rows.specs.declared.faults.TableFault.TheVariants.{Sqlite, Damaged}
-use Rattle.bank_transactions.specs.Doing.{Acts, Answers, Blames, Completes, Damage, DoesBy, Ends, EndsWith}
-use Rattle.bank_transactions.specs.Doing.{Keeps}
-use Rattle.bank_transactions.specs.Doing.{IsBefore, IsFirstBroken, Leaves, MayCommit, Reads, Undoes}
+use Rattle.bank_transactions.specs.Doing.{Acts, LeavesAndAnswers, Blames, Completes, Damage, DoesBy, Ends, EndsWith}
+use Rattle.bank_transactions.specs.Doing.{CommitsNothing}
+use Rattle.bank_transactions.specs.Doing.{IsBefore, IsFirstBroken, MayLeaveAfter, MayCommit, Reads, Undoes}
 use Rattle.bank_transactions.specs.Doing.{Consults, Transacts, TransactsBy}
 use Rattle.bank_transactions.proofs.Blamed.{Widens, comes, fault_within, met_within, same_moment, then_moment}
 use Rattle.bank_transactions.proofs.Chained.{does_for, does_read}
@@ -24,13 +24,13 @@ use Rattle.bank_transactions.proofs.Chained.{does_for, does_read}
 -- ---- by what its parts answered, and with what it ended
 
 not_done : {X : Type 0} (last new : State) (after : Tables) (wanted : X) (fault : TableFault)
-    → Answers last after wanted (Err fault) → Completes new after wanted (Err fault)
+    → LeavesAndAnswers last after wanted (Err fault) → Completes new after wanted (Err fault)
 not_done last new after wanted (Sqlite e) told = tt
 not_done last new after wanted (Damaged rule) told = told
 
 completes : {X : Type 0} (last new : State) (after : Tables) (wanted : X)
     (answer result : Result X TableFault)
-    → IfOk result (λ x. answer ≡ Ok x) → Answers last after wanted answer → EndsWith last new answer result
+    → IfOk result (λ x. answer ≡ Ok x) → LeavesAndAnswers last after wanted answer → EndsWith last new answer result
     → Completes new after wanted result
 completes last new after wanted (Ok x) (Ok y) given told ends =
     let same : y ≡ x = (let is = given in cc) in
@@ -52,7 +52,7 @@ undone_by X old last new (Damaged rule) settled kept back = λ is_open.
     (was_open, (back.undone is_open).0 ∙ kept.committed last_open ∙ sym (settled was_open))
 
 undoes : {X : Type 0} (old last new : State) (answer result : Result X TableFault)
-    → (IsTrue old.is_open → old.now ≡ old.committed) → Keeps old last answer → EndsWith last new answer result
+    → (IsTrue old.is_open → old.now ≡ old.committed) → CommitsNothing old last answer → EndsWith last new answer result
     → Undoes old new result
 undoes old last new (Ok x) (Ok y) settled kept ends = tt
 undoes old last new (Ok x) (Err (Sqlite e)) settled kept ends = tt
@@ -63,7 +63,7 @@ undoes {X} old last new (Err fault) result settled kept ends =
 
 left_by : {X : Type 0} (last : State) (after : Tables) (wanted : X) (answer : Result X TableFault)
     (left : Trees)
-    → Answers last after wanted answer → MayCommit last answer left → ShowsTrees left after
+    → LeavesAndAnswers last after wanted answer → MayCommit last answer left → ShowsTrees left after
 left_by last after wanted (Ok x) left told made = made after told.1
 left_by last after wanted (Err fault) left told made = absurd made
 
@@ -103,13 +103,13 @@ module _ {S X : Type 0} {Met : Damage S} {So : Tables → Type 0} {after : Table
   clean_before clean = omega (arith, ends.survives.clean)
 
   told_so : HasCleanDisk (state g last.conn.now) → (t : Tables) → Shows (state g old).now t → So t
-      → Answers (state g last.conn.now) (after t) (w t) answer
+      → LeavesAndAnswers (state g last.conn.now) (after t) (w t) answer
   told_so clean t shows so = does.says.told clean (rw is refl) t (rw is shows) so
 
   kept_so : HasCleanDisk (state g last.conn.now)
-      → Keeps (state g start) (state g last.conn.now) answer × Blames Met g start last.conn.now answer
+      → CommitsNothing (state g start) (state g last.conn.now) answer × Blames Met g start last.conn.now answer
   kept_so clean =
-      subst (λ (h : Held S). Keeps (state g h) (state g last.conn.now) answer
+      subst (λ (h : Held S). CommitsNothing (state g h) (state g last.conn.now) answer
       × Blames Met g h last.conn.now answer) is
       (does.says.kept clean (rw is refl))
 
@@ -119,12 +119,12 @@ module _ {S X : Type 0} {Met : Damage S} {So : Tables → Type 0} {after : Table
   within : IsBefore (state g start) (state g last.conn.now)
   within = subst (λ (h : Held S). IsBefore (state g h) (state g last.conn.now)) is (comes does.says.survives)
 
-  stop_so : Survives (state g old) (state g new) (Leaves (state g old) So after)
+  stop_so : Survives (state g old) (state g new) (MayLeaveAfter (state g old) So after)
   stop_so =
-      survives_begin g old (state g new) (Leaves (state g old) So after)
-      (subst (λ (h : Held S). Survives (state g h) (state g new) (Leaves (state g old) So after)) is
+      survives_begin g old (state g new) (MayLeaveAfter (state g old) So after)
+      (subst (λ (h : Held S). Survives (state g h) (state g new) (MayLeaveAfter (state g old) So after)) is
       (survives_then (state g begun.conn.now) (state g last.conn.now) (state g new) (λ _. ⊥)
-      (MayCommit (state g last.conn.now) answer) (Leaves (state g old) So after)
+      (MayCommit (state g last.conn.now) answer) (MayLeaveAfter (state g old) So after)
       (λ clean left none. absurd none)
       (λ clean left made t shows so.
       left_by (state g last.conn.now) (after t) (w t) answer left

@@ -19,14 +19,14 @@ use Rattle.store_rows.specs.declared.faults.TableFault.{TableFault}
 use Rattle.store_rows.specs.declared.faults.TableFault.TheVariants.{Sqlite, Damaged}
 
 -- the transaction goes on, and nothing is committed
-pub record GoesOn (old new : State) : Type 0 where
+pub record GoesOnUncommitted (old new : State) : Type 0 where
   pub opened : IsTrue new.is_open → IsTrue old.is_open
   pub committed : new.committed ≡ old.committed
   pub mode : new.in_transaction ≡ old.in_transaction
 
 -- it shows what it showed
 pub record Stays (old new : State) : Type 0 where
-  pub goes_on : GoesOn old new
+  pub goes_on : GoesOnUncommitted old new
   pub now : new.now ≡ old.now
 
 -- ---- why a part failed
@@ -80,9 +80,9 @@ Blames Says g old new (Err fault) = IsFault Says g old new fault
 -- ---- a part that reads
 
 -- whatever the rows: after Ok everything is as it was, and at an error nothing is committed
-abbrev pub Looks : {X : Type 0} → State → State → Result X TableFault → Type 0
-Looks old new (Ok x) = Stays old new
-Looks old new (Err fault) = KeepsCommit old new
+abbrev pub ChangesNothing : {X : Type 0} → State → State → Result X TableFault → Type 0
+ChangesNothing old new (Ok x) = Stays old new
+ChangesNothing old new (Err fault) = KeepsCommit old new
 
 -- the answer is what was looked for, and nothing has changed; the tables are never told to be damaged
 abbrev pub LooksUp : {X : Type 0} → State → State → X → Result X TableFault → Type 0
@@ -96,20 +96,20 @@ abbrev pub Reads : {S X : Type 0} → Ghosts S → Transaction S → Transaction
 Reads g old new wanted result =
     Says g old new
     (OfTables (λ before now tables. IsUndamaged tables → LooksUp before now (wanted tables) result))
-    (λ before now. Looks before now result × Blames (IsFirstBroken g) g old.conn.now new.conn.now result)
+    (λ before now. ChangesNothing before now result × Blames (IsFirstBroken g) g old.conn.now new.conn.now result)
 
 -- ---- a part that writes
 
 -- whatever the rows: nothing is committed, and after Ok the transaction goes on
-abbrev pub Keeps : {X : Type 0} → State → State → Result X TableFault → Type 0
-Keeps old new (Ok x) = GoesOn old new
-Keeps old new (Err fault) = KeepsCommit old new
+abbrev pub CommitsNothing : {X : Type 0} → State → State → Result X TableFault → Type 0
+CommitsNothing old new (Ok x) = GoesOnUncommitted old new
+CommitsNothing old new (Err fault) = KeepsCommit old new
 
 -- the tables are these now, and the answer is this one; they are never told to be damaged
-abbrev pub Answers : {X : Type 0} → State → Tables → X → Result X TableFault → Type 0
-Answers new after wanted (Ok x) = (x ≡ wanted) × Shows new.now after
-Answers new after wanted (Err (Sqlite e)) = ⊤
-Answers new after wanted (Err (Damaged rule)) = ⊥
+abbrev pub LeavesAndAnswers : {X : Type 0} → State → Tables → X → Result X TableFault → Type 0
+LeavesAndAnswers new after wanted (Ok x) = (x ≡ wanted) × Shows new.now after
+LeavesAndAnswers new after wanted (Err (Sqlite e)) = ⊤
+LeavesAndAnswers new after wanted (Err (Damaged rule)) = ⊥
 
 -- what the answer of a write comes to: the row that it writes is there, or this rule is broken
 abbrev pub expected : Result Bool Error → Rule → Result (Unit {0}) TableFault
@@ -122,8 +122,8 @@ pub record DoesBy {S X : Type 0} (Met : Damage S) (g : Ghosts S) (old new : Tran
     (So : Tables → Type 0) (after : Tables → Tables)
     (wanted : Tables → X) (result : Result X TableFault) : Type 0 where
   pub says : Says g old new
-      (Inside (OfTables (λ before now tables. So tables → Answers now (after tables) (wanted tables) result)))
-      (Inside (λ before now. Keeps before now result × Blames Met g old.conn.now new.conn.now result))
+      (Inside (OfTables (λ before now tables. So tables → LeavesAndAnswers now (after tables) (wanted tables) result)))
+      (Inside (λ before now. CommitsNothing before now result × Blames Met g old.conn.now new.conn.now result))
 
 -- a part that only writes: damage was met by a statement as it wrote
 abbrev pub Does : {S X : Type 0} → Ghosts S → Transaction S → Transaction S → (Tables → Type 0)
@@ -177,8 +177,8 @@ Undoes old new _ = ⊤
 
 -- what a stop may leave besides what it could leave before: tables that are so, as the transaction leaves
 -- them
-abbrev pub Leaves : State → (Tables → Type 0) → (Tables → Tables) → Trees → Type 0
-Leaves old So after left = (tables : Tables) → Shows old.now tables → So tables
+abbrev pub MayLeaveAfter : State → (Tables → Type 0) → (Tables → Tables) → Trees → Type 0
+MayLeaveAfter old So after left = (tables : Tables) → Shows old.now tables → So tables
     → ShowsTrees left (after tables)
 
 -- Tables that are so become these, and the answer is this one. Damage undoes all. A stop leaves what it could
@@ -191,7 +191,7 @@ pub record TransactsBy {S X : Type 0} (Met : Damage S) (g : Ghosts S) (old new :
   pub told : HasCleanDisk (state g new) → (tables : Tables) → Shows (state g old).now tables → So tables
       → Completes (state g new) (after tables) (wanted tables) result
   pub undone : HasCleanDisk (state g new) → Undoes (state g old) (state g new) result
-  pub stop : Survives (state g old) (state g new) (Leaves (state g old) So after)
+  pub stop : Survives (state g old) (state g new) (MayLeaveAfter (state g old) So after)
   pub cause : HasCleanDisk (state g new) → Blames Met g old new result
   pub mode : new.in_transaction ≡ false
 

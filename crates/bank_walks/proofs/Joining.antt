@@ -6,7 +6,7 @@ use Rattle.std.proofs.lemmas.Bool.{cases_Bool}
 use Rattle.std.proofs.lemmas.Int.{ints}
 use Rattle.sql_meanings.specs.Entries.{Entry, Rise, has_key}
 use Rattle.sql_meanings.specs.Seeks.{is_from}
-use Rattle.bank_walks.specs.Pairs.{AreJoined, IsDecided, Pair, pair_key, pair_of, pair_with, paired, row_under}
+use Rattle.bank_walks.specs.Pairs.{AreJoined, ComesBefore, Pair, pair_key, pair_of, pair_with, paired, row_under}
 use Rattle.bank_walks.specs.Rows.{items_behind, items_from, rows_behind, rows_from}
 use Rattle.bank_walks.specs.declared.joined.Joined.{Joined}
 use Rattle.bank_walks.proofs.Gathering.{first_left, found_of}
@@ -28,7 +28,7 @@ under_from start k (e ∷ es) low = elim (cases_Bool (is_from start e)) [
 ]
 
 -- isn't one of those from a higher number on
-not_behind : (behind : Option ℤ) (k : ℤ) (es : List Entry) → IsDecided behind k → row_under (rows_behind behind es) k ≡ None
+not_behind : (behind : Option ℤ) (k : ℤ) (es : List Entry) → ComesBefore behind k → row_under (rows_behind behind es) k ≡ None
 not_behind None k es decided = refl
 not_behind (Some b) k [] decided = refl
 not_behind (Some b) k (e ∷ es) decided = elim (cases_Bool (is_from b e)) [
@@ -42,7 +42,7 @@ find_left p (x ∷ xs) ys none = ap (λ t. cond (p x) (Some x) t) (find_left p x
 
 -- is found among those that were read ahead, where they decide it
 pub beside_is : (others : List Entry) (start k : ℤ) (read : List Entry) (behind : Option ℤ) → rows_from start others ≡ read ++ rows_behind behind others
-    → start ≤ℤ k → IsDecided behind k → row_under others k ≡ row_under read k
+    → start ≤ℤ k → ComesBefore behind k → row_under others k ≡ row_under read k
 beside_is others start k read behind told low decided =
     under_from start k others low ∙ ap (λ es. row_under es k) told
     ∙ find_left (has_key k) read (rows_behind behind others) (not_behind behind k others decided)
@@ -106,6 +106,6 @@ none_left zero (r ∷ rs) low = absurd (omega arith)
 none_left (suc n) [] low = refl
 none_left (suc n) (r ∷ rs) low = none_left n rs (omega arith)
 
-pub decided_by : (behind : Option ℤ) (k : ℤ) → IfSome behind (λ b. k <ℤ b) → IsDecided behind k
+pub decided_by : (behind : Option ℤ) (k : ℤ) → IfSome behind (λ b. k <ℤ b) → ComesBefore behind k
 decided_by None k h = tt
 decided_by (Some b) k h = h

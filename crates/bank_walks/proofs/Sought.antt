@@ -18,7 +18,7 @@ use Rattle.sql_meanings.proofs.ReadTables.{ReadsAs}
 use Rattle.store_rows.specs.declared.faults.TableFault.{TableFault}
 use Rattle.store_rows.specs.declared.faults.TableFault.TheVariants.{Sqlite, Damaged}
 use Rattle.bank_walks.specs.Outcomes.{BreaksFirst, IsRefusedMemory, all_numbers, shown}
-use Rattle.bank_walks.specs.Rows.{HasRows, IsWide, rows_from}
+use Rattle.bank_walks.specs.Rows.{HasStoredRows, IsWide, rows_from}
 use Rattle.bank_walks.specs.declared.ahead.TheConstants.{AHEAD}
 
 -- ---- lists
@@ -72,7 +72,7 @@ store_error : (old new : State) (e : Error) → ReadFails old new e → IsStoreE
 store_error old new e (inl fails) = inl fails
 store_error old new e (inr limit) = inr (inr (limit.0, limit.1), limit.2)
 
-module _ (old new : State) (table : Table) (free : table.references ≡ []) (rows : List Entry) (has : HasRows old.now table rows)
+module _ (old new : State) (table : Table) (free : table.references ≡ []) (rows : List Entry) (has : HasStoredRows old.now table rows)
     (text : List ℕ) (project : List Term) {V : Type 0} (items : V → List Row) where
   -- the rows from a number on
   pub tells_from : (k : ℤ) → ReadsAs table text (Int k ∷ []) (λ t. next_from AHEAD t project)

@@ -8,7 +8,7 @@ use Rattle.posting_rules.specs.declared.fault.Rule.TheVariants as rule
 use Rattle.store_rows.specs.declared.faults.TableFault.{TableFault}
 use Rattle.store_rows.specs.declared.faults.TableFault.TheVariants.{Sqlite, Damaged}
 use Rattle.bank_walks.specs.Outcomes.{IsRefusedMemory}
-use Rattle.bank_walks.specs.Rows.{HasRows, rows_behind, rows_from}
+use Rattle.bank_walks.specs.Rows.{HasStoredRows, rows_behind, rows_from}
 use Rattle.bank_walks.specs.declared.joined.Joined.{Joined}
 
 -- a row, and the one beside it
@@ -35,8 +35,8 @@ paired others = map (pair_with others)
 pub record HasPairs (db : Database) (table other : Table) (pairs : List Pair) : Type 0 where
   pub rows : List Entry
   pub others : List Entry
-  pub has : HasRows db table rows
-  pub has_others : HasRows db other others
+  pub has : HasStoredRows db table rows
+  pub has_others : HasStoredRows db other others
   pub are : pairs ≡ paired others rows
 
 -- how a file holds them
@@ -65,6 +65,6 @@ TellsKey e (Err (Sqlite x)) = IsRefusedMemory x
 TellsKey e (Err (Damaged broken)) = ⊥
 
 -- the key is below the number from which on the others follow, if others do
-abbrev pub IsDecided : Option ℤ → ℤ → Type 0
-IsDecided None key = ⊤
-IsDecided (Some behind) key = key <ℤ behind
+abbrev pub ComesBefore : Option ℤ → ℤ → Type 0
+ComesBefore None key = ⊤
+ComesBefore (Some behind) key = key <ℤ behind

@@ -13,7 +13,7 @@ abbrev pub LEAST : ℤ
 LEAST = negsuc (2 ^ 63 - 1)
 
 -- a sound database has this table, with these rows by rising keys
-pub record HasRows (db : Database) (table : Table) (rows : List Entry) : Type 0 where
+pub record HasStoredRows (db : Database) (table : Table) (rows : List Entry) : Type 0 where
   pub sound : ∥ IsDatabase db ∥₁
   pub holds : Holds db table rows
   -- each key is a number of 64 bits

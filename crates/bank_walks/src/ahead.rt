@@ -7,7 +7,7 @@ ghost use Rattle.sql_meanings.specs.Outcomes.{IsStoreError, WriteFails};
 ghost use Rattle.sql_meanings.specs.Tables.{width_of};
 ghost use Rattle.bank_walks.specs.Outcomes.{BreaksFirst, IsRefusedMemory, ReadsNext, shown};
 ghost use Rattle.bank_walks.specs.Rising.{RisesFrom};
-ghost use Rattle.bank_walks.specs.Rows.{HasRows, IsWide, entry_key, rows_behind, rows_from};
+ghost use Rattle.bank_walks.specs.Rows.{HasStoredRows, IsWide, entry_key, rows_behind, rows_from};
 
 use crate::stored_row::StoredRow;
 use arrayvec::ArrayVec;
@@ -76,7 +76,7 @@ pub(crate) fn read_ahead<S: Alter, R: StoredRow>(
     from: i64,
     rows: &mut ArrayVec<R, AHEAD>,
 ) -> Result<Option<i64>, TableFault>
-    ensures told { HasCleanDisk (state S.Store conn.new) → (all : List Entry) → HasRows (state S.Store conn.old).now R.StoredRow.table all
+    ensures told { HasCleanDisk (state S.Store conn.new) → (all : List Entry) → HasStoredRows (state S.Store conn.old).now R.StoredRow.table all
         → let given = filter (R.StoredRow.is_given of) all in MatchResult result
         (λ rest. rows_from from given ≡ map R.StoredRow.entry rows.new.items ++ rows_behind rest given)
         (BreaksFirst (IsStoreError (state S.Store conn.old) (state S.Store conn.new)) R.StoredRow.is_broken (rows_from from given)) }

@@ -8,7 +8,7 @@ ghost use Rattle.sql_meanings.specs.Outcomes.{IsStoreError, WriteFails};
 ghost use Rattle.sql_meanings.specs.Tables.{width_of};
 ghost use Rattle.bank_walks.specs.Outcomes.{IsRefusedMemory, all_numbers, shown};
 ghost use Rattle.bank_walks.specs.Pairs.{BreaksUnder, TellsKey, row_under};
-ghost use Rattle.bank_walks.specs.Rows.{HasRows, IsWide, rows_behind, rows_from};
+ghost use Rattle.bank_walks.specs.Rows.{HasStoredRows, IsWide, rows_behind, rows_from};
 
 use crate::ahead::{AHEAD, gather};
 use crate::numbers::number_at;
@@ -64,7 +64,7 @@ pub(crate) fn read_beside<S: Alter, O: StoredRow>(
     rows: &mut ArrayVec<O, AHEAD>,
 ) -> Result<Option<i64>, TableFault>
     ensures told { HasCleanDisk (state S.Store conn.new) → (all : List Entry)
-        → HasRows (state S.Store conn.old).now O.StoredRow.table all
+        → HasStoredRows (state S.Store conn.old).now O.StoredRow.table all
         → MatchResult result
         (λ rest. rows_from from all ≡ map O.StoredRow.entry rows.new.items ++ rows_behind rest all)
         (BreaksUnder (IsStoreError (state S.Store conn.old) (state S.Store conn.new)) O.StoredRow.is_broken from all) }

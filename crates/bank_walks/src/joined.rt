@@ -6,9 +6,9 @@ ghost use Rattle.sqlite.specs.Held.{state};
 ghost use Rattle.sql_meanings.specs.Entries.{Entry, Rise};
 ghost use Rattle.sql_meanings.specs.Outcomes.{IsStoreError, WriteFails};
 ghost use Rattle.bank_walks.specs.Outcomes.{BreaksFirst};
-ghost use Rattle.bank_walks.specs.Pairs.{AreJoined, BreaksPair, BreaksUnder, HasPairs, IsDecided, Pair, pair_key, pair_of, paired};
+ghost use Rattle.bank_walks.specs.Pairs.{AreJoined, BreaksPair, BreaksUnder, HasPairs, ComesBefore, Pair, pair_key, pair_of, paired};
 ghost use Rattle.bank_walks.specs.Rising.{RisesFrom};
-ghost use Rattle.bank_walks.specs.Rows.{HasRows, entry_key, items_behind, items_from, rows_behind, rows_from};
+ghost use Rattle.bank_walks.specs.Rows.{HasStoredRows, entry_key, items_behind, items_from, rows_behind, rows_from};
 
 use crate::ahead::{AHEAD, read_ahead};
 use crate::beside::{read_beside, row_with};
@@ -39,8 +39,8 @@ impl<R: Default, O> Default for Joined<R, O> {
 
 // The row under the key isn't decided by those that were read ahead.
 fn is_beyond(behind: Option<i64>, key: i64) -> bool
-    ensures decided { OnFalse result (IsDecided behind key) }
-    ensures beyond { OnTrue result (IsDecided behind key → ⊥) }
+    ensures decided { OnFalse result (ComesBefore behind key) }
+    ensures beyond { OnTrue result (ComesBefore behind key → ⊥) }
 {
     match behind {
         Some(behind) => behind <= key,
@@ -66,7 +66,7 @@ fn join<R: StoredRow, O: StoredRow>(
         → AreJoined R.StoredRow.entry O.StoredRow.entry others base start rows.new.items result }
     ensures rises { RisesFrom start (map (λ j. entry_key (R.StoredRow.entry j.stored)) rows.new.items) result }
     ensures some { (r : R) (more : List R) → own.now ≡ r ∷ more
-        → IsDecided behind (entry_key (R.StoredRow.entry r)) → rows.new.items ≡ [] → ⊥ }
+        → ComesBefore behind (entry_key (R.StoredRow.entry r)) → rows.new.items ≡ [] → ⊥ }
 {
     rows.clear();
     let mut next = start;
@@ -96,7 +96,7 @@ fn join_ahead<S: Alter, R: StoredRow, O: StoredRow>(
     requires few { length own.now ≤ AHEAD }
     requires rises { RisesFrom start (map (λ r. entry_key (R.StoredRow.entry r)) own.now) rest }
     ensures told { HasCleanDisk (state S.Store conn.new) → (base others : List Entry) → Rise base
-        → HasRows (state S.Store conn.old).now O.StoredRow.table others
+        → HasStoredRows (state S.Store conn.old).now O.StoredRow.table others
         → rows_from start base ≡ map R.StoredRow.entry own.now ++ rows_behind rest base
         → MatchResult result (AreJoined R.StoredRow.entry O.StoredRow.entry others base start rows.new.items)
         (BreaksUnder (IsStoreError (state S.Store conn.old) (state S.Store conn.new)) O.StoredRow.is_broken start others) }
@@ -124,7 +124,7 @@ fn join_first<S: Alter, R: StoredRow, O: StoredRow>(
     requires ended { own.now ≡ [] → rest ≡ None }
     requires rises { (from : ℤ) × RisesFrom from (map (λ r. entry_key (R.StoredRow.entry r)) own.now) rest }
     ensures told { HasCleanDisk (state S.Store conn.new) → (base others : List Entry) → Rise base
-        → HasRows (state S.Store conn.old).now O.StoredRow.table others
+        → HasStoredRows (state S.Store conn.old).now O.StoredRow.table others
         → (from : ℤ) → rows_from from base ≡ map R.StoredRow.entry own.now ++ rows_behind rest base
         → MatchResult result (AreJoined R.StoredRow.entry O.StoredRow.entry others base from rows.new.items)
         (BreaksFirst (IsStoreError (state S.Store conn.old) (state S.Store conn.new))

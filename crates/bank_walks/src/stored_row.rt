@@ -7,7 +7,7 @@ ghost use Rattle.sql_meanings.specs.Entries.{Entry};
 ghost use Rattle.sql_meanings.specs.Outcomes.{IsStoreError, WriteFails};
 ghost use Rattle.sql_meanings.specs.Tables.{width_of};
 ghost use Rattle.bank_walks.specs.Outcomes.{ReadsEntry, shown};
-ghost use Rattle.bank_walks.specs.Rows.{HasRows, rows_from};
+ghost use Rattle.bank_walks.specs.Rows.{HasStoredRows, rows_from};
 
 use crate::ahead::AHEAD;
 use message_records::Account;
@@ -36,7 +36,7 @@ pub trait StoredRow: Copy + Default {
         of: Option<Account>,
         from: i64,
     ) -> Result<Vec<Row>, Error>
-        ensures told { HasCleanDisk (state S.Store conn.new) → (rows : List Entry) → HasRows (state S.Store conn.old).now table rows
+        ensures told { HasCleanDisk (state S.Store conn.new) → (rows : List Entry) → HasStoredRows (state S.Store conn.old).now table rows
             → MatchResult result (λ found. found.items ≡ shown (take AHEAD (rows_from from (filter (is_given of) rows))))
             (IsStoreError (state S.Store conn.old) (state S.Store conn.new)) }
         ensures same { HasCleanDisk (state S.Store conn.new) → OnOk result (IsUnchanged (state S.Store conn.old) (state S.Store conn.new)) }

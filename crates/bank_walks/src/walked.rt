@@ -57,7 +57,7 @@ pub trait WalkedRow: Copy + Default {
 
 impl<R: StoredRow> WalkedRow for R {
     ghost use Rattle.sql_meanings.specs.Entries.{Entry};
-    ghost use Rattle.bank_walks.specs.Rows.{HasRows, entry_key};
+    ghost use Rattle.bank_walks.specs.Rows.{HasStoredRows, entry_key};
 
     ghost Item = { Entry };
 
@@ -69,7 +69,7 @@ impl<R: StoredRow> WalkedRow for R {
 
     ghost is_given = { R.StoredRow.is_given };
 
-    ghost HasItems = { λ db rows. HasRows db R.StoredRow.table rows };
+    ghost HasItems = { λ db rows. HasStoredRows db R.StoredRow.table rows };
 
     ghost have_keys = { λ db rows has. has.least };
 

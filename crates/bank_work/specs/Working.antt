@@ -11,11 +11,11 @@ use Rattle.branch_loader.specs.declared.loading.Loaded.{Loaded}
 use Rattle.bank_driver.specs.Drives.{Drives}
 use Rattle.bank_driver.specs.declared.driving.Driven.{Driven}
 use Rattle.bank_driver.specs.declared.fault.DriveFault.{DriveFault}
-use Rattle.counter_tcp.specs.Connections.{Serves}
+use Rattle.counter_tcp.specs.Connections.{ServesConnections}
 use Rattle.counter_tcp.specs.declared.fault.ListenFault.{ListenFault}
 use Rattle.bank_endings.specs.Faults.{fault_of_bank, fault_of_drive, fault_of_serving}
 use Rattle.bank_endings.specs.Lines.{driven_line, listening_line, loaded_line}
-use Rattle.bank_endings.specs.Looking.{IsOfPlan}
+use Rattle.bank_endings.specs.Looking.{IsPlanFault}
 use Rattle.bank_endings.specs.Statuses.{status_of_loaded}
 use Rattle.bank_endings.specs.declared.fault.CommandFault.{CommandFault}
 use Rattle.bank_endings.specs.declared.fault.CommandFault.TheVariants.{Network, Write}
@@ -107,7 +107,7 @@ Works {C} {X} Idle Tells Did old new = (Idle × (new ≡ old)) ⊎ ((told : X) �
 -- a plan was loaded into a bank, or it couldn't be read
 abbrev pub LoadsOver : {C : Type 0} → (C → Seen) → (w w' : Option (List ℕ))
     → (Ends : Result Status CommandFault → Type 0) → (old new : C) → Type 0
-LoadsOver seen w w' Ends = Works (EndsInFault IsOfPlan Ends × Keeps w w') (TellsLoad Ends w w') (LoadsAs seen)
+LoadsOver seen w w' Ends = Works (EndsInFault IsPlanFault Ends × Keeps w w') (TellsLoad Ends w w') (LoadsAs seen)
 
 -- so many records of a seed were submitted to a bank, or as many as it took
 abbrev pub DrivesOver : {C : Type 0} → (C → Seen) → (k k' w w' : Option (List ℕ)) → (seed count : ℕ)
@@ -126,4 +126,4 @@ abbrev pub ServesOver : {C : Type 0} → (C → Seen) → (k k' : Option (List �
     → (Ends : Result Status CommandFault → Type 0) → (old new : C) → Type 0
 ServesOver seen k k' count Ends =
     Works (EndsInFault IsOfListening Ends × (k' ≡ k)) (TellsServing Ends)
-    (λ told old new. Serves seen k k' old new count told)
+    (λ told old new. ServesConnections seen k k' old new count told)

@@ -2,7 +2,7 @@
 ghost use Rattle.std.specs.Prelude.{◌≡◌, ◌≢◌, IfErr, IfOk};
 ghost use Rattle.std.specs.Io.KnownBytes.{Appends, Keeps};
 ghost use Rattle.bank_endings.specs.Lines.{loaded_line};
-ghost use Rattle.bank_endings.specs.Looking.{IsOfPlan};
+ghost use Rattle.bank_endings.specs.Looking.{IsPlanFault};
 ghost use Rattle.bank_work.specs.Working.{LoadsOver, ended_by_load};
 
 use bank_endings::{CommandFault, print_loaded};
@@ -34,7 +34,7 @@ pub fn load_into<R: Files + AllocGlobal, C: Counter, W: Write>(
 
 // Reads the plan of a file. A fault is one of the plan, or want of memory.
 fn plan_in<R: Files + AllocGlobal>(rt: &R, path: &str) -> Result<Plan, CommandFault>
-    ensures { IfErr result IsOfPlan }
+    ensures { IfErr result IsPlanFault }
 {
     let file = match fs::open(rt, path) {
         Ok(file) => file,

@@ -9,7 +9,7 @@ use Rattle.std.proofs.lemmas.List.Sums.{sum_by-append}
 use Rattle.posting_rules.specs.Commands.{Command, Open, AreCommands}
 use Rattle.posting_rules.specs.Counter.{Seen, ShowsLog, ShowsBeginning, Takes, Refuses, opening_behind}
 use Rattle.posting_rules.specs.Runs.{behind}
-use Rattle.posting_rules.specs.Tables.{Tables, Shows}
+use Rattle.posting_rules.specs.Tables.{Tables, AreTablesOf}
 use Rattle.posting_rules.proofs.Remaining.{leaves_still, leaves_weaker}
 use Rattle.posting_rules.proofs.Sequence.{behind-append}
 use Rattle.posting_core.proofs.Refused.{still_down}
@@ -86,7 +86,7 @@ with_answer-total loaded Differs = omega arith
 pub left-all : (old new : Seen) (commands : List Command) → Takes old new commands
     → LeavesBeginning old new commands (length commands)
 left-all old new commands taken h log stood =
-    leaves_weaker new (λ t. Shows t (behind log commands)) (ShowsBeginning log commands (length commands))
+    leaves_weaker new (λ t. AreTablesOf t (behind log commands)) (ShowsBeginning log commands (length commands))
     (λ t shown. record {
       count = length commands;
       holds = omega arith;
@@ -107,7 +107,7 @@ one_more log xs rest c t b = record {
   are = rw (take-append-add xs (c ∷ rest) b.count, behind-append log xs (take b.count (c ∷ rest)))
       (by AreCommands b.count b.within b.are);
   shows = rw (take-append-add xs (c ∷ rest) b.count, behind-append log xs (take b.count (c ∷ rest)))
-      (by (λ cs. Shows t cs) b.count b.within b.shows);
+      (by (λ cs. AreTablesOf t cs) b.count b.within b.shows);
 }
   where
     by : (P : List Command → Type 0) (k : ℕ) → k ≤ 1 → P (behind (behind log xs) (take k (c ∷ [])))
@@ -122,7 +122,7 @@ pub left-refused : (fault : Fault) (old now new : Seen) (xs : List Command) (c :
     → Takes old now xs → Refuses fault now new (c ∷ []) → (new.honest → now.honest)
     → LeavesBeginning old new (xs ++ c ∷ rest) (length xs)
 left-refused Memory old now new xs c rest taken refused honest h log stood =
-    leaves_weaker new (λ t. Shows t (behind log xs)) (ShowsBeginning log (xs ++ c ∷ rest) (length xs))
+    leaves_weaker new (λ t. AreTablesOf t (behind log xs)) (ShowsBeginning log (xs ++ c ∷ rest) (length xs))
     (λ t shown. record {
       count = length xs;
       holds = omega arith;
@@ -130,7 +130,7 @@ left-refused Memory old now new xs c rest taken refused honest h log stood =
       are = rw (take-append_seam xs (c ∷ rest)) (taken.stands (honest h) log stood).shows.commands;
       shows = rw (take-append_seam xs (c ∷ rest)) shown;
     })
-    (leaves_still now new (λ t. Shows t (behind log xs)) refused.left
+    (leaves_still now new (λ t. AreTablesOf t (behind log xs)) refused.left
     (taken.stands (honest h) log stood).stop)
 left-refused Store old now new xs c rest taken refused honest h log stood =
     leaves_weaker new (ShowsBeginning (behind log xs) (c ∷ []) 0)

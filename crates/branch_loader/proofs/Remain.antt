@@ -10,7 +10,7 @@ use Rattle.csv.specs.declared.parser.Action.{Action}
 use Rattle.csv.specs.declared.parser.State.{State}
 use Rattle.csv.specs.declared.parser.State.TheVariants as st
 use Rattle.csv.specs.declared.reader.Reader.{Reader}
-use Rattle.branch_loader.specs.Records.{HasLeft, Takes, records_at, Records, Fields}
+use Rattle.branch_loader.specs.Records.{HasLeft, TakesRecord, records_at, Records, Fields}
 
 -- a record's end leaves the machine between two records
 IsBetween : State × Action → Type 0
@@ -136,13 +136,13 @@ LeftAfter s known rest = (ends_at_end s ≡ false) × (option_map (records_at s)
 go : (s s2 : State) (src after : Option (List ℕ)) (found : Bool) (fields : Fields) (rows : Records)
     → ends_at_end s ≡ false → option_map (records_at s) src ≡ Some rows
     → ReadsNext default_config s src after found fields s2
-    → Takes found fields rows (LeftAfter s2 after)
+    → TakesRecord found fields rows (LeftAfter s2 after)
 go s s2 None after found fields rows b l r = cc l
 go s s2 (Some y) None found fields rows b l r = absurd r
 go s s2 (Some y) (Some z) found fields rows b l r = by (next_record default_config s [] [] y) refl r
   where
     by : (o : Option Read) → next_record default_config s [] [] y ≡ o → NextIs o found fields s2 z
-        → Takes found fields rows (LeftAfter s2 (Some z))
+        → TakesRecord found fields rows (LeftAfter s2 (Some z))
     by None e n = let none = records-none s y e in rw n
         (let same : records_at s y ≡ rows = cc l in sym same ∙ none)
     by (Some p) e n =
@@ -154,13 +154,13 @@ go s s2 (Some y) (Some z) found fields rows b l r = by (next_record default_conf
 pub takes : {R : Type 0} (rem : R → Option (List ℕ)) (a b : Reader R) (found : Bool) (fields : Fields)
     (rows : Records)
     → a.config ≡ default_config → HasLeft rem a rows → ReadRecord rem a b found fields
-    → Takes found fields rows (HasLeft rem b)
+    → TakesRecord found fields rows (HasLeft rem b)
 takes rem a b found fields rows config left r =
     by found (go a.state b.state (source_of rem a) (pending_of (rem b.rdr) b) found fields rows left.between
     left.left (rw config at r.0))
   where
-    by : (f : Bool) → Takes f fields rows (LeftAfter b.state (pending_of (rem b.rdr) b))
-        → Takes f fields rows (HasLeft rem b)
+    by : (f : Bool) → TakesRecord f fields rows (LeftAfter b.state (pending_of (rem b.rdr) b))
+        → TakesRecord f fields rows (HasLeft rem b)
     by false t = t
     by true t = (t.0, t.1, record { between = t.2.0; left = rw r.1 t.2.1 })
 

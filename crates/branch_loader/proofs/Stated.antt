@@ -3,9 +3,9 @@ use Rattle.std.proofs.Common.{◌≡◌, ◌≤◌, ◌<◌, ◌+◌, ◌∷◌,
 use Rattle.std.proofs.Common.{false, Result, Ok, Err, length, refl, take, drop, get_or}
 use Rattle.std.specs.Prelude.{IfSome}
 use Rattle.std.proofs.lemmas.List.{at_drop_more, drop_all, take_all, take_more}
-use Rattle.branch_loader.specs.Plans.{IsPlan, Tells, is_header, plan_of_list, plan_of_records, row_of_fields}
+use Rattle.branch_loader.specs.Plans.{IsPlan, TellsPlan, is_header, plan_of_list, plan_of_records, row_of_fields}
 use Rattle.branch_loader.specs.Plans.{row_of_pair, rows_by, Rows, Row}
-use Rattle.branch_loader.specs.Records.{Takes, Records, Fields}
+use Rattle.branch_loader.specs.Records.{TakesRecord, Records, Fields}
 use Rattle.branch_loader.specs.declared.fault.PlanFault.{PlanFault}
 use Rattle.branch_loader.specs.declared.fault.PlanFault.TheVariants.{Header, Columns, Accounts, Twice, Csv}
 use Rattle.branch_loader.specs.declared.fault.PlanFault.TheVariants.{Memory}
@@ -13,7 +13,7 @@ use Rattle.branch_loader.specs.declared.fault.PlanFault.TheVariants as Fault
 use Rattle.branch_loader.proofs.Rows.{pair-more, pair-same}
 
 -- an answer that tells a fault
-pub tells-fault : (stated : Result Rows PlanFault) (f : PlanFault) → stated ≡ Err f → Tells stated (Err f)
+pub tells-fault : (stated : Result Rows PlanFault) (f : PlanFault) → stated ≡ Err f → TellsPlan stated (Err f)
 tells-fault stated Header e = e
 tells-fault stated (Columns n) e = e
 tells-fault stated (Fault.Branch n) e = e
@@ -66,7 +66,7 @@ if_some (Some x) f h = f x h
 
 -- what a read of the header leaves
 pub took-header : {A : Records → Type 0} (found : Bool) (fields : Fields) (all : Records) (rows : Rows)
-    → Takes found fields all A → found ≡ true → is_header fields ≡ true → rows ≡ []
+    → TakesRecord found fields all A → found ≡ true → is_header fields ≡ true → rows ≡ []
     → (rest : Records) × A rest × (plan_of_records all ≡ rows_by row_of_fields rows rest)
 took-header false fields all rows t f h n = cc f
 took-header true fields all rows t f h n = (t.0, t.2, rw (t.1, n) (plan-header fields t.0 h))
@@ -75,7 +75,7 @@ took-header true fields all rows t f h n = (t.0, t.2, rw (t.1, n) (plan-header f
 pub took-row : {A : Records → Type 0} (found : Bool) (fields : Fields) (rest : Records) (rows new : Rows)
     (p : Row)
     (stated : Result Rows PlanFault)
-    → Takes found fields rest A → found ≡ true → stated ≡ rows_by row_of_fields rows rest
+    → TakesRecord found fields rest A → found ≡ true → stated ≡ rows_by row_of_fields rows rest
     → row_of_fields rows fields ≡ Ok p
     → new ≡ rows ++ p ∷ []
     → (more : Records) × A more × (stated ≡ rows_by row_of_fields new more)
@@ -87,7 +87,7 @@ took-row true fields rest rows new p stated t f s r n =
 pub took-fault : (A : Records → Type 0) (found : Bool) (fields : Fields) (rest : Records) (rows : Rows)
     (fault : PlanFault)
     (stated : Result Rows PlanFault)
-    → Takes found fields rest A → found ≡ true → stated ≡ rows_by row_of_fields rows rest
+    → TakesRecord found fields rest A → found ≡ true → stated ≡ rows_by row_of_fields rows rest
     → row_of_fields rows fields ≡ Err fault
     → stated ≡ Err fault
 took-fault A false fields rest rows fault stated t f s r = cc f

@@ -4,35 +4,35 @@ use Rattle.std.proofs.Common.{Err, refl, ap, subst, ◌∙◌, inl, inr}
 use Rattle.std.specs.Prelude.{◌⊎◌, ⊤, if◌then◌else◌}
 use Rattle.csv.specs.declared.error.Error.{Error}
 use Rattle.csv.specs.declared.error.ErrorKind.{ErrorKind}
-use Rattle.posting_core.specs.Told.{Adds, EndsWith, HasMore}
+use Rattle.posting_core.specs.Told.{GrowsBy, EndsWith, HasMore}
 use Rattle.posting_core.proofs.Telling.{more_last}
 use Rattle.branch_loader.specs.declared.fault.PlanFault.{PlanFault}
 use Rattle.branch_loader.specs.declared.fault.PlanFault.TheVariants.{Header, Columns, Branch, Accounts, Twice}
 use Rattle.branch_loader.specs.declared.fault.PlanFault.TheVariants.{Csv, Memory}
-use Rattle.branch_loader.specs.Records.{Fields, RecordTold, Found, Failed, IsRecord, IsSourceFailure}
+use Rattle.branch_loader.specs.Records.{Fields, RecordTold, Found, Failed, WasRecord, IsSourceFailure}
 use Rattle.branch_loader.specs.Records.{IsWantOfMemory, record_told}
 use Rattle.branch_loader.specs.Plans.{IsToldSo, Rows, Row, names, row_of, row_of_two, row_of_fields, two_of}
 
 -- what one call told is the last that was told
 last_told : (P : RecordTold → Type 0) (a b : Option (List RecordTold)) (r : Result Bool Error)
     (t : RecordTold) → record_told r ≡ t → P t
-    → Adds a b (record_told r ∷ []) → EndsWith P a b
+    → GrowsBy a b (record_told r ∷ []) → EndsWith P a b
 last_told P a b r t is p tells = record {
   earlier = [];
   last = t;
-  made = subst (λ (x : RecordTold). Adds a b (x ∷ [])) is tells;
+  made = subst (λ (x : RecordTold). GrowsBy a b (x ∷ [])) is tells;
   is = p;
 }
 
 pub found_last : {a b : Option (List RecordTold)} (r : Result Bool Error) (found : Bool) → r ≡ Ok found
-    → Adds a b (record_told r ∷ []) → found ≡ true
-    → EndsWith IsRecord a b
-found_last {a = a} {b = b} r found is tells some = last_told IsRecord a b r (Found found)
+    → GrowsBy a b (record_told r ∷ []) → found ≡ true
+    → EndsWith WasRecord a b
+found_last {a = a} {b = b} r found is tells some = last_told WasRecord a b r (Found found)
     (ap record_told is) some tells
 
 pub failed_last : (P : RecordTold → Type 0) {a b : Option (List RecordTold)} (r : Result Bool Error)
     (e : Error) (k x : ErrorKind) → r ≡ Err e
-    → k ≡ e.kind → k ≡ x → P (Failed x) → Adds a b (record_told r ∷ []) → EndsWith P a b
+    → k ≡ e.kind → k ≡ x → P (Failed x) → GrowsBy a b (record_told r ∷ []) → EndsWith P a b
 failed_last P {a = a} {b = b} r e k x is kind_is k_is p tells =
     let same : e.kind ≡ x = cc (kind_is, k_is) in
     last_told P a b r (Failed x) (ap record_told is ∙ ap Failed same) p tells
@@ -110,7 +110,7 @@ pub told_listed : (result : Result Rows PlanFault) (a b : Option (List RecordTol
     → (told : List RecordTold) × IsToldSo result (Some []) (Some told)
 told_listed (Ok plan) a b h = ([], tt)
 told_listed (Err Csv) a b h = listed IsSourceFailure a b h
-told_listed (Err Memory) a b h = either_listed IsWantOfMemory IsRecord a b h
+told_listed (Err Memory) a b h = either_listed IsWantOfMemory WasRecord a b h
 told_listed (Err Header) a b h = ([], tt)
 told_listed (Err (Columns n)) a b h = ([], tt)
 told_listed (Err (Branch n)) a b h = ([], tt)

@@ -13,7 +13,7 @@ use Rattle.branch_loader.specs.declared.fault.PlanFault.{PlanFault}
 use Rattle.branch_loader.specs.declared.fault.PlanFault.TheVariants.{Header, Columns, Branch, Accounts, Twice}
 use Rattle.branch_loader.specs.declared.fault.PlanFault.TheVariants.{Csv, Memory}
 use Rattle.posting_core.specs.Told.{EndsWith}
-use Rattle.branch_loader.specs.Records.{Records, Fields, RecordTold, IsRecord, IsSourceFailure}
+use Rattle.branch_loader.specs.Records.{Records, Fields, RecordTold, WasRecord, IsSourceFailure}
 use Rattle.branch_loader.specs.Records.{IsWantOfMemory}
 
 -- a branch, and how many accounts it is to have
@@ -111,10 +111,10 @@ abbrev pub openings : Rows → List Command
 openings rows = map (λ p. Open p.0 p.1) rows
 
 -- the answer is what is stated, unless the source or memory failed
-abbrev pub Tells : Result Rows PlanFault → Result Rows PlanFault → Type 0
-Tells stated (Err Csv) = ⊤
-Tells stated (Err Memory) = ⊤
-Tells stated answer = stated ≡ answer
+abbrev pub TellsPlan : Result Rows PlanFault → Result Rows PlanFault → Type 0
+TellsPlan stated (Err Csv) = ⊤
+TellsPlan stated (Err Memory) = ⊤
+TellsPlan stated answer = stated ≡ answer
 
 -- ---- what csv told, where the answer is none of a plan
 
@@ -122,5 +122,5 @@ Tells stated answer = stated ≡ answer
 -- answer is stated.
 abbrev pub IsToldSo : Result Rows PlanFault → Option (List RecordTold) → Option (List RecordTold) → Type 0
 IsToldSo (Err Csv) old new = EndsWith IsSourceFailure old new
-IsToldSo (Err Memory) old new = EndsWith IsWantOfMemory old new ⊎ EndsWith IsRecord old new
+IsToldSo (Err Memory) old new = EndsWith IsWantOfMemory old new ⊎ EndsWith WasRecord old new
 IsToldSo answer old new = ⊤

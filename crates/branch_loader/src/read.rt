@@ -3,10 +3,10 @@ ghost use Rattle.std.specs.Prelude.{◌≡◌, ◌<◌, ◌≤◌, ◌+◌, ◌�
 ghost use Rattle.std.specs.Prelude.{IfErr, IfSome, OnOk};
 ghost use Rattle.posting_core.specs.Told.{EndsWith};
 ghost use Rattle.csv.specs.Records.{fields_of};
-ghost use Rattle.branch_loader.specs.Plans.{IsToldSo, Tells, plan_of, plan_of_records};
+ghost use Rattle.branch_loader.specs.Plans.{IsToldSo, TellsPlan, plan_of, plan_of_records};
 ghost use Rattle.branch_loader.specs.Plans.{is_header, number_within, row_of_fields, two_of};
-ghost use Rattle.branch_loader.specs.Records.{IsRecord, IsSourceFailure, IsWantOfMemory, RecordTold, Records};
-ghost use Rattle.branch_loader.specs.Records.{Takes};
+ghost use Rattle.branch_loader.specs.Records.{WasRecord, IsSourceFailure, IsWantOfMemory, RecordTold, Records};
+ghost use Rattle.branch_loader.specs.Records.{TakesRecord};
 
 use crate::fault::PlanFault;
 use crate::plan::{Plan, row_of};
@@ -81,9 +81,9 @@ fn next_record<S: RecordSource>(source: &mut S, fields: &mut ByteRecord) -> Resu
     requires { S.is_plain source.old }
     ensures plain { OnOk result (S.is_plain source.new) }
     ensures takes { IfOk result (λ found. (rows : Records) → S.has_left source.old rows
-        → Takes found (fields_of fields.new) rows (S.has_left source.new)) }
+        → TakesRecord found (fields_of fields.new) rows (S.has_left source.new)) }
     ensures found { IfOk result (λ found. found ≡ true
-        → EndsWith IsRecord (S.told source.old) (S.told source.new)) }
+        → EndsWith WasRecord (S.told source.old) (S.told source.new)) }
     ensures fault { IfErr result (λ fault.
         ((fault ≡ PlanFault.Csv) × EndsWith IsSourceFailure (S.told source.old) (S.told source.new))
         ⊎ ((fault ≡ PlanFault.Memory) × EndsWith IsWantOfMemory (S.told source.old) (S.told source.new))) }
@@ -105,7 +105,7 @@ fn read_rows<S: RecordSource>(
     fields: &mut ByteRecord,
 ) -> Result<Plan, PlanFault>
     requires { S.is_plain records.old }
-    ensures plan { (all : Records) → S.has_left records.old all → Tells (plan_of_records all) result }
+    ensures plan { (all : Records) → S.has_left records.old all → TellsPlan (plan_of_records all) result }
     ensures told { IsToldSo result (S.told records.old) (S.told records.new) }
 {
     if !next_record(records, fields)? {
@@ -128,7 +128,7 @@ fn read_rows<S: RecordSource>(
 /// source, `Memory` only where that was want of memory, or where it was a record and the room for its row was
 /// refused.
 pub fn read_plan<R: Read + Drop>(alloc: Global, reader: R) -> Result<Plan, PlanFault>
-    ensures plan { IfSome (R.remaining reader) (λ text. Tells (plan_of text) result) }
+    ensures plan { IfSome (R.remaining reader) (λ text. TellsPlan (plan_of text) result) }
     ensures told { (told : List RecordTold) × IsToldSo result (Some []) (Some told) }
 {
     let mut records = ReaderBuilder::new()

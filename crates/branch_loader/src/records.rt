@@ -2,8 +2,8 @@
 ghost use Rattle.std.specs.Prelude.{◌≡◌, true, List, [], ◌∷◌, Option, None, IfOk, IfErr, OnOk};
 ghost use Rattle.csv.specs.Reading.{error_kind, stops_reader};
 ghost use Rattle.csv.specs.Records.{fields_of};
-ghost use Rattle.posting_core.specs.Told.{Adds};
-ghost use Rattle.branch_loader.specs.Records.{Records, RecordTold, Takes, record_told};
+ghost use Rattle.posting_core.specs.Told.{GrowsBy};
+ghost use Rattle.branch_loader.specs.Records.{Records, RecordTold, TakesRecord, record_told};
 
 use csv::{ByteRecord, Error, Reader};
 use std::io::Read;
@@ -25,9 +25,9 @@ pub(crate) trait RecordSource {
         requires { is_plain self.old }
         ensures plain { OnOk result (is_plain self.new) }
         ensures takes { IfOk result (λ found. (rows : Records) → has_left self.old rows
-            → Takes found (fields_of fields.new) rows (has_left self.new)) }
+            → TakesRecord found (fields_of fields.new) rows (has_left self.new)) }
         ensures stops { IfErr result (λ e. stops_reader (error_kind e) ≡ true) }
-        ensures tells { Adds (told self.old) (told self.new) (record_told result ∷ []) };
+        ensures tells { GrowsBy (told self.old) (told self.new) (record_told result ∷ []) };
 }
 
 impl<R: Read> RecordSource for Reader<R> {

@@ -22,7 +22,7 @@ use Rattle.counter_http.specs.Turns.{commands_of, moments_of, texts_of, answers_
 use Rattle.counter_http.specs.Turns.{IsRefusedAt, BreaksOff}
 use Rattle.posting_core.specs.Batches.{joined}
 use Rattle.posting_core.proofs.Batched.{joined-append}
-use Rattle.counter_http.specs.Serving.{At_message, At_refusal, Exits, IsWritten, Serves}
+use Rattle.counter_http.specs.Serving.{At_message, At_refusal, Exits, AnswersAreWritten, ServesConnection}
 use Rattle.counter_http.proofs.Turning.{readings_append, takes_append, answers-append}
 use Rattle.posting_core.proofs.Stops.{refused_stop, stop_all, stop_part, written_part}
 use Rattle.counter_http.proofs.Going.{Going, turn_of, read_one_more}
@@ -37,7 +37,7 @@ answer_begun : {C : Type 0} (seen : C → Seen) {r r' w w' w'' k k' k'' : Option
     → AreReadings k' k'' (moments_in t)
     → ((seen new).honest → (seen now).honest)
     → IsAnsweredInPart w' w'' (seen now) (seen new) (asked_by t.message) (commands_in t)
-    → Serves seen r r' q q' w w'' k k'' old new (Err Write)
+    → ServesConnection seen r r' q q' w w'' k k'' old new (Err Write)
 answer_begun seen {r = r} {r' = r'} {w = w} {w' = w'} {w'' = w''} {k = k} {k' = k'} {k'' = k''} old now new t
     all rest g is front reading honest a =
     let before = g.turns in
@@ -101,8 +101,8 @@ bank_failed : {C : Type 0} (seen : C → Seen) {r r' w w' w'' k k' k'' : Option 
     → Appends w' w'' more → (b : IsRefusedAt seen now new fault (commands_in t))
     → Exits seen result (HasEnded r' q q') old b.stood new g.turns (t ∷ []) rest
     (unavailable (asked_by t.message) ∷ [])
-    → ((text : List ℕ) → IsWritten result (text ++ more) (text ++ (unavailable (asked_by t.message) ++ [])))
-    → Serves seen r r' q q' w w'' k k'' old new result
+    → ((text : List ℕ) → AnswersAreWritten result (text ++ more) (text ++ (unavailable (asked_by t.message) ++ [])))
+    → ServesConnection seen r r' q q' w w'' k k'' old new result
 bank_failed seen {r = r} {r' = r'} {w = w} {w' = w'} {w'' = w''} {k = k} {k' = k'} {k'' = k''} old now new
     result t all rest more fault g front reading wrote b exits writes =
     let before = g.turns in
@@ -134,7 +134,7 @@ bank_failed seen {r = r} {r' = r'} {w = w} {w' = w'} {w'' = w''} {k = k} {k' = k
       up = λ d. g.answered.up (b.up d);
       takes = takes;
       exits = exits;
-      answers = λ h log s. subst (λ (x : List ℕ). IsWritten result (g.answered.written ++ more) x)
+      answers = λ h log s. subst (λ (x : List ℕ). AnswersAreWritten result (g.answered.written ++ more) x)
           (ap (λ (x : List ℕ). x ++ joined last) (g.answered.answers (honest h) log s)
           ∙ sym (joined-append (answers_to log before) last)) (writes g.answered.written);
       stop = λ h log s. stop_part (seen new) log (commands_of before) (commands_in t)
@@ -154,7 +154,7 @@ broken_at : {C : Type 0} (seen : C → Seen) (fault : ServeFault) {r r' w w' w''
     → AreReadings k' k'' (moments_in t)
     → ((seen new).honest → (seen now).honest)
     → BreaksOff seen fault w' w'' now new (asked_by t.message) (commands_in t)
-    → Serves seen r r' q q' w w'' k k'' old new (Err fault)
+    → ServesConnection seen r r' q q' w w'' k k'' old new (Err fault)
 broken_at seen Write old now new t all rest g is front reading honest (inl a) =
     answer_begun seen old now new t all rest g is front reading honest a
 broken_at seen Write old now new t all rest g is front reading honest (inr a) =
@@ -183,7 +183,7 @@ pub end_broken : {C : Type 0} (seen : C → Seen) (fault : ServeFault)
     → AreReadings k' k'' (readings_for m (asked p))
     → ((seen new).honest → (seen now).honest)
     → BreaksOff seen fault w' w'' now new (asked p) (commands_for m (asked p))
-    → Serves seen r r' q q' w w'' k k'' old new (Err fault)
+    → ServesConnection seen r r' q q' w w'' k k'' old new (Err fault)
 end_broken seen fault {w' = w'} {w'' = w''} {k' = k'} {k'' = k''} old now new m all p g is reading honest a =
     broken_at seen fault old now new (turn_of m is) all (drop p.length all) g is.whole is.front
     (subst (λ (x : Asked). AreReadings k' k'' (readings_for m x)) is.asks reading) honest

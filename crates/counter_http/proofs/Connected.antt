@@ -9,22 +9,22 @@ use Rattle.std.proofs.KnownBytes.{Appends-trans, Appends-nil, Consumes-nil}
 use Rattle.std.proofs.lemmas.List.{length-take-le, length-append, take_all}
 use Rattle.posting_rules.specs.Counter.{Seen}
 use Rattle.posting_core.specs.Clock.{AreReadings}
-use Rattle.posting_core.specs.Told.{ReadTold, Adds, read_told}
+use Rattle.posting_core.specs.Told.{ReadTold, GrowsBy, read_told}
 use Rattle.counter_http.specs.declared.fault.ServeFault.{ServeFault}
 use Rattle.counter_http.specs.declared.fault.ServeFault.TheVariants.{Read, Write, Memory}
 use Rattle.counter_http.specs.declared.next.Whole.{Whole}
 use Rattle.counter_http.specs.Ends.{HasEnded}
-use Rattle.counter_http.specs.Messages.{closes, Finished, Closed, Ends, Walks}
+use Rattle.counter_http.specs.Messages.{closes, Finished, Closed, EndsWalk, Walks}
 use Rattle.counter_http.specs.Next.{asked, IsWhole, IsUnfinished, IsHopeless}
 use Rattle.counter_http.specs.Answers.{Asked, refusal}
 use Rattle.counter_http.specs.Turns.{Turn, commands_for, readings_for, text_in, commands_of, moments_of}
-use Rattle.counter_http.specs.Turns.{messages_of, texts_of, answers_to, AreAnswered, IsAnswered}
+use Rattle.counter_http.specs.Turns.{messages_of, texts_of, answers_to, AreAnswered, TurnIsAnswered}
 use Rattle.posting_core.specs.Batches.{joined}
 use Rattle.posting_core.proofs.Batched.{joined-append}
 use Rattle.posting_core.proofs.Streaming.{at_ok}
 use Rattle.posting_core.proofs.Telling.{HasMade}
 use Rattle.posting_core.proofs.Stops.{stop_all, written_part}
-use Rattle.counter_http.specs.Serving.{BeginsWithNoMessage, IsWalked, At_last, Exits, IsWritten, Serves}
+use Rattle.counter_http.specs.Serving.{BeginsWithNoMessage, IsWalked, At_last, Exits, AnswersAreWritten, ServesConnection}
 use Rattle.counter_http.proofs.Walking.{walks_behind, walks_end, walks_always, walks_closed}
 use Rattle.counter_http.proofs.Sent.{ended_at}
 use Rattle.counter_http.proofs.Told.{front_of}
@@ -40,8 +40,8 @@ end_with : {C : Type 0} (seen : C → Seen) {r r' w w' w'' k k' : Option (List �
     → Consumes r r' (texts_of ts ++ rest) → AreAnswered w w' k k' (seen old) (seen new) ts
     → Appends w' w'' more
     → Exits seen result (HasEnded r' q q') old new new ts [] rest last
-    → ((text : List ℕ) → IsWritten result (text ++ more) (text ++ joined last))
-    → Serves seen r r' q q' w w'' k k' old new result
+    → ((text : List ℕ) → AnswersAreWritten result (text ++ more) (text ++ joined last))
+    → ServesConnection seen r r' q q' w w'' k k' old new result
 end_with seen {r = r} {r' = r'} {w = w} {w' = w'} {w'' = w''} {k = k} {k' = k'} old new result ts rest last
     more read a wrote exits writes =
     let none : ts ++ [] ≡ ts = append-nil ts in
@@ -60,7 +60,7 @@ end_with seen {r = r} {r' = r'} {w = w} {w' = w'} {w'' = w''} {k = k} {k' = k'} 
       up = a.up;
       takes = a.takes;
       exits = exits;
-      answers = λ h log s. subst (λ (x : List ℕ). IsWritten result (a.written ++ more) x)
+      answers = λ h log s. subst (λ (x : List ℕ). AnswersAreWritten result (a.written ++ more) x)
           (ap (λ (x : List ℕ). x ++ joined last) (a.answers h log s)
           ∙ sym (joined-append (answers_to log ts) last)) (writes a.written);
       stop = λ h log s. stop_all (seen new) log (commands_of (ts ++ [])) (commands_of ts)
@@ -72,7 +72,7 @@ pub end_finished : {C : Type 0} (seen : C → Seen) {r r' w w' k k' : Option (Li
     {q q' : Option (List ReadTold)} (old new : C) {count : ℕ}
     (rest : List ℕ)
     → Going r r' w w' k k' (seen old) (seen new) rest count → HasEnded r' q q' → rest ≡ []
-    → Serves seen r r' q q' w w' k k' old new (Ok count)
+    → ServesConnection seen r r' q q' w w' k k' old new (Ok count)
 end_finished seen {w' = w'} old new {count = count} rest g ended none =
     end_with seen old new (Ok count) g.turns rest [] [] g.read g.answered (Appends-nil w') (
       record {
@@ -91,7 +91,7 @@ pub end_unread : {C : Type 0} (seen : C → Seen) {r r' w w' k k' : Option (List
     {q q' : Option (List ReadTold)} (old new : C) {count : ℕ}
     (rest : List ℕ)
     → Going r r' w w' k k' (seen old) (seen new) rest count → BeginsWithNoMessage rest
-    → Serves seen r r' q q' w w' k k' old new (Err Read)
+    → ServesConnection seen r r' q q' w w' k k' old new (Err Read)
 end_unread seen {w' = w'} old new rest g none =
     end_with seen old new (Err Read) g.turns rest [] [] g.read g.answered (Appends-nil w')
     (record { stays = g.stays; no_more = none; none_refused = refl; nothing = refl }, refl) (λ text. refl)
@@ -103,8 +103,8 @@ pub end_closed : {C : Type 0} (seen : C → Seen) {r r' w w' w'' k k' k'' : Opti
     → Going r r' w w' k k' (seen old) (seen now) all count → (is : IsWhole all p) → p.closes ≡ true
     → count' ≡ count + 1
     → AreReadings k' k'' (readings_for m (asked p)) → ((seen new).honest → (seen now).honest)
-    → IsAnswered w' w'' (seen now) (seen new) (asked p) (commands_for m (asked p))
-    → Serves seen r r' q q' w w'' k k'' old new (Ok count')
+    → TurnIsAnswered w' w'' (seen now) (seen new) (asked p) (commands_for m (asked p))
+    → ServesConnection seen r r' q q' w w'' k k'' old new (Ok count')
 end_closed seen {r = r} {r' = r'} {w'' = w''} old now new m all count' p g is last n reading honest a =
     let t : Turn = turn_of m is in
     let ts = g.turns ++ t ∷ [] in
@@ -156,7 +156,7 @@ hopeless_walk rest g is =
     record {
       ending = is.ending;
       walks = walks_end g.turns rest is.ending g.stays
-          (subst (λ (x : List ℕ). Ends is.ending x) (append-nil rest) (is.ends []));
+          (subst (λ (x : List ℕ). EndsWalk is.ending x) (append-nil rest) (is.ends []));
       last_is = sym is.told;
       ended = inr (walks_always g.turns rest is.ending g.stays is.ends);
       none_refused = refl;
@@ -188,7 +188,7 @@ pub short_read : {r r' r'' w w' k k' : Option (List ℕ)} {q q' q'' : Option (Li
     → IfOk told (λ m. (bytes : List ℕ) × (take (filled + m) new ≡ take filled old ++ bytes)
     × Consumes r' r'' bytes)
     → IfOk told (λ m. m ≡ 0 → IsAtEnd r'')
-    → HasMade q q' calls → Adds q' q'' (read_told told ∷ [])
+    → HasMade q q' calls → GrowsBy q' q'' (read_told told ∷ [])
     → 0 < filled → filled ≤ length old → length old ≡ length new → IsUnfinished (take filled old) shown
     → (g : Going r r'' w w' k k' c c' (take filled new) count)
     × IsWalked (HasEnded r'' q q'') g.turns [] (take filled new) (refusal shown ∷ [])
@@ -203,7 +203,7 @@ pub end_told : {C : Type 0} (seen : C → Seen) {r r' w w' w'' k k' : Option (Li
     (g : Going r r' w w' k k' (seen old) (seen new) rest count)
     → IsWalked (HasEnded r' q q') g.turns [] rest (refusal shown ∷ [])
     → ((n : ℕ) × Appends w' w'' (take n (refusal shown)) × (n ≡ length (refusal shown))) → count' ≡ count + 1
-    → Serves seen r r' q q' w w'' k k' old new (Ok count')
+    → ServesConnection seen r r' q q' w w'' k k' old new (Ok count')
 end_told seen {w' = w'} {w'' = w''} old new shown count' rest g walked told one =
     end_with seen old new (Ok count') g.turns rest (refusal shown ∷ []) (refusal shown) g.read g.answered
     (subst (λ (x : List ℕ). Appends w' w'' x) (take_all told.0 (refusal shown) (omega (arith, told.2)))
@@ -218,7 +218,7 @@ pub end_untold : {C : Type 0} (seen : C → Seen) {r r' w w' w'' k k' : Option (
     (g : Going r r' w w' k k' (seen old) (seen new) rest count)
     → IsWalked (HasEnded r' q q') g.turns [] rest (refusal shown ∷ [])
     → Appends w' w'' (take n (refusal shown))
-    → Serves seen r r' q q' w w'' k k' old new (Err Write)
+    → ServesConnection seen r r' q q' w w'' k k' old new (Err Write)
 end_untold seen old new shown n rest g walked wrote =
     end_with seen old new (Err Write) g.turns rest (refusal shown ∷ []) (take n (refusal shown)) g.read
     g.answered wrote (At_last walked refl)
@@ -229,7 +229,7 @@ end_untold seen old new shown n rest g walked wrote =
 -- memory was refused before anything was read
 pub untouched : {C : Type 0} (seen : C → Seen) {r : Option (List ℕ)} {q : Option (List ReadTold)}
     {w k : Option (List ℕ)} (c : C)
-    → Serves seen r r q q w w k k c c (Err Memory)
+    → ServesConnection seen r r q q w w k k c c (Err Memory)
 untouched seen {r = r} {w = w} c =
     end_with seen c c (Err Memory) [] [] [] [] (Consumes-nil r) answered_none (Appends-nil w)
     (record { none_taken = refl; none_refused = refl; no_rest = refl; nothing = refl }, refl) (λ text. refl)

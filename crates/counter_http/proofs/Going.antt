@@ -15,8 +15,8 @@ use Rattle.counter_http.specs.Messages.{message_text, Finished}
 use Rattle.counter_http.specs.Next.{asked, IsWhole, IsUnfinished}
 use Rattle.counter_http.specs.Answers.{Asked}
 use Rattle.counter_http.specs.Turns.{Turn, commands_for, readings_for, text_in, texts_of, AreAnswered}
-use Rattle.counter_http.specs.Turns.{IsAnswered}
-use Rattle.counter_http.specs.Serving.{GoesOn, BeginsWithNoMessage}
+use Rattle.counter_http.specs.Turns.{TurnIsAnswered}
+use Rattle.counter_http.specs.Serving.{KeepsConnection, BeginsWithNoMessage}
 use Rattle.counter_http.proofs.Walking.{no_message, head_some}
 use Rattle.counter_http.proofs.Turning.{answered_none, answered_more, answered_one}
 
@@ -26,7 +26,7 @@ use Rattle.counter_http.proofs.Turning.{answered_none, answered_more, answered_o
 pub record Going (r r' w w' k k' : Option (List ℕ)) (c c' : Seen) (rest : List ℕ) (count : ℕ) : Type 0 where
   pub turns : List Turn
   pub read : Consumes r r' (texts_of turns ++ rest)
-  pub stays : AllByRecursion (λ (u : Turn). GoesOn u.message) turns
+  pub stays : AllByRecursion (λ (u : Turn). KeepsConnection u.message) turns
   pub count_is : count ≡ length turns
   pub answered : AreAnswered w w' k k' c c' turns
 
@@ -89,8 +89,8 @@ read_one_more r r' ts t all rest got e =
     subst (λ (x : List ℕ). Consumes r r' x)
     (ap (λ (x : List ℕ). texts_of ts ++ x) e ∙ sym (texts_one_more ts t rest)) got
 
-stays_one_more : (ts : List Turn) (t : Turn) → AllByRecursion (λ (u : Turn). GoesOn u.message) ts
-    → GoesOn t.message → AllByRecursion (λ (u : Turn). GoesOn u.message) (ts ++ t ∷ [])
+stays_one_more : (ts : List Turn) (t : Turn) → AllByRecursion (λ (u : Turn). KeepsConnection u.message) ts
+    → KeepsConnection t.message → AllByRecursion (λ (u : Turn). KeepsConnection u.message) (ts ++ t ∷ [])
 stays_one_more [] t all one = (one, tt)
 stays_one_more (s ∷ ts) t all one = (all.0, stays_one_more ts t all.1 one)
 
@@ -103,7 +103,7 @@ pub going_message : {r r' w w' w'' k k' k'' : Option (List ℕ)} {c c' c'' : See
     → Going r r' w w' k k' c c' all count → (is : IsWhole all p) → p.closes ≡ false → rest ≡ drop p.length all
     → count' ≡ count + 1
     → AreReadings k' k'' (readings_for m (asked p)) → (c''.honest → c'.honest)
-    → IsAnswered w' w'' c' c'' (asked p) (commands_for m (asked p))
+    → TurnIsAnswered w' w'' c' c'' (asked p) (commands_for m (asked p))
     → Going r r' w w'' k k'' c c'' rest count'
 going_message {r = r} {r' = r'} m all rest count' p g is on left n reading honest a =
     let t : Turn = turn_of m is in record {

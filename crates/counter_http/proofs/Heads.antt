@@ -16,7 +16,7 @@ use Rattle.httparse.proofs.GrammarLemmas.{request_prefix_free, ReadsRequest-appe
 use Rattle.counter_http.specs.Answers.{Asked}
 use Rattle.counter_http.specs.Fields.{NamedValue, named_values, body_length, asks_to_close}
 use Rattle.counter_http.specs.Messages.{message_text, IsMessage, LacksBody, closes, IsHead, No_head, No_body}
-use Rattle.counter_http.specs.Messages.{Ends, AlwaysEnds}
+use Rattle.counter_http.specs.Messages.{EndsWalk, AlwaysEnds}
 
 -- bytes that are there stay when others follow
 pub some_more : (buf more : List ℕ) → 0 < length buf → buf ++ more ≢ []
@@ -109,7 +109,7 @@ no_length buf r h is reads none more = (
 -- it isn't there yet
 pub short_body : (buf : List ℕ) (r : RequestSpans) (h : RequestHead) (n : ℕ) → IsHead h
     → ReadsRequest buf h (drop r.len buf) → body_length (named_values h) ≡ Some n
-    → length (drop r.len buf) < n → Ends (No_body h) buf
+    → length (drop r.len buf) < n → EndsWalk (No_body h) buf
 short_body buf r h n is reads some short =
     (is, (drop r.len buf, reads.1, subst (λ (o : Option ℕ). LacksBody o (drop r.len buf)) (sym some) short))
 

@@ -7,7 +7,7 @@ use Rattle.message_records.specs.Reading.{request_of}
 use Rattle.message_records.specs.Spelling.{reply_spelling}
 use Rattle.posting_rules.specs.declared.limits.TheConstants.{LAST_BRANCH}
 use Rattle.posting_rules.specs.Commands.{Command, Post, opened, is_account_open}
-use Rattle.posting_rules.specs.Entries.{Entry, account_balance, branch_balance, with_record, decided}
+use Rattle.posting_rules.specs.Entries.{DecidedRequest, account_balance, branch_balance, with_record, decided}
 use Rattle.posting_rules.specs.Entries.{reply_to, reply, balance_behind}
 use Rattle.posting_rules.specs.Runs.{behind}
 use Rattle.posting_core.proofs.Timeless.{zeroed, sum_zeroed, reply_zeroed, record_zeroed}
@@ -35,7 +35,7 @@ reply_alike : (a b : List Command) (bytes : List ℕ) → IsAlike a b → reply 
 reply_alike a b bytes h =
     sym (reply_zeroed (λ n. opened a n) (decided a) (request_of bytes))
     ∙ ap (λ (o : Opened). reply_to (request_of bytes) o (zeroed (decided a))) h.opens
-    ∙ ap (λ (es : List Entry). reply_to (request_of bytes) (λ n. opened b n) es) h.entries
+    ∙ ap (λ (es : List DecidedRequest). reply_to (request_of bytes) (λ n. opened b n) es) h.entries
     ∙ reply_zeroed (λ n. opened b n) (decided b) (request_of bytes)
 
 balance_alike : (a b : List Command) (account : ℕ) → IsAlike a b
@@ -43,7 +43,7 @@ balance_alike : (a b : List Command) (account : ℕ) → IsAlike a b
 balance_alike a b account h =
     let sum : account_balance (decided a) account ≡ account_balance (decided b) account =
     sym (sum_zeroed (λ r. eqb r.account account) (decided a))
-    ∙ ap (λ (es : List Entry). account_balance es account) h.entries
+    ∙ ap (λ (es : List DecidedRequest). account_balance es account) h.entries
     ∙ sum_zeroed (λ r. eqb r.account account) (decided b) in
     ap (λ (o : Opened). cond (is_account_open o account) (Some (account_balance (decided a) account)) None)
     h.opens
@@ -55,7 +55,7 @@ line_alike a b branch None h = refl
 line_alike a b branch (Some accounts) h =
     ap (branch_line branch accounts)
     (sym (sum_zeroed (λ r. eqb r.branch branch) (decided a))
-    ∙ ap (λ (es : List Entry). branch_balance es branch) h.entries
+    ∙ ap (λ (es : List DecidedRequest). branch_balance es branch) h.entries
     ∙ sum_zeroed (λ r. eqb r.branch branch) (decided b))
 
 lines_alike : (a b : List Command) (n : ℕ) → IsAlike a b → lines_up_to a n ≡ lines_up_to b n
@@ -105,7 +105,7 @@ post_alike a b m k bytes h = record {
   opens = h.opens;
   entries = record_zeroed m (λ n. opened a n) (decided a) (request_of bytes)
       ∙ ap (λ (o : Opened). with_record 0 (request_of bytes) o (zeroed (decided a))) h.opens
-      ∙ ap (λ (es : List Entry). with_record 0 (request_of bytes) (λ n. opened b n) es) h.entries
+      ∙ ap (λ (es : List DecidedRequest). with_record 0 (request_of bytes) (λ n. opened b n) es) h.entries
       ∙ sym (record_zeroed k (λ n. opened b n) (decided b) (request_of bytes));
 }
 

@@ -8,9 +8,9 @@ use Rattle.httparse.specs.Grammar.{RequestHead, print_request}
 use Rattle.httparse.proofs.GrammarLemmas.{request_unique}
 use Rattle.counter_http.specs.Fields.{named_values, body_length}
 use Rattle.counter_http.specs.Messages.{Message, message_text, IsMessage, closes, Ending, Finished, Closed}
-use Rattle.counter_http.specs.Messages.{No_head, No_body, Ends, Walks}
+use Rattle.counter_http.specs.Messages.{No_head, No_body, EndsWalk, Walks}
 use Rattle.std.specs.List.{AllByRecursion}
-use Rattle.counter_http.specs.Serving.{GoesOn, BeginsWithNoMessage}
+use Rattle.counter_http.specs.Serving.{KeepsConnection, BeginsWithNoMessage}
 use Rattle.counter_http.specs.Outputs.{texts_of_all}
 use Rattle.counter_http.proofs.Walking.{no_message, head_some}
 
@@ -41,7 +41,7 @@ same_message m n a b im jn e =
     let rest = front_same m.body n.body a b len same.1 in
     (made m.head n.head m.body n.body same.0 rest.0, rest.1)
 
-ends_unique : (e f : Ending) (rest : List ℕ) → Ends e rest → Ends f rest → e ≡ f
+ends_unique : (e f : Ending) (rest : List ℕ) → EndsWalk e rest → EndsWalk f rest → e ≡ f
 ends_unique Finished Finished rest x y = refl
 ends_unique Finished Closed rest x y = absurd y
 ends_unique Finished No_head rest x y = absurd (y.0 x)
@@ -87,7 +87,7 @@ walk_unique input (m ∷ ms) (n ∷ ns) e f x y =
     ]
 
 -- the whole messages at the front of an input are one list
-pub front_unique : (ms ns : List Message) (a b : List ℕ) → AllByRecursion GoesOn ms → AllByRecursion GoesOn ns
+pub front_unique : (ms ns : List Message) (a b : List ℕ) → AllByRecursion KeepsConnection ms → AllByRecursion KeepsConnection ns
     → BeginsWithNoMessage a → BeginsWithNoMessage b → texts_of_all ms ++ a ≡ texts_of_all ns ++ b → ms ≡ ns
 front_unique [] [] a b im jn none none' e = refl
 front_unique [] (n ∷ ns) a b im jn none none' e =

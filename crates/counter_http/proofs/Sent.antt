@@ -3,19 +3,19 @@ use Rattle.std.proofs.Common.{◌≡◌, ℕ, Bool, List, [], ◌∷◌, Option,
 use Rattle.std.specs.Prelude.{IfOk, OnOk, OnErr, is_ok}
 use Rattle.std.specs.Io.KnownBytes.{IsAtEnd}
 use Rattle.std.specs.declared.io.Error.{Error}
-use Rattle.posting_core.specs.Told.{ReadTold, WriteTold, Adds, EndsWith, HasMore, HasWriteFailed, IsFlush}
+use Rattle.posting_core.specs.Told.{ReadTold, WriteTold, GrowsBy, EndsWith, HasMore, HasWriteFailed, IsFlush}
 use Rattle.posting_core.specs.Told.{IsThrough, IsWriteFailure, read_told}
 use Rattle.posting_core.proofs.Telling.{HasMade, more_failed, more_last, more_more, read_ended}
 use Rattle.posting_core.proofs.Streaming.{at_ok}
 use Rattle.posting_core.proofs.Through.{through_more}
 use Rattle.counter_http.specs.declared.fault.ServeFault.{ServeFault}
 use Rattle.counter_http.specs.declared.fault.ServeFault.TheVariants.{Read, Write, Bank, Memory}
-use Rattle.counter_http.specs.Ends.{HasEnded, HasSent, HasTaken, SendsAs, EndsAs}
+use Rattle.counter_http.specs.Ends.{HasEnded, HasSent, HasTaken, SendsAs, ServeFaultIsOfItsEnd}
 
 -- the input ended
 pub ended_at : {remaining : Option (List ℕ)} {a b c : Option (List ReadTold)} {count : ℕ} (r : Result ℕ Error)
     (n : ℕ)
-    → HasMade a b count → Adds b c (read_told r ∷ []) → r ≡ Ok n → n ≡ 0
+    → HasMade a b count → GrowsBy b c (read_told r ∷ []) → r ≡ Ok n → n ≡ 0
     → IfOk r (λ m. m ≡ 0 → IsAtEnd remaining)
     → HasEnded remaining a c
 ended_at r n made tells is none end = record
@@ -44,7 +44,7 @@ sent_behind a b c (Err x) h flushed failed = more_failed IsWriteFailure h failed
 -- a fault behind them
 pub sent_broken : (fault : ServeFault) (r r' : Option (List ReadTold)) (w w' w'' : Option (List WriteTold))
     → IsThrough w w'
-    → SendsAs (Err fault) w' w'' → EndsAs (Err fault) r r' w w''
+    → SendsAs (Err fault) w' w'' → ServeFaultIsOfItsEnd (Err fault) r r' w w''
 sent_broken Write r r' w w' w'' h a = more_failed IsWriteFailure (through_more h) a
 sent_broken (Bank fault) r r' w w' w'' h a = more_last IsFlush (through_more h) a
 sent_broken Read r r' w w' w'' h a = absurd a

@@ -14,7 +14,7 @@ use Rattle.http.specs.StatusCode.{reason_phrase, code_digits}
 use Rattle.counter_http.specs.Answers.{Answer, status_words, allow_line, close_line, answer_text, bare}
 use Rattle.counter_http.specs.declared.fault.ServeFault.{ServeFault}
 use Rattle.counter_http.specs.Turns.{IsWrittenTo}
-use Rattle.counter_http.specs.Telling.{IsTold, first_lines, last_lines}
+use Rattle.counter_http.specs.Telling.{IsWrittenOrHeld, first_lines, last_lines}
 
 pub on_ok_true : {A E : Type 0} {P : Type 0} (r : Result A E) → OnOk r P → is_ok r ≡ true → P
 on_ok_true (Ok x) p e = p
@@ -35,12 +35,12 @@ longer text more done e =
     let fits : length done ≤ length text = omega (arith, len, length-take (length done) text) in
     e ∙ sym (take-append-le (length done) text more fits)
 
-pub told_none : (w : Option (List ℕ)) (held : List ℕ) → held ≡ [] → IsTold w w true held []
+pub told_none : (w : Option (List ℕ)) (held : List ℕ) → held ≡ [] → IsWrittenOrHeld w w true held []
 told_none w held e = record { written = []; wrote = Appends-nil w; begins = refl; whole = λ _. sym e }
 
 -- nothing more is told, since the writer failed before
-pub told_failed : {a b : Option (List ℕ)} (held held' text more : List ℕ) → IsTold a b false held text
-    → IsTold a b false held' (text ++ more)
+pub told_failed : {a b : Option (List ℕ)} (held held' text more : List ℕ) → IsWrittenOrHeld a b false held text
+    → IsWrittenOrHeld a b false held' (text ++ more)
 told_failed held held' text more t = record {
   written = t.written;
   wrote = t.wrote;
@@ -50,8 +50,8 @@ told_failed held held' text more t = record {
 
 -- more is held
 pub told_held : {a b : Option (List ℕ)} (held held' text more : List ℕ) → held' ≡ held ++ more
-    → IsTold a b true held text
-    → IsTold a b true held' (text ++ more)
+    → IsWrittenOrHeld a b true held text
+    → IsWrittenOrHeld a b true held' (text ++ more)
 told_held held held' text more e t = record {
   written = t.written;
   wrote = t.wrote;
@@ -74,9 +74,9 @@ front_take n a b fits =
     sym (ap (λ (k : ℕ). take k (a ++ b)) len ∙ take-append-add a b n)
 
 pub told_sent : {A E : Type 0} {a b c : Option (List ℕ)} (held text : List ℕ) (r : Result A E)
-    → IsTold a b true held text
+    → IsWrittenOrHeld a b true held text
     → ((n : ℕ) × (n ≤ length held) × Appends b c (take n held) × OnOk r (n ≡ length held))
-    → (is_ok r ≡ true → IsTold a c true [] text) × IsTold a c false held text
+    → (is_ok r ≡ true → IsWrittenOrHeld a c true [] text) × IsWrittenOrHeld a c false held text
 told_sent {a = a} {b = b} {c = c} held text r t w =
     let both = t.written ++ take w.0 held in
     let wrote = Appends-trans a b c t.written (take w.0 held) t.wrote w.2 in
@@ -95,9 +95,9 @@ told_sent {a = a} {b = b} {c = c} held text r t w =
 
 -- more is written at once
 pub told_more : {A E : Type 0} {a b c : Option (List ℕ)} (text more : List ℕ) (done : Bool) (r : Result A E)
-    → IsTold a b true [] text
+    → IsWrittenOrHeld a b true [] text
     → ((n : ℕ) × (n ≤ length more) × Appends b c (take n more) × OnOk r (n ≡ length more)) → done ≡ is_ok r
-    → IsTold a c done [] (text ++ more)
+    → IsWrittenOrHeld a c done [] (text ++ more)
 told_more {a = a} {b = b} {c = c} text more done r t w e =
     let all : text ≡ t.written = t.whole refl ∙ append-nil t.written in
     let both = t.written ++ take w.0 more in
@@ -115,20 +115,20 @@ told_more {a = a} {b = b} {c = c} text more done r t w e =
 
 -- one text in place of another, and one that holds the same
 pub told_as : {a b : Option (List ℕ)} {going : Bool} {held : List ℕ} (text other : List ℕ) → text ≡ other
-    → IsTold a b going held text → IsTold a b going held other
+    → IsWrittenOrHeld a b going held text → IsWrittenOrHeld a b going held other
 told_as {a = a} {b = b} {going = going} {held = held} text other e t =
-    subst (λ (x : List ℕ). IsTold a b going held x) e t
+    subst (λ (x : List ℕ). IsWrittenOrHeld a b going held x) e t
 
 pub holding : {a b : Option (List ℕ)} {going : Bool} {held held' text : List ℕ} → held ≡ held'
-    → IsTold a b going held text
-    → IsTold a b going held' text
+    → IsWrittenOrHeld a b going held text
+    → IsWrittenOrHeld a b going held' text
 holding {a = a} {b = b} {going = going} {text = text} e t =
-    subst (λ (x : List ℕ). IsTold a b going x text) e t
+    subst (λ (x : List ℕ). IsWrittenOrHeld a b going x text) e t
 
 pub telling : {a b : Option (List ℕ)} {going going' : Bool} {held text : List ℕ} → going ≡ going'
-    → IsTold a b going held text
-    → IsTold a b going' held text
-telling {a = a} {b = b} {held = held} {text = text} e t = subst (λ (x : Bool). IsTold a b x held text) e t
+    → IsWrittenOrHeld a b going held text
+    → IsWrittenOrHeld a b going' held text
+telling {a = a} {b = b} {held = held} {text = text} e t = subst (λ (x : Bool). IsWrittenOrHeld a b x held text) e t
 
 -- what two texts at the front are
 front_four : (a b c d : List ℕ) → ((a ++ b) ++ c) ++ d ≡ a ++ ((b ++ c) ++ d)
@@ -176,13 +176,13 @@ text_hidden a closes =
 
 -- the writer failed
 pub told_part : {a b : Option (List ℕ)} {held : List ℕ} {going : Bool} (text : List ℕ)
-    → IsTold a b going held text
+    → IsWrittenOrHeld a b going held text
     → (n : ℕ) × Appends a b (take n text)
 told_part {a = a} {b = b} text t = (length t.written, subst (λ (x : List ℕ). Appends a b x) t.begins t.wrote)
 
 -- what is held is written, and all was
 pub told_all : {A E : Type 0} (a b c : Option (List ℕ)) (held text : List ℕ) (r : Result A E)
-    → IsTold a b true held text
+    → IsWrittenOrHeld a b true held text
     → ((n : ℕ) × (n ≤ length held) × Appends b c (take n held) × OnOk r (n ≡ length held))
     → (n : ℕ) × Appends a c (take n text) × OnOk r (n ≡ length text)
 told_all a b c held text r t w =

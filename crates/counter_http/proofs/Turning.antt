@@ -11,7 +11,7 @@ use Rattle.counter_http.specs.Answers.{Asked, asked_by, answer_of}
 use Rattle.posting_core.specs.Batches.{joined}
 use Rattle.posting_core.proofs.Batched.{joined-append}
 use Rattle.counter_http.specs.Turns.{Turn, commands_for, readings_for, commands_in, moments_in, commands_of}
-use Rattle.counter_http.specs.Turns.{moments_of, answers_to, AreAnswered, IsAnswered}
+use Rattle.counter_http.specs.Turns.{moments_of, answers_to, AreAnswered, TurnIsAnswered}
 
 pub readings_append : (k k' k'' : Option (List ℕ)) (xs ys : List ℕ) → AreReadings k k' xs
     → AreReadings k' k'' ys → AreReadings k k'' (xs ++ ys)
@@ -75,7 +75,7 @@ answered_more {w = w} {w' = w'} {w'' = w''} {k = k} {k' = k'} {k'' = k''} {c = c
 -- one message
 pub answered_one : {w w' k k' : Option (List ℕ)} {c c' : Seen} (t : Turn) (a : Asked) → a ≡ asked_by t.message
     → AreReadings k k' (readings_for t.moment a) → (c'.honest → c.honest)
-    → IsAnswered w w' c c' a (commands_for t.moment a) → AreAnswered w w' k k' c c' (t ∷ [])
+    → TurnIsAnswered w w' c c' a (commands_for t.moment a) → AreAnswered w w' k k' c c' (t ∷ [])
 answered_one {k = k} {k' = k'} {c = c} {c' = c'} t a e clock honest is = record {
   clock = subst (λ (ms : List ℕ). AreReadings k k' ms)
       (ap (readings_for t.moment) e ∙ sym (append-nil (moments_in t))) clock;

@@ -8,13 +8,13 @@ use Rattle.httparse.specs.Grammar.{RequestHead, print_request, IsRequestHead}
 use Rattle.httparse.proofs.GrammarLemmas.{request_unique}
 use Rattle.counter_http.specs.Fields.{named_values, body_length}
 use Rattle.counter_http.specs.Messages.{Message, message_text, IsMessage, closes, Ending, Finished, Closed}
-use Rattle.counter_http.specs.Messages.{No_head, No_body, Ends, AlwaysEnds, LacksBody, Walks}
+use Rattle.counter_http.specs.Messages.{No_head, No_body, EndsWalk, AlwaysEnds, LacksBody, Walks}
 use Rattle.counter_http.specs.Turns.{Turn, messages_of, text_in, texts_of}
-use Rattle.counter_http.specs.Serving.{GoesOn, BeginsWithNoMessage}
+use Rattle.counter_http.specs.Serving.{KeepsConnection, BeginsWithNoMessage}
 
 -- a walk behind messages after which the connection goes on
 pub walks_behind : (ts us : List Turn) (rest : List ℕ) (ending : Ending)
-    → AllByRecursion (λ (u : Turn). GoesOn u.message) ts → Walks rest (messages_of us) ending
+    → AllByRecursion (λ (u : Turn). KeepsConnection u.message) ts → Walks rest (messages_of us) ending
     → Walks (texts_of ts ++ rest) (messages_of (ts ++ us)) ending
 walks_behind [] us rest ending all w = w
 walks_behind (t ∷ ts) us rest ending all w = (
@@ -29,7 +29,7 @@ walks_behind (t ∷ ts) us rest ending all w = (
 
 -- a walk that ends with what remains
 pub walks_end : (ts : List Turn) (rest : List ℕ) (ending : Ending)
-    → AllByRecursion (λ (u : Turn). GoesOn u.message) ts → Ends ending rest
+    → AllByRecursion (λ (u : Turn). KeepsConnection u.message) ts → EndsWalk ending rest
     → Walks (texts_of ts ++ rest) (messages_of ts) ending
 walks_end ts rest ending all ends =
     subst (λ (us : List Turn). Walks (texts_of ts ++ rest) (messages_of us) ending) (append-nil ts)
@@ -37,7 +37,7 @@ walks_end ts rest ending all ends =
 
 -- whatever follows
 pub walks_always : (ts : List Turn) (rest : List ℕ) (ending : Ending)
-    → AllByRecursion (λ (u : Turn). GoesOn u.message) ts → AlwaysEnds ending rest
+    → AllByRecursion (λ (u : Turn). KeepsConnection u.message) ts → AlwaysEnds ending rest
     → (more : List ℕ) → Walks ((texts_of ts ++ rest) ++ more) (messages_of ts) ending
 walks_always ts rest ending all ends more =
     subst (λ (input : List ℕ). Walks input (messages_of ts) ending)
@@ -63,7 +63,7 @@ cut_short m behind after is lacks e =
     let len = ap length e in
     absurd (omega (arith, len, length-append m.body behind))
 
-pub no_message : (ending : Ending) (rest : List ℕ) → Ends ending rest → BeginsWithNoMessage rest
+pub no_message : (ending : Ending) (rest : List ℕ) → EndsWalk ending rest → BeginsWithNoMessage rest
 no_message Finished rest ends m behind is e =
     let len = ap length (sym ends ∙ e ∙ append_assoc (print_request m.head) m.body behind) in
     absurd (omega (

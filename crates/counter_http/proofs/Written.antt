@@ -20,10 +20,10 @@ use Rattle.counter_http.specs.Messages.{Message, message_text, Ending, Walks}
 use Rattle.counter_http.specs.Answers.{asked_by, unavailable, final_answer}
 use Rattle.counter_http.specs.Turns.{Turn, message_in, text_in, commands_in, commands_of, messages_of}
 use Rattle.counter_http.specs.Turns.{texts_of, answers_to}
-use Rattle.counter_http.specs.Serving.{GoesOn, IsWritten, IsWalked, IsBroken, IsAtMessage, At_message}
-use Rattle.counter_http.specs.Serving.{At_last, At_refusal, Serves}
-use Rattle.counter_http.specs.Outputs.{texts_of_all, answers_behind, Answers, AnswersWhole, AnswersFirst}
-use Rattle.counter_http.specs.Outputs.{AnswersBroken, IsTextFor, Writes, IsSettled, Outputs, Survives}
+use Rattle.counter_http.specs.Serving.{KeepsConnection, AnswersAreWritten, IsWalked, IsBrokenOff, IsAtMessage, At_message}
+use Rattle.counter_http.specs.Serving.{At_last, At_refusal, ServesConnection}
+use Rattle.counter_http.specs.Outputs.{texts_of_all, answers_behind, AnswersInput, AnswersWhole, AnswersFirst}
+use Rattle.counter_http.specs.Outputs.{AnswersBroken, IsTextFor, WritesAnswers, IsSettled, OutputsAnswers, SurvivesServing}
 use Rattle.counter_http.proofs.Momentless.{momentless}
 use Rattle.counter_http.proofs.OneWalk.{walk_unique, front_unique}
 
@@ -33,8 +33,8 @@ texts_are : (ts : List Turn) → texts_of ts ≡ texts_of_all (messages_of ts)
 texts_are [] = refl
 texts_are (t ∷ ts) = ap (λ (x : List ℕ). text_in t ++ x) (texts_are ts)
 
-stays_all : (ts : List Turn) → AllByRecursion (λ (t : Turn). GoesOn t.message) ts
-    → AllByRecursion GoesOn (messages_of ts)
+stays_all : (ts : List Turn) → AllByRecursion (λ (t : Turn). KeepsConnection t.message) ts
+    → AllByRecursion KeepsConnection (messages_of ts)
 stays_all [] all = tt
 stays_all (t ∷ ts) all = (all.0, stays_all ts all.1)
 
@@ -56,7 +56,7 @@ text_with log ts last other e =
 
 walked_text : {has_ended : Type 0} (log : List Command) (taken refused : List Turn) (rest : List ℕ)
     (last : List (List ℕ)) → IsWalked has_ended taken refused rest last
-    → Answers log (texts_of (taken ++ refused) ++ rest) (joined (answers_to log taken ++ last))
+    → AnswersInput log (texts_of (taken ++ refused) ++ rest) (joined (answers_to log taken ++ last))
 walked_text log taken refused rest last is = record {
   messages = messages_of taken;
   ending = is.ending;
@@ -76,7 +76,7 @@ one_behind before t rest =
     ∙ ap (λ (x : List ℕ). x ++ (text_in t ++ rest)) (texts_are before)
 
 broken_text : (log : List Command) (taken refused : List Turn) (rest : List ℕ) (last : List (List ℕ))
-    → IsBroken taken refused last
+    → IsBrokenOff taken refused last
     → AnswersBroken log (texts_of (taken ++ refused) ++ rest) (joined (answers_to log taken ++ last))
 broken_text log taken refused rest last is = record {
   before = messages_of taken;
@@ -131,8 +131,8 @@ settled taken refused rest last is always more log text a =
           ∙ ap (λ (e : Ending). joined (answers_behind log (messages_of taken) ++ final_answer e)) one.1;
     }
 
-one_text_of : (log : List Command) (input text other : List ℕ) → Answers log input text
-    → Answers log input other → text ≡ other
+one_text_of : (log : List Command) (input text other : List ℕ) → AnswersInput log input text
+    → AnswersInput log input other → text ≡ other
 one_text_of log input text other a b =
     let one = walk_unique input a.messages b.messages a.ending b.ending a.walks b.walks in
     a.text_is ∙ ap (λ (ms : List Message). joined (answers_behind log ms ++ final_answer a.ending)) one.0
@@ -148,7 +148,7 @@ one_front_of log input text other a b =
 -- the text that the result speaks of
 text_for : {C : Type 0} (seen : C → Seen) {r r' : Option (List ℕ)} {q q' : Option (List ReadTold)}
     {w w' k k' : Option (List ℕ)} (old new : C) (result : Result ℕ ServeFault)
-    (s : Serves seen r r' q q' w w' k k' old new result) (log : List Command)
+    (s : ServesConnection seen r r' q q' w w' k k' old new result) (log : List Command)
     → IsTextFor result log (texts_of (s.taken ++ s.refused) ++ s.rest)
     (joined (answers_to log s.taken ++ s.last))
 text_for seen old new (Ok count) s log = walked_text log s.taken s.refused s.rest s.last s.exits.0
@@ -180,7 +180,7 @@ text_for seen old new (Err Memory) s log =
 
 -- what was written of it
 written_for : (result : Result ℕ ServeFault) (w w' : Option (List ℕ)) (written text : List ℕ)
-    → Appends w w' written → IsWritten result written text → Writes result w w' text
+    → Appends w w' written → AnswersAreWritten result written text → WritesAnswers result w w' text
 written_for (Ok count) w w' written text wrote is = subst (λ (x : List ℕ). Appends w w' x) is wrote
 written_for (Err Read) w w' written text wrote is = subst (λ (x : List ℕ). Appends w w' x) is wrote
 written_for (Err Write) w w' written text wrote is =
@@ -190,7 +190,7 @@ written_for (Err Memory) w w' written text wrote is = subst (λ (x : List ℕ). 
 
 ended_for : {C : Type 0} (seen : C → Seen) {r r' : Option (List ℕ)} {q q' : Option (List ReadTold)}
     {w w' k k' : Option (List ℕ)} (old new : C) (result : Result ℕ ServeFault)
-    (s : Serves seen r r' q q' w w' k k' old new result)
+    (s : ServesConnection seen r r' q q' w w' k k' old new result)
     → OnOk result (HasEnded r' q q' ⊎ IsSettled (texts_of (s.taken ++ s.refused) ++ s.rest))
 ended_for seen old new (Ok count) s =
     elim (s.exits.0.ended) [
@@ -201,7 +201,7 @@ ended_for seen old new (Err fault) s = tt
 
 pub output_of : {C : Type 0} (seen : C → Seen) {r r' : Option (List ℕ)} {q q' : Option (List ReadTold)}
     {w w' k k' : Option (List ℕ)} (old new : C) (result : Result ℕ ServeFault)
-    → Serves seen r r' q q' w w' k k' old new result → Outputs r r' q q' w w' (seen old) (seen new) result
+    → ServesConnection seen r r' q q' w w' k k' old new result → OutputsAnswers r r' q q' w w' (seen old) (seen new) result
 output_of seen {w = w} {w' = w'} old new result s =
     let input = texts_of (s.taken ++ s.refused) ++ s.rest in
     record {
@@ -229,7 +229,7 @@ commands_of_first n ts =
 
 pub survives_of : {C : Type 0} (seen : C → Seen) {r r' : Option (List ℕ)} {q q' : Option (List ReadTold)}
     {w w' k k' : Option (List ℕ)} (old new : C) (result : Result ℕ ServeFault)
-    → Serves seen r r' q q' w w' k k' old new result → Survives r r' w w' (seen old) (seen new)
+    → ServesConnection seen r r' q q' w w' k k' old new result → SurvivesServing r r' w w' (seen old) (seen new)
 survives_of seen old new result s = record {
   taken = s.taken;
   refused = s.refused;

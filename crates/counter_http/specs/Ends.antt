@@ -1,7 +1,7 @@
 -- What the ends of a connection told: the reader from r to r', and the writer from w to w'.
 use Rattle.std.specs.Prelude.{ℕ, List, [], Option, Bool, true, false, Result, Ok, Err}
 use Rattle.std.specs.Io.KnownBytes.{IsAtEnd}
-use Rattle.posting_core.specs.Told.{ReadTold, WriteTold, Adds, EndsWith, HasMore, HasReadFailed}
+use Rattle.posting_core.specs.Told.{ReadTold, WriteTold, GrowsBy, EndsWith, HasMore, HasReadFailed}
 use Rattle.posting_core.specs.Told.{HasWriteFailed, IsEndOfInput, IsFlush, IsThrough}
 use Rattle.counter_http.specs.declared.fault.ServeFault.{ServeFault}
 use Rattle.counter_http.specs.declared.fault.ServeFault.TheVariants.{Read, Write, Bank, Memory}
@@ -33,10 +33,10 @@ SendsAs (Err Memory) w w' = ⊥
 
 -- a fault of an end comes where that end failed; every answer was flushed, wherever the writer didn't fail;
 -- neither was asked for anything where memory was refused
-abbrev pub EndsAs : Result ℕ ServeFault → Option (List ReadTold) → Option (List ReadTold)
+abbrev pub ServeFaultIsOfItsEnd : Result ℕ ServeFault → Option (List ReadTold) → Option (List ReadTold)
     → Option (List WriteTold) → Option (List WriteTold) → Type 0
-EndsAs (Ok count) r r' w w' = IsThrough w w'
-EndsAs (Err Read) r r' w w' = HasReadFailed r r' × IsThrough w w'
-EndsAs (Err Write) r r' w w' = HasWriteFailed w w'
-EndsAs (Err (Bank fault)) r r' w w' = EndsWith IsFlush w w'
-EndsAs (Err Memory) r r' w w' = Adds r r' [] × Adds w w' []
+ServeFaultIsOfItsEnd (Ok count) r r' w w' = IsThrough w w'
+ServeFaultIsOfItsEnd (Err Read) r r' w w' = HasReadFailed r r' × IsThrough w w'
+ServeFaultIsOfItsEnd (Err Write) r r' w w' = HasWriteFailed w w'
+ServeFaultIsOfItsEnd (Err (Bank fault)) r r' w w' = EndsWith IsFlush w w'
+ServeFaultIsOfItsEnd (Err Memory) r r' w w' = GrowsBy r r' [] × GrowsBy w w' []

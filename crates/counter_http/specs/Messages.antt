@@ -53,11 +53,11 @@ LacksBody None behind = ⊤
 LacksBody (Some n) behind = length behind < n
 
 -- the walk ends so, with what remains
-abbrev pub Ends : Ending → List ℕ → Type 0
-Ends Finished rest = rest ≡ []
-Ends Closed rest = ⊥
-Ends No_head rest = (rest ≢ []) × BeginsWithNoHead rest
-Ends (No_body h) rest =
+abbrev pub EndsWalk : Ending → List ℕ → Type 0
+EndsWalk Finished rest = rest ≡ []
+EndsWalk Closed rest = ⊥
+EndsWalk No_head rest = (rest ≢ []) × BeginsWithNoHead rest
+EndsWalk (No_body h) rest =
     IsHead h
     × ((behind : List ℕ) × (rest ≡ print_request h ++ behind)
     × LacksBody (body_length (named_values h)) behind)
@@ -65,7 +65,7 @@ Ends (No_body h) rest =
 -- the input is these messages, and then the walk ends so: after a message that closes the connection,
 -- whatever follows
 abbrev pub Walks : List ℕ → List Message → Ending → Type 0
-Walks input [] ending = Ends ending input
+Walks input [] ending = EndsWalk ending input
 Walks input (m ∷ ms) ending =
     IsMessage m
     × ((rest : List ℕ) × (input ≡ message_text m ++ rest)
@@ -74,4 +74,4 @@ Walks input (m ∷ ms) ending =
 
 -- whatever bytes follow
 abbrev pub AlwaysEnds : Ending → List ℕ → Type 0
-AlwaysEnds ending rest = (more : List ℕ) → Ends ending (rest ++ more)
+AlwaysEnds ending rest = (more : List ℕ) → EndsWalk ending (rest ++ more)

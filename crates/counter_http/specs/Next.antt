@@ -5,7 +5,7 @@ use Rattle.counter_http.specs.declared.next.Next.{Next}
 use Rattle.counter_http.specs.declared.next.Next.TheVariants as next
 use Rattle.counter_http.specs.declared.limits.TheConstants.{BUFFER}
 use Rattle.counter_http.specs.Answers.{Asked, asked_by, refusal, final_answer}
-use Rattle.counter_http.specs.Messages.{Message, message_text, IsMessage, Ending, Ends, AlwaysEnds}
+use Rattle.counter_http.specs.Messages.{Message, message_text, IsMessage, Ending, EndsWalk, AlwaysEnds}
 
 -- what the parts of a message ask for
 abbrev pub asked : Whole → Asked
@@ -22,7 +22,7 @@ pub record IsWhole (buf : List ℕ) (w : Whole) : Type 0 where
 -- no message is there yet, and an input that ended here would end so
 pub record IsUnfinished (buf : List ℕ) (shown : Bool) : Type 0 where
   pub ending : Ending
-  pub ends : buf ≢ [] → Ends ending buf
+  pub ends : buf ≢ [] → EndsWalk ending buf
   pub told : final_answer ending ≡ refusal shown ∷ []
   pub room : length buf < BUFFER
 
@@ -32,7 +32,7 @@ pub record IsHopeless (buf : List ℕ) (shown : Bool) : Type 0 where
   pub ends : AlwaysEnds ending buf
   pub told : final_answer ending ≡ refusal shown ∷ []
 
-abbrev pub IsNext : List ℕ → Next → Type 0
-IsNext buf (next.Message w) = IsWhole buf w
-IsNext buf (next.Unfinished shown) = IsUnfinished buf shown
-IsNext buf (next.Refused shown) = IsHopeless buf shown
+abbrev pub IsNextMessage : List ℕ → Next → Type 0
+IsNextMessage buf (next.Message w) = IsWhole buf w
+IsNextMessage buf (next.Unfinished shown) = IsUnfinished buf shown
+IsNextMessage buf (next.Refused shown) = IsHopeless buf shown

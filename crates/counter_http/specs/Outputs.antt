@@ -15,7 +15,7 @@ use Rattle.counter_http.specs.Ends.{HasEnded}
 use Rattle.counter_http.specs.Messages.{Message, message_text, IsMessage, Ending, Walks}
 use Rattle.counter_http.specs.Answers.{asked_by, unavailable, final_answer}
 use Rattle.counter_http.specs.Turns.{Turn, commands_of, texts_of, answers_to}
-use Rattle.counter_http.specs.Serving.{GoesOn, BeginsWithNoMessage}
+use Rattle.counter_http.specs.Serving.{KeepsConnection, BeginsWithNoMessage}
 
 -- the bytes of messages
 abbrev pub texts_of_all : List Message → List ℕ
@@ -31,7 +31,7 @@ answers_behind log ms = answers_to log (map at_no_moment ms)
 -- ---- texts behind a log
 
 -- the walk over the input gives this text
-pub record Answers (log : List Command) (input text : List ℕ) : Type 0 where
+pub record AnswersInput (log : List Command) (input text : List ℕ) : Type 0 where
   pub messages : List Message
   pub ending : Ending
   pub walks : Walks input messages ending
@@ -42,7 +42,7 @@ pub record AnswersWhole (log : List Command) (input text : List ℕ) : Type 0 wh
   pub messages : List Message
   pub rest : List ℕ
   pub input_is : input ≡ texts_of_all messages ++ rest
-  pub stays : AllByRecursion GoesOn messages
+  pub stays : AllByRecursion KeepsConnection messages
   pub no_more : BeginsWithNoMessage rest
   pub text_is : text ≡ joined (answers_behind log messages)
 
@@ -50,7 +50,7 @@ pub record AnswersWhole (log : List Command) (input text : List ℕ) : Type 0 wh
 pub record BeginsWith (input : List ℕ) (before : List Message) (message : Message) : Type 0 where
   pub rest : List ℕ
   pub input_is : input ≡ texts_of_all before ++ (message_text message ++ rest)
-  pub stays : AllByRecursion GoesOn before
+  pub stays : AllByRecursion KeepsConnection before
   pub whole : IsMessage message
 
 -- its first messages have these answers
@@ -71,36 +71,36 @@ pub record AnswersBroken (log : List Command) (input text : List ℕ) : Type 0 w
 
 -- which text it is, by the result
 abbrev pub IsTextFor : Result ℕ ServeFault → List Command → (input text : List ℕ) → Type 0
-IsTextFor (Ok count) log input text = Answers log input text
+IsTextFor (Ok count) log input text = AnswersInput log input text
 IsTextFor (Err Read) log input text = AnswersWhole log input text
 IsTextFor (Err Write) log input text =
-    Answers log input text ⊎ (AnswersFirst log input text ⊎ AnswersBroken log input text)
+    AnswersInput log input text ⊎ (AnswersFirst log input text ⊎ AnswersBroken log input text)
 IsTextFor (Err (Bank fault)) log input text = AnswersBroken log input text
 IsTextFor (Err Memory) log input text = (input ≡ []) × (text ≡ [])
 
 -- all of the text was written, or a beginning of it where the writer failed
-abbrev pub Writes : Result ℕ ServeFault → (w w' : Option (List ℕ)) → List ℕ → Type 0
-Writes (Err Write) w w' text = (n : ℕ) × Appends w w' (take n text)
-Writes _ w w' text = Appends w w' text
+abbrev pub WritesAnswers : Result ℕ ServeFault → (w w' : Option (List ℕ)) → List ℕ → Type 0
+WritesAnswers (Err Write) w w' text = (n : ℕ) × Appends w w' (take n text)
+WritesAnswers _ w w' text = Appends w w' text
 
 -- what follows doesn't change the answers to an input
 abbrev pub IsSettled : List ℕ → Type 0
 IsSettled input =
-    (more : List ℕ) (log : List Command) (text : List ℕ) → Answers log input text
-    → Answers log (input ++ more) text
+    (more : List ℕ) (log : List Command) (text : List ℕ) → AnswersInput log input text
+    → AnswersInput log (input ++ more) text
 
 -- what the reads told is q before and q' after
-pub record Outputs (r r' : Option (List ℕ)) (q q' : Option (List ReadTold)) (w w' : Option (List ℕ))
+pub record OutputsAnswers (r r' : Option (List ℕ)) (q q' : Option (List ReadTold)) (w w' : Option (List ℕ))
     (c c' : Seen) (result : Result ℕ ServeFault) : Type 0 where
   pub input : List ℕ
   pub read : Consumes r r' input
   pub writes : c'.honest → (log : List Command) → ShowsLog c log
-      → (text : List ℕ) × IsTextFor result log input text × Writes result w w' text
+      → (text : List ℕ) × IsTextFor result log input text × WritesAnswers result w w' text
   -- the input ended, or what follows it changes nothing
   pub ended : OnOk result (HasEnded r' q q' ⊎ IsSettled input)
   -- an input has one text of either kind
   pub one_text : (log : List Command) (text other : List ℕ)
-      → Answers log input text → Answers log input other → text ≡ other
+      → AnswersInput log input text → AnswersInput log input other → text ≡ other
   pub one_front : (log : List Command) (text other : List ℕ)
       → AnswersWhole log input text → AnswersWhole log input other → text ≡ other
 
@@ -113,7 +113,7 @@ acknowledged_records log turns n = length (commands_of (take (acknowledged (answ
 
 -- everything that a stop may leave shows the log and a beginning of what was submitted, which holds all
 -- records that were acknowledged
-pub record Survives (r r' w w' : Option (List ℕ)) (c c' : Seen) : Type 0 where
+pub record SurvivesServing (r r' w w' : Option (List ℕ)) (c c' : Seen) : Type 0 where
   -- the messages that the bank took, the one that it refused, and what was read behind them
   pub taken : List Turn
   pub refused : List Turn

@@ -20,7 +20,7 @@ use Rattle.counter_http.specs.Answers.{asked_by, unavailable, final_answer}
 use Rattle.counter_http.specs.Turns.{Turn, commands_of, moments_of, messages_of, texts_of, answers_to}
 
 -- a message is whole, and the connection goes on after it
-pub record GoesOn (m : Message) : Type 0 where
+pub record KeepsConnection (m : Message) : Type 0 where
   pub whole : IsMessage m
   pub stays : closes m.head ≡ false
 
@@ -42,7 +42,7 @@ pub record IsWalked (has_ended : Type 0) (taken refused : List Turn) (rest : Lis
 
 -- the whole messages that were read were answered
 pub record IsCutOff (taken refused : List Turn) (rest : List ℕ) (last : List (List ℕ)) : Type 0 where
-  pub stays : AllByRecursion (λ t. GoesOn t.message) taken
+  pub stays : AllByRecursion (λ t. KeepsConnection t.message) taken
   pub no_more : BeginsWithNoMessage rest
   pub none_refused : refused ≡ []
   pub nothing : last ≡ []
@@ -52,14 +52,14 @@ pub record IsAtMessage (taken refused : List Turn) (last : List (List ℕ)) : Ty
   pub before : List Turn
   pub turn : Turn
   pub taken_is : taken ≡ before ++ turn ∷ []
-  pub stays : AllByRecursion (λ t. GoesOn t.message) before
+  pub stays : AllByRecursion (λ t. KeepsConnection t.message) before
   pub whole : IsMessage turn.message
   pub none_refused : refused ≡ []
   pub nothing : last ≡ []
 
 -- the bank refused one message, whose answer is a 503
-pub record IsBroken (taken refused : List Turn) (last : List (List ℕ)) : Type 0 where
-  pub stays : AllByRecursion (λ t. GoesOn t.message) taken
+pub record IsBrokenOff (taken refused : List Turn) (last : List (List ℕ)) : Type 0 where
+  pub stays : AllByRecursion (λ t. KeepsConnection t.message) taken
   pub turn : Turn
   pub whole : IsMessage turn.message
   pub refused_is : refused ≡ turn ∷ []
@@ -84,7 +84,7 @@ pub data IsUnwritten {C : Type 0} (seen : C → Seen) (has_ended : Type 0) (stoo
   At_last : IsWalked has_ended taken refused rest last → new ≡ stood
       → IsUnwritten seen has_ended stood new taken refused rest last
   -- the 503 to a message that the bank refused
-  At_refusal : IsBroken taken refused last → (fault : Fault)
+  At_refusal : IsBrokenOff taken refused last → (fault : Fault)
       → Refuses fault (seen stood) (seen new) (commands_of refused)
       → IsUnwritten seen has_ended stood new taken refused rest last
 
@@ -98,18 +98,18 @@ Exits seen (Err Read) has_ended old stood new taken refused rest last =
 Exits seen (Err Write) has_ended old stood new taken refused rest last =
     IsUnwritten seen has_ended stood new taken refused rest last
 Exits seen (Err (Bank fault)) has_ended old stood new taken refused rest last =
-    IsBroken taken refused last × Refuses fault (seen stood) (seen new) (commands_of refused)
+    IsBrokenOff taken refused last × Refuses fault (seen stood) (seen new) (commands_of refused)
 Exits seen (Err Memory) has_ended old stood new taken refused rest last =
     IsUntouched taken refused rest last × (new ≡ old)
 
 -- what was written of the answers: a beginning where the writer failed, and all of them elsewhere
-abbrev pub IsWritten : Result ℕ ServeFault → List ℕ → List ℕ → Type 0
-IsWritten (Err Write) written text = written ≡ take (length written) text
-IsWritten _ written text = written ≡ text
+abbrev pub AnswersAreWritten : Result ℕ ServeFault → List ℕ → List ℕ → Type 0
+AnswersAreWritten (Err Write) written text = written ≡ take (length written) text
+AnswersAreWritten _ written text = written ≡ text
 
 -- ---- what a call did, whatever its result
 
-pub record Serves {C : Type 0} (seen : C → Seen) (r r' : Option (List ℕ)) (q q' : Option (List ReadTold))
+pub record ServesConnection {C : Type 0} (seen : C → Seen) (r r' : Option (List ℕ)) (q q' : Option (List ReadTold))
     (w w' k k' : Option (List ℕ)) (old new : C) (result : Result ℕ ServeFault) : Type 0 where
   -- the messages that the bank took, the one that it refused, what was read behind them, and the answer to
   -- what is no message or was refused
@@ -131,7 +131,7 @@ pub record Serves {C : Type 0} (seen : C → Seen) (r r' : Option (List ℕ)) (q
   pub exits : Exits seen result (HasEnded r' q q') old stood new taken refused rest last
   -- the answers are those to what the bank took
   pub answers : (seen new).honest → (log : List Command) → ShowsLog (seen old) log
-      → IsWritten result written (joined (answers_to log taken ++ last))
+      → AnswersAreWritten result written (joined (answers_to log taken ++ last))
   -- a stop leaves all that it took
   pub stop : (seen new).honest → (log : List Command) → StandsAt (seen old) log
       → LeavesOnly (seen new)

@@ -8,7 +8,7 @@ use Rattle.counter_http.specs.declared.telling.Response.{Response}
 use Rattle.counter_http.specs.Answers.{Answer, status_words, allow_line, close_line}
 
 -- a beginning of the text was written, and where the writer took all of it so far, the rest is held
-pub record IsTold (before after : Option (List ℕ)) (going : Bool) (held text : List ℕ) : Type 0 where
+pub record IsWrittenOrHeld (before after : Option (List ℕ)) (going : Bool) (held text : List ℕ) : Type 0 where
   pub written : List ℕ
   pub wrote : Appends before after written
   pub begins : written ≡ take (length written) text

@@ -81,7 +81,7 @@ pub record AreAnswered (w w' k k' : Option (List ℕ)) (c c' : Seen) (turns : Li
 -- ---- what became of one message
 
 -- the bank took its command, and its answer was written
-pub record IsAnswered (w w' : Option (List ℕ)) (c c' : Seen) (asked : Asked) (commands : List Command)
+pub record TurnIsAnswered (w w' : Option (List ℕ)) (c c' : Seen) (asked : Asked) (commands : List Command)
     : Type 0 where
   pub written : List ℕ
   pub wrote : Appends w w' written
@@ -111,7 +111,7 @@ pub record IsRefusedAt {C : Type 0} (seen : C → Seen) (old new : C) (fault : F
   pub refuses : Refuses fault (seen stood) (seen new) commands
 
 -- the bank refused it, and a 503 was written
-pub record IsRefused {C : Type 0} (seen : C → Seen) (w w' : Option (List ℕ)) (old new : C) (fault : Fault)
+pub record IsTurnedAway {C : Type 0} (seen : C → Seen) (w w' : Option (List ℕ)) (old new : C) (fault : Fault)
     (asked : Asked) (commands : List Command) : Type 0 where
   pub wrote : Appends w w' (unavailable asked)
   pub refused : IsRefusedAt seen old new fault commands
@@ -131,7 +131,7 @@ abbrev pub BreaksOff : {C : Type 0} → (C → Seen) → ServeFault → (w w' : 
 BreaksOff seen Write w w' old new asked commands =
     IsAnsweredInPart w w' (seen old) (seen new) asked commands
     ⊎ IsRefusedInPart seen w w' old new asked commands
-BreaksOff seen (Bank fault) w w' old new asked commands = IsRefused seen w w' old new fault asked commands
+BreaksOff seen (Bank fault) w w' old new asked commands = IsTurnedAway seen w w' old new fault asked commands
 BreaksOff seen Read w w' old new asked commands = ⊥
 BreaksOff seen Memory w w' old new asked commands = ⊥
 
@@ -146,7 +146,7 @@ IsTellingOf fault Memory n text = ⊥
 abbrev pub IsDealtWith : {C : Type 0} → (C → Seen) → (w w' : Option (List ℕ)) → (old new : C) → Asked
     → List Command → Result (Unit {0}) ServeFault → Type 0
 IsDealtWith seen w w' old new asked commands result =
-    MatchResult result (λ _. IsAnswered w w' (seen old) (seen new) asked commands)
+    MatchResult result (λ _. TurnIsAnswered w w' (seen old) (seen new) asked commands)
     (λ fault. BreaksOff seen fault w w' old new asked commands)
 
 -- so much of a text was written, and all of it where the result is none of a fault

@@ -2,7 +2,7 @@
 ghost use Rattle.std.specs.Prelude.{◌≡◌, ◌≤◌, ◌<◌, ◌-◌, ◌==◌, ℕ, List, All, length, map, take, drop};
 ghost use Rattle.std.specs.Prelude.{bytes_eq, codes};
 ghost use Rattle.httparse.specs.Spans.{IsRequestWithin, IsRequestOf};
-ghost use Rattle.counter_http.specs.Next.{IsNext};
+ghost use Rattle.counter_http.specs.Next.{IsNextMessage};
 
 use crate::fields::{ask_to_close, length_of_body};
 use crate::limits::{MAX_FIELDS, MAX_HEAD};
@@ -34,7 +34,7 @@ pub(crate) enum Next<'b> {
 
 /// What stands at the front of what was read.
 pub(crate) fn next_message<'b>(buf: &'b [u8]) -> Next<'b>
-    ensures { IsNext buf.now result }
+    ensures { IsNextMessage buf.now result }
 {
     if buf.is_empty() {
         return Next::Unfinished(true);
@@ -60,7 +60,7 @@ fn behind_head<'b>(buf: &'b [u8], head: RequestSpans, fields: &[HeaderSpan]) -> 
     requires head { IsRequestOf buf.now fields.now head }
     requires room { length fields.now ≡ MAX_FIELDS }
     requires bytes { head.len ≤ MAX_HEAD }
-    ensures { IsNext buf.now result }
+    ensures { IsNextMessage buf.now result }
 {
     let method = head.method.of(buf);
     let fields = &fields[..head.headers];

@@ -1,8 +1,8 @@
 //! A connection, from its first byte to its last answer.
 ghost use Rattle.std.specs.Prelude.{◌≡◌, ◌≤◌, ◌-◌, length, take, drop};
-ghost use Rattle.counter_http.specs.Ends.{EndsAs};
-ghost use Rattle.counter_http.specs.Outputs.{Outputs, Survives};
-ghost use Rattle.counter_http.specs.Serving.{Serves};
+ghost use Rattle.counter_http.specs.Ends.{ServeFaultIsOfItsEnd};
+ghost use Rattle.counter_http.specs.Outputs.{OutputsAnswers, SurvivesServing};
+ghost use Rattle.counter_http.specs.Serving.{ServesConnection};
 
 use crate::answers::{answer_message, refuse};
 use crate::fault::ServeFault;
@@ -37,10 +37,10 @@ fn serve<R: Source, W: Sink, K: Clock, C: Counter>(
     buffer: &mut [u8],
 ) -> Result<Served, ServeFault>
     requires { length buffer.old ≡ BUFFER }
-    ensures served { Serves C.seen (R.remaining reader.old) (R.remaining reader.new)
+    ensures served { ServesConnection C.seen (R.remaining reader.old) (R.remaining reader.new)
         (R.told reader.old) (R.told reader.new) (W.contents writer.old) (W.contents writer.new)
         (K.readings clock.old) (K.readings clock.new) bank.old bank.new result }
-    ensures ends { EndsAs result (R.told reader.old) (R.told reader.new)
+    ensures ends { ServeFaultIsOfItsEnd result (R.told reader.old) (R.told reader.new)
         (W.told writer.old) (W.told writer.new) }
 {
     let mut filled = 0;
@@ -98,16 +98,16 @@ pub fn serve_connection<R: Source, W: Sink, K: Clock, C: Counter>(
     clock: &mut K,
     bank: &mut C,
 ) -> Result<Served, ServeFault>
-    ensures served { Serves C.seen (R.remaining reader.old) (R.remaining reader.new)
+    ensures served { ServesConnection C.seen (R.remaining reader.old) (R.remaining reader.new)
         (R.told reader.old) (R.told reader.new) (W.contents writer.old) (W.contents writer.new)
         (K.readings clock.old) (K.readings clock.new) bank.old bank.new result }
-    ensures output { Outputs (R.remaining reader.old) (R.remaining reader.new)
+    ensures output { OutputsAnswers (R.remaining reader.old) (R.remaining reader.new)
         (R.told reader.old) (R.told reader.new) (W.contents writer.old) (W.contents writer.new)
         (C.seen bank.old) (C.seen bank.new) result }
-    ensures stop { Survives (R.remaining reader.old) (R.remaining reader.new) (W.contents writer.old)
+    ensures stop { SurvivesServing (R.remaining reader.old) (R.remaining reader.new) (W.contents writer.old)
         (W.contents writer.new)
         (C.seen bank.old) (C.seen bank.new) }
-    ensures ends { EndsAs result (R.told reader.old) (R.told reader.new)
+    ensures ends { ServeFaultIsOfItsEnd result (R.told reader.old) (R.told reader.new)
         (W.told writer.old) (W.told writer.new) }
     ensures honest { (C.seen bank.new).honest → (C.seen bank.old).honest }
 {

@@ -4,7 +4,7 @@ ghost use Rattle.std.specs.Io.KnownBytes.{Appends};
 ghost use Rattle.posting_core.specs.Told.{WriteTold};
 ghost use Rattle.counter_http.specs.Answers.{answer_text};
 ghost use Rattle.counter_http.specs.Ends.{HasSent, HasTaken};
-ghost use Rattle.counter_http.specs.Telling.{IsTold, said, first_lines, last_lines};
+ghost use Rattle.counter_http.specs.Telling.{IsWrittenOrHeld, said, first_lines, last_lines};
 
 use arrayvec::ArrayVec;
 use http::StatusCode;
@@ -27,9 +27,9 @@ pub(crate) struct Response<'a> {
 // Tells more of a text, where the writer took all of it so far, and answers whether it still does. What has
 // no room is written at once, behind what was held.
 fn put<W: Sink>(writer: &mut W, held: &mut ArrayVec<u8, HELD>, going: bool, bytes: &[u8]) -> bool
-    ensures text { (before : Option (List ℕ)) (text : List ℕ) → IsTold before
+    ensures text { (before : Option (List ℕ)) (text : List ℕ) → IsWrittenOrHeld before
         (W.contents writer.old) going held.old.items text
-        → IsTold before (W.contents writer.new) result held.new.items (text ++ bytes.now) }
+        → IsWrittenOrHeld before (W.contents writer.new) result held.new.items (text ++ bytes.now) }
     ensures ends { (before : Option (List WriteTold)) → HasTaken going before (W.told writer.old)
         → HasTaken result before (W.told writer.new) }
 {
@@ -53,7 +53,7 @@ fn put_first<W: Sink>(
     response: &Response<'_>,
 ) -> bool
     requires { held.old.items ≡ [] }
-    ensures text { IsTold (W.contents writer.old) (W.contents writer.new) result held.new.items (first_lines
+    ensures text { IsWrittenOrHeld (W.contents writer.old) (W.contents writer.new) result held.new.items (first_lines
         (said response.now)) }
     ensures ends { HasTaken result (W.told writer.old) (W.told writer.new) }
 {
@@ -75,9 +75,9 @@ fn put_last<W: Sink>(
     response: &Response<'_>,
     closes: bool,
 ) -> bool
-    ensures text { (before : Option (List ℕ)) (text : List ℕ) → IsTold before
+    ensures text { (before : Option (List ℕ)) (text : List ℕ) → IsWrittenOrHeld before
         (W.contents writer.old) going held.old.items text
-        → IsTold before (W.contents writer.new) result held.new.items (text
+        → IsWrittenOrHeld before (W.contents writer.new) result held.new.items (text
         ++ last_lines (said response.now) closes) }
     ensures ends { (before : Option (List WriteTold)) → HasTaken going before (W.told writer.old)
         → HasTaken result before (W.told writer.new) }
@@ -101,7 +101,7 @@ fn put_last<W: Sink>(
 
 // Sends what is held, where the writer took all before it, and flushes it.
 fn send<W: Sink>(writer: &mut W, held: &ArrayVec<u8, HELD>, going: bool) -> Result<(), WriteFailed>
-    ensures text { (before : Option (List ℕ)) (text : List ℕ) → IsTold before
+    ensures text { (before : Option (List ℕ)) (text : List ℕ) → IsWrittenOrHeld before
         (W.contents writer.old) going held.now.items text
         → (n : ℕ) × Appends before (W.contents writer.new) (take n text) × OnOk result (n ≡ length text) }
     ensures ends { (before : Option (List WriteTold)) → HasTaken going before (W.told writer.old)

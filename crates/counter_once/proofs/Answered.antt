@@ -8,14 +8,14 @@ use Rattle.posting_rules.specs.declared.fault.Fault.TheVariants.{Memory, Store, 
 use Rattle.posting_core.specs.declared.plain_bank.PlainBank.{PlainBank}
 use Rattle.posting_core.specs.Plain.{plain_seen}
 use Rattle.posting_rules.specs.Commands.{Command, Open, AreCommands}
-use Rattle.posting_rules.specs.Tables.{Tables, Shows}
+use Rattle.posting_rules.specs.Tables.{Tables, AreTablesOf}
 use Rattle.posting_rules.specs.Counter.{Seen, ShowsLog, Refuses}
 use Rattle.posting_core.specs.Once as once
-use Rattle.counter_once.specs.First.{two_branches, IsAnswered, Leaves}
+use Rattle.counter_once.specs.First.{two_branches, FirstIsAnswered, FirstLeaves}
 
 pub answered : {T : Type 0} (result : Result T OnceFault) (r r' w w' : Option (List ℕ)) (c c' : Seen)
     (moment : ℕ) → c'.honest → ShowsLog c two_branches
-    → OnOk result (once.IsAnswered r r' w w' c c' moment) → OnOk result (IsAnswered r r' w w')
+    → OnOk result (once.IsAnswered r r' w w' c c' moment) → OnOk result (FirstIsAnswered r r' w w')
 answered (Ok x) r r' w w' c c' moment honest shows a =
     record { bytes = a.bytes; whole = a.whole; read = a.read; written = a.written honest two_branches shows }
 answered (Err fault) r r' w w' c c' moment honest shows a = tt
@@ -30,7 +30,7 @@ only_memory (Damaged rule) a b cs u = absurd u.down
 
 left : (fault : OnceFault) (r r' w w' : Option (List ℕ)) (a b : PlainBank) (moment : ℕ)
     → ShowsLog (plain_seen a) two_branches
-    → once.Leaves fault r r' w w' (plain_seen a) (plain_seen b) moment → Leaves fault r r' w w'
+    → once.Leaves fault r r' w w' (plain_seen a) (plain_seen b) moment → FirstLeaves fault r r' w w'
 left Short r r' w w' a b moment shows x = record {
   bytes = x.bytes;
   few = x.few;
@@ -55,7 +55,7 @@ left (Bank fault) r r' w w' a b moment shows x = record {
 pub faulted : {T : Type 0} (result : Result T OnceFault) (r r' w w' : Option (List ℕ)) (a b : PlainBank)
     (moment : ℕ) → ShowsLog (plain_seen a) two_branches
     → IfErr result (λ fault. once.Leaves fault r r' w w' (plain_seen a) (plain_seen b) moment)
-    → IfErr result (λ fault. Leaves fault r r' w w')
+    → IfErr result (λ fault. FirstLeaves fault r r' w w')
 faulted (Ok x) r r' w w' a b moment shows left_so = tt
 faulted {T} (Err fault) r r' w w' a b moment shows left_so = left fault r r' w w' a b moment shows left_so
 
@@ -66,7 +66,7 @@ two_are_commands = (
 )
 
 -- the two branches by their numbers
-pub numbered : (t : Tables) (one two : ℕ) → one ≡ 1 → two ≡ 2 → Shows t (Open two 2 ∷ Open one 3 ∷ [])
-    → Shows t two_branches
+pub numbered : (t : Tables) (one two : ℕ) → one ≡ 1 → two ≡ 2 → AreTablesOf t (Open two 2 ∷ Open one 3 ∷ [])
+    → AreTablesOf t two_branches
 numbered t one two e f s = let log : Open two 2 ∷ Open one 3 ∷ [] ≡ two_branches = rw (e, f) refl in subst
-    (λ (l : List Command). Shows t l) log s
+    (λ (l : List Command). AreTablesOf t l) log s

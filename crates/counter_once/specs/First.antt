@@ -16,7 +16,7 @@ two_branches = Open 2 2 ∷ Open 1 3 ∷ []
 -- The reader's known bytes before and after are r and r', the writer's w and w'.
 
 -- 100 bytes are read, and the reply to them is written
-pub record IsAnswered (r r' w w' : Option (List ℕ)) : Type 0 where
+pub record FirstIsAnswered (r r' w w' : Option (List ℕ)) : Type 0 where
   pub bytes : List ℕ
   pub whole : length bytes ≡ 100
   pub read : Consumes r r' bytes
@@ -39,13 +39,13 @@ pub record IsCutOff (r r' w w' : Option (List ℕ)) : Type 0 where
   pub written : Appends w w' (take count (reply_spelling (reply two_branches bytes)))
 
 -- memory was refused to the bank, and nothing is written
-pub record IsRefused (fault : Fault) (w w' : Option (List ℕ)) : Type 0 where
+pub record LacksMemory (fault : Fault) (w w' : Option (List ℕ)) : Type 0 where
   pub memory : fault ≡ Memory
   pub written : Keeps w w'
 
 -- what each fault leaves
-abbrev pub Leaves : OnceFault → Option (List ℕ) → Option (List ℕ) → Option (List ℕ) → Option (List ℕ) → Type 0
-Leaves Short r r' w w' = EndsShort r r' w w'
-Leaves Read r r' w w' = Keeps w w'
-Leaves Write r r' w w' = IsCutOff r r' w w'
-Leaves (Bank fault) r r' w w' = IsRefused fault w w'
+abbrev pub FirstLeaves : OnceFault → Option (List ℕ) → Option (List ℕ) → Option (List ℕ) → Option (List ℕ) → Type 0
+FirstLeaves Short r r' w w' = EndsShort r r' w w'
+FirstLeaves Read r r' w w' = Keeps w w'
+FirstLeaves Write r r' w w' = IsCutOff r r' w w'
+FirstLeaves (Bank fault) r r' w w' = LacksMemory fault w w'

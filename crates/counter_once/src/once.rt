@@ -2,10 +2,10 @@
 ghost use Rattle.std.specs.Prelude.{◌≡◌, OnOk, IfErr, IfOk};
 ghost use Rattle.std.specs.Result.{IsErrOf};
 ghost use Rattle.posting_rules.specs.declared.fault.Fault.TheVariants.{Memory};
-ghost use Rattle.posting_rules.specs.Tables.{Shows};
+ghost use Rattle.posting_rules.specs.Tables.{AreTablesOf};
 ghost use Rattle.posting_core.specs.Plain.{plain_tables};
 ghost use Rattle.posting_core.specs.Told.{EndsWith, HasReadFailed, HasWriteFailed, IsEndOfInput, IsFlush};
-ghost use Rattle.counter_once.specs.First.{two_branches, IsAnswered, Leaves};
+ghost use Rattle.counter_once.specs.First.{two_branches, FirstIsAnswered, FirstLeaves};
 
 use message_records::{Branch, Moment};
 use posting_core::{Counter, Fault, OnceFault, PlainBank, Sink, Source, answer_once};
@@ -16,7 +16,7 @@ const MOMENT: u64 = 1000;
 
 // A bank in memory with three accounts in branch 1 and two in branch 2. The only fault is `Memory`.
 fn two_branches(alloc: Global) -> Result<PlainBank, Fault>
-    ensures shows { IfOk result (λ bank. Shows (plain_tables bank) two_branches) }
+    ensures shows { IfOk result (λ bank. AreTablesOf (plain_tables bank) two_branches) }
     ensures memory { IfErr result (λ fault. fault ≡ Memory) }
 {
     let mut bank = PlainBank::new(alloc);
@@ -39,9 +39,9 @@ pub fn answer_first<R: Source, W: Sink>(
     reader: &mut R,
     writer: &mut W,
 ) -> Result<(), OnceFault>
-    ensures ok { OnOk result (IsAnswered (R.remaining reader.old) (R.remaining reader.new)
+    ensures ok { OnOk result (FirstIsAnswered (R.remaining reader.old) (R.remaining reader.new)
         (W.contents writer.old) (W.contents writer.new)) }
-    ensures fault { IfErr result (λ fault. Leaves fault (R.remaining reader.old) (R.remaining reader.new)
+    ensures fault { IfErr result (λ fault. FirstLeaves fault (R.remaining reader.old) (R.remaining reader.new)
         (W.contents writer.old) (W.contents writer.new)) }
     ensures ended { IsErrOf result OnceFault.Short
         → EndsWith IsEndOfInput (R.told reader.old) (R.told reader.new) }

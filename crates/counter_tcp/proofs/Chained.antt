@@ -5,12 +5,12 @@ use Rattle.std.specs.List.{AllByRecursion}
 use Rattle.posting_rules.specs.Counter.{Seen}
 use Rattle.posting_core.specs.Told.{ReadTold, WriteTold}
 use Rattle.counter_http.specs.Ends as http_ends
-use Rattle.counter_http.specs.Outputs.{Outputs, Survives}
+use Rattle.counter_http.specs.Outputs.{OutputsAnswers, SurvivesServing}
 use Rattle.counter_http.specs.Serving as http
 use Rattle.counter_http.specs.declared.fault.ServeFault.{ServeFault}
 use Rattle.counter_http.specs.declared.fault.ServeFault.TheVariants as serve
 use Rattle.posting_rules.specs.declared.fault.Fault.TheVariants as bank
-use Rattle.counter_tcp.specs.Connections.{AllGoOn, AreServed, Connection, Serves, ServesOne}
+use Rattle.counter_tcp.specs.Connections.{AllGoOn, AreServed, Connection, ServesConnections, ServesOne}
 use Rattle.counter_tcp.specs.declared.fault.ListenFault.{ListenFault}
 use Rattle.counter_tcp.specs.declared.fault.ListenFault.TheVariants.{Network, Bank}
 use Rattle.counter_tcp.specs.Faults.{after_connection}
@@ -19,8 +19,8 @@ pub one_served : {C : Type 0} (seen : C → Seen) (r r' w w' k k' : Option (List
     (q q' : Option (List ReadTold))
     (p p' : Option (List WriteTold)) (old new : C) (result : Result ℕ ServeFault)
     → http.Serves seen r r' q q' w w' k k' old new result
-    → Outputs r r' q q' w w' (seen old) (seen new) result
-    → Survives r r' w w' (seen old) (seen new) → http_ends.EndsAs result q q' p p'
+    → OutputsAnswers r r' q q' w w' (seen old) (seen new) result
+    → SurvivesServing r r' w w' (seen old) (seen new) → http_ends.EndsAs result q q' p p'
     → ((seen new).honest → (seen old).honest)
     → ServesOne seen k k' old new result
 one_served {C = C} seen r r' w w' k k' q q' p p' old new result served output stop ended honest =
@@ -98,7 +98,7 @@ pub ends : {C : Type 0} (seen : C → Seen) (k k' k'' : Option (List ℕ)) (old 
     (result : Result ℕ ServeFault) (n all : ℕ) (fault : ListenFault)
     → Chain seen k k' old mid n → ServesOne seen k' k'' mid new result → n < all
     → after_connection result ≡ Err fault
-    → Serves seen k k'' old new all (Err fault)
+    → ServesConnections seen k k'' old new all (Err fault)
 ends seen k k' k'' old mid new result n all Network chain one few is = absurd (never_network result is)
 ends seen k k' k'' old mid new result n all (Bank fault) chain one few is =
     let last = one.connection in

@@ -7,7 +7,7 @@ use Rattle.posting_rules.specs.Counter.{LeavesOnly, Seen, ShowsBeginning, Stands
 use Rattle.posting_rules.specs.Runs.{ArePosts, behind}
 use Rattle.posting_core.specs.Told.{ReadTold, WriteTold}
 use Rattle.counter_http.specs.Ends as ends
-use Rattle.counter_http.specs.Outputs.{Outputs, Survives}
+use Rattle.counter_http.specs.Outputs.{OutputsAnswers, SurvivesServing}
 use Rattle.counter_http.specs.Serving as http
 use Rattle.counter_http.specs.declared.fault.ServeFault.{ServeFault}
 use Rattle.counter_http.specs.declared.fault.ServeFault.TheVariants.{Write}
@@ -40,9 +40,9 @@ pub record Connection (C : Type 0) : Type 0 where
 pub record IsServed {C : Type 0} (seen : C → Seen) (c : Connection C) : Type 0 where
   pub served : http.Serves seen c.reader c.reader_after c.reads c.reads_after c.writer c.writer_after c.clock
       c.clock_after c.before c.after c.result
-  pub output : Outputs c.reader c.reader_after c.reads c.reads_after c.writer c.writer_after (seen c.before)
+  pub output : OutputsAnswers c.reader c.reader_after c.reads c.reads_after c.writer c.writer_after (seen c.before)
       (seen c.after) c.result
-  pub stop : Survives c.reader c.reader_after c.writer c.writer_after (seen c.before) (seen c.after)
+  pub stop : SurvivesServing c.reader c.reader_after c.writer c.writer_after (seen c.before) (seen c.after)
   pub ended : ends.EndsAs c.result c.reads c.reads_after c.writes c.writes_after
   pub honest : (seen c.after).honest → (seen c.before).honest
 
@@ -72,16 +72,16 @@ abbrev pub AllGoOn : {C : Type 0} → List (Connection C) → Type 0
 AllGoOn cs = AllByRecursion (λ c. after_connection c.result ≡ Ok tt) cs
 
 -- how many there were, and what the last one met
-abbrev pub EndsAs : {C : Type 0} → Result (Unit {0}) ListenFault → ℕ → List (Connection C) → Type 0
-EndsAs (Ok done) n cs = (length cs ≡ n) × AllGoOn cs
-EndsAs (Err Network) n cs = (length cs < n) × AllGoOn cs
-EndsAs {C = C} (Err (Bank fault)) n cs = (before : List (Connection C)) × (last : Connection C)
+abbrev pub EndsServing : {C : Type 0} → Result (Unit {0}) ListenFault → ℕ → List (Connection C) → Type 0
+EndsServing (Ok done) n cs = (length cs ≡ n) × AllGoOn cs
+EndsServing (Err Network) n cs = (length cs < n) × AllGoOn cs
+EndsServing {C = C} (Err (Bank fault)) n cs = (before : List (Connection C)) × (last : Connection C)
     × (cs ≡ before ++ last ∷ []) × (length cs ≤ n) × AllGoOn before
     × (after_connection last.result ≡ Err (Bank fault))
 
 -- connections were served so, n of them unless they ended before
-pub record Serves {C : Type 0} (seen : C → Seen) (k k' : Option (List ℕ)) (old new : C) (n : ℕ)
+pub record ServesConnections {C : Type 0} (seen : C → Seen) (k k' : Option (List ℕ)) (old new : C) (n : ℕ)
     (result : Result (Unit {0}) ListenFault) : Type 0 where
   pub connections : List (Connection C)
   pub are_served : AreServed seen connections k k' old new
-  pub ends : EndsAs result n connections
+  pub ends : EndsServing result n connections

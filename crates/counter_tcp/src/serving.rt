@@ -1,6 +1,6 @@
 //! Connections that are served one after another.
 ghost use Rattle.std.specs.Prelude.{◌≡◌};
-ghost use Rattle.counter_tcp.specs.Connections.{Serves, ServesOne};
+ghost use Rattle.counter_tcp.specs.Connections.{ServesConnections, ServesOne};
 ghost use Rattle.counter_tcp.specs.Faults.{after_connection};
 
 use crate::fault::ListenFault;
@@ -30,7 +30,7 @@ pub fn serve_connections<K: Clock, C: Counter>(
     clock: &mut K,
     bank: &mut C,
 ) -> Result<(), ListenFault>
-    ensures { Serves C.seen (K.readings clock.old) (K.readings clock.new) bank.old bank.new connections
+    ensures { ServesConnections C.seen (K.readings clock.old) (K.readings clock.new) bank.old bank.new connections
         result }
 {
     'connections: for number in 0..connections {

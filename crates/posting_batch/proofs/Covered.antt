@@ -14,7 +14,7 @@ use Rattle.posting_rules.proofs.Keyed.{by_test}
 use Rattle.posting_batch.specs.declared.slots.BranchSlot.{BranchSlot}
 use Rattle.posting_batch.specs.declared.slots.RequestSlot.{RequestSlot}
 use Rattle.posting_batch.specs.Batch.{with_branch_slot, covering, covering_all, no_slots, CoversRead}
-use Rattle.posting_batch.specs.Batch.{CoversAll, HasRisingSlots, HasHomes, IsUnchanged, filled, branch_filled}
+use Rattle.posting_batch.specs.Batch.{CoversAll, HasRisingSlots, HasHomes, HasNoChange, filled, branch_filled}
 use Rattle.posting_batch.specs.Batch.{teller_filled, account_filled, request_filled}
 use Rattle.posting_batch.specs.Overlay.{Overlay, by_slot, over, put_account, put_teller, put_branch}
 use Rattle.posting_batch.specs.Overlay.{tables_over}
@@ -103,7 +103,7 @@ all_mapped : {S : Type 0} (P : S → Type 0) (f : S → S) → ((s : S) → P s 
 all_mapped P f keeps [] all = tt
 all_mapped P f keeps (s ∷ slots) all = (keeps s all.0, all_mapped P f keeps slots all.1)
 
-unchanged_filled : (o : Overlay) (t : Tables) → IsUnchanged o → IsUnchanged (filled t o)
+unchanged_filled : (o : Overlay) (t : Tables) → HasNoChange o → HasNoChange (filled t o)
 unchanged_filled o t un = record {
   branches = all_mapped (λ s. s.changed ≡ None) (branch_filled t) (λ s h. h) o.branches un.branches;
   tellers = all_mapped (λ s. s.changed ≡ None) (teller_filled t) (λ s h. h) o.tellers un.tellers;
@@ -170,7 +170,7 @@ weaker : {S : Type 0} (P Q : S → Type 0) → ((s : S) → P s → Q s) → (o 
 weaker P Q so None h = tt
 weaker P Q so (Some s) h = so s h
 
-unchanged_over : (o : Overlay) (t : Tables) → IsUnchanged o → o.decided ≡ t.decided → tables_over o t ≡ t
+unchanged_over : (o : Overlay) (t : Tables) → HasNoChange o → o.decided ≡ t.decided → tables_over o t ≡ t
 unchanged_over o t un counted =
     tables_made _ _ _ _ _ _ _ _ _ _ _ _ counted
     (same_rows branch_slot_key branch_key put_branch o.branches
@@ -194,7 +194,7 @@ unchanged_over o t un counted =
 pub record Stands (o : Overlay) (t : Tables) (reads : List (Result RequestFields Bad)) : Type 0 where
   pub fits : Fits o t
   pub same : tables_over o t ≡ t
-  pub unchanged : IsUnchanged o
+  pub unchanged : HasNoChange o
   pub rising : HasRisingSlots o
   pub covers : CoversAll o reads
 

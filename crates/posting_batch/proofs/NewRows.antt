@@ -20,7 +20,7 @@ use Rattle.posting_rules.specs.Commands.{Command, Post, branch_of_teller}
 use Rattle.posting_rules.specs.Entries.{refused_entry, posted_entry}
 use Rattle.posting_rules.specs.LookUps.{balance_of_branch, balance_of_teller, balance_of_account}
 use Rattle.posting_rules.specs.Steps as steps
-use Rattle.posting_rules.specs.Tables.{Tables, Shows, row_at, branch_key, teller_key, account_key}
+use Rattle.posting_rules.specs.Tables.{Tables, AreTablesOf, row_at, branch_key, teller_key, account_key}
 use Rattle.posting_rules.specs.Tables.{history_key, request_key, request_row_of, history_row_of}
 use Rattle.posting_rules.proofs.Keyed.{by_test}
 use Rattle.posting_rules.proofs.Ready.{AreReady, ready_shown}
@@ -29,7 +29,7 @@ use Rattle.posting_rules.proofs.Stepping.{posted_rows}
 use Rattle.posting_batch.specs.declared.slots.AccountSlot.{AccountSlot}
 use Rattle.posting_batch.specs.declared.slots.TellerSlot.{TellerSlot}
 use Rattle.posting_batch.specs.declared.slots.BranchSlot.{BranchSlot}
-use Rattle.posting_batch.specs.Batch.{CoversRead, CoversAll, IsUnchanged, ChangesRows, PutsFree, AddsRows}
+use Rattle.posting_batch.specs.Batch.{CoversRead, CoversAll, HasNoChange, ChangesRows, PutsFree, AddsFreeRows}
 use Rattle.posting_batch.specs.Judging.{found_over, overlay_after, overlay_with, overlay_with_all}
 use Rattle.posting_batch.specs.Overlay.{Overlay, by_slot, over, put_account, put_teller, put_branch, each_put}
 use Rattle.posting_batch.specs.Overlay.{tables_over}
@@ -140,7 +140,7 @@ none_changed change_of P (s ∷ slots) all =
 
 -- the rows that a batch changes are there
 pub all_changes : (o : Overlay) (t : Tables) (m : ℕ) (reads : List (Result RequestFields Bad)) → Fits o t
-    → IsUnchanged o → CoversAll o reads
+    → HasNoChange o → CoversAll o reads
     → ChangesRows (overlay_with_all o m reads) t
 all_changes o t m reads fits un covers =
     changes_on o t m reads fits covers (record {
@@ -161,7 +161,7 @@ puts_more key [] r rows free next = (next, tt)
 puts_more key (x ∷ rs) r rows free next = (free.0, puts_more key rs r (row_put key x rows) free.1 next)
 
 adds_after : (o : Overlay) (t : Tables) (m : ℕ) (r : RequestFields) (v : Verdict) → AreReady (tables_over o t)
-    → AddsRows o t → AddsRows (overlay_after o m r v) t
+    → AddsFreeRows o t → AddsFreeRows (overlay_after o m r v) t
 adds_after o t m r (Unkept x) ready adds = adds
 adds_after o t m r (Again x) ready adds = adds
 adds_after o t m r (Refused x) ready adds = record {
@@ -177,26 +177,26 @@ adds_after o t m r (Posted a te b) ready adds = record {
 }
 
 adds_with : (o : Overlay) (t : Tables) (m : ℕ) (read : Result RequestFields Bad) → AreReady (tables_over o t)
-    → AddsRows o t → AddsRows (overlay_with o m read) t
+    → AddsFreeRows o t → AddsFreeRows (overlay_with o m read) t
 adds_with o t m (Err fault) ready adds = adds
 adds_with o t m (Ok r) ready adds = adds_after o t m r (case_of (found_over o r) r) ready adds
 
 adds_on : (o : Overlay) (t : Tables) (log : List Command) (m : ℕ) (records : List (List ℕ)) → Fits o t
     → CoversAll o (map request_of records)
-    → Shows (tables_over o t) log → AddsRows o t → AddsRows (overlay_with_all o m (map request_of records)) t
+    → AreTablesOf (tables_over o t) log → AddsFreeRows o t → AddsFreeRows (overlay_with_all o m (map request_of records)) t
 adds_on o t log m [] fits covers shows adds = adds
 adds_on o t log m (bytes ∷ records) fits covers shows adds =
     let read = request_of bytes in
     adds_on (overlay_with o m read) t (Post m bytes ∷ log) m records (with_fits o t m read fits covers.0)
     (still_covers o m read (map request_of records) covers.1)
-    (subst (λ (u : Tables). Shows u (Post m bytes ∷ log)) (sym (with_is o t m read fits covers.0))
+    (subst (λ (u : Tables). AreTablesOf u (Post m bytes ∷ log)) (sym (with_is o t m read fits covers.0))
     (past_shown (tables_over o t) log m bytes shows))
     (adds_with o t m read (ready_shown (tables_over o t) log shows) adds)
 
 -- the keys of the new rows of a batch are free
 pub all_adds : (o : Overlay) (t : Tables) (log : List Command) (m : ℕ) (records : List (List ℕ)) → Fits o t
-    → IsUnchanged o → CoversAll o (map request_of records)
-    → Shows (tables_over o t) log → AddsRows (overlay_with_all o m (map request_of records)) t
+    → HasNoChange o → CoversAll o (map request_of records)
+    → AreTablesOf (tables_over o t) log → AddsFreeRows (overlay_with_all o m (map request_of records)) t
 all_adds o t log m records fits un covers shows =
     adds_on o t log m records fits covers shows
     (record { history = rw un.history tt; requests = rw un.requests tt })

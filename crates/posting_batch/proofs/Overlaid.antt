@@ -17,7 +17,7 @@ use Rattle.posting_rules.specs.Changes.{row_put, with_decided, with_branch_balan
 use Rattle.posting_rules.specs.Changes.{with_account_balance, with_history, with_request, tables_kept}
 use Rattle.posting_rules.specs.Changes.{tables_posted, tables_after}
 use Rattle.posting_rules.specs.Commands.{branch_of_teller}
-use Rattle.posting_rules.specs.Entries.{Entry, refused_entry, posted_entry}
+use Rattle.posting_rules.specs.Entries.{DecidedRequest, refused_entry, posted_entry}
 use Rattle.posting_rules.specs.Kept.{KeptFields}
 use Rattle.posting_rules.specs.LookUps.{both_of, kept_in, account_balance_in, balance_of_account}
 use Rattle.posting_rules.specs.LookUps.{balance_of_teller, balance_of_branch, found_in}
@@ -131,7 +131,7 @@ pub tables_made : (n n' : ℕ) (b b' : List BranchRow) (e e' : List TellerRow) (
     ≡ record { decided = n'; branches = b'; tellers = e'; accounts = a'; history = h'; requests = q' }
 tables_made n n' b b' e e' a a' h h' q q' en eb ee ea eh eq = rw (en, eb, ee, ea, eh, eq) refl
 
-refused_over : (o : Overlay) (t : Tables) (e : Entry)
+refused_over : (o : Overlay) (t : Tables) (e : DecidedRequest)
     → tables_over (overlay_kept o e) t ≡ tables_kept (tables_over o t) (o.decided + 1) e
 unfolding with_decided with_request
 refused_over o t e =
@@ -144,7 +144,7 @@ record HasSlotsOf (o : Overlay) (r : RequestFields) : Type 0 where
   pub teller : IsSome (row_at teller_slot_key o.tellers r.teller)
   pub branch : IsSome (row_at branch_slot_key o.branches (branch_of_teller r.teller))
 
-posted_over : (o : Overlay) (t : Tables) (e : Entry) (teller branch : ℤ) → HasSlotsOf o e.request
+posted_over : (o : Overlay) (t : Tables) (e : DecidedRequest) (teller branch : ℤ) → HasSlotsOf o e.request
     → tables_over (overlay_posted o e teller branch) t ≡ tables_posted (tables_over o t)
     (o.decided + 1) e teller branch
 unfolding with_decided with_request with_history with_branch_balance with_teller_balance with_account_balance

@@ -4,7 +4,7 @@ use Rattle.message_records.specs.declared.faults.Bad.{Bad}
 use Rattle.message_records.specs.Records.{RequestFields}
 use Rattle.posting_rules.specs.Commands.{branch_of_teller, branch_of_account}
 use Rattle.posting_batch.specs.Batch.{with_branch_slot, covering, covering_all, no_slots, HasRisingSlots}
-use Rattle.posting_batch.specs.Batch.{IsUnchanged}
+use Rattle.posting_batch.specs.Batch.{HasNoChange}
 use Rattle.posting_batch.specs.Overlay.{Overlay}
 use Rattle.posting_batch.specs.Placed.{number_below, number_same, request_below, request_same}
 use Rattle.posting_batch.specs.Slots.{account_slot_key, teller_slot_key, branch_slot_key, empty_account}
@@ -13,7 +13,7 @@ use Rattle.posting_batch.proofs.Orders.{all-placed, placed_rises, number_order, 
 
 -- so are slots that were made
 pub record IsMade (o : Overlay) : Type 0 where
-  pub unchanged : IsUnchanged o
+  pub unchanged : HasNoChange o
   pub rising : HasRisingSlots o
 
 made_with : (o : Overlay) (read : Result RequestFields Bad) → IsMade o → IsMade (covering o read)

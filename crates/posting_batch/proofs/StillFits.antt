@@ -13,7 +13,7 @@ use Rattle.posting_rules.specs.declared.rows.RequestRow.{RequestRow}
 use Rattle.posting_rules.specs.Cases.{case_of, plus_within}
 use Rattle.posting_rules.specs.Changes.{row_changed, tables_after, tables_read}
 use Rattle.posting_rules.specs.Commands.{branch_of_teller}
-use Rattle.posting_rules.specs.Entries.{Entry, refused_entry, posted_entry}
+use Rattle.posting_rules.specs.Entries.{DecidedRequest, refused_entry, posted_entry}
 use Rattle.posting_rules.specs.LookUps.{kept_in, account_balance_in, balance_of_teller, found_in}
 use Rattle.posting_rules.specs.Tables.{Tables, row_at, branch_key, teller_key, request_key, request_row_of}
 use Rattle.posting_rules.proofs.RowChanges.{row_at-changed}
@@ -61,7 +61,7 @@ module _ {S : Type 0} (key : S → ℕ) (k : ℕ) (set : S → S) (kept : (s : S
       subst (λ (x : Option S). IfSome x P) (sym (row_at-changed key k set kept slots n))
       (mapped (eqb k n) (row_at key slots n) is)
 
-more_kept : (o : Overlay) (t : Tables) (e : Entry) → Fits o t
+more_kept : (o : Overlay) (t : Tables) (e : DecidedRequest) → Fits o t
     → kept_in (tables_over o t).requests e.request.teller e.request.number ≡ None
     → (n m : ℕ)
     → IfSome (find (is_for n m) (overlay_kept o e).kept)

@@ -93,7 +93,7 @@ pub record HasHomes (o : Overlay) : Type 0 where
       (λ s. IsSome (row_at branch_slot_key o.branches (branch_of_account s.account))) o.accounts
 
 -- nothing is changed yet, and no row is new
-pub record IsUnchanged (o : Overlay) : Type 0 where
+pub record HasNoChange (o : Overlay) : Type 0 where
   pub branches : AllByRecursion (λ s. s.changed ≡ None) o.branches
   pub tellers : AllByRecursion (λ s. s.changed ≡ None) o.tellers
   pub accounts : AllByRecursion (λ s. s.changed ≡ None) o.accounts
@@ -141,6 +141,6 @@ PutsFree key [] rows = Unit {0}
 PutsFree key (r ∷ rs) rows = (row_at key rows (key r) ≡ None) × PutsFree key rs (row_put key r rows)
 
 -- the keys of the new rows are free
-pub record AddsRows (o : Overlay) (t : Tables) : Type 0 where
+pub record AddsFreeRows (o : Overlay) (t : Tables) : Type 0 where
   pub history : PutsFree history_key o.history t.history
   pub requests : PutsFree request_key o.requests t.requests

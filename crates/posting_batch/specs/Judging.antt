@@ -8,7 +8,7 @@ use Rattle.posting_rules.specs.declared.facts.Verdict.TheVariants.{Unkept, Again
 use Rattle.posting_rules.specs.Cases.{case_of, reply_in}
 use Rattle.posting_rules.specs.Changes.{row_changed}
 use Rattle.posting_rules.specs.Commands.{branch_of_teller}
-use Rattle.posting_rules.specs.Entries.{Entry, refused_entry, posted_entry, kept_fields, malformed_reply}
+use Rattle.posting_rules.specs.Entries.{DecidedRequest, refused_entry, posted_entry, kept_fields, malformed_reply}
 use Rattle.posting_rules.specs.LookUps.{both_of}
 use Rattle.posting_rules.specs.Tables.{request_row_of, history_row_of}
 use Rattle.posting_batch.specs.Overlay.{Overlay}
@@ -28,7 +28,7 @@ found_over o r = record {
 }
 
 -- a decided request is kept under the next ordinal, and counted
-abbrev pub overlay_kept : Overlay → Entry → Overlay
+abbrev pub overlay_kept : Overlay → DecidedRequest → Overlay
 overlay_kept o e = record o {
   kept = slots_kept e.request.teller e.request.number (kept_fields e) o.kept;
   decided = o.decided + 1;
@@ -36,7 +36,7 @@ overlay_kept o e = record o {
 }
 
 -- and a posting changes three balances, and has a row of history under the same ordinal (TPC-B 1.2)
-abbrev pub overlay_posted : Overlay → Entry → ℤ → ℤ → Overlay
+abbrev pub overlay_posted : Overlay → DecidedRequest → ℤ → ℤ → Overlay
 overlay_posted o e teller branch = record {
   branches = row_changed branch_slot_key (with_branch_changed branch)
       (branch_of_teller e.request.teller) o.branches;

@@ -6,9 +6,9 @@ ghost use Rattle.posting_rules.specs.declared.limits.TheConstants.{RECORDS_PER_B
 ghost use Rattle.posting_rules.specs.Changes.{tables_past_all, replies_past_all};
 ghost use Rattle.posting_rules.specs.Commands.{Command};
 ghost use Rattle.posting_rules.specs.Runs.{behind, posts, replies_to};
-ghost use Rattle.posting_rules.specs.Tables.{Tables, Shows};
+ghost use Rattle.posting_rules.specs.Tables.{Tables, AreTablesOf};
 ghost use Rattle.posting_batch.specs.Overlay.{tables_over};
-ghost use Rattle.posting_batch.specs.Batch.{CoversAll, HasRisingSlots, ChangesRows, AddsRows};
+ghost use Rattle.posting_batch.specs.Batch.{CoversAll, HasRisingSlots, ChangesRows, AddsFreeRows};
 
 use crate::covering::decode_all;
 use crate::overlay::Overlay;
@@ -90,10 +90,10 @@ impl Batch {
         // Of a log that the tables show: it comes to the log with the records behind it, and answers their
         // replies.
         ensures shows { (t : Tables) (records : List (List ℕ)) → IsFilledFrom self t records
-            → (log : List Command) → Shows t log
-            → Shows (tables_over (view result.overlay) t) (behind log (posts moment records)) }
+            → (log : List Command) → AreTablesOf t log
+            → AreTablesOf (tables_over (view result.overlay) t) (behind log (posts moment records)) }
         ensures answers { (t : Tables) (records : List (List ℕ)) → IsFilledFrom self t records
-            → (log : List Command) → Shows t log
+            → (log : List Command) → AreTablesOf t log
             → result.replies.items ≡ replies_to log (posts moment records) }
 
         // Each changed row is there, and is written once; each new row has a key that is free.
@@ -101,8 +101,8 @@ impl Batch {
             → ChangesRows (view result.overlay) t }
         ensures rising { HasRisingSlots (view self.overlay) → HasRisingSlots (view result.overlay) }
         ensures adds { (t : Tables) (records : List (List ℕ)) → IsFilledFrom self t records
-            → (log : List Command) → Shows t log
-            → AddsRows (view result.overlay) t }
+            → (log : List Command) → AreTablesOf t log
+            → AddsFreeRows (view result.overlay) t }
 
         // Each record has its reply, and each decided request is counted. Where none is decided, nothing is
         // changed and nothing is new.

@@ -12,7 +12,7 @@ use Rattle.posting_rules.specs.declared.facts.Verdict.TheVariants.{Unkept, Again
 use Rattle.posting_rules.specs.Commands.{Command, Open, Post, opened, branch_of_teller}
 use Rattle.posting_rules.specs.Cases.{case_of}
 use Rattle.posting_rules.specs.Entries.{refused_entry, posted_entry, reply_to, decided, reply}
-use Rattle.posting_rules.specs.Tables.{Tables, Shows, row_at, branch_key, teller_key, account_key}
+use Rattle.posting_rules.specs.Tables.{Tables, AreTablesOf, row_at, branch_key, teller_key, account_key}
 use Rattle.posting_rules.specs.Tables.{history_key, request_key, branch_row_of, history_row_of}
 use Rattle.posting_rules.specs.Tables.{request_row_of}
 use Rattle.posting_rules.specs.LookUps.{found_in, count_in, count_of_branch}
@@ -60,12 +60,12 @@ step_is t m r (Posted a te b) ready =
     }
 
 -- the tables after a record show the log with it
-pub record_shown : (t : Tables) (log : List Command) (m : ℕ) (bytes : List ℕ) → Shows t log
-    → Shows (tables_with t m (request_of bytes)) (Post m bytes ∷ log)
+pub record_shown : (t : Tables) (log : List Command) (m : ℕ) (bytes : List ℕ) → AreTablesOf t log
+    → AreTablesOf (tables_with t m (request_of bytes)) (Post m bytes ∷ log)
 record_shown t log m bytes s = by_read (request_of bytes) refl
   where
     by_read : (read : Result RequestFields Bad) → request_of bytes ≡ read
-        → Shows (tables_with t m read) (Post m bytes ∷ log)
+        → AreTablesOf (tables_with t m read) (Post m bytes ∷ log)
     by_read (Ok r) e = post_shown t (tables_after t m r (case_of (found_in t r) r)) log m bytes r e s
         (subst (λ n. IsStep t (tables_after t m r (case_of (found_in t r) r)) (n + 1) m r
         (case_of (found_in t r) r))
@@ -73,7 +73,7 @@ record_shown t log m bytes s = by_read (request_of bytes) refl
     by_read (Err fault) e = malformed_shown t log m bytes fault e s
 
 -- the reply by the tables is the reply behind the log
-pub reply_is : (t : Tables) (log : List Command) (bytes : List ℕ) → Shows t log
+pub reply_is : (t : Tables) (log : List Command) (bytes : List ℕ) → AreTablesOf t log
     → reply_in_tables t (request_of bytes) ≡ reply log bytes
 reply_is t log bytes s = by_read (request_of bytes) refl
   where
@@ -91,7 +91,7 @@ unmapped f (Some x) e = absurd cc
 
 -- the tables with a branch that wasn't open show the log with its opening
 pub opened_shown : (t : Tables) (log : List Command) (b count : ℕ) → count_in t b ≡ None → 1 ≤ b
-    → count ≤ MOST_ACCOUNTS → Shows t log → Shows (tables_opened t b count) (Open b count ∷ log)
+    → count ≤ MOST_ACCOUNTS → AreTablesOf t log → AreTablesOf (tables_opened t b count) (Open b count ∷ log)
 opened_shown t log b count none hb hc s =
     let ready = ready_shown t log s in
     let closed = unmapped count_of_branch (row_at branch_key t.branches b) none in

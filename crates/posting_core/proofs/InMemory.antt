@@ -10,7 +10,7 @@ use Rattle.posting_rules.specs.declared.rows.HistoryRow.{HistoryRow}
 use Rattle.posting_rules.specs.declared.rows.RequestRow.{RequestRow}
 use Rattle.posting_rules.specs.Commands.{Command, Open, Post, AreCommands}
 use Rattle.posting_rules.specs.Entries.{reply}
-use Rattle.posting_rules.specs.Tables.{Tables, Shows}
+use Rattle.posting_rules.specs.Tables.{Tables, AreTablesOf}
 use Rattle.posting_rules.specs.LookUps.{count_in}
 use Rattle.posting_rules.specs.Runs.{behind}
 use Rattle.posting_rules.specs.Counter.{ShowsLog, StandsAt, Takes}
@@ -23,7 +23,7 @@ use Rattle.posting_rules.proofs.Sequence.{commands_behind}
 
 pub empty_from : (bs : List BranchRow) (ts : List TellerRow) (xs : List AccountRow) (hs : List HistoryRow)
     (rs : List RequestRow) → bs ≡ [] → ts ≡ [] → xs ≡ [] → hs ≡ [] → rs ≡ []
-    → Shows (record {
+    → AreTablesOf (record {
       decided = length rs;
       branches = bs;
       tellers = ts;
@@ -58,34 +58,34 @@ branches_as_before t bs ts xs eb et ea =
     ∙ ap (λ (y : List AccountRow). with_branches t t.branches t.tellers y) ea
 
 pub record_from : (t t' new : Tables) (log : List Command) (m : ℕ) (bytes : List ℕ)
-    → new ≡ tables_with t' m (request_of bytes) → t' ≡ t → Shows t log → Shows new (Post m bytes ∷ log)
+    → new ≡ tables_with t' m (request_of bytes) → t' ≡ t → AreTablesOf t log → AreTablesOf new (Post m bytes ∷ log)
 record_from t t' new log m bytes e same s =
-    subst (λ (u : Tables). Shows u (Post m bytes ∷ log))
+    subst (λ (u : Tables). AreTablesOf u (Post m bytes ∷ log))
     (sym (e ∙ ap (λ (u : Tables). tables_with u m (request_of bytes)) same))
     (record_shown t log m bytes s)
 
 pub reply_from : (t t' : Tables) (log : List Command) (bytes out : List ℕ)
-    → out ≡ reply_spelling (reply_in_tables t' (request_of bytes)) → t' ≡ t → Shows t log
+    → out ≡ reply_spelling (reply_in_tables t' (request_of bytes)) → t' ≡ t → AreTablesOf t log
     → out ≡ reply_spelling (reply log bytes)
 reply_from t t' log bytes out e same s =
     e ∙ ap (λ (u : Tables). reply_spelling (reply_in_tables u (request_of bytes))) same ∙ ap reply_spelling
     (reply_is t log bytes s)
 
 pub opened_from : (t t' new : Tables) (log : List Command) (b count : ℕ) → new ≡ tables_opened t' b count
-    → t' ≡ t → count_in t b ≡ None → 1 ≤ b → count ≤ MOST_ACCOUNTS → Shows t log
-    → Shows new (Open b count ∷ log)
+    → t' ≡ t → count_in t b ≡ None → 1 ≤ b → count ≤ MOST_ACCOUNTS → AreTablesOf t log
+    → AreTablesOf new (Open b count ∷ log)
 opened_from t t' new log b count e same none hb hc s =
-    subst (λ (u : Tables). Shows u (Open b count ∷ log))
+    subst (λ (u : Tables). AreTablesOf u (Open b count ∷ log))
     (sym (e ∙ ap (λ (u : Tables). tables_opened u b count) same))
     (opened_shown t log b count none hb hc s)
 
 -- ---- what the bank shows, whose rows are all that a stop leaves
 
 pub plain_shows : (bank : PlainBank) (log : List Command) → ShowsLog (plain_seen bank) log
-    → Shows (plain_tables bank) log
-plain_shows bank log s = subst (λ (t : Tables). Shows t log) s.are s.shows
+    → AreTablesOf (plain_tables bank) log
+plain_shows bank log s = subst (λ (t : Tables). AreTablesOf t log) s.are s.shows
 
-pub shows_plain : (bank : PlainBank) (log : List Command) → AreCommands log → Shows (plain_tables bank) log
+pub shows_plain : (bank : PlainBank) (log : List Command) → AreCommands log → AreTablesOf (plain_tables bank) log
     → ShowsLog (plain_seen bank) log
 shows_plain bank log commands s = record {
   commands = commands;
@@ -94,17 +94,17 @@ shows_plain bank log commands s = record {
   shows = s;
 }
 
-stands_plain : (bank : PlainBank) (log : List Command) → AreCommands log → Shows (plain_tables bank) log
+stands_plain : (bank : PlainBank) (log : List Command) → AreCommands log → AreTablesOf (plain_tables bank) log
     → StandsAt (plain_seen bank) log
 stands_plain bank log commands s = record {
   shows = shows_plain bank log commands s;
   up = λ h. h;
-  stop = λ remains is. (remains, refl, subst (λ t. Shows t log) (sym is) s);
+  stop = λ remains is. (remains, refl, subst (λ t. AreTablesOf t log) (sym is) s);
 }
 
 -- commands that its rows took
 pub takes_plain : (old new : PlainBank) (cs : List Command) → AreCommands cs
-    → ((log : List Command) → Shows (plain_tables old) log → Shows (plain_tables new) (behind log cs))
+    → ((log : List Command) → AreTablesOf (plain_tables old) log → AreTablesOf (plain_tables new) (behind log cs))
     → Takes (plain_seen old) (plain_seen new) cs
 takes_plain old new cs valid s = record {
   shows = λ h log l. shows_plain new (behind log cs) (commands_behind log cs l.commands valid)

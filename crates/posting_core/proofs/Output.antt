@@ -14,7 +14,7 @@ use Rattle.posting_rules.specs.Counter.{Seen, ShowsLog}
 use Rattle.posting_rules.specs.Runs.{behind, posts, replies_to, ArePosts}
 use Rattle.posting_rules.specs.Resends.{Skips}
 use Rattle.posting_core.specs.Batches.{Batch, IsRecord, joined, records_of, posts_in, posts_of}
-use Rattle.posting_core.specs.Stream.{replies_text, acknowledged, IfTaken, Streamed, Outputs, Survives}
+use Rattle.posting_core.specs.Stream.{replies_text, acknowledged, IfTaken, Streamed, OutputsReplies, SurvivesStream}
 use Rattle.posting_core.specs.Stream.{Resends}
 use Rattle.posting_rules.proofs.Sequence.{replies_to-append, one_reply_each}
 use Rattle.posting_rules.proofs.Resends.{shows_log_left_out}
@@ -75,7 +75,7 @@ all_written {w = w} {w' = w'} s log none e = subst (λ (t : List ℕ). Appends w
 
 pub output_of : {r r' w w' k k' : Option (List ℕ)} {c c' : Seen} (result : Result ℕ StreamFault)
     → Streamed r r' w w' k k' c c' result
-    → Outputs r r' w w' c c' result
+    → OutputsReplies r r' w w' c c' result
 output_of (Ok count) s = record {
   bytes = joined (records_of (s.taken ++ s.refused)) ++ s.rest;
   read = s.read;
@@ -156,7 +156,7 @@ acknowledged_taken log bs refused n le =
 
 pub survives_of : {r r' w w' k k' : Option (List ℕ)} {c c' : Seen} (result : Result ℕ StreamFault)
     → Streamed r r' w w' k k' c c' result
-    → Survives r r' w w' c c'
+    → SurvivesStream r r' w w' c c'
 survives_of {c' = c'} result s =
     let bs = s.taken ++ s.refused in
     record {

@@ -5,7 +5,7 @@ use Rattle.std.proofs.lemmas.List.{length-append, take_all}
 use Rattle.posting_rules.specs.declared.fault.Fault.{Fault}
 use Rattle.posting_rules.specs.declared.fault.Fault.TheVariants.{Memory, Store, Down, Damaged}
 use Rattle.posting_rules.specs.Commands.{Command, AreCommands}
-use Rattle.posting_rules.specs.Tables.{Tables, Shows}
+use Rattle.posting_rules.specs.Tables.{Tables, AreTablesOf}
 use Rattle.posting_rules.specs.Counter.{Seen, LeavesOnly, StandsAt, ShowsBeginning, Refuses}
 use Rattle.posting_rules.specs.Runs.{behind}
 use Rattle.posting_rules.proofs.Remaining.{leaves_still, leaves_weaker}
@@ -14,7 +14,7 @@ use Rattle.posting_rules.proofs.Sequence.{behind-append}
 -- a stop leaves all that was taken
 pub stop_all : (c : Seen) (log cs ds : List Command) → cs ≡ ds → StandsAt c (behind log ds)
     → LeavesOnly c (ShowsBeginning log cs (length ds))
-stop_all c log cs ds e s = leaves_weaker c (λ t. Shows t (behind log ds)) (ShowsBeginning log cs (length ds))
+stop_all c log cs ds e s = leaves_weaker c (λ t. AreTablesOf t (behind log ds)) (ShowsBeginning log cs (length ds))
     (λ t shown.
     let all : take (length ds) cs ≡ ds = ap (take (length ds)) e ∙ take_all (length ds) ds (omega arith) in
     record {
@@ -22,7 +22,7 @@ stop_all c log cs ds e s = leaves_weaker c (λ t. Shows t (behind log ds)) (Show
       holds = omega arith;
       within = omega (arith, ap length e);
       are = subst (λ (l : List Command). AreCommands (behind log l)) (sym all) s.shows.commands;
-      shows = subst (λ (l : List Command). Shows t (behind log l)) (sym all) shown;
+      shows = subst (λ (l : List Command). AreTablesOf t (behind log l)) (sym all) shown;
     })
     s.stop
 
@@ -53,14 +53,14 @@ stop_part c log cs ds es e stop = leaves_weaker c (ShowsBeginning (behind log cs
       holds = omega arith;
       within = omega (arith, b.within, length-append cs ds, ap length e);
       are = subst AreCommands (sym same) b.are;
-      shows = subst (λ (l : List Command). Shows t l) (sym same) b.shows;
+      shows = subst (λ (l : List Command). AreTablesOf t l) (sym same) b.shows;
     })
     stop
 
 -- refused commands leave a beginning of them
 pub refused_stop : (fault : Fault) (c c' : Seen) (log cs : List Command) → Refuses fault c c' cs → c'.honest
     → StandsAt c log → LeavesOnly c' (ShowsBeginning log cs 0)
-refused_stop Memory c c' log cs u h s = leaves_weaker c' (λ t. Shows t log) (ShowsBeginning log cs 0)
+refused_stop Memory c c' log cs u h s = leaves_weaker c' (λ t. AreTablesOf t log) (ShowsBeginning log cs 0)
     (λ t shown. record {
       count = 0;
       holds = omega arith;
@@ -68,7 +68,7 @@ refused_stop Memory c c' log cs u h s = leaves_weaker c' (λ t. Shows t log) (Sh
       are = s.shows.commands;
       shows = shown;
     })
-    (leaves_still c c' (λ t. Shows t log) u.left s.stop)
+    (leaves_still c c' (λ t. AreTablesOf t log) u.left s.stop)
 refused_stop Store c c' log cs u h s = u.stop h log s
 refused_stop Down c c' log cs u h s = absurd (s.up u.before)
 refused_stop (Damaged rule) c c' log cs u h s = absurd (u.never_shown h log s.shows)

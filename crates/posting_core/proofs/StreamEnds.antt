@@ -9,12 +9,12 @@ use Rattle.posting_rules.specs.declared.fault.Fault.TheVariants.{Memory, Store, 
 use Rattle.posting_core.specs.declared.stream.StreamFault.{StreamFault}
 use Rattle.posting_core.specs.declared.stream.StreamFault.TheVariants.{Truncated, Read, Write, Bank}
 use Rattle.posting_rules.specs.Commands.{Command}
-use Rattle.posting_rules.specs.Tables.{Shows}
+use Rattle.posting_rules.specs.Tables.{AreTablesOf}
 use Rattle.posting_rules.specs.Counter.{Seen, ShowsLog, StandsAt, Refuses, IsUnchanged}
 use Rattle.posting_rules.specs.Runs.{behind, posts, replies_to}
 use Rattle.posting_core.specs.Clock.{IsReading, AreReadings}
 use Rattle.posting_core.specs.Batches.{Batch, IsRecord, joined, moments_of, records_of, posts_of, BreaksOff}
-use Rattle.posting_core.specs.Stream.{Ends, IsWritten, IfUp, UnlessDown, Streamed}
+use Rattle.posting_core.specs.Stream.{EndsStream, RepliesAreWritten, IfUp, UnlessDown, Streamed}
 use Rattle.posting_rules.proofs.Remaining.{leaves_still}
 use Rattle.posting_core.proofs.Stops.{refused_stop, stop_all, stop_part, written_part}
 use Rattle.posting_core.proofs.Batched.{posts_of_one_more, replies_of_one_more}
@@ -25,12 +25,12 @@ use Rattle.posting_core.proofs.StreamedBatches.{takes_batch, read_batch, whole_b
 
 -- whatever the result says of what was written, it says it here
 pub record FitsAll (result : Result ℕ StreamFault) : Type 1 where
-  pub written : (t s : List ℕ) → t ≡ s → IsWritten result t s
+  pub written : (t s : List ℕ) → t ≡ s → RepliesAreWritten result t s
   pub up : (P : Type 0) → P → UnlessDown result P
 
 end_of : {r r' w w' k k' : Option (List ℕ)} {c c' : Seen} {rest : List ℕ} {count : ℕ}
     (result : Result ℕ StreamFault) (g : Going r r' w w' k k' c c' rest count)
-    → FitsAll result → length rest < 100 → Ends result r' g.batches [] rest
+    → FitsAll result → length rest < 100 → EndsStream result r' g.batches [] rest
     → Streamed r r' w w' k k' c c' result
 end_of {r = r} {r' = r'} {k = k} {k' = k'} {c' = c'} {rest = rest} result g fits few ends =
     let none : g.batches ++ [] ≡ g.batches = append-nil g.batches in
@@ -100,7 +100,7 @@ refused_stands : (fault : Fault) (c c' : Seen) (log cs : List Command) → Refus
 refused_stands Memory c c' log cs u s = record {
   shows = unchanged_shows c c' log u s.shows;
   up = λ d. s.up (u.down d);
-  stop = leaves_still c c' (λ t. Shows t log) u.left s.stop;
+  stop = leaves_still c c' (λ t. AreTablesOf t log) u.left s.stop;
 }
 refused_stands Store c c' log cs u s = tt
 refused_stands Down c c' log cs u s = tt

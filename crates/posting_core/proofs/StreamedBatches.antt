@@ -7,9 +7,9 @@ use Rattle.std.proofs.lemmas.List.{length-append, map-append}
 use Rattle.posting_rules.specs.Commands.{Command}
 use Rattle.posting_rules.specs.Counter.{Seen, ShowsLog, StandsAt, Takes}
 use Rattle.posting_rules.specs.Runs.{behind, posts, replies_to}
-use Rattle.posting_core.specs.Clock.{after_one, IsNext, IsReading, AreReadings}
+use Rattle.posting_core.specs.Clock.{after_one, IsNextReading, IsReading, AreReadings}
 use Rattle.posting_core.specs.Batches.{Batch, IsRecord, joined, moment_of, moments_of, records_of, posts_in}
-use Rattle.posting_core.specs.Batches.{posts_of, IsAnswered}
+use Rattle.posting_core.specs.Batches.{posts_of, BatchIsAnswered}
 use Rattle.posting_rules.proofs.Sequence.{behind-append}
 use Rattle.posting_core.proofs.Batched.{joined_one_more, records_one_more, posts_of_one_more}
 use Rattle.posting_core.proofs.Batched.{replies_of_one_more}
@@ -22,7 +22,7 @@ all_more P (x ∷ xs) ys a b = (a.0, all_more P xs ys a.1 b)
 
 readings_more : (k k' k'' : Option (List ℕ)) (ms : List ℕ) (m : ℕ) → AreReadings k k' ms → IsReading k' k'' m
     → AreReadings k k'' (ms ++ m ∷ [])
-readings_more k k' k'' [] m e r = (subst (λ (o : Option (List ℕ)). IsNext o m) e r.0, r.1 ∙ ap after_one e)
+readings_more k k' k'' [] m e r = (subst (λ (o : Option (List ℕ)). IsNextReading o m) e r.0, r.1 ∙ ap after_one e)
 readings_more k k' k'' (x ∷ ms) m e r = (e.0, readings_more (after_one k) k' k'' ms m e.1 r)
 
 -- commands that were taken, and then others
@@ -71,7 +71,7 @@ pub going_batch : {r r' w w' w'' k k' k'' : Option (List ℕ)} {c c' c'' : Seen}
     (all rest : List ℕ) (count' : ℕ) (rs : List (List ℕ))
     → Going r r' w w' k k' c c' all count → (all ≡ joined rs ++ rest) × AllByRecursion IsRecord rs
     → count' ≡ count + length rs
-    → IsReading k' k'' m → (c''.honest → c'.honest) → IsAnswered w' w'' c' c'' (posts m rs)
+    → IsReading k' k'' m → (c''.honest → c'.honest) → BatchIsAnswered w' w'' c' c'' (posts m rs)
     → Going r r' w w'' k k'' c c'' rest count'
 going_batch {r = r} {r' = r'} {w = w} {w' = w'} {w'' = w''} {k = k} {k' = k'} {k'' = k''} {c = c} {c' = c'}
     {c'' = c''} m all rest count' rs g cut n reading honest a =

@@ -10,26 +10,26 @@ use Rattle.std.specs.declared.io.ErrorKind.{ErrorKind}
 use Rattle.std.specs.contracts.io.ErrorKind.{the_type}
 use denote.Enum.Bare.{sameb}
 use Rattle.std.specs.declared.io.ErrorKind.TheVariants.{Interrupted}
-use Rattle.posting_core.specs.Told.{Adds, EndsWith, HasMore, HasReadFailed, HasWriteFailed, IsEndOfInput}
+use Rattle.posting_core.specs.Told.{GrowsBy, EndsWith, HasMore, HasReadFailed, HasWriteFailed, IsEndOfInput}
 use Rattle.posting_core.specs.Told.{IsReadFailure, IsWornOut, IsWriteFailure, ReadTold, WriteTold, read_told}
 use Rattle.posting_core.specs.Told.{write_told, flush_told, IsFlush}
 
-adds-more : {A : Type 0} (a b c : Option (List A)) (xs ys : List A) → Adds a b xs → Adds b c ys
-    → Adds a c (xs ++ ys)
+adds-more : {A : Type 0} (a b c : Option (List A)) (xs ys : List A) → GrowsBy a b xs → GrowsBy b c ys
+    → GrowsBy a c (xs ++ ys)
 adds-more None b c xs ys x y = tt
 adds-more (Some before) None c xs ys x y = absurd x
 adds-more (Some before) (Some some) None xs ys x y = absurd y
 adds-more {A} (Some before) (Some some) (Some all) xs ys x y = y ∙ ap (λ (t : List A). t ++ ys) x
     ∙ append_assoc before xs ys
 
-pub adds-none : {A : Type 0} (a : Option (List A)) → Adds a a []
+pub adds-none : {A : Type 0} (a : Option (List A)) → GrowsBy a a []
 adds-none None = tt
 adds-none (Some calls) = sym (append-nil calls)
 
 -- so many calls were made
 pub record HasMade {A : Type 0} (old new : Option (List A)) (count : ℕ) : Type 0 where
   pub calls : List A
-  pub made : Adds old new calls
+  pub made : GrowsBy old new calls
   pub count_is : length calls ≡ count
 
 -- at first none was made
@@ -38,7 +38,7 @@ made_none a = record { calls = []; made = adds-none a; count_is = refl }
 
 -- and then one more
 pub made_one : {A : Type 0} {a b c : Option (List A)} {count : ℕ} (x : A) (count' : ℕ) → HasMade a b count
-    → Adds b c (x ∷ []) → count' ≡ count + 1
+    → GrowsBy b c (x ∷ []) → count' ≡ count + 1
     → HasMade a c count'
 made_one {a = a} {b = b} {c = c} x count' h y e = record {
   calls = h.calls ++ x ∷ [];
@@ -48,7 +48,7 @@ made_one {a = a} {b = b} {c = c} x count' h y e = record {
 
 -- the last of them
 pub made_last : {A : Type 0} (P : A → Type 0) {a b c : Option (List A)} {count : ℕ} (x : A)
-    → HasMade a b count → Adds b c (x ∷ []) → P x → EndsWith P a c
+    → HasMade a b count → GrowsBy b c (x ∷ []) → P x → EndsWith P a c
 made_last P {a = a} {b = b} {c = c} x h y p =
     record { earlier = h.calls; last = x; made = adds-more a b c h.calls (x ∷ []) h.made y; is = p }
 
@@ -72,7 +72,7 @@ more_last {A} P {a = a} {b = b} {c = c} h e = record {
   earlier = h.calls ++ e.earlier;
   last = e.last;
   made = let all = adds-more a b c h.calls (e.earlier ++ e.last ∷ []) h.made e.made in
-      subst (λ (t : List A). Adds a c t) (sym (append_assoc h.calls e.earlier (e.last ∷ []))) all;
+      subst (λ (t : List A). GrowsBy a c t) (sym (append_assoc h.calls e.earlier (e.last ∷ []))) all;
   is = e.is;
 }
 
@@ -101,35 +101,35 @@ other_kind k e differs is same = cc
     (subst (λ (x : ErrorKind). false ≡ sameb the_type x Interrupted) (is ∙ same) differs)
 
 pub read_ended : {a b c : Option (List ReadTold)} {count : ℕ} (r : Result ℕ Error) (n : ℕ) → HasMade a b count
-    → Adds b c (read_told r ∷ []) → r ≡ Ok n → n ≡ 0
+    → GrowsBy b c (read_told r ∷ []) → r ≡ Ok n → n ≡ 0
     → EndsWith IsEndOfInput a c
 read_ended r n h tells is none = made_last IsEndOfInput (read_told r) h tells (rw is none)
 
 pub read_failed : {a b c : Option (List ReadTold)} {count : ℕ} (r : Result ℕ Error) (e : Error)
-    → HasMade a b count → Adds b c (read_told r ∷ []) → r ≡ Err e
+    → HasMade a b count → GrowsBy b c (read_told r ∷ []) → r ≡ Err e
     → error_kind e ≢ Interrupted → HasReadFailed a c
 read_failed r e h tells is kind = inl (made_last IsReadFailure (read_told r) h tells (rw is kind))
 
 pub write_empty : {a b c : Option (List WriteTold)} {count : ℕ} (bytes : List ℕ) (r : Result ℕ Error) (n : ℕ)
     → HasMade a b count
-    → Adds b c (write_told bytes r ∷ []) → r ≡ Ok n → n ≡ 0 → 1 ≤ length bytes → HasWriteFailed a c
+    → GrowsBy b c (write_told bytes r ∷ []) → r ≡ Ok n → n ≡ 0 → 1 ≤ length bytes → HasWriteFailed a c
 write_empty bytes r n h tells is none some = inl
     (made_last IsWriteFailure (write_told bytes r) h tells (rw is (some, none)))
 
 pub write_failed : {a b c : Option (List WriteTold)} {count : ℕ} (bytes : List ℕ) (r : Result ℕ Error)
     (e : Error) → HasMade a b count
-    → Adds b c (write_told bytes r ∷ []) → r ≡ Err e → error_kind e ≢ Interrupted → HasWriteFailed a c
+    → GrowsBy b c (write_told bytes r ∷ []) → r ≡ Err e → error_kind e ≢ Interrupted → HasWriteFailed a c
 write_failed bytes r e h tells is kind = inl
     (made_last IsWriteFailure (write_told bytes r) h tells (rw is kind))
 
 pub flush_failed : {A : Type 0} {a b c : Option (List WriteTold)} (r : Result A Error) (e : Error)
-    → HasMore a b → Adds b c (flush_told r ∷ []) → r ≡ Err e
+    → HasMore a b → GrowsBy b c (flush_told r ∷ []) → r ≡ Err e
     → HasWriteFailed a c
 flush_failed r e h tells is = inl
     (more_last IsWriteFailure h (record { earlier = []; last = flush_told r; made = tells; is = rw is tt }))
 
 pub flush_done : {A : Type 0} {a b c : Option (List WriteTold)} (r : Result A Error) (x : A)
-    → HasMore a b → Adds b c (flush_told r ∷ []) → r ≡ Ok x
+    → HasMore a b → GrowsBy b c (flush_told r ∷ []) → r ≡ Ok x
     → EndsWith IsFlush a c
 flush_done r x h tells is = more_last IsFlush h
     (record { earlier = []; last = flush_told r; made = tells; is = rw is tt })

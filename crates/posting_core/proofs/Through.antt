@@ -6,7 +6,7 @@ use Rattle.posting_core.specs.declared.stream.StreamFault.TheVariants.{Truncated
 use Rattle.posting_rules.specs.Commands.{Command}
 use Rattle.posting_rules.specs.Counter.{Seen}
 use Rattle.posting_core.specs.Batches.{BreaksOff}
-use Rattle.posting_core.specs.Stream.{EndsAs}
+use Rattle.posting_core.specs.Stream.{StreamFaultIsOfItsEnd}
 use Rattle.posting_core.specs.Told.{ReadTold, WriteTold, EndsWith, HasMore, HasWriteFailed, IsFlush}
 use Rattle.posting_core.specs.Told.{IsThrough, IsWriteFailure}
 use Rattle.posting_core.proofs.Telling.{adds-none, last_some, more_failed, more_last}
@@ -27,7 +27,7 @@ through_batch h flushed = inr (more_last IsFlush (through_more h) flushed)
 pub ends_broken : (r r' : Option (List ReadTold)) (w w' w'' : Option (List WriteTold))
     (k k' : Option (List ℕ)) (c c' : Seen) (cs : List Command) (fault : StreamFault)
     → IsThrough w w' → BreaksOff fault k k' c c' cs → (fault ≡ Write → HasWriteFailed w' w'')
-    → (fault ≢ Write → w'' ≡ w') → EndsAs (Err fault) r r' w w''
+    → (fault ≢ Write → w'' ≡ w') → StreamFaultIsOfItsEnd (Err fault) r r' w w''
 ends_broken r r' w w' w'' k k' c c' cs Write h a unwritten unasked = more_failed IsWriteFailure
     (through_more h) (unwritten refl)
 ends_broken r r' w w' w'' k k' c c' cs (Bank fault) h a unwritten unasked =

@@ -14,7 +14,7 @@ use Rattle.posting_rules.specs.Kept.{KeptFields}
 use Rattle.posting_rules.specs.Commands.{Command, Post, opened, branch_of_teller, is_teller_open}
 use Rattle.posting_rules.specs.Commands.{is_account_open}
 use Rattle.posting_rules.specs.Cases.{case_of}
-use Rattle.posting_rules.specs.Entries.{Entry, is_posted, facts, kept, kept_fields, posted_sum, with_verdict}
+use Rattle.posting_rules.specs.Entries.{DecidedRequest, is_posted, facts, kept, kept_fields, posted_sum, with_verdict}
 use Rattle.posting_rules.specs.Entries.{with_record, decided, reply_to, reply}
 use Rattle.posting_rules.specs.Runs.{behind, posts, replies_to}
 use Rattle.posting_core.specs.Batches.{Batch, posts_in, posts_of, records_of}
@@ -22,34 +22,34 @@ use Rattle.posting_rules.proofs.Sequence.{replies_to-append}
 
 -- ---- entries without their moments
 
-abbrev pub zeroed : List Entry → List Entry
+abbrev pub zeroed : List DecidedRequest → List DecidedRequest
 zeroed [] = []
 zeroed (e ∷ es) = record { moment = 0; request = e.request; outcome = e.outcome; balance = e.balance }
     ∷ zeroed es
 
-pub sum_zeroed : (test : RequestFields → Bool) (es : List Entry)
+pub sum_zeroed : (test : RequestFields → Bool) (es : List DecidedRequest)
     → posted_sum test (zeroed es) ≡ posted_sum test es
 sum_zeroed test [] = refl
 sum_zeroed test (e ∷ es) = ap (λ (z : ℤ). cond (is_posted e && test e.request) (z +ℤ e.request.delta) z)
     (sum_zeroed test es)
 
-kept_step : (hit : Bool) (x y : Entry) (o p : Option Entry) → kept_fields x ≡ kept_fields y
+kept_step : (hit : Bool) (x y : DecidedRequest) (o p : Option DecidedRequest) → kept_fields x ≡ kept_fields y
     → option_map kept_fields o ≡ option_map kept_fields p
     → option_map kept_fields (cond hit (Some x) o) ≡ option_map kept_fields (cond hit (Some y) p)
 kept_step true x y o p e f = ap Some e
 kept_step false x y o p e f = f
 
-kept_zeroed : (es : List Entry) (t n : ℕ) → kept (zeroed es) t n ≡ kept es t n
+kept_zeroed : (es : List DecidedRequest) (t n : ℕ) → kept (zeroed es) t n ≡ kept es t n
 kept_zeroed [] t n = refl
 kept_zeroed (e ∷ es) t n = kept_step ((eqb e.request.teller t) && (eqb e.request.number n)) _ _ _ _ refl
     (kept_zeroed es t n)
 
-length_zeroed : (es : List Entry) → length (zeroed es) ≡ length es
+length_zeroed : (es : List DecidedRequest) → length (zeroed es) ≡ length es
 length_zeroed [] = refl
 length_zeroed (e ∷ es) = ap suc (length_zeroed es)
 
 -- what is known of them is the same
-facts_zeroed : (opened : ℕ → Option ℕ) (es : List Entry) (r : RequestFields)
+facts_zeroed : (opened : ℕ → Option ℕ) (es : List DecidedRequest) (r : RequestFields)
     → facts opened (zeroed es) r ≡ facts opened es r
 facts_zeroed opened es r =
     made _ _ _ _ _ _ _ _ _ _ (sum_zeroed (λ x. eqb x.teller r.teller) es)
@@ -70,19 +70,19 @@ facts_zeroed opened es r =
     made t t' b b' k k' n n' a a' et eb ek en ea = rw (et, eb, ek, en, ea) refl
 
 -- and so is the reply
-pub reply_zeroed : (opened : ℕ → Option ℕ) (es : List Entry) (read : Result RequestFields Bad)
+pub reply_zeroed : (opened : ℕ → Option ℕ) (es : List DecidedRequest) (read : Result RequestFields Bad)
     → reply_to read opened (zeroed es) ≡ reply_to read opened es
 reply_zeroed opened es (Ok r) = rw (facts_zeroed opened es r) refl
 reply_zeroed opened es (Err e) = refl
 
-verdict_zeroed : (m : ℕ) (r : RequestFields) (v : Verdict) (es : List Entry)
+verdict_zeroed : (m : ℕ) (r : RequestFields) (v : Verdict) (es : List DecidedRequest)
     → zeroed (with_verdict m r v es) ≡ with_verdict 0 r v (zeroed es)
 verdict_zeroed m r (Unkept o) es = refl
 verdict_zeroed m r (Again a) es = refl
 verdict_zeroed m r (Refused o) es = refl
 verdict_zeroed m r (Posted a t b) es = refl
 
-pub record_zeroed : (m : ℕ) (opened : ℕ → Option ℕ) (es : List Entry) (read : Result RequestFields Bad)
+pub record_zeroed : (m : ℕ) (opened : ℕ → Option ℕ) (es : List DecidedRequest) (read : Result RequestFields Bad)
     → zeroed (with_record m read opened es) ≡ with_record 0 read opened (zeroed es)
 record_zeroed m opened es (Ok r) =
     verdict_zeroed m r (case_of (facts opened es r) r) es ∙ ap
@@ -92,16 +92,16 @@ record_zeroed m opened es (Err e) = refl
 -- ---- records from what is open and decided
 
 -- their replies, and what is decided behind them
-replies_from : (ℕ → Option ℕ) → List Entry → List (List ℕ) → List (List ℕ)
+replies_from : (ℕ → Option ℕ) → List DecidedRequest → List (List ℕ) → List (List ℕ)
 replies_from opened es [] = []
 replies_from opened es (r ∷ rs) = reply_spelling (reply_to (request_of r) opened es) ∷ replies_from opened
     (with_record 0 (request_of r) opened es) rs
 
-entries_behind : (ℕ → Option ℕ) → List Entry → List (List ℕ) → List Entry
+entries_behind : (ℕ → Option ℕ) → List DecidedRequest → List (List ℕ) → List DecidedRequest
 entries_behind opened es [] = es
 entries_behind opened es (r ∷ rs) = entries_behind opened (with_record 0 (request_of r) opened es) rs
 
-replies_from-append : (opened : ℕ → Option ℕ) (es : List Entry) (rs ss : List (List ℕ))
+replies_from-append : (opened : ℕ → Option ℕ) (es : List DecidedRequest) (rs ss : List (List ℕ))
     → replies_from opened es (rs ++ ss) ≡ replies_from opened es rs ++ replies_from opened
     (entries_behind opened es rs) ss
 unfolding replies_from entries_behind
@@ -114,7 +114,7 @@ replies_from-append opened es (r ∷ rs) ss =
 abbrev open_behind : List Command → ℕ → Option ℕ
 open_behind log b = opened log b
 
-abbrev entries_of : List Command → List Entry
+abbrev entries_of : List Command → List DecidedRequest
 entries_of log = zeroed (decided log)
 
 posts_replied : (log : List Command) (m : ℕ) (rs : List (List ℕ))
@@ -125,7 +125,7 @@ posts_replied log m (r ∷ rs) =
     let after = with_record 0 (request_of r) (λ b. opened log b) (zeroed (decided log)) in
     ap (λ (t : List (List ℕ)). reply_spelling (reply log r) ∷ t)
     (posts_replied (Post m r ∷ log) m rs
-    ∙ ap (λ (es : List Entry). replies_from (λ b. opened log b) es rs)
+    ∙ ap (λ (es : List DecidedRequest). replies_from (λ b. opened log b) es rs)
     (record_zeroed m (λ b. opened log b) (decided log) (request_of r)))
     ∙ ap (λ (out : ReplyFields). reply_spelling out ∷ replies_from (λ b. opened log b) after rs)
     (sym (reply_zeroed (λ b. opened log b) (decided log) (request_of r)))
@@ -136,7 +136,7 @@ unfolding entries_behind
 posts_decided log m [] = refl
 posts_decided log m (r ∷ rs) =
     posts_decided (Post m r ∷ log) m rs
-    ∙ ap (λ (es : List Entry). entries_behind (λ b. opened log b) es rs)
+    ∙ ap (λ (es : List DecidedRequest). entries_behind (λ b. opened log b) es rs)
     (record_zeroed m (λ b. opened log b) (decided log) (request_of r))
 
 posts_opened : (log : List Command) (m : ℕ) (rs : List (List ℕ)) → ◌≡◌ {A = ℕ → Option ℕ}
@@ -159,7 +159,7 @@ batches_replied log (b ∷ bs) =
     (batches_replied now bs
     ∙ ap (λ (o : ℕ → Option ℕ). replies_from o (zeroed (decided now)) (records_of bs))
     (posts_opened log b.moment b.records)
-    ∙ ap (λ (es : List Entry). replies_from (λ x. opened log x) es (records_of bs))
+    ∙ ap (λ (es : List DecidedRequest). replies_from (λ x. opened log x) es (records_of bs))
     (posts_decided log b.moment b.records))
     ∙ sym (replies_from-append (λ x. opened log x) (zeroed (decided log)) b.records (records_of bs))
 

@@ -6,7 +6,7 @@ use Rattle.posting_rules.specs.declared.facts.Verdict.{Verdict}
 use Rattle.posting_rules.specs.declared.facts.Verdict.TheVariants.{Unkept, Again, Refused, Posted}
 use Rattle.posting_rules.specs.Commands.{branch_of_teller}
 use Rattle.posting_rules.specs.Cases.{case_of, reply_in}
-use Rattle.posting_rules.specs.Entries.{Entry, refused_entry, posted_entry, malformed_reply}
+use Rattle.posting_rules.specs.Entries.{DecidedRequest, refused_entry, posted_entry, malformed_reply}
 use Rattle.posting_rules.specs.Tables.{Tables, branch_key, teller_key, account_key, branch_row_of}
 use Rattle.posting_rules.specs.Tables.{request_row_of, history_row_of}
 use Rattle.posting_rules.specs.LookUps.{found_in}
@@ -21,13 +21,13 @@ rows_from row first (suc count) = rows_from row first count ++ row (first + coun
 
 -- ---- what a record does to the rows
 
-abbrev pub tables_kept : Tables → Entry → Tables
+abbrev pub tables_kept : Tables → DecidedRequest → Tables
 tables_kept t e = let ordinal = t.decided + 1 in record t {
   decided = ordinal;
   requests = t.requests ++ request_row_of ordinal e ∷ [];
 }
 
-abbrev pub tables_posted : Tables → Entry → ℤ → ℤ → Tables
+abbrev pub tables_posted : Tables → DecidedRequest → ℤ → ℤ → Tables
 tables_posted t e teller branch = let ordinal = t.decided + 1 in record {
   decided = ordinal;
   branches = row_changed branch_key (with_branch_balance branch)

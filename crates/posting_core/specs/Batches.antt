@@ -44,7 +44,7 @@ posts_of bs = flat_map posts_in bs
 -- of the bank
 
 -- the bank took them, and their replies were written
-pub record IsAnswered (w w' : Option (List ℕ)) (c c' : Seen) (commands : List Command) : Type 0 where
+pub record BatchIsAnswered (w w' : Option (List ℕ)) (c c' : Seen) (commands : List Command) : Type 0 where
   pub written : List ℕ
   pub wrote : Appends w w' written
   pub takes : Takes c c' commands

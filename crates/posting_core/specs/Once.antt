@@ -13,7 +13,7 @@ use Rattle.posting_rules.specs.Counter.{Seen, ShowsLog, Takes, IsUnchanged, Refu
 -- and c'.
 
 -- the record was read and posted, and all of its reply was written
-pub record IsAnswered (r r' w w' : Option (List ℕ)) (c c' : Seen) (moment : ℕ) : Type 0 where
+pub record RecordIsAnswered (r r' w w' : Option (List ℕ)) (c c' : Seen) (moment : ℕ) : Type 0 where
   pub bytes : List ℕ
   pub whole : length bytes ≡ 100
   pub read : Consumes r r' bytes
@@ -54,9 +54,9 @@ pub record IsRefused (fault : Fault) (r r' w w' : Option (List ℕ)) (c c' : See
   pub refuses : Refuses fault c c' (Post moment bytes ∷ [])
 
 -- what stands after each fault
-abbrev pub Leaves : OnceFault → Option (List ℕ) → Option (List ℕ) → Option (List ℕ) → Option (List ℕ) → Seen
+abbrev pub LeavesAfterFault : OnceFault → Option (List ℕ) → Option (List ℕ) → Option (List ℕ) → Option (List ℕ) → Seen
     → Seen → ℕ → Type 0
-Leaves Short r r' w w' c c' moment = EndsShort r r' w w' c c'
-Leaves Read r r' w w' c c' moment = IsUnread w w' c c'
-Leaves Write r r' w w' c c' moment = IsCutOff r r' w w' c c' moment
-Leaves (Bank fault) r r' w w' c c' moment = IsRefused fault r r' w w' c c' moment
+LeavesAfterFault Short r r' w w' c c' moment = EndsShort r r' w w' c c'
+LeavesAfterFault Read r r' w w' c c' moment = IsUnread w w' c c'
+LeavesAfterFault Write r r' w w' c c' moment = IsCutOff r r' w w' c c' moment
+LeavesAfterFault (Bank fault) r r' w w' c c' moment = IsRefused fault r r' w w' c c' moment

@@ -39,18 +39,18 @@ pub record EndsInRecord (r' : Option (List ℕ)) (refused : List Batch) (rest : 
   pub all_taken : refused ≡ []
 
 -- how it ended
-abbrev pub Ends : Result ℕ StreamFault → Option (List ℕ) → List Batch → List Batch → List ℕ → Type 0
-Ends (Ok count) r' taken refused rest = EndsWhole r' taken refused rest count
-Ends (Err (Truncated n)) r' taken refused rest = EndsInRecord r' refused rest n
-Ends (Err Read) r' taken refused rest = refused ≡ []
-Ends (Err Write) r' taken refused rest = refused ≡ []
-Ends (Err (Bank fault)) r' taken refused rest = length refused ≡ 1
+abbrev pub EndsStream : Result ℕ StreamFault → Option (List ℕ) → List Batch → List Batch → List ℕ → Type 0
+EndsStream (Ok count) r' taken refused rest = EndsWhole r' taken refused rest count
+EndsStream (Err (Truncated n)) r' taken refused rest = EndsInRecord r' refused rest n
+EndsStream (Err Read) r' taken refused rest = refused ≡ []
+EndsStream (Err Write) r' taken refused rest = refused ≡ []
+EndsStream (Err (Bank fault)) r' taken refused rest = length refused ≡ 1
 
 -- what was written of the replies to what the bank took: a beginning where the writer failed, and all of them
 -- elsewhere
-abbrev pub IsWritten : Result ℕ StreamFault → List ℕ → List ℕ → Type 0
-IsWritten (Err Write) written replies = written ≡ take (length written) replies
-IsWritten _ written replies = written ≡ replies
+abbrev pub RepliesAreWritten : Result ℕ StreamFault → List ℕ → List ℕ → Type 0
+RepliesAreWritten (Err Write) written replies = written ≡ take (length written) replies
+RepliesAreWritten _ written replies = written ≡ replies
 
 abbrev pub IfUp : Fault → Type 0 → Type 0
 IfUp Memory P = P
@@ -75,11 +75,11 @@ pub record Streamed (r r' w w' k k' : Option (List ℕ)) (c c' : Seen)
   pub clock : AreReadings k k' (moments_of (taken ++ refused))
   pub written : List ℕ
   pub wrote : Appends w w' written
-  pub ends : Ends result r' taken refused rest
+  pub ends : EndsStream result r' taken refused rest
   -- the replies are those to what the bank took, and that is what it shows
   pub honest : c'.honest → c.honest
   pub replies : c'.honest → (log : List Command) → ShowsLog c log
-      → IsWritten result written (joined (replies_to log (posts_of taken)))
+      → RepliesAreWritten result written (joined (replies_to log (posts_of taken)))
   pub shows : c'.honest → (log : List Command) → ShowsLog c log
       → UnlessDown result (ShowsLog c' (behind log (posts_of taken)))
   pub stands : c'.honest → (log : List Command) → StandsAt c log
@@ -99,27 +99,27 @@ abbrev pub replies_text : List Command → List ℕ → List ℕ
 replies_text log bytes = joined (replies_to log (posts 0 (whole_records bytes)))
 
 -- all of the text was written, or a beginning of it where the writer failed or the bank refused a batch
-abbrev pub Writes : Result ℕ StreamFault → Option (List ℕ) → Option (List ℕ) → List ℕ → Type 0
-Writes (Err Write) w w' text = (n : ℕ) × Appends w w' (take n text)
-Writes (Err (Bank fault)) w w' text = (n : ℕ) × Appends w w' (take n text)
-Writes _ w w' text = Appends w w' text
+abbrev pub WritesReplies : Result ℕ StreamFault → Option (List ℕ) → Option (List ℕ) → List ℕ → Type 0
+WritesReplies (Err Write) w w' text = (n : ℕ) × Appends w w' (take n text)
+WritesReplies (Err (Bank fault)) w w' text = (n : ℕ) × Appends w w' (take n text)
+WritesReplies _ w w' text = Appends w w' text
 
-pub record Outputs (r r' w w' : Option (List ℕ)) (c c' : Seen) (result : Result ℕ StreamFault) : Type 0 where
+pub record OutputsReplies (r r' w w' : Option (List ℕ)) (c c' : Seen) (result : Result ℕ StreamFault) : Type 0 where
   pub bytes : List ℕ
   pub read : Consumes r r' bytes
-  pub writes : c'.honest → (log : List Command) → ShowsLog c log → Writes result w w' (replies_text log bytes)
+  pub writes : c'.honest → (log : List Command) → ShowsLog c log → WritesReplies result w w' (replies_text log bytes)
 
 -- ---- what the ends told: the source from r to r', and the sink from w to w'
 
 -- a fault of an end comes where that end failed; all that was written was flushed, wherever the sink didn't
 -- fail
-abbrev pub EndsAs : Result ℕ StreamFault → Option (List ReadTold) → Option (List ReadTold)
+abbrev pub StreamFaultIsOfItsEnd : Result ℕ StreamFault → Option (List ReadTold) → Option (List ReadTold)
     → Option (List WriteTold) → Option (List WriteTold) → Type 0
-EndsAs (Ok count) r r' w w' = EndsWith IsEndOfInput r r' × IsThrough w w'
-EndsAs (Err (Truncated n)) r r' w w' = EndsWith IsEndOfInput r r' × IsThrough w w'
-EndsAs (Err Read) r r' w w' = HasReadFailed r r' × IsThrough w w'
-EndsAs (Err Write) r r' w w' = HasWriteFailed w w'
-EndsAs (Err (Bank fault)) r r' w w' = IsThrough w w'
+StreamFaultIsOfItsEnd (Ok count) r r' w w' = EndsWith IsEndOfInput r r' × IsThrough w w'
+StreamFaultIsOfItsEnd (Err (Truncated n)) r r' w w' = EndsWith IsEndOfInput r r' × IsThrough w w'
+StreamFaultIsOfItsEnd (Err Read) r r' w w' = HasReadFailed r r' × IsThrough w w'
+StreamFaultIsOfItsEnd (Err Write) r r' w w' = HasWriteFailed w w'
+StreamFaultIsOfItsEnd (Err (Bank fault)) r r' w w' = IsThrough w w'
 
 -- ---- what a stop leaves
 
@@ -137,7 +137,7 @@ acknowledged (reply ∷ replies) (suc n) = suc (acknowledged replies (suc n - le
 
 -- everything that a stop may leave shows the log and a beginning of what was read, which holds all that was
 -- acknowledged
-pub record Survives (r r' w w' : Option (List ℕ)) (c c' : Seen) : Type 0 where
+pub record SurvivesStream (r r' w w' : Option (List ℕ)) (c c' : Seen) : Type 0 where
   pub bytes : List ℕ
   pub read : Consumes r r' bytes
   pub written : List ℕ

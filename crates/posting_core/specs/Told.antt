@@ -38,27 +38,27 @@ flush_told (Err e) = Unflushed
 -- ---- calls one after another
 
 -- known calls grow by these
-abbrev pub Adds : {A : Type 0} → Option (List A) → Option (List A) → List A → Type 0
-Adds None new calls = ⊤
-Adds (Some before) None calls = ⊥
-Adds (Some before) (Some after) calls = after ≡ before ++ calls
+abbrev pub GrowsBy : {A : Type 0} → Option (List A) → Option (List A) → List A → Type 0
+GrowsBy None new calls = ⊤
+GrowsBy (Some before) None calls = ⊥
+GrowsBy (Some before) (Some after) calls = after ≡ before ++ calls
 
 -- calls were made, and P holds of what the last of them told
 pub record EndsWith {A : Type 0} (P : A → Type 0) (old new : Option (List A)) : Type 0 where
   pub earlier : List A
   pub last : A
-  pub made : Adds old new (earlier ++ last ∷ [])
+  pub made : GrowsBy old new (earlier ++ last ∷ [])
   pub is : P last
 
 -- some calls were made, or none
 pub record HasMore {A : Type 0} (old new : Option (List A)) : Type 0 where
   pub calls : List A
-  pub made : Adds old new calls
+  pub made : GrowsBy old new calls
 
 -- 2^64 - 1 calls were made, or more
 pub record IsWornOut {A : Type 0} (old new : Option (List A)) : Type 0 where
   pub calls : List A
-  pub made : Adds old new calls
+  pub made : GrowsBy old new calls
   pub many : 2 ^ 64 - 1 ≤ length calls
 
 -- ---- a source
@@ -97,4 +97,4 @@ HasWriteFailed old new = EndsWith IsWriteFailure old new ⊎ IsWornOut old new
 
 -- it was asked nothing, or to flush after all else
 abbrev pub IsThrough : Option (List WriteTold) → Option (List WriteTold) → Type 0
-IsThrough old new = Adds old new [] ⊎ EndsWith IsFlush old new
+IsThrough old new = GrowsBy old new [] ⊎ EndsWith IsFlush old new

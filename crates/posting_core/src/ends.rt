@@ -2,7 +2,7 @@
 ghost use Rattle.std.specs.Prelude.{ℕ, List, [], ◌∷◌, Option, None};
 ghost use Rattle.std.specs.Io.{ReadsAtMost, WritesAtMost};
 ghost use Rattle.std.specs.Io.KnownBytes.{Keeps, ReadConsumes, WriteAppends};
-ghost use Rattle.posting_core.specs.Told.{Adds, ReadTold, WriteTold, read_told, write_told, flush_told};
+ghost use Rattle.posting_core.specs.Told.{GrowsBy, ReadTold, WriteTold, read_told, write_told, flush_told};
 
 use std::io;
 use std::io::{Read, Write};
@@ -19,7 +19,7 @@ pub trait Source {
     fn give(&mut self, buffer: &mut [u8]) -> io::Result<usize>
         ensures bound { ReadsAtMost result buffer.new }
         ensures bytes { ReadConsumes (remaining self.old) (remaining self.new) result buffer.new }
-        ensures tells { Adds (told self.old) (told self.new) (read_told result ∷ []) };
+        ensures tells { GrowsBy (told self.old) (told self.new) (read_told result ∷ []) };
 }
 
 /// What takes bytes. Every writer does. A type of its own may also know what its writes and flushes told.
@@ -34,12 +34,12 @@ pub trait Sink {
     fn take(&mut self, bytes: &[u8]) -> io::Result<usize>
         ensures bound { WritesAtMost result bytes.now }
         ensures bytes { WriteAppends (contents self.old) (contents self.new) result bytes.now }
-        ensures tells { Adds (told self.old) (told self.new) (write_told bytes.now result ∷ []) };
+        ensures tells { GrowsBy (told self.old) (told self.new) (write_told bytes.now result ∷ []) };
 
     /// Sends on what was taken.
     fn send_on(&mut self) -> io::Result<()>
         ensures bytes { Keeps (contents self.old) (contents self.new) }
-        ensures tells { Adds (told self.old) (told self.new) (flush_told result ∷ []) };
+        ensures tells { GrowsBy (told self.old) (told self.new) (flush_told result ∷ []) };
 }
 
 impl<R: Read> Source for R {

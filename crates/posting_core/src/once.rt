@@ -1,7 +1,7 @@
 //! One record from a reader, and its reply to a writer.
 ghost use Rattle.std.specs.Prelude.{OnOk, IfErr};
 ghost use Rattle.std.specs.Result.{IsErrOf};
-ghost use Rattle.posting_core.specs.Once.{IsAnswered, Leaves};
+ghost use Rattle.posting_core.specs.Once.{RecordIsAnswered, LeavesAfterFault};
 ghost use Rattle.posting_core.specs.Told.{EndsWith, HasReadFailed, HasWriteFailed, IsEndOfInput, IsFlush};
 
 use crate::ends::{Sink, Source};
@@ -52,10 +52,10 @@ pub fn answer_once<R: Source, W: Sink, C: Counter>(
     moment: Moment,
     bank: &mut C,
 ) -> Result<(), OnceFault>
-    ensures ok { OnOk result (IsAnswered (R.remaining reader.old) (R.remaining reader.new)
+    ensures ok { OnOk result (RecordIsAnswered (R.remaining reader.old) (R.remaining reader.new)
         (W.contents writer.old) (W.contents writer.new)
         (C.seen bank.old) (C.seen bank.new) moment) }
-    ensures fault { IfErr result (λ fault. Leaves fault (R.remaining reader.old) (R.remaining reader.new)
+    ensures fault { IfErr result (λ fault. LeavesAfterFault fault (R.remaining reader.old) (R.remaining reader.new)
         (W.contents writer.old) (W.contents writer.new)
         (C.seen bank.old) (C.seen bank.new) moment) }
     ensures ended { IsErrOf result OnceFault.Short

@@ -6,7 +6,7 @@ ghost use Rattle.message_records.specs.Reading.{request_of};
 ghost use Rattle.posting_rules.specs.declared.limits.TheConstants.{MAX_DECIDED};
 ghost use Rattle.posting_rules.specs.Branches.{IsInRange};
 ghost use Rattle.posting_rules.specs.Kept.{is_kept_with};
-ghost use Rattle.posting_rules.specs.Entries.{Entry};
+ghost use Rattle.posting_rules.specs.Entries.{DecidedRequest};
 ghost use Rattle.posting_rules.specs.Tables.{request_row_of, history_row_of, teller_row_of, account_row_of};
 ghost use Rattle.posting_core.specs.Appended.{rows_from};
 
@@ -134,7 +134,7 @@ pub struct PlainBank {
 
 impl PlainBank {
     ghost use Rattle.posting_rules.specs.Cases.{IsProper};
-    ghost use Rattle.posting_rules.specs.Tables.{Shows};
+    ghost use Rattle.posting_rules.specs.Tables.{AreTablesOf};
     ghost use Rattle.posting_rules.specs.LookUps.{found_in};
     ghost use Rattle.posting_rules.specs.Commands.{Command, AreCommands};
     ghost use Rattle.posting_rules.specs.Runs.{behind, posts, replies_to};
@@ -144,7 +144,7 @@ impl PlainBank {
     /// A bank with no branch. It takes no memory.
     #[must_use]
     pub fn new(alloc: Global) -> Self
-        ensures { Shows (plain_tables result) [] }
+        ensures { AreTablesOf (plain_tables result) [] }
     {
         PlainBank {
             alloc,
@@ -231,9 +231,9 @@ impl PlainBank {
         requires replies { vec_len replies.old + length records.now ≤ vec_capacity replies.old }
         ensures count { length replies.new.items ≡ length replies.old.items + length records.now }
         ensures commands { AreCommands (posts moment records.now) }
-        ensures shows { (log : List Command) → Shows (plain_tables self.old) log
-            → Shows (plain_tables self.new) (behind log (posts moment records.now)) }
-        ensures replies { (log : List Command) → Shows (plain_tables self.old) log →
+        ensures shows { (log : List Command) → AreTablesOf (plain_tables self.old) log
+            → AreTablesOf (plain_tables self.new) (behind log (posts moment records.now)) }
+        ensures replies { (log : List Command) → AreTablesOf (plain_tables self.old) log →
             replies.new.items ≡ replies.old.items ++ replies_to log (posts moment records.now) }
     {
         // A moment is in its range.
@@ -280,7 +280,7 @@ impl Counter for PlainBank {
     ghost use Rattle.posting_rules.specs.Branches.{IsNextBranch, IsLineAbove};
     ghost use Rattle.posting_rules.specs.Commands.{Command};
     ghost use Rattle.posting_rules.specs.Entries.{balance_behind};
-    ghost use Rattle.posting_rules.specs.Tables.{Shows, Tables};
+    ghost use Rattle.posting_rules.specs.Tables.{AreTablesOf, Tables};
     ghost use Rattle.posting_core.specs.Plain.{plain_seen, plain_tables};
 
     ghost seen = { plain_seen };
@@ -332,7 +332,7 @@ impl Counter for PlainBank {
     // It takes no memory, and always answers.
     fn balance(&mut self, account: Account) -> Result<Option<Cents>, Fault>
         ensures ok { IsOk result }
-        ensures value { IfOk result (λ balance. (log : List Command) → Shows (plain_tables self.old) log
+        ensures value { IfOk result (λ balance. (log : List Command) → AreTablesOf (plain_tables self.old) log
             → balance ≡ balance_behind log account) }
         ensures stays { plain_tables self.new ≡ plain_tables self.old }
     {
@@ -342,7 +342,7 @@ impl Counter for PlainBank {
     // It takes no memory, and always answers.
     fn next_branch(&mut self, after: u32) -> Result<Option<BranchLine>, Fault>
         ensures ok { IsOk result }
-        ensures line { IfOk result (λ line. (log : List Command) → Shows (plain_tables self.old) log
+        ensures line { IfOk result (λ line. (log : List Command) → AreTablesOf (plain_tables self.old) log
             → IsNextBranch log after line) }
         ensures within { IfOk result (λ line. IfSome line (IsLineAbove after)) }
         ensures stays { plain_tables self.new ≡ plain_tables self.old }

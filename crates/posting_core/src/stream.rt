@@ -3,8 +3,8 @@ ghost use Rattle.std.specs.Prelude.{◌≡◌, ◌≢◌, ℕ, ◌-◌, ◌≤�
 ghost use Rattle.std.specs.Result.{IsErrOf};
 ghost use Rattle.posting_core.specs.Clock.{IsReading};
 ghost use Rattle.posting_rules.specs.Runs.{posts};
-ghost use Rattle.posting_core.specs.Batches.{IsAnswered, BreaksOff};
-ghost use Rattle.posting_core.specs.Stream.{Streamed, Outputs, Survives, Resends, EndsAs};
+ghost use Rattle.posting_core.specs.Batches.{BatchIsAnswered, BreaksOff};
+ghost use Rattle.posting_core.specs.Stream.{Streamed, OutputsReplies, SurvivesStream, Resends, StreamFaultIsOfItsEnd};
 ghost use Rattle.posting_core.specs.Stream.{IfBank, IfTaken, IsRefusedBehind, UnlessDown};
 ghost use Rattle.posting_core.specs.Told.{EndsWith, HasWriteFailed, IsFlush};
 
@@ -76,7 +76,7 @@ fn answer_batch<W: Sink, K: Clock, C: Counter>(
     requires few { length records.now ≤ RECORDS_PER_BATCH }
     ensures answers { (moment : ℕ) × IsReading (K.readings clock.old) (K.readings clock.new) moment
         × MatchResult result
-        (λ _. IsAnswered (W.contents writer.old) (W.contents writer.new) (C.seen bank.old) (C.seen bank.new)
+        (λ _. BatchIsAnswered (W.contents writer.old) (W.contents writer.new) (C.seen bank.old) (C.seen bank.new)
         (posts moment records.now))
         (λ fault. BreaksOff fault (W.contents writer.old) (W.contents writer.new) (C.seen bank.old)
         (C.seen bank.new) (posts moment records.now)) }
@@ -115,10 +115,10 @@ pub fn post_stream<R: Source, W: Sink, K: Clock, C: Counter>(
     ensures stream { Streamed (R.remaining reader.old) (R.remaining reader.new) (W.contents writer.old)
         (W.contents writer.new)
         (K.readings clock.old) (K.readings clock.new) (C.seen bank.old) (C.seen bank.new) result }
-    ensures output { Outputs (R.remaining reader.old) (R.remaining reader.new) (W.contents writer.old)
+    ensures output { OutputsReplies (R.remaining reader.old) (R.remaining reader.new) (W.contents writer.old)
         (W.contents writer.new)
         (C.seen bank.old) (C.seen bank.new) result }
-    ensures stop { Survives (R.remaining reader.old) (R.remaining reader.new) (W.contents writer.old)
+    ensures stop { SurvivesStream (R.remaining reader.old) (R.remaining reader.new) (W.contents writer.old)
         (W.contents writer.new)
         (C.seen bank.old) (C.seen bank.new) }
     ensures resend { Resends (R.remaining reader.old) (R.remaining reader.new) (C.seen bank.old)
@@ -126,7 +126,7 @@ pub fn post_stream<R: Source, W: Sink, K: Clock, C: Counter>(
     ensures refused { IfErr result (λ fault. IfBank fault
         (IsRefusedBehind C.seen bank.old bank.new (R.remaining reader.old) (R.remaining reader.new))) }
     ensures up { UnlessDown result ((C.seen bank.new).is_down → (C.seen bank.old).is_down) }
-    ensures ends { EndsAs result (R.told reader.old) (R.told reader.new)
+    ensures ends { StreamFaultIsOfItsEnd result (R.told reader.old) (R.told reader.new)
         (W.told writer.old) (W.told writer.new) }
 {
     let mut buffer = [0u8; BUFFER];

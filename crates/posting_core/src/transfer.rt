@@ -2,7 +2,7 @@
 ghost use Rattle.std.specs.Prelude.{◌≡◌, ◌≤◌, ◌<◌, ◌+◌, ◌++◌, ◌∷◌, [], ℕ, List, IfOk, OnOk, OnErr, length};
 ghost use Rattle.std.specs.Prelude.{take};
 ghost use Rattle.std.specs.Io.KnownBytes.{Keeps, Appends, Consumes, IsAtEnd};
-ghost use Rattle.posting_core.specs.Told.{Adds, EndsWith, HasMore, HasReadFailed, HasWriteFailed};
+ghost use Rattle.posting_core.specs.Told.{GrowsBy, EndsWith, HasMore, HasReadFailed, HasWriteFailed};
 ghost use Rattle.posting_core.specs.Told.{IsEndOfInput, IsFlush, read_told};
 
 use crate::ends::{Sink, Source};
@@ -51,7 +51,7 @@ pub fn fill<R: Source>(reader: &mut R, buffer: &mut [u8], filled: usize) -> io::
     ensures end { IfOk result (λ n. n ≡ 0 → IsAtEnd (R.remaining reader.new)) }
     ensures err { OnErr result (Keeps (R.remaining reader.old) (R.remaining reader.new)
         × (take filled buffer.new ≡ take filled buffer.old)) }
-    ensures tells { Adds (R.told reader.old) (R.told reader.new) (read_told result ∷ []) }
+    ensures tells { GrowsBy (R.told reader.old) (R.told reader.new) (read_told result ∷ []) }
 {
     reader.give(&mut buffer[filled..])
 }

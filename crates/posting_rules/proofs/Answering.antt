@@ -9,7 +9,7 @@ use Rattle.posting_rules.specs.Counter.{opening_for, opening_behind}
 use Rattle.posting_rules.specs.Entries.{balance_behind, branch_balance, decided}
 use Rattle.posting_rules.specs.LookUps.{balance_of_branch}
 use Rattle.posting_rules.specs.Runs.{behind}
-use Rattle.posting_rules.specs.Tables.{Tables, Shows}
+use Rattle.posting_rules.specs.Tables.{Tables, AreTablesOf}
 use Rattle.posting_rules.specs.Alike.{AreAlike}
 use Rattle.posting_rules.proofs.Calls.{opens}
 use Rattle.posting_rules.proofs.Looked.{balance_shown, count_shown}
@@ -18,10 +18,10 @@ use Rattle.posting_rules.proofs.Records.{past_shown}
 -- tables that show both logs with the commands behind them
 record BothShown (one two : List Command) : Type 0 where
   tables : Tables
-  first : Shows tables one
-  second : Shows tables two
+  first : AreTablesOf tables one
+  second : AreTablesOf tables two
 
-both_shown : (t : Tables) (one two cs : List Command) → Shows t one → Shows t two → AreCommands cs
+both_shown : (t : Tables) (one two cs : List Command) → AreTablesOf t one → AreTablesOf t two → AreCommands cs
     → BothShown (behind one cs) (behind two cs)
 both_shown t one two [] s u valid = record { tables = t; first = s; second = u }
 both_shown t one two (Post m bytes ∷ cs) s u valid =

@@ -16,7 +16,7 @@ use Rattle.posting_rules.specs.Commands.{Command, Post, opened, branch_of_teller
 use Rattle.posting_rules.specs.Commands.{is_account_open}
 use Rattle.posting_rules.specs.Kept.{KeptFields}
 use Rattle.posting_rules.specs.Cases.{balance_shown, is_same, kept_reply, reply_in}
-use Rattle.posting_rules.specs.Entries.{Entry, kept, account_balance, teller_balance, branch_balance}
+use Rattle.posting_rules.specs.Entries.{DecidedRequest, kept, account_balance, teller_balance, branch_balance}
 use Rattle.posting_rules.specs.Entries.{with_verdict, with_record, decided, reply_to, reply, refused_entry}
 use Rattle.posting_rules.specs.Entries.{posted_entry}
 use Rattle.posting_rules.specs.Stated.{IsDecided, IsPosted, AddsEntry, DecidesAsStated, RepliesAsStated}
@@ -77,7 +77,7 @@ no_balance outcome.Malformed z e = refl
 
 refused : (before : List Command) (moment : ℕ) (bytes : List ℕ) (r : RequestFields) (o : Outcome)
     → request_of bytes ≡ Ok r → verdict before r ≡ Refused o → has_balance o ≡ false
-    → (IsPosted before r → ⊥) → (e : Entry) × AddsEntry before moment bytes r e
+    → (IsPosted before r → ⊥) → (e : DecidedRequest) × AddsEntry before moment bytes r e
 refused before moment bytes r o read e f h = (
   refused_entry moment r o,
   record {
@@ -91,7 +91,7 @@ refused before moment bytes r o read e f h = (
 )
 
 posted : (before : List Command) (moment : ℕ) (bytes : List ℕ) (r : RequestFields) → IsDecided before bytes r
-    → IsPosted before r → (e : Entry) × AddsEntry before moment bytes r e
+    → IsPosted before r → (e : DecidedRequest) × AddsEntry before moment bytes r e
 posted before moment bytes r d p = (
   posted_entry moment r (account_balance (decided before) r.account +ℤ r.delta),
   record {
@@ -108,7 +108,7 @@ posted before moment bytes r d p = (
 by_sums : (before : List Command) (moment : ℕ) (bytes : List ℕ) (r : RequestFields) → IsDecided before bytes r
     → r.branch ≡ branch_of_teller r.teller
     → is_account_open (λ b. opened before b) r.account ≡ true
-    → (e : Entry) × AddsEntry before moment bytes r e
+    → (e : DecidedRequest) × AddsEntry before moment bytes r e
 by_sums before moment bytes r d its open_a =
     let none = λ (h : IsPosted before r → ⊥). refused before moment bytes r outcome.OverLimit d.names.read
     (decided_verdict before r bytes d ∙ has_sums before r d.room its open_a
@@ -133,7 +133,7 @@ by_sums before moment bytes r d its open_a =
 
 -- a decided request adds its entry
 adds_entry : (before : List Command) (moment : ℕ) (bytes : List ℕ) (r : RequestFields)
-    → IsDecided before bytes r → (e : Entry) × AddsEntry before moment bytes r e
+    → IsDecided before bytes r → (e : DecidedRequest) × AddsEntry before moment bytes r e
 adds_entry before moment bytes r d =
     elim (by_test (eqb r.branch (branch_of_teller r.teller))) [
       | inr f ↦ let ne : r.branch ≢ branch_of_teller r.teller =

@@ -11,7 +11,7 @@ use Rattle.posting_rules.specs.declared.facts.Verdict.{Verdict}
 use Rattle.posting_rules.specs.declared.facts.Verdict.TheVariants.{Unkept, Again, Refused, Posted}
 use Rattle.posting_rules.specs.Commands.{Command, Open, Post, opened}
 use Rattle.posting_rules.specs.Cases.{case_of}
-use Rattle.posting_rules.specs.Entries.{Entry, is_posted, facts, account_balance, teller_balance}
+use Rattle.posting_rules.specs.Entries.{DecidedRequest, is_posted, facts, account_balance, teller_balance}
 use Rattle.posting_rules.specs.Entries.{branch_balance, refused_entry, with_verdict, with_record, decided}
 use Rattle.posting_rules.specs.Laws.{StaysWithin}
 use Rattle.posting_rules.proofs.Verdicts.{IsSum, IsVerdict, verdict_is}
@@ -19,7 +19,7 @@ use Rattle.posting_rules.proofs.Verdicts.{IsSum, IsVerdict, verdict_is}
 abbrev IsWithin : ℤ → Type 0
 IsWithin z = nat_abs z ≤ MAX_BALANCE
 
-record AllWithin (es : List Entry) : Type 0 where
+record AllWithin (es : List DecidedRequest) : Type 0 where
   accounts : (a : ℕ) → IsWithin (account_balance es a)
   tellers : (t : ℕ) → IsWithin (teller_balance es t)
   branches : (b : ℕ) → IsWithin (branch_balance es b)
@@ -35,7 +35,7 @@ keeps_within false hit old delta h new = h
 sum_within : (old delta new : ℤ) → IsSum old delta new → IsWithin (old +ℤ delta)
 sum_within old delta new s = subst IsWithin s.sum s.within
 
-within_verdict : (opened : ℕ → Option ℕ) (es : List Entry) (m : ℕ) (r : RequestFields) (v : Verdict)
+within_verdict : (opened : ℕ → Option ℕ) (es : List DecidedRequest) (m : ℕ) (r : RequestFields) (v : Verdict)
     → IsVerdict opened es r v → AllWithin es → AllWithin (with_verdict m r v es)
 within_verdict opened es m r (Unkept o) h all = all
 within_verdict opened es m r (Again x) h all = all
@@ -59,7 +59,7 @@ within_verdict opened es m r (Posted a t b) h all = record {
       ∙ eqb-true _ _ e) (sum_within _ _ b h.branch_is));
 }
 
-within_record : (opened : ℕ → Option ℕ) (es : List Entry) (m : ℕ) (read : Result RequestFields Bad)
+within_record : (opened : ℕ → Option ℕ) (es : List DecidedRequest) (m : ℕ) (read : Result RequestFields Bad)
     → AllWithin es → AllWithin (with_record m read opened es)
 within_record opened es m (Ok r) all = within_verdict opened es m r (case_of (facts opened es r) r)
     (verdict_is opened es r) all

@@ -14,7 +14,7 @@ use Rattle.posting_rules.specs.Entries.{decided, reply}
 use Rattle.posting_rules.specs.LookUps.{found_in, count_in, count_of_branch}
 use Rattle.posting_rules.specs.Steps.{IsStep}
 use Rattle.posting_rules.specs.Tables.{Tables, row_at, branch_key}
-use Rattle.posting_rules.specs.Tables.{Shows as Show}
+use Rattle.posting_rules.specs.Tables.{AreTablesOf as Show}
 use Rattle.posting_rules.proofs.Looked.{count_shown}
 use Rattle.posting_rules.proofs.Opened.{opening_shown, already_open_shown}
 use Rattle.posting_rules.proofs.Stepped.{post_shown, reply_shown}

@@ -9,8 +9,8 @@ use Rattle.std.proofs.lemmas.Bool.{eqb-true, eq-eqb}
 use Rattle.std.proofs.lemmas.Bool.Decides.{nat_tests}
 use Rattle.posting_rules.specs.declared.rows.HistoryRow.{HistoryRow}
 use Rattle.posting_rules.specs.Commands.{Command, opened, branch_of_teller}
-use Rattle.posting_rules.specs.Entries.{Entry, is_posted, posted_sum, branch_balance, decided}
-use Rattle.posting_rules.specs.Tables.{Tables, HasRows, Shows, row_at, branch_key, teller_key, account_key}
+use Rattle.posting_rules.specs.Entries.{DecidedRequest, is_posted, posted_sum, branch_balance, decided}
+use Rattle.posting_rules.specs.Tables.{Tables, HasRows, AreTablesOf, row_at, branch_key, teller_key, account_key}
 use Rattle.posting_rules.specs.Tables.{history_key, history_row, history_row_of, request_row}
 use Rattle.posting_rules.specs.LookUps.{balance_of_branch, balance_of_teller, balance_of_account}
 use Rattle.posting_rules.specs.Laws.{total, delta_of, tellers_of, Match, IsConsistent}
@@ -26,7 +26,7 @@ use Rattle.posting_rules.proofs.PostedSums.{branch_has, tellers_have, accounts_h
 late : (n o : ℕ) → n < o → eqb n o ≡ false
 late n o lt = grind (arith, nat_tests)
 
-nothing_past : (es : List Entry) (o : ℕ) → length es < o → sum_where (λ k. eqb k o) (posted_at es) ≡ pos 0
+nothing_past : (es : List DecidedRequest) (o : ℕ) → length es < o → sum_where (λ k. eqb k o) (posted_at es) ≡ pos 0
 nothing_past [] o lt = refl
 nothing_past (e ∷ es) o lt =
     elim (by_test (is_posted e)) [
@@ -35,7 +35,7 @@ nothing_past (e ∷ es) o lt =
     ]
 
 -- a row of history has what was posted under its ordinal
-row_has_delta : (es : List Entry) (o : ℕ) (r : HistoryRow) → history_row es o ≡ Some r
+row_has_delta : (es : List DecidedRequest) (o : ℕ) (r : HistoryRow) → history_row es o ≡ Some r
     → delta_of r ≡ sum_where (λ k. eqb k o) (posted_at es)
 row_has_delta [] o r e = absurd cc
 row_has_delta (d ∷ es) o r e =
@@ -50,7 +50,7 @@ row_has_delta (d ∷ es) o r e =
       | inr f ↦ rw f (row_has_delta es o r (let h = rw f at e in h))
     ]
 
-history_has : (t : Tables) (opened : ℕ → Option ℕ) (es : List Entry) → HasRows t opened es
+history_has : (t : Tables) (opened : ℕ → Option ℕ) (es : List DecidedRequest) → HasRows t opened es
     → AllByRecursion (λ r. delta_of r ≡ sum_where (λ k. eqb k (history_key r)) (posted_at es)) t.history
 history_has t opened es s =
     all_follow (λ r. row_at history_key t.history (history_key r) ≡ Some r)
@@ -59,12 +59,12 @@ history_has t opened es s =
     (each_under_its_key history_key t.history s.history_keys)
 
 -- each posting has a row, also behind further requests
-posted_has_row : (es : List Entry) (e : Entry) → is_posted e ≡ true
+posted_has_row : (es : List DecidedRequest) (e : DecidedRequest) → is_posted e ≡ true
     → is_some (history_row (e ∷ es) (length es + 1)) ≡ true
 posted_has_row es e p = rw (p, eq-eqb (length es + 1) (length es + 1) refl) refl
 
 -- the postings of a list have rows in a history that has those of the list
-have_at : (es : List Entry) (row : ℕ → Bool) → ((o : ℕ) → is_some (history_row es o) ≡ true → row o ≡ true)
+have_at : (es : List DecidedRequest) (row : ℕ → Bool) → ((o : ℕ) → is_some (history_row es o) ≡ true → row o ≡ true)
     → AllByRecursion (λ p. row p.0 ≡ true) (posted_at es)
 have_at [] row h = tt
 have_at (e ∷ es) row h =
@@ -79,14 +79,14 @@ have_at (e ∷ es) row h =
 
 -- ---- requests and history match
 
-match_past : (es : List Entry) (o : ℕ) → length es < o → (request_row es o ≡ None) × (history_row es o ≡ None)
+match_past : (es : List DecidedRequest) (o : ℕ) → length es < o → (request_row es o ≡ None) × (history_row es o ≡ None)
 match_past [] o lt = (refl, refl)
 match_past (e ∷ es) o lt =
     let rest = match_past es o (omega arith) in
     let later = late (length es + 1) o (omega arith) in
     (rw later rest.0, elim (by_test (is_posted e)) [ inl p ↦ rw (p, later) rest.1 | inr f ↦ rw f rest.1 ])
 
-rows_match : (es : List Entry) (o : ℕ) → Match (request_row es o) (history_row es o)
+rows_match : (es : List DecidedRequest) (o : ℕ) → Match (request_row es o) (history_row es o)
 rows_match [] o = tt
 rows_match (e ∷ es) o =
     elim (by_test (eqb (length es + 1) o)) [
@@ -105,7 +105,7 @@ rows_match (e ∷ es) o =
 -- ---- the condition
 
 -- a posting's branch is its teller's, so that both have it
-same_branch : (opened : ℕ → Option ℕ) (es : List Entry) (b : ℕ) → AllNameOpen opened es
+same_branch : (opened : ℕ → Option ℕ) (es : List DecidedRequest) (b : ℕ) → AllNameOpen opened es
     → posted_sum (λ r. leb 1 r.teller && eqb (branch_of_teller r.teller) b) es ≡ posted_sum
     (λ r. eqb r.branch b) es
 same_branch opened [] b h = refl
@@ -119,7 +119,7 @@ same_branch opened (e ∷ es) b h =
       | inr f ↦ rw f (same_branch opened es b h.1)
     ]
 
-pub consistent : (t : Tables) (log : List Command) → Shows t log → IsConsistent t
+pub consistent : (t : Tables) (log : List Command) → AreTablesOf t log → IsConsistent t
 consistent t log shows =
     let s = shows.rows in
     let es = decided log in

@@ -2,7 +2,7 @@
 use Rattle.std.proofs.Common.{◌≡◌, Bool, true, false, leb, [], refl}
 use Rattle.std.specs.Prelude.{nat_eq, ◌&&◌}
 use Rattle.std.specs.List.{IsDistinct}
-use Rattle.posting_rules.specs.Tables.{Shows}
+use Rattle.posting_rules.specs.Tables.{AreTablesOf}
 
 none_distinct : IsDistinct nat_eq []
 unfolding IsDistinct
@@ -12,7 +12,7 @@ and_false : (b : Bool) → (b && false) ≡ false
 and_false true = refl
 and_false false = refl
 
-pub empty_shown : Shows (record {
+pub empty_shown : AreTablesOf (record {
   decided = 0;
   branches = [];
   tellers = [];

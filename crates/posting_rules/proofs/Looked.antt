@@ -6,9 +6,9 @@ use Rattle.message_records.specs.Records.{RequestFields}
 use Rattle.posting_rules.specs.declared.facts.Found.{Found}
 use Rattle.posting_rules.specs.Commands.{Command, opened, branch_of_teller, is_teller_open, is_account_open}
 use Rattle.posting_rules.specs.Kept.{KeptFields}
-use Rattle.posting_rules.specs.Entries.{Entry, facts, teller_balance, branch_balance, account_balance}
+use Rattle.posting_rules.specs.Entries.{DecidedRequest, facts, teller_balance, branch_balance, account_balance}
 use Rattle.posting_rules.specs.Entries.{decided, balance_behind}
-use Rattle.posting_rules.specs.Tables.{Tables, HasRows, Shows, row_at, branch_key, branch_row_of, teller_row}
+use Rattle.posting_rules.specs.Tables.{Tables, HasRows, AreTablesOf, row_at, branch_key, branch_row_of, teller_row}
 use Rattle.posting_rules.specs.Tables.{teller_row_of, account_row_of}
 use Rattle.posting_rules.specs.LookUps.{found_in, both_of, teller_balances_in, account_balance_in, count_in}
 use Rattle.posting_rules.specs.LookUps.{count_of_branch, balance_of_branch, balance_of_teller}
@@ -25,7 +25,7 @@ both_rows true None t b x y = refl
 both_rows false (Some n) t b x y = refl
 both_rows false None t b x y = refl
 
-pub teller_balances_shown : (t : Tables) (opened : ℕ → Option ℕ) (es : List Entry) (n : ℕ)
+pub teller_balances_shown : (t : Tables) (opened : ℕ → Option ℕ) (es : List DecidedRequest) (n : ℕ)
     → HasRows t opened es
     → teller_balances_in t n ≡ cond (is_teller_open opened n)
     (Some (teller_balance es n, branch_balance es (branch_of_teller n))) None
@@ -42,7 +42,7 @@ balance_if_open : (b : Bool) (n : ℕ) (z : ℤ)
 balance_if_open true n z = refl
 balance_if_open false n z = refl
 
-pub account_balance_shown : (t : Tables) (opened : ℕ → Option ℕ) (es : List Entry) (n : ℕ)
+pub account_balance_shown : (t : Tables) (opened : ℕ → Option ℕ) (es : List DecidedRequest) (n : ℕ)
     → HasRows t opened es
     → account_balance_in t n ≡ cond (is_account_open opened n) (Some (account_balance es n)) None
 account_balance_shown t opened es n s =
@@ -54,13 +54,13 @@ count_of_row : (o : Option ℕ) (b : ℕ) (z : ℤ)
 count_of_row (Some n) b z = refl
 count_of_row None b z = refl
 
-pub count_shown : (t : Tables) (opened : ℕ → Option ℕ) (es : List Entry) (b : ℕ) → HasRows t opened es
+pub count_shown : (t : Tables) (opened : ℕ → Option ℕ) (es : List DecidedRequest) (b : ℕ) → HasRows t opened es
     → count_in t b ≡ opened b
 count_shown t opened es b s = ap (option_map count_of_branch) (s.branches b) ∙ count_of_row (opened b) b
     (branch_balance es b)
 
 -- all that is looked up for a request
-pub found_shown : (t : Tables) (opened : ℕ → Option ℕ) (es : List Entry) (r : RequestFields) → AreNew es
+pub found_shown : (t : Tables) (opened : ℕ → Option ℕ) (es : List DecidedRequest) (r : RequestFields) → AreNew es
     → HasRows t opened es → found_in t r ≡ facts opened es r
 found_shown t opened es r new s =
     made _ _ _ _ _ _ _ _ (teller_balances_shown t opened es r.teller s)
@@ -74,6 +74,6 @@ found_shown t opened es r new s =
     made a a' k k' n n' b b' ea ek en eb = rw (ea, ek, en, eb) refl
 
 -- the balance that an account shows is its balance behind the log
-pub balance_shown : (t : Tables) (log : List Command) (a : ℕ) → Shows t log
+pub balance_shown : (t : Tables) (log : List Command) (a : ℕ) → AreTablesOf t log
     → account_balance_in t a ≡ balance_behind log a
 balance_shown t log a s = account_balance_shown t (λ b. opened log b) (decided log) a s.rows

@@ -13,15 +13,15 @@ use Rattle.posting_rules.specs.declared.facts.Verdict.TheVariants.{Unkept, Again
 use Rattle.posting_rules.specs.Commands.{Command, Open, Post, opened, branch_of_teller, branch_of_account}
 use Rattle.posting_rules.specs.Commands.{place_of_account, is_within, is_teller_open, is_account_open}
 use Rattle.posting_rules.specs.Cases.{case_of}
-use Rattle.posting_rules.specs.Entries.{Entry, is_posted, facts, with_verdict, with_record, decided}
+use Rattle.posting_rules.specs.Entries.{DecidedRequest, is_posted, facts, with_verdict, with_record, decided}
 use Rattle.posting_rules.proofs.Verdicts.{IsVerdict, verdict_is}
 
-pub record NamesOpen (opened : ℕ → Option ℕ) (e : Entry) : Type 0 where
+pub record NamesOpen (opened : ℕ → Option ℕ) (e : DecidedRequest) : Type 0 where
   pub teller : is_posted e ≡ true → is_teller_open opened e.request.teller ≡ true
   pub account : is_posted e ≡ true → is_account_open opened e.request.account ≡ true
   pub branch : is_posted e ≡ true → e.request.branch ≡ branch_of_teller e.request.teller
 
-abbrev pub AllNameOpen : (ℕ → Option ℕ) → List Entry → Type 0
+abbrev pub AllNameOpen : (ℕ → Option ℕ) → List DecidedRequest → Type 0
 AllNameOpen opened es = AllByRecursion (NamesOpen opened) es
 
 -- what is open with one branch more
@@ -54,7 +54,7 @@ account_stays opened b count a h =
     rw (stays (opened (branch_of_account a)) (cond (eqb b (branch_of_account a)) (Some count) None)
     (some_within (place_of_account a) (opened (branch_of_account a)) two.1)) h
 
-all_stay : (opened : ℕ → Option ℕ) (b count : ℕ) (es : List Entry) → AllNameOpen opened es
+all_stay : (opened : ℕ → Option ℕ) (b count : ℕ) (es : List DecidedRequest) → AllNameOpen opened es
     → AllNameOpen (λ x. with_branch opened b count x) es
 all_stay opened b count [] h = tt
 all_stay opened b count (e ∷ es) h = (
@@ -66,7 +66,7 @@ all_stay opened b count (e ∷ es) h = (
   all_stay opened b count es h.1,
 )
 
-all_verdict : (opened : ℕ → Option ℕ) (es : List Entry) (m : ℕ) (r : RequestFields) (v : Verdict)
+all_verdict : (opened : ℕ → Option ℕ) (es : List DecidedRequest) (m : ℕ) (r : RequestFields) (v : Verdict)
     → IsVerdict opened es r v → AllNameOpen opened es → AllNameOpen opened (with_verdict m r v es)
 all_verdict opened es m r (Unkept o) h all = all
 all_verdict opened es m r (Again x) h all = all
@@ -81,7 +81,7 @@ all_verdict opened es m r (Refused o) h all = (
 all_verdict opened es m r (Posted a t b) h all =
     (record { teller = λ p. h.teller_open; account = λ p. h.account_open; branch = λ p. h.its_branch }, all)
 
-all_record : (opened : ℕ → Option ℕ) (es : List Entry) (m : ℕ) (read : Result RequestFields Bad)
+all_record : (opened : ℕ → Option ℕ) (es : List DecidedRequest) (m : ℕ) (read : Result RequestFields Bad)
     → AllNameOpen opened es → AllNameOpen opened (with_record m read opened es)
 all_record opened es m (Ok r) all = all_verdict opened es m r (case_of (facts opened es r) r)
     (verdict_is opened es r) all
@@ -94,7 +94,7 @@ all_name_open (Post m bytes ∷ log) = all_record (λ b. opened log b) (decided 
     (all_name_open log)
 
 -- the branch of a teller that is open is open
-pub open_home : (opened : ℕ → Option ℕ) (e : Entry) → NamesOpen opened e → is_posted e ≡ true
+pub open_home : (opened : ℕ → Option ℕ) (e : DecidedRequest) → NamesOpen opened e → is_posted e ≡ true
     → is_some (opened e.request.branch) ≡ true
 open_home opened e named p =
     ap (λ (b : ℕ). is_some (opened b)) (named.branch p)

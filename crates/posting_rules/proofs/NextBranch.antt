@@ -9,7 +9,7 @@ use Rattle.posting_rules.specs.Branches.{IsNextIn, IsNextBranch, line_of}
 use Rattle.posting_rules.specs.Commands.{Command, opened}
 use Rattle.posting_rules.specs.Entries.{branch_balance, decided}
 use Rattle.posting_rules.specs.LookUps.{count_of_branch, balance_of_branch}
-use Rattle.posting_rules.specs.Tables.{Tables, Shows, row_at, branch_key, branch_row_of}
+use Rattle.posting_rules.specs.Tables.{Tables, AreTablesOf, row_at, branch_key, branch_row_of}
 use Rattle.posting_rules.proofs.Keyed.{by_test, found_passes}
 use Rattle.posting_rules.proofs.Looked.{count_shown}
 use Rattle.posting_rules.proofs.Undamaged.{row_at-contained}
@@ -29,7 +29,7 @@ found_within test (r ∷ rows) row e =
           (suc rest.0, omega arith, rest.2)
     ]
 
-module _ (t : Tables) (log : List Command) (shows : Shows t log) where
+module _ (t : Tables) (log : List Command) (shows : AreTablesOf t log) where
   counted : (branch : ℕ)
       → opened log branch ≡ option_map count_of_branch (row_at branch_key t.branches branch)
   counted branch = sym (count_shown t (λ b. opened log b) (decided log) branch shows.rows)

@@ -8,8 +8,8 @@ use Rattle.std.proofs.lemmas.Bool.{eqb-true}
 use Rattle.posting_rules.specs.declared.limits.TheConstants.{MOST_ACCOUNTS}
 use Rattle.posting_rules.specs.Commands.{Command, Open, opened, branch_of_teller, branch_of_account}
 use Rattle.posting_rules.specs.Commands.{place_of_account, is_within, is_teller_open, is_account_open}
-use Rattle.posting_rules.specs.Entries.{Entry, teller_balance, branch_balance, account_balance, decided}
-use Rattle.posting_rules.specs.Tables.{Tables, HasRows, Shows, branch_row_of, teller_row_of, account_row_of}
+use Rattle.posting_rules.specs.Entries.{DecidedRequest, teller_balance, branch_balance, account_balance, decided}
+use Rattle.posting_rules.specs.Tables.{Tables, HasRows, AreTablesOf, branch_row_of, teller_row_of, account_row_of}
 use Rattle.posting_rules.specs.Steps.{OpensBranch, is_from, first_teller, first_account}
 use Rattle.posting_rules.proofs.Keyed.{by_test}
 use Rattle.posting_rules.proofs.NamedOpen.{AllNameOpen, with_branch, all_name_open, teller_stays}
@@ -79,7 +79,7 @@ either_none : (opened : ℕ → Option ℕ) (b x : ℕ) → opened b ≡ None �
 either_none opened b x closed =
     elim (by_test (eqb b x)) [ inl t ↦ inl (ap opened (sym (eqb-true b x t)) ∙ closed) | inr f ↦ inr f ]
 
-branch_added : (old new : Tables) (opened : ℕ → Option ℕ) (es : List Entry) (b count : ℕ)
+branch_added : (old new : Tables) (opened : ℕ → Option ℕ) (es : List DecidedRequest) (b count : ℕ)
     → AllNameOpen opened es → opened b ≡ None → 1 ≤ b → count ≤ MOST_ACCOUNTS
     → HasRows old opened es → OpensBranch old new b count → HasRows new (λ x. with_branch opened b count x) es
 branch_added old new opened es b count all closed hb hc s step = record {
@@ -117,7 +117,7 @@ branch_added old new opened es b count all closed hb hc s step = record {
 
 -- a branch that wasn't open is added
 pub opening_shown : (old new : Tables) (log : List Command) (b count : ℕ) → opened log b ≡ None → 1 ≤ b
-    → count ≤ MOST_ACCOUNTS → Shows old log → OpensBranch old new b count → Shows new (Open b count ∷ log)
+    → count ≤ MOST_ACCOUNTS → AreTablesOf old log → OpensBranch old new b count → AreTablesOf new (Open b count ∷ log)
 opening_shown old new log b count closed hb hc s step =
     record {
       rows = branch_added old new (λ x. opened log x) (decided log) b count (all_name_open log) closed
@@ -143,7 +143,7 @@ opened_again log b count n h x =
     none_more (Some y) = refl
 
 pub already_open_shown : (t : Tables) (log : List Command) (b count n : ℕ) → opened log b ≡ Some n
-    → Shows t log → Shows t (Open b count ∷ log)
+    → AreTablesOf t log → AreTablesOf t (Open b count ∷ log)
 already_open_shown t log b count n h s =
     record {
       rows = subst (λ (o : ℕ → Option ℕ). HasRows t o (decided log))

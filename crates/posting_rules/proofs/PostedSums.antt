@@ -7,7 +7,7 @@ use Rattle.std.specs.Option.{option_map}
 use Rattle.message_records.specs.Records.{RequestFields}
 use Rattle.posting_rules.specs.declared.rows.BranchRow.{BranchRow}
 use Rattle.posting_rules.specs.Commands.{opened, branch_of_teller, is_teller_open, is_account_open}
-use Rattle.posting_rules.specs.Entries.{Entry, is_posted, posted_sum, account_balance, teller_balance}
+use Rattle.posting_rules.specs.Entries.{DecidedRequest, is_posted, posted_sum, account_balance, teller_balance}
 use Rattle.posting_rules.specs.Entries.{branch_balance}
 use Rattle.posting_rules.specs.Tables.{Tables, HasRows, HasKeys, row_at, branch_key, teller_key, account_key}
 use Rattle.posting_rules.specs.Tables.{branch_row_of, teller_row_of, account_row_of}
@@ -21,21 +21,21 @@ use Rattle.posting_rules.proofs.Totals.{all_follow}
 -- ---- what was posted, under the keys of one kind
 
 -- the amounts posted, each under what its request names
-abbrev posted_under : (RequestFields → ℕ) → List Entry → List (ℕ × ℤ)
+abbrev posted_under : (RequestFields → ℕ) → List DecidedRequest → List (ℕ × ℤ)
 posted_under name [] = []
 posted_under name (e ∷ es) = cond (is_posted e) ((name e.request, e.request.delta) ∷ posted_under name es)
     (posted_under name es)
 
 -- the amounts posted, each under its ordinal
-abbrev pub posted_at : List Entry → List (ℕ × ℤ)
+abbrev pub posted_at : List DecidedRequest → List (ℕ × ℤ)
 posted_at [] = []
 posted_at (e ∷ es) = cond (is_posted e) ((length es + 1, e.request.delta) ∷ posted_at es) (posted_at es)
 
 -- all that was posted
-abbrev pub all_posted : List Entry → ℤ
+abbrev pub all_posted : List DecidedRequest → ℤ
 all_posted es = posted_sum (λ r. true) es
 
-sum_under : (name : RequestFields → ℕ) (test : ℕ → Bool) (es : List Entry)
+sum_under : (name : RequestFields → ℕ) (test : ℕ → Bool) (es : List DecidedRequest)
     → sum_where test (posted_under name es) ≡ posted_sum (λ r. test (name r)) es
 sum_under name test [] = refl
 sum_under name test (e ∷ es) =
@@ -45,7 +45,7 @@ sum_under name test (e ∷ es) =
       | inr f ↦ rw f (sum_under name test es)
     ]
 
-pub sum_at : (es : List Entry) → sum_where (λ o. true) (posted_at es) ≡ all_posted es
+pub sum_at : (es : List DecidedRequest) → sum_where (λ o. true) (posted_at es) ≡ all_posted es
 sum_at [] = refl
 sum_at (e ∷ es) =
     elim (by_test (is_posted e)) [
@@ -57,7 +57,7 @@ sum_at (e ∷ es) =
 
 -- rows of one kind: each has what was posted under its key, and each key that was posted to has one
 pub one_sum : {R : Type 0} (key : R → ℕ) (balance : R → ℤ) (name : RequestFields → ℕ) (test : ℕ → Bool)
-    (rows : List R) (es : List Entry) → HasKeys key rows
+    (rows : List R) (es : List DecidedRequest) → HasKeys key rows
     → AllByRecursion (λ r. balance r ≡ posted_sum (λ x. eqb (name x) (key r)) es) rows
     → HaveRows key rows (posted_under name es)
     → total (map balance (filter (λ r. test (key r)) rows)) ≡ posted_sum (λ r. test (name r)) es
@@ -72,7 +72,7 @@ some_if : {R : Type 0} (b : Bool) (r x : R) → cond b (Some r) None ≡ Some x 
 some_if true r x e = cc
 some_if false r x e = absurd cc
 
-pub teller_has : (t : Tables) (opened : ℕ → Option ℕ) (es : List Entry) → HasRows t opened es
+pub teller_has : (t : Tables) (opened : ℕ → Option ℕ) (es : List DecidedRequest) → HasRows t opened es
     → AllByRecursion (λ r. balance_of_teller r ≡ posted_sum (λ x. eqb x.teller (teller_key r)) es) t.tellers
 teller_has t opened es s =
     all_follow (λ r. row_at teller_key t.tellers (teller_key r) ≡ Some r)
@@ -81,7 +81,7 @@ teller_has t opened es s =
     (teller_row_of r.teller (teller_balance es r.teller)) r (sym (s.tellers r.teller) ∙ e)))
     (each_under_its_key teller_key t.tellers s.teller_keys)
 
-pub account_has : (t : Tables) (opened : ℕ → Option ℕ) (es : List Entry) → HasRows t opened es
+pub account_has : (t : Tables) (opened : ℕ → Option ℕ) (es : List DecidedRequest) → HasRows t opened es
     → AllByRecursion (λ r. balance_of_account r ≡ posted_sum (λ x. eqb x.account (account_key r)) es)
     t.accounts
 account_has t opened es s =
@@ -97,7 +97,7 @@ branch_balance_is (Some count) b z r e = let is : branch_row_of b z count ≡ r 
     (ap balance_of_branch is)
 branch_balance_is None b z r e = absurd cc
 
-pub branch_has : (t : Tables) (opened : ℕ → Option ℕ) (es : List Entry) → HasRows t opened es
+pub branch_has : (t : Tables) (opened : ℕ → Option ℕ) (es : List DecidedRequest) → HasRows t opened es
     → AllByRecursion (λ r. balance_of_branch r ≡ posted_sum (λ x. eqb x.branch (branch_key r)) es) t.branches
 branch_has t opened es s =
     all_follow (λ r. row_at branch_key t.branches (branch_key r) ≡ Some r)
@@ -117,7 +117,7 @@ mapped_is f (Some x) e = refl
 mapped_is f None e = absurd cc
 
 -- each posting names a number under which there is a row
-rows_have : {R : Type 0} (key : R → ℕ) (rows : List R) (name : RequestFields → ℕ) (es : List Entry)
+rows_have : {R : Type 0} (key : R → ℕ) (rows : List R) (name : RequestFields → ℕ) (es : List DecidedRequest)
     → AllByRecursion (λ e. is_posted e ≡ true → is_some (row_at key rows (name e.request)) ≡ true) es
     → HaveRows key rows (posted_under name es)
 rows_have key rows name [] h = tt
@@ -127,21 +127,21 @@ rows_have key rows name (e ∷ es) h =
       | inr f ↦ rw f (rows_have key rows name es h.1)
     ]
 
-pub tellers_have : (t : Tables) (opened : ℕ → Option ℕ) (all es : List Entry) → HasRows t opened all
+pub tellers_have : (t : Tables) (opened : ℕ → Option ℕ) (all es : List DecidedRequest) → HasRows t opened all
     → AllNameOpen opened es → HaveRows teller_key t.tellers (posted_under (λ r. r.teller) es)
 tellers_have t opened all es s h =
     rows_have teller_key t.tellers (λ r. r.teller) es (all_follow (NamesOpen opened) _ es
     (λ e named p. let n = e.request.teller in ap is_some (s.tellers n)
     ∙ some_is (is_teller_open opened n) (teller_row_of n (teller_balance all n)) (named.teller p)) h)
 
-pub accounts_have : (t : Tables) (opened : ℕ → Option ℕ) (all es : List Entry) → HasRows t opened all
+pub accounts_have : (t : Tables) (opened : ℕ → Option ℕ) (all es : List DecidedRequest) → HasRows t opened all
     → AllNameOpen opened es → HaveRows account_key t.accounts (posted_under (λ r. r.account) es)
 accounts_have t opened all es s h =
     rows_have account_key t.accounts (λ r. r.account) es (all_follow (NamesOpen opened) _ es
     (λ e named p. let n = e.request.account in ap is_some (s.accounts n)
     ∙ some_is (is_account_open opened n) (account_row_of n (account_balance all n)) (named.account p)) h)
 
-pub branches_have : (t : Tables) (opened : ℕ → Option ℕ) (all es : List Entry) → HasRows t opened all
+pub branches_have : (t : Tables) (opened : ℕ → Option ℕ) (all es : List DecidedRequest) → HasRows t opened all
     → AllNameOpen opened es → HaveRows branch_key t.branches (posted_under (λ r. r.branch) es)
 branches_have t opened all es s h =
     rows_have branch_key t.branches (λ r. r.branch) es (all_follow (NamesOpen opened) _ es

@@ -7,8 +7,8 @@ use Rattle.std.proofs.lemmas.Bool.{le-leb}
 use Rattle.posting_rules.specs.declared.rows.BranchRow.{BranchRow}
 use Rattle.posting_rules.specs.Commands.{Command, opened, branch_of_teller, branch_of_account}
 use Rattle.posting_rules.specs.Commands.{place_of_account, is_within}
-use Rattle.posting_rules.specs.Entries.{Entry, account_balance, teller_balance, branch_balance, decided}
-use Rattle.posting_rules.specs.Tables.{Tables, HasRows, Shows, HasKeys, row_at, branch_key, teller_key}
+use Rattle.posting_rules.specs.Entries.{DecidedRequest, account_balance, teller_balance, branch_balance, decided}
+use Rattle.posting_rules.specs.Tables.{Tables, HasRows, AreTablesOf, HasKeys, row_at, branch_key, teller_key}
 use Rattle.posting_rules.specs.Tables.{account_key, history_key, request_key, branch_row_of, teller_row_of}
 use Rattle.posting_rules.specs.Tables.{account_row_of}
 use Rattle.posting_rules.specs.LookUps.{count_in, count_of_branch}
@@ -60,14 +60,14 @@ is_some-mapped : {A B : Type 0} (f : A → B) (o : Option A) → is_some (option
 is_some-mapped f (Some x) = refl
 is_some-mapped f None = refl
 
-next_request : (t : Tables) (opened : ℕ → Option ℕ) (es : List Entry) → HasRows t opened es
+next_request : (t : Tables) (opened : ℕ → Option ℕ) (es : List DecidedRequest) → HasRows t opened es
     → row_at request_key t.requests (length es + 1) ≡ None
 next_request t opened es s =
     let next : length es + 1 ≡ suc (length es) = omega arith in
     ap (λ (o : ℕ). row_at request_key t.requests o) next ∙ s.requests (suc (length es)) ∙ request_row_past es
     (length es) (omega arith)
 
-next_posting : (t : Tables) (opened : ℕ → Option ℕ) (es : List Entry) → HasRows t opened es
+next_posting : (t : Tables) (opened : ℕ → Option ℕ) (es : List DecidedRequest) → HasRows t opened es
     → row_at history_key t.history (length es + 1) ≡ None
 next_posting t opened es s =
     let next : length es + 1 ≡ suc (length es) = omega arith in
@@ -75,7 +75,7 @@ next_posting t opened es s =
     (length es) (omega arith)
 
 -- the tables of a log are, of commands or not
-pub ready_shown : (t : Tables) (log : List Command) → Shows t log → AreReady t
+pub ready_shown : (t : Tables) (log : List Command) → AreTablesOf t log → AreReady t
 ready_shown t log shows =
     let s = shows.rows in
     let es = decided log in

@@ -9,7 +9,7 @@ use Rattle.posting_rules.specs.Commands.{Command, Post, AreCommands, opened}
 use Rattle.posting_rules.specs.Entries.{reply, reply_to, decided}
 use Rattle.posting_rules.specs.Runs.{behind, posts, replies_to}
 use Rattle.posting_rules.specs.Tables.{Tables}
-use Rattle.posting_rules.specs.Tables.{Shows as Show}
+use Rattle.posting_rules.specs.Tables.{AreTablesOf as Show}
 use Rattle.posting_rules.proofs.Stepped.{malformed_shown}
 use Rattle.posting_rules.specs.Changes.{tables_read, tables_past, tables_past_all, reply_read, reply_past}
 use Rattle.posting_rules.specs.Changes.{replies_past_all}

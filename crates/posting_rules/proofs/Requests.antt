@@ -17,7 +17,7 @@ use Rattle.posting_rules.specs.declared.rows.RequestRow.{RequestRow}
 use Rattle.posting_rules.specs.Commands.{Command, Open, Post, opened}
 use Rattle.posting_rules.specs.Kept.{KeptFields}
 use Rattle.posting_rules.specs.Cases.{case_of}
-use Rattle.posting_rules.specs.Entries.{Entry, kept, facts, with_verdict, with_record, decided}
+use Rattle.posting_rules.specs.Entries.{DecidedRequest, kept, facts, with_verdict, with_record, decided}
 use Rattle.posting_rules.specs.Tables.{row_at, HasKeys, request_key, request_row, request_row_of}
 use Rattle.posting_rules.specs.LookUps.{kept_in, kept_of_row}
 use Rattle.posting_rules.specs.Laws.{Differ}
@@ -25,18 +25,18 @@ use Rattle.posting_rules.proofs.Keyed.{by_test, row_at-found, found_passes, none
 use Rattle.posting_rules.proofs.Verdicts.{IsVerdict, verdict_is}
 
 -- no older request has the teller and the number of a decided one
-abbrev pub AreNew : List Entry → Type 0
+abbrev pub AreNew : List DecidedRequest → Type 0
 AreNew [] = Unit {0}
 AreNew (e ∷ es) = (kept es e.request.teller e.request.number ≡ None) × AreNew es
 
-new_verdict : (opened : ℕ → Option ℕ) (es : List Entry) (m : ℕ) (r : RequestFields) (v : Verdict)
+new_verdict : (opened : ℕ → Option ℕ) (es : List DecidedRequest) (m : ℕ) (r : RequestFields) (v : Verdict)
     → IsVerdict opened es r v → AreNew es → AreNew (with_verdict m r v es)
 new_verdict opened es m r (Unkept o) h all = all
 new_verdict opened es m r (Again x) h all = all
 new_verdict opened es m r (Refused o) h all = (h.new, all)
 new_verdict opened es m r (Posted a t b) h all = (h.new, all)
 
-new_record : (opened : ℕ → Option ℕ) (es : List Entry) (m : ℕ) (read : Result RequestFields Bad) → AreNew es
+new_record : (opened : ℕ → Option ℕ) (es : List DecidedRequest) (m : ℕ) (read : Result RequestFields Bad) → AreNew es
     → AreNew (with_record m read opened es)
 new_record opened es m (Ok r) all = new_verdict opened es m r (case_of (facts opened es r) r)
     (verdict_is opened es r) all
@@ -49,7 +49,7 @@ are_new (Post m bytes ∷ log) = new_record (λ b. opened log b) (decided log) m
 
 -- ---- tests of teller and number
 
-abbrev has_pair : ℕ → ℕ → Entry → Bool
+abbrev has_pair : ℕ → ℕ → DecidedRequest → Bool
 has_pair t n e = (eqb e.request.teller t) && (eqb e.request.number n)
 
 both_true : (a b : Bool) → (a && b) ≡ true → (a ≡ true) × (b ≡ true)
@@ -63,7 +63,7 @@ pair_same a b = let p : eqb a a ≡ true = eq-eqb a a refl in let q : eqb b b �
 -- ---- the law
 
 -- a request that none of the entries is kept under shares with none of them
-none_shared : (d : Entry) (es : List Entry) → kept es d.request.teller d.request.number ≡ None
+none_shared : (d : DecidedRequest) (es : List DecidedRequest) → kept es d.request.teller d.request.number ≡ None
     → AllByRecursion (λ e. Differ d e) es
 none_shared d [] h = tt
 none_shared d (e ∷ es) h =
@@ -76,7 +76,7 @@ none_shared d (e ∷ es) h =
       )
     ]
 
-pub none_shares : (es : List Entry) → AreNew es → AllPairs Differ es
+pub none_shares : (es : List DecidedRequest) → AreNew es → AllPairs Differ es
 none_shares [] h = λ i j d lt within. absurd (omega arith)
 none_shares (e ∷ es) h = AllPairs-cons Differ e es
     (All-from_recursion (λ d. Differ e d) es (none_shared e es h.0)) (none_shares es h.1)
@@ -87,7 +87,7 @@ low_ordinal : (n o : ℕ) → o ≤ n → eqb (n + 1) o ≡ false
 low_ordinal n o le = grind (arith, nat_tests)
 
 -- a kept request has a row under some ordinal
-pub record HasRow (es : List Entry) (t n : ℕ) (k : KeptFields) : Type 0 where
+pub record HasRow (es : List DecidedRequest) (t n : ℕ) (k : KeptFields) : Type 0 where
   pub ordinal : ℕ
   pub within : ordinal ≤ length es
   pub row : RequestRow
@@ -96,7 +96,7 @@ pub record HasRow (es : List Entry) (t n : ℕ) (k : KeptFields) : Type 0 where
   pub number : row.number ≡ n
   pub kept : row.kept ≡ k
 
-kept_has_row : (es : List Entry) (t n : ℕ) (k : KeptFields) → kept es t n ≡ Some k → HasRow es t n k
+kept_has_row : (es : List DecidedRequest) (t n : ℕ) (k : KeptFields) → kept es t n ≡ Some k → HasRow es t n k
 kept_has_row [] t n k e = absurd cc
 kept_has_row (e ∷ es) t n k h =
     elim (by_test (has_pair t n e)) [
@@ -123,7 +123,7 @@ kept_has_row (e ∷ es) t n k h =
     ]
 
 -- a row of a request has what is kept under its teller and number
-row_is_kept : (es : List Entry) (o : ℕ) (row : RequestRow) → AreNew es → request_row es o ≡ Some row
+row_is_kept : (es : List DecidedRequest) (o : ℕ) (row : RequestRow) → AreNew es → request_row es o ≡ Some row
     → kept es row.teller row.number ≡ Some row.kept
 row_is_kept [] o row h e = absurd cc
 row_is_kept (d ∷ es) o row h e =
@@ -152,7 +152,7 @@ row_has_pair row t n et en = let p : eqb row.teller t ≡ true = eq-eqb _ _ et i
     ≡ true = eq-eqb _ _ en in rw (p, q) refl
 
 -- the rows of the decided requests, found by teller and number
-pub kept_shown : (rows : List RequestRow) (es : List Entry) → HasKeys request_key rows
+pub kept_shown : (rows : List RequestRow) (es : List DecidedRequest) → HasKeys request_key rows
     → ((o : ℕ) → row_at request_key rows o ≡ request_row es o) → AreNew es → (t n : ℕ)
     → kept_in rows t n ≡ kept es t n
 kept_shown rows es keys shown new t n = by_found (find (λ r. (eqb r.teller t) && (eqb r.number n)) rows) refl

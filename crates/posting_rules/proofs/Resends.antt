@@ -5,8 +5,8 @@ use Rattle.std.proofs.Math.Seq.{get_or-append_seam}
 use Rattle.message_records.specs.Spelling.{reply_spelling}
 use Rattle.message_records.specs.Reading.{request_of}
 use Rattle.posting_rules.specs.Commands.{Command, Open, Post, AreCommands, opened}
-use Rattle.posting_rules.specs.Entries.{Entry, decided, with_record, reply}
-use Rattle.posting_rules.specs.Tables.{Tables, HasRows, Shows}
+use Rattle.posting_rules.specs.Entries.{DecidedRequest, decided, with_record, reply}
+use Rattle.posting_rules.specs.Tables.{Tables, HasRows, AreTablesOf}
 use Rattle.posting_rules.specs.Counter.{Seen, ShowsLog}
 use Rattle.posting_rules.specs.Runs.{behind, replies_to, ArePosts}
 use Rattle.posting_rules.specs.Resends.{Place, Skips}
@@ -32,7 +32,7 @@ decided_same one two (Open b n ∷ cs) h eo ed = absurd h
 decided_same one two (Post m r ∷ cs) h eo ed =
     decided_same (Post m r ∷ one) (Post m r ∷ two) cs h eo
     (ap (λ (o : ℕ → Option ℕ). with_record m (request_of r) o (decided one)) eo
-    ∙ ap (λ (es : List Entry). with_record m (request_of r) (λ b. opened two b) es) ed)
+    ∙ ap (λ (es : List DecidedRequest). with_record m (request_of r) (λ b. opened two b) es) ed)
 
 pub posts_both : (xs ys : List Command) → ArePosts xs → ArePosts ys → ArePosts (xs ++ ys)
 posts_both [] ys a b = b
@@ -118,14 +118,14 @@ left_out log p q (Post m bytes ∷ r) f hp hq hr (inr s) =
 
 -- tables that show them show what is left without them
 pub shows_left_out : (t : Tables) (log p r f : List Command) → ArePosts p → ArePosts r → Skips p r f
-    → Shows t (behind (behind log p) r)
-    → Shows t (behind (behind log p) f)
+    → AreTablesOf t (behind (behind log p) r)
+    → AreTablesOf t (behind (behind log p) f)
 shows_left_out t log p r f hp hr s shows =
     let after = behind (behind log p) f in
     let all = opened_behind (behind log p) r hr in
     let less = opened_behind (behind log p) f (posts_skip p r f hr s) in
     record {
-      rows = subst (λ (es : List Entry). HasRows t (λ b. opened after b) es)
+      rows = subst (λ (es : List DecidedRequest). HasRows t (λ b. opened after b) es)
           (left_out log p [] r f hp tt hr s)
           (subst (λ (o : ℕ → Option ℕ). HasRows t o (decided (behind (behind log p) r))) (all ∙ sym less)
           shows.rows);

@@ -6,7 +6,7 @@ use Rattle.message_records.specs.declared.limits.TheConstants.{MAX_MOMENT}
 use Rattle.message_records.specs.Spelling.{reply_spelling}
 use Rattle.posting_rules.specs.Commands.{Command, Open, Post, AreCommands}
 use Rattle.posting_rules.specs.Entries.{reply}
-use Rattle.posting_rules.specs.Tables.{Tables, Shows}
+use Rattle.posting_rules.specs.Tables.{Tables, AreTablesOf}
 use Rattle.posting_rules.specs.Runs.{behind, posts, replies_to, ArePosts}
 
 -- commands and then others behind a log
@@ -52,11 +52,11 @@ commands_one_more m rs i lt late whole are =
 
 -- what is shown with one more
 pub shows_one_more : (t : Tables) (log : List Command) (m : ℕ) (rs : List (List ℕ)) (i : ℕ) → i < length rs
-    → Shows t (Post m (get_or rs i []) ∷ behind log (posts m (take i rs)))
-    → Shows t (behind log (posts m (take (i + 1) rs)))
+    → AreTablesOf t (Post m (get_or rs i []) ∷ behind log (posts m (take i rs)))
+    → AreTablesOf t (behind log (posts m (take (i + 1) rs)))
 shows_one_more t log m rs i lt s =
     let one = Post m (get_or rs i []) ∷ [] in
-    subst (λ (l : List Command). Shows t l)
+    subst (λ (l : List Command). AreTablesOf t l)
     (sym (ap (behind log) (posts_one_more m rs i lt) ∙ behind-append log (posts m (take i rs)) one)) s
 
 -- the replies with one more

@@ -15,7 +15,7 @@ use Rattle.posting_rules.specs.declared.facts.Verdict.TheVariants.{Unkept, Again
 use Rattle.posting_rules.specs.Commands.{Command, Open, Post, IsCommand, AreCommands, opened}
 use Rattle.posting_rules.specs.Kept.{is_kept_with}
 use Rattle.posting_rules.specs.Cases.{case_of, plus_within}
-use Rattle.posting_rules.specs.Entries.{Entry, facts, with_verdict, with_record, decided}
+use Rattle.posting_rules.specs.Entries.{DecidedRequest, facts, with_verdict, with_record, decided}
 use Rattle.posting_rules.proofs.Verdicts.{IsVerdict, verdict_is, by_teller, by_known, by_new, by_account}
 use Rattle.posting_rules.proofs.Verdicts.{by_posting}
 
@@ -41,19 +41,19 @@ open_within (Open c count ∷ log) are b =
 -- ---- what is decided
 
 -- a decided request was read, its moment is within its range, and its outcome is kept with its balance
-pub record IsSoundEntry (e : Entry) : Type 0 where
+pub record IsSoundEntry (e : DecidedRequest) : Type 0 where
   pub request : IsRequest e.request
   pub moment : e.moment ≤ MAX_MOMENT
   pub kept : is_kept_with e.outcome e.balance ≡ true
   pub balance : nat_abs e.balance ≤ MAX_BALANCE
 
 -- each decided request is sound, and there was room for it
-abbrev pub AreSound : List Entry → Type 0
+abbrev pub AreSound : List DecidedRequest → Type 0
 AreSound [] = Unit {0}
 AreSound (e ∷ es) = IsSoundEntry e × (length es < MAX_DECIDED) × AreSound es
 
 -- no more are decided than a bank may decide
-pub few_enough : (es : List Entry) → AreSound es → length es ≤ MAX_DECIDED
+pub few_enough : (es : List DecidedRequest) → AreSound es → length es ≤ MAX_DECIDED
 few_enough [] h = lit≤ tt
 few_enough (e ∷ es) h = let room : length es < MAX_DECIDED = h.1 in omega arith
 
@@ -62,7 +62,7 @@ abbrev IsKeepable : Verdict → Type 0
 IsKeepable (Refused outcome) = is_kept_with outcome (pos 0) ≡ true
 IsKeepable v = Unit {0}
 
-keepable : (opened : ℕ → Option ℕ) (es : List Entry) (r : RequestFields)
+keepable : (opened : ℕ → Option ℕ) (es : List DecidedRequest) (r : RequestFields)
     → IsKeepable (case_of (facts opened es r) r)
 unfolding case_of
 keepable opened es r =
@@ -75,7 +75,7 @@ keepable opened es r =
     by_posting P (plus_within a r.delta) (plus_within z.0 r.delta) (plus_within z.1 r.delta) refl
     (λ x y w ex ey ew. tt)))))
 
-sound_verdict : (opened : ℕ → Option ℕ) (es : List Entry) (m : ℕ) (r : RequestFields) (v : Verdict)
+sound_verdict : (opened : ℕ → Option ℕ) (es : List DecidedRequest) (m : ℕ) (r : RequestFields) (v : Verdict)
     → IsVerdict opened es r v → IsKeepable v → IsRequest r → m ≤ MAX_MOMENT → AreSound es
     → AreSound (with_verdict m r v es)
 sound_verdict opened es m r (Unkept o) h k read late all = all
@@ -85,7 +85,7 @@ sound_verdict opened es m r (Refused o) h k read late all =
 sound_verdict opened es m r (Posted a t b) h k read late all =
     (record { request = read; moment = late; kept = refl; balance = h.account_is.within }, h.room, all)
 
-sound_record : (opened : ℕ → Option ℕ) (es : List Entry) (m : ℕ) (bytes : List ℕ)
+sound_record : (opened : ℕ → Option ℕ) (es : List DecidedRequest) (m : ℕ) (bytes : List ℕ)
     (read : Result RequestFields Bad)
     → request_of bytes ≡ read → IsCommand (Post m bytes) → AreSound es
     → AreSound (with_record m read opened es)

@@ -11,7 +11,7 @@ use Rattle.posting_rules.specs.declared.facts.Verdict.TheVariants.{Unkept, Again
 use Rattle.posting_rules.specs.Kept.{KeptFields}
 use Rattle.posting_rules.specs.Commands.{opened}
 use Rattle.posting_rules.specs.Cases.{case_of}
-use Rattle.posting_rules.specs.Entries.{Entry, facts, kept, with_verdict, with_record}
+use Rattle.posting_rules.specs.Entries.{DecidedRequest, facts, kept, with_verdict, with_record}
 use Rattle.posting_rules.proofs.Keyed.{by_test}
 use Rattle.posting_rules.proofs.Verdicts.{IsVerdict, verdict_is}
 use Rattle.posting_rules.proofs.SettledReplies.{IsSettled}
@@ -21,7 +21,7 @@ both_true true b e = (refl, e)
 both_true false b e = absurd cc
 
 -- a request that is new isn't the one that is kept
-other_number : (es : List Entry) (x r : RequestFields) (k : KeptFields) → kept es x.teller x.number ≡ None
+other_number : (es : List DecidedRequest) (x r : RequestFields) (k : KeptFields) → kept es x.teller x.number ≡ None
     → kept es r.teller r.number ≡ Some k
     → ((eqb x.teller r.teller) && (eqb x.number r.number)) ≡ false
 other_number es x r k none some =
@@ -35,13 +35,13 @@ other_number es x r k none some =
       | inr f ↦ f
     ]
 
-kept_behind : (es : List Entry) (e : Entry) (r : RequestFields) (k : KeptFields)
+kept_behind : (es : List DecidedRequest) (e : DecidedRequest) (r : RequestFields) (k : KeptFields)
     → ((eqb e.request.teller r.teller) && (eqb e.request.number r.number)) ≡ false
     → kept es r.teller r.number ≡ Some k → kept (e ∷ es) r.teller r.number ≡ Some k
 kept_behind es e r k other is = rw other is
 
 -- what is kept stays kept
-kept_stays : (opened : ℕ → Option ℕ) (es : List Entry) (x r : RequestFields) (k : KeptFields) (m : ℕ)
+kept_stays : (opened : ℕ → Option ℕ) (es : List DecidedRequest) (x r : RequestFields) (k : KeptFields) (m : ℕ)
     (v : Verdict) → IsVerdict opened es x v
     → kept es r.teller r.number ≡ Some k → kept (with_verdict m x v es) r.teller r.number ≡ Some k
 kept_stays opened es x r k m (Unkept o) h is = is
@@ -50,7 +50,7 @@ kept_stays opened es x r k m (Refused o) h is = kept_behind es _ r k (other_numb
 kept_stays opened es x r k m (Posted a t b) h is = kept_behind es _ r k (other_number es x r k h.new is) is
 
 -- where no more are decided, nothing changes
-full_stays : (opened : ℕ → Option ℕ) (es : List Entry) (x : RequestFields) (m : ℕ) (v : Verdict)
+full_stays : (opened : ℕ → Option ℕ) (es : List DecidedRequest) (x : RequestFields) (m : ℕ) (v : Verdict)
     → IsVerdict opened es x v
     → leb MAX_DECIDED (length es) ≡ true → with_verdict m x v es ≡ es
 full_stays opened es x m (Unkept o) h e = refl
@@ -59,7 +59,7 @@ full_stays opened es x m (Refused o) h e = let le = leb-true _ _ e in let lt = h
 full_stays opened es x m (Posted a t b) h e = let le = leb-true _ _ e in let lt = h.room in absurd
     (omega arith)
 
-pub settled_stays : (opened : ℕ → Option ℕ) (es : List Entry) (r : RequestFields) (out : ReplyFields) (m : ℕ)
+pub settled_stays : (opened : ℕ → Option ℕ) (es : List DecidedRequest) (r : RequestFields) (out : ReplyFields) (m : ℕ)
     (read : Result RequestFields Bad)
     → IsSettled opened es r out → IsSettled opened (with_record m read opened es) r out
 settled_stays opened es r out m (Err e) h = h
@@ -75,4 +75,4 @@ settled_stays opened es r out m (Ok x) (inr (inl h)) =
     }))
 settled_stays opened es r out m (Ok x) (inr (inr h)) =
     let same = full_stays opened es x m (case_of (facts opened es x) x) (verdict_is opened es x) h.full in
-    subst (λ (ds : List Entry). IsSettled opened ds r out) (sym same) (inr (inr h))
+    subst (λ (ds : List DecidedRequest). IsSettled opened ds r out) (sym same) (inr (inr h))

@@ -20,10 +20,10 @@ use Rattle.posting_rules.specs.declared.rows.RequestRow.{RequestRow}
 use Rattle.posting_rules.specs.Commands.{Command, Post, opened, branch_of_teller, is_teller_open}
 use Rattle.posting_rules.specs.Commands.{is_account_open}
 use Rattle.posting_rules.specs.Cases.{case_of, reply_in}
-use Rattle.posting_rules.specs.Entries.{Entry, is_posted, facts, posted_sum, teller_balance, branch_balance}
+use Rattle.posting_rules.specs.Entries.{DecidedRequest, is_posted, facts, posted_sum, teller_balance, branch_balance}
 use Rattle.posting_rules.specs.Entries.{account_balance, refused_entry, posted_entry, with_verdict}
 use Rattle.posting_rules.specs.Entries.{with_record, reply_to, decided, reply}
-use Rattle.posting_rules.specs.Tables.{Tables, HasRows, HasKeys, Shows, row_at, branch_key, teller_key}
+use Rattle.posting_rules.specs.Tables.{Tables, HasRows, HasKeys, AreTablesOf, row_at, branch_key, teller_key}
 use Rattle.posting_rules.specs.Tables.{account_key, history_key, request_key, branch_row_of, teller_row_of}
 use Rattle.posting_rules.specs.Tables.{account_row_of, history_row, history_row_of, request_row}
 use Rattle.posting_rules.specs.Tables.{request_row_of}
@@ -40,7 +40,7 @@ other_ordinal : (n o : ℕ) → n < o → eqb (n + 1) (suc o) ≡ false
 other_ordinal n o lt = grind (arith, nat_tests)
 
 -- no request and no posting has an ordinal past the last one
-pub request_row_past : (es : List Entry) (o : ℕ) → length es ≤ o → request_row es (suc o) ≡ None
+pub request_row_past : (es : List DecidedRequest) (o : ℕ) → length es ≤ o → request_row es (suc o) ≡ None
 request_row_past [] o le = refl
 request_row_past (e ∷ es) o le = rw (other_ordinal (length es) o (omega arith))
     (request_row_past es o (omega arith))
@@ -49,12 +49,12 @@ and_false : (b : Bool) → (b && false) ≡ false
 and_false true = refl
 and_false false = refl
 
-pub history_row_past : (es : List Entry) (o : ℕ) → length es ≤ o → history_row es (suc o) ≡ None
+pub history_row_past : (es : List DecidedRequest) (o : ℕ) → length es ≤ o → history_row es (suc o) ≡ None
 history_row_past [] o le = refl
 history_row_past (e ∷ es) o le = rw (other_ordinal (length es) o (omega arith), and_false (is_posted e))
     (history_row_past es o (omega arith))
 
-requests_added : (old new : List RequestRow) (es : List Entry) (e : Entry)
+requests_added : (old new : List RequestRow) (es : List DecidedRequest) (e : DecidedRequest)
     → AddsRow request_key (request_row_of (length es + 1) e) old new
     → ((o : ℕ) → row_at request_key old o ≡ request_row es o) → (o : ℕ)
     → row_at request_key new o ≡ request_row (e ∷ es) o
@@ -68,7 +68,7 @@ requests_added old new es e adds shown o =
     named true t = ap (λ (n : ℕ). Some (request_row_of n e)) (eqb-true _ _ t)
     named false f = refl
 
-history_added : (old new : List HistoryRow) (es : List Entry) (e : Entry) → is_posted e ≡ true
+history_added : (old new : List HistoryRow) (es : List DecidedRequest) (e : DecidedRequest) → is_posted e ≡ true
     → AddsRow history_key (history_row_of (length es + 1) e) old new
     → ((o : ℕ) → row_at history_key old o ≡ history_row es o) → (o : ℕ)
     → row_at history_key new o ≡ history_row (e ∷ es) o
@@ -85,11 +85,11 @@ history_added old new es e done adds shown o =
 -- ---- balances
 
 -- what isn't posted adds to no sum, and to no history
-unposted_sum : (test : RequestFields → Bool) (es : List Entry) (e : Entry) → is_posted e ≡ false
+unposted_sum : (test : RequestFields → Bool) (es : List DecidedRequest) (e : DecidedRequest) → is_posted e ≡ false
     → posted_sum test es ≡ posted_sum test (e ∷ es)
 unposted_sum test es e h = rw h refl
 
-unposted_history : (es : List Entry) (e : Entry) → is_posted e ≡ false → (o : ℕ)
+unposted_history : (es : List DecidedRequest) (e : DecidedRequest) → is_posted e ≡ false → (o : ℕ)
     → history_row es o ≡ history_row (e ∷ es) o
 unposted_history es e h o = rw h refl
 
@@ -120,7 +120,7 @@ account_changed false hit n z old delta h = refl
 one_more : (n : ℕ) → n + 1 ≡ suc n
 one_more n = omega arith
 
-refusal_shown : (old new : Tables) (opened : ℕ → Option ℕ) (es : List Entry) (m : ℕ) (r : RequestFields)
+refusal_shown : (old new : Tables) (opened : ℕ → Option ℕ) (es : List DecidedRequest) (m : ℕ) (r : RequestFields)
     (o : Outcome)
     → HasRows old opened es → IsRefusal es r o → KeepsRefusal old new (length es + 1) (refused_entry m r o)
     → HasRows new opened (refused_entry m r o ∷ es)
@@ -151,7 +151,7 @@ refusal_shown old new opened es m r o s h step =
       request_keys = step.requests.keys;
     }
 
-posting_shown : (old new : Tables) (opened : ℕ → Option ℕ) (es : List Entry) (m : ℕ) (r : RequestFields)
+posting_shown : (old new : Tables) (opened : ℕ → Option ℕ) (es : List DecidedRequest) (m : ℕ) (r : RequestFields)
     (a t b : ℤ)
     → HasRows old opened es → IsPosting opened es r a t b
     → KeepsPosting old new (length es + 1) (posted_entry m r a) t b
@@ -184,7 +184,7 @@ posting_shown old new opened es m r a t b s h step =
       request_keys = step.requests.keys;
     }
 
-verdict_shown : (old new : Tables) (opened : ℕ → Option ℕ) (es : List Entry) (m : ℕ) (r : RequestFields)
+verdict_shown : (old new : Tables) (opened : ℕ → Option ℕ) (es : List DecidedRequest) (m : ℕ) (r : RequestFields)
     (v : Verdict)
     → HasRows old opened es → IsVerdict opened es r v → IsStep old new (length es + 1) m r v
     → HasRows new opened (with_verdict m r v es)
@@ -200,9 +200,9 @@ verdict_shown old new opened es m r (Posted a t b) s h step =
 
 -- tables that the verdict on what was looked up for a request changes
 pub post_shown : (old new : Tables) (log : List Command) (m : ℕ) (bytes : List ℕ) (r : RequestFields)
-    → request_of bytes ≡ Ok r → Shows old log
+    → request_of bytes ≡ Ok r → AreTablesOf old log
     → IsStep old new (length (decided log) + 1) m r (case_of (found_in old r) r)
-    → Shows new (Post m bytes ∷ log)
+    → AreTablesOf new (Post m bytes ∷ log)
 post_shown old new log m bytes r read s step =
     let es = decided log in
     let found : found_in old r ≡ facts (λ b. opened log b) es r = found_shown old (λ b. opened log b) es r
@@ -218,7 +218,7 @@ post_shown old new log m bytes r read s step =
 
 -- bytes that are no request change nothing
 pub malformed_shown : (t : Tables) (log : List Command) (m : ℕ) (bytes : List ℕ) (fault : Bad)
-    → request_of bytes ≡ Err fault → Shows t log → Shows t (Post m bytes ∷ log)
+    → request_of bytes ≡ Err fault → AreTablesOf t log → AreTablesOf t (Post m bytes ∷ log)
 malformed_shown t log m bytes fault read s =
     record {
       rows = subst (λ (x : Result RequestFields Bad). HasRows t (λ b. opened log b)
@@ -227,7 +227,7 @@ malformed_shown t log m bytes fault read s =
 
 -- the reply that the verdict on what was looked up tells
 pub reply_shown : (t : Tables) (log : List Command) (bytes : List ℕ) (r : RequestFields)
-    → request_of bytes ≡ Ok r → Shows t log → reply_in (case_of (found_in t r) r) r ≡ reply log bytes
+    → request_of bytes ≡ Ok r → AreTablesOf t log → reply_in (case_of (found_in t r) r) r ≡ reply log bytes
 reply_shown t log bytes r read s =
     let found : found_in t r ≡ facts (λ b. opened log b) (decided log) r = found_shown t (λ b. opened log b)
     (decided log) r (are_new log) s.rows in

@@ -9,8 +9,8 @@ use Rattle.posting_rules.specs.declared.facts.Verdict.TheVariants.{Unkept, Again
 use Rattle.posting_rules.specs.declared.rows.RequestRow.{RequestRow}
 use Rattle.posting_rules.specs.Commands.{Command, AreCommands, branch_of_teller}
 use Rattle.posting_rules.specs.Cases.{case_of, plus_within}
-use Rattle.posting_rules.specs.Entries.{Entry, refused_entry, posted_entry}
-use Rattle.posting_rules.specs.Tables.{Tables, Shows, row_at, branch_key, teller_key, account_key}
+use Rattle.posting_rules.specs.Entries.{DecidedRequest, refused_entry, posted_entry}
+use Rattle.posting_rules.specs.Tables.{Tables, AreTablesOf, row_at, branch_key, teller_key, account_key}
 use Rattle.posting_rules.specs.Tables.{history_key, request_key, branch_row_of, request_row_of}
 use Rattle.posting_rules.specs.Tables.{history_row_of}
 use Rattle.posting_rules.specs.LookUps.{both_of, balance_of_branch, balance_of_teller, balance_of_account}
@@ -31,7 +31,7 @@ use Rattle.posting_rules.proofs.RowChanges.{row_changes, row_adds, rows_add, nex
 use Rattle.posting_rules.specs.declared.limits.TheConstants.{MOST_ACCOUNTS}
 
 -- the tables that a log of commands leads to are sound
-pub sound_tables : (t : Tables) (log : List Command) → AreCommands log → Shows t log → AreSound t
+pub sound_tables : (t : Tables) (log : List Command) → AreCommands log → AreTablesOf t log → AreSound t
 sound_tables t log are shows = record {
   undamaged = undamaged t log are shows;
   branches = shows.rows.branch_keys;
@@ -44,7 +44,7 @@ sound_tables t log are shows = record {
 -- ---- what is decided
 
 -- the tables of a refusal
-pub refused_is : (t : Tables) (e : Entry) → AreReady t
+pub refused_is : (t : Tables) (e : DecidedRequest) → AreReady t
     → KeepsRefusal t (tables_kept t (t.decided + 1) e) (t.decided + 1) e
 unfolding with_decided with_request
 refused_is t e ready = record {
@@ -58,7 +58,7 @@ refused_is t e ready = record {
 }
 
 -- the tables of a posting
-pub posted_is : (t : Tables) (e : Entry) (teller branch : ℤ) → AreReady t
+pub posted_is : (t : Tables) (e : DecidedRequest) (teller branch : ℤ) → AreReady t
     → KeepsPosting t (tables_posted t (t.decided + 1) e teller branch) (t.decided + 1) e teller branch
 unfolding with_decided with_request with_history with_branch_balance with_teller_balance with_account_balance
 posted_is t e teller branch ready = record {
@@ -86,13 +86,13 @@ step_is t moment r (Posted account teller branch) ready = posted_is t
     (posted_entry moment r account) teller branch ready
 
 -- the writes of a posting leave the decided requests
-pub requests_as_before : (t : Tables) (ordinal : ℕ) (e : Entry) (teller branch : ℤ)
+pub requests_as_before : (t : Tables) (ordinal : ℕ) (e : DecidedRequest) (teller branch : ℤ)
     → (tables_moved t ordinal e teller branch).requests ≡ t.requests
 unfolding with_history with_branch_balance with_teller_balance with_account_balance
 requests_as_before t ordinal e teller branch = refl
 
 -- so that the next ordinal is as free behind them as before
-pub request_as_before : (t : Tables) (ordinal : ℕ) (e : Entry) (teller branch : ℤ) (n : ℕ)
+pub request_as_before : (t : Tables) (ordinal : ℕ) (e : DecidedRequest) (teller branch : ℤ) (n : ℕ)
     → row_at request_key (tables_moved t ordinal e teller branch).requests n ≡ row_at request_key t.requests n
 request_as_before t ordinal e teller branch n =
     ap (λ (rows : List RequestRow). row_at request_key rows n) (requests_as_before t ordinal e teller branch)

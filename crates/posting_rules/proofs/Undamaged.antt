@@ -18,9 +18,9 @@ use Rattle.posting_rules.specs.declared.rows.RequestRow.{RequestRow}
 use Rattle.posting_rules.specs.Commands.{Command, Open, IsCommand, AreCommands, opened, branch_of_teller}
 use Rattle.posting_rules.specs.Commands.{branch_of_account, place_of_account, is_within, is_teller_open}
 use Rattle.posting_rules.specs.Commands.{is_account_open}
-use Rattle.posting_rules.specs.Entries.{Entry, is_posted, account_balance, teller_balance, branch_balance}
+use Rattle.posting_rules.specs.Entries.{DecidedRequest, is_posted, account_balance, teller_balance, branch_balance}
 use Rattle.posting_rules.specs.Entries.{decided}
-use Rattle.posting_rules.specs.Tables.{Tables, Shows, HasKeys, row_at, branch_key, teller_key, account_key}
+use Rattle.posting_rules.specs.Tables.{Tables, AreTablesOf, HasKeys, row_at, branch_key, teller_key, account_key}
 use Rattle.posting_rules.specs.Tables.{history_key, request_key, branch_row_of, teller_row_of, account_row_of}
 use Rattle.posting_rules.specs.Tables.{history_row, history_row_of, request_row, request_row_of}
 use Rattle.posting_rules.specs.Damage.{IsSoundBranch, IsSoundTeller, IsSoundAccount, IsSoundRequest}
@@ -111,7 +111,7 @@ in_range r is = record {
 }
 
 -- the rows of a decided request, under an ordinal that a bank may decide
-request_row_sound : (o : ℕ) (e : Entry) → IsSoundEntry e → 1 ≤ o → o ≤ MAX_DECIDED
+request_row_sound : (o : ℕ) (e : DecidedRequest) → IsSoundEntry e → 1 ≤ o → o ≤ MAX_DECIDED
     → IsSoundRequest (request_row_of o e)
 request_row_sound o e h least most = record {
   ordinal_above = least;
@@ -123,7 +123,7 @@ request_row_sound o e h least most = record {
   balance = h.balance;
 }
 
-posting_row_sound : (o : ℕ) (e : Entry) → IsSoundEntry e → 1 ≤ o → o ≤ MAX_DECIDED
+posting_row_sound : (o : ℕ) (e : DecidedRequest) → IsSoundEntry e → 1 ≤ o → o ≤ MAX_DECIDED
     → IsSoundPosting (history_row_of o e)
 posting_row_sound o e h least most =
     record { ordinal_above = least; ordinal = most; fields = in_range e.request h.request; moment = h.moment }
@@ -133,7 +133,7 @@ ordinal_within : (n o : ℕ) → eqb (n + 1) o ≡ true → n < MAX_DECIDED → 
 ordinal_within n o t room = let is : n + 1 ≡ o = eqb-true _ _ t in (omega arith, omega arith)
 
 -- the row of one of the decided requests
-request_sound : (es : List Entry) (o : ℕ) (r : RequestRow) → AreSound es → request_row es o ≡ Some r
+request_sound : (es : List DecidedRequest) (o : ℕ) (r : RequestRow) → AreSound es → request_row es o ≡ Some r
     → IsSoundRequest r
 request_sound [] o r all h = absurd cc
 request_sound (e ∷ es) o r all h =
@@ -146,7 +146,7 @@ request_sound (e ∷ es) o r all h =
     ]
 
 -- the row of one of the postings
-posting_sound : (es : List Entry) (o : ℕ) (r : HistoryRow) → AreSound es → history_row es o ≡ Some r
+posting_sound : (es : List DecidedRequest) (o : ℕ) (r : HistoryRow) → AreSound es → history_row es o ≡ Some r
     → IsSoundPosting r
 posting_sound [] o r all h = absurd cc
 posting_sound (e ∷ es) o r all h =
@@ -161,7 +161,7 @@ posting_sound (e ∷ es) o r all h =
 -- ---- the law
 
 -- the tables of a log of commands are undamaged
-pub undamaged : (t : Tables) (log : List Command) → AreCommands log → Shows t log → IsUndamaged t
+pub undamaged : (t : Tables) (log : List Command) → AreCommands log → AreTablesOf t log → IsUndamaged t
 undamaged t log are shows =
     let s = shows.rows in
     let es = decided log in

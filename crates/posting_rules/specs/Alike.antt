@@ -7,12 +7,12 @@ use Rattle.posting_rules.specs.Commands.{Command, AreCommands}
 use Rattle.posting_rules.specs.Counter.{opening_behind}
 use Rattle.posting_rules.specs.Entries.{balance_behind}
 use Rattle.posting_rules.specs.Runs.{behind}
-use Rattle.posting_rules.specs.Tables.{Tables, Shows}
+use Rattle.posting_rules.specs.Tables.{Tables, AreTablesOf}
 
 -- the tables show both logs, and these commands follow either
 pub record AreAlike (t : Tables) (one two commands : List Command) : Type 0 where
-  pub first : Shows t one
-  pub second : Shows t two
+  pub first : AreTablesOf t one
+  pub second : AreTablesOf t two
   pub valid : AreCommands commands
 
 -- an opening gets one answer

@@ -17,7 +17,7 @@ use Rattle.message_records.specs.Reading.{request_of}
 use Rattle.posting_rules.specs.declared.facts.Verdict.{Verdict}
 use Rattle.posting_rules.specs.declared.facts.Verdict.TheVariants.{Unkept, Again, Refused, Posted}
 use Rattle.posting_rules.specs.Commands.{branch_of_teller}
-use Rattle.posting_rules.specs.Entries.{Entry, refused_entry, posted_entry, malformed_reply}
+use Rattle.posting_rules.specs.Entries.{DecidedRequest, refused_entry, posted_entry, malformed_reply}
 use Rattle.posting_rules.specs.Cases.{case_of, reply_in}
 use Rattle.posting_rules.specs.LookUps.{found_in}
 use Rattle.posting_rules.specs.Steps.{first_teller, first_account}
@@ -89,18 +89,18 @@ with_request r t = record t { requests = row_put request_key r t.requests }
 -- ---- a verdict
 
 -- a decided request is kept under its ordinal, and counted
-abbrev pub tables_kept : Tables → ℕ → Entry → Tables
+abbrev pub tables_kept : Tables → ℕ → DecidedRequest → Tables
 tables_kept t ordinal e = with_decided ordinal (with_request (request_row_of ordinal e) t)
 
 -- the three balances of a posting are written, and its row of history (TPC-B 1.2)
-abbrev pub tables_moved : Tables → ℕ → Entry → ℤ → ℤ → Tables
+abbrev pub tables_moved : Tables → ℕ → DecidedRequest → ℤ → ℤ → Tables
 tables_moved t ordinal e teller branch =
     with_history (history_row_of ordinal e)
     (with_branch_balance (branch_of_teller e.request.teller) branch
     (with_teller_balance e.request.teller teller (with_account_balance e.request.account e.balance t)))
 
 -- both
-abbrev pub tables_posted : Tables → ℕ → Entry → ℤ → ℤ → Tables
+abbrev pub tables_posted : Tables → ℕ → DecidedRequest → ℤ → ℤ → Tables
 tables_posted t ordinal e teller branch = tables_kept (tables_moved t ordinal e teller branch) ordinal e
 
 -- what a verdict on a request leaves

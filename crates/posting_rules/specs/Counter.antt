@@ -5,7 +5,7 @@ use Rattle.posting_rules.specs.declared.fault.Fault.TheVariants.{Memory, Store, 
 use Rattle.posting_rules.specs.declared.counter.Opening.{Opening}
 use Rattle.posting_rules.specs.declared.counter.Opening.TheVariants.{Opened, Already, Differs}
 use Rattle.posting_rules.specs.Commands.{Command, AreCommands, opened}
-use Rattle.posting_rules.specs.Tables.{Tables, Shows}
+use Rattle.posting_rules.specs.Tables.{Tables, AreTablesOf}
 use Rattle.posting_rules.specs.Runs.{behind}
 
 -- what is known of a counter at one moment
@@ -28,7 +28,7 @@ pub record ShowsLog (seen : Seen) (log : List Command) : Type 0 where
   pub commands : AreCommands log
   pub tables : Tables
   pub are : seen.tables tables
-  pub shows : Shows tables log
+  pub shows : AreTablesOf tables log
 
 -- where it is honest, a stop leaves something
 abbrev pub LeavesSomething : Seen → Type 0
@@ -47,7 +47,7 @@ LeavesNoMore old new = (remains : new.Remains) → new.left remains
 pub record StandsAt (seen : Seen) (log : List Command) : Type 0 where
   pub shows : ShowsLog seen log
   pub up : seen.is_down → ⊥
-  pub stop : LeavesOnly seen (λ t. Shows t log)
+  pub stop : LeavesOnly seen (λ t. AreTablesOf t log)
 
 -- the tables show the log and then a beginning of the commands, so many of them at least, all of them the
 -- bank's
@@ -56,7 +56,7 @@ pub record ShowsBeginning (log commands : List Command) (least : ℕ) (tables : 
   pub holds : least ≤ count
   pub within : count ≤ length commands
   pub are : AreCommands (behind log (take count commands))
-  pub shows : Shows tables (behind log (take count commands))
+  pub shows : AreTablesOf tables (behind log (take count commands))
 
 -- ---- what a call that was given some commands did
 

@@ -13,7 +13,7 @@ use Rattle.posting_rules.specs.declared.rows.RequestRow.{RequestRow}
 use Rattle.posting_rules.specs.Commands.{Command, AreCommands, branch_of_teller, branch_of_account}
 use Rattle.posting_rules.specs.Commands.{place_of_account, is_within}
 use Rattle.posting_rules.specs.Kept.{is_kept_with}
-use Rattle.posting_rules.specs.Tables.{Tables, Shows, row_at, branch_key, teller_key, account_key}
+use Rattle.posting_rules.specs.Tables.{Tables, AreTablesOf, row_at, branch_key, teller_key, account_key}
 use Rattle.posting_rules.specs.Tables.{history_key, request_key}
 use Rattle.posting_rules.specs.LookUps.{count_in}
 
@@ -110,4 +110,4 @@ pub record IsUndamaged (t : Tables) : Type 0 where
 
 -- no log of commands leads to damaged tables
 abbrev pub TablesAreUndamaged : Type 0
-TablesAreUndamaged = (t : Tables) (log : List Command) → AreCommands log → Shows t log → IsUndamaged t
+TablesAreUndamaged = (t : Tables) (log : List Command) → AreCommands log → AreTablesOf t log → IsUndamaged t

@@ -18,32 +18,32 @@ use Rattle.posting_rules.specs.Kept.{KeptFields}
 use Rattle.posting_rules.specs.Cases.{case_of, reply_in}
 
 -- A decided request. The balance is the account's new one where the request was posted, and zero elsewhere.
-pub record Entry : Type 0 where
+pub record DecidedRequest : Type 0 where
   pub moment : ℕ
   pub request : RequestFields
   pub outcome : Outcome
   pub balance : ℤ
 
-abbrev pub is_posted : Entry → Bool
+abbrev pub is_posted : DecidedRequest → Bool
 is_posted e = has_balance e.outcome
 
 -- the sum of what was posted by the requests that pass a test
-abbrev pub posted_sum : (RequestFields → Bool) → List Entry → ℤ
+abbrev pub posted_sum : (RequestFields → Bool) → List DecidedRequest → ℤ
 posted_sum test [] = pos 0
 posted_sum test (e ∷ es) = if (is_posted e && test e.request) then posted_sum test es +ℤ e.request.delta
     else posted_sum test es
 
 -- the balance of an account, a teller and a branch: all that was posted to it (TPC-B 1.2)
-abbrev pub account_balance : List Entry → ℕ → ℤ
+abbrev pub account_balance : List DecidedRequest → ℕ → ℤ
 account_balance es a = posted_sum (λ r. r.account == a) es
 
-abbrev pub teller_balance : List Entry → ℕ → ℤ
+abbrev pub teller_balance : List DecidedRequest → ℕ → ℤ
 teller_balance es t = posted_sum (λ r. r.teller == t) es
 
-abbrev pub branch_balance : List Entry → ℕ → ℤ
+abbrev pub branch_balance : List DecidedRequest → ℕ → ℤ
 branch_balance es b = posted_sum (λ r. r.branch == b) es
 
-abbrev pub kept_fields : Entry → KeptFields
+abbrev pub kept_fields : DecidedRequest → KeptFields
 kept_fields e = record {
   account = e.request.account;
   branch = e.request.branch;
@@ -53,11 +53,11 @@ kept_fields e = record {
 }
 
 -- the request that is kept under a teller and a number
-abbrev pub kept : List Entry → ℕ → ℕ → Option KeptFields
+abbrev pub kept : List DecidedRequest → ℕ → ℕ → Option KeptFields
 kept es t n = option_map kept_fields (find (λ e. (e.request.teller == t) && (e.request.number == n)) es)
 
 -- what is known where a request comes in
-abbrev pub facts : (ℕ → Option ℕ) → List Entry → RequestFields → Found
+abbrev pub facts : (ℕ → Option ℕ) → List DecidedRequest → RequestFields → Found
 facts opened es r = record {
   teller = if is_teller_open opened r.teller then Some
       (teller_balance es r.teller, branch_balance es (branch_of_teller r.teller)) else None;
@@ -66,10 +66,10 @@ facts opened es r = record {
   account = if is_account_open opened r.account then Some (account_balance es r.account) else None;
 }
 
-abbrev pub refused_entry : ℕ → RequestFields → Outcome → Entry
+abbrev pub refused_entry : ℕ → RequestFields → Outcome → DecidedRequest
 refused_entry moment r outcome = record { moment = moment; request = r; outcome = outcome; balance = pos 0 }
 
-abbrev pub posted_entry : ℕ → RequestFields → ℤ → Entry
+abbrev pub posted_entry : ℕ → RequestFields → ℤ → DecidedRequest
 posted_entry moment r balance = record {
   moment = moment;
   request = r;
@@ -78,18 +78,18 @@ posted_entry moment r balance = record {
 }
 
 -- the decided requests, with this one where it is decided now
-abbrev pub with_verdict : ℕ → RequestFields → Verdict → List Entry → List Entry
+abbrev pub with_verdict : ℕ → RequestFields → Verdict → List DecidedRequest → List DecidedRequest
 with_verdict moment r (Unkept outcome) es = es
 with_verdict moment r (Again reply) es = es
 with_verdict moment r (Refused outcome) es = refused_entry moment r outcome ∷ es
 with_verdict moment r (Posted account teller branch) es = posted_entry moment r account ∷ es
 
-abbrev pub with_record : ℕ → Result RequestFields Bad → (ℕ → Option ℕ) → List Entry → List Entry
+abbrev pub with_record : ℕ → Result RequestFields Bad → (ℕ → Option ℕ) → List DecidedRequest → List DecidedRequest
 with_record moment (Err fault) opened es = es
 with_record moment (Ok r) opened es = with_verdict moment r (case_of (facts opened es r) r) es
 
 -- the decided requests of a log, the newest first
-abbrev pub decided : List Command → List Entry
+abbrev pub decided : List Command → List DecidedRequest
 decided [] = []
 decided (Open branch count ∷ log) = decided log
 decided (Post moment bytes ∷ log) = with_record moment (request_of bytes) (λ b. opened log b) (decided log)
@@ -97,7 +97,7 @@ decided (Post moment bytes ∷ log) = with_record moment (request_of bytes) (λ 
 abbrev pub malformed_reply : ReplyFields
 malformed_reply = record { outcome = outcome.Malformed; request = None; balance = None }
 
-abbrev pub reply_to : Result RequestFields Bad → (ℕ → Option ℕ) → List Entry → ReplyFields
+abbrev pub reply_to : Result RequestFields Bad → (ℕ → Option ℕ) → List DecidedRequest → ReplyFields
 reply_to (Err fault) opened es = malformed_reply
 reply_to (Ok r) opened es = reply_in (case_of (facts opened es r) r) r
 

@@ -8,15 +8,15 @@ use Rattle.posting_rules.specs.declared.rows.TellerRow.{TellerRow}
 use Rattle.posting_rules.specs.declared.rows.HistoryRow.{HistoryRow}
 use Rattle.posting_rules.specs.declared.rows.RequestRow.{RequestRow}
 use Rattle.posting_rules.specs.Commands.{Command, AreCommands, branch_of_teller}
-use Rattle.posting_rules.specs.Entries.{Entry, decided, account_balance, teller_balance, branch_balance}
-use Rattle.posting_rules.specs.Tables.{Tables, Shows, row_at, history_key, request_key}
+use Rattle.posting_rules.specs.Entries.{DecidedRequest, decided, account_balance, teller_balance, branch_balance}
+use Rattle.posting_rules.specs.Tables.{Tables, AreTablesOf, row_at, history_key, request_key}
 use Rattle.posting_rules.specs.LookUps.{balance_of_branch, balance_of_teller, balance_of_account}
 use Rattle.posting_rules.specs.Runs.{replies_to}
 
 -- ---- each request once
 
 -- two decided requests have different tellers or different numbers
-abbrev pub Differ : Entry → Entry → Type 0
+abbrev pub Differ : DecidedRequest → DecidedRequest → Type 0
 Differ d e = d.request.teller ≡ e.request.teller → d.request.number ≡ e.request.number → ⊥
 
 -- no two decided requests share teller and number
@@ -67,11 +67,11 @@ pub record IsConsistent (t : Tables) : Type 0 where
   pub history : total (map delta_of t.history) ≡ total (map balance_of_account t.accounts)
 
 abbrev pub TablesAreConsistent : Type 0
-TablesAreConsistent = (t : Tables) (log : List Command) → Shows t log → IsConsistent t
+TablesAreConsistent = (t : Tables) (log : List Command) → AreTablesOf t log → IsConsistent t
 
 -- ---- the tables say all that matters of a log
 
 -- logs with equal tables give equal replies to whatever follows
 abbrev pub EqualTablesAnswerAlike : Type 0
-EqualTablesAnswerAlike = (t : Tables) (one two cs : List Command) → Shows t one → Shows t two → AreCommands cs
+EqualTablesAnswerAlike = (t : Tables) (one two cs : List Command) → AreTablesOf t one → AreTablesOf t two → AreCommands cs
     → replies_to one cs ≡ replies_to two cs

@@ -3,7 +3,7 @@ use Rattle.std.specs.Prelude.{◌≡◌, ◌⊎◌, ℕ, List, [], ◌∷◌, �
 use Rattle.message_records.specs.Spelling.{reply_spelling}
 use Rattle.posting_rules.specs.Commands.{Command, Open, Post, AreCommands}
 use Rattle.posting_rules.specs.Entries.{reply, decided}
-use Rattle.posting_rules.specs.Tables.{Tables, Shows}
+use Rattle.posting_rules.specs.Tables.{Tables, AreTablesOf}
 use Rattle.posting_rules.specs.Runs.{behind, replies_to, ArePosts}
 
 -- a place where a record stands among commands
@@ -39,7 +39,7 @@ RepliesInPlace = (log p r : List Command) (bytes : List ℕ) → (at : Place byt
 -- tables that show p and then posts r show p and then r less the records that stand in p
 abbrev pub AddsOnce : Type 0
 AddsOnce = (tables : Tables) (log p r added : List Command) → ArePosts p → ArePosts r → Skips p r added
-    → Shows tables (behind (behind log p) r) → Shows tables (behind (behind log p) added)
+    → AreTablesOf tables (behind (behind log p) r) → AreTablesOf tables (behind (behind log p) added)
 
 -- and where the one is a log of commands of the bank, so is the other
 abbrev pub KeepsCommands : Type 0

@@ -2,7 +2,7 @@
 use Rattle.std.specs.Prelude.{List}
 use Rattle.posting_rules.specs.Commands.{Command, AreCommands}
 use Rattle.posting_rules.specs.Damage.{IsUndamaged}
-use Rattle.posting_rules.specs.Tables.{Tables, Shows, HasKeys, branch_key, teller_key, account_key}
+use Rattle.posting_rules.specs.Tables.{Tables, AreTablesOf, HasKeys, branch_key, teller_key, account_key}
 use Rattle.posting_rules.specs.Tables.{history_key, request_key}
 
 -- nothing is damaged, and no two rows of a table have one key
@@ -16,4 +16,4 @@ pub record AreSound (t : Tables) : Type 0 where
 
 -- the tables are those of some log of the bank's commands
 abbrev pub AreOfALog : Tables → Type 0
-AreOfALog t = (log : List Command) × AreCommands log × Shows t log
+AreOfALog t = (log : List Command) × AreCommands log × AreTablesOf t log

@@ -12,7 +12,7 @@ use Rattle.posting_rules.specs.Commands.{Command, Post, opened, branch_of_teller
 use Rattle.posting_rules.specs.Commands.{is_account_open}
 use Rattle.posting_rules.specs.Kept.{KeptFields}
 use Rattle.posting_rules.specs.Cases.{balance_shown}
-use Rattle.posting_rules.specs.Entries.{Entry, is_posted, kept, account_balance, teller_balance}
+use Rattle.posting_rules.specs.Entries.{DecidedRequest, is_posted, kept, account_balance, teller_balance}
 use Rattle.posting_rules.specs.Entries.{branch_balance, decided, malformed_reply, reply}
 
 -- the bytes are this request, and its teller is open
@@ -43,7 +43,7 @@ pub record IsPosted (before : List Command) (r : RequestFields) : Type 0 where
 
 -- the record adds this entry to those that are decided
 pub record AddsEntry (before : List Command) (moment : ℕ) (bytes : List ℕ) (r : RequestFields)
-    (e : Entry) : Type 0 where
+    (e : DecidedRequest) : Type 0 where
   pub adds : decided (Post moment bytes ∷ before) ≡ e ∷ decided before
   pub at_moment : e.moment ≡ moment
   pub of_request : e.request ≡ r
@@ -58,7 +58,7 @@ pub record AddsEntry (before : List Command) (moment : ℕ) (bytes : List ℕ) (
 
 pub record DecidesAsStated (before : List Command) (moment : ℕ) (bytes : List ℕ) : Type 0 where
   pub where_decided : (r : RequestFields) → IsDecided before bytes r
-      → (e : Entry) × AddsEntry before moment bytes r e
+      → (e : DecidedRequest) × AddsEntry before moment bytes r e
   pub otherwise : ((r : RequestFields) → IsDecided before bytes r → ⊥)
       → decided (Post moment bytes ∷ before) ≡ decided before
 

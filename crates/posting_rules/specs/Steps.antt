@@ -11,7 +11,7 @@ use Rattle.posting_rules.specs.declared.rows.BranchRow.{BranchRow}
 use Rattle.posting_rules.specs.declared.rows.TellerRow.{TellerRow}
 use Rattle.posting_rules.specs.declared.rows.AccountRow.{AccountRow}
 use Rattle.posting_rules.specs.Commands.{branch_of_teller}
-use Rattle.posting_rules.specs.Entries.{Entry, refused_entry, posted_entry}
+use Rattle.posting_rules.specs.Entries.{DecidedRequest, refused_entry, posted_entry}
 use Rattle.posting_rules.specs.Tables.{Tables, row_at, HasKeys, branch_key, teller_key, account_key}
 use Rattle.posting_rules.specs.Tables.{history_key, request_key, branch_row_of, teller_row_of, account_row_of}
 use Rattle.posting_rules.specs.Tables.{request_row_of, history_row_of}
@@ -50,7 +50,7 @@ abbrev pub with_account_balance : ℤ → AccountRow → AccountRow
 with_account_balance z r = record { account = r.account; balance = z }
 
 -- a refused request is kept under this ordinal
-pub record KeepsRefusal (old new : Tables) (ordinal : ℕ) (e : Entry) : Type 0 where
+pub record KeepsRefusal (old new : Tables) (ordinal : ℕ) (e : DecidedRequest) : Type 0 where
   pub decided : new.decided ≡ ordinal
   pub branches : new.branches ≡ old.branches
   pub tellers : new.tellers ≡ old.tellers
@@ -60,7 +60,7 @@ pub record KeepsRefusal (old new : Tables) (ordinal : ℕ) (e : Entry) : Type 0 
 
 -- a posting is kept under this ordinal, with the new balances of its account, its teller and its branch
 -- (TPC-B 1.2)
-pub record KeepsPosting (old new : Tables) (ordinal : ℕ) (e : Entry) (teller branch : ℤ) : Type 0 where
+pub record KeepsPosting (old new : Tables) (ordinal : ℕ) (e : DecidedRequest) (teller branch : ℤ) : Type 0 where
   pub decided : new.decided ≡ ordinal
   pub branches : ChangesRow branch_key (branch_of_teller e.request.teller)
       (with_branch_balance branch) old.branches new.branches

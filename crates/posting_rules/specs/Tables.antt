@@ -9,7 +9,7 @@ use Rattle.posting_rules.specs.declared.rows.AccountRow.{AccountRow}
 use Rattle.posting_rules.specs.declared.rows.HistoryRow.{HistoryRow}
 use Rattle.posting_rules.specs.declared.rows.RequestRow.{RequestRow}
 use Rattle.posting_rules.specs.Commands.{Command, opened, is_teller_open, is_account_open}
-use Rattle.posting_rules.specs.Entries.{Entry, is_posted, account_balance, teller_balance, branch_balance}
+use Rattle.posting_rules.specs.Entries.{DecidedRequest, is_posted, account_balance, teller_balance, branch_balance}
 use Rattle.posting_rules.specs.Entries.{kept_fields, decided}
 
 pub record Tables : Type 0 where
@@ -49,25 +49,25 @@ request_key r = r.ordinal
 abbrev pub branch_row_of : ℕ → ℤ → ℕ → BranchRow
 branch_row_of b balance count = record { branch = b; accounts = count; balance = balance }
 
-abbrev pub branch_row : (ℕ → Option ℕ) → List Entry → ℕ → Option BranchRow
+abbrev pub branch_row : (ℕ → Option ℕ) → List DecidedRequest → ℕ → Option BranchRow
 branch_row opened es b = option_map (branch_row_of b (branch_balance es b)) (opened b)
 
 abbrev pub teller_row_of : ℕ → ℤ → TellerRow
 teller_row_of t balance = record { teller = t; balance = balance }
 
-abbrev pub teller_row : (ℕ → Option ℕ) → List Entry → ℕ → Option TellerRow
+abbrev pub teller_row : (ℕ → Option ℕ) → List DecidedRequest → ℕ → Option TellerRow
 teller_row opened es t = if is_teller_open opened t then Some
     (teller_row_of t (teller_balance es t)) else None
 
 abbrev pub account_row_of : ℕ → ℤ → AccountRow
 account_row_of a balance = record { account = a; balance = balance }
 
-abbrev pub account_row : (ℕ → Option ℕ) → List Entry → ℕ → Option AccountRow
+abbrev pub account_row : (ℕ → Option ℕ) → List DecidedRequest → ℕ → Option AccountRow
 account_row opened es a = if is_account_open opened a then Some
     (account_row_of a (account_balance es a)) else None
 
 -- a decided request stands under its ordinal: how many were decided with it
-abbrev pub request_row_of : ℕ → Entry → RequestRow
+abbrev pub request_row_of : ℕ → DecidedRequest → RequestRow
 request_row_of ordinal e = record {
   ordinal = ordinal;
   teller = e.request.teller;
@@ -75,12 +75,12 @@ request_row_of ordinal e = record {
   kept = kept_fields e;
 }
 
-abbrev pub request_row : List Entry → ℕ → Option RequestRow
+abbrev pub request_row : List DecidedRequest → ℕ → Option RequestRow
 request_row [] o = None
 request_row (e ∷ es) o = if length es + 1 == o then Some (request_row_of o e) else request_row es o
 
 -- a posting stands in the history under the same ordinal (TPC-B 1.2)
-abbrev pub history_row_of : ℕ → Entry → HistoryRow
+abbrev pub history_row_of : ℕ → DecidedRequest → HistoryRow
 history_row_of ordinal e = record {
   ordinal = ordinal;
   account = e.request.account;
@@ -90,13 +90,13 @@ history_row_of ordinal e = record {
   moment = e.moment;
 }
 
-abbrev pub history_row : List Entry → ℕ → Option HistoryRow
+abbrev pub history_row : List DecidedRequest → ℕ → Option HistoryRow
 history_row [] o = None
 history_row (e ∷ es) o = if (is_posted e && (length es + 1 == o)) then Some
     (history_row_of o e) else history_row es o
 
 -- the tables have these rows and no others, in whatever order
-pub record HasRows (tables : Tables) (opened : ℕ → Option ℕ) (es : List Entry) : Type 0 where
+pub record HasRows (tables : Tables) (opened : ℕ → Option ℕ) (es : List DecidedRequest) : Type 0 where
   pub decided : tables.decided ≡ length es
   pub branches : (b : ℕ) → row_at branch_key tables.branches b ≡ branch_row opened es b
   pub tellers : (t : ℕ) → row_at teller_key tables.tellers t ≡ teller_row opened es t
@@ -110,5 +110,5 @@ pub record HasRows (tables : Tables) (opened : ℕ → Option ℕ) (es : List En
   pub request_keys : HasKeys request_key tables.requests
 
 -- the tables are those of the log
-pub record Shows (tables : Tables) (log : List Command) : Type 0 where
+pub record AreTablesOf (tables : Tables) (log : List Command) : Type 0 where
   pub rows : HasRows tables (λ b. opened log b) (decided log)

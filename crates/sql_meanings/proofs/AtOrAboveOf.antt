@@ -41,7 +41,7 @@ use Rattle.sql_meanings.proofs.Expressions.{st, lower_column, lower_parameter, l
 use Rattle.sql_meanings.proofs.Statements.{HasTable, compiled_select}
 use Rattle.sql_meanings.proofs.ByKey.{Tests, parameter_at, key_test}
 use Rattle.sql_meanings.proofs.OneTable.{parts_are, read_is}
-use Rattle.sql_meanings.proofs.ShownColumns.{Shows, HasRoom, spent, last_of}
+use Rattle.sql_meanings.proofs.ShownColumns.{ShowsColumns, HasRoom, spent, last_of}
 use Rattle.sql_meanings.proofs.Selects.{one_table, one_test, one_order, outputs_are_all}
 use Rattle.sql_meanings.proofs.Above.{Onwards, compared_start, constant_is, lower_start, paged_is}
 
@@ -85,7 +85,7 @@ module _ (schema : Schema) (name : Name) (p : ℕ) (table : Table) (has : HasTab
       → out-Expr e ≡ Expr-F.Column None wanted'
       → alias_of wanted' os ≡ None
       → out-Expr limit ≡ Expr-F.Integer most → integer false most ≡ Ok v
-      → Shows table shown os → HasRoom 100000 os
+      → ShowsColumns table shown os → HasRoom 100000 os
       → affinity_of (over_one schema name p os false) (col 1 at) ≡ affinity.Numeric
       → affinity_of (over_one schema name p os false) (col 1 at') ≡ affinity.Numeric
       → (r0 : nat_lt 1 (spent 100000 os) ≡ true) (r1 : nat_lt 1 (spent 100000 os - 1) ≡ true)

@@ -14,7 +14,7 @@ use Rattle.sqlite.specs.declared.error.Error.{Error}
 use Rattle.sqlite.proofs.Callers.{IsPlain, command_of, statement_of, runs_as, through}
 use Rattle.sql_meanings.specs.Entries.{IsTree}
 use Rattle.sql_meanings.specs.Tables.{Holds, placed_at, tree_of, width_of}
-use Rattle.sql_meanings.specs.Making.{Adds, CreatesOnly, Stands}
+use Rattle.sql_meanings.specs.Making.{AddsTable, CreatesOnly, Stands}
 use Rattle.sql_meanings.specs.Outcomes.{WriteKept}
 use Rattle.sql_meanings.proofs.Defining.{stands_defined}
 use Rattle.sql_meanings.proofs.Standing.{adds}
@@ -45,7 +45,7 @@ counts_none old after text tally h =
 -- a CREATE TABLE that is done
 pub made_by : (old new : State) (text : List ℕ) (t : Table) (count : ℕ) → CreatesOnly text t
     → Executes text [] old new (Ok count)
-    → Adds old.now new.now t × IsDatabase new.now × KeepsCounts old new × (new.marks ≡ old.marks)
+    → AddsTable old.now new.now t × IsDatabase new.now × KeepsCounts old new × (new.marks ≡ old.marks)
 unfolding ExecutesIn
 made_by old new text t count creates h =
     let schema = old.now.schema in

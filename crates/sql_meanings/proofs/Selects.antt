@@ -43,7 +43,7 @@ use Rattle.sql_meanings.proofs.Statements.{HasTable, compiled_select}
 use Rattle.sql_meanings.proofs.ByKey.{Tests, key_test}
 use Rattle.sql_meanings.specs.Queries.{no_limit}
 use Rattle.sql_meanings.proofs.OneTable.{parts_are, query_is, read_is}
-use Rattle.sql_meanings.proofs.ShownColumns.{Shows, HasRoom, spent, last_of, outputs_are}
+use Rattle.sql_meanings.proofs.ShownColumns.{ShowsColumns, HasRoom, spent, last_of, outputs_are}
 
 -- FROM one table by its name
 abbrev pub one_table : Name → From → Type 0
@@ -99,7 +99,7 @@ one_order cx os s e wanted at budget after l m key down nulls is none low =
 -- all columns that are shown
 pub outputs_are_all : (schema : Schema) (p : ℕ) (table : Table)
     (listed : slice_get schema.tables p ≡ Some table) (name : Name)
-    (ss : List Shown) (os : List Output) → Shows table ss os → HasRoom 100000 os
+    (ss : List Shown) (os : List Output) → ShowsColumns table ss os → HasRoom 100000 os
     → outputs lower (over_one schema name p [] true) (bound_to name p ∷ []) ss (st 2 100000 nothing)
     ≡ Ok (os, st 2 (spent 100000 os) (last_of nothing os))
 unfolding outputs
@@ -116,7 +116,7 @@ module _ (schema : Schema) (name : Name) (p : ℕ) (table : Table) (has : HasTab
       → out-Select s ≡ record { with = []; first = core; others = []; order = order; limit = None; offset = None }
       → out-Core core ≡ record { distinct = false; shown = shown; from = source ∷ []; filter = filter; group = []; having = None }
       → one_table name source
-      → Shows table shown os → HasRoom 100000 os
+      → ShowsColumns table shown os → HasRoom 100000 os
       → tests lower (over_one schema name p os false) [] filter (st 2 (spent 100000 os) (last_of nothing os))
       ≡ Ok (terms, st 2 b2 l2)
       → sorts lower (over_one schema name p os false) os order (st 2 b2 l2) ≡ Ok (by, st 2 b3 l3)
@@ -143,7 +143,7 @@ module _ (schema : Schema) (name : Name) (p : ℕ) (table : Table) (has : HasTab
       → one_table name source
       → out-Expr test ≡ Expr-F.Binary binary.Eq a b → out-Expr a ≡ Expr-F.Column None wanted
       → out-Expr b ≡ Expr-F.Parameter m
-      → Shows table shown os → HasRoom 100000 os
+      → ShowsColumns table shown os → HasRoom 100000 os
       → affinity_of (over_one schema name p os false) (col 1 at) ≡ affinity.Numeric
       → nat_lt 1 (spent 100000 os) ≡ true → nat_lt 1 (spent 100000 os - 1) ≡ true
       → nat_lt 1 (spent 100000 os - 1 - 1) ≡ true
@@ -174,7 +174,7 @@ module _ (schema : Schema) (name : Name) (p : ℕ) (table : Table) (has : HasTab
       → out-Expr b ≡ Expr-F.Parameter m
       → out-Expr test' ≡ Expr-F.Binary binary.Eq a' b' → out-Expr a' ≡ Expr-F.Column None wanted'
       → out-Expr b' ≡ Expr-F.Parameter m'
-      → Shows table shown os → HasRoom 100000 os
+      → ShowsColumns table shown os → HasRoom 100000 os
       → affinity_of (over_one schema name p os false) (col 1 at) ≡ affinity.Numeric
       → affinity_of (over_one schema name p os false) (col 1 at') ≡ affinity.Numeric
       → (r0 : nat_lt 1 (spent 100000 os) ≡ true) (r1 : nat_lt 1 (spent 100000 os - 1) ≡ true)
@@ -207,7 +207,7 @@ module _ (schema : Schema) (name : Name) (p : ℕ) (table : Table) (has : HasTab
       → first text ≡ Ok P → P.statement ≡ written.Select s → P.formats ≡ []
       → out-Select s ≡ record { with = []; first = core; others = []; order = []; limit = None; offset = None }
       → out-Core core ≡ record { distinct = false; shown = shown; from = source ∷ []; filter = None; group = []; having = None }
-      → one_table name source → Shows table shown os → HasRoom 100000 os
+      → one_table name source → ShowsColumns table shown os → HasRoom 100000 os
       → prog.program schema [] (ungrouped (Inner table.tree ∷ []) [] os false [] no_limit (number 0)) ≡ Ok q
       → compiled schema text ≡ Ok (with_command P ([], (Select q (map (λ o. o.name) os), None)))
   select_all text P s core source shown os q parsed is plain select body from shows room typed =

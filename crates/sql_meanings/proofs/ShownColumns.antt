@@ -72,11 +72,11 @@ pub record ShowsOne (table : Table) (s : Shown) (o : Output) : Type 0 where
   pub out : o ≡ output_of table place column
 
 -- each expression names its column
-abbrev pub Shows : Table → List Shown → List Output → Type 0
-Shows table [] [] = Unit {0}
-Shows table [] (o ∷ os) = ⊥
-Shows table (s ∷ ss) [] = ⊥
-Shows table (s ∷ ss) (o ∷ os) = ShowsOne table s o × Shows table ss os
+abbrev pub ShowsColumns : Table → List Shown → List Output → Type 0
+ShowsColumns table [] [] = Unit {0}
+ShowsColumns table [] (o ∷ os) = ⊥
+ShowsColumns table (s ∷ ss) [] = ⊥
+ShowsColumns table (s ∷ ss) (o ∷ os) = ShowsOne table s o × ShowsColumns table ss os
 
 -- the columns at these places, as they are shown
 abbrev pub outputs_at : Table → List ℕ → List Output
@@ -125,7 +125,7 @@ module _ (schema : Schema) (p : ℕ) (table : Table) (listed : slice_get schema.
       )
 
   -- the columns are those that are named
-  pub outputs_are : (ss : List Shown) (os done : List Output) (budget : ℕ) (l : Carried) → Shows table ss os
+  pub outputs_are : (ss : List Shown) (os done : List Output) (budget : ℕ) (l : Carried) → ShowsColumns table ss os
       → HasRoom budget os
       → outputs_from lower (over_one schema name p [] may) (bound_to name p ∷ []) done ss (st 2 budget l)
       ≡ Ok (done ++ os, st 2 (spent budget os) (last_of l os))
@@ -197,7 +197,7 @@ module _ (table : Table) (s : Shown) (o : Output) where
 
 -- each expression names its column where each name finds one
 pub shows_named : (table : Table) (ss : List Shown) (os : List Output)
-    → map (λ s. output_named table (shown_name (out-Shown s))) ss ≡ map Some os → Shows table ss os
+    → map (λ s. output_named table (shown_name (out-Shown s))) ss ≡ map Some os → ShowsColumns table ss os
 shows_named table [] [] h = tt
 shows_named table [] (o ∷ os) h = absurd cc
 shows_named table (s ∷ ss) [] h = absurd cc

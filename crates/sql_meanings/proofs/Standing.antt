@@ -55,7 +55,7 @@ use Rattle.sqlite_catalog.proofs.StepLemmas.{table_below, same_itself}
 use Rattle.sql_meanings.proofs.Statements.{HasTable}
 use Rattle.sql_meanings.specs.Making.{Stands}
 use Rattle.sql_meanings.proofs.Growing.{low_tree, sequenced}
-use Rattle.sql_meanings.specs.Making.{Adds, Keeps, counts_rows}
+use Rattle.sql_meanings.specs.Making.{AddsTable, KeepsWhatStood, counts_rows}
 
 -- a table stands on as another is made
 pub stands_after : (schema : Schema) (new table : Table) → Stands schema table
@@ -154,7 +154,7 @@ has_table schema db table sound stands =
 -- ---- what stands on
 
 -- what stood twice stands
-pub then_keeps : (a b c : Database) → Keeps a b → Keeps b c → Keeps a c
+pub then_keeps : (a b c : Database) → KeepsWhatStood a b → KeepsWhatStood b c → KeepsWhatStood a c
 then_keeps a b c p q = record {
   stands = λ t h. q.stands t (p.stands t h);
   has = λ t h. q.has t (p.has t h);
@@ -162,19 +162,19 @@ then_keeps a b c p q = record {
       λ t h. q.rows t (p.has t h) ∙ p.rows t h;
 }
 
-keeps_itself : (a : Database) → Keeps a a
+keeps_itself : (a : Database) → KeepsWhatStood a a
 keeps_itself a = record { stands = λ t h. h; has = λ t h. h; rows = λ t h. refl }
 
-keeps_made : (old after : Database) (text : List ℕ) → MakesTable text old (Ok after) → Keeps old after
+keeps_made : (old after : Database) (text : List ℕ) → MakesTable text old (Ok after) → KeepsWhatStood old after
 keeps_made old after text made = record {
   stands = λ t h. subst (λ s. Stands s t) (sym made.is) (stands_after old.schema made.table t h);
   has = λ t h. subst (λ (s : Schema). Has s.tables t) (sym made.is) (has_left old.schema.tables _ t h);
   rows = λ t h. all_has _ old.schema.tables t made.others h;
 }
 
-keeps_sequence : (old after : Database) → MakesSequence old (Ok after) → Keeps old after
+keeps_sequence : (old after : Database) → MakesSequence old (Ok after) → KeepsWhatStood old after
 keeps_sequence old after h = elim (sequenced old after h) [
-  | inl same ↦ subst (Keeps old) same
+  | inl same ↦ subst (KeepsWhatStood old) same
       (keeps_itself old)
   | inr made ↦ keeps_made old after sequence_text made
 ]
@@ -201,7 +201,7 @@ none_counted old after h none =
 pub adds : (limit : Option ℕ) (mode : Mode) (params : Row) (old after : Database) (text : List ℕ)
     (tally : Tally) (t : Table)
     → table_defined_by text ≡ Ok t → t.references ≡ []
-    → Does limit mode params old text None CreateTable (Ok (tally, after)) → Adds old after t
+    → Does limit mode params old text None CreateTable (Ok (tally, after)) → AddsTable old after t
 adds limit mode params old after text tally t defined free h =
     let all = through (Then (MakesTable text old) MakesSequence)
     (λ (db : Database). Gives (no_rows mode.in_doubt, db))
@@ -212,7 +212,7 @@ adds limit mode params old after text tally t defined free h =
     let last : all.0 ≡ after = ap (λ (p : Tally × Database). p.1) (sym (ok_same all.2)) in
     let is : made.table ≡ t = ok_same (sym made.defined ∙ defined) in
     let new : Table = record t { tree = next_tree old.schema } in
-    let second : Keeps mid after = subst (Keeps mid) last (keeps_sequence mid all.0 both.2) in
+    let second : KeepsWhatStood mid after = subst (KeepsWhatStood mid) last (keeps_sequence mid all.0 both.2) in
     let there : Stands mid.schema new = subst (λ s. Stands s new) (sym made.is)
     (subst (λ (u : Table). Stands (created old.schema u) new) (sym is) (stands_new old.schema t free)) in
     record {

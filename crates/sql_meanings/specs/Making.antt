@@ -30,7 +30,7 @@ pub record Stands (schema : Schema) (table : Table) : Type 0 where
   pub free : table.references ≡ []
 
 -- every table is kept with its rows, and each that had its tree to itself still has
-pub record Keeps (old after : Database) : Type 0 where
+pub record KeepsWhatStood (old after : Database) : Type 0 where
   pub stands : (t : Table) → Stands old.schema t → Stands after.schema t
   pub has : (t : Table) → Has old.schema.tables t → Has after.schema.tables t
   pub rows : (t : Table) → Has old.schema.tables t → after.trees t.tree ≡ old.trees t.tree
@@ -40,8 +40,8 @@ abbrev pub counts_rows : Schema → Bool
 counts_rows schema = list_any (λ t. t.is_counted) schema.tables
 
 -- the table is new and empty, and the others are kept; where no table counts its rows, nothing else is new
-pub record Adds (old after : Database) (t : Table) : Type 0 where
-  pub keeps : Keeps old after
+pub record AddsTable (old after : Database) (t : Table) : Type 0 where
+  pub keeps : KeepsWhatStood old after
   pub stands : Stands after.schema (placed_at t (next_tree old.schema))
   pub empty : after.trees (next_tree old.schema) ≡ []
   pub alone : counts_rows (created old.schema t) ≡ false → after.schema ≡ created old.schema t

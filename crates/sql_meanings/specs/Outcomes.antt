@@ -24,7 +24,7 @@ use Rattle.sqlite.specs.declared.error.Error.TheVariants.{SqliteFailure, SqlInpu
 use Rattle.sqlite.specs.declared.error.ErrorCode.TheVariants.{OutOfMemory, OperationInterrupted}
 use Rattle.sqlite.specs.declared.error.ErrorCode.TheVariants.{ConstraintViolation}
 use Rattle.sql_meanings.specs.Entries.{Entry, stored}
-use Rattle.sql_meanings.specs.Making.{Adds, NotMade}
+use Rattle.sql_meanings.specs.Making.{AddsTable, NotMade}
 use Rattle.sql_meanings.specs.Tables.{Defines, tree_of}
 
 -- why a plain read may fail: the store failed and the transaction is rolled back, or the limit on steps was
@@ -139,7 +139,7 @@ MakeFails old new text t e = Fails old new ⊥ e ⊎ (NotMade old.now.schema tex
 
 -- the table was made, in a sound database, and no row is counted; or why it can't be made
 abbrev pub MakesTold : State → State → List ℕ → Table → Result ℕ Error → Type 0
-MakesTold old new text t (Ok count) = Adds old.now new.now t × IsDatabase new.now × KeepsCounts old new ×
+MakesTold old new text t (Ok count) = AddsTable old.now new.now t × IsDatabase new.now × KeepsCounts old new ×
     (new.marks ≡ old.marks)
 MakesTold old new text t (Err e) = MakeFails old new text t e
 

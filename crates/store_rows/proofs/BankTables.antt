@@ -30,7 +30,7 @@ use Rattle.sql_meanings.proofs.SetRows.{ChangesAs, sets_row}
 use Rattle.sql_meanings.proofs.TableWrites.{IsOfNumbers, Leaves, spares_standing}
 use Rattle.sql_meanings.proofs.Writing.{uncounted}
 use Rattle.store_rows.specs.Faults.{added}
-use Rattle.store_rows.specs.Outcomes.{Adds, IsForbidden, Writes}
+use Rattle.store_rows.specs.Outcomes.{PutsOneRow, IsForbidden, SetsRow}
 use Rattle.store_rows.specs.SixTables.{bank_tables}
 use Rattle.store_rows.specs.Statements.{MeetsOne}
 use Rattle.store_rows.specs.View.{Shows, contents}
@@ -133,7 +133,7 @@ module _ {R : Type 0} (kind : Kind R) where
     -- the row is there now, and each other row and table is as it was; or the key was taken; or why it isn't
     -- there
     pub tells_added : (answer : Result ℕ Error) → ExecutesInside 0 text params old new answer
-        → Adds old new table (is_some (under t (kind.key r)))
+        → PutsOneRow old new table (is_some (under t (kind.key r)))
         (kind.having (row_put kind.key r (kind.rows t)) t) (added answer)
     tells_added (Ok count) h =
         let done = puts_row old new kind.table kind.numbered shows.sound _ (holds old.now t shows) text params
@@ -169,7 +169,7 @@ module _ {R : Type 0} (kind : Kind R) where
 
     -- the row under the key is changed, and each other row and table is as it was
     tells_set : (count : ℕ) → ExecutesInside 0 text (Int (pos k) ∷ more) old new (Ok count)
-        → Writes old new table (is_some (under t k)) (kind.having after t) (Ok (nat_eq count 1))
+        → SetsRow old new table (is_some (under t k)) (kind.having after t) (Ok (nat_eq count 1))
     tells_set count h =
         let done = sets_row old new table kind.numbered shows.sound _ (holds old.now t shows) text (pos k)
         more change_entry changes count h.0 in (
@@ -182,7 +182,7 @@ module _ {R : Type 0} (kind : Kind R) where
 
     -- why it can't be
     fails_to_set : k ≤ MAX_KEY → (e : Error) → ExecutesInside 0 text (Int (pos k) ∷ more) old new (Err e)
-        → Writes old new table (is_some (under t k)) (kind.having after t) (Err e)
+        → SetsRow old new table (is_some (under t k)) (kind.having after t) (Err e)
     fails_to_set low e h =
         set_fails_as old new table _ e (IsForbidden old.now.schema table (kind.having after t))
         (λ none. forbidden old.now.schema (kind.having after t) table _ (shows_rows t after)
@@ -194,9 +194,9 @@ module _ {R : Type 0} (kind : Kind R) where
     -- either
     pub tells_write : k ≤ MAX_KEY → (answer : Result Bool Error)
         → MeetsOne text (Int (pos k) ∷ more) old new answer
-        → Writes old new table (is_some (under t k)) (kind.having after t) answer
+        → SetsRow old new table (is_some (under t k)) (kind.having after t) answer
     tells_write low (Ok met) h =
-        subst (λ b. Writes old new table (is_some (under t k)) (kind.having after t) (Ok b)) (sym h.2)
+        subst (λ b. SetsRow old new table (is_some (under t k)) (kind.having after t) (Ok b)) (sym h.2)
         (tells_set h.0 h.1)
     tells_write low (Err e) h = fails_to_set low e h
 

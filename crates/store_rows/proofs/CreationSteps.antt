@@ -16,7 +16,7 @@ use Rattle.sqlite.specs.Steps.{FailsToCommit}
 use Rattle.sqlite.specs.State.{Shows as StateShows}
 use Rattle.sqlite.specs.declared.error.Error.{Error}
 use Rattle.sqlite_rules.specs.Lists.{Has}
-use Rattle.sql_meanings.specs.Making.{Adds, Keeps, NotMade, Stands, counts_rows}
+use Rattle.sql_meanings.specs.Making.{AddsTable, KeepsWhatStood, NotMade, Stands, counts_rows}
 use Rattle.sql_meanings.specs.Contents.{HoldsEach}
 use Rattle.sql_meanings.specs.Tables.{placed_at}
 use Rattle.sql_meanings.specs.Outcomes.{GoesOn, MakeFails, MakesTold}
@@ -25,7 +25,7 @@ use Rattle.sql_meanings.proofs.Makings.{holds_none, kept}
 use Rattle.sql_meanings.proofs.Places.{all_more, fold_more, some_at}
 use Rattle.sql_meanings.proofs.Standing.{counts_created, then_keeps}
 use Rattle.store_rows.specs.SixTables as six
-use Rattle.store_rows.specs.Creation.{CreatesBank, CreationFails, IsMade, MakesAll, MakesWide, six_texts}
+use Rattle.store_rows.specs.Creation.{CreatesBank, CreationFails, TablesAreMade, MakesAll, MakesWide, six_texts}
 use Rattle.store_rows.specs.Creation.{with_first}
 
 -- a text for each place
@@ -41,7 +41,7 @@ pub record IsNew (old now : Database) (t : Table) : Type 0 where
   pub empty : now.trees tree ≡ []
   pub apart : (u : Table) → Has old.schema.tables u → u.tree ≢ tree
 
-stays_new : (old mid new : Database) (t : Table) → Keeps mid new → IsNew old mid t → IsNew old new t
+stays_new : (old mid new : Database) (t : Table) → KeepsWhatStood mid new → IsNew old mid t → IsNew old new t
 stays_new old mid new t since is = record {
   tree = is.tree;
   stands = since.stands _ is.stands;
@@ -49,14 +49,14 @@ stays_new old mid new t since is = record {
   apart = is.apart;
 }
 
-stay_new : (old mid new : Database) (ts : List (List ℕ × Table)) → Keeps mid new
+stay_new : (old mid new : Database) (ts : List (List ℕ × Table)) → KeepsWhatStood mid new
     → AllByRecursion (λ it. IsNew old mid it.1) ts
     → AllByRecursion (λ it. IsNew old new it.1) ts
 stay_new old mid new [] since all = tt
 stay_new old mid new (it ∷ ts) since all =
     (stays_new old mid new it.1 since all.0, stay_new old mid new ts since all.1)
 
-made_new : (old mid new : Database) (t : Table) → Keeps old mid → Adds mid new t → IsNew old new t
+made_new : (old mid new : Database) (t : Table) → KeepsWhatStood old mid → AddsTable mid new t → IsNew old new t
 made_new old mid new t before made = record {
   tree = next_tree mid.schema;
   stands = made.stands;
@@ -69,7 +69,7 @@ pub record Reached (old mid : State) (made : ℕ) : Type 0 where
   pub shows : StateShows old mid mid.now old.committed true
   pub marks : mid.marks ≡ old.marks
   pub counts : KeepsCounts old mid
-  pub keeps : Keeps old.now mid.now
+  pub keeps : KeepsWhatStood old.now mid.now
   pub faults : old.faults ≤ mid.faults
   pub sound : IsDatabase mid.now
   pub new : AllByRecursion (λ it. IsNew old.now mid.now it.1) (take made six_texts)
@@ -96,7 +96,7 @@ grown old new t uncounted alone none =
     let is = alone more in
     (ap counts_rows is ∙ more, is)
 
-keeps_itself : (a : Database) → Keeps a a
+keeps_itself : (a : Database) → KeepsWhatStood a a
 keeps_itself a = record { stands = λ t h. h; has = λ t h. h; rows = λ t h. refl }
 
 module _ (old mid new : State) (made : ℕ) (it : List ℕ × Table)
@@ -260,7 +260,7 @@ none_held old g (it ∷ its) sound all =
     ((holds_none g it.1 all.0.tree sound all.0.stands all.0.empty).0, none_held old g its sound all.1)
 
 -- the six are made
-pub all_made : (old new : State) → Reached old new (length six_texts) → IsMade old.now new.now
+pub all_made : (old new : State) → Reached old new (length six_texts) → TablesAreMade old.now new.now
 all_made old new reached = record {
   empty = record {
     sound = ∣ reached.sound ∣₁;

@@ -25,7 +25,7 @@ use Rattle.posting_rules.specs.declared.fault.Rule.TheVariants.{Key}
 use Rattle.store_rows.specs.declared.faults.TableFault.TheVariants.{Sqlite, Damaged}
 use Rattle.posting_rules.specs.Changes.{row_put}
 use Rattle.store_rows.specs.Failures.{Putting, Puts}
-use Rattle.store_rows.specs.Outcomes.{Adds, IsForbidden}
+use Rattle.store_rows.specs.Outcomes.{PutsOneRow, IsForbidden}
 use Rattle.store_rows.specs.Faults.{added}
 use Rattle.store_rows.specs.View.{Shows}
 use Rattle.store_rows.proofs.RowLists.{put_rows}
@@ -117,9 +117,9 @@ pub adds_err : (old new : State) (table : Table) (there taken : Bool) (P : Type 
     (e : Error) → there ≡ taken
     → (P → IsForbidden old.now.schema table after)
     → ((e ≡ key_taken) × (there ≡ true) × IsUnchanged old new) ⊎ PutFails old new table P e
-    → Adds old new table taken after (added (Err e))
+    → PutsOneRow old new table taken after (added (Err e))
 adds_err old new table there taken P after e same then (inl (is, found, kept)) =
-    subst (λ x. Adds old new table taken after (added (Err x))) (sym is) (refl, sym same ∙ found, kept)
+    subst (λ x. PutsOneRow old new table taken after (added (Err x))) (sym is) (refl, sym same ∙ found, kept)
 adds_err old new table there taken P after e same then (inr fails) =
     rw (other_error old new table P e fails)
     (put_fails_as old new table P e (IsForbidden old.now.schema table after) then fails)

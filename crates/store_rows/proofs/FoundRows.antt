@@ -13,7 +13,7 @@ use Rattle.store_rows.specs.declared.faults.TableFault.{TableFault}
 use Rattle.store_rows.specs.declared.faults.TableFault.TheVariants.{Sqlite, Damaged}
 use Rattle.store_rows.specs.Columns.{balance_shown}
 use Rattle.store_rows.specs.Failures.{ReadsAnswer}
-use Rattle.store_rows.specs.Outcomes.{Finds, IsNoBalance, ReadsCents, ReadsRow}
+use Rattle.store_rows.specs.Outcomes.{Finds, BreaksBalance, ReadsCents, ReadsRow}
 
 pub the_row : {a b : Row} → Some a ≡ Some b → b ≡ a
 the_row e = cc
@@ -65,7 +65,7 @@ finds {X = X} old new shown Breaks wanted (Err e) (Err fault) read told =
 
 -- the balance of a row of one balance
 pub reads_balance : (row : Row) (r : Result ℤ TableFault) → ReadsCents Balance (column row 0) r
-    → ReadsRow balance_shown IsNoBalance row r
+    → ReadsRow balance_shown BreaksBalance row r
 reads_balance row (Ok z) read = λ y is. read y (ap (λ x. column x 0) is)
 reads_balance row (Err (Sqlite e)) read = λ y is. read y (ap (λ x. column x 0) is)
 reads_balance row (Err (Damaged broken)) read = λ y is. read y (ap (λ x. column x 0) is)

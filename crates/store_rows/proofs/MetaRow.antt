@@ -22,7 +22,7 @@ use Rattle.sql_meanings.proofs.SetFailures.{refuses_update}
 use Rattle.sql_meanings.proofs.SetRows.{sets_row}
 use Rattle.sql_meanings.proofs.TableWrites.{IsOfNumbers, Leaves, spares_standing}
 use Rattle.store_rows.specs.Columns.{meta_in, meta_numbers, meta_shown}
-use Rattle.store_rows.specs.Outcomes.{IsForbidden, Writes}
+use Rattle.store_rows.specs.Outcomes.{IsForbidden, SetsRow}
 use Rattle.store_rows.specs.SixTables as six
 use Rattle.store_rows.specs.SixTables.{bank_tables}
 use Rattle.store_rows.specs.Statements.{MeetsOne}
@@ -100,7 +100,7 @@ meta_written old new all each before after is left =
 module _ (old new : State) (t : Tables) (shows : Shows old.now t) (n : ℕ) where
   -- the count is written, since the row is there
   set : (count : ℕ) → ExecutesInside 0 SET_META.now (Int (pos META_ID) ∷ Int (pos n) ∷ []) old new (Ok count)
-      → Writes old new six.meta true (with_decided n t) (Ok (nat_eq count 1))
+      → SetsRow old new six.meta true (with_decided n t) (Ok (nat_eq count 1))
   unfolding with_decided
   set count h =
       let done = sets_row old new six.meta numbered shows.sound _ (holds_one old.now t shows) SET_META.now
@@ -118,7 +118,7 @@ module _ (old new : State) (t : Tables) (shows : Shows old.now t) (n : ℕ) wher
 
   -- or why it can't be
   fails : (e : Error) → ExecutesInside 0 SET_META.now (Int (pos META_ID) ∷ Int (pos n) ∷ []) old new (Err e)
-      → Writes old new six.meta true (with_decided n t) (Err e)
+      → SetsRow old new six.meta true (with_decided n t) (Err e)
   unfolding with_decided
   fails e h =
       set_fails_as old new six.meta _ e (IsForbidden old.now.schema six.meta (with_decided n t))
@@ -131,7 +131,7 @@ module _ (old new : State) (t : Tables) (shows : Shows old.now t) (n : ℕ) wher
   -- either
   pub tells_decided : (answer : Result Bool Error)
       → MeetsOne SET_META.now (Int (pos META_ID) ∷ Int (pos n) ∷ []) old new answer
-      → Writes old new six.meta true (with_decided n t) answer
-  tells_decided (Ok met) h = subst (λ b. Writes old new six.meta true (with_decided n t) (Ok b)) (sym h.2)
+      → SetsRow old new six.meta true (with_decided n t) answer
+  tells_decided (Ok met) h = subst (λ b. SetsRow old new six.meta true (with_decided n t) (Ok b)) (sym h.2)
       (set h.0 h.1)
   tells_decided (Err e) h = fails e h

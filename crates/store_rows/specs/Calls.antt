@@ -12,7 +12,7 @@ use Rattle.sql_meanings.specs.Outcomes.{TellsProbe, TellsUnderstood}
 use Rattle.sql_meanings.specs.Entries.{Entry}
 use Rattle.store_rows.specs.Failures.{Changes, Looks, Puts}
 use Rattle.store_rows.specs.Forms.{Form}
-use Rattle.store_rows.specs.Outcomes.{Adds, Finds, Writes}
+use Rattle.store_rows.specs.Outcomes.{PutsOneRow, Finds, SetsRow}
 use Rattle.store_rows.specs.Rules.{OfRows, StoredRows}
 use Rattle.store_rows.specs.SixTables.{meta}
 use Rattle.store_rows.specs.Stored.{FindsStored}
@@ -43,7 +43,7 @@ abbrev pub SetsNumber : {S : Type 0} → Ghosts S → Transaction S → Transact
     → (Tables → Tables) → Result Bool Error → Type 0
 SetsNumber g old new table text there after result =
     Says g old new (Inside
-    (OfTables (λ old new tables. Writes old new table (there tables) (after tables) result)))
+    (OfTables (λ old new tables. SetsRow old new table (there tables) (after tables) result)))
     (Inside (λ old new. Changes text old new result))
 
 -- A row of the table is put in, where its key isn't taken, and the tables are these after it.
@@ -51,7 +51,7 @@ abbrev pub AddsRow : {S : Type 0} → Ghosts S → Transaction S → Transaction
     → (Tables → Tables) → Result (Unit {0}) TableFault → Type 0
 AddsRow g old new table taken after result =
     Says g old new (Inside
-    (OfTables (λ old new tables. Adds old new table (taken tables) (after tables) result)))
+    (OfTables (λ old new tables. PutsOneRow old new table (taken tables) (after tables) result)))
     (Inside (λ old new. Puts old new result))
 
 -- Whether the probe of a table is understood, on an honest disk, and so what is there of the table. Only a

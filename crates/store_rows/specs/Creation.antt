@@ -50,7 +50,7 @@ with_first n schema = fold (λ s it. created s it.1) schema (take n six_texts)
 
 -- The six tables are there and empty, and every table that was there is there, with its rows. Where no table
 -- counts its rows, nothing else is new.
-pub record IsMade (old new : Database) : Type 0 where
+pub record TablesAreMade (old new : Database) : Type 0 where
   pub empty : AreEmpty new
   pub keeps : KeepsTables old new
   pub alone : counts_rows old.schema ≡ false → new.schema ≡ with_first (length six_texts) old.schema
@@ -68,7 +68,7 @@ pub record RefusesNext (old now : Schema) (e : Error) : Type 0 where
 -- All six were made. Or the store failed, and the transaction is rolled back; or one is refused, beside what
 -- was there and those before it.
 abbrev pub MakesAll : State → State → Result (Unit {0}) Error → Type 0
-MakesAll old new (Ok done) = IsMade old.now new.now × GoesOn old new × KeepsCounts old new
+MakesAll old new (Ok done) = TablesAreMade old.now new.now × GoesOn old new × KeepsCounts old new
 MakesAll old new (Err e) =
     Fails old new ⊥ e ⊎ (RefusesNext old.now.schema new.now.schema e × KeepsTables old.now new.now
     × GoesOn old new × KeepsCounts old new)
@@ -81,7 +81,7 @@ StartsBank old new (Err e) = PutFails old new six.meta (IsForbidden old.now.sche
 
 -- once the six are made, an index of meta has more columns than can be stored
 abbrev pub MakesWide : Database → Type 0
-MakesWide old = (made : Database) × IsMade old made × HasWideIndex made.schema six.meta
+MakesWide old = (made : Database) × TablesAreMade old made × HasWideIndex made.schema six.meta
 
 -- A statement is refused in this database: one of the six tables, where only those before it were made; or
 -- the first row, since the limit on steps was met, or since a UNIQUE of the file's own allows no such row.
@@ -89,7 +89,7 @@ abbrev pub RefusedIn : State → Database → Error → Type 0
 RefusedIn old db e =
     (RefusesNext old.now.schema db.schema e × KeepsTables old.now db)
     ⊎ ((IsInterrupted old e ⊎ ((e ≡ SqliteFailure (ConstraintViolation Unique))
-    × IsForbidden db.schema six.meta new_tables)) × IsMade old.now db)
+    × IsForbidden db.schema six.meta new_tables)) × TablesAreMade old.now db)
 
 -- where no table counts its rows, the six tables are new, and nothing else is
 abbrev pub IsAlone : Database → Database → Type 0

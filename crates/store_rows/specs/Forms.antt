@@ -6,9 +6,9 @@ use Rattle.posting_rules.specs.declared.rows.BranchRow.{BranchRow}
 use Rattle.posting_rules.specs.declared.rows.RequestRow.{RequestRow}
 use Rattle.sql_meanings.specs.Entries.{Entry}
 use Rattle.store_rows.specs.Columns.{balance_shown, branch_shown, meta_numbers, meta_shown, request_shown}
-use Rattle.store_rows.specs.Outcomes.{IsNoBalance, IsNoBranch, IsNoRequest, Never}
+use Rattle.store_rows.specs.Outcomes.{BreaksBalance, BreaksBranch, BreaksRequest, Never}
 use Rattle.store_rows.specs.Rules.{BranchKeeps, RequestKeeps}
-use Rattle.store_rows.specs.Stored.{BalanceKeeps, IsBalance, IsBranch, IsRequest, balance_stored}
+use Rattle.store_rows.specs.Stored.{BalanceKeeps, IsBalance, IsBranch, IsSameRequest, balance_stored}
 use Rattle.store_rows.specs.Stored.{branch_stored, request_stored}
 use Rattle.store_rows.specs.declared.metas.StoredMeta.{StoredMeta}
 
@@ -25,7 +25,7 @@ pub record Form (X : Type 0) : Type 1 where
 abbrev pub balance_form : Form ℤ
 balance_form = record {
   shown = balance_shown;
-  Breaks = IsNoBalance;
+  Breaks = BreaksBalance;
   held = balance_stored;
   Is = IsBalance;
   Keeps = BalanceKeeps;
@@ -34,7 +34,7 @@ balance_form = record {
 abbrev pub branch_form : Form BranchRow
 branch_form = record {
   shown = branch_shown;
-  Breaks = IsNoBranch;
+  Breaks = BreaksBranch;
   held = branch_stored;
   Is = IsBranch;
   Keeps = BranchKeeps;
@@ -43,9 +43,9 @@ branch_form = record {
 abbrev pub request_form : Form RequestRow
 request_form = record {
   shown = request_shown;
-  Breaks = IsNoRequest;
+  Breaks = BreaksRequest;
   held = request_stored;
-  Is = IsRequest;
+  Is = IsSameRequest;
   Keeps = RequestKeeps;
 }
 

@@ -40,12 +40,12 @@ Finds {X} old new wanted Breaks (Err (Damaged broken)) = ((x : X) × (wanted ≡
     × IsUnchanged old new
 
 -- the balance is outside the limits
-abbrev pub IsNoBalance : ℤ → Rule → Type 0
-IsNoBalance z broken = (broken ≡ rule.Balance) × (cents_within MAX_BALANCE z ≡ None)
+abbrev pub BreaksBalance : ℤ → Rule → Type 0
+BreaksBalance z broken = (broken ≡ rule.Balance) × (cents_within MAX_BALANCE z ≡ None)
 
 -- the number is outside the numbers of branches, the count is no count, or the balance is outside the limits
-abbrev pub IsNoBranch : BranchRow → Rule → Type 0
-IsNoBranch r broken =
+abbrev pub BreaksBranch : BranchRow → Rule → Type 0
+BreaksBranch r broken =
     ((broken ≡ rule.Value) × ((whole_within 1 MAX_BRANCH r.branch ≡ None)
     ⊎ (whole_within 0 4_294_967_295 r.accounts ≡ None)))
     ⊎ ((broken ≡ rule.Balance) × (cents_within MAX_BALANCE r.balance ≡ None))
@@ -59,8 +59,8 @@ pub record CanBeKept (k : KeptFields) : Type 0 where
   pub outcome : IsTrue (is_kept_with k.outcome k.balance)
 
 -- the ordinal is no ordinal, or what is kept is no request that can be kept
-abbrev pub IsNoRequest : RequestRow → Rule → Type 0
-IsNoRequest r broken =
+abbrev pub BreaksRequest : RequestRow → Rule → Type 0
+BreaksRequest r broken =
     ((broken ≡ rule.Value) × (whole_within 1 MAX_DECIDED r.ordinal ≡ None))
     ⊎ ((broken ≡ rule.Request)
     × ((whole_within 1 MAX_TELLER r.teller ≡ None)
@@ -77,19 +77,19 @@ IsForbidden schema table t = IsTrue (has_unique schema table)
 
 -- the answer tells whether the row is there; the tables are these now, and every table but this one that
 -- stands alone is as it was
-abbrev pub Writes : State → State → Table → Bool → Tables → Result Bool Error → Type 0
-Writes old new table there after (Ok answer) = (answer ≡ there) × Shows new.now after × GoesOn old new
+abbrev pub SetsRow : State → State → Table → Bool → Tables → Result Bool Error → Type 0
+SetsRow old new table there after (Ok answer) = (answer ≡ there) × Shows new.now after × GoesOn old new
     × SparesStanding old.now new.now table.name
-Writes old new table there after (Err e) = SetFails old new table (IsForbidden old.now.schema table after) e
+SetsRow old new table there after (Err e) = SetFails old new table (IsForbidden old.now.schema table after) e
 
 -- the row is put in, where its key is free, and every table but this one is as it was; a taken key is told,
 -- and nothing has changed
-abbrev pub Adds : State → State → Table → Bool → Tables → Result (Unit {0}) TableFault → Type 0
-Adds old new table taken after (Ok done) = (taken ≡ false) × Shows new.now after × GoesOn old new
+abbrev pub PutsOneRow : State → State → Table → Bool → Tables → Result (Unit {0}) TableFault → Type 0
+PutsOneRow old new table taken after (Ok done) = (taken ≡ false) × Shows new.now after × GoesOn old new
     × SparesTables old.now new.now table.name
-Adds old new table taken after (Err (Sqlite e)) = PutFails old new table
+PutsOneRow old new table taken after (Err (Sqlite e)) = PutFails old new table
     (IsForbidden old.now.schema table after) e
-Adds old new table taken after (Err (Damaged broken)) = (broken ≡ rule.Key) × (taken ≡ true)
+PutsOneRow old new table taken after (Err (Damaged broken)) = (broken ≡ rule.Key) × (taken ≡ true)
     × IsUnchanged old new
 
 -- ---- a stored number, as its type

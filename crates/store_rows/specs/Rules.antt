@@ -110,8 +110,8 @@ HasDecided rows decided = (version : ℤ)
     × (rows.meta ≡ record { key = pos META_ID; values = version ∷ pos decided ∷ [] } ∷ [])
 
 -- the place of an account is within its branch's count
-abbrev pub IsCounted : StoredRows → ℕ → Type 0
-IsCounted rows n = (branch : Entry) × (branch_under rows (branch_of_account n) ≡ Some branch)
+abbrev pub IsWithinCount : StoredRows → ℕ → Type 0
+IsWithinCount rows n = (branch : Entry) × (branch_under rows (branch_of_account n) ≡ Some branch)
     × (pos (place_of_account n) ≤ℤ number_at 0 branch)
 
 -- a teller has a row just where its branch has one
@@ -123,8 +123,8 @@ TellersFit rows = (n : ℕ) → 1 ≤ n → n ≤ MAX_TELLER
 -- an account has a row just where its place is within its branch's count
 abbrev pub AccountsFit : StoredRows → Type 0
 AccountsFit rows = (n : ℕ) → 1 ≤ n → n ≤ MAX_ACCOUNT
-    → (IsSome (row_under rows.accounts n) → IsCounted rows n)
-    × (IsCounted rows n → IsSome (row_under rows.accounts n))
+    → (IsSome (row_under rows.accounts n) → IsWithinCount rows n)
+    × (IsWithinCount rows n → IsSome (row_under rows.accounts n))
 
 -- no ordinal above those that are decided is taken, and no teller and no account of a branch that isn't there
 pub record AreFree (rows : StoredRows) : Type 0 where
@@ -136,14 +136,14 @@ pub record AreFree (rows : StoredRows) : Type 0 where
       → row_under rows.accounts n ≡ None
 
 -- the seven rules
-abbrev pub Keeps : Rule → StoredRows → Type 0
-Keeps Meta rows = (decided : ℕ) × HasDecided rows decided × (decided ≤ MAX_DECIDED)
-Keeps Teller rows = TellersFit rows
-Keeps Account rows = AccountsFit rows
-Keeps Balance rows = EachKeeps Balance rows
-Keeps Request rows = EachKeeps Request rows
-Keeps Value rows = EachKeeps Value rows
-Keeps Key rows = AreFree rows
+abbrev pub KeepsRule : Rule → StoredRows → Type 0
+KeepsRule Meta rows = (decided : ℕ) × HasDecided rows decided × (decided ≤ MAX_DECIDED)
+KeepsRule Teller rows = TellersFit rows
+KeepsRule Account rows = AccountsFit rows
+KeepsRule Balance rows = EachKeeps Balance rows
+KeepsRule Request rows = EachKeeps Request rows
+KeepsRule Value rows = EachKeeps Value rows
+KeepsRule Key rows = AreFree rows
 
 -- ---- a file that breaks a rule
 
@@ -153,4 +153,4 @@ OfRows P db = (rows : StoredRows) → HoldsBank db rows → P rows
 
 -- the rows that the file holds don't keep the rule
 abbrev pub IsBroken : Rule → Database → Type 0
-IsBroken rule db = OfRows (λ rows. ¬ Keeps rule rows) db
+IsBroken rule db = OfRows (λ rows. ¬ KeepsRule rule rows) db

@@ -45,8 +45,8 @@ abbrev pub IsKept : KeptFields → Entry → Type 0
 IsKept kept r = number_at 4 r ≡ kept.delta
 
 -- it is of this request
-abbrev pub IsRequest : RequestRow → Entry → Type 0
-IsRequest request r = IsKept request.kept r
+abbrev pub IsSameRequest : RequestRow → Entry → Type 0
+IsSameRequest request r = IsKept request.kept r
 
 -- a row of one balance: that is within the limits
 abbrev pub BalanceKeeps : Rule → Entry → Type 0

@@ -5,7 +5,7 @@ use Rattle.sqlite.specs.Held.{state}
 use Rattle.posting_core.specs.Told.{HasMore}
 use Rattle.sql_meanings.specs.Entries.{Entry}
 use Rattle.store_rows.specs.SixTables.{history as history_table}
-use Rattle.bank_walks.specs.Rows.{HasRows}
+use Rattle.bank_walks.specs.Rows.{HasStoredRows}
 use Rattle.bank_walks.specs.Stored.{is_of, posting_entry}
 use Rattle.bank_store.specs.Walks.{IsStill}
 use Rattle.bank_store.specs.Walking.{to_come}
@@ -22,7 +22,7 @@ invariant-lines g l =
       up : l.walk.bank.now.fault ≡ l.fn.bank.fault;
       still : HasCleanDisk now → IsStill old now;
       more : HasMore (g.W.Sink.told l.fn.writer) (g.W.Sink.told l.writer);
-      far : HasCleanDisk now → (rows : List Entry) → HasRows old.now history_table rows
+      far : HasCleanDisk now → (rows : List Entry) → HasStoredRows old.now history_table rows
           → IsFar (filter (is_of (Some l.fn.account)) rows) (to_come posting_entry is_of rows l.walk)
           (g.W.Sink.contents l.fn.writer) (g.W.Sink.contents l.writer) l.balance l.counter;
     }

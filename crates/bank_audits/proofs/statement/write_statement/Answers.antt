@@ -6,7 +6,7 @@ use Rattle.sqlite.specs.Held.{state}
 use Rattle.posting_rules.specs.declared.fault.Fault.TheVariants.{Store}
 use Rattle.store_rows.specs.SixTables.{history as history_table}
 use Rattle.store_rows.specs.View.{history_entry}
-use Rattle.bank_walks.specs.Rows.{HasRows}
+use Rattle.bank_walks.specs.Rows.{HasStoredRows}
 use Rattle.bank_reports.proofs.Written.{on_err_any}
 use Rattle.bank_store.specs.Seen.{bank_seen}
 use Rattle.bank_audits.specs.declared.fault.ReportFault.TheVariants.{Bank}
@@ -59,7 +59,7 @@ returns-clause-tables g c clean up found t shown =
 
 pub returns-clause-rows : goal.returns-clause-rows
 returns-clause-rows g c clean up found is_open rows has =
-    let there = subst (λ db. HasRows db history_table rows)
+    let there = subst (λ db. HasStoredRows db history_table rows)
     (c.write_lines.ensures.undone clean is_open).now_is has in
     (c.in-Some.balance, c.write_lines.ensures.told clean rows there)
 

@@ -4,7 +4,7 @@ use Rattle.std.proofs.Common.{sym, subst, inl, inr}
 use Rattle.std.specs.Prelude.{IsSome}
 use Rattle.sqlite.specs.State.{HasCleanDisk}
 use Rattle.sqlite.specs.Held.{state}
-use Rattle.bank_store.specs.Opening.{IsMade}
+use Rattle.bank_store.specs.Opening.{BankIsMade}
 use Rattle.bank_store.proofs.Finding.{no_bank}
 use Rattle.bank_store.proofs.Taken.{not_taken}
 use Rattle.bank_store.proofs.Starting.{stands_empty}
@@ -20,7 +20,7 @@ returns-in-Ok-clause-stands g c clean =
     λ some. (let none = c.over.ensures.up in let h = rw none at some in cc) in
     stands_empty (state g.S.Store c.args.conn) (state g.S.Store c.over.result.conn)
     (IsSome c.over.result.fault) up
-    (subst (λ h. IsMade (state g.S.Store c.args.conn) (state g.S.Store h)) (sym same) made)
+    (subst (λ h. BankIsMade (state g.S.Store c.args.conn) (state g.S.Store h)) (sym same) made)
 
 pub returns-in-Ok-clause-new : goal.returns-in-Ok-clause-new
 returns-in-Ok-clause-new g c clean t =

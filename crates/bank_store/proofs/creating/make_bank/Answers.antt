@@ -5,7 +5,7 @@ use Rattle.sqlite.specs.State.{HasCleanDisk}
 use Rattle.sqlite.specs.Held.{state}
 use Rattle.store_rows.specs.Probes.{six_probes}
 use Rattle.bank_transactions.proofs.Blamed.{comes, same_moment}
-use Rattle.bank_store.specs.Opening.{IsPresent, IsAsBefore, IsRefused, IsTaken, KnowsWhyUnmade}
+use Rattle.bank_store.specs.Opening.{IsPresent, IsAsBefore, IsRefusedOnTheWay, IsTaken, KnowsWhyUnmade}
 use Rattle.bank_store.specs.declared.refused.OpenFault.TheVariants.{NotBlank}
 use Rattle.bank_store.specs.declared.probing.Presence.{Presence}
 use Rattle.bank_store.proofs.Causes.{unmade_as_known, unmade_within}
@@ -32,7 +32,7 @@ returns-in-Absent-clause-refused g c clean =
     let mid = state g.S.Store c.tables_there.new.conn in
     let midway : HasCleanDisk mid = omega (arith, c.make_tables.ensures.stop.clean) in
     let there = c.in_ok-tables_there.ensures.told midway in
-    if_err (λ fault. fault ≡ NotBlank → IsRefused mid) (λ fault. fault ≡ NotBlank → IsTaken old)
+    if_err (λ fault. fault ≡ NotBlank → IsRefusedOnTheWay mid) (λ fault. fault ≡ NotBlank → IsTaken old)
     (λ fault refused taken. inr (refused_before old mid there.1.now_is c.tables_there.ensures.survives.limit
     (refused taken)))
     c.make_tables.result (c.make_tables.ensures.refused clean)

@@ -4,7 +4,7 @@ use Rattle.sqlite.specs.State.{HasCleanDisk}
 use Rattle.sqlite.specs.Held.{state}
 use Rattle.bank_transactions.specs.Doing.{IsBefore}
 use Rattle.bank_transactions.proofs.Blamed.{comes, same_moment, then_moment}
-use Rattle.bank_store.specs.Opening.{unmade_by, IsRefused}
+use Rattle.bank_store.specs.Opening.{unmade_by, IsRefusedOnTheWay}
 use Rattle.bank_store.specs.declared.refused.OpenFault.TheVariants.{Store}
 use Rattle.bank_store.proofs.Causes.{begun_after, commit_failed, making_failed, still_clean, unmade_within}
 use Rattle.bank_store.proofs.Taken.{refused_because}
@@ -19,7 +19,7 @@ returns-in-Err-clause-refused g c clean taken =
     omega (arith, c.drop-tx.ensures.survives.clean) in
     let live : c.begin-tx.result.conn.now.in_transaction ≡ true =
     ap (λ h. h.in_transaction) c.begin-tx.ensures.begun in
-    subst (λ h. IsRefused (state g.S.Store h)) c.begin-tx.ensures.begun
+    subst (λ h. IsRefusedOnTheWay (state g.S.Store h)) c.begin-tx.ensures.begun
     (refused_because (state g.S.Store c.begin-tx.result.conn.now)
     (state g.S.Store c.create_tables.new.tx.conn.now) c.in-Err.e c.unmade.result
     c.unmade.ensures.told (c.in-Err.ensures.told midway live) taken)

@@ -5,12 +5,12 @@ use Rattle.sqlite.specs.declared.transaction.Transaction.{Transaction}
 use Rattle.sqlite_trees.specs.declared.store.Store.{Ghosts}
 use Rattle.posting_rules.specs.declared.rows.RequestRow.{RequestRow}
 use Rattle.posting_rules.specs.Changes.{with_decided, with_request}
-use Rattle.posting_rules.specs.Entries.{Entry}
+use Rattle.posting_rules.specs.Entries.{DecidedRequest}
 use Rattle.posting_rules.specs.Tables.{row_at, request_key, request_row_of}
 use Rattle.sql_meanings.specs.Calls.{Says, Inside}
 use Rattle.store_rows.specs.Calls.{OfTables}
 use Rattle.store_rows.specs.Failures.{Puts}
-use Rattle.store_rows.specs.Outcomes.{Adds}
+use Rattle.store_rows.specs.Outcomes.{PutsOneRow}
 use Rattle.store_rows.specs.SixTables.{request}
 use Rattle.store_rows.specs.declared.faults.TableFault.{TableFault}
 use Rattle.bank_transactions.specs.Doing.{Does}
@@ -21,7 +21,7 @@ use Rattle.bank_transactions.proofs.applying.keep_request.Goals as goal
 put : {S : Type 0} {g : Ghosts S} {old new : Transaction S} (row : RequestRow)
     (r : Result (Unit {0}) TableFault)
     → Says g old new (Inside (OfTables (λ before now t.
-    Adds before now request (is_some (row_at request_key t.requests row.ordinal)) (with_request row t) r)))
+    PutsOneRow before now request (is_some (row_at request_key t.requests row.ordinal)) (with_request row t) r)))
     (Inside (λ before now. Puts before now r))
     → Does g old new (λ t. row_at request_key t.requests row.ordinal ≡ None) (with_request row) (λ _. tt) r
 put {S} {g} {old} {new} row r says =
@@ -50,7 +50,7 @@ returns g c =
       number = c.number.result;
       kept = c.unwrap.result;
     } in
-    let e : Entry = record {
+    let e : DecidedRequest = record {
       moment = 0;
       request = c.args.request.now;
       outcome = c.args.outcome;

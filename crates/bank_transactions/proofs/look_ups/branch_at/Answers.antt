@@ -1,7 +1,7 @@
 -- What the row of a branch tells.
 use Rattle.std.proofs.Common.{◌≡◌, ap, Err, Some, rules, sym, ◌∙◌, inl, inr, arith}
 use Rattle.posting_rules.specs.Tables.{row_at, branch_key}
-use Rattle.store_rows.specs.Outcomes.{IsNoBranch}
+use Rattle.store_rows.specs.Outcomes.{BreaksBranch}
 use Rattle.std.specs.Prelude.{option_and_then}
 use Rattle.store_rows.specs.Rules.{branch_under, row_under}
 use Rattle.bank_transactions.proofs.Broken.{branch_broken, count_broken, openable_under}
@@ -22,7 +22,7 @@ pub returns-in_err-row-clause-says : goal.returns-in_err-row-clause-says
 returns-in_err-row-clause-says g c =
     let fault = c.in_err-row.field-0.0 in
     let same : c.from_residual.result ≡ Err fault = search rules in
-    rw same (find_failed (λ t. row_at branch_key t.branches c.in-Some.branch) IsNoBranch fault
+    rw same (find_failed (λ t. row_at branch_key t.branches c.in-Some.branch) BreaksBranch fault
     (λ t r rule sound. branch_unbroken t c.in-Some.branch r rule sound)
     (branch_broken _ c.in-Some.branch fault)
     c.in_err-row.ensures)

@@ -2,7 +2,7 @@
 use Rattle.std.proofs.Common.{◌≡◌, ◌≤◌, Err, Some, rules, sym, ap, subst, ◌∙◌}
 use Rattle.std.specs.Prelude.{nat_abs, is_some}
 use Rattle.store_rows.specs.Columns.{request_in}
-use Rattle.store_rows.specs.Outcomes.{IsNoRequest}
+use Rattle.store_rows.specs.Outcomes.{BreaksRequest}
 use Rattle.bank_transactions.proofs.Broken.{delta_broken, request_broken}
 use Rattle.bank_transactions.proofs.Reading.{find_failed}
 use Rattle.bank_transactions.proofs.SoundRows.{is_a_request, request_is, request_unbroken}
@@ -13,7 +13,7 @@ pub returns-in_err-row : goal.returns-in_err-row
 returns-in_err-row g c =
     let fault = c.in_err-row.field-0.0 in
     let same : c.from_residual.result ≡ Err fault = search rules in
-    rw same (find_failed (λ t. request_in t c.args.teller c.args.number) IsNoRequest fault
+    rw same (find_failed (λ t. request_in t c.args.teller c.args.number) BreaksRequest fault
     (λ t r rule sound. request_unbroken t c.args.teller c.args.number r rule sound)
     (request_broken _ c.args.teller c.args.number fault) c.in_err-row.ensures)
 

@@ -1,7 +1,7 @@
 -- What the row of the next branch tells.
 use Rattle.std.proofs.Common.{◌≡◌, Err, Some, rules, sym, ◌∙◌, inl, inr, arith}
 use Rattle.store_rows.specs.Columns.{branch_above}
-use Rattle.store_rows.specs.Outcomes.{IsNoBranch}
+use Rattle.store_rows.specs.Outcomes.{BreaksBranch}
 use Rattle.bank_transactions.proofs.NextRow.{next_sound, next_unbroken}
 use Rattle.sql_meanings.specs.Entries.{is_above}
 use Rattle.std.specs.Prelude.{pos}
@@ -13,7 +13,7 @@ pub returns-in_err-row-clause-says : goal.returns-in_err-row-clause-says
 returns-in_err-row-clause-says g c =
     let fault = c.in_err-row.field-0.0 in
     let same : c.from_residual.result ≡ Err fault = search rules in
-    rw same (find_failed (λ t. branch_above t c.args.after) IsNoBranch fault
+    rw same (find_failed (λ t. branch_above t c.args.after) BreaksBranch fault
     (λ t r rule sound. next_unbroken t c.args.after r rule sound)
     (next_broken _ c.args.after fault) c.in_err-row.ensures)
 

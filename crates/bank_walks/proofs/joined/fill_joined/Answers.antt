@@ -7,7 +7,7 @@ use Rattle.sqlite.specs.Held.{state}
 use Rattle.sql_meanings.specs.Outcomes.{IsStoreError}
 use Rattle.sql_meanings.proofs.Saying.{survives_both}
 use Rattle.sql_meanings.proofs.OrderedAnswers.{rise_filter}
-use Rattle.bank_walks.specs.Rows.{HasRows}
+use Rattle.bank_walks.specs.Rows.{HasStoredRows}
 use Rattle.bank_walks.proofs.Filling.{breaks_given, breaks_own, fails_both, filled, match_both, store_both}
 use Rattle.bank_walks.proofs.joined.fill_joined.Goals as goal
 
@@ -28,7 +28,7 @@ returns-in-Ok-clause-told g c clean all has =
     let unchanged = c.in-Ok.ensures.same between in
     let given = g.R.StoredRow.is_given c.args.of in
     let told = rw same at (c.in-Ok.ensures.told between has.rows has.has) in
-    let others = subst (λ db. HasRows db g.O.StoredRow.table has.others) (sym unchanged.0.now_is) has.has_others in
+    let others = subst (λ db. HasStoredRows db g.O.StoredRow.table has.others) (sym unchanged.0.now_is) has.has_others in
     let joined = (rw c.as_slice.ensures.value at (c.join_first.ensures.told clean (filter given has.rows) has.others
     (rise_filter given has.rows has.has.holds.rows.rise) others from)) told in
     match_both _ _ _ _ c.join_first.result

@@ -3,7 +3,7 @@ use Rattle.std.proofs.Common.{◌≡◌, ◌≤ℤ◌, ◌≤◌, ◌<◌, ◌+�
 use Rattle.std.proofs.Math.Seq.{drop-cons}
 use Rattle.std.proofs.lemmas.Int.{ints, to_z-of_z}
 use Rattle.store_rows.proofs.Lookups.{as_integer}
-use Rattle.bank_walks.specs.Pairs.{IsDecided, row_under}
+use Rattle.bank_walks.specs.Pairs.{ComesBefore, row_under}
 use Rattle.bank_walks.specs.Rising.{RisesFrom}
 use Rattle.bank_walks.specs.Rows.{entry_key, rows_behind}
 use Rattle.bank_walks.proofs.Gathering.{behind_key}
@@ -28,8 +28,8 @@ loop-row-preserved g c =
     let keys = subst (λ l. RisesFrom next (map (λ x. entry_key (entry x)) l) c.args.rest) left c.loop-row.invariant.ahead in
     let from : start ≤ℤ next = rw same at c.loop-row.invariant.low in
     let above : start ≤ℤ (entry r).key = let up = keys.0 in omega (arith, ints) in
-    let decided : IsDecided c.args.behind (entry r).key =
-    subst (IsDecided c.args.behind) (as_integer n n refl c.key-key.ensures.most ∙ sym c.key-key.ensures.key) c.if-is_beyond.ensures.decided in
+    let decided : ComesBefore c.args.behind (entry r).key =
+    subst (ComesBefore c.args.behind) (as_integer n n refl c.key-key.ensures.most ∙ sym c.key-key.ensures.key) c.if-is_beyond.ensures.decided in
     rw (same, key) record {
       count = omega (arith, c.push.ensures.len, c.loop-row.invariant.count);
       low = omega (arith, ints, above);

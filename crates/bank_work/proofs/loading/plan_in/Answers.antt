@@ -4,10 +4,10 @@ use Rattle.branch_loader.specs.declared.fault.PlanFault.{PlanFault}
 use Rattle.branch_loader.specs.declared.fault.PlanFault.TheVariants.{Header, Columns, Branch, Accounts, Twice}
 use Rattle.branch_loader.specs.declared.fault.PlanFault.TheVariants.{Csv, Memory}
 use Rattle.bank_endings.specs.Faults.{fault_of_plan}
-use Rattle.bank_endings.specs.Looking.{IsOfPlan}
+use Rattle.bank_endings.specs.Looking.{IsPlanFault}
 use Rattle.bank_work.proofs.loading.plan_in.Goals as goal
 
-of_plan : (fault : PlanFault) → IsOfPlan (fault_of_plan fault)
+of_plan : (fault : PlanFault) → IsPlanFault (fault_of_plan fault)
 of_plan Header = tt
 of_plan (Columns n) = tt
 of_plan (Branch n) = tt

@@ -3,7 +3,7 @@ use Rattle.std.specs.Result.{is_ok}
 use Rattle.csv.specs.Records.{fields_of}
 use Rattle.branch_loader.specs.declared.fault.PlanFault.TheVariants.{Memory}
 use Rattle.branch_loader.specs.Plans.{plan_of_records, row_of_fields}
-use Rattle.branch_loader.specs.Records.{IsRecord}
+use Rattle.branch_loader.specs.Records.{WasRecord}
 use Rattle.posting_core.proofs.Telling.{last_some, more_last, more_more}
 use Rattle.branch_loader.proofs.Told.{fault_told, row_told}
 use Rattle.branch_loader.proofs.Rows.{fields-more, no-rows, plan-short}
@@ -27,7 +27,7 @@ returns-then-not-is_header-clause-plan g c all left =
 pub rows-init : goal.rows-init
 rows-init g c = record {
   plain = c.in_ok-next_record.ensures.plain;
-  more = last_some IsRecord (c.in_ok-next_record.ensures.found c.if-not-branch.false);
+  more = last_some WasRecord (c.in_ok-next_record.ensures.found c.if-not-branch.false);
   plan = rw c.new-rows.ensures.items no-rows;
   states = λ all left. took-header c.in_ok-next_record.field-0
       (fields_of c.next_record.new.fields) all c.new-rows.result.items
@@ -79,7 +79,7 @@ returns-in_err-map_err-clause-told g c =
     let refused : c.in_err-map_err.field-0.0 ≡ Memory = search rules in
     let p = err_from_is_err_and c.from_residual-in_err-map_err.result
     c.from_residual-in_err-map_err.ensures.1 in
-    rw (p.1, p.2, refused) (inr (more_last IsRecord c.rows.invariant.more
+    rw (p.1, p.2, refused) (inr (more_last WasRecord c.rows.invariant.more
     (c.in_ok-next_record-2.ensures.found c.if-branch.true)))
 
 pub rows-preserved : goal.rows-preserved
@@ -90,7 +90,7 @@ rows-preserved g c =
     record {
       plain = c.in_ok-next_record-2.ensures.plain;
       more = more_more c.rows.invariant.more
-          (last_some IsRecord (c.in_ok-next_record-2.ensures.found c.if-branch.true));
+          (last_some WasRecord (c.in_ok-next_record-2.ensures.found c.if-branch.true));
       plan = rw items
           (fields-more c.rows.rows.items (fields_of c.next_record-in-rows.new.fields) c.in_ok-row.row
           c.rows.invariant.plan row);

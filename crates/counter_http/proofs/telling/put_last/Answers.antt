@@ -2,7 +2,7 @@ use Rattle.std.proofs.Common.{ℕ, List, Bool, ◌++◌, refl, sym, ap, ◌∙�
 use Rattle.std.specs.Prelude.{codes}
 use Rattle.counter_http.specs.Answers.{allow_line, close_line}
 use Rattle.counter_http.specs.Ends.{HasTaken}
-use Rattle.counter_http.specs.Telling.{IsTold, said, now_of}
+use Rattle.counter_http.specs.Telling.{IsWrittenOrHeld, said, now_of}
 use Rattle.counter_http.proofs.Told.{told_as, three, allowed, not_told, last_is}
 use Rattle.counter_http.proofs.telling.put_last.Goals as goal
 use Rattle.counter_http.proofs.telling.put_last.Goals.{in-Some, in-None, then-closes, else-closes}
@@ -12,7 +12,7 @@ returns-clause-text g c before text t =
     let r = c.args.response.now in
     let a = said r in
     let first = c.put-going.ensures.text before text t in
-    let second : IsTold before (g.W.Sink.contents c.match-response.writer) c.match-response.going
+    let second : IsWrittenOrHeld before (g.W.Sink.contents c.match-response.writer) c.match-response.going
     c.match-response.held.items ((text ++ codes "\r\n") ++ allow_line a.allow) =
     elim c.match-response.branch [
       | in-Some v ↦ rw (v.writer-is, v.held-is, v.going-is)
@@ -25,7 +25,7 @@ returns-clause-text g c before text t =
           (told_as _ _ (sym (append-nil (text ++ codes "\r\n"))
           ∙ ap (λ (x : List ℕ). (text ++ codes "\r\n") ++ x) (not_told now_of r.allow v.in-None.is)) first)
     ] in
-    let third : IsTold before (g.W.Sink.contents c.if-closes.writer) c.if-closes.going c.if-closes.held.items
+    let third : IsWrittenOrHeld before (g.W.Sink.contents c.if-closes.writer) c.if-closes.going c.if-closes.held.items
     (((text ++ codes "\r\n") ++ allow_line a.allow) ++ close_line c.args.closes) =
     elim c.if-closes.branch [
       | then-closes v ↦ rw (v.writer-is, v.held-is, v.going-is)

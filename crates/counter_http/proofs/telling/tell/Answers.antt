@@ -2,7 +2,7 @@ use Rattle.std.proofs.Common.{◌≡◌, ◌++◌, ap, ◌∙◌, ℕ, List, len
 use Rattle.std.specs.Fmt.{decimal}
 use Rattle.counter_http.specs.Answers.{answer_text}
 use Rattle.counter_http.specs.Ends.{HasTaken}
-use Rattle.counter_http.specs.Telling.{IsTold, said, first_lines, last_lines}
+use Rattle.counter_http.specs.Telling.{IsWrittenOrHeld, said, first_lines, last_lines}
 use Rattle.counter_http.proofs.Told.{told_as, text_shown, text_hidden}
 use Rattle.counter_http.proofs.telling.tell.Goals as goal
 use Rattle.counter_http.proofs.telling.tell.Goals.{then-shows_body, else-shows_body}
@@ -15,7 +15,7 @@ returns-clause-written g c =
     (c.put-going.ensures.text w _ c.put_first-going.ensures.text) in
     let num : c.as_bytes.result.now ≡ decimal (length a.body) = c.as_bytes.ensures.value
     ∙ c.format-length.ensures.text in
-    let told : IsTold w (g.W.Sink.contents c.if-shows_body.writer) c.if-shows_body.going
+    let told : IsWrittenOrHeld w (g.W.Sink.contents c.if-shows_body.writer) c.if-shows_body.going
     c.if-shows_body.held.items
     (answer_text a c.args.shows_body c.args.closes) =
     elim c.if-shows_body.branch [

@@ -2,7 +2,7 @@
 use Rattle.std.proofs.Common.{[], ◌∷◌, refl, arith}
 use Rattle.posting_rules.specs.Commands.{Post}
 use Rattle.posting_rules.specs.Counter.{ShowsBeginning}
-use Rattle.posting_rules.specs.Tables.{Shows}
+use Rattle.posting_rules.specs.Tables.{AreTablesOf}
 use Rattle.posting_rules.proofs.Remaining.{leaves_weaker}
 use Rattle.posting_core.specs.Plain.{plain_seen}
 use Rattle.counter_tests.proofs.banks.FailingBankCounter.submit.Goals as goal
@@ -18,7 +18,7 @@ returns-then-self-eq0-clause-fault c = record {
         up = λ down. down;
         stop = at.stop;
       }) in
-      leaves_weaker (plain_seen c.submit.new.self) (λ t. Shows t (post ∷ log))
+      leaves_weaker (plain_seen c.submit.new.self) (λ t. AreTablesOf t (post ∷ log))
       (ShowsBeginning log (post ∷ []) 0)
       (λ t shows. record {
         count = 1;

@@ -5,10 +5,10 @@ use Rattle.message_records.specs.Records.{RequestFields}
 use Rattle.message_records.specs.Spelling.{reply_spelling}
 use Rattle.posting_rules.specs.Changes.{tables_past_all, replies_past_all}
 use Rattle.posting_rules.specs.Runs.{behind, posts}
-use Rattle.posting_rules.specs.Tables.{Tables, Shows}
+use Rattle.posting_rules.specs.Tables.{Tables, AreTablesOf}
 use Rattle.posting_rules.proofs.Records.{all_past}
 use Rattle.posting_rules.proofs.Records as past
-use Rattle.posting_batch.specs.Batch.{ChangesRows, HasRisingSlots, AddsRows, covering_all, no_slots, filled}
+use Rattle.posting_batch.specs.Batch.{ChangesRows, HasRisingSlots, AddsFreeRows, covering_all, no_slots, filled}
 use Rattle.posting_batch.specs.Judging.{overlay_with_all, replies_over}
 use Rattle.posting_batch.specs.Overlay.{Overlay, tables_over}
 use Rattle.posting_batch.specs.View.{view}
@@ -51,7 +51,7 @@ returns-clause-answers c t records is log shows =
 
 pub returns-clause-shows : goal.returns-clause-shows
 returns-clause-shows c t records is log shows =
-    subst (λ (u : Tables). Shows u (behind log (posts c.args.moment records)))
+    subst (λ (u : Tables). AreTablesOf u (behind log (posts c.args.moment records)))
     (sym (returns-clause-tables c t records is))
     (all_past t log c.args.moment records shows)
 
@@ -86,9 +86,9 @@ returns-clause-adds c t records is log shows =
     let old = filled t (covering_all no_slots reads) in
     let it = stands t reads in
     let after = judged m c.answer_all.ensures.overlay (c.deref.ensures.value ∙ is.reads) is.overlay in
-    subst (λ (o : Overlay). AddsRows o t) (sym after)
+    subst (λ (o : Overlay). AddsFreeRows o t) (sym after)
     (all_adds old t log m records it.fits it.unchanged it.covers
-    (subst (λ (u : Tables). Shows u log) (sym it.same) shows))
+    (subst (λ (u : Tables). AreTablesOf u log) (sym it.same) shows))
 
 pub returns-clause-counts : goal.returns-clause-counts
 returns-clause-counts c =

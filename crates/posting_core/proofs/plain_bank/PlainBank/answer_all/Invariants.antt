@@ -1,7 +1,7 @@
 use Rattle.std.proofs.Common.{◌≡◌, ◌+◌, ◌-◌, ◌≤◌, ◌++◌, List, take, length, vec_len}
 use Rattle.std.specs.Vec.{vec_capacity}
 use Rattle.posting_rules.specs.Commands.{Command, AreCommands}
-use Rattle.posting_rules.specs.Tables.{Shows}
+use Rattle.posting_rules.specs.Tables.{AreTablesOf}
 use Rattle.posting_core.specs.Plain.{plain_tables}
 use Rattle.posting_rules.specs.Runs.{behind, posts, replies_to}
 use Rattle.posting_core.proofs.plain_bank.PlainBank.answer_all.Given as goal
@@ -9,9 +9,9 @@ use Rattle.posting_core.proofs.plain_bank.PlainBank.answer_all.Given as goal
 -- the records so far are behind each log, their replies were put, and there is room for the others
 abbrev pub invariant-loop-bytes : goal.invariant-loop-bytes
 invariant-loop-bytes l = record {
-  shows : (log : List Command) → Shows (plain_tables l.fn.self) log
-      → Shows (plain_tables l.self) (behind log (posts l.moment (take l.bytes-index l.records)));
-  replies : (log : List Command) → Shows (plain_tables l.fn.self) log
+  shows : (log : List Command) → AreTablesOf (plain_tables l.fn.self) log
+      → AreTablesOf (plain_tables l.self) (behind log (posts l.moment (take l.bytes-index l.records)));
+  replies : (log : List Command) → AreTablesOf (plain_tables l.fn.self) log
       → l.replies.items ≡ l.fn.replies.items ++ replies_to log
       (posts l.moment (take l.bytes-index l.records));
   commands : AreCommands (posts l.moment (take l.bytes-index l.records));

@@ -1,5 +1,5 @@
 use Rattle.std.proofs.Common.{refl, subst, sym, ap, ◌∙◌, ◌++◌, List, ℕ, rules}
-use Rattle.posting_rules.specs.Tables.{Tables, Shows}
+use Rattle.posting_rules.specs.Tables.{Tables, AreTablesOf}
 use Rattle.posting_core.specs.Plain.{plain_tables}
 use Rattle.posting_rules.specs.Runs.{posts, replies_to}
 use Rattle.posting_core.proofs.InMemory.{plain_shows, requests_as_before, takes_plain}
@@ -11,7 +11,7 @@ returns-clause-done c =
     c.reserve-3.ensures.items in
     takes_plain c.args.self.now c.answer_all.new.self
     (posts c.args.moment c.args.records.now) c.answer_all.ensures.commands
-    (λ log s. c.answer_all.ensures.shows log (subst (λ (t : Tables). Shows t log) (sym same) s))
+    (λ log s. c.answer_all.ensures.shows log (subst (λ (t : Tables). AreTablesOf t log) (sym same) s))
 
 pub returns-in_err-reserve-3-clause-fault : goal.returns-in_err-reserve-3-clause-fault
 returns-in_err-reserve-3-clause-fault c = search rules
@@ -20,7 +20,7 @@ pub returns-clause-replies : goal.returns-clause-replies
 returns-clause-replies c h log s =
     let same = requests_as_before (plain_tables c.args.self.now) _ _ refl c.reserve-2.ensures.items
     c.reserve-3.ensures.items in
-    c.answer_all.ensures.replies log (subst (λ (t : Tables). Shows t log) (sym same)
+    c.answer_all.ensures.replies log (subst (λ (t : Tables). AreTablesOf t log) (sym same)
     (plain_shows c.args.self.now log s))
     ∙ ap (λ (rs : List (List ℕ)). rs ++ replies_to log (posts c.args.moment c.args.records.now))
     (c.reserve.ensures.items ∙ c.new-replies.ensures.items)

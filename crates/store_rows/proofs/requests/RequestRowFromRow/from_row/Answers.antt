@@ -6,7 +6,7 @@ use Rattle.posting_rules.specs.declared.limits.TheConstants.{MAX_DECIDED}
 use Rattle.sql_meanings.specs.Entries.{Entry}
 use Rattle.store_rows.specs.Columns.{number_at}
 use Rattle.store_rows.specs.Rules.{RequestKeeps}
-use Rattle.store_rows.specs.Stored.{IsRequest, request_stored}
+use Rattle.store_rows.specs.Stored.{IsSameRequest, request_stored}
 use Rattle.store_rows.proofs.StoredReads.{unread_whole}
 use Rattle.store_rows.proofs.requests.RequestRowFromRow.from_row.Goals as goal
 
@@ -14,7 +14,7 @@ pub returns-in_err-whole_at-clause-stored : goal.returns-in_err-whole_at-clause-
 returns-in_err-whole_at-clause-stored c =
     let e = c.in_err-whole_at in
     let same : c.from_residual.result ≡ Err e.field-0.0 = search rules in
-    rw same (unread_whole request_stored IsRequest RequestKeeps c.args.row.now Value 0 (λ (r : Entry). r.key)
+    rw same (unread_whole request_stored IsSameRequest RequestKeeps c.args.row.now Value 0 (λ (r : Entry). r.key)
     (λ _. refl) 1 MAX_DECIDED 1 MAX_DECIDED
     (omega arith) (omega arith) (λ r kept. kept) e.field-0.0 e.ensures.reads)
 
@@ -22,7 +22,7 @@ pub returns-in_err-whole_at-2-clause-stored : goal.returns-in_err-whole_at-2-cla
 returns-in_err-whole_at-2-clause-stored c =
     let e = c.in_err-whole_at-2 in
     let same : c.from_residual-in_err-whole_at-2.result ≡ Err e.field-0.0 = search rules in
-    rw same (unread_whole request_stored IsRequest RequestKeeps c.args.row.now Request 1 (number_at 0)
+    rw same (unread_whole request_stored IsSameRequest RequestKeeps c.args.row.now Request 1 (number_at 0)
     (λ _. refl) 1 MAX_TELLER 1 MAX_TELLER
     (omega arith) (omega arith) (λ r kept. kept.teller) e.field-0.0 e.ensures.reads)
 
@@ -30,6 +30,6 @@ pub returns-in_err-whole_at-3-clause-stored : goal.returns-in_err-whole_at-3-cla
 returns-in_err-whole_at-3-clause-stored c =
     let e = c.in_err-whole_at-3 in
     let same : c.from_residual-in_err-whole_at-3.result ≡ Err e.field-0.0 = search rules in
-    rw same (unread_whole request_stored IsRequest RequestKeeps c.args.row.now Request 2 (number_at 1)
+    rw same (unread_whole request_stored IsSameRequest RequestKeeps c.args.row.now Request 2 (number_at 1)
     (λ _. refl) 1 MAX_NUMBER 1 MAX_NUMBER
     (omega arith) (omega arith) (λ r kept. kept.number) e.field-0.0 e.ensures.reads)
