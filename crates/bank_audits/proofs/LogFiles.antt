@@ -16,7 +16,7 @@ use Rattle.posting_rules.proofs.Undamaged.{undamaged}
 use Rattle.sql_meanings.specs.Entries.{Entry, Rise}
 use Rattle.store_rows.specs.SixTables as six
 use Rattle.store_rows.specs.View as view
-use Rattle.store_rows.specs.View.{AreTablesOf as ShowsIn}
+use Rattle.store_rows.specs.View.{Shows as ShowsIn}
 use Rattle.bank_walks.specs.Rows.{HasStoredRows}
 use Rattle.bank_walks.specs.Stored.{account_entry, branch_entry, posting_entry, request_entry, teller_entry}
 use Rattle.bank_walks.specs.Stored.{IsNoAccount, IsNoBranch, IsNoPosting, IsNoRequest, IsNoTeller}

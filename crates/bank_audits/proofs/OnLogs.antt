@@ -15,13 +15,13 @@ use Rattle.posting_rules.specs.Commands.{Command}
 use Rattle.posting_rules.specs.Entries.{DecidedRequest, is_posted, decided, account_balance}
 use Rattle.posting_rules.specs.Tables.{Tables, history_key, history_row_of, AreTablesOf}
 use Rattle.sql_meanings.specs.Entries.{Rise}
-use Rattle.sql_meanings.specs.Entries.{DecidedRequest as Stored}
+use Rattle.sql_meanings.specs.Entries.{Entry as Stored}
 use Rattle.sql_meanings.specs.Seeks.{is_from}
 use Rattle.sql_meanings.proofs.Contents.{held}
 use Rattle.store_rows.specs.SixTables.{bank_tables}
 use Rattle.store_rows.specs.SixTables.{history as history_table}
 use Rattle.store_rows.specs.View.{history_entry, contents}
-use Rattle.store_rows.specs.View.{AreTablesOf as ShowsIn}
+use Rattle.store_rows.specs.View.{Shows as ShowsIn}
 use Rattle.bank_walks.specs.declared.postings.StoredPosting.{StoredPosting}
 use Rattle.bank_walks.specs.Stored.{posting_entry, number_behind, is_of}
 use Rattle.bank_walks.specs.Rows.{HasStoredRows}

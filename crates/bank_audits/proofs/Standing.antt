@@ -10,7 +10,7 @@ use Rattle.posting_rules.specs.Commands.{Command}
 use Rattle.posting_rules.specs.Counter.{Seen, ShowsLog, StandsAt, Takes, Refuses, LeavesNoMore, LeavesOnly}
 use Rattle.posting_rules.specs.Runs.{behind}
 use Rattle.posting_rules.specs.Tables.{AreTablesOf}
-use Rattle.store_rows.specs.View.{AreTablesOf as ShowsIn}
+use Rattle.store_rows.specs.View.{Shows as ShowsIn}
 use Rattle.bank_store.specs.Seen.{seen_in}
 use Rattle.bank_store.specs.Walks.{IsStill}
 use Rattle.bank_audits.specs.declared.fault.ReportFault.{ReportFault}

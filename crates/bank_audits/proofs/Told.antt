@@ -16,7 +16,7 @@ use Rattle.posting_rules.specs.declared.fault.Fault.TheVariants.{Damaged}
 use Rattle.posting_rules.specs.Commands.{Command, AreCommands, is_account_open, opened}
 use Rattle.posting_rules.specs.Entries.{DecidedRequest, decided, account_balance, balance_behind}
 use Rattle.posting_rules.proofs.SoundEntries.{AreSound, are_sound, few_enough}
-use Rattle.sql_meanings.specs.Entries.{DecidedRequest as Stored}
+use Rattle.sql_meanings.specs.Entries.{Entry as Stored}
 use Rattle.bank_walks.specs.Reading.{IsOutside}
 use Rattle.bank_walks.specs.declared.postings.StoredPosting.{StoredPosting}
 use Rattle.bank_walks.specs.Stored.{posting_entry, IsNoPosting}

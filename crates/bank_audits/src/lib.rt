@@ -1,16 +1,16 @@
 //! The audit of a bank in a file, and the statement of one of its accounts.
 #![tactic(auto)]
 
-mod adding;
-mod auditing;
+mod additions;
+mod audit;
 mod fault;
-mod gathering;
+mod gathered;
 mod lines;
 mod passes;
 mod postings;
 mod statement;
 mod sums;
 
-pub use auditing::audit;
+pub use audit::audit;
 pub use fault::ReportFault;
 pub use statement::write_statement;

@@ -9,7 +9,7 @@ ghost use Rattle.bank_audits.specs.Adding.{AddsToSums, HasSums, IsPassed};
 ghost use Rattle.bank_audits.specs.Failures.{HasFailedToRead, Says};
 ghost use Rattle.bank_audits.specs.Files.{HasBroken};
 
-use crate::gathering::add_rows;
+use crate::gathered::add_rows;
 use crate::sums::{Summed, Sums};
 use bank_store::{Bank, each_account, each_branch, each_history, each_request, each_teller};
 use bank_walks::{Joined, StoredAccount, StoredBranch, StoredPosting, StoredRequest, StoredTeller};

@@ -8,7 +8,7 @@ use Rattle.std.proofs.lemmas.List.Edits.{map_over_more}
 use Rattle.sqlite.specs.declared.transaction.Transaction.{Transaction}
 use Rattle.sqlite_trees.specs.declared.store.Store.{Ghosts}
 use Rattle.posting_rules.specs.Tables.{Tables}
-use Rattle.store_rows.specs.declared.faults.TableFault.{TableFault}
+use Rattle.store_rows.specs.declared.fault.TableFault.{TableFault}
 use Rattle.bank_transactions.specs.Doing.{Does}
 use Rattle.bank_transactions.proofs.Chained.{does_then, does_for}
 use Rattle.bank_batches.specs.Filling.{ReadsWhere}

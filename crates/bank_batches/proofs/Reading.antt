@@ -10,8 +10,8 @@ use Rattle.posting_rules.specs.Damage.{IsUndamaged}
 use Rattle.sql_meanings.proofs.Saying.{says_then}
 use Rattle.posting_rules.specs.Tables.{Tables}
 use Rattle.store_rows.specs.View.{Shows}
-use Rattle.store_rows.specs.declared.faults.TableFault.{TableFault}
-use Rattle.store_rows.specs.declared.faults.TableFault.TheVariants.{Sqlite, Damaged}
+use Rattle.store_rows.specs.declared.fault.TableFault.{TableFault}
+use Rattle.store_rows.specs.declared.fault.TableFault.TheVariants.{Sqlite, Damaged}
 use Rattle.store_rows.specs.Rules.{IsBroken}
 use Rattle.bank_transactions.specs.Doing.{DoesBy, IsFirstBroken, ChangesNothing, LooksUp, Reads, Stays}
 use Rattle.bank_transactions.proofs.Blamed.{blames_after, comes}

@@ -15,7 +15,7 @@ use Rattle.sql_meanings.specs.Calls.{Says, Inside}
 use Rattle.store_rows.specs.Calls.{OfTables}
 use Rattle.store_rows.specs.Failures.{Puts}
 use Rattle.store_rows.specs.Outcomes.{PutsOneRow}
-use Rattle.store_rows.specs.declared.faults.TableFault.{TableFault}
+use Rattle.store_rows.specs.declared.fault.TableFault.{TableFault}
 use Rattle.bank_transactions.specs.Doing.{Does}
 use Rattle.bank_transactions.specs.Holders.{HasRow, with_balance}
 use Rattle.bank_transactions.specs.declared.balances.Holder.{Holder}

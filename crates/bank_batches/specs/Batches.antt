@@ -5,7 +5,7 @@ use Rattle.sqlite.specs.State.{State}
 use Rattle.posting_rules.specs.Changes.{tables_past_all}
 use Rattle.posting_rules.specs.Tables.{Tables}
 use Rattle.store_rows.specs.View.{Shows, ShowsTrees}
-use Rattle.store_rows.specs.declared.faults.TableFault.{TableFault}
+use Rattle.store_rows.specs.declared.fault.TableFault.{TableFault}
 use Rattle.bank_transactions.specs.Doing.{Stays}
 
 -- the replies, without where they lie in memory

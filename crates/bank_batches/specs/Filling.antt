@@ -7,7 +7,7 @@ use Rattle.posting_batch.specs.declared.slots.BranchSlot.{BranchSlot}
 use Rattle.posting_batch.specs.Slots.{in_slot, row_of_slot, branch_slot_key}
 use Rattle.sql_meanings.specs.Calls.{Says}
 use Rattle.store_rows.specs.Calls.{OfTables}
-use Rattle.store_rows.specs.declared.faults.TableFault.{TableFault}
+use Rattle.store_rows.specs.declared.fault.TableFault.{TableFault}
 use Rattle.bank_transactions.specs.Doing.{Blames, IsFirstBroken, LooksUp, ChangesNothing}
 
 -- this is the answer, where the call was answered

@@ -10,8 +10,8 @@ ghost use Rattle.store_rows.specs.View.{Shows};
 ghost use Rattle.bank_transactions.specs.Doing.{Acts, Transacts};
 ghost use Rattle.bank_batches.specs.Batches.{items_of, DecidesNone, WritesNothing, HasOnly};
 
-use crate::filling::fill;
-use crate::writing::write;
+use crate::changes::write;
+use crate::slots::fill;
 use bank_transactions::{begin, finish};
 use message_records::Moment;
 use posting_batch::{Batch, Judged};

@@ -3,9 +3,9 @@
 #![tactic(auto)]
 
 mod batches;
-mod filling;
-mod writing;
+mod changes;
+mod slots;
 
 pub use batches::{answer_batch, post_all};
-pub use filling::fill;
-pub use writing::write;
+pub use changes::write;
+pub use slots::fill;

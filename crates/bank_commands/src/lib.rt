@@ -3,12 +3,12 @@
 //! the books agree, and `statement` writes the postings of an account.
 #![tactic(auto)]
 
-mod auditing;
+mod audit;
 mod commands;
-mod serving;
+mod server;
 mod stating;
 
-pub use auditing::audit_file;
+pub use audit::audit_file;
 pub use commands::{drive, init, load_plan, post};
-pub use serving::serve;
+pub use server::serve;
 pub use stating::statement;

@@ -18,7 +18,7 @@ use Rattle.posting_core.proofs.Stops.{refused_stop, stop_all}
 use Rattle.branch_loader.specs.Plans.{Row, Rows}
 use Rattle.branch_loader.proofs.Openings.{Takes-append}
 use Rattle.load_driver.specs.Requests.{IsAscending}
-use Rattle.bank_driver.specs.declared.driving.Driven.{Driven}
+use Rattle.bank_driver.specs.declared.drive.Driven.{Driven}
 use Rattle.bank_driver.specs.declared.fault.DriveFault.{DriveFault}
 use Rattle.bank_driver.specs.declared.fault.DriveFault.TheVariants.{NoBranches, Bank}
 use Rattle.bank_driver.specs.Drives.{Drives, EndsDrive, IfListed, IsUnlisted, MayRefuse, Resends, Submits}

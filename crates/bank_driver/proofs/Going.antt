@@ -16,7 +16,7 @@ use Rattle.posting_core.proofs.Stops.{refused_stop, stop_all, stop_part}
 use Rattle.posting_core.proofs.StreamedBatches.{clock_batch, takes_batch}
 use Rattle.branch_loader.specs.Plans.{Rows}
 use Rattle.load_driver.specs.Counts.{Driving}
-use Rattle.bank_driver.specs.declared.driving.Driven.{Driven}
+use Rattle.bank_driver.specs.declared.drive.Driven.{Driven}
 use Rattle.bank_driver.specs.declared.fault.DriveFault.TheVariants.{Bank}
 use Rattle.bank_driver.specs.Counted.{IsCounted}
 use Rattle.bank_driver.specs.Drives.{Submits}

@@ -12,7 +12,7 @@ use Rattle.posting_core.specs.Clock.{AreReadings}
 use Rattle.posting_core.specs.Stream.{posted_records}
 use Rattle.branch_loader.specs.Plans.{Rows}
 use Rattle.load_driver.specs.Requests.{IsAscending}
-use Rattle.bank_driver.specs.declared.driving.Driven.{Driven}
+use Rattle.bank_driver.specs.declared.drive.Driven.{Driven}
 use Rattle.bank_driver.specs.declared.fault.DriveFault.{DriveFault}
 use Rattle.bank_driver.specs.declared.fault.DriveFault.TheVariants.{NoBranches, Bank}
 use Rattle.bank_driver.specs.Records.{AreFull, first_drawn, open_branches, posted_among}

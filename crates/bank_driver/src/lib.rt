@@ -22,11 +22,11 @@
 #![tactic(auto)]
 
 mod batches;
-mod driving;
+mod drive;
 mod fault;
-mod listing;
+mod open_branches;
 
-pub use driving::{Driven, MAX_DRIVEN, drive_records};
+pub use drive::{Driven, MAX_DRIVEN, drive_records};
 pub use fault::DriveFault;
 
 #[cfg(test)]

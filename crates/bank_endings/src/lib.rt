@@ -20,11 +20,11 @@
 #![tactic(auto)]
 
 mod fault;
-mod printing;
+mod lines;
 mod status;
 
 pub use fault::CommandFault;
-pub use printing::{
+pub use lines::{
     explain, print_created, print_driven, print_listening, print_loaded, tell, tell_no_words,
 };
 pub use status::Status;

@@ -4,8 +4,8 @@
 //! a database keeps the pages that it has.
 #![tactic(auto)]
 
-mod making;
-mod opening;
+mod creation;
+mod open;
 
-pub use making::PAGE_BYTES;
-pub use opening::{open, open_over};
+pub use creation::PAGE_BYTES;
+pub use open::{open, open_over};

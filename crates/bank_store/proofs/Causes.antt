@@ -12,8 +12,8 @@ use Rattle.sqlite_trees.specs.declared.store.Store.{Ghosts}
 use Rattle.store_rows.specs.Calls.{Probes}
 use Rattle.store_rows.specs.Creation.{CreatesBank}
 use Rattle.store_rows.specs.Failures.{Committing, HasReason}
-use Rattle.store_rows.specs.declared.faults.TableFault.{TableFault}
-use Rattle.store_rows.specs.declared.faults.TableFault.TheVariants.{Sqlite, Damaged as Broken}
+use Rattle.store_rows.specs.declared.fault.TableFault.{TableFault}
+use Rattle.store_rows.specs.declared.fault.TableFault.TheVariants.{Sqlite, Damaged as Broken}
 use Rattle.bank_transactions.specs.Doing.{IsBefore}
 use Rattle.bank_transactions.proofs.Blamed.{failed_here, failed_within, same_moment, then_moment}
 use Rattle.store_rows.specs.declared.metas.StoredMeta.{StoredMeta}

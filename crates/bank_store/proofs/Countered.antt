@@ -20,8 +20,8 @@ use Rattle.posting_rules.specs.Tables.{AreTablesOf as Show}
 use Rattle.posting_rules.proofs.Calls.{IsChange}
 use Rattle.posting_rules.proofs.Sequence.{commands_behind}
 use Rattle.store_rows.specs.View.{Shows}
-use Rattle.store_rows.specs.declared.faults.TableFault.{TableFault}
-use Rattle.store_rows.specs.declared.faults.TableFault.TheVariants.{Sqlite, Damaged}
+use Rattle.store_rows.specs.declared.fault.TableFault.{TableFault}
+use Rattle.store_rows.specs.declared.fault.TableFault.TheVariants.{Sqlite, Damaged}
 use Rattle.store_rows.specs.Failures.{Committing}
 use Rattle.bank_transactions.specs.Doing.{Damage, HasFailedBetween, MayLeaveAfter, TransactsBy}
 use Rattle.bank_transactions.proofs.Blamed.{comes, failed_within, same_moment}

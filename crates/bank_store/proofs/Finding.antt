@@ -27,7 +27,7 @@ use Rattle.store_rows.specs.declared.metas.StoredMeta.{StoredMeta}
 use Rattle.bank_store.specs.Opening.{Lacks, IsPresent, IsAsBefore, IsOurs, IsOfVersion, IsNoCount, ChecksMeta}
 use Rattle.bank_store.specs.Opening.{TellsMeta, IsUnread, IsOfOtherType, IsReadOnly, MetaIs, Misses}
 use Rattle.bank_store.specs.Opening.{SeeksBank}
-use Rattle.bank_store.specs.declared.probing.Presence.TheVariants.{Absent, Whole}
+use Rattle.bank_store.specs.declared.presence.Presence.TheVariants.{Absent, Whole}
 use Rattle.bank_store.specs.declared.refused.OpenFault.{OpenFault}
 use Rattle.bank_store.specs.declared.refused.OpenFault.TheVariants.{Store, NotBlank, Blank, Foreign, Version}
 use Rattle.bank_store.specs.declared.refused.OpenFault.TheVariants.{Damaged}

@@ -13,9 +13,9 @@ use Rattle.sqlite_rules.specs.Lists.{Has}
 use Rattle.sqlite_trees.proofs.ListLemmas.{all-append}
 use Rattle.sql_meanings.specs.Outcomes.{TellsProbe, TellsUnderstood}
 use Rattle.store_rows.specs.Calls.{Probes}
-use Rattle.bank_store.specs.declared.probing.BankTable.{BankTable}
-use Rattle.bank_store.specs.declared.probing.Presence.{Presence}
-use Rattle.bank_store.specs.declared.probing.Presence.TheVariants.{Absent, Partial, Whole}
+use Rattle.bank_store.specs.declared.presence.BankTable.{BankTable}
+use Rattle.bank_store.specs.declared.presence.Presence.{Presence}
+use Rattle.bank_store.specs.declared.presence.Presence.TheVariants.{Absent, Partial, Whole}
 use Rattle.bank_store.specs.Opening.{IsReadable, Lacks, OneOf, IsPresent, presence_of, joined, probe_of}
 use Rattle.bank_store.specs.Opening.{IsAsBefore}
 

@@ -17,8 +17,8 @@ use Rattle.store_rows.specs.Probes as probe
 use Rattle.store_rows.proofs.EmptyFile.{refused_on_nothing}
 use Rattle.bank_store.specs.Opening.{of_the_store, unmade_by, IsReadable, OneOf, IsPresent, IsRefusedOnTheWay}
 use Rattle.bank_store.specs.Opening.{IsTaken}
-use Rattle.bank_store.specs.declared.probing.Presence.{Presence}
-use Rattle.bank_store.specs.declared.probing.Presence.TheVariants.{Absent, Partial, Whole}
+use Rattle.bank_store.specs.declared.presence.Presence.{Presence}
+use Rattle.bank_store.specs.declared.presence.Presence.TheVariants.{Absent, Partial, Whole}
 use Rattle.bank_store.specs.declared.refused.OpenFault.{OpenFault}
 use Rattle.bank_store.specs.declared.refused.OpenFault.TheVariants.{NotBlank}
 

@@ -3,8 +3,8 @@ use Rattle.std.proofs.Common.{◌≡◌, ◌≤◌, ◌≤ℤ◌, ◌+ℤ◌, �
 use Rattle.std.proofs.Common.{map, drop, length, slice_get, Some, None, Option, refl, sym, ap, ◌∙◌, arith}
 use Rattle.posting_rules.specs.declared.fault.Fault.{Fault}
 use Rattle.sqlite.specs.declared.error.Error.{Error}
-use Rattle.store_rows.specs.declared.faults.TableFault.{TableFault}
-use Rattle.store_rows.specs.declared.faults.TableFault.TheVariants.{Sqlite, Damaged}
+use Rattle.store_rows.specs.declared.fault.TableFault.{TableFault}
+use Rattle.store_rows.specs.declared.fault.TableFault.TheVariants.{Sqlite, Damaged}
 use Rattle.bank_walks.specs.Outcomes.{BreaksFirst}
 use Rattle.bank_walks.specs.Rising.{RisesFrom}
 use Rattle.bank_walks.proofs.Rises.{from_lower}

@@ -31,14 +31,14 @@ use Rattle.sql_meanings.specs.Entries.{Entry}
 use Rattle.store_rows.specs.View.{HoldsRows, Shows, ShowsTrees, meta_entry}
 use Rattle.store_rows.specs.declared.metas.TheConstants.{VERSION}
 use Rattle.store_rows.specs.declared.metas.StoredMeta.{StoredMeta}
-use Rattle.store_rows.specs.declared.faults.TableFault.{TableFault}
-use Rattle.store_rows.specs.declared.faults.TableFault.TheVariants.{Sqlite, Damaged as Broken}
+use Rattle.store_rows.specs.declared.fault.TableFault.{TableFault}
+use Rattle.store_rows.specs.declared.fault.TableFault.TheVariants.{Sqlite, Damaged as Broken}
 use Rattle.bank_store.specs.Seen.{seen_in}
 use Rattle.bank_store.specs.declared.bank.Bank.{Bank}
-use Rattle.bank_store.specs.declared.probing.BankTable.{BankTable}
-use Rattle.bank_store.specs.declared.probing.BankTable.TheVariants as one
-use Rattle.bank_store.specs.declared.probing.Presence.{Presence}
-use Rattle.bank_store.specs.declared.probing.Presence.TheVariants.{Absent, Partial, Whole}
+use Rattle.bank_store.specs.declared.presence.BankTable.{BankTable}
+use Rattle.bank_store.specs.declared.presence.BankTable.TheVariants as one
+use Rattle.bank_store.specs.declared.presence.Presence.{Presence}
+use Rattle.bank_store.specs.declared.presence.Presence.TheVariants.{Absent, Partial, Whole}
 use Rattle.bank_store.specs.declared.refused.OpenFault.{OpenFault}
 use Rattle.bank_store.specs.declared.refused.OpenFault.TheVariants.{Store, NotBlank, Blank, Foreign, Version}
 use Rattle.bank_store.specs.declared.refused.OpenFault.TheVariants.{Damaged}

@@ -4,8 +4,8 @@ use Rattle.sqlite.specs.State.{State}
 use Rattle.sqlite.specs.State.{Shows as StateShows}
 use Rattle.posting_rules.specs.declared.fault.Fault.{Fault}
 use Rattle.posting_rules.specs.declared.fault.Fault.TheVariants as told
-use Rattle.store_rows.specs.declared.faults.TableFault.{TableFault}
-use Rattle.store_rows.specs.declared.faults.TableFault.TheVariants.{Sqlite, Damaged}
+use Rattle.store_rows.specs.declared.fault.TableFault.{TableFault}
+use Rattle.store_rows.specs.declared.fault.TableFault.TheVariants.{Sqlite, Damaged}
 
 -- an error of the store, or the rule that is broken
 abbrev pub TellsFault : TableFault → Fault → Type 0

@@ -31,19 +31,19 @@
 //! the rows. `specs/Seen` says what a bank shows, and the crate `bank_lives` what is found after a stop.
 #![tactic(auto)]
 
-mod adopting;
+mod adoption;
 mod bank;
-mod creating;
-mod probing;
+mod creation;
+mod presence;
 mod refused;
 mod walks;
 
-pub use adopting::adopt;
+pub use adoption::adopt;
 pub use bank::Bank;
 pub use bank_walks::{
     Joined, StoredAccount, StoredBranch, StoredPosting, StoredRequest, StoredTeller,
 };
-pub use creating::create;
+pub use creation::create;
 pub use message_records::{Account, Branch, Cents, Moment, Number, Teller};
 pub use posting_rules::{BranchLine, Counter, Fault, Opening, Rule};
 pub use refused::{OpenFault, Refused};

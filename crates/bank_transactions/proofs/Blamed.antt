@@ -6,8 +6,8 @@ use Rattle.sqlite.specs.Tree.{Trees}
 use Rattle.sqlite.specs.declared.error.Error.{Error}
 use Rattle.sqlite_trees.specs.declared.store.Store.{Ghosts}
 use Rattle.store_rows.specs.Failures.{HasFailed, HasMet, Puts}
-use Rattle.store_rows.specs.declared.faults.TableFault.{TableFault}
-use Rattle.store_rows.specs.declared.faults.TableFault.TheVariants.{Sqlite, Damaged}
+use Rattle.store_rows.specs.declared.fault.TableFault.{TableFault}
+use Rattle.store_rows.specs.declared.fault.TableFault.TheVariants.{Sqlite, Damaged}
 use Rattle.posting_rules.specs.declared.fault.Rule.{Rule}
 use Rattle.bank_transactions.specs.Doing.{IsBefore, HasFailedBetween, HasMetBetween, Damage, IsBrokenOrMet}
 use Rattle.bank_transactions.specs.Doing.{IsFault, Blames}

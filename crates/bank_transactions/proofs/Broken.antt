@@ -23,8 +23,8 @@ use Rattle.store_rows.specs.Rules.{BranchKeeps, TellerKeeps, AccountKeeps, Reque
 use Rattle.store_rows.specs.SixTables as six
 use Rattle.store_rows.specs.Stored.{BalanceKeeps, FindsStored, IsBalance, IsBranch, IsSameRequest}
 use Rattle.store_rows.specs.View.{HoldsRows}
-use Rattle.store_rows.specs.declared.faults.TableFault.{TableFault}
-use Rattle.store_rows.specs.declared.faults.TableFault.TheVariants.{Sqlite, Damaged}
+use Rattle.store_rows.specs.declared.fault.TableFault.{TableFault}
+use Rattle.store_rows.specs.declared.fault.TableFault.TheVariants.{Sqlite, Damaged}
 use Rattle.store_rows.specs.declared.metas.StoredMeta.{StoredMeta}
 use Rattle.store_rows.proofs.StoredRows.{holds_list}
 

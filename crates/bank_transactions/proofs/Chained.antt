@@ -16,8 +16,8 @@ use Rattle.store_rows.specs.Calls.{OfTables}
 use Rattle.store_rows.specs.Failures.{Changes, HasMet, IsUpdateOf, MeetsNone, Puts}
 use Rattle.store_rows.specs.Outcomes.{PutsOneRow, SetsRow}
 use Rattle.store_rows.specs.View.{Shows}
-use Rattle.store_rows.specs.declared.faults.TableFault.{TableFault}
-use Rattle.store_rows.specs.declared.faults.TableFault.TheVariants.{Sqlite, Damaged}
+use Rattle.store_rows.specs.declared.fault.TableFault.{TableFault}
+use Rattle.store_rows.specs.declared.fault.TableFault.TheVariants.{Sqlite, Damaged}
 use Rattle.bank_transactions.proofs.Blamed.{blames_put, broken_or_met, comes, failed_here, met_after}
 use Rattle.bank_transactions.proofs.Blamed.{met_here}
 use Rattle.bank_transactions.specs.Doing.{GoesOnUncommitted, HasMetBetween, Damage, IsFirstBroken, IsBrokenOrMet, Blames}

@@ -13,7 +13,7 @@ use Rattle.store_rows.specs.Failures.{HasReason}
 use Rattle.store_rows.specs.Outcomes.{Finds, BreaksBalance}
 use Rattle.store_rows.specs.Rules.{OfRows, row_under}
 use Rattle.store_rows.specs.Stored.{BalanceKeeps, FindsStored, IsBalance}
-use Rattle.store_rows.specs.declared.faults.TableFault.{TableFault}
+use Rattle.store_rows.specs.declared.fault.TableFault.{TableFault}
 use Rattle.bank_transactions.specs.Doing.{IsFault, IsFirstBroken, LooksUp}
 use Rattle.bank_transactions.proofs.Broken.{account_broken, teller_broken}
 use Rattle.bank_transactions.proofs.Reading.{find_failed}

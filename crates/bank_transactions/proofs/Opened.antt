@@ -9,7 +9,7 @@ use Rattle.posting_rules.specs.Tables.{Tables, row_at, branch_key, branch_row_of
 use Rattle.posting_rules.proofs.Stepping.{no_more_tellers, no_more_accounts, one_more_teller}
 use Rattle.posting_rules.proofs.Stepping.{one_more_account, opening_teller_is_free, opening_account_is_free}
 use Rattle.bank_transactions.specs.NewRows.{is_taken, with_new_rows}
-use Rattle.bank_transactions.specs.declared.opening.NewRows.TheVariants.{Tellers, Accounts}
+use Rattle.bank_transactions.specs.declared.new_branch.NewRows.TheVariants.{Tellers, Accounts}
 use Rattle.posting_rules.specs.declared.limits.TheConstants.{MOST_ACCOUNTS}
 
 tellers_are : (first count : ℕ) (t : Tables) → with_new_rows Tellers first count t

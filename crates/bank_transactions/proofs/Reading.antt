@@ -14,8 +14,8 @@ use Rattle.store_rows.specs.Calls.{OfTables}
 use Rattle.store_rows.specs.Failures.{HasReason}
 use Rattle.store_rows.specs.Outcomes.{Finds}
 use Rattle.store_rows.specs.View.{Shows}
-use Rattle.store_rows.specs.declared.faults.TableFault.{TableFault}
-use Rattle.store_rows.specs.declared.faults.TableFault.TheVariants.{Sqlite, Damaged}
+use Rattle.store_rows.specs.declared.fault.TableFault.{TableFault}
+use Rattle.store_rows.specs.declared.fault.TableFault.TheVariants.{Sqlite, Damaged}
 use Rattle.store_rows.specs.Rules.{IsBroken}
 use Rattle.bank_transactions.specs.Doing.{IsBefore, IsFault, IsFirstBroken, LooksUp, Reads, Stays}
 use Rattle.bank_transactions.proofs.Blamed.{comes, failed_here, fault_within, same_moment}

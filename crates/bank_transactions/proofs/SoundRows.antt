@@ -18,8 +18,8 @@ use Rattle.posting_rules.specs.Tables.{Tables, row_at, branch_key, teller_key, a
 use Rattle.posting_rules.proofs.Keyed.{by_test, found_passes}
 use Rattle.store_rows.specs.Columns.{teller_balance_in, account_balance_in, request_in}
 use Rattle.store_rows.specs.Outcomes.{Finds, BreaksBalance, BreaksBranch, BreaksRequest, CanBeKept}
-use Rattle.store_rows.specs.declared.faults.TableFault.{TableFault}
-use Rattle.store_rows.specs.declared.faults.TableFault.TheVariants.{Sqlite, Damaged}
+use Rattle.store_rows.specs.declared.fault.TableFault.{TableFault}
+use Rattle.store_rows.specs.declared.fault.TableFault.TheVariants.{Sqlite, Damaged}
 use Rattle.sqlite.specs.State.{State}
 use Rattle.bank_transactions.specs.Doing.{LooksUp}
 use Rattle.message_records.specs.declared.limits.TheConstants.{MAX_ACCOUNT, MAX_BALANCE, MAX_BRANCH}

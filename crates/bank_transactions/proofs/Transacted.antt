@@ -12,8 +12,8 @@ use Rattle.posting_rules.specs.Tables.{Tables}
 use Rattle.posting_rules.specs.Sound.{AreSound}
 use Rattle.store_rows.specs.View.{Shows, ShowsTrees}
 use Rattle.store_rows.specs.Failures.{Committing}
-use Rattle.store_rows.specs.declared.faults.TableFault.{TableFault}
-use Rattle.store_rows.specs.declared.faults.TableFault.TheVariants.{Sqlite, Damaged}
+use Rattle.store_rows.specs.declared.fault.TableFault.{TableFault}
+use Rattle.store_rows.specs.declared.fault.TableFault.TheVariants.{Sqlite, Damaged}
 use Rattle.bank_transactions.specs.Doing.{Acts, LeavesAndAnswers, Blames, Completes, Damage, DoesBy, Ends, EndsWith}
 use Rattle.bank_transactions.specs.Doing.{CommitsNothing}
 use Rattle.bank_transactions.specs.Doing.{IsBefore, IsFirstBroken, MayLeaveAfter, MayCommit, Reads, Undoes}

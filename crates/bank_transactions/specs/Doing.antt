@@ -15,8 +15,8 @@ use Rattle.store_rows.specs.Calls.{OfTables}
 use Rattle.store_rows.specs.Failures.{HasFailed, HasMet}
 use Rattle.store_rows.specs.Rules.{IsBroken}
 use Rattle.store_rows.specs.View.{Shows, ShowsTrees}
-use Rattle.store_rows.specs.declared.faults.TableFault.{TableFault}
-use Rattle.store_rows.specs.declared.faults.TableFault.TheVariants.{Sqlite, Damaged}
+use Rattle.store_rows.specs.declared.fault.TableFault.{TableFault}
+use Rattle.store_rows.specs.declared.fault.TableFault.TheVariants.{Sqlite, Damaged}
 
 -- the transaction goes on, and nothing is committed
 pub record GoesOnUncommitted (old new : State) : Type 0 where

@@ -2,8 +2,8 @@
 use Rattle.std.specs.Prelude.{ℕ, zero, suc, ◌+◌, Bool, is_some}
 use Rattle.posting_rules.specs.Changes.{with_teller, with_account, new_teller, new_account}
 use Rattle.posting_rules.specs.Tables.{Tables, row_at, teller_key, account_key}
-use Rattle.bank_transactions.specs.declared.opening.NewRows.{NewRows}
-use Rattle.bank_transactions.specs.declared.opening.NewRows.TheVariants.{Tellers, Accounts}
+use Rattle.bank_transactions.specs.declared.new_branch.NewRows.{NewRows}
+use Rattle.bank_transactions.specs.declared.new_branch.NewRows.TheVariants.{Tellers, Accounts}
 use Rattle.message_records.specs.declared.limits.TheConstants.{MAX_ACCOUNT, MAX_TELLER}
 
 -- the last number that such a row may have

@@ -1,16 +1,16 @@
 //! What a bank does to its tables: a request, an opening and a look-up, each in one transaction.
 #![tactic(auto)]
 
-mod applying;
 mod balances;
-mod look_ups;
+mod changes;
+mod found;
+mod new_branch;
 mod next_branch;
-mod opening;
 mod posting;
 mod transactions;
 
 pub use balances::{Holder, write_balance, write_decided};
-pub use look_ups::{
+pub use found::{
     branch_at, decided, kept_request, open_balance, place_of_account, teller_balances,
 };
 pub use next_branch::read_next_branch;

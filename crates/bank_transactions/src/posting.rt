@@ -3,8 +3,8 @@ ghost use Rattle.posting_rules.specs.Changes.{tables_with, reply_bytes};
 ghost use Rattle.posting_rules.specs.Sound.{AreSound};
 ghost use Rattle.bank_transactions.specs.Doing.{Acts};
 
-use crate::applying::apply;
-use crate::look_ups::look_up;
+use crate::changes::apply;
+use crate::found::look_up;
 use message_records::{Moment, Request, encode_reply};
 use posting_rules::{judge, reply_to};
 use sqlite::{Alter, Transaction};

@@ -10,8 +10,8 @@ ghost use Rattle.posting_rules.specs.Tables.{Tables};
 ghost use Rattle.store_rows.specs.View.{Shows};
 ghost use Rattle.bank_transactions.specs.Doing.{Consults, Ends, Transacts};
 
-use crate::look_ups::open_balance;
-use crate::opening::open_inside;
+use crate::found::open_balance;
+use crate::new_branch::open_inside;
 use crate::posting::answer;
 use message_records::{Account, Branch, Cents, Moment, Request};
 use posting_rules::{LAST_BRANCH, MOST_ACCOUNTS, Opening};

@@ -4,8 +4,8 @@ use Rattle.std.specs.Option.{ok_or}
 use Rattle.sqlite.specs.Order.{Row}
 use Rattle.sql_meanings.specs.Entries.{Entry}
 use Rattle.posting_rules.specs.declared.fault.Rule.TheVariants.{Value}
-use Rattle.store_rows.specs.declared.faults.TableFault.{TableFault}
-use Rattle.store_rows.specs.declared.faults.TableFault.TheVariants.{Sqlite, Damaged}
+use Rattle.store_rows.specs.declared.fault.TableFault.{TableFault}
+use Rattle.store_rows.specs.declared.fault.TableFault.TheVariants.{Sqlite, Damaged}
 use Rattle.bank_walks.specs.Reading.{ReadsNumbers}
 use Rattle.bank_walks.specs.Outcomes.{ReadsEntry, Stores, all_numbers, entry_of}
 

@@ -10,8 +10,8 @@ use Rattle.sqlite.specs.declared.error.ErrorCode.TheVariants.{OperationInterrupt
 use Rattle.sql_meanings.specs.Entries.{Entry, Rise}
 use Rattle.sql_meanings.specs.Outcomes.{IsStoreError, WriteFails}
 use Rattle.sql_meanings.proofs.Afterwards.{fails_since, rolled_since}
-use Rattle.store_rows.specs.declared.faults.TableFault.{TableFault}
-use Rattle.store_rows.specs.declared.faults.TableFault.TheVariants.{Sqlite, Damaged}
+use Rattle.store_rows.specs.declared.fault.TableFault.{TableFault}
+use Rattle.store_rows.specs.declared.fault.TableFault.TheVariants.{Sqlite, Damaged}
 use Rattle.bank_walks.specs.Outcomes.{BreaksFirst}
 use Rattle.bank_walks.specs.Pairs.{AreJoined, BreaksPair, BreaksUnder, Pair, pair_key, pair_of, pair_with, paired, row_under}
 use Rattle.bank_walks.specs.Rising.{RisesFrom}

@@ -13,8 +13,8 @@ use Rattle.sql_meanings.specs.Seeks.{is_from}
 use Rattle.sql_meanings.proofs.Changes.{found_all, found_passes}
 use Rattle.sql_meanings.proofs.EntryLists.{Above}
 use Rattle.store_rows.proofs.Lookups.{as_integer}
-use Rattle.store_rows.specs.declared.faults.TableFault.{TableFault}
-use Rattle.store_rows.specs.declared.faults.TableFault.TheVariants.{Sqlite, Damaged}
+use Rattle.store_rows.specs.declared.fault.TableFault.{TableFault}
+use Rattle.store_rows.specs.declared.fault.TableFault.TheVariants.{Sqlite, Damaged}
 use Rattle.bank_walks.specs.Outcomes.{BreaksFirst, IsRefusedMemory, ReadsNext, all_numbers, shown}
 use Rattle.bank_walks.specs.Rows.{IsWide, rows_from}
 

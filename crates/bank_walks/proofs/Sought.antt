@@ -15,8 +15,8 @@ use Rattle.sql_meanings.specs.Seeks.{begins, is_from, is_of_from, next_from, nex
 use Rattle.sql_meanings.specs.Tables.{width_of}
 use Rattle.sql_meanings.proofs.ReadSeeks.{kept_all, reads_from, reads_of_from}
 use Rattle.sql_meanings.proofs.ReadTables.{ReadsAs}
-use Rattle.store_rows.specs.declared.faults.TableFault.{TableFault}
-use Rattle.store_rows.specs.declared.faults.TableFault.TheVariants.{Sqlite, Damaged}
+use Rattle.store_rows.specs.declared.fault.TableFault.{TableFault}
+use Rattle.store_rows.specs.declared.fault.TableFault.TheVariants.{Sqlite, Damaged}
 use Rattle.bank_walks.specs.Outcomes.{BreaksFirst, IsRefusedMemory, all_numbers, shown}
 use Rattle.bank_walks.specs.Rows.{HasStoredRows, IsWide, rows_from}
 use Rattle.bank_walks.specs.declared.ahead.TheConstants.{AHEAD}

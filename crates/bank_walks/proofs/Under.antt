@@ -11,8 +11,8 @@ use Rattle.posting_rules.specs.declared.fault.Rule.{Rule}
 use Rattle.sql_meanings.specs.Entries.{Entry, Rise, has_key}
 use Rattle.sql_meanings.specs.Outcomes.{IsStoreError}
 use Rattle.sql_meanings.specs.Seeks.{is_from}
-use Rattle.store_rows.specs.declared.faults.TableFault.{TableFault}
-use Rattle.store_rows.specs.declared.faults.TableFault.TheVariants.{Sqlite, Damaged}
+use Rattle.store_rows.specs.declared.fault.TableFault.{TableFault}
+use Rattle.store_rows.specs.declared.fault.TableFault.TheVariants.{Sqlite, Damaged}
 use Rattle.bank_walks.specs.Outcomes.{BreaksFirst, IsRefusedMemory}
 use Rattle.bank_walks.specs.Pairs.{BreaksUnder, TellsKey, row_under}
 use Rattle.bank_walks.specs.Rising.{RisesFrom}

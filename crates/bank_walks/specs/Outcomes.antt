@@ -7,8 +7,8 @@ use Rattle.sqlite.specs.declared.error.ErrorCode.TheVariants.{OutOfMemory}
 use Rattle.posting_rules.specs.declared.fault.Rule.TheVariants as rule
 use Rattle.sql_meanings.specs.Entries.{Entry, numbers}
 use Rattle.sql_meanings.specs.Seeks.{is_from}
-use Rattle.store_rows.specs.declared.faults.TableFault.{TableFault}
-use Rattle.store_rows.specs.declared.faults.TableFault.TheVariants.{Sqlite, Damaged}
+use Rattle.store_rows.specs.declared.fault.TableFault.{TableFault}
+use Rattle.store_rows.specs.declared.fault.TableFault.TheVariants.{Sqlite, Damaged}
 
 -- memory for what is read was refused
 abbrev pub IsRefusedMemory : Error → Type 0

@@ -20,7 +20,7 @@ use Rattle.clap.proofs.ValueTestLemmas.{accepts-Accepts}
 use Rattle.clap.specs.declared.builder.value_parser.ValueParser.TheVariants.{Unsigned}
 use Rattle.clap.specs.declared.error.Error.{Error}
 use Rattle.clap.specs.declared.parser.matches.ArgMatches.{ArgMatches}
-use Rattle.bank_driver.specs.declared.driving.TheConstants.{MAX_DRIVEN}
+use Rattle.bank_driver.specs.declared.drive.TheConstants.{MAX_DRIVEN}
 use Rattle.message_records.specs.declared.limits.TheConstants.{MAX_ACCOUNT}
 use Rattle.bank_words.specs.declared.limits.TheConstants.{MAX_CONNECTIONS}
 use Rattle.bank_words.specs.CommandLine.{MAX_SEED, bank_app}

@@ -14,7 +14,7 @@ use Rattle.clap.specs.declared.parser.matches.ArgMatches.{ArgMatches}
 use Rattle.clap.specs.declared.parser.matches.Found.{Found}
 use Rattle.clap.specs.declared.parser.matches.ArgMatches.TheViews.{out-ArgMatches}
 use Rattle.clap.proofs.WalkLemmas.{first_value-rows, one_text-rows}
-use Rattle.bank_driver.specs.declared.driving.TheConstants.{MAX_DRIVEN}
+use Rattle.bank_driver.specs.declared.drive.TheConstants.{MAX_DRIVEN}
 use Rattle.bank_words.specs.CommandLine.{MAX_SEED}
 use Rattle.message_records.specs.Ranges.{whole_within}
 use Rattle.bank_driver.proofs.Listed.{within}

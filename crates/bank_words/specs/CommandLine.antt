@@ -2,7 +2,7 @@
 use Rattle.std.specs.Prelude.{ℕ, List, [], ◌∷◌, Some, true, codes, fold}
 use Rattle.clap.specs.Words.{App, Rule, Text, new_app, new_rule, with_rule, with_subcommand}
 use Rattle.clap.specs.declared.builder.value_parser.ValueParser.TheVariants.{Unsigned}
-use Rattle.bank_driver.specs.declared.driving.TheConstants.{MAX_DRIVEN}
+use Rattle.bank_driver.specs.declared.drive.TheConstants.{MAX_DRIVEN}
 use Rattle.bank_words.specs.declared.limits.TheConstants.{MAX_CONNECTIONS}
 use Rattle.message_records.specs.declared.limits.TheConstants.{MAX_ACCOUNT}
 

@@ -4,7 +4,7 @@ use Rattle.std.specs.Io.KnownBytes.{Appends}
 use Rattle.std.specs.declared.net.socket_addr.SocketAddr.{SocketAddr}
 use Rattle.posting_rules.specs.Counter.{Seen}
 use Rattle.bank_driver.specs.Drives.{Drives}
-use Rattle.bank_driver.specs.declared.driving.Driven.{Driven}
+use Rattle.bank_driver.specs.declared.drive.Driven.{Driven}
 use Rattle.bank_endings.specs.Lines.{driven_line, listening_line}
 use Rattle.bank_endings.specs.declared.fault.CommandFault.{CommandFault}
 use Rattle.bank_endings.specs.declared.fault.CommandFault.TheVariants.{Write}

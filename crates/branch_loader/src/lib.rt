@@ -2,12 +2,12 @@
 #![tactic(auto)]
 
 mod fault;
-mod loading;
+mod load;
 mod plan;
 mod read;
 mod records;
 
 pub use fault::PlanFault;
-pub use loading::{Loaded, load};
+pub use load::{Loaded, load};
 pub use plan::Plan;
 pub use read::read_plan;

@@ -4,6 +4,7 @@
 
 mod accounts;
 mod answers;
+mod connection;
 mod fault;
 mod fields;
 mod fixed;
@@ -11,9 +12,8 @@ mod limits;
 mod lines;
 mod next;
 mod routes;
-mod serving;
 mod telling;
 
+pub use connection::{Served, serve_connection};
 pub use fault::ServeFault;
 pub use limits::{MAX_BODY, MAX_FIELDS, MAX_HEAD};
-pub use serving::{Served, serve_connection};

@@ -22,9 +22,9 @@
 //! and the answers; `specs/Connections`, what all connections together leave.
 #![tactic(auto)]
 
+mod close;
+mod connections;
 mod fault;
-mod lingering;
-mod serving;
 
+pub use connections::serve_connections;
 pub use fault::ListenFault;
-pub use serving::serve_connections;

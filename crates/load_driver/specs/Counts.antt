@@ -3,7 +3,7 @@ use Rattle.std.specs.Prelude.{◌≡◌, ◌<◌, ◌≤◌, ◌*◌, ℕ, List,
 use Rattle.posting_rules.specs.declared.limits.TheConstants.{TELLERS_PER_BRANCH}
 use Rattle.rand_pcg.specs.Lcg.{Lcg}
 use Rattle.branch_loader.specs.Plans.{IsPlan, Rows}
-use Rattle.load_driver.specs.declared.driving.TheConstants.{MOST_RECORDS}
+use Rattle.load_driver.specs.declared.driver.TheConstants.{MOST_RECORDS}
 use Rattle.load_driver.specs.Draw.{words_after}
 use Rattle.load_driver.specs.Requests.{earlier, teller_of}
 

@@ -6,7 +6,7 @@ use Rattle.std.specs.List.{flat_map, range_with_len}
 use Rattle.std.specs.List.Sorted.{IsStrictlyIncreasing}
 use Rattle.posting_rules.specs.declared.limits.TheConstants.{TELLERS_PER_BRANCH}
 use Rattle.message_records.specs.Records.{RequestFields}
-use Rattle.load_driver.specs.declared.driving.TheConstants.{MOST_AMOUNT}
+use Rattle.load_driver.specs.declared.driver.TheConstants.{MOST_AMOUNT}
 use Rattle.posting_rules.specs.Steps.{first_account}
 use Rattle.load_driver.specs.Draw.{draw, word}
 use Rattle.branch_loader.specs.Plans.{Rows, Row}

@@ -31,9 +31,9 @@
 
 mod accounts;
 mod draws;
-mod driving;
+mod driver;
 
-pub use driving::{Driver, DriverFault, MOST_RECORDS};
+pub use driver::{Driver, DriverFault, MOST_RECORDS};
 
 #[cfg(test)]
 mod tests;

@@ -7,7 +7,7 @@ use Rattle.std.proofs.lemmas.Bool.Decides.{nat_tests}
 use Rattle.std.proofs.lemmas.List.{length-append}
 use Rattle.message_records.specs.declared.limits.TheConstants.{MAX_ACCOUNT, MAX_TELLER, MAX_BRANCH}
 use Rattle.message_records.specs.declared.limits.TheConstants.{MAX_NUMBER}
-use Rattle.message_records.specs.declared.faults.Bad.TheVariants as bad
+use Rattle.message_records.specs.declared.fault.Bad.TheVariants as bad
 use Rattle.message_records.specs.Ranges.{whole_within}
 use Rattle.message_records.specs.Records.{RequestFields, IsRequest}
 use Rattle.message_records.specs.Spelling.{digits, signed, fields_spelling}

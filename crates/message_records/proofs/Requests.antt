@@ -2,8 +2,8 @@
 use Rattle.std.proofs.Common.{◌≡◌, ℕ, List, ◌++◌, length, take, drop, replicate, Result, Ok, Err, refl, sym}
 use Rattle.std.proofs.Common.{subst, arith}
 use Rattle.std.specs.Prelude.{codes, IfOk}
-use Rattle.message_records.specs.declared.faults.Bad.{Bad}
-use Rattle.message_records.specs.declared.faults.Bad.TheVariants as bad
+use Rattle.message_records.specs.declared.fault.Bad.{Bad}
+use Rattle.message_records.specs.declared.fault.Bad.TheVariants as bad
 use Rattle.message_records.specs.Records.{RequestFields, IsRequest}
 use Rattle.message_records.specs.Spelling.{fields_spelling, request_spelling}
 use Rattle.message_records.specs.Reading.{fields_of, request_of}

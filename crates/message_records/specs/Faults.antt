@@ -1,8 +1,8 @@
 -- The texts of the faults of records.
 use Rattle.std.specs.Prelude.{ℕ, List, codes}
-use Rattle.message_records.specs.declared.faults.BadReply.{BadReply}
-use Rattle.message_records.specs.declared.faults.BadReply.TheVariants.{Tag, Outcome, Account, Teller, Branch}
-use Rattle.message_records.specs.declared.faults.BadReply.TheVariants.{Number, Delta, Balance, Name, Filler}
+use Rattle.message_records.specs.declared.fault.BadReply.{BadReply}
+use Rattle.message_records.specs.declared.fault.BadReply.TheVariants.{Tag, Outcome, Account, Teller, Branch}
+use Rattle.message_records.specs.declared.fault.BadReply.TheVariants.{Number, Delta, Balance, Name, Filler}
 
 abbrev pub fault_text : BadReply → List ℕ
 fault_text Tag = codes "faulty tag"

@@ -8,10 +8,10 @@ use Rattle.message_records.specs.declared.records.Outcome.{Outcome}
 use Rattle.message_records.specs.declared.records.Outcome.TheVariants.{Posted, NoTeller, WrongBranch}
 use Rattle.message_records.specs.declared.records.Outcome.TheVariants.{NoAccount, OverLimit, ReusedNumber}
 use Rattle.message_records.specs.declared.records.Outcome.TheVariants.{Full, Malformed}
-use Rattle.message_records.specs.declared.faults.Bad.{Bad}
-use Rattle.message_records.specs.declared.faults.Bad.TheVariants as bad
-use Rattle.message_records.specs.declared.faults.BadReply.{BadReply}
-use Rattle.message_records.specs.declared.faults.BadReply.TheVariants as bad_reply
+use Rattle.message_records.specs.declared.fault.Bad.{Bad}
+use Rattle.message_records.specs.declared.fault.Bad.TheVariants as bad
+use Rattle.message_records.specs.declared.fault.BadReply.{BadReply}
+use Rattle.message_records.specs.declared.fault.BadReply.TheVariants as bad_reply
 use Rattle.message_records.specs.declared.limits.TheConstants.{MAX_ACCOUNT, MAX_TELLER, MAX_BRANCH}
 use Rattle.message_records.specs.declared.limits.TheConstants.{MAX_NUMBER}
 use Rattle.message_records.specs.Ranges.{whole_within}

@@ -3,7 +3,7 @@
 #![tactic(auto)]
 
 mod draft;
-mod faults;
+mod fault;
 mod laws;
 mod limits;
 mod numbers;
@@ -11,7 +11,7 @@ mod reading;
 mod records;
 mod writing;
 
-pub use faults::{Bad, BadReply};
+pub use fault::{Bad, BadReply};
 pub use laws::one_spelling;
 pub use limits::{
     MAX_ACCOUNT, MAX_BALANCE, MAX_BRANCH, MAX_DELTA, MAX_MOMENT, MAX_NUMBER, MAX_TELLER,

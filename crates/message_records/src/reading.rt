@@ -9,7 +9,7 @@ ghost use Rattle.message_records.specs.Spelling.{request_spelling, filled, reply
 ghost use Rattle.message_records.specs.Reading.{number_of, signed_of, fields_of, request_of, outcome_with};
 ghost use Rattle.message_records.specs.Reading.{no_fields_of, shown_request_of, balance_of, reply_of};
 
-use crate::faults::{Bad, BadReply};
+use crate::fault::{Bad, BadReply};
 use crate::limits::MAX_BALANCE;
 use crate::numbers::{Cents, Whole};
 use crate::records::{Outcome, Reply, Request};

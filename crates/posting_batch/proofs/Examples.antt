@@ -1,6 +1,6 @@
 -- The worked examples of a batch, computed from the definitions.
 use Rattle.std.specs.Prelude.{◌≡◌, ℕ, ℤ, List, [], ◌∷◌, map, pos, Option, Some, None, Result, Ok, refl}
-use Rattle.message_records.specs.declared.faults.Bad.{Bad}
+use Rattle.message_records.specs.declared.fault.Bad.{Bad}
 use Rattle.message_records.specs.declared.records.Outcome.{Outcome}
 use Rattle.message_records.specs.declared.records.Outcome.TheVariants.{Posted, ReusedNumber, NoAccount}
 use Rattle.message_records.specs.Records.{RequestFields, ReplyFields}

@@ -4,7 +4,7 @@ use Rattle.std.proofs.Common.{subst, ◌∙◌, inl, inr}
 use Rattle.std.specs.Prelude.{IsSome}
 use Rattle.std.specs.List.{find}
 use Rattle.std.specs.Option.{option_map}
-use Rattle.message_records.specs.declared.faults.Bad.{Bad}
+use Rattle.message_records.specs.declared.fault.Bad.{Bad}
 use Rattle.message_records.specs.Reading.{request_of}
 use Rattle.message_records.specs.Records.{RequestFields}
 use Rattle.message_records.specs.Spelling.{reply_spelling}

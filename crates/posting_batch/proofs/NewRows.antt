@@ -5,7 +5,7 @@ use Rattle.std.specs.Prelude.{ℤ, IsSome, IfSome}
 use Rattle.std.specs.List.{AllByRecursion}
 use Rattle.std.specs.Option.{option_map}
 use Rattle.std.proofs.lemmas.Bool.{eqb-true}
-use Rattle.message_records.specs.declared.faults.Bad.{Bad}
+use Rattle.message_records.specs.declared.fault.Bad.{Bad}
 use Rattle.message_records.specs.Reading.{request_of}
 use Rattle.message_records.specs.Records.{RequestFields}
 use Rattle.posting_rules.specs.declared.facts.Found.{Found}

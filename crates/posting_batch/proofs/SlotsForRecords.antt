@@ -3,7 +3,7 @@ use Rattle.std.proofs.Common.{◌≡◌, ℕ, true, eqb, List, [], ◌∷◌, Re
 use Rattle.std.specs.Prelude.{IsSome}
 use Rattle.std.specs.List.{find}
 use Rattle.std.proofs.lemmas.Bool.{eq-eqb}
-use Rattle.message_records.specs.declared.faults.Bad.{Bad}
+use Rattle.message_records.specs.declared.fault.Bad.{Bad}
 use Rattle.message_records.specs.Records.{RequestFields}
 use Rattle.posting_rules.specs.Commands.{branch_of_teller, branch_of_account}
 use Rattle.posting_rules.specs.Tables.{row_at}

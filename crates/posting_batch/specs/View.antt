@@ -1,6 +1,6 @@
 -- What a batch holds, without where it lies in memory.
 use Rattle.std.specs.Prelude.{◌≡◌, ℕ, List, map, Result}
-use Rattle.message_records.specs.declared.faults.Bad.{Bad}
+use Rattle.message_records.specs.declared.fault.Bad.{Bad}
 use Rattle.message_records.specs.Reading.{request_of}
 use Rattle.message_records.specs.Records.{RequestFields}
 use Rattle.posting_rules.specs.Tables.{Tables}

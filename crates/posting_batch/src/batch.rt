@@ -10,7 +10,7 @@ ghost use Rattle.posting_rules.specs.Tables.{Tables, AreTablesOf};
 ghost use Rattle.posting_batch.specs.Overlay.{tables_over};
 ghost use Rattle.posting_batch.specs.Batch.{CoversAll, HasRisingSlots, ChangesRows, AddsFreeRows};
 
-use crate::covering::decode_all;
+use crate::cover::decode_all;
 use crate::overlay::Overlay;
 use message_records::{Bad, Moment, Request};
 use posting_rules::RECORDS_PER_BATCH;

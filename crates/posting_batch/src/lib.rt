@@ -3,15 +3,15 @@
 #![tactic(auto)]
 
 mod batch;
-mod changing;
-mod covering;
-mod finding;
+mod changes;
+mod cover;
 mod overlay;
-mod placing;
+mod placement;
+mod search;
 mod slots;
 
 pub use batch::{Batch, Judged};
-pub use covering::branch_of_account;
-pub use finding::stored_branch;
+pub use cover::branch_of_account;
 pub use overlay::Overlay;
+pub use search::stored_branch;
 pub use slots::{AccountSlot, BranchSlot, RequestSlot, TellerSlot};

@@ -7,8 +7,8 @@ ghost use Rattle.posting_rules.specs.Cases.{IsProper};
 ghost use Rattle.posting_rules.specs.Entries.{posted_entry};
 ghost use Rattle.posting_rules.specs.Kept.{is_kept_with};
 
-use crate::changing::{change_at, keep_at};
-use crate::finding::{balance_at, kept_at};
+use crate::changes::{change_at, keep_at};
+use crate::search::{balance_at, kept_at};
 use crate::slots::{AccountSlot, BranchSlot, RequestSlot, TellerSlot};
 use message_records::{Bad, Cents, Moment, Outcome, Reply, Request, encode_reply};
 use posting_rules::{

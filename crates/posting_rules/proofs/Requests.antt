@@ -8,7 +8,7 @@ use Rattle.std.proofs.lemmas.Bool.{eqb-true, eq-eqb}
 use Rattle.std.proofs.lemmas.Bool.Decides.{nat_tests}
 use Rattle.std.proofs.lemmas.List.Elements.{All-from_recursion}
 use Rattle.std.proofs.lemmas.List.Kept.{AllPairs-cons}
-use Rattle.message_records.specs.declared.faults.Bad.{Bad}
+use Rattle.message_records.specs.declared.fault.Bad.{Bad}
 use Rattle.message_records.specs.Records.{RequestFields}
 use Rattle.message_records.specs.Reading.{request_of}
 use Rattle.posting_rules.specs.declared.facts.Verdict.{Verdict}

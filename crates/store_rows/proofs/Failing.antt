@@ -22,7 +22,7 @@ use Rattle.sql_meanings.proofs.Failures.{other_error, put_fails_as}
 use Rattle.sql_meanings.proofs.Makings.{kept_inside}
 use Rattle.sql_meanings.proofs.PuttingIn.{key_taken}
 use Rattle.posting_rules.specs.declared.fault.Rule.TheVariants.{Key}
-use Rattle.store_rows.specs.declared.faults.TableFault.TheVariants.{Sqlite, Damaged}
+use Rattle.store_rows.specs.declared.fault.TableFault.TheVariants.{Sqlite, Damaged}
 use Rattle.posting_rules.specs.Changes.{row_put}
 use Rattle.store_rows.specs.Failures.{Putting, Puts}
 use Rattle.store_rows.specs.Outcomes.{PutsOneRow, IsForbidden}

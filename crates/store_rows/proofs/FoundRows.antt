@@ -9,8 +9,8 @@ use Rattle.sql_meanings.specs.Outcomes.{IsStoreError, TellsRow}
 use Rattle.sql_meanings.proofs.OnlyShowing.{no_rows_error}
 use Rattle.posting_rules.specs.declared.fault.Rule.{Rule}
 use Rattle.posting_rules.specs.declared.fault.Rule.TheVariants.{Balance}
-use Rattle.store_rows.specs.declared.faults.TableFault.{TableFault}
-use Rattle.store_rows.specs.declared.faults.TableFault.TheVariants.{Sqlite, Damaged}
+use Rattle.store_rows.specs.declared.fault.TableFault.{TableFault}
+use Rattle.store_rows.specs.declared.fault.TableFault.TheVariants.{Sqlite, Damaged}
 use Rattle.store_rows.specs.Columns.{balance_shown}
 use Rattle.store_rows.specs.Failures.{ReadsAnswer}
 use Rattle.store_rows.specs.Outcomes.{Finds, BreaksBalance, ReadsCents, ReadsRow}

@@ -18,8 +18,8 @@ use Rattle.message_records.specs.declared.records.Outcome.TheVariants.{
 use Rattle.posting_rules.specs.Kept.{KeptFields, is_kept_with, kept_from}
 use Rattle.posting_rules.specs.declared.fault.Rule.TheVariants.{Request}
 use Rattle.posting_rules.specs.declared.rows.RequestRow.{RequestRow}
-use Rattle.store_rows.specs.declared.faults.TableFault.{TableFault}
-use Rattle.store_rows.specs.declared.faults.TableFault.TheVariants.{Sqlite, Damaged}
+use Rattle.store_rows.specs.declared.fault.TableFault.{TableFault}
+use Rattle.store_rows.specs.declared.fault.TableFault.TheVariants.{Sqlite, Damaged}
 use Rattle.store_rows.specs.Columns.{request_shown}
 use Rattle.store_rows.specs.Outcomes.{ReadsCents, ReadsKept, ReadsOutcome, ReadsWhole}
 use Rattle.message_records.specs.declared.limits.TheConstants.{MAX_ACCOUNT, MAX_BRANCH}

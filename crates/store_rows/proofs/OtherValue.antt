@@ -13,8 +13,8 @@ use Rattle.store_rows.specs.Columns.{meta_shown}
 use Rattle.store_rows.specs.Failures.{ReadsAnswer}
 use Rattle.store_rows.specs.Outcomes.{Never, ReadsRow}
 use Rattle.store_rows.specs.Statements.{ShowsFirst, TellsOther}
-use Rattle.store_rows.specs.declared.faults.TableFault.{TableFault}
-use Rattle.store_rows.specs.declared.faults.TableFault.TheVariants.{Sqlite, Damaged}
+use Rattle.store_rows.specs.declared.fault.TableFault.{TableFault}
+use Rattle.store_rows.specs.declared.fault.TableFault.TheVariants.{Sqlite, Damaged}
 use Rattle.store_rows.specs.declared.metas.StoredMeta.{StoredMeta}
 use Rattle.store_rows.specs.declared.metas.TheConstants.{META_ID}
 use Rattle.store_rows.specs.declared.texts.TheConstants.{GET_META}

@@ -7,8 +7,8 @@ use Rattle.sqlite.specs.declared.error.Error.TheVariants.{QueryReturnedNoRows}
 use Rattle.sql_meanings.specs.Outcomes.{ReadKept, WriteFails}
 use Rattle.sql_meanings.proofs.OnlyShowing.{kept_none}
 use Rattle.store_rows.specs.Failures.{Asking, Reading, Asks, HasReason, IsUnreadable, Looks, ReadsAnswer}
-use Rattle.store_rows.specs.declared.faults.TableFault.{TableFault}
-use Rattle.store_rows.specs.declared.faults.TableFault.TheVariants.{Sqlite, Damaged}
+use Rattle.store_rows.specs.declared.fault.TableFault.{TableFault}
+use Rattle.store_rows.specs.declared.fault.TableFault.TheVariants.{Sqlite, Damaged}
 
 -- a query that was made
 pub asked : (old new : State) (text : List ℕ) (params : Row) (r : Result Row Error)

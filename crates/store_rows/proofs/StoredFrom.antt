@@ -11,8 +11,8 @@ use Rattle.store_rows.specs.Columns.{number_at}
 use Rattle.store_rows.specs.Outcomes.{ReadsCents, ReadsOutcome}
 use Rattle.store_rows.specs.Rules.{RequestKeeps}
 use Rattle.store_rows.specs.Stored.{IsKept, ReadsStored, request_stored}
-use Rattle.store_rows.specs.declared.faults.TableFault.{TableFault}
-use Rattle.store_rows.specs.declared.faults.TableFault.TheVariants.{Sqlite, Damaged}
+use Rattle.store_rows.specs.declared.fault.TableFault.{TableFault}
+use Rattle.store_rows.specs.declared.fault.TableFault.TheVariants.{Sqlite, Damaged}
 use Rattle.store_rows.proofs.KeptRows.{same_outcome}
 
 -- a code that is none breaks the rule

@@ -20,8 +20,8 @@ use Rattle.store_rows.specs.Failures.{ReadsAnswer}
 use Rattle.store_rows.specs.Outcomes.{ReadsCents, ReadsWhole}
 use Rattle.store_rows.specs.Rules.{IsFrom}
 use Rattle.store_rows.specs.Stored.{BalanceKeeps, FindsStored, IsBalance, ReadsStored, balance_stored}
-use Rattle.store_rows.specs.declared.faults.TableFault.{TableFault}
-use Rattle.store_rows.specs.declared.faults.TableFault.TheVariants.{Sqlite, Damaged}
+use Rattle.store_rows.specs.declared.fault.TableFault.{TableFault}
+use Rattle.store_rows.specs.declared.fault.TableFault.TheVariants.{Sqlite, Damaged}
 use Rattle.store_rows.proofs.FoundRows.{the_row}
 
 -- ---- numbers and amounts in their ranges

@@ -18,7 +18,7 @@ use Rattle.store_rows.specs.Outcomes.{ReadsRow}
 use Rattle.store_rows.specs.Rules.{HoldsBank, StoredRows}
 use Rattle.store_rows.specs.Stored.{ReadsStored}
 use Rattle.store_rows.specs.View.{Shows}
-use Rattle.store_rows.specs.declared.faults.TableFault.{TableFault}
+use Rattle.store_rows.specs.declared.fault.TableFault.{TableFault}
 use Rattle.store_rows.proofs.FoundRows.{finds}
 use Rattle.store_rows.proofs.Reasons.{looks}
 use Rattle.store_rows.proofs.StoredReads.{stores}

@@ -12,7 +12,7 @@ use Rattle.sql_meanings.specs.Entries.{Entry}
 use Rattle.sql_meanings.proofs.SetRows.{ChangesAs}
 use Rattle.store_rows.specs.Calls.{AddsRow, SetsNumber}
 use Rattle.store_rows.specs.Statements.{PutsRow, RunsUnder}
-use Rattle.store_rows.specs.declared.faults.TableFault.{TableFault}
+use Rattle.store_rows.specs.declared.fault.TableFault.{TableFault}
 use Rattle.store_rows.specs.declared.statements.TheConstants.{MAX_KEY}
 use Rattle.store_rows.specs.declared.texts.TheConstants as text
 use Rattle.store_rows.proofs.BankTables.{Kind, table_of, tells_added, tells_write}

@@ -17,7 +17,7 @@ use Rattle.store_rows.specs.Rules.{OfRows, StoredRows}
 use Rattle.store_rows.specs.SixTables.{meta}
 use Rattle.store_rows.specs.Stored.{FindsStored}
 use Rattle.store_rows.specs.View.{HoldsRows, Shows}
-use Rattle.store_rows.specs.declared.faults.TableFault.{TableFault}
+use Rattle.store_rows.specs.declared.fault.TableFault.{TableFault}
 
 -- of whatever tables are shown
 abbrev pub OfTables : (State → State → Tables → Type 0) → State → State → Type 0

@@ -5,8 +5,8 @@ use Rattle.sqlite.specs.declared.error.Error.{Error}
 use Rattle.posting_rules.specs.Rules.{number_of_rule}
 use Rattle.posting_rules.specs.declared.fault.Rule.TheVariants.{Key}
 use Rattle.sql_meanings.specs.Outcomes.{is_taken_key}
-use Rattle.store_rows.specs.declared.faults.TableFault.{TableFault}
-use Rattle.store_rows.specs.declared.faults.TableFault.TheVariants.{Sqlite, Damaged}
+use Rattle.store_rows.specs.declared.fault.TableFault.{TableFault}
+use Rattle.store_rows.specs.declared.fault.TableFault.TheVariants.{Sqlite, Damaged}
 
 -- what an INSERT answers, as a call on the tables tells it: a taken key is told apart from each other error
 abbrev pub added : Result ℕ Error → Result (Unit {0}) TableFault

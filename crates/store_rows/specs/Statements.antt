@@ -14,8 +14,8 @@ use Rattle.sql_meanings.specs.Calls.{Inside, Says}
 use Rattle.store_rows.specs.Columns.{meta_shown}
 use Rattle.store_rows.specs.Failures.{Changes, Puts}
 use Rattle.store_rows.specs.Faults.{added}
-use Rattle.store_rows.specs.declared.faults.TableFault.{TableFault}
-use Rattle.store_rows.specs.declared.faults.TableFault.TheVariants.{Sqlite, Damaged}
+use Rattle.store_rows.specs.declared.fault.TableFault.{TableFault}
+use Rattle.store_rows.specs.declared.fault.TableFault.TheVariants.{Sqlite, Damaged}
 use Rattle.store_rows.specs.declared.metas.StoredMeta.{StoredMeta}
 use Rattle.store_rows.specs.declared.metas.TheConstants.{META_ID}
 use Rattle.store_rows.specs.declared.texts.TheConstants.{GET_META}

@@ -9,7 +9,7 @@ ghost use Rattle.store_rows.specs.Rules.{row_under};
 ghost use Rattle.store_rows.specs.declared.texts.TheConstants.{SET_ACCOUNT as text};
 ghost use Rattle.store_rows.specs.SixTables.{account as table};
 
-use crate::faults::TableFault;
+use crate::fault::TableFault;
 use crate::found::found;
 use crate::statements::{put_balance, row_under, write_balance};
 use crate::texts::{ADD_ACCOUNT, GET_ACCOUNT, SET_ACCOUNT};

@@ -11,7 +11,7 @@ ghost use Rattle.store_rows.specs.declared.texts.TheConstants.{SET_BRANCH as tex
 ghost use Rattle.store_rows.specs.SixTables.{branch as table};
 
 use crate::columns::{cents_at, count_at, whole_at};
-use crate::faults::TableFault;
+use crate::fault::TableFault;
 use crate::found::{FromRow, found};
 use crate::statements::{put_in, row_under, write_balance};
 use crate::texts::{ADD_BRANCH, GET_BRANCH, NEXT_BRANCH, SET_BRANCH};

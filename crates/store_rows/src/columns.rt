@@ -4,7 +4,7 @@ ghost use Rattle.sqlite.specs.Order.{column};
 ghost use Rattle.store_rows.specs.Failures.{IsUnreadable};
 ghost use Rattle.store_rows.specs.Outcomes.{ReadsCents, ReadsInteger, ReadsOutcome, ReadsWhole};
 
-use crate::faults::TableFault;
+use crate::fault::TableFault;
 use message_records::{Cents, Outcome, Whole};
 use posting_rules::Rule;
 use sqlite::{Error, Row};

@@ -6,7 +6,7 @@ ghost use Rattle.store_rows.specs.Outcomes.{ReadsRow};
 ghost use Rattle.store_rows.specs.Stored.{ReadsStored};
 
 use crate::columns::cents_at;
-use crate::faults::TableFault;
+use crate::fault::TableFault;
 use message_records::Cents;
 use posting_rules::Rule;
 use sqlite::{Error, Row};

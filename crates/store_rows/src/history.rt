@@ -5,7 +5,7 @@ ghost use Rattle.posting_rules.specs.Changes.{with_history};
 ghost use Rattle.store_rows.specs.Calls.{AddsRow};
 ghost use Rattle.store_rows.specs.SixTables.{history as table};
 
-use crate::faults::TableFault;
+use crate::fault::TableFault;
 use crate::statements::put_in;
 use crate::texts::ADD_HISTORY;
 use posting_rules::HistoryRow;

@@ -17,7 +17,7 @@ ghost use Rattle.store_rows.specs.declared.metas.TheConstants.{META_ID as id};
 ghost use Rattle.store_rows.specs.declared.texts.TheConstants.{GET_META as text};
 
 use crate::columns::integer_at;
-use crate::faults::TableFault;
+use crate::fault::TableFault;
 use crate::found::{FromRow, found};
 use crate::statements::{row_under, write_under};
 use crate::texts::{GET_META, SET_META};

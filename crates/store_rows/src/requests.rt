@@ -13,7 +13,7 @@ ghost use Rattle.store_rows.specs.SixTables.{request as table};
 ghost use Rattle.store_rows.specs.Stored.{IsKept, ReadsStored, request_stored};
 
 use crate::columns::{cents_at, outcome_at, whole_at};
-use crate::faults::TableFault;
+use crate::fault::TableFault;
 use crate::found::{FromRow, found};
 use crate::statements::{put_in, row_under_two};
 use crate::texts::{ADD_REQUEST, GET_REQUEST};

@@ -9,7 +9,7 @@ ghost use Rattle.sql_meanings.specs.Outcomes.{OnlyShows};
 ghost use Rattle.store_rows.specs.Failures.{Asks};
 ghost use Rattle.store_rows.specs.Statements.{PutsRow, RunsUnder};
 
-use crate::faults::{TableFault, added};
+use crate::fault::{TableFault, added};
 use message_records::Cents;
 use posting_rules::MAX_DECIDED;
 use sqlite::types::ValueRef;

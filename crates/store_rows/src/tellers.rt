@@ -9,7 +9,7 @@ ghost use Rattle.store_rows.specs.Rules.{row_under};
 ghost use Rattle.store_rows.specs.declared.texts.TheConstants.{SET_TELLER as text};
 ghost use Rattle.store_rows.specs.SixTables.{teller as table};
 
-use crate::faults::TableFault;
+use crate::fault::TableFault;
 use crate::found::found;
 use crate::statements::{put_balance, row_under, write_balance};
 use crate::texts::{ADD_TELLER, GET_TELLER, SET_TELLER};

@@ -3,7 +3,7 @@ use Rattle.std.proofs.lemmas.List.{take_more_set}
 use Rattle.message_records.specs.Spelling.{request_spelling}
 use Rattle.load_driver.specs.Counts.{Driving}
 use Rattle.load_driver.specs.Requests.{request_at}
-use Rattle.load_driver.specs.declared.driving.TheConstants.{MOST_RECORDS}
+use Rattle.load_driver.specs.declared.driver.TheConstants.{MOST_RECORDS}
 use Rattle.bank_driver.specs.Records.{drawn}
 use Rattle.bank_driver.proofs.Drawn.{drawn_more, drawn_none}
 use Rattle.bank_driver.proofs.batches.draw_batch.Goals as goal

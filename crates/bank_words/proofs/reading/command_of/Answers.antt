@@ -1,7 +1,7 @@
 -- The values that a command's name asks for are there, and those that are read are the command's.
 use Rattle.std.proofs.Common.{refl, subst, codes, ◌≡◌}
 use Rattle.clap.specs.Words.{found_of, rows_of}
-use Rattle.bank_driver.specs.declared.driving.TheConstants.{MAX_DRIVEN}
+use Rattle.bank_driver.specs.declared.drive.TheConstants.{MAX_DRIVEN}
 use Rattle.message_records.specs.declared.limits.TheConstants.{MAX_ACCOUNT}
 use Rattle.bank_words.specs.CommandLine.{MAX_SEED}
 use Rattle.bank_words.specs.Words.{IsNumber}

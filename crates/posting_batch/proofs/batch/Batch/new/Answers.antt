@@ -1,5 +1,5 @@
 use Rattle.std.proofs.Common.{◌≡◌, List, Result, map, sym, subst, rules}
-use Rattle.message_records.specs.declared.faults.Bad.{Bad}
+use Rattle.message_records.specs.declared.fault.Bad.{Bad}
 use Rattle.message_records.specs.Reading.{request_of}
 use Rattle.message_records.specs.Records.{RequestFields}
 use Rattle.posting_batch.specs.Batch.{CoversAll, HasRisingSlots, covering_all, no_slots}

@@ -1,0 +1,70 @@
+use Rattle.std.proofs.Common.{◌≡◌, [], None, sym, subst, ◌∙◌}
+use Rattle.std.proofs.lemmas.Result.{err_from_is_err_and}
+use Rattle.posting_rules.specs.Branches.{IsLineAbove, IsNextBranch}
+use Rattle.branch_loader.specs.Plans.{Rows}
+use Rattle.branch_loader.proofs.Openings.{Takes-append}
+use Rattle.bank_driver.proofs.Listed.{Listing, listing_first, listing_more, listing_all}
+use Rattle.bank_driver.proofs.open_branches.list_branches.Goals as goal
+
+pub loop-rows-init : goal.loop-rows-init
+loop-rows-init g c =
+    subst (λ (rows : Rows). Listing g.C.Counter.seen c.args.counter.now c.args.counter.now rows 0)
+    (sym c.new-rows.ensures.items)
+    (listing_first g.C.Counter.seen c.args.counter.now)
+
+pub loop-rows-preserved : goal.loop-rows-preserved
+loop-rows-preserved g c =
+    let line = c.in-Some.line in
+    let above : IsLineAbove c.loop-rows.after line = rw c.in-Some.is at c.in_ok-line.ensures.within in
+    rw (c.in_ok-push.ensures.items, c.get-after.ensures.value)
+    (listing_more g.C.Counter.seen c.args.counter.now c.loop-rows.counter c.next_branch.new.self
+    c.loop-rows.rows.items
+    c.loop-rows.after line c.loop-rows.invariant above c.in_ok-line.ensures.done
+    (λ h log s. rw c.in-Some.is at (c.in_ok-line.ensures.line h log s))
+    (λ down. cc (c.in_ok-line.ensures.down down)) c.in_ok-line.ensures.up c.in_ok-line.ensures.honest)
+
+-- its own memory was refused: the counter stands as it stood
+pub returns-in_err-push-clause-fault : goal.returns-in_err-push-clause-fault
+returns-in_err-push-clause-fault g c =
+    let seen = g.C.Counter.seen in
+    let p = err_from_is_err_and c.from_residual-in_err-push.result c.from_residual-in_err-push.ensures.1 in
+    let takes = Takes-append (seen c.args.counter.now) (seen c.loop-rows.counter)
+    (seen c.next_branch.new.self) [] []
+    c.loop-rows.invariant.takes c.in_ok-line.ensures.done c.in_ok-line.ensures.honest in
+    rw (p.1, p.2) (record {
+      stood = c.next_branch.new.self;
+      honest_first = λ h. c.loop-rows.invariant.honest (c.in_ok-line.ensures.honest h);
+      honest = λ h. h;
+      takes = takes;
+      refuses = record { tables = λ t h. h; down = λ d. d; left = λ remains left. (remains, left, λ t h. h) };
+    })
+
+pub returns-in_err-line-clause-fault : goal.returns-in_err-line-clause-fault
+returns-in_err-line-clause-fault g c =
+    let p = err_from_is_err_and c.from_residual.result c.from_residual.ensures.1 in
+    rw (p.1, p.2) (record {
+      stood = c.loop-rows.counter;
+      honest_first = c.loop-rows.invariant.honest;
+      honest = c.in_err-line.ensures.honest;
+      takes = c.loop-rows.invariant.takes;
+      refuses = c.in_err-line.ensures.fault;
+    })
+
+pub returns-clause-listed : goal.returns-clause-listed
+returns-clause-listed g c h log s =
+    let seen = g.C.Counter.seen in
+    let l = c.loop-rows.invariant in
+    let before = c.in_ok-line.ensures.honest h in
+    let none : IsNextBranch log c.loop-rows.after None =
+    subst (IsNextBranch log c.loop-rows.after) c.in_default.is
+    (c.in_ok-line.ensures.line h log (l.takes.shows before log s)) in
+    let plan : c.loop-rows.rows.items ≡ c.unwrap.result = (let e = sym l.plan ∙ sym c.from_list.ensures
+    ∙ c.unwrap.ensures in cc) in
+    sym plan ∙ listing_all seen c.args.counter.now c.loop-rows.counter c.loop-rows.rows.items
+    c.loop-rows.after log l none before s
+
+pub returns-clause-takes : goal.returns-clause-takes
+returns-clause-takes g c =
+    let seen = g.C.Counter.seen in
+    Takes-append (seen c.args.counter.now) (seen c.loop-rows.counter) (seen c.next_branch.new.self) [] []
+    c.loop-rows.invariant.takes c.in_ok-line.ensures.done c.in_ok-line.ensures.honest

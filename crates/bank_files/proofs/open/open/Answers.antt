@@ -1,0 +1,20 @@
+-- The files are as they were when the path was opened.
+use Rattle.std.proofs.Common.{ℕ, Bool, cond, List, ap₂, subst}
+use Rattle.sqlite.specs.Files.{file_state}
+use Rattle.sqlite_disk.specs.Events.{Event, replay}
+use Rattle.sqlite_wal.specs.Recovery.{Image}
+use Rattle.bank_files.specs.Opening.{IsOpenedOn}
+use Rattle.bank_files.proofs.open.open.Goals as goal
+
+abbrev image : List ℕ → List ℕ → Image
+image log db = record { log = log; db = db }
+
+abbrev seen : List ℕ → List ℕ → Bool → List Event → List ℕ
+seen log db is_log history = (replay (cond is_log log db) history).seen
+
+pub returns-clause-opened : goal.returns-clause-opened
+returns-clause-opened g c = rw c.set_clock.ensures λ clean.
+    let (log, db) = c.in_ok-files.ensures.fresh in
+    let held = seen g.S.Start.log g.S.Start.db in
+    let same = ap₂ image (ap₂ held log.0 log.1) (ap₂ held db.0 db.1) in
+    subst (λ i. IsOpenedOn i (file_state c.in_ok-conn.conn)) same (c.in_ok-conn.ensures.opened clean)

@@ -1,0 +1,69 @@
+-- None of the tables was there.
+use Rattle.std.proofs.Common.{◌≡◌, Ok, Err, Result, rules, arith, subst, inl, inr}
+use Rattle.std.specs.Prelude.{OnOk}
+use Rattle.sqlite.specs.State.{HasCleanDisk}
+use Rattle.sqlite.specs.Held.{state}
+use Rattle.store_rows.specs.Probes.{six_probes}
+use Rattle.bank_transactions.proofs.Blamed.{comes, same_moment}
+use Rattle.bank_store.specs.Opening.{IsPresent, IsAsBefore, IsRefusedOnTheWay, IsTaken, KnowsWhyUnmade}
+use Rattle.bank_store.specs.declared.refused.OpenFault.TheVariants.{NotBlank}
+use Rattle.bank_store.specs.declared.presence.Presence.{Presence}
+use Rattle.bank_store.proofs.Causes.{unmade_as_known, unmade_within}
+use Rattle.bank_store.proofs.Taken.{if_err, refused_before, some_there}
+use Rattle.bank_store.proofs.creation.make_bank.Goals as goal
+
+on_ok : {X E : Type 0} (P : Type 0) → P → (r : Result X E) → OnOk r P
+on_ok P holds (Ok x) = holds
+on_ok P holds (Err e) = tt
+
+pub returns-in-Absent-clause-blank : goal.returns-in-Absent-clause-blank
+returns-in-Absent-clause-blank g c clean =
+    let old = state g.S.Store c.args.conn.now in
+    let mid = state g.S.Store c.tables_there.new.conn in
+    let midway : HasCleanDisk mid = omega (arith, c.make_tables.ensures.stop.clean) in
+    let there =
+    subst (λ (p : Presence). IsPresent old.now six_probes p × IsAsBefore old mid) c.in-Absent.is
+    (c.in_ok-tables_there.ensures.told midway) in
+    on_ok _ there.0 c.make_tables.result
+
+pub returns-in-Absent-clause-refused : goal.returns-in-Absent-clause-refused
+returns-in-Absent-clause-refused g c clean =
+    let old = state g.S.Store c.args.conn.now in
+    let mid = state g.S.Store c.tables_there.new.conn in
+    let midway : HasCleanDisk mid = omega (arith, c.make_tables.ensures.stop.clean) in
+    let there = c.in_ok-tables_there.ensures.told midway in
+    if_err (λ fault. fault ≡ NotBlank → IsRefusedOnTheWay mid) (λ fault. fault ≡ NotBlank → IsTaken old)
+    (λ fault refused taken. inr (refused_before old mid there.1.now_is c.tables_there.ensures.survives.limit
+    (refused taken)))
+    c.make_tables.result (c.make_tables.ensures.refused clean)
+
+pub returns-in_default : goal.returns-in_default
+returns-in_default g c = record {
+  blank = search rules;
+  made = search rules;
+  undone = search rules;
+  fault = search rules;
+  refused =
+      λ clean taken. inl (some_there (state g.S.Store c.args.conn.now).now c.in_ok-tables_there.field-0
+      c.in_default.not-Absent
+      (c.in_ok-tables_there.ensures.told clean).0);
+  cause = search rules;
+  stop = search rules;
+  mode = search rules;
+}
+
+pub returns-in_err-tables_there-clause-cause : goal.returns-in_err-tables_there-clause-cause
+returns-in_err-tables_there-clause-cause g c =
+    let e = c.in_err-tables_there in
+    let is : c.from_residual.result ≡ Err e.field-0.0 = search rules in
+    rw is (unmade_as_known g.S.Store c.args.conn.now c.tables_there.new.conn e.field-0.0 e.ensures.cause)
+
+pub returns-in-Absent-clause-cause : goal.returns-in-Absent-clause-cause
+returns-in-Absent-clause-cause g c =
+    let old = c.args.conn.now in
+    let mid = c.tables_there.new.conn in
+    let new = c.make_tables.new.conn in
+    if_err (KnowsWhyUnmade g.S.Store mid new) (KnowsWhyUnmade g.S.Store old new)
+    (unmade_within g.S.Store old mid new new (comes c.tables_there.ensures.survives) (λ clean. clean)
+    (same_moment (state g.S.Store new)))
+    c.make_tables.result c.make_tables.ensures.cause

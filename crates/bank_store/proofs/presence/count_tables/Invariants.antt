@@ -1,0 +1,18 @@
+-- How many there are of those so far, and everything is as it was.
+use Rattle.std.proofs.Common.{◌≡◌, ◌∷◌, map, take, false}
+use Rattle.sqlite.specs.State.{HasCleanDisk, Survives}
+use Rattle.sqlite.specs.Held.{state}
+use Rattle.bank_store.specs.Opening.{probe_of, IsAsBefore, IsPresent}
+use Rattle.bank_store.proofs.presence.count_tables.Given as goal
+
+abbrev pub invariant-loop-table : goal.invariant-loop-table
+invariant-loop-table g l =
+    let old = state g.S.Store l.fn.conn in
+    let new = state g.S.Store l.conn in
+    record {
+      told : HasCleanDisk new
+          → IsPresent old.now (map probe_of (l.fn.first ∷ take l.table-index l.fn.others)) l.there
+          × IsAsBefore old new;
+      mode : l.conn.in_transaction ≡ false;
+      survives : Survives old new (λ _. ⊥);
+    }

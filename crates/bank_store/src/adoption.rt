@@ -1,0 +1,149 @@
+//! Taking up the bank that a file has.
+ghost use Rattle.std.specs.Prelude.{◌≡◌, ◌≢◌, List, IfOk, IfErr, false};
+ghost use Rattle.sqlite.specs.State.{HasCleanDisk, Survives};
+ghost use Rattle.sqlite.specs.Held.{state};
+ghost use Rattle.posting_rules.specs.Commands.{Command};
+ghost use Rattle.posting_rules.specs.Counter.{ShowsLog, StandsAt, LeavesOnly};
+ghost use Rattle.posting_rules.specs.Tables.{AreTablesOf as Show};
+ghost use Rattle.store_rows.specs.Columns.{meta_in};
+ghost use Rattle.sql_meanings.specs.Entries.{Entry};
+ghost use Rattle.store_rows.specs.SixTables.{meta as table};
+ghost use Rattle.store_rows.specs.View.{HoldsRows};
+ghost use Rattle.bank_store.specs.Opening.{conn_seen, state_in, ChecksMeta, KnowsCause, TellsMeta};
+ghost use Rattle.bank_store.specs.Opening.{IsReadOnly, IsUndoneIfOpen, IsUnread, IsOfOtherType, BankIsFound, SeeksBank};
+ghost use Rattle.bank_store.specs.Opening.{Misses, IsAsBefore};
+ghost use Rattle.bank_store.specs.Seen.{bank_seen, connection_of};
+
+use crate::bank::Bank;
+use crate::presence::{Presence, tables_there};
+use crate::refused::{OpenFault, Refused, unread};
+use bank_transactions::begin;
+use posting_rules::{MAX_DECIDED, Rule};
+use sqlite::{Alter, Connection};
+use std::alloc::Global;
+use store_rows::{StoredMeta, VERSION, probe_meta, read_meta};
+
+// The row of the bank, if there is one, whatever its numbers. Nothing is written, so the transaction is
+// dropped.
+fn stored_meta<S: Alter>(conn: &mut Connection<S>) -> Result<Option<StoredMeta>, OpenFault>
+    requires { conn.old.in_transaction ≡ false }
+    ensures told { HasCleanDisk (state S.Store conn.new) → (rows : List Entry)
+        → HoldsRows (state S.Store conn.old).now table rows → TellsMeta (meta_in rows) result }
+    ensures undone { HasCleanDisk (state S.Store conn.new)
+        → IsUndoneIfOpen (state S.Store conn.old) (state S.Store conn.new) }
+    ensures fault { IfErr result IsUnread }
+    ensures other { HasCleanDisk (state S.Store conn.new)
+        → IfErr result (IsOfOtherType (state S.Store conn.old).now) }
+    ensures cause { IfErr result (KnowsCause S.Store conn.old conn.new) }
+    ensures mode { conn.new.in_transaction ≡ false }
+    ensures survives { Survives (state S.Store conn.old) (state S.Store conn.new) (λ _. ⊥) }
+{
+    let mut tx = begin(conn);
+    match read_meta(&mut tx) {
+        Ok(meta) => Ok(meta),
+        Err(fault) => Err(unread(&fault)),
+    }
+}
+
+// The same. The store is asked for a table once more, so that it is known to be open and to have undone the
+// transaction.
+fn settled_meta<S: Alter>(conn: &mut Connection<S>) -> Result<Option<StoredMeta>, OpenFault>
+    requires { conn.old.in_transaction ≡ false }
+    ensures told { HasCleanDisk (state S.Store conn.new) → (rows : List Entry)
+        → HoldsRows (state S.Store conn.old).now table rows → TellsMeta (meta_in rows) result }
+    ensures same { HasCleanDisk (state S.Store conn.new)
+        → IsReadOnly (state S.Store conn.old) (state S.Store conn.new) result }
+    ensures fault { IfErr result IsUnread }
+    ensures other { HasCleanDisk (state S.Store conn.new)
+        → IfErr result (IsOfOtherType (state S.Store conn.old).now) }
+    ensures cause { IfErr result (KnowsCause S.Store conn.old conn.new) }
+    ensures mode { conn.new.in_transaction ≡ false }
+    ensures survives { Survives (state S.Store conn.old) (state S.Store conn.new) (λ _. ⊥) }
+{
+    let _outside = conn.is_autocommit();
+    let meta = stored_meta(conn);
+    match probe_meta(conn) {
+        Ok(_) => meta,
+        Err(_) => Err(OpenFault::Store),
+    }
+}
+
+// Whether the row is of our version, and its count of requests is within 0..=`MAX_DECIDED`.
+fn check_meta(meta: &StoredMeta) -> Result<(), OpenFault>
+    ensures { ChecksMeta (Some meta.now) result }
+{
+    if meta.version != VERSION {
+        return Err(OpenFault::Version(meta.version));
+    }
+    if meta.decided < 0 || meta.decided as u64 > MAX_DECIDED {
+        return Err(OpenFault::Damaged(Rule::Meta));
+    }
+    Ok(())
+}
+
+// Looks for the six tables, and then for the row of `meta`.
+fn find_bank<S: Alter>(conn: &mut Connection<S>) -> Result<(), OpenFault>
+    requires { conn.old.in_transaction ≡ false }
+    ensures told { HasCleanDisk (state S.Store conn.new)
+        → SeeksBank (state S.Store conn.old) (state S.Store conn.new) result }
+    ensures cause { IfErr result (KnowsCause S.Store conn.old conn.new) }
+    ensures mode { conn.new.in_transaction ≡ false }
+    ensures survives { Survives (state S.Store conn.old) (state S.Store conn.new) (λ _. ⊥) }
+{
+    match tables_there(conn)? {
+        Presence::Absent => Err(OpenFault::Blank),
+        Presence::Partial => Err(OpenFault::Foreign),
+        Presence::Whole => match settled_meta(conn)? {
+            None => Err(OpenFault::Damaged(Rule::Meta)),
+            Some(meta) => check_meta(&meta),
+        },
+    }
+}
+
+/// Takes up the bank that the connection's file has. It looks for the six tables and reads the row of `meta`,
+/// and changes nothing. Other rows are checked by the calls that meet them.
+///
+/// The connection has to be outside a transaction, as a new one is.
+///
+/// # Errors
+///
+/// The connection comes back with each, outside a transaction. The first four say what the file has, and that
+/// it is as it was.
+///
+/// - [`OpenFault::Blank`]: none of the six tables is there.
+/// - [`OpenFault::Foreign`]: some of them are there, and some aren't.
+/// - [`OpenFault::Version`]: the tables are those of another version.
+/// - [`OpenFault::Damaged`]: the row of `meta` is missing, is out of its range or has a value of another
+///   type.
+/// - [`OpenFault::Store`]: a call of `sqlite` failed. Nothing has changed, as long as the store is open. It
+///   is the only fault if the file has a bank of this version.
+pub fn adopt<S: Alter>(alloc: Global, mut conn: Connection<S>) -> Result<Bank<S>, Refused<S>>
+    requires { conn.in_transaction ≡ false }
+    ensures found { IfOk result (λ bank. HasCleanDisk (state S.Store (connection_of bank))
+        → BankIsFound (state S.Store conn) (state S.Store (connection_of bank))) }
+    ensures shows { IfOk result (λ bank. (bank_seen S.Store bank).honest → (log : List Command)
+        → ShowsLog (conn_seen S.Store conn) log → ShowsLog (bank_seen S.Store bank) log) }
+    ensures stands { IfOk result (λ bank. (bank_seen S.Store bank).honest → (log : List Command)
+        → StandsAt (conn_seen S.Store conn) log → StandsAt (bank_seen S.Store bank) log) }
+    ensures up { IfOk result (λ bank. (bank_seen S.Store bank).is_down → ⊥) }
+    ensures missed { IfErr result (λ refused. HasCleanDisk (state S.Store refused.conn)
+        → Misses (state S.Store conn) refused.fault) }
+    ensures cause { IfErr result (λ refused. KnowsCause S.Store conn refused.conn refused.fault) }
+    ensures same { IfErr result (λ refused. HasCleanDisk (state S.Store refused.conn)
+        → refused.fault ≢ OpenFault.Store
+        → IsAsBefore (state S.Store conn) (state S.Store refused.conn)) }
+    ensures undone { IfErr result (λ refused. HasCleanDisk (state S.Store refused.conn)
+        → IsUndoneIfOpen (state S.Store conn) (state S.Store refused.conn)) }
+    ensures known { IfErr result (λ refused. HasCleanDisk (state S.Store refused.conn) → (log : List Command)
+        → ShowsLog (conn_seen S.Store conn) log → refused.fault ≡ OpenFault.Store) }
+    ensures stop { IfErr result (λ refused. HasCleanDisk (state S.Store refused.conn) → (log : List Command)
+        → StandsAt (conn_seen S.Store conn) log
+        → LeavesOnly (conn_seen S.Store refused.conn) (λ tables. Show tables log)) }
+    ensures idle { IfErr result (λ refused. refused.conn.in_transaction ≡ false) }
+    ensures survives { Survives (state S.Store conn) (state_in S.Store result) (λ _. ⊥) }
+{
+    match find_bank(&mut conn) {
+        Ok(()) => Ok(Bank::over(alloc, conn)),
+        Err(fault) => Err(Refused { fault, conn }),
+    }
+}

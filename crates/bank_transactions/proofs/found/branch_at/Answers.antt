@@ -1,0 +1,93 @@
+-- What the row of a branch tells.
+use Rattle.std.proofs.Common.{◌≡◌, ap, Err, Some, rules, sym, ◌∙◌, inl, inr, arith}
+use Rattle.posting_rules.specs.Tables.{row_at, branch_key}
+use Rattle.store_rows.specs.Outcomes.{BreaksBranch}
+use Rattle.std.specs.Prelude.{option_and_then}
+use Rattle.store_rows.specs.Rules.{branch_under, row_under}
+use Rattle.bank_transactions.proofs.Broken.{branch_broken, count_broken, openable_under}
+use Rattle.bank_transactions.proofs.Reading.{find_failed}
+use Rattle.bank_transactions.proofs.SoundRows.{no_branch_beyond, branch_is, branch_unbroken}
+use Rattle.bank_transactions.proofs.found.branch_at.Goals as goal
+
+pub returns-in_default-clause-says : goal.returns-in_default-clause-says
+returns-in_default-clause-says g c = record {
+  told = λ clean t shows sound.
+      (no_branch_beyond t c.args.number sound (sym c.new.ensures ∙ c.in_default.is), search rules);
+  same_reference = search rules;
+  kept = search rules;
+  survives = search rules;
+}
+
+pub returns-in_err-row-clause-says : goal.returns-in_err-row-clause-says
+returns-in_err-row-clause-says g c =
+    let fault = c.in_err-row.field-0.0 in
+    let same : c.from_residual.result ≡ Err fault = search rules in
+    rw same (find_failed (λ t. row_at branch_key t.branches c.in-Some.branch) BreaksBranch fault
+    (λ t r rule sound. branch_unbroken t c.in-Some.branch r rule sound)
+    (branch_broken _ c.in-Some.branch fault)
+    c.in_err-row.ensures)
+
+pub returns-then-number-gt-LAST_BRANCH-clause-says : goal.returns-then-number-gt-LAST_BRANCH-clause-says
+returns-then-number-gt-LAST_BRANCH-clause-says g c = record {
+  told = λ clean t shows sound.
+      let told = (c.in_ok-row.ensures.told clean t shows).0 in
+      let found : row_at branch_key t.branches c.in-Some.branch ≡ Some c.in-Some-2.row = sym told
+      ∙ c.in-Some-2.is in
+      let is = branch_is t c.in-Some.branch c.in-Some-2.row sound found in
+      let same = is.0 in
+      let most = is.1.most in
+      let few = is.1.few in
+      let many = is.1.many in
+      let key : c.in-Some.branch ≡ c.args.number = search rules in
+      elim c.then-number-gt-LAST_BRANCH.either [
+        | inl above ↦ omega arith
+        | inr count ↦ elim count [
+          | inl none ↦ (let lt = none.1 in omega arith)
+          | inr over ↦
+              (let lt = over.2 in omega arith)
+        ]
+      ];
+  same_reference = search rules;
+  kept = λ clean.
+      let looked = c.in_ok-row.ensures.kept clean in (
+        record { was_open = λ h. looked.0.0.was_open; committed = λ h. looked.0.0.committed_is },
+        count_broken _ c.in-Some.branch c.in-Some-2.row (rw c.in-Some-2.is at looked.1) (λ is.
+            let most = is.0 in
+            let few = is.1 in
+            let many = is.2 in
+            elim c.then-number-gt-LAST_BRANCH.either [
+              | inl above ↦ (let key : c.in-Some.branch ≡ c.args.number = search rules in omega arith)
+              | inr count ↦ elim count [
+                | inl none ↦ (let lt = none.1 in omega arith)
+                | inr over ↦
+                    (let lt = over.2 in omega arith)
+              ]
+            ]),
+      );
+  survives = search rules;
+}
+
+-- ---- of the stored row
+
+pub returns-then-number-gt-LAST_BRANCH-clause-stored : goal.returns-then-number-gt-LAST_BRANCH-clause-stored
+returns-then-number-gt-LAST_BRANCH-clause-stored g c = λ clean rows has.
+    let finds = rw c.in-Some-2.is at (c.in_ok-row.ensures.kept clean).1 in
+    let it = finds rows has in
+    let under : branch_under rows c.args.number ≡ row_under rows.branches c.in-Some.branch =
+    ap (option_and_then (row_under rows.branches)) (sym c.new.ensures ∙ c.in-Some.is) in (
+      it.0,
+      under ∙ it.1,
+      λ keeps.
+          let is = openable_under rows.branches c.in-Some.branch c.in-Some-2.row it.0 it.1 it.2 keeps in
+          let most = is.0 in
+          let few = is.1 in
+          let many = is.2 in
+          elim c.then-number-gt-LAST_BRANCH.either [
+            | inl above ↦ (let key : c.in-Some.branch ≡ c.args.number = search rules in omega arith)
+            | inr count ↦ elim count [
+              | inl none ↦ (let lt = none.1 in omega arith)
+              | inr over ↦
+                  (let lt = over.2 in omega arith)
+            ]
+          ],
+    )

@@ -1,0 +1,25 @@
+-- What the balance of a teller tells.
+use Rattle.std.proofs.Common.{◌≡◌, Err, rules}
+use Rattle.bank_transactions.proofs.FailedBalances.{teller_failed}
+use Rattle.bank_transactions.proofs.Reading.{behind_found}
+use Rattle.bank_transactions.proofs.found.teller_balances.Goals as goal
+
+pub returns-in_err-balance : goal.returns-in_err-balance
+returns-in_err-balance g c =
+    let same : c.from_residual.result ≡ Err c.in_err-balance.field-0.0 = search rules in
+    rw same (teller_failed
+    (λ t sound. sound) c.args.teller c.in_err-balance.field-0.0 c.in_err-balance.ensures)
+
+pub returns-in_default : goal.returns-in_default
+returns-in_default g c =
+    record {
+      told = search rules;
+      same_reference = search rules;
+      kept = search rules;
+      survives = search rules;
+    }
+
+pub returns-in_err-branch : goal.returns-in_err-branch
+returns-in_err-branch g c =
+    let same : c.from_residual-in_err-branch.result ≡ Err c.in_err-branch.field-0.0 = search rules in
+    rw same (behind_found c.in_err-branch.field-0.0 c.in_ok-balance.ensures c.in_err-branch.ensures.says)

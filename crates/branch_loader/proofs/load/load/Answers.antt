@@ -1,0 +1,50 @@
+use Rattle.std.proofs.Common.{◌≡◌, ◌+◌, ◌∷◌, ◌++◌, ◌∙◌, [], take, arith, refl}
+use Rattle.std.proofs.lemmas.List.{length-take-le, take_more}
+use Rattle.std.proofs.lemmas.Result.{err_from_is_err_and}
+use Rattle.branch_loader.proofs.Openings.{behind-more, behind-none, behind-refused, left-end}
+use Rattle.branch_loader.proofs.Rows.{plan-short}
+use Rattle.branch_loader.proofs.load.load.Goals as goal
+
+pub loop-row-init : goal.loop-row-init
+loop-row-init g c = behind-none g.C.Counter.seen c.args.counter.now
+
+pub with_answer-loaded-requires : goal.with_answer-loaded-requires
+with_answer-loaded-requires g c =
+    let rows = c.rows-row-items.result.now in
+    let short = plan-short rows c.rows-row-items.ensures.plan in
+    let front = length-take-le c.loop-row.row-index rows (omega arith) in
+    let sum = c.loop-row.invariant.sum in
+    omega arith
+
+pub loop-row-preserved : goal.loop-row-preserved
+loop-row-preserved g c =
+    let rows = c.rows-row-items.result.now in
+    let i = c.loop-row.row-index in
+    let p = c.row-item.result in
+    let more : take (i + 1) rows ≡ take i rows ++ p ∷ [] = take_more rows i p (omega arith) ∙ rw
+    (← c.row-item.is) refl in
+    rw (more, c.with_answer-loaded.ensures)
+    (behind-more g.C.Counter.seen c.args.counter.now c.loop-row.counter c.open_branch.new.self (take i rows)
+    p c.loop-row.loaded
+    c.in_ok-opening.opening c.loop-row.invariant c.in_ok-opening.ensures.done c.in_ok-opening.ensures.answer
+    (λ down. cc (c.in_ok-opening.ensures.down down)) c.in_ok-opening.ensures.up
+    c.in_ok-opening.ensures.honest)
+
+pub returns-in_err-opening-clause-fault : goal.returns-in_err-opening-clause-fault
+returns-in_err-opening-clause-fault g c =
+    let rows = c.rows-row-items.result.now in
+    let refused =
+    behind-refused g.C.Counter.seen c.args.counter.now c.loop-row.counter c.open_branch.new.self rows
+    c.loop-row.row-index
+    c.row-item.result c.loop-row.loaded c.in_err-opening.field-0.0 c.loop-row.invariant
+    (omega arith) c.row-item.is
+    c.in_err-opening.ensures.fault c.in_err-opening.ensures.honest
+    (λ down. let e = c.in_err-opening.ensures.down down in cc e) in
+    let p = err_from_is_err_and c.from_residual.result c.from_residual.ensures.1 in
+    rw (p.1, p.2) (c.loop-row.row-index, rw c.rows-row-items.ensures.rows at refused)
+
+pub returns-clause-stop : goal.returns-clause-stop
+returns-clause-stop g c =
+    left-end g.C.Counter.seen c.args.counter.now c.loop-row.counter c.rows-row-items.result.now
+    c.args.plan.now c.loop-row.row-index c.loop-row.loaded
+    c.loop-row.invariant c.loop-row-test.false c.rows-row-items.ensures.rows

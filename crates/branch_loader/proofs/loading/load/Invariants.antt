@@ -1,7 +1,0 @@
-use Rattle.std.proofs.Common.{take}
-use Rattle.branch_loader.proofs.Openings.{IsBehind}
-use Rattle.branch_loader.proofs.loading.load.Given as goal
-
-abbrev pub invariant-loop-row : goal.invariant-loop-row
-invariant-loop-row g l = IsBehind g.C.Counter.seen l.fn.counter l.counter
-    (take l.row-index l.row-items) l.loaded

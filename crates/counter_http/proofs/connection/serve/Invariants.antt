@@ -1,0 +1,40 @@
+use Rattle.std.proofs.Common.{◌≡◌, ◌<◌, ◌≤◌, ◌*◌, ◌+◌, ◌-◌, length, take, slice_range}
+use Rattle.counter_http.specs.declared.limits.TheConstants.{BUFFER}
+use Rattle.posting_core.specs.Told.{IsThrough}
+use Rattle.posting_core.proofs.Telling.{HasMade}
+use Rattle.counter_http.specs.Next.{IsUnfinished}
+use Rattle.counter_http.proofs.Going.{Going}
+use Rattle.counter_http.proofs.connection.serve.Given as goal
+
+-- all whole messages that were read are answered, and the rest stands at the front of the buffer; one read
+-- was made a
+-- turn, and every answer was flushed
+abbrev pub invariant-reads : goal.invariant-reads
+invariant-reads g l = record {
+  few : l.filled < BUFFER;
+  room : length l.buffer ≡ BUFFER;
+  bound : l.served ≤ 12_289 * l.counter;
+  waits : IsUnfinished (take l.filled l.buffer) l.shows_body;
+  going : Going (g.R.Source.remaining l.fn.reader) (g.R.Source.remaining l.reader)
+      (g.W.Sink.contents l.fn.writer) (g.W.Sink.contents l.writer)
+      (g.K.Clock.readings l.fn.clock) (g.K.Clock.readings l.clock) (g.C.Counter.seen l.fn.bank)
+      (g.C.Counter.seen l.bank) (take l.filled l.buffer) l.served;
+  made : HasMade (g.R.Source.told l.fn.reader) (g.R.Source.told l.reader) l.counter;
+  through : IsThrough (g.W.Sink.told l.fn.writer) (g.W.Sink.told l.writer);
+}
+
+-- those before a place are answered
+abbrev pub invariant-messages : goal.invariant-messages
+invariant-messages g l = record {
+  order : l.used ≤ l.filled;
+  fits : l.filled ≤ BUFFER;
+  bound : l.served ≤ l.initial.served + l.used;
+  going : Going (g.R.Source.remaining l.fn.reader) (g.R.Source.remaining l.reader)
+      (g.W.Sink.contents l.fn.writer) (g.W.Sink.contents l.writer)
+      (g.K.Clock.readings l.fn.clock) (g.K.Clock.readings l.clock) (g.C.Counter.seen l.fn.bank)
+      (g.C.Counter.seen l.bank) (slice_range l.buffer l.used l.filled) l.served;
+  through : IsThrough (g.W.Sink.told l.fn.writer) (g.W.Sink.told l.writer);
+}
+
+abbrev pub decreases-messages : goal.decreases-messages
+decreases-messages g l = l.filled - l.used

@@ -1,0 +1,54 @@
+use Rattle.std.proofs.Common.{Err}
+use Rattle.counter_http.specs.declared.fault.ServeFault.TheVariants.{Memory}
+use Rattle.posting_core.proofs.Telling.{adds-none}
+use Rattle.counter_http.proofs.Connected.{untouched}
+use Rattle.counter_http.proofs.Written.{output_of, survives_of}
+use Rattle.counter_http.proofs.connection.serve_connection.Goals as goal
+
+-- memory for the routes was refused
+pub returns-in_default-clause-served : goal.returns-in_default-clause-served
+returns-in_default-clause-served g c = untouched g.C.Counter.seen c.args.bank.now
+
+pub returns-in_default-clause-output : goal.returns-in_default-clause-output
+returns-in_default-clause-output g c =
+    output_of g.C.Counter.seen {k = g.K.Clock.readings c.args.clock.now} c.args.bank.now c.args.bank.now
+    (Err Memory) (untouched g.C.Counter.seen c.args.bank.now)
+
+pub returns-in_default-clause-stop : goal.returns-in_default-clause-stop
+returns-in_default-clause-stop g c =
+    survives_of g.C.Counter.seen {q = g.R.Source.told c.args.reader.now}
+    {k = g.K.Clock.readings c.args.clock.now} c.args.bank.now c.args.bank.now (Err Memory)
+    (untouched g.C.Counter.seen c.args.bank.now)
+
+pub returns-in_default-clause-ends : goal.returns-in_default-clause-ends
+returns-in_default-clause-ends g c = (adds-none _, adds-none _)
+
+-- memory for the buffer was refused
+pub returns-in_default-vec-clause-served : goal.returns-in_default-vec-clause-served
+returns-in_default-vec-clause-served g c = untouched g.C.Counter.seen c.args.bank.now
+
+pub returns-in_default-vec-clause-output : goal.returns-in_default-vec-clause-output
+returns-in_default-vec-clause-output g c =
+    output_of g.C.Counter.seen {k = g.K.Clock.readings c.args.clock.now} c.args.bank.now c.args.bank.now
+    (Err Memory) (untouched g.C.Counter.seen c.args.bank.now)
+
+pub returns-in_default-vec-clause-stop : goal.returns-in_default-vec-clause-stop
+returns-in_default-vec-clause-stop g c =
+    survives_of g.C.Counter.seen {q = g.R.Source.told c.args.reader.now}
+    {k = g.K.Clock.readings c.args.clock.now} c.args.bank.now c.args.bank.now (Err Memory)
+    (untouched g.C.Counter.seen c.args.bank.now)
+
+pub returns-in_default-vec-clause-ends : goal.returns-in_default-vec-clause-ends
+returns-in_default-vec-clause-ends g c = (adds-none _, adds-none _)
+
+-- messages were answered
+pub returns-clause-output : goal.returns-clause-output
+returns-clause-output g c =
+    output_of g.C.Counter.seen c.args.bank.now c.serve.new.bank c.serve.result c.serve.ensures.served
+
+pub returns-clause-stop : goal.returns-clause-stop
+returns-clause-stop g c =
+    survives_of g.C.Counter.seen c.args.bank.now c.serve.new.bank c.serve.result c.serve.ensures.served
+
+pub returns-clause-honest : goal.returns-clause-honest
+returns-clause-honest g c = λ h. c.serve.ensures.served.honest_first (c.serve.ensures.served.honest h)

@@ -1,0 +1,10 @@
+use Rattle.counter_tcp.proofs.Chained.{one_served}
+use Rattle.counter_tcp.proofs.connections.serve_stream.Goals as goal
+
+pub returns : goal.returns
+returns g c =
+    let served = c.serve_connection-served in
+    one_served g.C.Counter.seen _ _ _ _ (g.K.Clock.readings c.args.clock.now)
+    (g.K.Clock.readings served.new.clock)
+    _ _ _ _ c.args.bank.now served.new.bank served.result served.ensures.served served.ensures.output
+    served.ensures.stop served.ensures.ends served.ensures.honest

@@ -1,6 +1,0 @@
--- What the error tells.
-use Rattle.std.proofs.Common.{rules}
-use Rattle.store_rows.proofs.faults.added.Goals as goal
-
-pub returns-in-Err : goal.returns-in-Err
-returns-in-Err = search rules
