@@ -17,7 +17,8 @@ still_has old new table rows still = subst (λ (d : Database). HasStoredRows d t
 pub still_then : (old mid new : State) → IsStill old mid → IsStill mid new → IsStill old new
 still_then old mid new a b = (b.0 ∙ a.0, b.1 ∙ a.1, b.2 ∙ a.2, b.3 ∙ a.3)
 
-pub undone_then : (old mid new : State) → IsStill old mid → IsUntouchedIfOpen mid new → IsUntouchedIfOpen old new
+pub undone_then : (old mid new : State) → IsStill old mid → IsUntouchedIfOpen mid new
+    → IsUntouchedIfOpen old new
 undone_then old mid new a b is_open =
     let it = b is_open in
     record {

@@ -132,7 +132,8 @@ run_more before (x ∷ rs) r all low = (
 )
 
 -- behind a log they are
-pub runs_within : (a : ℕ) (es : List DecidedRequest) → EachWithin a es → AllRunWithin (pos 0) (postings_to a es)
+pub runs_within : (a : ℕ) (es : List DecidedRequest) → EachWithin a es
+    → AllRunWithin (pos 0) (postings_to a es)
 runs_within a [] all = tt
 runs_within a (e ∷ es) all = last (is_posted_to a e) refl (runs_within a es all.1)
   where

@@ -14,7 +14,8 @@ use Rattle.posting_rules.specs.declared.facts.Verdict.{Verdict}
 use Rattle.posting_rules.specs.declared.facts.Verdict.TheVariants.{Unkept, Again, Refused, Posted}
 use Rattle.posting_rules.specs.Commands.{Command, Open, Post, opened}
 use Rattle.posting_rules.specs.Cases.{case_of}
-use Rattle.posting_rules.specs.Entries.{DecidedRequest, is_posted, facts, account_balance, with_verdict, with_record}
+use Rattle.posting_rules.specs.Entries.{DecidedRequest, is_posted, facts, account_balance, with_verdict}
+use Rattle.posting_rules.specs.Entries.{with_record}
 use Rattle.posting_rules.specs.Entries.{decided}
 use Rattle.posting_rules.specs.Tables.{row_at, history_key, history_row, history_row_of}
 use Rattle.posting_rules.proofs.BalanceLimits.{stays_within}

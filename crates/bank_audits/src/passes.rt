@@ -21,7 +21,8 @@ pub(crate) trait Added: Summed {
     /// Adds all that a bank has of them. A fault leaves the bank as it was.
     fn add_each<S: Alter>(bank: &mut Bank<S>, sums: &mut Sums) -> Result<(), Fault>
         requires { (rows : AuditRows) × HasSums sums.old (Self.with_rows rows []) }
-        ensures added { IfOk result (λ _. (given : List Self) × AddsToSums Self.with_rows sums.old sums.new given
+        ensures added { IfOk result
+            (λ _. (given : List Self) × AddsToSums Self.with_rows sums.old sums.new given
             × (HasCleanDisk (state S.Store (connection_of bank.new)) → (all : List Self.Item)
             → Self.HasItems (database_of S.Store bank.old) all → map Self.item given ≡ all)) }
         ensures told { HasCleanDisk (state S.Store (connection_of bank.new)) → (all : List Self.Item)

@@ -52,7 +52,8 @@ pub(crate) fn write_postings<S: Alter, W: Sink>(
     ensures still { HasCleanDisk (state S.Store (connection_of bank.new)) → HasWritten result
         → IsStill (state S.Store (connection_of bank.old)) (state S.Store (connection_of bank.new)) }
     ensures undone { HasCleanDisk (state S.Store (connection_of bank.new))
-        → IsUntouchedIfOpen (state S.Store (connection_of bank.old)) (state S.Store (connection_of bank.new)) }
+        → IsUntouchedIfOpen (state S.Store (connection_of bank.old))
+        (state S.Store (connection_of bank.new)) }
     ensures up { (bank_seen S.Store bank.new).is_down → (bank_seen S.Store bank.old).is_down }
     ensures survives { Survives (state S.Store (connection_of bank.old))
         (state S.Store (connection_of bank.new)) (λ _. ⊥) }

@@ -19,7 +19,8 @@ use Rattle.bank_transactions.proofs.Chained.{looked, look_keeps}
 use Rattle.bank_transactions.proofs.Reading.{stays_then}
 use Rattle.bank_batches.specs.Filling.{ReadsWhere}
 
-looks_then : {X : Type 0} (old mid new : State) (r : Result X TableFault) → Stays old mid → ChangesNothing mid new r
+looks_then : {X : Type 0} (old mid new : State) (r : Result X TableFault) → Stays old mid
+    → ChangesNothing mid new r
     → ChangesNothing old new r
 looks_then old mid new (Ok x) one two = stays_then old mid new one two
 looks_then old mid new (Err e) one two = record {

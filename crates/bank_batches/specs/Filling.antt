@@ -22,7 +22,8 @@ pub record ReadsWhere {S X : Type 0} (g : Ghosts S) (old new : Transaction S) (S
     (wanted : Tables → X) (result : Result X TableFault) : Type 0 where
   pub says : Says g old new
       (OfTables (λ before now tables. So tables → LooksUp before now (wanted tables) result))
-      (λ before now. ChangesNothing before now result × Blames (IsFirstBroken g) g old.conn.now new.conn.now result)
+      (λ before now. ChangesNothing before now result
+      × Blames (IsFirstBroken g) g old.conn.now new.conn.now result)
 
 -- the slot under a number tells the row of that branch
 abbrev pub TellsBranch : List BranchSlot → Tables → ℕ → Type 0

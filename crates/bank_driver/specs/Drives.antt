@@ -50,7 +50,8 @@ pub record IsIdle {C : Type 0} (stood new : C) (rows : Rows) (taken refused : Li
   pub stays : new ≡ stood
 
 -- the bank refused a call: to list the branches, or to take a batch
-pub record HasRefusedCall {C : Type 0} (seen : C → Seen) (stood new : C) (refused : List Batch) (fault : Fault)
+pub record HasRefusedCall {C : Type 0} (seen : C → Seen) (stood new : C) (refused : List Batch)
+    (fault : Fault)
     : Type 0 where
   pub one : length refused ≤ 1
   pub refuses : Refuses fault (seen stood) (seen new) (posts_of refused)
@@ -62,7 +63,8 @@ abbrev pub EndsDrive : {C : Type 0} → (C → Seen) → (old stood new : C) →
 EndsDrive seen old stood new rows count taken refused (Ok driven) =
     IsDone seen old stood new count taken refused driven
 EndsDrive seen old stood new rows count taken refused (Err NoBranches) = IsIdle stood new rows taken refused
-EndsDrive seen old stood new rows count taken refused (Err (Bank fault)) = HasRefusedCall seen stood new refused fault
+EndsDrive seen old stood new rows count taken refused (Err (Bank fault)) =
+    HasRefusedCall seen stood new refused fault
 
 -- ---- what it did, whatever its result
 

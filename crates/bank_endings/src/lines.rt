@@ -4,7 +4,8 @@ ghost use Rattle.std.specs.Io.KnownBytes.{Appends, Keeps};
 ghost use Rattle.std.specs.IoError.{error_kind};
 ghost use Rattle.clap.specs.Words.{kind_of};
 ghost use Rattle.bank_endings.specs.Faults.{status_of};
-ghost use Rattle.bank_endings.specs.Lines.{IsHelpOrVersion, IsShown, created_line, driven_line, listening_line};
+ghost use Rattle.bank_endings.specs.Lines.{IsHelpOrVersion, IsShown, created_line, driven_line};
+ghost use Rattle.bank_endings.specs.Lines.{listening_line};
 ghost use Rattle.bank_endings.specs.Lines.{loaded_line};
 ghost use Rattle.bank_endings.specs.Statuses.{status_of_no_words};
 
@@ -104,7 +105,8 @@ pub fn tell<E: Write>(fault: CommandFault, faults: &mut E) -> Status
 /// standard error, with the status 2.
 pub fn explain<W: Write, E: Write>(error: &clap::Error, output: &mut W, faults: &mut E) -> Status
     ensures status { IsShown (kind_of error.now) result }
-    ensures silent { Keeps (W.contents output.old) (W.contents output.new) ⊎ IsHelpOrVersion (kind_of error.now) }
+    ensures silent { Keeps (W.contents output.old) (W.contents output.new)
+        ⊎ IsHelpOrVersion (kind_of error.now) }
 {
     match error.kind() {
         ErrorKind::OutOfMemory => tell(CommandFault::Memory, faults),

@@ -37,17 +37,24 @@ taken_is_call old new commands are takes up honest = record {
 
 -- nothing was changed
 still : (old new : Seen) (log : List Command) → StandsAt old log → (new.is_down → old.is_down)
-    → (ShowsLog old log → ShowsLog new log) → (LeavesOnly old (λ t. AreTablesOf t log) → LeavesOnly new (λ t. AreTablesOf t log)) → StandsAt new log
+    → (ShowsLog old log → ShowsLog new log)
+    → (LeavesOnly old (λ t. AreTablesOf t log) → LeavesOnly new (λ t. AreTablesOf t log)) → StandsAt new log
 still old new log stood down shows left =
     record { shows = shows stood.shows; up = λ d. stood.up (down d); stop = left stood.stop }
 
 -- it was refused
-pub refused_is_call : (fault : Fault) (old new : Seen) (commands : List Command) → AreCommands commands → Refuses fault old new commands
+pub refused_is_call : (fault : Fault) (old new : Seen) (commands : List Command) → AreCommands commands
+    → Refuses fault old new commands
     → (old.is_down → fault ≡ Down) → (new.honest → old.honest) → IsCall old new (given_to fault commands) 0
 refused_is_call Memory old new commands are refuses up honest =
     let stands = λ (h : new.honest) (log : List Command) (stood : StandsAt old log).
     still old new log stood refuses.down
-    (λ s. record { commands = s.commands; tables = s.tables; are = refuses.tables s.tables s.are; shows = s.shows })
+    (λ s. record {
+      commands = s.commands;
+      tables = s.tables;
+      are = refuses.tables s.tables s.are;
+      shows = s.shows;
+    })
     (leaves_still old new (λ t. AreTablesOf t log) refuses.left) in
     record {
       are = tt;

@@ -13,13 +13,15 @@ use Rattle.bank_lives.proofs.Calls.{all_shown}
 
 -- all that was given before, and a beginning of one call more
 one_call_more : (log given commands : List Command) (least n : ℕ) (t : Tables) → least ≤ length given
-    → ShowsBeginning (behind log given) commands n t → ShowsBeginning log (given ++ commands) (reached least given n) t
+    → ShowsBeginning (behind log given) commands n t
+    → ShowsBeginning log (given ++ commands) (reached least given n) t
 one_call_more log given commands least n t some b = record {
   count = length given + b.count;
   holds = by n b.holds;
   within = let most = b.within in omega (arith, length-append given commands);
   are = rw (take-append-add given commands b.count, behind-append log given (take b.count commands)) b.are;
-  shows = rw (take-append-add given commands b.count, behind-append log given (take b.count commands)) b.shows;
+  shows = rw (take-append-add given commands b.count, behind-append log given (take b.count commands))
+      b.shows;
 }
   where
     by : (n : ℕ) → n ≤ b.count → reached least given n ≤ length given + b.count
@@ -43,26 +45,33 @@ reached_within : (least n : ℕ) (given commands : List Command) → least ≤ l
 reached_within least zero given commands some within = omega (arith, length-append given commands)
 reached_within least (suc n) given commands some within = omega (arith, length-append given commands)
 
--- how a counter is that stood at a log: it took all that it was given, or it is down and a stop leaves a beginning
+-- how a counter is that stood at a log: it took all that it was given, or it is down and a stop leaves a
+-- beginning
 abbrev Lives : Seen → List Command → List Command → ℕ → Type 0
-Lives now log given least = StandsAt now (behind log given) ⊎ (now.is_down × LeavesOnly now (ShowsBeginning log given least))
+Lives now log given least = StandsAt now (behind log given)
+    ⊎ (now.is_down × LeavesOnly now (ShowsBeginning log given least))
 
 lives_on : (now next : Seen) (log given commands : List Command) (least n : ℕ) → least ≤ length given
-    → IsCall now next commands n → next.honest → Lives now log given least → Lives next log (given ++ commands) (reached least given n)
-lives_on now next log given commands least n some call h (inl stood) = elim (call.stands h (behind log given) stood) [
-  | inl stands ↦ inl (rw (behind-append log given commands) stands)
-  | inr down ↦ inr (
-    down,
-    leaves_weaker next (ShowsBeginning (behind log given) commands n) (ShowsBeginning log (given ++ commands) (reached least given n))
-        (λ t b. one_call_more log given commands least n t some b) (call.stop h (behind log given) stood),
-  )
-]
+    → IsCall now next commands n → next.honest → Lives now log given least
+    → Lives next log (given ++ commands) (reached least given n)
+lives_on now next log given commands least n some call h (inl stood) =
+    elim (call.stands h (behind log given) stood) [
+      | inl stands ↦ inl (rw (behind-append log given commands) stands)
+      | inr down ↦ inr (
+        down,
+        leaves_weaker next (ShowsBeginning (behind log given) commands n)
+            (ShowsBeginning log (given ++ commands) (reached least given n))
+            (λ t b. one_call_more log given commands least n t some b) (call.stop h (behind log given) stood),
+      )
+    ]
 lives_on now next log given commands least n some call h (inr (down, left)) =
     let it = call.down down in
     inr (
       it.0,
-      leaves_weaker next (ShowsBeginning log given least) (ShowsBeginning log (given ++ commands) (reached least given n))
-          (λ t b. no_more log given commands least n t it.1 b) (leaves_still now next (ShowsBeginning log given least) it.2 left),
+      leaves_weaker next (ShowsBeginning log given least)
+          (ShowsBeginning log (given ++ commands) (reached least given n))
+          (λ t b. no_more log given commands least n t it.1 b)
+          (leaves_still now next (ShowsBeginning log given least) it.2 left),
     )
 
 module _ {C : Type 0} (seen : C → Seen) (first : C) where
@@ -74,21 +83,32 @@ module _ {C : Type 0} (seen : C → Seen) (first : C) where
       let it = life_given was before some life in
       (reached_within some n before commands it.0 call.within, commands_both before commands it.1 call.are)
 
-  life_lives : (now : C) (given : List Command) (least : ℕ) → Life seen first now given least → (seen now).honest
+  life_lives : (now : C) (given : List Command) (least : ℕ) → Life seen first now given least
+      → (seen now).honest
       → (log : List Command) → StandsAt (seen first) log → Lives (seen now) log given least
   life_lives now given least begins h log stood = inl stood
   life_lives now given least (goes_on was next before commands some n life call) h log stood =
       lives_on (seen was) (seen next) log before commands some n (life_given was before some life).0 call h
       (life_lives was before some life (call.honest h) log stood)
 
-  -- at every moment of a life a stop leaves a beginning of what was given that holds all that was acknowledged
-  pub life_leaves : (now : C) (given : List Command) (least : ℕ) → Life seen first now given least → (seen now).honest
-      → (log : List Command) → StandsAt (seen first) log → LeavesOnly (seen now) (ShowsBeginning log given least)
+  -- at every moment of a life a stop leaves a beginning of what was given that holds all that was
+  -- acknowledged
+  pub life_leaves : (now : C) (given : List Command) (least : ℕ) → Life seen first now given least
+      → (seen now).honest
+      → (log : List Command) → StandsAt (seen first) log
+      → LeavesOnly (seen now) (ShowsBeginning log given least)
   life_leaves now given least life h log stood =
       let some = (life_given now given least life).0 in
       elim (life_lives now given least life h log stood) [
-        | inl stands ↦ leaves_weaker (seen now) (ShowsBeginning log given (length given)) (ShowsBeginning log given least)
-            (λ t b. record { count = b.count; holds = let all = b.holds in omega arith; within = b.within; are = b.are; shows = b.shows })
+        | inl stands ↦ leaves_weaker (seen now) (ShowsBeginning log given (length given))
+            (ShowsBeginning log given least)
+            (λ t b. record {
+              count = b.count;
+              holds = let all = b.holds in omega arith;
+              within = b.within;
+              are = b.are;
+              shows = b.shows;
+            })
             (all_shown (seen now) log given stands)
         | inr cut ↦ cut.1
       ]

@@ -1,24 +1,29 @@
 -- The tables of a log keep each of the seven rules.
-use Rattle.std.proofs.Common.{◌≡◌, ◌≤◌, ◌<◌, ℕ, zero, suc, ℤ, pos, Bool, true, false, List, [], ◌∷◌, map, Option, Some, None, option_map, refl, sym, ap, subst, ◌∙◌, arith}
+use Rattle.std.proofs.Common.{◌≡◌, ◌≤◌, ◌<◌, ℕ, zero, suc, ℤ, pos, Bool, true, false, List, [], ◌∷◌, map}
+use Rattle.std.proofs.Common.{Option, Some, None, option_map, refl, sym, ap, subst, ◌∙◌, arith}
 use Rattle.std.specs.Prelude.{◌&&◌, cond, ◌≤ℤ◌, nat_le, nat_eq, is_some, option_and_then}
 use Rattle.std.specs.List.{AllByRecursion, Contains}
 use Rattle.std.proofs.lemmas.Bool.Decides.{nat_tests}
 use Rattle.std.proofs.lemmas.Int.{ints}
 use Rattle.message_records.specs.Ranges.{whole_within}
 use Rattle.message_records.specs.declared.limits.TheConstants.{MAX_BRANCH}
-use Rattle.posting_rules.specs.Commands.{Command, AreCommands, branch_of_teller, branch_of_account, place_of_account, is_within}
+use Rattle.posting_rules.specs.Commands.{Command, AreCommands, branch_of_teller, branch_of_account}
+use Rattle.posting_rules.specs.Commands.{place_of_account, is_within}
 use Rattle.posting_rules.specs.Damage.{IsUndamaged}
 use Rattle.posting_rules.specs.Entries.{decided}
 use Rattle.posting_rules.specs.LookUps.{count_of_branch}
-use Rattle.posting_rules.specs.Tables.{Tables, AreTablesOf, row_at, account_key, branch_key, history_key, request_key, teller_key}
+use Rattle.posting_rules.specs.Tables.{Tables, AreTablesOf, row_at, account_key, branch_key, history_key}
+use Rattle.posting_rules.specs.Tables.{request_key, teller_key}
 use Rattle.posting_rules.specs.declared.fault.Rule.{Rule}
-use Rattle.posting_rules.specs.declared.fault.Rule.TheVariants.{Meta, Teller, Account, Balance, Request, Value, Key}
+use Rattle.posting_rules.specs.declared.fault.Rule.TheVariants.{Meta, Teller, Account, Balance, Request}
+use Rattle.posting_rules.specs.declared.fault.Rule.TheVariants.{Value, Key}
 use Rattle.posting_rules.specs.declared.rows.BranchRow.{BranchRow}
 use Rattle.posting_rules.proofs.Stepped.{history_row_past, request_row_past}
 use Rattle.posting_rules.proofs.Undamaged.{undamaged}
 use Rattle.sql_meanings.specs.Entries.{Entry, has_key}
 use Rattle.store_rows.specs.Columns.{number_at}
-use Rattle.store_rows.specs.Rules.{AccountKeeps, BranchKeeps, HasDecided, IsWithinCount, KeepsRule, PostingKeeps, RequestKeeps, TellerKeeps, branch_under, row_under}
+use Rattle.store_rows.specs.Rules.{AccountKeeps, BranchKeeps, HasDecided, IsWithinCount, KeepsRule}
+use Rattle.store_rows.specs.Rules.{PostingKeeps, RequestKeeps, TellerKeeps, branch_under, row_under}
 use Rattle.store_rows.specs.View.{account_entry, branch_entry, history_entry, request_entry, teller_entry}
 use Rattle.store_rows.specs.declared.metas.TheConstants.{VERSION}
 use Rattle.store_rows.proofs.RowLists.{found_by, has_row_key, taken_row_key}
@@ -27,7 +32,8 @@ use Rattle.bank_lives.specs.Rules.{stored_rows}
 
 -- ---- each row
 
-each_entry : {R : Type 0} (entry : R → Entry) (P : Entry → Type 0) (rows : List R) → ((r : R) → Contains rows r → P (entry r))
+each_entry : {R : Type 0} (entry : R → Entry) (P : Entry → Type 0) (rows : List R)
+    → ((r : R) → Contains rows r → P (entry r))
     → AllByRecursion P (map entry rows)
 each_entry entry P [] all = tt
 each_entry entry P (r ∷ rows) all = (
@@ -51,27 +57,30 @@ module _ (t : Tables) (sound : IsUndamaged t) where
     each_entry teller_entry (TellerKeeps Request) t.tellers (λ r has. tt),
     each_entry account_entry (AccountKeeps Request) t.accounts (λ r has. tt),
     each_entry history_entry (PostingKeeps Request) t.history (λ r has. tt),
-    each_entry request_entry (RequestKeeps Request) t.requests (λ r has. let is = sound.each_request r has in record {
-      teller = (r.teller, refl, is.fields.teller_above, is.fields.teller);
-      number = (r.number, refl, is.number_above, is.number);
-      account = (r.kept.account, refl, is.fields.account_above, is.fields.account);
-      branch = (r.kept.branch, refl, is.fields.branch_above, is.fields.branch);
-      delta = is.fields.delta;
-      outcome = (r.kept.outcome, refl, is.kept);
-      balance = is.balance;
-    }),
+    each_entry request_entry (RequestKeeps Request) t.requests
+        (λ r has. let is = sound.each_request r has in record {
+          teller = (r.teller, refl, is.fields.teller_above, is.fields.teller);
+          number = (r.number, refl, is.number_above, is.number);
+          account = (r.kept.account, refl, is.fields.account_above, is.fields.account);
+          branch = (r.kept.branch, refl, is.fields.branch_above, is.fields.branch);
+          delta = is.fields.delta;
+          outcome = (r.kept.outcome, refl, is.kept);
+          balance = is.balance;
+        }),
   )
 
   keeps_value : KeepsRule Value (stored_rows t)
   keeps_value = (
     each_entry branch_entry (BranchKeeps Value) t.branches (λ r has.
-        let is = sound.each_branch r has in ((r.branch, refl, is.some, is.most), (r.accounts, refl, is.few, is.many))),
+        let is = sound.each_branch r has in
+        ((r.branch, refl, is.some, is.most), (r.accounts, refl, is.few, is.many))),
     each_entry teller_entry (TellerKeeps Value) t.tellers (λ r has.
         let is = sound.each_teller r has in let most = is.most in (r.teller, refl, is.some, omega arith)),
     each_entry account_entry (AccountKeeps Value) t.accounts (λ r has.
         let is = sound.each_account r has in let most = is.most in (r.account, refl, is.some, omega arith)),
     each_entry history_entry (PostingKeeps Value) t.history (λ r has.
-        let is = sound.each_posting r has in ((r.ordinal, refl, is.ordinal_above, is.ordinal), (r.moment, refl, omega arith, is.moment))),
+        let is = sound.each_posting r has in
+        ((r.ordinal, refl, is.ordinal_above, is.ordinal), (r.moment, refl, omega arith, is.moment))),
     each_entry request_entry (RequestKeeps Value) t.requests (λ r has.
         let is = sound.each_request r has in (r.ordinal, refl, is.ordinal_above, is.ordinal)),
   )
@@ -79,12 +88,14 @@ module _ (t : Tables) (sound : IsUndamaged t) where
   -- ---- rows that belong together
 
   under_number : (n : ℕ) (o : Option ℕ) → whole_within 1 MAX_BRANCH n ≡ o
-      → option_and_then (row_under (map branch_entry t.branches)) o ≡ option_map branch_entry (row_at branch_key t.branches n)
+      → option_and_then (row_under (map branch_entry t.branches)) o
+      ≡ option_map branch_entry (row_at branch_key t.branches n)
   under_number n None is = sym (ap (option_map branch_entry) (sym (no_branch_beyond t n sound is)))
   under_number n (Some m) is =
       let same : m ≡ n = within_is n m is in
       ap (row_under (map branch_entry t.branches)) same
-      ∙ found_by branch_key branch_entry (λ _. refl) (has_key (pos n)) (λ r. nat_eq r.branch n) (has_row_key branch_key branch_entry (λ _. refl) n) t.branches
+      ∙ found_by branch_key branch_entry (λ _. refl) (has_key (pos n)) (λ r. nat_eq r.branch n)
+      (has_row_key branch_key branch_entry (λ _. refl) n) t.branches
     where
       within_is : (n m : ℕ) → whole_within 1 MAX_BRANCH n ≡ Some m → m ≡ n
       within_is n m is = go (nat_le 1 n) (nat_le n MAX_BRANCH) is
@@ -95,7 +106,8 @@ module _ (t : Tables) (sound : IsUndamaged t) where
           go false b is = absurd cc
 
   -- the branch under a number
-  under_is : (n : ℕ) → branch_under (stored_rows t) n ≡ option_map branch_entry (row_at branch_key t.branches n)
+  under_is : (n : ℕ) → branch_under (stored_rows t) n
+      ≡ option_map branch_entry (row_at branch_key t.branches n)
   under_is n = under_number n (whole_within 1 MAX_BRANCH n) refl
 
   some_entry : {R : Type 0} (entry : R → Entry) (o : Option R) → is_some (option_map entry o) ≡ is_some o
@@ -105,16 +117,21 @@ module _ (t : Tables) (sound : IsUndamaged t) where
   branch_there : (n : ℕ) → is_some (branch_under (stored_rows t) n) ≡ is_some (row_at branch_key t.branches n)
   branch_there n = ap is_some (under_is n) ∙ some_entry branch_entry (row_at branch_key t.branches n)
 
-  teller_there : (n : ℕ) → 1 ≤ n → is_some (row_under (map teller_entry t.tellers) n) ≡ is_some (branch_under (stored_rows t) (branch_of_teller n))
+  teller_there : (n : ℕ) → 1 ≤ n → is_some (row_under (map teller_entry t.tellers) n)
+      ≡ is_some (branch_under (stored_rows t) (branch_of_teller n))
   teller_there n least =
-      taken_row_key teller_key teller_entry (λ _. refl) n t.tellers ∙ sound.tellers n least ∙ sym (branch_there (branch_of_teller n))
+      taken_row_key teller_key teller_entry (λ _. refl) n t.tellers ∙ sound.tellers n least
+      ∙ sym (branch_there (branch_of_teller n))
 
   keeps_teller : KeepsRule Teller (stored_rows t)
-  keeps_teller n least most = (λ there. sym (teller_there n least) ∙ there, λ there. teller_there n least ∙ there)
+  keeps_teller n least most =
+      (λ there. sym (teller_there n least) ∙ there, λ there. teller_there n least ∙ there)
 
   account_there : (n : ℕ) → 1 ≤ n → is_some (row_under (map account_entry t.accounts) n)
-      ≡ is_within (place_of_account n) (option_map count_of_branch (row_at branch_key t.branches (branch_of_account n)))
-  account_there n least = taken_row_key account_key account_entry (λ _. refl) n t.accounts ∙ sound.accounts n least
+      ≡ is_within (place_of_account n)
+      (option_map count_of_branch (row_at branch_key t.branches (branch_of_account n)))
+  account_there n least = taken_row_key account_key account_entry (λ _. refl) n t.accounts
+      ∙ sound.accounts n least
 
   le_number : (a b : ℕ) → nat_le a b ≡ true → pos a ≤ℤ pos b
   le_number a b le = grind (arith, nat_tests, ints)
@@ -122,7 +139,8 @@ module _ (t : Tables) (sound : IsUndamaged t) where
   le_test : (a b : ℕ) → pos a ≤ℤ pos b → nat_le a b ≡ true
   le_test a b le = grind (arith, nat_tests, ints)
 
-  counted : (n : ℕ) (o : Option BranchRow) → branch_under (stored_rows t) (branch_of_account n) ≡ option_map branch_entry o
+  counted : (n : ℕ) (o : Option BranchRow) → branch_under (stored_rows t) (branch_of_account n)
+      ≡ option_map branch_entry o
       → is_within (place_of_account n) (option_map count_of_branch o) ≡ true → IsWithinCount (stored_rows t) n
   counted n None is within = absurd cc
   counted n (Some r) is within = (branch_entry r, is, le_number (place_of_account n) r.accounts within)
@@ -130,7 +148,8 @@ module _ (t : Tables) (sound : IsUndamaged t) where
   same_entry : (o : Option Entry) (r s : Entry) → o ≡ Some r → o ≡ Some s → s ≡ r
   same_entry o r s one two = cc
 
-  uncounted : (n : ℕ) (o : Option BranchRow) → branch_under (stored_rows t) (branch_of_account n) ≡ option_map branch_entry o
+  uncounted : (n : ℕ) (o : Option BranchRow) → branch_under (stored_rows t) (branch_of_account n)
+      ≡ option_map branch_entry o
       → IsWithinCount (stored_rows t) n → is_within (place_of_account n) (option_map count_of_branch o) ≡ true
   uncounted n None is it = let found = it.1 in absurd cc
   uncounted n (Some r) is it =
@@ -140,8 +159,10 @@ module _ (t : Tables) (sound : IsUndamaged t) where
 
   keeps_account : KeepsRule Account (stored_rows t)
   keeps_account n least most = (
-    λ there. counted n (row_at branch_key t.branches (branch_of_account n)) (under_is (branch_of_account n)) (sym (account_there n least) ∙ there),
-    λ it. account_there n least ∙ uncounted n (row_at branch_key t.branches (branch_of_account n)) (under_is (branch_of_account n)) it,
+    λ there. counted n (row_at branch_key t.branches (branch_of_account n)) (under_is (branch_of_account n))
+        (sym (account_there n least) ∙ there),
+    λ it. account_there n least ∙ uncounted n (row_at branch_key t.branches (branch_of_account n))
+        (under_is (branch_of_account n)) it,
   )
 
   -- ---- keys that are free
@@ -150,20 +171,26 @@ module _ (t : Tables) (sound : IsUndamaged t) where
   none_there None is = refl
   none_there (Some r) is = absurd cc
 
-  no_teller : (n : ℕ) → 1 ≤ n → branch_under (stored_rows t) (branch_of_teller n) ≡ None → row_under (map teller_entry t.tellers) n ≡ None
-  no_teller n least none = none_there (row_under (map teller_entry t.tellers) n) (teller_there n least ∙ ap is_some none)
+  no_teller : (n : ℕ) → 1 ≤ n → branch_under (stored_rows t) (branch_of_teller n) ≡ None
+      → row_under (map teller_entry t.tellers) n ≡ None
+  no_teller n least none = none_there (row_under (map teller_entry t.tellers) n)
+      (teller_there n least ∙ ap is_some none)
 
-  not_within : (n : ℕ) (o : Option BranchRow) → option_map branch_entry o ≡ None → is_within (place_of_account n) (option_map count_of_branch o) ≡ false
+  not_within : (n : ℕ) (o : Option BranchRow) → option_map branch_entry o ≡ None
+      → is_within (place_of_account n) (option_map count_of_branch o) ≡ false
   not_within n None none = refl
   not_within n (Some r) none = absurd cc
 
-  no_account : (n : ℕ) → 1 ≤ n → branch_under (stored_rows t) (branch_of_account n) ≡ None → row_under (map account_entry t.accounts) n ≡ None
+  no_account : (n : ℕ) → 1 ≤ n → branch_under (stored_rows t) (branch_of_account n) ≡ None
+      → row_under (map account_entry t.accounts) n ≡ None
   no_account n least none =
       none_there (row_under (map account_entry t.accounts) n)
       (account_there n least
-      ∙ not_within n (row_at branch_key t.branches (branch_of_account n)) (sym (under_is (branch_of_account n)) ∙ none))
+      ∙ not_within n (row_at branch_key t.branches (branch_of_account n))
+      (sym (under_is (branch_of_account n)) ∙ none))
 
-same_count : (a b : ℕ) (version : ℤ) → ◌≡◌ {A = List Entry} (record { key = pos 1; values = VERSION ∷ pos a ∷ [] } ∷ [])
+same_count : (a b : ℕ) (version : ℤ)
+    → ◌≡◌ {A = List Entry} (record { key = pos 1; values = VERSION ∷ pos a ∷ [] } ∷ [])
     (record { key = pos 1; values = version ∷ pos b ∷ [] } ∷ []) → a ≡ b
 same_count a b version is = let same : ◌≡◌ {A = ℤ} (pos a) (pos b) = ap second is in cc
   where
@@ -172,12 +199,15 @@ same_count a b version is = let same : ◌≡◌ {A = ℤ} (pos a) (pos b) = ap 
     second (e ∷ es) = number_at 1 e
 
 module _ (t : Tables) (log : List Command) (shows : AreTablesOf t log) where
-  no_row : {R : Type 0} (key : R → ℕ) (entry : R → Entry) → ((r : R) → (entry r).key ≡ pos (key r)) → (rows : List R) (n : ℕ)
+  no_row : {R : Type 0} (key : R → ℕ) (entry : R → Entry) → ((r : R) → (entry r).key ≡ pos (key r))
+      → (rows : List R) (n : ℕ)
       → row_at key rows n ≡ None → row_under (map entry rows) n ≡ None
   no_row key entry keyed rows n none =
-      found_by key entry keyed (has_key (pos n)) (λ r. nat_eq (key r) n) (has_row_key key entry keyed n) rows ∙ ap (option_map entry) none
+      found_by key entry keyed (has_key (pos n)) (λ r. nat_eq (key r) n) (has_row_key key entry keyed n) rows
+      ∙ ap (option_map entry) none
 
-  no_request : (d n : ℕ) → HasDecided (stored_rows t) d → d < n → row_under (map request_entry t.requests) n ≡ None
+  no_request : (d n : ℕ) → HasDecided (stored_rows t) d → d < n → row_under (map request_entry t.requests) n
+      ≡ None
   no_request d zero has lt = absurd (omega arith)
   no_request d (suc n) has lt =
       let count : t.decided ≡ d = same_count t.decided d has.0 has.1 in
@@ -185,7 +215,8 @@ module _ (t : Tables) (log : List Command) (shows : AreTablesOf t log) where
       no_row request_key request_entry (λ _. refl) t.requests (suc n)
       (shows.rows.requests (suc n) ∙ request_row_past (decided log) n (omega (arith, length_is, count)))
 
-  no_posting : (d n : ℕ) → HasDecided (stored_rows t) d → d < n → row_under (map history_entry t.history) n ≡ None
+  no_posting : (d n : ℕ) → HasDecided (stored_rows t) d → d < n → row_under (map history_entry t.history) n
+      ≡ None
   no_posting d zero has lt = absurd (omega arith)
   no_posting d (suc n) has lt =
       let count : t.decided ≡ d = same_count t.decided d has.0 has.1 in
@@ -194,7 +225,8 @@ module _ (t : Tables) (log : List Command) (shows : AreTablesOf t log) where
       (shows.rows.history (suc n) ∙ history_row_past (decided log) n (omega (arith, length_is, count)))
 
 -- the tables of a log keep each rule
-pub keeps_all : (t : Tables) (log : List Command) → AreCommands log → AreTablesOf t log → (rule : Rule) → KeepsRule rule (stored_rows t)
+pub keeps_all : (t : Tables) (log : List Command) → AreCommands log → AreTablesOf t log → (rule : Rule)
+    → KeepsRule rule (stored_rows t)
 keeps_all t log are shows Meta = (t.decided, (VERSION, refl), (undamaged t log are shows).decided)
 keeps_all t log are shows Teller = keeps_teller t (undamaged t log are shows)
 keeps_all t log are shows Account = keeps_account t (undamaged t log are shows)

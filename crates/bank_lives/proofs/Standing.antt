@@ -15,8 +15,10 @@ use Rattle.posting_rules.specs.Laws.{IsConsistent, NoneShares, TablesAreConsiste
 use Rattle.bank_lives.specs.Lives.{IsFoundAgain}
 
 -- it stands at what its trees show
-pub stands_opened : (s : State) (D : Type 0) → (D → ⊥) → Opens s → ((db : Trees) → s.may_leave db → db ≡ s.committed.trees)
-    → (t : Tables) (log : List Command) → AreCommands log → ShowsTrees s.now.trees t → Shows s.now t → Show t log
+pub stands_opened : (s : State) (D : Type 0) → (D → ⊥) → Opens s
+    → ((db : Trees) → s.may_leave db → db ≡ s.committed.trees)
+    → (t : Tables) (log : List Command) → AreCommands log → ShowsTrees s.now.trees t → Shows s.now t
+    → Show t log
     → StandsAt (seen_in s D) log
 stands_opened s D up opens settled t log are left shown shows = record {
   shows = record { commands = are; tables = t; are = shown; shows = shows };
@@ -34,18 +36,22 @@ pub record Begins (seen : Seen) (log given : List Command) (least : ℕ) : Type 
   pub stands : StandsAt seen (behind log (take count given))
 
 -- one that was opened on trees which show a beginning stands there
-pub begins_opened : (s : State) (log given : List Command) (least : ℕ) → Opens s → ((db : Trees) → s.may_leave db → db ≡ s.committed.trees)
+pub begins_opened : (s : State) (log given : List Command) (least : ℕ) → Opens s
+    → ((db : Trees) → s.may_leave db → db ≡ s.committed.trees)
     → ((t : Tables) → ShowsTrees s.now.trees t → Shows s.now t)
-    → (t : Tables) × ShowsTrees s.now.trees t × ShowsBeginning log given least t → Begins (seen_in s ⊥) log given least
+    → (t : Tables) × ShowsTrees s.now.trees t × ShowsBeginning log given least t
+    → Begins (seen_in s ⊥) log given least
 begins_opened s log given least opens settled finds (t, left, b) = record {
   count = b.count;
   holds = b.holds;
   within = b.within;
-  stands = stands_opened s ⊥ (λ none. none) opens settled t (behind log (take b.count given)) b.are left (finds t left) b.shows;
+  stands = stands_opened s ⊥ (λ none. none) opens settled t (behind log (take b.count given)) b.are left
+      (finds t left) b.shows;
 }
 
 -- a bank that stands at a beginning
-pub found_at : (seen : Seen) (log given : List Command) (least count : ℕ) → least ≤ count → count ≤ length given → NoneShares
+pub found_at : (seen : Seen) (log given : List Command) (least count : ℕ) → least ≤ count
+    → count ≤ length given → NoneShares
     → TablesAreConsistent → (stands : StandsAt seen (behind log (take count given)))
     → ((other : Tables) → seen.tables other → other ≡ stands.shows.tables) → IsFoundAgain seen log given least
 found_at seen log given least count holds within none_shares consistent stands one = record {

@@ -2,7 +2,8 @@
 use Rattle.std.specs.Prelude.{[], ◌∷◌, map}
 use Rattle.posting_rules.specs.Tables.{Tables}
 use Rattle.store_rows.specs.Rules.{StoredRows}
-use Rattle.store_rows.specs.View.{meta_entry, branch_entry, teller_entry, account_entry, history_entry, request_entry}
+use Rattle.store_rows.specs.View.{meta_entry, branch_entry, teller_entry, account_entry, history_entry}
+use Rattle.store_rows.specs.View.{request_entry}
 
 -- the rows of each table
 abbrev pub stored_rows : Tables → StoredRows

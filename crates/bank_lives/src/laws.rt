@@ -22,12 +22,14 @@ use store_rows::trees_law;
 /// Each call of a counter is a call of its life (`IsCall`), by what the trait `Counter` says of it. One that
 /// was answered acknowledges all of its commands, and one that was refused acknowledges none.
 pub fn calls_law<C: Counter>(_counter: &C)
-    ensures answered { (old new : _) (commands : List Command) → AreCommands commands → Takes (C.seen old) (C.seen new) commands
+    ensures answered { (old new : _) (commands : List Command) → AreCommands commands
+        → Takes (C.seen old) (C.seen new) commands
         → ((C.seen old).is_down → ⊥) → ((C.seen new).honest → (C.seen old).honest)
         → IsCall (C.seen old) (C.seen new) commands (length commands) }
     ensures refused { (fault : Told) (old new : _) (commands : List Command) → AreCommands commands
         → Refuses fault (C.seen old) (C.seen new) commands → ((C.seen old).is_down → fault ≡ Down)
-        → ((C.seen new).honest → (C.seen old).honest) → IsCall (C.seen old) (C.seen new) (given_to fault commands) 0 }
+        → ((C.seen new).honest → (C.seen old).honest)
+        → IsCall (C.seen old) (C.seen new) (given_to fault commands) 0 }
 {}
 
 /// At every moment of a life, everything that a stop may leave shows the log that the life began with and a
@@ -36,11 +38,13 @@ pub fn calls_law<C: Counter>(_counter: &C)
 pub fn life_law<C: Counter>(counter: &C)
     ensures given { (first : _) (given : List Command) (least : ℕ) → Life C.seen first counter.now given least
         → (least ≤ length given) × AreCommands given }
-    ensures left { (first : _) (log given : List Command) (least : ℕ) → Life C.seen first counter.now given least
+    ensures left { (first : _) (log given : List Command) (least : ℕ)
+        → Life C.seen first counter.now given least
         → StandsAt (C.seen first) log → (C.seen counter.now).honest
         → LeavesOnly (C.seen counter.now) (ShowsBeginning log given least) }
     // And a stop leaves something, so that there are such tables.
-    ensures something { (first : _) (log given : List Command) (least : ℕ) → Life C.seen first counter.now given least
+    ensures something { (first : _) (log given : List Command) (least : ℕ)
+        → Life C.seen first counter.now given least
         → StandsAt (C.seen first) log → (C.seen counter.now).honest
         → ∥ ((tables : Tables) × ShowsBeginning log given least tables) ∥₁ }
 {}
@@ -57,5 +61,6 @@ pub fn opened_law<S: Alter>(conn: &Connection<S>)
 /// The tables of every log of a bank's commands keep each of the seven rules of `Rule`, so that a file which
 /// breaks one of them holds no bank.
 pub fn rules_law()
-    ensures { (tables : Tables) (log : List Command) → AreCommands log → AreTablesOf tables log → (rule : Rule) → KeepsRule rule (stored_rows tables) }
+    ensures { (tables : Tables) (log : List Command) → AreCommands log → AreTablesOf tables log
+        → (rule : Rule) → KeepsRule rule (stored_rows tables) }
 {}

@@ -34,12 +34,15 @@ pub fn reopen<S: Alter + Drop, T: Alter>(
 ) -> Result<Bank<T>, Refused<T>>
     requires { conn.in_transaction ≡ false }
     ensures found { IfOk result (λ bank. (bank_seen T.Store bank).honest → Opens (state T.Store conn)
-        → (bank_seen S.Store stopped.now).honest → (bank_seen S.Store stopped.now).left (state T.Store conn).now.trees
+        → (bank_seen S.Store stopped.now).honest
+        → (bank_seen S.Store stopped.now).left (state T.Store conn).now.trees
         → (first : _) (log given : List Command) (least : ℕ) → StandsAt (bank_seen S.Store first) log
         → Life (λ bank. bank_seen S.Store bank) first stopped.now given least
         → IsFoundAgain (bank_seen T.Store bank) log given least) }
-    ensures missed { IfErr result (λ refused. HasCleanDisk (state T.Store refused.conn) → Opens (state T.Store conn)
-        → (bank_seen S.Store stopped.now).honest → (bank_seen S.Store stopped.now).left (state T.Store conn).now.trees
+    ensures missed { IfErr result (λ refused. HasCleanDisk (state T.Store refused.conn)
+        → Opens (state T.Store conn)
+        → (bank_seen S.Store stopped.now).honest
+        → (bank_seen S.Store stopped.now).left (state T.Store conn).now.trees
         → (first : _) (log given : List Command) (least : ℕ) → StandsAt (bank_seen S.Store first) log
         → Life (λ bank. bank_seen S.Store bank) first stopped.now given least
         → refused.fault ≡ OpenFault.Store) }

@@ -73,7 +73,8 @@ module _ {S X : Type 0} {So : Tables → Type 0} {after : Tables → Tables} {wa
   }
 
   -- whatever ended the call, a stop leaves none of the commands or all of them
-  pub none_or_all : (end : State) (D E : Type 0) → Survives (state g old) end (MayLeaveAfter (state g old) So after)
+  pub none_or_all : (end : State) (D E : Type 0)
+      → Survives (state g old) end (MayLeaveAfter (state g old) So after)
       → LeavesNoneOrAll (seen_in (state g old) D) (seen_in end E) cs
   none_or_all end D E survives = λ clean log at trees may.
       let s = at.shows in
@@ -167,7 +168,8 @@ refuses {S} {X} {So} {after} {wanted} {Met} g old mid new holds cs is are D e ke
     failed f keeps same =
         subst Refused (sym same)
         (cut_short holds cs is does are (state g new) D (IsSome kept) (kept_down kept f keeps)
-        (survives_then (state g old) (state g mid) (state g new) (MayLeaveAfter (state g old) So after) (λ _. ⊥)
+        (survives_then (state g old) (state g mid) (state g new) (MayLeaveAfter (state g old) So after)
+        (λ _. ⊥)
         (MayLeaveAfter (state g old) So after)
         (λ clean db h. h) (λ clean db none. absurd none) does.stop quiet))
 

@@ -43,7 +43,8 @@ refused_because old new e fault is (inr refused) taken =
     ]
 
 -- what is refused where nothing was changed is refused before
-pub refused_before : (old mid : State) → mid.now ≡ old.now → mid.step_limit ≡ old.step_limit → IsRefusedOnTheWay mid
+pub refused_before : (old mid : State) → mid.now ≡ old.now → mid.step_limit ≡ old.step_limit
+    → IsRefusedOnTheWay mid
     → IsRefusedOnTheWay old
 refused_before old mid now limit (e, db, other, inl one) = (
   e,

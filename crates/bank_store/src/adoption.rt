@@ -10,7 +10,8 @@ ghost use Rattle.sql_meanings.specs.Entries.{Entry};
 ghost use Rattle.store_rows.specs.SixTables.{meta as table};
 ghost use Rattle.store_rows.specs.View.{HoldsRows};
 ghost use Rattle.bank_store.specs.Opening.{conn_seen, state_in, ChecksMeta, KnowsCause, TellsMeta};
-ghost use Rattle.bank_store.specs.Opening.{IsReadOnly, IsUndoneIfOpen, IsUnread, IsOfOtherType, BankIsFound, SeeksBank};
+ghost use Rattle.bank_store.specs.Opening.{IsReadOnly, IsUndoneIfOpen, IsUnread, IsOfOtherType, BankIsFound};
+ghost use Rattle.bank_store.specs.Opening.{SeeksBank};
 ghost use Rattle.bank_store.specs.Opening.{Misses, IsAsBefore};
 ghost use Rattle.bank_store.specs.Seen.{bank_seen, connection_of};
 

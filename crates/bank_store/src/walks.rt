@@ -112,7 +112,8 @@ pub(crate) fn read_outside<S: Alter, R: WalkedRow>(
 
 impl<'bank, S: Alter, R: WalkedRow> Walk<'bank, S, R> {
     ghost use Rattle.bank_store.specs.Seen.{database_of, fault_of};
-    ghost use Rattle.bank_store.specs.Walking.{ComesFrom, GivesFrom, HasToldFault, IsEnded, IsToldFault, Steps};
+    ghost use Rattle.bank_store.specs.Walking.{ComesFrom, GivesFrom, HasToldFault, IsEnded, IsToldFault};
+    ghost use Rattle.bank_store.specs.Walking.{Steps};
     ghost use Rattle.bank_store.specs.Walking.{StoreFailed, items_to_come, lent, lent_state, loan_of};
     ghost use Rattle.bank_store.specs.declared.walks.Stage.TheVariants.{Going};
 

@@ -20,8 +20,10 @@ use Rattle.store_rows.specs.declared.fault.TableFault.{TableFault}
 use Rattle.store_rows.specs.declared.fault.TableFault.TheVariants.{Sqlite, Damaged}
 use Rattle.bank_transactions.proofs.Blamed.{blames_put, broken_or_met, comes, failed_here, met_after}
 use Rattle.bank_transactions.proofs.Blamed.{met_here}
-use Rattle.bank_transactions.specs.Doing.{GoesOnUncommitted, HasMetBetween, Damage, IsFirstBroken, IsBrokenOrMet, Blames}
-use Rattle.bank_transactions.specs.Doing.{CommitsNothing, ChangesNothing, LooksUp, LeavesAndAnswers, Reads, DoesBy, Does, Acts, expected}
+use Rattle.bank_transactions.specs.Doing.{GoesOnUncommitted, HasMetBetween, Damage, IsFirstBroken}
+use Rattle.bank_transactions.specs.Doing.{IsBrokenOrMet, Blames}
+use Rattle.bank_transactions.specs.Doing.{CommitsNothing, ChangesNothing, LooksUp, LeavesAndAnswers, Reads}
+use Rattle.bank_transactions.specs.Doing.{DoesBy, Does, Acts, expected}
 use Rattle.posting_rules.specs.declared.fault.Rule.{Rule}
 use Rattle.posting_rules.specs.declared.fault.Rule.TheVariants.{Meta, Teller, Account, Balance, Request}
 use Rattle.posting_rules.specs.declared.fault.Rule.TheVariants.{Value, Key}
@@ -29,10 +31,12 @@ use Rattle.posting_rules.specs.declared.fault.Rule.TheVariants.{Value, Key}
 -- ---- what goes on
 
 -- a transaction that goes on is in the transaction still
-pub still_in : (old new : State) → GoesOnUncommitted old new → IsTrue old.in_transaction → IsTrue new.in_transaction
+pub still_in : (old new : State) → GoesOnUncommitted old new → IsTrue old.in_transaction
+    → IsTrue new.in_transaction
 still_in old new on live = subst (λ (b : Bool). IsTrue b) (sym on.mode) live
 
-keeps_then : {X : Type 0} (old mid new : State) (r : Result X TableFault) → GoesOnUncommitted old mid → CommitsNothing mid new r
+keeps_then : {X : Type 0} (old mid new : State) (r : Result X TableFault) → GoesOnUncommitted old mid
+    → CommitsNothing mid new r
     → CommitsNothing old new r
 keeps_then old mid new (Ok x) on then = record {
   opened = λ h. on.opened (then.opened h);
@@ -177,7 +181,8 @@ looked old new t w (Ok x) shows told = (told.0, subst (λ (db : Database). Shows
 looked old new t w (Err (Sqlite e)) shows told = tt
 looked old new t w (Err (Damaged rule)) shows told = told
 
-pub look_keeps : {X : Type 0} (old new : State) (r : Result X TableFault) → ChangesNothing old new r → CommitsNothing old new r
+pub look_keeps : {X : Type 0} (old new : State) (r : Result X TableFault) → ChangesNothing old new r
+    → CommitsNothing old new r
 look_keeps old new (Ok x) looks = looks.goes_on
 look_keeps old new (Err e) looks = looks
 

@@ -14,7 +14,8 @@ use Rattle.store_rows.specs.View.{Shows, ShowsTrees}
 use Rattle.store_rows.specs.Failures.{Committing}
 use Rattle.store_rows.specs.declared.fault.TableFault.{TableFault}
 use Rattle.store_rows.specs.declared.fault.TableFault.TheVariants.{Sqlite, Damaged}
-use Rattle.bank_transactions.specs.Doing.{Acts, LeavesAndAnswers, Blames, Completes, Damage, DoesBy, Ends, EndsWith}
+use Rattle.bank_transactions.specs.Doing.{Acts, LeavesAndAnswers, Blames, Completes, Damage, DoesBy, Ends}
+use Rattle.bank_transactions.specs.Doing.{EndsWith}
 use Rattle.bank_transactions.specs.Doing.{CommitsNothing}
 use Rattle.bank_transactions.specs.Doing.{IsBefore, IsFirstBroken, MayLeaveAfter, MayCommit, Reads, Undoes}
 use Rattle.bank_transactions.specs.Doing.{Consults, Transacts, TransactsBy}
@@ -30,7 +31,8 @@ not_done last new after wanted (Damaged rule) told = told
 
 completes : {X : Type 0} (last new : State) (after : Tables) (wanted : X)
     (answer result : Result X TableFault)
-    → IfOk result (λ x. answer ≡ Ok x) → LeavesAndAnswers last after wanted answer → EndsWith last new answer result
+    → IfOk result (λ x. answer ≡ Ok x) → LeavesAndAnswers last after wanted answer
+    → EndsWith last new answer result
     → Completes new after wanted result
 completes last new after wanted (Ok x) (Ok y) given told ends =
     let same : y ≡ x = (let is = given in cc) in
@@ -52,7 +54,8 @@ undone_by X old last new (Damaged rule) settled kept back = λ is_open.
     (was_open, (back.undone is_open).0 ∙ kept.committed last_open ∙ sym (settled was_open))
 
 undoes : {X : Type 0} (old last new : State) (answer result : Result X TableFault)
-    → (IsTrue old.is_open → old.now ≡ old.committed) → CommitsNothing old last answer → EndsWith last new answer result
+    → (IsTrue old.is_open → old.now ≡ old.committed) → CommitsNothing old last answer
+    → EndsWith last new answer result
     → Undoes old new result
 undoes old last new (Ok x) (Ok y) settled kept ends = tt
 undoes old last new (Ok x) (Err (Sqlite e)) settled kept ends = tt
@@ -107,7 +110,8 @@ module _ {S X : Type 0} {Met : Damage S} {So : Tables → Type 0} {after : Table
   told_so clean t shows so = does.says.told clean (rw is refl) t (rw is shows) so
 
   kept_so : HasCleanDisk (state g last.conn.now)
-      → CommitsNothing (state g start) (state g last.conn.now) answer × Blames Met g start last.conn.now answer
+      → CommitsNothing (state g start) (state g last.conn.now) answer
+      × Blames Met g start last.conn.now answer
   kept_so clean =
       subst (λ (h : Held S). CommitsNothing (state g h) (state g last.conn.now) answer
       × Blames Met g h last.conn.now answer) is

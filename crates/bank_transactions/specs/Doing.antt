@@ -96,7 +96,8 @@ abbrev pub Reads : {S X : Type 0} → Ghosts S → Transaction S → Transaction
 Reads g old new wanted result =
     Says g old new
     (OfTables (λ before now tables. IsUndamaged tables → LooksUp before now (wanted tables) result))
-    (λ before now. ChangesNothing before now result × Blames (IsFirstBroken g) g old.conn.now new.conn.now result)
+    (λ before now. ChangesNothing before now result
+    × Blames (IsFirstBroken g) g old.conn.now new.conn.now result)
 
 -- ---- a part that writes
 
@@ -122,8 +123,10 @@ pub record DoesBy {S X : Type 0} (Met : Damage S) (g : Ghosts S) (old new : Tran
     (So : Tables → Type 0) (after : Tables → Tables)
     (wanted : Tables → X) (result : Result X TableFault) : Type 0 where
   pub says : Says g old new
-      (Inside (OfTables (λ before now tables. So tables → LeavesAndAnswers now (after tables) (wanted tables) result)))
-      (Inside (λ before now. CommitsNothing before now result × Blames Met g old.conn.now new.conn.now result))
+      (Inside (OfTables (λ before now tables. So tables
+      → LeavesAndAnswers now (after tables) (wanted tables) result)))
+      (Inside (λ before now. CommitsNothing before now result
+      × Blames Met g old.conn.now new.conn.now result))
 
 -- a part that only writes: damage was met by a statement as it wrote
 abbrev pub Does : {S X : Type 0} → Ghosts S → Transaction S → Transaction S → (Tables → Type 0)

@@ -1,5 +1,7 @@
 -- Room that is filled with rows and what stands beside them.
-use Rattle.std.proofs.Common.{◌≡◌, ◌⊎◌, ◌≤ℤ◌, ◌+ℤ◌, drop, slice_get, Ok, Err, Result, ℤ, pos, List, [], ◌∷◌, ◌++◌, map, filter, Bool, Some, None, Option, refl, sym, ap, subst, ◌∙◌, inl, inr}
+use Rattle.std.proofs.Common.{◌≡◌, ◌⊎◌, ◌≤ℤ◌, ◌+ℤ◌, drop, slice_get, Ok, Err, Result, ℤ, pos, List, [], ◌∷◌}
+use Rattle.std.proofs.Common.{◌++◌, map, filter, Bool, Some, None, Option, refl, sym, ap, subst, ◌∙◌, inl}
+use Rattle.std.proofs.Common.{inr}
 use Rattle.std.specs.Prelude.{IfOk, IsSome, OnOk, IsSomeAnd, MatchResult}
 use Rattle.sqlite.specs.State.{State, IsUnchanged, Survives}
 use Rattle.sqlite.specs.State.{Shows as StateShows}
@@ -13,7 +15,8 @@ use Rattle.sql_meanings.proofs.Afterwards.{fails_since, rolled_since}
 use Rattle.store_rows.specs.declared.fault.TableFault.{TableFault}
 use Rattle.store_rows.specs.declared.fault.TableFault.TheVariants.{Sqlite, Damaged}
 use Rattle.bank_walks.specs.Outcomes.{BreaksFirst}
-use Rattle.bank_walks.specs.Pairs.{AreJoined, BreaksPair, BreaksUnder, Pair, pair_key, pair_of, pair_with, paired, row_under}
+use Rattle.bank_walks.specs.Pairs.{AreJoined, BreaksPair, BreaksUnder, Pair, pair_key, pair_of, pair_with}
+use Rattle.bank_walks.specs.Pairs.{paired, row_under}
 use Rattle.bank_walks.specs.Rising.{RisesFrom}
 use Rattle.bank_walks.specs.Rows.{items_behind, items_from, rows_from}
 use Rattle.bank_walks.specs.declared.joined.Joined.{Joined}
@@ -27,7 +30,8 @@ pub first_is : {R : Type 0} (rs : List R) (r : R) → Some r ≡ slice_get rs 0 
 first_is [] r at = absurd (cc)
 first_is (x ∷ rs) r at = ap (λ y. y ∷ rs) (let it = at in cc)
 
-module _ {R : Type 0} (key : R → ℤ) (from : ℤ) (rs more : List R) (r : R) (rest : Option ℤ) (is : rs ≡ r ∷ more)
+module _ {R : Type 0} (key : R → ℤ) (from : ℤ) (rs more : List R) (r : R) (rest : Option ℤ)
+    (is : rs ≡ r ∷ more)
     (rises : RisesFrom from (map key rs) rest) where
   both : (from ≤ℤ key r) × RisesFrom (key r +ℤ pos 1) (map key more) rest
   both = subst (λ l. RisesFrom from (map key l) rest) is rises
@@ -35,37 +39,52 @@ module _ {R : Type 0} (key : R → ℤ) (from : ℤ) (rs more : List R) (r : R) 
   -- they rise from its key on
   pub rises_itself : (start : ℤ) → start ≡ key r → RisesFrom start (map key rs) rest
   rises_itself start at =
-      subst (λ k. RisesFrom k (map key rs) rest) (sym at) (subst (λ l. RisesFrom (key r) (map key l) rest) (sym is) (le_itself (key r), both.1))
+      subst (λ k. RisesFrom k (map key rs) rest) (sym at)
+      (subst (λ l. RisesFrom (key r) (map key l) rest) (sym is) (le_itself (key r), both.1))
 
   -- so do others that rise from its key on
-  pub rises_too : {J E : Type 0} (other : J → ℤ) (start : ℤ) → start ≡ key r → (js : List J) (result : Result (Option ℤ) E)
-      → IfOk result (λ next. RisesFrom start (map other js) next) → IfOk result (λ next. RisesFrom from (map other js) next)
+  pub rises_too : {J E : Type 0} (other : J → ℤ) (start : ℤ) → start ≡ key r
+      → (js : List J) (result : Result (Option ℤ) E)
+      → IfOk result (λ next. RisesFrom start (map other js) next)
+      → IfOk result (λ next. RisesFrom from (map other js) next)
   rises_too other start at js (Ok next) h =
       from_lower other from start js next (subst (λ k. from ≤ℤ k) (sym at) both.0) h
   rises_too other start at js (Err e) h = h
 
 -- ---- from the first on
 
-pub from_first : (base : List Entry) → Rise base → (from start : ℤ) (e : Entry) (more : List Entry) → rows_from from base ≡ e ∷ more
+pub from_first : (base : List Entry) → Rise base → (from start : ℤ) (e : Entry) (more : List Entry)
+    → rows_from from base ≡ e ∷ more
     → start ≡ e.key → rows_from from base ≡ rows_from start base
-from_first base rise from start e more is at = from_its_key from base e more rise is ∙ ap (λ k. rows_from k base) (sym at)
+from_first base rise from start e more is at = from_its_key from base e more rise is
+    ∙ ap (λ k. rows_from k base) (sym at)
 
-module _ {R O : Type 0} (entry : R → Entry) (other : O → Entry) (others base : List Entry) (rise : Rise base) (from start : ℤ) (e : Entry)
+module _ {R O : Type 0} (entry : R → Entry) (other : O → Entry) (others base : List Entry) (rise : Rise base)
+    (from start : ℤ) (e : Entry)
     (more : List Entry) (is : rows_from from base ≡ e ∷ more) (at : start ≡ e.key) where
   -- those that were joined
-  pub joined_first : (done : List (Joined R O)) (next : Option ℤ) → AreJoined entry other others base start done next
+  pub joined_first : (done : List (Joined R O)) (next : Option ℤ)
+      → AreJoined entry other others base start done next
       → AreJoined entry other others base from done next
   joined_first done next h = ap (paired others) (from_first base rise from start e more is at) ∙ h
 
-module _ (others base : List Entry) (from start : ℤ) (e : Entry) (more : List Entry) (is : rows_from from base ≡ e ∷ more)
+module _ (others base : List Entry) (from start : ℤ) (e : Entry) (more : List Entry)
+    (is : rows_from from base ≡ e ∷ more)
     (at : start ≡ e.key) where
   -- the one beside the first can't be read
   pub breaks_first : (Because : Error → Type 0) (Breaks BreaksOther : Entry → Type 0) (fault : TableFault)
       → BreaksUnder Because BreaksOther start others fault
       → BreaksFirst Because (BreaksPair Breaks BreaksOther) (paired others (rows_from from base)) fault
   breaks_first Because Breaks BreaksOther (Sqlite x) h = h
-  breaks_first Because Breaks BreaksOther (Damaged broken) h =
-      (h.0, (pair_with others e, paired others more, ap (paired others) is, inr (subst (λ k. IsSomeAnd (row_under others k) BreaksOther) at h.1)))
+  breaks_first Because Breaks BreaksOther (Damaged broken) h = (
+    h.0,
+    (
+      pair_with others e,
+      paired others more,
+      ap (paired others) is,
+      inr (subst (λ k. IsSomeAnd (row_under others k) BreaksOther) at h.1),
+    ),
+  )
 
 -- something was joined
 pub none_joined : {J E : Type 0} (js : List J) (result : Result (Option ℤ) E) → OnOk result (js ≡ [] → ⊥)
@@ -75,35 +94,48 @@ none_joined js (Err e) some = some
 
 -- ---- pairs that are given
 
-module _ {R O : Type 0} (entry : R → Entry) (other : O → Entry) (others rows : List Entry) (q : Entry → Bool) (pairs : List Pair)
+module _ {R O : Type 0} (entry : R → Entry) (other : O → Entry) (others rows : List Entry) (q : Entry → Bool)
+    (pairs : List Pair)
     (are : pairs ≡ paired others rows) (from : ℤ) where
   abbrev given : List Pair
   given = filter (λ p. q p.entry) pairs
 
   -- as far as they were joined
-  pub filled : (done : List (Joined R O)) (next : Option ℤ) → AreJoined entry other others (filter q rows) from done next
+  pub filled : (done : List (Joined R O)) (next : Option ℤ)
+      → AreJoined entry other others (filter q rows) from done next
       → items_from pair_key from given ≡ map (pair_of entry other) done ++ items_behind pair_key next given
   filled done next h =
       pairs_from others rows q pairs are from ∙ h
       ∙ ap (λ l. map (pair_of entry other) done ++ l) (sym (pairs_behind others rows q pairs are next))
 
-module _ (others rows : List Entry) (q : Entry → Bool) (pairs : List Pair) (are : pairs ≡ paired others rows) (from : ℤ)
+module _ (others rows : List Entry) (q : Entry → Bool) (pairs : List Pair) (are : pairs ≡ paired others rows)
+    (from : ℤ)
     (Because : Error → Type 0) (Breaks BreaksOther : Entry → Type 0) where
   -- the first row can't be read
   pub breaks_own : (fault : TableFault) → BreaksFirst Because Breaks (rows_from from (filter q rows)) fault
-      → BreaksFirst Because (BreaksPair Breaks BreaksOther) (items_from pair_key from (filter (λ p. q p.entry) pairs)) fault
+      → BreaksFirst Because (BreaksPair Breaks BreaksOther)
+      (items_from pair_key from (filter (λ p. q p.entry) pairs)) fault
   breaks_own (Sqlite e) h = h
   breaks_own (Damaged broken) h = (
     h.0,
-    (pair_with others h.1.0, paired others h.1.1, pairs_from others rows q pairs are from ∙ ap (paired others) h.1.2, inl h.1.3),
+    (
+      pair_with others h.1.0,
+      paired others h.1.1,
+      pairs_from others rows q pairs are from
+          ∙ ap (paired others) h.1.2,
+      inl h.1.3,
+    ),
   )
 
   -- the first pair can't be read
   pub breaks_given : (Before : Error → Type 0) → ((e : Error) → Before e → Because e) → (fault : TableFault)
-      → BreaksFirst Before (BreaksPair Breaks BreaksOther) (paired others (rows_from from (filter q rows))) fault
-      → BreaksFirst Because (BreaksPair Breaks BreaksOther) (items_from pair_key from (filter (λ p. q p.entry) pairs)) fault
+      → BreaksFirst Before (BreaksPair Breaks BreaksOther)
+      (paired others (rows_from from (filter q rows))) fault
+      → BreaksFirst Because (BreaksPair Breaks BreaksOther)
+      (items_from pair_key from (filter (λ p. q p.entry) pairs)) fault
   breaks_given Before then (Sqlite e) h = then e h
-  breaks_given Before then (Damaged broken) h = (h.0, (h.1.0, h.1.1, pairs_from others rows q pairs are from ∙ h.1.2, h.1.3))
+  breaks_given Before then (Damaged broken) h =
+      (h.0, (h.1.0, h.1.1, pairs_from others rows q pairs are from ∙ h.1.2, h.1.3))
 
 -- ---- two reads, one after the other
 
@@ -122,15 +154,19 @@ module _ (a b c : State) (same : IsUnchanged a b) where
   fails_both (inr back) = inr (rolled_since a b c a.in_transaction shows_mid same.1 back)
 
   pub store_both : Survives a b (λ _. ⊥) → (e : Error) → IsStoreError b c e → IsStoreError a c e
-  store_both survives e (inl fails) = inl (fails_since a b c ⊥ ⊥ (λ x. x) e a.in_transaction shows_mid same.1 survives.counts fails)
+  store_both survives e (inl fails) =
+      inl (fails_since a b c ⊥ ⊥ (λ x. x) e a.in_transaction shows_mid same.1 survives.counts fails)
   store_both survives e (inr kept) = inr (why kept.0, unchanged_then a b c same kept.1)
     where
-      why : ((e ≡ SqliteFailure OutOfMemory) ⊎ ((e ≡ SqliteFailure OperationInterrupted) × IsSome b.step_limit))
-          → ((e ≡ SqliteFailure OutOfMemory) ⊎ ((e ≡ SqliteFailure OperationInterrupted) × IsSome a.step_limit))
+      why : ((e ≡ SqliteFailure OutOfMemory)
+          ⊎ ((e ≡ SqliteFailure OperationInterrupted) × IsSome b.step_limit))
+          → ((e ≡ SqliteFailure OutOfMemory)
+          ⊎ ((e ≡ SqliteFailure OperationInterrupted) × IsSome a.step_limit))
       why (inl memory) = inl memory
       why (inr steps) = inr (steps.0, subst IsSome survives.limit steps.1)
 
-pub match_both : {X E : Type 0} (P P' : X → Type 0) (Q Q' : E → Type 0) (r : Result X E) → ((x : X) → P x → P' x) → ((e : E) → Q e → Q' e)
+pub match_both : {X E : Type 0} (P P' : X → Type 0) (Q Q' : E → Type 0) (r : Result X E)
+    → ((x : X) → P x → P' x) → ((e : E) → Q e → Q' e)
     → MatchResult r P Q → MatchResult r P' Q'
 match_both P P' Q Q' (Ok x) f h m = f x m
 match_both P P' Q Q' (Err e) f h m = h e m

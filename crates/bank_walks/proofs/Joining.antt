@@ -1,12 +1,15 @@
 -- Rows with what stands beside them in another table.
-use Rattle.std.proofs.Common.{◌≡◌, ◌≤◌, ℕ, zero, suc, drop, length, ◌<ℤ◌, ◌≤ℤ◌, ◌+ℤ◌, ℤ, pos, List, [], ◌∷◌, ◌++◌, map, filter, find, cond, Bool, true, false, Some, None, Option, int_cmp, refl, sym, ap, ◌∙◌, inl, inr, arith}
+use Rattle.std.proofs.Common.{◌≡◌, ◌≤◌, ℕ, zero, suc, drop, length, ◌<ℤ◌, ◌≤ℤ◌, ◌+ℤ◌, ℤ, pos, List, [], ◌∷◌}
+use Rattle.std.proofs.Common.{◌++◌, map, filter, find, cond, Bool, true, false, Some, None, Option, int_cmp}
+use Rattle.std.proofs.Common.{refl, sym, ap, ◌∙◌, inl, inr, arith}
 use Rattle.std.specs.Prelude.{IfSome, option_map}
 use Rattle.std.specs.Ordering.{int_eq, is_ge}
 use Rattle.std.proofs.lemmas.Bool.{cases_Bool}
 use Rattle.std.proofs.lemmas.Int.{ints}
 use Rattle.sql_meanings.specs.Entries.{Entry, Rise, has_key}
 use Rattle.sql_meanings.specs.Seeks.{is_from}
-use Rattle.bank_walks.specs.Pairs.{AreJoined, ComesBefore, Pair, pair_key, pair_of, pair_with, paired, row_under}
+use Rattle.bank_walks.specs.Pairs.{AreJoined, ComesBefore, Pair, pair_key, pair_of, pair_with, paired}
+use Rattle.bank_walks.specs.Pairs.{row_under}
 use Rattle.bank_walks.specs.Rows.{items_behind, items_from, rows_behind, rows_from}
 use Rattle.bank_walks.specs.declared.joined.Joined.{Joined}
 use Rattle.bank_walks.proofs.Gathering.{first_left, found_of}
@@ -28,7 +31,8 @@ under_from start k (e ∷ es) low = elim (cases_Bool (is_from start e)) [
 ]
 
 -- isn't one of those from a higher number on
-not_behind : (behind : Option ℤ) (k : ℤ) (es : List Entry) → ComesBefore behind k → row_under (rows_behind behind es) k ≡ None
+not_behind : (behind : Option ℤ) (k : ℤ) (es : List Entry) → ComesBefore behind k
+    → row_under (rows_behind behind es) k ≡ None
 not_behind None k es decided = refl
 not_behind (Some b) k [] decided = refl
 not_behind (Some b) k (e ∷ es) decided = elim (cases_Bool (is_from b e)) [
@@ -41,7 +45,8 @@ find_left p [] ys none = none
 find_left p (x ∷ xs) ys none = ap (λ t. cond (p x) (Some x) t) (find_left p xs ys none)
 
 -- is found among those that were read ahead, where they decide it
-pub beside_is : (others : List Entry) (start k : ℤ) (read : List Entry) (behind : Option ℤ) → rows_from start others ≡ read ++ rows_behind behind others
+pub beside_is : (others : List Entry) (start k : ℤ) (read : List Entry) (behind : Option ℤ)
+    → rows_from start others ≡ read ++ rows_behind behind others
     → start ≤ℤ k → ComesBefore behind k → row_under others k ≡ row_under read k
 beside_is others start k read behind told low decided =
     under_from start k others low ∙ ap (λ es. row_under es k) told
@@ -50,7 +55,8 @@ beside_is others start k read behind told low decided =
 -- ---- pairs
 
 -- a test of rows is one of their pairs
-pub paired_filter : (others : List Entry) (q : Entry → Bool) (es : List Entry) → filter (λ p. q p.entry) (paired others es) ≡ paired others (filter q es)
+pub paired_filter : (others : List Entry) (q : Entry → Bool) (es : List Entry)
+    → filter (λ p. q p.entry) (paired others es) ≡ paired others (filter q es)
 paired_filter others q [] = refl
 paired_filter others q (e ∷ es) = elim (cases_Bool (q e)) [
   | inl here ↦ rw here (ap (λ l. pair_with others e ∷ l) (paired_filter others q es))
@@ -58,14 +64,18 @@ paired_filter others q (e ∷ es) = elim (cases_Bool (q e)) [
 ]
 
 -- the pairs from a number on are those of the rows
-pub pairs_from : (others es : List Entry) (q : Entry → Bool) (pairs : List Pair) → pairs ≡ paired others es → (k : ℤ)
+pub pairs_from : (others es : List Entry) (q : Entry → Bool) (pairs : List Pair) → pairs ≡ paired others es
+    → (k : ℤ)
     → items_from pair_key k (filter (λ p. q p.entry) pairs) ≡ paired others (rows_from k (filter q es))
 pairs_from others es q pairs are k =
-    ap (λ ps. items_from pair_key k (filter (λ p. q p.entry) ps)) are ∙ ap (items_from pair_key k) (paired_filter others q es)
+    ap (λ ps. items_from pair_key k (filter (λ p. q p.entry) ps)) are
+    ∙ ap (items_from pair_key k) (paired_filter others q es)
     ∙ paired_filter others (is_from k) (filter q es)
 
-pub pairs_behind : (others es : List Entry) (q : Entry → Bool) (pairs : List Pair) → pairs ≡ paired others es → (rest : Option ℤ)
-    → items_behind pair_key rest (filter (λ p. q p.entry) pairs) ≡ paired others (rows_behind rest (filter q es))
+pub pairs_behind : (others es : List Entry) (q : Entry → Bool) (pairs : List Pair) → pairs ≡ paired others es
+    → (rest : Option ℤ)
+    → items_behind pair_key rest (filter (λ p. q p.entry) pairs)
+    ≡ paired others (rows_behind rest (filter q es))
 pairs_behind others es q pairs are None = refl
 pairs_behind others es q pairs are (Some k) = pairs_from others es q pairs are k
 
@@ -74,20 +84,26 @@ pairs_behind others es q pairs are (Some k) = pairs_from others es q pairs are k
 same_rest : (x y : Entry) (xs ys : List Entry) → x ∷ xs ≡ y ∷ ys → xs ≡ ys
 same_rest x y xs ys e = cc
 
-module _ {R O : Type 0} (entry : R → Entry) (other : O → Entry) (others base : List Entry) (rise : Rise base) (start : ℤ) where
+module _ {R O : Type 0} (entry : R → Entry) (other : O → Entry) (others base : List Entry) (rise : Rise base)
+    (start : ℤ) where
   abbrev SoFar : List (Joined R O) → ℤ → Type 0
   SoFar done next = AreJoined entry other others base start done (Some next)
 
   -- one more
-  pub joins_on : (done : List (Joined R O)) (next : ℤ) (r : R) (o : Option O) (more : List Entry) → SoFar done next
+  pub joins_on : (done : List (Joined R O)) (next : ℤ) (r : R) (o : Option O) (more : List Entry)
+      → SoFar done next
       → rows_from next base ≡ entry r ∷ more → option_map other o ≡ row_under others (entry r).key
-      → (rows_from ((entry r).key +ℤ pos 1) base ≡ more) × SoFar (done ++ record { stored = r; beside = o } ∷ []) ((entry r).key +ℤ pos 1)
+      → (rows_from ((entry r).key +ℤ pos 1) base ≡ more)
+      × SoFar (done ++ record { stored = r; beside = o } ∷ []) ((entry r).key +ℤ pos 1)
   joins_on done next r o more so_far is found =
       let left = first_left next base (entry r) rise (found_of (is_from next) base (entry r) more is) in
       let after = rows_from ((entry r).key +ℤ pos 1) base in (
         same_rest (entry r) (entry r) after more (sym left ∙ is),
         so_far ∙ ap (λ l. map (pair_of entry other) done ++ paired others l) left
-            ∙ ap (λ b. map (pair_of entry other) done ++ record { entry = entry r; beside = b } ∷ paired others after) (sym found)
+            ∙ ap (λ b. map (pair_of entry other) done ++ record {
+              entry = entry r;
+              beside = b;
+            } ∷ paired others after) (sym found)
             ∙ behind done (paired others after),
       )
     where

@@ -13,6 +13,7 @@ module _ {X : Type 0} (key : X → ℤ) where
   keys_filter p [] all = all
   keys_filter p (x ∷ items) all = go (p x) (keys_filter p items all.1)
     where
-      go : (b : Bool) → HaveKeys key (filter p items) → HaveKeys key (cond b (x ∷ filter p items) (filter p items))
+      go : (b : Bool) → HaveKeys key (filter p items)
+          → HaveKeys key (cond b (x ∷ filter p items) (filter p items))
       go true more = (all.0, more)
       go false more = more

@@ -12,7 +12,8 @@ same_number : (a b : ℤ) → Int a ≡ Int b → b ≡ a
 same_number a b e = cc
 
 -- the number of a column of such a row
-column_is : (row : Row) (zs : List ℤ) (k : ℕ) → row ≡ numbers zs → k < length zs → column row k ≡ Int (get_or zs k (pos 0))
+column_is : (row : Row) (zs : List ℤ) (k : ℕ) → row ≡ numbers zs → k < length zs
+    → column row k ≡ Int (get_or zs k (pos 0))
 column_is row zs k is within = ap (λ r. column r k) is ∙ get_or-map (λ n. Int n) zs k (pos 0) Null within
 
 -- all of them were read
@@ -23,7 +24,10 @@ numbers_are count row ns long each = λ zs is wide.
     (λ i low. same_number _ _ (sym (column_is row zs i is (omega arith)) ∙ each i (omega arith)))
 
 -- one wasn't
-pub number_fails : (count at : ℕ) (row : Row) (fault : TableFault) → at < count → ReadsNumber (column row at) (Err fault)
+pub number_fails : (count at : ℕ) (row : Row) (fault : TableFault) → at < count
+    → ReadsNumber (column row at) (Err fault)
     → ReadsNumbers count row (Err fault)
-number_fails count at row (Sqlite e) low failed = λ zs is wide. failed _ (column_is row zs at is (omega arith))
-number_fails count at row (Damaged broken) low failed = λ zs is wide. failed.1 _ (column_is row zs at is (omega arith))
+number_fails count at row (Sqlite e) low failed =
+    λ zs is wide. failed _ (column_is row zs at is (omega arith))
+number_fails count at row (Damaged broken) low failed =
+    λ zs is wide. failed.1 _ (column_is row zs at is (omega arith))

@@ -11,7 +11,8 @@ pub shows_one : (params : Row) (e : Entry) → length e.values ≡ 1
 shows_one params e wide = go e.key e.values wide
   where
     go : (k : ℤ) (vs : List ℤ) → length vs ≡ 1
-        → eval_all (col 1 0 ∷ col 1 2 ∷ []) (params ∷ stored (record { key = k; values = vs }) ∷ []) ≡ numbers (k ∷ vs)
+        → eval_all (col 1 0 ∷ col 1 2 ∷ []) (params ∷ stored (record { key = k; values = vs }) ∷ [])
+        ≡ numbers (k ∷ vs)
     go k [] h = absurd (omega arith)
     go k (a ∷ []) h = refl
     go k (a ∷ b ∷ vs) h = absurd (omega arith)
@@ -22,7 +23,8 @@ pub shows_two : (params : Row) (e : Entry) → length e.values ≡ 2
 shows_two params e wide = go e.key e.values wide
   where
     go : (k : ℤ) (vs : List ℤ) → length vs ≡ 2
-        → eval_all (col 1 0 ∷ col 1 2 ∷ col 1 3 ∷ []) (params ∷ stored (record { key = k; values = vs }) ∷ []) ≡ numbers (k ∷ vs)
+        → eval_all (col 1 0 ∷ col 1 2 ∷ col 1 3 ∷ []) (params ∷ stored (record { key = k; values = vs }) ∷ [])
+        ≡ numbers (k ∷ vs)
     go k [] h = absurd (omega arith)
     go k (a ∷ []) h = absurd (omega arith)
     go k (a ∷ b ∷ []) h = refl
@@ -30,11 +32,13 @@ shows_two params e wide = go e.key e.values wide
 
 -- five
 pub shows_five : (params : Row) (e : Entry) → length e.values ≡ 5
-    → eval_all (col 1 0 ∷ col 1 2 ∷ col 1 3 ∷ col 1 4 ∷ col 1 5 ∷ col 1 6 ∷ []) (params ∷ stored e ∷ []) ≡ numbers (all_numbers e)
+    → eval_all (col 1 0 ∷ col 1 2 ∷ col 1 3 ∷ col 1 4 ∷ col 1 5 ∷ col 1 6 ∷ []) (params ∷ stored e ∷ [])
+    ≡ numbers (all_numbers e)
 shows_five params e wide = go e.key e.values wide
   where
     go : (k : ℤ) (vs : List ℤ) → length vs ≡ 5
-        → eval_all (col 1 0 ∷ col 1 2 ∷ col 1 3 ∷ col 1 4 ∷ col 1 5 ∷ col 1 6 ∷ []) (params ∷ stored (record { key = k; values = vs }) ∷ [])
+        → eval_all (col 1 0 ∷ col 1 2 ∷ col 1 3 ∷ col 1 4 ∷ col 1 5 ∷ col 1 6 ∷ [])
+        (params ∷ stored (record { key = k; values = vs }) ∷ [])
         ≡ numbers (k ∷ vs)
     go k [] h = absurd (omega arith)
     go k (a ∷ []) h = absurd (omega arith)
@@ -46,7 +50,8 @@ shows_five params e wide = go e.key e.values wide
 
 -- seven
 pub shows_seven : (params : Row) (e : Entry) → length e.values ≡ 7
-    → eval_all (col 1 0 ∷ col 1 2 ∷ col 1 3 ∷ col 1 4 ∷ col 1 5 ∷ col 1 6 ∷ col 1 7 ∷ col 1 8 ∷ []) (params ∷ stored e ∷ [])
+    → eval_all (col 1 0 ∷ col 1 2 ∷ col 1 3 ∷ col 1 4 ∷ col 1 5 ∷ col 1 6 ∷ col 1 7 ∷ col 1 8 ∷ [])
+    (params ∷ stored e ∷ [])
     ≡ numbers (all_numbers e)
 shows_seven params e wide = go e.key e.values wide
   where

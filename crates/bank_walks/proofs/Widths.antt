@@ -35,11 +35,15 @@ eight (a ∷ b ∷ c ∷ d ∷ e ∷ f ∷ ns) h =
 
 -- six numbers as a row
 pub six_are : (ns : List ℤ) (k last : ℤ) → length ns ≡ 6 → at ns 0 ≡ k → at ns 5 ≡ last
-    → (let it : Entry = record { key = k; values = at ns 1 ∷ at ns 2 ∷ at ns 3 ∷ at ns 4 ∷ last ∷ [] } in it) ≡ entry_of ns
+    → (let it : Entry = record { key = k; values = at ns 1 ∷ at ns 2 ∷ at ns 3 ∷ at ns 4 ∷ last ∷ [] } in it)
+    ≡ entry_of ns
 six_are ns k last wide first fifth = rw (← first, ← fifth) (ap entry_of (sym (six ns wide)))
 
 -- eight numbers as a row
 pub eight_are : (ns : List ℤ) (k : ℤ) → length ns ≡ 8 → at ns 0 ≡ k
-    → (let it : Entry = record { key = k; values = at ns 1 ∷ at ns 2 ∷ at ns 3 ∷ at ns 4 ∷ at ns 5 ∷ at ns 6 ∷ at ns 7 ∷ [] } in it)
+    → (let it : Entry = record {
+      key = k;
+      values = at ns 1 ∷ at ns 2 ∷ at ns 3 ∷ at ns 4 ∷ at ns 5 ∷ at ns 6 ∷ at ns 7 ∷ [];
+    } in it)
     ≡ entry_of ns
 eight_are ns k wide first = rw (← first) (ap entry_of (sym (eight ns wide)))

@@ -1,5 +1,6 @@
 -- What is read of a row, and what a step of a walk meets.
-use Rattle.std.specs.Prelude.{◌≡◌, ℕ, ℤ, pos, true, List, [], ◌∷◌, length, map, Option, Some, None, Result, Ok, Err}
+use Rattle.std.specs.Prelude.{◌≡◌, ℕ, ℤ, pos, true, List, [], ◌∷◌, length, map, Option, Some, None, Result}
+use Rattle.std.specs.Prelude.{Ok, Err}
 use Rattle.sqlite.specs.Order.{Row}
 use Rattle.sqlite.specs.declared.error.Error.{Error}
 use Rattle.sqlite.specs.declared.error.Error.TheVariants.{SqliteFailure}
@@ -28,9 +29,11 @@ abbrev pub Stores : {R : Type 0} → (R → Entry) → (Entry → Type 0) → Li
 Stores entry Breaks ns (Some r) = entry r ≡ entry_of ns
 Stores entry Breaks ns None = Breaks (entry_of ns)
 
--- of a row of so many numbers behind the key: what it is; or memory was refused; or a number is out of its range
+-- of a row of so many numbers behind the key: what it is; or memory was refused; or a number is out of its
+-- range
 abbrev pub ReadsEntry : {R : Type 0} → ℕ → (R → Entry) → (Entry → Type 0) → Row → Result R TableFault → Type 0
-ReadsEntry width entry Breaks row (Ok r) = (e : Entry) → row ≡ numbers (all_numbers e) → length e.values ≡ width → entry r ≡ e
+ReadsEntry width entry Breaks row (Ok r) = (e : Entry) → row ≡ numbers (all_numbers e)
+    → length e.values ≡ width → entry r ≡ e
 ReadsEntry width entry Breaks row (Err (Sqlite x)) =
     (e : Entry) → row ≡ numbers (all_numbers e) → length e.values ≡ width → IsRefusedMemory x
 ReadsEntry width entry Breaks row (Err (Damaged broken)) =
@@ -41,15 +44,19 @@ abbrev pub shown : List Entry → List Row
 shown = map (λ e. numbers (all_numbers e))
 
 -- The same of a row whose key is a number or above it: the key of what was read is that number or above it.
-abbrev pub ReadsNext : {R : Type 0} → ℕ → (R → Entry) → (Entry → Type 0) → ℤ → Row → Result R TableFault → Type 0
+abbrev pub ReadsNext : {R : Type 0} → ℕ → (R → Entry) → (Entry → Type 0) → ℤ → Row → Result R TableFault
+    → Type 0
 ReadsNext width entry Breaks next row (Ok r) =
-    ((e : Entry) → row ≡ numbers (all_numbers e) → length e.values ≡ width → entry r ≡ e) × (is_from next (entry r) ≡ true)
+    ((e : Entry) → row ≡ numbers (all_numbers e) → length e.values ≡ width → entry r ≡ e)
+    × (is_from next (entry r) ≡ true)
 ReadsNext width entry Breaks next row (Err (Sqlite x)) =
     (e : Entry) → row ≡ numbers (all_numbers e) → length e.values ≡ width → IsRefusedMemory x
 ReadsNext width entry Breaks next row (Err (Damaged broken)) =
-    (e : Entry) → row ≡ numbers (all_numbers e) → length e.values ≡ width → is_from next e ≡ true → (broken ≡ rule.Value) × Breaks e
+    (e : Entry) → row ≡ numbers (all_numbers e) → length e.values ≡ width → is_from next e ≡ true
+    → (broken ≡ rule.Value) × Breaks e
 
 -- an error of the store of which this holds, or a number of the first to come is out of its range
 abbrev pub BreaksFirst : {X : Type 0} → (Error → Type 0) → (X → Type 0) → List X → TableFault → Type 0
 BreaksFirst Failed Breaks to_come (Sqlite e) = Failed e
-BreaksFirst {X} Failed Breaks to_come (Damaged broken) = (broken ≡ rule.Value) × ((x : X) × (more : List X) × (to_come ≡ x ∷ more) × Breaks x)
+BreaksFirst {X} Failed Breaks to_come (Damaged broken) = (broken ≡ rule.Value)
+    × ((x : X) × (more : List X) × (to_come ≡ x ∷ more) × Breaks x)

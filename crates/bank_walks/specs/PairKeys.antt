@@ -12,5 +12,7 @@ keys_of_pairs others [] all = all
 keys_of_pairs others (e ∷ rows) all = (all.0, keys_of_pairs others rows all.1)
 
 -- their keys are those of the rows
-pub pairs_have_keys : (db : Database) (table other : Table) (pairs : List Pair) → HasPairs db table other pairs → HaveKeys pair_key pairs
-pairs_have_keys db table other pairs has = subst (HaveKeys pair_key) (sym has.are) (keys_of_pairs has.others has.rows has.has.least)
+pub pairs_have_keys : (db : Database) (table other : Table) (pairs : List Pair)
+    → HasPairs db table other pairs → HaveKeys pair_key pairs
+pairs_have_keys db table other pairs has =
+    subst (HaveKeys pair_key) (sym has.are) (keys_of_pairs has.others has.rows has.has.least)

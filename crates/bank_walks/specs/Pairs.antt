@@ -1,5 +1,6 @@
 -- Rows of a table, each with the row of another one under its key, if there is one.
-use Rattle.std.specs.Prelude.{◌≡◌, ◌⊎◌, ◌++◌, ◌<ℤ◌, ℤ, List, map, find, Option, Some, None, Result, Ok, Err, IsSomeAnd, option_map, ⊤}
+use Rattle.std.specs.Prelude.{◌≡◌, ◌⊎◌, ◌++◌, ◌<ℤ◌, ℤ, List, map, find, Option, Some, None, Result, Ok, Err}
+use Rattle.std.specs.Prelude.{IsSomeAnd, option_map, ⊤}
 use Rattle.sqlite.specs.declared.error.Error.{Error}
 use Rattle.sqlite.specs.Table.{Table}
 use Rattle.sqlite.specs.Effect.{Database}
@@ -44,10 +45,12 @@ abbrev pub pair_of : {R O : Type 0} → (R → Entry) → (O → Entry) → Join
 pair_of entry other j = record { entry = entry j.stored; beside = option_map other j.beside }
 
 -- these are the pairs of the rows from a number on, up to those that follow
-abbrev pub AreJoined : {R O : Type 0} → (R → Entry) → (O → Entry) → List Entry → List Entry → ℤ → List (Joined R O) → Option ℤ
+abbrev pub AreJoined : {R O : Type 0} → (R → Entry) → (O → Entry) → List Entry → List Entry → ℤ
+    → List (Joined R O) → Option ℤ
     → Type 0
 AreJoined entry other others rows from done rest =
-    paired others (rows_from from rows) ≡ map (pair_of entry other) done ++ paired others (rows_behind rest rows)
+    paired others (rows_from from rows) ≡ map (pair_of entry other) done ++ paired others
+    (rows_behind rest rows)
 
 -- a number of the row, or of the one beside it, is out of its range
 abbrev pub BreaksPair : (Entry → Type 0) → (Entry → Type 0) → Pair → Type 0
@@ -56,7 +59,8 @@ BreaksPair Breaks BreaksOther p = Breaks p.entry ⊎ IsSomeAnd p.beside BreaksOt
 -- an error of the store of which this holds, or a number of the row under the key is out of its range
 abbrev pub BreaksUnder : (Error → Type 0) → (Entry → Type 0) → ℤ → List Entry → TableFault → Type 0
 BreaksUnder Failed Breaks key others (Sqlite e) = Failed e
-BreaksUnder Failed Breaks key others (Damaged broken) = (broken ≡ rule.Value) × IsSomeAnd (row_under others key) Breaks
+BreaksUnder Failed Breaks key others (Damaged broken) = (broken ≡ rule.Value)
+    × IsSomeAnd (row_under others key) Breaks
 
 -- the key of a row; or memory for it was refused
 abbrev pub TellsKey : Entry → Result ℤ TableFault → Type 0

@@ -19,7 +19,8 @@ ReadsNumber v (Err (Damaged broken)) = (broken ≡ rule.Value) × ((z : ℤ) →
 -- of a row of so many numbers: these are they; or memory was refused
 abbrev pub ReadsNumbers : ℕ → Row → Result (List ℤ) TableFault → Type 0
 ReadsNumbers count row (Ok ns) = (zs : List ℤ) → row ≡ numbers zs → length zs ≡ count → ns ≡ zs
-ReadsNumbers count row (Err (Sqlite e)) = (zs : List ℤ) → row ≡ numbers zs → length zs ≡ count → e ≡ SqliteFailure OutOfMemory
+ReadsNumbers count row (Err (Sqlite e)) = (zs : List ℤ) → row ≡ numbers zs → length zs ≡ count
+    → e ≡ SqliteFailure OutOfMemory
 ReadsNumbers count row (Err (Damaged broken)) = (zs : List ℤ) → row ≡ numbers zs → length zs ≡ count → ⊥
 
 -- the number is below the least or above the most

@@ -44,7 +44,10 @@ IsNoAccount e = IsOutside 1 LAST_ACCOUNT e.key
 
 -- a row of `history`
 abbrev pub posting_entry : StoredPosting → Entry
-posting_entry r = record { key = pos r.ordinal; values = r.account ∷ r.teller ∷ r.branch ∷ r.delta ∷ pos r.moment ∷ [] }
+posting_entry r = record {
+  key = pos r.ordinal;
+  values = r.account ∷ r.teller ∷ r.branch ∷ r.delta ∷ pos r.moment ∷ [];
+}
 
 -- no posting has this ordinal, or this moment
 abbrev pub IsNoPosting : Entry → Type 0
@@ -52,7 +55,10 @@ IsNoPosting e = IsOutside 1 MAX_DECIDED e.key ⊎ IsOutside 0 MAX_MOMENT (number
 
 -- a row of `request`
 abbrev pub request_entry : StoredRequest → Entry
-request_entry r = record { key = pos r.ordinal; values = r.teller ∷ r.number ∷ r.account ∷ r.branch ∷ r.delta ∷ r.outcome ∷ r.balance ∷ [] }
+request_entry r = record {
+  key = pos r.ordinal;
+  values = r.teller ∷ r.number ∷ r.account ∷ r.branch ∷ r.delta ∷ r.outcome ∷ r.balance ∷ [];
+}
 
 -- no request has this ordinal
 abbrev pub IsNoRequest : Entry → Type 0

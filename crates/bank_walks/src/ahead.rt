@@ -1,5 +1,6 @@
 //! Rows that are read ahead.
-ghost use Rattle.std.specs.Prelude.{◌≡◌, [], ◌++◌, List, map, filter, take, None, false, IfOk, IfErr, OnOk, MatchResult};
+ghost use Rattle.std.specs.Prelude.{◌≡◌, [], ◌++◌, List, map, filter, take, None, false, IfOk, IfErr, OnOk};
+ghost use Rattle.std.specs.Prelude.{MatchResult};
 ghost use Rattle.sqlite.specs.State.{HasCleanDisk, IsUnchanged, Survives};
 ghost use Rattle.sqlite.specs.Held.{state};
 ghost use Rattle.sql_meanings.specs.Entries.{Entry, Rise};
@@ -21,7 +22,8 @@ pub const AHEAD: usize = 64;
 
 // The row that is read, whose key is a number or above it.
 fn read_next<R: StoredRow>(row: &Row, next: i64) -> Result<R, TableFault>
-    ensures { ReadsNext (width_of R.StoredRow.table) R.StoredRow.entry R.StoredRow.is_broken next row.now result }
+    ensures { ReadsNext (width_of R.StoredRow.table) R.StoredRow.entry R.StoredRow.is_broken next row.now
+        result }
 {
     let read = R::read(row)?;
     let key = read.key() as i64;
@@ -31,7 +33,8 @@ fn read_next<R: StoredRow>(row: &Row, next: i64) -> Result<R, TableFault>
     Ok(read)
 }
 
-/// Puts the rows that were found in place of those in `rows`, up to one that can't be read, if it isn't the first, and tells
+/// Puts the rows that were found in place of those in `rows`, up to one that can't be read, if it isn't the
+/// first, and tells
 /// from which key on the others follow.
 pub(crate) fn gather<R: StoredRow>(
     found: &[Row],
@@ -44,7 +47,8 @@ pub(crate) fn gather<R: StoredRow>(
         (λ rest. rows_from from all ≡ map R.StoredRow.entry rows.new.items ++ rows_behind rest all)
         (BreaksFirst IsRefusedMemory R.StoredRow.is_broken (rows_from from all)) }
     ensures ended { IfOk result (λ rest. rows.new.items ≡ [] → rest ≡ None) }
-    ensures rises { IfOk result (λ rest. RisesFrom from (map (λ r. entry_key (R.StoredRow.entry r)) rows.new.items) rest) }
+    ensures rises { IfOk result
+        (λ rest. RisesFrom from (map (λ r. entry_key (R.StoredRow.entry r)) rows.new.items) rest) }
 {
     rows.clear();
     let mut next = from;
@@ -68,22 +72,28 @@ pub(crate) fn gather<R: StoredRow>(
     Ok(if rows.is_empty() { None } else { Some(next) })
 }
 
-/// Puts the rows of a table with the least keys from one on, those of an account where one is named, in place of those in
-/// `rows`, up to one that can't be read, if it isn't the first, and tells from which key on the others follow.
+/// Puts the rows of a table with the least keys from one on, those of an account where one is named, in place
+/// of those in
+/// `rows`, up to one that can't be read, if it isn't the first, and tells from which key on the others
+/// follow.
 pub(crate) fn read_ahead<S: Alter, R: StoredRow>(
     conn: &mut Connection<S>,
     of: Option<Account>,
     from: i64,
     rows: &mut ArrayVec<R, AHEAD>,
 ) -> Result<Option<i64>, TableFault>
-    ensures told { HasCleanDisk (state S.Store conn.new) → (all : List Entry) → HasStoredRows (state S.Store conn.old).now R.StoredRow.table all
+    ensures told { HasCleanDisk (state S.Store conn.new) → (all : List Entry)
+        → HasStoredRows (state S.Store conn.old).now R.StoredRow.table all
         → let given = filter (R.StoredRow.is_given of) all in MatchResult result
         (λ rest. rows_from from given ≡ map R.StoredRow.entry rows.new.items ++ rows_behind rest given)
         (BreaksFirst (IsStoreError (state S.Store conn.old) (state S.Store conn.new)) R.StoredRow.is_broken (rows_from from given)) }
     ensures ended { IfOk result (λ rest. rows.new.items ≡ [] → rest ≡ None) }
-    ensures rises { IfOk result (λ rest. RisesFrom from (map (λ r. entry_key (R.StoredRow.entry r)) rows.new.items) rest) }
-    ensures same { HasCleanDisk (state S.Store conn.new) → OnOk result (IsUnchanged (state S.Store conn.old) (state S.Store conn.new)) }
-    ensures err { HasCleanDisk (state S.Store conn.new) → IfErr result (λ _. WriteFails (state S.Store conn.old) (state S.Store conn.new)) }
+    ensures rises { IfOk result
+        (λ rest. RisesFrom from (map (λ r. entry_key (R.StoredRow.entry r)) rows.new.items) rest) }
+    ensures same { HasCleanDisk (state S.Store conn.new)
+        → OnOk result (IsUnchanged (state S.Store conn.old) (state S.Store conn.new)) }
+    ensures err { HasCleanDisk (state S.Store conn.new)
+        → IfErr result (λ _. WriteFails (state S.Store conn.old) (state S.Store conn.new)) }
     ensures mode { conn.old.in_transaction ≡ false → conn.new.in_transaction ≡ false }
     ensures survives { Survives (state S.Store conn.old) (state S.Store conn.new) (λ _. ⊥) }
 {

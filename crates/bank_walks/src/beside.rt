@@ -1,5 +1,6 @@
 //! The rows of a table that stand beside those that were read ahead of another one.
-ghost use Rattle.std.specs.Prelude.{◌≡◌, ◌<ℤ◌, ◌++◌, ◌∷◌, List, pos, map, false, take, option_map, IfOk, IfErr, IfSome, OnOk, MatchResult};
+ghost use Rattle.std.specs.Prelude.{◌≡◌, ◌<ℤ◌, ◌++◌, ◌∷◌, List, pos, map, false, take, option_map, IfOk};
+ghost use Rattle.std.specs.Prelude.{IfErr, IfSome, OnOk, MatchResult};
 ghost use Rattle.sqlite.specs.State.{HasCleanDisk, IsUnchanged, Survives};
 ghost use Rattle.sqlite.specs.Held.{state};
 ghost use Rattle.sqlite.specs.Order.{Row as StoredColumns};
@@ -20,7 +21,8 @@ use store_rows::TableFault;
 
 // The key of the first of the rows that were found.
 fn first_key(found: &[Row]) -> Result<i64, TableFault>
-    ensures { (e : Entry) → (more : List StoredColumns) → found.now ≡ numbers (all_numbers e) ∷ more → TellsKey e result }
+    ensures { (e : Entry) → (more : List StoredColumns) → found.now ≡ numbers (all_numbers e) ∷ more
+        → TellsKey e result }
 {
     match found.first() {
         Some(row) => number_at(row, 0),
@@ -28,7 +30,8 @@ fn first_key(found: &[Row]) -> Result<i64, TableFault>
     }
 }
 
-// Puts the rows that were found in place of those in `rows`, up to one that can't be read, if it isn't under the key
+// Puts the rows that were found in place of those in `rows`, up to one that can't be read, if it isn't under
+// the key
 // itself, and tells from which key on the others follow.
 fn gather_beside<O: StoredRow>(
     found: &[Row],
@@ -56,7 +59,8 @@ fn gather_beside<O: StoredRow>(
     }
 }
 
-/// Puts the rows of a table with the least keys from one on in place of those in `rows`, up to one that can't be read, if it
+/// Puts the rows of a table with the least keys from one on in place of those in `rows`, up to one that can't
+/// be read, if it
 /// isn't under the key itself, and tells from which key on the others follow.
 pub(crate) fn read_beside<S: Alter, O: StoredRow>(
     conn: &mut Connection<S>,
@@ -69,8 +73,10 @@ pub(crate) fn read_beside<S: Alter, O: StoredRow>(
         (λ rest. rows_from from all ≡ map O.StoredRow.entry rows.new.items ++ rows_behind rest all)
         (BreaksUnder (IsStoreError (state S.Store conn.old) (state S.Store conn.new)) O.StoredRow.is_broken from all) }
     ensures beyond { IfOk result (λ rest. IfSome rest (λ k. from <ℤ k)) }
-    ensures same { HasCleanDisk (state S.Store conn.new) → OnOk result (IsUnchanged (state S.Store conn.old) (state S.Store conn.new)) }
-    ensures err { HasCleanDisk (state S.Store conn.new) → IfErr result (λ _. WriteFails (state S.Store conn.old) (state S.Store conn.new)) }
+    ensures same { HasCleanDisk (state S.Store conn.new)
+        → OnOk result (IsUnchanged (state S.Store conn.old) (state S.Store conn.new)) }
+    ensures err { HasCleanDisk (state S.Store conn.new)
+        → IfErr result (λ _. WriteFails (state S.Store conn.old) (state S.Store conn.new)) }
     ensures mode { conn.old.in_transaction ≡ false → conn.new.in_transaction ≡ false }
     ensures survives { Survives (state S.Store conn.old) (state S.Store conn.new) (λ _. ⊥) }
 {

@@ -9,7 +9,8 @@ use posting_rules::{LAST_BRANCH, Rule};
 use sqlite::{Alter, Connection, Error, Row, params};
 use store_rows::TableFault;
 
-/// A row of `branch`: 1..=`LAST_BRANCH`, how many accounts it has, 1..=`MOST_COUNTED`, and its balance, whatever it is.
+/// A row of `branch`: 1..=`LAST_BRANCH`, how many accounts it has, 1..=`MOST_COUNTED`, and its balance,
+/// whatever it is.
 #[derive(Clone, Copy, Debug, PartialEq, Eq)]
 pub struct StoredBranch {
     pub branch: Whole<1, LAST_BRANCH>,

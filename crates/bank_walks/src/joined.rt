@@ -1,14 +1,17 @@
 //! Rows with what stands beside them in another table.
-ghost use Rattle.std.specs.Prelude.{◌≡◌, ◌≤◌, ◌++◌, [], ◌∷◌, ℤ, List, filter, length, map, None, false, IfOk, IfErr, IsTrue, OnOk, MatchResult};
+ghost use Rattle.std.specs.Prelude.{◌≡◌, ◌≤◌, ◌++◌, [], ◌∷◌, ℤ, List, filter, length, map, None, false, IfOk};
+ghost use Rattle.std.specs.Prelude.{IfErr, IsTrue, OnOk, MatchResult};
 ghost use Rattle.std.specs.Bool.{OnFalse, OnTrue};
 ghost use Rattle.sqlite.specs.State.{HasCleanDisk, IsUnchanged, Survives};
 ghost use Rattle.sqlite.specs.Held.{state};
 ghost use Rattle.sql_meanings.specs.Entries.{Entry, Rise};
 ghost use Rattle.sql_meanings.specs.Outcomes.{IsStoreError, WriteFails};
 ghost use Rattle.bank_walks.specs.Outcomes.{BreaksFirst};
-ghost use Rattle.bank_walks.specs.Pairs.{AreJoined, BreaksPair, BreaksUnder, HasPairs, ComesBefore, Pair, pair_key, pair_of, paired};
+ghost use Rattle.bank_walks.specs.Pairs.{AreJoined, BreaksPair, BreaksUnder, HasPairs, ComesBefore, Pair};
+ghost use Rattle.bank_walks.specs.Pairs.{pair_key, pair_of, paired};
 ghost use Rattle.bank_walks.specs.Rising.{RisesFrom};
-ghost use Rattle.bank_walks.specs.Rows.{HasStoredRows, entry_key, items_behind, items_from, rows_behind, rows_from};
+ghost use Rattle.bank_walks.specs.Rows.{HasStoredRows, entry_key, items_behind, items_from, rows_behind};
+ghost use Rattle.bank_walks.specs.Rows.{rows_from};
 
 use crate::ahead::{AHEAD, read_ahead};
 use crate::beside::{read_beside, row_with};
@@ -48,7 +51,8 @@ fn is_beyond(behind: Option<i64>, key: i64) -> bool
     }
 }
 
-// Puts these rows, each with the one of the others that is under its key, in place of those in `rows`, as far as the others
+// Puts these rows, each with the one of the others that is under its key, in place of those in `rows`, as far
+// as the others
 // are known, and tells from which key on the next follow.
 fn join<R: StoredRow, O: StoredRow>(
     own: &[R],
@@ -64,7 +68,8 @@ fn join<R: StoredRow, O: StoredRow>(
         → rows_from start base ≡ map R.StoredRow.entry own.now ++ rows_behind rest base
         → rows_from start others ≡ map O.StoredRow.entry beside.now ++ rows_behind behind others
         → AreJoined R.StoredRow.entry O.StoredRow.entry others base start rows.new.items result }
-    ensures rises { RisesFrom start (map (λ j. entry_key (R.StoredRow.entry j.stored)) rows.new.items) result }
+    ensures rises { RisesFrom start
+        (map (λ j. entry_key (R.StoredRow.entry j.stored)) rows.new.items) result }
     ensures some { (r : R) (more : List R) → own.now ≡ r ∷ more
         → ComesBefore behind (entry_key (R.StoredRow.entry r)) → rows.new.items ≡ [] → ⊥ }
 {
@@ -100,11 +105,14 @@ fn join_ahead<S: Alter, R: StoredRow, O: StoredRow>(
         → rows_from start base ≡ map R.StoredRow.entry own.now ++ rows_behind rest base
         → MatchResult result (AreJoined R.StoredRow.entry O.StoredRow.entry others base start rows.new.items)
         (BreaksUnder (IsStoreError (state S.Store conn.old) (state S.Store conn.new)) O.StoredRow.is_broken start others) }
-    ensures rises { IfOk result (λ rest. RisesFrom start (map (λ j. entry_key (R.StoredRow.entry j.stored)) rows.new.items) rest) }
+    ensures rises { IfOk result
+        (λ rest. RisesFrom start (map (λ j. entry_key (R.StoredRow.entry j.stored)) rows.new.items) rest) }
     ensures some { (r : R) (more : List R) → own.now ≡ r ∷ more
         → start ≡ entry_key (R.StoredRow.entry r) → OnOk result (rows.new.items ≡ [] → ⊥) }
-    ensures same { HasCleanDisk (state S.Store conn.new) → OnOk result (IsUnchanged (state S.Store conn.old) (state S.Store conn.new)) }
-    ensures err { HasCleanDisk (state S.Store conn.new) → IfErr result (λ _. WriteFails (state S.Store conn.old) (state S.Store conn.new)) }
+    ensures same { HasCleanDisk (state S.Store conn.new)
+        → OnOk result (IsUnchanged (state S.Store conn.old) (state S.Store conn.new)) }
+    ensures err { HasCleanDisk (state S.Store conn.new)
+        → IfErr result (λ _. WriteFails (state S.Store conn.old) (state S.Store conn.new)) }
     ensures mode { conn.old.in_transaction ≡ false → conn.new.in_transaction ≡ false }
     ensures survives { Survives (state S.Store conn.old) (state S.Store conn.new) (λ _. ⊥) }
 {
@@ -131,10 +139,12 @@ fn join_first<S: Alter, R: StoredRow, O: StoredRow>(
         (BreaksPair R.StoredRow.is_broken O.StoredRow.is_broken) (paired others (rows_from from base))) }
     ensures ended { IfOk result (λ next. rows.new.items ≡ [] → next ≡ None) }
     ensures rises { (from : ℤ) → RisesFrom from (map (λ r. entry_key (R.StoredRow.entry r)) own.now) rest
-        → IfOk result (λ next. RisesFrom from (map (λ j. entry_key (R.StoredRow.entry j.stored)) rows.new.items) next) }
+        → IfOk result (λ next. RisesFrom from
+        (map (λ j. entry_key (R.StoredRow.entry j.stored)) rows.new.items) next) }
     ensures same { HasCleanDisk (state S.Store conn.new) → IsTrue (state S.Store conn.old).is_open
         → OnOk result (IsUnchanged (state S.Store conn.old) (state S.Store conn.new)) }
-    ensures err { HasCleanDisk (state S.Store conn.new) → IfErr result (λ _. WriteFails (state S.Store conn.old) (state S.Store conn.new)) }
+    ensures err { HasCleanDisk (state S.Store conn.new)
+        → IfErr result (λ _. WriteFails (state S.Store conn.old) (state S.Store conn.new)) }
     ensures mode { conn.old.in_transaction ≡ false → conn.new.in_transaction ≡ false }
     ensures survives { Survives (state S.Store conn.old) (state S.Store conn.new) (λ _. ⊥) }
 {
@@ -150,7 +160,8 @@ fn join_first<S: Alter, R: StoredRow, O: StoredRow>(
     }
 }
 
-// Fills the room of a walk, with room for the rows of each table. Only of known types is it known how much room that is, so
+// Fills the room of a walk, with room for the rows of each table. Only of known types is it known how much
+// room that is, so
 // it is handed in.
 fn fill_joined<S: Alter, R: StoredRow, O: StoredRow>(
     conn: &mut Connection<S>,
@@ -164,13 +175,17 @@ fn fill_joined<S: Alter, R: StoredRow, O: StoredRow>(
         → HasPairs (state S.Store conn.old).now R.StoredRow.table O.StoredRow.table all
         → let given = filter (λ p. R.StoredRow.is_given of p.entry) all in MatchResult result
         (λ rest. items_from pair_key from given
-        ≡ map (pair_of R.StoredRow.entry O.StoredRow.entry) rows.new.items ++ items_behind pair_key rest given)
+        ≡ map (pair_of R.StoredRow.entry O.StoredRow.entry) rows.new.items ++ items_behind pair_key rest
+        given)
         (BreaksFirst (IsStoreError (state S.Store conn.old) (state S.Store conn.new))
         (BreaksPair R.StoredRow.is_broken O.StoredRow.is_broken) (items_from pair_key from given)) }
     ensures ended { IfOk result (λ rest. rows.new.items ≡ [] → rest ≡ None) }
-    ensures rises { IfOk result (λ rest. RisesFrom from (map (λ j. entry_key (R.StoredRow.entry j.stored)) rows.new.items) rest) }
-    ensures same { HasCleanDisk (state S.Store conn.new) → OnOk result (IsUnchanged (state S.Store conn.old) (state S.Store conn.new)) }
-    ensures err { HasCleanDisk (state S.Store conn.new) → IfErr result (λ _. WriteFails (state S.Store conn.old) (state S.Store conn.new)) }
+    ensures rises { IfOk result
+        (λ rest. RisesFrom from (map (λ j. entry_key (R.StoredRow.entry j.stored)) rows.new.items) rest) }
+    ensures same { HasCleanDisk (state S.Store conn.new)
+        → OnOk result (IsUnchanged (state S.Store conn.old) (state S.Store conn.new)) }
+    ensures err { HasCleanDisk (state S.Store conn.new)
+        → IfErr result (λ _. WriteFails (state S.Store conn.old) (state S.Store conn.new)) }
     ensures mode { conn.old.in_transaction ≡ false → conn.new.in_transaction ≡ false }
     ensures survives { Survives (state S.Store conn.old) (state S.Store conn.new) (λ _. ⊥) }
 {

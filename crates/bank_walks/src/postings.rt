@@ -8,7 +8,8 @@ use posting_rules::{Ordinal, Rule};
 use sqlite::{Alter, Connection, Error, Row, params};
 use store_rows::TableFault;
 
-/// A row of `history`: the ordinal of its request and its moment within their ranges, and the other numbers, whatever they are.
+/// A row of `history`: the ordinal of its request and its moment within their ranges, and the other numbers,
+/// whatever they are.
 #[derive(Clone, Copy, Debug, PartialEq, Eq)]
 pub struct StoredPosting {
     pub ordinal: Ordinal,

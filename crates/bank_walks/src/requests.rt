@@ -8,7 +8,8 @@ use posting_rules::{Ordinal, Rule};
 use sqlite::{Alter, Connection, Error, Row, params};
 use store_rows::TableFault;
 
-/// A row of `request`: its ordinal within the range, and the other numbers, whatever they are. The outcome is a code.
+/// A row of `request`: its ordinal within the range, and the other numbers, whatever they are. The outcome is
+/// a code.
 #[derive(Clone, Copy, Debug, PartialEq, Eq)]
 pub struct StoredRequest {
     pub ordinal: Ordinal,

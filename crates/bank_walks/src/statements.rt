@@ -16,12 +16,16 @@ pub(crate) fn rows_shown<S: Alter>(
     text: &str,
     params: &[ValueRef<'_>],
 ) -> Result<Vec<Row>, Error>
-    requires { (schema : Schema) → OnlyShows text.now (length (bound params.now)) (understood schema text.now) }
+    requires { (schema : Schema)
+        → OnlyShows text.now (length (bound params.now)) (understood schema text.now) }
     ensures shown { HasCleanDisk (state S.Store conn.new)
-        → MatchResult result (λ found. Shown text.now (bound params.now) (state S.Store conn.old) (state S.Store conn.new) found.items)
+        → MatchResult result (λ found. Shown text.now (bound params.now) (state S.Store conn.old)
+        (state S.Store conn.new) found.items)
         (FailsToQuery text.now (bound params.now) (state S.Store conn.old) (state S.Store conn.new)) }
-    ensures same { HasCleanDisk (state S.Store conn.new) → OnOk result (IsUnchanged (state S.Store conn.old) (state S.Store conn.new)) }
-    ensures err { HasCleanDisk (state S.Store conn.new) → IfErr result (λ _. WriteFails (state S.Store conn.old) (state S.Store conn.new)) }
+    ensures same { HasCleanDisk (state S.Store conn.new)
+        → OnOk result (IsUnchanged (state S.Store conn.old) (state S.Store conn.new)) }
+    ensures err { HasCleanDisk (state S.Store conn.new)
+        → IfErr result (λ _. WriteFails (state S.Store conn.old) (state S.Store conn.new)) }
     ensures mode { conn.old.in_transaction ≡ false → conn.new.in_transaction ≡ false }
     ensures survives { Survives (state S.Store conn.old) (state S.Store conn.new) (λ _. ⊥) }
 {

@@ -1,5 +1,6 @@
 //! What a row of one table is, as it is stored.
-ghost use Rattle.std.specs.Prelude.{◌≡◌, ◌≤◌, pos, true, false, Bool, ℕ, List, Option, None, IfErr, MatchResult, OnOk, filter, take};
+ghost use Rattle.std.specs.Prelude.{◌≡◌, ◌≤◌, pos, true, false, Bool, ℕ, List, Option, None, IfErr};
+ghost use Rattle.std.specs.Prelude.{MatchResult, OnOk, filter, take};
 ghost use Rattle.sqlite.specs.State.{HasCleanDisk, IsUnchanged, Survives};
 ghost use Rattle.sqlite.specs.Held.{state};
 ghost use Rattle.sqlite.specs.Table.{Table};
@@ -36,11 +37,15 @@ pub trait StoredRow: Copy + Default {
         of: Option<Account>,
         from: i64,
     ) -> Result<Vec<Row>, Error>
-        ensures told { HasCleanDisk (state S.Store conn.new) → (rows : List Entry) → HasStoredRows (state S.Store conn.old).now table rows
-            → MatchResult result (λ found. found.items ≡ shown (take AHEAD (rows_from from (filter (is_given of) rows))))
+        ensures told { HasCleanDisk (state S.Store conn.new) → (rows : List Entry)
+            → HasStoredRows (state S.Store conn.old).now table rows
+            → MatchResult result (λ found. found.items
+            ≡ shown (take AHEAD (rows_from from (filter (is_given of) rows))))
             (IsStoreError (state S.Store conn.old) (state S.Store conn.new)) }
-        ensures same { HasCleanDisk (state S.Store conn.new) → OnOk result (IsUnchanged (state S.Store conn.old) (state S.Store conn.new)) }
-        ensures err { HasCleanDisk (state S.Store conn.new) → IfErr result (λ _. WriteFails (state S.Store conn.old) (state S.Store conn.new)) }
+        ensures same { HasCleanDisk (state S.Store conn.new)
+            → OnOk result (IsUnchanged (state S.Store conn.old) (state S.Store conn.new)) }
+        ensures err { HasCleanDisk (state S.Store conn.new)
+            → IfErr result (λ _. WriteFails (state S.Store conn.old) (state S.Store conn.new)) }
         ensures mode { conn.old.in_transaction ≡ false → conn.new.in_transaction ≡ false }
         ensures survives { Survives (state S.Store conn.old) (state S.Store conn.new) (λ _. ⊥) };
 

@@ -1,4 +1,5 @@
-//! The statements of the walks, letter for letter. Each shows the rows that come next, by rising keys, at most `AHEAD` of them.
+//! The statements of the walks, letter for letter. Each shows the rows that come next, by rising keys, at
+//! most `AHEAD` of them.
 
 /// The branches from a number on.
 pub(crate) const BRANCHES_FROM: &str =

@@ -1,5 +1,6 @@
 //! Rows that a walk gives.
-ghost use Rattle.std.specs.Prelude.{◌≡◌, ◌++◌, [], ℕ, ℤ, Bool, Option, List, filter, map, None, false, true, IfOk, IfErr, OnOk, MatchResult};
+ghost use Rattle.std.specs.Prelude.{◌≡◌, ◌++◌, [], ℕ, ℤ, Bool, Option, List, filter, map, None, false, true};
+ghost use Rattle.std.specs.Prelude.{IfOk, IfErr, OnOk, MatchResult};
 ghost use Rattle.sqlite.specs.State.{HasCleanDisk, IsUnchanged, Survives};
 ghost use Rattle.sqlite.specs.Held.{state};
 ghost use Rattle.sqlite.specs.Effect.{Database};
@@ -30,7 +31,8 @@ pub trait WalkedRow: Copy + Default {
     /// A database has these, by rising keys.
     ghost HasItems: { Database → List Item → Type 0 };
 
-    /// Puts the rows with the least keys from one on, those of an account where one is named, in place of those in `rows`, up
+    /// Puts the rows with the least keys from one on, those of an account where one is named, in place of
+    /// those in `rows`, up
     /// to one that can't be read, if it isn't the first, and tells from which key on the others follow.
     fn fill<S: Alter>(
         conn: &mut Connection<S>,
@@ -38,14 +40,17 @@ pub trait WalkedRow: Copy + Default {
         from: i64,
         rows: &mut ArrayVec<Self, AHEAD>,
     ) -> Result<Option<i64>, TableFault>
-        ensures told { HasCleanDisk (state S.Store conn.new) → (all : List Item) → HasItems (state S.Store conn.old).now all
+        ensures told { HasCleanDisk (state S.Store conn.new) → (all : List Item)
+            → HasItems (state S.Store conn.old).now all
             → let given = filter (is_given of) all in MatchResult result
             (λ rest. items_from key from given ≡ map item rows.new.items ++ items_behind key rest given)
             (BreaksFirst (IsStoreError (state S.Store conn.old) (state S.Store conn.new)) is_broken (items_from key from given)) }
         ensures ended { IfOk result (λ rest. rows.new.items ≡ [] → rest ≡ None) }
         ensures rises { IfOk result (λ rest. RisesFrom from (map (λ r. key (item r)) rows.new.items) rest) }
-        ensures same { HasCleanDisk (state S.Store conn.new) → OnOk result (IsUnchanged (state S.Store conn.old) (state S.Store conn.new)) }
-        ensures err { HasCleanDisk (state S.Store conn.new) → IfErr result (λ _. WriteFails (state S.Store conn.old) (state S.Store conn.new)) }
+        ensures same { HasCleanDisk (state S.Store conn.new)
+            → OnOk result (IsUnchanged (state S.Store conn.old) (state S.Store conn.new)) }
+        ensures err { HasCleanDisk (state S.Store conn.new)
+            → IfErr result (λ _. WriteFails (state S.Store conn.old) (state S.Store conn.new)) }
         ensures mode { conn.old.in_transaction ≡ false → conn.new.in_transaction ≡ false }
         ensures survives { Survives (state S.Store conn.old) (state S.Store conn.new) (λ _. ⊥) };
 

@@ -107,7 +107,8 @@ Works {C} {X} Idle Tells Did old new = (Idle × (new ≡ old)) ⊎ ((told : X) �
 -- a plan was loaded into a bank, or it couldn't be read
 abbrev pub LoadsOver : {C : Type 0} → (C → Seen) → (w w' : Option (List ℕ))
     → (Ends : Result Status CommandFault → Type 0) → (old new : C) → Type 0
-LoadsOver seen w w' Ends = Works (EndsInFault IsPlanFault Ends × Keeps w w') (TellsLoad Ends w w') (LoadsAs seen)
+LoadsOver seen w w' Ends = Works (EndsInFault IsPlanFault Ends × Keeps w w') (TellsLoad Ends w w')
+    (LoadsAs seen)
 
 -- so many records of a seed were submitted to a bank, or as many as it took
 abbrev pub DrivesOver : {C : Type 0} → (C → Seen) → (k k' w w' : Option (List ℕ)) → (seed count : ℕ)

@@ -86,7 +86,8 @@ with_answer-total loaded Differs = omega arith
 pub left-all : (old new : Seen) (commands : List Command) → Takes old new commands
     → LeavesBeginning old new commands (length commands)
 left-all old new commands taken h log stood =
-    leaves_weaker new (λ t. AreTablesOf t (behind log commands)) (ShowsBeginning log commands (length commands))
+    leaves_weaker new (λ t. AreTablesOf t (behind log commands))
+    (ShowsBeginning log commands (length commands))
     (λ t shown. record {
       count = length commands;
       holds = omega arith;

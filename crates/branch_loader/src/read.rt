@@ -5,7 +5,8 @@ ghost use Rattle.posting_core.specs.Told.{EndsWith};
 ghost use Rattle.csv.specs.Records.{fields_of};
 ghost use Rattle.branch_loader.specs.Plans.{IsToldSo, TellsPlan, plan_of, plan_of_records};
 ghost use Rattle.branch_loader.specs.Plans.{is_header, number_within, row_of_fields, two_of};
-ghost use Rattle.branch_loader.specs.Records.{WasRecord, IsSourceFailure, IsWantOfMemory, RecordTold, Records};
+ghost use Rattle.branch_loader.specs.Records.{WasRecord, IsSourceFailure, IsWantOfMemory, RecordTold};
+ghost use Rattle.branch_loader.specs.Records.{Records};
 ghost use Rattle.branch_loader.specs.Records.{TakesRecord};
 
 use crate::fault::PlanFault;

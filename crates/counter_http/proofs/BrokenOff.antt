@@ -101,7 +101,8 @@ bank_failed : {C : Type 0} (seen : C → Seen) {r r' w w' w'' k k' k'' : Option 
     → Appends w' w'' more → (b : IsRefusedAt seen now new fault (commands_in t))
     → Exits seen result (HasEnded r' q q') old b.stood new g.turns (t ∷ []) rest
     (unavailable (asked_by t.message) ∷ [])
-    → ((text : List ℕ) → AnswersAreWritten result (text ++ more) (text ++ (unavailable (asked_by t.message) ++ [])))
+    → ((text : List ℕ) → AnswersAreWritten result (text ++ more)
+    (text ++ (unavailable (asked_by t.message) ++ [])))
     → ServesConnection seen r r' q q' w w'' k k'' old new result
 bank_failed seen {r = r} {r' = r'} {w = w} {w' = w'} {w'' = w''} {k = k} {k' = k'} {k'' = k''} old now new
     result t all rest more fault g front reading wrote b exits writes =

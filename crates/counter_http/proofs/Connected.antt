@@ -24,7 +24,8 @@ use Rattle.posting_core.proofs.Batched.{joined-append}
 use Rattle.posting_core.proofs.Streaming.{at_ok}
 use Rattle.posting_core.proofs.Telling.{HasMade}
 use Rattle.posting_core.proofs.Stops.{stop_all, written_part}
-use Rattle.counter_http.specs.Serving.{BeginsWithNoMessage, IsWalked, At_last, Exits, AnswersAreWritten, ServesConnection}
+use Rattle.counter_http.specs.Serving.{BeginsWithNoMessage, IsWalked, At_last, Exits, AnswersAreWritten}
+use Rattle.counter_http.specs.Serving.{ServesConnection}
 use Rattle.counter_http.proofs.Walking.{walks_behind, walks_end, walks_always, walks_closed}
 use Rattle.counter_http.proofs.Sent.{ended_at}
 use Rattle.counter_http.proofs.Told.{front_of}

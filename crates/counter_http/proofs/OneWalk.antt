@@ -87,7 +87,8 @@ walk_unique input (m ∷ ms) (n ∷ ns) e f x y =
     ]
 
 -- the whole messages at the front of an input are one list
-pub front_unique : (ms ns : List Message) (a b : List ℕ) → AllByRecursion KeepsConnection ms → AllByRecursion KeepsConnection ns
+pub front_unique : (ms ns : List Message) (a b : List ℕ) → AllByRecursion KeepsConnection ms
+    → AllByRecursion KeepsConnection ns
     → BeginsWithNoMessage a → BeginsWithNoMessage b → texts_of_all ms ++ a ≡ texts_of_all ns ++ b → ms ≡ ns
 front_unique [] [] a b im jn none none' e = refl
 front_unique [] (n ∷ ns) a b im jn none none' e =

@@ -39,7 +39,8 @@ pub told_none : (w : Option (List ℕ)) (held : List ℕ) → held ≡ [] → Is
 told_none w held e = record { written = []; wrote = Appends-nil w; begins = refl; whole = λ _. sym e }
 
 -- nothing more is told, since the writer failed before
-pub told_failed : {a b : Option (List ℕ)} (held held' text more : List ℕ) → IsWrittenOrHeld a b false held text
+pub told_failed : {a b : Option (List ℕ)} (held held' text more : List ℕ)
+    → IsWrittenOrHeld a b false held text
     → IsWrittenOrHeld a b false held' (text ++ more)
 told_failed held held' text more t = record {
   written = t.written;
@@ -128,7 +129,8 @@ holding {a = a} {b = b} {going = going} {text = text} e t =
 pub telling : {a b : Option (List ℕ)} {going going' : Bool} {held text : List ℕ} → going ≡ going'
     → IsWrittenOrHeld a b going held text
     → IsWrittenOrHeld a b going' held text
-telling {a = a} {b = b} {held = held} {text = text} e t = subst (λ (x : Bool). IsWrittenOrHeld a b x held text) e t
+telling {a = a} {b = b} {held = held} {text = text} e t =
+    subst (λ (x : Bool). IsWrittenOrHeld a b x held text) e t
 
 -- what two texts at the front are
 front_four : (a b c d : List ℕ) → ((a ++ b) ++ c) ++ d ≡ a ++ ((b ++ c) ++ d)

@@ -20,10 +20,12 @@ use Rattle.counter_http.specs.Messages.{Message, message_text, Ending, Walks}
 use Rattle.counter_http.specs.Answers.{asked_by, unavailable, final_answer}
 use Rattle.counter_http.specs.Turns.{Turn, message_in, text_in, commands_in, commands_of, messages_of}
 use Rattle.counter_http.specs.Turns.{texts_of, answers_to}
-use Rattle.counter_http.specs.Serving.{KeepsConnection, AnswersAreWritten, IsWalked, IsBrokenOff, IsAtMessage, At_message}
+use Rattle.counter_http.specs.Serving.{KeepsConnection, AnswersAreWritten, IsWalked, IsBrokenOff, IsAtMessage}
+use Rattle.counter_http.specs.Serving.{At_message}
 use Rattle.counter_http.specs.Serving.{At_last, At_refusal, ServesConnection}
 use Rattle.counter_http.specs.Outputs.{texts_of_all, answers_behind, AnswersInput, AnswersWhole, AnswersFirst}
-use Rattle.counter_http.specs.Outputs.{AnswersBroken, IsTextFor, WritesAnswers, IsSettled, OutputsAnswers, SurvivesServing}
+use Rattle.counter_http.specs.Outputs.{AnswersBroken, IsTextFor, WritesAnswers, IsSettled, OutputsAnswers}
+use Rattle.counter_http.specs.Outputs.{SurvivesServing}
 use Rattle.counter_http.proofs.Momentless.{momentless}
 use Rattle.counter_http.proofs.OneWalk.{walk_unique, front_unique}
 
@@ -201,7 +203,8 @@ ended_for seen old new (Err fault) s = tt
 
 pub output_of : {C : Type 0} (seen : C → Seen) {r r' : Option (List ℕ)} {q q' : Option (List ReadTold)}
     {w w' k k' : Option (List ℕ)} (old new : C) (result : Result ℕ ServeFault)
-    → ServesConnection seen r r' q q' w w' k k' old new result → OutputsAnswers r r' q q' w w' (seen old) (seen new) result
+    → ServesConnection seen r r' q q' w w' k k' old new result
+    → OutputsAnswers r r' q q' w w' (seen old) (seen new) result
 output_of seen {w = w} {w' = w'} old new result s =
     let input = texts_of (s.taken ++ s.refused) ++ s.rest in
     record {
@@ -229,7 +232,8 @@ commands_of_first n ts =
 
 pub survives_of : {C : Type 0} (seen : C → Seen) {r r' : Option (List ℕ)} {q q' : Option (List ReadTold)}
     {w w' k k' : Option (List ℕ)} (old new : C) (result : Result ℕ ServeFault)
-    → ServesConnection seen r r' q q' w w' k k' old new result → SurvivesServing r r' w w' (seen old) (seen new)
+    → ServesConnection seen r r' q q' w w' k k' old new result
+    → SurvivesServing r r' w w' (seen old) (seen new)
 survives_of seen old new result s = record {
   taken = s.taken;
   refused = s.refused;

@@ -109,7 +109,8 @@ AnswersAreWritten _ written text = written ≡ text
 
 -- ---- what a call did, whatever its result
 
-pub record ServesConnection {C : Type 0} (seen : C → Seen) (r r' : Option (List ℕ)) (q q' : Option (List ReadTold))
+pub record ServesConnection {C : Type 0} (seen : C → Seen) (r r' : Option (List ℕ))
+    (q q' : Option (List ReadTold))
     (w w' k k' : Option (List ℕ)) (old new : C) (result : Result ℕ ServeFault) : Type 0 where
   -- the messages that the bank took, the one that it refused, what was read behind them, and the answer to
   -- what is no message or was refused

@@ -53,7 +53,8 @@ fn put_first<W: Sink>(
     response: &Response<'_>,
 ) -> bool
     requires { held.old.items ≡ [] }
-    ensures text { IsWrittenOrHeld (W.contents writer.old) (W.contents writer.new) result held.new.items (first_lines
+    ensures text { IsWrittenOrHeld (W.contents writer.old) (W.contents writer.new) result held.new.items
+        (first_lines
         (said response.now)) }
     ensures ends { HasTaken result (W.told writer.old) (W.told writer.new) }
 {

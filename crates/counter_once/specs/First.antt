@@ -44,7 +44,8 @@ pub record LacksMemory (fault : Fault) (w w' : Option (List ℕ)) : Type 0 where
   pub written : Keeps w w'
 
 -- what each fault leaves
-abbrev pub FirstLeaves : OnceFault → Option (List ℕ) → Option (List ℕ) → Option (List ℕ) → Option (List ℕ) → Type 0
+abbrev pub FirstLeaves : OnceFault → Option (List ℕ) → Option (List ℕ) → Option (List ℕ) → Option (List ℕ)
+    → Type 0
 FirstLeaves Short r r' w w' = EndsShort r r' w w'
 FirstLeaves Read r r' w w' = Keeps w w'
 FirstLeaves Write r r' w w' = IsCutOff r r' w w'

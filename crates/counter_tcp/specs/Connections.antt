@@ -40,7 +40,8 @@ pub record Connection (C : Type 0) : Type 0 where
 pub record IsServed {C : Type 0} (seen : C → Seen) (c : Connection C) : Type 0 where
   pub served : http.Serves seen c.reader c.reader_after c.reads c.reads_after c.writer c.writer_after c.clock
       c.clock_after c.before c.after c.result
-  pub output : OutputsAnswers c.reader c.reader_after c.reads c.reads_after c.writer c.writer_after (seen c.before)
+  pub output : OutputsAnswers c.reader c.reader_after c.reads c.reads_after c.writer c.writer_after
+      (seen c.before)
       (seen c.after) c.result
   pub stop : SurvivesServing c.reader c.reader_after c.writer c.writer_after (seen c.before) (seen c.after)
   pub ended : ends.EndsAs c.result c.reads c.reads_after c.writes c.writes_after

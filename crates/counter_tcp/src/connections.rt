@@ -30,7 +30,8 @@ pub fn serve_connections<K: Clock, C: Counter>(
     clock: &mut K,
     bank: &mut C,
 ) -> Result<(), ListenFault>
-    ensures { ServesConnections C.seen (K.readings clock.old) (K.readings clock.new) bank.old bank.new connections
+    ensures { ServesConnections C.seen (K.readings clock.old)
+        (K.readings clock.new) bank.old bank.new connections
         result }
 {
     'connections: for number in 0..connections {

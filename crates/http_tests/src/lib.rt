@@ -1,4 +1,5 @@
-//! Tests of the counter over HTTP: the bytes of its answers, its limits, and ends and banks that fail at each byte.
+//! Tests of the counter over HTTP: the bytes of its answers, its limits, and ends and banks that fail at each
+//! byte.
 #![tactic(auto)]
 
 #[cfg(test)]

@@ -183,7 +183,8 @@ adds_with o t m (Ok r) ready adds = adds_after o t m r (case_of (found_over o r)
 
 adds_on : (o : Overlay) (t : Tables) (log : List Command) (m : ℕ) (records : List (List ℕ)) → Fits o t
     → CoversAll o (map request_of records)
-    → AreTablesOf (tables_over o t) log → AddsFreeRows o t → AddsFreeRows (overlay_with_all o m (map request_of records)) t
+    → AreTablesOf (tables_over o t) log → AddsFreeRows o t
+    → AddsFreeRows (overlay_with_all o m (map request_of records)) t
 adds_on o t log m [] fits covers shows adds = adds
 adds_on o t log m (bytes ∷ records) fits covers shows adds =
     let read = request_of bytes in

@@ -8,7 +8,8 @@ use Rattle.posting_rules.specs.declared.facts.Verdict.TheVariants.{Unkept, Again
 use Rattle.posting_rules.specs.Cases.{case_of, reply_in}
 use Rattle.posting_rules.specs.Changes.{row_changed}
 use Rattle.posting_rules.specs.Commands.{branch_of_teller}
-use Rattle.posting_rules.specs.Entries.{DecidedRequest, refused_entry, posted_entry, kept_fields, malformed_reply}
+use Rattle.posting_rules.specs.Entries.{DecidedRequest, refused_entry, posted_entry, kept_fields}
+use Rattle.posting_rules.specs.Entries.{malformed_reply}
 use Rattle.posting_rules.specs.LookUps.{both_of}
 use Rattle.posting_rules.specs.Tables.{request_row_of, history_row_of}
 use Rattle.posting_batch.specs.Overlay.{Overlay}

@@ -58,7 +58,8 @@ branches_as_before t bs ts xs eb et ea =
     ∙ ap (λ (y : List AccountRow). with_branches t t.branches t.tellers y) ea
 
 pub record_from : (t t' new : Tables) (log : List Command) (m : ℕ) (bytes : List ℕ)
-    → new ≡ tables_with t' m (request_of bytes) → t' ≡ t → AreTablesOf t log → AreTablesOf new (Post m bytes ∷ log)
+    → new ≡ tables_with t' m (request_of bytes) → t' ≡ t → AreTablesOf t log
+    → AreTablesOf new (Post m bytes ∷ log)
 record_from t t' new log m bytes e same s =
     subst (λ (u : Tables). AreTablesOf u (Post m bytes ∷ log))
     (sym (e ∙ ap (λ (u : Tables). tables_with u m (request_of bytes)) same))
@@ -85,7 +86,8 @@ pub plain_shows : (bank : PlainBank) (log : List Command) → ShowsLog (plain_se
     → AreTablesOf (plain_tables bank) log
 plain_shows bank log s = subst (λ (t : Tables). AreTablesOf t log) s.are s.shows
 
-pub shows_plain : (bank : PlainBank) (log : List Command) → AreCommands log → AreTablesOf (plain_tables bank) log
+pub shows_plain : (bank : PlainBank) (log : List Command) → AreCommands log
+    → AreTablesOf (plain_tables bank) log
     → ShowsLog (plain_seen bank) log
 shows_plain bank log commands s = record {
   commands = commands;
@@ -104,7 +106,8 @@ stands_plain bank log commands s = record {
 
 -- commands that its rows took
 pub takes_plain : (old new : PlainBank) (cs : List Command) → AreCommands cs
-    → ((log : List Command) → AreTablesOf (plain_tables old) log → AreTablesOf (plain_tables new) (behind log cs))
+    → ((log : List Command) → AreTablesOf (plain_tables old) log
+    → AreTablesOf (plain_tables new) (behind log cs))
     → Takes (plain_seen old) (plain_seen new) cs
 takes_plain old new cs valid s = record {
   shows = λ h log l. shows_plain new (behind log cs) (commands_behind log cs l.commands valid)

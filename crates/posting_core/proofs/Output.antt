@@ -14,7 +14,8 @@ use Rattle.posting_rules.specs.Counter.{Seen, ShowsLog}
 use Rattle.posting_rules.specs.Runs.{behind, posts, replies_to, ArePosts}
 use Rattle.posting_rules.specs.Resends.{Skips}
 use Rattle.posting_core.specs.Batches.{Batch, IsRecord, joined, records_of, posts_in, posts_of}
-use Rattle.posting_core.specs.Stream.{replies_text, acknowledged, IfTaken, Streamed, OutputsReplies, SurvivesStream}
+use Rattle.posting_core.specs.Stream.{replies_text, acknowledged, IfTaken, Streamed, OutputsReplies}
+use Rattle.posting_core.specs.Stream.{SurvivesStream}
 use Rattle.posting_core.specs.Stream.{Resends}
 use Rattle.posting_rules.proofs.Sequence.{replies_to-append, one_reply_each}
 use Rattle.posting_rules.proofs.Resends.{shows_log_left_out}

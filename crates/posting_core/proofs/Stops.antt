@@ -14,7 +14,8 @@ use Rattle.posting_rules.proofs.Sequence.{behind-append}
 -- a stop leaves all that was taken
 pub stop_all : (c : Seen) (log cs ds : List Command) → cs ≡ ds → StandsAt c (behind log ds)
     → LeavesOnly c (ShowsBeginning log cs (length ds))
-stop_all c log cs ds e s = leaves_weaker c (λ t. AreTablesOf t (behind log ds)) (ShowsBeginning log cs (length ds))
+stop_all c log cs ds e s = leaves_weaker c (λ t. AreTablesOf t (behind log ds))
+    (ShowsBeginning log cs (length ds))
     (λ t shown.
     let all : take (length ds) cs ≡ ds = ap (take (length ds)) e ∙ take_all (length ds) ds (omega arith) in
     record {

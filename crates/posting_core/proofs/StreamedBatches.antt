@@ -22,7 +22,8 @@ all_more P (x ∷ xs) ys a b = (a.0, all_more P xs ys a.1 b)
 
 readings_more : (k k' k'' : Option (List ℕ)) (ms : List ℕ) (m : ℕ) → AreReadings k k' ms → IsReading k' k'' m
     → AreReadings k k'' (ms ++ m ∷ [])
-readings_more k k' k'' [] m e r = (subst (λ (o : Option (List ℕ)). IsNextReading o m) e r.0, r.1 ∙ ap after_one e)
+readings_more k k' k'' [] m e r =
+    (subst (λ (o : Option (List ℕ)). IsNextReading o m) e r.0, r.1 ∙ ap after_one e)
 readings_more k k' k'' (x ∷ ms) m e r = (e.0, readings_more (after_one k) k' k'' ms m e.1 r)
 
 -- commands that were taken, and then others

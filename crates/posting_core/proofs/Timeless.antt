@@ -14,7 +14,8 @@ use Rattle.posting_rules.specs.Kept.{KeptFields}
 use Rattle.posting_rules.specs.Commands.{Command, Post, opened, branch_of_teller, is_teller_open}
 use Rattle.posting_rules.specs.Commands.{is_account_open}
 use Rattle.posting_rules.specs.Cases.{case_of}
-use Rattle.posting_rules.specs.Entries.{DecidedRequest, is_posted, facts, kept, kept_fields, posted_sum, with_verdict}
+use Rattle.posting_rules.specs.Entries.{DecidedRequest, is_posted, facts, kept, kept_fields, posted_sum}
+use Rattle.posting_rules.specs.Entries.{with_verdict}
 use Rattle.posting_rules.specs.Entries.{with_record, decided, reply_to, reply}
 use Rattle.posting_rules.specs.Runs.{behind, posts, replies_to}
 use Rattle.posting_core.specs.Batches.{Batch, posts_in, posts_of, records_of}
@@ -82,7 +83,8 @@ verdict_zeroed m r (Again a) es = refl
 verdict_zeroed m r (Refused o) es = refl
 verdict_zeroed m r (Posted a t b) es = refl
 
-pub record_zeroed : (m : ℕ) (opened : ℕ → Option ℕ) (es : List DecidedRequest) (read : Result RequestFields Bad)
+pub record_zeroed : (m : ℕ) (opened : ℕ → Option ℕ) (es : List DecidedRequest)
+    (read : Result RequestFields Bad)
     → zeroed (with_record m read opened es) ≡ with_record 0 read opened (zeroed es)
 record_zeroed m opened es (Ok r) =
     verdict_zeroed m r (case_of (facts opened es r) r) es ∙ ap

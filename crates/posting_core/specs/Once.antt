@@ -54,7 +54,8 @@ pub record IsRefused (fault : Fault) (r r' w w' : Option (List ℕ)) (c c' : See
   pub refuses : Refuses fault c c' (Post moment bytes ∷ [])
 
 -- what stands after each fault
-abbrev pub LeavesAfterFault : OnceFault → Option (List ℕ) → Option (List ℕ) → Option (List ℕ) → Option (List ℕ) → Seen
+abbrev pub LeavesAfterFault : OnceFault → Option (List ℕ) → Option (List ℕ) → Option (List ℕ)
+    → Option (List ℕ) → Seen
     → Seen → ℕ → Type 0
 LeavesAfterFault Short r r' w w' c c' moment = EndsShort r r' w w' c c'
 LeavesAfterFault Read r r' w w' c c' moment = IsUnread w w' c c'

@@ -104,10 +104,12 @@ WritesReplies (Err Write) w w' text = (n : ℕ) × Appends w w' (take n text)
 WritesReplies (Err (Bank fault)) w w' text = (n : ℕ) × Appends w w' (take n text)
 WritesReplies _ w w' text = Appends w w' text
 
-pub record OutputsReplies (r r' w w' : Option (List ℕ)) (c c' : Seen) (result : Result ℕ StreamFault) : Type 0 where
+pub record OutputsReplies (r r' w w' : Option (List ℕ)) (c c' : Seen)
+    (result : Result ℕ StreamFault) : Type 0 where
   pub bytes : List ℕ
   pub read : Consumes r r' bytes
-  pub writes : c'.honest → (log : List Command) → ShowsLog c log → WritesReplies result w w' (replies_text log bytes)
+  pub writes : c'.honest → (log : List Command) → ShowsLog c log
+      → WritesReplies result w w' (replies_text log bytes)
 
 -- ---- what the ends told: the source from r to r', and the sink from w to w'
 

@@ -55,7 +55,8 @@ pub fn answer_once<R: Source, W: Sink, C: Counter>(
     ensures ok { OnOk result (RecordIsAnswered (R.remaining reader.old) (R.remaining reader.new)
         (W.contents writer.old) (W.contents writer.new)
         (C.seen bank.old) (C.seen bank.new) moment) }
-    ensures fault { IfErr result (λ fault. LeavesAfterFault fault (R.remaining reader.old) (R.remaining reader.new)
+    ensures fault { IfErr result
+        (λ fault. LeavesAfterFault fault (R.remaining reader.old) (R.remaining reader.new)
         (W.contents writer.old) (W.contents writer.new)
         (C.seen bank.old) (C.seen bank.new) moment) }
     ensures ended { IsErrOf result OnceFault.Short

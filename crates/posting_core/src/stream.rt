@@ -4,7 +4,8 @@ ghost use Rattle.std.specs.Result.{IsErrOf};
 ghost use Rattle.posting_core.specs.Clock.{IsReading};
 ghost use Rattle.posting_rules.specs.Runs.{posts};
 ghost use Rattle.posting_core.specs.Batches.{BatchIsAnswered, BreaksOff};
-ghost use Rattle.posting_core.specs.Stream.{Streamed, OutputsReplies, SurvivesStream, Resends, StreamFaultIsOfItsEnd};
+ghost use Rattle.posting_core.specs.Stream.{Streamed, OutputsReplies, SurvivesStream, Resends};
+ghost use Rattle.posting_core.specs.Stream.{StreamFaultIsOfItsEnd};
 ghost use Rattle.posting_core.specs.Stream.{IfBank, IfTaken, IsRefusedBehind, UnlessDown};
 ghost use Rattle.posting_core.specs.Told.{EndsWith, HasWriteFailed, IsFlush};
 
@@ -76,7 +77,8 @@ fn answer_batch<W: Sink, K: Clock, C: Counter>(
     requires few { length records.now ≤ RECORDS_PER_BATCH }
     ensures answers { (moment : ℕ) × IsReading (K.readings clock.old) (K.readings clock.new) moment
         × MatchResult result
-        (λ _. BatchIsAnswered (W.contents writer.old) (W.contents writer.new) (C.seen bank.old) (C.seen bank.new)
+        (λ _. BatchIsAnswered (W.contents writer.old) (W.contents writer.new) (C.seen bank.old)
+        (C.seen bank.new)
         (posts moment records.now))
         (λ fault. BreaksOff fault (W.contents writer.old) (W.contents writer.new) (C.seen bank.old)
         (C.seen bank.new) (posts moment records.now)) }

@@ -9,7 +9,8 @@ use Rattle.posting_rules.specs.Runs.{replies_to}
 use Rattle.posting_rules.proofs.Calls.{opens}
 use Rattle.posting_rules.proofs.Records.{past_reply, past_shown}
 
-pub answer_alike : (t : Tables) (one two cs : List Command) → AreTablesOf t one → AreTablesOf t two → AreCommands cs
+pub answer_alike : (t : Tables) (one two cs : List Command) → AreTablesOf t one → AreTablesOf t two
+    → AreCommands cs
     → replies_to one cs ≡ replies_to two cs
 answer_alike t one two [] s u valid = refl
 answer_alike t one two (Post m bytes ∷ cs) s u valid =

@@ -10,7 +10,8 @@ use Rattle.std.proofs.lemmas.Bool.Decides.{nat_tests}
 use Rattle.posting_rules.specs.declared.rows.HistoryRow.{HistoryRow}
 use Rattle.posting_rules.specs.Commands.{Command, opened, branch_of_teller}
 use Rattle.posting_rules.specs.Entries.{DecidedRequest, is_posted, posted_sum, branch_balance, decided}
-use Rattle.posting_rules.specs.Tables.{Tables, HasRows, AreTablesOf, row_at, branch_key, teller_key, account_key}
+use Rattle.posting_rules.specs.Tables.{Tables, HasRows, AreTablesOf, row_at, branch_key, teller_key}
+use Rattle.posting_rules.specs.Tables.{account_key}
 use Rattle.posting_rules.specs.Tables.{history_key, history_row, history_row_of, request_row}
 use Rattle.posting_rules.specs.LookUps.{balance_of_branch, balance_of_teller, balance_of_account}
 use Rattle.posting_rules.specs.Laws.{total, delta_of, tellers_of, Match, IsConsistent}
@@ -26,7 +27,8 @@ use Rattle.posting_rules.proofs.PostedSums.{branch_has, tellers_have, accounts_h
 late : (n o : ℕ) → n < o → eqb n o ≡ false
 late n o lt = grind (arith, nat_tests)
 
-nothing_past : (es : List DecidedRequest) (o : ℕ) → length es < o → sum_where (λ k. eqb k o) (posted_at es) ≡ pos 0
+nothing_past : (es : List DecidedRequest) (o : ℕ) → length es < o → sum_where (λ k. eqb k o) (posted_at es)
+    ≡ pos 0
 nothing_past [] o lt = refl
 nothing_past (e ∷ es) o lt =
     elim (by_test (is_posted e)) [
@@ -64,7 +66,8 @@ posted_has_row : (es : List DecidedRequest) (e : DecidedRequest) → is_posted e
 posted_has_row es e p = rw (p, eq-eqb (length es + 1) (length es + 1) refl) refl
 
 -- the postings of a list have rows in a history that has those of the list
-have_at : (es : List DecidedRequest) (row : ℕ → Bool) → ((o : ℕ) → is_some (history_row es o) ≡ true → row o ≡ true)
+have_at : (es : List DecidedRequest) (row : ℕ → Bool)
+    → ((o : ℕ) → is_some (history_row es o) ≡ true → row o ≡ true)
     → AllByRecursion (λ p. row p.0 ≡ true) (posted_at es)
 have_at [] row h = tt
 have_at (e ∷ es) row h =
@@ -79,7 +82,8 @@ have_at (e ∷ es) row h =
 
 -- ---- requests and history match
 
-match_past : (es : List DecidedRequest) (o : ℕ) → length es < o → (request_row es o ≡ None) × (history_row es o ≡ None)
+match_past : (es : List DecidedRequest) (o : ℕ) → length es < o
+    → (request_row es o ≡ None) × (history_row es o ≡ None)
 match_past [] o lt = (refl, refl)
 match_past (e ∷ es) o lt =
     let rest = match_past es o (omega arith) in

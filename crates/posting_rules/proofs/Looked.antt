@@ -6,9 +6,11 @@ use Rattle.message_records.specs.Records.{RequestFields}
 use Rattle.posting_rules.specs.declared.facts.Found.{Found}
 use Rattle.posting_rules.specs.Commands.{Command, opened, branch_of_teller, is_teller_open, is_account_open}
 use Rattle.posting_rules.specs.Kept.{KeptFields}
-use Rattle.posting_rules.specs.Entries.{DecidedRequest, facts, teller_balance, branch_balance, account_balance}
+use Rattle.posting_rules.specs.Entries.{DecidedRequest, facts, teller_balance, branch_balance}
+use Rattle.posting_rules.specs.Entries.{account_balance}
 use Rattle.posting_rules.specs.Entries.{decided, balance_behind}
-use Rattle.posting_rules.specs.Tables.{Tables, HasRows, AreTablesOf, row_at, branch_key, branch_row_of, teller_row}
+use Rattle.posting_rules.specs.Tables.{Tables, HasRows, AreTablesOf, row_at, branch_key, branch_row_of}
+use Rattle.posting_rules.specs.Tables.{teller_row}
 use Rattle.posting_rules.specs.Tables.{teller_row_of, account_row_of}
 use Rattle.posting_rules.specs.LookUps.{found_in, both_of, teller_balances_in, account_balance_in, count_in}
 use Rattle.posting_rules.specs.LookUps.{count_of_branch, balance_of_branch, balance_of_teller}
@@ -54,13 +56,15 @@ count_of_row : (o : Option ℕ) (b : ℕ) (z : ℤ)
 count_of_row (Some n) b z = refl
 count_of_row None b z = refl
 
-pub count_shown : (t : Tables) (opened : ℕ → Option ℕ) (es : List DecidedRequest) (b : ℕ) → HasRows t opened es
+pub count_shown : (t : Tables) (opened : ℕ → Option ℕ) (es : List DecidedRequest) (b : ℕ)
+    → HasRows t opened es
     → count_in t b ≡ opened b
 count_shown t opened es b s = ap (option_map count_of_branch) (s.branches b) ∙ count_of_row (opened b) b
     (branch_balance es b)
 
 -- all that is looked up for a request
-pub found_shown : (t : Tables) (opened : ℕ → Option ℕ) (es : List DecidedRequest) (r : RequestFields) → AreNew es
+pub found_shown : (t : Tables) (opened : ℕ → Option ℕ) (es : List DecidedRequest) (r : RequestFields)
+    → AreNew es
     → HasRows t opened es → found_in t r ≡ facts opened es r
 found_shown t opened es r new s =
     made _ _ _ _ _ _ _ _ (teller_balances_shown t opened es r.teller s)

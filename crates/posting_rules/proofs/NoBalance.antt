@@ -46,7 +46,8 @@ account_none opened es n all closed =
     none_named (λ r. r.account) (λ k. is_account_open opened k) es n
     (all_follow (NamesOpen opened) _ es (λ e named. named.account) all) closed
 
-pub branch_none : (opened : ℕ → Option ℕ) (es : List DecidedRequest) (n : ℕ) → AllNameOpen opened es → opened n ≡ None
+pub branch_none : (opened : ℕ → Option ℕ) (es : List DecidedRequest) (n : ℕ) → AllNameOpen opened es
+    → opened n ≡ None
     → branch_balance es n ≡ pos 0
 branch_none opened es n all closed =
     none_named (λ r. r.branch) (λ k. is_some (opened k)) es n

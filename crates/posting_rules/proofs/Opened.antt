@@ -8,8 +8,10 @@ use Rattle.std.proofs.lemmas.Bool.{eqb-true}
 use Rattle.posting_rules.specs.declared.limits.TheConstants.{MOST_ACCOUNTS}
 use Rattle.posting_rules.specs.Commands.{Command, Open, opened, branch_of_teller, branch_of_account}
 use Rattle.posting_rules.specs.Commands.{place_of_account, is_within, is_teller_open, is_account_open}
-use Rattle.posting_rules.specs.Entries.{DecidedRequest, teller_balance, branch_balance, account_balance, decided}
-use Rattle.posting_rules.specs.Tables.{Tables, HasRows, AreTablesOf, branch_row_of, teller_row_of, account_row_of}
+use Rattle.posting_rules.specs.Entries.{DecidedRequest, teller_balance, branch_balance, account_balance}
+use Rattle.posting_rules.specs.Entries.{decided}
+use Rattle.posting_rules.specs.Tables.{Tables, HasRows, AreTablesOf, branch_row_of, teller_row_of}
+use Rattle.posting_rules.specs.Tables.{account_row_of}
 use Rattle.posting_rules.specs.Steps.{OpensBranch, is_from, first_teller, first_account}
 use Rattle.posting_rules.proofs.Keyed.{by_test}
 use Rattle.posting_rules.proofs.NamedOpen.{AllNameOpen, with_branch, all_name_open, teller_stays}
@@ -117,7 +119,8 @@ branch_added old new opened es b count all closed hb hc s step = record {
 
 -- a branch that wasn't open is added
 pub opening_shown : (old new : Tables) (log : List Command) (b count : ℕ) → opened log b ≡ None → 1 ≤ b
-    → count ≤ MOST_ACCOUNTS → AreTablesOf old log → OpensBranch old new b count → AreTablesOf new (Open b count ∷ log)
+    → count ≤ MOST_ACCOUNTS → AreTablesOf old log → OpensBranch old new b count
+    → AreTablesOf new (Open b count ∷ log)
 opening_shown old new log b count closed hb hc s step =
     record {
       rows = branch_added old new (λ x. opened log x) (decided log) b count (all_name_open log) closed

@@ -7,7 +7,8 @@ use Rattle.std.specs.Option.{option_map}
 use Rattle.message_records.specs.Records.{RequestFields}
 use Rattle.posting_rules.specs.declared.rows.BranchRow.{BranchRow}
 use Rattle.posting_rules.specs.Commands.{opened, branch_of_teller, is_teller_open, is_account_open}
-use Rattle.posting_rules.specs.Entries.{DecidedRequest, is_posted, posted_sum, account_balance, teller_balance}
+use Rattle.posting_rules.specs.Entries.{DecidedRequest, is_posted, posted_sum, account_balance}
+use Rattle.posting_rules.specs.Entries.{teller_balance}
 use Rattle.posting_rules.specs.Entries.{branch_balance}
 use Rattle.posting_rules.specs.Tables.{Tables, HasRows, HasKeys, row_at, branch_key, teller_key, account_key}
 use Rattle.posting_rules.specs.Tables.{branch_row_of, teller_row_of, account_row_of}

@@ -7,7 +7,8 @@ use Rattle.std.proofs.lemmas.Bool.{le-leb}
 use Rattle.posting_rules.specs.declared.rows.BranchRow.{BranchRow}
 use Rattle.posting_rules.specs.Commands.{Command, opened, branch_of_teller, branch_of_account}
 use Rattle.posting_rules.specs.Commands.{place_of_account, is_within}
-use Rattle.posting_rules.specs.Entries.{DecidedRequest, account_balance, teller_balance, branch_balance, decided}
+use Rattle.posting_rules.specs.Entries.{DecidedRequest, account_balance, teller_balance, branch_balance}
+use Rattle.posting_rules.specs.Entries.{decided}
 use Rattle.posting_rules.specs.Tables.{Tables, HasRows, AreTablesOf, HasKeys, row_at, branch_key, teller_key}
 use Rattle.posting_rules.specs.Tables.{account_key, history_key, request_key, branch_row_of, teller_row_of}
 use Rattle.posting_rules.specs.Tables.{account_row_of}

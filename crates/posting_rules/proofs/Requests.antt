@@ -36,7 +36,8 @@ new_verdict opened es m r (Again x) h all = all
 new_verdict opened es m r (Refused o) h all = (h.new, all)
 new_verdict opened es m r (Posted a t b) h all = (h.new, all)
 
-new_record : (opened : ℕ → Option ℕ) (es : List DecidedRequest) (m : ℕ) (read : Result RequestFields Bad) → AreNew es
+new_record : (opened : ℕ → Option ℕ) (es : List DecidedRequest) (m : ℕ) (read : Result RequestFields Bad)
+    → AreNew es
     → AreNew (with_record m read opened es)
 new_record opened es m (Ok r) all = new_verdict opened es m r (case_of (facts opened es r) r)
     (verdict_is opened es r) all
@@ -63,7 +64,8 @@ pair_same a b = let p : eqb a a ≡ true = eq-eqb a a refl in let q : eqb b b �
 -- ---- the law
 
 -- a request that none of the entries is kept under shares with none of them
-none_shared : (d : DecidedRequest) (es : List DecidedRequest) → kept es d.request.teller d.request.number ≡ None
+none_shared : (d : DecidedRequest) (es : List DecidedRequest) → kept es d.request.teller d.request.number
+    ≡ None
     → AllByRecursion (λ e. Differ d e) es
 none_shared d [] h = tt
 none_shared d (e ∷ es) h =

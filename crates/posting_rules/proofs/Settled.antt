@@ -18,7 +18,8 @@ use Rattle.posting_rules.specs.Kept.{KeptFields}
 use Rattle.posting_rules.specs.Commands.{Command, Open, Post, opened, branch_of_teller, is_teller_open}
 use Rattle.posting_rules.specs.Cases.{new_case, account_case, plus_within, is_same, reply_in, kept_reply}
 use Rattle.posting_rules.specs.Cases.{balance_shown}
-use Rattle.posting_rules.specs.Entries.{DecidedRequest, facts, kept, with_verdict, with_record, decided, reply_to}
+use Rattle.posting_rules.specs.Entries.{DecidedRequest, facts, kept, with_verdict, with_record, decided}
+use Rattle.posting_rules.specs.Entries.{reply_to}
 use Rattle.posting_rules.specs.Entries.{reply}
 use Rattle.posting_rules.specs.Runs.{behind, ArePosts}
 use Rattle.posting_rules.proofs.Keyed.{by_test}
@@ -34,7 +35,8 @@ abbrev Settles : (ℕ → Option ℕ) → List DecidedRequest → RequestFields 
 Settles opened es r m v = IsSettled opened (with_verdict m r v es) r (reply_in v r)
 
 -- a request that is decided now is known from then on
-decided_now : (opened : ℕ → Option ℕ) (es : List DecidedRequest) (r : RequestFields) (m : ℕ) (o : Outcome) (z : ℤ)
+decided_now : (opened : ℕ → Option ℕ) (es : List DecidedRequest) (r : RequestFields) (m : ℕ) (o : Outcome)
+    (z : ℤ)
     (out : ReplyFields)
     → is_teller_open opened r.teller ≡ true
     → out ≡ record { outcome = o; request = Some r; balance = balance_shown o z }
@@ -143,7 +145,8 @@ read_stays : (opened : ℕ → Option ℕ) (es : List DecidedRequest) (read othe
 read_stays opened es (Ok r) other out m h = settled_stays opened es r out m other h
 read_stays opened es (Err e) other out m h = h
 
-read_says : (opened : ℕ → Option ℕ) (es : List DecidedRequest) (read : Result RequestFields Bad) (out : ReplyFields)
+read_says : (opened : ℕ → Option ℕ) (es : List DecidedRequest) (read : Result RequestFields Bad)
+    (out : ReplyFields)
     → IsReadSettled opened es read out
     → (reply_to read opened es ≡ out) × ((m : ℕ) → with_record m read opened es ≡ es)
 read_says opened es (Ok r) out h = settled_says opened es r out h

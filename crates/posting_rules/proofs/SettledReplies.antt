@@ -12,7 +12,8 @@ use Rattle.posting_rules.specs.Kept.{KeptFields}
 use Rattle.posting_rules.specs.Commands.{opened, branch_of_teller, is_teller_open}
 use Rattle.posting_rules.specs.Cases.{case_of, teller_case, known_case, new_case, is_same, reply_in}
 use Rattle.posting_rules.specs.Cases.{kept_reply}
-use Rattle.posting_rules.specs.Entries.{DecidedRequest, facts, kept, teller_balance, branch_balance, with_verdict}
+use Rattle.posting_rules.specs.Entries.{DecidedRequest, facts, kept, teller_balance, branch_balance}
+use Rattle.posting_rules.specs.Entries.{with_verdict}
 use Rattle.posting_rules.specs.Entries.{with_record, reply_to}
 use Rattle.posting_rules.proofs.Keyed.{by_test}
 
@@ -51,7 +52,8 @@ IsSettled opened es r out = IsClosed opened r out ⊎ IsKnown opened es r out �
 abbrev SaysSame : (ℕ → Option ℕ) → List DecidedRequest → RequestFields → ReplyFields → Type 0
 SaysSame opened es r out = (reply_to (Ok r) opened es ≡ out) × ((m : ℕ) → with_record m (Ok r) opened es ≡ es)
 
-by_verdict : (opened : ℕ → Option ℕ) (es : List DecidedRequest) (r : RequestFields) (out : ReplyFields) (v : Verdict)
+by_verdict : (opened : ℕ → Option ℕ) (es : List DecidedRequest) (r : RequestFields) (out : ReplyFields)
+    (v : Verdict)
     → case_of (facts opened es r) r ≡ v → reply_in v r ≡ out
     → ((m : ℕ) → with_verdict m r v es ≡ es) → SaysSame opened es r out
 by_verdict opened es r out v e eo ed =

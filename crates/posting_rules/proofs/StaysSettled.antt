@@ -21,7 +21,8 @@ both_true true b e = (refl, e)
 both_true false b e = absurd cc
 
 -- a request that is new isn't the one that is kept
-other_number : (es : List DecidedRequest) (x r : RequestFields) (k : KeptFields) → kept es x.teller x.number ≡ None
+other_number : (es : List DecidedRequest) (x r : RequestFields) (k : KeptFields)
+    → kept es x.teller x.number ≡ None
     → kept es r.teller r.number ≡ Some k
     → ((eqb x.teller r.teller) && (eqb x.number r.number)) ≡ false
 other_number es x r k none some =
@@ -59,7 +60,8 @@ full_stays opened es x m (Refused o) h e = let le = leb-true _ _ e in let lt = h
 full_stays opened es x m (Posted a t b) h e = let le = leb-true _ _ e in let lt = h.room in absurd
     (omega arith)
 
-pub settled_stays : (opened : ℕ → Option ℕ) (es : List DecidedRequest) (r : RequestFields) (out : ReplyFields) (m : ℕ)
+pub settled_stays : (opened : ℕ → Option ℕ) (es : List DecidedRequest) (r : RequestFields) (out : ReplyFields)
+    (m : ℕ)
     (read : Result RequestFields Bad)
     → IsSettled opened es r out → IsSettled opened (with_record m read opened es) r out
 settled_stays opened es r out m (Err e) h = h

@@ -20,7 +20,8 @@ use Rattle.posting_rules.specs.declared.rows.RequestRow.{RequestRow}
 use Rattle.posting_rules.specs.Commands.{Command, Post, opened, branch_of_teller, is_teller_open}
 use Rattle.posting_rules.specs.Commands.{is_account_open}
 use Rattle.posting_rules.specs.Cases.{case_of, reply_in}
-use Rattle.posting_rules.specs.Entries.{DecidedRequest, is_posted, facts, posted_sum, teller_balance, branch_balance}
+use Rattle.posting_rules.specs.Entries.{DecidedRequest, is_posted, facts, posted_sum, teller_balance}
+use Rattle.posting_rules.specs.Entries.{branch_balance}
 use Rattle.posting_rules.specs.Entries.{account_balance, refused_entry, posted_entry, with_verdict}
 use Rattle.posting_rules.specs.Entries.{with_record, reply_to, decided, reply}
 use Rattle.posting_rules.specs.Tables.{Tables, HasRows, HasKeys, AreTablesOf, row_at, branch_key, teller_key}
@@ -68,7 +69,8 @@ requests_added old new es e adds shown o =
     named true t = ap (λ (n : ℕ). Some (request_row_of n e)) (eqb-true _ _ t)
     named false f = refl
 
-history_added : (old new : List HistoryRow) (es : List DecidedRequest) (e : DecidedRequest) → is_posted e ≡ true
+history_added : (old new : List HistoryRow) (es : List DecidedRequest) (e : DecidedRequest)
+    → is_posted e ≡ true
     → AddsRow history_key (history_row_of (length es + 1) e) old new
     → ((o : ℕ) → row_at history_key old o ≡ history_row es o) → (o : ℕ)
     → row_at history_key new o ≡ history_row (e ∷ es) o
@@ -85,7 +87,8 @@ history_added old new es e done adds shown o =
 -- ---- balances
 
 -- what isn't posted adds to no sum, and to no history
-unposted_sum : (test : RequestFields → Bool) (es : List DecidedRequest) (e : DecidedRequest) → is_posted e ≡ false
+unposted_sum : (test : RequestFields → Bool) (es : List DecidedRequest) (e : DecidedRequest)
+    → is_posted e ≡ false
     → posted_sum test es ≡ posted_sum test (e ∷ es)
 unposted_sum test es e h = rw h refl
 
@@ -120,7 +123,8 @@ account_changed false hit n z old delta h = refl
 one_more : (n : ℕ) → n + 1 ≡ suc n
 one_more n = omega arith
 
-refusal_shown : (old new : Tables) (opened : ℕ → Option ℕ) (es : List DecidedRequest) (m : ℕ) (r : RequestFields)
+refusal_shown : (old new : Tables) (opened : ℕ → Option ℕ) (es : List DecidedRequest) (m : ℕ)
+    (r : RequestFields)
     (o : Outcome)
     → HasRows old opened es → IsRefusal es r o → KeepsRefusal old new (length es + 1) (refused_entry m r o)
     → HasRows new opened (refused_entry m r o ∷ es)
@@ -151,7 +155,8 @@ refusal_shown old new opened es m r o s h step =
       request_keys = step.requests.keys;
     }
 
-posting_shown : (old new : Tables) (opened : ℕ → Option ℕ) (es : List DecidedRequest) (m : ℕ) (r : RequestFields)
+posting_shown : (old new : Tables) (opened : ℕ → Option ℕ) (es : List DecidedRequest) (m : ℕ)
+    (r : RequestFields)
     (a t b : ℤ)
     → HasRows old opened es → IsPosting opened es r a t b
     → KeepsPosting old new (length es + 1) (posted_entry m r a) t b
@@ -184,7 +189,8 @@ posting_shown old new opened es m r a t b s h step =
       request_keys = step.requests.keys;
     }
 
-verdict_shown : (old new : Tables) (opened : ℕ → Option ℕ) (es : List DecidedRequest) (m : ℕ) (r : RequestFields)
+verdict_shown : (old new : Tables) (opened : ℕ → Option ℕ) (es : List DecidedRequest) (m : ℕ)
+    (r : RequestFields)
     (v : Verdict)
     → HasRows old opened es → IsVerdict opened es r v → IsStep old new (length es + 1) m r v
     → HasRows new opened (with_verdict m r v es)

@@ -18,9 +18,11 @@ use Rattle.posting_rules.specs.declared.rows.RequestRow.{RequestRow}
 use Rattle.posting_rules.specs.Commands.{Command, Open, IsCommand, AreCommands, opened, branch_of_teller}
 use Rattle.posting_rules.specs.Commands.{branch_of_account, place_of_account, is_within, is_teller_open}
 use Rattle.posting_rules.specs.Commands.{is_account_open}
-use Rattle.posting_rules.specs.Entries.{DecidedRequest, is_posted, account_balance, teller_balance, branch_balance}
+use Rattle.posting_rules.specs.Entries.{DecidedRequest, is_posted, account_balance, teller_balance}
+use Rattle.posting_rules.specs.Entries.{branch_balance}
 use Rattle.posting_rules.specs.Entries.{decided}
-use Rattle.posting_rules.specs.Tables.{Tables, AreTablesOf, HasKeys, row_at, branch_key, teller_key, account_key}
+use Rattle.posting_rules.specs.Tables.{Tables, AreTablesOf, HasKeys, row_at, branch_key, teller_key}
+use Rattle.posting_rules.specs.Tables.{account_key}
 use Rattle.posting_rules.specs.Tables.{history_key, request_key, branch_row_of, teller_row_of, account_row_of}
 use Rattle.posting_rules.specs.Tables.{history_row, history_row_of, request_row, request_row_of}
 use Rattle.posting_rules.specs.Damage.{IsSoundBranch, IsSoundTeller, IsSoundAccount, IsSoundRequest}

@@ -16,7 +16,8 @@ use Rattle.posting_rules.specs.Kept.{KeptFields}
 use Rattle.posting_rules.specs.Commands.{branch_of_teller, is_teller_open, is_account_open}
 use Rattle.posting_rules.specs.Cases.{case_of, teller_case, known_case, new_case, account_case, posting_of}
 use Rattle.posting_rules.specs.Cases.{plus_within, is_same}
-use Rattle.posting_rules.specs.Entries.{DecidedRequest, facts, kept, teller_balance, branch_balance, account_balance}
+use Rattle.posting_rules.specs.Entries.{DecidedRequest, facts, kept, teller_balance, branch_balance}
+use Rattle.posting_rules.specs.Entries.{account_balance}
 use Rattle.posting_rules.proofs.Keyed.{by_test}
 
 -- a new balance is the old one with the amount, and within the limit

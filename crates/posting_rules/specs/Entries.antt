@@ -84,7 +84,8 @@ with_verdict moment r (Again reply) es = es
 with_verdict moment r (Refused outcome) es = refused_entry moment r outcome ∷ es
 with_verdict moment r (Posted account teller branch) es = posted_entry moment r account ∷ es
 
-abbrev pub with_record : ℕ → Result RequestFields Bad → (ℕ → Option ℕ) → List DecidedRequest → List DecidedRequest
+abbrev pub with_record : ℕ → Result RequestFields Bad → (ℕ → Option ℕ) → List DecidedRequest
+    → List DecidedRequest
 with_record moment (Err fault) opened es = es
 with_record moment (Ok r) opened es = with_verdict moment r (case_of (facts opened es r) r) es
 

@@ -8,7 +8,8 @@ use Rattle.posting_rules.specs.declared.rows.TellerRow.{TellerRow}
 use Rattle.posting_rules.specs.declared.rows.HistoryRow.{HistoryRow}
 use Rattle.posting_rules.specs.declared.rows.RequestRow.{RequestRow}
 use Rattle.posting_rules.specs.Commands.{Command, AreCommands, branch_of_teller}
-use Rattle.posting_rules.specs.Entries.{DecidedRequest, decided, account_balance, teller_balance, branch_balance}
+use Rattle.posting_rules.specs.Entries.{DecidedRequest, decided, account_balance, teller_balance}
+use Rattle.posting_rules.specs.Entries.{branch_balance}
 use Rattle.posting_rules.specs.Tables.{Tables, AreTablesOf, row_at, history_key, request_key}
 use Rattle.posting_rules.specs.LookUps.{balance_of_branch, balance_of_teller, balance_of_account}
 use Rattle.posting_rules.specs.Runs.{replies_to}
@@ -73,5 +74,6 @@ TablesAreConsistent = (t : Tables) (log : List Command) → AreTablesOf t log �
 
 -- logs with equal tables give equal replies to whatever follows
 abbrev pub EqualTablesAnswerAlike : Type 0
-EqualTablesAnswerAlike = (t : Tables) (one two cs : List Command) → AreTablesOf t one → AreTablesOf t two → AreCommands cs
+EqualTablesAnswerAlike = (t : Tables) (one two cs : List Command) → AreTablesOf t one → AreTablesOf t two
+    → AreCommands cs
     → replies_to one cs ≡ replies_to two cs

@@ -60,7 +60,8 @@ pub record KeepsRefusal (old new : Tables) (ordinal : ℕ) (e : DecidedRequest) 
 
 -- a posting is kept under this ordinal, with the new balances of its account, its teller and its branch
 -- (TPC-B 1.2)
-pub record KeepsPosting (old new : Tables) (ordinal : ℕ) (e : DecidedRequest) (teller branch : ℤ) : Type 0 where
+pub record KeepsPosting (old new : Tables) (ordinal : ℕ) (e : DecidedRequest)
+    (teller branch : ℤ) : Type 0 where
   pub decided : new.decided ≡ ordinal
   pub branches : ChangesRow branch_key (branch_of_teller e.request.teller)
       (with_branch_balance branch) old.branches new.branches

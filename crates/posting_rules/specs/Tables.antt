@@ -9,7 +9,8 @@ use Rattle.posting_rules.specs.declared.rows.AccountRow.{AccountRow}
 use Rattle.posting_rules.specs.declared.rows.HistoryRow.{HistoryRow}
 use Rattle.posting_rules.specs.declared.rows.RequestRow.{RequestRow}
 use Rattle.posting_rules.specs.Commands.{Command, opened, is_teller_open, is_account_open}
-use Rattle.posting_rules.specs.Entries.{DecidedRequest, is_posted, account_balance, teller_balance, branch_balance}
+use Rattle.posting_rules.specs.Entries.{DecidedRequest, is_posted, account_balance, teller_balance}
+use Rattle.posting_rules.specs.Entries.{branch_balance}
 use Rattle.posting_rules.specs.Entries.{kept_fields, decided}
 
 pub record Tables : Type 0 where

@@ -55,7 +55,10 @@ module _ (schema : Schema) (p : ℕ) (table : Table) (name : Name) (shown : List
       → affinity_of (over_one schema name p shown may) (col 1 at) ≡ affinity.Numeric
       → nat_lt 1 budget ≡ true → nat_lt 1 (budget - 1) ≡ true → nat_lt 1 (budget - 1 - 1) ≡ true
       → lower_to (suc (suc d)) (over_one schema name p shown may) e (st next budget l)
-      ≡ Ok (op2 (by.Compare compare.Ge Binary) (col 1 at) (col 0 (m - 1)), st next (budget - 1 - 1 - 1) nothing)
+      ≡ Ok (
+        op2 (by.Compare compare.Ge Binary) (col 1 at) (col 0 (m - 1)),
+        st next (budget - 1 - 1 - 1) nothing,
+      )
   from_test e a b wanted at m t d next budget l is left right number one two three =
       let cx = over_one schema name p shown may in
       let here = column_is schema p table has.listed name shown may wanted t.place t.column
@@ -63,7 +66,12 @@ module _ (schema : Schema) (p : ℕ) (table : Table) (name : Name) (shown : List
       let x = lower_column cx a wanted _ _ d next (budget - 1) nothing left two here in
       let y = lower_parameter cx b m d next (budget - 1 - 1) (declared table t.place t.column) right three in
       lower_start Onwards cx e a b _ _ _ _ (suc d) next budget _ _ l is one x y
-      ∙ rw (t.by_bytes, t.is_at, compared_start Onwards cx at (m - 1) number (parameter_at schema name p shown may (m - 1)))
+      ∙ rw (
+        t.by_bytes,
+        t.is_at,
+        compared_start Onwards cx at (m - 1) number
+            (parameter_at schema name p shown may (m - 1)),
+      )
 
 module _ (schema : Schema) (name : Name) (p : ℕ) (table : Table) (has : HasTable schema name p table) where
   -- SELECT columns FROM table WHERE other = ?m AND key >= ?n ORDER BY key LIMIT 1
@@ -73,8 +81,22 @@ module _ (schema : Schema) (name : Name) (p : ℕ) (table : Table) (has : HasTab
       (at m at' m' : ℕ)
       (t : Tests table wanted at) (t' : Tests table wanted' at') (os : List Output) (q : Program)
       → first text ≡ Ok P → P.statement ≡ written.Select s → P.formats ≡ []
-      → out-Select s ≡ record { with = []; first = core; others = []; order = sort ∷ []; limit = Some limit; offset = None }
-      → out-Core core ≡ record { distinct = false; shown = shown; from = source ∷ []; filter = Some both; group = []; having = None }
+      → out-Select s ≡ record {
+        with = [];
+        first = core;
+        others = [];
+        order = sort ∷ [];
+        limit = Some limit;
+        offset = None;
+      }
+      → out-Core core ≡ record {
+        distinct = false;
+        shown = shown;
+        from = source ∷ [];
+        filter = Some both;
+        group = [];
+        having = None;
+      }
       → one_table name source
       → out-Expr both ≡ Expr-F.Binary binary.And test test'
       → out-Expr test ≡ Expr-F.Binary binary.Eq a b → out-Expr a ≡ Expr-F.Column None wanted
@@ -97,11 +119,14 @@ module _ (schema : Schema) (name : Name) (p : ℕ) (table : Table) (has : HasTab
       (r7 : nat_lt 1 (spent 100000 os - 1 - 1 - 1 - 1 - 1 - 1 - 1) ≡ true)
       → alone (declared table t'.place t'.column) ≡ Binary
       → prog.program schema [] (ungrouped (Inner table.tree ∷ [])
-      (op2 (by.Compare compare.Eq Binary) (col 1 at) (col 0 (m - 1)) ∷ op2 (by.Compare compare.Ge Binary) (col 1 at') (col 0 (m' - 1)) ∷ []) os false
+      (op2 (by.Compare compare.Eq Binary) (col 1 at) (col 0 (m - 1)) ∷ op2 (by.Compare compare.Ge Binary)
+      (col 1 at') (col 0 (m' - 1)) ∷ []) os false
       ((col 1 at', record { collation = Binary; descending = false }) ∷ []) (lit v) (number 0)) ≡ Ok q
       → compiled schema text ≡ Ok (with_command P ([], (Select q (map (λ o. o.name) os), None)))
-  select_two_from text P s core source shown both test a b test' a' b' e limit sort wanted wanted' most v at m at' m' t t' os q parsed is plain select body
-      from and equal left right above left' right' sorts e_is none cap value shows room number number' r0 r1 r2 r3 r4 r5 r6 r7 bytes typed =
+  select_two_from text P s core source shown both test a b test' a' b' e limit sort wanted wanted' most v at m
+      at' m' t t' os q parsed is plain select body
+      from and equal left right above left' right' sorts e_is none cap value shows room number number' r0 r1
+      r2 r3 r4 r5 r6 r7 bytes typed =
       let cx = over_one schema name p os false in
       let B = spent 100000 os in
       let low = key_test schema p table has.listed name os false test a b wanted at m t 697 2
@@ -112,7 +137,8 @@ module _ (schema : Schema) (name : Name) (p : ℕ) (table : Table) (has : HasTab
       let there = column_is schema p table has.listed name os false wanted' t'.place t'.column
       (st 2 (B - 1 - 1 - 1 - 1 - 1 - 1 - 1 - 1) nothing) t'.named t'.there in
       let z = lower_column cx e wanted' _ _ 699 2 (B - 1 - 1 - 1 - 1 - 1 - 1 - 1) nothing e_is r7 (there
-      ∙ ap (λ k. Ok (col 1 k, st 2 (B - 1 - 1 - 1 - 1 - 1 - 1 - 1 - 1) (declared table t'.place t'.column))) t'.is_at) in
+      ∙ ap (λ k. Ok (col 1 k, st 2 (B - 1 - 1 - 1 - 1 - 1 - 1 - 1 - 1) (declared table t'.place t'.column)))
+      t'.is_at) in
       let by_key = one_order cx os sort e wanted' at' _ _ _ _ (ap (λ w. w.key) sorts)
       (ap (λ w. w.descending) sorts)
       (ap (λ w. w.nulls_first) sorts) e_is none z in

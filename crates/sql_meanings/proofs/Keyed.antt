@@ -1,5 +1,6 @@
 -- What a text means that reads or writes the row under its key, by what is computed of the text alone.
-use Rattle.std.proofs.Common.{◌≡◌, ◌≤◌, ℕ, ℤ, true, false, List, [], ◌∷◌, length, refl, slice_get, Ok, Some, None}
+use Rattle.std.proofs.Common.{◌≡◌, ◌≤◌, ℕ, ℤ, true, false, List, [], ◌∷◌, length, refl, slice_get, Ok, Some}
+use Rattle.std.proofs.Common.{None}
 use Rattle.sqlite.specs.Schema.{Schema}
 use Rattle.sqlite.specs.Table.{Table}
 use Rattle.sqlite.specs.Term.{Term, col, op2, eval_all}

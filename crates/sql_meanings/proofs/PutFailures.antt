@@ -193,7 +193,11 @@ module _ (old new : State) (t : Table) (is : IsOfNumbers (uncounted t)) (sound :
               | inr more ↦ elim (stopped (Edited schema Enforced db (put_by some.0)) (last some.0 more.0)
                   stop more.2) [
                     | inl edit ↦ edit_is some.0 (given some.0 some.1.1) stop edit
-                    | inr done ↦ elim done.2 [ inl none ↦ absurd (never none.1) | inr end ↦ absurd (never end.2) ]
+                    | inr done ↦ elim done.2 [
+                      | inl none ↦ absurd (never none.1)
+                      | inr end ↦ absurd
+                          (never end.2)
+                    ]
                   ]
             ]
       ]

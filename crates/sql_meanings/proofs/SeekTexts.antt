@@ -65,7 +65,8 @@ module _ (table : Table) (text : List ℕ) (places : List ℕ) (most : ℕ) (ter
             (rw (ordered, limited) at is.select)
             (rw filtered at is.body) is.from above left right sorts by_key (unnamed tree) capped value
             (shows_named _ _ _ (is.shows tree))
-            (has_room 100000 _ (omega arith)) (key_at schema table.name p os false) (grind arith) (grind arith)
+            (has_room 100000 _ (omega arith)) (key_at schema table.name p os false) (grind arith)
+            (grind arith)
             (grind arith) (grind arith)
             (by_bytes tree) (typed schema p tree has)) refl is.whole is.given refl refl;
         accepts = accepts;
@@ -108,7 +109,8 @@ module _ (table : Table) (text : List ℕ) (places : List ℕ) (most : ℕ) (ter
             test' a' b' e cap sort one key most_text (Int (pos most)) 2 1 0 2 (ones tree)
             (keys tree) os _ is.parsed is.statement is.plain
             (rw (ordered, limited) at is.select)
-            (rw filtered at is.body) is.from and equal left right above left' right' sorts by_key (unnamed tree)
+            (rw filtered at is.body) is.from and equal left right above left' right' sorts by_key
+            (unnamed tree)
             capped value (shows_named _ _ _ (is.shows tree)) (has_room 100000 _ (omega arith))
             (numeric schema p tree has)
             (key_at schema table.name p os false) (grind arith) (grind arith) (grind arith) (grind arith)

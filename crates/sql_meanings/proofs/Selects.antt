@@ -47,7 +47,8 @@ use Rattle.sql_meanings.proofs.ShownColumns.{ShowsColumns, HasRoom, spent, last_
 
 -- FROM one table by its name
 abbrev pub one_table : Name → From → Type 0
-one_table name source = out-Source source ≡ record { is_left = false; origin = origin.Table name; alias = None; on = None; using = [] }
+one_table name source = out-Source source
+    ≡ record { is_left = false; origin = origin.Table name; alias = None; on = None; using = [] }
 
 -- no WHERE
 pub no_test : (cx : Context) (budget : ℕ) (l : Carried)
@@ -91,10 +92,21 @@ pub one_order : (cx : Context) (os : List Output) (s : Sort) (e : Expr) (wanted 
     → (out-Sort s).key ≡ e → (out-Sort s).descending ≡ false → (out-Sort s).nulls_first ≡ None
     → out-Expr e ≡ Expr-F.Column None wanted → alias_of wanted os ≡ None
     → lower cx e (st 2 budget l) ≡ Ok (col 1 at, st 2 after m)
-    → sorts lower cx os (s ∷ []) (st 2 budget l) ≡ Ok ((col 1 at, record { collation = alone m; descending = false }) ∷ [], st 2 after m)
+    → sorts lower cx os (s ∷ []) (st 2 budget l)
+    ≡ Ok ((col 1 at, record { collation = alone m; descending = false }) ∷ [], st 2 after m)
 unfolding sorts order.sort order.key order.collation_of order.placed
 one_order cx os s e wanted at budget after l m key down nulls is none low =
-    rw (key, peeled_is e wanted is, alias_is os e wanted is, none, low, numeral_is e wanted is, written_is e wanted is, down, nulls)
+    rw (
+      key,
+      peeled_is e wanted is,
+      alias_is os e wanted is,
+      none,
+      low,
+      numeral_is e wanted is,
+      written_is e wanted is,
+      down,
+      nulls,
+    )
 
 -- all columns that are shown
 pub outputs_are_all : (schema : Schema) (p : ℕ) (table : Table)
@@ -113,8 +125,22 @@ module _ (schema : Schema) (name : Name) (p : ℕ) (table : Table) (has : HasTab
       (filter : Option Expr) (order : List Sort) (os : List Output)
       (terms : List Term) (by : List (Term × Key)) (b2 b3 : ℕ) (l2 l3 : Carried) (q : Program)
       → first text ≡ Ok P → P.statement ≡ written.Select s → P.formats ≡ []
-      → out-Select s ≡ record { with = []; first = core; others = []; order = order; limit = None; offset = None }
-      → out-Core core ≡ record { distinct = false; shown = shown; from = source ∷ []; filter = filter; group = []; having = None }
+      → out-Select s ≡ record {
+        with = [];
+        first = core;
+        others = [];
+        order = order;
+        limit = None;
+        offset = None;
+      }
+      → out-Core core ≡ record {
+        distinct = false;
+        shown = shown;
+        from = source ∷ [];
+        filter = filter;
+        group = [];
+        having = None;
+      }
       → one_table name source
       → ShowsColumns table shown os → HasRoom 100000 os
       → tests lower (over_one schema name p os false) [] filter (st 2 (spent 100000 os) (last_of nothing os))
@@ -123,10 +149,12 @@ module _ (schema : Schema) (name : Name) (p : ℕ) (table : Table) (has : HasTab
       → prog.program schema [] (ungrouped (Inner table.tree ∷ []) terms os false by no_limit (number 0))
       ≡ Ok q
       → compiled schema text ≡ Ok (with_command P ([], (Select q (map (λ o. o.name) os), None)))
-  select_is text P s core source shown filter order os terms by b2 b3 l2 l3 q parsed is plain select body from shows room two three typed
+  select_is text P s core source shown filter order os terms by b2 b3 l2 l3 q parsed is plain select body from
+      shows room two three typed
       =
       let one = outputs_are_all schema p table has.listed name shown os shows room in
-      let made = parts_are schema name p table has core source shown filter order os terms by _ b2 b3 _ l2 l3 body from one two three
+      let made = parts_are schema name p table has core source shown filter order os terms by _ b2 b3 _ l2 l3
+      body from one two three
       (no_limit, number 0) in
       let whole = query_is schema s core source name order _ select (ap (λ c. c.from) body)
       (ap (λ c. c.origin) from) made in
@@ -138,8 +166,22 @@ module _ (schema : Schema) (name : Name) (p : ℕ) (table : Table) (has : HasTab
       (test a b : Expr) (wanted : Name) (at m : ℕ) (t : Tests table wanted at) (os : List Output)
       (q : Program)
       → first text ≡ Ok P → P.statement ≡ written.Select s → P.formats ≡ []
-      → out-Select s ≡ record { with = []; first = core; others = []; order = []; limit = None; offset = None }
-      → out-Core core ≡ record { distinct = false; shown = shown; from = source ∷ []; filter = Some test; group = []; having = None }
+      → out-Select s ≡ record {
+        with = [];
+        first = core;
+        others = [];
+        order = [];
+        limit = None;
+        offset = None;
+      }
+      → out-Core core ≡ record {
+        distinct = false;
+        shown = shown;
+        from = source ∷ [];
+        filter = Some test;
+        group = [];
+        having = None;
+      }
       → one_table name source
       → out-Expr test ≡ Expr-F.Binary binary.Eq a b → out-Expr a ≡ Expr-F.Column None wanted
       → out-Expr b ≡ Expr-F.Parameter m
@@ -150,7 +192,8 @@ module _ (schema : Schema) (name : Name) (p : ℕ) (table : Table) (has : HasTab
       → prog.program schema [] (ungrouped (Inner table.tree ∷ [])
       (op2 (Compare Eq Binary) (col 1 at) (col 0 (m - 1)) ∷ []) os false [] no_limit (number 0)) ≡ Ok q
       → compiled schema text ≡ Ok (with_command P ([], (Select q (map (λ o. o.name) os), None)))
-  select_by_key text P s core source shown test a b wanted at m t os q parsed is plain select body from equal left right shows room
+  select_by_key text P s core source shown test a b wanted at m t os q parsed is plain select body from equal
+      left right shows room
       number r1 r2 r3 typed =
       let cx = over_one schema name p os false in
       let low = key_test schema p table has.listed name os false test a b wanted at m t 698 2
@@ -166,8 +209,22 @@ module _ (schema : Schema) (name : Name) (p : ℕ) (table : Table) (has : HasTab
       (both test a b test' a' b' : Expr) (wanted wanted' : Name) (at m at' m' : ℕ)
       (t : Tests table wanted at) (t' : Tests table wanted' at') (os : List Output) (q : Program)
       → first text ≡ Ok P → P.statement ≡ written.Select s → P.formats ≡ []
-      → out-Select s ≡ record { with = []; first = core; others = []; order = []; limit = None; offset = None }
-      → out-Core core ≡ record { distinct = false; shown = shown; from = source ∷ []; filter = Some both; group = []; having = None }
+      → out-Select s ≡ record {
+        with = [];
+        first = core;
+        others = [];
+        order = [];
+        limit = None;
+        offset = None;
+      }
+      → out-Core core ≡ record {
+        distinct = false;
+        shown = shown;
+        from = source ∷ [];
+        filter = Some both;
+        group = [];
+        having = None;
+      }
       → one_table name source
       → out-Expr both ≡ Expr-F.Binary binary.And test test'
       → out-Expr test ≡ Expr-F.Binary binary.Eq a b → out-Expr a ≡ Expr-F.Column None wanted
@@ -184,10 +241,12 @@ module _ (schema : Schema) (name : Name) (p : ℕ) (table : Table) (has : HasTab
       (r5 : nat_lt 1 (spent 100000 os - 1 - 1 - 1 - 1 - 1) ≡ true)
       (r6 : nat_lt 1 (spent 100000 os - 1 - 1 - 1 - 1 - 1 - 1) ≡ true)
       → prog.program schema [] (ungrouped (Inner table.tree ∷ [])
-      (op2 (Compare Eq Binary) (col 1 at) (col 0 (m - 1)) ∷ op2 (Compare Eq Binary) (col 1 at') (col 0 (m' - 1)) ∷ []) os false []
+      (op2 (Compare Eq Binary) (col 1 at) (col 0 (m - 1)) ∷ op2 (Compare Eq Binary) (col 1 at')
+      (col 0 (m' - 1)) ∷ []) os false []
       no_limit (number 0)) ≡ Ok q
       → compiled schema text ≡ Ok (with_command P ([], (Select q (map (λ o. o.name) os), None)))
-  select_by_two text P s core source shown both test a b test' a' b' wanted wanted' at m at' m' t t' os q parsed is plain select body
+  select_by_two text P s core source shown both test a b test' a' b' wanted wanted' at m at' m' t t' os q
+      parsed is plain select body
       from and equal left right equal' left' right' shows room number number' r0 r1 r2 r3 r4 r5 r6 typed =
       let cx = over_one schema name p os false in
       let B = spent 100000 os in
@@ -205,12 +264,27 @@ module _ (schema : Schema) (name : Name) (p : ℕ) (table : Table) (has : HasTab
       (shown : List Shown)
       (os : List Output) (q : Program)
       → first text ≡ Ok P → P.statement ≡ written.Select s → P.formats ≡ []
-      → out-Select s ≡ record { with = []; first = core; others = []; order = []; limit = None; offset = None }
-      → out-Core core ≡ record { distinct = false; shown = shown; from = source ∷ []; filter = None; group = []; having = None }
+      → out-Select s ≡ record {
+        with = [];
+        first = core;
+        others = [];
+        order = [];
+        limit = None;
+        offset = None;
+      }
+      → out-Core core ≡ record {
+        distinct = false;
+        shown = shown;
+        from = source ∷ [];
+        filter = None;
+        group = [];
+        having = None;
+      }
       → one_table name source → ShowsColumns table shown os → HasRoom 100000 os
       → prog.program schema [] (ungrouped (Inner table.tree ∷ []) [] os false [] no_limit (number 0)) ≡ Ok q
       → compiled schema text ≡ Ok (with_command P ([], (Select q (map (λ o. o.name) os), None)))
   select_all text P s core source shown os q parsed is plain select body from shows room typed =
       let cx = over_one schema name p os false in
-      select_is text P s core source shown None [] os [] [] _ _ _ _ q parsed is plain select body from shows room (no_test cx _ _)
+      select_is text P s core source shown None [] os [] [] _ _ _ _ q parsed is plain select body from shows
+      room (no_test cx _ _)
       (no_order cx os _ _) typed

@@ -125,7 +125,8 @@ module _ (schema : Schema) (p : ℕ) (table : Table) (listed : slice_get schema.
       )
 
   -- the columns are those that are named
-  pub outputs_are : (ss : List Shown) (os done : List Output) (budget : ℕ) (l : Carried) → ShowsColumns table ss os
+  pub outputs_are : (ss : List Shown) (os done : List Output) (budget : ℕ) (l : Carried)
+      → ShowsColumns table ss os
       → HasRoom budget os
       → outputs_from lower (over_one schema name p [] may) (bound_to name p ∷ []) done ss (st 2 budget l)
       ≡ Ok (done ++ os, st 2 (spent budget os) (last_of l os))

@@ -165,7 +165,8 @@ then_keeps a b c p q = record {
 keeps_itself : (a : Database) → KeepsWhatStood a a
 keeps_itself a = record { stands = λ t h. h; has = λ t h. h; rows = λ t h. refl }
 
-keeps_made : (old after : Database) (text : List ℕ) → MakesTable text old (Ok after) → KeepsWhatStood old after
+keeps_made : (old after : Database) (text : List ℕ) → MakesTable text old (Ok after)
+    → KeepsWhatStood old after
 keeps_made old after text made = record {
   stands = λ t h. subst (λ s. Stands s t) (sym made.is) (stands_after old.schema made.table t h);
   has = λ t h. subst (λ (s : Schema). Has s.tables t) (sym made.is) (has_left old.schema.tables _ t h);
@@ -212,7 +213,8 @@ adds limit mode params old after text tally t defined free h =
     let last : all.0 ≡ after = ap (λ (p : Tally × Database). p.1) (sym (ok_same all.2)) in
     let is : made.table ≡ t = ok_same (sym made.defined ∙ defined) in
     let new : Table = record t { tree = next_tree old.schema } in
-    let second : KeepsWhatStood mid after = subst (KeepsWhatStood mid) last (keeps_sequence mid all.0 both.2) in
+    let second : KeepsWhatStood mid after =
+    subst (KeepsWhatStood mid) last (keeps_sequence mid all.0 both.2) in
     let there : Stands mid.schema new = subst (λ s. Stands s new) (sym made.is)
     (subst (λ (u : Table). Stands (created old.schema u) new) (sym is) (stands_new old.schema t free)) in
     record {

@@ -198,9 +198,11 @@ module _ (table : Table) (text : List ℕ) (places : List ℕ) where
             let os = outputs_at (placed_at table tree) places in
             let low = many (placed_at table tree) places is.few in
             let rest = left_over (placed_at table tree) places is.few in
-            means schema text 1 _ _ (select_by_key schema table.name p (placed_at table tree) has text is.P is.s
+            means schema text 1 _ _ (select_by_key schema table.name p
+            (placed_at table tree) has text is.P is.s
             is.core is.source is.shown test a b
-            wanted 0 1 (tests tree) os _ is.parsed is.statement is.plain (rw (unordered, unlimited) at is.select)
+            wanted 0 1 (tests tree) os _ is.parsed is.statement is.plain
+            (rw (unordered, unlimited) at is.select)
             (rw filtered at is.body) is.from equal left
             right (shows_named _ _ _ (is.shows tree)) (has_room 100000 _ (omega arith))
             (key_at schema table.name p os false) (grind arith) (grind arith) (grind arith)

@@ -25,7 +25,8 @@ use Rattle.sql_meanings.proofs.Makings.{holds_none, kept}
 use Rattle.sql_meanings.proofs.Places.{all_more, fold_more, some_at}
 use Rattle.sql_meanings.proofs.Standing.{counts_created, then_keeps}
 use Rattle.store_rows.specs.SixTables as six
-use Rattle.store_rows.specs.Creation.{CreatesBank, CreationFails, TablesAreMade, MakesAll, MakesWide, six_texts}
+use Rattle.store_rows.specs.Creation.{CreatesBank, CreationFails, TablesAreMade, MakesAll, MakesWide}
+use Rattle.store_rows.specs.Creation.{six_texts}
 use Rattle.store_rows.specs.Creation.{with_first}
 
 -- a text for each place
@@ -56,7 +57,8 @@ stay_new old mid new [] since all = tt
 stay_new old mid new (it ∷ ts) since all =
     (stays_new old mid new it.1 since all.0, stay_new old mid new ts since all.1)
 
-made_new : (old mid new : Database) (t : Table) → KeepsWhatStood old mid → AddsTable mid new t → IsNew old new t
+made_new : (old mid new : Database) (t : Table) → KeepsWhatStood old mid → AddsTable mid new t
+    → IsNew old new t
 made_new old mid new t before made = record {
   tree = next_tree mid.schema;
   stands = made.stands;

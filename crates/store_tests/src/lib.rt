@@ -1,5 +1,7 @@
-//! Tests of the bank in tables that no scenario reaches: each statement of the six tables once, walks over rows
-//! that are beside one another, machines that stop, files that fail while a bank is read, and reports that are
+//! Tests of the bank in tables that no scenario reaches: each statement of the six tables once, walks over
+//! rows
+//! that are beside one another, machines that stop, files that fail while a bank is read, and reports that
+//! are
 //! cut.
 #![tactic(auto)]
 

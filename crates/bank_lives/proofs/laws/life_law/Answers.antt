@@ -12,7 +12,8 @@ returns g c = record {
       life_leaves g.C.Counter.seen first c.args.counter.now given least life honest log stood;
   something = λ first log given least life stood honest.
       ∥∥₁_map (g.met.C.Counter.leaves_something c.args.counter.now honest) (λ left.
-      let it = life_leaves g.C.Counter.seen first c.args.counter.now given least life honest log stood left.0 left.1 in
+      let it = life_leaves g.C.Counter.seen first c.args.counter.now given least life honest log stood left.0
+      left.1 in
       let shown : (t : Tables) × ShowsBeginning log given least t = (it.0, it.2) in
       shown);
 }

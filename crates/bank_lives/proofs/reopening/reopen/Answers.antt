@@ -11,9 +11,11 @@ returns-clause-found g c =
     let it = begins_opened (state g.T.Store c.args.conn) log given least opens
     (λ db may. g.met.T.Store.settled c.args.conn.store db opens.is_open may)
     (λ t shown. c.trees_law.ensures.finds opens.is_open t shown)
-    (c.life_law.ensures.left first log given least life stood stopped (g.T.Store.view c.args.conn.store).trees left) in
+    (c.life_law.ensures.left first log given least life stood stopped
+    (g.T.Store.view c.args.conn.store).trees left) in
     let at = stands honest _ it.stands in
-    found_at (bank_seen g.T.Store bank) log given least it.count it.holds it.within c.each_request_once.ensures
+    found_at (bank_seen g.T.Store bank) log given least it.count it.holds it.within
+    c.each_request_once.ensures
     c.tables_are_consistent.ensures at
     (λ other shown. c.trees_law.ensures.once (g.T.Store.view bank.conn.store).trees other at.shows.tables
     (bank.conn.schema, shown) (bank.conn.schema, at.shows.are))) c.adopt.result c.adopt.ensures.stands
@@ -24,5 +26,6 @@ returns-clause-missed g c =
     let it = begins_opened (state g.T.Store c.args.conn) log given least opens
     (λ db may. g.met.T.Store.settled c.args.conn.store db opens.is_open may)
     (λ t shown. c.trees_law.ensures.finds opens.is_open t shown)
-    (c.life_law.ensures.left first log given least life stood stopped (g.T.Store.view c.args.conn.store).trees left) in
+    (c.life_law.ensures.left first log given least life stood stopped
+    (g.T.Store.view c.args.conn.store).trees left) in
     known clean _ it.stands.shows) c.adopt.result c.adopt.ensures.known

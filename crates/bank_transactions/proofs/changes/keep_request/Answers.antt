@@ -21,7 +21,8 @@ use Rattle.bank_transactions.proofs.changes.keep_request.Goals as goal
 put : {S : Type 0} {g : Ghosts S} {old new : Transaction S} (row : RequestRow)
     (r : Result (Unit {0}) TableFault)
     → Says g old new (Inside (OfTables (λ before now t.
-    PutsOneRow before now request (is_some (row_at request_key t.requests row.ordinal)) (with_request row t) r)))
+    PutsOneRow before now request (is_some (row_at request_key t.requests row.ordinal))
+    (with_request row t) r)))
     (Inside (λ before now. Puts before now r))
     → Does g old new (λ t. row_at request_key t.requests row.ordinal ≡ None) (with_request row) (λ _. tt) r
 put {S} {g} {old} {new} row r says =

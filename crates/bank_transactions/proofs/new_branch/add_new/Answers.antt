@@ -27,7 +27,8 @@ added : {S R : Type 0} {g : Ghosts S} {old new : Transaction S} {r : Result (Uni
     (taken : R → Tables → Bool) (more : R → Tables → Tables) (kind : NewRows) (n : ℕ) (row fresh : R) → row
     ≡ fresh
     → ((t : Tables) → taken fresh t ≡ is_taken kind n t) → ((t : Tables) → more fresh t ≡ with_new kind n t)
-    → Says g old new (Inside (OfTables (λ before now t. PutsOneRow before now table (taken row t) (more row t) r)))
+    → Says g old new (Inside
+    (OfTables (λ before now t. PutsOneRow before now table (taken row t) (more row t) r)))
     (Inside (λ before now. Puts before now r))
     → Does g old new (λ t. is_taken kind n t ≡ false) (with_new kind n) (λ _. tt) r
 added {S} {R} {g} {old} {new} {r} table taken more kind n row fresh is at by says =

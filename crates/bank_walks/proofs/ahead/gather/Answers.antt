@@ -21,11 +21,13 @@ loop-row-preserved g c =
       count = omega (arith, c.push.ensures.len, c.loop-row.invariant.count);
       rises =
           rw (c.push.ensures.items, key)
-          (one_more (λ r. entry_key (entry r)) from c.loop-row.rows.items c.in-Ok.read (to_z w64 c.loop-row.next-bits)
+          (one_more (λ r. entry_key (entry r)) from c.loop-row.rows.items c.in-Ok.read
+          (to_z w64 c.loop-row.next-bits)
           (rw same at c.loop-row.invariant.rises) (le_from _ _ c.in-Ok.ensures.1));
       told = λ rows rise wide is.
           rw (c.push.ensures.items, key)
-          (gathers_on entry g.R.StoredRow.is_broken (width_of g.R.StoredRow.table) AHEAD c.args.found.now from rows rise wide is
+          (gathers_on entry g.R.StoredRow.is_broken
+          (width_of g.R.StoredRow.table) AHEAD c.args.found.now from rows rise wide is
           c.loop-row.rows.items (to_z w64 c.loop-row.next-bits) c.row-item.result low at
           ((rw same at (c.loop-row.invariant.told rows rise wide)) is) c.in-Ok.read c.in-Ok.ensures);
     }
@@ -42,7 +44,9 @@ returns-then-is_empty-clause-told g c rows rise wide is =
     let low : length c.loop-row.rows.items < length c.args.found.now = search rules in
     let at : c.row-item.result ≡ get_or c.args.found.now (length c.loop-row.rows.items) c.row-item.result =
     c.row-item.is ∙ ap (λ n. get_or c.args.found.now n c.row-item.result) (sym c.loop-row.invariant.count) in
-    let none : c.loop-row.rows.items ≡ [] = none_there c.loop-row.rows.items (sym c.is_empty.ensures ∙ c.if-is_empty.true) in
-    gathers_none g.R.StoredRow.entry g.R.StoredRow.is_broken (width_of g.R.StoredRow.table) AHEAD c.args.found.now from rows rise wide is
+    let none : c.loop-row.rows.items ≡ [] =
+    none_there c.loop-row.rows.items (sym c.is_empty.ensures ∙ c.if-is_empty.true) in
+    gathers_none g.R.StoredRow.entry g.R.StoredRow.is_broken
+    (width_of g.R.StoredRow.table) AHEAD c.args.found.now from rows rise wide is
     c.loop-row.rows.items (to_z w64 c.loop-row.next-bits) c.row-item.result low at
     ((rw same at (c.loop-row.invariant.told rows rise wide)) is) c.in-Err.fault none c.in-Err.ensures

@@ -16,6 +16,9 @@ returns-in-Ok-clause-told g c clean rows has =
     let old = state g.S.Store c.args.conn.now in
     let new = state g.S.Store c.seek.new.conn in
     match_err _ _ _ c.gather.result
-    (refused_memory old new g.R.StoredRow.is_broken (rows_from c.args.from given) (c.in-Ok.ensures.same clean))
-    ((rw same at (c.gather.ensures.told given (rise_filter (g.R.StoredRow.is_given c.args.of) rows has.holds.rows.rise)
-    (wide_filter (width_of g.R.StoredRow.table) (g.R.StoredRow.is_given c.args.of) rows has.holds.rows.wide))) (c.deref.ensures.value ∙ found))
+    (refused_memory old new g.R.StoredRow.is_broken (rows_from c.args.from given)
+    (c.in-Ok.ensures.same clean))
+    ((rw same at (c.gather.ensures.told given
+    (rise_filter (g.R.StoredRow.is_given c.args.of) rows has.holds.rows.rise)
+    (wide_filter (width_of g.R.StoredRow.table) (g.R.StoredRow.is_given c.args.of) rows has.holds.rows.wide)))
+    (c.deref.ensures.value ∙ found))

@@ -1,5 +1,6 @@
 -- Rows are joined one by one.
-use Rattle.std.proofs.Common.{◌≡◌, ◌≤ℤ◌, ◌≤◌, ◌<◌, ◌+◌, ◌++◌, suc, ◌∷◌, map, drop, length, refl, sym, ap, subst, ◌∙◌, rules, arith, w64, to_z, of_z}
+use Rattle.std.proofs.Common.{◌≡◌, ◌≤ℤ◌, ◌≤◌, ◌<◌, ◌+◌, ◌++◌, suc, ◌∷◌, map, drop, length, refl, sym, ap}
+use Rattle.std.proofs.Common.{subst, ◌∙◌, rules, arith, w64, to_z, of_z}
 use Rattle.std.proofs.Math.Seq.{drop-cons}
 use Rattle.std.proofs.lemmas.Int.{ints, to_z-of_z}
 use Rattle.store_rows.proofs.Lookups.{as_integer}
@@ -24,28 +25,35 @@ loop-row-preserved g c =
     let low : at < length c.args.own.now = search rules in
     let later : suc at ≡ at + 1 = omega arith in
     let left : drop at c.args.own.now ≡ r ∷ drop (at + 1) c.args.own.now =
-    drop-cons c.args.own.now at r low ∙ ap (λ x. x ∷ drop (suc at) c.args.own.now) (sym c.row-item.is) ∙ ap (λ m. r ∷ drop m c.args.own.now) later in
-    let keys = subst (λ l. RisesFrom next (map (λ x. entry_key (entry x)) l) c.args.rest) left c.loop-row.invariant.ahead in
+    drop-cons c.args.own.now at r low ∙ ap (λ x. x ∷ drop (suc at) c.args.own.now) (sym c.row-item.is)
+    ∙ ap (λ m. r ∷ drop m c.args.own.now) later in
+    let keys = subst (λ l. RisesFrom next (map (λ x. entry_key (entry x)) l) c.args.rest) left
+    c.loop-row.invariant.ahead in
     let from : start ≤ℤ next = rw same at c.loop-row.invariant.low in
     let above : start ≤ℤ (entry r).key = let up = keys.0 in omega (arith, ints) in
     let decided : ComesBefore c.args.behind (entry r).key =
-    subst (ComesBefore c.args.behind) (as_integer n n refl c.key-key.ensures.most ∙ sym c.key-key.ensures.key) c.if-is_beyond.ensures.decided in
+    subst (ComesBefore c.args.behind)
+    (as_integer n n refl c.key-key.ensures.most ∙ sym c.key-key.ensures.key) c.if-is_beyond.ensures.decided
+    in
     rw (same, key) record {
       count = omega (arith, c.push.ensures.len, c.loop-row.invariant.count);
       low = omega (arith, ints, above);
       ahead = keys.1;
       rises =
           rw c.push.ensures.items
-          (one_more (λ j. entry_key (entry j.stored)) start c.loop-row.rows.items _ next (rw same at c.loop-row.invariant.rises) keys.0);
+          (one_more (λ j. entry_key (entry j.stored)) start c.loop-row.rows.items _ next
+          (rw same at c.loop-row.invariant.rises) keys.0);
       told = λ base others rise own_is others_are.
           let both = (rw same at (c.loop-row.invariant.told base others rise)) own_is others_are in
           rw c.push.ensures.items
-          (joins_on entry g.O.StoredRow.entry others base rise start c.loop-row.rows.items next r c.row_with.result
+          (joins_on entry g.O.StoredRow.entry others base rise start c.loop-row.rows.items next r
+          c.row_with.result
           (map entry (drop (at + 1) c.args.own.now) ++ rows_behind c.args.rest base) both.1
           (both.0 ∙ ap (λ l. map entry l ++ rows_behind c.args.rest base) left)
           (c.row_with.ensures
           ∙ sym (ap (λ k. row_under (map g.O.StoredRow.entry c.args.beside.now) k) c.key-key.ensures.key)
-          ∙ sym (beside_is others start (entry r).key (map g.O.StoredRow.entry c.args.beside.now) c.args.behind others_are above decided)));
+          ∙ sym (beside_is others start (entry r).key
+          (map g.O.StoredRow.entry c.args.beside.now) c.args.behind others_are above decided)));
     }
 
 pub returns-clause-rises : goal.returns-clause-rises
@@ -55,6 +63,8 @@ returns-clause-rises g c =
     let entry = g.R.StoredRow.entry in
     let next = to_z w64 c.loop-row.next-bits in
     let low : length c.args.own.now ≤ c.loop-row.row-index = search rules in
-    rest_behind (λ j. entry_key (entry j.stored)) start c.loop-row.rows.items next c.args.rest (rw same at c.loop-row.invariant.rises)
-    (subst (λ l. RisesFrom next (map (λ x. entry_key (entry x)) l) c.args.rest) (none_left c.loop-row.row-index c.args.own.now low)
+    rest_behind (λ j. entry_key (entry j.stored)) start c.loop-row.rows.items next c.args.rest
+    (rw same at c.loop-row.invariant.rises)
+    (subst (λ l. RisesFrom next (map (λ x. entry_key (entry x)) l) c.args.rest)
+    (none_left c.loop-row.row-index c.args.own.now low)
     c.loop-row.invariant.ahead)

@@ -15,4 +15,5 @@ pub returns-clause-some : goal.returns-clause-some
 returns-clause-some g c r more is at none =
     let same : to_z w64 (of_z w64 c.args.start) ≡ c.args.start = search (rules, to_z-of_z) in
     c.join.ensures.some r more is
-    (subst (ComesBefore c.in_ok-behind.behind) at (decided_by c.in_ok-behind.behind c.args.start (rw same at c.in_ok-behind.ensures.beyond))) none
+    (subst (ComesBefore c.in_ok-behind.behind) at
+    (decided_by c.in_ok-behind.behind c.args.start (rw same at c.in_ok-behind.ensures.beyond))) none

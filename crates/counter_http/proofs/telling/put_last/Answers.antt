@@ -25,7 +25,8 @@ returns-clause-text g c before text t =
           (told_as _ _ (sym (append-nil (text ++ codes "\r\n"))
           ∙ ap (λ (x : List ℕ). (text ++ codes "\r\n") ++ x) (not_told now_of r.allow v.in-None.is)) first)
     ] in
-    let third : IsWrittenOrHeld before (g.W.Sink.contents c.if-closes.writer) c.if-closes.going c.if-closes.held.items
+    let third : IsWrittenOrHeld before
+    (g.W.Sink.contents c.if-closes.writer) c.if-closes.going c.if-closes.held.items
     (((text ++ codes "\r\n") ++ allow_line a.allow) ++ close_line c.args.closes) =
     elim c.if-closes.branch [
       | then-closes v ↦ rw (v.writer-is, v.held-is, v.going-is)

@@ -7,8 +7,11 @@ use Rattle.bank_walks.proofs.postings.StoredPostingStoredRow.read.Goals as goal
 pub returns-in_err-numbers : goal.returns-in_err-numbers
 returns-in_err-numbers c =
     let same : c.from_residual.result ≡ Err c.in_err-numbers.field-0.0 = search rules in
-    rw same (reads_fails 5 posting_entry IsNoPosting c.args.row.now c.in_err-numbers.field-0.0 c.in_err-numbers.ensures)
+    rw same (reads_fails 5 posting_entry IsNoPosting c.args.row.now c.in_err-numbers.field-0.0
+    c.in_err-numbers.ensures)
 
 pub returns : goal.returns
 returns c =
-    rw c.ok_or.ensures.value (reads_by 5 posting_entry IsNoPosting c.args.row.now c.in_ok-numbers.field-0 c.of.result c.in_ok-numbers.ensures c.of.ensures)
+    rw c.ok_or.ensures.value
+    (reads_by 5 posting_entry IsNoPosting c.args.row.now c.in_ok-numbers.field-0 c.of.result
+    c.in_ok-numbers.ensures c.of.ensures)

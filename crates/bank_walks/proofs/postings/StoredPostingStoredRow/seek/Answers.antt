@@ -21,7 +21,9 @@ pub returns-in-None-clause-told : goal.returns-in-None-clause-told
 returns-in-None-clause-told g c clean rows has =
     let from = c.args.from in
     rw c.in-None.is
-    (tells_from (state g.S.Store c.args.conn.now) (state g.S.Store c.rows_shown.new.conn) history refl rows has _ _ (λ v. v.items) from (reads_postings from)
+    (tells_from (state g.S.Store c.args.conn.now)
+    (state g.S.Store c.rows_shown.new.conn) history refl rows has _ _ (λ v. v.items) from
+    (reads_postings from)
     (shows_five (Int from ∷ [])) c.rows_shown.result
     (rw (c.params-to_sql.ensures, to_z-of_z w64 from c.ranges.from) at (c.rows_shown.ensures.shown clean)))
 
@@ -29,9 +31,16 @@ pub returns-in-Some-clause-told : goal.returns-in-Some-clause-told
 returns-in-Some-clause-told g c clean rows has =
     let one = pos c.in-Some.account in
     let from = c.args.from in
-    let account = as_integer c.get-account.result c.in-Some.account c.get-account.ensures.value (omega arith) in
+    let account = as_integer c.get-account.result c.in-Some.account c.get-account.ensures.value
+    (omega arith) in
     rw c.in-Some.is
-    (tells_of_from (state g.S.Store c.args.conn.now) (state g.S.Store c.rows_shown-in-Some.new.conn) history refl rows has _ _ (λ v. v.items) one from
+    (tells_of_from (state g.S.Store c.args.conn.now)
+    (state g.S.Store c.rows_shown-in-Some.new.conn) history refl rows has _ _ (λ v. v.items) one from
     (reads_postings_of one from) (shows_five (Int one ∷ Int from ∷ [])) c.rows_shown-in-Some.result
-    (rw (c.params-to_sql-in-Some.ensures, c.params-to_sql-in-Some-2.ensures, account, to_z-of_z w64 from c.ranges.from)
+    (rw (
+      c.params-to_sql-in-Some.ensures,
+      c.params-to_sql-in-Some-2.ensures,
+      account,
+      to_z-of_z w64 from c.ranges.from,
+    )
     at (c.rows_shown-in-Some.ensures.shown clean)))

@@ -16,6 +16,8 @@ rows_shown-requires g c = only_reads is_tellers_from
 pub returns-clause-told : goal.returns-clause-told
 returns-clause-told g c clean rows has =
     let from = c.args.from in
-    tells_from (state g.S.Store c.args.conn.now) (state g.S.Store c.rows_shown.new.conn) teller refl rows has _ _ (λ v. v.items) from (reads_tellers from)
+    tells_from (state g.S.Store c.args.conn.now)
+    (state g.S.Store c.rows_shown.new.conn) teller refl rows has _ _ (λ v. v.items) from
+    (reads_tellers from)
     (shows_one (Int from ∷ [])) c.rows_shown.result
     (rw (c.params-to_sql.ensures, to_z-of_z w64 from c.ranges.from) at (c.rows_shown.ensures.shown clean))

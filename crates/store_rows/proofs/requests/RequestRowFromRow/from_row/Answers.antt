@@ -14,7 +14,8 @@ pub returns-in_err-whole_at-clause-stored : goal.returns-in_err-whole_at-clause-
 returns-in_err-whole_at-clause-stored c =
     let e = c.in_err-whole_at in
     let same : c.from_residual.result ≡ Err e.field-0.0 = search rules in
-    rw same (unread_whole request_stored IsSameRequest RequestKeeps c.args.row.now Value 0 (λ (r : Entry). r.key)
+    rw same (unread_whole request_stored IsSameRequest RequestKeeps c.args.row.now Value 0
+    (λ (r : Entry). r.key)
     (λ _. refl) 1 MAX_DECIDED 1 MAX_DECIDED
     (omega arith) (omega arith) (λ r kept. kept) e.field-0.0 e.ensures.reads)
 
