@@ -2,7 +2,7 @@
 #![tactic(auto)]
 
 mod additions;
-mod audit;
+mod audits;
 mod fault;
 mod gathered;
 mod lines;
@@ -11,6 +11,6 @@ mod postings;
 mod statement;
 mod sums;
 
-pub use audit::audit;
+pub use audits::audit;
 pub use fault::ReportFault;
 pub use statement::write_statement;

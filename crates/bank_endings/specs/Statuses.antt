@@ -2,7 +2,7 @@
 use Rattle.std.specs.Prelude.{ℕ, if◌then◌else◌, nat_lt}
 use Rattle.std.specs.declared.io.ErrorKind.{ErrorKind}
 use Rattle.std.specs.declared.io.ErrorKind.TheVariants.{OutOfMemory}
-use Rattle.branch_loader.specs.declared.load.Loaded.{Loaded}
+use Rattle.branch_loader.specs.declared.loader.Loaded.{Loaded}
 use Rattle.bank_endings.specs.declared.status.Status.{Status}
 use Rattle.bank_endings.specs.declared.status.Status.TheVariants.{Done, Usage, System, Input, Differs}
 use Rattle.bank_endings.specs.declared.status.Status.TheVariants.{Inconsistent}

@@ -5,7 +5,7 @@
 #![tactic(auto)]
 
 mod creation;
-mod open;
+mod files;
 
 pub use creation::PAGE_BYTES;
-pub use open::{open, open_over};
+pub use files::{open, open_over};

@@ -6,7 +6,7 @@ use Rattle.clap.specs.declared.error.kind.ErrorKind.{ErrorKind}
 use Rattle.sqlite_wal.specs.Recovery.{Image}
 use Rattle.posting_rules.specs.Counter.{Seen}
 use Rattle.posting_core.specs.declared.stream.StreamFault.{StreamFault}
-use Rattle.branch_loader.specs.declared.load.Loaded.{Loaded}
+use Rattle.branch_loader.specs.declared.loader.Loaded.{Loaded}
 use Rattle.bank_words.specs.CommandLine.{bank_app}
 use Rattle.bank_words.specs.declared.reading.Command.{Command}
 use Rattle.bank_words.specs.declared.reading.Command.TheVariants.{Audit, Drive, Init, Load, Post, Serve}

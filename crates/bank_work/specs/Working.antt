@@ -7,7 +7,7 @@ use Rattle.posting_rules.specs.Commands.{Command}
 use Rattle.posting_rules.specs.Counter.{Seen, ShowsLog, Takes}
 use Rattle.branch_loader.specs.Loading.{IsRefusedAfter, answers, counted, total}
 use Rattle.branch_loader.specs.Plans.{Rows, openings}
-use Rattle.branch_loader.specs.declared.load.Loaded.{Loaded}
+use Rattle.branch_loader.specs.declared.loader.Loaded.{Loaded}
 use Rattle.bank_driver.specs.Drives.{Drives}
 use Rattle.bank_driver.specs.declared.drive.Driven.{Driven}
 use Rattle.bank_driver.specs.declared.fault.DriveFault.{DriveFault}

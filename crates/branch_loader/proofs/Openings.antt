@@ -20,7 +20,7 @@ use Rattle.posting_rules.specs.declared.fault.Fault.TheVariants.{Memory, Store, 
 use Rattle.branch_loader.specs.Plans.{openings, Rows, Row}
 use Rattle.branch_loader.specs.Loading.{IsRefusedAfter, LeavesBeginning, answers, counted, total, with_answer}
 use Rattle.branch_loader.specs.Loading.{is_opened, is_already, is_differs}
-use Rattle.branch_loader.specs.declared.load.Loaded.{Loaded}
+use Rattle.branch_loader.specs.declared.loader.Loaded.{Loaded}
 
 -- ---- commands behind commands
 

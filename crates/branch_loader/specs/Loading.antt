@@ -8,7 +8,7 @@ use Rattle.posting_rules.specs.declared.counter.Opening.{Opening}
 use Rattle.posting_rules.specs.declared.counter.Opening.TheVariants.{Opened, Already, Differs}
 use Rattle.posting_rules.specs.declared.fault.Fault.{Fault}
 use Rattle.posting_rules.specs.declared.fault.Fault.TheVariants.{Down}
-use Rattle.branch_loader.specs.declared.load.Loaded.{Loaded}
+use Rattle.branch_loader.specs.declared.loader.Loaded.{Loaded}
 use Rattle.branch_loader.specs.Plans.{Rows}
 
 -- the answers to a plan's openings, each behind the log and the openings before it

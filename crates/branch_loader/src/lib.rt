@@ -2,12 +2,12 @@
 #![tactic(auto)]
 
 mod fault;
-mod load;
+mod loader;
 mod plan;
 mod read;
 mod records;
 
 pub use fault::PlanFault;
-pub use load::{Loaded, load};
+pub use loader::{Loaded, load};
 pub use plan::Plan;
 pub use read::read_plan;

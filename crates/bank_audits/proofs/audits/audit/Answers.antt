@@ -17,7 +17,7 @@ use Rattle.bank_audits.specs.Files.{rows_in}
 use Rattle.bank_audits.proofs.LogFiles.{balanced, has_file, has_ordinals, not_damaged, tells_in_file}
 use Rattle.bank_audits.proofs.OncePosted.{posted_once}
 use Rattle.bank_audits.proofs.Read.{one_file}
-use Rattle.bank_audits.proofs.audit.audit.Goals as goal
+use Rattle.bank_audits.proofs.audits.audit.Goals as goal
 
 pub returns-in_err-add_all-clause-damaged : goal.returns-in_err-add_all-clause-damaged
 returns-in_err-add_all-clause-damaged g c broken is clean f has =

@@ -1,6 +1,6 @@
 use Rattle.std.proofs.Common.{take}
 use Rattle.branch_loader.proofs.Openings.{IsBehind}
-use Rattle.branch_loader.proofs.load.load.Given as goal
+use Rattle.branch_loader.proofs.loader.load.Given as goal
 
 abbrev pub invariant-loop-row : goal.invariant-loop-row
 invariant-loop-row g l = IsBehind g.C.Counter.seen l.fn.counter l.counter

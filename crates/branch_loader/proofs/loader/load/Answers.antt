@@ -3,7 +3,7 @@ use Rattle.std.proofs.lemmas.List.{length-take-le, take_more}
 use Rattle.std.proofs.lemmas.Result.{err_from_is_err_and}
 use Rattle.branch_loader.proofs.Openings.{behind-more, behind-none, behind-refused, left-end}
 use Rattle.branch_loader.proofs.Rows.{plan-short}
-use Rattle.branch_loader.proofs.load.load.Goals as goal
+use Rattle.branch_loader.proofs.loader.load.Goals as goal
 
 pub loop-row-init : goal.loop-row-init
 loop-row-init g c = behind-none g.C.Counter.seen c.args.counter.now
