@@ -16,7 +16,7 @@ use Rattle.bank_audits.specs.Adding.{AddsToSums, HasSums, IsBehind, IsPassed}
 use Rattle.bank_audits.specs.Failures.{Says}
 use Rattle.bank_audits.specs.Files.{HasBroken}
 use Rattle.bank_audits.specs.declared.sums.Sums.{Sums}
-use Rattle.bank_audits.proofs.Kept.{quiet_then, still_then, still_undone, undone_then}
+use Rattle.bank_audits.proofs.StepsKeep.{quiet_then, still_then, still_undone, undone_then}
 
 -- ---- the rows
 

@@ -28,7 +28,7 @@ use Rattle.bank_reports.specs.Stored.{request_stored, stored, teller_stored}
 use Rattle.bank_reports.proofs.OfTables.{tells_of_tables}
 use Rattle.bank_audits.specs.Files.{HasBroken, HasBrokenRow, HasFile, rows_in}
 use Rattle.bank_audits.proofs.Passed.{split_map}
-use Rattle.bank_audits.proofs.Told.{all_behind, outside_none}
+use Rattle.bank_audits.proofs.StatementReports.{all_behind, outside_none}
 
 -- ---- keys that rise are distinct
 

@@ -17,7 +17,7 @@ use Rattle.bank_walks.specs.Pairs.{BreaksPair, HasPairs, pair_with, paired}
 use Rattle.bank_audits.specs.Adding.{IsPassed}
 use Rattle.bank_audits.specs.Failures.{HasFailedToRead, Says}
 use Rattle.bank_audits.specs.Files.{FileRows, HasBroken, HasFile}
-use Rattle.bank_audits.proofs.Kept.{quiet_then, still_then, undone_then}
+use Rattle.bank_audits.proofs.StepsKeep.{quiet_then, still_then, undone_then}
 use Rattle.bank_audits.proofs.Read.{first_of, rest_of}
 
 -- ---- one pass after another

@@ -1,6 +1,6 @@
 -- The texts of a report's faults.
 use Rattle.std.specs.Prelude.{ℕ, List, codes}
-use Rattle.posting_rules.specs.Rules.{fault_text}
+use Rattle.posting_rules.specs.FaultTexts.{fault_text}
 use Rattle.bank_audits.specs.declared.fault.ReportFault.{ReportFault}
 use Rattle.bank_audits.specs.declared.fault.ReportFault.TheVariants.{NoAccount, Write, Bank}
 

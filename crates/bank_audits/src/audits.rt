@@ -63,7 +63,7 @@ pub fn audit<S: Alter>(bank: &mut Bank<S>) -> Result<Audit, Fault>
     ensures down { (bank_seen S.Store bank.old).is_down → (result ≡ Err Down) × (bank.new ≡ bank.old) }
     ensures up { fault_of bank.new ≡ fault_of bank.old }
     // Whatever it answers, a stop leaves what shows the log.
-    ensures left { (bank_seen S.Store bank.new).honest → (log : List Given)
+    ensures survives { (bank_seen S.Store bank.new).honest → (log : List Given)
         → StandsAt (bank_seen S.Store bank.old) log
         → LeavesOnly (bank_seen S.Store bank.new) (λ t. AreTablesOf t log) }
     ensures done { OnOk result (Takes (bank_seen S.Store bank.old) (bank_seen S.Store bank.new) []) }

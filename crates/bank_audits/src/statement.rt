@@ -121,7 +121,7 @@ pub fn write_statement<S: Alter + Drop, W: Sink>(
         → (bank_seen S.Store bank.new).honest → (t : Tables) → (bank_seen S.Store bank.old).tables t
         → (mid : Held S) × HasFailedToRead S.Store mid (connection_of bank.new) }
     // Whatever it answers, a stop leaves what shows the log.
-    ensures left { (bank_seen S.Store bank.new).honest → (log : List Given)
+    ensures survives { (bank_seen S.Store bank.new).honest → (log : List Given)
         → StandsAt (bank_seen S.Store bank.old) log
         → LeavesOnly (bank_seen S.Store bank.new) (λ t. AreTablesOf t log) }
     ensures done { HasAnswered result → Takes (bank_seen S.Store bank.old) (bank_seen S.Store bank.new) [] }

@@ -65,5 +65,5 @@ module _ (Made : List (List ℕ) → Type 0) (moment : ℕ) {S : Type 0} (g : Gh
       subst (λ (h : Held S). HasOnly (state g old) (state g h) t) (same records made) (record {
         same = told.0 ∙ it.stays.now ∙ ap (λ (h : Held S). (state g h).now) is;
         shows = left.0;
-        stop = left.1;
+        survives = left.1;
       })

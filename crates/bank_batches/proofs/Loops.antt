@@ -13,7 +13,7 @@ use Rattle.bank_transactions.specs.Doing.{Does}
 use Rattle.bank_transactions.proofs.Chained.{does_then, does_for}
 use Rattle.bank_batches.specs.Filling.{ReadsWhere}
 use Rattle.bank_batches.specs.InTurn.{InTurn}
-use Rattle.bank_batches.proofs.Reading.{reads_both}
+use Rattle.bank_batches.proofs.LookUps.{reads_both}
 
 -- ---- places of a list
 

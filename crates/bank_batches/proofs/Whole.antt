@@ -15,8 +15,8 @@ use Rattle.posting_batch.specs.Batch.{HasHomes, branch_filled, teller_filled, ac
 use Rattle.posting_batch.specs.Overlay.{Overlay}
 use Rattle.bank_transactions.specs.Doing.{Reads}
 use Rattle.bank_batches.specs.Filling.{ReadsWhere, TellsBranch}
-use Rattle.bank_batches.proofs.Reading.{reads_both}
-use Rattle.bank_batches.proofs.Told.{tells_all}
+use Rattle.bank_batches.proofs.LookUps.{reads_both}
+use Rattle.bank_batches.proofs.FilledSlots.{tells_all}
 
 -- nothing is damaged, and each branch that is asked for has its slot
 abbrev pub So : Overlay → Tables → Type 0

@@ -26,4 +26,4 @@ pub record WritesNothing (old new : State) (t : Tables) (moment : ℕ) (records 
 pub record HasOnly (old new : State) (t : Tables) : Type 0 where
   pub same : new.now ≡ old.now
   pub shows : Shows new.now t
-  pub stop : (left : Trees) → new.may_leave left → ShowsTrees left t
+  pub survives : (left : Trees) → new.may_leave left → ShowsTrees left t

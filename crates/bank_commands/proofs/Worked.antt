@@ -58,7 +58,7 @@ module _ {C : Type 0} (seen : C → Seen) (image : Image) (r r' w w' k k' : Opti
           first = first;
           last = last;
           found = found;
-          works = record { stream = stream; output = output; stop = stop; resend = resend };
+          works = record { stream = stream; output = output; survives = stop; resend = resend };
         },
       )
 

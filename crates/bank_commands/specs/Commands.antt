@@ -62,7 +62,7 @@ pub record PostsTo {C : Type 0} (seen : C → Seen) (r r' w w' k k' : Option (Li
     (told : Result ℕ StreamFault) (old new : C) : Type 0 where
   pub stream : Streamed r r' w w' k k' (seen old) (seen new) told
   pub output : OutputsReplies r r' w w' (seen old) (seen new) told
-  pub stop : SurvivesStream r r' w w' (seen old) (seen new)
+  pub survives : SurvivesStream r r' w w' (seen old) (seen new)
   pub resend : Resends r r' (seen old) (seen new) told
 
 -- no bank was found, and nothing was read or written; or the input was posted to the bank of the files

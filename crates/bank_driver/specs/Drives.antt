@@ -87,7 +87,7 @@ pub record Submits {C : Type 0} (seen : C
   pub takes : Takes (seen old) (seen stood) (posts_of taken)
   pub ends : EndsDrive seen old stood new rows count taken refused result
   -- a stop leaves all that it took
-  pub stop : (seen new).honest → (log : List Command) → StandsAt (seen old) log
+  pub survives : (seen new).honest → (log : List Command) → StandsAt (seen old) log
       → LeavesOnly (seen new) (ShowsBeginning log (posts_of (taken ++ refused)) (length (posts_of taken)))
 
 -- wherever the branches were listed: not where the bank refused a call before the first batch

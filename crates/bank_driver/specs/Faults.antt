@@ -1,6 +1,6 @@
 -- The texts of the faults of a drive.
 use Rattle.std.specs.Prelude.{ℕ, List, codes}
-use Rattle.posting_rules.specs.Rules.{fault_text}
+use Rattle.posting_rules.specs.FaultTexts.{fault_text}
 use Rattle.bank_driver.specs.declared.fault.DriveFault.{DriveFault}
 use Rattle.bank_driver.specs.declared.fault.DriveFault.TheVariants.{NoBranches, Bank}
 

@@ -1,7 +1,7 @@
 -- The faults of commands: what each is made of, its text, and the status after it.
 use Rattle.std.specs.Prelude.{ℕ, List, ◌++◌, codes, ⊤}
 use Rattle.std.specs.Fmt.{decimal, signed_decimal}
-use Rattle.posting_rules.specs.Rules.{number_of_rule}
+use Rattle.posting_rules.specs.FaultTexts.{number_of_rule}
 use Rattle.posting_rules.specs.declared.fault.Fault.{Fault}
 use Rattle.posting_rules.specs.declared.fault.Fault.TheVariants as bank
 use Rattle.posting_core.specs.declared.stream.StreamFault.{StreamFault}

@@ -21,7 +21,7 @@ all_shown c log commands stands =
       within = omega arith;
       are = rw (take-length commands) stands.shows.commands;
       shows = rw (take-length commands) shown;
-    }) stands.stop
+    }) stands.survives
 
 -- it was answered
 pub taken_is_call : (old new : Seen) (commands : List Command) → AreCommands commands → Takes old new commands
@@ -30,7 +30,7 @@ taken_is_call old new commands are takes up honest = record {
   are = are;
   within = omega arith;
   honest = honest;
-  stop = λ h log stood. all_shown new log commands (takes.stands h log stood);
+  survives = λ h log stood. all_shown new log commands (takes.stands h log stood);
   stands = λ h log stood. inl (takes.stands h log stood);
   down = λ down. absurd (up down);
 }
@@ -40,7 +40,7 @@ still : (old new : Seen) (log : List Command) → StandsAt old log → (new.is_d
     → (ShowsLog old log → ShowsLog new log)
     → (LeavesOnly old (λ t. AreTablesOf t log) → LeavesOnly new (λ t. AreTablesOf t log)) → StandsAt new log
 still old new log stood down shows left =
-    record { shows = shows stood.shows; up = λ d. stood.up (down d); stop = left stood.stop }
+    record { shows = shows stood.shows; up = λ d. stood.up (down d); survives = left stood.survives }
 
 -- it was refused
 pub refused_is_call : (fault : Fault) (old new : Seen) (commands : List Command) → AreCommands commands
@@ -60,7 +60,7 @@ refused_is_call Memory old new commands are refuses up honest =
       are = tt;
       within = omega arith;
       honest = honest;
-      stop = λ h log stood. all_shown new log [] (stands h log stood);
+      survives = λ h log stood. all_shown new log [] (stands h log stood);
       stands = λ h log stood. inl (stands h log stood);
       down = λ down. absurd (let e = up down in cc);
     }
@@ -68,7 +68,7 @@ refused_is_call Store old new commands are refuses up honest = record {
   are = are;
   within = omega arith;
   honest = honest;
-  stop = refuses.stop;
+  survives = refuses.survives;
   stands = λ h log stood. inr refuses.down;
   down = λ down. absurd (let e = up down in cc);
 }
@@ -76,7 +76,7 @@ refused_is_call Down old new commands are refuses up honest = record {
   are = tt;
   within = omega arith;
   honest = honest;
-  stop = λ h log stood. absurd (stood.up refuses.before);
+  survives = λ h log stood. absurd (stood.up refuses.before);
   stands = λ h log stood. absurd (stood.up refuses.before);
   down = λ down. (refuses.after, refl, refuses.left);
 }
@@ -84,7 +84,7 @@ refused_is_call (Damaged rule) old new commands are refuses up honest = record {
   are = are;
   within = omega arith;
   honest = honest;
-  stop = λ h log stood. absurd (refuses.never_shown h log stood.shows);
+  survives = λ h log stood. absurd (refuses.never_shown h log stood.shows);
   stands = λ h log stood. absurd (refuses.never_shown h log stood.shows);
   down = λ down. absurd (let e = up down in cc);
 }

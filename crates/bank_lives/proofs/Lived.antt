@@ -61,7 +61,8 @@ lives_on now next log given commands least n some call h (inl stood) =
         down,
         leaves_weaker next (ShowsBeginning (behind log given) commands n)
             (ShowsBeginning log (given ++ commands) (reached least given n))
-            (λ t b. one_call_more log given commands least n t some b) (call.stop h (behind log given) stood),
+            (λ t b. one_call_more log given commands least n t some b)
+            (call.survives h (behind log given) stood),
       )
     ]
 lives_on now next log given commands least n some call h (inr (down, left)) =

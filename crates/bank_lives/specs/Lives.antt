@@ -17,7 +17,7 @@ pub record IsCall (old new : Seen) (commands : List Command) (acknowledged : ℕ
   pub within : acknowledged ≤ length commands
   pub honest : new.honest → old.honest
   -- a stop may leave a beginning of the commands that holds all that were acknowledged
-  pub stop : new.honest → (log : List Command) → StandsAt old log
+  pub survives : new.honest → (log : List Command) → StandsAt old log
       → LeavesOnly new (ShowsBeginning log commands acknowledged)
   -- it took them all, or it went down
   pub stands : new.honest → (log : List Command) → StandsAt old log

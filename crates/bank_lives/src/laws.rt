@@ -11,7 +11,7 @@ ghost use Rattle.posting_rules.specs.Tables.{Tables, AreTablesOf};
 ghost use Rattle.posting_rules.specs.declared.fault.Rule.{Rule};
 ghost use Rattle.store_rows.specs.Rules.{KeepsRule};
 ghost use Rattle.store_rows.specs.View.{ShowsTrees};
-ghost use Rattle.bank_lives.specs.Rules.{stored_rows};
+ghost use Rattle.bank_lives.specs.TableRows.{stored_rows};
 ghost use Rattle.bank_store.specs.Opening.{conn_seen};
 ghost use Rattle.bank_lives.specs.Lives.{IsCall, Life, given_to};
 
@@ -38,7 +38,7 @@ pub fn calls_law<C: Counter>(_counter: &C)
 pub fn life_law<C: Counter>(counter: &C)
     ensures given { (first : _) (given : List Command) (least : ℕ) → Life C.seen first counter.now given least
         → (least ≤ length given) × AreCommands given }
-    ensures left { (first : _) (log given : List Command) (least : ℕ)
+    ensures survives { (first : _) (log given : List Command) (least : ℕ)
         → Life C.seen first counter.now given least
         → StandsAt (C.seen first) log → (C.seen counter.now).honest
         → LeavesOnly (C.seen counter.now) (ShowsBeginning log given least) }

@@ -58,11 +58,11 @@ module _ {S X : Type 0} {So : Tables → Type 0} {after : Tables → Tables} {wa
       → IsCutShort (seen_in (state g old) D) (seen_in end E) cs
   cut_short are end D E down survives = record {
     down = down;
-    stop = λ clean log at trees may.
+    survives = λ clean log at trees may.
         let s = at.shows in
         elim (survives.crash clean trees may) [
           | inl before ↦
-              (let it = at.stop trees before in (it.0, it.1, none_of_them it.0 log cs s.commands it.2))
+              (let it = at.survives trees before in (it.0, it.1, none_of_them it.0 log cs s.commands it.2))
           | inr made ↦ (
             after s.tables,
             made s.tables s.are (holds s.tables log s.commands s.shows),
@@ -79,7 +79,7 @@ module _ {S X : Type 0} {So : Tables → Type 0} {after : Tables → Tables} {wa
   none_or_all end D E survives = λ clean log at trees may.
       let s = at.shows in
       elim (survives.crash clean trees may) [
-        | inl before ↦ (let it = at.stop trees before in (it.0, it.1, inl it.2))
+        | inl before ↦ (let it = at.survives trees before in (it.0, it.1, inl it.2))
         | inr made ↦ (
           after s.tables,
           made s.tables s.are (holds s.tables log s.commands s.shows),
@@ -99,7 +99,7 @@ none_or_all_down {S} {X} {So} {after} {wanted} g old mid new r holds cs is D E d
     none_or_all holds cs is does (state g new) D E
     (survives_then (state g old) (state g mid) (state g new) (MayLeaveAfter (state g old) So after) (λ _. ⊥)
     (MayLeaveAfter (state g old) So after)
-    (λ clean db h. h) (λ clean db none. absurd none) does.stop quiet)
+    (λ clean db h. h) (λ clean db none. absurd none) does.survives quiet)
 
 -- a call that was answered
 pub takes : {S X : Type 0} {So : Tables → Type 0} {after : Tables → Tables} {wanted : Tables → X}
@@ -171,7 +171,7 @@ refuses {S} {X} {So} {after} {wanted} {Met} g old mid new holds cs is are D e ke
         (survives_then (state g old) (state g mid) (state g new) (MayLeaveAfter (state g old) So after)
         (λ _. ⊥)
         (MayLeaveAfter (state g old) So after)
-        (λ clean db h. h) (λ clean db none. absurd none) does.stop quiet))
+        (λ clean db h. h) (λ clean db none. absurd none) does.survives quiet))
 
     by_fault : (f : TableFault) → TransactsBy {X = X} Met g old mid So after wanted (Err f)
         → GoesDown (state g mid) (state g new) f kept fault → Refused fault
@@ -219,7 +219,7 @@ module _ {S X : Type 0} {So : Tables → Type 0} {after : Tables → Tables} {wa
       (record {
         at = mid;
         then = new;
-        before = comes does.stop;
+        before = comes does.survives;
         failed = Committing (inl (went.1.2 clean));
         after = same_moment (state g new);
       })

@@ -15,4 +15,4 @@ LeavesNoneOrAll old new commands =
 -- these tables are there, and everything that a stop may leave has them and no others
 pub record HasOnly (seen : Seen) (t : Tables) : Type 0 where
   pub tables : seen.tables t
-  pub stop : LeavesOnly seen (λ left. left ≡ t)
+  pub survives : LeavesOnly seen (λ left. left ≡ t)

@@ -16,7 +16,7 @@ use Rattle.sqlite_trees.specs.declared.store.Store.{Ghosts}
 use Rattle.sqlite_rules.specs.Lists.{Has}
 use Rattle.bank_transactions.specs.Doing.{HasFailedBetween, IsBefore}
 use Rattle.posting_rules.specs.Counter.{Seen}
-use Rattle.posting_rules.specs.Rules.{number_of_rule}
+use Rattle.posting_rules.specs.FaultTexts.{number_of_rule}
 use Rattle.posting_rules.specs.declared.fault.Rule.TheVariants.{Meta, Value}
 use Rattle.sql_meanings.specs.Making.{KeepsTables}
 use Rattle.sql_meanings.specs.Outcomes.{IsThere, IsUnderstood}

@@ -137,7 +137,8 @@ pub fn adopt<S: Alter>(alloc: Global, mut conn: Connection<S>) -> Result<Bank<S>
         → IsUndoneIfOpen (state S.Store conn) (state S.Store refused.conn)) }
     ensures known { IfErr result (λ refused. HasCleanDisk (state S.Store refused.conn) → (log : List Command)
         → ShowsLog (conn_seen S.Store conn) log → refused.fault ≡ OpenFault.Store) }
-    ensures stop { IfErr result (λ refused. HasCleanDisk (state S.Store refused.conn) → (log : List Command)
+    ensures survives { IfErr result (λ refused. HasCleanDisk (state S.Store refused.conn)
+        → (log : List Command)
         → StandsAt (conn_seen S.Store conn) log
         → LeavesOnly (conn_seen S.Store refused.conn) (λ tables. Show tables log)) }
     ensures idle { IfErr result (λ refused. refused.conn.in_transaction ≡ false) }

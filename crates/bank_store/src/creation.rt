@@ -33,7 +33,7 @@ fn make_tables<S: Alter>(conn: &mut Connection<S>) -> Result<(), OpenFault>
     ensures refused { HasCleanDisk (state S.Store conn.new)
         → IfErr result (λ fault. fault ≡ OpenFault.NotBlank → IsRefusedOnTheWay (state S.Store conn.old)) }
     ensures cause { IfErr result (KnowsWhyUnmade S.Store conn.old conn.new) }
-    ensures stop { Survives (state S.Store conn.old) (state S.Store conn.new)
+    ensures survives { Survives (state S.Store conn.old) (state S.Store conn.new)
         (HasNewBank (state S.Store conn.old).now) }
     ensures mode { conn.new.in_transaction ≡ false }
 {
@@ -61,7 +61,7 @@ fn make_bank<S: Alter>(conn: &mut Connection<S>) -> Result<(), OpenFault>
     ensures refused { HasCleanDisk (state S.Store conn.new)
         → IfErr result (λ fault. fault ≡ OpenFault.NotBlank → IsTaken (state S.Store conn.old)) }
     ensures cause { IfErr result (KnowsWhyUnmade S.Store conn.old conn.new) }
-    ensures stop { Survives (state S.Store conn.old) (state S.Store conn.new)
+    ensures survives { Survives (state S.Store conn.old) (state S.Store conn.new)
         (HasNewBank (state S.Store conn.old).now) }
     ensures mode { conn.new.in_transaction ≡ false }
 {
@@ -104,7 +104,7 @@ pub fn create<S: Alter>(alloc: Global, mut conn: Connection<S>) -> Result<Bank<S
     ensures empty { IfErr result (λ refused. HasCleanDisk (state S.Store refused.conn)
         → IsEmpty (state S.Store conn).now → refused.fault ≡ OpenFault.Store) }
     ensures idle { IfErr result (λ refused. refused.conn.in_transaction ≡ false) }
-    ensures stop { Survives (state S.Store conn) (state_in S.Store result)
+    ensures survives { Survives (state S.Store conn) (state_in S.Store result)
         (HasNewBank (state S.Store conn).now) }
 {
     match make_bank(&mut conn) {

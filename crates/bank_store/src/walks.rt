@@ -158,7 +158,7 @@ impl<'bank, S: Alter, R: WalkedRow> Walk<'bank, S, R> {
             self.old)) }
         ensures rises { (k : ℤ) → ComesFrom (λ r. R.WalkedRow.key (R.WalkedRow.item r)) k self.old
             → OnOk result (ComesFrom (λ r. R.WalkedRow.key (R.WalkedRow.item r)) k self.new) }
-        ensures left { OnOk result (length self.new.rows.items ≤ self.new.given → self.new.rest ≡ None) }
+        ensures rest { OnOk result (length self.new.rows.items ≤ self.new.given → self.new.rest ≡ None) }
         ensures same { HasCleanDisk (lent_state S.Store self.new)
             → OnOk result (IsStill (lent_state S.Store self.old) (lent_state S.Store self.new)) }
         ensures undone { HasCleanDisk (lent_state S.Store self.new)

@@ -16,7 +16,7 @@ use Rattle.store_rows.specs.Stored.{BalanceKeeps, FindsStored, IsBalance}
 use Rattle.store_rows.specs.declared.fault.TableFault.{TableFault}
 use Rattle.bank_transactions.specs.Doing.{IsFault, IsFirstBroken, LooksUp}
 use Rattle.bank_transactions.proofs.Broken.{account_broken, teller_broken}
-use Rattle.bank_transactions.proofs.Reading.{find_failed}
+use Rattle.bank_transactions.proofs.ReadsInTurn.{find_failed}
 use Rattle.bank_transactions.proofs.SoundRows.{account_unbroken, teller_unbroken}
 
 -- the look-up failed with this fault, of tables that are so

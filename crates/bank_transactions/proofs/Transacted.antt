@@ -143,7 +143,7 @@ module _ {S X : Type 0} {Met : Damage S} {So : Tables → Type 0} {after : Table
     undone = λ clean.
         undoes (state g start) (state g last.conn.now) (state g new) answer result settled
         (kept_so (clean_before clean)).0 (ends.told clean);
-    stop = stop_so;
+    survives = stop_so;
     cause = λ clean.
         blamed Met g old start last.conn.now new answer result from_start within (comes ends.survives) wide
         (kept_so (clean_before clean)).1 (ends.told clean);

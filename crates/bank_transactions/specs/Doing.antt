@@ -194,7 +194,7 @@ pub record TransactsBy {S X : Type 0} (Met : Damage S) (g : Ghosts S) (old new :
   pub told : HasCleanDisk (state g new) → (tables : Tables) → Shows (state g old).now tables → So tables
       → Completes (state g new) (after tables) (wanted tables) result
   pub undone : HasCleanDisk (state g new) → Undoes (state g old) (state g new) result
-  pub stop : Survives (state g old) (state g new) (MayLeaveAfter (state g old) So after)
+  pub survives : Survives (state g old) (state g new) (MayLeaveAfter (state g old) So after)
   pub cause : HasCleanDisk (state g new) → Blames Met g old new result
   pub mode : new.in_transaction ≡ false
 

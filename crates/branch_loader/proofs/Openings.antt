@@ -95,7 +95,7 @@ left-all old new commands taken h log stood =
       are = rw (take-length commands) (taken.stands h log stood).shows.commands;
       shows = rw (take-length commands) shown;
     })
-    (taken.stands h log stood).stop
+    (taken.stands h log stood).survives
 
 -- a beginning of one command more
 one_more : (log xs rest : List Command) (c : Command) (t : Tables)
@@ -132,11 +132,11 @@ left-refused Memory old now new xs c rest taken refused honest h log stood =
       shows = rw (take-append_seam xs (c ∷ rest)) shown;
     })
     (leaves_still now new (λ t. AreTablesOf t (behind log xs)) refused.left
-    (taken.stands (honest h) log stood).stop)
+    (taken.stands (honest h) log stood).survives)
 left-refused Store old now new xs c rest taken refused honest h log stood =
     leaves_weaker new (ShowsBeginning (behind log xs) (c ∷ []) 0)
     (ShowsBeginning log (xs ++ c ∷ rest) (length xs)) (one_more log xs rest c)
-    (refused.stop h (behind log xs) (taken.stands (honest h) log stood))
+    (refused.survives h (behind log xs) (taken.stands (honest h) log stood))
 left-refused Down old now new xs c rest taken refused honest h log stood =
     absurd ((taken.stands (honest h) log stood).up refused.before)
 left-refused (Damaged rule) old now new xs c rest taken refused honest h log stood =

@@ -52,7 +52,8 @@ pub fn load<C: Counter>(plan: &Plan, counter: &mut C) -> Result<Loaded, Fault>
         → loaded ≡ counted (answers log plan.now)) }
     ensures all { IfOk result (λ loaded. total loaded ≡ length plan.now) }
     ensures done { OnOk result (Takes (C.seen counter.old) (C.seen counter.new) (openings plan.now)) }
-    ensures stop { OnOk result (LeavesBeginning (C.seen counter.old) (C.seen counter.new) (openings plan.now)
+    ensures survives { OnOk result
+        (LeavesBeginning (C.seen counter.old) (C.seen counter.new) (openings plan.now)
         (length plan.now)) }
     ensures up { OnOk result ((C.seen counter.new).is_down → (C.seen counter.old).is_down) }
 

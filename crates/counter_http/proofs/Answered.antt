@@ -22,7 +22,7 @@ use Rattle.counter_http.specs.declared.routes.Route.TheVariants.{Posting, Accoun
 use Rattle.counter_http.specs.declared.telling.Response.{Response}
 use Rattle.counter_http.specs.Telling.{said}
 use Rattle.counter_http.specs.Paths.{account_in, route_of, path_of}
-use Rattle.counter_http.proofs.Told.{bare_of, front_of}
+use Rattle.counter_http.proofs.PartsWritten.{bare_of, front_of}
 use Rattle.counter_http.specs.Turns.{commands_if, commands_for, readings_if, readings_for, IsDealtWith}
 use Rattle.counter_http.specs.Turns.{IsRefusedAt, IsWrittenTo, BreaksOff, IsTellingOf}
 

@@ -25,7 +25,7 @@ use Rattle.posting_core.proofs.Batched.{joined-append}
 use Rattle.counter_http.specs.Serving.{At_message, At_refusal, Exits, AnswersAreWritten, ServesConnection}
 use Rattle.counter_http.proofs.Turning.{readings_append, takes_append, answers-append}
 use Rattle.posting_core.proofs.Stops.{refused_stop, stop_all, stop_part, written_part}
-use Rattle.counter_http.proofs.Going.{Going, turn_of, read_one_more}
+use Rattle.counter_http.proofs.ConnectionLoop.{Going, turn_of, read_one_more}
 
 -- ---- ends at a message
 
@@ -88,7 +88,7 @@ answer_begun seen {r = r} {r' = r'} {w = w} {w' = w'} {w'' = w''} {k = k} {k' = 
           ∙ sym (joined-append (answers_to log before)
           (answers_to (behind log (commands_of before)) (t ∷ [])))
           ∙ ap joined (sym (answers-append log before (t ∷ [])) ∙ sym (append-nil (answers_to log ts))));
-      stop = λ h log s. stop_all (seen new) log (commands_of (ts ++ [])) (commands_of ts)
+      survives = λ h log s. stop_all (seen new) log (commands_of (ts ++ [])) (commands_of ts)
           (ap commands_of none) (takes.stands h log s);
     }
 
@@ -138,7 +138,7 @@ bank_failed seen {r = r} {r' = r'} {w = w} {w' = w'} {w'' = w''} {k = k} {k' = k
       answers = λ h log s. subst (λ (x : List ℕ). AnswersAreWritten result (g.answered.written ++ more) x)
           (ap (λ (x : List ℕ). x ++ joined last) (g.answered.answers (honest h) log s)
           ∙ sym (joined-append (answers_to log before) last)) (writes g.answered.written);
-      stop = λ h log s. stop_part (seen new) log (commands_of before) (commands_in t)
+      survives = λ h log s. stop_part (seen new) log (commands_of before) (commands_in t)
           (commands_of (before ++ t ∷ [])) commands
           (refused_stop fault (seen b.stood) (seen new) (behind log (commands_of before)) (commands_in t)
           b.refuses h (takes.stands (b.honest h) log s));

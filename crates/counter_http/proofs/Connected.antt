@@ -28,9 +28,10 @@ use Rattle.counter_http.specs.Serving.{BeginsWithNoMessage, IsWalked, At_last, E
 use Rattle.counter_http.specs.Serving.{ServesConnection}
 use Rattle.counter_http.proofs.Walking.{walks_behind, walks_end, walks_always, walks_closed}
 use Rattle.counter_http.proofs.Sent.{ended_at}
-use Rattle.counter_http.proofs.Told.{front_of}
+use Rattle.counter_http.proofs.PartsWritten.{front_of}
 use Rattle.counter_http.proofs.Turning.{answered_none, answered_more, answered_one}
-use Rattle.counter_http.proofs.Going.{Going, turn_of, read_one_more, texts_one_more, same_front, going_filled}
+use Rattle.counter_http.proofs.ConnectionLoop.{Going, turn_of, read_one_more, texts_one_more, same_front}
+use Rattle.counter_http.proofs.ConnectionLoop.{going_filled}
 
 -- ---- ends where the bank took all that it was given
 
@@ -64,7 +65,7 @@ end_with seen {r = r} {r' = r'} {w = w} {w' = w'} {w'' = w''} {k = k} {k' = k'} 
       answers = λ h log s. subst (λ (x : List ℕ). AnswersAreWritten result (a.written ++ more) x)
           (ap (λ (x : List ℕ). x ++ joined last) (a.answers h log s)
           ∙ sym (joined-append (answers_to log ts) last)) (writes a.written);
-      stop = λ h log s. stop_all (seen new) log (commands_of (ts ++ [])) (commands_of ts)
+      survives = λ h log s. stop_all (seen new) log (commands_of (ts ++ [])) (commands_of ts)
           (ap commands_of none) (a.takes.stands h log s);
     }
 

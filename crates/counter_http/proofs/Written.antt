@@ -241,8 +241,8 @@ survives_of seen old new result s = record {
   read = s.read;
   written = s.written;
   wrote = s.wrote;
-  stop = λ h log stood. leaves_weaker (seen new) _ _
+  survives = λ h log stood. leaves_weaker (seen new) _ _
       (λ t b. at_least log (commands_of (s.taken ++ s.refused)) (length (commands_of s.taken)) _ t
       (commands_of_first (acknowledged (answers_to log s.taken) (length s.written)) s.taken) b)
-      (s.stop h log stood);
+      (s.survives h log stood);
 }

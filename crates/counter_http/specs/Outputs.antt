@@ -121,6 +121,6 @@ pub record SurvivesServing (r r' w w' : Option (List ℕ)) (c c' : Seen) : Type 
   pub read : Consumes r r' (texts_of (taken ++ refused) ++ rest)
   pub written : List ℕ
   pub wrote : Appends w w' written
-  pub stop : c'.honest → (log : List Command) → StandsAt c log
+  pub survives : c'.honest → (log : List Command) → StandsAt c log
       → LeavesOnly c'
       (ShowsBeginning log (commands_of (taken ++ refused)) (acknowledged_records log taken (length written)))

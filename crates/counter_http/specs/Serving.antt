@@ -134,6 +134,6 @@ pub record ServesConnection {C : Type 0} (seen : C → Seen) (r r' : Option (Lis
   pub answers : (seen new).honest → (log : List Command) → ShowsLog (seen old) log
       → AnswersAreWritten result written (joined (answers_to log taken ++ last))
   -- a stop leaves all that it took
-  pub stop : (seen new).honest → (log : List Command) → StandsAt (seen old) log
+  pub survives : (seen new).honest → (log : List Command) → StandsAt (seen old) log
       → LeavesOnly (seen new)
       (ShowsBeginning log (commands_of (taken ++ refused)) (length (commands_of taken)))

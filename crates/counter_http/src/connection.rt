@@ -104,7 +104,8 @@ pub fn serve_connection<R: Source, W: Sink, K: Clock, C: Counter>(
     ensures output { OutputsAnswers (R.remaining reader.old) (R.remaining reader.new)
         (R.told reader.old) (R.told reader.new) (W.contents writer.old) (W.contents writer.new)
         (C.seen bank.old) (C.seen bank.new) result }
-    ensures stop { SurvivesServing (R.remaining reader.old) (R.remaining reader.new) (W.contents writer.old)
+    ensures survives { SurvivesServing (R.remaining reader.old) (R.remaining reader.new)
+        (W.contents writer.old)
         (W.contents writer.new)
         (C.seen bank.old) (C.seen bank.new) }
     ensures ends { ServeFaultIsOfItsEnd result (R.told reader.old) (R.told reader.new)

@@ -41,7 +41,13 @@ one_served {C = C} seen r r' w w' k k' q q' p p' old new result served output st
     } in
     record {
       connection = c;
-      is_served = record { served = served; output = output; stop = stop; ended = ended; honest = honest };
+      is_served = record {
+        served = served;
+        output = output;
+        survives = stop;
+        ended = ended;
+        honest = honest;
+      };
       clock_is = refl;
       clock_after_is = refl;
       before_is = refl;

@@ -43,7 +43,8 @@ pub record IsServed {C : Type 0} (seen : C → Seen) (c : Connection C) : Type 0
   pub output : OutputsAnswers c.reader c.reader_after c.reads c.reads_after c.writer c.writer_after
       (seen c.before)
       (seen c.after) c.result
-  pub stop : SurvivesServing c.reader c.reader_after c.writer c.writer_after (seen c.before) (seen c.after)
+  pub survives : SurvivesServing c.reader c.reader_after c.writer c.writer_after (seen c.before)
+      (seen c.after)
   pub ended : ends.EndsAs c.result c.reads c.reads_after c.writes c.writes_after
   pub honest : (seen c.after).honest → (seen c.before).honest
 

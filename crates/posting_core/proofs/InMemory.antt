@@ -101,7 +101,7 @@ stands_plain : (bank : PlainBank) (log : List Command) → AreCommands log → A
 stands_plain bank log commands s = record {
   shows = shows_plain bank log commands s;
   up = λ h. h;
-  stop = λ remains is. (remains, refl, subst (λ t. AreTablesOf t log) (sym is) s);
+  survives = λ remains is. (remains, refl, subst (λ t. AreTablesOf t log) (sym is) s);
 }
 
 -- commands that its rows took

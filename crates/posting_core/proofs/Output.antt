@@ -168,12 +168,12 @@ survives_of {c' = c'} result s =
       commands = posts_of bs;
       posts = all_posts bs;
       records = posted_is bs ∙ sym (whole_records_are (records_of bs) s.rest s.whole s.few);
-      stop = λ h log stood. leaves_weaker c' _ _
+      survives = λ h log stood. leaves_weaker c' _ _
           (λ t b.
           let few = acknowledged_taken log s.taken s.refused (length s.written)
           (written_few result s log h stood.shows) in
           at_least log (posts_of bs) (length (posts_of s.taken)) _ t few b)
-          (s.stop h log stood);
+          (s.survives h log stood);
     }
 
 -- ---- records that come again

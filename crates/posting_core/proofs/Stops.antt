@@ -25,7 +25,7 @@ stop_all c log cs ds e s = leaves_weaker c (λ t. AreTablesOf t (behind log ds))
       are = subst (λ (l : List Command). AreCommands (behind log l)) (sym all) s.shows.commands;
       shows = subst (λ (l : List Command). AreTablesOf t (behind log l)) (sym all) shown;
     })
-    s.stop
+    s.survives
 
 -- who finds so many of the commands finds fewer too
 pub at_least : (log cs : List Command) (n k : ℕ) (t : Tables) → k ≤ n → ShowsBeginning log cs n t
@@ -69,8 +69,8 @@ refused_stop Memory c c' log cs u h s = leaves_weaker c' (λ t. AreTablesOf t lo
       are = s.shows.commands;
       shows = shown;
     })
-    (leaves_still c c' (λ t. AreTablesOf t log) u.left s.stop)
-refused_stop Store c c' log cs u h s = u.stop h log s
+    (leaves_still c c' (λ t. AreTablesOf t log) u.left s.survives)
+refused_stop Store c c' log cs u h s = u.survives h log s
 refused_stop Down c c' log cs u h s = absurd (s.up u.before)
 refused_stop (Damaged rule) c c' log cs u h s = absurd (u.never_shown h log s.shows)
 

@@ -50,7 +50,8 @@ end_of {r = r} {r' = r'} {k = k} {k' = k'} {c' = c'} {rest = rest} result g fits
           (g.replies h log s);
       shows = λ h log s. fits.up (ShowsLog c' (behind log (posts_of g.batches))) (g.takes.shows h log s);
       stands = λ h log s. fits.up (StandsAt c' (behind log (posts_of g.batches))) (g.takes.stands h log s);
-      stop = λ h log s. stop_all c' log (posts_of (g.batches ++ [])) (posts_of g.batches) (ap posts_of none)
+      survives = λ h log s. stop_all c' log (posts_of (g.batches ++ [])) (posts_of g.batches)
+          (ap posts_of none)
           (g.takes.stands h log s);
     }
 
@@ -100,7 +101,7 @@ refused_stands : (fault : Fault) (c c' : Seen) (log cs : List Command) → Refus
 refused_stands Memory c c' log cs u s = record {
   shows = unchanged_shows c c' log u s.shows;
   up = λ d. s.up (u.down d);
-  stop = leaves_still c c' (λ t. AreTablesOf t log) u.left s.stop;
+  survives = leaves_still c c' (λ t. AreTablesOf t log) u.left s.survives;
 }
 refused_stands Store c c' log cs u s = tt
 refused_stands Down c c' log cs u s = tt
@@ -141,7 +142,7 @@ end_broken Write {r = r} {r' = r'} {w = w} {w' = w'} {w'' = w''} {k = k} {k' = k
           (sym (replies_of_one_more log g.batches b));
       shows = λ h log s. takes.shows h log s;
       stands = λ h log s. takes.stands h log s;
-      stop = λ h log s. stop_all c'' log (posts_of (bs ++ [])) (posts_of bs) (ap posts_of none)
+      survives = λ h log s. stop_all c'' log (posts_of (bs ++ [])) (posts_of bs) (ap posts_of none)
           (takes.stands h log s);
     }
 end_broken (Bank fault) {r = r} {r' = r'} {w = w} {w' = w'} {w'' = w''} {k = k} {k' = k'} {k'' = k''} {c = c}
@@ -164,7 +165,8 @@ end_broken (Bank fault) {r = r} {r' = r'} {w = w} {w' = w'} {w'' = w''} {k = k} 
           (g.takes.shows (honest h) log s);
       stands = λ h log s. refused_stands fault c' c'' (behind log (posts_of g.batches)) (posts m rs) a.refuses
           (g.takes.stands (honest h) log s);
-      stop = λ h log s. stop_part c'' log (posts_of g.batches) (posts m rs) (posts_of (g.batches ++ b ∷ []))
+      survives = λ h log s. stop_part c'' log (posts_of g.batches) (posts m rs)
+          (posts_of (g.batches ++ b ∷ []))
           (posts_of_one_more g.batches b)
           (refused_stop fault c' c'' (behind log (posts_of g.batches)) (posts m rs) a.refuses h
           (g.takes.stands (honest h) log s));

@@ -1,7 +1,7 @@
 -- The texts of the faults of one record and of a stream.
 use Rattle.std.specs.Prelude.{ℕ, List, ◌++◌, codes}
 use Rattle.std.specs.Fmt.{decimal}
-use Rattle.posting_rules.specs.Rules.{fault_text}
+use Rattle.posting_rules.specs.FaultTexts.{fault_text}
 use Rattle.posting_core.specs.declared.once.OnceFault.{OnceFault}
 use Rattle.posting_core.specs.declared.once.OnceFault.TheVariants as once
 use Rattle.posting_core.specs.declared.stream.StreamFault.{StreamFault}

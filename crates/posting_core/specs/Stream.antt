@@ -85,7 +85,7 @@ pub record Streamed (r r' w w' k k' : Option (List ℕ)) (c c' : Seen)
   pub stands : c'.honest → (log : List Command) → StandsAt c log
       → UnlessDown result (StandsAt c' (behind log (posts_of taken)))
   -- a stop leaves all that it took
-  pub stop : c'.honest → (log : List Command) → StandsAt c log
+  pub survives : c'.honest → (log : List Command) → StandsAt c log
       → LeavesOnly c' (ShowsBeginning log (posts_of (taken ++ refused)) (length (posts_of taken)))
 
 -- ---- what is written is a function of what is read, however it was cut
@@ -147,7 +147,7 @@ pub record SurvivesStream (r r' w w' : Option (List ℕ)) (c c' : Seen) : Type 0
   pub commands : List Command
   pub posts : ArePosts commands
   pub records : posted_records commands ≡ whole_records bytes
-  pub stop : c'.honest → (log : List Command) → StandsAt c log
+  pub survives : c'.honest → (log : List Command) → StandsAt c log
       → LeavesOnly c' (ShowsBeginning log commands (acknowledged (replies_to log commands) (length written)))
 
 -- ---- records that come again

@@ -120,7 +120,8 @@ pub fn post_stream<R: Source, W: Sink, K: Clock, C: Counter>(
     ensures output { OutputsReplies (R.remaining reader.old) (R.remaining reader.new) (W.contents writer.old)
         (W.contents writer.new)
         (C.seen bank.old) (C.seen bank.new) result }
-    ensures stop { SurvivesStream (R.remaining reader.old) (R.remaining reader.new) (W.contents writer.old)
+    ensures survives { SurvivesStream (R.remaining reader.old) (R.remaining reader.new)
+        (W.contents writer.old)
         (W.contents writer.new)
         (C.seen bank.old) (C.seen bank.new) }
     ensures resend { Resends (R.remaining reader.old) (R.remaining reader.new) (C.seen bank.old)

@@ -47,7 +47,7 @@ LeavesNoMore old new = (remains : new.Remains) → new.left remains
 pub record StandsAt (seen : Seen) (log : List Command) : Type 0 where
   pub shows : ShowsLog seen log
   pub up : seen.is_down → ⊥
-  pub stop : LeavesOnly seen (λ t. AreTablesOf t log)
+  pub survives : LeavesOnly seen (λ t. AreTablesOf t log)
 
 -- the tables show the log and then a beginning of the commands, so many of them at least, all of them the
 -- bank's
@@ -78,7 +78,7 @@ pub record IsUnchanged (old new : Seen) : Type 0 where
 -- the store failed in it: a stop may leave any beginning of the commands
 pub record IsCutShort (old new : Seen) (commands : List Command) : Type 0 where
   pub down : new.is_down
-  pub stop : new.honest → (log : List Command) → StandsAt old log
+  pub survives : new.honest → (log : List Command) → StandsAt old log
       → LeavesOnly new (ShowsBeginning log commands 0)
 
 -- it tried nothing, since the counter was down

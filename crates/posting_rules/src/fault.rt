@@ -1,7 +1,7 @@
 //! Why a counter refuses a call.
 ghost use Rattle.std.specs.Prelude.{◌≡◌};
 ghost use Rattle.posting_rules.specs.declared.fault.Fault.TheVariants.{Memory};
-ghost use Rattle.posting_rules.specs.Rules.{number_of_rule};
+ghost use Rattle.posting_rules.specs.FaultTexts.{number_of_rule};
 
 use std::alloc::{AllocError, AllocFailed};
 use std::fmt;
@@ -59,7 +59,7 @@ pub enum Fault {
 /// A text of a line, as `store fault` and `damaged rule 3`.
 impl fmt::Display for Fault {
     ghost use Rattle.std.specs.Prelude.{Some};
-    ghost use Rattle.posting_rules.specs.Rules.{fault_text};
+    ghost use Rattle.posting_rules.specs.FaultTexts.{fault_text};
 
     ghost output = { λ fault. Some (fault_text fault) };
 

@@ -15,7 +15,7 @@ use Rattle.sqlite_catalog.proofs.AlterLemmas.{place_has}
 use Rattle.sqlite_rules.specs.Lists.{Has}
 use Rattle.sqlite_rules.proofs.ListLemmas.{all_has, all_from}
 use Rattle.sql_meanings.specs.Making.{Stands}
-use Rattle.sql_meanings.proofs.Standing.{has_table}
+use Rattle.sql_meanings.proofs.TableStands.{has_table}
 use Rattle.sql_meanings.specs.Tables.{Defines, table_of, tree_of}
 
 Table-set : IsSet Table

@@ -17,7 +17,7 @@ use Rattle.sql_meanings.specs.Tables.{Holds, placed_at, tree_of, width_of}
 use Rattle.sql_meanings.specs.Making.{AddsTable, CreatesOnly, Stands}
 use Rattle.sql_meanings.specs.Outcomes.{WriteKept}
 use Rattle.sql_meanings.proofs.Defining.{stands_defined}
-use Rattle.sql_meanings.proofs.Standing.{adds}
+use Rattle.sql_meanings.proofs.TableStands.{adds}
 use Rattle.sql_meanings.proofs.Writing.{same_value}
 
 -- whatever is executed inside

@@ -15,7 +15,7 @@ use Rattle.sql_meanings.proofs.Statements.{HasTable}
 use Rattle.sql_meanings.specs.Making.{Stands}
 use Rattle.sql_meanings.proofs.Defining.{defined_stands}
 use Rattle.sql_meanings.proofs.Growing.{low_tree}
-use Rattle.sql_meanings.proofs.Standing.{found_apart, high_not}
+use Rattle.sql_meanings.proofs.TableStands.{found_apart, high_not}
 use Rattle.sql_meanings.specs.Entries.{Entry, IsTree}
 use Rattle.sql_meanings.specs.Tables.{Defines, Holds, placed_at, tree_of, width_of}
 

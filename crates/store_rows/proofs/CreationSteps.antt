@@ -23,7 +23,7 @@ use Rattle.sql_meanings.specs.Outcomes.{GoesOn, MakeFails, MakesTold}
 use Rattle.sql_meanings.proofs.Afterwards.{fails_since, names_on, names_since, undone_since, undone_twice}
 use Rattle.sql_meanings.proofs.Makings.{holds_none, kept}
 use Rattle.sql_meanings.proofs.Places.{all_more, fold_more, some_at}
-use Rattle.sql_meanings.proofs.Standing.{counts_created, then_keeps}
+use Rattle.sql_meanings.proofs.TableStands.{counts_created, then_keeps}
 use Rattle.store_rows.specs.SixTables as six
 use Rattle.store_rows.specs.Creation.{CreatesBank, CreationFails, TablesAreMade, MakesAll, MakesWide}
 use Rattle.store_rows.specs.Creation.{six_texts}

@@ -76,7 +76,7 @@ pub fn create<S: Alter>(conn: &mut Connection<S>) -> Result<(), Error>
         → OnErr result ((state S.Store conn.new).committed ≡ (state S.Store conn.old).committed) }
     ensures cause { HasCleanDisk (state S.Store conn.new)
         → IfErr result (CreationFails (state S.Store conn.old) (state S.Store conn.new)) }
-    ensures stop { Survives (state S.Store conn.old) (state S.Store conn.new)
+    ensures survives { Survives (state S.Store conn.old) (state S.Store conn.new)
         (HasNewBank (state S.Store conn.old).now) }
     ensures mode { conn.new.in_transaction ≡ false }
 {

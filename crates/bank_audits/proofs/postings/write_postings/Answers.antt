@@ -13,7 +13,7 @@ use Rattle.bank_audits.proofs.Further.{at_first, bank_fault, down_err, error_is,
 use Rattle.bank_audits.proofs.Further.{worn_out}
 use Rattle.bank_audits.specs.Failures.{HasFailedToRead}
 use Rattle.bank_audits.proofs.Passed.{failed_at_end}
-use Rattle.bank_audits.proofs.Kept.{still_has, still_then, quiet_then}
+use Rattle.bank_audits.proofs.StepsKeep.{still_has, still_then, quiet_then}
 use Rattle.bank_audits.proofs.postings.write_postings.Goals as goal
 
 pub returns-in_err-walk-clause-told : goal.returns-in_err-walk-clause-told

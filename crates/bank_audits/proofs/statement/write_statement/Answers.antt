@@ -13,8 +13,9 @@ use Rattle.bank_audits.specs.declared.fault.ReportFault.TheVariants.{Bank}
 use Rattle.bank_audits.specs.Behind.{statement_behind}
 use Rattle.bank_audits.proofs.Further.{bank_fault, error_is, nothing_written}
 use Rattle.bank_audits.proofs.OnLogs.{account_rows, has_history}
-use Rattle.bank_audits.proofs.Standing.{of_err, of_ok, refused_down, refused_leaves, takes_then, written_of}
-use Rattle.bank_audits.proofs.Told.{balance_is, told_part, told_sound, told_whole}
+use Rattle.bank_audits.proofs.ReportLeaves.{of_err, of_ok, refused_down, refused_leaves, takes_then}
+use Rattle.bank_audits.proofs.ReportLeaves.{written_of}
+use Rattle.bank_audits.proofs.StatementReports.{balance_is, told_part, told_sound, told_whole}
 use Rattle.bank_audits.proofs.statement.write_statement.Goals as goal
 
 pub returns-in_err-balance-clause-part : goal.returns-in_err-balance-clause-part
@@ -22,8 +23,8 @@ returns-in_err-balance-clause-part g c =
     on_err_any c.from_residual.result
     (λ clean log s. nothing_written _ (statement_behind log c.args.account))
 
-pub returns-in_err-balance-clause-left : goal.returns-in_err-balance-clause-left
-returns-in_err-balance-clause-left g c clean log at =
+pub returns-in_err-balance-clause-survives : goal.returns-in_err-balance-clause-survives
+returns-in_err-balance-clause-survives g c clean log at =
     refused_leaves c.in_err-balance.field-0.0 (bank_seen g.S.Store c.args.bank.now)
     (bank_seen g.S.Store c.balance.new.self)
     c.in_err-balance.ensures.fault clean log at

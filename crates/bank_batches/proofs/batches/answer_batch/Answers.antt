@@ -6,7 +6,7 @@ use Rattle.posting_batch.specs.View.{view}
 use Rattle.bank_transactions.proofs.Chained.{acts_read, does_err}
 use Rattle.bank_batches.proofs.Answered.{Judges, ready, leads_back, counts_none, answered_idle}
 use Rattle.bank_batches.proofs.Answered.{answered_written, answered_not}
-use Rattle.bank_batches.proofs.Reading.{does_look}
+use Rattle.bank_batches.proofs.LookUps.{does_look}
 use Rattle.bank_batches.proofs.batches.answer_batch.Goals.{then-overlay-before+in_ok-write}
 use Rattle.bank_batches.proofs.batches.answer_batch.Goals.{else-overlay-before}
 use Rattle.bank_batches.proofs.batches.answer_batch.Goals as goal

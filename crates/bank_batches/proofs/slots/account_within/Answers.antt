@@ -1,7 +1,7 @@
 -- What the balance of an account tells.
 use Rattle.std.proofs.Common.{◌≡◌, Err, rules}
 use Rattle.bank_transactions.proofs.FailedBalances.{account_failed}
-use Rattle.bank_batches.proofs.Reading.{looks_again}
+use Rattle.bank_batches.proofs.LookUps.{looks_again}
 use Rattle.bank_batches.proofs.slots.account_within.Goals as goal
 
 pub returns-in_err-balance : goal.returns-in_err-balance

@@ -3,7 +3,7 @@ use Rattle.std.proofs.Common.{◌≡◌, Err, length, rules, arith, ◌∙◌}
 use Rattle.std.specs.Vec.{with_items}
 use Rattle.std.proofs.lemmas.List.{with_items_is}
 use Rattle.posting_batch.specs.View.{view}
-use Rattle.bank_batches.proofs.Reading.{reads_but, reads_so}
+use Rattle.bank_batches.proofs.LookUps.{reads_but, reads_so}
 use Rattle.bank_batches.proofs.Whole.{accounts_in, accounts_ready, branches_in, count_in, kept_in, plain}
 use Rattle.bank_batches.proofs.Whole.{same_now, tellers_in, tellers_ready}
 use Rattle.bank_batches.proofs.Whole.{to_accounts, with_counted}

@@ -1,6 +1,6 @@
 -- One slot more is filled.
 use Rattle.std.proofs.Common.{◌<◌, Err, ◌≡◌, length, rules, arith, refl, ◌∙◌}
-use Rattle.bank_batches.proofs.Reading.{reads_none, reads_but, reads_so}
+use Rattle.bank_batches.proofs.LookUps.{reads_none, reads_but, reads_so}
 use Rattle.bank_batches.proofs.Loops.{fill_more, all_filled, next_is}
 use Rattle.bank_batches.proofs.slots.fill_all.Goals as goal
 

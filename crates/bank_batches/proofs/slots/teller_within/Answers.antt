@@ -1,7 +1,7 @@
 -- What the balance of a teller tells.
 use Rattle.std.proofs.Common.{◌≡◌, Err, rules}
 use Rattle.bank_transactions.proofs.FailedBalances.{teller_failed}
-use Rattle.bank_batches.proofs.Reading.{looks_again}
+use Rattle.bank_batches.proofs.LookUps.{looks_again}
 use Rattle.bank_batches.proofs.slots.teller_within.Goals as goal
 
 pub returns-in_err-balance : goal.returns-in_err-balance

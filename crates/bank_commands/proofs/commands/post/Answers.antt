@@ -23,7 +23,7 @@ returns-in_err-posted-clause-posts g c =
     (g.K.Clock.readings c.args.clock.now) (g.K.Clock.readings c.post_stream-posted.new.clock)
     c.in_ok-bank.bank c.post_stream-posted.new.bank (Err c.in_err-posted.field-0.0)
     c.from_residual-in_err-posted.result _
-    (p.1 ∙ ap Err p.2) c.in_ok-bank.ensures.found stream.stream stream.output stream.stop stream.resend
+    (p.1 ∙ ap Err p.2) c.in_ok-bank.ensures.found stream.stream stream.output stream.survives stream.resend
 
 pub returns-clause-posts : goal.returns-clause-posts
 returns-clause-posts g c =
@@ -32,4 +32,4 @@ returns-clause-posts g c =
     (g.W.Write.contents c.args.output.now) (g.W.Write.contents c.post_stream-posted.new.writer)
     (g.K.Clock.readings c.args.clock.now) (g.K.Clock.readings c.post_stream-posted.new.clock)
     c.in_ok-bank.bank c.post_stream-posted.new.bank (Ok c.in_ok-posted.field-0) (Ok c.in_ok-posted.field-0) _
-    refl c.in_ok-bank.ensures.found stream.stream stream.output stream.stop stream.resend
+    refl c.in_ok-bank.ensures.found stream.stream stream.output stream.survives stream.resend

@@ -3,7 +3,7 @@ use Rattle.std.proofs.lemmas.List.{length-append, length-drop, length-map}
 use Rattle.std.proofs.lemmas.Result.{err_from_is_err_and}
 use Rattle.posting_rules.specs.Runs.{posts}
 use Rattle.load_driver.specs.Counts.{Driving}
-use Rattle.bank_driver.proofs.Going.{end_done, end_refused, going_first, going_on, part_of}
+use Rattle.bank_driver.proofs.DriveLoop.{end_done, end_refused, going_first, going_on, part_of}
 use Rattle.bank_driver.proofs.drive.drive.Goals as goal
 
 pub loop-left-init : goal.loop-left-init

@@ -1,5 +1,5 @@
 use Rattle.std.proofs.Common.{◌≡◌, length}
-use Rattle.bank_driver.proofs.Going.{Going}
+use Rattle.bank_driver.proofs.DriveLoop.{Going}
 use Rattle.bank_driver.proofs.drive.drive.Given as goal
 
 abbrev pub invariant-loop-left : goal.invariant-loop-left

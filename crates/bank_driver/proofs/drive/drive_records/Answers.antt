@@ -2,8 +2,8 @@ use Rattle.std.proofs.Common.{◌≡◌, sym, subst, ◌∙◌}
 use Rattle.std.proofs.lemmas.Result.{err_from_is_err_and}
 use Rattle.bank_driver.specs.declared.fault.DriveFault.TheVariants.{NoBranches}
 use Rattle.bank_driver.specs.Drives.{MayRefuse}
-use Rattle.bank_driver.proofs.Ended.{drives, ended_empty, ended_unlisted, none_listed, none_open, on_ok}
-use Rattle.bank_driver.proofs.Ended.{resends}
+use Rattle.bank_driver.proofs.DriveEnds.{drives, ended_empty, ended_unlisted, none_listed, none_open, on_ok}
+use Rattle.bank_driver.proofs.DriveEnds.{resends}
 use Rattle.bank_driver.proofs.drive.drive_records.Goals as goal
 
 -- the branches weren't listed

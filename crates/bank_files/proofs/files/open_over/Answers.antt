@@ -2,7 +2,7 @@
 use Rattle.std.proofs.Common.{subst}
 use Rattle.sqlite.proofs.FileLemmas.{reads_then, same_image}
 use Rattle.sqlite.specs.Files.{file_state}
-use Rattle.bank_files.proofs.Finding.{both_ok, found_on, made_on}
+use Rattle.bank_files.proofs.FoundFiles.{both_ok, found_on, made_on}
 use Rattle.bank_files.specs.Opening.{IsOpenedOn}
 use Rattle.bank_files.proofs.files.open_over.Goals as goal
 

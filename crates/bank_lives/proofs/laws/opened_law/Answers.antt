@@ -1,6 +1,6 @@
 -- What its trees show is what its database shows, and all that a stop may leave.
 use Rattle.sqlite.specs.Held.{state}
-use Rattle.bank_lives.proofs.Standing.{stands_opened}
+use Rattle.bank_lives.proofs.Reopened.{stands_opened}
 use Rattle.bank_lives.proofs.laws.opened_law.Goals as goal
 
 pub returns : goal.returns

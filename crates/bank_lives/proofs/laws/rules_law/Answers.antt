@@ -1,5 +1,5 @@
 -- The tables of a log keep each rule.
-use Rattle.bank_lives.proofs.Rules.{keeps_all}
+use Rattle.bank_lives.proofs.KeepsRules.{keeps_all}
 use Rattle.bank_lives.proofs.laws.rules_law.Goals as goal
 
 pub returns : goal.returns

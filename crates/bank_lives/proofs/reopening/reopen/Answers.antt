@@ -1,8 +1,8 @@
 -- The bank stands at what its connection found, and that is a beginning.
 use Rattle.sqlite.specs.Held.{state}
 use Rattle.bank_store.specs.Seen.{bank_seen}
-use Rattle.bank_store.proofs.Taken.{if_err}
-use Rattle.bank_lives.proofs.Standing.{begins_opened, found_at, if_ok}
+use Rattle.bank_store.proofs.Unmade.{if_err}
+use Rattle.bank_lives.proofs.Reopened.{begins_opened, found_at, if_ok}
 use Rattle.bank_lives.proofs.reopening.reopen.Goals as goal
 
 pub returns-clause-found : goal.returns-clause-found
@@ -11,7 +11,7 @@ returns-clause-found g c =
     let it = begins_opened (state g.T.Store c.args.conn) log given least opens
     (λ db may. g.met.T.Store.settled c.args.conn.store db opens.is_open may)
     (λ t shown. c.trees_law.ensures.finds opens.is_open t shown)
-    (c.life_law.ensures.left first log given least life stood stopped
+    (c.life_law.ensures.survives first log given least life stood stopped
     (g.T.Store.view c.args.conn.store).trees left) in
     let at = stands honest _ it.stands in
     found_at (bank_seen g.T.Store bank) log given least it.count it.holds it.within
@@ -26,6 +26,6 @@ returns-clause-missed g c =
     let it = begins_opened (state g.T.Store c.args.conn) log given least opens
     (λ db may. g.met.T.Store.settled c.args.conn.store db opens.is_open may)
     (λ t shown. c.trees_law.ensures.finds opens.is_open t shown)
-    (c.life_law.ensures.left first log given least life stood stopped
+    (c.life_law.ensures.survives first log given least life stood stopped
     (g.T.Store.view c.args.conn.store).trees left) in
     known clean _ it.stands.shows) c.adopt.result c.adopt.ensures.known

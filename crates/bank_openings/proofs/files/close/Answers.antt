@@ -1,7 +1,7 @@
 -- What the close copied is what the bank showed.
 use Rattle.std.proofs.Common.{◌∙◌, ap}
 use Rattle.std.specs.Prelude.{not}
-use Rattle.bank_openings.proofs.Found.{closed_holds}
+use Rattle.bank_openings.proofs.BankInFiles.{closed_holds}
 use Rattle.bank_openings.proofs.files.close.Goals as goal
 
 pub returns-in-Ok : goal.returns-in-Ok

@@ -1,6 +1,6 @@
 use Rattle.std.proofs.lemmas.Result.{IfOk-weaker}
 use Rattle.sqlite.specs.Files.{file_state}
-use Rattle.bank_openings.proofs.Found.{found_in}
+use Rattle.bank_openings.proofs.BankInFiles.{found_in}
 use Rattle.bank_openings.proofs.files.find_bank.Goals as goal
 
 pub returns-clause-found : goal.returns-clause-found

@@ -1,6 +1,6 @@
 use Rattle.std.proofs.lemmas.Result.{IfOk-weaker}
 use Rattle.sqlite.specs.Files.{file_state}
-use Rattle.bank_openings.proofs.Found.{new_in}
+use Rattle.bank_openings.proofs.BankInFiles.{new_in}
 use Rattle.bank_openings.proofs.files.make_bank.Goals as goal
 
 pub returns-clause-made : goal.returns-clause-made

@@ -1,6 +1,6 @@
 -- A bank that shows a log is missed only where the store failed.
 use Rattle.sqlite.specs.Held.{state}
-use Rattle.bank_store.proofs.Finding.{known}
+use Rattle.bank_store.proofs.FoundBank.{known}
 use Rattle.bank_store.proofs.adoption.adopt.Goals as goal
 
 pub returns-in-Err-clause-known : goal.returns-in-Err-clause-known

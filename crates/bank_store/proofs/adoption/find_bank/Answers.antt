@@ -8,7 +8,7 @@ use Rattle.bank_store.specs.declared.presence.Presence.{Presence}
 use Rattle.bank_store.specs.declared.refused.OpenFault.{OpenFault}
 use Rattle.bank_transactions.proofs.Blamed.{comes, same_moment}
 use Rattle.bank_store.proofs.Causes.{checks_known, known_within}
-use Rattle.bank_store.proofs.Finding.{looked, missed}
+use Rattle.bank_store.proofs.FoundBank.{looked, missed}
 use Rattle.bank_store.proofs.adoption.find_bank.Goals as goal
 
 pub returns-in_err-settled_meta-in-Whole-clause-told : goal.returns-in_err-settled_meta-in-Whole-clause-told

@@ -6,7 +6,7 @@ use Rattle.bank_transactions.proofs.Blamed.{comes, same_moment}
 use Rattle.bank_store.specs.Opening.{KnowsCause}
 use Rattle.bank_store.specs.declared.refused.OpenFault.TheVariants.{Store}
 use Rattle.bank_store.proofs.Causes.{known_within, probe_failed, still_clean}
-use Rattle.bank_store.proofs.Taken.{if_err}
+use Rattle.bank_store.proofs.Unmade.{if_err}
 use Rattle.bank_store.proofs.adoption.settled_meta.Goals as goal
 
 pub returns-in-Ok-clause-cause : goal.returns-in-Ok-clause-cause

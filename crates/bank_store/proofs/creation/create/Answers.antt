@@ -5,9 +5,9 @@ use Rattle.std.specs.Prelude.{IsSome}
 use Rattle.sqlite.specs.State.{HasCleanDisk}
 use Rattle.sqlite.specs.Held.{state}
 use Rattle.bank_store.specs.Opening.{BankIsMade}
-use Rattle.bank_store.proofs.Finding.{no_bank}
-use Rattle.bank_store.proofs.Taken.{not_taken}
-use Rattle.bank_store.proofs.Starting.{stands_empty}
+use Rattle.bank_store.proofs.FoundBank.{no_bank}
+use Rattle.bank_store.proofs.Unmade.{not_taken}
+use Rattle.bank_store.proofs.NewBank.{stands_empty}
 use Rattle.bank_store.proofs.creation.create.Goals as goal
 
 pub returns-in-Ok-clause-stands : goal.returns-in-Ok-clause-stands

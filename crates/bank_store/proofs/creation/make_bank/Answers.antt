@@ -9,7 +9,7 @@ use Rattle.bank_store.specs.Opening.{IsPresent, IsAsBefore, IsRefusedOnTheWay, I
 use Rattle.bank_store.specs.declared.refused.OpenFault.TheVariants.{NotBlank}
 use Rattle.bank_store.specs.declared.presence.Presence.{Presence}
 use Rattle.bank_store.proofs.Causes.{unmade_as_known, unmade_within}
-use Rattle.bank_store.proofs.Taken.{if_err, refused_before, some_there}
+use Rattle.bank_store.proofs.Unmade.{if_err, refused_before, some_there}
 use Rattle.bank_store.proofs.creation.make_bank.Goals as goal
 
 on_ok : {X E : Type 0} (P : Type 0) → P → (r : Result X E) → OnOk r P
@@ -20,7 +20,7 @@ pub returns-in-Absent-clause-blank : goal.returns-in-Absent-clause-blank
 returns-in-Absent-clause-blank g c clean =
     let old = state g.S.Store c.args.conn.now in
     let mid = state g.S.Store c.tables_there.new.conn in
-    let midway : HasCleanDisk mid = omega (arith, c.make_tables.ensures.stop.clean) in
+    let midway : HasCleanDisk mid = omega (arith, c.make_tables.ensures.survives.clean) in
     let there =
     subst (λ (p : Presence). IsPresent old.now six_probes p × IsAsBefore old mid) c.in-Absent.is
     (c.in_ok-tables_there.ensures.told midway) in
@@ -30,7 +30,7 @@ pub returns-in-Absent-clause-refused : goal.returns-in-Absent-clause-refused
 returns-in-Absent-clause-refused g c clean =
     let old = state g.S.Store c.args.conn.now in
     let mid = state g.S.Store c.tables_there.new.conn in
-    let midway : HasCleanDisk mid = omega (arith, c.make_tables.ensures.stop.clean) in
+    let midway : HasCleanDisk mid = omega (arith, c.make_tables.ensures.survives.clean) in
     let there = c.in_ok-tables_there.ensures.told midway in
     if_err (λ fault. fault ≡ NotBlank → IsRefusedOnTheWay mid) (λ fault. fault ≡ NotBlank → IsTaken old)
     (λ fault refused taken. inr (refused_before old mid there.1.now_is c.tables_there.ensures.survives.limit
@@ -48,7 +48,7 @@ returns-in_default g c = record {
       c.in_default.not-Absent
       (c.in_ok-tables_there.ensures.told clean).0);
   cause = search rules;
-  stop = search rules;
+  survives = search rules;
   mode = search rules;
 }
 

@@ -7,7 +7,7 @@ use Rattle.bank_transactions.proofs.Blamed.{comes, same_moment, then_moment}
 use Rattle.bank_store.specs.Opening.{unmade_by, IsRefusedOnTheWay}
 use Rattle.bank_store.specs.declared.refused.OpenFault.TheVariants.{Store}
 use Rattle.bank_store.proofs.Causes.{begun_after, commit_failed, making_failed, still_clean, unmade_within}
-use Rattle.bank_store.proofs.Taken.{refused_because}
+use Rattle.bank_store.proofs.Unmade.{refused_because}
 use Rattle.bank_store.proofs.creation.make_tables.Goals as goal
 
 pub returns-in-Err-clause-refused : goal.returns-in-Err-clause-refused

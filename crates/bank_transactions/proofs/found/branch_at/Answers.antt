@@ -5,7 +5,7 @@ use Rattle.store_rows.specs.Outcomes.{BreaksBranch}
 use Rattle.std.specs.Prelude.{option_and_then}
 use Rattle.store_rows.specs.Rules.{branch_under, row_under}
 use Rattle.bank_transactions.proofs.Broken.{branch_broken, count_broken, openable_under}
-use Rattle.bank_transactions.proofs.Reading.{find_failed}
+use Rattle.bank_transactions.proofs.ReadsInTurn.{find_failed}
 use Rattle.bank_transactions.proofs.SoundRows.{no_branch_beyond, branch_is, branch_unbroken}
 use Rattle.bank_transactions.proofs.found.branch_at.Goals as goal
 

@@ -11,7 +11,7 @@ use Rattle.store_rows.specs.View.{meta_entry}
 use Rattle.store_rows.specs.declared.metas.StoredMeta.{StoredMeta}
 use Rattle.store_rows.proofs.MetaRow.{has_one}
 use Rattle.bank_transactions.proofs.Broken.{meta_broken, never_broken}
-use Rattle.bank_transactions.proofs.Reading.{read_failed}
+use Rattle.bank_transactions.proofs.ReadsInTurn.{read_failed}
 use Rattle.bank_transactions.proofs.SoundRows.{err_found}
 use mir.Val.{to_z, of_z}
 use mir.Syntax.{w64}

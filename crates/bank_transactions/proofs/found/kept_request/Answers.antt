@@ -4,7 +4,7 @@ use Rattle.std.specs.Prelude.{nat_abs, is_some}
 use Rattle.store_rows.specs.Columns.{request_in}
 use Rattle.store_rows.specs.Outcomes.{BreaksRequest}
 use Rattle.bank_transactions.proofs.Broken.{delta_broken, request_broken}
-use Rattle.bank_transactions.proofs.Reading.{find_failed}
+use Rattle.bank_transactions.proofs.ReadsInTurn.{find_failed}
 use Rattle.bank_transactions.proofs.SoundRows.{is_a_request, request_is, request_unbroken}
 use Rattle.message_records.specs.declared.limits.TheConstants.{MAX_DELTA}
 use Rattle.bank_transactions.proofs.found.kept_request.Goals as goal

@@ -1,6 +1,6 @@
 -- What is looked up one after another.
 use Rattle.std.proofs.Common.{◌≡◌, Err, rules}
-use Rattle.bank_transactions.proofs.Reading.{reads_both, reads_but}
+use Rattle.bank_transactions.proofs.ReadsInTurn.{reads_both, reads_but}
 use Rattle.bank_transactions.proofs.found.look_up.Goals as goal
 
 pub returns-in_err-teller_balances-clause-says : goal.returns-in_err-teller_balances-clause-says

@@ -1,7 +1,7 @@
 -- What the balance of an account tells.
 use Rattle.std.proofs.Common.{◌≡◌, Err, rules}
 use Rattle.bank_transactions.proofs.FailedBalances.{account_failed}
-use Rattle.bank_transactions.proofs.Reading.{behind_found}
+use Rattle.bank_transactions.proofs.ReadsInTurn.{behind_found}
 use Rattle.bank_transactions.proofs.found.open_balance.Goals as goal
 
 pub returns-in_err-balance : goal.returns-in_err-balance

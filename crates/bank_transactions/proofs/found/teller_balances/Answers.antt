@@ -1,7 +1,7 @@
 -- What the balance of a teller tells.
 use Rattle.std.proofs.Common.{◌≡◌, Err, rules}
 use Rattle.bank_transactions.proofs.FailedBalances.{teller_failed}
-use Rattle.bank_transactions.proofs.Reading.{behind_found}
+use Rattle.bank_transactions.proofs.ReadsInTurn.{behind_found}
 use Rattle.bank_transactions.proofs.found.teller_balances.Goals as goal
 
 pub returns-in_err-balance : goal.returns-in_err-balance

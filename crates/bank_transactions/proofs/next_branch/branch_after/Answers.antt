@@ -6,7 +6,7 @@ use Rattle.bank_transactions.proofs.NextRow.{next_sound, next_unbroken}
 use Rattle.sql_meanings.specs.Entries.{is_above}
 use Rattle.std.specs.Prelude.{pos}
 use Rattle.bank_transactions.proofs.Broken.{above_broken, next_broken, range_broken}
-use Rattle.bank_transactions.proofs.Reading.{find_failed}
+use Rattle.bank_transactions.proofs.ReadsInTurn.{find_failed}
 use Rattle.bank_transactions.proofs.next_branch.branch_after.Goals as goal
 
 pub returns-in_err-row-clause-says : goal.returns-in_err-row-clause-says

@@ -1,4 +1,4 @@
-use Rattle.bank_work.proofs.Told.{told_driven}
+use Rattle.bank_work.proofs.Printed.{told_driven}
 use Rattle.bank_work.proofs.driving.drive_into.Goals as goal
 
 pub returns-clause-line : goal.returns-clause-line

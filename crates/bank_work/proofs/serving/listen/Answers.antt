@@ -1,4 +1,4 @@
-use Rattle.bank_work.proofs.Told.{may_tell, told_at}
+use Rattle.bank_work.proofs.Printed.{may_tell, told_at}
 use Rattle.bank_work.proofs.serving.listen.Goals as goal
 
 pub returns-clause-line : goal.returns-clause-line

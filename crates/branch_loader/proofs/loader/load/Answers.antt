@@ -43,8 +43,8 @@ returns-in_err-opening-clause-fault g c =
     let p = err_from_is_err_and c.from_residual.result c.from_residual.ensures.1 in
     rw (p.1, p.2) (c.loop-row.row-index, rw c.rows-row-items.ensures.rows at refused)
 
-pub returns-clause-stop : goal.returns-clause-stop
-returns-clause-stop g c =
+pub returns-clause-survives : goal.returns-clause-survives
+returns-clause-survives g c =
     left-end g.C.Counter.seen c.args.counter.now c.loop-row.counter c.rows-row-items.result.now
     c.args.plan.now c.loop-row.row-index c.loop-row.loaded
     c.loop-row.invariant c.loop-row-test.false c.rows-row-items.ensures.rows

@@ -1,6 +1,6 @@
 use Rattle.std.proofs.Common.{inl, inr, refl}
 use Rattle.branch_loader.specs.Records.{IsSourceFailure, IsWantOfMemory}
-use Rattle.branch_loader.proofs.Told.{failed_last, found_last}
+use Rattle.branch_loader.proofs.SourceRead.{failed_last, found_last}
 use Rattle.branch_loader.proofs.read.next_record.Goals as goal
 
 pub returns-in-Ok-clause-found : goal.returns-in-Ok-clause-found

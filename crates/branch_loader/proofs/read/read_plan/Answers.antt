@@ -1,5 +1,5 @@
 use Rattle.branch_loader.proofs.Remain.{start}
-use Rattle.branch_loader.proofs.Told.{told_listed}
+use Rattle.branch_loader.proofs.SourceRead.{told_listed}
 use Rattle.branch_loader.proofs.Stated.{if_some}
 use Rattle.branch_loader.proofs.read.read_plan.Goals as goal
 

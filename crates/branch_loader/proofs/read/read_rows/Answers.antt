@@ -5,7 +5,7 @@ use Rattle.branch_loader.specs.declared.fault.PlanFault.TheVariants.{Memory}
 use Rattle.branch_loader.specs.Plans.{plan_of_records, row_of_fields}
 use Rattle.branch_loader.specs.Records.{WasRecord}
 use Rattle.posting_core.proofs.Telling.{last_some, more_last, more_more}
-use Rattle.branch_loader.proofs.Told.{fault_told, row_told}
+use Rattle.branch_loader.proofs.SourceRead.{fault_told, row_told}
 use Rattle.branch_loader.proofs.Rows.{fields-more, no-rows, plan-short}
 use Rattle.branch_loader.proofs.Stated.{plan-empty, plan-no_header, rows_by-done, tells-fault, took-fault}
 use Rattle.branch_loader.proofs.Stated.{took-header, took-row}

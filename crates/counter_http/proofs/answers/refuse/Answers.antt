@@ -1,7 +1,7 @@
 use Rattle.std.proofs.Common.{◌∙◌, ap, true, Ok, Err}
 use Rattle.counter_http.specs.Answers.{Answer, answer_text}
 use Rattle.counter_http.specs.declared.fault.ServeFault.TheVariants.{Write}
-use Rattle.counter_http.proofs.Told.{bad_request, told_text}
+use Rattle.counter_http.proofs.PartsWritten.{bad_request, told_text}
 use Rattle.counter_http.proofs.answers.refuse.Goals as goal
 
 pub returns-in-Ok-clause-written : goal.returns-in-Ok-clause-written

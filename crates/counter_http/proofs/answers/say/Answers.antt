@@ -3,7 +3,7 @@ use Rattle.std.specs.Prelude.{not}
 use Rattle.counter_http.specs.Answers.{answer_text}
 use Rattle.counter_http.specs.Telling.{said}
 use Rattle.counter_http.specs.declared.fault.ServeFault.TheVariants.{Write}
-use Rattle.counter_http.proofs.Told.{told_text}
+use Rattle.counter_http.proofs.PartsWritten.{told_text}
 use Rattle.counter_http.proofs.answers.say.Goals as goal
 
 pub returns-in-Ok-clause-written : goal.returns-in-Ok-clause-written

@@ -6,8 +6,9 @@ use Rattle.posting_core.proofs.Through.{through_batch, through_first}
 use Rattle.counter_http.specs.declared.fault.ServeFault.TheVariants.{Write}
 use Rattle.counter_http.specs.Messages.{No_head}
 use Rattle.counter_http.specs.Next.{IsUnfinished}
-use Rattle.counter_http.proofs.Going.{Going, going_first, going_filled, going_unread, going_message}
-use Rattle.counter_http.proofs.Going.{unfinished_none, range_all, range_next, range_long, message_long}
+use Rattle.counter_http.proofs.ConnectionLoop.{Going, going_first, going_filled, going_unread, going_message}
+use Rattle.counter_http.proofs.ConnectionLoop.{unfinished_none, range_all, range_next, range_long}
+use Rattle.counter_http.proofs.ConnectionLoop.{message_long}
 use Rattle.counter_http.proofs.Connected.{end_finished, end_unread, end_closed, short_read, hopeless_walk}
 use Rattle.counter_http.proofs.Connected.{end_told, end_untold}
 use Rattle.counter_http.proofs.BrokenOff.{end_broken}

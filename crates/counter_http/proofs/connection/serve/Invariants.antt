@@ -3,7 +3,7 @@ use Rattle.counter_http.specs.declared.limits.TheConstants.{BUFFER}
 use Rattle.posting_core.specs.Told.{IsThrough}
 use Rattle.posting_core.proofs.Telling.{HasMade}
 use Rattle.counter_http.specs.Next.{IsUnfinished}
-use Rattle.counter_http.proofs.Going.{Going}
+use Rattle.counter_http.proofs.ConnectionLoop.{Going}
 use Rattle.counter_http.proofs.connection.serve.Given as goal
 
 -- all whole messages that were read are answered, and the rest stands at the front of the buffer; one read

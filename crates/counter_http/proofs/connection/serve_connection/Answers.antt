@@ -14,8 +14,8 @@ returns-in_default-clause-output g c =
     output_of g.C.Counter.seen {k = g.K.Clock.readings c.args.clock.now} c.args.bank.now c.args.bank.now
     (Err Memory) (untouched g.C.Counter.seen c.args.bank.now)
 
-pub returns-in_default-clause-stop : goal.returns-in_default-clause-stop
-returns-in_default-clause-stop g c =
+pub returns-in_default-clause-survives : goal.returns-in_default-clause-survives
+returns-in_default-clause-survives g c =
     survives_of g.C.Counter.seen {q = g.R.Source.told c.args.reader.now}
     {k = g.K.Clock.readings c.args.clock.now} c.args.bank.now c.args.bank.now (Err Memory)
     (untouched g.C.Counter.seen c.args.bank.now)
@@ -32,8 +32,8 @@ returns-in_default-vec-clause-output g c =
     output_of g.C.Counter.seen {k = g.K.Clock.readings c.args.clock.now} c.args.bank.now c.args.bank.now
     (Err Memory) (untouched g.C.Counter.seen c.args.bank.now)
 
-pub returns-in_default-vec-clause-stop : goal.returns-in_default-vec-clause-stop
-returns-in_default-vec-clause-stop g c =
+pub returns-in_default-vec-clause-survives : goal.returns-in_default-vec-clause-survives
+returns-in_default-vec-clause-survives g c =
     survives_of g.C.Counter.seen {q = g.R.Source.told c.args.reader.now}
     {k = g.K.Clock.readings c.args.clock.now} c.args.bank.now c.args.bank.now (Err Memory)
     (untouched g.C.Counter.seen c.args.bank.now)
@@ -46,8 +46,8 @@ pub returns-clause-output : goal.returns-clause-output
 returns-clause-output g c =
     output_of g.C.Counter.seen c.args.bank.now c.serve.new.bank c.serve.result c.serve.ensures.served
 
-pub returns-clause-stop : goal.returns-clause-stop
-returns-clause-stop g c =
+pub returns-clause-survives : goal.returns-clause-survives
+returns-clause-survives g c =
     survives_of g.C.Counter.seen c.args.bank.now c.serve.new.bank c.serve.result c.serve.ensures.served
 
 pub returns-clause-honest : goal.returns-clause-honest

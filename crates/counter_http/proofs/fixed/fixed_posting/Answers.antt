@@ -1,6 +1,6 @@
 use Rattle.std.proofs.Common.{sym, ◌∙◌}
 use Rattle.counter_http.specs.Next.{asked}
-use Rattle.counter_http.proofs.Told.{bad_request}
+use Rattle.counter_http.proofs.PartsWritten.{bad_request}
 use Rattle.counter_http.proofs.Answered.{not_as_long}
 use Rattle.counter_http.proofs.fixed.fixed_posting.Goals as goal
 

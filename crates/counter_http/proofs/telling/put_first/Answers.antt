@@ -1,7 +1,7 @@
 use Rattle.std.proofs.Common.{[], refl, ap, ◌∙◌}
 use Rattle.posting_core.proofs.Telling.{more_none}
 use Rattle.counter_http.specs.Telling.{said, now_of}
-use Rattle.counter_http.proofs.Told.{told_none, told_as, first_is, phrase_is}
+use Rattle.counter_http.proofs.PartsWritten.{told_none, told_as, first_is, phrase_is}
 use Rattle.counter_http.proofs.telling.put_first.Goals as goal
 
 pub returns-clause-text : goal.returns-clause-text

@@ -3,7 +3,7 @@ use Rattle.std.specs.Prelude.{codes}
 use Rattle.counter_http.specs.Answers.{allow_line, close_line}
 use Rattle.counter_http.specs.Ends.{HasTaken}
 use Rattle.counter_http.specs.Telling.{IsWrittenOrHeld, said, now_of}
-use Rattle.counter_http.proofs.Told.{told_as, three, allowed, not_told, last_is}
+use Rattle.counter_http.proofs.PartsWritten.{told_as, three, allowed, not_told, last_is}
 use Rattle.counter_http.proofs.telling.put_last.Goals as goal
 use Rattle.counter_http.proofs.telling.put_last.Goals.{in-Some, in-None, then-closes, else-closes}
 

@@ -1,6 +1,6 @@
 use Rattle.std.proofs.Common.{◌≡◌, sym, true, false}
 use Rattle.counter_http.proofs.Sent.{sent_behind, taken_as}
-use Rattle.counter_http.proofs.Told.{told_part, told_all, holding, telling}
+use Rattle.counter_http.proofs.PartsWritten.{told_part, told_all, holding, telling}
 use Rattle.counter_http.proofs.telling.send.Goals as goal
 
 pub returns-then-not-going-clause-text : goal.returns-then-not-going-clause-text

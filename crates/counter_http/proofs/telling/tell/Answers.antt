@@ -3,7 +3,7 @@ use Rattle.std.specs.Fmt.{decimal}
 use Rattle.counter_http.specs.Answers.{answer_text}
 use Rattle.counter_http.specs.Ends.{HasTaken}
 use Rattle.counter_http.specs.Telling.{IsWrittenOrHeld, said, first_lines, last_lines}
-use Rattle.counter_http.proofs.Told.{told_as, text_shown, text_hidden}
+use Rattle.counter_http.proofs.PartsWritten.{told_as, text_shown, text_hidden}
 use Rattle.counter_http.proofs.telling.tell.Goals as goal
 use Rattle.counter_http.proofs.telling.tell.Goals.{then-shows_body, else-shows_body}
 

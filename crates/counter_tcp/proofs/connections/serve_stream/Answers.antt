@@ -7,4 +7,4 @@ returns g c =
     one_served g.C.Counter.seen _ _ _ _ (g.K.Clock.readings c.args.clock.now)
     (g.K.Clock.readings served.new.clock)
     _ _ _ _ c.args.bank.now served.new.bank served.result served.ensures.served served.ensures.output
-    served.ensures.stop served.ensures.ends served.ensures.honest
+    served.ensures.survives served.ensures.ends served.ensures.honest

@@ -35,7 +35,7 @@ returns g c =
     record {
       stream = s;
       output = output_of _ s;
-      stop = survives_of _ s;
+      survives = survives_of _ s;
       resend = resends_of _ s;
       refused = tt;
       up = λ down. (c.reads.invariant.up down).0;
@@ -54,7 +54,7 @@ returns-in-Err-2 g c =
     record {
       stream = s;
       output = output_of _ s;
-      stop = survives_of _ s;
+      survives = survives_of _ s;
       resend = resends_of _ s;
       refused = tt;
       up = λ down. (c.reads.invariant.up down).0;
@@ -80,7 +80,7 @@ returns-in-Ok-eq0 g c =
     record {
       stream = s;
       output = output_of _ s;
-      stop = survives_of _ s;
+      survives = survives_of _ s;
       resend = resends_of _ s;
       refused = tt;
       up = λ down. (c.reads.invariant.up down).0;
@@ -103,7 +103,7 @@ returns-in-Ok-eq0-2 g c =
     record {
       stream = s;
       output = output_of _ s;
-      stop = survives_of _ s;
+      survives = survives_of _ s;
       resend = resends_of _ s;
       refused = tt;
       up = λ down. (c.reads.invariant.up down).0;
@@ -136,7 +136,7 @@ returns-in_err-answer_batch g c =
     rw (told.1, told.2) (record {
       stream = s;
       output = output_of _ s;
-      stop = survives_of _ s;
+      survives = survives_of _ s;
       resend = resends_of _ s;
       refused = refused_broken g.C.Counter.seen c.args.bank.now c.reads.bank c.answer_batch.new.bank _ _
           fault a.0 _ _ c.as_chunks.result.0.now on.0 cut

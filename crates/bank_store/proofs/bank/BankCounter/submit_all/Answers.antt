@@ -51,7 +51,7 @@ returns-in-Ok-clause-none_or_all g c =
     let rs = c.args.records.now in
     let Down = IsSome c.args.self.now.fault in
     none_or_all of_logs (posts m rs) (posts_all m rs) (c.in-Ok.ensures.says rs c.in_ok-batch.ensures.made) _
-    Down Down (c.in-Ok.ensures.says rs c.in_ok-batch.ensures.made).stop
+    Down Down (c.in-Ok.ensures.says rs c.in_ok-batch.ensures.made).survives
 
 pub returns-in-Err-clause-none_or_all : goal.returns-in-Err-clause-none_or_all
 returns-in-Err-clause-none_or_all g c =
@@ -65,7 +65,7 @@ returns-in-Err-clause-none_or_all g c =
 pub returns-in-Ok-clause-idle : goal.returns-in-Ok-clause-idle
 returns-in-Ok-clause-idle g c clean t shows so none =
     let it = c.in-Ok.ensures.idle clean c.args.records.now c.in_ok-batch.ensures.made t shows so none in
-    record { tables = it.shows; stop = λ trees may. (t, it.stop trees may, refl) }
+    record { tables = it.shows; survives = λ trees may. (t, it.survives trees may, refl) }
 
 pub returns-in-Ok-clause-still : goal.returns-in-Ok-clause-still
 returns-in-Ok-clause-still g c clean t shows so none =

@@ -20,7 +20,7 @@ returns-in-None-clause-told g c clean rows has =
       sym (c.in_ok-refill.ensures.told clean rows has)
           ∙ none_to_come g.R.WalkedRow.key g.R.WalkedRow.item w.stage c.in_ok-refill.ensures.going
           w.rows.items w.given w.rest given
-          (sym c.ahead-next.ensures.value ∙ c.in-None.is) c.in_ok-refill.ensures.left,
+          (sym c.ahead-next.ensures.value ∙ c.in-None.is) c.in_ok-refill.ensures.rest,
       refl,
     )
 

@@ -10,13 +10,13 @@ use Rattle.counter_tests.proofs.banks.FailingBankCounter.submit.Goals as goal
 pub returns-then-self-eq0-clause-fault : goal.returns-then-self-eq0-clause-fault
 returns-then-self-eq0-clause-fault c = record {
   down = refl;
-  stop = λ honest log at.
+  survives = λ honest log at.
       let post = Post c.args.moment c.args.bytes.now in
       let s = at.shows in
       let after = c.in_ok-reply.ensures.done.stands honest log (record {
         shows = record { commands = s.commands; tables = s.tables; are = s.are; shows = s.shows };
         up = λ down. down;
-        stop = at.stop;
+        survives = at.survives;
       }) in
       leaves_weaker (plain_seen c.submit.new.self) (λ t. AreTablesOf t (post ∷ log))
       (ShowsBeginning log (post ∷ []) 0)
@@ -27,5 +27,5 @@ returns-then-self-eq0-clause-fault c = record {
         are = after.shows.commands;
         shows = shows;
       })
-      after.stop;
+      after.survives;
 }

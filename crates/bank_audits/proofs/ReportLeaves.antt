@@ -56,11 +56,11 @@ none_taken (suc n) = refl
 pub refused_leaves : (fault : Fault) (old new : Seen) → Refuses fault old new [] → new.honest
     → (log : List Command) → StandsAt old log
     → LeavesOnly new (λ t. AreTablesOf t log)
-refused_leaves Memory old new refused honest log at = leaves_same old new log refused.left at.stop
+refused_leaves Memory old new refused honest log at = leaves_same old new log refused.left at.survives
 refused_leaves Store old new refused honest log at = λ remains left.
-    let it = refused.stop honest log at remains left in
+    let it = refused.survives honest log at remains left in
     (it.0, it.1, subst (λ cs. AreTablesOf it.0 (behind log cs)) (none_taken it.2.count) it.2.shows)
-refused_leaves Down old new refused honest log at = leaves_same old new log refused.left at.stop
+refused_leaves Down old new refused honest log at = leaves_same old new log refused.left at.survives
 refused_leaves (Damaged rule) old new refused honest log at = absurd (refused.never_shown honest log at.shows)
 
 -- where the connection sees what it saw, all stands as it stood
@@ -74,8 +74,8 @@ takes_then old mid new D E F takes still quiet up = record {
       record {
         shows = shown clean log mine.shows;
         up = λ down. mine.up (up down);
-        stop = λ trees may. elim (quiet.crash clean trees may) [
-          | inl earlier ↦ mine.stop trees earlier
+        survives = λ trees may. elim (quiet.crash clean trees may) [
+          | inl earlier ↦ mine.survives trees earlier
           | inr none ↦ absurd none
         ];
       };

@@ -163,7 +163,7 @@ module _ {C : Type 0} (seen : C → Seen) (old now new : C) (k k' k'' : Option (
           one = omega arith;
           refuses = subst (λ (cs : List Command). Refuses fault (seen now) (seen new) cs) (sym one) refuses;
         };
-        stop = λ h log s.
+        survives = λ h log s.
             stop_part (seen new) log (posts_of g.batches) (posts moment records) (posts_of all)
             (posts_of_one_more g.batches batch)
             (refused_stop fault (seen now) (seen new) (behind log (posts_of g.batches))
@@ -197,7 +197,7 @@ end_done seen old now k k' first driver count left driven g none =
         total = omega (arith, g.total, g.given);
         posted = g.posted;
       };
-      stop = λ h log s. stop_all (seen now) log (posts_of (g.batches ++ [])) (posts_of g.batches)
+      survives = λ h log s. stop_all (seen now) log (posts_of (g.batches ++ [])) (posts_of g.batches)
           (ap posts_of no_more) (g.takes.stands h log s);
     }
 

@@ -28,7 +28,7 @@ use Rattle.store_rows.specs.View.{account_entry, branch_entry, history_entry, re
 use Rattle.store_rows.specs.declared.metas.TheConstants.{VERSION}
 use Rattle.store_rows.proofs.RowLists.{found_by, has_row_key, taken_row_key}
 use Rattle.bank_transactions.proofs.SoundRows.{no_branch_beyond}
-use Rattle.bank_lives.specs.Rules.{stored_rows}
+use Rattle.bank_lives.specs.TableRows.{stored_rows}
 
 -- ---- each row
 

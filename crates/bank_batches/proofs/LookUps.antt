@@ -16,7 +16,7 @@ use Rattle.store_rows.specs.Rules.{IsBroken}
 use Rattle.bank_transactions.specs.Doing.{DoesBy, IsFirstBroken, ChangesNothing, LooksUp, Reads, Stays}
 use Rattle.bank_transactions.proofs.Blamed.{blames_after, comes}
 use Rattle.bank_transactions.proofs.Chained.{looked, look_keeps}
-use Rattle.bank_transactions.proofs.Reading.{stays_then}
+use Rattle.bank_transactions.proofs.ReadsInTurn.{stays_then}
 use Rattle.bank_batches.specs.Filling.{ReadsWhere}
 
 looks_then : {X : Type 0} (old mid new : State) (r : Result X TableFault) → Stays old mid

@@ -11,5 +11,5 @@ pub stands_empty : (old new : State) (D : Type 0) → (D → ⊥) → BankIsMade
 stands_empty old new D up made = record {
   shows = record { commands = tt; tables = new_tables; are = made.shows; shows = empty_shown };
   up = up;
-  stop = λ trees may. (new_tables, made.left trees may, empty_shown);
+  survives = λ trees may. (new_tables, made.left trees may, empty_shown);
 }

@@ -96,7 +96,7 @@ module _ {C : Type 0} (seen : C → Seen) (old new : C) (k : Option (List ℕ)) 
       honest = u.honest;
       takes = u.takes;
       ends = record { one = omega arith; refuses = u.refuses };
-      stop = λ h log s. refused_stop fault (seen u.stood) (seen new) log [] u.refuses h
+      survives = λ h log s. refused_stop fault (seen u.stood) (seen new) log [] u.refuses h
           (u.takes.stands (u.honest h) log s);
     };
     listed = λ h log s. tt;
@@ -121,7 +121,7 @@ module _ {C : Type 0} (seen : C → Seen) (old new : C) (k : Option (List ℕ)) 
       honest = λ h. h;
       takes = takes;
       ends = record { no_rows = none; none_taken = refl; none_refused = refl; stays = refl };
-      stop = λ h log s. stop_all (seen new) log [] [] refl (takes.stands h log s);
+      survives = λ h log s. stop_all (seen new) log [] [] refl (takes.stands h log s);
     };
     listed = λ h log s. subst (λ (rows : Rows). IsAscending rows plan) (listed h log s)
         (no_rows_rise plan none);
@@ -182,7 +182,7 @@ module _ {C : Type 0} (seen : C → Seen) (old mid new : C) (k k' : Option (List
     takes = Takes-append (seen old) (seen mid) (seen s.stood) [] (posts_of s.taken) listing s.takes
         s.honest_first;
     ends = ends_behind s.stood s.taken s.refused result s.ends;
-    stop = λ h log stood. s.stop h log (listing.stands (honest h) log stood);
+    survives = λ h log stood. s.survives h log (listing.stands (honest h) log stood);
   }
 
   pub drives : (plan : Rows) (result : Result Driven DriveFault)

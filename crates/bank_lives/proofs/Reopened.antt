@@ -23,7 +23,7 @@ pub stands_opened : (s : State) (D : Type 0) → (D → ⊥) → Opens s
 stands_opened s D up opens settled t log are left shown shows = record {
   shows = record { commands = are; tables = t; are = shown; shows = shows };
   up = up;
-  stop = λ db may.
+  survives = λ db may.
       let same = settled db may ∙ ap (λ (it : Database). it.trees) (sym opens.clean) in
       (t, subst (λ (trees : Trees). ShowsTrees trees t) (sym same) left, shows);
 }
