@@ -4,10 +4,10 @@ pub mod LogHistory
 pub mod Lined
 pub mod Further
 pub mod OnLogs
-pub mod Kept
+pub mod StepsKeep
 pub mod Sections
-pub mod Told
-pub mod Standing
+pub mod StatementReports
+pub mod ReportLeaves
 pub mod Gathered
 pub mod Read
 pub mod Passed

@@ -1,7 +1,7 @@
 pub mod Both
-pub mod Reading
+pub mod LookUps
 pub mod Loops
-pub mod Told
+pub mod FilledSlots
 pub mod Rows
 pub mod Whole
 pub mod Together

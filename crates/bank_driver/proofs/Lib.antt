@@ -1,6 +1,6 @@
 pub mod Again
 pub mod Counted
 pub mod Drawn
-pub mod Ended
-pub mod Going
+pub mod DriveEnds
+pub mod DriveLoop
 pub mod Listed

@@ -1,1 +1,1 @@
-mod Finding
+mod FoundFiles

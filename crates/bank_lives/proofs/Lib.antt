@@ -1,4 +1,4 @@
 pub mod Calls
 pub mod Lived
-pub mod Standing
-pub mod Rules
+pub mod Reopened
+pub mod KeepsRules

@@ -2,10 +2,10 @@
 pub mod Broke
 pub mod Causes
 pub mod Countered
-pub mod Finding
+pub mod FoundBank
 pub mod Probed
-pub mod Reading
+pub mod MetaRow
 pub mod Refusing
-pub mod Starting
-pub mod Taken
+pub mod NewBank
+pub mod Unmade
 pub mod WalkSteps

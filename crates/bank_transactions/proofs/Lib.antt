@@ -5,6 +5,6 @@ pub mod Chained
 pub mod FailedBalances
 pub mod NextRow
 pub mod Opened
-pub mod Reading
+pub mod ReadsInTurn
 pub mod SoundRows
 pub mod Transacted

@@ -2,4 +2,4 @@ pub mod Openings
 pub mod Remain
 pub mod Rows
 pub mod Stated
-pub mod Told
+pub mod SourceRead

@@ -1,4 +1,4 @@
-pub mod Rules
+pub mod FaultTexts
 pub mod Commands
 pub mod Kept
 pub mod Cases

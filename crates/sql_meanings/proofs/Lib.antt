@@ -44,7 +44,7 @@ pub mod Selects
 pub mod SetFailures
 pub mod SetRows
 pub mod ShownColumns
-pub mod Standing
+pub mod TableStands
 pub mod Statements
 pub mod Steps
 pub mod Stopping
