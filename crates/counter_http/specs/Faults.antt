@@ -1,6 +1,6 @@
 -- The texts of the faults of a connection.
 use Rattle.std.specs.Prelude.{ℕ, List, codes}
-use Rattle.posting_rules.specs.Rules as rules
+use Rattle.posting_rules.specs.FaultTexts as rules
 use Rattle.counter_http.specs.declared.fault.ServeFault.{ServeFault}
 use Rattle.counter_http.specs.declared.fault.ServeFault.TheVariants.{Read, Write, Bank, Memory}
 

@@ -1,6 +1,6 @@
 -- Why the serving of connections ends, and after which connections it goes on.
 use Rattle.std.specs.Prelude.{ℕ, List, Result, Ok, Err, codes}
-use Rattle.posting_rules.specs.Rules as rules
+use Rattle.posting_rules.specs.FaultTexts as rules
 use Rattle.posting_rules.specs.declared.fault.Fault.TheVariants as bank
 use Rattle.counter_http.specs.declared.fault.ServeFault.{ServeFault}
 use Rattle.counter_http.specs.declared.fault.ServeFault.TheVariants as serve
