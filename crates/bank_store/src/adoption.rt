@@ -137,7 +137,7 @@ pub fn adopt<S: Alter>(alloc: Global, mut conn: Connection<S>) -> Result<Bank<S>
         → IsUndoneIfOpen (state S.Store conn) (state S.Store refused.conn)) }
     ensures known { IfErr result (λ refused. HasCleanDisk (state S.Store refused.conn) → (log : List Command)
         → ShowsLog (conn_seen S.Store conn) log → refused.fault ≡ OpenFault.Store) }
-    ensures survives { IfErr result (λ refused. HasCleanDisk (state S.Store refused.conn)
+    ensures remains { IfErr result (λ refused. HasCleanDisk (state S.Store refused.conn)
         → (log : List Command)
         → StandsAt (conn_seen S.Store conn) log
         → LeavesOnly (conn_seen S.Store refused.conn) (λ tables. Show tables log)) }
