@@ -24,7 +24,7 @@ use posting_rules::Fault;
 use sqlite::Alter;
 
 /// Audits a bank, whatever rows its file has: whether they are consistent (TPC-B clause 2), and the numbers
-/// that tell it. It takes its memory before the first row is read. A fault leaves the bank as it was, and
+/// that hold it. It takes its memory before the first row is read. A fault leaves the bank as it was, and
 /// brings it down in no case.
 pub fn audit<S: Alter>(bank: &mut Bank<S>) -> Result<Audit, Fault>
     // Of any file, the audit is that of its rows.
@@ -34,7 +34,7 @@ pub fn audit<S: Alter>(bank: &mut Bank<S>) -> Result<Audit, Fault>
     ensures consistent { (bank_seen S.Store bank.new).honest → (t : StoredTables)
         → HasFile (database_of S.Store bank.old) (rows_in t)
         → IfOk result (λ told. IsTrue (is_sound told) ↔ IsSoundFile t) }
-    // Of a bank's tables, be they of a log or not, it is theirs, and tells whether they are consistent.
+    // Of a bank's tables, be they of a log or not, it is theirs, and says whether they are consistent.
     ensures tables { (bank_seen S.Store bank.new).honest → (t : Tables)
         → (bank_seen S.Store bank.old).tables t
         → IfOk result (λ told. told ≡ audit_of (stored t)) }

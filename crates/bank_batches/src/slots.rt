@@ -28,7 +28,7 @@ trait Slot: Copy {
     /// The slot with what is in the tables under its key.
     ghost filled_from: { Tables → Self → Self };
 
-    /// What slots of branches tell of the branch that its key gives, where it gives one.
+    /// What slots of branches say of the branch that its key gives, where it gives one.
     ghost Knows: { List BranchSlot → Tables → Self → Type 0 };
 
     /// Fills it, by the slots of branches.

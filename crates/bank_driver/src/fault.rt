@@ -3,12 +3,12 @@ use posting_core::Fault;
 use std::alloc::AllocError;
 use std::fmt;
 
-/// Why a drive ended before its last record. What was answered before stands.
+/// Why a drive ended before its last record. What was answered before is kept.
 #[derive(Clone, Copy, Debug, PartialEq, Eq)]
 pub enum DriveFault {
     /// No branch is open. Nothing was submitted.
     NoBranches,
-    /// The bank refused a call, and its fault says what stands of that. Memory that was refused to the drive
+    /// The bank refused a call, and its fault says what holds then. Memory that was refused to the drive
     /// itself is `Memory` too.
     Bank(Fault),
 }

@@ -52,7 +52,7 @@ pub enum CommandFault {
 }
 
 impl CommandFault {
-    /// Why a file isn't found: it isn't there, or what is before it in its path is no folder, so that there
+    /// Why a file isn't found: there is none, or what is before it in its path is no folder, so that there
     /// is no bank; or memory or the system failed.
     pub fn of_look(error: &io::Error) -> CommandFault
         ensures is { result ≡ fault_of_look (error_kind error.now) }

@@ -29,7 +29,7 @@ use store_rows::trees_law;
 /// opened, unless there is a log beside it.
 const LEAST_LENGTH: u64 = 2;
 
-/// Makes a bank in the file, which is made where it isn't there.
+/// Makes a bank in the file, which is made if there is none.
 pub fn make_bank<S: Start>(
     rt: &HostRuntime,
     start: S,
@@ -137,7 +137,7 @@ fn fault_of<S: Alter + Drop>(refused: Refused<S>) -> CommandFault
 }
 
 /// Closes the bank's files, and gives them back where they can be closed: then all that a stop may leave of
-/// them holds the bank. What was committed stands where this fails too, so that no fault is told.
+/// them holds the bank. What was committed is kept even if this fails, so that no fault is reported.
 pub fn close<D: Disk + Drop>(bank: Bank<FileStore<D>>) -> Option<Files<D>>
     ensures { IfSome result (λ files. AreClean D.Disk files.log files.db → (log : List Command)
         → StandsAt (bank_seen over_files bank) log → (image : Image)

@@ -1,4 +1,5 @@
-//! A run of the program: from the words of the command line, over the command that they tell, to the status
+//! A run of the program: from the words of the command line, over the command that they ask for, to the
+//! status
 //! that the program ends with.
 #![tactic(auto)]
 

@@ -32,7 +32,7 @@ pub fn words_of<R: Env + AllocGlobal>(rt: &R) -> io::Result<Vec<String>> {
     Ok(env::args(rt)?.collect(rt.alloc())?)
 }
 
-/// Does what the words say, and gives the status that the program ends with. A fault is told on `faults`.
+/// Does what the words say, and gives the status that the program ends with. A fault is reported on `faults`.
 pub fn run<S: Start, T: AsStr, R: Read, W: Write, E: Write, K: Clock>(
     rt: &HostRuntime,
     start: S,

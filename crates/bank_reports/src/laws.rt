@@ -1,4 +1,4 @@
-//! What an audit tells of the consistency condition.
+//! What an audit says of the consistency condition.
 ghost use Rattle.bank_reports.specs.Beside.{RowsTellOfTables};
 ghost use Rattle.bank_reports.specs.Consistency.{TellsOfStored, TellsOfTables};
 

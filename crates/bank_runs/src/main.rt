@@ -9,12 +9,12 @@
 //!   `put FILE TEXT`     writes a file of this text, which ends no line
 //!   `sql FILE TEXT`     runs SQL on a file
 //!   `ask FILE TEXT`     runs a query on a file, and prints the number that it gives
-//!   `look FILE`         tells how long the file is, if it is there
+//!   `look FILE`         prints how long the file is, if it is there
 //!   `record TEXT`       gives the next run a record, which spaces fill to 100 bytes
 //!   `line TEXT`         gives it a record and an end of line
 //!   `part TEXT`         gives the next run these bytes
 //!   `from FILE`         gives it what a file holds
-//!   `like FILE`         tells whether the last run wrote what a file holds
+//!   `like FILE`         prints whether the last run wrote what a file holds
 //!   `broken END`        gives the next run an `input` that fails, or an `output` that does
 //!   `bank WORD..`       runs the program on these words
 #![tactic(auto)]

@@ -1,4 +1,4 @@
-//! What is looked up in the tables. Rows that belong together are read together, and told as damage where
+//! What is looked up in the tables. Rows that belong together are read together, and reported as damage where
 //! they differ.
 ghost use Rattle.std.specs.Prelude.{◌≡◌, ◌≤◌, IfOk};
 ghost use Rattle.posting_rules.specs.Commands.{branch_of_account, place_of_account};

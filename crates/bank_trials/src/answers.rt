@@ -48,7 +48,7 @@ fn moment_of(text: &str) -> Option<Moment> {
     Moment::new(text.parse::<u64>().ok()?)
 }
 
-/// Makes the call, and tells what was answered to each thing that it names.
+/// Makes the call, and prints what was answered to each thing that it names.
 pub fn answer<C: Counter>(
     alloc: Global,
     bank: &mut C,

@@ -185,7 +185,7 @@ fn note(outcomes: &mut Vec<Outcome>, replies: &[[u8; 200]]) -> Result<()> {
     Ok(())
 }
 
-/// Submits mixed records to both banks, group by group, and tells that their replies and balances agree, and
+/// Submits mixed records to both banks, group by group, and says that their replies and balances agree, and
 /// which outcomes came. It fails where they don't agree.
 pub fn play_run<S: Alter + Drop>(
     alloc: Global,

@@ -4,11 +4,11 @@ use message_records::{
 };
 use std::alloc::{AllocError, Global};
 
-/// A record, and how the reply to it is told.
+/// A record, and how the reply to it is printed.
 #[derive(Clone, Copy)]
 pub struct Record {
     pub bytes: [u8; 100],
-    /// Whether it is written as a request's numbers, so that the reply is told by its outcome and balance.
+    /// Whether it is written as a request's numbers, so that the reply is printed by its outcome and balance.
     is_request: bool,
 }
 
@@ -64,7 +64,7 @@ impl Record {
         Some(Record { bytes, is_request })
     }
 
-    /// The text that tells the reply to it.
+    /// The text of the reply to it.
     pub fn told(&self, alloc: Global, reply: &[u8; 200]) -> Result<String, AllocError> {
         if !self.is_request {
             let text = String::from_utf8_lossy(alloc, reply)?;

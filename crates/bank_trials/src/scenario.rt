@@ -65,7 +65,7 @@ pub fn play<S: Alter + Drop>(
 }
 
 impl Scenario {
-    // Does what the line says, and tells what was answered.
+    // Does what the line says, and prints what was answered.
     fn step<S: Alter + Drop>(
         &mut self,
         stored: Stored<S>,

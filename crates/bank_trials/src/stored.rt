@@ -58,17 +58,18 @@ impl<S: Alter + Drop> Stored<S> {
         }
     }
 
-    /// Makes a bank there, and tells whether it was made.
+    /// Makes a bank there, and returns whether it was made.
     pub fn make(self, alloc: Global) -> Result<(Self, String), AllocError> {
         Self::told(alloc, made(alloc, self.released()), "made")
     }
 
-    /// Takes the bank up, and tells whether it was found.
+    /// Takes the bank up, and returns whether it was found.
     pub fn adopt(self, alloc: Global) -> Result<(Self, String), AllocError> {
         Self::told(alloc, taken_up(alloc, self.released()), "adopted")
     }
 
-    /// Makes the call, and tells what was answered. The bank is taken up anew for it, unless the call goes on
+    /// Makes the call, and prints what was answered. The bank is taken up anew for it, unless the call goes
+    /// on
     /// with the bank as the step before left it.
     pub fn ask(
         self,

@@ -32,7 +32,7 @@ fn first_key(found: &[Row]) -> Result<i64, TableFault>
 
 // Puts the rows that were found in place of those in `rows`, up to one that can't be read, if it isn't under
 // the key
-// itself, and tells from which key on the others follow.
+// itself, and returns the key from which the others follow.
 fn gather_beside<O: StoredRow>(
     found: &[Row],
     from: i64,
@@ -61,7 +61,7 @@ fn gather_beside<O: StoredRow>(
 
 /// Puts the rows of a table with the least keys from one on in place of those in `rows`, up to one that can't
 /// be read, if it
-/// isn't under the key itself, and tells from which key on the others follow.
+/// isn't under the key itself, and returns the key from which the others follow.
 pub(crate) fn read_beside<S: Alter, O: StoredRow>(
     conn: &mut Connection<S>,
     from: i64,

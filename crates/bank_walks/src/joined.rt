@@ -1,4 +1,4 @@
-//! Rows with what stands beside them in another table.
+//! Rows with those under their keys in another table.
 ghost use Rattle.std.specs.Prelude.{◌≡◌, ◌≤◌, ◌++◌, [], ◌∷◌, ℤ, List, filter, length, map, None, false, IfOk};
 ghost use Rattle.std.specs.Prelude.{IfErr, IsTrue, OnOk, MatchResult};
 ghost use Rattle.std.specs.Bool.{OnFalse, OnTrue};

@@ -18,7 +18,7 @@ use store_rows::TableFault;
 
 /// A row of one table, as it is stored.
 pub trait StoredRow: Copy + Default {
-    /// The table that it stands in.
+    /// The table that it is a row of.
     ghost table: { Table };
     /// How a file holds it.
     ghost entry: { Self → Entry };

@@ -16,7 +16,7 @@ use message_records::Account;
 use sqlite::{Alter, Connection};
 use store_rows::TableFault;
 
-/// A row that a walk gives: one of a table, or one with what stands beside it in another table.
+/// A row that a walk gives: one of a table, or one with the row under its key in another table.
 pub trait WalkedRow: Copy + Default {
     /// What a file has of it.
     ghost Item: { Type 0 };
@@ -33,7 +33,7 @@ pub trait WalkedRow: Copy + Default {
 
     /// Puts the rows with the least keys from one on, those of an account where one is named, in place of
     /// those in `rows`, up
-    /// to one that can't be read, if it isn't the first, and tells from which key on the others follow.
+    /// to one that can't be read, if it isn't the first, and returns the key from which the others follow.
     fn fill<S: Alter>(
         conn: &mut Connection<S>,
         of: Option<Account>,

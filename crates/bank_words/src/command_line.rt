@@ -1,4 +1,4 @@
-//! The program's command line as clap is told of it: seven commands, their arguments, and the texts of help.
+//! The program's command line as `clap` gets it: seven commands, their arguments, and the texts of help.
 ghost use Rattle.std.specs.Prelude.{◌≡◌, IfOk, false};
 ghost use Rattle.clap.specs.Words.{app_of, new_app, rule_of, with_rule};
 ghost use Rattle.clap.specs.declared.builder.command.Command.TheViews.{out-Command as fields_of};

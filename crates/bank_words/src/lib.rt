@@ -1,4 +1,4 @@
-//! The command line of the program: which words it takes, and which command on which files they tell.
+//! The command line of the program: which words it takes, and which command on which files they ask for.
 #![tactic(auto)]
 
 mod command_line;

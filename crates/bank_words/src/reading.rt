@@ -1,4 +1,4 @@
-//! Which of the program's commands the words of the command line tell, and on which files.
+//! Which of the program's commands the words of the command line ask for, and on which files.
 ghost use Rattle.std.specs.Prelude.{◌≡◌, ℕ, IfErr, IfOk, IsErrAnd, IsSomeAnd, MatchResult, map, true};
 ghost use Rattle.clap.specs.Words.{FailsBy, fault_of, found_of, kind_of, rows_of, subcommand_of};
 ghost use Rattle.clap.specs.Words.{subcommand_rows_of, takes};
@@ -14,7 +14,7 @@ use message_records::Account;
 use std::alloc::Global;
 use std::convert::AsStr;
 
-/// What the program is told to do.
+/// What the program is asked to do.
 #[derive(Clone, Copy, Debug, PartialEq, Eq)]
 pub enum Command<'a> {
     /// Make a new bank in the file.

@@ -7,7 +7,7 @@ use bank_reports::{Audit, write_audit};
 use posting_core::Fault;
 use std::io::Write;
 
-/// Prints an audit, and tells how the program ends.
+/// Prints an audit, and returns how the program ends.
 pub fn print_audit<W: Write>(
     told: Result<Audit, Fault>,
     output: &mut W,

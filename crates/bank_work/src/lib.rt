@@ -1,5 +1,5 @@
 //! What the commands of the program do with a bank, whatever keeps it, and what they print of it: a plan is
-//! loaded, records are driven, connections are served, and an audit is told.
+//! loaded, records are driven, connections are served, and an audit is printed.
 #![tactic(auto)]
 
 mod auditing;

@@ -1,4 +1,4 @@
-//! What gives the records of a plan, and tells why it gives none.
+//! What gives the records of a plan, and why it gives none.
 ghost use Rattle.std.specs.Prelude.{◌≡◌, true, List, [], ◌∷◌, Option, None, IfOk, IfErr, OnOk};
 ghost use Rattle.csv.specs.Reading.{error_kind, stops_reader};
 ghost use Rattle.csv.specs.Records.{fields_of};
@@ -10,13 +10,13 @@ use std::io::Read;
 
 /// Records one after another: those that csv reads.
 pub(crate) trait RecordSource {
-    /// It takes records of any length, and stands between two of them.
+    /// It takes records of any length, and is between two of them.
     ghost is_plain: { Self → Type 0 };
 
     /// It has these records left.
     ghost has_left: { Self → Records → Type 0 };
 
-    /// What it told so far, where that is known.
+    /// What it returned so far, where that is known.
     ghost told: { Self → Option (List RecordTold) } = { λ _. None };
 
     /// Takes the next record, if there is one. It fails where its source failed or memory was refused, and

@@ -2,14 +2,14 @@
 use posting_core::Fault;
 use std::fmt;
 
-/// Why a connection ended before the walk over its messages did, and what stands after it.
+/// Why a connection ended before the walk over its messages did, and what holds after it.
 #[derive(Clone, Copy, Debug, PartialEq, Eq)]
 pub enum ServeFault {
     /// The reader failed. The whole messages that were read were answered.
     Read,
     /// The writer failed, or took no byte. Of the answers a beginning was written.
     Write,
-    /// The bank refused a call, and its fault says what stands of that. A 503 was written to the message that
+    /// The bank refused a call, and its fault says what holds then. A 503 was written to the message that
     /// made it, behind the answers to those before.
     Bank(Fault),
     /// Memory was refused before anything was read, and nothing was done.

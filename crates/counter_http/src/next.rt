@@ -9,7 +9,7 @@ use crate::limits::{MAX_FIELDS, MAX_HEAD};
 use httparse::Status;
 use httparse::spans::{EMPTY_HEADER_SPAN, HeaderSpan, RequestSpans, parse_request};
 
-/// A message, as it stands in what was read.
+/// A message, as it was read.
 #[derive(Clone, Copy)]
 pub(crate) struct Whole<'b> {
     pub method: &'b [u8],
@@ -21,7 +21,7 @@ pub(crate) struct Whole<'b> {
     pub length: usize,
 }
 
-/// What stands at the front of what was read.
+/// What is at the front of what was read.
 #[derive(Clone, Copy)]
 pub(crate) enum Next<'b> {
     /// A whole message.
@@ -32,7 +32,7 @@ pub(crate) enum Next<'b> {
     Refused(bool),
 }
 
-/// What stands at the front of what was read.
+/// What is at the front of what was read.
 pub(crate) fn next_message<'b>(buf: &'b [u8]) -> Next<'b>
     ensures { IsNextMessage buf.now result }
 {

@@ -34,7 +34,7 @@ fn end_of_path(target: &[u8]) -> usize
         .unwrap_or(target.len())
 }
 
-/// The path of a target: what stands before its first `?`.
+/// The path of a target: what is before its first `?`.
 pub(crate) fn path_of(target: &[u8]) -> &[u8]
     ensures { result.now ≡ path_of target.now }
 {

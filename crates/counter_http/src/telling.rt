@@ -19,7 +19,7 @@ const HELD: usize = 512;
 pub(crate) struct Response<'a> {
     pub status: StatusCode,
     pub media: &'a [u8],
-    /// The methods that the route takes, where they are told.
+    /// The methods that the route takes, where they are listed.
     pub allow: Option<&'a [u8]>,
     pub body: &'a [u8],
 }

@@ -1,11 +1,11 @@
-//! What tells the time.
+//! Where the time comes from.
 ghost use Rattle.std.specs.Prelude.{◌≡◌, ℕ, List, Option, None};
 ghost use Rattle.posting_core.specs.Clock.{IsReading};
 
 use message_records::Moment;
 use std::marker::Model;
 
-/// What tells the moment that a record is submitted at, in seconds since 1970-01-01T00:00:00Z.
+/// What gives the moment that a record is submitted at, in seconds since 1970-01-01T00:00:00Z.
 pub trait Clock {
     /// The readings to come, where they are known.
     ghost readings: { Self → Option (List ℕ) } = { λ _. None };
@@ -15,7 +15,7 @@ pub trait Clock {
         ensures { IsReading (readings self.old) (readings self.new) result };
 }
 
-/// A clock that tells stored moments, and the moment 0 after the last of them.
+/// A clock that gives stored moments, and the moment 0 after the last of them.
 #[derive(Debug, Drop)]
 pub struct StoredClock {
     moments: Vec<Moment>,
@@ -33,7 +33,7 @@ impl Model for StoredClock {
 }
 
 impl StoredClock {
-    /// A clock that tells these moments in order.
+    /// A clock that gives these moments in order.
     #[must_use]
     pub fn new(moments: Vec<Moment>) -> Self
         ensures { result ≡ moments.items }

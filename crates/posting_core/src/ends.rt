@@ -7,12 +7,12 @@ ghost use Rattle.posting_core.specs.Told.{GrowsBy, ReadTold, WriteTold, read_tol
 use std::io;
 use std::io::{Read, Write};
 
-/// What gives bytes. Every reader does. A type of its own may also know what its reads told.
+/// What gives bytes. Every reader does. A type of its own may also know what its reads returned.
 pub trait Source {
     /// The bytes that it will give from here on, where they are known.
     ghost remaining: { Self → Option (List ℕ) } = { λ _. None };
 
-    /// What each read told so far, where it is known.
+    /// What each read returned so far, where it is known.
     ghost told: { Self → Option (List ReadTold) } = { λ _. None };
 
     /// One read into the buffer. It answers how many bytes it gave, and 0 at the end of the input.
@@ -22,12 +22,12 @@ pub trait Source {
         ensures tells { GrowsBy (told self.old) (told self.new) (read_told result ∷ []) };
 }
 
-/// What takes bytes. Every writer does. A type of its own may also know what its writes and flushes told.
+/// What takes bytes. Every writer does. A type of its own may also know what its writes and flushes returned.
 pub trait Sink {
     /// The bytes that it holds, where they are known.
     ghost contents: { Self → Option (List ℕ) } = { λ _. None };
 
-    /// What each write and flush told so far, where it is known.
+    /// What each write and flush returned so far, where it is known.
     ghost told: { Self → Option (List WriteTold) } = { λ _. None };
 
     /// One write of bytes at the front of these. It answers how many it took.

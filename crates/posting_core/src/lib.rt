@@ -1,5 +1,5 @@
 //! Counters and streams: the bank in memory, clocks, and records between a reader and a writer. What a
-//! posting is stands in `posting_rules`, whose names are given again here.
+//! posting is, is said in `posting_rules`, whose names are given again here.
 #![tactic(auto)]
 
 mod clock;

@@ -10,7 +10,7 @@ use message_records::Moment;
 use posting_rules::{Counter, Fault};
 use std::fmt;
 
-/// Why a record wasn't answered, or not wholly, and what stands after it.
+/// Why a record wasn't answered, or not wholly, and what holds after it.
 #[derive(Clone, Copy, Debug, PartialEq, Eq)]
 pub enum OnceFault {
     /// The input ended within the record. Nothing was submitted.
@@ -20,7 +20,7 @@ pub enum OnceFault {
     /// The writer failed, or took no byte. The record was submitted, and a beginning of the reply was
     /// written.
     Write,
-    /// The counter refused the record, and its fault says what stands. Nothing was written.
+    /// The counter refused the record, and its fault says what holds. Nothing was written.
     Bank(Fault),
 }
 

@@ -24,7 +24,7 @@ const BUFFER: usize = RECORD * RECORDS_PER_BATCH;
 /// How many replies were written.
 pub type Count = u128;
 
-/// Why a stream ended before its input did, or within a record, and what stands after it.
+/// Why a stream ended before its input did, or within a record, and what holds after it.
 #[derive(Clone, Copy, Debug, PartialEq, Eq)]
 pub enum StreamFault {
     /// The input ended so many bytes, 1..=99, into a record. The records before it were answered.
@@ -34,7 +34,7 @@ pub enum StreamFault {
     /// The writer failed, or took no byte. What was read was submitted, and of the replies a beginning was
     /// written.
     Write,
-    /// The bank refused a batch, to which nothing was replied, and its fault says what stands.
+    /// The bank refused a batch, to which nothing was replied, and its fault says what holds.
     Bank(Fault),
 }
 
@@ -102,7 +102,8 @@ fn answer_batch<W: Sink, K: Clock, C: Counter>(
     }
 }
 
-/// Answers a stream of records of 100 bytes to the end of its input, and tells how many it answered. As soon
+/// Answers a stream of records of 100 bytes to the end of its input, and returns how many it answered. As
+/// soon
 /// as whole records were read, all of them are submitted under one reading of the clock, and their replies
 /// are written in order and flushed. An interrupted read or write is made again. `Read` and `Write` come only
 /// where a read, a write or a flush of this call failed, where a write took no byte, or where 2^64 - 1 of

@@ -99,7 +99,7 @@ tables_moved t ordinal e teller branch =
     (with_branch_balance (branch_of_teller e.request.teller) branch
     (with_teller_balance e.request.teller teller (with_account_balance e.request.account e.balance t)))
 
--- both
+-- the three balances, the row of history and the row of the request (TPC-B 1.2)
 abbrev pub tables_posted : Tables → ℕ → DecidedRequest → ℤ → ℤ → Tables
 tables_posted t ordinal e teller branch = tables_kept (tables_moved t ordinal e teller branch) ordinal e
 

@@ -65,7 +65,7 @@ pub fn judge(found: &Found, request: &Request) -> Verdict
     }
 }
 
-/// The reply that tells a verdict. A posting is told with the account's new balance.
+/// The reply to a verdict. That to a posting has the account's new balance.
 #[must_use]
 pub fn reply_to(found: &Found, request: &Request, verdict: &Verdict) -> Reply
     requires { IsProper found.now verdict.now }

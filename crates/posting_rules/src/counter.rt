@@ -54,7 +54,7 @@ impl From<BranchRow> for BranchLine {
 /// A counter of the bank. What it answers is said by the log of commands that its tables show: it holds of
 /// every log that they show, wherever the disk is honest.
 ///
-/// What stands after a fault is the same of every call. After `Memory` nothing has changed, and the counter
+/// What holds after a fault is the same for every call. After `Memory` nothing has changed, and the counter
 /// can be used. After `Store`, `Down` and `Damaged` it is down, and every later call answers `Down`. After
 /// `Store` what is found is what stood before, with a beginning of the call's commands behind it; after
 /// `Damaged` no row has changed.

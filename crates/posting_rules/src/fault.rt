@@ -43,7 +43,7 @@ impl Rule {
     }
 }
 
-/// Why a counter refuses a call, and what stands after it.
+/// Why a counter refuses a call, and what holds after it.
 #[derive(Clone, Copy, Debug, PartialEq, Eq)]
 pub enum Fault {
     /// Memory was refused. The bank is unchanged, and can be used.

@@ -28,7 +28,7 @@ pub fn account_balance<S: Alter>(
     found(row_under(tx, GET_ACCOUNT, account.get()))
 }
 
-/// Writes the balance of an account, and tells whether it has a row.
+/// Writes the balance of an account, and returns whether it has a row.
 pub fn set_account_balance<S: Alter>(
     tx: &mut Transaction<'_, S>,
     account: Account,

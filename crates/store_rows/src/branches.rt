@@ -55,7 +55,7 @@ pub fn next_branch<S: Alter>(
     found(row_under(tx, NEXT_BRANCH, u64::from(after)))
 }
 
-/// Writes the balance of a branch, and tells whether it has a row.
+/// Writes the balance of a branch, and returns whether it has a row.
 pub fn set_branch_balance<S: Alter>(
     tx: &mut Transaction<'_, S>,
     branch: Branch,

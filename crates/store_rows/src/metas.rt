@@ -72,7 +72,7 @@ pub fn read_meta<S: Alter>(tx: &mut Transaction<'_, S>) -> Result<Option<StoredM
     found(meta_row(tx))
 }
 
-/// Writes how many requests are decided, and tells whether meta has its row.
+/// Writes how many requests are decided, and returns whether meta has its row.
 pub fn set_decided<S: Alter>(tx: &mut Transaction<'_, S>, decided: u64) -> Result<bool, Error>
     requires { decided ≤ MAX_DECIDED }
     ensures { SetsNumber S.Store tx.old tx.new table SET_META.now (λ _. true) (with_decided decided) result }

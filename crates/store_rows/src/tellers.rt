@@ -28,7 +28,7 @@ pub fn teller_balance<S: Alter>(
     found(row_under(tx, GET_TELLER, teller.get()))
 }
 
-/// Writes the balance of a teller, and tells whether it has a row.
+/// Writes the balance of a teller, and returns whether it has a row.
 pub fn set_teller_balance<S: Alter>(
     tx: &mut Transaction<'_, S>,
     teller: Teller,
