@@ -45,7 +45,7 @@ StopsAtBalance given rest =
     (r : StoredPosting) × (more : List Entry) × (rest ≡ posting_entry r ∷ more)
     × (MAX_BALANCE < nat_abs (sum_of given +ℤ r.delta))
 
--- why rows are told to be damaged
+-- why rows are reported as damaged
 abbrev pub WhyDamaged : List StoredPosting → List Entry → Rule → Type 0
 WhyDamaged given rest Value = StopsAtValue given rest
 WhyDamaged given rest Balance = StopsAtBalance given rest
@@ -103,7 +103,7 @@ HasWritten (Ok done) = ⊤
 HasWritten (Err Write) = ⊤
 HasWritten (Err _) = ⊥
 
--- the bank told no fault
+-- the bank returned no fault
 abbrev pub HasAnswered : Result (Unit {0}) ReportFault → Type 0
 HasAnswered (Ok done) = ⊤
 HasAnswered (Err NoAccount) = ⊤

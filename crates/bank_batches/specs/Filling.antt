@@ -25,6 +25,6 @@ pub record ReadsWhere {S X : Type 0} (g : Ghosts S) (old new : Transaction S) (S
       (λ before now. ChangesNothing before now result
       × Blames (IsFirstBroken g) g old.conn.now new.conn.now result)
 
--- the slot under a number tells the row of that branch
+-- the slot under a number holds the row of that branch
 abbrev pub TellsBranch : List BranchSlot → Tables → ℕ → Type 0
 TellsBranch slots t n = in_slot row_of_slot (row_at branch_slot_key slots n) ≡ row_at branch_key t.branches n

@@ -1,4 +1,4 @@
--- What the command `audit` tells of the bank, and what it leaves of it.
+-- What the command `audit` says of the bank, and what it leaves of it.
 use Rattle.std.specs.Prelude.{◌≡◌, ◌⊎◌, ◌↔◌, ℕ, List, [], Option, Result, Err, IfOk, IsTrue, OnOk}
 use Rattle.std.specs.Io.KnownBytes.{Keeps}
 use Rattle.sqlite_wal.specs.Recovery.{Image}
@@ -14,7 +14,8 @@ use Rattle.bank_reports.specs.Stored.{stored}
 use Rattle.bank_reports.specs.declared.audit.Audit.{Audit}
 use Rattle.bank_openings.specs.InFile.{WorksIn}
 
--- The bank's tables were audited, and it is told whether they are consistent, which those of a log are. The
+-- The bank's tables were audited, and it is answered whether they are consistent, which those of a log are.
+-- The
 -- bank took no command, and a stop leaves what it showed.
 pub record Audits (old new : Seen) (told : Result Audit Fault) : Type 0 where
   pub tables : new.honest → (t : Tables) → old.tables t → IfOk told (λ a. a ≡ audit_of (stored t))

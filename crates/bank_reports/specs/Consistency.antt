@@ -1,4 +1,4 @@
--- The consistency condition (TPC-B clause 2) on tables as a file has them, and that an audit tells of it.
+-- The consistency condition (TPC-B clause 2) on tables as a file has them, and that an audit says so.
 use Rattle.std.specs.Prelude.{◌≡◌, ℕ, true, map}
 use Rattle.std.specs.List.{AllByRecursion}
 use Rattle.posting_rules.specs.Laws.{total, IsConsistent}

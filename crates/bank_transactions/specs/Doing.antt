@@ -84,7 +84,7 @@ abbrev pub ChangesNothing : {X : Type 0} → State → State → Result X TableF
 ChangesNothing old new (Ok x) = Stays old new
 ChangesNothing old new (Err fault) = KeepsCommit old new
 
--- the answer is what was looked for, and nothing has changed; the tables are never told to be damaged
+-- the answer is what was looked for, and nothing has changed; the tables are never reported as damaged
 abbrev pub LooksUp : {X : Type 0} → State → State → X → Result X TableFault → Type 0
 LooksUp old new wanted (Ok found) = (found ≡ wanted) × Stays old new
 LooksUp old new wanted (Err (Sqlite e)) = ⊤
@@ -106,7 +106,7 @@ abbrev pub CommitsNothing : {X : Type 0} → State → State → Result X TableF
 CommitsNothing old new (Ok x) = GoesOnUncommitted old new
 CommitsNothing old new (Err fault) = KeepsCommit old new
 
--- the tables are these now, and the answer is this one; they are never told to be damaged
+-- the tables are these now, and the answer is this one; they are never reported as damaged
 abbrev pub LeavesAndAnswers : {X : Type 0} → State → Tables → X → Result X TableFault → Type 0
 LeavesAndAnswers new after wanted (Ok x) = (x ≡ wanted) × Shows new.now after
 LeavesAndAnswers new after wanted (Err (Sqlite e)) = ⊤
@@ -166,14 +166,15 @@ pub record Ends {S X : Type 0} (g : Ghosts S) (last new : Held S)
 
 -- ---- a transaction
 
--- the tables are these now, and a stop leaves them; the answer is this one; they are never told to be damaged
+-- the tables are these now, and a stop leaves them; the answer is this one; they are never reported as
+-- damaged
 abbrev pub Completes : {X : Type 0} → State → Tables → X → Result X TableFault → Type 0
 Completes new after wanted (Ok x) = (x ≡ wanted) × Shows new.now after
     × ((left : Trees) → new.may_leave left → ShowsTrees left after)
 Completes new after wanted (Err (Sqlite e)) = ⊤
 Completes new after wanted (Err (Damaged rule)) = ⊥
 
--- what was met is told to be damaged: as long as the store is open, everything is as it was
+-- what was met is reported as damaged: as long as the store is open, everything is as it was
 abbrev pub Undoes : {X : Type 0} → State → State → Result X TableFault → Type 0
 Undoes old new (Err (Damaged rule)) = IsTrue new.is_open → IsTrue old.is_open × (new.now ≡ old.now)
 Undoes old new _ = ⊤

@@ -17,7 +17,7 @@ abbrev pub status_of_audit : Audit → Status
 status_of_audit a = if is_sound a then Done else Inconsistent
 
 -- The text of the audit was printed, or where the writer failed a beginning of it. Nothing was where the
--- bank told a fault.
+-- bank returned a fault.
 abbrev pub Prints : Result Audit Fault → Option (List ℕ) → Option (List ℕ) → Result Status CommandFault
     → Type 0
 Prints (Ok a) w w' (Ok status) = (status ≡ status_of_audit a) × Appends w w' (audit_text a)

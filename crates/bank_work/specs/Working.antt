@@ -99,7 +99,7 @@ ended_by_load (Err fault) = Err fault
 
 -- ---- the work of such a command
 
--- nothing was done with the bank, and Idle holds; or what was done with it was told
+-- nothing was done with the bank, and Idle holds; or what was done with it was printed
 abbrev pub Works : {C X : Type 0} → (Idle : Type 0) → (Tells : X → Type 0) → (Did : X → C → C → Type 0)
     → (old new : C) → Type 0
 Works {C} {X} Idle Tells Did old new = (Idle × (new ≡ old)) ⊎ ((told : X) × Tells told × Did told old new)
@@ -117,7 +117,7 @@ DrivesOver seen k k' w w' seed count Ends old new =
     (told : Result Driven DriveFault) × TellsDrive Ends w w' count told
     × Drives seen old new k k' seed count told
 
--- the address can't be had, or the line that tells it can't be written
+-- the address can't be had, or the line that says it can't be written
 abbrev pub IsOfListening : CommandFault → Type 0
 IsOfListening fault = (fault ≡ Network) ⊎ (fault ≡ Write)
 

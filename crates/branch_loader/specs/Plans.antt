@@ -116,7 +116,7 @@ TellsPlan stated (Err Csv) = ⊤
 TellsPlan stated (Err Memory) = ⊤
 TellsPlan stated answer = stated ≡ answer
 
--- ---- what csv told, where the answer is none of a plan
+-- ---- what csv returned, where the answer is none of a plan
 
 -- The source failed; or memory was refused, to csv, or behind a record for the room of its row. Every other
 -- answer is stated.

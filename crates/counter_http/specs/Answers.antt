@@ -34,7 +34,7 @@ asked_by m = record { method = m.head.method; target = m.head.target; body = m.b
 pub record Answer : Type 0 where
   pub code : ℕ
   pub media : List ℕ
-  -- the methods that the route takes, where they are told
+  -- the methods that the route takes, where they are listed
   pub allow : Option (List ℕ)
   pub body : List ℕ
 

@@ -1,4 +1,4 @@
--- What the ends of a connection told: the reader from r to r', and the writer from w to w'.
+-- What the ends of a connection returned: the reader from r to r', and the writer from w to w'.
 use Rattle.std.specs.Prelude.{ℕ, List, [], Option, Bool, true, false, Result, Ok, Err}
 use Rattle.std.specs.Io.KnownBytes.{IsAtEnd}
 use Rattle.posting_core.specs.Told.{ReadTold, WriteTold, GrowsBy, EndsWith, HasMore, HasReadFailed}
@@ -6,7 +6,7 @@ use Rattle.posting_core.specs.Told.{HasWriteFailed, IsEndOfInput, IsFlush, IsThr
 use Rattle.counter_http.specs.declared.fault.ServeFault.{ServeFault}
 use Rattle.counter_http.specs.declared.fault.ServeFault.TheVariants.{Read, Write, Bank, Memory}
 
--- the input ended: no known byte remains, and the last read told its end
+-- the input ended: no known byte remains, and the last read returned its end
 pub record HasEnded (remaining : Option (List ℕ)) (r r' : Option (List ReadTold)) : Type 0 where
   pub none : IsAtEnd remaining
   pub told : EndsWith IsEndOfInput r r'

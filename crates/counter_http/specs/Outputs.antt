@@ -89,7 +89,7 @@ IsSettled input =
     (more : List ℕ) (log : List Command) (text : List ℕ) → AnswersInput log input text
     → AnswersInput log (input ++ more) text
 
--- what the reads told is q before and q' after
+-- what the reads returned is q before and q' after
 pub record OutputsAnswers (r r' : Option (List ℕ)) (q q' : Option (List ReadTold)) (w w' : Option (List ℕ))
     (c c' : Seen) (result : Result ℕ ServeFault) : Type 0 where
   pub input : List ℕ

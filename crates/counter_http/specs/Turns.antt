@@ -1,6 +1,6 @@
 -- Messages one after another: each is answered in its turn, and a record is submitted under one reading of
 -- the clock. The writer's known bytes before and after are w and w', the clock's known readings k and k'.
--- What is seen of a counter is told by seen, or the counter is seen as c before and as c' after.
+-- What is seen of a counter is given by seen, or the counter is seen as c before and as c' after.
 use Rattle.std.specs.Prelude.{◌≡◌, ◌⊎◌, ℕ, List, [], ◌∷◌, length, take, map, Option, Bool, true, false, ⊤}
 use Rattle.std.specs.Prelude.{Result, MatchResult, OnOk}
 use Rattle.std.specs.List.{flat_map}

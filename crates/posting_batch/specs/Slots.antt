@@ -47,7 +47,7 @@ branch_slot_balance s = balance_now (option_map balance_of_branch s.stored) s.ch
 abbrev pub with_branch_changed : ℤ → BranchSlot → BranchSlot
 with_branch_changed z s = record { branch = s.branch; stored = s.stored; changed = Some z }
 
--- what is told of the slot that is there
+-- what is said of the slot that is there
 abbrev pub in_slot : {S A : Type 0} → (S → Option A) → Option S → Option A
 in_slot f o = option_flatten (option_map f o)
 

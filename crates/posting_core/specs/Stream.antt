@@ -111,7 +111,7 @@ pub record OutputsReplies (r r' w w' : Option (List ℕ)) (c c' : Seen)
   pub writes : c'.honest → (log : List Command) → ShowsLog c log
       → WritesReplies result w w' (replies_text log bytes)
 
--- ---- what the ends told: the source from r to r', and the sink from w to w'
+-- ---- what the ends returned: the source from r to r', and the sink from w to w'
 
 -- a fault of an end comes where that end failed; all that was written was flushed, wherever the sink didn't
 -- fail

@@ -1,4 +1,5 @@
--- What the calls of a source and of a sink told, where it is known, and when one of them counts as failed.
+-- What the calls of a source and of a sink returned, where it is known, and when one of them counts as
+-- failed.
 use Rattle.std.specs.Prelude.{◌≡◌, ◌≢◌, ◌≤◌, ◌⊎◌, ◌-◌, ◌^◌, ℕ, List, [], ◌∷◌, ◌++◌, length, ⊤, Option, Some}
 use Rattle.std.specs.Prelude.{None, Result, Ok, Err}
 use Rattle.std.specs.IoError.{error_kind}
@@ -6,7 +7,7 @@ use Rattle.std.specs.declared.io.Error.{Error}
 use Rattle.std.specs.declared.io.ErrorKind.{ErrorKind}
 use Rattle.std.specs.declared.io.ErrorKind.TheVariants.{Interrupted}
 
--- ---- what a call told
+-- ---- what a call returned
 
 pub data ReadTold : Type 0 where
   -- it gave so many bytes
@@ -43,7 +44,7 @@ GrowsBy None new calls = ⊤
 GrowsBy (Some before) None calls = ⊥
 GrowsBy (Some before) (Some after) calls = after ≡ before ++ calls
 
--- calls were made, and P holds of what the last of them told
+-- calls were made, and P holds of what the last of them returned
 pub record EndsWith {A : Type 0} (P : A → Type 0) (old new : Option (List A)) : Type 0 where
   pub earlier : List A
   pub last : A

@@ -101,7 +101,7 @@ Refuses Store old new commands = IsCutShort old new commands
 Refuses Down old new commands = WasDown old new
 Refuses (Damaged rule) old new commands = IsDamaged old new
 
--- it tells rows to be damaged
+-- it reports rows as damaged
 abbrev pub TellsDamage : Fault → Type 0
 TellsDamage (Damaged rule) = ⊤
 TellsDamage _ = ⊥

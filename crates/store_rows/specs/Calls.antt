@@ -27,7 +27,7 @@ OfTables Told old new = (tables : Tables) → Shows old.now tables → Told old 
 abbrev pub OfMeta : (State → State → List Entry → Type 0) → State → State → Type 0
 OfMeta Told old new = (rows : List Entry) → HoldsRows old.now meta rows → Told old new rows
 
--- A look-up finds what is wanted of the tables that are shown; whatever rows are held, it tells the one that
+-- A look-up finds what is wanted of the tables that are shown; whatever rows are held, it gives the one that
 -- it looks for.
 abbrev pub LooksUp : {S X : Type 0} → Ghosts S → Transaction S → Transaction S → Form X → (Tables → Option X)
     → (StoredRows → Option Entry) → Result (Option X) TableFault → Type 0
