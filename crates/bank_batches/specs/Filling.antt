@@ -16,8 +16,7 @@ handing y (Ok x) = Ok y
 handing y (Err e) = Err e
 
 -- In tables that are so, the answer is what was looked for. Whatever the rows, nothing has changed after
--- `Ok`,
--- and damage is of the rows that were there.
+-- `Ok`, and damage is of the rows that were there.
 pub record ReadsWhere {S X : Type 0} (g : Ghosts S) (old new : Transaction S) (So : Tables → Type 0)
     (wanted : Tables → X) (result : Result X TableFault) : Type 0 where
   pub says : Says g old new

@@ -15,8 +15,7 @@ use Rattle.bank_reports.specs.declared.audit.Audit.{Audit}
 use Rattle.bank_openings.specs.InFile.{WorksIn}
 
 -- The bank's tables were audited, and it is answered whether they are consistent, which those of a log are.
--- The
--- bank took no command, and a stop leaves what it showed.
+-- The bank took no command, and a stop leaves what it showed.
 pub record Audits (old new : Seen) (told : Result Audit Fault) : Type 0 where
   pub tables : new.honest → (t : Tables) → old.tables t → IfOk told (λ a. a ≡ audit_of (stored t))
   pub condition : new.honest → (t : Tables) → old.tables t

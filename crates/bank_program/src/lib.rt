@@ -1,6 +1,5 @@
 //! A run of the program: from the words of the command line, over the command that they ask for, to the
-//! status
-//! that the program ends with.
+//! status that the program ends with.
 #![tactic(auto)]
 
 mod running;

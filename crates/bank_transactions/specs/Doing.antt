@@ -186,9 +186,8 @@ MayLeaveAfter old So after left = (tables : Tables) → Shows old.now tables →
     → ShowsTrees left (after tables)
 
 -- Tables that are so become these, and the answer is this one. Damage undoes all. A stop leaves what it could
--- leave before, or what the
--- transaction leaves. An error of `sqlite` is one with which a call of it failed, and damage says this. No
--- transaction goes on.
+-- leave before, or what the transaction leaves. An error of `sqlite` is one with which a call of it failed,
+-- and damage says this. No transaction goes on.
 pub record TransactsBy {S X : Type 0} (Met : Damage S) (g : Ghosts S) (old new : Held S)
     (So : Tables → Type 0) (after : Tables → Tables)
     (wanted : Tables → X) (result : Result X TableFault) : Type 0 where

@@ -51,8 +51,7 @@ pub struct Run {
 
 impl Run {
     /// The run that a step says, as `mixed 1 one by one`, `mixed 2 in batches` or `mixed 5 in batches beside
-    /// one by one`,
-    /// none where it says no run.
+    /// one by one`, none where it says no run.
     pub fn of(word: &str, rest: &str) -> Option<Self> {
         if word != "mixed" {
             return None;

@@ -69,8 +69,7 @@ impl<S: Alter + Drop> Stored<S> {
     }
 
     /// Makes the call, and prints what was answered. The bank is taken up anew for it, unless the call goes
-    /// on
-    /// with the bank as the step before left it.
+    /// on with the bank as the step before left it.
     pub fn ask(
         self,
         alloc: Global,

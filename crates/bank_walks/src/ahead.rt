@@ -34,8 +34,7 @@ fn read_next<R: StoredRow>(row: &Row, next: i64) -> Result<R, TableFault>
 }
 
 /// Puts the rows that were found in place of those in `rows`, up to one that can't be read, if it isn't the
-/// first, and tells
-/// from which key on the others follow.
+/// first, and returns the key from which the others follow.
 pub(crate) fn gather<R: StoredRow>(
     found: &[Row],
     from: i64,
@@ -73,9 +72,9 @@ pub(crate) fn gather<R: StoredRow>(
 }
 
 /// Puts the rows of a table with the least keys from one on, those of an account where one is named, in place
-/// of those in
-/// `rows`, up to one that can't be read, if it isn't the first, and tells from which key on the others
-/// follow.
+/// of those in `rows`, up to one that can't be read, if it isn't the first, and returns the key from which
+/// the
+/// others follow.
 pub(crate) fn read_ahead<S: Alter, R: StoredRow>(
     conn: &mut Connection<S>,
     of: Option<Account>,

@@ -31,8 +31,7 @@ fn first_key(found: &[Row]) -> Result<i64, TableFault>
 }
 
 // Puts the rows that were found in place of those in `rows`, up to one that can't be read, if it isn't under
-// the key
-// itself, and returns the key from which the others follow.
+// the key itself, and returns the key from which the others follow.
 fn gather_beside<O: StoredRow>(
     found: &[Row],
     from: i64,
@@ -60,8 +59,7 @@ fn gather_beside<O: StoredRow>(
 }
 
 /// Puts the rows of a table with the least keys from one on in place of those in `rows`, up to one that can't
-/// be read, if it
-/// isn't under the key itself, and returns the key from which the others follow.
+/// be read, if it isn't under the key itself, and returns the key from which the others follow.
 pub(crate) fn read_beside<S: Alter, O: StoredRow>(
     conn: &mut Connection<S>,
     from: i64,

@@ -52,8 +52,7 @@ fn is_beyond(behind: Option<i64>, key: i64) -> bool
 }
 
 // Puts these rows, each with the one of the others that is under its key, in place of those in `rows`, as far
-// as the others
-// are known, and tells from which key on the next follow.
+// as the others are known, and returns the key from which the next follow.
 fn join<R: StoredRow, O: StoredRow>(
     own: &[R],
     rest: Option<i64>,
@@ -161,8 +160,7 @@ fn join_first<S: Alter, R: StoredRow, O: StoredRow>(
 }
 
 // Fills the room of a walk, with room for the rows of each table. Only of known types is it known how much
-// room that is, so
-// it is handed in.
+// room that is, so it is handed in.
 fn fill_joined<S: Alter, R: StoredRow, O: StoredRow>(
     conn: &mut Connection<S>,
     of: Option<Account>,

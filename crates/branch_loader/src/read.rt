@@ -126,9 +126,8 @@ fn read_rows<S: RecordSource>(
 /// Reads a plan to the end of the source, or to its first fault: the header `branch,accounts`, after a byte
 /// order mark or without one, and a record of a branch and its count of accounts for each branch. It takes
 /// memory for the rows and for one record. `Csv` comes only where the last that csv reported was a failure of
-/// its
-/// source, `Memory` only where that was want of memory, or where it was a record and the room for its row was
-/// refused.
+/// its source, `Memory` only where that was want of memory, or where it was a record and the room for its row
+/// was refused.
 pub fn read_plan<R: Read + Drop>(alloc: Global, reader: R) -> Result<Plan, PlanFault>
     ensures plan { IfSome (R.remaining reader) (λ text. TellsPlan (plan_of text) result) }
     ensures told { (told : List RecordTold) × IsToldSo result (Some []) (Some told) }

@@ -1,8 +1,7 @@
 -- A connection, message by message: what is read, what is written, what the bank shows, what a stop may
 -- leave. The reader's known bytes before and after are r and r', what its reads returned q and q', the
--- writer's
--- known bytes w and w', the clock's known readings k and k'. The bank is old before and new after, and seen
--- says what is seen of it.
+-- writer's known bytes w and w', the clock's known readings k and k'. The bank is old before and new after,
+-- and seen says what is seen of it.
 use Rattle.std.specs.Prelude.{◌≡◌, ◌≢◌, ◌⊎◌, ℕ, ◌+◌, List, [], ◌∷◌, ◌++◌, length, take, Option, Result, Ok}
 use Rattle.std.specs.Prelude.{Err, false}
 use Rattle.std.specs.List.{AllByRecursion}

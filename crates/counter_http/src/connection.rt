@@ -85,8 +85,7 @@ fn serve<R: Source, W: Sink, K: Clock, C: Counter>(
 }
 
 /// Serves a connection to the end of the walk over its messages, and returns how many answers were written.
-/// As
-/// soon as whole messages were read they are answered, in their order and before anything more is read; a
+/// As soon as whole messages were read they are answered, in their order and before anything more is read; a
 /// record is submitted under one reading of the clock. An answer of at most 512 bytes is one write, and each
 /// is flushed. An interrupted read or write is made again. `Read` and `Write` come only where a read, a write
 /// or a flush of this call failed, where a write took no byte, or where 2^64 - 1 of them were made. The

@@ -1,8 +1,7 @@
 //! Both ends of a connection on a port of loopback, in one thread: a client connects, sends what comes on
-//! standard
-//! input and ends its writing side, one connection is served, and what the client then reads goes out. The
-//! bank is in
-//! memory, with branch 1 of three accounts and branch 2 of two, and its clock is at the moment 0.
+//! standard input and ends its writing side, one connection is served, and what the client then reads goes
+//! out. The bank is in memory, with branch 1 of three accounts and branch 2 of two, and its clock is at the
+//! moment 0.
 #![tactic(auto)]
 
 use counter_tcp::serve_connections;

@@ -1,6 +1,5 @@
 //! Serves one connection: its messages come in on standard input, and the answers go out. The bank is in
-//! memory, with
-//! branch 1 of three accounts and branch 2 of two, and its clock is at the moment 0.
+//! memory, with branch 1 of three accounts and branch 2 of two, and its clock is at the moment 0.
 #![tactic(auto)]
 
 use counter_http::{ServeFault, serve_connection};

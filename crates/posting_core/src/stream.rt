@@ -103,12 +103,12 @@ fn answer_batch<W: Sink, K: Clock, C: Counter>(
 }
 
 /// Answers a stream of records of 100 bytes to the end of its input, and returns how many it answered. As
-/// soon
-/// as whole records were read, all of them are submitted under one reading of the clock, and their replies
-/// are written in order and flushed. An interrupted read or write is made again. `Read` and `Write` come only
-/// where a read, a write or a flush of this call failed, where a write took no byte, or where 2^64 - 1 of
-/// them were made. A fault of the bank says what it says of the batch that was refused behind those that were
-/// taken. Only the bank takes memory.
+/// soon as whole records were read, all of them are submitted under one reading of the clock, and their
+/// replies are written in order and flushed. An interrupted read or write is made again. `Read` and `Write`
+/// come only where a read, a write or a flush of this call failed, where a write took no byte, or where
+/// 2^64 - 1 of them were made. A fault of the bank says what it says of the batch that was refused behind
+/// those
+/// that were taken. Only the bank takes memory.
 pub fn post_stream<R: Source, W: Sink, K: Clock, C: Counter>(
     reader: &mut R,
     writer: &mut W,

@@ -83,8 +83,7 @@ SetsRow old new table there after (Ok answer) = (answer ≡ there) × Shows new.
 SetsRow old new table there after (Err e) = SetFails old new table (IsForbidden old.now.schema table after) e
 
 -- the row is put in, where its key is free, and every table but this one is as it was; a taken key is
--- reported,
--- and nothing has changed
+-- reported, and nothing has changed
 abbrev pub PutsOneRow : State → State → Table → Bool → Tables → Result (Unit {0}) TableFault → Type 0
 PutsOneRow old new table taken after (Ok done) = (taken ≡ false) × Shows new.now after × GoesOn old new
     × SparesTables old.now new.now table.name

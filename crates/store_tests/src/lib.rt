@@ -1,8 +1,6 @@
 //! Tests of the bank in tables that no scenario reaches: each statement of the six tables once, walks over
-//! rows
-//! that are beside one another, machines that stop, files that fail while a bank is read, and reports that
-//! are
-//! cut.
+//! rows that are beside one another, machines that stop, files that fail while a bank is read, and reports
+//! that are cut.
 #![tactic(auto)]
 
 #[cfg(test)]

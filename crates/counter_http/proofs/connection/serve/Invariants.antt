@@ -7,8 +7,7 @@ use Rattle.counter_http.proofs.ConnectionLoop.{Going}
 use Rattle.counter_http.proofs.connection.serve.Given as goal
 
 -- all whole messages that were read are answered, and the rest stands at the front of the buffer; one read
--- was made a
--- turn, and every answer was flushed
+-- was made a turn, and every answer was flushed
 abbrev pub invariant-reads : goal.invariant-reads
 invariant-reads g l = record {
   few : l.filled < BUFFER;
