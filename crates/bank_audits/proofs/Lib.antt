@@ -8,7 +8,7 @@ pub mod StepsKeep
 pub mod Sections
 pub mod StatementReports
 pub mod ReportLeaves
-pub mod RowsAdded
+pub mod AddedRows
 pub mod Read
 pub mod Passed
 pub mod OfAll

@@ -6,8 +6,8 @@ use Rattle.bank_transactions.proofs.Blamed.{comes}
 use Rattle.bank_store.specs.Walking.{ComesFrom, items_to_come}
 use Rattle.bank_walks.specs.Rows.{LEAST}
 use Rattle.bank_audits.specs.Adding.{IsBehind}
-use Rattle.bank_audits.proofs.RowsAdded.{all_given, along_more, behind_row, failed_row, one_more_row}
-use Rattle.bank_audits.proofs.RowsAdded.{passed_err, passed_ok}
+use Rattle.bank_audits.proofs.AddedRows.{all_given, along_more, behind_row, failed_row, one_more_row}
+use Rattle.bank_audits.proofs.AddedRows.{passed_err, passed_ok}
 use Rattle.bank_audits.proofs.StepsKeep.{still_then, quiet_then}
 use Rattle.bank_audits.proofs.gathered.add_rows.Goals as goal
 

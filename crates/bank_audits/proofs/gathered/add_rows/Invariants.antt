@@ -4,7 +4,7 @@ use Rattle.sqlite.specs.State.{HasCleanDisk, Survives}
 use Rattle.sqlite.specs.Held.{state}
 use Rattle.bank_store.specs.Walks.{IsStill}
 use Rattle.bank_store.specs.Walking.{ComesFrom, items_to_come}
-use Rattle.bank_audits.proofs.RowsAdded.{IsAlong, IsGathered}
+use Rattle.bank_audits.proofs.AddedRows.{IsAlong, IsGathered}
 use Rattle.bank_audits.proofs.gathered.add_rows.Given as goal
 
 abbrev pub invariant-rows : goal.invariant-rows

@@ -21,5 +21,5 @@ returns-clause-audits g c =
       balanced = it.balanced;
       sound = it.sound;
       done = it.done;
-      left = it.left;
+      survives = it.survives;
     }

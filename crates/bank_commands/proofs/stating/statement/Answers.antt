@@ -24,5 +24,5 @@ returns g c =
       part = it.part;
       sound = it.sound;
       done = it.done;
-      left = it.left;
+      survives = it.survives;
     }
