@@ -15,7 +15,7 @@ use Rattle.counter_once.specs.First.{two_branches, FirstIsAnswered, FirstLeaves}
 
 pub answered : {T : Type 0} (result : Result T OnceFault) (r r' w w' : Option (List ℕ)) (c c' : Seen)
     (moment : ℕ) → c'.honest → ShowsLog c two_branches
-    → OnOk result (once.IsAnswered r r' w w' c c' moment) → OnOk result (FirstIsAnswered r r' w w')
+    → OnOk result (once.RecordIsAnswered r r' w w' c c' moment) → OnOk result (FirstIsAnswered r r' w w')
 answered (Ok x) r r' w w' c c' moment honest shows a =
     record { bytes = a.bytes; whole = a.whole; read = a.read; written = a.written honest two_branches shows }
 answered (Err fault) r r' w w' c c' moment honest shows a = tt
@@ -30,7 +30,7 @@ only_memory (Damaged rule) a b cs u = absurd u.down
 
 left : (fault : OnceFault) (r r' w w' : Option (List ℕ)) (a b : PlainBank) (moment : ℕ)
     → ShowsLog (plain_seen a) two_branches
-    → once.Leaves fault r r' w w' (plain_seen a) (plain_seen b) moment → FirstLeaves fault r r' w w'
+    → once.LeavesAfterFault fault r r' w w' (plain_seen a) (plain_seen b) moment → FirstLeaves fault r r' w w'
 left Short r r' w w' a b moment shows x = record {
   bytes = x.bytes;
   few = x.few;
@@ -54,7 +54,7 @@ left (Bank fault) r r' w w' a b moment shows x = record {
 
 pub faulted : {T : Type 0} (result : Result T OnceFault) (r r' w w' : Option (List ℕ)) (a b : PlainBank)
     (moment : ℕ) → ShowsLog (plain_seen a) two_branches
-    → IfErr result (λ fault. once.Leaves fault r r' w w' (plain_seen a) (plain_seen b) moment)
+    → IfErr result (λ fault. once.LeavesAfterFault fault r r' w w' (plain_seen a) (plain_seen b) moment)
     → IfErr result (λ fault. FirstLeaves fault r r' w w')
 faulted (Ok x) r r' w w' a b moment shows left_so = tt
 faulted {T} (Err fault) r r' w w' a b moment shows left_so = left fault r r' w w' a b moment shows left_so
