@@ -7,19 +7,14 @@ ghost use Rattle.bank_driver.specs.Counted.{IsCounted, is_posted};
 ghost use Rattle.bank_driver.specs.Records.{drawn};
 
 use load_driver::{Driver, MOST_RECORDS};
+use message_records::{REPLY_BYTES, REQUEST_BYTES};
 use posting_core::{Clock, Counter, Fault, RECORDS_PER_BATCH};
-
-/// The length of a record in bytes.
-pub(crate) const RECORD: usize = 100;
-
-/// The length of a reply in bytes.
-const REPLY: usize = 200;
 
 /// The code of the outcome POSTED.
 const POSTED: [u8; 2] = *b"00";
 
 // Draws the next records, one for each place.
-fn draw_batch(driver: &mut Driver, batch: &mut [[u8; RECORD]])
+fn draw_batch(driver: &mut Driver, batch: &mut [[u8; REQUEST_BYTES]])
     requires { driver.old.given + length batch.old ≤ MOST_RECORDS }
     ensures drawn { batch.new ≡ drawn driver.old.rows driver.old.seed driver.old.given (length batch.old) }
     ensures goes_on { driver.new ≡ record driver.old { given = driver.old.given + length batch.old } }
@@ -30,24 +25,24 @@ fn draw_batch(driver: &mut Driver, batch: &mut [[u8; RECORD]])
 }
 
 // Whether a reply says that its request was posted, by the outcome's code in bytes 4 and 5.
-fn is_posted(reply: &[u8; REPLY]) -> bool
+fn is_posted(reply: &[u8; REPLY_BYTES]) -> bool
     ensures { result ≡ is_posted reply.now }
 {
     reply[4..6] == POSTED[..]
 }
 
 // How many of the replies say that their requests were posted.
-fn count_posted(replies: &[[u8; REPLY]]) -> u64
+fn count_posted(replies: &[[u8; REPLY_BYTES]]) -> u64
     ensures { result ≡ count_by is_posted replies.now }
 {
     replies.iter().filter(|reply| is_posted(reply)).count() as u64
 }
 
-/// Draws a batch of 1..=64 records, submits it under one reading of the clock, and returns how many of them
+/// Draws a batch of 1..=`RECORDS_PER_BATCH` records, submits it under one reading of the clock, and returns how many of them
 /// were posted. A fault is that of `submit_all`.
 pub(crate) fn submit_batch<C: Counter, K: Clock>(
     driver: &mut Driver,
-    batch: &mut [[u8; RECORD]],
+    batch: &mut [[u8; REQUEST_BYTES]],
     counter: &mut C,
     clock: &mut K,
 ) -> Result<u64, Fault>

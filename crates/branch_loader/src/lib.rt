@@ -1,4 +1,28 @@
-//! The plan of the branches that a bank is to have, read from CSV, and the loading of a plan into a counter.
+//! The plan of the branches that a bank is to have, read from CSV, and the loading of a plan into a counter. The
+//! first row is the header `branch,accounts`; each row behind it has the number of a branch, 1 to
+//! `LAST_BRANCH`, and how many accounts it is to have, 1 to `MOST_ACCOUNTS`. A program that loads a plan into
+//! a bank in memory:
+//!
+//! ```rust
+//! use branch_loader::{load, read_plan};
+//! use posting_core::PlainBank;
+//!
+//! fn main(rt: HostRuntime) -> Result<(), anyhow::Error> {
+//!     let source = b"branch,accounts\n1,3\n2,2\n".as_slice();
+//!     let plan = read_plan(rt.alloc(), source)?;
+//!     let mut bank = PlainBank::new(rt.alloc());
+//!     let loaded = load(&plan, &mut bank)?;
+//!     println!(rt; "opened {} already {}", loaded.opened, loaded.already)?; // opened 2 already 0
+//!     Ok(())
+//! }
+//! ```
+//!
+//! [`PlanFault`] says why a source is no plan: its header, or a row, counted from 1, whose columns, branch or
+//! count of accounts are wrong or whose branch an earlier row has; or that the source can't be read, or that
+//! memory was refused. Nothing is opened then. A fault of [`load`] is the counter's: the branches before it
+//! are open, and a plan can be loaded again, since an open branch stays as it is.
+//!
+//! Read next: [`read_plan`] and [`load`]; `specs/Plans`, which says what a plan is.
 #![tactic(auto)]
 
 mod fault;

@@ -157,9 +157,9 @@ impl Driver {
         request_by(self.rows.as_slice(), place, words, number)
     }
 
-    /// The 100 bytes of the next request; none after the first `MOST_RECORDS`. It takes no memory.
+    /// The bytes of the next request; none after the first `MOST_RECORDS`. It takes no memory.
     #[must_use]
-    pub fn next(&mut self) -> Option<[u8; 100]>
+    pub fn next(&mut self) -> Option<[u8; REQUEST_BYTES]>
         ensures bytes { self.old.given < MOST_RECORDS →
             result ≡ Some (request_spelling (request_at self.old.rows self.old.seed self.old.given)) }
         ensures of_plan { self.old.given < MOST_RECORDS →

@@ -3,6 +3,7 @@ use Rattle.std.proofs.Common.{◌≡◌, ℕ, List, [], ◌∷◌, ◌++◌, len
 use Rattle.std.proofs.Common.{arith}
 use Rattle.std.specs.Prelude.{pos, unwrap_or}
 use Rattle.std.proofs.lemmas.List.{length-append}
+use Rattle.message_records.specs.declared.limits.TheConstants.{REPLY_BYTES, REQUEST_BYTES}
 use Rattle.message_records.specs.Outcomes.{code_of}
 use Rattle.message_records.specs.Records.{RequestFields, IsRequest, ReplyFields, IsReply}
 use Rattle.message_records.specs.Spelling.{no_fields, request_spelling, reply_spelling}
@@ -33,13 +34,13 @@ one_value read x y xs ys rest ex ey same e =
     let both : Ok x ≡ Ok y = sym ex ∙ ap read one ∙ ey in
     (cc, none)
 
--- every request is 100 bytes
-pub length-request : (r : RequestFields) → length (request_spelling r) ≡ 100
+-- every request has so many bytes
+pub length-request : (r : RequestFields) → length (request_spelling r) ≡ REQUEST_BYTES
 unfolding request_spelling
 length-request r = omega (arith, length-append {A = ℕ}, length-fields r)
 
--- every reply is 200 bytes
-pub length-reply : (r : ReplyFields) → length (reply_spelling r) ≡ 200
+-- every reply has so many bytes
+pub length-reply : (r : ReplyFields) → length (reply_spelling r) ≡ REPLY_BYTES
 unfolding reply_spelling
 length-reply r =
     omega (

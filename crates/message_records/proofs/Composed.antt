@@ -3,6 +3,7 @@ use Rattle.std.proofs.Common.{◌≡◌, ℕ, zero, suc, ◌+◌, ◌-◌, ◌�
 use Rattle.std.proofs.Common.{sym, ap, ◌∙◌, append_assoc, zero-add, lit≤, arith}
 use Rattle.std.specs.Prelude.{ℤ, pos, codes, unwrap_or}
 use Rattle.message_records.specs.declared.records.Outcome.{Outcome}
+use Rattle.message_records.specs.declared.limits.TheConstants.{REPLY_BYTES, REQUEST_BYTES}
 use Rattle.message_records.specs.declared.records.Outcome.TheVariants.{Posted, NoTeller, WrongBranch}
 use Rattle.message_records.specs.declared.records.Outcome.TheVariants.{NoAccount, OverLimit, ReusedNumber}
 use Rattle.message_records.specs.declared.records.Outcome.TheVariants.{Full, Malformed}
@@ -33,11 +34,11 @@ no_fields_spelled = refl
 -- tag and fields, filled with spaces, are the request
 pub request_put : (r : RequestFields) (d0 d1 d2 out : List ℕ) → d0 ≡ [] → d1 ≡ d0 ++ codes "DC01"
     → d2 ≡ d1 ++ fields_spelling r
-    → length d2 ≡ 51 → out ≡ d2 ++ replicate (100 - length d2) 32 → out ≡ request_spelling r
+    → length d2 ≡ 51 → out ≡ d2 ++ replicate (REQUEST_BYTES - length d2) 32 → out ≡ request_spelling r
 unfolding request_spelling
 request_put r d0 d1 d2 out e0 e1 e2 len e =
     let front : d2 ≡ codes "DC01" ++ fields_spelling r = rw (e2, e1, e0) refl in
-    e ∙ ap (λ (k : ℕ). d2 ++ replicate (100 - k) 32) len
+    e ∙ ap (λ (k : ℕ). d2 ++ replicate (REQUEST_BYTES - k) 32) len
     ∙ ap (λ (t : List ℕ). t ++ replicate 49 32) front
     ∙ append_assoc (codes "DC01") (fields_spelling r) (replicate 49 32)
 
@@ -65,7 +66,7 @@ name_short Malformed = lit≤ tt
 
 -- the spaces behind a name are those that fill it and those that fill the record
 name_filled : (name : List ℕ) (n : ℕ) → n ≡ 66 + length name → length name ≤ 16
-    → name ++ spaces (200 - n) ≡ filled 16 name ++ spaces 118
+    → name ++ spaces (REPLY_BYTES - n) ≡ filled 16 name ++ spaces 118
 name_filled name n e le =
     let left : 200 - n ≡ (16 - length name) + 118 = omega arith in
     ap (λ (k : ℕ). name ++ spaces k) left
@@ -78,7 +79,8 @@ pub reply_put : (r : ReplyFields) (code : ℕ) (name d0 d1 d2 d3 d4 d5 out : Lis
     → d0 ≡ [] → d1 ≡ d0 ++ codes "DR01" → d2 ≡ d1 ++ digits 2 code
     → d3 ≡ d2 ++ fields_spelling (unwrap_or r.request no_fields)
     → d4 ≡ d3 ++ signed 12 (unwrap_or r.balance (pos 0)) → d5 ≡ d4 ++ name
-    → length d5 ≡ 66 + length name → out ≡ d5 ++ replicate (200 - length d5) 32 → out ≡ reply_spelling r
+    → length d5 ≡ 66 + length name → out ≡ d5 ++ replicate (REPLY_BYTES - length d5) 32
+    → out ≡ reply_spelling r
 unfolding reply_spelling
 reply_put r code name d0 d1 d2 d3 d4 d5 out ec en e0 e1 e2 e3 e4 e5 len e =
     let tag = codes "DR01" in
@@ -90,8 +92,8 @@ reply_put r code name d0 d1 d2 d3 d4 d5 out ec en e0 e1 e2 e3 e4 e5 len e =
     let grouped : (a b c d f g : List ℕ) → ((((a ++ b) ++ c) ++ d) ++ f) ++ g ≡ a ++
     (b ++ (c ++ (d ++ (f ++ g)))) =
     λ a b c d f g. simp append_assoc in
-    e ∙ ap (λ (t : List ℕ). t ++ spaces (200 - length d5)) front
-    ∙ grouped tag (digits 2 code) fields balance name (spaces (200 - length d5))
+    e ∙ ap (λ (t : List ℕ). t ++ spaces (REPLY_BYTES - length d5)) front
+    ∙ grouped tag (digits 2 code) fields balance name (spaces (REPLY_BYTES - length d5))
     ∙ ap (λ (t : List ℕ). tag ++ (digits 2 code ++ (fields ++ (balance ++ t))))
     (name_filled name (length d5) len short)
     ∙ ap (λ (k : ℕ). tag ++ (digits 2 k ++ (fields ++ (balance ++ (filled 16 name ++ spaces 118))))) ec

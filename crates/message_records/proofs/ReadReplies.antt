@@ -5,7 +5,7 @@ use Rattle.std.proofs.Common.{arith, inl, inr}
 use Rattle.std.specs.Prelude.{ℤ, pos, nat_abs, codes, is_some, IfSome, IfOk, unwrap_or, option_and_then}
 use Rattle.std.specs.Option.{ok_or}
 use Rattle.std.proofs.lemmas.Bool.{eqb-true}
-use Rattle.message_records.specs.declared.limits.TheConstants.{MAX_BALANCE}
+use Rattle.message_records.specs.declared.limits.TheConstants.{MAX_BALANCE, REPLY_BYTES}
 use Rattle.message_records.specs.declared.fault.Bad.{Bad}
 use Rattle.message_records.specs.declared.fault.BadReply.{BadReply}
 use Rattle.message_records.specs.declared.fault.BadReply.TheVariants as bad_reply
@@ -149,7 +149,7 @@ balance_takes Malformed q bytes len e = no_balance Malformed q bytes refl e
 -- ---- the reply
 
 -- what is read is spelled so, and its parts belong together
-pub reply_takes : (r : ReplyFields) (bytes : List ℕ) → length bytes ≡ 200 → reply_of bytes ≡ Ok r
+pub reply_takes : (r : ReplyFields) (bytes : List ℕ) → length bytes ≡ REPLY_BYTES → reply_of bytes ≡ Ok r
     → (bytes ≡ reply_spelling r) × IsReply r
 unfolding reply_spelling reply_of
 reply_takes r bytes len e =
@@ -188,7 +188,7 @@ reply_takes r bytes len e =
     )
 
 -- the same, of what a call returned
-pub reply_found : (bytes : List ℕ) (read : Result ReplyFields BadReply) → length bytes ≡ 200
+pub reply_found : (bytes : List ℕ) (read : Result ReplyFields BadReply) → length bytes ≡ REPLY_BYTES
     → read ≡ reply_of bytes
     → IfOk read (λ r. IsReply r × (bytes ≡ reply_spelling r))
 reply_found bytes (Ok r) len e = let taken = reply_takes r bytes len (sym e) in (taken.1, taken.0)

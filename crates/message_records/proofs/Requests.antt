@@ -2,6 +2,7 @@
 use Rattle.std.proofs.Common.{◌≡◌, ℕ, List, ◌++◌, length, take, drop, replicate, Result, Ok, Err, refl, sym}
 use Rattle.std.proofs.Common.{subst, arith}
 use Rattle.std.specs.Prelude.{codes, IfOk}
+use Rattle.message_records.specs.declared.limits.TheConstants.{REQUEST_BYTES}
 use Rattle.message_records.specs.declared.fault.Bad.{Bad}
 use Rattle.message_records.specs.declared.fault.Bad.TheVariants as bad
 use Rattle.message_records.specs.Records.{RequestFields, IsRequest}
@@ -26,7 +27,7 @@ request_again r bytes h e =
     ) refl
 
 -- what is read is spelled so, and in range
-pub request_takes : (r : RequestFields) (bytes : List ℕ) → length bytes ≡ 100 → request_of bytes ≡ Ok r
+pub request_takes : (r : RequestFields) (bytes : List ℕ) → length bytes ≡ REQUEST_BYTES → request_of bytes ≡ Ok r
     → (bytes ≡ request_spelling r) × IsRequest r
 unfolding request_spelling request_of
 request_takes r bytes len e =
@@ -43,7 +44,7 @@ request_takes r bytes len e =
     subst (λ (y : RequestFields). (bytes ≡ request_spelling y) × IsRequest y) r-is (from_tag, taken.1)
 
 -- the same, of what a call returned
-pub request_found : (bytes : List ℕ) (read : Result RequestFields Bad) → length bytes ≡ 100
+pub request_found : (bytes : List ℕ) (read : Result RequestFields Bad) → length bytes ≡ REQUEST_BYTES
     → read ≡ request_of bytes
     → IfOk read (λ r. IsRequest r × (bytes ≡ request_spelling r))
 request_found bytes (Ok r) len e = let taken = request_takes r bytes len (sym e) in (taken.1, taken.0)

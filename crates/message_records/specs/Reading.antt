@@ -13,7 +13,7 @@ use Rattle.message_records.specs.declared.fault.Bad.TheVariants as bad
 use Rattle.message_records.specs.declared.fault.BadReply.{BadReply}
 use Rattle.message_records.specs.declared.fault.BadReply.TheVariants as bad_reply
 use Rattle.message_records.specs.declared.limits.TheConstants.{MAX_ACCOUNT, MAX_TELLER, MAX_BRANCH}
-use Rattle.message_records.specs.declared.limits.TheConstants.{MAX_NUMBER}
+use Rattle.message_records.specs.declared.limits.TheConstants.{MAX_NUMBER, REPLY_BYTES, REQUEST_BYTES}
 use Rattle.message_records.specs.Ranges.{whole_within}
 use Rattle.message_records.specs.Outcomes.{name_of}
 use Rattle.message_records.specs.Records.{RequestFields, ReplyFields}
@@ -75,7 +75,7 @@ unfoldable pub request_of : List ℕ → Result RequestFields Bad
 request_of bytes = do
   tag ← text_at (codes "DC01") bad.Tag (slice_range bytes 0 4)
   fields ← fields_of (slice_range bytes 4 51)
-  filler ← text_at (replicate 49 32) bad.Filler (slice_range bytes 51 100)
+  filler ← text_at (replicate 49 32) bad.Filler (slice_range bytes 51 REQUEST_BYTES)
   Ok fields
 
 -- ---- replies
@@ -132,5 +132,5 @@ reply_of bytes = do
   request ← shown_request_of outcome (slice_range bytes 6 53)
   balance ← balance_of outcome (slice_range bytes 53 66)
   name ← text_at (filled 16 (name_of outcome)) bad_reply.Name (slice_range bytes 66 82)
-  filler ← text_at (replicate 118 32) bad_reply.Filler (slice_range bytes 82 200)
+  filler ← text_at (replicate 118 32) bad_reply.Filler (slice_range bytes 82 REPLY_BYTES)
   Ok (record { outcome = outcome; request = request; balance = balance })

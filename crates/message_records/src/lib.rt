@@ -1,5 +1,36 @@
-//! The records that come in and go out, 100 and 200 bytes of ASCII (TPC-A, contents of the messages), and the
-//! types of their fields.
+//! The records of a bank, and the types of their fields. A request is [`REQUEST_BYTES`] bytes of ASCII, and
+//! its
+//! reply is [`REPLY_BYTES`] (TPC-A, contents of the messages). Each value has one spelling: what is written
+//! is
+//! read again as the same value, and no other bytes are read as it. A program that writes a request and reads
+//! it:
+//!
+//! ```rust
+//! use message_records::{Account, Branch, Cents, Number, Request, Teller};
+//! use message_records::{decode_request, encode_request};
+//! use std::io;
+//!
+//! fn main(rt: HostRuntime) -> io::Result<()> {
+//!     let teller = Teller::new(1).unwrap();
+//!     let branch = Branch::new(1).unwrap();
+//!     let account = Account::new(2).unwrap();
+//!     let delta = Cents::new(500).unwrap();
+//!     let request = Request::new(account, teller, branch, Number::new(1).unwrap(), delta).unwrap();
+//!     // DC01000000000002000000010000010000000001+0000000500, and 49 spaces
+//!     let mut bytes = encode_request(&request);
+//!     bytes[99] = b'x';
+//!     match decode_request(&bytes) {
+//!         Ok(request) => println!(rt; "{} cents to account {}", request.delta(), request.account()),
+//!         Err(bad) => println!(rt; "{bad}"), // faulty filler
+//!     }
+//! }
+//! ```
+//!
+//! A constructor as [`Account::new`](Whole::new) gives `None` for a number out of its range. [`Bad`] and
+//! [`BadReply`] name the first field, from the left, whose bytes are wrong, and nothing else can fail: no
+//! function of this crate takes memory.
+//!
+//! Read next: [`decode_request`] and [`encode_reply`]; [`Outcome`], what a reply says of its request.
 #![tactic(auto)]
 
 mod draft;
@@ -15,6 +46,7 @@ pub use fault::{Bad, BadReply};
 pub use laws::one_spelling;
 pub use limits::{
     MAX_ACCOUNT, MAX_BALANCE, MAX_BRANCH, MAX_DELTA, MAX_MOMENT, MAX_NUMBER, MAX_TELLER,
+    REPLY_BYTES, REQUEST_BYTES,
 };
 pub use numbers::{Account, Branch, Cents, Moment, Number, Teller, Whole};
 pub use reading::{decode_reply, decode_request, read_digits};

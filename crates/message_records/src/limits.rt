@@ -1,4 +1,11 @@
-//! The greatest values of the fields of records. Code, contracts and definitions take them from here.
+//! The lengths of records, and the greatest values of their fields. Code, contracts and definitions take them
+//! from here.
+
+/// The length in bytes of a request: its fields, and spaces behind them.
+pub const REQUEST_BYTES: usize = 100;
+
+/// The length in bytes of a reply: its fields, and spaces behind them.
+pub const REPLY_BYTES: usize = 200;
 
 /// The greatest number of an account: twelve digits.
 pub const MAX_ACCOUNT: u64 = 999_999_999_999;

@@ -7,7 +7,7 @@ use std::fmt;
 use std::marker::Model;
 
 /// A whole number from `LEAST` to `MOST`.
-#[derive(Clone, Copy, Debug, PartialEq, Eq, PartialOrd, Ord)]
+#[derive(Clone, Copy, Debug, PartialEq, Eq, PartialOrd, Ord, Hash)]
 pub struct Whole<const LEAST: u64, const MOST: u64> {
     value: u64,
 }
@@ -77,7 +77,7 @@ impl<const LEAST: u64, const MOST: u64> fmt::Display for Whole<LEAST, MOST> {
 }
 
 /// An amount of money in cents, within `MAX_BALANCE` of zero (TPC-B 1.2 asks for ten digits and a sign).
-#[derive(Clone, Copy, Debug, PartialEq, Eq, PartialOrd, Ord)]
+#[derive(Clone, Copy, Debug, PartialEq, Eq, PartialOrd, Ord, Hash)]
 pub struct Cents {
     value: i64,
 }

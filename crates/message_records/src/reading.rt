@@ -10,7 +10,7 @@ ghost use Rattle.message_records.specs.Reading.{number_of, signed_of, fields_of,
 ghost use Rattle.message_records.specs.Reading.{no_fields_of, shown_request_of, balance_of, reply_of};
 
 use crate::fault::{Bad, BadReply};
-use crate::limits::MAX_BALANCE;
+use crate::limits::{MAX_BALANCE, REPLY_BYTES, REQUEST_BYTES};
 use crate::numbers::{Cents, Whole};
 use crate::records::{Outcome, Reply, Request};
 
@@ -27,7 +27,7 @@ const REPLY_FILLER: [u8; 118] = [b' '; 118];
 const SPACES: [u8; 16] = [b' '; 16];
 
 /// The request that the bytes spell, or the first faulty field from the left.
-pub fn decode_request(bytes: &[u8; 100]) -> Result<Request, Bad>
+pub fn decode_request(bytes: &[u8; REQUEST_BYTES]) -> Result<Request, Bad>
     // What is read is spelled so.
     ensures found { IfOk result (λ r. IsRequest r × (bytes.now ≡ request_spelling r)) }
     // What is spelled so is read.
@@ -40,7 +40,7 @@ pub fn decode_request(bytes: &[u8; 100]) -> Result<Request, Bad>
 
 // Field by field from the left, up to the first faulty one.
 #[tactic(auto, unfolding(crate::specs::Reading::request_of))]
-fn read_request(bytes: &[u8; 100]) -> Result<Request, Bad>
+fn read_request(bytes: &[u8; REQUEST_BYTES]) -> Result<Request, Bad>
     ensures { result ≡ request_of bytes.now }
 {
     if bytes[..4] != REQUEST_TAG[..] {
@@ -54,7 +54,7 @@ fn read_request(bytes: &[u8; 100]) -> Result<Request, Bad>
 }
 
 /// The reply that the bytes spell, or the first faulty field from the left.
-pub fn decode_reply(bytes: &[u8; 200]) -> Result<Reply, BadReply>
+pub fn decode_reply(bytes: &[u8; REPLY_BYTES]) -> Result<Reply, BadReply>
     // What is read is spelled so.
     ensures found { IfOk result (λ r. IsReply r × (bytes.now ≡ reply_spelling r)) }
     // What is spelled so is read.
@@ -67,7 +67,7 @@ pub fn decode_reply(bytes: &[u8; 200]) -> Result<Reply, BadReply>
 
 // Field by field from the left, up to the first faulty one.
 #[tactic(auto, using(crate::proofs::Composed::name_short), unfolding(crate::specs::Reading::reply_of))]
-fn read_reply(bytes: &[u8; 200]) -> Result<Reply, BadReply>
+fn read_reply(bytes: &[u8; REPLY_BYTES]) -> Result<Reply, BadReply>
     ensures { result ≡ reply_of bytes.now }
 {
     if bytes[..4] != REPLY_TAG[..] {

@@ -6,7 +6,7 @@ ghost use Rattle.message_records.specs.Spelling.{reply_spelling};
 ghost use Rattle.message_records.specs.Reading.{request_of, reply_of};
 
 use crate::draft::Draft;
-use crate::limits::MAX_BALANCE;
+use crate::limits::{MAX_BALANCE, REPLY_BYTES, REQUEST_BYTES};
 use crate::numbers::Cents;
 use crate::reading::{REPLY_TAG, REQUEST_TAG};
 use crate::records::{Reply, Request};
@@ -16,7 +16,7 @@ const NO_FIELDS: &[u8; 47] = b"000000000000000000000000000000000000+0000000000";
 
 /// The bytes of the request: ASCII, with spaces behind the fields.
 #[must_use]
-pub fn encode_request(request: &Request) -> [u8; 100]
+pub fn encode_request(request: &Request) -> [u8; REQUEST_BYTES]
     ensures spelling { result ≡ request_spelling request.now }
     // They are read as this request.
     ensures read_again { request_of result ≡ Ok request.now }
@@ -29,7 +29,7 @@ pub fn encode_request(request: &Request) -> [u8; 100]
 
 /// The bytes of the reply: ASCII, with spaces behind the fields.
 #[must_use]
-pub fn encode_reply(reply: &Reply) -> [u8; 200]
+pub fn encode_reply(reply: &Reply) -> [u8; REPLY_BYTES]
     ensures spelling { result ≡ reply_spelling reply.now }
     // They are read as this reply.
     ensures read_again { reply_of result ≡ Ok reply.now }

@@ -55,7 +55,17 @@ wrote_write u v w bs done n after x y e =
     subst (λ (k : ℕ). Appends u w (take k bs)) (sym e) (wrote_more u v w bs done n x
     (subst (λ (t : List ℕ). Appends v w (take n t)) (between_to_end bs done (length bs) (omega arith)) y))
 
--- a buffer that a read filled
+-- a beginning of a text that was written, and all of it
+pub wrote_some : (w w' : Option (List ℕ)) (xs text : List ℕ) (n : ℕ) → Appends w w' (take n xs) → xs ≡ text
+    → Appends w w' (take n text)
+wrote_some w w' xs text n wrote is = subst (λ (t : List ℕ). Appends w w' (take n t)) is wrote
+
+pub wrote_all : (w w' : Option (List ℕ)) (xs text : List ℕ) (n : ℕ) → Appends w w' (take n xs) → n ≡ length xs
+    → xs ≡ text → Appends w w' text
+wrote_all w w' xs text n wrote all is =
+    subst (λ (t : List ℕ). Appends w w' t) (ap (λ (k : ℕ). take k xs) all ∙ take-length xs ∙ is) wrote
+
+-- a buffer that reads filled
 pub read_whole : (r r' : Option (List ℕ)) (bytes : List ℕ) (n : ℕ) → n ≡ length bytes
     → Consumes r r' (take n bytes) → Consumes r r' bytes
 read_whole r r' bytes n full h =

@@ -2,6 +2,7 @@
 use Rattle.std.specs.Prelude.{◌≡◌, ℕ, List, length, map, take, Option}
 use Rattle.std.specs.List.{flat_map}
 use Rattle.std.specs.Io.KnownBytes.{Keeps, Appends}
+use Rattle.message_records.specs.declared.limits.TheConstants.{REQUEST_BYTES}
 use Rattle.posting_rules.specs.declared.fault.Fault.{Fault}
 use Rattle.posting_core.specs.declared.stream.StreamFault.{StreamFault}
 use Rattle.posting_core.specs.declared.stream.StreamFault.TheVariants.{Truncated, Read, Write, Bank}
@@ -14,7 +15,7 @@ abbrev pub joined : List (List ℕ) → List ℕ
 joined texts = flat_map (λ text. text) texts
 
 abbrev pub IsRecord : List ℕ → Type 0
-IsRecord bytes = length bytes ≡ 100
+IsRecord bytes = length bytes ≡ REQUEST_BYTES
 
 -- the records that were submitted under one reading of the clock
 pub record Batch : Type 0 where

@@ -1,6 +1,7 @@
 -- One record from a reader, and its reply to a writer.
 use Rattle.std.specs.Prelude.{◌≡◌, ◌<◌, ℕ, List, [], ◌∷◌, length, take, Option}
 use Rattle.std.specs.Io.KnownBytes.{Keeps, Appends, Consumes, IsAtEnd}
+use Rattle.message_records.specs.declared.limits.TheConstants.{REQUEST_BYTES}
 use Rattle.message_records.specs.Spelling.{reply_spelling}
 use Rattle.posting_rules.specs.declared.fault.Fault.{Fault}
 use Rattle.posting_core.specs.declared.once.OnceFault.{OnceFault}
@@ -15,7 +16,7 @@ use Rattle.posting_rules.specs.Counter.{Seen, ShowsLog, Takes, IsUnchanged, Refu
 -- the record was read and posted, and all of its reply was written
 pub record RecordIsAnswered (r r' w w' : Option (List ℕ)) (c c' : Seen) (moment : ℕ) : Type 0 where
   pub bytes : List ℕ
-  pub whole : length bytes ≡ 100
+  pub whole : length bytes ≡ REQUEST_BYTES
   pub read : Consumes r r' bytes
   pub takes : Takes c c' (Post moment bytes ∷ [])
   pub written : c'.honest → (log : List Command) → ShowsLog c log
@@ -24,7 +25,7 @@ pub record RecordIsAnswered (r r' w w' : Option (List ℕ)) (c c' : Seen) (momen
 -- the input ended within a record: nothing was submitted, and nothing written
 pub record EndsShort (r r' w w' : Option (List ℕ)) (c c' : Seen) : Type 0 where
   pub bytes : List ℕ
-  pub few : length bytes < 100
+  pub few : length bytes < REQUEST_BYTES
   pub read : Consumes r r' bytes
   pub ended : IsAtEnd r'
   pub written : Keeps w w'
@@ -38,7 +39,7 @@ pub record IsUnread (w w' : Option (List ℕ)) (c c' : Seen) : Type 0 where
 -- the record was read and posted, and a beginning of its reply was written
 pub record IsCutOff (r r' w w' : Option (List ℕ)) (c c' : Seen) (moment : ℕ) : Type 0 where
   pub bytes : List ℕ
-  pub whole : length bytes ≡ 100
+  pub whole : length bytes ≡ REQUEST_BYTES
   pub read : Consumes r r' bytes
   pub takes : Takes c c' (Post moment bytes ∷ [])
   pub count : ℕ
@@ -48,7 +49,7 @@ pub record IsCutOff (r r' w w' : Option (List ℕ)) (c c' : Seen) (moment : ℕ)
 -- the counter refused the record, and nothing was written
 pub record IsRefused (fault : Fault) (r r' w w' : Option (List ℕ)) (c c' : Seen) (moment : ℕ) : Type 0 where
   pub bytes : List ℕ
-  pub whole : length bytes ≡ 100
+  pub whole : length bytes ≡ REQUEST_BYTES
   pub read : Consumes r r' bytes
   pub written : Keeps w w'
   pub refuses : Refuses fault c c' (Post moment bytes ∷ [])

@@ -4,6 +4,7 @@ use Rattle.std.specs.Prelude.{Option, Result, Ok, Err}
 use Rattle.std.specs.List.{AllByRecursion}
 use Rattle.std.specs.Simd.{first_chunks}
 use Rattle.std.specs.Io.KnownBytes.{Appends, Consumes, IsAtEnd}
+use Rattle.message_records.specs.declared.limits.TheConstants.{REQUEST_BYTES}
 use Rattle.posting_rules.specs.declared.fault.Fault.{Fault}
 use Rattle.posting_rules.specs.declared.fault.Fault.TheVariants.{Memory, Down}
 use Rattle.posting_rules.specs.declared.limits.TheConstants.{RECORDS_PER_BATCH}
@@ -71,7 +72,7 @@ pub record Streamed (r r' w w' k k' : Option (List ℕ)) (c c' : Seen)
   -- this was read and written, and the clock was read once for each batch
   pub read : Consumes r r' (joined (records_of (taken ++ refused)) ++ rest)
   pub whole : AllByRecursion IsRecord (records_of (taken ++ refused))
-  pub few : length rest < 100
+  pub few : length rest < REQUEST_BYTES
   pub clock : AreReadings k k' (moments_of (taken ++ refused))
   pub written : List ℕ
   pub wrote : Appends w w' written
@@ -92,7 +93,7 @@ pub record Streamed (r r' w w' k k' : Option (List ℕ)) (c c' : Seen)
 
 -- the whole records at the front of bytes
 abbrev pub whole_records : List ℕ → List (List ℕ)
-whole_records bytes = first_chunks 100 (length bytes / 100) bytes
+whole_records bytes = first_chunks REQUEST_BYTES (length bytes / REQUEST_BYTES) bytes
 
 -- the replies to them behind a log; no reply depends on a moment
 abbrev pub replies_text : List Command → List ℕ → List ℕ

@@ -1,5 +1,32 @@
-//! Counters and streams: the bank in memory, clocks, and records between a reader and a writer. What a
-//! posting is, is said in `posting_rules`, whose names are given again here.
+//! Records to a bank and replies from it: the bank in memory, and the functions that take records from any
+//! reader to any counter and write the replies to any writer. What a posting is says the crate
+//! `posting_rules`,
+//! whose names can be used from here too. A program that answers a stream of records:
+//!
+//! ```rust
+//! use message_records::Branch;
+//! use posting_core::{Counter, PlainBank, StoredClock, post_stream};
+//!
+//! fn main(rt: HostRuntime) -> Result<(), anyhow::Error> {
+//!     let mut bank = PlainBank::new(rt.alloc());
+//!     bank.open_branch(Branch::new(1).unwrap(), 3)?;
+//!     let mut clock = StoredClock::new(Vec::new(rt.alloc()));
+//!     let count = post_stream(&mut rt.stdin(), &mut rt.stdout(), &mut clock, &mut bank)?;
+//!     eprintln!(rt; "{count} records answered")?;
+//!     Ok(())
+//! }
+//! ```
+//!
+//! Three types say what can fail, and what holds afterwards. [`Fault`] is a counter's: `Memory` (nothing has
+//! changed, and the counter can be used), `Store` and `Damaged` (the counter is down from then on), and
+//! `Down`
+//! (it went down in an earlier call). [`OnceFault`] and [`StreamFault`] are those of [`answer_once`] and
+//! [`post_stream`]: the input ended within a record, a read failed, a write failed, or the counter answered
+//! with
+//! a `Fault`.
+//!
+//! Read next: the trait [`Counter`], which every bank implements; [`post_stream`], with its contract in
+//! `specs/Stream`.
 #![tactic(auto)]
 
 mod clock;

@@ -6,7 +6,7 @@ ghost use Rattle.posting_core.specs.Told.{EndsWith, HasReadFailed, HasWriteFaile
 
 use crate::ends::{Sink, Source};
 use crate::transfer::{read_full, write_out};
-use message_records::Moment;
+use message_records::{Moment, REQUEST_BYTES};
 use posting_rules::{Counter, Fault};
 use std::fmt;
 
@@ -43,9 +43,17 @@ impl fmt::Display for OnceFault {
 
 impl std::error::Error for OnceFault {}
 
-/// Reads a record of 100 bytes, submits it, and writes and flushes the reply. What follows in the input is
-/// left unread. `Read` and `Write` come only where a read, a write or a flush of this call failed, where a
-/// write took no byte, or where 2^64 - 1 of them were made.
+/// Reads a record, submits it, and writes and flushes the reply. What follows in the input is left unread.
+///
+/// # Errors
+///
+/// - [`OnceFault::Short`]: the input ended within the record. Nothing was submitted, and nothing written.
+/// - [`OnceFault::Read`]: a read failed, or 2^64 - 1 reads were made. Nothing was submitted, and nothing
+///   written.
+/// - [`OnceFault::Write`]: a write or the flush failed, a write took no byte, or 2^64 - 1 writes were made.
+///   The record was submitted, and a beginning of its reply was written.
+/// - [`OnceFault::Bank`]: the counter refused the record, and its [`Fault`] says what holds of it. Nothing
+///   was written.
 pub fn answer_once<R: Source, W: Sink, C: Counter>(
     reader: &mut R,
     writer: &mut W,
@@ -67,9 +75,9 @@ pub fn answer_once<R: Source, W: Sink, C: Counter>(
     ensures flushed { OnOk result (EndsWith IsFlush (W.told writer.old) (W.told writer.new)) }
     ensures honest { (C.seen bank.new).honest → (C.seen bank.old).honest }
 {
-    let mut record = [0u8; 100];
+    let mut record = [0u8; REQUEST_BYTES];
     match read_full(reader, &mut record) {
-        Ok(100) => {}
+        Ok(REQUEST_BYTES) => {}
         Ok(_) => return Err(OnceFault::Short),
         Err(_) => return Err(OnceFault::Read),
     }

@@ -7,13 +7,13 @@ ghost use Rattle.posting_rules.specs.declared.limits.TheConstants.{MAX_DECIDED};
 ghost use Rattle.posting_rules.specs.Branches.{IsInRange};
 ghost use Rattle.posting_rules.specs.Kept.{is_kept_with};
 ghost use Rattle.posting_rules.specs.Entries.{DecidedRequest};
-ghost use Rattle.posting_rules.specs.Tables.{request_row_of, history_row_of, teller_row_of, account_row_of};
+ghost use Rattle.posting_rules.specs.Tables.{request_row_of, history_row_of};
 ghost use Rattle.posting_core.specs.Appended.{rows_from};
 
-use crate::walking::{balance_at, count_at, kept_at, next_at, put, set_balance_at};
+use crate::walking::{NewRow, balance_at, count_at, kept_at, next_at, put, set_balance_at};
 use message_records::{
-    Account, Branch, Cents, MAX_ACCOUNT, MAX_TELLER, Moment, Outcome, Reply, Request, Teller,
-    decode_request, encode_reply,
+    Account, Branch, Cents, MAX_ACCOUNT, MAX_MOMENT, MAX_TELLER, Moment, Outcome, REPLY_BYTES,
+    REQUEST_BYTES, Reply, Request, Teller, decode_request, encode_reply,
 };
 use posting_rules::{
     ACCOUNTS_PER_BRANCH, AccountRow, BranchLine, BranchRow, Counter, Fault, Found, HistoryRow,
@@ -86,36 +86,57 @@ fn record_posting(
     put(history, row);
 }
 
-// Puts tellers with no balance behind the others, for which there is room.
-fn put_tellers(rows: &mut Vec<TellerRow>, first: u64, count: u64)
-    requires room { vec_len rows.old + count ≤ vec_capacity rows.old }
-    requires above { 1 ≤ first }
-    requires below { first + count ≤ MAX_TELLER + 1 }
-    ensures { rows.new.items ≡ rows.old.items ++ rows_from (λ n. teller_row_of n (pos 0)) first count }
-{
-    for place in 0..count {
-        let row = TellerRow {
-            teller: Teller::new(first + place).unwrap(),
+impl NewRow for TellerRow {
+    ghost use Rattle.message_records.specs.declared.limits.TheConstants.{MAX_TELLER};
+    ghost use Rattle.posting_rules.specs.Changes.{new_teller};
+
+    ghost most = { MAX_TELLER };
+
+    ghost row_of = { new_teller };
+
+    fn numbered(number: u64) -> Self {
+        TellerRow {
+            teller: Teller::new(number).unwrap(),
             balance: zero(),
-        };
-        put(rows, row);
+        }
     }
 }
 
-// Puts accounts with no balance behind the others, for which there is room.
-fn put_accounts(rows: &mut Vec<AccountRow>, first: u64, count: u64)
+impl NewRow for AccountRow {
+    ghost use Rattle.message_records.specs.declared.limits.TheConstants.{MAX_ACCOUNT};
+    ghost use Rattle.posting_rules.specs.Changes.{new_account};
+
+    ghost most = { MAX_ACCOUNT };
+
+    ghost row_of = { new_account };
+
+    fn numbered(number: u64) -> Self {
+        AccountRow {
+            account: Account::new(number).unwrap(),
+            balance: zero(),
+        }
+    }
+}
+
+// Puts new rows behind the others, for which there is room.
+fn put_new<R: NewRow + Drop>(rows: &mut Vec<R>, first: u64, count: u64)
     requires room { vec_len rows.old + count ≤ vec_capacity rows.old }
     requires above { 1 ≤ first }
-    requires below { first + count ≤ MAX_ACCOUNT + 1 }
-    ensures { rows.new.items ≡ rows.old.items ++ rows_from (λ n. account_row_of n (pos 0)) first count }
+    requires below { first + count ≤ R.most + 1 }
+    requires fits { first + count ≤ MAX_ACCOUNT + 1 }
+    ensures { rows.new.items ≡ rows.old.items ++ rows_from R.row_of first count }
 {
     for place in 0..count {
-        let row = AccountRow {
-            account: Account::new(first + place).unwrap(),
-            balance: zero(),
-        };
-        put(rows, row);
+        put(rows, R::numbered(first + place));
     }
+}
+
+// The range of a moment. A contract sees of a moment its number alone, so that a function whose callers need
+// the range has to read it.
+fn read_range(moment: Moment)
+    ensures { moment ≤ MAX_MOMENT }
+{
+    let _seconds = moment.get();
 }
 
 /// A bank in memory, which finds its rows by walking. It is never down, and refuses a call only for want of
@@ -136,7 +157,7 @@ impl PlainBank {
     ghost use Rattle.posting_rules.specs.Cases.{IsProper};
     ghost use Rattle.posting_rules.specs.Tables.{AreTablesOf};
     ghost use Rattle.posting_rules.specs.LookUps.{found_in};
-    ghost use Rattle.posting_rules.specs.Commands.{Command, AreCommands};
+    ghost use Rattle.posting_rules.specs.Commands.{Command, Post, IsCommand, AreCommands};
     ghost use Rattle.posting_rules.specs.Runs.{behind, posts, replies_to};
     ghost use Rattle.posting_core.specs.Appended.{tables_after, tables_with, tables_opened, reply_in_tables};
     ghost use Rattle.posting_core.specs.Plain.{plain_tables};
@@ -203,7 +224,7 @@ impl PlainBank {
     }
 
     // Submits a record, for which there is room.
-    fn answer(&mut self, moment: Moment, bytes: &[u8; 100]) -> [u8; 200]
+    fn answer(&mut self, moment: Moment, bytes: &[u8; REQUEST_BYTES]) -> [u8; REPLY_BYTES]
         requires requests { vec_len self.old.requests < vec_capacity self.old.requests }
         requires history { vec_len self.old.history < vec_capacity self.old.history }
         ensures requests { (vec_len self.new.requests ≤ vec_len self.old.requests + 1)
@@ -214,7 +235,9 @@ impl PlainBank {
             (reply_in_tables (plain_tables self.old) (request_of bytes.now)) }
         ensures tables { plain_tables self.new ≡ tables_with (plain_tables self.old) moment
             (request_of bytes.now) }
+        ensures command { IsCommand (Post moment bytes.now) }
     {
+        read_range(moment);
         let Ok(request) = decode_request(bytes) else {
             return encode_reply(&Reply::new(Outcome::Malformed, None, None).unwrap());
         };
@@ -225,7 +248,12 @@ impl PlainBank {
     }
 
     // Submits records in order, for which there is room, and puts the replies behind the others.
-    fn answer_all(&mut self, moment: Moment, records: &[[u8; 100]], replies: &mut Vec<[u8; 200]>)
+    fn answer_all(
+        &mut self,
+        moment: Moment,
+        records: &[[u8; REQUEST_BYTES]],
+        replies: &mut Vec<[u8; REPLY_BYTES]>,
+    )
         requires requests { vec_len self.old.requests + length records.now ≤ vec_capacity self.old.requests }
         requires history { vec_len self.old.history + length records.now ≤ vec_capacity self.old.history }
         requires replies { vec_len replies.old + length records.now ≤ vec_capacity replies.old }
@@ -236,8 +264,6 @@ impl PlainBank {
         ensures replies { (log : List Command) → AreTablesOf (plain_tables self.old) log →
             replies.new.items ≡ replies.old.items ++ replies_to log (posts moment records.now) }
     {
-        // A moment is in its range.
-        let _seconds = moment.get();
         for bytes in records {
             let reply = self.answer(moment, bytes);
             put(replies, reply);
@@ -262,12 +288,12 @@ impl PlainBank {
             balance: zero(),
         };
         put(&mut self.branches, row);
-        put_tellers(
+        put_new(
             &mut self.tellers,
             TELLERS_PER_BRANCH * before + 1,
             TELLERS_PER_BRANCH,
         );
-        put_accounts(
+        put_new(
             &mut self.accounts,
             ACCOUNTS_PER_BRANCH * before + 1,
             u64::from(count),
@@ -291,9 +317,11 @@ impl Counter for PlainBank {
 
     ghost leaves_something = { λ bank _. ∣ (plain_tables bank, refl) ∣₁ };
 
-    fn submit(&mut self, moment: Moment, bytes: &[u8; 100]) -> Result<[u8; 200], Fault> {
-        // A moment is in its range.
-        let _seconds = moment.get();
+    fn submit(
+        &mut self,
+        moment: Moment,
+        bytes: &[u8; REQUEST_BYTES],
+    ) -> Result<[u8; REPLY_BYTES], Fault> {
         self.history.reserve(1)?;
         self.requests.reserve(1)?;
         Ok(self.answer(moment, bytes))
@@ -302,8 +330,8 @@ impl Counter for PlainBank {
     fn submit_all(
         &mut self,
         moment: Moment,
-        records: &[[u8; 100]],
-    ) -> Result<Vec<[u8; 200]>, Fault> {
+        records: &[[u8; REQUEST_BYTES]],
+    ) -> Result<Vec<[u8; REPLY_BYTES]>, Fault> {
         let mut replies = Vec::new(self.alloc);
         replies.reserve(records.len())?;
         self.history.reserve(records.len())?;
@@ -313,9 +341,7 @@ impl Counter for PlainBank {
     }
 
     fn open_branch(&mut self, branch: Branch, count: u32) -> Result<Opening, Fault> {
-        // A branch is in its range.
-        let _number = branch.get();
-        if let Some(accounts) = count_at(&self.branches, branch) {
+        if let Some(accounts) = count_at(&self.branches, branch.get()) {
             return Ok(if accounts == count {
                 Opening::Already
             } else {

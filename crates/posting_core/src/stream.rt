@@ -12,14 +12,13 @@ ghost use Rattle.posting_core.specs.Told.{EndsWith, HasWriteFailed, IsFlush};
 use crate::clock::Clock;
 use crate::ends::{Sink, Source};
 use crate::transfer::{fill, write_out};
+use message_records::REQUEST_BYTES;
 use posting_rules::{Counter, Fault, RECORDS_PER_BATCH};
 use std::fmt;
 use std::io::ErrorKind;
 
-// The length of a record, and of the buffer: as many records as can be submitted together.
-const RECORD: usize = 100;
-
-const BUFFER: usize = RECORD * RECORDS_PER_BATCH;
+// The length of the buffer: as many records as can be submitted together.
+const BUFFER: usize = REQUEST_BYTES * RECORDS_PER_BATCH;
 
 /// How many replies were written.
 pub type Count = u128;
@@ -68,7 +67,7 @@ fn move_to_front(buffer: &mut [u8; BUFFER], from: usize, to: usize)
 
 // Submits a batch under one reading of the clock, and writes the replies.
 fn answer_batch<W: Sink, K: Clock, C: Counter>(
-    records: &[[u8; RECORD]],
+    records: &[[u8; REQUEST_BYTES]],
     writer: &mut W,
     clock: &mut K,
     bank: &mut C,
@@ -102,13 +101,19 @@ fn answer_batch<W: Sink, K: Clock, C: Counter>(
     }
 }
 
-/// Answers a stream of records of 100 bytes to the end of its input, and returns how many it answered. As
-/// soon as whole records were read, all of them are submitted under one reading of the clock, and their
-/// replies are written in order and flushed. An interrupted read or write is made again. `Read` and `Write`
-/// come only where a read, a write or a flush of this call failed, where a write took no byte, or where
-/// 2^64 - 1 of them were made. A fault of the bank says what it says of the batch that was refused behind
-/// those
-/// that were taken. Only the bank takes memory.
+/// Answers a stream of records to the end of its input, and returns how many it answered. As soon as whole
+/// records were read, all of them are submitted under one reading of the clock, and their replies are written
+/// in order and flushed. An interrupted read or write is made again. Only the bank takes memory.
+///
+/// # Errors
+///
+/// - [`StreamFault::Truncated`]: the input ended within a record. The records before it were answered.
+/// - [`StreamFault::Read`]: a read failed, or 2^64 - 1 reads were made. The whole records that were read
+///   before were answered.
+/// - [`StreamFault::Write`]: a write or a flush failed, a write took no byte, or 2^64 - 1 writes were made.
+///   What was read was submitted, and a beginning of the replies was written.
+/// - [`StreamFault::Bank`]: the bank refused a batch, and its [`Fault`] says what holds of that batch. The
+///   batches before it were answered, and nothing was replied to this one.
 pub fn post_stream<R: Source, W: Sink, K: Clock, C: Counter>(
     reader: &mut R,
     writer: &mut W,
@@ -144,8 +149,8 @@ pub fn post_stream<R: Source, W: Sink, K: Clock, C: Counter>(
             Err(e) if e.kind() == ErrorKind::Interrupted => {}
             Err(_) => return Err(StreamFault::Read),
         }
-        if filled >= RECORD {
-            let (records, rest) = buffer[..filled].as_chunks::<RECORD>();
+        if filled >= REQUEST_BYTES {
+            let (records, rest) = buffer[..filled].as_chunks::<REQUEST_BYTES>();
             let left = rest.len();
             answer_batch(records, writer, clock, bank)?;
             count += records.len() as Count;

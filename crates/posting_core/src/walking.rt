@@ -7,7 +7,7 @@ ghost use Rattle.posting_rules.specs.Tables.{row_at, branch_key};
 ghost use Rattle.posting_rules.specs.LookUps.{kept_in, count_of_branch};
 ghost use Rattle.posting_rules.specs.Changes.{row_changed};
 
-use message_records::{Branch, Cents, Number, Teller};
+use message_records::{Cents, Number, Teller};
 use posting_rules::{AccountRow, BranchRow, Kept, RequestRow, TellerRow};
 
 /// A row that keeps a balance under a number.
@@ -29,6 +29,20 @@ pub(crate) trait BalanceRow {
     /// Gives it another balance.
     fn set_balance(&mut self, balance: Cents)
         ensures { self.new ≡ with_balance balance self.old };
+}
+
+/// A row that comes with the opening of a branch.
+pub(crate) trait NewRow {
+    // The greatest number.
+    ghost most: { ℕ };
+
+    ghost row_of: { ℕ → Self };
+
+    /// The row of a number, with a balance of zero.
+    fn numbered(number: u64) -> Self
+        requires above { 1 ≤ number }
+        requires below { number ≤ most }
+        ensures { result ≡ row_of number };
 }
 
 impl BalanceRow for BranchRow {
@@ -124,11 +138,11 @@ pub(crate) fn set_balance_at<R: BalanceRow>(rows: &mut [R], number: u64, balance
 }
 
 /// How many accounts a branch is open with.
-pub(crate) fn count_at(rows: &[BranchRow], branch: Branch) -> Option<u32>
-    ensures { result ≡ option_map count_of_branch (row_at branch_key rows.now branch) }
+pub(crate) fn count_at(rows: &[BranchRow], number: u64) -> Option<u32>
+    ensures { result ≡ option_map count_of_branch (row_at branch_key rows.now number) }
 {
     rows.iter()
-        .find(|row| row.branch == branch)
+        .find(|row| row.number() == number)
         .map(|row| row.accounts)
 }
 
@@ -168,7 +182,7 @@ pub(crate) fn kept_at(rows: &[RequestRow], teller: Teller, number: Number) -> Op
         .map(|row| row.kept)
 }
 
-/// Puts a row behind the others, for which there is room.
+/// Puts a row behind the others, for which there is room, so that the push takes no memory and succeeds.
 pub(crate) fn put<T: Drop>(rows: &mut Vec<T>, row: T)
     requires { vec_len rows.old < vec_capacity rows.old }
     ensures items { rows.new.items ≡ rows.old.items ++ row ∷ [] }

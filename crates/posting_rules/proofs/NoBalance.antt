@@ -1,11 +1,11 @@
 -- What isn't open has no balance.
-use Rattle.std.proofs.Common.{◌≡◌, ℕ, Bool, true, false, eqb, leb, List, [], ◌∷◌, Option, None, refl, ap}
-use Rattle.std.proofs.Common.{◌∙◌, inl, inr}
+use Rattle.std.proofs.Common.{◌≡◌, ℕ, Bool, true, false, eqb, List, [], ◌∷◌, Option, None, refl, ap}
+use Rattle.std.proofs.Common.{inl, inr}
 use Rattle.std.specs.Prelude.{pos, is_some}
 use Rattle.std.specs.List.{AllByRecursion}
 use Rattle.std.proofs.lemmas.Bool.{eqb-true}
 use Rattle.message_records.specs.Records.{RequestFields}
-use Rattle.posting_rules.specs.Commands.{opened, branch_of_teller, is_teller_open, is_account_open}
+use Rattle.posting_rules.specs.Commands.{opened, is_teller_open, is_account_open}
 use Rattle.posting_rules.specs.Entries.{DecidedRequest, is_posted, posted_sum, teller_balance, branch_balance}
 use Rattle.posting_rules.specs.Entries.{account_balance}
 use Rattle.posting_rules.proofs.Keyed.{by_test}

@@ -1,12 +1,12 @@
 -- What was posted, summed under keys, and the rows that keep balances.
-use Rattle.std.proofs.Common.{◌≡◌, ℕ, ◌+◌, Bool, true, false, cond, eqb, leb, List, [], ◌∷◌, length, map}
+use Rattle.std.proofs.Common.{◌≡◌, ℕ, ◌+◌, Bool, true, false, cond, eqb, List, [], ◌∷◌, length, map}
 use Rattle.std.proofs.Common.{Option, Some, None, refl, sym, ap, ◌∙◌, inl, inr}
 use Rattle.std.specs.Prelude.{ℤ, ◌+ℤ◌, filter, is_some}
 use Rattle.std.specs.List.{AllByRecursion}
 use Rattle.std.specs.Option.{option_map}
 use Rattle.message_records.specs.Records.{RequestFields}
 use Rattle.posting_rules.specs.declared.rows.BranchRow.{BranchRow}
-use Rattle.posting_rules.specs.Commands.{opened, branch_of_teller, is_teller_open, is_account_open}
+use Rattle.posting_rules.specs.Commands.{opened, is_teller_open, is_account_open}
 use Rattle.posting_rules.specs.Entries.{DecidedRequest, is_posted, posted_sum, account_balance}
 use Rattle.posting_rules.specs.Entries.{teller_balance}
 use Rattle.posting_rules.specs.Entries.{branch_balance}

@@ -1,6 +1,7 @@
 -- Records one after another: the tables that they lead to are those of the log with them behind it.
 use Rattle.std.proofs.Common.{◌≡◌, ℕ, suc, ◌<◌, ◌≤◌, List, [], ◌∷◌, length, get_or, Ok, Err, Result, refl}
 use Rattle.std.proofs.Common.{sym, ap, ◌∙◌, arith}
+use Rattle.message_records.specs.declared.limits.TheConstants.{MAX_MOMENT, REQUEST_BYTES}
 use Rattle.message_records.specs.declared.fault.Bad.{Bad}
 use Rattle.message_records.specs.Records.{RequestFields}
 use Rattle.message_records.specs.Reading.{request_of}
@@ -59,9 +60,9 @@ all_replies t log m (bytes ∷ records) shows =
 
 -- ---- one record more
 
--- records of 100 bytes at a moment are commands of the bank
-pub are_posts : (m : ℕ) (rs : List (List ℕ)) → m ≤ 253_402_300_799
-    → ((i : ℕ) → i < length rs → length (get_or rs i []) ≡ 100) → AreCommands (posts m rs)
+-- records at a moment are commands of the bank
+pub are_posts : (m : ℕ) (rs : List (List ℕ)) → m ≤ MAX_MOMENT
+    → ((i : ℕ) → i < length rs → length (get_or rs i []) ≡ REQUEST_BYTES) → AreCommands (posts m rs)
 are_posts m [] late whole = tt
 are_posts m (r ∷ rs) late whole =
     ((late, whole 0 (omega arith)), are_posts m rs late (λ i lt. whole (suc i) (omega arith)))

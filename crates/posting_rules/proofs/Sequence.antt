@@ -2,7 +2,7 @@
 use Rattle.std.proofs.Common.{◌≡◌, ℕ, suc, ◌+◌, ◌<◌, ◌≤◌, List, [], ◌∷◌, ◌++◌, length, take, get_or, refl}
 use Rattle.std.proofs.Common.{sym, ap, subst, ◌∙◌, append_assoc}
 use Rattle.std.proofs.lemmas.List.{take_more, map-append}
-use Rattle.message_records.specs.declared.limits.TheConstants.{MAX_MOMENT}
+use Rattle.message_records.specs.declared.limits.TheConstants.{MAX_MOMENT, REQUEST_BYTES}
 use Rattle.message_records.specs.Spelling.{reply_spelling}
 use Rattle.posting_rules.specs.Commands.{Command, Open, Post, AreCommands}
 use Rattle.posting_rules.specs.Entries.{reply}
@@ -44,7 +44,7 @@ posts_one_more m rs i lt = ap (posts m) (take_more rs i [] lt) ∙ map-append (P
 
 -- they are commands of the bank
 pub commands_one_more : (m : ℕ) (rs : List (List ℕ)) (i : ℕ) → i < length rs → m ≤ MAX_MOMENT
-    → length (get_or rs i []) ≡ 100
+    → length (get_or rs i []) ≡ REQUEST_BYTES
     → AreCommands (posts m (take i rs)) → AreCommands (posts m (take (i + 1) rs))
 commands_one_more m rs i lt late whole are =
     subst AreCommands (sym (posts_one_more m rs i lt))

@@ -6,7 +6,7 @@ use Rattle.std.specs.List.{AllByRecursion}
 use Rattle.std.specs.Option.{option_or}
 use Rattle.posting_rules.specs.declared.limits.TheConstants.{LAST_BRANCH, MOST_ACCOUNTS, ACCOUNTS_PER_BRANCH}
 use Rattle.posting_rules.specs.declared.limits.TheConstants.{TELLERS_PER_BRANCH}
-use Rattle.message_records.specs.declared.limits.TheConstants.{MAX_MOMENT}
+use Rattle.message_records.specs.declared.limits.TheConstants.{MAX_MOMENT, REQUEST_BYTES}
 
 pub data Command : Type 0 where
   -- a branch, and how many accounts it is to have
@@ -14,10 +14,11 @@ pub data Command : Type 0 where
   -- the moment, and the bytes of a record
   Post : ℕ → List ℕ → Command
 
--- a branch and a count of accounts that can be opened; a moment within its range, and 100 bytes
+-- a branch and a count of accounts that can be opened; a moment within its range, and as many bytes as a
+-- record has
 abbrev pub IsCommand : Command → Type 0
 IsCommand (Open branch count) = (1 ≤ branch) × (branch ≤ LAST_BRANCH) × (1 ≤ count) × (count ≤ MOST_ACCOUNTS)
-IsCommand (Post moment bytes) = (moment ≤ MAX_MOMENT) × (length bytes ≡ 100)
+IsCommand (Post moment bytes) = (moment ≤ MAX_MOMENT) × (length bytes ≡ REQUEST_BYTES)
 
 abbrev pub AreCommands : List Command → Type 0
 AreCommands log = AllByRecursion IsCommand log

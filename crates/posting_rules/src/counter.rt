@@ -13,7 +13,7 @@ ghost use Rattle.posting_rules.specs.Runs.{posts, replies_to};
 use crate::fault::Fault;
 use crate::limits::{LAST_BRANCH, MOST_ACCOUNTS, RECORDS_PER_BATCH};
 use crate::rows::BranchRow;
-use message_records::{Account, Branch, Cents, Moment};
+use message_records::{Account, Branch, Cents, Moment, REPLY_BYTES, REQUEST_BYTES};
 
 /// The answer to an opening.
 #[derive(Clone, Copy, Debug, PartialEq, Eq)]
@@ -29,9 +29,9 @@ pub enum Opening {
 /// An open branch.
 #[derive(Clone, Copy, Debug, PartialEq, Eq)]
 pub struct BranchLine {
-    /// Its number: 1..=9999.
+    /// Its number: 1..=`LAST_BRANCH`.
     pub branch: Branch,
-    /// How many accounts it has: 1..=100,000.
+    /// How many accounts it has: 1..=`MOST_ACCOUNTS`.
     pub accounts: u32,
     /// Its balance in cents.
     pub balance: Cents,
@@ -68,9 +68,13 @@ pub trait Counter {
     /// What it keeps at this moment. Damage leaves it.
     ghost contents: { Self → Contents };
 
-    /// Submits the 100 bytes of a record, and answers the 200 bytes of the reply (TPC-B 1.2). Bytes that are
+    /// Submits the bytes of a record, and answers those of its reply (TPC-B 1.2). Bytes that are
     /// no request get the reply `Malformed`.
-    fn submit(&mut self, moment: Moment, bytes: &[u8; 100]) -> Result<[u8; 200], Fault>
+    fn submit(
+        &mut self,
+        moment: Moment,
+        bytes: &[u8; REQUEST_BYTES],
+    ) -> Result<[u8; REPLY_BYTES], Fault>
         ensures reply { IfOk result (λ out. (seen self.new).honest
             → (log : List Command) → ShowsLog (seen self.old) log
             → out ≡ reply_spelling (reply log bytes.now)) }
@@ -83,10 +87,13 @@ pub trait Counter {
         ensures down { (seen self.old).is_down → IsErrOf result Fault.Down }
         ensures honest { (seen self.new).honest → (seen self.old).honest };
 
-    /// Submits 1 to `RECORDS_PER_BATCH` records of 100 bytes at one moment, and answers the replies of 200
-    /// bytes in order, as if each record were submitted after the one before it. After a fault no reply is
-    /// handed out.
-    fn submit_all(&mut self, moment: Moment, records: &[[u8; 100]]) -> Result<Vec<[u8; 200]>, Fault>
+    /// Submits 1 to `RECORDS_PER_BATCH` records at one moment, and answers their replies in order, as if each
+    /// record were submitted after the one before it. After a fault no reply is handed out.
+    fn submit_all(
+        &mut self,
+        moment: Moment,
+        records: &[[u8; REQUEST_BYTES]],
+    ) -> Result<Vec<[u8; REPLY_BYTES]>, Fault>
         requires some { 1 ≤ length records.now }
         requires few { length records.now ≤ RECORDS_PER_BATCH }
         ensures count { IfOk result (λ replies. length replies.items ≡ length records.now) }

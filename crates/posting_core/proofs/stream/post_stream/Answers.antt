@@ -12,8 +12,8 @@ use Rattle.posting_core.proofs.Telling.{made_many, made_none, made_one, other_ki
 use Rattle.posting_core.proofs.Refused.{refused_broken, up_broken}
 use Rattle.posting_core.proofs.Through.{ends_broken, through_batch, through_first}
 use Rattle.posting_core.proofs.stream.post_stream.Goals as goal
-use Rattle.posting_core.proofs.stream.post_stream.Goals.{then-filled-ge-RECORD+in_ok-answer_batch}
-use Rattle.posting_core.proofs.stream.post_stream.Goals.{else-filled-ge-RECORD, in-Ok, in-Err}
+use Rattle.posting_core.proofs.stream.post_stream.Goals.{then-filled-ge-REQUEST_BYTES+in_ok-answer_batch}
+use Rattle.posting_core.proofs.stream.post_stream.Goals.{else-filled-ge-REQUEST_BYTES, in-Ok, in-Err}
 
 pub reads-init : goal.reads-init
 reads-init g c = record {
@@ -162,8 +162,8 @@ reads-preserved g c =
       | in-Ok w ↦ inl (w.in-Ok.n, w.in-Ok.ensures.ok, omega (arith, w.in-Ok.ensures.fits), w.filled-is)
       | in-Err w ↦ inr (w.in-Err.ensures.err, w.filled-is)
     ]) in
-    elim c.if-filled-ge-RECORD.branch [
-      | then-filled-ge-RECORD+in_ok-answer_batch w ↦
+    elim c.if-filled-ge-REQUEST_BYTES.branch [
+      | then-filled-ge-REQUEST_BYTES+in_ok-answer_batch w ↦
           let a = w.in_ok-answer_batch.ensures.answers in
           let rs = w.as_chunks.result.0.now in
           let left = length w.as_chunks.result.1.now in
@@ -183,8 +183,8 @@ reads-preserved g c =
             going = going_batch a.0 (take c.match-fill.filled c.fill.new.buffer)
                 (take left after) _ rs on.0 cut refl a.1 w.in_ok-answer_batch.ensures.honest a.2;
           })
-      | else-filled-ge-RECORD w ↦
-          let low = w.if-filled-ge-RECORD.false in
+      | else-filled-ge-REQUEST_BYTES w ↦
+          let low = w.if-filled-ge-REQUEST_BYTES.false in
           rw (w.writer-is, w.clock-is, w.bank-is, w.buffer-is, w.filled-is, w.count-is) (record {
             few = omega arith;
             room = long;

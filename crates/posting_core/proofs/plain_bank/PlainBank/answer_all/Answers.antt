@@ -1,4 +1,4 @@
-use Rattle.std.proofs.Common.{◌<◌, [], get_or, take, length, refl, arith, rules}
+use Rattle.std.proofs.Common.{◌<◌, [], get_or, take, length, refl, arith}
 use Rattle.posting_core.specs.Plain.{plain_tables}
 use Rattle.posting_rules.specs.Runs.{behind, posts}
 use Rattle.posting_core.proofs.InMemory.{record_from, reply_from}
@@ -14,8 +14,8 @@ loop-bytes-preserved c =
     let new = plain_tables c.answer-reply.new.self in
     record {
       commands = commands_one_more c.args.moment rs i lt
-          (omega (arith, c.get-seconds.ensures.value, c.get-seconds.ensures.most))
-          (search rules) c.loop-bytes.invariant.commands;
+          c.answer-reply.ensures.command.0 c.answer-reply.ensures.command.1
+          c.loop-bytes.invariant.commands;
       shows = λ log s. shows_one_more new log c.args.moment rs i lt
           (record_from old old new (behind log (posts c.args.moment (take i rs))) c.args.moment
           (get_or rs i []) c.answer-reply.ensures.tables refl (c.loop-bytes.invariant.shows log s));

@@ -1,4 +1,4 @@
-use Rattle.std.proofs.Common.{List, [], ◌∷◌, sym, ap, ◌∙◌}
+use Rattle.std.proofs.Common.{ℕ, List, [], ◌∷◌, sym, ap, ◌∙◌}
 use Rattle.std.specs.Option.{option_map}
 use Rattle.posting_rules.specs.declared.rows.BranchRow.{BranchRow}
 use Rattle.posting_rules.specs.Commands.{Open}
@@ -17,5 +17,7 @@ returns-clause-done c =
     (branches_as_before (plain_tables c.args.self.now) _ _ _ c.reserve.ensures.items
     c.reserve-2.ensures.items c.reserve-3.ensures.items)
     (ap (λ (rows : List BranchRow). option_map count_of_branch (row_at branch_key rows c.args.branch))
-    (sym c.deref.ensures.value) ∙ sym c.count_at.ensures ∙ c.in_default.is)
+    (sym c.deref.ensures.value)
+    ∙ ap (λ (n : ℕ). option_map count_of_branch (row_at branch_key c.deref.result.now n))
+    (sym c.get.ensures.value) ∙ sym c.count_at.ensures ∙ c.in_default.is)
     c.add_branch.ensures.above c.requires.few s)

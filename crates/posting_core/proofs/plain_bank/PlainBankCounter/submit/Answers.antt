@@ -1,4 +1,4 @@
-use Rattle.std.proofs.Common.{[], ◌∷◌, refl, arith, rules}
+use Rattle.std.proofs.Common.{[], ◌∷◌, refl}
 use Rattle.posting_rules.specs.Commands.{Post}
 use Rattle.posting_core.specs.Plain.{plain_tables}
 use Rattle.posting_core.proofs.InMemory.{record_from, reply_from, requests_as_before, plain_shows}
@@ -14,7 +14,7 @@ returns-clause-reply c = λ h log s.
 pub returns-clause-done : goal.returns-clause-done
 returns-clause-done c =
     takes_plain c.args.self.now c.answer.new.self (Post c.args.moment c.args.bytes.now ∷ [])
-    ((omega (arith, c.get-seconds.ensures.value, c.get-seconds.ensures.most), search rules), tt) (λ log s.
+    (c.answer.ensures.command, tt) (λ log s.
     record_from (plain_tables c.args.self.now) _
     (plain_tables c.answer.new.self) log c.args.moment c.args.bytes.now c.answer.ensures.tables
     (requests_as_before (plain_tables c.args.self.now) _ _ refl c.reserve.ensures.items
