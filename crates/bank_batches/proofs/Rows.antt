@@ -20,7 +20,8 @@ use Rattle.bank_transactions.specs.Doing.{Does}
 use Rattle.bank_transactions.specs.Holders.{HasRow, with_balance}
 use Rattle.bank_transactions.specs.declared.balances.Holder.{Holder}
 use Rattle.bank_transactions.specs.declared.balances.Holder.TheVariants.{Account, Teller, Branch}
-use Rattle.bank_transactions.proofs.Chained.{does_add, does_for, does_none}
+use Rattle.bank_transactions.proofs.Chained.{does_for, does_none}
+use Rattle.bank_transactions.proofs.Statements.{does_add}
 use Rattle.posting_rules.specs.Changes.{row_changed, with_branch_balance, with_teller_balance}
 use Rattle.posting_rules.specs.Changes.{with_account_balance}
 use Rattle.posting_rules.specs.Steps as steps

@@ -14,4 +14,4 @@ pub use found::{
     branch_at, decided, kept_request, open_balance, place_of_account, teller_balances,
 };
 pub use next_branch::read_next_branch;
-pub use transactions::{begin, finish, open_branch, post, read_balance};
+pub use transactions::{begin, finish, note_settled, open_branch, post, read_balance};

@@ -18,6 +18,17 @@ use posting_rules::{LAST_BRANCH, MOST_ACCOUNTS, Opening};
 use sqlite::{Alter, Connection, Transaction};
 use store_rows::{TableFault, commit};
 
+/// Makes it known that a connection outside a transaction shows, as long as it is open, what was committed
+/// last. A connection says so of itself only where it is asked whether a transaction goes on, so it is asked,
+/// for that clause alone: the answer is known, and nothing is done.
+pub fn note_settled<S: Alter>(conn: &Connection<S>)
+    requires { conn.now.in_transaction ≡ false }
+    ensures { IsTrue (state S.Store conn.now).is_open → (state S.Store conn.now).now
+        ≡ (state S.Store conn.now).committed }
+{
+    let _outside = conn.is_autocommit();
+}
+
 /// Begins a transaction on what the last commit left.
 pub fn begin<S: Alter>(conn: &mut Connection<S>) -> Transaction<'_, S>
     requires { conn.old.in_transaction ≡ false }
@@ -26,7 +37,7 @@ pub fn begin<S: Alter>(conn: &mut Connection<S>) -> Transaction<'_, S>
     ensures settled { IsTrue (state S.Store conn.old).is_open → (state S.Store conn.old).now
         ≡ (state S.Store conn.old).committed }
 {
-    let _outside = conn.is_autocommit();
+    note_settled(conn);
     conn.transaction()
 }
 
