@@ -1,7 +1,7 @@
 -- The rows of undamaged tables are sound: nothing that is read of them is told to be damaged.
 use Rattle.std.proofs.Common.{◌≡◌, ◌⊎◌, ℕ, suc, ◌≤◌, Bool, true, false, leb, List, [], ◌∷◌, Option, Some}
 use Rattle.std.proofs.Common.{None, Err, refl, sym, subst, arith, inl, inr}
-use Rattle.std.specs.Prelude.{ℤ, nat_abs, nat_eq, is_some, ◌&&◌}
+use Rattle.std.specs.Prelude.{ℤ, nat_abs, nat_eq, IsSome, is_some, ◌&&◌}
 use Rattle.std.specs.List.{find, Contains}
 use Rattle.std.specs.Option.{option_map}
 use Rattle.std.proofs.lemmas.Bool.{eqb-true}
@@ -127,11 +127,13 @@ teller_sound : (t : Tables) (n : ℕ) (r : TellerRow) → IsUndamaged t → row_
     → IsSoundTeller r
 teller_sound t n r sound e = sound.each_teller r (found_within (λ x. nat_eq x.teller n) t.tellers r e)
 
--- a teller's number is 1 at least, where it has its row
-pub teller_some : (t : Tables) (n : ℕ) (r : TellerRow) → IsUndamaged t
-    → row_at teller_key t.tellers n ≡ Some r → 1 ≤ n
-teller_some t n r sound e =
-    subst (λ k. 1 ≤ k) (key_of_found teller_key t.tellers n r e) (teller_sound t n r sound e).some
+-- a teller that has its row has a number, which is 1 at least
+pub teller_some : (t : Tables) (n : ℕ) → IsUndamaged t → IsSome (row_at teller_key t.tellers n) → 1 ≤ n
+teller_some t n sound there = elim (by_option (row_at teller_key t.tellers n)) [
+  | inl none ↦ absurd (let no = rw none at there in cc)
+  | inr some ↦ subst (λ k. 1 ≤ k) (key_of_found teller_key t.tellers n some.0 some.1)
+      (teller_sound t n some.0 sound some.1).some
+]
 
 pub teller_unbroken : (t : Tables) (n : ℕ) (z : ℤ) (broken : Rule) → IsUndamaged t → teller_balance_in t n
     ≡ Some z → BreaksBalance z broken → ⊥

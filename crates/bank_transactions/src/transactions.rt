@@ -29,7 +29,12 @@ pub fn note_settled<S: Alter>(conn: &Connection<S>)
     let _outside = conn.is_autocommit();
 }
 
-/// Begins a transaction on what the last commit left.
+/// Begins a transaction on what the last commit left. The connection has to be outside of one.
+///
+/// # Errors
+///
+/// None: it can't fail, and takes nothing from the disk. A store that is closed or broken is met by the first
+/// part that reads or writes. Where the transaction is dropped and not given to [`finish`], all is undone.
 pub fn begin<S: Alter>(conn: &mut Connection<S>) -> Transaction<'_, S>
     requires { conn.old.in_transaction ≡ false }
     ensures same_reference { result.conn.ghost_name ≡ conn.entry.ghost_name }
@@ -42,6 +47,10 @@ pub fn begin<S: Alter>(conn: &mut Connection<S>) -> Transaction<'_, S>
 }
 
 /// Ends a transaction: an answer of its parts is committed, and a fault undoes all.
+///
+/// # Errors
+///
+/// The fault of the parts, or `TableFault::Sqlite` where the commit failed.
 pub fn finish<S: Alter, X: Drop>(
     tx: Transaction<'_, S>,
     answer: Result<X, TableFault>,
@@ -53,7 +62,15 @@ pub fn finish<S: Alter, X: Drop>(
     Ok(answer)
 }
 
-/// Answers a request.
+/// Answers a request, in one transaction (TPC-B 1.2): the 200 bytes of its reply, whether it was posted or
+/// refused. The moment is that of the posting. What was answered is there after a stop.
+///
+/// # Errors
+///
+/// - `TableFault::Sqlite`: a call of `sqlite` failed with this error. Nothing of the request is kept, unless
+///   it was the commit that failed: then a stop may show later that it was.
+/// - `TableFault::Damaged`: the rows that were looked up break this rule, or a statement met that they do as
+///   it wrote. Everything is as it was, as long as the store is open.
 pub fn post<S: Alter>(
     conn: &mut Connection<S>,
     moment: Moment,
@@ -68,7 +85,12 @@ pub fn post<S: Alter>(
     finish(tx, reply)
 }
 
-/// Opens a branch, unless it is open.
+/// Opens a branch with its ten tellers and so many accounts, unless it is open: then it is said whether it
+/// has this count. One transaction.
+///
+/// # Errors
+///
+/// As [`post`].
 pub fn open_branch<S: Alter>(
     conn: &mut Connection<S>,
     branch: Branch,
@@ -85,7 +107,11 @@ pub fn open_branch<S: Alter>(
     finish(tx, opening)
 }
 
-/// Looks up the balance of an account, none where it isn't open.
+/// Looks up the balance of an account, none where it isn't open. One transaction, which changes nothing.
+///
+/// # Errors
+///
+/// As [`post`].
 pub fn read_balance<S: Alter>(
     conn: &mut Connection<S>,
     account: Account,
