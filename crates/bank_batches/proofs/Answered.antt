@@ -41,18 +41,6 @@ does_so {S} {X} {Y} {g} {old} {new} part same = record {
   };
 }
 
--- what judging a filled batch comes to
-pub record Judges (b : Batch) (m : ℕ) (o : Overlay) (items : List (List ℕ)) : Type 0 where
-  pub tables : (t : Tables) (records : List (List ℕ)) → IsFilledFrom b t records → tables_over o t
-      ≡ tables_past_all t m records
-  pub replies : (t : Tables) (records : List (List ℕ)) → IsFilledFrom b t records → items
-      ≡ replies_past_all t m records
-  pub changes : (t : Tables) (records : List (List ℕ)) → IsFilledFrom b t records → ChangesRows o t
-  pub rising : HasRisingSlots (view b.overlay) → HasRisingSlots o
-  pub adds : (t : Tables) (records : List (List ℕ)) → IsFilledFrom b t records → (log : List Command)
-      → AreTablesOf t log → AddsFreeRows o t
-  pub idle : o.decided ≡ b.overlay.decided → o ≡ view b.overlay
-
 abbrev pub Ready : Overlay → Tables → Type 0
 Ready o t = IsUndamaged t × HasHomes o
 
@@ -67,9 +55,18 @@ pub ready : (b : Batch) (records : List (List ℕ)) → IsMadeOf b records → (
 ready b records made t it =
     (sound t it, subst HasHomes (sym made.overlay) (homes_all (map request_of records)))
 
+-- a batch that is made, filled and judged, and what judging it comes to
 module _ {S : Type 0} {g : Ghosts S} {old mid : Transaction S} (b b' : Batch) (records : List (List ℕ))
     (m : ℕ) (o : Overlay) (items : List (List ℕ))
-    (made : IsMadeOf b records) (same : reads_of b' ≡ reads_of b) (judges : Judges b' m o items)
+    (made : IsMadeOf b records) (same : reads_of b' ≡ reads_of b)
+    (tables : (t : Tables) (rs : List (List ℕ)) → IsFilledFrom b' t rs
+    → tables_over o t ≡ tables_past_all t m rs)
+    (replies : (t : Tables) (rs : List (List ℕ)) → IsFilledFrom b' t rs → items ≡ replies_past_all t m rs)
+    (changes : (t : Tables) (rs : List (List ℕ)) → IsFilledFrom b' t rs → ChangesRows o t)
+    (rising : HasRisingSlots (view b'.overlay) → HasRisingSlots o)
+    (adds : (t : Tables) (rs : List (List ℕ)) → IsFilledFrom b' t rs → (log : List Command)
+    → AreTablesOf t log → AddsFreeRows o t)
+    (idle : o.decided ≡ b'.overlay.decided → o ≡ view b'.overlay)
     (first : DoesBy (IsFirstBroken g) g old mid (Ready (view b.overlay)) (λ t. t)
     (λ t. filled t (view b.overlay)) (Ok (view b'.overlay))) where
   is_filled : (t : Tables) → view b'.overlay ≡ filled t (view b.overlay) → IsFilledFrom b' t records
@@ -87,11 +84,9 @@ module _ {S : Type 0} {g : Ghosts S} {old mid : Transaction S} (b b' : Batch) (r
       let is = is_filled t e in
       let it_stands = stands t (map request_of records) in (
         sound t it,
-        judges.rising
-            (subst HasRisingSlots
-            (sym is.overlay) it_stands.rising),
-        judges.changes t records is,
-        judges.adds t records is it.0 it.2,
+        rising (subst HasRisingSlots (sym is.overlay) it_stands.rising),
+        changes t records is,
+        adds t records is it.0 it.2,
       )
 
   -- where nothing is decided, the records lead to the tables that were there
@@ -99,13 +94,13 @@ module _ {S : Type 0} {g : Ghosts S} {old mid : Transaction S} (b b' : Batch) (r
       → tables_past_all t m records ≡ t
   leads_back none t e =
       let is = is_filled t e in
-      sym (judges.tables t records is) ∙ ap (λ (p : Overlay). tables_over p t) (judges.idle none ∙ is.overlay)
+      sym (tables t records is) ∙ ap (λ (p : Overlay). tables_over p t) (idle none ∙ is.overlay)
       ∙ (stands t (map request_of records)).same
 
   -- and then the count is the one that was read
   pub counts_none : (t : Tables) → view b'.overlay ≡ filled t (view b.overlay) → DecidesNone t m records
       → o.decided ≡ b'.overlay.decided
-  counts_none t e none = ap (λ (u : Tables). u.decided) (judges.tables t records (is_filled t e)) ∙ none
+  counts_none t e none = ap (λ (u : Tables). u.decided) (tables t records (is_filled t e)) ∙ none
       ∙ sym (ap (λ (p : Overlay). p.decided) e)
 
   -- nothing is written, and the tables are as they were
@@ -114,7 +109,7 @@ module _ {S : Type 0} {g : Ghosts S} {old mid : Transaction S} (b b' : Batch) (r
       (Ok items)
   answered_idle none =
       acts_read (does_so filled_so
-      (λ t it e. (sym (leads_back none t e), judges.replies t records (is_filled t e))))
+      (λ t it e. (sym (leads_back none t e), replies t records (is_filled t e))))
 
   abbrev Knows : Tables → Type 0
   Knows t = AreOfALog t × (view b'.overlay ≡ filled t (view b.overlay))
@@ -123,7 +118,7 @@ module _ {S : Type 0} {g : Ghosts S} {old mid : Transaction S} (b b' : Batch) (r
       → Does {X = Unit {0}} g mid new (Written o) (λ t. tables_over o t) (λ _. tt {0}) r
       → Does {X = Unit {0}} g mid new Knows (λ t. tables_past_all t m records) (λ _. tt {0}) r
   written_so second =
-      does_for second (λ t so. (may_write t so.0 so.1, judges.tables t records (is_filled t so.1), refl))
+      does_for second (λ t so. (may_write t so.0 so.1, tables t records (is_filled t so.1), refl))
 
   pub answered_written : {new : Transaction S}
       → Does {X = Unit {0}} g mid new (Written o) (λ t. tables_over o t) (λ _. tt {0}) (Ok (tt {0}))
@@ -131,7 +126,7 @@ module _ {S : Type 0} {g : Ghosts S} {old mid : Transaction S} (b b' : Batch) (r
       (Ok items)
   answered_written second =
       acts_wrote (does_both filled_so (written_so second) (λ t it e. (it, e))
-      (λ t it e f. judges.replies t records (is_filled t e)))
+      (λ t it e f. replies t records (is_filled t e)))
 
   pub answered_not : {new : Transaction S} {e : TableFault}
       → Does {X = Unit {0}} g mid new (Written o) (λ t. tables_over o t) (λ _. tt {0}) (Err e)

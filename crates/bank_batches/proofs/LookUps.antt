@@ -15,7 +15,7 @@ use Rattle.store_rows.specs.declared.fault.TableFault.TheVariants.{Sqlite, Damag
 use Rattle.store_rows.specs.Rules.{IsBroken}
 use Rattle.bank_transactions.specs.Doing.{DoesBy, IsFirstBroken, ChangesNothing, LooksUp, Reads, Stays}
 use Rattle.bank_transactions.proofs.Blamed.{blames_after, comes}
-use Rattle.bank_transactions.proofs.Chained.{looked, look_keeps}
+use Rattle.bank_transactions.proofs.Statements.{looked, look_keeps}
 use Rattle.bank_transactions.proofs.ReadsInTurn.{stays_then}
 use Rattle.bank_batches.specs.Filling.{ReadsWhere}
 

@@ -1,8 +1,6 @@
 -- What one slot writes.
-use Rattle.std.proofs.Common.{◌≡◌, ℕ, List, [], ◌∷◌, Option, Result, Some, None, Ok, refl, sym, ap, subst}
-use Rattle.std.specs.Prelude.{ℤ, is_some, IfSome}
-use Rattle.sqlite.specs.Held.{state}
-use Rattle.sqlite.specs.State.{Survives}
+use Rattle.std.proofs.Common.{◌≡◌, ℕ, List, [], ◌∷◌, Option, Result, Some, None, refl, sym, ap}
+use Rattle.std.specs.Prelude.{ℤ, is_some}
 use Rattle.sqlite.specs.Table.{Table}
 use Rattle.sqlite.specs.declared.transaction.Transaction.{Transaction}
 use Rattle.sqlite_trees.specs.declared.store.Store.{Ghosts}
@@ -17,10 +15,10 @@ use Rattle.store_rows.specs.Failures.{Puts}
 use Rattle.store_rows.specs.Outcomes.{PutsOneRow}
 use Rattle.store_rows.specs.declared.fault.TableFault.{TableFault}
 use Rattle.bank_transactions.specs.Doing.{Does}
-use Rattle.bank_transactions.specs.Holders.{HasRow, with_balance}
-use Rattle.bank_transactions.specs.declared.balances.Holder.{Holder}
+use Rattle.bank_transactions.specs.Holders.{with_balance}
 use Rattle.bank_transactions.specs.declared.balances.Holder.TheVariants.{Account, Teller, Branch}
-use Rattle.bank_transactions.proofs.Chained.{does_add, does_for, does_none}
+use Rattle.bank_transactions.proofs.Chained.{does_for}
+use Rattle.bank_transactions.proofs.Statements.{does_add}
 use Rattle.posting_rules.specs.Changes.{row_changed, with_branch_balance, with_teller_balance}
 use Rattle.posting_rules.specs.Changes.{with_account_balance}
 use Rattle.posting_rules.specs.Steps as steps
@@ -32,10 +30,7 @@ use Rattle.posting_batch.specs.Overlay.{changed_to, over, accounts_over, tellers
 use Rattle.posting_batch.specs.Slots.{account_slot_key, teller_slot_key, branch_slot_key}
 use Rattle.posting_batch.proofs.NewRows.{account_same, teller_same, branch_same}
 use Rattle.posting_batch.proofs.Written.{over_changed, over_unchanged}
-
--- what is asked of a changed slot is so of one that is changed
-pub asked : (P : Type 0) (changed : Option ℤ) (z : ℤ) → changed ≡ Some z → IfSome changed (λ _. P) → P
-asked P changed z is so = subst (λ (o : Option ℤ). IfSome o (λ _. P)) is so
+use Rattle.bank_batches.specs.Writing.{by_change}
 
 -- ---- new rows
 
@@ -63,38 +58,6 @@ unfolding with_request
 request_put row t = refl
 
 -- ---- slots
-
--- the tables with what a slot changes
-abbrev pub by_change : Option ℤ → (ℤ → Tables) → Tables → Tables
-by_change None written t = t
-by_change (Some z) written t = written z
-
--- a slot that is changed: its row is written
-pub changed : {S : Type 0} {g : Ghosts S} {old new : Transaction S} {r : Result (Unit {0}) TableFault}
-    {May : Tables → Type 0}
-    {made : Tables → Tables} (holder : Holder) (c : Option ℤ) (z : ℤ) → c ≡ Some z
-    → ((t : Tables) → by_change c (λ y. with_balance holder y t) t ≡ made t)
-    → ((t : Tables) → May t → IfSome c (λ _. HasRow holder t))
-    → Does g old new (HasRow holder) (with_balance holder z) (λ _. tt) r → Does g old new May made (λ _. tt) r
-changed {S} {g} {old} {new} {r} {May} {made} holder c z is comes there does = does_for does (λ t may. (
-  asked (HasRow holder t) c z is (there t may),
-  subst (λ (o : Option ℤ). by_change o (λ y. with_balance holder y t) t ≡ made t) is (comes t),
-  refl,
-))
-
--- one that isn't: nothing is
-pub unchanged : {S : Type 0} {g : Ghosts S} {tx : Transaction S} {May : Tables → Type 0}
-    {made : Tables → Tables}
-    (holder : Holder) (c : Option ℤ) → c ≡ None
-    → ((t : Tables) → by_change c (λ y. with_balance holder y t) t ≡ made t)
-    → Survives (state g tx.conn.now) (state g tx.conn.now) (λ _. ⊥)
-    → Does {X = Unit {0}} g tx tx May made (λ _. tt {0}) (Ok (tt {0}))
-unchanged {S} {g} {tx} {May} {made} holder c is comes stays =
-    does_for (does_none {So = May} stays) (λ t may. (
-      may,
-      subst (λ (o : Option ℤ). by_change o (λ y. with_balance holder y t) t ≡ made t) is (comes t),
-      refl,
-    ))
 
 -- one slot
 slot_made : {A R : Type 0} (slot_key : A → ℕ) (key : R → ℕ) (changed : A → Option ℤ) (set : ℤ → R → R)

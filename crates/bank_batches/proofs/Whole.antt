@@ -134,58 +134,53 @@ abbrev OfAccounts : List BranchSlot → List AccountSlot → Tables → Type 0
 OfAccounts told xs t = IsUndamaged t
     × AllByRecursion (λ s. TellsBranch told t (branch_of_account s.account)) xs
 
-module _ (o p : Overlay) where
+module _ {o p : Overlay} where
   -- what each fill asks for is so behind the one before it
   pub plain : {A : Type 0} (f : Tables → Overlay) (xs : List A) (t : Tables) → So o t → p ≡ f t → Plain xs t
   plain f xs t so e = (so.0, nothing_asked xs)
 
-  pub tellers_ready : (told : List BranchSlot) (xs : List TellerSlot) → told ≡ p.branches → xs ≡ o.tellers
-      → (t : Tables)
-      → So o t → p ≡ to_branches o t → OfTellers told xs t
-  tellers_ready told xs same is t so e =
+  pub tellers_ready : {told : List BranchSlot} {xs : List TellerSlot} → told ≡ p.branches → xs ≡ o.tellers
+      → (t : Tables) → So o t → p ≡ to_branches o t → OfTellers told xs t
+  tellers_ready {told} {xs} same is t so e =
       for_tellers o p t told xs so (ap (λ (q : Overlay). q.branches) e) same is
 
-  pub accounts_ready : (told : List BranchSlot) (xs : List AccountSlot) → told ≡ p.branches → xs ≡ o.accounts
-      → (t : Tables)
-      → So o t → p ≡ to_tellers o t → OfAccounts told xs t
-  accounts_ready told xs same is t so e =
+  pub accounts_ready : {told : List BranchSlot} {xs : List AccountSlot} → told ≡ p.branches → xs ≡ o.accounts
+      → (t : Tables) → So o t → p ≡ to_tellers o t → OfAccounts told xs t
+  accounts_ready {told} {xs} same is t so e =
       for_accounts o p t told xs so (ap (λ (q : Overlay). q.branches) e) same is
 
-module _ {S : Type 0} {g : Ghosts S} {a b : Transaction S} (o : Overlay) where
-  pub count_in : (n : ℕ) → Reads g a b (λ t. t.decided) (Ok n)
+module _ {S : Type 0} {g : Ghosts S} {a b : Transaction S} where
+  pub count_in : (o : Overlay) (n : ℕ) → Reads g a b (λ t. t.decided) (Ok n)
       → ReadsWhere g a b (So o) (with_counted o) (Ok (with_count n o))
-  count_in n reads = counted o n reads
+  count_in o n reads = counted o n reads
 
-  module _ {c : Transaction S} (p : Overlay) where
-    pub branches_in : (xs ys : List BranchSlot) → ReadsWhere g a b (So o) (with_counted o) (Ok p) → xs
-        ≡ o.branches
-        → ReadsWhere g b c (Plain xs) (λ t. map (branch_filled t) xs) (Ok ys)
+  module _ {c : Transaction S} {o p : Overlay} where
+    pub branches_in : {xs ys : List BranchSlot} → ReadsWhere g a b (So o) (with_counted o) (Ok p)
+        → xs ≡ o.branches → ReadsWhere g b c (Plain xs) (λ t. map (branch_filled t) xs) (Ok ys)
         → ReadsWhere g a c (So o) (to_branches o) (Ok (with_branches ys p))
-    branches_in xs ys first is second =
+    branches_in {xs} {ys} first is second =
         part o with_branches branch_filled p (with_counted o) xs o.branches ys is first second
-        (plain o p (with_counted o) xs)
+        (plain (with_counted o) xs)
 
-    pub tellers_in : (told : List BranchSlot) (xs ys : List TellerSlot)
-        → ReadsWhere g a b (So o) (to_branches o) (Ok p)
-        → told ≡ p.branches → xs ≡ o.tellers
+    pub tellers_in : {told : List BranchSlot} {xs ys : List TellerSlot}
+        → ReadsWhere g a b (So o) (to_branches o) (Ok p) → told ≡ p.branches → xs ≡ o.tellers
         → ReadsWhere g b c (OfTellers told xs) (λ t. map (teller_filled t) xs) (Ok ys)
         → ReadsWhere g a c (So o) (to_tellers o) (Ok (with_tellers ys p))
-    tellers_in told xs ys first same is second =
+    tellers_in {told} {xs} {ys} first same is second =
         part o with_tellers teller_filled p (to_branches o) xs o.tellers ys is first second
-        (tellers_ready o p told xs same is)
+        (tellers_ready same is)
 
-    pub accounts_in : (told : List BranchSlot) (xs ys : List AccountSlot)
-        → ReadsWhere g a b (So o) (to_tellers o) (Ok p)
-        → told ≡ p.branches → xs ≡ o.accounts
+    pub accounts_in : {told : List BranchSlot} {xs ys : List AccountSlot}
+        → ReadsWhere g a b (So o) (to_tellers o) (Ok p) → told ≡ p.branches → xs ≡ o.accounts
         → ReadsWhere g b c (OfAccounts told xs) (λ t. map (account_filled t) xs) (Ok ys)
         → ReadsWhere g a c (So o) (to_accounts o) (Ok (with_accounts ys p))
-    accounts_in told xs ys first same is second =
+    accounts_in {told} {xs} {ys} first same is second =
         part o with_accounts account_filled p (to_tellers o) xs o.accounts ys is first second
-        (accounts_ready o p told xs same is)
+        (accounts_ready same is)
 
-    pub kept_in : (xs ys : List RequestSlot) → ReadsWhere g a b (So o) (to_accounts o) (Ok p) → xs ≡ o.kept
+    pub kept_in : {xs ys : List RequestSlot} → ReadsWhere g a b (So o) (to_accounts o) (Ok p) → xs ≡ o.kept
         → ReadsWhere g b c (Plain xs) (λ t. map (request_filled t) xs) (Ok ys)
         → ReadsWhere g a c (So o) (to_kept o) (Ok (with_kept ys p))
-    kept_in xs ys first is second =
+    kept_in {xs} {ys} first is second =
         part o with_kept request_filled p (to_accounts o) xs o.kept ys is first second
-        (plain o p (to_accounts o) xs)
+        (plain (to_accounts o) xs)

@@ -1,5 +1,5 @@
 -- Changes of the tables, and when they may be made.
-use Rattle.std.specs.Prelude.{◌≡◌, ℕ, ℤ, List, Option, Some, IsSome, IfSome}
+use Rattle.std.specs.Prelude.{◌≡◌, ℕ, ℤ, List, Option, Some, None, IsSome, IfSome}
 use Rattle.std.specs.List.{AllByRecursion}
 use Rattle.message_records.specs.Ranges.{whole_within}
 use Rattle.message_records.specs.declared.limits.TheConstants.{MAX_BRANCH}
@@ -12,6 +12,11 @@ use Rattle.posting_batch.specs.declared.slots.TellerSlot.{TellerSlot}
 use Rattle.posting_batch.specs.declared.slots.BranchSlot.{BranchSlot}
 use Rattle.posting_batch.specs.Batch.{PutsFree}
 use Rattle.posting_batch.specs.Slots.{account_slot_key, teller_slot_key, branch_slot_key}
+
+-- the tables with the balance that is changed, where one is
+abbrev pub by_change : Option ℤ → (ℤ → Tables) → Tables → Tables
+by_change None written t = t
+by_change (Some z) written t = written z
 
 -- each slot has a key of its own, and each changed one has its row
 abbrev pub MayChange : {A R : Type 0} → (A → ℕ) → (A → Option ℤ) → (R → ℕ) → List R → List A → Type 0

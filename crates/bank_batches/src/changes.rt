@@ -1,5 +1,5 @@
 //! What a batch has changed is written, each row once.
-ghost use Rattle.std.specs.Prelude.{[], ◌∷◌, List};
+ghost use Rattle.std.specs.Prelude.{[], ◌∷◌, List, IfSome};
 ghost use Rattle.posting_rules.specs.Damage.{IsUndamaged};
 ghost use Rattle.posting_rules.specs.Tables.{Tables};
 ghost use Rattle.posting_batch.specs.Batch.{HasRisingSlots, ChangesRows, AddsFreeRows};
@@ -7,13 +7,14 @@ ghost use Rattle.posting_batch.specs.Overlay.{tables_over, accounts_over, teller
 ghost use Rattle.posting_batch.specs.Overlay.{history_put, requests_put};
 ghost use Rattle.posting_batch.specs.View.{view};
 ghost use Rattle.bank_transactions.specs.Doing.{Does};
+ghost use Rattle.bank_transactions.specs.Holders.{HasRow, with_balance};
 ghost use Rattle.bank_batches.specs.InTurn.{InTurn, accounts_in_turn, tellers_in_turn, branches_in_turn};
 ghost use Rattle.bank_batches.specs.InTurn.{postings_in_turn, requests_in_turn};
 ghost use Rattle.bank_batches.specs.Writing.{MayChangeAccounts, MayChangeTellers, MayChangeBranches};
-ghost use Rattle.bank_batches.specs.Writing.{MayAddPostings, MayAddRequests};
+ghost use Rattle.bank_batches.specs.Writing.{MayAddPostings, MayAddRequests, by_change};
 
 use bank_transactions::{Holder, write_balance, write_decided};
-use message_records::Branch;
+use message_records::{Branch, Cents};
 use posting_batch::{AccountSlot, BranchSlot, Overlay, TellerSlot};
 use posting_rules::{HistoryRow, RequestRow};
 use sqlite::{Alter, Transaction};
@@ -35,16 +36,29 @@ trait Change {
     ghost in_turn: { InTurn made May };
 }
 
+// Writes the balance that a holder's row is to have, where a posting changes it.
+fn write_change<S: Alter>(
+    tx: &mut Transaction<'_, S>,
+    holder: Holder,
+    changed: Option<Cents>,
+) -> Result<(), TableFault>
+    ensures { Does S.Store tx.old tx.new (λ tables. IfSome changed (λ _. HasRow holder tables))
+        (λ tables. by_change changed (λ balance. with_balance holder balance tables) tables)
+        (λ _. tt) result }
+{
+    match changed {
+        Some(balance) => write_balance(tx, holder, balance),
+        None => Ok(()),
+    }
+}
+
 impl Change for AccountSlot {
     ghost made = { accounts_over };
 
     ghost May = { MayChangeAccounts };
 
     fn make<S: Alter>(&self, tx: &mut Transaction<'_, S>) -> Result<(), TableFault> {
-        match self.changed {
-            Some(balance) => write_balance(tx, Holder::Account(self.account), balance),
-            None => Ok(()),
-        }
+        write_change(tx, Holder::Account(self.account), self.changed)
     }
 
     ghost in_turn = { accounts_in_turn };
@@ -56,10 +70,7 @@ impl Change for TellerSlot {
     ghost May = { MayChangeTellers };
 
     fn make<S: Alter>(&self, tx: &mut Transaction<'_, S>) -> Result<(), TableFault> {
-        match self.changed {
-            Some(balance) => write_balance(tx, Holder::Teller(self.teller), balance),
-            None => Ok(()),
-        }
+        write_change(tx, Holder::Teller(self.teller), self.changed)
     }
 
     ghost in_turn = { tellers_in_turn };
@@ -71,15 +82,12 @@ impl Change for BranchSlot {
     ghost May = { MayChangeBranches };
 
     fn make<S: Alter>(&self, tx: &mut Transaction<'_, S>) -> Result<(), TableFault> {
-        let Some(balance) = self.changed else {
-            return Ok(());
-        };
         // A number that is none of branches has no row to change: `May` refuses such a slot by its
-        // `AreNumbers`.
-        let Some(branch) = Branch::new(self.branch) else {
-            return Ok(());
-        };
-        write_balance(tx, Holder::Branch(branch), balance)
+        // `AreNumbers`, where it is changed.
+        match Branch::new(self.branch) {
+            Some(branch) => write_change(tx, Holder::Branch(branch), self.changed),
+            None => Ok(()),
+        }
     }
 
     ghost in_turn = { branches_in_turn };

@@ -5,12 +5,12 @@ ghost use Rattle.std.specs.Option.{option_map};
 ghost use Rattle.posting_rules.specs.Commands.{branch_of_teller, branch_of_account};
 ghost use Rattle.posting_rules.specs.Damage.{IsUndamaged};
 ghost use Rattle.posting_rules.specs.LookUps.{account_balance_in, balance_of_teller};
-ghost use Rattle.posting_rules.specs.Tables.{Tables, row_at, branch_key, teller_key};
+ghost use Rattle.posting_rules.specs.Tables.{Tables, row_at, teller_key};
 ghost use Rattle.posting_batch.specs.declared.slots.BranchSlot.{BranchSlot};
 ghost use Rattle.posting_batch.specs.Batch.{HasHomes, filled};
 ghost use Rattle.posting_batch.specs.View.{view, reads_of};
 ghost use Rattle.bank_transactions.specs.Doing.{Reads};
-ghost use Rattle.bank_batches.specs.Filling.{handing, ReadsWhere};
+ghost use Rattle.bank_batches.specs.Filling.{handing, HasBranch, ReadsWhere, TellsBranch};
 
 use bank_transactions::{
     branch_at, decided, kept_request, open_balance, place_of_account, teller_balances,
@@ -23,6 +23,9 @@ use posting_rules::{BranchRow, branch_of_teller};
 use sqlite::{Alter, Transaction};
 use store_rows::{TableFault, account_balance, teller_balance};
 
+// What a look-up finds.
+type Read<T> = Result<T, TableFault>;
+
 /// A slot, and what is in the tables under its key.
 trait Slot: Copy {
     /// The slot with what is in the tables under its key.
@@ -32,11 +35,7 @@ trait Slot: Copy {
     ghost Knows: { List BranchSlot → Tables → Self → Type 0 };
 
     /// Fills it, by the slots of branches.
-    fn fill<S: Alter>(
-        self,
-        tx: &mut Transaction<'_, S>,
-        branches: &[BranchSlot],
-    ) -> Result<Self, TableFault>
+    fn fill<S: Alter>(self, tx: &mut Transaction<'_, S>, branches: &[BranchSlot]) -> Read<Self>
         ensures { ReadsWhere S.Store tx.old tx.new
             (λ tables. IsUndamaged tables × Knows branches.now tables self)
             (λ tables. filled_from tables self) result };
@@ -49,29 +48,17 @@ impl Slot for BranchSlot {
 
     ghost Knows = { λ _ _ _. ⊤ };
 
-    fn fill<S: Alter>(
-        self,
-        tx: &mut Transaction<'_, S>,
-        _branches: &[BranchSlot],
-    ) -> Result<Self, TableFault> {
-        Ok(BranchSlot {
-            branch: self.branch,
-            stored: branch_at(tx, self.branch)?,
-            changed: self.changed,
-        })
+    fn fill<S: Alter>(self, tx: &mut Transaction<'_, S>, _branches: &[BranchSlot]) -> Read<Self> {
+        let stored = branch_at(tx, self.branch)?;
+        Ok(BranchSlot { stored, ..self })
     }
 }
 
 // The balance of a teller, none where it isn't open, looked up together with the row of its branch.
-fn teller_beside<S: Alter>(
-    tx: &mut Transaction<'_, S>,
-    teller: Teller,
-) -> Result<Option<Cents>, TableFault>
+fn teller_beside<S: Alter>(tx: &mut Transaction<'_, S>, teller: Teller) -> Read<Option<Cents>>
     ensures { Reads S.Store tx.old tx.new
         (λ tables. option_map balance_of_teller (row_at teller_key tables.tellers teller)) result }
 {
-    // A teller is in its range.
-    let _number = teller.get();
     match teller_balances(tx, teller)? {
         Some((balance, _)) => Ok(Some(balance)),
         None => Ok(None),
@@ -84,10 +71,8 @@ fn teller_within<S: Alter>(
     tx: &mut Transaction<'_, S>,
     teller: Teller,
     branch: Option<BranchRow>,
-) -> Result<Option<Cents>, TableFault>
-    ensures { ReadsWhere S.Store tx.old tx.new
-        (λ tables. IsUndamaged tables
-        × (branch ≡ row_at branch_key tables.branches (branch_of_teller teller)))
+) -> Read<Option<Cents>>
+    ensures { ReadsWhere S.Store tx.old tx.new (HasBranch branch (branch_of_teller teller))
         (λ tables. option_map balance_of_teller (row_at teller_key tables.tellers teller)) result }
 {
     let balance = teller_balance(tx, teller)?;
@@ -97,38 +82,13 @@ fn teller_within<S: Alter>(
     Ok(balance)
 }
 
-impl Slot for TellerSlot {
-    ghost use Rattle.posting_batch.specs.Batch.{teller_filled};
-    ghost use Rattle.bank_batches.specs.Filling.{TellsBranch};
-
-    ghost filled_from = { teller_filled };
-
-    ghost Knows = { λ slots tables slot. TellsBranch slots tables (branch_of_teller slot.teller) };
-
-    fn fill<S: Alter>(
-        self,
-        tx: &mut Transaction<'_, S>,
-        branches: &[BranchSlot],
-    ) -> Result<Self, TableFault> {
-        let branch = stored_branch(branches, branch_of_teller(self.teller));
-        Ok(TellerSlot {
-            teller: self.teller,
-            stored: teller_within(tx, self.teller, branch)?,
-            changed: self.changed,
-        })
-    }
-}
-
-// The balance of an account, none where it isn't open, by the row of its branch. Where the two don't belong
-// together, both are looked up again: they are told to be damaged.
+// The same of an account, whose place is within the count of its branch where it is open.
 fn account_within<S: Alter>(
     tx: &mut Transaction<'_, S>,
     account: Account,
     branch: Option<BranchRow>,
-) -> Result<Option<Cents>, TableFault>
-    ensures { ReadsWhere S.Store tx.old tx.new
-        (λ tables. IsUndamaged tables
-        × (branch ≡ row_at branch_key tables.branches (branch_of_account account)))
+) -> Read<Option<Cents>>
+    ensures { ReadsWhere S.Store tx.old tx.new (HasBranch branch (branch_of_account account))
         (λ tables. account_balance_in tables account) result }
 {
     let balance = account_balance(tx, account)?;
@@ -142,25 +102,31 @@ fn account_within<S: Alter>(
     Ok(balance)
 }
 
+impl Slot for TellerSlot {
+    ghost use Rattle.posting_batch.specs.Batch.{teller_filled};
+
+    ghost filled_from = { teller_filled };
+
+    ghost Knows = { λ slots tables slot. TellsBranch slots tables (branch_of_teller slot.teller) };
+
+    fn fill<S: Alter>(self, tx: &mut Transaction<'_, S>, branches: &[BranchSlot]) -> Read<Self> {
+        let branch = stored_branch(branches, branch_of_teller(self.teller));
+        let stored = teller_within(tx, self.teller, branch)?;
+        Ok(TellerSlot { stored, ..self })
+    }
+}
+
 impl Slot for AccountSlot {
     ghost use Rattle.posting_batch.specs.Batch.{account_filled};
-    ghost use Rattle.bank_batches.specs.Filling.{TellsBranch};
 
     ghost filled_from = { account_filled };
 
     ghost Knows = { λ slots tables slot. TellsBranch slots tables (branch_of_account slot.account) };
 
-    fn fill<S: Alter>(
-        self,
-        tx: &mut Transaction<'_, S>,
-        branches: &[BranchSlot],
-    ) -> Result<Self, TableFault> {
+    fn fill<S: Alter>(self, tx: &mut Transaction<'_, S>, branches: &[BranchSlot]) -> Read<Self> {
         let branch = stored_branch(branches, branch_of_account(self.account));
-        Ok(AccountSlot {
-            account: self.account,
-            stored: account_within(tx, self.account, branch)?,
-            changed: self.changed,
-        })
+        let stored = account_within(tx, self.account, branch)?;
+        Ok(AccountSlot { stored, ..self })
     }
 }
 
@@ -171,16 +137,9 @@ impl Slot for RequestSlot {
 
     ghost Knows = { λ _ _ _. ⊤ };
 
-    fn fill<S: Alter>(
-        self,
-        tx: &mut Transaction<'_, S>,
-        _branches: &[BranchSlot],
-    ) -> Result<Self, TableFault> {
-        Ok(RequestSlot {
-            teller: self.teller,
-            number: self.number,
-            kept: kept_request(tx, self.teller, self.number)?,
-        })
+    fn fill<S: Alter>(self, tx: &mut Transaction<'_, S>, _branches: &[BranchSlot]) -> Read<Self> {
+        let kept = kept_request(tx, self.teller, self.number)?;
+        Ok(RequestSlot { kept, ..self })
     }
 }
 
@@ -189,7 +148,7 @@ fn fill_all<S: Alter, T: Slot>(
     tx: &mut Transaction<'_, S>,
     slots: &mut [T],
     branches: &[BranchSlot],
-) -> Result<(), TableFault>
+) -> Read<()>
     ensures { ReadsWhere S.Store tx.old tx.new
         (λ tables. IsUndamaged tables × AllByRecursion (T.Knows branches.now tables) slots.old)
         (λ tables. map (T.filled_from tables) slots.old) (handing slots.new result) }

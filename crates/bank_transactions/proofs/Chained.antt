@@ -1,32 +1,18 @@
 -- The parts of a call one after another.
-use Rattle.std.proofs.Common.{◌≡◌, false, true, Ok, Err, Result, refl, sym, subst, ◌∙◌, inl, inr, arith}
-use Rattle.std.specs.Prelude.{IsTrue, Bool, List, ℕ}
-use Rattle.sqlite.specs.Effect.{Database}
+use Rattle.std.proofs.Common.{◌≡◌, Ok, Err, Result, refl, sym, subst, ◌∙◌, inl, inr, arith}
+use Rattle.std.specs.Prelude.{IsTrue, Bool}
 use Rattle.sqlite.specs.State.{State, HasCleanDisk, Survives}
-use Rattle.sqlite.specs.Held.{Held, state}
-use Rattle.sqlite.specs.Table.{Table}
-use Rattle.sqlite.specs.declared.error.Error.{Error}
+use Rattle.sqlite.specs.Held.{state}
 use Rattle.sqlite.specs.declared.transaction.Transaction.{Transaction}
 use Rattle.sqlite_trees.specs.declared.store.Store.{Ghosts}
-use Rattle.posting_rules.specs.Damage.{IsUndamaged}
 use Rattle.posting_rules.specs.Tables.{Tables}
-use Rattle.sql_meanings.specs.Calls.{Says, Inside}
+use Rattle.posting_rules.specs.declared.fault.Rule.{Rule}
 use Rattle.sql_meanings.proofs.Saying.{says_then}
-use Rattle.store_rows.specs.Calls.{OfTables}
-use Rattle.store_rows.specs.Failures.{Changes, HasMet, IsUpdateOf, MeetsNone, Puts}
-use Rattle.store_rows.specs.Outcomes.{PutsOneRow, SetsRow}
-use Rattle.store_rows.specs.View.{Shows}
 use Rattle.store_rows.specs.declared.fault.TableFault.{TableFault}
 use Rattle.store_rows.specs.declared.fault.TableFault.TheVariants.{Sqlite, Damaged}
-use Rattle.bank_transactions.proofs.Blamed.{blames_put, broken_or_met, comes, failed_here, met_after}
-use Rattle.bank_transactions.proofs.Blamed.{met_here}
-use Rattle.bank_transactions.specs.Doing.{GoesOnUncommitted, HasMetBetween, Damage, IsFirstBroken}
-use Rattle.bank_transactions.specs.Doing.{IsBrokenOrMet, Blames}
-use Rattle.bank_transactions.specs.Doing.{CommitsNothing, ChangesNothing, LooksUp, LeavesAndAnswers, Reads}
-use Rattle.bank_transactions.specs.Doing.{DoesBy, Does, Acts, expected}
-use Rattle.posting_rules.specs.declared.fault.Rule.{Rule}
-use Rattle.posting_rules.specs.declared.fault.Rule.TheVariants.{Meta, Teller, Account, Balance, Request}
-use Rattle.posting_rules.specs.declared.fault.Rule.TheVariants.{Value, Key}
+use Rattle.bank_transactions.specs.Doing.{Acts, CommitsNothing, Damage, Does, DoesBy, GoesOnUncommitted}
+use Rattle.bank_transactions.specs.Doing.{IsBrokenOrMet, IsFirstBroken, LeavesAndAnswers}
+use Rattle.bank_transactions.proofs.Blamed.{broken_or_met, comes, met_after}
 
 -- ---- what goes on
 
@@ -47,16 +33,6 @@ keeps_then old mid new (Err e) on then = record {
   was_open = λ h. on.opened (then.was_open h);
   committed = λ h. then.committed h ∙ on.committed;
 }
-
--- a row that is put in, as long as the transaction goes on
-write_keeps : (old new : State) (r : Result (Unit {0}) TableFault) → IsTrue old.in_transaction
-    → Puts old new r → CommitsNothing old new r
-write_keeps old new (Ok done) live kept =
-    record { opened = λ h. kept.was_open; committed = kept.committed_is; mode = kept.mode ∙ sym live }
-write_keeps old new (Err e) live (inl same, why) =
-    record { was_open = λ h. same.0.was_open; committed = λ h. same.0.committed_is }
-write_keeps old new (Err e) live (inr undone, why) =
-    record { was_open = undone.was_open; committed = λ h. (undone.undone h).1 }
 
 -- ---- what is told
 
@@ -172,121 +148,6 @@ does_but {S} {X} {Y} {Z} {g} {old} {mid} {new} {So} {So'} {after} {after'} {afte
         survives = both.says.survives;
       };
     }
-
--- ---- what the statements do
-
-pub looked : {X : Type 0} (old new : State) (t : Tables) (w : X) (r : Result X TableFault) → Shows old.now t
-    → LooksUp old new w r → LeavesAndAnswers new t w r
-looked old new t w (Ok x) shows told = (told.0, subst (λ (db : Database). Shows db t) (sym told.1.now) shows)
-looked old new t w (Err (Sqlite e)) shows told = tt
-looked old new t w (Err (Damaged rule)) shows told = told
-
-pub look_keeps : {X : Type 0} (old new : State) (r : Result X TableFault) → ChangesNothing old new r
-    → CommitsNothing old new r
-look_keeps old new (Ok x) looks = looks.goes_on
-look_keeps old new (Err e) looks = looks
-
--- a look-up leaves the tables
-pub does_read : {S X : Type 0} (g : Ghosts S) (old new : Transaction S) (w : Tables → X)
-    (r : Result X TableFault) → Reads g old new w r
-    → DoesBy (IsFirstBroken g) g old new IsUndamaged (λ t. t) w r
-does_read g old new w r reads = record {
-  says = record {
-    same_reference = reads.same_reference;
-    told = λ clean live t shows so. looked (state g old.conn.now) (state g new.conn.now) t (w t) r shows
-        (reads.told clean t shows so);
-    kept = λ clean live. let it =
-        reads.kept clean in (look_keeps (state g old.conn.now) (state g new.conn.now) r it.0, it.1);
-    survives = reads.survives;
-  };
-}
-
-added : (old new : State) (table : Table) (taken : Bool) (after : Tables) (r : Result (Unit {0}) TableFault)
-    → taken ≡ false → PutsOneRow old new table taken after r
-    → LeavesAndAnswers new after tt r
-added old new table taken after (Ok done) free adds = (refl, adds.1)
-added old new table taken after (Err (Sqlite e)) free adds = tt
-added old new table taken after (Err (Damaged rule)) free adds = let is = adds.1 in cc
-
--- a row is put in under a key that is free
-pub does_add : {S : Type 0} {So : Tables → Type 0} (g : Ghosts S) (old new : Transaction S) (table : Table)
-    (taken : Tables → Bool) (more : Tables → Tables)
-    (r : Result (Unit {0}) TableFault)
-    → Says g old new (Inside (OfTables (λ before now t. PutsOneRow before now table (taken t) (more t) r)))
-    (Inside (λ before now. Puts before now r))
-    → ((t : Tables) → So t → taken t ≡ false) → Does g old new So more (λ _. tt) r
-does_add g old new table taken more r says free = record {
-  says = record {
-    same_reference = says.same_reference;
-    told = λ clean live t shows so.
-        added (state g old.conn.now) (state g new.conn.now) table (taken t) (more t) r (free t so)
-        (says.told clean live t shows);
-    kept = λ clean live. let it =
-        says.kept clean live in (
-          write_keeps (state g old.conn.now)
-              (state g new.conn.now) r live it,
-          blames_put g old.conn.now new.conn.now r it,
-        );
-    survives = says.survives;
-  };
-}
-
-written : (old new : State) (table : Table) (there : Bool) (after : Tables) (r : Result Bool Error)
-    (rule : Rule) → IsTrue there
-    → SetsRow old new table there after r → LeavesAndAnswers new after tt (expected r rule)
-written old new table there after (Ok true) rule is writes = (refl, writes.1)
-written old new table there after (Ok false) rule is writes = let no = writes.0 in cc
-written old new table there after (Err e) rule is writes = tt
-
-written_keeps : (old new : State) (text : List ℕ) (r : Result Bool Error) (rule : Rule)
-    → IsTrue old.in_transaction → Changes text old new r
-    → CommitsNothing old new (expected r rule)
-written_keeps old new text (Ok true) rule live kept = write_keeps old new (Ok tt) live kept.0
-written_keeps old new text (Ok false) rule live kept =
-    record { was_open = λ h. kept.0.was_open; committed = λ h. kept.0.committed_is }
-written_keeps old new text (Err e) rule live kept = write_keeps old new (Err (Sqlite e)) live kept
-
-has_met : (old new : State) (rule : Rule) (text : List ℕ) → IsUpdateOf rule text → MeetsNone text old new
-    → HasMet old new rule
-has_met old new Meta text of none = (text, of, none)
-has_met old new Teller text of none = (text, of, none)
-has_met old new Account text of none = (text, of, none)
-has_met old new Balance text of none = absurd of
-has_met old new Request text of none = absurd of
-has_met old new Value text of none = absurd of
-has_met old new Key text of none = absurd of
-
-blames_changed : {S : Type 0} (g : Ghosts S) (old new : Held S) (text : List ℕ) (r : Result Bool Error)
-    (rule : Rule) → IsUpdateOf rule text
-    → Changes text (state g old) (state g new) r → Blames (HasMetBetween g) g old new (expected r rule)
-blames_changed g old new text (Ok true) rule of kept = tt
-blames_changed g old new text (Ok false) rule of kept =
-    met_here g old new rule (has_met (state g old) (state g new) rule text of (kept.1 refl))
-blames_changed g old new text (Err e) rule of kept = failed_here g old new e kept.1
-
--- a row that is there is written
-pub does_write : {S : Type 0} {So : Tables → Type 0} (g : Ghosts S) (old new : Transaction S) (table : Table)
-    (there : Tables → Bool) (after : Tables → Tables)
-    (answer : Result Bool Error) (rule : Rule) (r : Result (Unit {0}) TableFault) (text : List ℕ)
-    → IsUpdateOf rule text → r ≡ expected answer rule
-    → Says g old new (Inside (OfTables (λ before now t. SetsRow before now table (there t) (after t) answer)))
-    (Inside (λ before now. Changes text before now answer))
-    → ((t : Tables) → So t → IsTrue (there t)) → Does g old new So after (λ _. tt) r
-does_write {S} {So} g old new table there after answer rule r text of is says so =
-    subst (λ (x : Result (Unit {0}) TableFault). Does g old new So after (λ _. tt) x) (sym is) (record {
-      says = record {
-        same_reference = says.same_reference;
-        told = λ clean live t shows it.
-            written (state g old.conn.now) (state g new.conn.now) table (there t) (after t) answer rule
-            (so t it) (says.told clean live t shows);
-        kept = λ clean live.
-            let it = says.kept clean live in (
-              written_keeps (state g old.conn.now) (state g new.conn.now) text answer rule live it,
-              blames_changed g old.conn.now new.conn.now text answer rule of it,
-            );
-        survives = says.survives;
-      };
-    })
 
 -- ---- a part that reads and then writes
 

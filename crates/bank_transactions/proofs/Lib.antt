@@ -7,4 +7,5 @@ pub mod NextRow
 pub mod Opened
 pub mod ReadsInTurn
 pub mod SoundRows
+pub mod Statements
 pub mod Transacted

@@ -1,8 +1,9 @@
 -- The rows of undamaged tables are sound: nothing that is read of them is told to be damaged.
 use Rattle.std.proofs.Common.{◌≡◌, ◌⊎◌, ℕ, suc, ◌≤◌, Bool, true, false, leb, List, [], ◌∷◌, Option, Some}
 use Rattle.std.proofs.Common.{None, Err, refl, sym, subst, arith, inl, inr}
-use Rattle.std.specs.Prelude.{ℤ, nat_abs, nat_eq, is_some, ◌&&◌}
+use Rattle.std.specs.Prelude.{ℤ, nat_abs, nat_eq, IsSome, is_some, ◌&&◌}
 use Rattle.std.specs.List.{find, Contains}
+use Rattle.std.specs.Option.{option_map}
 use Rattle.std.proofs.lemmas.Bool.{eqb-true}
 use Rattle.std.proofs.lemmas.Bool.Decides.{nat_tests}
 use Rattle.message_records.specs.Ranges.{whole_within, cents_within}
@@ -16,7 +17,8 @@ use Rattle.posting_rules.specs.Damage.{IsUndamaged, IsSoundBranch, IsSoundTeller
 use Rattle.posting_rules.specs.Damage.{IsSoundRequest}
 use Rattle.posting_rules.specs.Tables.{Tables, row_at, branch_key, teller_key, account_key}
 use Rattle.posting_rules.proofs.Keyed.{by_test, found_passes}
-use Rattle.store_rows.specs.Columns.{teller_balance_in, account_balance_in, request_in}
+use Rattle.store_rows.specs.Columns.{teller_balance_in, teller_balance_of, account_balance_in}
+use Rattle.store_rows.specs.Columns.{account_balance_of, request_in}
 use Rattle.store_rows.specs.Outcomes.{Finds, BreaksBalance, BreaksBranch, BreaksRequest, CanBeKept}
 use Rattle.store_rows.specs.declared.fault.TableFault.{TableFault}
 use Rattle.store_rows.specs.declared.fault.TableFault.TheVariants.{Sqlite, Damaged}
@@ -109,20 +111,35 @@ branch_unbroken t n r broken sound e = sound_unbroken r broken (branch_is t n r 
 
 -- ---- balances
 
+-- a balance within the limit that is read of the row under a key breaks no rule
+balance_unbroken : {R : Type 0} (key : R → ℕ) (balance : R → ℤ) (rows : List R) (n : ℕ) (z : ℤ)
+    (broken : Rule) → ((r : R) → row_at key rows n ≡ Some r → nat_abs (balance r) ≤ MAX_BALANCE)
+    → option_map balance (row_at key rows n) ≡ Some z → BreaksBalance z broken → ⊥
+balance_unbroken key balance rows n z broken within e breaks =
+    elim (by_option (row_at key rows n)) [
+      | inl none ↦ let h = rw none at e in cc
+      | inr some ↦
+          let is : balance some.0 ≡ z = (let h = rw some.1 at e in cc) in
+          not_beyond MAX_BALANCE z (subst (λ b. nat_abs b ≤ MAX_BALANCE) is (within some.0 some.1)) breaks.1
+    ]
+
 teller_sound : (t : Tables) (n : ℕ) (r : TellerRow) → IsUndamaged t → row_at teller_key t.tellers n ≡ Some r
     → IsSoundTeller r
 teller_sound t n r sound e = sound.each_teller r (found_within (λ x. nat_eq x.teller n) t.tellers r e)
 
+-- a teller that has its row has a number, which is 1 at least
+pub teller_some : (t : Tables) (n : ℕ) → IsUndamaged t → IsSome (row_at teller_key t.tellers n) → 1 ≤ n
+teller_some t n sound there = elim (by_option (row_at teller_key t.tellers n)) [
+  | inl none ↦ absurd (let no = rw none at there in cc)
+  | inr some ↦ subst (λ k. 1 ≤ k) (key_of_found teller_key t.tellers n some.0 some.1)
+      (teller_sound t n some.0 sound some.1).some
+]
+
 pub teller_unbroken : (t : Tables) (n : ℕ) (z : ℤ) (broken : Rule) → IsUndamaged t → teller_balance_in t n
     ≡ Some z → BreaksBalance z broken → ⊥
-teller_unbroken t n z broken sound e breaks =
-    elim (by_option (row_at teller_key t.tellers n)) [
-      | inl none ↦ let h = rw none at e in cc
-      | inr some ↦
-          let is : some.0.balance ≡ z = (let h = rw some.1 at e in cc) in
-          not_beyond MAX_BALANCE z
-          (subst (λ b. nat_abs b ≤ MAX_BALANCE) is (teller_sound t n some.0 sound some.1).balance) breaks.1
-    ]
+teller_unbroken t n z broken sound e =
+    balance_unbroken teller_key teller_balance_of t.tellers n z broken
+    (λ r is. (teller_sound t n r sound is).balance) e
 
 account_sound : (t : Tables) (n : ℕ) (r : AccountRow) → IsUndamaged t → row_at account_key t.accounts n
     ≡ Some r → IsSoundAccount r
@@ -130,14 +147,9 @@ account_sound t n r sound e = sound.each_account r (found_within (λ x. nat_eq x
 
 pub account_unbroken : (t : Tables) (n : ℕ) (z : ℤ) (broken : Rule) → IsUndamaged t → account_balance_in t n
     ≡ Some z → BreaksBalance z broken → ⊥
-account_unbroken t n z broken sound e breaks =
-    elim (by_option (row_at account_key t.accounts n)) [
-      | inl none ↦ let h = rw none at e in cc
-      | inr some ↦
-          let is : some.0.balance ≡ z = (let h = rw some.1 at e in cc) in
-          not_beyond MAX_BALANCE z
-          (subst (λ b. nat_abs b ≤ MAX_BALANCE) is (account_sound t n some.0 sound some.1).balance) breaks.1
-    ]
+account_unbroken t n z broken sound e =
+    balance_unbroken account_key account_balance_of t.accounts n z broken
+    (λ r is. (account_sound t n r sound is).balance) e
 
 -- ---- kept requests
 

@@ -20,7 +20,8 @@ use Rattle.bank_transactions.specs.Doing.{CommitsNothing}
 use Rattle.bank_transactions.specs.Doing.{IsBefore, IsFirstBroken, MayLeaveAfter, MayCommit, Reads, Undoes}
 use Rattle.bank_transactions.specs.Doing.{Consults, Transacts, TransactsBy}
 use Rattle.bank_transactions.proofs.Blamed.{Widens, comes, fault_within, met_within, same_moment, then_moment}
-use Rattle.bank_transactions.proofs.Chained.{does_for, does_read}
+use Rattle.bank_transactions.proofs.Chained.{does_for}
+use Rattle.bank_transactions.proofs.Statements.{does_read}
 
 -- ---- by what its parts answered, and with what it ended
 

@@ -35,7 +35,13 @@ fn branch_after<S: Alter>(
     Ok(Some(row))
 }
 
-/// Looks up the open branch with the least number above this one, none where no such branch is open.
+/// Looks up the open branch with the least number above this one, none where no such branch is open. One
+/// transaction, which changes nothing.
+///
+/// # Errors
+///
+/// `TableFault::Sqlite` where a call of `sqlite` failed, and `TableFault::Damaged` with the rule that the
+/// stored rows break.
 pub fn read_next_branch<S: Alter>(
     conn: &mut Connection<S>,
     after: u32,

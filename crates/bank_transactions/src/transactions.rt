@@ -18,7 +18,23 @@ use posting_rules::{LAST_BRANCH, MOST_ACCOUNTS, Opening};
 use sqlite::{Alter, Connection, Transaction};
 use store_rows::{TableFault, commit};
 
-/// Begins a transaction on what the last commit left.
+/// Makes it known that a connection outside a transaction shows, as long as it is open, what was committed
+/// last. A connection says so of itself only where it is asked whether a transaction goes on, so it is asked,
+/// for that clause alone: the answer is known, and nothing is done.
+pub fn note_settled<S: Alter>(conn: &Connection<S>)
+    requires { conn.now.in_transaction ≡ false }
+    ensures { IsTrue (state S.Store conn.now).is_open → (state S.Store conn.now).now
+        ≡ (state S.Store conn.now).committed }
+{
+    let _outside = conn.is_autocommit();
+}
+
+/// Begins a transaction on what the last commit left. The connection has to be outside of one.
+///
+/// # Errors
+///
+/// None: it can't fail, and takes nothing from the disk. A store that is closed or broken is met by the first
+/// part that reads or writes. Where the transaction is dropped and not given to [`finish`], all is undone.
 pub fn begin<S: Alter>(conn: &mut Connection<S>) -> Transaction<'_, S>
     requires { conn.old.in_transaction ≡ false }
     ensures same_reference { result.conn.ghost_name ≡ conn.entry.ghost_name }
@@ -26,11 +42,15 @@ pub fn begin<S: Alter>(conn: &mut Connection<S>) -> Transaction<'_, S>
     ensures settled { IsTrue (state S.Store conn.old).is_open → (state S.Store conn.old).now
         ≡ (state S.Store conn.old).committed }
 {
-    let _outside = conn.is_autocommit();
+    note_settled(conn);
     conn.transaction()
 }
 
 /// Ends a transaction: an answer of its parts is committed, and a fault undoes all.
+///
+/// # Errors
+///
+/// The fault of the parts, or `TableFault::Sqlite` where the commit failed.
 pub fn finish<S: Alter, X: Drop>(
     tx: Transaction<'_, S>,
     answer: Result<X, TableFault>,
@@ -42,7 +62,15 @@ pub fn finish<S: Alter, X: Drop>(
     Ok(answer)
 }
 
-/// Answers a request.
+/// Answers a request, in one transaction (TPC-B 1.2): the 200 bytes of its reply, whether it was posted or
+/// refused. The moment is that of the posting. What was answered is there after a stop.
+///
+/// # Errors
+///
+/// - `TableFault::Sqlite`: a call of `sqlite` failed with this error. Nothing of the request is kept, unless
+///   it was the commit that failed: then a stop may show later that it was.
+/// - `TableFault::Damaged`: the rows that were looked up break this rule, or a statement met that they do as
+///   it wrote. Everything is as it was, as long as the store is open.
 pub fn post<S: Alter>(
     conn: &mut Connection<S>,
     moment: Moment,
@@ -57,7 +85,12 @@ pub fn post<S: Alter>(
     finish(tx, reply)
 }
 
-/// Opens a branch, unless it is open.
+/// Opens a branch with its ten tellers and so many accounts, unless it is open: then it is said whether it
+/// has this count. One transaction.
+///
+/// # Errors
+///
+/// As [`post`].
 pub fn open_branch<S: Alter>(
     conn: &mut Connection<S>,
     branch: Branch,
@@ -74,7 +107,11 @@ pub fn open_branch<S: Alter>(
     finish(tx, opening)
 }
 
-/// Looks up the balance of an account, none where it isn't open.
+/// Looks up the balance of an account, none where it isn't open. One transaction, which changes nothing.
+///
+/// # Errors
+///
+/// As [`post`].
 pub fn read_balance<S: Alter>(
     conn: &mut Connection<S>,
     account: Account,

@@ -4,7 +4,7 @@ use Rattle.sqlite.specs.State.{HasCleanDisk}
 use Rattle.sqlite.specs.Held.{state}
 use Rattle.posting_batch.specs.View.{view}
 use Rattle.bank_transactions.proofs.Chained.{acts_read, does_err}
-use Rattle.bank_batches.proofs.Answered.{Judges, ready, leads_back, counts_none, answered_idle}
+use Rattle.bank_batches.proofs.Answered.{ready, leads_back, counts_none, answered_idle}
 use Rattle.bank_batches.proofs.Answered.{answered_written, answered_not}
 use Rattle.bank_batches.proofs.LookUps.{does_look}
 use Rattle.bank_batches.proofs.batches.answer_batch.Goals.{then-overlay-before+in_ok-write}
@@ -18,65 +18,38 @@ returns-in_err-fill-clause-says g c records made =
 
 pub returns-in_err-write-clause-says : goal.returns-in_err-write-clause-says
 returns-in_err-write-clause-says g c records made =
-    let judged = c.judge-overlay.ensures in
+    let j = c.judge-overlay.ensures in
     let o = view c.judge-overlay.result.overlay in
     let items = c.judge-overlay.result.replies.items in
-    let judges : Judges c.fill.new.batch c.args.moment o items =
-    record {
-      tables = judged.tables;
-      replies = judged.replies;
-      changes = judged.changes;
-      rising = judged.rising;
-      adds = judged.adds;
-      idle = judged.idle;
-    } in
     let same : c.from_residual-in_err-write.result ≡ Err c.in_err-write.field-0.0 = search rules in
     rw same (answered_not
     {g = g.S.Store} c.args.batch c.fill.new.batch records c.args.moment o items made
-    c.in_ok-fill.ensures.reads judges
+    c.in_ok-fill.ensures.reads j.tables j.replies j.changes j.rising j.adds j.idle
     (does_look c.in_ok-fill.ensures.says) c.in_err-write.ensures)
 
 pub returns-clause-says : goal.returns-clause-says
 returns-clause-says g c records made =
-    let judged = c.judge-overlay.ensures in
+    let j = c.judge-overlay.ensures in
     let o = view c.judge-overlay.result.overlay in
     let items = c.judge-overlay.result.replies.items in
-    let judges : Judges c.fill.new.batch c.args.moment o items =
-    record {
-      tables = judged.tables;
-      replies = judged.replies;
-      changes = judged.changes;
-      rising = judged.rising;
-      adds = judged.adds;
-      idle = judged.idle;
-    } in
     elim c.if-overlay-before.branch [
       | then-overlay-before+in_ok-write w ↦
           rw w.tx-is (answered_written
           {g = g.S.Store} c.args.batch c.fill.new.batch records c.args.moment o items made
-          c.in_ok-fill.ensures.reads judges
+          c.in_ok-fill.ensures.reads j.tables j.replies j.changes j.rising j.adds j.idle
           (does_look c.in_ok-fill.ensures.says) w.in_ok-write.ensures)
       | else-overlay-before w ↦
           rw w.tx-is (answered_idle
           {g = g.S.Store} c.args.batch c.fill.new.batch records c.args.moment o items made
-          c.in_ok-fill.ensures.reads judges
+          c.in_ok-fill.ensures.reads j.tables j.replies j.changes j.rising j.adds j.idle
           (does_look c.in_ok-fill.ensures.says) (omega (arith, w.if-overlay-before.false)))
     ]
 
 pub returns-clause-idle : goal.returns-clause-idle
 returns-clause-idle g c clean records made t shows so none =
-    let judged = c.judge-overlay.ensures in
+    let j = c.judge-overlay.ensures in
     let o = view c.judge-overlay.result.overlay in
     let items = c.judge-overlay.result.replies.items in
-    let judges : Judges c.fill.new.batch c.args.moment o items =
-    record {
-      tables = judged.tables;
-      replies = judged.replies;
-      changes = judged.changes;
-      rising = judged.rising;
-      adds = judged.adds;
-      idle = judged.idle;
-    } in
     let fill = c.in_ok-fill.ensures in
     elim c.if-overlay-before.branch [
       | then-overlay-before+in_ok-write w ↦
@@ -86,8 +59,8 @@ returns-clause-idle g c clean records made t shows so none =
           let first = does_look fill.says in
           absurd (w.if-overlay-before.true
           (counts_none
-          {g = g.S.Store} c.args.batch c.fill.new.batch records c.args.moment o items made fill.reads judges
-          first t told.0 none))
+          {g = g.S.Store} c.args.batch c.fill.new.batch records c.args.moment o items made fill.reads
+          j.tables j.replies j.changes j.rising j.adds j.idle first t told.0 none))
       | else-overlay-before w ↦
           let told = fill.says.says.told (rw w.tx-is at clean) t shows
           (ready c.args.batch records made t so) in
@@ -95,7 +68,8 @@ returns-clause-idle g c clean records made t shows so none =
           rw w.tx-is (record {
             leads = leads_back
                 {g = g.S.Store} c.args.batch c.fill.new.batch records c.args.moment o items made fill.reads
-                judges first (omega (arith, w.if-overlay-before.false)) t told.0;
+                j.tables j.replies j.changes j.rising j.adds j.idle first
+                (omega (arith, w.if-overlay-before.false)) t told.0;
             stays = told.1;
           })
     ]

@@ -6,53 +6,48 @@ use Rattle.posting_batch.specs.View.{view}
 use Rattle.bank_batches.proofs.LookUps.{reads_but, reads_so}
 use Rattle.bank_batches.proofs.Whole.{accounts_in, accounts_ready, branches_in, count_in, kept_in, plain}
 use Rattle.bank_batches.proofs.Whole.{same_now, tellers_in, tellers_ready}
-use Rattle.bank_batches.proofs.Whole.{to_accounts, with_counted}
 use Rattle.bank_batches.proofs.slots.fill.Goals as goal
 
 pub returns-in_err-fill_all-clause-says : goal.returns-in_err-fill_all-clause-says
 returns-in_err-fill_all-clause-says g c =
     let same : c.from_residual-in_err-fill_all.result ≡ Err c.in_err-fill_all.field-0.0 = search rules in
-    let o = view c.args.batch.now.overlay in
-    let s1 = count_in {g = g.S.Store} o _ c.in_ok-batch.ensures.says in
-    rw same (reads_but s1 c.in_err-fill_all.ensures (plain o _ (with_counted o) c.deref_mut.result.now))
+    let s1 = count_in {g = g.S.Store} (view c.args.batch.now.overlay) _ c.in_ok-batch.ensures.says in
+    rw same (reads_but s1 c.in_err-fill_all.ensures (plain _ _))
 
 pub returns-in_err-fill_all-2-clause-says : goal.returns-in_err-fill_all-2-clause-says
 returns-in_err-fill_all-2-clause-says g c =
     let same : c.from_residual-in_err-fill_all-2.result ≡ Err c.in_err-fill_all-2.field-0.0 = search rules in
-    let o = view c.args.batch.now.overlay in
     let bs = with_items_is c.args.batch.now.overlay.branches c.fill_all.new.slots
     (omega (arith, c.fill_all.auto.slots, c.deref_mut.ensures.len)) in
-    let s1 = count_in {g = g.S.Store} o _ c.in_ok-batch.ensures.says in
-    let s2 = branches_in o _ _ _ s1 c.deref_mut.ensures.value c.in_ok-fill_all.ensures in
+    let s1 = count_in {g = g.S.Store} (view c.args.batch.now.overlay) _ c.in_ok-batch.ensures.says in
+    let s2 = branches_in s1 c.deref_mut.ensures.value c.in_ok-fill_all.ensures in
     rw same (reads_but s2 c.in_err-fill_all-2.ensures
-    (tellers_ready o _ _ _ (c.deref.ensures.value ∙ bs) c.deref_mut-2.ensures.value))
+    (tellers_ready (c.deref.ensures.value ∙ bs) c.deref_mut-2.ensures.value))
 
 pub returns-in_err-fill_all-3-clause-says : goal.returns-in_err-fill_all-3-clause-says
 returns-in_err-fill_all-3-clause-says g c =
     let same : c.from_residual-in_err-fill_all-3.result ≡ Err c.in_err-fill_all-3.field-0.0 = search rules in
-    let o = view c.args.batch.now.overlay in
     let bs = with_items_is c.args.batch.now.overlay.branches c.fill_all.new.slots
     (omega (arith, c.fill_all.auto.slots, c.deref_mut.ensures.len)) in
-    let s1 = count_in {g = g.S.Store} o _ c.in_ok-batch.ensures.says in
-    let s2 = branches_in o _ _ _ s1 c.deref_mut.ensures.value c.in_ok-fill_all.ensures in
-    let s3 = tellers_in o _ _ _ _ s2
+    let s1 = count_in {g = g.S.Store} (view c.args.batch.now.overlay) _ c.in_ok-batch.ensures.says in
+    let s2 = branches_in s1 c.deref_mut.ensures.value c.in_ok-fill_all.ensures in
+    let s3 = tellers_in s2
     (c.deref.ensures.value ∙ bs) c.deref_mut-2.ensures.value c.in_ok-fill_all-2.ensures in
     rw same (reads_but s3 c.in_err-fill_all-3.ensures
-    (accounts_ready o _ _ _ (c.deref-2.ensures.value ∙ bs) c.deref_mut-3.ensures.value))
+    (accounts_ready (c.deref-2.ensures.value ∙ bs) c.deref_mut-3.ensures.value))
 
 pub returns-in_err-fill_all-4-clause-says : goal.returns-in_err-fill_all-4-clause-says
 returns-in_err-fill_all-4-clause-says g c =
     let same : c.from_residual-in_err-fill_all-4.result ≡ Err c.in_err-fill_all-4.field-0.0 = search rules in
-    let o = view c.args.batch.now.overlay in
     let bs = with_items_is c.args.batch.now.overlay.branches c.fill_all.new.slots
     (omega (arith, c.fill_all.auto.slots, c.deref_mut.ensures.len)) in
-    let s1 = count_in {g = g.S.Store} o _ c.in_ok-batch.ensures.says in
-    let s2 = branches_in o _ _ _ s1 c.deref_mut.ensures.value c.in_ok-fill_all.ensures in
-    let s3 = tellers_in o _ _ _ _ s2
+    let s1 = count_in {g = g.S.Store} (view c.args.batch.now.overlay) _ c.in_ok-batch.ensures.says in
+    let s2 = branches_in s1 c.deref_mut.ensures.value c.in_ok-fill_all.ensures in
+    let s3 = tellers_in s2
     (c.deref.ensures.value ∙ bs) c.deref_mut-2.ensures.value c.in_ok-fill_all-2.ensures in
-    let s4 = accounts_in o _ _ _ _ s3
+    let s4 = accounts_in s3
     (c.deref-2.ensures.value ∙ bs) c.deref_mut-3.ensures.value c.in_ok-fill_all-3.ensures in
-    rw same (reads_but s4 c.in_err-fill_all-4.ensures (plain o _ (to_accounts o) c.deref_mut-4.result.now))
+    rw same (reads_but s4 c.in_err-fill_all-4.ensures (plain _ _))
 
 pub returns-clause-says : goal.returns-clause-says
 returns-clause-says g c =
@@ -71,12 +66,12 @@ returns-clause-says g c =
     ≡ kv.len = omega (arith, c.fill_all-4.auto.slots, c.deref_mut-4.ensures.len) in
     let bs = with_items_is bv c.fill_all.new.slots b_len in
     let s1 = count_in {g = g.S.Store} o _ c.in_ok-batch.ensures.says in
-    let s2 = branches_in o _ _ _ s1 c.deref_mut.ensures.value c.in_ok-fill_all.ensures in
-    let s3 = tellers_in o _ _ _ _ s2
+    let s2 = branches_in s1 c.deref_mut.ensures.value c.in_ok-fill_all.ensures in
+    let s3 = tellers_in s2
     (c.deref.ensures.value ∙ bs) c.deref_mut-2.ensures.value c.in_ok-fill_all-2.ensures in
-    let s4 = accounts_in o _ _ _ _ s3
+    let s4 = accounts_in s3
     (c.deref-2.ensures.value ∙ bs) c.deref_mut-3.ensures.value c.in_ok-fill_all-3.ensures in
-    let s5 = kept_in o _ _ _ s4 c.deref_mut-4.ensures.value c.in_ok-fill_all-4.ensures in
+    let s5 = kept_in s4 c.deref_mut-4.ensures.value c.in_ok-fill_all-4.ensures in
     let held = same_now o c.in_ok-batch.field-0
     (with_items bv c.fill_all.new.slots).items c.fill_all.new.slots
     (with_items tv c.fill_all-2.new.slots).items c.fill_all-2.new.slots

@@ -4,7 +4,7 @@ use Rattle.std.specs.Prelude.{is_some}
 use Rattle.posting_rules.specs.Tables.{row_at, account_key, teller_key, branch_key}
 use Rattle.posting_rules.specs.declared.fault.Rule.TheVariants as rule
 use Rattle.store_rows.specs.SixTables.{account, teller, branch}
-use Rattle.bank_transactions.proofs.Chained.{does_write}
+use Rattle.bank_transactions.proofs.Statements.{does_write}
 use Rattle.bank_transactions.proofs.balances.write_balance.Goals as goal
 
 pub returns-in-Account : goal.returns-in-Account

@@ -14,7 +14,8 @@ use Rattle.store_rows.specs.Outcomes.{PutsOneRow}
 use Rattle.store_rows.specs.SixTables.{request}
 use Rattle.store_rows.specs.declared.fault.TableFault.{TableFault}
 use Rattle.bank_transactions.specs.Doing.{Does}
-use Rattle.bank_transactions.proofs.Chained.{does_then, does_err, does_for, does_add}
+use Rattle.bank_transactions.proofs.Chained.{does_then, does_err, does_for}
+use Rattle.bank_transactions.proofs.Statements.{does_add}
 use Rattle.bank_transactions.proofs.changes.keep_request.Goals as goal
 
 -- a row more, where its ordinal is free

@@ -15,7 +15,8 @@ use Rattle.bank_transactions.specs.Doing.{Does}
 use Rattle.bank_transactions.specs.Holders.{HasRow, with_balance}
 use Rattle.bank_transactions.specs.declared.balances.Holder.{Holder}
 use Rattle.bank_transactions.specs.declared.balances.Holder.TheVariants.{Account, Teller, Branch}
-use Rattle.bank_transactions.proofs.Chained.{does_then, does_err, does_for, does_add}
+use Rattle.bank_transactions.proofs.Chained.{does_then, does_err, does_for}
+use Rattle.bank_transactions.proofs.Statements.{does_add}
 use Rattle.bank_transactions.proofs.changes.move_money.Goals as goal
 
 -- the write of a balance

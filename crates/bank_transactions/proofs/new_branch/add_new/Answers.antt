@@ -18,7 +18,8 @@ use Rattle.bank_transactions.specs.Doing.{Does}
 use Rattle.bank_transactions.specs.NewRows.{is_taken, with_new}
 use Rattle.bank_transactions.specs.declared.new_branch.NewRows.{NewRows}
 use Rattle.bank_transactions.specs.declared.new_branch.NewRows.TheVariants.{Tellers, Accounts}
-use Rattle.bank_transactions.proofs.Chained.{does_for, does_add}
+use Rattle.bank_transactions.proofs.Chained.{does_for}
+use Rattle.bank_transactions.proofs.Statements.{does_add}
 use Rattle.bank_transactions.proofs.new_branch.add_new.Goals as goal
 
 -- of either kind: the row is the new one of its number

@@ -1,7 +1,8 @@
 -- What is added where no branch was found.
 use Rattle.std.proofs.Common.{◌≡◌, ℕ, None, Err, rules, refl, sym, subst, ◌∙◌}
 use Rattle.posting_rules.specs.Tables.{row_at, branch_key}
-use Rattle.bank_transactions.proofs.Chained.{acts_wrote, does_but, does_for, does_read}
+use Rattle.bank_transactions.proofs.Chained.{acts_wrote, does_but, does_for}
+use Rattle.bank_transactions.proofs.Statements.{does_read}
 use Rattle.bank_transactions.proofs.new_branch.open_inside.Goals as goal
 
 pub returns-in_err-add_whole_branch : goal.returns-in_err-add_whole_branch

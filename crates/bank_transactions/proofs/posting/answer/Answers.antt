@@ -1,6 +1,7 @@
 -- What is written after what was looked up.
 use Rattle.std.proofs.Common.{◌≡◌, Err, rules, refl}
-use Rattle.bank_transactions.proofs.Chained.{acts_wrote, does_but, does_for, does_read}
+use Rattle.bank_transactions.proofs.Chained.{acts_wrote, does_but, does_for}
+use Rattle.bank_transactions.proofs.Statements.{does_read}
 use Rattle.bank_transactions.proofs.posting.answer.Goals as goal
 
 pub returns-in_err-apply : goal.returns-in_err-apply
