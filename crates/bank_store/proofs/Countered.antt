@@ -125,7 +125,7 @@ takes {S} {X} {So} {after} {wanted} {g} {old} {new} {x} {Met} holds cs is are D 
       stands = λ clean log at. record {
         shows = shows clean log at.shows;
         up = up;
-        stop =
+        survives =
             λ trees may. (
               after at.shows.tables,
               (told clean log at.shows).2 trees may,
