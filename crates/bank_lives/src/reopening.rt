@@ -4,6 +4,7 @@ ghost use Rattle.sqlite.specs.Held.{state};
 ghost use Rattle.sqlite.specs.State.{HasCleanDisk, Opens};
 ghost use Rattle.posting_rules.specs.Commands.{Command};
 ghost use Rattle.posting_rules.specs.Counter.{StandsAt};
+ghost use Rattle.bank_store.specs.Opening.{KnowsCause};
 ghost use Rattle.bank_store.specs.Seen.{bank_seen};
 ghost use Rattle.bank_lives.specs.Lives.{IsFoundAgain, Life};
 
@@ -26,7 +27,7 @@ use store_rows::trees_law;
 /// # Errors
 ///
 /// On such disks only [`OpenFault::Store`](bank_store::OpenFault::Store): a call of `sqlite` failed. The
-/// connection comes back, and the bank can be taken up again over a new one.
+/// connection comes back outside a transaction, and the bank can be taken up again over a new one.
 pub fn reopen<S: Alter + Drop, T: Alter>(
     alloc: Global,
     stopped: &Bank<S>,
@@ -46,6 +47,9 @@ pub fn reopen<S: Alter + Drop, T: Alter>(
         → (first : _) (log given : List Command) (least : ℕ) → StandsAt (bank_seen S.Store first) log
         → Life (λ bank. bank_seen S.Store bank) first stopped.now given least
         → refused.fault ≡ OpenFault.Store) }
+    ensures up { IfOk result (λ bank. (bank_seen T.Store bank).is_down → ⊥) }
+    ensures cause { IfErr result (λ refused. KnowsCause T.Store conn refused.conn refused.fault) }
+    ensures idle { IfErr result (λ refused. refused.conn.in_transaction ≡ false) }
 {
     life_law(stopped);
     trees_law(&conn);

@@ -1,9 +1,11 @@
--- How a bank goes down, and the error that it keeps.
-use Rattle.std.specs.Prelude.{◌≡◌, ◌⊎◌, Option, Some, IsSome, ⊤}
+-- What a call answers, how a bank goes down, and the error that it keeps.
+use Rattle.std.specs.Prelude.{◌≡◌, ◌⊎◌, IfOk, List, Option, Some, IsSome, Result, ⊤}
 use Rattle.sqlite.specs.Held.{state}
 use Rattle.sqlite.specs.State.{State, Fails, HasCleanDisk, IsUnchanged}
 use Rattle.sqlite.specs.declared.error.Error.{Error}
 use Rattle.sqlite_trees.specs.declared.store.Store.{Ghosts}
+use Rattle.posting_rules.specs.Commands.{Command}
+use Rattle.posting_rules.specs.Counter.{ShowsLog, TellsDamage}
 use Rattle.posting_rules.specs.declared.fault.Fault.{Fault}
 use Rattle.posting_rules.specs.declared.fault.Fault.TheVariants as told
 use Rattle.posting_rules.specs.declared.fault.Rule.{Rule}
@@ -11,7 +13,7 @@ use Rattle.store_rows.specs.declared.fault.TableFault.{TableFault}
 use Rattle.store_rows.specs.declared.fault.TableFault.TheVariants.{Sqlite, Damaged}
 use Rattle.store_rows.specs.Rules.{IsBroken}
 use Rattle.bank_transactions.specs.Doing.{HasFailedBetween, IsBrokenOrMet}
-use Rattle.bank_store.specs.Seen.{cause_of, connection_of, database_of}
+use Rattle.bank_store.specs.Seen.{bank_seen, cause_of, connection_of, database_of}
 use Rattle.bank_store.specs.declared.bank.Bank.{Bank}
 
 -- the store failed, and its error is kept
@@ -38,6 +40,17 @@ pub record KeepsCause {S : Type 0} (g : Ghosts S) (old new : Bank S g) : Type 0 
   pub kept : IsSome (cause_of new)
   pub failed : HasCleanDisk (state g (connection_of new)) → (e : Error) → cause_of new ≡ Some e
       → HasFailedBetween g (connection_of old) (connection_of new) e
+
+-- what is answered is what follows from whatever log the bank showed
+abbrev pub AnswersBy : {S X : Type 0} (g : Ghosts S) → Bank S g → Bank S g → (List Command → X)
+    → Result X Fault → Type 0
+AnswersBy g old new wanted result = IfOk result (λ answer. (bank_seen g new).honest → (log : List Command)
+    → ShowsLog (bank_seen g old) log → answer ≡ wanted log)
+
+-- where damage is told, all that the file holds is as it was
+abbrev pub KeepsFile : {S : Type 0} (g : Ghosts S) → Bank S g → Bank S g → Fault → Type 0
+KeepsFile g old new fault = TellsDamage fault → (bank_seen g new).honest
+    → database_of g new ≡ database_of g old
 
 -- ---- the rule that is reported to be broken
 

@@ -1,12 +1,13 @@
 -- What a connection is seen as before a bank is made in it or found there, and what either call answers.
 use Rattle.std.specs.Prelude.{◌≡◌, ◌≢◌, ◌⊎◌, ◌≤◌, ◌<ℤ◌, if◌then◌else◌, IsTrue, ℕ, ℤ, pos, Bool, true, false}
 use Rattle.std.specs.Prelude.{List, [], ◌∷◌, ◌++◌, codes, Option, Some, None, Result, Ok, Err, ⊤}
+use Rattle.std.specs.Prelude.{IfErr, OnErr, OnOk}
 use Rattle.std.specs.Fmt.{decimal, signed_decimal}
 use Rattle.std.specs.List.{AllByRecursion}
 use Rattle.sqlite.specs.Table.{Table}
 use Rattle.sqlite.specs.Tree.{Trees}
 use Rattle.sqlite.specs.Effect.{Database, IsDatabase}
-use Rattle.sqlite.specs.State.{State, HasCleanDisk}
+use Rattle.sqlite.specs.State.{State, HasCleanDisk, Survives}
 use Rattle.sqlite.specs.State.{Shows as StateShows}
 use Rattle.sqlite.specs.Held.{Held, state}
 use Rattle.sqlite.specs.declared.error.Error.{Error}
@@ -22,7 +23,7 @@ use Rattle.sql_meanings.specs.Making.{KeepsTables}
 use Rattle.sql_meanings.specs.Outcomes.{IsThere, IsUnderstood}
 use Rattle.sql_meanings.specs.Tables.{Defines}
 use Rattle.store_rows.specs.Columns.{meta_in}
-use Rattle.store_rows.specs.Creation.{CreatesBank, IsAlone, RefusedIn, new_tables}
+use Rattle.store_rows.specs.Creation.{CreatesBank, HasNewBank, IsAlone, RefusedIn, new_tables}
 use Rattle.store_rows.specs.Probes.{IsNotUnderstood, six_probes}
 use Rattle.store_rows.specs.Probes as probe
 use Rattle.store_rows.specs.SixTables as six
@@ -258,6 +259,19 @@ pub record MakingFailed {S : Type 0} (g : Ghosts S) (old new : Held S) : Type 0 
 abbrev pub KnowsWhyUnmade : {S : Type 0} → Ghosts S → Held S → Held S → OpenFault → Type 0
 KnowsWhyUnmade g old new Store = HasCleanDisk (state g new) → CallFailed g old new ⊎ MakingFailed g old new
 KnowsWhyUnmade g old new _ = ⊤
+
+-- What a call that makes the tables comes to: a bank is made, or, as long as the store is open, nothing has
+-- changed. `Taken` says why there is something already. A stop leaves what it could leave before, or the new
+-- bank.
+pub record MakesBank {S : Type 0} (g : Ghosts S) (old new : Held S) (Taken : State → Type 0)
+    (result : Result (Unit {0}) OpenFault) : Type 0 where
+  pub made : HasCleanDisk (state g new) → OnOk result (BankIsMade (state g old) (state g new))
+  pub undone : HasCleanDisk (state g new) → OnErr result (IsUndoneIfOpen (state g old) (state g new))
+  pub fault : IfErr result IsUnmade
+  pub refused : HasCleanDisk (state g new) → IfErr result (λ fault. fault ≡ NotBlank → Taken (state g old))
+  pub cause : IfErr result (KnowsWhyUnmade g old new)
+  pub survives : Survives (state g old) (state g new) (HasNewBank (state g old).now)
+  pub mode : new.in_transaction ≡ false
 
 -- ---- the texts
 

@@ -41,6 +41,11 @@ coming Going items = items
 coming Ended items = []
 coming Failed items = items
 
+-- all of them, or those of an account where one is named
+abbrev pub given_of : {X : Type 0} → (Option ℕ → X → Bool) → Option ℕ → List X → List X
+given_of is_given None items = items
+given_of is_given (Some account) items = filter (is_given (Some account)) items
+
 -- those that were read ahead and not given yet, and those behind them
 abbrev pub items_to_come : {S R X : Type 0} {g : Ghosts S} → (X → ℤ) → (R → X) → (Option ℕ → X → Bool)
     → List X → Walk S R g → List X

@@ -13,9 +13,10 @@ ghost use Rattle.bank_store.specs.Opening.{conn_seen, state_in, ChecksMeta, Know
 ghost use Rattle.bank_store.specs.Opening.{IsReadOnly, IsUndoneIfOpen, IsUnread, IsOfOtherType, BankIsFound};
 ghost use Rattle.bank_store.specs.Opening.{SeeksBank};
 ghost use Rattle.bank_store.specs.Opening.{Misses, IsAsBefore};
-ghost use Rattle.bank_store.specs.Seen.{bank_seen, connection_of};
+ghost use Rattle.bank_store.specs.Seen.{alloc_of, bank_seen, connection_of};
 
 use crate::bank::Bank;
+use crate::laws::settled_law;
 use crate::presence::{Presence, tables_there};
 use crate::refused::{OpenFault, Refused, unread};
 use bank_transactions::begin;
@@ -61,7 +62,7 @@ fn settled_meta<S: Alter>(conn: &mut Connection<S>) -> Result<Option<StoredMeta>
     ensures mode { conn.new.in_transaction ≡ false }
     ensures survives { Survives (state S.Store conn.old) (state S.Store conn.new) (λ _. ⊥) }
 {
-    let _outside = conn.is_autocommit();
+    settled_law(conn);
     let meta = stored_meta(conn);
     match probe_meta(conn) {
         Ok(_) => meta,
@@ -127,6 +128,7 @@ pub fn adopt<S: Alter>(alloc: Global, mut conn: Connection<S>) -> Result<Bank<S>
     ensures stands { IfOk result (λ bank. (bank_seen S.Store bank).honest → (log : List Command)
         → StandsAt (conn_seen S.Store conn) log → StandsAt (bank_seen S.Store bank) log) }
     ensures up { IfOk result (λ bank. (bank_seen S.Store bank).is_down → ⊥) }
+    ensures alloc { IfOk result (λ bank. alloc_of bank ≡ alloc) }
     ensures missed { IfErr result (λ refused. HasCleanDisk (state S.Store refused.conn)
         → Misses (state S.Store conn) refused.fault) }
     ensures cause { IfErr result (λ refused. KnowsCause S.Store conn refused.conn refused.fault) }

@@ -13,6 +13,7 @@ ghost use Rattle.posting_rules.specs.Entries.{reply, balance_behind};
 ghost use Rattle.posting_rules.specs.Runs.{posts, replies_to};
 ghost use Rattle.posting_rules.specs.Tables.{Tables};
 
+use crate::laws::range_law;
 use crate::walks::read_outside;
 use arrayvec::ArrayVec;
 use bank_batches::post_all;
@@ -27,10 +28,12 @@ use posting_rules::{
 };
 use sqlite::{Alter, Connection, Error};
 use std::alloc::Global;
+use std::fmt;
 use store_rows::{TableFault, probe_meta};
 
 /// A bank over a connection, with the calls of [`Counter`]. Each call is one transaction, which is committed
-/// before the call answers `Ok`. Between calls no transaction is open.
+/// before the call answers `Ok` (TPC-B clause 2). Between calls no transaction is open. Amounts are whole
+/// cents, and moments whole seconds since 1970-01-01T00:00:00Z.
 ///
 /// # After a fault
 ///
@@ -63,6 +66,7 @@ impl<S: Alter> Bank<S> {
         requires { conn.in_transaction ≡ false }
         ensures conn { result.conn ≡ conn }
         ensures up { result.fault ≡ None }
+        ensures alloc { result.alloc ≡ alloc }
     {
         Bank {
             alloc,
@@ -71,8 +75,20 @@ impl<S: Alter> Bank<S> {
         }
     }
 
+    // The fault that a bank which is down answers to each call.
+    fn up(&self) -> Result<(), Fault>
+        ensures up { OnOk result ((bank_seen S.Store self.now).is_down → ⊥) }
+        ensures down { IfErr result (λ f. (f ≡ fault.Down) × (bank_seen S.Store self.now).is_down) }
+    {
+        if self.is_down() {
+            return Err(Fault::Down);
+        }
+        Ok(())
+    }
+
     /// Gives the connection back, outside a transaction and with the file as it is. Close it where the bank
     /// is down: [`adopt`](crate::adopt) takes the bank up again over a new one.
+    #[must_use]
     pub fn release(self) -> Connection<S>
         ensures same { result ≡ connection_of self }
         ensures idle { result.in_transaction ≡ false }
@@ -89,6 +105,7 @@ impl<S: Alter> Bank<S> {
 
     /// The error of `sqlite` that brought the bank down. There is none while the bank is up, and none if
     /// damaged rows brought it down.
+    #[must_use]
     pub fn cause(&self) -> Option<Error>
         ensures { result ≡ cause_of self.now }
     {
@@ -133,6 +150,7 @@ impl<S: Alter> Bank<S> {
     ghost use Rattle.bank_store.specs.Walks.{IsStill, IsUntouchedIfOpen};
 
     /// Whether a fault brought the bank down. Then each call answers [`Fault::Down`] and tries nothing.
+    #[must_use]
     pub fn is_down(&self) -> bool
         ensures { result ≡ is_some self.now.fault }
     {
@@ -140,6 +158,7 @@ impl<S: Alter> Bank<S> {
     }
 
     /// The allocator that the bank was made or taken up with.
+    #[must_use]
     pub fn alloc(&self) -> Global
         ensures { result ≡ alloc_of self.now }
     {
@@ -175,14 +194,23 @@ impl<S: Alter> Bank<S> {
     }
 }
 
+/// What brought the bank down; what it holds of its file is left out.
+impl<S: Alter> fmt::Debug for Bank<S> {
+    fn fmt<W: fmt::Write>(&self, f: &mut fmt::Formatter<W>) -> fmt::Result {
+        f.debug_struct("Bank")
+            .field("fault", &self.fault)
+            .finish_non_exhaustive()
+    }
+}
+
 /// Each call is one transaction. See [`Bank`] for what holds after each fault.
 impl<S: Alter + Drop> Counter for Bank<S> {
     ghost use Rattle.bank_batches.specs.Batches.{DecidesNone};
-    ghost use Rattle.bank_store.specs.Down.{KeepsCause, OfDamage, TellsFailure, WasBroken, WasBrokenOrMet};
+    ghost use Rattle.bank_store.specs.Down.{AnswersBy, KeepsCause, KeepsFile, OfDamage, TellsFailure};
+    ghost use Rattle.bank_store.specs.Down.{WasBroken, WasBrokenOrMet};
     ghost use Rattle.bank_store.specs.NoneOrAll.{LeavesNoneOrAll, HasOnly};
     ghost use Rattle.bank_store.specs.Seen.{bank_seen, database_of};
     ghost use Rattle.sqlite.specs.Effect.{Database};
-    ghost use Rattle.posting_rules.specs.Counter.{TellsDamage};
     ghost use Rattle.posting_rules.specs.Sound.{AreOfALog};
 
     ghost seen = { λ bank. bank_seen S.Store bank };
@@ -195,27 +223,22 @@ impl<S: Alter + Drop> Counter for Bank<S> {
     ghost leaves_something = { λ bank honest. S.Store.survives bank.conn.store honest };
 
     fn submit(&mut self, moment: Moment, bytes: &[u8; 100]) -> Result<[u8; 200], Fault>
-        ensures reply { IfOk result (λ out. (bank_seen S.Store self.new).honest → (log : List Command)
-            → ShowsLog (bank_seen S.Store self.old) log →
-            out ≡ reply_spelling (reply log bytes.now)) }
+        ensures reply { AnswersBy S.Store self.old self.new (λ log. reply_spelling (reply log bytes.now))
+            result }
         ensures done { OnOk result (Takes (bank_seen S.Store self.old) (bank_seen S.Store self.new)
             (Post moment bytes.now ∷ [])) }
         ensures up { OnOk result ((bank_seen S.Store self.new).is_down → ⊥) }
         ensures fault { IfErr result (λ fault. Refuses fault (bank_seen S.Store self.old)
             (bank_seen S.Store self.new) (Post moment bytes.now ∷ [])) }
-        ensures kept { IfErr result (λ fault. TellsDamage fault → (bank_seen S.Store self.new).honest
-            → database_of S.Store self.new ≡ database_of S.Store self.old) }
+        ensures kept { IfErr result (KeepsFile S.Store self.old self.new) }
         ensures frugal { result ≢ Err fault.Memory }
         ensures cause { IfErr result (λ fault. TellsFailure fault → KeepsCause S.Store self.old self.new) }
         ensures broken { IfErr result (λ fault. OfDamage fault (WasBrokenOrMet S.Store self.old self.new)) }
         ensures down { (bank_seen S.Store self.old).is_down → IsErrOf result Fault.Down }
         ensures honest { (bank_seen S.Store self.new).honest → (bank_seen S.Store self.old).honest }
     {
-        // A moment is in its range.
-        let _seconds = moment.get();
-        if self.fault.is_some() {
-            return Err(Fault::Down);
-        }
+        range_law(moment);
+        self.up()?;
         let Ok(request) = decode_request(bytes) else {
             let reply = Reply::new(Outcome::Malformed, None, None);
             return Ok(encode_reply(&reply.unwrap()));
@@ -234,8 +257,8 @@ impl<S: Alter + Drop> Counter for Bank<S> {
         requires few { length records.now ≤ RECORDS_PER_BATCH }
         ensures count { IfOk result (λ replies. length replies.items ≡ length records.now) }
         ensures replies { IfOk result (λ replies. (bank_seen S.Store self.new).honest → (log : List Command)
-            → ShowsLog (bank_seen S.Store self.old) log →
-            replies.items ≡ replies_to log (posts moment records.now)) }
+            → ShowsLog (bank_seen S.Store self.old) log
+            → replies.items ≡ replies_to log (posts moment records.now)) }
         ensures done { OnOk result (Takes (bank_seen S.Store self.old) (bank_seen S.Store self.new)
             (posts moment records.now)) }
         ensures up { OnOk result ((bank_seen S.Store self.new).is_down → ⊥) }
@@ -251,18 +274,14 @@ impl<S: Alter + Drop> Counter for Bank<S> {
             → (bank_seen S.Store self.old).tables t → AreOfALog t
             → DecidesNone t moment records.now
             → database_of S.Store self.new ≡ database_of S.Store self.old) }
-        ensures kept { IfErr result (λ fault. TellsDamage fault → (bank_seen S.Store self.new).honest
-            → database_of S.Store self.new ≡ database_of S.Store self.old) }
+        ensures kept { IfErr result (KeepsFile S.Store self.old self.new) }
         ensures cause { IfErr result (λ fault. TellsFailure fault → KeepsCause S.Store self.old self.new) }
         ensures broken { IfErr result (λ fault. OfDamage fault (WasBrokenOrMet S.Store self.old self.new)) }
         ensures down { (bank_seen S.Store self.old).is_down → IsErrOf result Fault.Down }
         ensures honest { (bank_seen S.Store self.new).honest → (bank_seen S.Store self.old).honest }
     {
-        // A moment is in its range.
-        let _seconds = moment.get();
-        if self.fault.is_some() {
-            return Err(Fault::Down);
-        }
+        range_law(moment);
+        self.up()?;
         let batch = Batch::new(self.alloc, records)?;
         match post_all(&mut self.conn, moment, batch) {
             Ok(replies) => Ok(replies),
@@ -274,27 +293,21 @@ impl<S: Alter + Drop> Counter for Bank<S> {
         requires branch { branch ≤ LAST_BRANCH }
         requires some { 1 ≤ count }
         requires few { count ≤ MOST_ACCOUNTS }
-        ensures answer { IfOk result (λ opening. (bank_seen S.Store self.new).honest → (log : List Command)
-            → ShowsLog (bank_seen S.Store self.old) log →
-            opening ≡ opening_behind log branch count) }
+        ensures answer { AnswersBy S.Store self.old self.new (λ log. opening_behind log branch count) result }
         ensures done { OnOk result (Takes (bank_seen S.Store self.old) (bank_seen S.Store self.new)
             (Open branch count ∷ [])) }
         ensures up { OnOk result ((bank_seen S.Store self.new).is_down → ⊥) }
         ensures fault { IfErr result (λ fault. Refuses fault (bank_seen S.Store self.old)
             (bank_seen S.Store self.new) (Open branch count ∷ [])) }
-        ensures kept { IfErr result (λ fault. TellsDamage fault → (bank_seen S.Store self.new).honest
-            → database_of S.Store self.new ≡ database_of S.Store self.old) }
+        ensures kept { IfErr result (KeepsFile S.Store self.old self.new) }
         ensures frugal { result ≢ Err fault.Memory }
         ensures cause { IfErr result (λ fault. TellsFailure fault → KeepsCause S.Store self.old self.new) }
         ensures broken { IfErr result (λ fault. OfDamage fault (WasBrokenOrMet S.Store self.old self.new)) }
         ensures down { (bank_seen S.Store self.old).is_down → IsErrOf result Fault.Down }
         ensures honest { (bank_seen S.Store self.new).honest → (bank_seen S.Store self.old).honest }
     {
-        // A branch is in its range.
-        let _number = branch.get();
-        if self.fault.is_some() {
-            return Err(Fault::Down);
-        }
+        range_law(branch);
+        self.up()?;
         match open_branch(&mut self.conn, branch, count) {
             Ok(opening) => Ok(opening),
             Err(fault) => Err(self.go_down(fault)),
@@ -302,26 +315,21 @@ impl<S: Alter + Drop> Counter for Bank<S> {
     }
 
     fn balance(&mut self, account: Account) -> Result<Option<Cents>, Fault>
-        ensures value { IfOk result (λ balance. (bank_seen S.Store self.new).honest → (log : List Command)
-            → ShowsLog (bank_seen S.Store self.old) log →
-            balance ≡ balance_behind log account) }
+        ensures value { AnswersBy S.Store self.old self.new (λ log. balance_behind log account) result }
         ensures done { OnOk result (Takes (bank_seen S.Store self.old) (bank_seen S.Store self.new) []) }
         ensures tables { OnOk result ((bank_seen S.Store self.new).honest → (t : Tables)
             → (bank_seen S.Store self.old).tables t → (bank_seen S.Store self.new).tables t) }
         ensures up { OnOk result ((bank_seen S.Store self.new).is_down → ⊥) }
         ensures fault { IfErr result (λ fault. Refuses fault (bank_seen S.Store self.old)
             (bank_seen S.Store self.new) []) }
-        ensures kept { IfErr result (λ fault. TellsDamage fault → (bank_seen S.Store self.new).honest
-            → database_of S.Store self.new ≡ database_of S.Store self.old) }
+        ensures kept { IfErr result (KeepsFile S.Store self.old self.new) }
         ensures frugal { result ≢ Err fault.Memory }
         ensures cause { IfErr result (λ fault. TellsFailure fault → KeepsCause S.Store self.old self.new) }
         ensures broken { IfErr result (λ fault. OfDamage fault (WasBroken S.Store self.old self.new)) }
         ensures down { (bank_seen S.Store self.old).is_down → IsErrOf result Fault.Down }
         ensures honest { (bank_seen S.Store self.new).honest → (bank_seen S.Store self.old).honest }
     {
-        if self.fault.is_some() {
-            return Err(Fault::Down);
-        }
+        self.up()?;
         match read_balance(&mut self.conn, account) {
             Ok(balance) => Ok(balance),
             Err(fault) => Err(self.go_down(fault)),
@@ -338,17 +346,14 @@ impl<S: Alter + Drop> Counter for Bank<S> {
         ensures up { OnOk result ((bank_seen S.Store self.new).is_down → ⊥) }
         ensures fault { IfErr result (λ fault.
             Refuses fault (bank_seen S.Store self.old) (bank_seen S.Store self.new) []) }
-        ensures kept { IfErr result (λ fault. TellsDamage fault → (bank_seen S.Store self.new).honest
-            → database_of S.Store self.new ≡ database_of S.Store self.old) }
+        ensures kept { IfErr result (KeepsFile S.Store self.old self.new) }
         ensures frugal { result ≢ Err fault.Memory }
         ensures cause { IfErr result (λ fault. TellsFailure fault → KeepsCause S.Store self.old self.new) }
         ensures broken { IfErr result (λ fault. OfDamage fault (WasBroken S.Store self.old self.new)) }
         ensures down { (bank_seen S.Store self.old).is_down → IsErrOf result Fault.Down }
         ensures honest { (bank_seen S.Store self.new).honest → (bank_seen S.Store self.old).honest }
     {
-        if self.fault.is_some() {
-            return Err(Fault::Down);
-        }
+        self.up()?;
         match read_next_branch(&mut self.conn, after) {
             Ok(next) => Ok(next.map(BranchLine::from)),
             Err(fault) => Err(self.go_down(fault)),

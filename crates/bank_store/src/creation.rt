@@ -1,5 +1,5 @@
 //! A new bank in a file: the six tables, empty but for the row of `meta`.
-ghost use Rattle.std.specs.Prelude.{◌≡◌, [], IfOk, IfErr, OnOk, OnErr, false};
+ghost use Rattle.std.specs.Prelude.{◌≡◌, [], IfOk, IfErr, OnOk, false};
 ghost use Rattle.sqlite.specs.State.{HasCleanDisk, Survives};
 ghost use Rattle.sqlite.specs.Held.{state};
 ghost use Rattle.posting_rules.specs.Counter.{StandsAt};
@@ -8,10 +8,9 @@ ghost use Rattle.sql_meanings.specs.Making.{KeepsTables};
 ghost use Rattle.store_rows.specs.Creation.{HasNewBank, IsAlone, IsEmpty};
 ghost use Rattle.store_rows.specs.Probes.{six_probes};
 ghost use Rattle.store_rows.specs.View.{Shows};
-ghost use Rattle.bank_store.specs.Opening.{state_in, IsPresent, BankIsMade, IsUndoneIfOpen, IsUnmade};
-ghost use Rattle.bank_store.specs.Opening.{IsRefusedOnTheWay};
-ghost use Rattle.bank_store.specs.Opening.{IsTaken, KnowsWhyUnmade};
-ghost use Rattle.bank_store.specs.Seen.{bank_seen, connection_of};
+ghost use Rattle.bank_store.specs.Opening.{state_in, IsPresent, IsRefusedOnTheWay, IsTaken, IsUndoneIfOpen};
+ghost use Rattle.bank_store.specs.Opening.{IsUnmade, KnowsWhyUnmade, MakesBank};
+ghost use Rattle.bank_store.specs.Seen.{alloc_of, bank_seen, connection_of};
 ghost use Rattle.bank_store.specs.declared.presence.Presence.TheVariants.{Absent};
 
 use crate::bank::Bank;
@@ -25,17 +24,7 @@ use store_rows::create_tables;
 // Makes the six tables and the first row of meta, in one transaction.
 fn make_tables<S: Alter>(conn: &mut Connection<S>) -> Result<(), OpenFault>
     requires { conn.old.in_transaction ≡ false }
-    ensures made { HasCleanDisk (state S.Store conn.new)
-        → OnOk result (BankIsMade (state S.Store conn.old) (state S.Store conn.new)) }
-    ensures undone { HasCleanDisk (state S.Store conn.new)
-        → OnErr result (IsUndoneIfOpen (state S.Store conn.old) (state S.Store conn.new)) }
-    ensures fault { IfErr result IsUnmade }
-    ensures refused { HasCleanDisk (state S.Store conn.new)
-        → IfErr result (λ fault. fault ≡ OpenFault.NotBlank → IsRefusedOnTheWay (state S.Store conn.old)) }
-    ensures cause { IfErr result (KnowsWhyUnmade S.Store conn.old conn.new) }
-    ensures survives { Survives (state S.Store conn.old) (state S.Store conn.new)
-        (HasNewBank (state S.Store conn.old).now) }
-    ensures mode { conn.new.in_transaction ≡ false }
+    ensures { MakesBank S.Store conn.old conn.new IsRefusedOnTheWay result }
 {
     let mut tx = begin(conn);
     match create_tables(&mut tx) {
@@ -53,17 +42,7 @@ fn make_bank<S: Alter>(conn: &mut Connection<S>) -> Result<(), OpenFault>
     requires { conn.old.in_transaction ≡ false }
     ensures blank { HasCleanDisk (state S.Store conn.new)
         → OnOk result (IsPresent (state S.Store conn.old).now six_probes Absent) }
-    ensures made { HasCleanDisk (state S.Store conn.new)
-        → OnOk result (BankIsMade (state S.Store conn.old) (state S.Store conn.new)) }
-    ensures undone { HasCleanDisk (state S.Store conn.new)
-        → OnErr result (IsUndoneIfOpen (state S.Store conn.old) (state S.Store conn.new)) }
-    ensures fault { IfErr result IsUnmade }
-    ensures refused { HasCleanDisk (state S.Store conn.new)
-        → IfErr result (λ fault. fault ≡ OpenFault.NotBlank → IsTaken (state S.Store conn.old)) }
-    ensures cause { IfErr result (KnowsWhyUnmade S.Store conn.old conn.new) }
-    ensures survives { Survives (state S.Store conn.old) (state S.Store conn.new)
-        (HasNewBank (state S.Store conn.old).now) }
-    ensures mode { conn.new.in_transaction ≡ false }
+    ensures makes { MakesBank S.Store conn.old conn.new IsTaken result }
 {
     match tables_there(conn)? {
         Presence::Absent => make_tables(conn),
@@ -95,6 +74,8 @@ pub fn create<S: Alter>(alloc: Global, mut conn: Connection<S>) -> Result<Bank<S
         → IsPresent (state S.Store conn).now six_probes Absent) }
     ensures new { IfOk result (λ bank. HasCleanDisk (state S.Store (connection_of bank)) → (tables : Tables)
         → Shows (state S.Store conn).now tables → ⊥) }
+    ensures up { IfOk result (λ bank. (bank_seen S.Store bank).is_down → ⊥) }
+    ensures alloc { IfOk result (λ bank. alloc_of bank ≡ alloc) }
     ensures undone { IfErr result (λ refused. HasCleanDisk (state S.Store refused.conn)
         → IsUndoneIfOpen (state S.Store conn) (state S.Store refused.conn)) }
     ensures fault { IfErr result (λ refused. IsUnmade refused.fault) }

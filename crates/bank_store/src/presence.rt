@@ -6,6 +6,7 @@ ghost use Rattle.store_rows.specs.Calls.{Probes};
 ghost use Rattle.store_rows.specs.Probes.{six_probes};
 ghost use Rattle.bank_store.specs.Opening.{joined, presence_of, probe_of, KnowsCause, TellsPresence};
 
+use crate::laws::settled_law;
 use crate::refused::OpenFault;
 use sqlite::{Alter, Connection, Error};
 use store_rows::{
@@ -81,7 +82,7 @@ fn count_tables<S: Alter>(
     ensures mode { conn.new.in_transaction ≡ false }
     ensures survives { Survives (state S.Store conn.old) (state S.Store conn.new) (λ _. ⊥) }
 {
-    let _outside = conn.is_autocommit();
+    settled_law(conn);
     let Ok(is_there) = probe(conn, first) else {
         return Err(OpenFault::Store);
     };

@@ -58,6 +58,15 @@ pub struct Refused<S: Alter> {
     pub conn: Connection<S>,
 }
 
+/// Why; the connection is left out.
+impl<S: Alter> fmt::Debug for Refused<S> {
+    fn fmt<W: fmt::Write>(&self, f: &mut fmt::Formatter<W>) -> fmt::Result {
+        f.debug_struct("Refused")
+            .field("fault", &self.fault)
+            .finish_non_exhaustive()
+    }
+}
+
 // Whether the error is the store's own, so that it says nothing of what the file has.
 fn is_of_the_store(e: &Error) -> bool
     ensures { result ≡ of_the_store e.now }

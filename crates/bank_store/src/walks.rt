@@ -14,6 +14,7 @@ ghost use Rattle.bank_walks.specs.Rows.{items_behind, items_from};
 ghost use Rattle.bank_store.specs.Walks.{IsStill, IsUntouchedIfOpen, TellsFault};
 
 use crate::bank::Bank;
+use crate::laws::settled_law;
 use arrayvec::ArrayVec;
 use bank_walks::{
     AHEAD, Joined, StoredAccount, StoredBranch, StoredPosting, StoredRequest, StoredTeller,
@@ -22,10 +23,11 @@ use bank_walks::{
 use message_records::Account;
 use posting_rules::Fault;
 use sqlite::{Alter, Connection};
+use std::fmt;
 use store_rows::TableFault;
 
 // How far a walk is: on its way, behind its last row, or behind a fault.
-#[derive(Clone, Copy, PartialEq, Eq)]
+#[derive(Clone, Copy, Debug, PartialEq, Eq)]
 pub(crate) enum Stage {
     Going,
     Ended,
@@ -54,6 +56,17 @@ pub struct Walk<'bank, S: Alter, R: WalkedRow> {
     // From which key on the others follow, none if there are no others.
     rest: Option<i64>,
     stage: Stage,
+}
+
+/// Whose rows it gives, how many of those read ahead it gave, and how far it is; the bank is left out.
+impl<S: Alter, R: WalkedRow> fmt::Debug for Walk<'_, S, R> {
+    fn fmt<W: fmt::Write>(&self, f: &mut fmt::Formatter<W>) -> fmt::Result {
+        f.debug_struct("Walk")
+            .field("of", &self.of)
+            .field("given", &self.given)
+            .field("stage", &self.stage)
+            .finish_non_exhaustive()
+    }
 }
 
 impl<S: Alter, R: WalkedRow> Drop for Walk<'_, S, R> {
@@ -106,7 +119,7 @@ pub(crate) fn read_outside<S: Alter, R: WalkedRow>(
     ensures mode { conn.new.in_transaction ≡ false }
     ensures survives { Survives (state S.Store conn.old) (state S.Store conn.new) (λ _. ⊥) }
 {
-    let _outside = conn.is_autocommit();
+    settled_law(conn);
     R::fill(conn, of, from, rows)
 }
 
@@ -247,7 +260,7 @@ impl<'bank, S: Alter, R: WalkedRow> Walk<'bank, S, R> {
 ghost use Rattle.std.specs.Prelude.{true, Some};
 ghost use Rattle.bank_store.specs.contracts.bank.Bank.{the_row};
 ghost use Rattle.bank_store.specs.Seen.{bank_seen, database_of};
-ghost use Rattle.bank_store.specs.Walking.{ComesFrom, items_to_come, lent, loan_of, to_come};
+ghost use Rattle.bank_store.specs.Walking.{ComesFrom, given_of, items_to_come, lent, loan_of, to_come};
 ghost use Rattle.bank_walks.specs.Pairs.{HasPairs, Pair, pair_key};
 ghost use Rattle.bank_walks.specs.Rows.{HasStoredRows, LEAST, entry_key};
 ghost use Rattle.bank_walks.specs.Stored.{account_entry, asked_pair, branch_entry, is_of, posted_pair};
@@ -256,15 +269,19 @@ ghost use Rattle.store_rows.specs.SixTables.{account as account_table, branch as
 ghost use Rattle.store_rows.specs.SixTables.{history as history_table, request as request_table};
 ghost use Rattle.store_rows.specs.SixTables.{teller as teller_table};
 
-// Begins a walk over all rows of a kind. The only fault is `Down`.
-fn each<S: Alter, R: WalkedRow>(bank: &mut Bank<S>) -> Result<Walk<'_, S, R>, Fault>
+// Begins a walk over the rows of a kind, those of an account where one is named. The only fault is `Down`.
+fn begin_walk<S: Alter, R: WalkedRow>(
+    bank: &mut Bank<S>,
+    of: Option<Account>,
+) -> Result<Walk<'_, S, R>, Fault>
     ensures* refused { sem 𝓛 (RestsIfErr (the_row S.row S.Store) bank.entry loan_of result
         (λ last. last ≡ bank.old)) }
     ensures same_reference { IfOk result (λ it. loan_of it ≡ bank.entry.ghost_name) }
     ensures same { IfOk result (λ it. lent it ≡ bank.old) }
     ensures all { IfOk result (λ it. (all : List R.WalkedRow.Item)
         → R.WalkedRow.HasItems (database_of S.Store bank.old) all
-        → items_to_come R.WalkedRow.key R.WalkedRow.item R.WalkedRow.is_given all it ≡ all) }
+        → items_to_come R.WalkedRow.key R.WalkedRow.item R.WalkedRow.is_given all it
+        ≡ given_of R.WalkedRow.is_given of all) }
     ensures rises { IfOk result (λ it. ComesFrom (λ r. R.WalkedRow.key (R.WalkedRow.item r)) LEAST it) }
     ensures fault { IfErr result (λ f. (f ≡ fault.Down) × (bank_seen S.Store bank.old).is_down) }
     ensures down { (bank_seen S.Store bank.old).is_down → IsErrOf result fault.Down }
@@ -272,10 +289,14 @@ fn each<S: Alter, R: WalkedRow>(bank: &mut Bank<S>) -> Result<Walk<'_, S, R>, Fa
     if bank.is_down() {
         return Err(Fault::Down);
     }
-    Ok(Walk::over(bank, None))
+    Ok(Walk::over(bank, of))
 }
 
-/// Begins a walk over the rows of `branch`, by the branch's number. Its only error is [`Fault::Down`].
+/// Begins a walk over the rows of `branch`, by the branch's number, with balances in cents (TPC-B 1.2).
+///
+/// # Errors
+///
+/// [`Fault::Down`] alone: a fault brought the bank down before. Nothing was tried.
 pub fn each_branch<S: Alter>(bank: &mut Bank<S>) -> Result<Walk<'_, S, StoredBranch>, Fault>
     ensures* refused { sem 𝓛 (RestsIfErr (the_row S.row S.Store) bank.entry loan_of result
         (λ last. last ≡ bank.old)) }
@@ -288,10 +309,14 @@ pub fn each_branch<S: Alter>(bank: &mut Bank<S>) -> Result<Walk<'_, S, StoredBra
     ensures fault { IfErr result (λ f. (f ≡ fault.Down) × (bank_seen S.Store bank.old).is_down) }
     ensures down { (bank_seen S.Store bank.old).is_down → IsErrOf result fault.Down }
 {
-    each(bank)
+    begin_walk(bank, None)
 }
 
-/// Begins a walk over the rows of `teller`, by the teller's number. Its only error is [`Fault::Down`].
+/// Begins a walk over the rows of `teller`, by the teller's number, with balances in cents (TPC-B 1.2).
+///
+/// # Errors
+///
+/// [`Fault::Down`] alone: a fault brought the bank down before. Nothing was tried.
 pub fn each_teller<S: Alter>(bank: &mut Bank<S>) -> Result<Walk<'_, S, StoredTeller>, Fault>
     ensures* refused { sem 𝓛 (RestsIfErr (the_row S.row S.Store) bank.entry loan_of result
         (λ last. last ≡ bank.old)) }
@@ -304,10 +329,14 @@ pub fn each_teller<S: Alter>(bank: &mut Bank<S>) -> Result<Walk<'_, S, StoredTel
     ensures fault { IfErr result (λ f. (f ≡ fault.Down) × (bank_seen S.Store bank.old).is_down) }
     ensures down { (bank_seen S.Store bank.old).is_down → IsErrOf result fault.Down }
 {
-    each(bank)
+    begin_walk(bank, None)
 }
 
-/// Begins a walk over the rows of `account`, by the account's number. Its only error is [`Fault::Down`].
+/// Begins a walk over the rows of `account`, by the account's number, with balances in cents (TPC-B 1.2).
+///
+/// # Errors
+///
+/// [`Fault::Down`] alone: a fault brought the bank down before. Nothing was tried.
 pub fn each_account<S: Alter>(bank: &mut Bank<S>) -> Result<Walk<'_, S, StoredAccount>, Fault>
     ensures* refused { sem 𝓛 (RestsIfErr (the_row S.row S.Store) bank.entry loan_of result
         (λ last. last ≡ bank.old)) }
@@ -320,11 +349,15 @@ pub fn each_account<S: Alter>(bank: &mut Bank<S>) -> Result<Walk<'_, S, StoredAc
     ensures fault { IfErr result (λ f. (f ≡ fault.Down) × (bank_seen S.Store bank.old).is_down) }
     ensures down { (bank_seen S.Store bank.old).is_down → IsErrOf result fault.Down }
 {
-    each(bank)
+    begin_walk(bank, None)
 }
 
 /// Begins a walk over the postings of an account: its rows of `history`, in the order in which they were
-/// posted. Its only error is [`Fault::Down`].
+/// posted (TPC-B 1.2). Amounts are cents, moments seconds since 1970.
+///
+/// # Errors
+///
+/// [`Fault::Down`] alone: a fault brought the bank down before. Nothing was tried.
 pub fn history_of<S: Alter>(
     bank: &mut Bank<S>,
     account: Account,
@@ -340,14 +373,15 @@ pub fn history_of<S: Alter>(
     ensures fault { IfErr result (λ f. (f ≡ fault.Down) × (bank_seen S.Store bank.old).is_down) }
     ensures down { (bank_seen S.Store bank.old).is_down → IsErrOf result fault.Down }
 {
-    if bank.is_down() {
-        return Err(Fault::Down);
-    }
-    Ok(Walk::over(bank, Some(account)))
+    begin_walk(bank, Some(account))
 }
 
 /// Begins a walk over the kept requests: the rows of `request` in the order in which they were decided, each
-/// with the posting of its ordinal, if there is one. Its only error is [`Fault::Down`].
+/// with the posting of its ordinal, if there is one.
+///
+/// # Errors
+///
+/// [`Fault::Down`] alone: a fault brought the bank down before. Nothing was tried.
 pub fn each_request<S: Alter>(
     bank: &mut Bank<S>,
 ) -> Result<Walk<'_, S, Joined<StoredRequest, StoredPosting>>, Fault>
@@ -362,11 +396,15 @@ pub fn each_request<S: Alter>(
     ensures fault { IfErr result (λ f. (f ≡ fault.Down) × (bank_seen S.Store bank.old).is_down) }
     ensures down { (bank_seen S.Store bank.old).is_down → IsErrOf result fault.Down }
 {
-    each(bank)
+    begin_walk(bank, None)
 }
 
 /// Begins a walk over the postings: the rows of `history` in the order in which they were posted, each with
-/// the request of its ordinal, if there is one. Its only error is [`Fault::Down`].
+/// the request of its ordinal, if there is one.
+///
+/// # Errors
+///
+/// [`Fault::Down`] alone: a fault brought the bank down before. Nothing was tried.
 pub fn each_history<S: Alter>(
     bank: &mut Bank<S>,
 ) -> Result<Walk<'_, S, Joined<StoredPosting, StoredRequest>>, Fault>
@@ -381,5 +419,5 @@ pub fn each_history<S: Alter>(
     ensures fault { IfErr result (λ f. (f ≡ fault.Down) × (bank_seen S.Store bank.old).is_down) }
     ensures down { (bank_seen S.Store bank.old).is_down → IsErrOf result fault.Down }
 {
-    each(bank)
+    begin_walk(bank, None)
 }

@@ -15,7 +15,7 @@ returns-in-Ok-clause-stands g c clean =
     let same = c.over.ensures.conn in
     let ended : HasCleanDisk (state g.S.Store c.make_bank.new.conn) =
     subst (λ h. HasCleanDisk (state g.S.Store h)) same clean in
-    let made = c.in-Ok.ensures.made ended in
+    let made = c.in-Ok.ensures.makes.made ended in
     let up : IsSome c.over.result.fault → ⊥ =
     λ some. (let none = c.over.ensures.up in let h = rw none at some in cc) in
     stands_empty (state g.S.Store c.args.conn) (state g.S.Store c.over.result.conn)
@@ -29,7 +29,8 @@ returns-in-Ok-clause-new g c clean t =
     no_bank (state g.S.Store c.args.conn).now t (c.in-Ok.ensures.blank ended)
 
 pub returns-in-Err-clause-empty : goal.returns-in-Err-clause-empty
-returns-in-Err-clause-empty g c clean empty = elim c.in-Err.ensures.fault [
+returns-in-Err-clause-empty g c clean empty = elim c.in-Err.ensures.makes.fault [
   | inl store ↦ store
-  | inr taken ↦ absurd (not_taken (state g.S.Store c.args.conn) empty (c.in-Err.ensures.refused clean taken))
+  | inr taken ↦ absurd (not_taken (state g.S.Store c.args.conn) empty
+      (c.in-Err.ensures.makes.refused clean taken))
 ]

@@ -26,44 +26,59 @@ returns-in-Absent-clause-blank g c clean =
     (c.in_ok-tables_there.ensures.told midway) in
     on_ok _ there.0 c.make_tables.result
 
-pub returns-in-Absent-clause-refused : goal.returns-in-Absent-clause-refused
-returns-in-Absent-clause-refused g c clean =
-    let old = state g.S.Store c.args.conn.now in
-    let mid = state g.S.Store c.tables_there.new.conn in
-    let midway : HasCleanDisk mid = omega (arith, c.make_tables.ensures.survives.clean) in
-    let there = c.in_ok-tables_there.ensures.told midway in
-    if_err (λ fault. fault ≡ NotBlank → IsRefusedOnTheWay mid) (λ fault. fault ≡ NotBlank → IsTaken old)
-    (λ fault refused taken. inr (refused_before old mid there.1.now_is c.tables_there.ensures.survives.limit
-    (refused taken)))
-    c.make_tables.result (c.make_tables.ensures.refused clean)
-
-pub returns-in_default : goal.returns-in_default
-returns-in_default g c = record {
-  blank = search rules;
+pub returns-in-Absent-clause-makes : goal.returns-in-Absent-clause-makes
+returns-in-Absent-clause-makes g c = record {
   made = search rules;
+  undone = search rules;
+  fault = search rules;
+  refused =
+      λ clean.
+      let old = state g.S.Store c.args.conn.now in
+      let mid = state g.S.Store c.tables_there.new.conn in
+      let midway : HasCleanDisk mid = omega (arith, c.make_tables.ensures.survives.clean) in
+      let there = c.in_ok-tables_there.ensures.told midway in
+      if_err (λ fault. fault ≡ NotBlank → IsRefusedOnTheWay mid) (λ fault. fault ≡ NotBlank → IsTaken old)
+      (λ fault refused taken. inr (refused_before old mid there.1.now_is
+      c.tables_there.ensures.survives.limit (refused taken)))
+      c.make_tables.result (c.make_tables.ensures.refused clean);
+  cause =
+      let old = c.args.conn.now in
+      let mid = c.tables_there.new.conn in
+      let new = c.make_tables.new.conn in
+      if_err (KnowsWhyUnmade g.S.Store mid new) (KnowsWhyUnmade g.S.Store old new)
+      (unmade_within g.S.Store old mid new new (comes c.tables_there.ensures.survives) (λ clean. clean)
+      (same_moment (state g.S.Store new)))
+      c.make_tables.result c.make_tables.ensures.cause;
+  survives = search rules;
+  mode = search rules;
+}
+
+pub returns-in_default-clause-makes : goal.returns-in_default-clause-makes
+returns-in_default-clause-makes g c = record {
+  made = λ clean. tt;
   undone = search rules;
   fault = search rules;
   refused =
       λ clean taken. inl (some_there (state g.S.Store c.args.conn.now).now c.in_ok-tables_there.field-0
       c.in_default.not-Absent
       (c.in_ok-tables_there.ensures.told clean).0);
-  cause = search rules;
+  cause = tt;
   survives = search rules;
   mode = search rules;
 }
 
-pub returns-in_err-tables_there-clause-cause : goal.returns-in_err-tables_there-clause-cause
-returns-in_err-tables_there-clause-cause g c =
+pub returns-in_err-tables_there-clause-makes : goal.returns-in_err-tables_there-clause-makes
+returns-in_err-tables_there-clause-makes g c =
     let e = c.in_err-tables_there in
     let is : c.from_residual.result ≡ Err e.field-0.0 = search rules in
-    rw is (unmade_as_known g.S.Store c.args.conn.now c.tables_there.new.conn e.field-0.0 e.ensures.cause)
-
-pub returns-in-Absent-clause-cause : goal.returns-in-Absent-clause-cause
-returns-in-Absent-clause-cause g c =
-    let old = c.args.conn.now in
-    let mid = c.tables_there.new.conn in
-    let new = c.make_tables.new.conn in
-    if_err (KnowsWhyUnmade g.S.Store mid new) (KnowsWhyUnmade g.S.Store old new)
-    (unmade_within g.S.Store old mid new new (comes c.tables_there.ensures.survives) (λ clean. clean)
-    (same_moment (state g.S.Store new)))
-    c.make_tables.result c.make_tables.ensures.cause
+    record {
+      made = search rules;
+      undone = search rules;
+      fault = search rules;
+      refused = search rules;
+      cause =
+          rw is (unmade_as_known g.S.Store c.args.conn.now c.tables_there.new.conn e.field-0.0
+          e.ensures.cause);
+      survives = search rules;
+      mode = search rules;
+    }

@@ -1,5 +1,5 @@
 -- What a balance comes to.
-use Rattle.std.proofs.Common.{[], rules, ◌∙◌}
+use Rattle.std.proofs.Common.{[], ◌∙◌}
 use Rattle.std.specs.Prelude.{IsSome}
 use Rattle.posting_rules.proofs.Calls.{stays}
 use Rattle.posting_rules.proofs.Looked.{balance_shown}
@@ -26,7 +26,7 @@ returns-in-Ok-clause-value g c clean log s =
 pub returns-in-Ok-clause-done : goal.returns-in-Ok-clause-done
 returns-in-Ok-clause-done g c =
     let Down = IsSome c.args.self.now.fault in
-    takes sound_tables [] stays tt Down Down (search rules) c.in-Ok.ensures.says
+    takes sound_tables [] stays tt Down Down c.in_ok-up.ensures.up c.in-Ok.ensures.says
 
 pub returns-in-Ok-clause-tables : goal.returns-in-Ok-clause-tables
 returns-in-Ok-clause-tables g c clean t shows = c.in-Ok.ensures.same clean t shows

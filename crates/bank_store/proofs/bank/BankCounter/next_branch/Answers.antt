@@ -34,7 +34,7 @@ returns-in-Ok-clause-line g c clean log s =
 pub returns-in-Ok-clause-done : goal.returns-in-Ok-clause-done
 returns-in-Ok-clause-done g c =
     let Down = IsSome c.args.self.now.fault in
-    takes sound_tables [] stays tt Down Down (search rules) c.in-Ok.ensures.says
+    takes sound_tables [] stays tt Down Down c.in_ok-up.ensures.up c.in-Ok.ensures.says
 
 pub returns-in-Err-clause-fault : goal.returns-in-Err-clause-fault
 returns-in-Err-clause-fault g c = (refused g c).fault

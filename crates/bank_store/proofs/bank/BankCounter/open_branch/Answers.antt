@@ -1,5 +1,5 @@
 -- What an opening comes to.
-use Rattle.std.proofs.Common.{◌≤◌, [], ◌∷◌, rules, arith, ◌∙◌}
+use Rattle.std.proofs.Common.{◌≤◌, [], ◌∷◌, ◌∙◌}
 use Rattle.std.specs.Prelude.{IsSome}
 use Rattle.posting_rules.specs.Commands.{Open, AreCommands}
 use Rattle.posting_rules.proofs.Calls.{opens, answers}
@@ -17,7 +17,7 @@ refused : (g : Over) (c : goal.After-go_down g)
 refused g c =
     let b = c.args.branch in
     let count = c.args.count in
-    let above : 1 ≤ b = omega (arith, c.get-number.ensures.value, c.get-number.ensures.least) in
+    let above : 1 ≤ b = c.range_law.ensures.least in
     let are : AreCommands (Open b count ∷ []) =
     ((above, c.requires.branch, c.requires.some, c.requires.few), tt) in
     transaction_refused g.S.Store c.args.self.now c.go_down.new.self c.open_branch.new.conn sound_tables
@@ -35,11 +35,11 @@ pub returns-in-Ok-clause-done : goal.returns-in-Ok-clause-done
 returns-in-Ok-clause-done g c =
     let b = c.args.branch in
     let count = c.args.count in
-    let above : 1 ≤ b = omega (arith, c.get-number.ensures.value, c.get-number.ensures.least) in
+    let above : 1 ≤ b = c.range_law.ensures.least in
     let are : AreCommands (Open b count ∷ []) =
     ((above, c.requires.branch, c.requires.some, c.requires.few), tt) in
     let Down = IsSome c.args.self.now.fault in
-    takes sound_tables (Open b count ∷ []) (opens b count above c.requires.few) are Down Down (search rules)
+    takes sound_tables (Open b count ∷ []) (opens b count above c.requires.few) are Down Down c.in_ok-up.ensures.up
     c.in-Ok.ensures
 
 pub returns-in-Err-clause-fault : goal.returns-in-Err-clause-fault

@@ -1,5 +1,5 @@
 -- What a record comes to.
-use Rattle.std.proofs.Common.{◌≡◌, [], ◌∷◌, Ok, rules, arith, ◌∙◌}
+use Rattle.std.proofs.Common.{◌≡◌, [], ◌∷◌, Ok, rules, ◌∙◌}
 use Rattle.std.specs.Prelude.{IsSome}
 use Rattle.message_records.specs.Reading.{request_of}
 use Rattle.posting_rules.specs.Commands.{Post, AreCommands}
@@ -20,7 +20,7 @@ refused g c =
     let bytes = c.args.bytes.now in
     let read : request_of bytes ≡ Ok c.in-Ok.request = search rules in
     let are : AreCommands (Post m bytes ∷ []) =
-    ((omega (arith, c.get-seconds.ensures.value, c.get-seconds.ensures.most), search rules), tt) in
+    ((c.range_law.ensures.most, search rules), tt) in
     transaction_refused g.S.Store c.args.self.now c.go_down.new.self c.post.new.conn sound_tables
     (Post m bytes ∷ [])
     (posts m bytes c.in-Ok.request read) are c.in-Err.fault c.go_down.result c.go_down.ensures.down
@@ -39,9 +39,9 @@ returns-in-Ok-post-clause-done g c =
     let bytes = c.args.bytes.now in
     let read : request_of bytes ≡ Ok c.in-Ok.request = search rules in
     let are : AreCommands (Post m bytes ∷ []) =
-    ((omega (arith, c.get-seconds.ensures.value, c.get-seconds.ensures.most), search rules), tt) in
+    ((c.range_law.ensures.most, search rules), tt) in
     let Down = IsSome c.args.self.now.fault in
-    takes sound_tables (Post m bytes ∷ []) (posts m bytes c.in-Ok.request read) are Down Down (search rules)
+    takes sound_tables (Post m bytes ∷ []) (posts m bytes c.in-Ok.request read) are Down Down c.in_ok-up.ensures.up
     c.in-Ok-post.ensures
 
 pub returns-in-Err-clause-fault : goal.returns-in-Err-clause-fault

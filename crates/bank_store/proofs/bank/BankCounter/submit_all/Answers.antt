@@ -1,5 +1,5 @@
 -- What records come to.
-use Rattle.std.proofs.Common.{rules, arith, refl, ◌∙◌}
+use Rattle.std.proofs.Common.{refl, ◌∙◌}
 use Rattle.std.specs.Prelude.{IsSome}
 use Rattle.posting_rules.specs.Commands.{AreCommands}
 use Rattle.posting_rules.specs.Runs.{posts}
@@ -22,7 +22,7 @@ refused g c =
     let m = c.args.moment in
     let rs = c.args.records.now in
     let are : AreCommands (posts m rs) =
-    are_posts m rs (omega (arith, c.get-seconds.ensures.value, c.get-seconds.ensures.most)) c.told-records in
+    are_posts m rs (c.range_law.ensures.most) c.told-records in
     transaction_refused g.S.Store c.args.self.now c.go_down.new.self c.post_all.new.conn of_logs (posts m rs)
     (posts_all m rs) are
     c.in-Err.fault c.go_down.result c.go_down.ensures.down c.go_down.ensures.survives
@@ -40,9 +40,9 @@ returns-in-Ok-clause-done g c =
     let m = c.args.moment in
     let rs = c.args.records.now in
     let are : AreCommands (posts m rs) =
-    are_posts m rs (omega (arith, c.get-seconds.ensures.value, c.get-seconds.ensures.most)) c.told-records in
+    are_posts m rs (c.range_law.ensures.most) c.told-records in
     let Down = IsSome c.args.self.now.fault in
-    takes of_logs (posts m rs) (posts_all m rs) are Down Down (search rules)
+    takes of_logs (posts m rs) (posts_all m rs) are Down Down c.in_ok-up.ensures.up
     (c.in-Ok.ensures.says rs c.in_ok-batch.ensures.made)
 
 pub returns-in-Ok-clause-none_or_all : goal.returns-in-Ok-clause-none_or_all
