@@ -24,7 +24,8 @@ pub record Audits (old new : Seen) (told : Result Audit Fault) : Type 0 where
   pub sound : (rule : Rule) → told ≡ Err (Damaged rule) → new.honest → (log : List Command) → ShowsLog old log
       → ⊥
   pub done : OnOk told (Takes old new [])
-  pub survives : new.honest → (log : List Command) → StandsAt old log → LeavesOnly new (λ t. AreTablesOf t log)
+  pub survives : new.honest → (log : List Command) → StandsAt old log
+      → LeavesOnly new (λ t. AreTablesOf t log)
 
 -- no bank was found, and nothing was printed; or the files' bank was audited
 abbrev pub AuditsIn : {C : Type 0} → (C → Seen) → Image → (w w' : Option (List ℕ)) → (Unfound : Type 0)

@@ -42,7 +42,8 @@ pub record States (old new : Seen) (account : ℕ) (w w' : Option (List ℕ))
   pub sound : (rule : Rule) → told ≡ Err (report.Bank (Damaged rule)) → new.honest → (log : List Command)
       → ShowsLog old log → ⊥
   pub done : HasAnswered told → Takes old new []
-  pub survives : new.honest → (log : List Command) → StandsAt old log → LeavesOnly new (λ t. AreTablesOf t log)
+  pub survives : new.honest → (log : List Command) → StandsAt old log
+      → LeavesOnly new (λ t. AreTablesOf t log)
 
 -- no bank was found, and nothing was written; or the statement of an account of the files' bank was
 abbrev pub StatesIn : {C : Type 0} → (C → Seen) → Image → ℕ → (w w' : Option (List ℕ)) → (Unfound : Type 0)

@@ -1,9 +1,7 @@
 //! The records of a bank, and the types of their fields. A request is [`REQUEST_BYTES`] bytes of ASCII, and
-//! its
-//! reply is [`REPLY_BYTES`] (TPC-A, contents of the messages). Each value has one spelling: what is written
-//! is
-//! read again as the same value, and no other bytes are read as it. A program that writes a request and reads
-//! it:
+//! its reply is [`REPLY_BYTES`] (TPC-A, contents of the messages). Each value has one spelling: what is
+//! written is read again as the same value, and no other bytes are read as it. A program that writes a
+//! request and reads it:
 //!
 //! ```rust
 //! use message_records::{Account, Branch, Cents, Number, Request, Teller};

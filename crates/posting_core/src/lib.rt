@@ -1,7 +1,6 @@
 //! Records to a bank and replies from it: the bank in memory, and the functions that take records from any
 //! reader to any counter and write the replies to any writer. What a posting is says the crate
-//! `posting_rules`,
-//! whose names can be used from here too. A program that answers a stream of records:
+//! `posting_rules`, whose names can be used from here too. A program that answers a stream of records:
 //!
 //! ```rust
 //! use message_records::Branch;
@@ -19,11 +18,9 @@
 //!
 //! Three types say what can fail, and what holds afterwards. [`Fault`] is a counter's: `Memory` (nothing has
 //! changed, and the counter can be used), `Store` and `Damaged` (the counter is down from then on), and
-//! `Down`
-//! (it went down in an earlier call). [`OnceFault`] and [`StreamFault`] are those of [`answer_once`] and
-//! [`post_stream`]: the input ended within a record, a read failed, a write failed, or the counter answered
-//! with
-//! a `Fault`.
+//! `Down` (it went down in an earlier call). [`OnceFault`] and [`StreamFault`] are those of [`answer_once`]
+//! and [`post_stream`]: the input ended within a record, a read failed, a write failed, or the counter
+//! answered with a `Fault`.
 //!
 //! Read next: the trait [`Counter`], which every bank implements; [`post_stream`], with its contract in
 //! `specs/Stream`.
