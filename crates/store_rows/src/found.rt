@@ -1,4 +1,4 @@
-//! A row that was asked for, as what it stands for.
+//! A row that was asked for, as the value that it holds.
 ghost use Rattle.std.specs.Prelude.{IfErr};
 ghost use Rattle.store_rows.specs.Failures.{IsUnreadable, ReadsAnswer};
 ghost use Rattle.store_rows.specs.Forms.{Form};
@@ -11,7 +11,7 @@ use message_records::Cents;
 use posting_rules::Rule;
 use sqlite::{Error, Row};
 
-/// What a row stands for.
+/// The value that a row holds.
 pub(crate) trait FromRow: Copy {
     /// How it does.
     ghost form: { Form Self };
@@ -34,7 +34,7 @@ impl FromRow for Cents {
     }
 }
 
-/// What the row stands for that a query answered, none where it found no row.
+/// The value of the row that a query answered, if it found one.
 pub(crate) fn found<R: FromRow>(answer: Result<Row, Error>) -> Result<Option<R>, TableFault>
     ensures reads { ReadsAnswer (ReadsRow R.form.shown R.form.Breaks) answer result }
     ensures stored { ReadsAnswer (ReadsStored R.form.held R.form.Is R.form.Keeps) answer result }
