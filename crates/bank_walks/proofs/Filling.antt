@@ -1,4 +1,4 @@
--- Room that is filled with rows and what stands beside them.
+-- Room that is filled with rows and those beside them.
 use Rattle.std.proofs.Common.{◌≡◌, ◌⊎◌, ◌≤ℤ◌, ◌+ℤ◌, drop, slice_get, Ok, Err, Result, ℤ, pos, List, [], ◌∷◌}
 use Rattle.std.proofs.Common.{◌++◌, map, filter, Bool, Some, None, Option, refl, sym, ap, subst, ◌∙◌, inl}
 use Rattle.std.proofs.Common.{inr}

@@ -1,4 +1,4 @@
--- Rows with what stands beside them in another table.
+-- Rows with those beside them in another table.
 use Rattle.std.proofs.Common.{◌≡◌, ◌≤◌, ℕ, zero, suc, drop, length, ◌<ℤ◌, ◌≤ℤ◌, ◌+ℤ◌, ℤ, pos, List, [], ◌∷◌}
 use Rattle.std.proofs.Common.{◌++◌, map, filter, find, cond, Bool, true, false, Some, None, Option, int_cmp}
 use Rattle.std.proofs.Common.{refl, sym, ap, ◌∙◌, inl, inr, arith}

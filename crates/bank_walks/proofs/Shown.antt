@@ -1,77 +1,58 @@
 -- What the tables hold of a bank that shows tables.
-use Rattle.std.proofs.Common.{◌≡◌, ℕ, pos, List, [], ◌∷◌, map, refl}
+use Rattle.std.proofs.Common.{ℕ, pos, List, [], ◌∷◌, map, refl}
 use Rattle.sqlite.specs.Effect.{Database}
+use Rattle.sqlite.specs.Table.{Table}
 use Rattle.posting_rules.specs.Tables.{Tables}
 use Rattle.sql_meanings.specs.Entries.{Entry}
 use Rattle.store_rows.specs.SixTables as six
 use Rattle.store_rows.specs.View.{Shows, account_entry, branch_entry, history_entry, request_entry}
 use Rattle.store_rows.specs.View.{teller_entry}
-use Rattle.store_rows.proofs.BankTables.{holds}
+use Rattle.store_rows.proofs.BankTables.{Kind, holds, table_of}
 use Rattle.store_rows.proofs.TheTables as the
 use Rattle.bank_walks.specs.Pairs.{HasPairs, paired}
 use Rattle.bank_walks.specs.Rows.{HasStoredRows, HaveKeys, entry_key}
 
 -- keys of a bank's rows are numbers of 64 bits
-whole_keys : {R : Type 0} (entry : R → Entry) (key : R → ℕ) → ((r : R) → (entry r).key ≡ pos (key r))
-    → (rs : List R)
-    → HaveKeys entry_key (map entry rs)
-whole_keys entry key is [] = tt
-whole_keys entry key is (r ∷ rs) = (rw (is r) refl, whole_keys entry key is rs)
+whole_keys : {R : Type 0} (kind : Kind R) (rs : List R) → HaveKeys entry_key (map kind.entry rs)
+whole_keys kind [] = tt
+whole_keys kind (r ∷ rs) = (rw (kind.keyed r) refl, whole_keys kind rs)
 
 module _ (db : Database) (t : Tables) (shows : Shows db t) where
-  pub has_branches : HasStoredRows db six.branch (map branch_entry t.branches)
-  has_branches = record {
+  -- a table has the rows that are shown of it
+  has_rows : {R : Type 0} (kind : Kind R) → HasStoredRows db (table_of kind) (map kind.entry (kind.rows t))
+  has_rows kind = record {
     sound = shows.sound;
-    holds = holds the.branches db t shows;
-    least = whole_keys branch_entry (λ r. r.branch) (λ r. refl) t.branches;
+    holds = holds kind db t shows;
+    least = whole_keys kind (kind.rows t);
   }
+
+  pub has_branches : HasStoredRows db six.branch (map branch_entry t.branches)
+  has_branches = has_rows the.branches
 
   pub has_tellers : HasStoredRows db six.teller (map teller_entry t.tellers)
-  has_tellers = record {
-    sound = shows.sound;
-    holds = holds the.tellers db t shows;
-    least = whole_keys teller_entry (λ r. r.teller) (λ r. refl) t.tellers;
-  }
+  has_tellers = has_rows the.tellers
 
   pub has_accounts : HasStoredRows db six.account (map account_entry t.accounts)
-  has_accounts = record {
-    sound = shows.sound;
-    holds = holds the.accounts db t shows;
-    least = whole_keys account_entry (λ r. r.account) (λ r. refl) t.accounts;
-  }
+  has_accounts = has_rows the.accounts
 
   pub has_history : HasStoredRows db six.history (map history_entry t.history)
-  has_history = record {
-    sound = shows.sound;
-    holds = holds the.history db t shows;
-    least = whole_keys history_entry (λ r. r.ordinal) (λ r. refl) t.history;
-  }
+  has_history = has_rows the.history
 
   pub has_requests : HasStoredRows db six.request (map request_entry t.requests)
-  has_requests = record {
-    sound = shows.sound;
-    holds = holds the.requests db t shows;
-    least = whole_keys request_entry (λ r. r.ordinal) (λ r. refl) t.requests;
-  }
+  has_requests = has_rows the.requests
+
+  -- the rows of two tables are pairs of them
+  has_both : (table other : Table) (rows others : List Entry) → HasStoredRows db table rows
+      → HasStoredRows db other others → HasPairs db table other (paired others rows)
+  has_both table other rows others has has_others =
+      record { rows = rows; others = others; has = has; has_others = has_others; are = refl }
 
   -- each request with the posting of its ordinal
   pub has_asked : HasPairs db six.request six.history
       (paired (map history_entry t.history) (map request_entry t.requests))
-  has_asked = record {
-    rows = map request_entry t.requests;
-    others = map history_entry t.history;
-    has = has_requests;
-    has_others = has_history;
-    are = refl;
-  }
+  has_asked = has_both six.request six.history _ _ has_requests has_history
 
   -- each posting with the request of its ordinal
   pub has_posted : HasPairs db six.history six.request
       (paired (map request_entry t.requests) (map history_entry t.history))
-  has_posted = record {
-    rows = map history_entry t.history;
-    others = map request_entry t.requests;
-    has = has_history;
-    has_others = has_requests;
-    are = refl;
-  }
+  has_posted = has_both six.history six.request _ _ has_history has_requests

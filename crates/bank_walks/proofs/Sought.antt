@@ -1,9 +1,10 @@
--- What the statement of a walk tells, and what stands after it.
+-- What the statement of a walk reports, and what it leaves.
 use Rattle.std.proofs.Common.{◌≡◌, inl, inr, zero, suc, ℕ, ℤ, List, [], ◌∷◌, map, filter, take, cond, Bool}
 use Rattle.std.proofs.Common.{true, false, length, Ok, Err, Result, refl, sym, ap, ◌∙◌}
 use Rattle.std.specs.Prelude.{IfOk, IfErr, MatchResult}
 use Rattle.std.proofs.lemmas.Bool.{cases_Bool}
 use Rattle.sqlite.specs.Order.{Row}
+use Rattle.sqlite.specs.Schema.{Schema}
 use Rattle.sqlite.specs.Table.{Table}
 use Rattle.sqlite.specs.Term.{Term, eval_all}
 use Rattle.sqlite.specs.Listing.{understood}
@@ -72,7 +73,7 @@ same_shown width f same [] all = refl
 same_shown width f same (e ∷ es) all =
     rw (same e all.0) (ap (λ l. numbers (all_numbers e) ∷ l) (same_shown width f same es all.1))
 
--- ---- what is told
+-- ---- what is reported
 
 -- why a seek fails is an error of the store
 store_error : (old new : State) (e : Error) → ReadFails old new e → IsStoreError old new e
@@ -124,6 +125,26 @@ module _ (old new : State) (table : Table) (free : table.references ≡ []) (row
       store_error old new e (reads_of_from old new table free has.sound rows has.holds text AHEAD project one
       k reads (Err e) err)
 
+-- What is known of the statement of a walk: it only shows rows, and these are all numbers of the rows from a
+-- number on.
+pub record Walks (table : Table) (text : List ℕ) : Type 0 where
+  pub project : List Term
+  pub free : table.references ≡ []
+  pub only : (schema : Schema) → OnlyShows text 1 (understood schema text)
+  pub reads : (k : ℤ) → ReadsAs table text (Int k ∷ []) (λ t. next_from AHEAD t project)
+  pub whole : (k : ℤ) (e : Entry) → length e.values ≡ width_of table
+      → eval_all project ((Int k ∷ []) ∷ stored e ∷ []) ≡ numbers (all_numbers e)
+
+-- so it tells them
+pub tells_walk : (old new : State) {table : Table} {text : List ℕ} (walk : Walks table text)
+    (rows : List Entry) (has : HasStoredRows old.now table rows) {V : Type 0} (items : V → List Row) (k : ℤ)
+    (r : Result V Error) → MatchResult r (λ v. Shown text (Int k ∷ []) old new (items v))
+    (FailsToQuery text (Int k ∷ []) old new)
+    → MatchResult r (λ v. items v ≡ shown (take AHEAD (rows_from k (filter (λ _. true) rows))))
+    (IsStoreError old new)
+tells_walk old new {table} {text} walk rows has items k =
+    tells_from old new table walk.free rows has text walk.project items k (walk.reads k) (walk.whole k)
+
 module _ (old new : State) (text : List ℕ) (params : Row)
     (only : OnlyShows text (length params) (understood old.now.schema text)) where
   -- an answer has changed nothing
@@ -152,7 +173,7 @@ pub answered : {X E : Type 0} (P : X → Type 0) (Q : E → Type 0) (r : Result 
 answered P Q (Ok x) ok err = ok
 answered P Q (Err e) ok err = err
 
--- an answer with a fault told in other words
+-- an answer with a fault in other words
 pub match_err : {X E : Type 0} (P : X → Type 0) (Q T : E → Type 0) (r : Result X E) → ((e : E) → Q e → T e)
     → MatchResult r P Q → MatchResult r P T
 match_err P Q T (Ok x) f h = h

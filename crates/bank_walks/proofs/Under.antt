@@ -65,7 +65,7 @@ from_its_key k es e more rise is =
     first_left k es e rise some
     ∙ sym (first_left e.key es e rise (found_again k es e some (passes k es e some)))
 
--- it is under the number, where it isn't above it
+-- it is under the number, unless it is above it
 pub first_under : (k : ℤ) (es : List Entry) (e : Entry) (more : List Entry) → rows_from k es ≡ e ∷ more
     → e.key ≤ℤ k → row_under es k ≡ Some e
 first_under k [] e more is low = absurd (cc)
@@ -86,7 +86,7 @@ pub broken_first : {X : Type 0} (Because : Error → Type 0) (Breaks : X → Typ
     → BreaksFirst Because Breaks items (Damaged broken)
 broken_first Because Breaks items fault broken is h = subst (BreaksFirst Because Breaks items) is h
 
--- its key can't be told
+-- its key can't be read
 pub key_fails : (Breaks : Entry → Type 0) (k : ℤ) (es : List Entry) (e : Entry) (fault : TableFault)
     → TellsKey e (Err fault)
     → BreaksUnder IsRefusedMemory Breaks k es fault

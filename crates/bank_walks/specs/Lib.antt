@@ -1,4 +1,5 @@
 -- What the walks over the tables of a bank give.
+pub mod Kinds
 pub mod Outcomes
 pub mod PairKeys
 pub mod Pairs

@@ -16,12 +16,16 @@ ReadsNumber v (Ok n) = v ≡ Int n
 ReadsNumber v (Err (Sqlite e)) = (z : ℤ) → v ≡ Int z → e ≡ SqliteFailure OutOfMemory
 ReadsNumber v (Err (Damaged broken)) = (broken ≡ rule.Value) × ((z : ℤ) → v ≡ Int z → ⊥)
 
--- of a row of so many numbers: these are they; or memory was refused
-abbrev pub ReadsNumbers : ℕ → Row → Result (List ℤ) TableFault → Type 0
-ReadsNumbers count row (Ok ns) = (zs : List ℤ) → row ≡ numbers zs → length zs ≡ count → ns ≡ zs
-ReadsNumbers count row (Err (Sqlite e)) = (zs : List ℤ) → row ≡ numbers zs → length zs ≡ count
-    → e ≡ SqliteFailure OutOfMemory
-ReadsNumbers count row (Err (Damaged broken)) = (zs : List ℤ) → row ≡ numbers zs → length zs ≡ count → ⊥
+-- so many numbers, those of the row where it is a row of so many
+abbrev pub AreNumbers : ℕ → Row → List ℤ → Type 0
+AreNumbers count row ns =
+    (length ns ≡ count) × ((zs : List ℤ) → row ≡ numbers zs → length zs ≡ count → ns ≡ zs)
+
+-- where it is a row of so many numbers, memory was refused
+abbrev pub NumbersFail : ℕ → Row → TableFault → Type 0
+NumbersFail count row (Sqlite e) =
+    (zs : List ℤ) → row ≡ numbers zs → length zs ≡ count → e ≡ SqliteFailure OutOfMemory
+NumbersFail count row (Damaged broken) = (zs : List ℤ) → row ≡ numbers zs → length zs ≡ count → ⊥
 
 -- the number is below the least or above the most
 abbrev pub IsOutside : ℕ → ℕ → ℤ → Type 0

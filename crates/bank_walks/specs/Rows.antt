@@ -30,7 +30,7 @@ module _ {X : Type 0} (key : X → ℤ) where
   abbrev pub items_from : ℤ → List X → List X
   items_from k items = filter (λ x. is_ge (int_cmp (key x) k)) items
 
-  -- those with keys from a number on, none where there is no number
+  -- those with keys from a number on, none if there is no number
   abbrev pub items_behind : Option ℤ → List X → List X
   items_behind None items = []
   items_behind (Some k) items = items_from k items
@@ -48,6 +48,6 @@ entry_key e = e.key
 abbrev pub rows_from : ℤ → List Entry → List Entry
 rows_from = items_from entry_key
 
--- the rows with keys from a number on, none where there is no number
+-- the rows with keys from a number on, none if there is no number
 abbrev pub rows_behind : Option ℤ → List Entry → List Entry
 rows_behind = items_behind entry_key

@@ -1,9 +1,12 @@
 -- The stored rows: keys, counts and moments within their ranges, and the other numbers whatever they are.
-use Rattle.std.specs.Prelude.{◌⊎◌, ℕ, pos, ℤ, [], ◌∷◌, slice_index_or, Bool, true, Option, Some, None}
+use Rattle.std.specs.Prelude.{◌⊎◌, ℕ, pos, ℤ, [], ◌∷◌, slice_index_or, Bool, true, Option, Some, None, refl}
+use Rattle.std.proofs.Common.{lit≤}
 use Rattle.message_records.specs.declared.limits.TheConstants.{MAX_MOMENT}
 use Rattle.posting_rules.specs.declared.limits.TheConstants.{LAST_BRANCH, MAX_DECIDED}
 use Rattle.sql_meanings.specs.Entries.{Entry}
 use Rattle.sql_meanings.specs.Seeks.{begins}
+use Rattle.store_rows.specs.SixTables.{account, branch, history, request, teller}
+use Rattle.bank_walks.specs.Kinds.{Kind, given_all}
 use Rattle.bank_walks.specs.Pairs.{BreaksPair, Pair, pair_of}
 use Rattle.bank_walks.specs.Reading.{IsOutside}
 use Rattle.bank_walks.specs.declared.limits.TheConstants.{LAST_ACCOUNT, LAST_TELLER, MOST_COUNTED}
@@ -64,12 +67,38 @@ request_entry r = record {
 abbrev pub IsNoRequest : Entry → Type 0
 IsNoRequest e = IsOutside 1 MAX_DECIDED e.key
 
--- the posting is one of this account, or any where none is named
+-- the posting is one of this account, or any if none is named
 abbrev pub is_of : Option ℕ → Entry → Bool
 is_of None e = true
 is_of (Some account) e = begins (pos account) e.values
 
--- ---- rows with what stands beside them
+-- ---- what walks go by
+
+abbrev pub branch_kind : Kind StoredBranch
+branch_kind = given_all branch 3 branch_entry IsNoBranch refl (lit≤ tt)
+
+abbrev pub teller_kind : Kind StoredTeller
+teller_kind = given_all teller 2 teller_entry IsNoTeller refl (lit≤ tt)
+
+abbrev pub account_kind : Kind StoredAccount
+account_kind = given_all account 2 account_entry IsNoAccount refl (lit≤ tt)
+
+abbrev pub posting_kind : Kind StoredPosting
+posting_kind = record {
+  table = history;
+  columns = 6;
+  entry = posting_entry;
+  Breaks = IsNoPosting;
+  is_given = is_of;
+  are_all = refl;
+  are_few = lit≤ tt;
+  all_given = λ e. refl;
+}
+
+abbrev pub request_kind : Kind StoredRequest
+request_kind = given_all request 8 request_entry IsNoRequest refl (lit≤ tt)
+
+-- ---- rows with what is beside them
 
 -- a row of `request`, with the one of `history` under its ordinal
 abbrev pub asked_pair : Joined StoredRequest StoredPosting → Pair

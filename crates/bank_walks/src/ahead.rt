@@ -6,10 +6,11 @@ ghost use Rattle.sqlite.specs.Held.{state};
 ghost use Rattle.sql_meanings.specs.Entries.{Entry, Rise};
 ghost use Rattle.sql_meanings.specs.Outcomes.{IsStoreError, WriteFails};
 ghost use Rattle.sql_meanings.specs.Tables.{width_of};
-ghost use Rattle.bank_walks.specs.Outcomes.{BreaksFirst, IsRefusedMemory, ReadsNext, shown};
+ghost use Rattle.bank_walks.specs.Outcomes.{BreaksFirst, IsRefusedMemory, ReadsEntry, ReadsNext, shown};
 ghost use Rattle.bank_walks.specs.Rising.{RisesFrom};
 ghost use Rattle.bank_walks.specs.Rows.{HasStoredRows, IsWide, entry_key, rows_behind, rows_from};
 
+use crate::numbers::numbers;
 use crate::stored_row::StoredRow;
 use arrayvec::ArrayVec;
 use message_records::Account;
@@ -20,12 +21,22 @@ use store_rows::TableFault;
 /// How many rows are read ahead at most.
 pub const AHEAD: usize = 64;
 
+// The row that is read.
+fn read<R: StoredRow>(row: &Row) -> Result<R, TableFault>
+    ensures { ReadsEntry (width_of R.StoredRow.kind.table) R.StoredRow.kind.entry R.StoredRow.kind.Breaks
+        row.now result }
+{
+    let numbers = numbers(row, R::columns())?;
+    R::of(&numbers).ok_or(TableFault::Damaged(Rule::Value))
+}
+
 // The row that is read, whose key is a number or above it.
 fn read_next<R: StoredRow>(row: &Row, next: i64) -> Result<R, TableFault>
-    ensures { ReadsNext (width_of R.StoredRow.table) R.StoredRow.entry R.StoredRow.is_broken next row.now
+    ensures { ReadsNext (width_of R.StoredRow.kind.table) R.StoredRow.kind.entry R.StoredRow.kind.Breaks next
+        row.now
         result }
 {
-    let read = R::read(row)?;
+    let read = read::<R>(row)?;
     let key = read.key() as i64;
     if key < next {
         return Err(TableFault::Damaged(Rule::Value));
@@ -34,20 +45,20 @@ fn read_next<R: StoredRow>(row: &Row, next: i64) -> Result<R, TableFault>
 }
 
 /// Puts the rows that were found in place of those in `rows`, up to one that can't be read, if it isn't the
-/// first, and returns the key from which the others follow.
+/// first, and returns the key from which on the others follow.
 pub(crate) fn gather<R: StoredRow>(
     found: &[Row],
     from: i64,
     rows: &mut ArrayVec<R, AHEAD>,
 ) -> Result<Option<i64>, TableFault>
-    ensures told { (all : List Entry) → Rise all → IsWide (width_of R.StoredRow.table) all
+    ensures told { (all : List Entry) → Rise all → IsWide (width_of R.StoredRow.kind.table) all
         → found.now ≡ shown (take AHEAD (rows_from from all))
         → MatchResult result
-        (λ rest. rows_from from all ≡ map R.StoredRow.entry rows.new.items ++ rows_behind rest all)
-        (BreaksFirst IsRefusedMemory R.StoredRow.is_broken (rows_from from all)) }
+        (λ rest. rows_from from all ≡ map R.StoredRow.kind.entry rows.new.items ++ rows_behind rest all)
+        (BreaksFirst IsRefusedMemory R.StoredRow.kind.Breaks (rows_from from all)) }
     ensures ended { IfOk result (λ rest. rows.new.items ≡ [] → rest ≡ None) }
     ensures rises { IfOk result
-        (λ rest. RisesFrom from (map (λ r. entry_key (R.StoredRow.entry r)) rows.new.items) rest) }
+        (λ rest. RisesFrom from (map (λ r. entry_key (R.StoredRow.kind.entry r)) rows.new.items) rest) }
 {
     rows.clear();
     let mut next = from;
@@ -71,9 +82,10 @@ pub(crate) fn gather<R: StoredRow>(
     Ok(if rows.is_empty() { None } else { Some(next) })
 }
 
-/// Puts the rows of a table with the least keys from one on, those of an account where one is named, in place
-/// of those in `rows`, up to one that can't be read, if it isn't the first, and returns the key from which
-/// the others follow.
+/// Puts the rows of a table with the least keys from one on, those of an account if one is named, in place of
+/// those in `rows`, up to one that can't be read, if it isn't the first, and returns the key from which on
+/// the
+/// others follow.
 pub(crate) fn read_ahead<S: Alter, R: StoredRow>(
     conn: &mut Connection<S>,
     of: Option<Account>,
@@ -81,13 +93,14 @@ pub(crate) fn read_ahead<S: Alter, R: StoredRow>(
     rows: &mut ArrayVec<R, AHEAD>,
 ) -> Result<Option<i64>, TableFault>
     ensures told { HasCleanDisk (state S.Store conn.new) → (all : List Entry)
-        → HasStoredRows (state S.Store conn.old).now R.StoredRow.table all
-        → let given = filter (R.StoredRow.is_given of) all in MatchResult result
-        (λ rest. rows_from from given ≡ map R.StoredRow.entry rows.new.items ++ rows_behind rest given)
-        (BreaksFirst (IsStoreError (state S.Store conn.old) (state S.Store conn.new)) R.StoredRow.is_broken (rows_from from given)) }
+        → HasStoredRows (state S.Store conn.old).now R.StoredRow.kind.table all
+        → let given = filter (R.StoredRow.kind.is_given of) all in MatchResult result
+        (λ rest. rows_from from given ≡ map R.StoredRow.kind.entry rows.new.items ++ rows_behind rest given)
+        (BreaksFirst (IsStoreError (state S.Store conn.old) (state S.Store conn.new))
+        R.StoredRow.kind.Breaks (rows_from from given)) }
     ensures ended { IfOk result (λ rest. rows.new.items ≡ [] → rest ≡ None) }
     ensures rises { IfOk result
-        (λ rest. RisesFrom from (map (λ r. entry_key (R.StoredRow.entry r)) rows.new.items) rest) }
+        (λ rest. RisesFrom from (map (λ r. entry_key (R.StoredRow.kind.entry r)) rows.new.items) rest) }
     ensures same { HasCleanDisk (state S.Store conn.new)
         → OnOk result (IsUnchanged (state S.Store conn.old) (state S.Store conn.new)) }
     ensures err { HasCleanDisk (state S.Store conn.new)

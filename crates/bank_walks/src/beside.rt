@@ -1,4 +1,4 @@
-//! The rows of a table that stand beside those that were read ahead of another one.
+//! The rows of a table that are beside those that were read ahead of another one.
 ghost use Rattle.std.specs.Prelude.{◌≡◌, ◌<ℤ◌, ◌++◌, ◌∷◌, List, pos, map, false, take, option_map, IfOk};
 ghost use Rattle.std.specs.Prelude.{IfErr, IfSome, OnOk, MatchResult};
 ghost use Rattle.sqlite.specs.State.{HasCleanDisk, IsUnchanged, Survives};
@@ -31,17 +31,17 @@ fn first_key(found: &[Row]) -> Result<i64, TableFault>
 }
 
 // Puts the rows that were found in place of those in `rows`, up to one that can't be read, if it isn't under
-// the key itself, and returns the key from which the others follow.
+// the key itself, and returns the key from which on the others follow.
 fn gather_beside<O: StoredRow>(
     found: &[Row],
     from: i64,
     rows: &mut ArrayVec<O, AHEAD>,
 ) -> Result<Option<i64>, TableFault>
-    ensures told { (all : List Entry) → Rise all → IsWide (width_of O.StoredRow.table) all
+    ensures told { (all : List Entry) → Rise all → IsWide (width_of O.StoredRow.kind.table) all
         → found.now ≡ shown (take AHEAD (rows_from from all))
         → MatchResult result
-        (λ rest. rows_from from all ≡ map O.StoredRow.entry rows.new.items ++ rows_behind rest all)
-        (BreaksUnder IsRefusedMemory O.StoredRow.is_broken from all) }
+        (λ rest. rows_from from all ≡ map O.StoredRow.kind.entry rows.new.items ++ rows_behind rest all)
+        (BreaksUnder IsRefusedMemory O.StoredRow.kind.Breaks from all) }
     ensures beyond { IfOk result (λ rest. IfSome rest (λ k. from <ℤ k)) }
 {
     match gather(found, from, rows) {
@@ -59,17 +59,18 @@ fn gather_beside<O: StoredRow>(
 }
 
 /// Puts the rows of a table with the least keys from one on in place of those in `rows`, up to one that can't
-/// be read, if it isn't under the key itself, and returns the key from which the others follow.
+/// be read, if it isn't under the key itself, and returns the key from which on the others follow.
 pub(crate) fn read_beside<S: Alter, O: StoredRow>(
     conn: &mut Connection<S>,
     from: i64,
     rows: &mut ArrayVec<O, AHEAD>,
 ) -> Result<Option<i64>, TableFault>
     ensures told { HasCleanDisk (state S.Store conn.new) → (all : List Entry)
-        → HasStoredRows (state S.Store conn.old).now O.StoredRow.table all
+        → HasStoredRows (state S.Store conn.old).now O.StoredRow.kind.table all
         → MatchResult result
-        (λ rest. rows_from from all ≡ map O.StoredRow.entry rows.new.items ++ rows_behind rest all)
-        (BreaksUnder (IsStoreError (state S.Store conn.old) (state S.Store conn.new)) O.StoredRow.is_broken from all) }
+        (λ rest. rows_from from all ≡ map O.StoredRow.kind.entry rows.new.items ++ rows_behind rest all)
+        (BreaksUnder (IsStoreError (state S.Store conn.old) (state S.Store conn.new))
+        O.StoredRow.kind.Breaks from all) }
     ensures beyond { IfOk result (λ rest. IfSome rest (λ k. from <ℤ k)) }
     ensures same { HasCleanDisk (state S.Store conn.new)
         → OnOk result (IsUnchanged (state S.Store conn.old) (state S.Store conn.new)) }
@@ -86,7 +87,8 @@ pub(crate) fn read_beside<S: Alter, O: StoredRow>(
 
 /// The row under a key.
 pub(crate) fn row_with<O: StoredRow>(rows: &[O], key: u64) -> Option<O>
-    ensures { option_map O.StoredRow.entry result ≡ row_under (map O.StoredRow.entry rows.now) (pos key) }
+    ensures { option_map O.StoredRow.kind.entry result ≡ row_under (map O.StoredRow.kind.entry rows.now)
+        (pos key) }
 {
     for row in rows {
         if row.key() == key {

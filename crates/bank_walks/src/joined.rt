@@ -1,4 +1,4 @@
-//! Rows with those under their keys in another table.
+//! Rows with those beside them in another table.
 ghost use Rattle.std.specs.Prelude.{◌≡◌, ◌≤◌, ◌++◌, [], ◌∷◌, ℤ, List, filter, length, map, None, false, IfOk};
 ghost use Rattle.std.specs.Prelude.{IfErr, IsTrue, OnOk, MatchResult};
 ghost use Rattle.std.specs.Bool.{OnFalse, OnTrue};
@@ -52,7 +52,7 @@ fn is_beyond(behind: Option<i64>, key: i64) -> bool
 }
 
 // Puts these rows, each with the one of the others that is under its key, in place of those in `rows`, as far
-// as the others are known, and returns the key from which the next follow.
+// as the others are known, and returns the key from which on the next follow.
 fn join<R: StoredRow, O: StoredRow>(
     own: &[R],
     rest: Option<i64>,
@@ -62,15 +62,15 @@ fn join<R: StoredRow, O: StoredRow>(
     rows: &mut ArrayVec<Joined<R, O>, AHEAD>,
 ) -> Option<i64>
     requires few { length own.now ≤ AHEAD }
-    requires rises { RisesFrom start (map (λ r. entry_key (R.StoredRow.entry r)) own.now) rest }
+    requires rises { RisesFrom start (map (λ r. entry_key (R.StoredRow.kind.entry r)) own.now) rest }
     ensures told { (base others : List Entry) → Rise base
-        → rows_from start base ≡ map R.StoredRow.entry own.now ++ rows_behind rest base
-        → rows_from start others ≡ map O.StoredRow.entry beside.now ++ rows_behind behind others
-        → AreJoined R.StoredRow.entry O.StoredRow.entry others base start rows.new.items result }
+        → rows_from start base ≡ map R.StoredRow.kind.entry own.now ++ rows_behind rest base
+        → rows_from start others ≡ map O.StoredRow.kind.entry beside.now ++ rows_behind behind others
+        → AreJoined R.StoredRow.kind.entry O.StoredRow.kind.entry others base start rows.new.items result }
     ensures rises { RisesFrom start
-        (map (λ j. entry_key (R.StoredRow.entry j.stored)) rows.new.items) result }
+        (map (λ j. entry_key (R.StoredRow.kind.entry j.stored)) rows.new.items) result }
     ensures some { (r : R) (more : List R) → own.now ≡ r ∷ more
-        → ComesBefore behind (entry_key (R.StoredRow.entry r)) → rows.new.items ≡ [] → ⊥ }
+        → ComesBefore behind (entry_key (R.StoredRow.kind.entry r)) → rows.new.items ≡ [] → ⊥ }
 {
     rows.clear();
     let mut next = start;
@@ -98,16 +98,19 @@ fn join_ahead<S: Alter, R: StoredRow, O: StoredRow>(
     rows: &mut ArrayVec<Joined<R, O>, AHEAD>,
 ) -> Result<Option<i64>, TableFault>
     requires few { length own.now ≤ AHEAD }
-    requires rises { RisesFrom start (map (λ r. entry_key (R.StoredRow.entry r)) own.now) rest }
+    requires rises { RisesFrom start (map (λ r. entry_key (R.StoredRow.kind.entry r)) own.now) rest }
     ensures told { HasCleanDisk (state S.Store conn.new) → (base others : List Entry) → Rise base
-        → HasStoredRows (state S.Store conn.old).now O.StoredRow.table others
-        → rows_from start base ≡ map R.StoredRow.entry own.now ++ rows_behind rest base
-        → MatchResult result (AreJoined R.StoredRow.entry O.StoredRow.entry others base start rows.new.items)
-        (BreaksUnder (IsStoreError (state S.Store conn.old) (state S.Store conn.new)) O.StoredRow.is_broken start others) }
+        → HasStoredRows (state S.Store conn.old).now O.StoredRow.kind.table others
+        → rows_from start base ≡ map R.StoredRow.kind.entry own.now ++ rows_behind rest base
+        → MatchResult result (AreJoined R.StoredRow.kind.entry O.StoredRow.kind.entry others base start
+        rows.new.items)
+        (BreaksUnder (IsStoreError (state S.Store conn.old) (state S.Store conn.new))
+        O.StoredRow.kind.Breaks start others) }
     ensures rises { IfOk result
-        (λ rest. RisesFrom start (map (λ j. entry_key (R.StoredRow.entry j.stored)) rows.new.items) rest) }
+        (λ rest. RisesFrom start
+        (map (λ j. entry_key (R.StoredRow.kind.entry j.stored)) rows.new.items) rest) }
     ensures some { (r : R) (more : List R) → own.now ≡ r ∷ more
-        → start ≡ entry_key (R.StoredRow.entry r) → OnOk result (rows.new.items ≡ [] → ⊥) }
+        → start ≡ entry_key (R.StoredRow.kind.entry r) → OnOk result (rows.new.items ≡ [] → ⊥) }
     ensures same { HasCleanDisk (state S.Store conn.new)
         → OnOk result (IsUnchanged (state S.Store conn.old) (state S.Store conn.new)) }
     ensures err { HasCleanDisk (state S.Store conn.new)
@@ -129,17 +132,19 @@ fn join_first<S: Alter, R: StoredRow, O: StoredRow>(
 ) -> Result<Option<i64>, TableFault>
     requires few { length own.now ≤ AHEAD }
     requires ended { own.now ≡ [] → rest ≡ None }
-    requires rises { (from : ℤ) × RisesFrom from (map (λ r. entry_key (R.StoredRow.entry r)) own.now) rest }
+    requires rises { (from : ℤ)
+        × RisesFrom from (map (λ r. entry_key (R.StoredRow.kind.entry r)) own.now) rest }
     ensures told { HasCleanDisk (state S.Store conn.new) → (base others : List Entry) → Rise base
-        → HasStoredRows (state S.Store conn.old).now O.StoredRow.table others
-        → (from : ℤ) → rows_from from base ≡ map R.StoredRow.entry own.now ++ rows_behind rest base
-        → MatchResult result (AreJoined R.StoredRow.entry O.StoredRow.entry others base from rows.new.items)
+        → HasStoredRows (state S.Store conn.old).now O.StoredRow.kind.table others
+        → (from : ℤ) → rows_from from base ≡ map R.StoredRow.kind.entry own.now ++ rows_behind rest base
+        → MatchResult result (AreJoined R.StoredRow.kind.entry O.StoredRow.kind.entry others base from
+        rows.new.items)
         (BreaksFirst (IsStoreError (state S.Store conn.old) (state S.Store conn.new))
-        (BreaksPair R.StoredRow.is_broken O.StoredRow.is_broken) (paired others (rows_from from base))) }
+        (BreaksPair R.StoredRow.kind.Breaks O.StoredRow.kind.Breaks) (paired others (rows_from from base))) }
     ensures ended { IfOk result (λ next. rows.new.items ≡ [] → next ≡ None) }
-    ensures rises { (from : ℤ) → RisesFrom from (map (λ r. entry_key (R.StoredRow.entry r)) own.now) rest
+    ensures rises { (from : ℤ) → RisesFrom from (map (λ r. entry_key (R.StoredRow.kind.entry r)) own.now) rest
         → IfOk result (λ next. RisesFrom from
-        (map (λ j. entry_key (R.StoredRow.entry j.stored)) rows.new.items) next) }
+        (map (λ j. entry_key (R.StoredRow.kind.entry j.stored)) rows.new.items) next) }
     ensures same { HasCleanDisk (state S.Store conn.new) → IsTrue (state S.Store conn.old).is_open
         → OnOk result (IsUnchanged (state S.Store conn.old) (state S.Store conn.new)) }
     ensures err { HasCleanDisk (state S.Store conn.new)
@@ -170,16 +175,18 @@ fn fill_joined<S: Alter, R: StoredRow, O: StoredRow>(
     rows: &mut ArrayVec<Joined<R, O>, AHEAD>,
 ) -> Result<Option<i64>, TableFault>
     ensures told { HasCleanDisk (state S.Store conn.new) → (all : List Pair)
-        → HasPairs (state S.Store conn.old).now R.StoredRow.table O.StoredRow.table all
-        → let given = filter (λ p. R.StoredRow.is_given of p.entry) all in MatchResult result
+        → HasPairs (state S.Store conn.old).now R.StoredRow.kind.table O.StoredRow.kind.table all
+        → let given = filter (λ p. R.StoredRow.kind.is_given of p.entry) all in MatchResult result
         (λ rest. items_from pair_key from given
-        ≡ map (pair_of R.StoredRow.entry O.StoredRow.entry) rows.new.items ++ items_behind pair_key rest
+        ≡ map (pair_of R.StoredRow.kind.entry O.StoredRow.kind.entry) rows.new.items ++ items_behind pair_key
+        rest
         given)
         (BreaksFirst (IsStoreError (state S.Store conn.old) (state S.Store conn.new))
-        (BreaksPair R.StoredRow.is_broken O.StoredRow.is_broken) (items_from pair_key from given)) }
+        (BreaksPair R.StoredRow.kind.Breaks O.StoredRow.kind.Breaks) (items_from pair_key from given)) }
     ensures ended { IfOk result (λ rest. rows.new.items ≡ [] → rest ≡ None) }
     ensures rises { IfOk result
-        (λ rest. RisesFrom from (map (λ j. entry_key (R.StoredRow.entry j.stored)) rows.new.items) rest) }
+        (λ rest. RisesFrom from (map (λ j. entry_key (R.StoredRow.kind.entry j.stored)) rows.new.items)
+        rest) }
     ensures same { HasCleanDisk (state S.Store conn.new)
         → OnOk result (IsUnchanged (state S.Store conn.old) (state S.Store conn.new)) }
     ensures err { HasCleanDisk (state S.Store conn.new)

@@ -1,12 +1,16 @@
 //! The numbers of a row, and those of them that have a range.
-ghost use Rattle.std.specs.Prelude.{◌≡◌, pos, MatchOption};
+ghost use Rattle.std.specs.Prelude.{◌≡◌, ◌≤◌, pos, MatchOption, MatchResult};
 ghost use Rattle.sqlite.specs.Order.{column};
-ghost use Rattle.bank_walks.specs.Reading.{IsOutside, ReadsNumber, ReadsNumbers};
+ghost use Rattle.bank_walks.specs.Reading.{AreNumbers, IsOutside, NumbersFail, ReadsNumber};
 
+use arrayvec::ArrayVec;
 use message_records::Whole;
 use posting_rules::Rule;
 use sqlite::{Error, Row};
 use store_rows::TableFault;
+
+/// The greatest count of numbers that a row has.
+pub const MOST_COLUMNS: usize = 8;
 
 // The number in a column. A value of another type is damage.
 pub(crate) fn number_at(row: &Row, at: usize) -> Result<i64, TableFault>
@@ -19,18 +23,20 @@ pub(crate) fn number_at(row: &Row, at: usize) -> Result<i64, TableFault>
     }
 }
 
-// The first numbers of a row.
-pub(crate) fn numbers<const COUNT: usize>(row: &Row) -> Result<[i64; COUNT], TableFault>
-    ensures { ReadsNumbers COUNT row.now result }
+// The first numbers of a row, so many.
+pub(crate) fn numbers(row: &Row, count: usize) -> Result<ArrayVec<i64, MOST_COLUMNS>, TableFault>
+    requires { count ≤ MOST_COLUMNS }
+    ensures { MatchResult result (λ numbers. AreNumbers count row.now numbers.items)
+        (NumbersFail count row.now) }
 {
-    let mut numbers = [0; COUNT];
-    for at in 0..COUNT {
-        numbers[at] = number_at(row, at)?;
+    let mut numbers = ArrayVec::new();
+    for at in 0..count {
+        numbers.push(number_at(row, at)?);
     }
     Ok(numbers)
 }
 
-// The number, none where it is out of the range.
+// The number, unless it is out of the range.
 pub(crate) fn whole<const LEAST: u64, const MOST: u64>(number: i64) -> Option<Whole<LEAST, MOST>>
     ensures { MatchOption result (IsOutside LEAST MOST number) (λ n. number ≡ pos n) }
 {

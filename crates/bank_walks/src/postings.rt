@@ -1,12 +1,11 @@
 //! The rows of `history`.
-use crate::numbers::{numbers, whole};
+use crate::numbers::whole;
 use crate::statements::rows_shown;
-use crate::stored_row::StoredRow;
+use crate::stored_row::{Found, StoredRow};
 use crate::texts::{POSTINGS_FROM, POSTINGS_OF};
 use message_records::{Account, Moment, Whole};
-use posting_rules::{Ordinal, Rule};
-use sqlite::{Alter, Connection, Error, Row, params};
-use store_rows::TableFault;
+use posting_rules::Ordinal;
+use sqlite::{Alter, Connection, params};
 
 /// A row of `history`: the ordinal of its request and its moment within their ranges, and the other numbers,
 /// whatever they are.
@@ -18,25 +17,6 @@ pub struct StoredPosting {
     pub branch: i64,
     pub delta: i64,
     pub moment: Moment,
-}
-
-impl StoredPosting {
-    ghost use Rattle.bank_walks.specs.Stored.{posting_entry, IsNoPosting};
-    ghost use Rattle.bank_walks.specs.Outcomes.{Stores};
-
-    // The row that the numbers are, none where one is out of its range.
-    fn of(numbers: [i64; 6]) -> Option<Self>
-        ensures { Stores posting_entry IsNoPosting numbers result }
-    {
-        Some(StoredPosting {
-            ordinal: whole(numbers[0])?,
-            account: numbers[1],
-            teller: numbers[2],
-            branch: numbers[3],
-            delta: numbers[4],
-            moment: whole(numbers[5])?,
-        })
-    }
 }
 
 impl Default for StoredPosting {
@@ -53,29 +33,26 @@ impl Default for StoredPosting {
 }
 
 impl StoredRow for StoredPosting {
-    ghost use Rattle.std.specs.Prelude.{true, refl};
-    ghost use Rattle.bank_walks.specs.Stored.{posting_entry, IsNoPosting, is_of};
-    ghost use Rattle.store_rows.specs.SixTables.{history as the_table};
+    ghost use Rattle.bank_walks.specs.Stored.{posting_kind};
 
-    ghost table = { the_table };
+    ghost kind = { posting_kind };
 
-    ghost entry = { posting_entry };
-
-    ghost is_broken = { IsNoPosting };
-
-    ghost is_given = { is_of };
-
-    ghost all_given = { λ e. refl };
-
-    fn read(row: &Row) -> Result<Self, TableFault> {
-        Self::of(numbers(row)?).ok_or(TableFault::Damaged(Rule::Value))
+    fn columns() -> usize {
+        6
     }
 
-    fn seek<S: Alter>(
-        conn: &mut Connection<S>,
-        of: Option<Account>,
-        from: i64,
-    ) -> Result<Vec<Row>, Error> {
+    fn of(numbers: &[i64]) -> Option<Self> {
+        Some(StoredPosting {
+            ordinal: whole(numbers[0])?,
+            account: numbers[1],
+            teller: numbers[2],
+            branch: numbers[3],
+            delta: numbers[4],
+            moment: whole(numbers[5])?,
+        })
+    }
+
+    fn seek<S: Alter>(conn: &mut Connection<S>, of: Option<Account>, from: i64) -> Found {
         match of {
             None => rows_shown(conn, POSTINGS_FROM, params![from]),
             Some(account) => {

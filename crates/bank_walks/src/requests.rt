@@ -1,12 +1,11 @@
 //! The rows of `request`.
-use crate::numbers::{numbers, whole};
+use crate::numbers::whole;
 use crate::statements::rows_shown;
-use crate::stored_row::StoredRow;
+use crate::stored_row::{Found, StoredRow};
 use crate::texts::REQUESTS_FROM;
 use message_records::{Account, Whole};
-use posting_rules::{Ordinal, Rule};
-use sqlite::{Alter, Connection, Error, Row, params};
-use store_rows::TableFault;
+use posting_rules::Ordinal;
+use sqlite::{Alter, Connection, params};
 
 /// A row of `request`: its ordinal within the range, and the other numbers, whatever they are. The outcome is
 /// a code.
@@ -20,27 +19,6 @@ pub struct StoredRequest {
     pub delta: i64,
     pub outcome: i64,
     pub balance: i64,
-}
-
-impl StoredRequest {
-    ghost use Rattle.bank_walks.specs.Stored.{request_entry, IsNoRequest};
-    ghost use Rattle.bank_walks.specs.Outcomes.{Stores};
-
-    // The row that the numbers are, none where one is out of its range.
-    fn of(numbers: [i64; 8]) -> Option<Self>
-        ensures { Stores request_entry IsNoRequest numbers result }
-    {
-        Some(StoredRequest {
-            ordinal: whole(numbers[0])?,
-            teller: numbers[1],
-            number: numbers[2],
-            account: numbers[3],
-            branch: numbers[4],
-            delta: numbers[5],
-            outcome: numbers[6],
-            balance: numbers[7],
-        })
-    }
 }
 
 impl Default for StoredRequest {
@@ -59,29 +37,28 @@ impl Default for StoredRequest {
 }
 
 impl StoredRow for StoredRequest {
-    ghost use Rattle.std.specs.Prelude.{true, refl};
-    ghost use Rattle.bank_walks.specs.Stored.{request_entry, IsNoRequest};
-    ghost use Rattle.store_rows.specs.SixTables.{request as the_table};
+    ghost use Rattle.bank_walks.specs.Stored.{request_kind};
 
-    ghost table = { the_table };
+    ghost kind = { request_kind };
 
-    ghost entry = { request_entry };
-
-    ghost is_broken = { IsNoRequest };
-
-    ghost is_given = { λ of e. true };
-
-    ghost all_given = { λ e. refl };
-
-    fn read(row: &Row) -> Result<Self, TableFault> {
-        Self::of(numbers(row)?).ok_or(TableFault::Damaged(Rule::Value))
+    fn columns() -> usize {
+        8
     }
 
-    fn seek<S: Alter>(
-        conn: &mut Connection<S>,
-        _of: Option<Account>,
-        from: i64,
-    ) -> Result<Vec<Row>, Error> {
+    fn of(numbers: &[i64]) -> Option<Self> {
+        Some(StoredRequest {
+            ordinal: whole(numbers[0])?,
+            teller: numbers[1],
+            number: numbers[2],
+            account: numbers[3],
+            branch: numbers[4],
+            delta: numbers[5],
+            outcome: numbers[6],
+            balance: numbers[7],
+        })
+    }
+
+    fn seek<S: Alter>(conn: &mut Connection<S>, _of: Option<Account>, from: i64) -> Found {
         rows_shown(conn, REQUESTS_FROM, params![from])
     }
 

@@ -16,7 +16,7 @@ use message_records::Account;
 use sqlite::{Alter, Connection};
 use store_rows::TableFault;
 
-/// A row that a walk gives: one of a table, or one with the row under its key in another table.
+/// A row that a walk gives: one of a table, or one with the row beside it in another table.
 pub trait WalkedRow: Copy + Default {
     /// What a file has of it.
     ghost Item: { Type 0 };
@@ -26,14 +26,16 @@ pub trait WalkedRow: Copy + Default {
     ghost key: { Item → ℤ };
     /// A number of it is out of its range.
     ghost is_broken: { Item → Type 0 };
-    /// It is one of an account's, or any where none is named.
+    /// It is one of an account's, or any if none is named.
     ghost is_given: { Option ℕ → Item → Bool };
     /// A database has these, by rising keys.
     ghost HasItems: { Database → List Item → Type 0 };
 
-    /// Puts the rows with the least keys from one on, those of an account where one is named, in place of
-    /// those in `rows`, up to one that can't be read, if it isn't the first, and returns the key from which
-    /// the others follow.
+    /// Puts the rows with the least keys from one on, those of an account if one is named, in place of those
+    /// in
+    /// `rows`, up to one that can't be read, if it isn't the first, and returns the key from which on the
+    /// others
+    /// follow.
     fn fill<S: Alter>(
         conn: &mut Connection<S>,
         of: Option<Account>,
@@ -44,7 +46,8 @@ pub trait WalkedRow: Copy + Default {
             → HasItems (state S.Store conn.old).now all
             → let given = filter (is_given of) all in MatchResult result
             (λ rest. items_from key from given ≡ map item rows.new.items ++ items_behind key rest given)
-            (BreaksFirst (IsStoreError (state S.Store conn.old) (state S.Store conn.new)) is_broken (items_from key from given)) }
+            (BreaksFirst (IsStoreError (state S.Store conn.old) (state S.Store conn.new)) is_broken
+            (items_from key from given)) }
         ensures ended { IfOk result (λ rest. rows.new.items ≡ [] → rest ≡ None) }
         ensures rises { IfOk result (λ rest. RisesFrom from (map (λ r. key (item r)) rows.new.items) rest) }
         ensures same { HasCleanDisk (state S.Store conn.new)
@@ -56,7 +59,7 @@ pub trait WalkedRow: Copy + Default {
 
     ghost have_keys: { (db : Database) (all : List Item) → HasItems db all → HaveKeys key all };
 
-    /// Where no account is named, any is one.
+    /// If no account is named, any is one.
     ghost all_given: { (x : Item) → is_given None x ≡ true };
 }
 
@@ -66,19 +69,19 @@ impl<R: StoredRow> WalkedRow for R {
 
     ghost Item = { Entry };
 
-    ghost item = { R.StoredRow.entry };
+    ghost item = { R.StoredRow.kind.entry };
 
     ghost key = { entry_key };
 
-    ghost is_broken = { R.StoredRow.is_broken };
+    ghost is_broken = { R.StoredRow.kind.Breaks };
 
-    ghost is_given = { R.StoredRow.is_given };
+    ghost is_given = { R.StoredRow.kind.is_given };
 
-    ghost HasItems = { λ db rows. HasStoredRows db R.StoredRow.table rows };
+    ghost HasItems = { λ db rows. HasStoredRows db R.StoredRow.kind.table rows };
 
     ghost have_keys = { λ db rows has. has.least };
 
-    ghost all_given = { R.StoredRow.all_given };
+    ghost all_given = { R.StoredRow.kind.all_given };
 
     fn fill<S: Alter>(
         conn: &mut Connection<S>,

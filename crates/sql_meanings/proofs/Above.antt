@@ -19,7 +19,6 @@ use Rattle.sqlite_ast.specs.declared.Binary.{Binary as Operator}
 use Rattle.sqlite_ast.specs.declared.Binary.TheVariants as binary
 use Rattle.sqlite_ast.specs.declared.Statement.TheVariants as written
 use Rattle.sqlite_ast.specs.declared.Select as written_select
-use Rattle.sqlite_ast.specs.declared.Select.{out-Select}
 use Rattle.sqlite_ast.specs.declared.Core.{Core, out-Core}
 use Rattle.sqlite_ast.specs.declared.Shown.{Shown}
 use Rattle.sqlite_ast.specs.declared.Sort.{Sort, out-Sort}
@@ -58,9 +57,9 @@ use Rattle.sql_meanings.proofs.Columns.{over_one, column_is}
 use Rattle.sql_meanings.proofs.Expressions.{st, lower_column, lower_parameter}
 use Rattle.sql_meanings.proofs.Statements.{HasTable, compiled_select}
 use Rattle.sql_meanings.proofs.ByKey.{Tests, parameter_at}
-use Rattle.sql_meanings.proofs.OneTable.{parts_are, read_is}
+use Rattle.sql_meanings.proofs.OneTable.{IsPartOf, IsSelectOf, one_table, parts_are, read_is}
 use Rattle.sql_meanings.proofs.ShownColumns.{ShowsColumns, HasRoom, spent, last_of}
-use Rattle.sql_meanings.proofs.Selects.{one_table, one_test, one_order, outputs_are_all}
+use Rattle.sql_meanings.proofs.Selects.{one_test, one_order, outputs_are_all}
 
 lower_integer : (cx : Context) (e : Expr) (text : List ℕ) (v : Value) (d next budget : ℕ) (l : Carried)
     → out-Expr e ≡ Expr-F.Integer text → integer false text ≡ Ok v → nat_lt 1 budget ≡ true
@@ -121,14 +120,7 @@ module _ (schema : Schema) where
   pub paged_is : (s : written_select.Select) (core : Core) (source : From) (from : Name) (order : List Sort)
       (limit : Expr) (most : Term)
       (shown : Draft × List Name × List (Option Collation))
-      → out-Select s ≡ record {
-        with = [];
-        first = core;
-        others = [];
-        order = order;
-        limit = Some limit;
-        offset = None;
-      }
+      → IsSelectOf s core order (Some limit)
       → (out-Core core).from ≡ source ∷ [] → (out-Source source).origin ≡ origin.Table from
       → constant schema limit ≡ Ok most
       → named schema core order (most, number 0) ≡ Ok shown
@@ -145,22 +137,8 @@ module _ (schema : Schema) (name : Name) (p : ℕ) (table : Table) (has : HasTab
       (t : Tests table wanted at) (os : List Output)
       (q : Program)
       → first text ≡ Ok P → P.statement ≡ written.Select s → P.formats ≡ []
-      → out-Select s ≡ record {
-        with = [];
-        first = core;
-        others = [];
-        order = sort ∷ [];
-        limit = Some limit;
-        offset = None;
-      }
-      → out-Core core ≡ record {
-        distinct = false;
-        shown = shown;
-        from = source ∷ [];
-        filter = Some test;
-        group = [];
-        having = None;
-      }
+      → IsSelectOf s core (sort ∷ []) (Some limit)
+      → IsPartOf core shown source (Some test)
       → one_table name source
       → out-Expr test ≡ Expr-F.Binary (written_as k) a b → out-Expr a ≡ Expr-F.Column None wanted
       → out-Expr b ≡ Expr-F.Parameter m

@@ -15,8 +15,7 @@ use Rattle.sqlite_ast.specs.declared.Expr.TheOpen.{Expr-F}
 use Rattle.sqlite_ast.specs.declared.Binary.TheVariants as binary
 use Rattle.sqlite_ast.specs.declared.Statement.TheVariants as written
 use Rattle.sqlite_ast.specs.declared.Select as written_select
-use Rattle.sqlite_ast.specs.declared.Select.{out-Select}
-use Rattle.sqlite_ast.specs.declared.Core.{Core, out-Core}
+use Rattle.sqlite_ast.specs.declared.Core.{Core}
 use Rattle.sqlite_ast.specs.declared.Shown.{Shown}
 use Rattle.sqlite_ast.specs.declared.Sort.{Sort, out-Sort}
 use Rattle.sqlite_ast.specs.declared.Source.{Source as From}
@@ -40,9 +39,9 @@ use Rattle.sql_meanings.proofs.Columns.{over_one, column_is}
 use Rattle.sql_meanings.proofs.Expressions.{st, lower_column, lower_parameter, lower_and}
 use Rattle.sql_meanings.proofs.Statements.{HasTable, compiled_select}
 use Rattle.sql_meanings.proofs.ByKey.{Tests, parameter_at, key_test}
-use Rattle.sql_meanings.proofs.OneTable.{parts_are, read_is}
+use Rattle.sql_meanings.proofs.OneTable.{IsPartOf, IsSelectOf, one_table, parts_are, read_is}
 use Rattle.sql_meanings.proofs.ShownColumns.{ShowsColumns, HasRoom, spent, last_of}
-use Rattle.sql_meanings.proofs.Selects.{one_table, one_test, one_order, outputs_are_all}
+use Rattle.sql_meanings.proofs.Selects.{one_test, one_order, outputs_are_all}
 use Rattle.sql_meanings.proofs.Above.{Onwards, compared_start, constant_is, lower_start, paged_is}
 
 module _ (schema : Schema) (p : ℕ) (table : Table) (name : Name) (shown : List Output) (may : Bool)
@@ -81,22 +80,8 @@ module _ (schema : Schema) (name : Name) (p : ℕ) (table : Table) (has : HasTab
       (at m at' m' : ℕ)
       (t : Tests table wanted at) (t' : Tests table wanted' at') (os : List Output) (q : Program)
       → first text ≡ Ok P → P.statement ≡ written.Select s → P.formats ≡ []
-      → out-Select s ≡ record {
-        with = [];
-        first = core;
-        others = [];
-        order = sort ∷ [];
-        limit = Some limit;
-        offset = None;
-      }
-      → out-Core core ≡ record {
-        distinct = false;
-        shown = shown;
-        from = source ∷ [];
-        filter = Some both;
-        group = [];
-        having = None;
-      }
+      → IsSelectOf s core (sort ∷ []) (Some limit)
+      → IsPartOf core shown source (Some both)
       → one_table name source
       → out-Expr both ≡ Expr-F.Binary binary.And test test'
       → out-Expr test ≡ Expr-F.Binary binary.Eq a b → out-Expr a ≡ Expr-F.Column None wanted

@@ -36,29 +36,38 @@ use Rattle.sql_meanings.proofs.Columns.{bound_to, over_one}
 use Rattle.sql_meanings.proofs.Expressions.{st}
 use Rattle.sql_meanings.proofs.Statements.{HasTable}
 
+-- a SELECT of one part, in this order and with this limit, if there is one
+abbrev pub IsSelectOf : written_select.Select → Core → List Sort → Option Expr → Type 0
+IsSelectOf s core order limit = out-Select s
+    ≡ record { with = []; first = core; others = []; order = order; limit = limit; offset = None }
+
+-- the part: what is shown of one source, WHERE a test holds, if there is one
+abbrev pub IsPartOf : Core → List Shown → From → Option Expr → Type 0
+IsPartOf core shown source filter = out-Core core ≡ record {
+  distinct = false;
+  shown = shown;
+  from = source ∷ [];
+  filter = filter;
+  group = [];
+  having = None;
+}
+
+-- FROM one table by its name
+abbrev pub one_table : Name → From → Type 0
+one_table name source = out-Source source
+    ≡ record { is_left = false; origin = origin.Table name; alias = None; on = None; using = [] }
+
 module _ (schema : Schema) (name : Name) (p : ℕ) (table : Table) (has : HasTable schema name p table) where
   -- FROM names the table
   pub bounds_are : (source : From) (budget : ℕ) (l : Carried)
-      → out-Source source ≡ record {
-        is_left = false;
-        origin = origin.Table name;
-        alias = None;
-        on = None;
-        using = [];
-      }
+      → one_table name source
       → bounds schema (source ∷ []) (st 1 budget l) ≡ Ok (bound_to name p ∷ [], st 2 budget l)
   unfolding bounds bound table_in take_slot
   bounds_are source budget l is = rw (is, has.named)
 
   -- and reads it whole
   pub joins_are : (source : From) (shown : List Output) (budget : ℕ) (l : Carried)
-      → out-Source source ≡ record {
-        is_left = false;
-        origin = origin.Table name;
-        alias = None;
-        on = None;
-        using = [];
-      }
+      → one_table name source
       → joins lower (over_one schema name p shown false) (bound_to name p ∷ []) (source ∷ []) (st 2 budget l)
       ≡ Ok (record { steps = Inner table.tree ∷ []; filter = [] }, st 2 budget l)
   unfolding joins join shared inner_join tests
@@ -68,21 +77,8 @@ module _ (schema : Schema) (name : Name) (p : ℕ) (table : Table) (has : HasTab
   pub parts_are : (core : Core) (source : From) (shown : List Shown) (filter : Option Expr)
       (order : List Sort) (os : List Output)
       (terms : List Term) (by : List (Term × Key)) (b1 b2 b3 : ℕ) (l1 l2 l3 : Carried)
-      → out-Core core ≡ record {
-        distinct = false;
-        shown = shown;
-        from = source ∷ [];
-        filter = filter;
-        group = [];
-        having = None;
-      }
-      → out-Source source ≡ record {
-        is_left = false;
-        origin = origin.Table name;
-        alias = None;
-        on = None;
-        using = [];
-      }
+      → IsPartOf core shown source filter
+      → one_table name source
       → outputs lower (over_one schema name p [] true) (bound_to name p ∷ []) shown (st 2 100000 nothing) ≡ Ok
       (os, st 2 b1 l1)
       → tests lower (over_one schema name p os false) [] filter (st 2 b1 l1) ≡ Ok (terms, st 2 b2 l2)
@@ -109,14 +105,7 @@ module _ (schema : Schema) where
   pub query_is : (s : written_select.Select) (core : Core) (source : From) (from : Name) (order : List Sort)
       (shown : Draft × List Name
       × List (Option Collation))
-      → out-Select s ≡ record {
-        with = [];
-        first = core;
-        others = [];
-        order = order;
-        limit = None;
-        offset = None;
-      }
+      → IsSelectOf s core order None
       → (out-Core core).from ≡ source ∷ [] → (out-Source source).origin ≡ origin.Table from
       → named schema core order (no_limit, number 0) ≡ Ok shown
       → query schema s ≡ Ok (shown, [])

@@ -29,7 +29,6 @@ use Rattle.sqlite.specs.Table.{Table}
 use Rattle.sqlite.specs.Term.{Term}
 use Rattle.sqlite_schema.specs.Names.{table_named, view_named}
 use Rattle.sqlite_ast.specs.declared.Select as written_select
-use Rattle.sqlite_ast.specs.declared.Select.{out-Select}
 use Rattle.sqlite_ast.specs.declared.Core.{Core, out-Core}
 use Rattle.sqlite_ast.specs.declared.Sort.{Sort}
 use Rattle.sqlite_ast.specs.declared.Origin.TheVariants as origin
@@ -61,6 +60,7 @@ use Rattle.sqlite_trees.specs.declared.error.StoreError.{StoreError}
 use Rattle.sqlite_trees.specs.declared.error.StoreError.TheVariants.{OutOfMemory, Io, Corrupt, Full, Broken}
 use Rattle.sqlite_trees.specs.declared.error.StoreError.TheVariants.{Unstorable}
 use Rattle.sql_meanings.proofs.Expressions.{st}
+use Rattle.sql_meanings.proofs.OneTable.{IsSelectOf}
 use Rattle.sql_meanings.proofs.Statements.{HasTable}
 use Rattle.sql_meanings.specs.Queries.{no_limit}
 
@@ -85,14 +85,7 @@ module _ (schema : Schema) (name : Name) (no_table : table_named schema name ≡
   no_viewing core order page n lets is = rw is
 
   no_query : (s : written_select.Select) (core : Core) (from : From) (order : List Sort)
-      → out-Select s ≡ record {
-        with = [];
-        first = core;
-        others = [];
-        order = order;
-        limit = None;
-        offset = None;
-      }
+      → IsSelectOf s core order None
       → (out-Core core).from ≡ from ∷ [] → (out-Source from).origin ≡ origin.Table name
       → query schema s ≡ Err NoSuchTable
   unfolding query query_to level with whole paging constant_or alone single source sources
@@ -108,14 +101,7 @@ module _ (schema : Schema) (name : Name) (no_table : table_named schema name ≡
   pub refuses_query : (text : List ℕ) (P : Parsed) (s : written_select.Select) (core : Core) (from : From)
       (order : List Sort)
       → first text ≡ Ok P → P.statement ≡ written.Select s → P.formats ≡ []
-      → out-Select s ≡ record {
-        with = [];
-        first = core;
-        others = [];
-        order = order;
-        limit = None;
-        offset = None;
-      }
+      → IsSelectOf s core order None
       → (out-Core core).from ≡ from ∷ [] → (out-Source from).origin ≡ origin.Table name
       → compiled schema text ≡ Err NoSuchTable
   unfolding compiled planned timed meaning returning command read

@@ -15,12 +15,10 @@ use Rattle.sqlite_ast.specs.declared.Expr.TheOpen.{Expr-F}
 use Rattle.sqlite_ast.specs.declared.Binary.TheVariants as binary
 use Rattle.sqlite_ast.specs.declared.Statement.TheVariants as written
 use Rattle.sqlite_ast.specs.declared.Select as written_select
-use Rattle.sqlite_ast.specs.declared.Select.{out-Select}
-use Rattle.sqlite_ast.specs.declared.Core.{Core, out-Core}
+use Rattle.sqlite_ast.specs.declared.Core.{Core}
 use Rattle.sqlite_ast.specs.declared.Shown.{Shown}
 use Rattle.sqlite_ast.specs.declared.Sort.{Sort, out-Sort}
-use Rattle.sqlite_ast.specs.declared.Origin.TheVariants as origin
-use Rattle.sqlite_ast.specs.declared.Source.{Source as From, out-Source}
+use Rattle.sqlite_ast.specs.declared.Source.{Source as From}
 use Rattle.sqlite_syntax.specs.declared.statement.Parsed.{Parsed}
 use Rattle.sqlite_draft.specs.declared.join.Step.TheVariants.{Inner}
 use Rattle.sqlite_resolve.specs.declared.compare.Affinity.TheVariants as affinity
@@ -42,13 +40,8 @@ use Rattle.sql_meanings.proofs.Expressions.{st, lower_and}
 use Rattle.sql_meanings.proofs.Statements.{HasTable, compiled_select}
 use Rattle.sql_meanings.proofs.ByKey.{Tests, key_test}
 use Rattle.sql_meanings.specs.Queries.{no_limit}
-use Rattle.sql_meanings.proofs.OneTable.{parts_are, query_is, read_is}
+use Rattle.sql_meanings.proofs.OneTable.{IsPartOf, IsSelectOf, one_table, parts_are, query_is, read_is}
 use Rattle.sql_meanings.proofs.ShownColumns.{ShowsColumns, HasRoom, spent, last_of, outputs_are}
-
--- FROM one table by its name
-abbrev pub one_table : Name → From → Type 0
-one_table name source = out-Source source
-    ≡ record { is_left = false; origin = origin.Table name; alias = None; on = None; using = [] }
 
 -- no WHERE
 pub no_test : (cx : Context) (budget : ℕ) (l : Carried)
@@ -125,22 +118,8 @@ module _ (schema : Schema) (name : Name) (p : ℕ) (table : Table) (has : HasTab
       (filter : Option Expr) (order : List Sort) (os : List Output)
       (terms : List Term) (by : List (Term × Key)) (b2 b3 : ℕ) (l2 l3 : Carried) (q : Program)
       → first text ≡ Ok P → P.statement ≡ written.Select s → P.formats ≡ []
-      → out-Select s ≡ record {
-        with = [];
-        first = core;
-        others = [];
-        order = order;
-        limit = None;
-        offset = None;
-      }
-      → out-Core core ≡ record {
-        distinct = false;
-        shown = shown;
-        from = source ∷ [];
-        filter = filter;
-        group = [];
-        having = None;
-      }
+      → IsSelectOf s core order None
+      → IsPartOf core shown source filter
       → one_table name source
       → ShowsColumns table shown os → HasRoom 100000 os
       → tests lower (over_one schema name p os false) [] filter (st 2 (spent 100000 os) (last_of nothing os))
@@ -166,22 +145,8 @@ module _ (schema : Schema) (name : Name) (p : ℕ) (table : Table) (has : HasTab
       (test a b : Expr) (wanted : Name) (at m : ℕ) (t : Tests table wanted at) (os : List Output)
       (q : Program)
       → first text ≡ Ok P → P.statement ≡ written.Select s → P.formats ≡ []
-      → out-Select s ≡ record {
-        with = [];
-        first = core;
-        others = [];
-        order = [];
-        limit = None;
-        offset = None;
-      }
-      → out-Core core ≡ record {
-        distinct = false;
-        shown = shown;
-        from = source ∷ [];
-        filter = Some test;
-        group = [];
-        having = None;
-      }
+      → IsSelectOf s core [] None
+      → IsPartOf core shown source (Some test)
       → one_table name source
       → out-Expr test ≡ Expr-F.Binary binary.Eq a b → out-Expr a ≡ Expr-F.Column None wanted
       → out-Expr b ≡ Expr-F.Parameter m
@@ -209,22 +174,8 @@ module _ (schema : Schema) (name : Name) (p : ℕ) (table : Table) (has : HasTab
       (both test a b test' a' b' : Expr) (wanted wanted' : Name) (at m at' m' : ℕ)
       (t : Tests table wanted at) (t' : Tests table wanted' at') (os : List Output) (q : Program)
       → first text ≡ Ok P → P.statement ≡ written.Select s → P.formats ≡ []
-      → out-Select s ≡ record {
-        with = [];
-        first = core;
-        others = [];
-        order = [];
-        limit = None;
-        offset = None;
-      }
-      → out-Core core ≡ record {
-        distinct = false;
-        shown = shown;
-        from = source ∷ [];
-        filter = Some both;
-        group = [];
-        having = None;
-      }
+      → IsSelectOf s core [] None
+      → IsPartOf core shown source (Some both)
       → one_table name source
       → out-Expr both ≡ Expr-F.Binary binary.And test test'
       → out-Expr test ≡ Expr-F.Binary binary.Eq a b → out-Expr a ≡ Expr-F.Column None wanted
@@ -264,22 +215,8 @@ module _ (schema : Schema) (name : Name) (p : ℕ) (table : Table) (has : HasTab
       (shown : List Shown)
       (os : List Output) (q : Program)
       → first text ≡ Ok P → P.statement ≡ written.Select s → P.formats ≡ []
-      → out-Select s ≡ record {
-        with = [];
-        first = core;
-        others = [];
-        order = [];
-        limit = None;
-        offset = None;
-      }
-      → out-Core core ≡ record {
-        distinct = false;
-        shown = shown;
-        from = source ∷ [];
-        filter = None;
-        group = [];
-        having = None;
-      }
+      → IsSelectOf s core [] None
+      → IsPartOf core shown source None
       → one_table name source → ShowsColumns table shown os → HasRoom 100000 os
       → prog.program schema [] (ungrouped (Inner table.tree ∷ []) [] os false [] no_limit (number 0)) ≡ Ok q
       → compiled schema text ≡ Ok (with_command P ([], (Select q (map (λ o. o.name) os), None)))

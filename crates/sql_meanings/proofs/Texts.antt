@@ -18,11 +18,10 @@ use Rattle.sqlite.specs.Table.{Table}
 use Rattle.sqlite.specs.Term.{Term, col, lit}
 use Rattle.sqlite.specs.declared.types.Value.TheVariants.{Null, Int}
 use Rattle.sqlite_ast.specs.declared.Binary.TheVariants as binary
-use Rattle.sqlite_ast.specs.declared.Core.{Core, out-Core}
+use Rattle.sqlite_ast.specs.declared.Core.{Core}
 use Rattle.sqlite_ast.specs.declared.Expr.{Expr, out-Expr}
 use Rattle.sqlite_ast.specs.declared.Expr.TheOpen.{Expr-F}
 use Rattle.sqlite_ast.specs.declared.Select as written_select
-use Rattle.sqlite_ast.specs.declared.Select.{out-Select}
 use Rattle.sqlite_ast.specs.declared.Shown.{Shown, out-Shown}
 use Rattle.sqlite_ast.specs.declared.Sort.{Sort}
 use Rattle.sqlite_ast.specs.declared.Source.{Source as From}
@@ -41,10 +40,11 @@ use Rattle.sql_meanings.specs.Queries.{by_key, key_is, no_limit, query}
 use Rattle.sql_meanings.specs.Tables.{placed_at, width_of}
 use Rattle.sql_meanings.proofs.ByKey.{Tests, key_at}
 use Rattle.sql_meanings.proofs.Means.{means}
+use Rattle.sql_meanings.proofs.OneTable.{IsPartOf, IsSelectOf, one_table}
 use Rattle.sql_meanings.proofs.OnlyShowing.{only_understood}
 use Rattle.sql_meanings.proofs.Probing.{ProbesAs, refuses_query, understood_missing}
 use Rattle.sql_meanings.proofs.ReadTables.{ReadsAs}
-use Rattle.sql_meanings.proofs.Selects.{one_table, select_all, select_by_key}
+use Rattle.sql_meanings.proofs.Selects.{select_all, select_by_key}
 use Rattle.sql_meanings.proofs.ShownColumns.{has_room, is_left, output_named, outputs_at, shown_name}
 use Rattle.sql_meanings.proofs.ShownColumns.{shows_named, spent}
 use Rattle.sql_meanings.proofs.Statements.{HasTable, inserts}
@@ -64,22 +64,8 @@ pub record IsSelect (table : Table) (text : List ℕ) (count : ℕ) (places : Li
   pub plain : P.formats ≡ []
   pub whole : length text ≤ P.tail
   pub given : count ≡ length P.names
-  pub select : out-Select s ≡ record {
-    with = [];
-    first = core;
-    others = [];
-    order = order;
-    limit = limit;
-    offset = None;
-  }
-  pub body : out-Core core ≡ record {
-    distinct = false;
-    shown = shown;
-    from = source ∷ [];
-    filter = filter;
-    group = [];
-    having = None;
-  }
+  pub select : IsSelectOf s core order limit
+  pub body : IsPartOf core shown source filter
   pub from : one_table table.name source
   pub shows : (tree : ℕ) → map (λ s. output_named (placed_at table tree) (shown_name (out-Shown s))) shown
       ≡ map Some (outputs_at (placed_at table tree) places)
@@ -91,22 +77,8 @@ abbrev pub select_of : (table : Table) (text : List ℕ) (count : ℕ) (places :
     (source : From) (shown : List Shown) (filter : Option Expr) (order : List Sort) (limit : Option Expr)
     → first text ≡ Ok P
     → P.statement ≡ written.Select s → P.formats ≡ [] → length text ≤ P.tail → count ≡ length P.names
-    → out-Select s ≡ record {
-      with = [];
-      first = core;
-      others = [];
-      order = order;
-      limit = limit;
-      offset = None;
-    }
-    → out-Core core ≡ record {
-      distinct = false;
-      shown = shown;
-      from = source ∷ [];
-      filter = filter;
-      group = [];
-      having = None;
-    }
+    → IsSelectOf s core order limit
+    → IsPartOf core shown source filter
     → one_table table.name source
     → ((tree : ℕ) → map (λ s. output_named (placed_at table tree) (shown_name (out-Shown s))) shown
     ≡ map Some (outputs_at (placed_at table tree) places))

@@ -202,7 +202,7 @@ module _ {R : Type 0} (kind : Kind R) where
 
   -- ---- a row under its key
 
-  -- it tells what is shown of the row
+  -- it reports what is shown of the row
   pub tells_row : (old new : State) (t : Tables) → Shows old.now t
       → (text : List ℕ) (project : List Term) (k : ℕ)
       → ReadsAs table text (Int (pos k) ∷ []) (λ tree. by_key tree project)

@@ -19,7 +19,7 @@ pub sequence : (t : Table) × IsMakeable sequence_text t
 unfolding everything listing_tests
 sequence = (_, makeable sequence_text _ refl refl refl refl refl refl refl refl)
 
--- what stands in meta, and each balance
+-- what meta holds, and each balance
 of_numbers : CreatesOnly MAKE_META.now six.meta × CreatesOnly MAKE_BRANCH.now six.branch
     × CreatesOnly MAKE_TELLER.now six.teller × CreatesOnly MAKE_ACCOUNT.now six.account
 unfolding everything listing_tests

@@ -1,105 +1,29 @@
--- How the creation of a bank goes on from statement to statement, and how it fails.
-use Rattle.std.proofs.Common.{length, ◌≡◌, ◌≢◌, ◌⊎◌, inl, inr, ℕ, suc, ◌<◌, ◌≤◌, List, [], ◌∷◌, map, take}
-use Rattle.std.proofs.Common.{slice_get, Some, Ok, Err, IsTrue, refl, sym, ap, subst, ◌∙◌, arith, true, false}
+-- How the creation of a bank goes on from table to table, and how one of them is refused.
+use Rattle.std.proofs.Common.{length, ◌≡◌, inl, inr, ℕ, suc, ◌<◌, ◌≤◌, List, [], ◌∷◌, map, take, slice_get}
+use Rattle.std.proofs.Common.{Some, Ok, Err, IsTrue, refl, sym, ap, subst, ◌∙◌, arith, true, false}
 use Rattle.std.specs.List.{AllByRecursion}
-use Rattle.sqlite.specs.Schema.{Schema}
 use Rattle.sqlite.specs.Table.{Table}
-use Rattle.sqlite.specs.Change.{created, next_tree}
+use Rattle.sqlite.specs.Change.{created}
 use Rattle.sqlite.specs.Effect.{Database, IsDatabase}
-use Rattle.sqlite_catalog.proofs.StepLemmas.{table_below}
 use Rattle.sqlite.specs.Held.{Held, state}
-use Rattle.sqlite.specs.declared.transaction.Transaction.{Transaction}
 use Rattle.sqlite_trees.specs.declared.store.Store.{Ghosts}
-use Rattle.sqlite.specs.State.{State, HasCleanDisk, Survives, IsRolledBack, IsUnchanged, KeepsCommit}
-use Rattle.sqlite.specs.State.{KeepsCounts}
-use Rattle.sqlite.specs.Steps.{FailsToCommit}
-use Rattle.sqlite.specs.State.{Shows as StateShows}
+use Rattle.sqlite.specs.State.{State, IsUnchanged, KeepsCommit, KeepsCounts, Shows as StateShows}
 use Rattle.sqlite.specs.declared.error.Error.{Error}
 use Rattle.sqlite_rules.specs.Lists.{Has}
-use Rattle.sql_meanings.specs.Making.{AddsTable, KeepsWhatStood, NotMade, Stands, counts_rows}
+use Rattle.sql_meanings.specs.Making.{NotMade}
 use Rattle.sql_meanings.specs.Contents.{HoldsEach}
-use Rattle.sql_meanings.specs.Tables.{placed_at}
 use Rattle.sql_meanings.specs.Outcomes.{GoesOn, MakeFails, MakesTold}
-use Rattle.sql_meanings.proofs.Afterwards.{fails_since, names_on, names_since, undone_since, undone_twice}
+use Rattle.sql_meanings.proofs.Afterwards.{fails_since}
 use Rattle.sql_meanings.proofs.Makings.{holds_none, kept}
 use Rattle.sql_meanings.proofs.Places.{all_more, fold_more, some_at}
-use Rattle.sql_meanings.proofs.TableStands.{counts_created, then_keeps}
+use Rattle.sql_meanings.proofs.TableStands.{then_keeps}
 use Rattle.store_rows.specs.SixTables as six
-use Rattle.store_rows.specs.Creation.{CreatesBank, CreationFails, TablesAreMade, MakesAll, MakesWide}
-use Rattle.store_rows.specs.Creation.{six_texts}
-use Rattle.store_rows.specs.Creation.{with_first}
+use Rattle.store_rows.specs.Creation.{TablesAreMade, MakesAll, six_texts, with_first}
+use Rattle.store_rows.proofs.MadeSoFar.{Begun, IsNew, Reached, grown, keeps_itself, made_new, stay_new}
 
 -- a text for each place
 pub next_at : (at : ℕ) → at < length six_texts → (it : List ℕ × Table) × (slice_get six_texts at ≡ Some it)
 next_at at low = some_at six_texts at low
-
--- ---- what was made so far
-
--- the table is new, and stands with no rows
-pub record IsNew (old now : Database) (t : Table) : Type 0 where
-  pub tree : ℕ
-  pub stands : Stands now.schema (placed_at t tree)
-  pub empty : now.trees tree ≡ []
-  pub apart : (u : Table) → Has old.schema.tables u → u.tree ≢ tree
-
-stays_new : (old mid new : Database) (t : Table) → KeepsWhatStood mid new → IsNew old mid t → IsNew old new t
-stays_new old mid new t since is = record {
-  tree = is.tree;
-  stands = since.stands _ is.stands;
-  empty = since.rows _ is.stands.listed ∙ is.empty;
-  apart = is.apart;
-}
-
-stay_new : (old mid new : Database) (ts : List (List ℕ × Table)) → KeepsWhatStood mid new
-    → AllByRecursion (λ it. IsNew old mid it.1) ts
-    → AllByRecursion (λ it. IsNew old new it.1) ts
-stay_new old mid new [] since all = tt
-stay_new old mid new (it ∷ ts) since all =
-    (stays_new old mid new it.1 since all.0, stay_new old mid new ts since all.1)
-
-made_new : (old mid new : Database) (t : Table) → KeepsWhatStood old mid → AddsTable mid new t
-    → IsNew old new t
-made_new old mid new t before made = record {
-  tree = next_tree mid.schema;
-  stands = made.stands;
-  empty = made.empty;
-  apart = λ u h same. let low = table_below mid.schema u (before.has u h) in absurd (omega arith);
-}
-
--- the first so many tables were made so far
-pub record Reached (old mid : State) (made : ℕ) : Type 0 where
-  pub shows : StateShows old mid mid.now old.committed true
-  pub marks : mid.marks ≡ old.marks
-  pub counts : KeepsCounts old mid
-  pub keeps : KeepsWhatStood old.now mid.now
-  pub faults : old.faults ≤ mid.faults
-  pub sound : IsDatabase mid.now
-  pub new : AllByRecursion (λ it. IsNew old.now mid.now it.1) (take made six_texts)
-  pub alone : counts_rows old.now.schema ≡ false → (counts_rows mid.now.schema ≡ false)
-      × (mid.now.schema ≡ with_first made old.now.schema)
-
--- the same, or none was made and nothing has changed
-abbrev pub Begun : {S : Type 0} → Ghosts S → Held S → Held S → ℕ → Type 0
-Begun g old mid made = ((made ≡ 0) × (mid ≡ old)) ⊎ Reached (state g old) (state g mid) made
-
--- what the loop keeps
-pub record Going {S : Type 0} (g : Ghosts S) (old mid : Transaction S) (made : ℕ) : Type 0 where
-  pub same_reference : mid.conn.ghost_name ≡ old.conn.ghost_name
-  pub begun : HasCleanDisk (state g mid.conn.now) → IsTrue old.conn.now.in_transaction
-      → Begun g old.conn.now mid.conn.now made
-  pub survives : Survives (state g old.conn.now) (state g mid.conn.now) (λ _. ⊥)
-
--- the new schema, where no table counts its rows
-grown : (old new : Schema) (t : Table) → t.is_counted ≡ false
-    → (counts_rows (created old t) ≡ false → new ≡ created old t) → counts_rows old ≡ false
-    → (counts_rows new ≡ false) × (new ≡ created old t)
-grown old new t uncounted alone none =
-    let more = counts_created old t uncounted none in
-    let is = alone more in
-    (ap counts_rows is ∙ more, is)
-
-keeps_itself : (a : Database) → KeepsWhatStood a a
-keeps_itself a = record { stands = λ t h. h; has = λ t h. h; rows = λ t h. refl }
 
 module _ (old mid new : State) (made : ℕ) (it : List ℕ × Table)
     (has : slice_get six_texts made ≡ Some it) where
@@ -296,33 +220,3 @@ makes_leave old new e (inr refused) = record {
   committed = λ live.
       refused.2.0.committed_is;
 }
-
--- ---- in a transaction of its own
-
--- the transaction has begun
-abbrev begun : State → State
-begun old = record old { in_transaction = true }
-
-module _ (old mid new : State) (e : Error) where
-  -- a statement fails, and the transaction is dropped
-  pub fails_created : CreatesBank (begun old) mid (Err e) → mid.faults ≤ new.faults → IsRolledBack mid new
-      → CreationFails old new e
-  fails_created (inl store) more back = (
-    inl (names_on (begun old) mid new (MakesWide old.now) (MakesWide old.now) (λ x. x) e more store),
-    undone_twice (begun old) mid new store.3 back,
-  )
-  fails_created (inr refused) more back = (
-    inr (mid.now, refused.0),
-    undone_since (begun old) mid new true
-        refused.1.0 back,
-  )
-
-  -- the commit fails
-  pub fails_committed : StateShows (begun old) mid mid.now old.committed true → old.faults ≤ mid.faults
-      → FailsToCommit mid new e
-      → CreationFails old new e
-  fails_committed shows more (inl store) = (
-    inl (names_since (begun old) mid new ⊥ (MakesWide old.now) (λ x. absurd x) e shows.is_open more store),
-    undone_since (begun old) mid new true shows store.3,
-  )
-  fails_committed shows more (inr ended) = absurd (let live = shows.mode in let off = ended.1 in cc)

@@ -110,7 +110,7 @@ module _ {R : Type 0} (key : R → ℕ) (entry : R → Entry) (keyed : (r : R) �
             (subst (Forbids schema table) (put_rows key entry keyed new rows free) none)
       ]
 
--- ---- what an error of an INSERT is told as
+-- ---- what an error of an INSERT is reported as
 
 -- a key was taken, or why else the row wasn't put in
 pub adds_err : (old new : State) (table : Table) (there taken : Bool) (P : Type 0) (after : Tables)

@@ -1,4 +1,4 @@
--- What was read of a row, and what is told of it.
+-- What was read of a row, and what is reported of it.
 use Rattle.std.proofs.Common.{◌≡◌, ℤ, [], inl, inr, Option, Some, None, option_map, Result, Ok, Err, refl}
 use Rattle.std.proofs.Common.{sym, subst, ap}
 use Rattle.sqlite.specs.Order.{Row, column}
@@ -33,7 +33,7 @@ module _ {X : Type 0} (old new : State) (shown : X → Row) (Breaks : X → Rule
   found_err (Some y) (Sqlite e) told read = inr (inl (read y (the_row told.0)), told.1)
   found_err (Some y) (Damaged broken) told read = ((y, refl, read y (the_row told.0)), told.1)
 
-  -- no row is told where none was looked for
+  -- no row is reported if none was looked for
   found_none : (wanted : Option X) → TellsRow old new (option_map shown wanted) (Err QueryReturnedNoRows)
       → Finds old new wanted Breaks (Ok None)
   found_none None (inl none) = (refl, none.2)
@@ -41,7 +41,7 @@ module _ {X : Type 0} (old new : State) (shown : X → Row) (Breaks : X → Rule
   found_none wanted (inr (inl fails)) = absurd (no_rows_error fails.0 fails.1)
   found_none wanted (inr (inr limit)) = absurd (let e = limit.0 in cc)
 
--- what is told of the answer of a query is what was looked for
+-- what is reported of the answer of a query is what was looked for
 pub finds : {X : Type 0} (old new : State) (shown : X → Row) (Breaks : X → Rule → Type 0) (wanted : Option X)
     (answer : Result Row Error)
     (result : Result (Option X) TableFault) → ReadsAnswer (ReadsRow shown Breaks) answer result

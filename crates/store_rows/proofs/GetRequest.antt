@@ -118,7 +118,7 @@ has_both : (a b : ℕ) (r : RequestRow)
     → has_two (pos a) (pos b) (request_entry r) ≡ ((r.teller == a) && (r.number == b))
 has_both a b r = rw (same_number r.teller a, same_number r.number b) refl
 
--- it tells the request of the teller under the number
+-- it reports the request of the teller under the number
 pub tells : (old new : State) (t : Tables) (a b : ℕ) (r : Result Row Error) → Shows old.now t
     → QueriesRowInside GET_REQUEST.now (Int (pos a) ∷ Int (pos b) ∷ []) old new r
     → TellsRow old new (option_map request_shown (request_in t a b)) r

@@ -9,7 +9,7 @@ use Rattle.sql_meanings.proofs.Texts.{select_of}
 use Rattle.store_rows.specs.SixTables as six
 use Rattle.store_rows.specs.declared.texts.TheConstants.{GET_META, GET_BRANCH, GET_TELLER, GET_ACCOUNT}
 
--- the key of each stands first
+-- the key of each is first
 pub record Keys : Type 0 where
   pub meta : IsFirst six.meta (codes "id")
   pub branch : IsFirst six.branch (codes "bid")

@@ -24,7 +24,7 @@ use Rattle.store_rows.specs.Columns.{request_shown}
 use Rattle.store_rows.specs.Outcomes.{ReadsCents, ReadsKept, ReadsOutcome, ReadsWhole}
 use Rattle.message_records.specs.declared.limits.TheConstants.{MAX_ACCOUNT, MAX_BRANCH}
 
--- the outcome that a code stands for
+-- the outcome that a code is
 abbrev pub decode : ℕ → Outcome
 decode n = cond (n == 0) Posted (cond (n == 11) NoTeller
     (cond (n == 12) WrongBranch (cond (n == 13) NoAccount

@@ -3,6 +3,7 @@ pub mod AddMeta
 pub mod BankTables
 pub mod Checked
 pub mod CreateTexts
+pub mod CreationEnds
 pub mod CreationSteps
 pub mod EmptyFile
 pub mod Failing
@@ -11,6 +12,7 @@ pub mod GetRequest
 pub mod Getting
 pub mod KeptRows
 pub mod Lookups
+pub mod MadeSoFar
 pub mod MetaRow
 pub mod NextBranch
 pub mod OtherValue

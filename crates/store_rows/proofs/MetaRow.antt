@@ -73,7 +73,7 @@ shown_is : (k : ℤ) (o : Option Entry) → ((e : Entry) → o ≡ Some e → le
 shown_is k None wide = refl
 shown_is k (Some e) wide = ap Some (two_shown k e.key e.values (wide e refl))
 
--- the row under the bank's id is told
+-- the row under the bank's id is reported
 pub tells_meta : (old new : State) (rows : List Entry) → HoldsRows old.now six.meta rows
     → (r : Result Row Error)
     → QueriesRowInside GET_META.now (Int (pos META_ID) ∷ []) old new r

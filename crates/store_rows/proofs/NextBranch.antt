@@ -84,7 +84,7 @@ reads k = record {
   ungrouped = λ _. refl;
 }
 
--- it tells the row with the least key above
+-- it reports the row with the least key above
 pub tells : (old new : State) (t : Tables) (k : ℕ) (r : Result Row Error) → Shows old.now t
     → QueriesRowInside NEXT_BRANCH.now (Int (pos k) ∷ []) old new r
     → TellsRow old new (option_map branch_shown (branch_above t k)) r

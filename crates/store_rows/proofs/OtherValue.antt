@@ -24,7 +24,7 @@ untimed : (params : Row) (formats : List (List ℕ)) (now : ℕ) → formats ≡
     → timed params formats now ≡ params
 untimed params formats now none = ap (λ fs. timed params fs now) none ∙ append-nil params
 
--- what a text that only shows rows told is what it shows
+-- what a text that only shows rows reported is what it shows
 pub first_told : (old new : State) (text : List ℕ) (params : Row) (r : Result Row Error)
     → OnlyShows text (length params) (understood old.now.schema text) → QueriesRowInside text params old new r
     → IfOk r (ShowsFirst text params old.now)

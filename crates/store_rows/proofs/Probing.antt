@@ -1,4 +1,4 @@
--- What each probe tells of its table.
+-- What each probe reports of its table.
 use Rattle.std.proofs.Common.{[], ◌∷◌, lit≤, refl}
 use Rattle.sqlite.specs.Listing.{listing_schema}
 use Rattle.sqlite.specs.Term.{col}

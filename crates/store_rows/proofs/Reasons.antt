@@ -30,7 +30,7 @@ module _ (old new : State) where
   looks_unread (Sqlite e) same it = (inl same, Reading it.0 it.1 it.2)
   looks_unread (Damaged rule) same it = (inl same, tt)
 
-  -- a query whose answer is told so is a read
+  -- a query whose answer is reported so is a read
   pub looks : {X : Type 0} (Reads : Row → Result X TableFault → Type 0) (answer : Result Row Error)
       (result : Result (Option X) TableFault)
       → ReadsAnswer Reads answer result → Asks old new answer → Looks old new result

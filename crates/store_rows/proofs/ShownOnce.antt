@@ -22,7 +22,7 @@ use Rattle.store_rows.specs.View.{Shows, ShowsTrees, contents, branch_entry, tel
 use Rattle.store_rows.specs.View.{history_entry, request_entry}
 use Rattle.store_rows.proofs.KeptRows.{decode, decoded}
 
--- what can be told back is told once, and so are lists of it
+-- what can be read back is shown by one row alone, and so are lists of it
 module _ {X Y : Type 0} (f : X → Y) (back : Y → X) (same : (x : X) → back (f x) ≡ x) where
   all_back : (xs : List X) → map back (map f xs) ≡ xs
   all_back [] = refl

@@ -76,7 +76,7 @@ reads_balance_stored row (Err fault) read =
     unread_cents balance_stored IsBalance BalanceKeeps row Balance 0 (number_at 0) (λ _. refl) MAX_BALANCE
     (omega arith) (λ r le. le) fault read
 
--- ---- what is told of the row
+-- ---- what is reported of the row
 
 module _ {X : Type 0} (old new : State) (shown : Entry → Row) (Is : X → Entry → Type 0)
     (Keeps : Rule → Entry → Type 0) (stored : Option Entry) where
@@ -101,7 +101,7 @@ module _ {X : Type 0} (old new : State) (shown : Entry → Row) (Is : X → Entr
       go None is = absurd cc
       go (Some r) is = (r, refl, read r (the_row is))
 
-  -- no row is told where none is stored
+  -- no row is reported if none is stored
   stored_none : TellsRow old new (option_map shown stored) (Err QueryReturnedNoRows)
       → FindsStored {X = X} stored Is Keeps (Ok None)
   stored_none (inl none) = go stored none.1
@@ -112,7 +112,7 @@ module _ {X : Type 0} (old new : State) (shown : Entry → Row) (Is : X → Entr
   stored_none (inr (inl fails)) = absurd (no_rows_error fails.0 fails.1)
   stored_none (inr (inr limit)) = absurd (let e = limit.0 in cc)
 
-  -- what is told of the answer of a query is of the row that is stored
+  -- what is reported of the answer of a query is of the row that is stored
   pub stores : (answer : Result Row Error) (result : Result (Option X) TableFault)
       → ReadsAnswer (ReadsStored shown Is Keeps) answer result
       → TellsRow old new (option_map shown stored) answer → FindsStored stored Is Keeps result

@@ -1,4 +1,4 @@
--- What each look-up tells of the rows that a file holds, whatever numbers they have.
+-- What each look-up reports of the rows that a file holds, whatever numbers they have.
 use Rattle.std.proofs.Common.{◌≡◌, ℕ, ℤ, pos, List, [], ◌∷◌, find, length, slice_get, Some, None, Option}
 use Rattle.std.proofs.Common.{option_map, Result, refl, ap, subst, arith}
 use Rattle.sqlite.specs.Effect.{Database}

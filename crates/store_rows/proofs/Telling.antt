@@ -1,4 +1,4 @@
--- What a call tells of the tables, by the statement that was run.
+-- What a call reports of the tables, by the statement that was run.
 use Rattle.std.proofs.Common.{ℕ, List, Option, option_map, Result}
 use Rattle.sqlite.specs.Listing.{understood}
 use Rattle.sqlite.specs.Order.{Row}
@@ -36,7 +36,7 @@ pub record Seeks {X : Type 0} (text : List ℕ) (params : Row) (count : ℕ) (fo
       → QueriesRowInside text params old new r → TellsRow old new (option_map form.held (stored rows)) r
 
 module _ {S : Type 0} (g : Ghosts S) (old new : Transaction S) where
-  -- a look-up tells what its text looks up
+  -- a look-up reports what its text looks up
   pub looks_up : {X : Type 0} {text : List ℕ} {params : Row} {count : ℕ} {form : Form X}
       {wanted : Tables → Option X}
       {stored : StoredRows → Option Entry} → Seeks text params count form wanted stored
@@ -60,7 +60,7 @@ module _ {S : Type 0} (g : Ghosts S) (old new : Transaction S) where
         survives = says.survives;
       }
 
-  -- a write tells what its statement leaves
+  -- a write reports what its statement leaves
   pub tells_tables : {Ran Kept : State → State → Type 0} {Told : State → State → Tables → Type 0}
       → ((before after : State) (t : Tables) → Shows before.now t → Ran before after → Told before after t)
       → Says g old new (Inside Ran) Kept → Says g old new (Inside (OfTables Told)) Kept

@@ -1,4 +1,4 @@
--- What the calls on the tables of a bank tell.
+-- What the calls on the tables of a bank report.
 use Rattle.std.specs.Prelude.{◌≡◌, ℕ, false, Bool, List, Option, Result}
 use Rattle.sqlite.specs.Held.{Held, state}
 use Rattle.sqlite.specs.State.{State, HasCleanDisk, Survives}
@@ -27,8 +27,8 @@ OfTables Told old new = (tables : Tables) → Shows old.now tables → Told old 
 abbrev pub OfMeta : (State → State → List Entry → Type 0) → State → State → Type 0
 OfMeta Told old new = (rows : List Entry) → HoldsRows old.now meta rows → Told old new rows
 
--- A look-up finds what is wanted of the tables that are shown; whatever rows are held, it gives the one that
--- it looks for.
+-- A look-up finds what is wanted of the tables that are shown; whatever rows are held, it reports the one
+-- that it looks for.
 abbrev pub LooksUp : {S X : Type 0} → Ghosts S → Transaction S → Transaction S → Form X → (Tables → Option X)
     → (StoredRows → Option Entry) → Result (Option X) TableFault → Type 0
 LooksUp g old new form wanted stored result =
@@ -36,7 +36,7 @@ LooksUp g old new form wanted stored result =
     (λ old new. Looks old new result
     × OfRows (λ rows. FindsStored (stored rows) form.Is form.Keeps result) old.now)
 
--- By this text a number of a row of the table is written, where the row is there, and the tables are these
+-- By this text a number of a row of the table is written, if there is such a row, and the tables are these
 -- after it.
 abbrev pub SetsNumber : {S : Type 0} → Ghosts S → Transaction S → Transaction S → Table → List ℕ
     → (Tables → Bool)
@@ -46,7 +46,7 @@ SetsNumber g old new table text there after result =
     (OfTables (λ old new tables. SetsRow old new table (there tables) (after tables) result)))
     (Inside (λ old new. Changes text old new result))
 
--- A row of the table is put in, where its key isn't taken, and the tables are these after it.
+-- A row of the table is put in, unless its key is taken, and the tables are these after it.
 abbrev pub AddsRow : {S : Type 0} → Ghosts S → Transaction S → Transaction S → Table → (Tables → Bool)
     → (Tables → Tables) → Result (Unit {0}) TableFault → Type 0
 AddsRow g old new table taken after result =

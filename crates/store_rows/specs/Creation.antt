@@ -56,7 +56,7 @@ pub record TablesAreMade (old new : Database) : Type 0 where
   pub alone : counts_rows old.schema ≡ false → new.schema ≡ with_first (length six_texts) old.schema
   pub apart : (t : Table) → Has old.schema.tables t → t.tree ≢ tree_of new.schema (codes "meta")
 
--- The first so many of the six are made, and the next is refused under the schema that stands now. Where no
+-- The first so many of the six are made, and the next is refused under the schema as it is now. Where no
 -- table counts its rows, that schema has those tables more, and nothing else.
 pub record RefusesNext (old now : Schema) (e : Error) : Type 0 where
   pub made : ℕ
@@ -97,7 +97,7 @@ IsAlone old new = counts_rows old.schema ≡ false → new.schema ≡ with_first
 
 -- The tables of a new bank are there, and every table that was there is there, with its rows, and nothing
 -- else is. Or the store failed, and the transaction is rolled back; or a statement is refused in the database
--- that stands now.
+-- as it is now.
 abbrev pub CreatesBank : State → State → Result (Unit {0}) Error → Type 0
 CreatesBank old new (Ok done) = Shows new.now new_tables × KeepsTables old.now new.now
     × IsAlone old.now new.now

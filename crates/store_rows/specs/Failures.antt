@@ -72,7 +72,7 @@ abbrev pub IsUnreadable : TableFault → Type 0
 IsUnreadable (Sqlite e) = (at : ℕ) × (value : Value) × IsReadError at value e
 IsUnreadable (Damaged rule) = ⊤
 
--- What is made of what a query answered: the value of the row, none if it found no row, or the
+-- What is reported of what a query answered: the row as the value that it holds, if it found one, or the
 -- error of either.
 abbrev pub ReadsAnswer : {X : Type 0} → (Row → Result X TableFault → Type 0) → Result Row Error
     → Result (Option X) TableFault
@@ -87,7 +87,7 @@ ReadsAnswer Reads (Err e) (Err fault) = (fault ≡ Sqlite e) × (e ≢ QueryRetu
 -- ---- whatever the rows
 
 -- a query leaves everything as it was, or the store failed and the transaction is rolled back; what else than
--- a missing row is never a failure
+-- no row that it reports is a failure
 abbrev pub Asks : State → State → Result Row Error → Type 0
 Asks old new (Ok row) = IsUnchanged old new
 Asks old new (Err e) = (Fails old new ⊥ e ⊎ IsUnchanged old new)

@@ -8,7 +8,7 @@ use Rattle.sql_meanings.specs.Outcomes.{is_taken_key}
 use Rattle.store_rows.specs.declared.fault.TableFault.{TableFault}
 use Rattle.store_rows.specs.declared.fault.TableFault.TheVariants.{Sqlite, Damaged}
 
--- what an INSERT answers, as a call on the tables returns it: a taken key is told apart from each other error
+-- what an INSERT answers, as a call on the tables reports it: a taken key is no other error
 abbrev pub added : Result ℕ Error → Result (Unit {0}) TableFault
 added (Ok count) = Ok tt
 added (Err e) = if is_taken_key e then Err (Damaged Key) else Err (Sqlite e)

@@ -1,4 +1,4 @@
--- What the rows of a look-up stand for, each as a typed row.
+-- The values that the rows of a look-up hold, each as a typed row.
 use Rattle.std.specs.Prelude.{◌≡◌, ℤ, ⊤}
 use Rattle.sqlite.specs.Order.{Row}
 use Rattle.posting_rules.specs.declared.fault.Rule.{Rule}
@@ -12,7 +12,7 @@ use Rattle.store_rows.specs.Stored.{BalanceKeeps, IsBalance, IsBranch, IsSameReq
 use Rattle.store_rows.specs.Stored.{branch_stored, request_stored}
 use Rattle.store_rows.specs.declared.metas.StoredMeta.{StoredMeta}
 
--- how a row stands for such a value
+-- how a row holds such a value
 pub record Form (X : Type 0) : Type 1 where
   -- what the row of a value shows, and which rule a value breaks
   pub shown : X → Row

@@ -1,4 +1,4 @@
--- What a call on the tables of a bank returns, and what it leaves.
+-- What a call on the tables of a bank reports, and what it leaves.
 use Rattle.std.specs.Prelude.{◌≡◌, ◌≢◌, ◌⊎◌, IsTrue, ℕ, ℤ, pos, Bool, true, false, Option, Some, None, Result}
 use Rattle.std.specs.Prelude.{Ok, Err}
 use Rattle.sqlite.specs.State.{State, IsUnchanged}
@@ -75,15 +75,15 @@ abbrev pub IsForbidden : Schema → Table → Tables → Type 0
 IsForbidden schema table t = IsTrue (has_unique schema table)
     × ((trees : Trees) → ¬ Shows (record { schema = schema; trees = trees }) t)
 
--- the answer says whether the row is there; the tables are these now, and every table but this one that
--- stands alone is as it was
+-- the answer is whether there is such a row; the tables are these now, and every table but this one that
+-- has a tree of its own is as it was
 abbrev pub SetsRow : State → State → Table → Bool → Tables → Result Bool Error → Type 0
 SetsRow old new table there after (Ok answer) = (answer ≡ there) × Shows new.now after × GoesOn old new
     × SparesStanding old.now new.now table.name
 SetsRow old new table there after (Err e) = SetFails old new table (IsForbidden old.now.schema table after) e
 
--- the row is put in, where its key is free, and every table but this one is as it was; a taken key is
--- reported, and nothing has changed
+-- the row is put in, if its key is free, and every table but this one is as it was; a taken key is reported,
+-- and nothing has changed
 abbrev pub PutsOneRow : State → State → Table → Bool → Tables → Result (Unit {0}) TableFault → Type 0
 PutsOneRow old new table taken after (Ok done) = (taken ≡ false) × Shows new.now after × GoesOn old new
     × SparesTables old.now new.now table.name

@@ -20,7 +20,7 @@ use Rattle.store_rows.specs.declared.metas.StoredMeta.{StoredMeta}
 use Rattle.store_rows.specs.declared.metas.TheConstants.{META_ID}
 use Rattle.store_rows.specs.declared.texts.TheConstants.{GET_META}
 
--- the text was run with these values, and the answer says whether it met one row
+-- the text was run with these values, and the answer is whether it met one row
 abbrev pub MeetsOne : List ℕ → Row → State → State → Result Bool Error → Type 0
 MeetsOne text params old new (Ok met) = (count : ℕ) × ExecutesInside 0 text params old new (Ok count)
     × (met ≡ nat_eq count 1)
@@ -34,7 +34,7 @@ RunsUnder g old new text key number result =
     Says g old new (Inside (λ old new. MeetsOne text (Int (pos key) ∷ Int number ∷ []) old new result))
     (Inside (λ old new. Changes text old new result))
 
--- the text was run with these values, and the answer is that of an INSERT
+-- the text was run with these values, and the answer is reported as that of an INSERT
 abbrev pub PutsIn : List ℕ → Row → State → State → Result (Unit {0}) TableFault → Type 0
 PutsIn text params old new r = (answer : Result ℕ Error) × ExecutesInside 0 text params old new answer
     × (r ≡ added answer)

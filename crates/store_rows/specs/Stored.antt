@@ -1,4 +1,4 @@
--- What is answered of a stored row, whatever numbers it has.
+-- What is reported of a stored row, whatever numbers it has.
 use Rattle.std.specs.Prelude.{◌≡◌, ◌≤◌, ℤ, pos, nat_abs, [], ◌∷◌, Option, Some, None, Result, Ok, Err, ⊤}
 use Rattle.sqlite.specs.Order.{Row}
 use Rattle.sqlite.specs.declared.types.Value.TheVariants.{Int}
@@ -53,7 +53,7 @@ abbrev pub BalanceKeeps : Rule → Entry → Type 0
 BalanceKeeps Balance r = nat_abs (number_at 0 r) ≤ MAX_BALANCE
 BalanceKeeps _ r = ⊤
 
--- ---- what is answered
+-- ---- what is reported
 
 -- what is shown of a row is read so; or the row doesn't keep the rule; or memory was refused
 abbrev pub ReadsStored : {X : Type 0} → (Entry → Row) → (X → Entry → Type 0) → (Rule → Entry → Type 0) → Row
@@ -62,7 +62,7 @@ ReadsStored shown Is Keeps row (Ok x) = (r : Entry) → row ≡ shown r → Is x
 ReadsStored shown Is Keeps row (Err (Sqlite e)) = ⊤
 ReadsStored shown Is Keeps row (Err (Damaged rule)) = (r : Entry) → row ≡ shown r → ¬ Keeps rule r
 
--- the stored row is given, or none if there is none; or it doesn't keep the rule; or the store failed
+-- the stored row is reported, and that there is none; or it doesn't keep the rule; or the store failed
 abbrev pub FindsStored : {X : Type 0} → Option Entry → (X → Entry → Type 0) → (Rule → Entry → Type 0)
     → Result (Option X) TableFault → Type 0
 FindsStored stored Is Keeps (Ok None) = stored ≡ None

@@ -70,6 +70,6 @@ pub record Shows (db : Database) (t : Tables) : Type 0 where
   pub sound : ∥ IsDatabase db ∥₁
   pub each : HoldsEach db bank_tables (contents t)
 
--- the same of bare trees, which tell their schema: this is what a stop may leave
+-- the same of bare trees, which hold their schema: this is what a stop may leave
 abbrev pub ShowsTrees : Trees → Tables → Type 0
 ShowsTrees trees t = (schema : Schema) × Shows (record { schema = schema; trees = trees }) t

@@ -17,7 +17,7 @@ use message_records::{Account, Cents};
 use posting_rules::AccountRow;
 use sqlite::{Alter, Error, Transaction};
 
-/// The balance of an account, none where it has no row.
+/// The balance of an account, if it has a row.
 pub fn account_balance<S: Alter>(
     tx: &mut Transaction<'_, S>,
     account: Account,
@@ -28,7 +28,7 @@ pub fn account_balance<S: Alter>(
     found(row_under(tx, GET_ACCOUNT, account.get()))
 }
 
-/// Writes the balance of an account, and returns whether it has a row.
+/// Writes the balance of an account, and reports whether it has a row.
 pub fn set_account_balance<S: Alter>(
     tx: &mut Transaction<'_, S>,
     account: Account,

@@ -33,7 +33,7 @@ impl FromRow for BranchRow {
     }
 }
 
-/// A branch, none where it has no row.
+/// A branch, if it has a row.
 pub fn find_branch<S: Alter>(
     tx: &mut Transaction<'_, S>,
     branch: Branch,
@@ -44,7 +44,7 @@ pub fn find_branch<S: Alter>(
     found(row_under(tx, GET_BRANCH, branch.get()))
 }
 
-/// The branch with the least number above one, none where there is no such row.
+/// The branch with the least number above one, if there is such a row.
 pub fn next_branch<S: Alter>(
     tx: &mut Transaction<'_, S>,
     after: u32,
@@ -55,7 +55,7 @@ pub fn next_branch<S: Alter>(
     found(row_under(tx, NEXT_BRANCH, u64::from(after)))
 }
 
-/// Writes the balance of a branch, and returns whether it has a row.
+/// Writes the balance of a branch, and reports whether it has a row.
 pub fn set_branch_balance<S: Alter>(
     tx: &mut Transaction<'_, S>,
     branch: Branch,

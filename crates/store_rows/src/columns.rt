@@ -1,4 +1,4 @@
-//! Stored numbers as the types that they stand for.
+//! Stored numbers as the types that they are read as.
 ghost use Rattle.std.specs.Prelude.{IfErr};
 ghost use Rattle.sqlite.specs.Order.{column};
 ghost use Rattle.store_rows.specs.Failures.{IsUnreadable};

@@ -54,7 +54,7 @@ fn is_taken_key(e: &Error) -> bool
     )
 }
 
-// What the answer of an INSERT tells.
+// What the answer of an INSERT means.
 pub(crate) fn added(answer: Result<usize, Error>) -> Result<(), TableFault>
     ensures { result ≡ told_as answer }
 {

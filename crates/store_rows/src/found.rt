@@ -34,7 +34,7 @@ impl FromRow for Cents {
     }
 }
 
-/// The value of the row that a query found, none if it found no row.
+/// The value of the row that a query answered, if it found one.
 pub(crate) fn found<R: FromRow>(answer: Result<Row, Error>) -> Result<Option<R>, TableFault>
     ensures reads { ReadsAnswer (ReadsRow R.form.shown R.form.Breaks) answer result }
     ensures stored { ReadsAnswer (ReadsStored R.form.held R.form.Is R.form.Keeps) answer result }

@@ -61,7 +61,7 @@ fn meta_row<S: Alter>(tx: &mut Transaction<'_, S>) -> Result<Row, Error>
     row_under(tx, GET_META, META_ID)
 }
 
-/// What meta holds of the bank, none where it has no row under the bank's id, whatever other rows it has.
+/// What meta holds of the bank, if it has a row under the bank's id, whatever other rows it has.
 pub fn read_meta<S: Alter>(tx: &mut Transaction<'_, S>) -> Result<Option<StoredMeta>, TableFault>
     ensures says { Says S.Store tx.old tx.new
         (OfMeta (λ old new rows. Finds old new (meta_in rows) Never result))
@@ -72,7 +72,7 @@ pub fn read_meta<S: Alter>(tx: &mut Transaction<'_, S>) -> Result<Option<StoredM
     found(meta_row(tx))
 }
 
-/// Writes how many requests are decided, and returns whether meta has its row.
+/// Writes how many requests are decided, and reports whether meta has its row.
 pub fn set_decided<S: Alter>(tx: &mut Transaction<'_, S>, decided: u64) -> Result<bool, Error>
     requires { decided ≤ MAX_DECIDED }
     ensures { SetsNumber S.Store tx.old tx.new table SET_META.now (λ _. true) (with_decided decided) result }

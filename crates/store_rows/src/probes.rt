@@ -1,4 +1,4 @@
-//! A probe for each table: a reading statement that names all its columns, accepted or refused.
+//! A probe for each table: a reading statement that names all its columns, reported as accepted or refused.
 ghost use Rattle.std.specs.Prelude.{◌≡◌, false};
 ghost use Rattle.sqlite.specs.State.{HasCleanDisk, Survives};
 ghost use Rattle.sqlite.specs.Listing.{understood};
@@ -34,42 +34,42 @@ fn is_understood<S: Alter>(conn: &mut Connection<S>, text: &str) -> Result<bool,
     }
 }
 
-/// Whether the probe of `meta` is understood; every other error is returned.
+/// Whether the probe of `meta` is understood; every other error is reported.
 pub fn probe_meta<S: Alter>(conn: &mut Connection<S>) -> Result<bool, Error>
     ensures { Probes S.Store conn.old conn.new meta result }
 {
     is_understood(conn, PROBE_META)
 }
 
-/// Whether the probe of `branch` is understood; every other error is returned.
+/// Whether the probe of `branch` is understood; every other error is reported.
 pub fn probe_branches<S: Alter>(conn: &mut Connection<S>) -> Result<bool, Error>
     ensures { Probes S.Store conn.old conn.new branch result }
 {
     is_understood(conn, PROBE_BRANCH)
 }
 
-/// Whether the probe of `teller` is understood; every other error is returned.
+/// Whether the probe of `teller` is understood; every other error is reported.
 pub fn probe_tellers<S: Alter>(conn: &mut Connection<S>) -> Result<bool, Error>
     ensures { Probes S.Store conn.old conn.new teller result }
 {
     is_understood(conn, PROBE_TELLER)
 }
 
-/// Whether the probe of `account` is understood; every other error is returned.
+/// Whether the probe of `account` is understood; every other error is reported.
 pub fn probe_accounts<S: Alter>(conn: &mut Connection<S>) -> Result<bool, Error>
     ensures { Probes S.Store conn.old conn.new account result }
 {
     is_understood(conn, PROBE_ACCOUNT)
 }
 
-/// Whether the probe of `history` is understood; every other error is returned.
+/// Whether the probe of `history` is understood; every other error is reported.
 pub fn probe_history<S: Alter>(conn: &mut Connection<S>) -> Result<bool, Error>
     ensures { Probes S.Store conn.old conn.new history result }
 {
     is_understood(conn, PROBE_HISTORY)
 }
 
-/// Whether the probe of `request` is understood; every other error is returned.
+/// Whether the probe of `request` is understood; every other error is reported.
 pub fn probe_requests<S: Alter>(conn: &mut Connection<S>) -> Result<bool, Error>
     ensures { Probes S.Store conn.old conn.new request result }
 {

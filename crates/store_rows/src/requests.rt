@@ -50,7 +50,7 @@ impl FromRow for RequestRow {
     }
 }
 
-/// The request of a teller under its number, none where there is no such row.
+/// The request of a teller under its number, if there is such a row.
 pub fn find_request<S: Alter>(
     tx: &mut Transaction<'_, S>,
     teller: Teller,

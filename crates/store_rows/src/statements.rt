@@ -51,7 +51,7 @@ pub(crate) fn row_under_two<S: Alter>(
     tx.query_row(text, params![first, second])
 }
 
-// Writes a number into the row under a key, and returns whether there is one.
+// Writes a number into the row under a key, and reports whether there is one.
 pub(crate) fn write_under<S: Alter>(
     tx: &mut Transaction<'_, S>,
     text: &str,
@@ -66,7 +66,7 @@ pub(crate) fn write_under<S: Alter>(
     Ok(count == 1)
 }
 
-// Writes a balance into the row under a key, and returns whether there is one.
+// Writes a balance into the row under a key, and reports whether there is one.
 pub(crate) fn write_balance<S: Alter>(
     tx: &mut Transaction<'_, S>,
     text: &str,

@@ -17,7 +17,7 @@ use message_records::{Cents, Teller};
 use posting_rules::TellerRow;
 use sqlite::{Alter, Error, Transaction};
 
-/// The balance of a teller, none where it has no row.
+/// The balance of a teller, if it has a row.
 pub fn teller_balance<S: Alter>(
     tx: &mut Transaction<'_, S>,
     teller: Teller,
@@ -28,7 +28,7 @@ pub fn teller_balance<S: Alter>(
     found(row_under(tx, GET_TELLER, teller.get()))
 }
 
-/// Writes the balance of a teller, and returns whether it has a row.
+/// Writes the balance of a teller, and reports whether it has a row.
 pub fn set_teller_balance<S: Alter>(
     tx: &mut Transaction<'_, S>,
     teller: Teller,

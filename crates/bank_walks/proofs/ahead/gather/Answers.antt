@@ -12,7 +12,7 @@ pub loop-row-preserved : goal.loop-row-preserved
 loop-row-preserved g c =
     let from = c.args.from in
     let same : to_z w64 (of_z w64 from) ≡ from = search (rules, to_z-of_z) in
-    let entry = g.R.StoredRow.entry in
+    let entry = g.R.StoredRow.kind.entry in
     let low : length c.loop-row.rows.items < length c.args.found.now = search rules in
     let key = behind_key c.key.result (entry c.in-Ok.read).key c.key.ensures.key c.key.ensures.most in
     let at : c.row-item.result ≡ get_or c.args.found.now (length c.loop-row.rows.items) c.row-item.result =
@@ -26,8 +26,8 @@ loop-row-preserved g c =
           (rw same at c.loop-row.invariant.rises) (le_from _ _ c.in-Ok.ensures.1));
       told = λ rows rise wide is.
           rw (c.push.ensures.items, key)
-          (gathers_on entry g.R.StoredRow.is_broken
-          (width_of g.R.StoredRow.table) AHEAD c.args.found.now from rows rise wide is
+          (gathers_on entry g.R.StoredRow.kind.Breaks
+          (width_of g.R.StoredRow.kind.table) AHEAD c.args.found.now from rows rise wide is
           c.loop-row.rows.items (to_z w64 c.loop-row.next-bits) c.row-item.result low at
           ((rw same at (c.loop-row.invariant.told rows rise wide)) is) c.in-Ok.read c.in-Ok.ensures);
     }
@@ -46,7 +46,7 @@ returns-then-is_empty-clause-told g c rows rise wide is =
     c.row-item.is ∙ ap (λ n. get_or c.args.found.now n c.row-item.result) (sym c.loop-row.invariant.count) in
     let none : c.loop-row.rows.items ≡ [] =
     none_there c.loop-row.rows.items (sym c.is_empty.ensures ∙ c.if-is_empty.true) in
-    gathers_none g.R.StoredRow.entry g.R.StoredRow.is_broken
-    (width_of g.R.StoredRow.table) AHEAD c.args.found.now from rows rise wide is
+    gathers_none g.R.StoredRow.kind.entry g.R.StoredRow.kind.Breaks
+    (width_of g.R.StoredRow.kind.table) AHEAD c.args.found.now from rows rise wide is
     c.loop-row.rows.items (to_z w64 c.loop-row.next-bits) c.row-item.result low at
     ((rw same at (c.loop-row.invariant.told rows rise wide)) is) c.in-Err.fault none c.in-Err.ensures

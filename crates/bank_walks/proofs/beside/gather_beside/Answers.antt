@@ -12,43 +12,40 @@ pub returns-in_err-key-in-Err-Damaged-clause-told : goal.returns-in_err-key-in-E
 returns-in_err-key-in-Err-Damaged-clause-told g c all rise wide is =
     let from = c.args.from in
     let same : to_z w64 (of_z w64 from) ≡ from = search (rules, to_z-of_z) in
-    let broke =
-    broken_first IsRefusedMemory g.O.StoredRow.is_broken (rows_from from all) _ _ c.in-Err-Damaged.field-0-is
-    ((rw same at (c.in-Err-Damaged.ensures.told all rise wide)) is) in
+    let broke = broken_first IsRefusedMemory g.O.StoredRow.kind.Breaks (rows_from from all) _ _
+    c.in-Err-Damaged.field-0-is ((rw same at (c.in-Err-Damaged.ensures.told all rise wide)) is) in
     let fault = c.in_err-key-in-Err-Damaged.field-0.0 in
     let residual : c.from_residual.result ≡ Err fault = search rules in
-    rw residual (key_fails g.O.StoredRow.is_broken from all broke.1.0 fault
+    rw residual (key_fails g.O.StoredRow.kind.Breaks from all broke.1.0 fault
     (c.in_err-key-in-Err-Damaged.ensures broke.1.0 _ (is ∙ ap (λ l. shown (take AHEAD l)) broke.1.2)))
 
 pub returns-then-key-from-clause-told : goal.returns-then-key-from-clause-told
 returns-then-key-from-clause-told g c all rise wide is =
     let from = c.args.from in
     let same : to_z w64 (of_z w64 from) ≡ from = search (rules, to_z-of_z) in
-    let broke =
-    broken_first IsRefusedMemory g.O.StoredRow.is_broken (rows_from from all) _ _ c.in-Err-Damaged.field-0-is
-    ((rw same at (c.in-Err-Damaged.ensures.told all rise wide)) is) in
+    let broke = broken_first IsRefusedMemory g.O.StoredRow.kind.Breaks (rows_from from all) _ _
+    c.in-Err-Damaged.field-0-is ((rw same at (c.in-Err-Damaged.ensures.told all rise wide)) is) in
     let key =
     c.in_ok-key-in-Err-Damaged.ensures broke.1.0 _ (is ∙ ap (λ l. shown (take AHEAD l)) broke.1.2) in
     let within : c.in_ok-key-in-Err-Damaged.key ≤ℤ from = search rules in
     let low = subst (λ k. k ≤ℤ from) key within in (
       broke.0,
-      subst (λ o. IsSomeAnd o g.O.StoredRow.is_broken)
+      subst (λ o. IsSomeAnd o g.O.StoredRow.kind.Breaks)
           (sym (first_under from all broke.1.0 broke.1.1 broke.1.2 low)) broke.1.3,
     )
 
 pub returns-in-Ok-clause-beyond : goal.returns-in-Ok-clause-beyond
 returns-in-Ok-clause-beyond g c =
     let same : to_z w64 (of_z w64 c.args.from) ≡ c.args.from = search (rules, to_z-of_z) in
-    beyond (λ r. entry_key (g.O.StoredRow.entry r)) c.args.from c.gather.new.rows.items c.in-Ok.rest
+    beyond (λ r. entry_key (g.O.StoredRow.kind.entry r)) c.args.from c.gather.new.rows.items c.in-Ok.rest
     (rw same at c.in-Ok.ensures.rises) c.in-Ok.ensures.ended
 
 pub returns-else-key-from-clause-told : goal.returns-else-key-from-clause-told
 returns-else-key-from-clause-told g c all rise wide is =
     let from = c.args.from in
     let same : to_z w64 (of_z w64 from) ≡ from = search (rules, to_z-of_z) in
-    let broke =
-    broken_first IsRefusedMemory g.O.StoredRow.is_broken (rows_from from all) _ _ c.in-Err-Damaged.field-0-is
-    ((rw same at (c.in-Err-Damaged.ensures.told all rise wide)) is) in
+    let broke = broken_first IsRefusedMemory g.O.StoredRow.kind.Breaks (rows_from from all) _ _
+    c.in-Err-Damaged.field-0-is ((rw same at (c.in-Err-Damaged.ensures.told all rise wide)) is) in
     let key =
     c.in_ok-key-in-Err-Damaged.ensures broke.1.0 _ (is ∙ ap (λ l. shown (take AHEAD l)) broke.1.2) in
     let it : rows_from from all ≡ rows_from c.in_ok-key-in-Err-Damaged.key all =

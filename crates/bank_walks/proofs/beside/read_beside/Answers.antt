@@ -13,13 +13,13 @@ pub returns-in-Ok-clause-told : goal.returns-in-Ok-clause-told
 returns-in-Ok-clause-told g c clean all has =
     let from = c.args.from in
     let same : to_z w64 (of_z w64 from) ≡ from = search (rules, to_z-of_z) in
-    let whole : filter (g.O.StoredRow.is_given None) all ≡ all =
-    all_pass (g.O.StoredRow.is_given None) g.met.O.StoredRow.all_given all in
+    let whole : filter (g.O.StoredRow.kind.is_given None) all ≡ all =
+    all_pass (g.O.StoredRow.kind.is_given None) g.O.StoredRow.kind.all_given all in
     let found = (rw same at (c.in-Ok.ensures.told clean all has))
     ∙ ap (λ es. shown (take AHEAD (rows_from from es))) whole in
     let old = state g.S.Store c.args.conn.now in
     let new = state g.S.Store c.seek.new.conn in
     match_err _ _ _ c.gather_beside.result
-    (refused_under old new g.O.StoredRow.is_broken from all (c.in-Ok.ensures.same clean))
+    (refused_under old new g.O.StoredRow.kind.Breaks from all (c.in-Ok.ensures.same clean))
     ((rw same at (c.gather_beside.ensures.told all has.holds.rows.rise has.holds.rows.wide))
     (c.deref.ensures.value ∙ found))

@@ -4,5 +4,5 @@ use Rattle.bank_walks.proofs.beside.row_with.Given as goal
 
 abbrev pub invariant-loop-row : goal.invariant-loop-row
 invariant-loop-row g l =
-    row_under (map g.O.StoredRow.entry l.fn.rows) (pos l.fn.key)
-    ≡ row_under (map g.O.StoredRow.entry (drop l.row-index l.fn.rows)) (pos l.fn.key)
+    row_under (map g.O.StoredRow.kind.entry l.fn.rows) (pos l.fn.key)
+    ≡ row_under (map g.O.StoredRow.kind.entry (drop l.row-index l.fn.rows)) (pos l.fn.key)

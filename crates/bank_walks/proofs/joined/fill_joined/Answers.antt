@@ -27,18 +27,18 @@ returns-in-Ok-clause-told g c clean all has =
     let new = state g.S.Store c.join_first.new.conn in
     let between : HasCleanDisk mid = let more = c.join_first.ensures.survives.clean in omega arith in
     let unchanged = c.in-Ok.ensures.same between in
-    let given = g.R.StoredRow.is_given c.args.of in
+    let given = g.R.StoredRow.kind.is_given c.args.of in
     let told = rw same at (c.in-Ok.ensures.told between has.rows has.has) in
-    let others = subst (λ db. HasStoredRows db g.O.StoredRow.table has.others)
+    let others = subst (λ db. HasStoredRows db g.O.StoredRow.kind.table has.others)
     (sym unchanged.0.now_is) has.has_others in
     let joined = (rw c.as_slice.ensures.value at
     (c.join_first.ensures.told clean (filter given has.rows) has.others
     (rise_filter given has.rows has.has.holds.rows.rise) others from)) told in
     match_both _ _ _ _ c.join_first.result
-    (filled g.R.StoredRow.entry g.O.StoredRow.entry has.others has.rows given all has.are from
+    (filled g.R.StoredRow.kind.entry g.O.StoredRow.kind.entry has.others has.rows given all has.are from
     c.join_first.new.rows.items)
     (breaks_given has.others has.rows given all has.are from
-    (IsStoreError old new) g.R.StoredRow.is_broken g.O.StoredRow.is_broken
+    (IsStoreError old new) g.R.StoredRow.kind.Breaks g.O.StoredRow.kind.Breaks
     (IsStoreError mid new) (store_both old mid new unchanged c.in-Ok.ensures.survives)) joined
 
 pub returns-in-Ok-clause-rises : goal.returns-in-Ok-clause-rises
@@ -74,9 +74,9 @@ pub returns-in-Err-clause-told : goal.returns-in-Err-clause-told
 returns-in-Err-clause-told g c clean all has =
     let from = c.args.from in
     let same : to_z w64 (of_z w64 from) ≡ from = search (rules, to_z-of_z) in
-    breaks_own has.others has.rows (g.R.StoredRow.is_given c.args.of) all has.are from
+    breaks_own has.others has.rows (g.R.StoredRow.kind.is_given c.args.of) all has.are from
     (IsStoreError (state g.S.Store c.args.conn.now) (state g.S.Store c.read_ahead.new.conn))
-    g.R.StoredRow.is_broken g.O.StoredRow.is_broken
+    g.R.StoredRow.kind.Breaks g.O.StoredRow.kind.Breaks
     c.in-Err.fault (rw same at (c.in-Err.ensures.told clean has.rows has.has))
 
 pub returns-in-Ok-clause-mode : goal.returns-in-Ok-clause-mode

@@ -16,7 +16,7 @@ pub loop-row-preserved : goal.loop-row-preserved
 loop-row-preserved g c =
     let start = c.args.start in
     let same : to_z w64 (of_z w64 start) ≡ start = search (rules, to_z-of_z) in
-    let entry = g.R.StoredRow.entry in
+    let entry = g.R.StoredRow.kind.entry in
     let r = c.row-item.result in
     let at = c.loop-row.row-index in
     let next = to_z w64 c.loop-row.next-bits in
@@ -46,21 +46,21 @@ loop-row-preserved g c =
       told = λ base others rise own_is others_are.
           let both = (rw same at (c.loop-row.invariant.told base others rise)) own_is others_are in
           rw c.push.ensures.items
-          (joins_on entry g.O.StoredRow.entry others base rise start c.loop-row.rows.items next r
+          (joins_on entry g.O.StoredRow.kind.entry others base rise start c.loop-row.rows.items next r
           c.row_with.result
           (map entry (drop (at + 1) c.args.own.now) ++ rows_behind c.args.rest base) both.1
           (both.0 ∙ ap (λ l. map entry l ++ rows_behind c.args.rest base) left)
           (c.row_with.ensures
-          ∙ sym (ap (λ k. row_under (map g.O.StoredRow.entry c.args.beside.now) k) c.key-key.ensures.key)
+          ∙ sym (ap (λ k. row_under (map g.O.StoredRow.kind.entry c.args.beside.now) k) c.key-key.ensures.key)
           ∙ sym (beside_is others start (entry r).key
-          (map g.O.StoredRow.entry c.args.beside.now) c.args.behind others_are above decided)));
+          (map g.O.StoredRow.kind.entry c.args.beside.now) c.args.behind others_are above decided)));
     }
 
 pub returns-clause-rises : goal.returns-clause-rises
 returns-clause-rises g c =
     let start = c.args.start in
     let same : to_z w64 (of_z w64 start) ≡ start = search (rules, to_z-of_z) in
-    let entry = g.R.StoredRow.entry in
+    let entry = g.R.StoredRow.kind.entry in
     let next = to_z w64 c.loop-row.next-bits in
     let low : length c.args.own.now ≤ c.loop-row.row-index = search rules in
     rest_behind (λ j. entry_key (entry j.stored)) start c.loop-row.rows.items next c.args.rest

@@ -10,13 +10,15 @@ invariant-loop-row g l = record {
   count : length l.rows.items ≡ l.row-index;
   low : l.fn.start ≤ℤ l.next;
   ahead : RisesFrom l.next
-      (map (λ r. entry_key (g.R.StoredRow.entry r)) (drop l.row-index l.fn.own)) l.fn.rest;
-  rises : RisesFrom l.fn.start (map (λ j. entry_key (g.R.StoredRow.entry j.stored)) l.rows.items)
+      (map (λ r. entry_key (g.R.StoredRow.kind.entry r)) (drop l.row-index l.fn.own)) l.fn.rest;
+  rises : RisesFrom l.fn.start (map (λ j. entry_key (g.R.StoredRow.kind.entry j.stored)) l.rows.items)
       (Some l.next);
   told : (base others : List Entry) → Rise base
-      → rows_from l.fn.start base ≡ map g.R.StoredRow.entry l.fn.own ++ rows_behind l.fn.rest base
-      → rows_from l.fn.start others ≡ map g.O.StoredRow.entry l.fn.beside ++ rows_behind l.fn.behind others
+      → rows_from l.fn.start base ≡ map g.R.StoredRow.kind.entry l.fn.own ++ rows_behind l.fn.rest base
+      → rows_from l.fn.start others
+      ≡ map g.O.StoredRow.kind.entry l.fn.beside ++ rows_behind l.fn.behind others
       → (rows_from l.next base
-      ≡ map g.R.StoredRow.entry (drop l.row-index l.fn.own) ++ rows_behind l.fn.rest base)
-      × AreJoined g.R.StoredRow.entry g.O.StoredRow.entry others base l.fn.start l.rows.items (Some l.next);
+      ≡ map g.R.StoredRow.kind.entry (drop l.row-index l.fn.own) ++ rows_behind l.fn.rest base)
+      × AreJoined g.R.StoredRow.kind.entry g.O.StoredRow.kind.entry others base l.fn.start l.rows.items
+      (Some l.next);
 }

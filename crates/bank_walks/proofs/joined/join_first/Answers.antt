@@ -11,7 +11,7 @@ use Rattle.bank_walks.proofs.joined.join_first.Goals as goal
 
 pub join_ahead-requires : goal.join_ahead-requires
 join_ahead-requires g c =
-    let entry = g.R.StoredRow.entry in
+    let entry = g.R.StoredRow.kind.entry in
     let n = c.key-start.result in
     let rises = rises_itself (λ r. entry_key (entry r)) c.requires.rises.0 c.args.own.now
     (drop 1 c.args.own.now) c.in-Some.first.now c.args.rest
@@ -21,8 +21,8 @@ join_ahead-requires g c =
 
 pub returns-in-Some-clause-told : goal.returns-in-Some-clause-told
 returns-in-Some-clause-told g c clean base others rise has from told =
-    let entry = g.R.StoredRow.entry in
-    let other = g.O.StoredRow.entry in
+    let entry = g.R.StoredRow.kind.entry in
+    let other = g.O.StoredRow.kind.entry in
     let n = c.key-start.result in
     let start = to_z w64 n in
     let at : start ≡ (entry c.in-Some.first.now).key = as_integer n n refl c.key-start.ensures.most
@@ -36,7 +36,7 @@ returns-in-Some-clause-told g c clean base others rise has from told =
     (entry c.in-Some.first.now) more is at c.join_ahead.new.rows.items)
     (breaks_first others base from start (entry c.in-Some.first.now) more is at
     (IsStoreError (state g.S.Store c.args.conn.now) (state g.S.Store c.join_ahead.new.conn))
-    g.R.StoredRow.is_broken g.O.StoredRow.is_broken)
+    g.R.StoredRow.kind.Breaks g.O.StoredRow.kind.Breaks)
     (c.join_ahead.ensures.told clean base others rise has from_start)
 
 pub returns-in-Some-clause-ended : goal.returns-in-Some-clause-ended
@@ -49,7 +49,7 @@ returns-in-Some-clause-ended g c =
 
 pub returns-in-Some-clause-rises : goal.returns-in-Some-clause-rises
 returns-in-Some-clause-rises g c from rises =
-    let entry = g.R.StoredRow.entry in
+    let entry = g.R.StoredRow.kind.entry in
     let n = c.key-start.result in
     rises_too (λ r. entry_key (entry r)) from c.args.own.now
     (drop 1 c.args.own.now) c.in-Some.first.now c.args.rest

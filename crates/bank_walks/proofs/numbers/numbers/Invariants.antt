@@ -4,7 +4,7 @@ use Rattle.sqlite.specs.declared.types.Value.TheVariants.{Int}
 use Rattle.bank_walks.proofs.numbers.numbers.Given as goal
 
 abbrev pub invariant-loop-at : goal.invariant-loop-at
-invariant-loop-at g l = record {
-  long : length l.numbers ≡ g.row.COUNT;
-  read : (k : ℕ) → k < l.at → column l.row k ≡ Int (get_or l.numbers k (pos 0));
+invariant-loop-at l = record {
+  long : length l.numbers.items ≡ l.at;
+  read : (k : ℕ) → k < l.at → column l.row k ≡ Int (get_or l.numbers.items k (pos 0));
 }

@@ -1,4 +1,4 @@
--- What stands under the number.
+-- What there is under the number.
 use Rattle.store_rows.proofs.Seeking.{seeks_account}
 use Rattle.store_rows.proofs.Telling.{looks_up}
 use Rattle.store_rows.proofs.accounts.account_balance.Goals as goal

@@ -1,4 +1,4 @@
--- What stands under the number.
+-- What there is under the number.
 use Rattle.store_rows.proofs.Seeking.{seeks_branch}
 use Rattle.store_rows.proofs.Telling.{looks_up}
 use Rattle.store_rows.proofs.branches.find_branch.Goals as goal

@@ -1,4 +1,4 @@
--- What stands under the least number above.
+-- What there is under the least number above.
 use Rattle.store_rows.proofs.Seeking.{seeks_next}
 use Rattle.store_rows.proofs.Telling.{looks_up}
 use Rattle.store_rows.proofs.branches.next_branch.Goals as goal

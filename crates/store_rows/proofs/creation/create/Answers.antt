@@ -5,7 +5,7 @@ use Rattle.sqlite.specs.Held.{state}
 use Rattle.sqlite.specs.State.{HasCleanDisk}
 use Rattle.sqlite.specs.State.{Shows as StateShows}
 use Rattle.store_rows.specs.Creation.{CreatesBank, CreationFails}
-use Rattle.store_rows.proofs.CreationSteps.{fails_committed, fails_created}
+use Rattle.store_rows.proofs.CreationEnds.{fails_committed, fails_created}
 use Rattle.store_rows.proofs.creation.create.Goals as goal
 
 pub returns-in_err-create_tables-clause-cause : goal.returns-in_err-create_tables-clause-cause

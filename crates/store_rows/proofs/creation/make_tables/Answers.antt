@@ -10,7 +10,7 @@ use Rattle.sql_meanings.proofs.Saying.{survives_both}
 use Rattle.store_rows.specs.Creation.{MakesAll, six_texts}
 use Rattle.store_rows.proofs.CreateTexts.{each_creates}
 use Rattle.store_rows.proofs.CreationSteps.{begun_live, ends_made, next_at, one_more, makes_leave, then_fails}
-use Rattle.store_rows.proofs.CreationSteps.{Reached}
+use Rattle.store_rows.proofs.MadeSoFar.{Reached}
 use Rattle.store_rows.proofs.creation.make_tables.Goals as goal
 
 pub loop-at-init : goal.loop-at-init

@@ -1,5 +1,5 @@
 -- So many tables were made.
-use Rattle.store_rows.proofs.CreationSteps.{Going}
+use Rattle.store_rows.proofs.MadeSoFar.{Going}
 use Rattle.store_rows.proofs.creation.make_tables.Given as goal
 
 abbrev pub invariant-loop-at : goal.invariant-loop-at

@@ -1,4 +1,4 @@
--- What the error tells.
+-- What the error means.
 use Rattle.std.proofs.Common.{rules}
 use Rattle.store_rows.proofs.fault.added.Goals as goal
 

@@ -1,4 +1,4 @@
--- What the look-up tells.
+-- What the look-up reports.
 use Rattle.std.proofs.Common.{rules}
 use Rattle.sql_meanings.proofs.Texts.{only_reads}
 use Rattle.store_rows.proofs.Getting.{gets}

@@ -1,4 +1,4 @@
--- What the row tells.
+-- What the row means.
 use Rattle.std.proofs.Common.{rules}
 use Rattle.store_rows.specs.Columns.{meta_in, meta_shown}
 use Rattle.store_rows.specs.Outcomes.{Never, ReadsRow}

@@ -1,4 +1,4 @@
--- What an error of `prepare` tells: that the text is refused, or that the store failed.
+-- What an error of `prepare` means: that the text is refused, or that the store failed.
 use Rattle.std.proofs.Common.{[], sym, ◌∙◌}
 use Rattle.sqlite.specs.Held.{state}
 use Rattle.sql_meanings.proofs.Probing.{fails_to_tell, refuses_text}

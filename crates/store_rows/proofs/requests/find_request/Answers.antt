@@ -1,4 +1,4 @@
--- What stands under the two numbers.
+-- What there is under the two numbers.
 use Rattle.store_rows.proofs.Seeking.{seeks_request}
 use Rattle.store_rows.proofs.Telling.{looks_up}
 use Rattle.store_rows.proofs.requests.find_request.Goals as goal

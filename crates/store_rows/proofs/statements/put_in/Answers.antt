@@ -1,4 +1,4 @@
--- What the answer of an INSERT tells.
+-- What the answer of an INSERT means.
 use Rattle.std.proofs.Common.{rules}
 use Rattle.store_rows.proofs.Failing.{puts_added}
 use Rattle.store_rows.proofs.statements.put_in.Goals as goal

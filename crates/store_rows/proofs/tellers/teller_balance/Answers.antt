@@ -1,4 +1,4 @@
--- What stands under the number.
+-- What there is under the number.
 use Rattle.store_rows.proofs.Seeking.{seeks_teller}
 use Rattle.store_rows.proofs.Telling.{looks_up}
 use Rattle.store_rows.proofs.tellers.teller_balance.Goals as goal

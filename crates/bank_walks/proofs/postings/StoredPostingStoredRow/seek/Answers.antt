@@ -7,12 +7,12 @@ use Rattle.sql_meanings.proofs.Texts.{only_reads}
 use Rattle.store_rows.proofs.Lookups.{as_integer}
 use Rattle.store_rows.specs.SixTables.{history}
 use Rattle.bank_walks.proofs.Shows.{shows_five}
-use Rattle.bank_walks.proofs.Sought.{tells_from, tells_of_from}
-use Rattle.bank_walks.proofs.WalkTexts.{is_postings_from, is_postings_of, reads_postings, reads_postings_of}
+use Rattle.bank_walks.proofs.Sought.{tells_of_from, tells_walk}
+use Rattle.bank_walks.proofs.WalkTexts.{is_postings_of, reads_postings_of, walks_postings}
 use Rattle.bank_walks.proofs.postings.StoredPostingStoredRow.seek.Goals as goal
 
 pub rows_shown-requires : goal.rows_shown-requires
-rows_shown-requires g c = only_reads is_postings_from
+rows_shown-requires g c = walks_postings.only
 
 pub rows_shown-requires-in-Some : goal.rows_shown-requires-in-Some
 rows_shown-requires-in-Some g c = only_reads is_postings_of
@@ -21,10 +21,8 @@ pub returns-in-None-clause-told : goal.returns-in-None-clause-told
 returns-in-None-clause-told g c clean rows has =
     let from = c.args.from in
     rw c.in-None.is
-    (tells_from (state g.S.Store c.args.conn.now)
-    (state g.S.Store c.rows_shown.new.conn) history refl rows has _ _ (λ v. v.items) from
-    (reads_postings from)
-    (shows_five (Int from ∷ [])) c.rows_shown.result
+    (tells_walk (state g.S.Store c.args.conn.now) (state g.S.Store c.rows_shown.new.conn) walks_postings rows
+    has (λ v. v.items) from c.rows_shown.result
     (rw (c.params-to_sql.ensures, to_z-of_z w64 from c.ranges.from) at (c.rows_shown.ensures.shown clean)))
 
 pub returns-in-Some-clause-told : goal.returns-in-Some-clause-told

@@ -2,12 +2,12 @@
 use Rattle.std.proofs.Common.{◌≡◌, pos, sym, ◌∙◌, rules, get_or, length, w64, to_z, of_z}
 use Rattle.std.proofs.lemmas.Int.{to_z-of_z}
 use Rattle.bank_walks.proofs.Widths.{eight_are}
-use Rattle.bank_walks.proofs.requests.StoredRequest.of.Goals as goal
+use Rattle.bank_walks.proofs.requests.StoredRequestStoredRow.of.Goals as goal
 
 pub returns : goal.returns
 returns c =
-    let ns = c.args.numbers in
-    let wide : length ns ≡ 8 = search rules in
+    let ns = c.args.numbers.now in
+    let wide : length ns ≡ 8 = c.requires in
     let same_0 : to_z w64 (of_z w64 (get_or ns 0 (pos 0))) ≡ get_or ns 0 (pos 0) =
     search (rules, to_z-of_z) in
     let same_1 : to_z w64 (of_z w64 (get_or ns 1 (pos 0))) ≡ get_or ns 1 (pos 0) =

@@ -2,12 +2,12 @@
 use Rattle.std.proofs.Common.{◌≡◌, ◌<◌, ℕ, pos, sym, ◌∙◌, rules, lit≤, get_or, length, w64, to_z, of_z}
 use Rattle.std.proofs.lemmas.Int.{to_z-of_z}
 use Rattle.bank_walks.proofs.Widths.{six_are}
-use Rattle.bank_walks.proofs.postings.StoredPosting.of.Goals as goal
+use Rattle.bank_walks.proofs.postings.StoredPostingStoredRow.of.Goals as goal
 
 pub returns : goal.returns
 returns c =
-    let ns = c.args.numbers in
-    let wide : length ns ≡ 6 = search rules in
+    let ns = c.args.numbers.now in
+    let wide : length ns ≡ 6 = c.requires in
     let same : (k : ℕ) → k < 6 → to_z w64 (of_z w64 (get_or ns k (pos 0))) ≡ get_or ns k (pos 0) =
     λ k low. search (rules, to_z-of_z) in
     rw (same 1 (lit≤ tt), same 2 (lit≤ tt), same 3 (lit≤ tt), same 4 (lit≤ tt))

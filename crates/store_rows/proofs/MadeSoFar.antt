@@ -1,0 +1,84 @@
+-- What is there of a bank whose tables are being made: so many of them so far.
+use Rattle.std.proofs.Common.{◌≡◌, ◌≢◌, ◌⊎◌, ℕ, ◌≤◌, List, [], ◌∷◌, take, IsTrue, refl, ap, ◌∙◌, arith, true}
+use Rattle.std.proofs.Common.{false}
+use Rattle.std.specs.List.{AllByRecursion}
+use Rattle.sqlite.specs.Schema.{Schema}
+use Rattle.sqlite.specs.Table.{Table}
+use Rattle.sqlite.specs.Change.{created, next_tree}
+use Rattle.sqlite.specs.Effect.{Database, IsDatabase}
+use Rattle.sqlite_catalog.proofs.StepLemmas.{table_below}
+use Rattle.sqlite.specs.Held.{Held, state}
+use Rattle.sqlite.specs.declared.transaction.Transaction.{Transaction}
+use Rattle.sqlite_trees.specs.declared.store.Store.{Ghosts}
+use Rattle.sqlite.specs.State.{State, HasCleanDisk, Survives, KeepsCounts, Shows as StateShows}
+use Rattle.sqlite_rules.specs.Lists.{Has}
+use Rattle.sql_meanings.specs.Making.{AddsTable, KeepsWhatStood, Stands, counts_rows}
+use Rattle.sql_meanings.specs.Tables.{placed_at}
+use Rattle.sql_meanings.proofs.TableStands.{counts_created}
+use Rattle.store_rows.specs.Creation.{six_texts, with_first}
+
+-- the table is new, and has no rows
+pub record IsNew (old now : Database) (t : Table) : Type 0 where
+  pub tree : ℕ
+  pub stands : Stands now.schema (placed_at t tree)
+  pub empty : now.trees tree ≡ []
+  pub apart : (u : Table) → Has old.schema.tables u → u.tree ≢ tree
+
+stays_new : (old mid new : Database) (t : Table) → KeepsWhatStood mid new → IsNew old mid t → IsNew old new t
+stays_new old mid new t since is = record {
+  tree = is.tree;
+  stands = since.stands _ is.stands;
+  empty = since.rows _ is.stands.listed ∙ is.empty;
+  apart = is.apart;
+}
+
+pub stay_new : (old mid new : Database) (ts : List (List ℕ × Table)) → KeepsWhatStood mid new
+    → AllByRecursion (λ it. IsNew old mid it.1) ts
+    → AllByRecursion (λ it. IsNew old new it.1) ts
+stay_new old mid new [] since all = tt
+stay_new old mid new (it ∷ ts) since all =
+    (stays_new old mid new it.1 since all.0, stay_new old mid new ts since all.1)
+
+pub made_new : (old mid new : Database) (t : Table) → KeepsWhatStood old mid → AddsTable mid new t
+    → IsNew old new t
+made_new old mid new t before made = record {
+  tree = next_tree mid.schema;
+  stands = made.stands;
+  empty = made.empty;
+  apart = λ u h same. let low = table_below mid.schema u (before.has u h) in absurd (omega arith);
+}
+
+-- the first so many tables were made so far
+pub record Reached (old mid : State) (made : ℕ) : Type 0 where
+  pub shows : StateShows old mid mid.now old.committed true
+  pub marks : mid.marks ≡ old.marks
+  pub counts : KeepsCounts old mid
+  pub keeps : KeepsWhatStood old.now mid.now
+  pub faults : old.faults ≤ mid.faults
+  pub sound : IsDatabase mid.now
+  pub new : AllByRecursion (λ it. IsNew old.now mid.now it.1) (take made six_texts)
+  pub alone : counts_rows old.now.schema ≡ false → (counts_rows mid.now.schema ≡ false)
+      × (mid.now.schema ≡ with_first made old.now.schema)
+
+-- the same, or none was made and nothing has changed
+abbrev pub Begun : {S : Type 0} → Ghosts S → Held S → Held S → ℕ → Type 0
+Begun g old mid made = ((made ≡ 0) × (mid ≡ old)) ⊎ Reached (state g old) (state g mid) made
+
+-- what the loop keeps
+pub record Going {S : Type 0} (g : Ghosts S) (old mid : Transaction S) (made : ℕ) : Type 0 where
+  pub same_reference : mid.conn.ghost_name ≡ old.conn.ghost_name
+  pub begun : HasCleanDisk (state g mid.conn.now) → IsTrue old.conn.now.in_transaction
+      → Begun g old.conn.now mid.conn.now made
+  pub survives : Survives (state g old.conn.now) (state g mid.conn.now) (λ _. ⊥)
+
+-- the new schema, where no table counts its rows
+pub grown : (old new : Schema) (t : Table) → t.is_counted ≡ false
+    → (counts_rows (created old t) ≡ false → new ≡ created old t) → counts_rows old ≡ false
+    → (counts_rows new ≡ false) × (new ≡ created old t)
+grown old new t uncounted alone none =
+    let more = counts_created old t uncounted none in
+    let is = alone more in
+    (ap counts_rows is ∙ more, is)
+
+pub keeps_itself : (a : Database) → KeepsWhatStood a a
+keeps_itself a = record { stands = λ t h. h; has = λ t h. h; rows = λ t h. refl }
