@@ -39,9 +39,8 @@ returns-in-Ok-clause-done g c =
     let are : AreCommands (Open b count ∷ []) =
     ((above, c.requires.branch, c.requires.some, c.requires.few), tt) in
     let Down = IsSome c.args.self.now.fault in
-    takes sound_tables (Open b count ∷ [])
-    (opens b count above c.requires.few) are Down Down c.in_ok-up.ensures.up
-    c.in-Ok.ensures
+    takes sound_tables (Open b count ∷ []) (opens b count above c.requires.few) are Down Down
+    c.in_ok-up.ensures.up c.in-Ok.ensures
 
 pub returns-in-Err-clause-fault : goal.returns-in-Err-clause-fault
 returns-in-Err-clause-fault g c = (refused g c).fault

@@ -41,9 +41,8 @@ returns-in-Ok-post-clause-done g c =
     let are : AreCommands (Post m bytes ∷ []) =
     ((c.range_law.ensures.most, search rules), tt) in
     let Down = IsSome c.args.self.now.fault in
-    takes sound_tables (Post m bytes ∷ [])
-    (posts m bytes c.in-Ok.request read) are Down Down c.in_ok-up.ensures.up
-    c.in-Ok-post.ensures
+    takes sound_tables (Post m bytes ∷ []) (posts m bytes c.in-Ok.request read) are Down Down
+    c.in_ok-up.ensures.up c.in-Ok-post.ensures
 
 pub returns-in-Err-clause-fault : goal.returns-in-Err-clause-fault
 returns-in-Err-clause-fault g c = (refused g c).fault
