@@ -19,15 +19,19 @@ use Rattle.bank_transactions.proofs.changes.apply.Goals as goal
 abbrev Judged : Tables → RequestFields → Found → Verdict → Type 0
 Judged t r f v = AreSound t × (f ≡ found_in t r) × (v ≡ case_of f r)
 
-module _ (t : Tables) (r : RequestFields) (f : Found) (v : Verdict) (judged : Judged t r f v)
-    (account teller branch : ℤ) (posted : v ≡ Posted account teller branch)
-    (ordinal : ℕ) (is : ordinal ≡ f.decided + 1) where
+module _ (t : Tables) (r : RequestFields) (f : Found) (v : Verdict) (judged : Judged t r f v) (ordinal : ℕ)
+    (is : ordinal ≡ f.decided + 1) where
   next : ordinal ≡ t.decided + 1
   next = is ∙ ap (λ (x : Found). x.decided + 1) judged.1
 
+  -- no request is kept under it
+  no_request : row_at request_key t.requests ordinal ≡ None
+  no_request = ap (row_at request_key t.requests) next ∙ judged.0.undamaged.next_request
+
   -- the rows that a posting changes are there, and its ordinal is free
-  has_rows : HasRowsOf t r × (row_at history_key t.history ordinal ≡ None)
-  has_rows =
+  has_rows : (account teller branch : ℤ) → v ≡ Posted account teller branch
+      → HasRowsOf t r × (row_at history_key t.history ordinal ≡ None)
+  has_rows account teller branch posted =
       let case : case_of (found_in t r) r
       ≡ Posted account teller branch = ap (λ (x : Found). case_of x r) (sym judged.1) ∙ sym judged.2
       ∙ posted in (
@@ -36,6 +40,15 @@ module _ (t : Tables) (r : RequestFields) (f : Found) (v : Verdict) (judged : Ju
             ∙ judged.0.undamaged.next_posting,
       )
 
+pub returns-in-Refused : goal.returns-in-Refused
+returns-in-Refused g c =
+    let is : c.unwrap-ordinal.result ≡ c.args.found.now.decided + 1 = search rules in
+    does_for c.keep_request.ensures (λ t so. (
+      no_request t c.args.request.now c.args.found.now c.args.verdict.now so c.unwrap-ordinal.result is,
+      search rules,
+      refl,
+    ))
+
 pub returns-in_err-move_money-in-Posted : goal.returns-in_err-move_money-in-Posted
 returns-in_err-move_money-in-Posted g c =
     let v = c.in-Posted in
@@ -43,8 +56,8 @@ returns-in_err-move_money-in-Posted g c =
     let same : c.from_residual.result ≡ Err e = search rules in
     let is : c.unwrap-ordinal-in-Posted.result ≡ c.args.found.now.decided + 1 = search rules in
     rw same (does_err c.in_err-move_money-in-Posted.ensures
-    (λ t so. has_rows t c.args.request.now c.args.found.now c.args.verdict.now so v.account v.teller v.branch
-    v.is c.unwrap-ordinal-in-Posted.result is))
+    (λ t so. has_rows t c.args.request.now c.args.found.now c.args.verdict.now so
+    c.unwrap-ordinal-in-Posted.result is v.account v.teller v.branch v.is))
 
 pub returns-in_ok-move_money-in-Posted : goal.returns-in_ok-move_money-in-Posted
 returns-in_ok-move_money-in-Posted g c =
@@ -58,15 +71,13 @@ returns-in_ok-move_money-in-Posted g c =
     let e = posted_entry m r v.account in
     does_for (does_then
     (does_for c.in_ok-move_money-in-Posted.ensures
-    (λ t so. (has_rows t r f verdict so v.account v.teller v.branch v.is ordinal is, refl, refl)))
+    (λ t so. (has_rows t r f verdict so ordinal is v.account v.teller v.branch v.is, refl, refl)))
     c.keep_request-in-Posted.ensures
     (λ t so. request_as_before t ordinal e v.teller v.branch ordinal
-    ∙ ap (row_at request_key t.requests) (next t r f verdict so v.account v.teller v.branch v.is ordinal is)
-    ∙ so.0.undamaged.next_request))
+    ∙ no_request t r f verdict so ordinal is))
     (λ t so. (
       so,
       ap (λ (n : ℕ). tables_kept (tables_moved t n e v.teller v.branch) n e)
-          (next t r f verdict so v.account v.teller v.branch v.is ordinal is)
-          ∙ ap (λ (w : Verdict). tables_after t m r w) (sym v.is),
+          (next t r f verdict so ordinal is) ∙ ap (λ (w : Verdict). tables_after t m r w) (sym v.is),
       refl,
     ))
