@@ -46,17 +46,12 @@ number_in-count-requires c =
     c.requires in
     (1, MAX_DRIVEN, has.1)
 
-pub returns-in-drive-clause-command : goal.returns-in-drive-clause-command
-returns-in-drive-clause-command c =
-    (drive_read (c.args.name.now, rows_of (found_of c.args.values.now)) c.text_in-file.result
+pub returns-in-drive : goal.returns-in-drive
+returns-in-drive c =
+    let read = drive_read (c.args.name.now, rows_of (found_of c.args.values.now)) c.text_in-file.result
     c.number_in-seed.result c.number_in-count.result c.in-drive.is c.requires c.text_in-file.ensures
-    c.number_in-seed.ensures c.number_in-count.ensures).0
-
-pub returns-in-drive-clause-ranges : goal.returns-in-drive-clause-ranges
-returns-in-drive-clause-ranges c =
-    (drive_read (c.args.name.now, rows_of (found_of c.args.values.now)) c.text_in-file.result
-    c.number_in-seed.result c.number_in-count.result c.in-drive.is c.requires c.text_in-file.ensures
-    c.number_in-seed.ensures c.number_in-count.ensures).1
+    c.number_in-seed.ensures c.number_in-count.ensures in
+    record { command = read.0; ranges = read.1 }
 
 -- ---- an account
 
@@ -88,24 +83,19 @@ returns-in-statement-clause-command c =
 
 -- ---- an address and a count of connections
 
-pub text_in-address-requires : goal.text_in-address-requires
-text_in-address-requires c =
-    (values_of_serve (c.args.name.now, rows_of (found_of c.args.values.now)) c.in-serve.is c.requires).0
-
 pub number_in-connections-requires : goal.number_in-connections-requires
 number_in-connections-requires c =
     let has = values_of_serve (c.args.name.now, rows_of (found_of c.args.values.now)) c.in-serve.is
     c.requires in
     (1, MAX_CONNECTIONS, has.1)
 
-pub returns-in-serve-clause-command : goal.returns-in-serve-clause-command
-returns-in-serve-clause-command c =
-    (serve_read (c.args.name.now, rows_of (found_of c.args.values.now)) c.text_in-file.result
-    c.text_in-address.result c.number_in-connections.result c.in-serve.is c.requires c.text_in-file.ensures
-    c.text_in-address.ensures c.number_in-connections.ensures).0
+pub text_in-address-requires : goal.text_in-address-requires
+text_in-address-requires c =
+    (values_of_serve (c.args.name.now, rows_of (found_of c.args.values.now)) c.in-serve.is c.requires).0
 
-pub returns-in-serve-clause-ranges : goal.returns-in-serve-clause-ranges
-returns-in-serve-clause-ranges c =
-    (serve_read (c.args.name.now, rows_of (found_of c.args.values.now)) c.text_in-file.result
+pub returns-in-serve : goal.returns-in-serve
+returns-in-serve c =
+    let read = serve_read (c.args.name.now, rows_of (found_of c.args.values.now)) c.text_in-file.result
     c.text_in-address.result c.number_in-connections.result c.in-serve.is c.requires c.text_in-file.ensures
-    c.text_in-address.ensures c.number_in-connections.ensures).1
+    c.text_in-address.ensures c.number_in-connections.ensures in
+    record { command = read.0; ranges = read.1 }
