@@ -1,5 +1,5 @@
 -- What is known of a bank that is found or made in files, by what they held.
-use Rattle.std.proofs.Common.{◌≡◌, ◌∙◌, sym, ap, subst, List}
+use Rattle.std.proofs.Common.{◌≡◌, ◌∙◌, sym, ap, subst, Bool, IsTrue, List, false, not}
 use Rattle.std.proofs.Math.Logic.{∥∥₁_map}
 use Rattle.sqlite.specs.Effect.{Database}
 use Rattle.sqlite.specs.Closing.{IsCopied}
@@ -44,6 +44,11 @@ new_in image s seen opened made = record {
       let it = opened (made.clean honest) in
       made.fresh honest it.opens holds.tables (left_in image s log it holds);
 }
+
+-- outside a transaction an open connection shows what was committed
+pub settled_outside : (s : State) (idle : Bool) → idle ≡ not s.in_transaction → s.in_transaction ≡ false
+    → (IsTrue idle → IsTrue s.is_open → s.now ≡ s.committed) → IsTrue s.is_open → s.now ≡ s.committed
+settled_outside s idle is outside settles = settles (is ∙ ap not outside)
 
 -- files that were closed hold what the connection showed
 pub closed_holds : {D : Type 0} {g : disk.Ghosts D} (conn : Held (FileStore D g)) (files : Files D)

@@ -20,7 +20,9 @@ use Rattle.message_records.specs.Ranges.{whole_within}
 use Rattle.bank_driver.proofs.Listed.{within}
 use Rattle.message_records.specs.declared.limits.TheConstants.{MAX_ACCOUNT}
 use Rattle.bank_words.specs.declared.limits.TheConstants.{MAX_CONNECTIONS}
-use Rattle.bank_words.specs.Words.{HasNumber, HasText, IsComplete, IsNumber, IsNumberIn}
+use Rattle.bank_words.specs.Words.{AreInRange, HasNumber, HasText, IsCommandOf, IsComplete, IsNumber}
+use Rattle.bank_words.specs.Words.{IsNumberIn, IsText}
+use Rattle.bank_words.specs.declared.reading.Command.TheVariants.{Drive, Serve}
 
 -- an argument with a value gives one
 pub text_given : (o : Option (Bor Text)) (f : Found) (id : Text)
@@ -164,6 +166,33 @@ number_unwrapped f id least most r value read is =
     let same : Some read.0 ≡ Some value = sym read.1 ∙ is in
     let equal : read.0 ≡ value = cc in
     subst (IsNumberIn id least most (rows_of f)) equal read.2
+
+-- the number that was read is the one that the value spells, in each range that the value keeps
+abbrev pub IsReadFor : Text → List Row → ℕ → Type 0
+IsReadFor id rows n = (least most : ℕ) → HasNumber id least most rows → IsNumberIn id least most rows n
+
+-- a complete `drive`, of which file and numbers were read, is that command, with its numbers in their ranges
+pub drive_read : (p : Text × List Row) (file : Bor Text) (seed count : ℕ) → p.0 ≡ codes "drive"
+    → IsComplete p
+    → IsText (codes "file") p.1 file.now → IsReadFor (codes "seed") p.1 seed
+    → IsReadFor (codes "count") p.1 count
+    → IsCommandOf p (Drive file seed count) × AreInRange (Drive file seed count)
+drive_read p file seed count name complete is_file seed_read count_read =
+    let has = numbers_of_drive p name complete in
+    let seed_in = seed_read 0 MAX_SEED has.0 in
+    let count_in = count_read 1 MAX_DRIVEN has.1 in
+    ((name, is_file, seed_in.0, count_in.0), (seed_in.2, count_in.1, count_in.2))
+
+-- and so is a complete `serve`
+pub serve_read : (p : Text × List Row) (file address : Bor Text) (connections : ℕ) → p.0 ≡ codes "serve"
+    → IsComplete p
+    → IsText (codes "file") p.1 file.now → IsText (codes "address") p.1 address.now
+    → IsReadFor (codes "connections") p.1 connections
+    → IsCommandOf p (Serve file address connections) × AreInRange (Serve file address connections)
+serve_read p file address connections name complete is_file is_address connections_read =
+    let has = values_of_serve p name complete in
+    let number_in = connections_read 1 MAX_CONNECTIONS has.1 in
+    ((name, is_file, is_address, number_in.0), (number_in.1, number_in.2))
 
 -- a number in its range, which is one of the type with that range
 pub within_same : (most n value : ℕ) (o : Option ℕ) → 1 ≤ n → n ≤ most → o ≡ whole_within 1 most n

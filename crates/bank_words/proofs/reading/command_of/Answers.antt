@@ -7,7 +7,7 @@ use Rattle.bank_words.specs.CommandLine.{MAX_SEED}
 use Rattle.bank_words.specs.Words.{IsNumber}
 use Rattle.bank_words.specs.declared.limits.TheConstants.{MAX_CONNECTIONS}
 use Rattle.bank_words.proofs.Getters.{account_of_statement, numbers_of_drive, plan_of_load, values_of_serve}
-use Rattle.bank_words.proofs.Getters.{within_same}
+use Rattle.bank_words.proofs.Getters.{drive_read, serve_read, within_same}
 use Rattle.bank_driver.proofs.Listed.{within}
 use Rattle.bank_words.proofs.reading.command_of.Goals as goal
 
@@ -46,22 +46,12 @@ number_in-count-requires c =
     c.requires in
     (1, MAX_DRIVEN, has.1)
 
-pub returns-in-drive-clause-command : goal.returns-in-drive-clause-command
-returns-in-drive-clause-command c =
-    let has = numbers_of_drive (c.args.name.now, rows_of (found_of c.args.values.now)) c.in-drive.is
-    c.requires in (
-      c.in-drive.is,
-      c.text_in-file.ensures,
-      (c.number_in-seed.ensures 0 MAX_SEED has.0).0,
-      (c.number_in-count.ensures 1 MAX_DRIVEN has.1).0,
-    )
-
-pub returns-in-drive-clause-ranges : goal.returns-in-drive-clause-ranges
-returns-in-drive-clause-ranges c =
-    let has = numbers_of_drive (c.args.name.now, rows_of (found_of c.args.values.now)) c.in-drive.is
-    c.requires in
-    let count = c.number_in-count.ensures 1 MAX_DRIVEN has.1 in
-    ((c.number_in-seed.ensures 0 MAX_SEED has.0).2, count.1, count.2)
+pub returns-in-drive : goal.returns-in-drive
+returns-in-drive c =
+    let read = drive_read (c.args.name.now, rows_of (found_of c.args.values.now)) c.text_in-file.result
+    c.number_in-seed.result c.number_in-count.result c.in-drive.is c.requires c.text_in-file.ensures
+    c.number_in-seed.ensures c.number_in-count.ensures in
+    record { command = read.0; ranges = read.1 }
 
 -- ---- an account
 
@@ -93,29 +83,19 @@ returns-in-statement-clause-command c =
 
 -- ---- an address and a count of connections
 
-pub text_in-address-requires : goal.text_in-address-requires
-text_in-address-requires c =
-    (values_of_serve (c.args.name.now, rows_of (found_of c.args.values.now)) c.in-serve.is c.requires).0
-
 pub number_in-connections-requires : goal.number_in-connections-requires
 number_in-connections-requires c =
     let has = values_of_serve (c.args.name.now, rows_of (found_of c.args.values.now)) c.in-serve.is
     c.requires in
     (1, MAX_CONNECTIONS, has.1)
 
-pub returns-in-serve-clause-command : goal.returns-in-serve-clause-command
-returns-in-serve-clause-command c =
-    let has = values_of_serve (c.args.name.now, rows_of (found_of c.args.values.now)) c.in-serve.is
-    c.requires in (
-      c.in-serve.is,
-      c.text_in-file.ensures,
-      c.text_in-address.ensures,
-      (c.number_in-connections.ensures 1 MAX_CONNECTIONS has.1).0,
-    )
+pub text_in-address-requires : goal.text_in-address-requires
+text_in-address-requires c =
+    (values_of_serve (c.args.name.now, rows_of (found_of c.args.values.now)) c.in-serve.is c.requires).0
 
-pub returns-in-serve-clause-ranges : goal.returns-in-serve-clause-ranges
-returns-in-serve-clause-ranges c =
-    let has = values_of_serve (c.args.name.now, rows_of (found_of c.args.values.now)) c.in-serve.is
-    c.requires in
-    let read = c.number_in-connections.ensures 1 MAX_CONNECTIONS has.1 in
-    (read.1, read.2)
+pub returns-in-serve : goal.returns-in-serve
+returns-in-serve c =
+    let read = serve_read (c.args.name.now, rows_of (found_of c.args.values.now)) c.text_in-file.result
+    c.text_in-address.result c.number_in-connections.result c.in-serve.is c.requires c.text_in-file.ensures
+    c.text_in-address.ensures c.number_in-connections.ensures in
+    record { command = read.0; ranges = read.1 }
