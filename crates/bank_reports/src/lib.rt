@@ -28,6 +28,3 @@ pub use statement_text::{
 pub use sum::Sum;
 pub use tellers::TellerSums;
 pub use writing::{WriteFault, put, put_last, write_audit};
-
-#[cfg(test)]
-mod tests;
