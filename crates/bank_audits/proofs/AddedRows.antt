@@ -1,5 +1,5 @@
 -- Rows that were added one after another.
-use Rattle.std.proofs.Common.{◌≡◌, ◌≤◌, ◌+◌, ◌++◌, ℕ, List, [], ◌∷◌, length, map}
+use Rattle.std.proofs.Common.{◌≡◌, ◌≤◌, ◌<◌, ◌⊎◌, ◌+◌, ◌++◌, ℕ, List, [], ◌∷◌, length, map}
 use Rattle.std.proofs.Common.{Ok, Err, refl, sym, ap, ◌∙◌, append_assoc, append-nil, inl, inr, arith}
 use Rattle.std.specs.Prelude.{ℤ, pos, ◌+ℤ◌, ◌≤ℤ◌, ◌<ℤ◌}
 use Rattle.std.proofs.lemmas.Int.{ints}
@@ -12,7 +12,7 @@ use Rattle.bank_store.specs.Walking.{Steps}
 use Rattle.bank_store.specs.Walks.{IsStill, IsUntouchedIfOpen}
 use Rattle.bank_reports.specs.Beside.{AuditRows}
 use Rattle.bank_reports.specs.declared.limits.TheConstants.{MOST_ROWS}
-use Rattle.bank_audits.specs.Adding.{AddsToSums, HasSums, IsBehind, IsPassed}
+use Rattle.bank_audits.specs.Adding.{AddsToSums, HasSums, IsPassed}
 use Rattle.bank_audits.specs.Failures.{Says}
 use Rattle.bank_audits.specs.Files.{HasBroken}
 use Rattle.bank_audits.specs.declared.sums.Sums.{Sums}
@@ -84,6 +84,10 @@ module _ {R X : Type 0} (item : R → X) (HasItems : Database → List X → Typ
 
 -- ---- how many there are
 
+-- where there are so many rows with lesser keys, all of them above 0, a row with this key is behind them
+abbrev pub IsBehind : ℕ → ℤ → Type 0
+IsBehind count key = (count ≡ 0) ⊎ (pos count <ℤ key)
+
 -- so many rows were added, with lesser keys than those to come; all keys are above 0, and there are no more
 -- than can be
 pub record IsAlong (Comes : ℤ → Type 0) (count : ℕ) : Type 0 where
@@ -93,28 +97,25 @@ pub record IsAlong (Comes : ℤ → Type 0) (count : ℕ) : Type 0 where
   pub few : count ≤ MOST_ROWS
 
 module _ (Comes Later : ℤ → Type 0) (count : ℕ) (key : ℤ) (it : IsAlong Comes count)
-    (from : it.next ≤ℤ key) where
-  pub behind_row : IsBehind count key
-  behind_row = elim it.behind [
-    | inl none ↦ inl none
-    | inr above ↦ inr (omega (arith, ints, above, from))
+    (from : it.next ≤ℤ key) (n : ℕ) (is : key ≡ pos n) (least : 1 ≤ n) where
+  below : count < n
+  below = elim it.behind [
+    | inl none ↦ omega (arith, none, least)
+    | inr above ↦ omega (arith, ints, above, from, is)
   ]
 
-  below : pos 1 ≤ℤ key → pos count <ℤ key
-  below least = elim behind_row [
-    | inl none ↦ omega (arith, ints, none, least)
-    | inr above ↦ above
-  ]
+  -- there is room for one more
+  pub room_for : (most : ℕ) → n ≤ most → count < most
+  room_for most within = let low = below in omega (arith, low, within)
 
-  pub along_more : Later (key +ℤ pos 1) → pos 1 ≤ℤ key → key ≤ℤ pos MOST_ROWS
-      → IsAlong Later (count + 1)
-  along_more comes least most =
-      let low = below least in
+  pub along_more : Later (key +ℤ pos 1) → n ≤ MOST_ROWS → IsAlong Later (count + 1)
+  along_more comes within =
+      let low = below in
       record {
         next = key +ℤ pos 1;
         comes = comes;
-        behind = inr (omega (arith, ints, low));
-        few = omega (arith, ints, low, most);
+        behind = inr (omega (arith, ints, low, is));
+        few = omega (arith, low, within);
       }
 
 -- ---- what a pass leaves

@@ -16,7 +16,7 @@ use Rattle.posting_rules.proofs.Undamaged.{undamaged}
 use Rattle.sql_meanings.specs.Entries.{Entry, Rise}
 use Rattle.store_rows.specs.SixTables as six
 use Rattle.store_rows.specs.View as view
-use Rattle.store_rows.specs.View.{Shows as ShowsIn}
+use Rattle.store_rows.specs.View.{Shows}
 use Rattle.bank_walks.specs.Rows.{HasStoredRows}
 use Rattle.bank_walks.specs.Stored.{account_entry, branch_entry, posting_entry, request_entry, teller_entry}
 use Rattle.bank_walks.specs.Stored.{IsNoAccount, IsNoBranch, IsNoPosting, IsNoRequest, IsNoTeller}
@@ -67,7 +67,7 @@ twice : {X Y Z : Type 0} (f : X → Y) (g : Y → Z) (h : X → Z) → ((x : X) 
 twice f g h is [] = refl
 twice f g h is (x ∷ xs) = rw (is x, twice f g h is xs) refl
 
-pub has_file : (db : Database) (t : Tables) → ShowsIn db t → HasFile db (rows_in (stored t))
+pub has_file : (db : Database) (t : Tables) → Shows db t → HasFile db (rows_in (stored t))
 has_file db t shows = record {
   branches = subst (HasStoredRows db six.branch)
       (twice branch_stored branch_entry view.branch_entry (λ r. refl) t.branches) (has_branches db t shows);
@@ -84,7 +84,7 @@ has_file db t shows = record {
 }
 
 -- the audit of a bank's tables says that they are consistent exactly where they are
-pub tells_in_file : (db : Database) (t : Tables) → ShowsIn db t
+pub tells_in_file : (db : Database) (t : Tables) → Shows db t
     → (IsTrue (is_sound (audit_of (stored t))) → IsConsistent t)
     × (IsConsistent t → IsTrue (is_sound (audit_of (stored t))))
 tells_in_file db t shows =

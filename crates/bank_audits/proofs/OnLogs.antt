@@ -21,7 +21,7 @@ use Rattle.sql_meanings.proofs.Contents.{held}
 use Rattle.store_rows.specs.SixTables.{bank_tables}
 use Rattle.store_rows.specs.SixTables.{history as history_table}
 use Rattle.store_rows.specs.View.{history_entry, contents}
-use Rattle.store_rows.specs.View.{Shows as ShowsIn}
+use Rattle.store_rows.specs.View.{Shows}
 use Rattle.bank_walks.specs.declared.postings.StoredPosting.{StoredPosting}
 use Rattle.bank_walks.specs.Stored.{posting_entry, number_behind, is_of}
 use Rattle.bank_walks.specs.Rows.{HasStoredRows}
@@ -52,7 +52,7 @@ rising_keys (r ∷ rs) rise = (above rs rise.0, rising_keys rs rise.1)
         less m n is = grind (arith, ints)
 
 -- a file that shows a log has its postings, the oldest first
-pub history_is : (db : Database) (t : Tables) (log : List Command) → ShowsIn db t → AreTablesOf t log
+pub history_is : (db : Database) (t : Tables) (log : List Command) → Shows db t → AreTablesOf t log
     → t.history ≡ postings_of (decided log)
 history_is db t log in_file shows =
     let holds = held db bank_tables (contents t) in_file.each 4 history_table (map history_entry t.history)
@@ -61,7 +61,7 @@ history_is db t log in_file shows =
     (postings_rise (decided log))
     (λ o. shows.rows.history o ∙ sym (postings_under (decided log) o))
 
-pub has_history : (db : Database) (t : Tables) → ShowsIn db t
+pub has_history : (db : Database) (t : Tables) → Shows db t
     → HasStoredRows db history_table (map history_entry t.history)
 has_history db t in_file = record {
   sound = in_file.sound;
@@ -219,7 +219,7 @@ text_ends a log given [] is left =
 text_ends a log given (p ∷ more) is left = absurd cc
 
 -- the postings of an account in a file that shows a log
-pub account_rows : (db : Database) (t : Tables) (log : List Command) (a : ℕ) → ShowsIn db t
+pub account_rows : (db : Database) (t : Tables) (log : List Command) (a : ℕ) → Shows db t
     → AreTablesOf t log
     → filter (is_of (Some a)) (map history_entry t.history)
     ≡ map posting_entry (postings_to a (decided log))

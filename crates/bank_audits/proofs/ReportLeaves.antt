@@ -10,7 +10,7 @@ use Rattle.posting_rules.specs.Commands.{Command}
 use Rattle.posting_rules.specs.Counter.{Seen, ShowsLog, StandsAt, Takes, Refuses, LeavesNoMore, LeavesOnly}
 use Rattle.posting_rules.specs.Runs.{behind}
 use Rattle.posting_rules.specs.Tables.{AreTablesOf}
-use Rattle.store_rows.specs.View.{Shows as ShowsIn}
+use Rattle.store_rows.specs.View.{Shows}
 use Rattle.bank_store.specs.Seen.{seen_in}
 use Rattle.bank_store.specs.Walks.{IsStill}
 use Rattle.bank_audits.specs.declared.fault.ReportFault.{ReportFault}
@@ -89,6 +89,6 @@ takes_then old mid new D E F takes still quiet up = record {
     shown clean log s = record {
       commands = s.commands;
       tables = s.tables;
-      are = subst (λ (db : Database). ShowsIn db s.tables) (sym (still clean).0) s.are;
+      are = subst (λ (db : Database). Shows db s.tables) (sym (still clean).0) s.are;
       shows = s.shows;
     }

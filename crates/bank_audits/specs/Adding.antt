@@ -1,5 +1,5 @@
 -- What an audit has added up, and what a pass over the rows of a table leaves.
-use Rattle.std.specs.Prelude.{◌≡◌, ◌⊎◌, ◌<ℤ◌, ℕ, ℤ, pos, List, [], map, Option, Result}
+use Rattle.std.specs.Prelude.{◌≡◌, ℤ, List, [], map, Option, Result}
 use Rattle.std.specs.Prelude.{OnOk}
 use Rattle.sqlite.specs.State.{State, HasCleanDisk, Survives}
 use Rattle.posting_rules.specs.declared.fault.Fault.{Fault}
@@ -45,10 +45,6 @@ with_requests rows asked = record rows { requests = map both asked }
 -- each with the request of its ordinal
 abbrev pub with_history : AuditRows → List (Joined StoredPosting StoredRequest) → AuditRows
 with_history rows posted = record rows { history = map both posted }
-
--- where there are so many rows with lesser keys, all of them above 0, a row with this key is behind them
-abbrev pub IsBehind : ℕ → ℤ → Type 0
-IsBehind count key = (count ≡ 0) ⊎ (pos count <ℤ key)
 
 -- all of the rows given were added to the sums
 abbrev pub AddsToSums : {R : Type 0} → (AuditRows → List R → AuditRows) → Sums → Sums → List R

@@ -23,9 +23,19 @@ use bank_store::Bank;
 use posting_rules::Fault;
 use sqlite::Alter;
 
-/// Audits a bank, whatever rows its file has: whether they are consistent (TPC-B clause 2), and the numbers
-/// that hold it. It takes its memory before the first row is read. A fault leaves the bank as it was, and
-/// brings it down in no case.
+/// Audits a bank, whatever rows its file has: how many there are, what they add up to, and whether they are
+/// consistent (TPC-B clause 2). It takes its memory before the first row is read.
+///
+/// # Errors
+///
+/// None of them brings the bank down, and none changes the file.
+///
+/// | Error | What happened |
+/// |---|---|
+/// | [`Fault::Memory`] | memory was refused, and nothing was read |
+/// | [`Fault::Store`] | a read failed: the disk did, or memory or steps were refused |
+/// | [`Fault::Down`] | the bank was down, and nothing was read |
+/// | [`Fault::Damaged`] | with `Rule::Value`: a key, a count of accounts or a moment is out of its range |
 pub fn audit<S: Alter>(bank: &mut Bank<S>) -> Result<Audit, Fault>
     // Of any file, the audit is that of its rows.
     ensures numbers { (bank_seen S.Store bank.new).honest → (f : FileRows)

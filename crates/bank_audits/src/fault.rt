@@ -13,7 +13,7 @@ pub enum ReportFault {
     NoAccount,
     /// The writer failed, or took no byte. A beginning of the text was written.
     Write,
-    /// The bank's. A beginning of the text was written.
+    /// The bank refused a read. A beginning of the text was written.
     Bank(Fault),
 }
 

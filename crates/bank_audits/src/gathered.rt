@@ -41,6 +41,8 @@ pub(crate) fn add_rows<S: Alter, R: Summed>(
         let Some(row) = walk.next()? else {
             return Ok(());
         };
+        // Only whoever reads a number knows that it's in its range: so there is room for the row.
+        let _number = row.number();
         row.add_to(sums);
     }
     // No table has so many keys.

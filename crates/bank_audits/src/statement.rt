@@ -69,9 +69,20 @@ fn write_lines<S: Alter, W: Sink>(
 }
 
 /// Writes the statement of an account: its postings by their ordinals, each with the running balance, and its
-/// balance at the end. At a fault a beginning of the text was written, and where the account isn't open
-/// nothing was. A balance of the account beyond its limits is a fault of the bank's `balance`, and brings it
-/// down; a running balance beyond them, and any other fault of the rows, leaves the bank as it was.
+/// balance at the end; and flushes the writer.
+///
+/// # Errors
+///
+/// At each but the first a beginning of the text was written. Of the bank's faults only those of its
+/// `balance`, which is read first, bring it down.
+///
+/// | Error | What happened |
+/// |---|---|
+/// | [`ReportFault::NoAccount`] | the account isn't open, and nothing was written |
+/// | [`ReportFault::Write`] | the writer failed, or took no byte |
+/// | [`ReportFault::Bank`] of `Store` | a read failed: the disk did, or memory or steps were refused |
+/// | of `Down` | the bank was down, and nothing was written |
+/// | of `Damaged` | the account's balance or a running one is out of its limits, or a row can't be read |
 pub fn write_statement<S: Alter + Drop, W: Sink>(
     bank: &mut Bank<S>,
     account: Account,

@@ -1,8 +1,8 @@
 //! What an audit adds up.
-ghost use Rattle.std.specs.Prelude.{◌≡◌, ◌≤ℤ◌, ◌++◌, ◌∷◌, [], List, IfErr, IfOk};
+ghost use Rattle.std.specs.Prelude.{◌≡◌, ◌≤◌, ◌<◌, ◌++◌, ◌∷◌, ℕ, [], List, IfErr, IfOk};
 ghost use Rattle.std.specs.Prelude.{length, pos};
 ghost use Rattle.bank_reports.specs.Beside.{AuditRows, audit_of_rows, no_rows};
-ghost use Rattle.bank_audits.specs.Adding.{HasSums, IsBehind};
+ghost use Rattle.bank_audits.specs.Adding.{HasSums};
 
 use bank_reports::{Audit, BranchSums, MOST_ROWS, OrdinalSums, Sum, TellerSums, audit_of_sums};
 use bank_walks::{
@@ -51,69 +51,107 @@ pub(crate) trait Summed: WalkedRow {
     /// These rows of its kind, beside the others.
     ghost with_rows: { AuditRows → List Self → AuditRows };
 
+    /// How many rows of its kind there can be.
+    ghost most: { ℕ };
+
+    /// Its key.
+    fn number(&self) -> u64
+        ensures key { Self.key (Self.item self.now) ≡ pos result }
+        ensures least { 1 ≤ result }
+        ensures most { result ≤ most }
+        ensures within { result ≤ MOST_ROWS };
+
     /// Adds it to the sums.
     fn add_to(self, sums: &mut Sums)
         requires { (rows : AuditRows) × (given : List Self) × HasSums sums.old (with_rows rows given)
-            × IsBehind (length given) (Self.key (Self.item self)) }
-        ensures added { (rows : AuditRows) (given : List Self) → HasSums sums.old (with_rows rows given)
-            → HasSums sums.new (with_rows rows (given ++ self ∷ [])) }
-        ensures least { pos 1 ≤ℤ Self.key (Self.item self) }
-        ensures most { Self.key (Self.item self) ≤ℤ pos MOST_ROWS };
+            × (length given < most) }
+        ensures { (rows : AuditRows) (given : List Self) → HasSums sums.old (with_rows rows given)
+            → HasSums sums.new (with_rows rows (given ++ self ∷ [])) };
 }
 
 impl Summed for StoredTeller {
     ghost use Rattle.bank_audits.specs.Adding.{with_tellers};
+    ghost use Rattle.bank_walks.specs.declared.limits.TheConstants.{LAST_TELLER};
 
     ghost with_rows = { with_tellers };
 
+    ghost most = { LAST_TELLER };
+
+    fn number(&self) -> u64 {
+        self.teller.get()
+    }
+
     fn add_to(self, sums: &mut Sums) {
-        let _number = self.teller.get();
         sums.tellers.add(self);
     }
 }
 
 impl Summed for StoredBranch {
     ghost use Rattle.bank_audits.specs.Adding.{with_branches};
+    ghost use Rattle.posting_rules.specs.declared.limits.TheConstants.{LAST_BRANCH};
 
     ghost with_rows = { with_branches };
 
+    ghost most = { LAST_BRANCH };
+
+    fn number(&self) -> u64 {
+        self.branch.get()
+    }
+
     fn add_to(self, sums: &mut Sums) {
-        let _number = self.branch.get();
         sums.branches.add(self, &sums.tellers);
     }
 }
 
 impl Summed for StoredAccount {
     ghost use Rattle.bank_audits.specs.Adding.{with_accounts};
+    ghost use Rattle.bank_walks.specs.declared.limits.TheConstants.{LAST_ACCOUNT};
 
     ghost with_rows = { with_accounts };
 
+    ghost most = { LAST_ACCOUNT };
+
+    fn number(&self) -> u64 {
+        self.account.get()
+    }
+
     fn add_to(self, sums: &mut Sums) {
-        let _number = self.account.get();
         sums.accounts = sums.accounts.plus(self.balance);
     }
 }
 
 impl Summed for Joined<StoredRequest, StoredPosting> {
     ghost use Rattle.bank_audits.specs.Adding.{with_requests};
+    ghost use Rattle.bank_reports.specs.declared.limits.TheConstants.{MOST_ROWS};
 
     ghost with_rows = { with_requests };
 
+    ghost most = { MOST_ROWS };
+
+    fn number(&self) -> u64 {
+        self.stored.ordinal.get()
+    }
+
     fn add_to(self, sums: &mut Sums) {
         let Joined { stored, beside } = self;
-        let _number = stored.ordinal.get();
         sums.ordinals.add_request(stored, beside);
     }
 }
 
 impl Summed for Joined<StoredPosting, StoredRequest> {
     ghost use Rattle.bank_audits.specs.Adding.{with_history};
+    ghost use Rattle.bank_reports.specs.declared.limits.TheConstants.{MOST_ROWS};
 
     ghost with_rows = { with_history };
 
+    ghost most = { MOST_ROWS };
+
+    fn number(&self) -> u64 {
+        self.stored.ordinal.get()
+    }
+
     fn add_to(self, sums: &mut Sums) {
         let Joined { stored, beside } = self;
-        let _number = stored.ordinal.get();
         sums.ordinals.add_posting(stored, beside);
     }
 }

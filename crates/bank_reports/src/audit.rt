@@ -7,8 +7,11 @@ use std::marker::Model;
 /// A branch whose balance isn't the sum of the balances of its tellers.
 #[derive(Clone, Copy, Debug, PartialEq, Eq)]
 pub struct BranchLine {
+    /// The branch's number.
     pub branch: u64,
+    /// What its tellers' balances add up to, in cents.
     pub tellers: i128,
+    /// Its own balance, in cents.
     pub balance: i64,
 }
 
@@ -34,6 +37,7 @@ impl BranchLines {
         BranchLines { rows }
     }
 
+    /// The lines.
     pub fn as_slice(&self) -> &[BranchLine]
         ensures { result.now ≡ self.now }
     {
@@ -44,6 +48,7 @@ impl BranchLines {
 /// The numbers of an audit: how many rows the tables have, what they add up to, and where they differ.
 #[derive(Drop)]
 pub struct Audit {
+    /// How many rows each table has.
     pub branches: u64,
     pub tellers: u64,
     pub accounts: u64,
@@ -56,6 +61,7 @@ pub struct Audit {
     pub history_sum: i128,
     /// How many ordinals have a posted request or a posting, but not both, or two that differ.
     pub unmatched: u64,
+    /// The branches that aren't the sums of their tellers.
     pub lines: BranchLines,
 }
 

@@ -29,6 +29,10 @@ impl BranchSums {
     ghost use Rattle.bank_reports.specs.Added.{HasTellers, HasBranches};
 
     /// No branch.
+    ///
+    /// # Errors
+    ///
+    /// `AllocError` where there is no memory for a line of each branch.
     pub fn new(alloc: Global) -> Result<BranchSums, AllocError>
         ensures { IfOk result (λ sums. (tellers : List StoredTeller) → HasBranches sums tellers []) }
     {

@@ -1,4 +1,47 @@
-//! What an audit of a bank and a statement of an account say, and their texts.
+//! What an audit of a bank and a statement of an account say, and their texts. It needs no bank: it is given
+//! the rows that a file has, damaged or not, as `bank_audits` does.
+//!
+//! An [`Audit`] has the numbers that TPC-B clause 2 compares. Rows are added up one by one, tellers before
+//! branches, by [`TellerSums`], [`BranchSums`], [`Sum`] (the accounts) and [`OrdinalSums`] (requests and
+//! postings). [`audit_of_sums`] makes the audit of what was added, and [`write_audit`] writes its text. All
+//! amounts are in cents. A program that audits a branch and its teller, who disagree, and prints the text:
+//!
+//! ```rust
+//! use bank_reports::{BranchSums, OrdinalSums, Sum, TellerSums, audit_of_sums, write_audit};
+//! use bank_walks::{StoredBranch, StoredTeller};
+//! use message_records::Whole;
+//!
+//! fn main(rt: HostRuntime) -> Result<(), anyhow::Error> {
+//!     let mut tellers = TellerSums::new(rt.alloc())?;
+//!     tellers.add(StoredTeller {
+//!         teller: Whole::new(1).unwrap(),
+//!         balance: 400,
+//!     });
+//!     let mut branches = BranchSums::new(rt.alloc())?;
+//!     branches.add(
+//!         StoredBranch {
+//!             branch: Whole::new(1).unwrap(),
+//!             accounts: Whole::new(1).unwrap(),
+//!             balance: 500,
+//!         },
+//!         &tellers,
+//!     );
+//!     let accounts = Sum::zero().plus(500);
+//!     let audit = audit_of_sums(&tellers, branches, accounts, OrdinalSums::none());
+//!     write_audit(&audit, &mut rt.stdout())?;
+//!     Ok(())
+//! }
+//! ```
+//!
+//! It prints ten numbers, then `branch 1 tellers 400 balance 500` and `INCONSISTENT`.
+//!
+//! | Error | What it means |
+//! |---|---|
+//! | [`WriteFault`] | the writer failed, or took no byte; a beginning of the text was written |
+//! | `AllocError` | of [`TellerSums::new`] and [`BranchSums::new`], which alone take memory: it was refused |
+//!
+//! `specs/Audit` says what the numbers of an audit are, `specs/AuditText` and `specs/StatementText` what is
+//! written, and [`audit_tells_consistency`] that an audit is consistent exactly where the tables are.
 #![tactic(auto)]
 
 mod adding;
@@ -28,6 +71,3 @@ pub use statement_text::{
 pub use sum::Sum;
 pub use tellers::TellerSums;
 pub use writing::{WriteFault, put, put_last, write_audit};
-
-#[cfg(test)]
-mod tests;

@@ -27,6 +27,10 @@ impl TellerSums {
     ghost use Rattle.bank_reports.specs.Added.{HasTellers};
 
     /// No teller.
+    ///
+    /// # Errors
+    ///
+    /// `AllocError` where there is no memory for a sum of each branch.
     pub fn new(alloc: Global) -> Result<TellerSums, AllocError>
         ensures { IfOk result (λ sums. HasTellers sums []) }
     {

@@ -35,6 +35,10 @@ impl From<WriteFailed> for WriteFault {
 }
 
 /// Writes a text.
+///
+/// # Errors
+///
+/// [`WriteFault`] where the writer failed or took no byte. A beginning of the text was written.
 pub fn put<W: Sink>(writer: &mut W, text: &str) -> Result<(), WriteFault>
     ensures ok { OnOk result (Appends (W.contents writer.old) (W.contents writer.new) text.now) }
     ensures err { OnErr result (AppendsPart (W.contents writer.old) (W.contents writer.new) text.now) }
@@ -47,7 +51,12 @@ pub fn put<W: Sink>(writer: &mut W, text: &str) -> Result<(), WriteFault>
     }
 }
 
-/// Writes a text, and sends on all that was written.
+/// Writes a text, and flushes the writer.
+///
+/// # Errors
+///
+/// [`WriteFault`] where the writer failed, at the flush too, or took no byte. A beginning of the text was
+/// written.
 pub fn put_last<W: Sink>(writer: &mut W, text: &str) -> Result<(), WriteFault>
     ensures ok { OnOk result (Appends (W.contents writer.old) (W.contents writer.new) text.now) }
     ensures err { OnErr result (AppendsPart (W.contents writer.old) (W.contents writer.new) text.now) }
@@ -86,8 +95,12 @@ fn verdict_text(sound: bool) -> &'static str
     }
 }
 
-/// Writes the text of an audit and flushes. At a fault a beginning of the text was written. It takes no
-/// memory.
+/// Writes the text of an audit, and flushes the writer. It takes no memory.
+///
+/// # Errors
+///
+/// [`WriteFault`] where the writer failed, at the flush too, or took no byte. A beginning of the text was
+/// written.
 pub fn write_audit<W: Sink>(audit: &Audit, writer: &mut W) -> Result<(), WriteFault>
     ensures ok { OnOk result
         (Appends (W.contents writer.old) (W.contents writer.new) (audit_text audit.now)) }

@@ -1,6 +1,6 @@
 //! Tests of the bank in tables that no scenario reaches: each statement of the six tables once, walks over
-//! rows that are beside one another, machines that stop, files that fail while a bank is read, and reports
-//! that are cut.
+//! rows that are beside one another, machines that stop, files that fail while a bank is read, and the texts
+//! of reports, whole and cut.
 #![tactic(auto)]
 
 #[cfg(test)]
@@ -9,6 +9,8 @@ mod calls;
 mod files;
 #[cfg(test)]
 mod readings;
+#[cfg(test)]
+mod report_texts;
 #[cfg(test)]
 mod reports;
 #[cfg(test)]

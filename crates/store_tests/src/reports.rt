@@ -13,7 +13,8 @@ use std::io::ErrorKind;
 use std::process::Abort;
 use std::test::Fail;
 
-fn cut_after(alloc: Global, most: usize) -> CutWriter {
+/// Takes so many bytes, and then fails.
+pub fn cut_after(alloc: Global, most: usize) -> CutWriter {
     CutWriter {
         taken: Vec::new(alloc),
         most,

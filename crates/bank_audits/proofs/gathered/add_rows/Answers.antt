@@ -1,13 +1,12 @@
 -- One more row, and what ends the walk.
-use Rattle.std.proofs.Common.{rules, ◌≡◌, ℕ, [], inl, Err, refl, sym, ap, ◌∙◌, arith, subst}
+use Rattle.std.proofs.Common.{rules, ◌≡◌, ◌<◌, ℕ, [], inl, Err, refl, sym, ap, ◌∙◌, arith, subst}
 use Rattle.sqlite.specs.State.{HasCleanDisk}
 use Rattle.sqlite.specs.Held.{state}
 use Rattle.bank_transactions.proofs.Blamed.{comes}
 use Rattle.bank_store.specs.Walking.{ComesFrom, items_to_come}
 use Rattle.bank_walks.specs.Rows.{LEAST}
-use Rattle.bank_audits.specs.Adding.{IsBehind}
-use Rattle.bank_audits.proofs.AddedRows.{all_given, along_more, behind_row, failed_row, one_more_row}
-use Rattle.bank_audits.proofs.AddedRows.{passed_err, passed_ok}
+use Rattle.bank_audits.proofs.AddedRows.{all_given, along_more, failed_row, one_more_row}
+use Rattle.bank_audits.proofs.AddedRows.{passed_err, passed_ok, room_for}
 use Rattle.bank_audits.proofs.StepsKeep.{still_then, quiet_then}
 use Rattle.bank_audits.proofs.gathered.add_rows.Goals as goal
 
@@ -84,13 +83,15 @@ add_to-requires g c =
     let it = c.rows.invariant.gathered in
     let along = c.rows.invariant.along in
     let rises = rw c.in-Some.is at (c.in_ok-row.ensures.rises along.next along.comes) in
-    let key = g.R.WalkedRow.key (g.R.WalkedRow.item c.in-Some.row) in (
+    let key = g.R.WalkedRow.key (g.R.WalkedRow.item c.in-Some.row) in
+    let number = c.number-number.ensures in (
       c.requires.has.0,
       it.given,
       it.added c.requires.has.0 c.requires.has.1,
-      subst (λ (n : ℕ). IsBehind n key) (sym it.many)
-          (behind_row (λ k. ComesFrom (λ r. g.R.WalkedRow.key (g.R.WalkedRow.item r)) k c.rows.walk)
-          (λ k. Unit {0}) c.rows.counter key along rises.0),
+      subst (λ (n : ℕ). n < g.R.Summed.most) (sym it.many)
+          (room_for (λ k. ComesFrom (λ r. g.R.WalkedRow.key (g.R.WalkedRow.item r)) k c.rows.walk)
+          (λ k. Unit {0}) c.rows.counter key along rises.0 c.number-number.result number.key number.least
+          g.R.Summed.most number.most),
     )
 
 pub rows-preserved : goal.rows-preserved
@@ -117,9 +118,9 @@ rows-preserved g c =
           c.next.new.self) c.in-Some.row
           (λ clean all has. rw c.in-Some.is at (c.in_ok-row.ensures.told clean all
           (subst (λ db. g.R.WalkedRow.HasItems db all) (sym (it.still (before clean)).0) has)))
-          c.add_to.ensures.added;
+          c.add_to.ensures;
       along = along_more (λ k. ComesFrom (λ r. g.R.WalkedRow.key (g.R.WalkedRow.item r)) k c.rows.walk)
           (λ k. ComesFrom (λ r. g.R.WalkedRow.key (g.R.WalkedRow.item r)) k c.next.new.self) c.rows.counter
-          (g.R.WalkedRow.key (g.R.WalkedRow.item c.in-Some.row)) it.along rises.0 rises.1
-          c.add_to.ensures.least c.add_to.ensures.most;
+          (g.R.WalkedRow.key (g.R.WalkedRow.item c.in-Some.row)) it.along rises.0 c.number-number.result
+          c.number-number.ensures.key c.number-number.ensures.least rises.1 c.number-number.ensures.within;
     }

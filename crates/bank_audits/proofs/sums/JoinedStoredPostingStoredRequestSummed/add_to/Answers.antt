@@ -5,8 +5,8 @@ use Rattle.bank_reports.specs.Added.{HasBeside}
 use Rattle.bank_audits.specs.Adding.{both}
 use Rattle.bank_audits.proofs.sums.JoinedStoredPostingStoredRequestSummed.add_to.Goals as goal
 
-pub returns-clause-added : goal.returns-clause-added
-returns-clause-added c rows given h = record {
+pub returns : goal.returns
+returns c rows given h = record {
   tellers = h.tellers;
   branches = h.branches;
   accounts = h.accounts;

@@ -4,8 +4,8 @@ use Rattle.bank_reports.specs.Audit.{account_balance}
 use Rattle.bank_reports.proofs.OneMore.{sum_more_64}
 use Rattle.bank_audits.proofs.sums.StoredAccountSummed.add_to.Goals as goal
 
-pub returns-clause-added : goal.returns-clause-added
-returns-clause-added c rows given h =
+pub returns : goal.returns
+returns c rows given h =
     let fit : FitsSigned w64 c.args.self.balance = search rules in
     record {
       tellers = h.tellers;

@@ -1,14 +1,13 @@
 //! An audit that finds damage and a statement to the byte, and a writer that fails at each byte.
-use crate::{
-    Audit, BranchLine, BranchLines, WriteFault, statement_closing, statement_heading,
-    statement_line, statement_names, write_audit,
+use crate::reports::cut_after;
+use bank_reports::{
+    Audit, BranchLines, BranchSums, OrdinalSums, Sum, TellerSums, WriteFault, audit_of_sums,
+    statement_closing, statement_heading, statement_line, statement_names, write_audit,
 };
-use bank_walks::StoredPosting;
-use message_records::{Account, Cents, Moment};
-use posting_rules::Ordinal;
+use bank_store::{StoredBranch, StoredPosting, StoredTeller};
+use message_records::{Account, Cents, Moment, Whole};
+use posting_core::Ordinal;
 use std::alloc::{Alloc, Global};
-use std::io;
-use std::io::{ErrorKind, Write};
 use std::process::Abort;
 use std::test::Fail;
 
@@ -33,41 +32,32 @@ const STATEMENT: &[u8] = b"STATEMENT ACCOUNT 000000000001
 closing balance                                                      500
 ";
 
-// Takes so many bytes, and then fails.
-#[derive(Drop)]
-struct CutWriter {
-    taken: Vec<u8>,
-    most: usize,
+fn teller(number: u64, balance: i64) -> Result<StoredTeller, Fail> {
+    let teller = Whole::new(number).ok_or("teller")?;
+    Ok(StoredTeller { teller, balance })
 }
 
-impl Write for CutWriter {
-    fn write(&mut self, buf: &[u8]) -> io::Result<usize> {
-        let room = self.most.saturating_sub(self.taken.len());
-        if room == 0 {
-            return Err(io::Error::from(ErrorKind::BrokenPipe));
-        }
-        let count = buf.len().min(room);
-        self.taken.extend_from_slice(&buf[..count])?;
-        Ok(count)
-    }
-
-    fn flush(&mut self) -> io::Result<()> {
-        Ok(())
-    }
+fn branch(number: u64, balance: i64) -> Result<StoredBranch, Fail> {
+    Ok(StoredBranch {
+        branch: Whole::new(number).ok_or("branch")?,
+        accounts: Whole::new(1).ok_or("accounts")?,
+        balance,
+    })
 }
 
-// The audit of a bank whose teller 1 somebody set to -300, and teller 11 to 100.
+// The branches of a bank whose teller 1 somebody set to -300, and teller 11 to 100.
+fn differing(alloc: Global) -> Result<BranchLines, Fail> {
+    let mut tellers = TellerSums::new(alloc)?;
+    tellers.add(teller(1, -300)?);
+    tellers.add(teller(11, 100)?);
+    let mut branches = BranchSums::new(alloc)?;
+    branches.add(branch(1, -200)?, &tellers);
+    branches.add(branch(2, 0)?, &tellers);
+    Ok(audit_of_sums(&tellers, branches, Sum::zero(), OrdinalSums::none()).lines)
+}
+
+// The audit of that bank.
 fn damaged(alloc: Global) -> Result<Audit, Fail> {
-    let first = BranchLine {
-        branch: 1,
-        tellers: -300,
-        balance: -200,
-    };
-    let second = BranchLine {
-        branch: 2,
-        tellers: 100,
-        balance: 0,
-    };
     Ok(Audit {
         branches: 2,
         tellers: 20,
@@ -79,7 +69,7 @@ fn damaged(alloc: Global) -> Result<Audit, Fail> {
         branch_sum: -200,
         history_sum: -200,
         unmatched: 0,
-        lines: BranchLines::new(vec![in alloc; first, second]?),
+        lines: differing(alloc)?,
     })
 }
 
@@ -97,10 +87,7 @@ fn an_audit_that_finds_damage(rt: HostRuntime) -> Result<(), Fail> {
 fn a_writer_that_fails_at_each_byte(rt: HostRuntime) -> Result<(), Fail> {
     let audit = damaged(rt.alloc())?;
     for most in 0..DAMAGE.len() {
-        let mut writer = CutWriter {
-            taken: Vec::new(rt.alloc()),
-            most,
-        };
+        let mut writer = cut_after(rt.alloc(), most);
         assert_eq!(rt; write_audit(&audit, &mut writer), Err(WriteFault));
         assert!(rt; writer.taken.as_slice() == &DAMAGE[..most]);
     }
