@@ -18,9 +18,9 @@ use Rattle.counter_tcp.specs.Faults.{after_connection}
 pub one_served : {C : Type 0} (seen : C → Seen) (r r' w w' k k' : Option (List ℕ))
     (q q' : Option (List ReadTold))
     (p p' : Option (List WriteTold)) (old new : C) (result : Result ℕ ServeFault)
-    → http.Serves seen r r' q q' w w' k k' old new result
+    → http.ServesConnection seen r r' q q' w w' k k' old new result
     → OutputsAnswers r r' q q' w w' (seen old) (seen new) result
-    → SurvivesServing r r' w w' (seen old) (seen new) → http_ends.EndsAs result q q' p p'
+    → SurvivesServing r r' w w' (seen old) (seen new) → http_ends.ServeFaultIsOfItsEnd result q q' p p'
     → ((seen new).honest → (seen old).honest)
     → ServesOne seen k k' old new result
 one_served {C = C} seen r r' w w' k k' q q' p p' old new result served output stop ended honest =

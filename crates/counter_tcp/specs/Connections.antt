@@ -38,14 +38,15 @@ pub record Connection (C : Type 0) : Type 0 where
 
 -- it was served as a connection over HTTP is
 pub record IsServed {C : Type 0} (seen : C → Seen) (c : Connection C) : Type 0 where
-  pub served : http.Serves seen c.reader c.reader_after c.reads c.reads_after c.writer c.writer_after c.clock
+  pub served : http.ServesConnection seen c.reader c.reader_after c.reads c.reads_after c.writer
+      c.writer_after c.clock
       c.clock_after c.before c.after c.result
   pub output : OutputsAnswers c.reader c.reader_after c.reads c.reads_after c.writer c.writer_after
       (seen c.before)
       (seen c.after) c.result
   pub survives : SurvivesServing c.reader c.reader_after c.writer c.writer_after (seen c.before)
       (seen c.after)
-  pub ended : ends.EndsAs c.result c.reads c.reads_after c.writes c.writes_after
+  pub ended : ends.ServeFaultIsOfItsEnd c.result c.reads c.reads_after c.writes c.writes_after
   pub honest : (seen c.after).honest → (seen c.before).honest
 
 -- a connection was served, and ended so

@@ -2,7 +2,7 @@
 use posting_core::Fault;
 use std::fmt;
 
-/// Why no more connections were served. What was answered before stands.
+/// Why no more connections were served. What was answered before is kept.
 #[derive(Clone, Copy, Debug, PartialEq, Eq)]
 pub enum ListenFault {
     /// The listener gave no connection. The bank can be used.
