@@ -27,7 +27,8 @@ request_again r bytes h e =
     ) refl
 
 -- what is read is spelled so, and in range
-pub request_takes : (r : RequestFields) (bytes : List ℕ) → length bytes ≡ REQUEST_BYTES → request_of bytes ≡ Ok r
+pub request_takes : (r : RequestFields) (bytes : List ℕ) → length bytes ≡ REQUEST_BYTES
+    → request_of bytes ≡ Ok r
     → (bytes ≡ request_spelling r) × IsRequest r
 unfolding request_spelling request_of
 request_takes r bytes len e =
