@@ -38,8 +38,8 @@ fn count_posted(replies: &[[u8; REPLY_BYTES]]) -> u64
     replies.iter().filter(|reply| is_posted(reply)).count() as u64
 }
 
-/// Draws a batch of 1..=`RECORDS_PER_BATCH` records, submits it under one reading of the clock, and returns how many of them
-/// were posted. A fault is that of `submit_all`.
+/// Draws a batch of 1..=`RECORDS_PER_BATCH` records, submits it under one reading of the clock, and returns
+/// how many of them were posted. A fault is that of `submit_all`.
 pub(crate) fn submit_batch<C: Counter, K: Clock>(
     driver: &mut Driver,
     batch: &mut [[u8; REQUEST_BYTES]],

@@ -1,5 +1,5 @@
-//! The plan of the branches that a bank is to have, read from CSV, and the loading of a plan into a counter. The
-//! first row is the header `branch,accounts`; each row behind it has the number of a branch, 1 to
+//! The plan of the branches that a bank is to have, read from CSV, and the loading of a plan into a counter.
+//! The first row is the header `branch,accounts`; each row behind it has the number of a branch, 1 to
 //! `LAST_BRANCH`, and how many accounts it is to have, 1 to `MOST_ACCOUNTS`. A program that loads a plan into
 //! a bank in memory:
 //!
