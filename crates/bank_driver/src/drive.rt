@@ -7,11 +7,12 @@ ghost use Rattle.load_driver.specs.Requests.{IsAscending};
 ghost use Rattle.bank_driver.specs.Drives.{Drives, MayRefuse, Resends, Submits};
 ghost use Rattle.bank_driver.specs.Records.{NoneOpen};
 
-use crate::batches::{RECORD, submit_batch};
+use crate::batches::submit_batch;
 use crate::fault::DriveFault;
 use crate::open_branches::list_branches;
 use branch_loader::Plan;
 use load_driver::{Driver, DriverFault};
+use message_records::REQUEST_BYTES;
 use posting_core::{Clock, Counter, Fault, RECORDS_PER_BATCH};
 use std::alloc::Global;
 
@@ -58,7 +59,7 @@ fn drive<C: Counter, K: Clock>(
     ensures up { IsErrOf result (DriveFault.Bank Fault.Down) → ⊥ }
     ensures honest { (C.seen counter.new).honest → (C.seen counter.old).honest }
 {
-    let mut records = [[0u8; RECORD]; RECORDS_PER_BATCH];
+    let mut records = [[0u8; REQUEST_BYTES]; RECORDS_PER_BATCH];
     let mut driven = Driven {
         posted: 0,
         refused: 0,

@@ -12,7 +12,8 @@ use Rattle.message_records.specs.Spelling.{reply_spelling}
 use Rattle.posting_rules.specs.declared.limits.TheConstants.{LAST_BRANCH}
 use Rattle.posting_rules.specs.Commands.{Command, opened}
 use Rattle.posting_rules.specs.Entries.{reply, balance_behind, branch_balance, decided}
-use Rattle.counter_http.specs.declared.limits.TheConstants.{ACCOUNT_DIGITS, RECORD}
+use Rattle.message_records.specs.declared.limits.TheConstants.{REQUEST_BYTES}
+use Rattle.counter_http.specs.declared.limits.TheConstants.{ACCOUNT_DIGITS}
 use Rattle.counter_http.specs.declared.routes.Route.{Route}
 use Rattle.counter_http.specs.declared.routes.Route.TheVariants.{Posting, Account, Branches}
 use Rattle.counter_http.specs.Paths.{path_of, account_in, route_of}
@@ -61,7 +62,7 @@ is_reading method = bytes_eq method (codes "GET") || bytes_eq method (codes "HEA
 -- a record was submitted
 abbrev pub posted_answer : List Command → List ℕ → Answer
 posted_answer log body =
-    if length body == RECORD
+    if length body == REQUEST_BYTES
     then octets (reply_spelling (reply log body))
     else bare 400
 
@@ -125,7 +126,7 @@ answer_to log asked = answer_on log (route_of (path_of asked.target)) asked
 
 -- a record is sent
 abbrev pub is_record : Asked → Bool
-is_record asked = bytes_eq asked.method (codes "POST") && length asked.body == RECORD
+is_record asked = bytes_eq asked.method (codes "POST") && length asked.body == REQUEST_BYTES
 
 -- the record that a message submits, if it submits one
 abbrev pub submits : Option Route → Asked → Bool

@@ -14,12 +14,12 @@ ghost use Rattle.counter_http.specs.Turns.{commands_for, readings_for, IsDealtWi
 use crate::accounts::account_in;
 use crate::fault::ServeFault;
 use crate::fixed::{bare, fixed_answer};
-use crate::limits::RECORD;
 use crate::lines::{all_lines, line_of_account};
 use crate::next::{Whole, is_head};
 use crate::routes::{Route, Routes, path_of};
 use crate::telling::{Response, tell};
 use http::StatusCode;
+use message_records::REQUEST_BYTES;
 use posting_core::{Clock, Counter, Fault, Sink};
 use std::alloc::Global;
 
@@ -94,7 +94,7 @@ fn fail<W: Sink>(message: &Whole<'_>, fault: Fault, writer: &mut W) -> ServeFaul
 // Submits the record of a message, and answers with the reply.
 fn answer_posting<W: Sink, K: Clock, C: Counter>(
     message: &Whole<'_>,
-    bytes: &[u8; RECORD],
+    bytes: &[u8; REQUEST_BYTES],
     writer: &mut W,
     clock: &mut K,
     bank: &mut C,
@@ -206,7 +206,7 @@ pub(crate) fn answer_message<W: Sink, K: Clock, C: Counter>(
     match route {
         None => unreachable!(),
         Some(Route::Posting) => {
-            let Some(bytes) = message.body.as_array::<RECORD>() else {
+            let Some(bytes) = message.body.as_array::<REQUEST_BYTES>() else {
                 unreachable!()
             };
             answer_posting(message, bytes, writer, clock, bank)

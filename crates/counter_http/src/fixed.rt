@@ -7,11 +7,11 @@ ghost use Rattle.counter_http.specs.Next.{asked};
 ghost use Rattle.counter_http.specs.Paths.{path_of, route_of};
 ghost use Rattle.counter_http.specs.Telling.{said};
 
-use crate::limits::RECORD;
 use crate::next::{Whole, is_head};
 use crate::routes::Route;
 use crate::telling::Response;
 use http::StatusCode;
+use message_records::REQUEST_BYTES;
 
 /// An answer that says no more than its code.
 pub(crate) fn bare(body: &'static [u8], status: StatusCode) -> Response<'static>
@@ -58,7 +58,7 @@ fn fixed_posting(message: &Whole<'_>) -> Option<Response<'static>>
     if !is_post(message.method) {
         return Some(not_taken(b"POST"));
     }
-    if message.body.len() != RECORD {
+    if message.body.len() != REQUEST_BYTES {
         return Some(bare(b"400 Bad Request\n", StatusCode::BAD_REQUEST));
     }
     None

@@ -12,8 +12,5 @@ pub const MAX_BODY: usize = 4096;
 /// The length of the buffer: the longest message.
 pub(crate) const BUFFER: usize = MAX_HEAD + MAX_BODY;
 
-/// The length of a record.
-pub(crate) const RECORD: usize = 100;
-
 /// How many digits the number of an account has at most.
 pub(crate) const ACCOUNT_DIGITS: usize = 12;

@@ -1,6 +1,6 @@
 -- Why the serving of connections ends, and after which connections it goes on.
 use Rattle.std.specs.Prelude.{ℕ, List, Result, Ok, Err, codes}
-use Rattle.posting_rules.specs.FaultTexts as bank_texts
+use Rattle.posting_rules.specs.FaultTexts as rules
 use Rattle.posting_rules.specs.declared.fault.Fault.TheVariants as bank
 use Rattle.counter_http.specs.declared.fault.ServeFault.{ServeFault}
 use Rattle.counter_http.specs.declared.fault.ServeFault.TheVariants as serve
@@ -10,7 +10,7 @@ use Rattle.counter_tcp.specs.declared.fault.ListenFault.TheVariants.{Network, Ba
 -- what `{}` writes of a fault
 abbrev pub fault_text : ListenFault → List ℕ
 fault_text Network = codes "network failed"
-fault_text (Bank fault) = bank_texts.fault_text fault
+fault_text (Bank fault) = rules.fault_text fault
 
 -- after a connection the next one is served, unless the bank failed by another cause than memory
 abbrev pub after_connection : Result ℕ ServeFault → Result (Unit {0}) ListenFault

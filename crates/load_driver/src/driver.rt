@@ -14,7 +14,7 @@ use crate::accounts::account_by;
 use crate::draws::{Words, draw, take_words, words_of};
 use branch_loader::Plan;
 use message_records::{
-    Account, Branch, Cents, MAX_NUMBER, Number, Request, Teller, encode_request,
+    Account, Branch, Cents, MAX_NUMBER, Number, REQUEST_BYTES, Request, Teller, encode_request,
 };
 use posting_core::TELLERS_PER_BRANCH;
 use rand_pcg::Lcg128Xsl64;
