@@ -84,8 +84,7 @@ pub(crate) fn gather<R: StoredRow>(
 
 /// Puts the rows of a table with the least keys from one on, those of an account if one is named, in place of
 /// those in `rows`, up to one that can't be read, if it isn't the first, and returns the key from which on
-/// the
-/// others follow.
+/// the others follow.
 pub(crate) fn read_ahead<S: Alter, R: StoredRow>(
     conn: &mut Connection<S>,
     of: Option<Account>,

@@ -32,10 +32,8 @@ pub trait WalkedRow: Copy + Default {
     ghost HasItems: { Database → List Item → Type 0 };
 
     /// Puts the rows with the least keys from one on, those of an account if one is named, in place of those
-    /// in
-    /// `rows`, up to one that can't be read, if it isn't the first, and returns the key from which on the
-    /// others
-    /// follow.
+    /// in `rows`, up to one that can't be read, if it isn't the first, and returns the key from which on the
+    /// others follow.
     fn fill<S: Alter>(
         conn: &mut Connection<S>,
         of: Option<Account>,
