@@ -17,7 +17,7 @@ ghost use Rattle.bank_lives.specs.Lives.{IsCall, Life, given_to};
 
 use posting_rules::Counter;
 use sqlite::{Alter, Connection};
-use store_rows::trees_law;
+use store_rows::trees_show_law;
 
 /// Each call of a counter is a call of its life (`IsCall`), by what the trait `Counter` says of it. One that
 /// was answered acknowledges all of its commands, and one that was refused acknowledges none.
@@ -55,7 +55,7 @@ pub fn opened_law<S: Alter>(conn: &Connection<S>)
         → ShowsTrees (state S.Store conn.now).now.trees tables → AreTablesOf tables log
         → StandsAt (conn_seen S.Store conn.now) log }
 {
-    trees_law(conn);
+    trees_show_law(conn);
 }
 
 /// The tables of every log of a bank's commands keep each of the seven rules of `Rule`, so that a file which

@@ -13,7 +13,7 @@ use bank_store::{Bank, OpenFault, Refused, adopt};
 use posting_rules::{each_request_once, tables_are_consistent};
 use sqlite::{Alter, Connection};
 use std::alloc::Global;
-use store_rows::trees_law;
+use store_rows::trees_show_law;
 
 /// Takes up the bank over a connection that was opened on what a stop left of another bank.
 ///
@@ -52,7 +52,7 @@ pub fn reopen<S: Alter + Drop, T: Alter>(
     ensures idle { IfErr result (λ refused. refused.conn.in_transaction ≡ false) }
 {
     life_law(stopped);
-    trees_law(&conn);
+    trees_show_law(&conn);
     each_request_once();
     tables_are_consistent();
     adopt(alloc, conn)

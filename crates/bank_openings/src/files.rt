@@ -23,7 +23,7 @@ use sqlite_disk::Disk;
 use std::alloc::Global;
 use std::fs::{self, Metadata};
 use std::rt::Files as FileSystem;
-use store_rows::trees_law;
+use store_rows::trees_show_law;
 
 /// The least length of a file that a bank can be in alone. One that is shorter is made a database when it is
 /// opened, unless there is a log beside it.
@@ -62,7 +62,7 @@ fn create_over<S: Alter + Drop>(alloc: Global, conn: Connection<S>) -> Result<Ba
     ensures made { IfOk result (λ bank. BankIsMadeOver (state S.Store conn) (bank_seen S.Store bank)) }
     ensures fault { IfErr result IsOfOpening }
 {
-    trees_law(&conn);
+    trees_show_law(&conn);
     match create(alloc, conn) {
         Ok(bank) => Ok(bank),
         Err(refused) => Err(fault_of(refused)),
@@ -145,7 +145,7 @@ pub fn close<D: Disk + Drop>(bank: Bank<FileStore<D>>) -> Option<Files<D>>
 {
     let conn = bank.release();
     let _idle = conn.is_autocommit();
-    trees_law(&conn);
+    trees_show_law(&conn);
     match conn.close_files() {
         Ok(files) => Some(files),
         Err((_, store)) => {

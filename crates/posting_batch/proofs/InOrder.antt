@@ -8,9 +8,9 @@ use Rattle.message_records.specs.declared.fault.Bad.{Bad}
 use Rattle.message_records.specs.Reading.{request_of}
 use Rattle.message_records.specs.Records.{RequestFields}
 use Rattle.message_records.specs.Spelling.{reply_spelling}
-use Rattle.posting_rules.specs.declared.facts.Found.{Found}
-use Rattle.posting_rules.specs.declared.facts.Verdict.{Verdict}
-use Rattle.posting_rules.specs.declared.facts.Verdict.TheVariants.{Unkept, Again, Refused, Posted}
+use Rattle.posting_rules.specs.declared.judgments.Found.{Found}
+use Rattle.posting_rules.specs.declared.judgments.Verdict.{Verdict}
+use Rattle.posting_rules.specs.declared.judgments.Verdict.TheVariants.{Unkept, Again, Refused, Posted}
 use Rattle.posting_rules.specs.Cases.{case_of, reply_in}
 use Rattle.posting_rules.specs.Changes.{row_changed, tables_past_all, reply_read, replies_past_all}
 use Rattle.posting_rules.specs.Commands.{branch_of_teller, branch_of_account}

@@ -10,8 +10,8 @@ use Rattle.message_records.specs.Outcomes.{has_balance}
 use Rattle.message_records.specs.declared.fault.Bad.{Bad}
 use Rattle.message_records.specs.Records.{RequestFields}
 use Rattle.message_records.specs.Reading.{request_of}
-use Rattle.posting_rules.specs.declared.facts.Verdict.{Verdict}
-use Rattle.posting_rules.specs.declared.facts.Verdict.TheVariants.{Unkept, Again, Refused}
+use Rattle.posting_rules.specs.declared.judgments.Verdict.{Verdict}
+use Rattle.posting_rules.specs.declared.judgments.Verdict.TheVariants.{Unkept, Again, Refused}
 use Rattle.posting_rules.specs.Commands.{Command, Post, opened, branch_of_teller, is_teller_open}
 use Rattle.posting_rules.specs.Commands.{is_account_open}
 use Rattle.posting_rules.specs.Kept.{KeptFields}

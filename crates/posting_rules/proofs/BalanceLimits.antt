@@ -7,8 +7,8 @@ use Rattle.message_records.specs.declared.limits.TheConstants.{MAX_BALANCE}
 use Rattle.message_records.specs.declared.fault.Bad.{Bad}
 use Rattle.message_records.specs.Records.{RequestFields}
 use Rattle.message_records.specs.Reading.{request_of}
-use Rattle.posting_rules.specs.declared.facts.Verdict.{Verdict}
-use Rattle.posting_rules.specs.declared.facts.Verdict.TheVariants.{Unkept, Again, Refused, Posted}
+use Rattle.posting_rules.specs.declared.judgments.Verdict.{Verdict}
+use Rattle.posting_rules.specs.declared.judgments.Verdict.TheVariants.{Unkept, Again, Refused, Posted}
 use Rattle.posting_rules.specs.Commands.{Command, Open, Post, opened}
 use Rattle.posting_rules.specs.Cases.{case_of}
 use Rattle.posting_rules.specs.Entries.{DecidedRequest, is_posted, facts, account_balance, teller_balance}

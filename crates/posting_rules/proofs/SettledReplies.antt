@@ -5,9 +5,9 @@ use Rattle.std.specs.Prelude.{ℤ, ◌⊎◌}
 use Rattle.posting_rules.specs.declared.limits.TheConstants.{MAX_DECIDED}
 use Rattle.message_records.specs.declared.records.Outcome.TheVariants as outcome
 use Rattle.message_records.specs.Records.{RequestFields, ReplyFields}
-use Rattle.posting_rules.specs.declared.facts.Found.{Found}
-use Rattle.posting_rules.specs.declared.facts.Verdict.{Verdict}
-use Rattle.posting_rules.specs.declared.facts.Verdict.TheVariants.{Unkept, Again}
+use Rattle.posting_rules.specs.declared.judgments.Found.{Found}
+use Rattle.posting_rules.specs.declared.judgments.Verdict.{Verdict}
+use Rattle.posting_rules.specs.declared.judgments.Verdict.TheVariants.{Unkept, Again}
 use Rattle.posting_rules.specs.Kept.{KeptFields}
 use Rattle.posting_rules.specs.Commands.{opened, branch_of_teller, is_teller_open}
 use Rattle.posting_rules.specs.Cases.{case_of, teller_case, known_case, new_case, is_same, reply_in}

@@ -10,8 +10,8 @@ use Rattle.message_records.specs.declared.fault.Bad.{Bad}
 use Rattle.message_records.specs.Records.{RequestFields, IsRequest}
 use Rattle.message_records.specs.Reading.{request_of}
 use Rattle.message_records.proofs.Requests.{request_takes}
-use Rattle.posting_rules.specs.declared.facts.Verdict.{Verdict}
-use Rattle.posting_rules.specs.declared.facts.Verdict.TheVariants.{Unkept, Again, Refused, Posted}
+use Rattle.posting_rules.specs.declared.judgments.Verdict.{Verdict}
+use Rattle.posting_rules.specs.declared.judgments.Verdict.TheVariants.{Unkept, Again, Refused, Posted}
 use Rattle.posting_rules.specs.Commands.{Command, Open, Post, IsCommand, AreCommands, opened}
 use Rattle.posting_rules.specs.Kept.{is_kept_with}
 use Rattle.posting_rules.specs.Cases.{case_of, plus_within}

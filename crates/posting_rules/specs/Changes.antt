@@ -14,8 +14,8 @@ use Rattle.message_records.specs.Spelling.{reply_spelling}
 use Rattle.message_records.specs.declared.fault.Bad.{Bad}
 use Rattle.message_records.specs.Records.{RequestFields}
 use Rattle.message_records.specs.Reading.{request_of}
-use Rattle.posting_rules.specs.declared.facts.Verdict.{Verdict}
-use Rattle.posting_rules.specs.declared.facts.Verdict.TheVariants.{Unkept, Again, Refused, Posted}
+use Rattle.posting_rules.specs.declared.judgments.Verdict.{Verdict}
+use Rattle.posting_rules.specs.declared.judgments.Verdict.TheVariants.{Unkept, Again, Refused, Posted}
 use Rattle.posting_rules.specs.Commands.{branch_of_teller}
 use Rattle.posting_rules.specs.Entries.{DecidedRequest, refused_entry, posted_entry, malformed_reply}
 use Rattle.posting_rules.specs.Cases.{case_of, reply_in}

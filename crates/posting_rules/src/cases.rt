@@ -3,7 +3,7 @@ ghost use Rattle.std.specs.Prelude.{◌≡◌, ◌≤◌};
 ghost use Rattle.posting_rules.specs.Commands.{branch_of_teller};
 ghost use Rattle.posting_rules.specs.Cases.{case_of, plus_within, IsProper, reply_in};
 
-use crate::facts::{Found, Verdict};
+use crate::judgments::{Found, Verdict};
 use crate::limits::{MAX_DECIDED, TELLERS_PER_BRANCH};
 use message_records::{Cents, Outcome, Reply, Request, Teller};
 

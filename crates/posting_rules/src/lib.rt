@@ -4,16 +4,16 @@
 
 mod cases;
 mod counter;
-mod facts;
 mod fault;
+mod judgments;
 mod laws;
 mod limits;
 mod rows;
 
 pub use cases::{branch_of_teller, judge, reply_to};
 pub use counter::{BranchLine, Counter, Opening};
-pub use facts::{Found, Kept, Verdict};
 pub use fault::{Fault, Rule};
+pub use judgments::{Found, Kept, Verdict};
 pub use laws::{
     balances_stay_within, cases_are_as_stated, each_request_once, equal_tables_answer_alike,
     resends_get_their_replies, tables_are_consistent, tables_are_undamaged,

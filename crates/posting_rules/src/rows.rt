@@ -1,5 +1,5 @@
 //! The rows of a bank's tables.
-use crate::facts::Kept;
+use crate::judgments::Kept;
 use crate::limits::MAX_DECIDED;
 use message_records::{Account, Branch, Cents, Moment, Number, Teller, Whole};
 

@@ -23,7 +23,7 @@ pub use commits::commit;
 pub use creation::{create, create_tables};
 pub use fault::TableFault;
 pub use history::add_history;
-pub use laws::trees_law;
+pub use laws::trees_show_law;
 pub use metas::{StoredMeta, VERSION, read_meta, set_decided};
 pub use probes::{
     probe_accounts, probe_branches, probe_history, probe_meta, probe_requests, probe_tellers,

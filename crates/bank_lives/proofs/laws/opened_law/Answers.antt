@@ -8,4 +8,4 @@ returns g c opens t log are left shown =
     let conn = c.args.conn.now in
     stands_opened (state g.S.Store conn) ⊥ (λ none. none) opens
     (λ db may. g.met.S.Store.settled conn.store db opens.is_open may) t log are left
-    (c.trees_law.ensures.finds opens.is_open t left) shown
+    (c.trees_show_law.ensures.finds opens.is_open t left) shown

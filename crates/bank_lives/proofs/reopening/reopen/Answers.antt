@@ -10,14 +10,14 @@ returns-clause-found g c =
     if_ok _ _ (λ bank stands honest opens stopped left first log given least stood life.
     let it = begins_opened (state g.T.Store c.args.conn) log given least opens
     (λ db may. g.met.T.Store.settled c.args.conn.store db opens.is_open may)
-    (λ t shown. c.trees_law.ensures.finds opens.is_open t shown)
+    (λ t shown. c.trees_show_law.ensures.finds opens.is_open t shown)
     (c.life_law.ensures.survives first log given least life stood stopped
     (g.T.Store.view c.args.conn.store).trees left) in
     let at = stands honest _ it.stands in
     found_at (bank_seen g.T.Store bank) log given least it.count it.holds it.within
     c.each_request_once.ensures
     c.tables_are_consistent.ensures at
-    (λ other shown. c.trees_law.ensures.once (g.T.Store.view bank.conn.store).trees other at.shows.tables
+    (λ other shown. c.trees_show_law.ensures.once (g.T.Store.view bank.conn.store).trees other at.shows.tables
     (bank.conn.schema, shown) (bank.conn.schema, at.shows.are))) c.adopt.result c.adopt.ensures.stands
 
 pub returns-clause-missed : goal.returns-clause-missed
@@ -25,7 +25,7 @@ returns-clause-missed g c =
     if_err _ _ (λ refused known clean opens stopped left first log given least stood life.
     let it = begins_opened (state g.T.Store c.args.conn) log given least opens
     (λ db may. g.met.T.Store.settled c.args.conn.store db opens.is_open may)
-    (λ t shown. c.trees_law.ensures.finds opens.is_open t shown)
+    (λ t shown. c.trees_show_law.ensures.finds opens.is_open t shown)
     (c.life_law.ensures.survives first log given least life stood stopped
     (g.T.Store.view c.args.conn.store).trees left) in
     known clean _ it.stands.shows) c.adopt.result c.adopt.ensures.known

@@ -11,4 +11,4 @@ returns-in-Ok g c clean log stood image left =
     (settled_outside (file_state c.release-conn.result) c.is_autocommit-idle.result
     c.is_autocommit-idle.ensures.value c.release-conn.ensures.idle c.is_autocommit-idle.ensures.settled
     copied.was_open)
-    c.trees_law.ensures.leaves left
+    c.trees_show_law.ensures.leaves left

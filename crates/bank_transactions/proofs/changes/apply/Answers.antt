@@ -2,9 +2,9 @@
 use Rattle.std.proofs.Common.{◌≡◌, ◌+◌, ℕ, None, Err, rules, refl, sym, ap, ◌∙◌}
 use Rattle.std.specs.Prelude.{ℤ}
 use Rattle.message_records.specs.Records.{RequestFields}
-use Rattle.posting_rules.specs.declared.facts.Found.{Found}
-use Rattle.posting_rules.specs.declared.facts.Verdict.{Verdict}
-use Rattle.posting_rules.specs.declared.facts.Verdict.TheVariants.{Posted}
+use Rattle.posting_rules.specs.declared.judgments.Found.{Found}
+use Rattle.posting_rules.specs.declared.judgments.Verdict.{Verdict}
+use Rattle.posting_rules.specs.declared.judgments.Verdict.TheVariants.{Posted}
 use Rattle.posting_rules.specs.Cases.{case_of}
 use Rattle.posting_rules.specs.Changes.{HasRowsOf, tables_kept, tables_moved, tables_after}
 use Rattle.posting_rules.specs.Entries.{posted_entry}

@@ -1,7 +1,7 @@
 -- What trees show.
 use Rattle.sqlite.specs.Held.{state}
 use Rattle.store_rows.proofs.ShownOnce.{of_trees, one_bank, to_trees}
-use Rattle.store_rows.proofs.laws.trees_law.Goals as goal
+use Rattle.store_rows.proofs.laws.trees_show_law.Goals as goal
 
 pub returns-clause-leaves : goal.returns-clause-leaves
 returns-clause-leaves g c t shows = to_trees (state g.S.Store c.args.conn.now).now t shows
