@@ -144,6 +144,7 @@ pub fn close<D: Disk + Drop>(bank: Bank<FileStore<D>>) -> Option<Files<D>>
         → outcomes D.Disk files.log files.db image → ∥ HoldsLog image log ∥₁) }
 {
     let conn = bank.release();
+    // That it shows what was committed, a connection says only where it is asked.
     let _idle = conn.is_autocommit();
     trees_show_law(&conn);
     match conn.close_files() {
