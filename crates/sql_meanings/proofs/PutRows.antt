@@ -104,8 +104,8 @@ module _ (old new : State) (t : Table) (is : IsOfNumbers (uncounted t)) (sound :
       let wrote : Wrote old new (put_by (stored e ∷ [])) count =
       subst (λ rows. Wrote old new (put_by rows) count) (puts.gives tree) made in
       let free : is_some (find (has_key e.key) es) ≡ false = not_then _ true (sym fresh_is ∙ wrote.fresh) in
-      let after = tree_put (db tree) (edited db (put_by (stored e ∷ []))) e es puts.wide put_is holds.rows in
-          (
+      let after =
+      tree_put (db tree) (edited db (put_by (stored e ∷ []))) e es puts.wide put_is holds.rows in (
         record {
           rows = edited db (put_by (stored e ∷ []));
           steps = steps_by old new (put_by (stored e ∷ [])) count t.name refl wrote;
