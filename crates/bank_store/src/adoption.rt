@@ -9,11 +9,12 @@ ghost use Rattle.store_rows.specs.Columns.{meta_in};
 ghost use Rattle.sql_meanings.specs.Entries.{Entry};
 ghost use Rattle.store_rows.specs.SixTables.{meta as table};
 ghost use Rattle.store_rows.specs.View.{HoldsRows};
-ghost use Rattle.bank_store.specs.Opening.{conn_seen, state_in, ChecksMeta, KnowsCause, TellsMeta};
-ghost use Rattle.bank_store.specs.Opening.{IsReadOnly, IsUndoneIfOpen, IsUnread, IsOfOtherType, BankIsFound};
-ghost use Rattle.bank_store.specs.Opening.{SeeksBank};
-ghost use Rattle.bank_store.specs.Opening.{Misses, IsAsBefore};
+ghost use Rattle.bank_store.specs.Connections.{conn_seen, state_in, IsAsBefore, IsReadOnly, IsUndoneIfOpen};
+ghost use Rattle.bank_store.specs.FoundBank.{BankIsFound, Misses, SeeksBank};
+ghost use Rattle.bank_store.specs.MetaRow.{ChecksMeta, TellsMeta, IsOfOtherType};
+ghost use Rattle.bank_store.specs.OpenFaults.{IsUnread};
 ghost use Rattle.bank_store.specs.Seen.{alloc_of, bank_seen, connection_of};
+ghost use Rattle.bank_store.specs.StoreFaults.{KnowsCause};
 
 use crate::bank::Bank;
 use crate::laws::settled_law;

@@ -4,7 +4,8 @@ ghost use Rattle.sqlite.specs.State.{HasCleanDisk, Survives};
 ghost use Rattle.sqlite.specs.Held.{state};
 ghost use Rattle.store_rows.specs.Calls.{Probes};
 ghost use Rattle.store_rows.specs.Probes.{six_probes};
-ghost use Rattle.bank_store.specs.Opening.{joined, presence_of, probe_of, KnowsCause, TellsPresence};
+ghost use Rattle.bank_store.specs.StoreFaults.{KnowsCause};
+ghost use Rattle.bank_store.specs.TablePresence.{joined, presence_of, probe_of, TellsPresence};
 
 use crate::laws::settled_law;
 use crate::refused::OpenFault;
