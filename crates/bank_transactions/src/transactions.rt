@@ -19,8 +19,8 @@ use sqlite::{Alter, Connection, Transaction};
 use store_rows::{TableFault, commit};
 
 /// Makes it known that a connection outside a transaction shows, as long as it is open, what was committed
-/// last. A connection says so of itself only where it is asked whether a transaction goes on, so it is asked,
-/// for that clause alone: the answer is known, and nothing is done.
+/// last, to which a failed statement goes back. A connection says so of itself only where it is asked whether
+/// a transaction goes on, so it is asked, for that clause alone: the answer is known, and nothing is done.
 pub fn note_settled<S: Alter>(conn: &Connection<S>)
     requires { conn.now.in_transaction ≡ false }
     ensures { IsTrue (state S.Store conn.now).is_open → (state S.Store conn.now).now
