@@ -12,7 +12,7 @@ ghost use Rattle.bank_transactions.specs.Doing.{Consults, Ends, Transacts};
 
 use crate::found::open_balance;
 use crate::new_branch::open_inside;
-use crate::posting::answer;
+use crate::posting::post_inside;
 use message_records::{Account, Branch, Cents, Moment, Request};
 use posting_rules::{LAST_BRANCH, MOST_ACCOUNTS, Opening};
 use sqlite::{Alter, Connection, Transaction};
@@ -81,7 +81,7 @@ pub fn post<S: Alter>(
         (λ tables. reply_bytes tables request.now) result }
 {
     let mut tx = begin(conn);
-    let reply = answer(&mut tx, moment, request);
+    let reply = post_inside(&mut tx, moment, request);
     finish(tx, reply)
 }
 
