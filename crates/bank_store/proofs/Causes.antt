@@ -14,7 +14,7 @@ use Rattle.store_rows.specs.Creation.{CreatesBank}
 use Rattle.store_rows.specs.Failures.{Committing, HasReason}
 use Rattle.store_rows.specs.declared.fault.TableFault.{TableFault}
 use Rattle.store_rows.specs.declared.fault.TableFault.TheVariants.{Sqlite, Damaged as Broken}
-use Rattle.bank_transactions.specs.Doing.{IsBefore}
+use Rattle.bank_transactions.specs.Causes.{IsBefore}
 use Rattle.bank_transactions.proofs.Blamed.{failed_here, failed_within, same_moment, then_moment}
 use Rattle.store_rows.specs.declared.metas.StoredMeta.{StoredMeta}
 use Rattle.bank_store.specs.MetaRow.{ChecksMeta}

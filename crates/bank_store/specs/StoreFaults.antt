@@ -4,7 +4,7 @@ use Rattle.sqlite.specs.State.{HasCleanDisk}
 use Rattle.sqlite.specs.Held.{Held, state}
 use Rattle.sqlite.specs.declared.error.Error.{Error}
 use Rattle.sqlite_trees.specs.declared.store.Store.{Ghosts}
-use Rattle.bank_transactions.specs.Doing.{HasFailedBetween, IsBefore}
+use Rattle.bank_transactions.specs.Causes.{HasFailedBetween, IsBefore}
 use Rattle.store_rows.specs.Creation.{CreatesBank}
 use Rattle.bank_store.specs.OpenFaults.{of_the_store}
 use Rattle.bank_store.specs.declared.refused.OpenFault.{OpenFault}

@@ -2,7 +2,7 @@
 use Rattle.std.proofs.Common.{◌≡◌, true, rules, arith, sym, subst, ap}
 use Rattle.sqlite.specs.State.{HasCleanDisk}
 use Rattle.sqlite.specs.Held.{state}
-use Rattle.bank_transactions.specs.Doing.{IsBefore}
+use Rattle.bank_transactions.specs.Causes.{IsBefore}
 use Rattle.bank_transactions.proofs.Blamed.{comes, same_moment, then_moment}
 use Rattle.bank_store.specs.NewBank.{IsRefusedOnTheWay}
 use Rattle.bank_store.specs.OpenFaults.{unmade_by}
