@@ -17,7 +17,8 @@ use Rattle.posting_batch.specs.View.{view, reads_of, IsMadeOf, IsFilledFrom}
 use Rattle.posting_batch.proofs.Covered.{stands, homes_all}
 use Rattle.store_rows.specs.View as stored
 use Rattle.store_rows.specs.declared.fault.TableFault.{TableFault}
-use Rattle.bank_transactions.specs.Doing.{Acts, Damage, Does, DoesBy, IsFirstBroken}
+use Rattle.bank_transactions.specs.Causes.{Damage, IsFirstBroken}
+use Rattle.bank_transactions.specs.Doing.{Acts, Does, DoesBy}
 use Rattle.bank_transactions.proofs.Chained.{acts_read, acts_wrote, does_but, does_for}
 use Rattle.bank_batches.specs.Batches.{DecidesNone}
 use Rattle.bank_batches.proofs.Both.{does_both}

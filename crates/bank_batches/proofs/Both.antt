@@ -5,7 +5,8 @@ use Rattle.sqlite.specs.Held.{state}
 use Rattle.sqlite.specs.declared.transaction.Transaction.{Transaction}
 use Rattle.sqlite_trees.specs.declared.store.Store.{Ghosts}
 use Rattle.posting_rules.specs.Tables.{Tables}
-use Rattle.bank_transactions.specs.Doing.{Damage, Does, DoesBy}
+use Rattle.bank_transactions.specs.Causes.{Damage}
+use Rattle.bank_transactions.specs.Doing.{Does, DoesBy}
 use Rattle.bank_transactions.proofs.Chained.{knowing}
 
 -- one part, and then another: the answer of both comes from the two

@@ -13,7 +13,8 @@ use Rattle.store_rows.specs.View.{Shows}
 use Rattle.store_rows.specs.declared.fault.TableFault.{TableFault}
 use Rattle.store_rows.specs.declared.fault.TableFault.TheVariants.{Sqlite, Damaged}
 use Rattle.store_rows.specs.Rules.{IsBroken}
-use Rattle.bank_transactions.specs.Doing.{DoesBy, IsFirstBroken, ChangesNothing, LooksUp, Reads, Stays}
+use Rattle.bank_transactions.specs.Causes.{IsFirstBroken}
+use Rattle.bank_transactions.specs.Doing.{DoesBy, ChangesNothing, LooksUp, Reads, Stays}
 use Rattle.bank_transactions.proofs.Blamed.{blames_after, comes}
 use Rattle.bank_transactions.proofs.Statements.{looked, look_keeps}
 use Rattle.bank_transactions.proofs.ReadsInTurn.{stays_then}

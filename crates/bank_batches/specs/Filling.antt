@@ -10,7 +10,8 @@ use Rattle.posting_batch.specs.Slots.{in_slot, row_of_slot, branch_slot_key}
 use Rattle.sql_meanings.specs.Calls.{Says}
 use Rattle.store_rows.specs.Calls.{OfTables}
 use Rattle.store_rows.specs.declared.fault.TableFault.{TableFault}
-use Rattle.bank_transactions.specs.Doing.{Blames, IsFirstBroken, LooksUp, ChangesNothing}
+use Rattle.bank_transactions.specs.Causes.{Blames, IsFirstBroken}
+use Rattle.bank_transactions.specs.Doing.{LooksUp, ChangesNothing}
 
 -- this is the answer, where the call was answered
 abbrev pub handing : {X Y : Type 0} → Y → Result X TableFault → Result Y TableFault

@@ -12,7 +12,7 @@ ghost use Rattle.posting_rules.specs.declared.fault.Rule.{Rule};
 ghost use Rattle.store_rows.specs.Rules.{KeepsRule};
 ghost use Rattle.store_rows.specs.View.{ShowsTrees};
 ghost use Rattle.bank_lives.specs.TableRows.{stored_rows};
-ghost use Rattle.bank_store.specs.Opening.{conn_seen};
+ghost use Rattle.bank_store.specs.Connections.{conn_seen};
 ghost use Rattle.bank_lives.specs.Lives.{IsCall, Life, given_to};
 
 use posting_rules::Counter;

@@ -4,8 +4,8 @@ ghost use Rattle.sqlite.specs.Held.{state};
 ghost use Rattle.sqlite.specs.State.{HasCleanDisk, Opens};
 ghost use Rattle.posting_rules.specs.Commands.{Command};
 ghost use Rattle.posting_rules.specs.Counter.{StandsAt};
-ghost use Rattle.bank_store.specs.Opening.{KnowsCause};
 ghost use Rattle.bank_store.specs.Seen.{bank_seen};
+ghost use Rattle.bank_store.specs.StoreFaults.{KnowsCause};
 ghost use Rattle.bank_lives.specs.Lives.{IsFoundAgain, Life};
 
 use crate::laws::life_law;

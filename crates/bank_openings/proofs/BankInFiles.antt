@@ -16,7 +16,7 @@ use Rattle.posting_rules.specs.Commands.{Command}
 use Rattle.posting_rules.specs.Counter.{Seen, StandsAt}
 use Rattle.posting_rules.specs.Tables.{Tables}
 use Rattle.store_rows.specs.View.{Shows, ShowsTrees}
-use Rattle.bank_store.specs.Opening.{conn_seen}
+use Rattle.bank_store.specs.Connections.{conn_seen}
 use Rattle.bank_files.specs.Opening.{IsOpenedOn}
 use Rattle.bank_openings.specs.InFile.{HoldsLog, IsFoundIn, BankIsMadeOver, IsNewIn, IsTakenUp}
 

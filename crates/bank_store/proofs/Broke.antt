@@ -8,7 +8,8 @@ use Rattle.posting_rules.specs.declared.fault.Rule.{Rule}
 use Rattle.posting_rules.specs.Tables.{Tables}
 use Rattle.store_rows.specs.declared.fault.TableFault.{TableFault}
 use Rattle.store_rows.specs.declared.fault.TableFault.TheVariants.{Sqlite, Damaged}
-use Rattle.bank_transactions.specs.Doing.{Damage, IsBrokenOrMet, IsFirstBroken, Transacts, TransactsBy}
+use Rattle.bank_transactions.specs.Causes.{Damage, IsBrokenOrMet, IsFirstBroken}
+use Rattle.bank_transactions.specs.Doing.{Transacts, TransactsBy}
 use Rattle.bank_transactions.proofs.Blamed.{comes, met_within, same_moment}
 use Rattle.bank_store.specs.Down.{GoesDown, OfDamage}
 

@@ -14,11 +14,12 @@ use Rattle.store_rows.specs.Creation.{CreatesBank}
 use Rattle.store_rows.specs.Failures.{Committing, HasReason}
 use Rattle.store_rows.specs.declared.fault.TableFault.{TableFault}
 use Rattle.store_rows.specs.declared.fault.TableFault.TheVariants.{Sqlite, Damaged as Broken}
-use Rattle.bank_transactions.specs.Doing.{IsBefore}
+use Rattle.bank_transactions.specs.Causes.{IsBefore}
 use Rattle.bank_transactions.proofs.Blamed.{failed_here, failed_within, same_moment, then_moment}
 use Rattle.store_rows.specs.declared.metas.StoredMeta.{StoredMeta}
-use Rattle.bank_store.specs.Opening.{CallFailed, ChecksMeta, KnowsCause, KnowsWhyUnmade, MakingFailed}
-use Rattle.bank_store.specs.Opening.{of_the_store, unmade_by, unread_by}
+use Rattle.bank_store.specs.MetaRow.{ChecksMeta}
+use Rattle.bank_store.specs.OpenFaults.{of_the_store, unmade_by, unread_by}
+use Rattle.bank_store.specs.StoreFaults.{CallFailed, KnowsCause, KnowsWhyUnmade, MakingFailed}
 use Rattle.bank_store.specs.declared.refused.OpenFault.{OpenFault}
 use Rattle.bank_store.specs.declared.refused.OpenFault.TheVariants.{Store, NotBlank, Blank, Foreign, Version}
 use Rattle.bank_store.specs.declared.refused.OpenFault.TheVariants.{Damaged}

@@ -23,7 +23,8 @@ use Rattle.store_rows.specs.View.{Shows}
 use Rattle.store_rows.specs.declared.fault.TableFault.{TableFault}
 use Rattle.store_rows.specs.declared.fault.TableFault.TheVariants.{Sqlite, Damaged}
 use Rattle.store_rows.specs.Failures.{Committing}
-use Rattle.bank_transactions.specs.Doing.{Damage, HasFailedBetween, MayLeaveAfter, TransactsBy}
+use Rattle.bank_transactions.specs.Causes.{Damage, HasFailedBetween}
+use Rattle.bank_transactions.specs.Doing.{MayLeaveAfter, TransactsBy}
 use Rattle.bank_transactions.proofs.Blamed.{comes, failed_within, same_moment}
 use Rattle.bank_store.specs.Down.{GoesDown, TellsFailure}
 use Rattle.bank_store.specs.NoneOrAll.{LeavesNoneOrAll}

@@ -24,9 +24,11 @@ use Rattle.store_rows.specs.SixTables.{bank_tables}
 use Rattle.store_rows.specs.Statements.{HasOtherValue}
 use Rattle.store_rows.specs.View.{HoldsRows, Shows, contents, meta_entry}
 use Rattle.store_rows.specs.declared.metas.StoredMeta.{StoredMeta}
-use Rattle.bank_store.specs.Opening.{Lacks, IsPresent, IsAsBefore, IsOurs, IsOfVersion, IsNoCount, ChecksMeta}
-use Rattle.bank_store.specs.Opening.{TellsMeta, IsUnread, IsOfOtherType, IsReadOnly, MetaIs, Misses}
-use Rattle.bank_store.specs.Opening.{SeeksBank}
+use Rattle.bank_store.specs.Connections.{IsAsBefore, IsReadOnly}
+use Rattle.bank_store.specs.FoundBank.{MetaIs, Misses, SeeksBank}
+use Rattle.bank_store.specs.MetaRow.{IsOurs, IsOfVersion, IsNoCount, ChecksMeta, TellsMeta, IsOfOtherType}
+use Rattle.bank_store.specs.OpenFaults.{IsUnread}
+use Rattle.bank_store.specs.TablePresence.{Lacks, IsPresent}
 use Rattle.bank_store.specs.declared.presence.Presence.TheVariants.{Absent, Whole}
 use Rattle.bank_store.specs.declared.refused.OpenFault.{OpenFault}
 use Rattle.bank_store.specs.declared.refused.OpenFault.TheVariants.{Store, NotBlank, Blank, Foreign, Version}

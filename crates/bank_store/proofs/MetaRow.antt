@@ -13,7 +13,8 @@ use Rattle.bank_store.specs.declared.refused.OpenFault.{OpenFault}
 use Rattle.bank_store.specs.declared.refused.OpenFault.TheVariants.{Store}
 use Rattle.sqlite.specs.Effect.{Database}
 use Rattle.store_rows.specs.Statements.{TellsOther}
-use Rattle.bank_store.specs.Opening.{unread_by, IsOfOtherType, TellsMeta}
+use Rattle.bank_store.specs.MetaRow.{IsOfOtherType, TellsMeta}
+use Rattle.bank_store.specs.OpenFaults.{unread_by}
 
 by_cause : (c : StoreError) → unread_by (Sqlite (store_error c)) ≡ Store
 by_cause cause.OutOfMemory = refl

@@ -16,8 +16,8 @@ use Rattle.store_rows.specs.Calls.{Probes}
 use Rattle.bank_store.specs.declared.presence.BankTable.{BankTable}
 use Rattle.bank_store.specs.declared.presence.Presence.{Presence}
 use Rattle.bank_store.specs.declared.presence.Presence.TheVariants.{Absent, Partial, Whole}
-use Rattle.bank_store.specs.Opening.{IsReadable, Lacks, OneOf, IsPresent, presence_of, joined, probe_of}
-use Rattle.bank_store.specs.Opening.{IsAsBefore}
+use Rattle.bank_store.specs.Connections.{IsAsBefore}
+use Rattle.bank_store.specs.TablePresence.{IsReadable, Lacks, OneOf, IsPresent, presence_of, joined, probe_of}
 
 -- a table, and the statement that reads all its columns
 abbrev Probe : Type 0

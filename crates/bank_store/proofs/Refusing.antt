@@ -10,7 +10,8 @@ use Rattle.posting_rules.specs.Counter.{Refuses, TellsDamage}
 use Rattle.posting_rules.specs.Tables.{Tables}
 use Rattle.posting_rules.proofs.Calls.{IsChange}
 use Rattle.store_rows.specs.declared.fault.TableFault.{TableFault}
-use Rattle.bank_transactions.specs.Doing.{Damage, IsBrokenOrMet, IsFirstBroken, Transacts, TransactsBy}
+use Rattle.bank_transactions.specs.Causes.{Damage, IsBrokenOrMet, IsFirstBroken}
+use Rattle.bank_transactions.specs.Doing.{Transacts, TransactsBy}
 use Rattle.bank_store.specs.Down.{GoesDown, KeepsCause, OfDamage, TellsFailure}
 use Rattle.bank_store.specs.Seen.{bank_seen, connection_of, database_of, fault_of}
 use Rattle.bank_store.specs.declared.bank.Bank.{Bank}

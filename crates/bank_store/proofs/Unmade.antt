@@ -15,8 +15,9 @@ use Rattle.store_rows.specs.Creation.{CreatesBank, IsEmpty, TablesAreMade, Refus
 use Rattle.store_rows.specs.Probes.{six_probes}
 use Rattle.store_rows.specs.Probes as probe
 use Rattle.store_rows.proofs.EmptyFile.{refused_on_nothing}
-use Rattle.bank_store.specs.Opening.{of_the_store, unmade_by, IsReadable, OneOf, IsPresent, IsRefusedOnTheWay}
-use Rattle.bank_store.specs.Opening.{IsTaken}
+use Rattle.bank_store.specs.NewBank.{IsRefusedOnTheWay, IsTaken}
+use Rattle.bank_store.specs.OpenFaults.{of_the_store, unmade_by}
+use Rattle.bank_store.specs.TablePresence.{IsReadable, OneOf, IsPresent}
 use Rattle.bank_store.specs.declared.presence.Presence.{Presence}
 use Rattle.bank_store.specs.declared.presence.Presence.TheVariants.{Absent, Partial, Whole}
 use Rattle.bank_store.specs.declared.refused.OpenFault.{OpenFault}

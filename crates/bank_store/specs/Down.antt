@@ -12,7 +12,7 @@ use Rattle.posting_rules.specs.declared.fault.Rule.{Rule}
 use Rattle.store_rows.specs.declared.fault.TableFault.{TableFault}
 use Rattle.store_rows.specs.declared.fault.TableFault.TheVariants.{Sqlite, Damaged}
 use Rattle.store_rows.specs.Rules.{IsBroken}
-use Rattle.bank_transactions.specs.Doing.{HasFailedBetween, IsBrokenOrMet}
+use Rattle.bank_transactions.specs.Causes.{HasFailedBetween, IsBrokenOrMet}
 use Rattle.bank_store.specs.Seen.{bank_seen, cause_of, connection_of, database_of}
 use Rattle.bank_store.specs.declared.bank.Bank.{Bank}
 

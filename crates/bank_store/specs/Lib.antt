@@ -1,6 +1,12 @@
 -- A bank in the tables of a SQLite file: what its calls do to the tables, and what a stop leaves.
 pub mod Down
-pub mod Opening
+pub mod Connections
+pub mod TablePresence
+pub mod MetaRow
+pub mod FoundBank
+pub mod NewBank
+pub mod OpenFaults
+pub mod StoreFaults
 pub mod Seen
 pub mod NoneOrAll
 pub mod Walking

@@ -9,17 +9,17 @@ ghost use Rattle.store_rows.specs.Columns.{meta_in};
 ghost use Rattle.sql_meanings.specs.Entries.{Entry};
 ghost use Rattle.store_rows.specs.SixTables.{meta as table};
 ghost use Rattle.store_rows.specs.View.{HoldsRows};
-ghost use Rattle.bank_store.specs.Opening.{conn_seen, state_in, ChecksMeta, KnowsCause, TellsMeta};
-ghost use Rattle.bank_store.specs.Opening.{IsReadOnly, IsUndoneIfOpen, IsUnread, IsOfOtherType, BankIsFound};
-ghost use Rattle.bank_store.specs.Opening.{SeeksBank};
-ghost use Rattle.bank_store.specs.Opening.{Misses, IsAsBefore};
+ghost use Rattle.bank_store.specs.Connections.{conn_seen, state_in, IsAsBefore, IsReadOnly, IsUndoneIfOpen};
+ghost use Rattle.bank_store.specs.FoundBank.{BankIsFound, Misses, SeeksBank};
+ghost use Rattle.bank_store.specs.MetaRow.{ChecksMeta, TellsMeta, IsOfOtherType};
+ghost use Rattle.bank_store.specs.OpenFaults.{IsUnread};
 ghost use Rattle.bank_store.specs.Seen.{alloc_of, bank_seen, connection_of};
+ghost use Rattle.bank_store.specs.StoreFaults.{KnowsCause};
 
 use crate::bank::Bank;
-use crate::laws::settled_law;
 use crate::presence::{Presence, tables_there};
 use crate::refused::{OpenFault, Refused, unread};
-use bank_transactions::begin;
+use bank_transactions::{begin, note_settled};
 use posting_rules::{MAX_DECIDED, Rule};
 use sqlite::{Alter, Connection};
 use std::alloc::Global;
@@ -62,7 +62,7 @@ fn settled_meta<S: Alter>(conn: &mut Connection<S>) -> Result<Option<StoredMeta>
     ensures mode { conn.new.in_transaction ≡ false }
     ensures survives { Survives (state S.Store conn.old) (state S.Store conn.new) (λ _. ⊥) }
 {
-    settled_law(conn);
+    note_settled(conn);
     let meta = stored_meta(conn);
     match probe_meta(conn) {
         Ok(_) => meta,

@@ -57,9 +57,9 @@ pub struct Bank<S: Alter> {
 }
 
 impl<S: Alter> Bank<S> {
-    ghost use Rattle.bank_store.specs.Seen.{bank_seen, cause_of, connection_of};
-    ghost use Rattle.bank_store.specs.Opening.{conn_seen};
+    ghost use Rattle.bank_store.specs.Connections.{conn_seen};
     ghost use Rattle.bank_store.specs.Down.{GoesDown};
+    ghost use Rattle.bank_store.specs.Seen.{bank_seen, cause_of, connection_of};
 
     // The bank over a connection whose tables were made or checked.
     pub(crate) fn over(alloc: Global, conn: Connection<S>) -> Self

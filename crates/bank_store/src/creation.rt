@@ -8,9 +8,12 @@ ghost use Rattle.sql_meanings.specs.Making.{KeepsTables};
 ghost use Rattle.store_rows.specs.Creation.{HasNewBank, IsAlone, IsEmpty};
 ghost use Rattle.store_rows.specs.Probes.{six_probes};
 ghost use Rattle.store_rows.specs.View.{Shows};
-ghost use Rattle.bank_store.specs.Opening.{state_in, IsPresent, IsRefusedOnTheWay, IsTaken, IsUndoneIfOpen};
-ghost use Rattle.bank_store.specs.Opening.{IsUnmade, KnowsWhyUnmade, MakesBank};
+ghost use Rattle.bank_store.specs.Connections.{state_in, IsUndoneIfOpen};
+ghost use Rattle.bank_store.specs.NewBank.{IsRefusedOnTheWay, IsTaken, MakesBank};
+ghost use Rattle.bank_store.specs.OpenFaults.{IsUnmade};
 ghost use Rattle.bank_store.specs.Seen.{alloc_of, bank_seen, connection_of};
+ghost use Rattle.bank_store.specs.StoreFaults.{KnowsWhyUnmade};
+ghost use Rattle.bank_store.specs.TablePresence.{IsPresent};
 ghost use Rattle.bank_store.specs.declared.presence.Presence.TheVariants.{Absent};
 
 use crate::bank::Bank;

@@ -4,10 +4,11 @@ ghost use Rattle.sqlite.specs.State.{HasCleanDisk, Survives};
 ghost use Rattle.sqlite.specs.Held.{state};
 ghost use Rattle.store_rows.specs.Calls.{Probes};
 ghost use Rattle.store_rows.specs.Probes.{six_probes};
-ghost use Rattle.bank_store.specs.Opening.{joined, presence_of, probe_of, KnowsCause, TellsPresence};
+ghost use Rattle.bank_store.specs.StoreFaults.{KnowsCause};
+ghost use Rattle.bank_store.specs.TablePresence.{joined, presence_of, probe_of, TellsPresence};
 
-use crate::laws::settled_law;
 use crate::refused::OpenFault;
+use bank_transactions::note_settled;
 use sqlite::{Alter, Connection, Error};
 use store_rows::{
     probe_accounts, probe_branches, probe_history, probe_meta, probe_requests, probe_tellers,
@@ -82,7 +83,7 @@ fn count_tables<S: Alter>(
     ensures mode { conn.new.in_transaction ≡ false }
     ensures survives { Survives (state S.Store conn.old) (state S.Store conn.new) (λ _. ⊥) }
 {
-    settled_law(conn);
+    note_settled(conn);
     let Ok(is_there) = probe(conn, first) else {
         return Err(OpenFault::Store);
     };

@@ -1,6 +1,6 @@
 //! Why no bank is made or found over a connection.
 ghost use Rattle.std.specs.Prelude.{◌≡◌};
-ghost use Rattle.bank_store.specs.Opening.{of_the_store, unmade_by, unread_by, IsUnmade, IsUnread};
+ghost use Rattle.bank_store.specs.OpenFaults.{of_the_store, unmade_by, unread_by, IsUnmade, IsUnread};
 
 use posting_rules::Rule;
 use sqlite::{Alter, Connection, Error, ErrorCode};
@@ -29,7 +29,7 @@ pub enum OpenFault {
 
 impl fmt::Display for OpenFault {
     ghost use Rattle.std.specs.Prelude.{Some};
-    ghost use Rattle.bank_store.specs.Opening.{open_text};
+    ghost use Rattle.bank_store.specs.OpenFaults.{open_text};
 
     ghost output = { λ fault. Some (open_text fault) };
 

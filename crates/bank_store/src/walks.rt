@@ -14,8 +14,8 @@ ghost use Rattle.bank_walks.specs.Rows.{items_behind, items_from};
 ghost use Rattle.bank_store.specs.Walks.{IsStill, IsUntouchedIfOpen, TellsFault};
 
 use crate::bank::Bank;
-use crate::laws::settled_law;
 use arrayvec::ArrayVec;
+use bank_transactions::note_settled;
 use bank_walks::{
     AHEAD, Joined, StoredAccount, StoredBranch, StoredPosting, StoredRequest, StoredTeller,
     WalkedRow,
@@ -119,7 +119,7 @@ pub(crate) fn read_outside<S: Alter, R: WalkedRow>(
     ensures mode { conn.new.in_transaction ≡ false }
     ensures survives { Survives (state S.Store conn.old) (state S.Store conn.new) (λ _. ⊥) }
 {
-    settled_law(conn);
+    note_settled(conn);
     R::fill(conn, of, from, rows)
 }
 

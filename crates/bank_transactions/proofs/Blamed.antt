@@ -9,8 +9,8 @@ use Rattle.store_rows.specs.Failures.{HasFailed, HasMet, Puts}
 use Rattle.store_rows.specs.declared.fault.TableFault.{TableFault}
 use Rattle.store_rows.specs.declared.fault.TableFault.TheVariants.{Sqlite, Damaged}
 use Rattle.posting_rules.specs.declared.fault.Rule.{Rule}
-use Rattle.bank_transactions.specs.Doing.{IsBefore, HasFailedBetween, HasMetBetween, Damage, IsBrokenOrMet}
-use Rattle.bank_transactions.specs.Doing.{IsFault, Blames}
+use Rattle.bank_transactions.specs.Causes.{IsBefore, HasFailedBetween, HasMetBetween, Damage, IsBrokenOrMet}
+use Rattle.bank_transactions.specs.Causes.{IsFault, Blames}
 
 -- nothing is forgotten by a call
 pub comes : {P : Trees → Type 0} {old new : State} → Survives old new P → IsBefore old new

@@ -10,8 +10,9 @@ use Rattle.posting_rules.specs.declared.fault.Rule.{Rule}
 use Rattle.sql_meanings.proofs.Saying.{says_then}
 use Rattle.store_rows.specs.declared.fault.TableFault.{TableFault}
 use Rattle.store_rows.specs.declared.fault.TableFault.TheVariants.{Sqlite, Damaged}
-use Rattle.bank_transactions.specs.Doing.{Acts, CommitsNothing, Damage, Does, DoesBy, GoesOnUncommitted}
-use Rattle.bank_transactions.specs.Doing.{IsBrokenOrMet, IsFirstBroken, LeavesAndAnswers}
+use Rattle.bank_transactions.specs.Causes.{Damage, IsBrokenOrMet, IsFirstBroken}
+use Rattle.bank_transactions.specs.Doing.{Acts, CommitsNothing, Does, DoesBy, GoesOnUncommitted}
+use Rattle.bank_transactions.specs.Doing.{LeavesAndAnswers}
 use Rattle.bank_transactions.proofs.Blamed.{broken_or_met, comes, met_after}
 
 -- ---- what goes on

@@ -14,7 +14,8 @@ use Rattle.store_rows.specs.Outcomes.{Finds, BreaksBalance}
 use Rattle.store_rows.specs.Rules.{OfRows, row_under}
 use Rattle.store_rows.specs.Stored.{BalanceKeeps, FindsStored, IsBalance}
 use Rattle.store_rows.specs.declared.fault.TableFault.{TableFault}
-use Rattle.bank_transactions.specs.Doing.{IsFault, IsFirstBroken, LooksUp}
+use Rattle.bank_transactions.specs.Causes.{IsFault, IsFirstBroken}
+use Rattle.bank_transactions.specs.Doing.{LooksUp}
 use Rattle.bank_transactions.proofs.Broken.{account_broken, teller_broken}
 use Rattle.bank_transactions.proofs.ReadsInTurn.{find_failed}
 use Rattle.bank_transactions.proofs.SoundRows.{account_unbroken, teller_unbroken}

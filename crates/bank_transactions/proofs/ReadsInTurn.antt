@@ -17,7 +17,8 @@ use Rattle.store_rows.specs.View.{Shows}
 use Rattle.store_rows.specs.declared.fault.TableFault.{TableFault}
 use Rattle.store_rows.specs.declared.fault.TableFault.TheVariants.{Sqlite, Damaged}
 use Rattle.store_rows.specs.Rules.{IsBroken}
-use Rattle.bank_transactions.specs.Doing.{IsBefore, IsFault, IsFirstBroken, LooksUp, Reads, Stays}
+use Rattle.bank_transactions.specs.Causes.{IsBefore, IsFault, IsFirstBroken}
+use Rattle.bank_transactions.specs.Doing.{LooksUp, Reads, Stays}
 use Rattle.bank_transactions.proofs.Blamed.{comes, failed_here, fault_within, same_moment}
 use Rattle.bank_transactions.proofs.Broken.{IsOf}
 use Rattle.bank_transactions.proofs.SoundRows.{err_found}

@@ -20,8 +20,9 @@ use Rattle.store_rows.specs.Outcomes.{PutsOneRow, SetsRow}
 use Rattle.store_rows.specs.View.{Shows}
 use Rattle.store_rows.specs.declared.fault.TableFault.{TableFault}
 use Rattle.store_rows.specs.declared.fault.TableFault.TheVariants.{Sqlite, Damaged}
-use Rattle.bank_transactions.specs.Doing.{Blames, ChangesNothing, CommitsNothing, Does, DoesBy, HasMetBetween}
-use Rattle.bank_transactions.specs.Doing.{IsFirstBroken, LeavesAndAnswers, LooksUp, Reads, expected}
+use Rattle.bank_transactions.specs.Causes.{Blames, HasMetBetween, IsFirstBroken}
+use Rattle.bank_transactions.specs.Doing.{ChangesNothing, CommitsNothing, Does, DoesBy, LeavesAndAnswers}
+use Rattle.bank_transactions.specs.Doing.{LooksUp, Reads, expected}
 use Rattle.bank_transactions.proofs.Blamed.{blames_put, failed_here, met_here}
 
 -- ---- look-ups

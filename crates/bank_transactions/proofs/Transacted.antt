@@ -14,11 +14,10 @@ use Rattle.store_rows.specs.View.{Shows, ShowsTrees}
 use Rattle.store_rows.specs.Failures.{Committing}
 use Rattle.store_rows.specs.declared.fault.TableFault.{TableFault}
 use Rattle.store_rows.specs.declared.fault.TableFault.TheVariants.{Sqlite, Damaged}
-use Rattle.bank_transactions.specs.Doing.{Acts, LeavesAndAnswers, Blames, Completes, Damage, DoesBy, Ends}
-use Rattle.bank_transactions.specs.Doing.{EndsWith}
-use Rattle.bank_transactions.specs.Doing.{CommitsNothing}
-use Rattle.bank_transactions.specs.Doing.{IsBefore, IsFirstBroken, MayLeaveAfter, MayCommit, Reads, Undoes}
-use Rattle.bank_transactions.specs.Doing.{Consults, Transacts, TransactsBy}
+use Rattle.bank_transactions.specs.Causes.{Blames, Damage, IsBefore, IsFirstBroken}
+use Rattle.bank_transactions.specs.Doing.{Acts, LeavesAndAnswers, Completes, DoesBy, Ends, EndsWith}
+use Rattle.bank_transactions.specs.Doing.{CommitsNothing, MayLeaveAfter, MayCommit, Reads, Undoes, Consults}
+use Rattle.bank_transactions.specs.Doing.{Transacts, TransactsBy}
 use Rattle.bank_transactions.proofs.Blamed.{Widens, comes, fault_within, met_within, same_moment, then_moment}
 use Rattle.bank_transactions.proofs.Chained.{does_for}
 use Rattle.bank_transactions.proofs.Statements.{does_read}

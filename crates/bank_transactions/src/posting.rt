@@ -11,7 +11,7 @@ use sqlite::{Alter, Transaction};
 use store_rows::TableFault;
 
 /// Judges a request by what is looked up, and writes what changes.
-pub(crate) fn answer<S: Alter>(
+pub(crate) fn post_inside<S: Alter>(
     tx: &mut Transaction<'_, S>,
     moment: Moment,
     request: &Request,

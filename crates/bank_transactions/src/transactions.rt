@@ -12,15 +12,15 @@ ghost use Rattle.bank_transactions.specs.Doing.{Consults, Ends, Transacts};
 
 use crate::found::open_balance;
 use crate::new_branch::open_inside;
-use crate::posting::answer;
+use crate::posting::post_inside;
 use message_records::{Account, Branch, Cents, Moment, Request};
 use posting_rules::{LAST_BRANCH, MOST_ACCOUNTS, Opening};
 use sqlite::{Alter, Connection, Transaction};
 use store_rows::{TableFault, commit};
 
 /// Makes it known that a connection outside a transaction shows, as long as it is open, what was committed
-/// last. A connection says so of itself only where it is asked whether a transaction goes on, so it is asked,
-/// for that clause alone: the answer is known, and nothing is done.
+/// last, to which a failed statement goes back. A connection says so of itself only where it is asked whether
+/// a transaction goes on, so it is asked, for that clause alone: the answer is known, and nothing is done.
 pub fn note_settled<S: Alter>(conn: &Connection<S>)
     requires { conn.now.in_transaction ≡ false }
     ensures { IsTrue (state S.Store conn.now).is_open → (state S.Store conn.now).now
@@ -81,7 +81,7 @@ pub fn post<S: Alter>(
         (λ tables. reply_bytes tables request.now) result }
 {
     let mut tx = begin(conn);
-    let reply = answer(&mut tx, moment, request);
+    let reply = post_inside(&mut tx, moment, request);
     finish(tx, reply)
 }
 

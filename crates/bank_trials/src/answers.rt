@@ -49,7 +49,7 @@ fn moment_of(text: &str) -> Option<Moment> {
 }
 
 /// Makes the call, and prints what was answered to each thing that it names.
-pub fn answer<C: Counter>(
+pub fn make_call<C: Counter>(
     alloc: Global,
     bank: &mut C,
     call: Call,

@@ -1,5 +1,5 @@
 //! One scenario: where its bank is, and what each line does.
-use crate::answers::{Call, answer};
+use crate::answers::{Call, make_call};
 use crate::mixed::{Run, play_run};
 use crate::stored::Stored;
 use crate::tables::{batch, number, sums};
@@ -99,13 +99,13 @@ impl Scenario {
         let alloc = self.alloc;
         match self.place {
             Place::Memory => {
-                let said = answer(alloc, &mut self.plain, call, list)?;
+                let said = make_call(alloc, &mut self.plain, call, list)?;
                 Ok((stored, said))
             }
             Place::Tables => stored.ask(alloc, call, list, goes_on),
             Place::Both => {
                 let (left, said) = stored.ask(alloc, call, list, goes_on)?;
-                let plain = answer(alloc, &mut self.plain, call, list)?;
+                let plain = make_call(alloc, &mut self.plain, call, list)?;
                 Ok((left, side_by_side(alloc, plain.as_str(), said.as_str())?))
             }
         }

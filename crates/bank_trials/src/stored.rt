@@ -1,5 +1,5 @@
 //! A bank in tables, which a step takes up and the next one gives back.
-use crate::answers::{Call, answer};
+use crate::answers::{Call, make_call};
 use bank_store::{Bank, OpenFault, Refused, adopt, create};
 use sqlite::{Alter, Connection};
 use std::alloc::{AllocError, Global};
@@ -83,7 +83,7 @@ impl<S: Alter + Drop> Stored<S> {
         };
         match taken {
             Ok(mut bank) => {
-                let said = answer(alloc, &mut bank, call, list)?;
+                let said = make_call(alloc, &mut bank, call, list)?;
                 Ok((Stored::Taken(bank), said))
             }
             Err(Refused { fault, conn }) => Ok((Stored::Released(conn), fault.to_string(alloc)?)),

@@ -117,7 +117,7 @@ impl Batch {
             mut overlay,
             mut replies,
         } = self;
-        overlay.answer_all(moment, &reads, &mut replies);
+        overlay.judge_records(moment, &reads, &mut replies);
         Judged { overlay, replies }
     }
 }

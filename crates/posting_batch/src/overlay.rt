@@ -155,8 +155,8 @@ impl Overlay {
         }
     }
 
-    // Answers a record, for which there is room.
-    fn answer(&mut self, moment: Moment, read: &Result<Request, Bad>) -> [u8; 200]
+    // Judges a record, for which there is room, and answers it.
+    fn judge_record(&mut self, moment: Moment, read: &Result<Request, Bad>) -> [u8; 200]
         requires requests { vec_len self.old.requests < vec_capacity self.old.requests }
         requires history { vec_len self.old.history < vec_capacity self.old.history }
         ensures requests { (vec_len self.new.requests ≤ vec_len self.old.requests + 1)
@@ -175,8 +175,8 @@ impl Overlay {
         encode_reply(&reply_to(&found, request, &verdict))
     }
 
-    /// Answers records in order, for which there is room, and puts the replies behind the others.
-    pub(crate) fn answer_all(
+    /// Judges records in order, for which there is room, and puts the replies behind the others.
+    pub(crate) fn judge_records(
         &mut self,
         moment: Moment,
         reads: &[Result<Request, Bad>],
@@ -190,7 +190,7 @@ impl Overlay {
             ++ map reply_spelling (replies_over (view self.old) moment reads.now) }
     {
         for read in reads {
-            let reply = self.answer(moment, read);
+            let reply = self.judge_record(moment, read);
             put(replies, reply);
         }
     }

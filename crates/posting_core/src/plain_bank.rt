@@ -224,7 +224,11 @@ impl PlainBank {
     }
 
     // Submits a record, for which there is room.
-    fn answer(&mut self, moment: Moment, bytes: &[u8; REQUEST_BYTES]) -> [u8; REPLY_BYTES]
+    fn submit_within_capacity(
+        &mut self,
+        moment: Moment,
+        bytes: &[u8; REQUEST_BYTES],
+    ) -> [u8; REPLY_BYTES]
         requires requests { vec_len self.old.requests < vec_capacity self.old.requests }
         requires history { vec_len self.old.history < vec_capacity self.old.history }
         ensures requests { (vec_len self.new.requests ≤ vec_len self.old.requests + 1)
@@ -248,7 +252,7 @@ impl PlainBank {
     }
 
     // Submits records in order, for which there is room, and puts the replies behind the others.
-    fn answer_all(
+    fn submit_all_within_capacity(
         &mut self,
         moment: Moment,
         records: &[[u8; REQUEST_BYTES]],
@@ -265,7 +269,7 @@ impl PlainBank {
             replies.new.items ≡ replies.old.items ++ replies_to log (posts moment records.now) }
     {
         for bytes in records {
-            let reply = self.answer(moment, bytes);
+            let reply = self.submit_within_capacity(moment, bytes);
             put(replies, reply);
         }
     }
@@ -324,7 +328,7 @@ impl Counter for PlainBank {
     ) -> Result<[u8; REPLY_BYTES], Fault> {
         self.history.reserve(1)?;
         self.requests.reserve(1)?;
-        Ok(self.answer(moment, bytes))
+        Ok(self.submit_within_capacity(moment, bytes))
     }
 
     fn submit_all(
@@ -336,7 +340,7 @@ impl Counter for PlainBank {
         replies.reserve(records.len())?;
         self.history.reserve(records.len())?;
         self.requests.reserve(records.len())?;
-        self.answer_all(moment, records, &mut replies);
+        self.submit_all_within_capacity(moment, records, &mut replies);
         Ok(replies)
     }
 

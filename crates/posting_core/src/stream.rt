@@ -66,7 +66,7 @@ fn move_to_front(buffer: &mut [u8; BUFFER], from: usize, to: usize)
 }
 
 // Submits a batch under one reading of the clock, and writes the replies.
-fn answer_batch<W: Sink, K: Clock, C: Counter>(
+fn reply_to_batch<W: Sink, K: Clock, C: Counter>(
     records: &[[u8; REQUEST_BYTES]],
     writer: &mut W,
     clock: &mut K,
@@ -152,7 +152,7 @@ pub fn post_stream<R: Source, W: Sink, K: Clock, C: Counter>(
         if filled >= REQUEST_BYTES {
             let (records, rest) = buffer[..filled].as_chunks::<REQUEST_BYTES>();
             let left = rest.len();
-            answer_batch(records, writer, clock, bank)?;
+            reply_to_batch(records, writer, clock, bank)?;
             count += records.len() as Count;
             move_to_front(&mut buffer, filled - left, filled);
             filled = left;

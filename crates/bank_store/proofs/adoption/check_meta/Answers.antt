@@ -6,7 +6,7 @@ use Rattle.std.proofs.lemmas.Int.{ints}
 use mir.Val.{to_z, of_z}
 use mir.Syntax.{w64}
 use Rattle.store_rows.specs.declared.metas.StoredMeta.{StoredMeta}
-use Rattle.bank_store.specs.Opening.{IsOurs, IsOfVersion, IsNoCount}
+use Rattle.bank_store.specs.MetaRow.{IsOurs, IsOfVersion, IsNoCount}
 use Rattle.bank_store.proofs.adoption.check_meta.Goals.{then-meta-lt0-via-then-meta-lt0}
 use Rattle.bank_store.proofs.adoption.check_meta.Goals.{then-meta-lt0-via-else-meta-lt0+then-meta-gt-MAX_DECIDED}
 use Rattle.posting_rules.specs.declared.limits.TheConstants.{MAX_DECIDED}

@@ -3,7 +3,9 @@ use Rattle.std.proofs.Common.{◌≡◌, Some, Err, Result, rules, arith, sym, �
 use Rattle.sqlite.specs.State.{HasCleanDisk}
 use Rattle.sqlite.specs.Held.{state}
 use Rattle.store_rows.specs.Probes.{six_probes}
-use Rattle.bank_store.specs.Opening.{IsPresent, IsAsBefore, SeeksBank}
+use Rattle.bank_store.specs.Connections.{IsAsBefore}
+use Rattle.bank_store.specs.FoundBank.{SeeksBank}
+use Rattle.bank_store.specs.TablePresence.{IsPresent}
 use Rattle.bank_store.specs.declared.presence.Presence.{Presence}
 use Rattle.bank_store.specs.declared.refused.OpenFault.{OpenFault}
 use Rattle.bank_transactions.proofs.Blamed.{comes, same_moment}

@@ -3,7 +3,7 @@ use Rattle.std.proofs.Common.{rules}
 use Rattle.sqlite.specs.Held.{state}
 use Rattle.store_rows.specs.Probes.{meta}
 use Rattle.bank_transactions.proofs.Blamed.{comes, same_moment}
-use Rattle.bank_store.specs.Opening.{KnowsCause}
+use Rattle.bank_store.specs.StoreFaults.{KnowsCause}
 use Rattle.bank_store.specs.declared.refused.OpenFault.TheVariants.{Store}
 use Rattle.bank_store.proofs.Causes.{known_within, probe_failed, still_clean}
 use Rattle.bank_store.proofs.Unmade.{if_err}

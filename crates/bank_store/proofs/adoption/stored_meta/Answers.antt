@@ -6,9 +6,10 @@ use Rattle.store_rows.specs.Columns.{meta_in}
 use Rattle.store_rows.specs.SixTables.{meta}
 use Rattle.store_rows.specs.View.{HoldsRows}
 use Rattle.bank_store.specs.declared.refused.OpenFault.{OpenFault}
-use Rattle.bank_transactions.specs.Doing.{IsBefore}
+use Rattle.bank_transactions.specs.Causes.{IsBefore}
 use Rattle.bank_transactions.proofs.Blamed.{comes}
-use Rattle.bank_store.specs.Opening.{unread_by, IsOfOtherType, TellsMeta}
+use Rattle.bank_store.specs.MetaRow.{IsOfOtherType, TellsMeta}
+use Rattle.bank_store.specs.OpenFaults.{unread_by}
 use Rattle.bank_store.proofs.Causes.{begun_after, known_within, read_failed, still_clean}
 use Rattle.bank_store.proofs.MetaRow.{other_value, read_err}
 use Rattle.bank_store.proofs.adoption.stored_meta.Goals as goal

@@ -4,7 +4,7 @@ use Rattle.std.proofs.Common.{sym, subst, inl, inr}
 use Rattle.std.specs.Prelude.{IsSome}
 use Rattle.sqlite.specs.State.{HasCleanDisk}
 use Rattle.sqlite.specs.Held.{state}
-use Rattle.bank_store.specs.Opening.{BankIsMade}
+use Rattle.bank_store.specs.NewBank.{BankIsMade}
 use Rattle.bank_store.proofs.FoundBank.{no_bank}
 use Rattle.bank_store.proofs.Unmade.{not_taken}
 use Rattle.bank_store.proofs.NewBank.{stands_empty}

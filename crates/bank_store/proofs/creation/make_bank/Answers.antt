@@ -5,7 +5,10 @@ use Rattle.sqlite.specs.State.{HasCleanDisk}
 use Rattle.sqlite.specs.Held.{state}
 use Rattle.store_rows.specs.Probes.{six_probes}
 use Rattle.bank_transactions.proofs.Blamed.{comes, same_moment}
-use Rattle.bank_store.specs.Opening.{IsPresent, IsAsBefore, IsRefusedOnTheWay, IsTaken, KnowsWhyUnmade}
+use Rattle.bank_store.specs.Connections.{IsAsBefore}
+use Rattle.bank_store.specs.NewBank.{IsRefusedOnTheWay, IsTaken}
+use Rattle.bank_store.specs.StoreFaults.{KnowsWhyUnmade}
+use Rattle.bank_store.specs.TablePresence.{IsPresent}
 use Rattle.bank_store.specs.declared.refused.OpenFault.TheVariants.{NotBlank}
 use Rattle.bank_store.specs.declared.presence.Presence.{Presence}
 use Rattle.bank_store.proofs.Causes.{unmade_as_known, unmade_within}

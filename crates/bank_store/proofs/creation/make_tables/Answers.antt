@@ -2,9 +2,10 @@
 use Rattle.std.proofs.Common.{◌≡◌, true, rules, arith, sym, subst, ap}
 use Rattle.sqlite.specs.State.{HasCleanDisk}
 use Rattle.sqlite.specs.Held.{state}
-use Rattle.bank_transactions.specs.Doing.{IsBefore}
+use Rattle.bank_transactions.specs.Causes.{IsBefore}
 use Rattle.bank_transactions.proofs.Blamed.{comes, same_moment, then_moment}
-use Rattle.bank_store.specs.Opening.{unmade_by, IsRefusedOnTheWay}
+use Rattle.bank_store.specs.NewBank.{IsRefusedOnTheWay}
+use Rattle.bank_store.specs.OpenFaults.{unmade_by}
 use Rattle.bank_store.specs.declared.refused.OpenFault.TheVariants.{Store}
 use Rattle.bank_store.proofs.Causes.{begun_after, commit_failed, making_failed, still_clean, unmade_within}
 use Rattle.bank_store.proofs.Unmade.{refused_because}

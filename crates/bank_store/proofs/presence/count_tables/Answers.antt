@@ -3,7 +3,8 @@ use Rattle.std.proofs.Common.{◌≡◌, length, map, take, rules, arith, sym, s
 use Rattle.std.proofs.Math.Seq.{take-length}
 use Rattle.sqlite.specs.Held.{state}
 use Rattle.bank_transactions.proofs.Blamed.{comes, same_moment}
-use Rattle.bank_store.specs.Opening.{joined, presence_of, probe_of, IsAsBefore, IsPresent}
+use Rattle.bank_store.specs.Connections.{IsAsBefore}
+use Rattle.bank_store.specs.TablePresence.{joined, presence_of, probe_of, IsPresent}
 use Rattle.bank_store.specs.declared.refused.OpenFault.TheVariants.{Store}
 use Rattle.bank_store.proofs.Causes.{known_within, probe_failed, still_clean}
 use Rattle.bank_store.proofs.Probed.{next_probe, one_more, probed}

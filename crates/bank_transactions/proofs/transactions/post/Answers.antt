@@ -5,6 +5,6 @@ use Rattle.bank_transactions.proofs.transactions.post.Goals as goal
 
 pub returns : goal.returns
 returns g c =
-    transacts g.S.Store c.args.conn.now c.begin-tx.result c.answer-reply.new.tx c.finish.new.tx.0 _
+    transacts g.S.Store c.args.conn.now c.begin-tx.result c.post_inside-reply.new.tx c.finish.new.tx.0 _
     c.begin-tx.ensures.begun
-    c.begin-tx.ensures.settled c.answer-reply.ensures c.finish.ensures (search rules)
+    c.begin-tx.ensures.settled c.post_inside-reply.ensures c.finish.ensures (search rules)

@@ -12,7 +12,7 @@ use Rattle.posting_core.proofs.Telling.{made_many, made_none, made_one, other_ki
 use Rattle.posting_core.proofs.Refused.{refused_broken, up_broken}
 use Rattle.posting_core.proofs.Through.{ends_broken, through_batch, through_first}
 use Rattle.posting_core.proofs.stream.post_stream.Goals as goal
-use Rattle.posting_core.proofs.stream.post_stream.Goals.{then-filled-ge-REQUEST_BYTES+in_ok-answer_batch}
+use Rattle.posting_core.proofs.stream.post_stream.Goals.{then-filled-ge-REQUEST_BYTES+in_ok-reply_to_batch}
 use Rattle.posting_core.proofs.stream.post_stream.Goals.{else-filled-ge-REQUEST_BYTES, in-Ok, in-Err}
 
 pub reads-init : goal.reads-init
@@ -111,11 +111,11 @@ returns-in-Ok-eq0-2 g c =
     }
 
 -- a batch broke off
-pub returns-in_err-answer_batch : goal.returns-in_err-answer_batch
-returns-in_err-answer_batch g c =
-    let fault = c.in_err-answer_batch.field-0.0 in
+pub returns-in_err-reply_to_batch : goal.returns-in_err-reply_to_batch
+returns-in_err-reply_to_batch g c =
+    let fault = c.in_err-reply_to_batch.field-0.0 in
     let told = err_from_is_err_and c.from_residual.result c.from_residual.ensures.1 in
-    let a = c.in_err-answer_batch.ensures.answers in
+    let a = c.in_err-reply_to_batch.ensures.answers in
     let long : length c.fill.new.buffer ≡ BUFFER = omega
     (arith, c.fill.auto.buffer, c.reads.invariant.room) in
     let on =
@@ -132,23 +132,23 @@ returns-in_err-answer_batch g c =
     let s =
     end_broken fault a.0 (take c.match-fill.filled c.fill.new.buffer) c.as_chunks.result.1.now
     c.as_chunks.result.0.now on.0 cut
-    (omega (arith, c.as_chunks.ensures.back_len)) a.1 c.in_err-answer_batch.ensures.honest a.2 in
+    (omega (arith, c.as_chunks.ensures.back_len)) a.1 c.in_err-reply_to_batch.ensures.honest a.2 in
     rw (told.1, told.2) (record {
       stream = s;
       output = output_of _ s;
       survives = survives_of _ s;
       resend = resends_of _ s;
-      refused = refused_broken g.C.Counter.seen c.args.bank.now c.reads.bank c.answer_batch.new.bank _ _
+      refused = refused_broken g.C.Counter.seen c.args.bank.now c.reads.bank c.reply_to_batch.new.bank _ _
           fault a.0 _ _ c.as_chunks.result.0.now on.0 cut
           (omega (arith, c.as_chunks.ensures.back_len)) (omega (arith, c.as_chunks.ensures.front_len, len))
           (omega (arith, c.as_chunks.ensures.front_len, len)) c.reads.invariant.first c.reads.invariant.up
-          c.in_err-answer_batch.ensures.honest a.2
-          (λ down. let e = c.in_err-answer_batch.ensures.down down in cc e);
+          c.in_err-reply_to_batch.ensures.honest a.2
+          (λ down. let e = c.in_err-reply_to_batch.ensures.down down in cc e);
       up = up_broken _ _ (g.C.Counter.seen c.args.bank.now) (g.C.Counter.seen c.reads.bank)
-          (g.C.Counter.seen c.answer_batch.new.bank) _ fault a.2 c.in_err-answer_batch.ensures.up
+          (g.C.Counter.seen c.reply_to_batch.new.bank) _ fault a.2 c.in_err-reply_to_batch.ensures.up
           (λ down. (c.reads.invariant.up down).0);
       ends = ends_broken _ _ _ _ _ _ _ _ _ _ fault c.reads.invariant.through a.2
-          (λ e. c.in_err-answer_batch.ensures.unwritten (ap Err e)) c.in_err-answer_batch.ensures.unasked;
+          (λ e. c.in_err-reply_to_batch.ensures.unwritten (ap Err e)) c.in_err-reply_to_batch.ensures.unasked;
     })
 
 pub reads-preserved : goal.reads-preserved
@@ -163,8 +163,8 @@ reads-preserved g c =
       | in-Err w ↦ inr (w.in-Err.ensures.err, w.filled-is)
     ]) in
     elim c.if-filled-ge-REQUEST_BYTES.branch [
-      | then-filled-ge-REQUEST_BYTES+in_ok-answer_batch w ↦
-          let a = w.in_ok-answer_batch.ensures.answers in
+      | then-filled-ge-REQUEST_BYTES+in_ok-reply_to_batch w ↦
+          let a = w.in_ok-reply_to_batch.ensures.answers in
           let rs = w.as_chunks.result.0.now in
           let left = length w.as_chunks.result.1.now in
           let after = w.move_to_front.new.buffer in
@@ -177,11 +177,11 @@ reads-preserved g c =
             room = w.move_to_front.array_long;
             bound = omega (arith, w.as_chunks.ensures.front_len, c.reads.invariant.bound, long);
             first = λ none. absurd (omega (arith, w.as_chunks.ensures.front_len));
-            up = λ down. absurd (w.in_ok-answer_batch.ensures.up down);
+            up = λ down. absurd (w.in_ok-reply_to_batch.ensures.up down);
             made = made_one _ _ c.reads.invariant.made c.fill.ensures.tells refl;
-            through = through_batch c.reads.invariant.through w.in_ok-answer_batch.ensures.flushed;
+            through = through_batch c.reads.invariant.through w.in_ok-reply_to_batch.ensures.flushed;
             going = going_batch a.0 (take c.match-fill.filled c.fill.new.buffer)
-                (take left after) _ rs on.0 cut refl a.1 w.in_ok-answer_batch.ensures.honest a.2;
+                (take left after) _ rs on.0 cut refl a.1 w.in_ok-reply_to_batch.ensures.honest a.2;
           })
       | else-filled-ge-REQUEST_BYTES w ↦
           let low = w.if-filled-ge-REQUEST_BYTES.false in

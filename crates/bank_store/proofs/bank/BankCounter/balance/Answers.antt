@@ -6,7 +6,7 @@ use Rattle.posting_rules.proofs.Looked.{balance_shown}
 use Rattle.posting_rules.proofs.Stepping.{sound_tables}
 use Rattle.bank_store.proofs.Countered.{takes}
 use Rattle.bank_store.proofs.Refusing.{consult_refused, Refusal}
-use Rattle.bank_transactions.specs.Doing.{IsFirstBroken}
+use Rattle.bank_transactions.specs.Causes.{IsFirstBroken}
 use Rattle.bank_store.proofs.bank.BankCounter.balance.Given.{Over}
 use Rattle.bank_store.proofs.bank.BankCounter.balance.Goals as goal
 

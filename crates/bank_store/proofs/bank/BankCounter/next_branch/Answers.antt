@@ -9,7 +9,7 @@ use Rattle.store_rows.specs.Columns.{branch_above}
 use Rattle.bank_store.proofs.Countered.{takes}
 use Rattle.bank_store.proofs.Refusing.{consult_refused, Refusal}
 use Rattle.bank_transactions.proofs.NextRow.{next_is}
-use Rattle.bank_transactions.specs.Doing.{IsFirstBroken}
+use Rattle.bank_transactions.specs.Causes.{IsFirstBroken}
 use Rattle.bank_store.proofs.bank.BankCounter.next_branch.Given.{Over}
 use Rattle.bank_store.proofs.bank.BankCounter.next_branch.Goals as goal
 

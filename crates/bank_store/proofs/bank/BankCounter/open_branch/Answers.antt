@@ -6,7 +6,7 @@ use Rattle.posting_rules.proofs.Calls.{opens, answers}
 use Rattle.posting_rules.proofs.Stepping.{sound_tables}
 use Rattle.bank_store.proofs.Countered.{takes}
 use Rattle.bank_store.proofs.Refusing.{transaction_refused, Refusal}
-use Rattle.bank_transactions.specs.Doing.{IsBrokenOrMet}
+use Rattle.bank_transactions.specs.Causes.{IsBrokenOrMet}
 use Rattle.bank_store.proofs.bank.BankCounter.open_branch.Given.{Over}
 use Rattle.bank_store.proofs.bank.BankCounter.open_branch.Goals as goal
 

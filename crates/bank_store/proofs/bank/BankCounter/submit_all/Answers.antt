@@ -7,7 +7,7 @@ use Rattle.posting_rules.specs.Sound.{AreOfALog}
 use Rattle.posting_rules.proofs.Records.{all_replies, are_posts, posts_all}
 use Rattle.bank_store.proofs.Countered.{HoldsOfLogs, none_or_all, none_or_all_down, takes}
 use Rattle.bank_store.proofs.Refusing.{transaction_refused, Refusal}
-use Rattle.bank_transactions.specs.Doing.{IsBrokenOrMet}
+use Rattle.bank_transactions.specs.Causes.{IsBrokenOrMet}
 use Rattle.bank_store.proofs.bank.BankCounter.submit_all.Given.{Over}
 use Rattle.bank_store.proofs.bank.BankCounter.submit_all.Goals as goal
 

@@ -25,7 +25,7 @@ returns-clause-tables c t records is =
     let reads : List (Result RequestFields Bad) = map request_of records in
     let old = filled t (covering_all no_slots reads) in
     let it = stands t reads in
-    let after = judged m c.answer_all.ensures.overlay (c.deref.ensures.value ∙ is.reads) is.overlay in
+    let after = judged m c.judge_records.ensures.overlay (c.deref.ensures.value ∙ is.reads) is.overlay in
     ap (λ (o : Overlay). tables_over o t) after ∙ all_tables old t m records it.fits it.covers ∙ ap
     (λ (u : Tables). tables_past_all u m records) it.same
 
@@ -35,8 +35,8 @@ returns-clause-replies c t records is =
     let reads : List (Result RequestFields Bad) = map request_of records in
     let old = filled t (covering_all no_slots reads) in
     let it = stands t reads in
-    let told : c.answer_all.new.replies.items ≡ replies_past_all t m records =
-    c.answer_all.ensures.replies
+    let told : c.judge_records.new.replies.items ≡ replies_past_all t m records =
+    c.judge_records.ensures.replies
     ∙ ap (λ (items : List (List ℕ)). items
     ++ map reply_spelling (replies_over (view c.args.self.overlay) m c.deref.result.now)) c.args.self.fresh
     ∙ ap (λ (rs : List (Result RequestFields Bad)). map reply_spelling
@@ -62,20 +62,20 @@ returns-clause-changes c t records is =
     let reads : List (Result RequestFields Bad) = map request_of records in
     let old = filled t (covering_all no_slots reads) in
     let it = stands t reads in
-    let after = judged m c.answer_all.ensures.overlay (c.deref.ensures.value ∙ is.reads) is.overlay in
+    let after = judged m c.judge_records.ensures.overlay (c.deref.ensures.value ∙ is.reads) is.overlay in
     subst (λ (o : Overlay). ChangesRows o t) (sym after)
     (all_changes old t m reads it.fits it.unchanged it.covers)
 
 pub returns-clause-rising : goal.returns-clause-rising
 returns-clause-rising c rising =
-    subst (λ (o : Overlay). HasRisingSlots o) (sym c.answer_all.ensures.overlay)
+    subst (λ (o : Overlay). HasRisingSlots o) (sym c.judge_records.ensures.overlay)
     (all_rising (view c.args.self.overlay) c.args.moment c.deref.result.now rising)
 
 pub returns-clause-count : goal.returns-clause-count
 returns-clause-count c =
     let old = view c.args.self.overlay in
     let reads = c.deref.result.now in
-    ap length c.answer_all.ensures.replies
+    ap length c.judge_records.ensures.replies
     ∙ ap (λ (items : List (List ℕ)). length (items
     ++ map reply_spelling (replies_over old c.args.moment reads))) c.args.self.fresh
     ∙ all_answered old c.args.moment reads ∙ ap length c.deref.ensures.value
@@ -86,7 +86,7 @@ returns-clause-adds c t records is log shows =
     let reads : List (Result RequestFields Bad) = map request_of records in
     let old = filled t (covering_all no_slots reads) in
     let it = stands t reads in
-    let after = judged m c.answer_all.ensures.overlay (c.deref.ensures.value ∙ is.reads) is.overlay in
+    let after = judged m c.judge_records.ensures.overlay (c.deref.ensures.value ∙ is.reads) is.overlay in
     subst (λ (o : Overlay). AddsFreeRows o t) (sym after)
     (all_adds old t log m records it.fits it.unchanged it.covers
     (subst (λ (u : Tables). AreTablesOf u log) (sym it.same) shows))
@@ -95,13 +95,13 @@ pub returns-clause-counts : goal.returns-clause-counts
 returns-clause-counts c =
     let old = view c.args.self.overlay in
     subst (λ (o : Overlay). o.decided + length old.requests ≡ old.decided + length o.requests)
-    (sym c.answer_all.ensures.overlay)
+    (sym c.judge_records.ensures.overlay)
     (all_rows old c.args.moment c.deref.result.now)
 
 pub returns-clause-idle : goal.returns-clause-idle
 returns-clause-idle c none =
     let old = view c.args.self.overlay in
     let reads = c.deref.result.now in
-    let is : view c.answer_all.new.self ≡ overlay_with_all old c.args.moment reads =
-    c.answer_all.ensures.overlay in
+    let is : view c.judge_records.new.self ≡ overlay_with_all old c.args.moment reads =
+    c.judge_records.ensures.overlay in
     is ∙ all_idle old c.args.moment reads (ap (λ (o : Overlay). o.decided) (sym is) ∙ none)

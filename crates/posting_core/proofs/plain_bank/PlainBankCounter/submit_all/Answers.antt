@@ -9,9 +9,10 @@ pub returns-clause-done : goal.returns-clause-done
 returns-clause-done c =
     let same = requests_as_before (plain_tables c.args.self.now) _ _ refl c.reserve-2.ensures.items
     c.reserve-3.ensures.items in
-    takes_plain c.args.self.now c.answer_all.new.self
-    (posts c.args.moment c.args.records.now) c.answer_all.ensures.commands
-    (λ log s. c.answer_all.ensures.shows log (subst (λ (t : Tables). AreTablesOf t log) (sym same) s))
+    takes_plain c.args.self.now c.submit_all_within_capacity.new.self
+    (posts c.args.moment c.args.records.now) c.submit_all_within_capacity.ensures.commands
+    (λ log s. c.submit_all_within_capacity.ensures.shows log
+    (subst (λ (t : Tables). AreTablesOf t log) (sym same) s))
 
 pub returns-in_err-reserve-3-clause-fault : goal.returns-in_err-reserve-3-clause-fault
 returns-in_err-reserve-3-clause-fault c = search rules
@@ -20,7 +21,7 @@ pub returns-clause-replies : goal.returns-clause-replies
 returns-clause-replies c h log s =
     let same = requests_as_before (plain_tables c.args.self.now) _ _ refl c.reserve-2.ensures.items
     c.reserve-3.ensures.items in
-    c.answer_all.ensures.replies log (subst (λ (t : Tables). AreTablesOf t log) (sym same)
+    c.submit_all_within_capacity.ensures.replies log (subst (λ (t : Tables). AreTablesOf t log) (sym same)
     (plain_shows c.args.self.now log s))
     ∙ ap (λ (rs : List (List ℕ)). rs ++ replies_to log (posts c.args.moment c.args.records.now))
     (c.reserve.ensures.items ∙ c.new-replies.ensures.items)

@@ -2,7 +2,7 @@
 use Rattle.std.proofs.Common.{◌≡◌, Err, rules, refl}
 use Rattle.bank_transactions.proofs.Chained.{acts_wrote, does_but, does_for}
 use Rattle.bank_transactions.proofs.Statements.{does_read}
-use Rattle.bank_transactions.proofs.posting.answer.Goals as goal
+use Rattle.bank_transactions.proofs.posting.post_inside.Goals as goal
 
 pub returns-in_err-apply : goal.returns-in_err-apply
 returns-in_err-apply g c =

@@ -3,7 +3,7 @@ use Rattle.std.specs.Vec.{vec_capacity}
 use Rattle.message_records.specs.Spelling.{reply_spelling}
 use Rattle.posting_batch.specs.Judging.{overlay_with_all, replies_over}
 use Rattle.posting_batch.specs.View.{view}
-use Rattle.posting_batch.proofs.overlay.Overlay.answer_all.Given as goal
+use Rattle.posting_batch.proofs.overlay.Overlay.judge_records.Given as goal
 
 -- what is left comes to what all come to, and there is room for it
 abbrev pub invariant-loop-read : goal.invariant-loop-read

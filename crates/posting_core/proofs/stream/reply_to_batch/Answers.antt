@@ -3,7 +3,7 @@ use Rattle.std.proofs.Math.Seq.{take-length}
 use Rattle.std.proofs.lemmas.List.{length-take-le}
 use Rattle.posting_rules.specs.Runs.{posts, replies_to}
 use Rattle.posting_core.specs.Batches.{joined}
-use Rattle.posting_core.proofs.stream.answer_batch.Goals as goal
+use Rattle.posting_core.proofs.stream.reply_to_batch.Goals as goal
 
 pub returns-in-Ok-write_out-clause-answers : goal.returns-in-Ok-write_out-clause-answers
 returns-in-Ok-write_out-clause-answers g c =

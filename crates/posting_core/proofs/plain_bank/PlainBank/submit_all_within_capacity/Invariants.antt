@@ -4,7 +4,7 @@ use Rattle.posting_rules.specs.Commands.{Command, AreCommands}
 use Rattle.posting_rules.specs.Tables.{AreTablesOf}
 use Rattle.posting_core.specs.Plain.{plain_tables}
 use Rattle.posting_rules.specs.Runs.{behind, posts, replies_to}
-use Rattle.posting_core.proofs.plain_bank.PlainBank.answer_all.Given as goal
+use Rattle.posting_core.proofs.plain_bank.PlainBank.submit_all_within_capacity.Given as goal
 
 -- the records so far are behind each log, their replies were put, and there is room for the others
 abbrev pub invariant-loop-bytes : goal.invariant-loop-bytes

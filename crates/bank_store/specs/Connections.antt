@@ -1,0 +1,33 @@
+-- A connection that no bank holds: what it is seen as, and whether it is as it was.
+use Rattle.std.specs.Prelude.{IsTrue, Result, Ok, Err}
+use Rattle.sqlite.specs.State.{State, Shows as StateShows}
+use Rattle.sqlite.specs.Held.{Held, state}
+use Rattle.sqlite_trees.specs.declared.store.Store.{Ghosts}
+use Rattle.posting_rules.specs.Counter.{Seen}
+use Rattle.bank_store.specs.Seen.{seen_in}
+use Rattle.bank_store.specs.declared.bank.Bank.{Bank}
+use Rattle.bank_store.specs.declared.refused.OpenFault.{OpenFault}
+use Rattle.bank_store.specs.declared.refused.OpenFault.TheVariants.{Store}
+use Rattle.bank_store.specs.declared.refused.Refused.{Refused}
+
+-- a connection that no bank holds is never down
+abbrev pub conn_seen : {S : Type 0} (g : Ghosts S) → Held S → Seen
+conn_seen g conn = seen_in (state g conn) ⊥
+
+-- what the connection shows that is given back, in a bank or alone
+abbrev pub state_in : {S : Type 0} (g : Ghosts S) → Result (Bank S g) (Refused S) → State
+state_in g (Ok bank) = state g bank.conn
+state_in g (Err refused) = state g refused.conn
+
+-- the store was open and is, and everything is as it was
+abbrev pub IsAsBefore : State → State → Type 0
+IsAsBefore old new = StateShows old new old.now old.committed old.in_transaction
+
+-- as long as the store is open, everything is as it was
+abbrev pub IsUndoneIfOpen : State → State → Type 0
+IsUndoneIfOpen old new = IsTrue new.is_open → IsAsBefore old new
+
+-- everything is as it was; where the store failed, as long as it is open
+abbrev pub IsReadOnly : {X : Type 0} → State → State → Result X OpenFault → Type 0
+IsReadOnly old new (Err Store) = IsUndoneIfOpen old new
+IsReadOnly old new _ = IsAsBefore old new

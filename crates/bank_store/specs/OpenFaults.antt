@@ -1,0 +1,51 @@
+-- Which fault is answered for which error, as a bank is made or looked for, and the text of each.
+use Rattle.std.specs.Prelude.{◌≡◌, ◌⊎◌, if◌then◌else◌, ℕ, Bool, true, false, List, ◌++◌, codes}
+use Rattle.std.specs.Fmt.{decimal, signed_decimal}
+use Rattle.sqlite.specs.declared.error.Error.{Error}
+use Rattle.sqlite.specs.declared.error.Error.TheVariants.{SqliteFailure}
+use Rattle.sqlite.specs.declared.error.ErrorCode.TheVariants as code
+use Rattle.posting_rules.specs.FaultTexts.{number_of_rule}
+use Rattle.posting_rules.specs.declared.fault.Rule.TheVariants.{Value}
+use Rattle.store_rows.specs.declared.fault.TableFault.{TableFault}
+use Rattle.store_rows.specs.declared.fault.TableFault.TheVariants.{Sqlite, Damaged as Broken}
+use Rattle.bank_store.specs.declared.refused.OpenFault.{OpenFault}
+use Rattle.bank_store.specs.declared.refused.OpenFault.TheVariants.{Store, NotBlank, Blank, Foreign, Version}
+use Rattle.bank_store.specs.declared.refused.OpenFault.TheVariants.{Damaged}
+
+-- the error is the store's own: for memory, the disk, a size or the limit on steps
+abbrev pub of_the_store : Error → Bool
+of_the_store (SqliteFailure code.OutOfMemory) = true
+of_the_store (SqliteFailure code.SystemIoFailure) = true
+of_the_store (SqliteFailure code.DatabaseCorrupt) = true
+of_the_store (SqliteFailure code.DiskFull) = true
+of_the_store (SqliteFailure code.TooBig) = true
+of_the_store (SqliteFailure code.SchemaTooBig) = true
+of_the_store (SqliteFailure code.Closed) = true
+of_the_store (SqliteFailure code.OperationInterrupted) = true
+of_the_store _ = false
+
+-- what an error says that came while the tables were made
+abbrev pub unmade_by : Error → OpenFault
+unmade_by e = if of_the_store e then Store else NotBlank
+
+-- why a bank isn't made
+abbrev pub IsUnmade : OpenFault → Type 0
+IsUnmade fault = (fault ≡ Store) ⊎ (fault ≡ NotBlank)
+
+-- what an error says that came while the row was read
+abbrev pub unread_by : TableFault → OpenFault
+unread_by (Broken rule) = Damaged Value
+unread_by (Sqlite e) = Store
+
+-- why the row isn't known
+abbrev pub IsUnread : OpenFault → Type 0
+IsUnread fault = (fault ≡ Store) ⊎ (fault ≡ Damaged Value)
+
+-- what `{}` writes of a fault
+abbrev pub open_text : OpenFault → List ℕ
+open_text Store = codes "store fault"
+open_text NotBlank = codes "already a bank"
+open_text Blank = codes "no bank"
+open_text Foreign = codes "foreign tables"
+open_text (Version n) = codes "version " ++ signed_decimal n
+open_text (Damaged rule) = codes "damaged rule " ++ decimal (number_of_rule rule)
