@@ -1,4 +1,3 @@
 -- A bank in the tables of a SQLite file: what each transaction does to them.
 pub mod Doing
-pub mod Holders
 pub mod NewRows
