@@ -12,11 +12,11 @@ use Rattle.posting_batch.specs.Overlay.{history_put, requests_put}
 use Rattle.sql_meanings.specs.Calls.{Says, Inside}
 use Rattle.store_rows.specs.Calls.{OfTables}
 use Rattle.store_rows.specs.Failures.{Puts}
+use Rattle.store_rows.specs.Holders.{with_balance}
 use Rattle.store_rows.specs.Outcomes.{PutsOneRow}
 use Rattle.store_rows.specs.declared.fault.TableFault.{TableFault}
+use Rattle.store_rows.specs.declared.holders.Holder.TheVariants.{Account, Teller, Branch}
 use Rattle.bank_transactions.specs.Doing.{Does}
-use Rattle.bank_transactions.specs.Holders.{with_balance}
-use Rattle.bank_transactions.specs.declared.balances.Holder.TheVariants.{Account, Teller, Branch}
 use Rattle.bank_transactions.proofs.Chained.{does_for}
 use Rattle.bank_transactions.proofs.Statements.{does_add}
 use Rattle.posting_rules.specs.Changes.{row_changed, with_branch_balance, with_teller_balance}

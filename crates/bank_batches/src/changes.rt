@@ -6,19 +6,19 @@ ghost use Rattle.posting_batch.specs.Batch.{HasRisingSlots, ChangesRows, AddsFre
 ghost use Rattle.posting_batch.specs.Overlay.{tables_over, accounts_over, tellers_over, branches_over};
 ghost use Rattle.posting_batch.specs.Overlay.{history_put, requests_put};
 ghost use Rattle.posting_batch.specs.View.{view};
+ghost use Rattle.store_rows.specs.Holders.{HasRow, with_balance};
 ghost use Rattle.bank_transactions.specs.Doing.{Does};
-ghost use Rattle.bank_transactions.specs.Holders.{HasRow, with_balance};
 ghost use Rattle.bank_batches.specs.InTurn.{InTurn, accounts_in_turn, tellers_in_turn, branches_in_turn};
 ghost use Rattle.bank_batches.specs.InTurn.{postings_in_turn, requests_in_turn};
 ghost use Rattle.bank_batches.specs.Writing.{MayChangeAccounts, MayChangeTellers, MayChangeBranches};
 ghost use Rattle.bank_batches.specs.Writing.{MayAddPostings, MayAddRequests, by_change};
 
-use bank_transactions::{Holder, write_balance, write_decided};
+use bank_transactions::{write_balance, write_decided};
 use message_records::{Branch, Cents};
 use posting_batch::{AccountSlot, BranchSlot, Overlay, TellerSlot};
 use posting_rules::{HistoryRow, RequestRow};
 use sqlite::{Alter, Transaction};
-use store_rows::{TableFault, add_history, add_request};
+use store_rows::{Holder, TableFault, add_history, add_request};
 
 /// A change of one table: a slot with what it has changed, or a row that is new.
 trait Change {

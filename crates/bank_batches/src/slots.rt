@@ -21,7 +21,7 @@ use posting_batch::{
 };
 use posting_rules::{BranchRow, branch_of_teller};
 use sqlite::{Alter, Transaction};
-use store_rows::{TableFault, account_balance, teller_balance};
+use store_rows::{Member, TableFault, balance_of};
 
 // What a look-up finds.
 type Read<T> = Result<T, TableFault>;
@@ -75,7 +75,7 @@ fn teller_within<S: Alter>(
     ensures { ReadsWhere S.Store tx.old tx.new (HasBranch branch (branch_of_teller teller))
         (λ tables. option_map balance_of_teller (row_at teller_key tables.tellers teller)) result }
 {
-    let balance = teller_balance(tx, teller)?;
+    let balance = balance_of(tx, Member::Teller(teller))?;
     if balance.is_some() != branch.is_some() {
         return teller_beside(tx, teller);
     }
@@ -91,7 +91,7 @@ fn account_within<S: Alter>(
     ensures { ReadsWhere S.Store tx.old tx.new (HasBranch branch (branch_of_account account))
         (λ tables. account_balance_in tables account) result }
 {
-    let balance = account_balance(tx, account)?;
+    let balance = balance_of(tx, Member::Account(account))?;
     let is_open = match branch {
         Some(branch) => place_of_account(account) <= u64::from(branch.accounts),
         None => false,

@@ -17,6 +17,7 @@ use Rattle.std.specs.Ordering.{int_cmp, is_gt}
 use Rattle.sql_meanings.proofs.Changes.{found_all, found_key, found_passes}
 use Rattle.store_rows.specs.Calls.{OfMeta}
 use Rattle.store_rows.specs.Columns.{meta_in}
+use Rattle.store_rows.specs.Holders.{entry_under}
 use Rattle.store_rows.specs.Outcomes.{Finds, Never}
 use Rattle.store_rows.specs.Rules.{HoldsBank, IsBroken, KeepsRule, OfRows, StoredRows, HasDecided}
 use Rattle.store_rows.specs.Rules.{BranchKeeps, TellerKeeps, AccountKeeps, RequestKeeps, row_under}
@@ -25,6 +26,8 @@ use Rattle.store_rows.specs.Stored.{BalanceKeeps, FindsStored, IsBalance, IsBran
 use Rattle.store_rows.specs.View.{HoldsRows}
 use Rattle.store_rows.specs.declared.fault.TableFault.{TableFault}
 use Rattle.store_rows.specs.declared.fault.TableFault.TheVariants.{Sqlite, Damaged}
+use Rattle.store_rows.specs.declared.holders.Member.{Member}
+use Rattle.store_rows.specs.declared.holders.Member.TheVariants as member
 use Rattle.store_rows.specs.declared.metas.StoredMeta.{StoredMeta}
 use Rattle.store_rows.proofs.StoredRows.{holds_list}
 
@@ -45,25 +48,22 @@ branch_keeps Request rows keeps p r found = tt
 branch_keeps Value rows keeps p r found = found_all (BranchKeeps Value) p rows.branches r keeps.0 found
 branch_keeps Key rows keeps p r found = tt
 
-teller_keeps : (rule : Rule) (rows : StoredRows) → KeepsRule rule rows → (p : Entry → Bool) (r : Entry)
-    → find p rows.tellers ≡ Some r → BalanceKeeps rule r
-teller_keeps Meta rows keeps p r found = tt
-teller_keeps Teller rows keeps p r found = tt
-teller_keeps Account rows keeps p r found = tt
-teller_keeps Balance rows keeps p r found = found_all (TellerKeeps Balance) p rows.tellers r keeps.1 found
-teller_keeps Request rows keeps p r found = tt
-teller_keeps Value rows keeps p r found = tt
-teller_keeps Key rows keeps p r found = tt
+balance_keeps : (m : Member) (rows : StoredRows) → KeepsRule Balance rows → (r : Entry)
+    → entry_under m rows ≡ Some r → BalanceKeeps Balance r
+balance_keeps (member.Account n) rows keeps r found =
+    found_all (AccountKeeps Balance) (has_key (pos n)) rows.accounts r keeps.2 found
+balance_keeps (member.Teller n) rows keeps r found =
+    found_all (TellerKeeps Balance) (has_key (pos n)) rows.tellers r keeps.1 found
 
-account_keeps : (rule : Rule) (rows : StoredRows) → KeepsRule rule rows → (p : Entry → Bool) (r : Entry)
-    → find p rows.accounts ≡ Some r → BalanceKeeps rule r
-account_keeps Meta rows keeps p r found = tt
-account_keeps Teller rows keeps p r found = tt
-account_keeps Account rows keeps p r found = tt
-account_keeps Balance rows keeps p r found = found_all (AccountKeeps Balance) p rows.accounts r keeps.2 found
-account_keeps Request rows keeps p r found = tt
-account_keeps Value rows keeps p r found = tt
-account_keeps Key rows keeps p r found = tt
+member_keeps : (m : Member) (rule : Rule) (rows : StoredRows) → KeepsRule rule rows → (r : Entry)
+    → entry_under m rows ≡ Some r → BalanceKeeps rule r
+member_keeps m Meta rows keeps r found = tt
+member_keeps m Teller rows keeps r found = tt
+member_keeps m Account rows keeps r found = tt
+member_keeps m Balance rows keeps r found = balance_keeps m rows keeps r found
+member_keeps m Request rows keeps r found = tt
+member_keeps m Value rows keeps r found = tt
+member_keeps m Key rows keeps r found = tt
 
 request_keeps : (rule : Rule) (rows : StoredRows) → KeepsRule rule rows → (p : Entry → Bool) (r : Entry)
     → find p rows.requests ≡ Some r → RequestKeeps rule r
@@ -100,19 +100,10 @@ next_broken db n =
     find_broken db (λ rows. find (is_above (pos n)) rows.branches) IsBranch BranchKeeps
     (λ rule rows keeps. branch_keeps rule rows keeps (is_above (pos n)))
 
-pub teller_broken : (db : Database) (n : ℕ) (fault : TableFault)
-    → OfRows (λ rows. FindsStored (row_under rows.tellers n) IsBalance BalanceKeeps (Err fault)) db
+pub member_broken : (db : Database) (m : Member) (fault : TableFault)
+    → OfRows (λ rows. FindsStored (entry_under m rows) IsBalance BalanceKeeps (Err fault)) db
     → IsOf db fault
-teller_broken db n =
-    find_broken db (λ rows. row_under rows.tellers n) IsBalance BalanceKeeps
-    (λ rule rows keeps. teller_keeps rule rows keeps (has_key (pos n)))
-
-pub account_broken : (db : Database) (n : ℕ) (fault : TableFault)
-    → OfRows (λ rows. FindsStored (row_under rows.accounts n) IsBalance BalanceKeeps (Err fault)) db
-    → IsOf db fault
-account_broken db n =
-    find_broken db (λ rows. row_under rows.accounts n) IsBalance BalanceKeeps
-    (λ rule rows keeps. account_keeps rule rows keeps (has_key (pos n)))
+member_broken db m = find_broken db (entry_under m) IsBalance BalanceKeeps (member_keeps m)
 
 pub request_broken : (db : Database) (a b : ℕ) (fault : TableFault)
     → OfRows (λ rows. FindsStored (find (has_two (pos a) (pos b)) rows.requests) IsSameRequest RequestKeeps

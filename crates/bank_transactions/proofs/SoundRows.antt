@@ -15,13 +15,16 @@ use Rattle.posting_rules.specs.declared.rows.AccountRow.{AccountRow}
 use Rattle.posting_rules.specs.declared.fault.Rule.{Rule}
 use Rattle.posting_rules.specs.Damage.{IsUndamaged, IsSoundBranch, IsSoundTeller, IsSoundAccount}
 use Rattle.posting_rules.specs.Damage.{IsSoundRequest}
+use Rattle.posting_rules.specs.LookUps.{balance_of_account, balance_of_teller}
 use Rattle.posting_rules.specs.Tables.{Tables, row_at, branch_key, teller_key, account_key}
 use Rattle.posting_rules.proofs.Keyed.{by_test, found_passes}
-use Rattle.store_rows.specs.Columns.{teller_balance_in, teller_balance_of, account_balance_in}
-use Rattle.store_rows.specs.Columns.{account_balance_of, request_in}
+use Rattle.store_rows.specs.Columns.{request_in}
+use Rattle.store_rows.specs.Holders.{balance_in}
 use Rattle.store_rows.specs.Outcomes.{Finds, BreaksBalance, BreaksBranch, BreaksRequest, CanBeKept}
 use Rattle.store_rows.specs.declared.fault.TableFault.{TableFault}
 use Rattle.store_rows.specs.declared.fault.TableFault.TheVariants.{Sqlite, Damaged}
+use Rattle.store_rows.specs.declared.holders.Member.{Member}
+use Rattle.store_rows.specs.declared.holders.Member.TheVariants.{Account, Teller}
 use Rattle.sqlite.specs.State.{State}
 use Rattle.bank_transactions.specs.Doing.{LooksUp}
 use Rattle.message_records.specs.declared.limits.TheConstants.{MAX_ACCOUNT, MAX_BALANCE, MAX_BRANCH}
@@ -135,21 +138,19 @@ teller_some t n sound there = elim (by_option (row_at teller_key t.tellers n)) [
       (teller_sound t n some.0 sound some.1).some
 ]
 
-pub teller_unbroken : (t : Tables) (n : ℕ) (z : ℤ) (broken : Rule) → IsUndamaged t → teller_balance_in t n
-    ≡ Some z → BreaksBalance z broken → ⊥
-teller_unbroken t n z broken sound e =
-    balance_unbroken teller_key teller_balance_of t.tellers n z broken
-    (λ r is. (teller_sound t n r sound is).balance) e
-
 account_sound : (t : Tables) (n : ℕ) (r : AccountRow) → IsUndamaged t → row_at account_key t.accounts n
     ≡ Some r → IsSoundAccount r
 account_sound t n r sound e = sound.each_account r (found_within (λ x. nat_eq x.account n) t.accounts r e)
 
-pub account_unbroken : (t : Tables) (n : ℕ) (z : ℤ) (broken : Rule) → IsUndamaged t → account_balance_in t n
-    ≡ Some z → BreaksBalance z broken → ⊥
-account_unbroken t n z broken sound e =
-    balance_unbroken account_key account_balance_of t.accounts n z broken
+-- an account or a teller with a sound row
+pub member_unbroken : (m : Member) (t : Tables) (z : ℤ) (broken : Rule) → IsUndamaged t
+    → balance_in m t ≡ Some z → BreaksBalance z broken → ⊥
+member_unbroken (Account n) t z broken sound e =
+    balance_unbroken account_key balance_of_account t.accounts n z broken
     (λ r is. (account_sound t n r sound is).balance) e
+member_unbroken (Teller n) t z broken sound e =
+    balance_unbroken teller_key balance_of_teller t.tellers n z broken
+    (λ r is. (teller_sound t n r sound is).balance) e
 
 -- ---- kept requests
 

@@ -1,5 +1,4 @@
 -- A bank in the tables of a SQLite file: what each transaction does to them.
 pub mod Causes
 pub mod Doing
-pub mod Holders
 pub mod NewRows

@@ -2,23 +2,14 @@
 //! its rule is broken.
 ghost use Rattle.std.specs.Prelude.{◌≡◌, ◌≤◌, ⊤};
 ghost use Rattle.posting_rules.specs.Changes.{with_decided};
+ghost use Rattle.store_rows.specs.Failures.{IsUpdateOf};
+ghost use Rattle.store_rows.specs.Holders.{HasRow, holder_update, with_balance};
 ghost use Rattle.bank_transactions.specs.Doing.{Does, expected};
-ghost use Rattle.bank_transactions.specs.Holders.{HasRow, with_balance};
 
-use message_records::{Account, Branch, Cents, Teller};
+use message_records::Cents;
 use posting_rules::{MAX_DECIDED, Rule};
 use sqlite::{Alter, Error, Transaction};
-use store_rows::{
-    TableFault, set_account_balance, set_branch_balance, set_decided, set_teller_balance,
-};
-
-/// Whose balance it is (TPC-B 1.2).
-#[derive(Clone, Copy, Debug, PartialEq, Eq)]
-pub enum Holder {
-    Account(Account),
-    Teller(Teller),
-    Branch(Branch),
-}
+use store_rows::{Holder, TableFault, set_balance, set_decided};
 
 // What the answer of a write comes to.
 fn expect_row(answer: Result<bool, Error>, rule: Rule) -> Result<(), TableFault>
@@ -31,6 +22,16 @@ fn expect_row(answer: Result<bool, Error>, rule: Rule) -> Result<(), TableFault>
     }
 }
 
+// The rule that wants a holder's row: a branch has one where its tellers do.
+fn rule_of(holder: &Holder) -> Rule
+    ensures { IsUpdateOf result (holder_update holder.now) }
+{
+    match holder {
+        Holder::Account(_) => Rule::Account,
+        Holder::Teller(_) | Holder::Branch(_) => Rule::Teller,
+    }
+}
+
 /// Writes a balance.
 pub fn write_balance<S: Alter>(
     tx: &mut Transaction<'_, S>,
@@ -39,17 +40,8 @@ pub fn write_balance<S: Alter>(
 ) -> Result<(), TableFault>
     ensures { Does S.Store tx.old tx.new (HasRow holder) (with_balance holder balance) (λ _. tt) result }
 {
-    match holder {
-        Holder::Account(account) => {
-            expect_row(set_account_balance(tx, account, balance), Rule::Account)
-        }
-        Holder::Teller(teller) => {
-            expect_row(set_teller_balance(tx, teller, balance), Rule::Teller)
-        }
-        Holder::Branch(branch) => {
-            expect_row(set_branch_balance(tx, branch, balance), Rule::Teller)
-        }
-    }
+    let rule = rule_of(&holder);
+    expect_row(set_balance(tx, holder, balance), rule)
 }
 
 /// Writes how many requests are decided.

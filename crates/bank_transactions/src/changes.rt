@@ -9,11 +9,11 @@ ghost use Rattle.posting_rules.specs.Sound.{AreSound};
 ghost use Rattle.posting_rules.specs.Tables.{row_at, history_key, request_key};
 ghost use Rattle.bank_transactions.specs.Doing.{Does};
 
-use crate::balances::{Holder, write_balance, write_decided};
+use crate::balances::{write_balance, write_decided};
 use message_records::{Cents, Moment, Outcome, Request};
 use posting_rules::{Found, HistoryRow, Kept, Ordinal, RequestRow, Verdict};
 use sqlite::{Alter, Transaction};
-use store_rows::{TableFault, add_history, add_request};
+use store_rows::{Holder, TableFault, add_history, add_request};
 
 // Keeps a decided request under its ordinal, and counts it.
 fn keep_request<S: Alter>(

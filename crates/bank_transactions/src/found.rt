@@ -16,9 +16,7 @@ use posting_rules::{
     branch_of_teller,
 };
 use sqlite::{Alter, Transaction};
-use store_rows::{
-    TableFault, account_balance, find_branch, find_request, read_meta, teller_balance,
-};
+use store_rows::{Member, TableFault, balance_of, find_branch, find_request, read_meta};
 
 /// The number of the branch that an account's number gives.
 fn branch_of_account(account: Account) -> u64
@@ -63,7 +61,7 @@ pub fn teller_balances<S: Alter>(
 ) -> Result<Option<(Cents, Cents)>, TableFault>
     ensures { Reads S.Store tx.old tx.new (λ tables. teller_balances_in tables teller) result }
 {
-    let balance = teller_balance(tx, teller)?;
+    let balance = balance_of(tx, Member::Teller(teller))?;
     let branch = branch_at(tx, branch_of_teller(teller))?;
     match (balance, branch) {
         (Some(balance), Some(branch)) => Ok(Some((balance, branch.balance))),
@@ -79,7 +77,7 @@ pub fn open_balance<S: Alter>(
 ) -> Result<Option<Cents>, TableFault>
     ensures { Reads S.Store tx.old tx.new (λ tables. account_balance_in tables account) result }
 {
-    let balance = account_balance(tx, account)?;
+    let balance = balance_of(tx, Member::Account(account))?;
     let branch = branch_at(tx, branch_of_account(account))?;
     let is_open = match branch {
         Some(branch) => place_of_account(account) <= u64::from(branch.accounts),

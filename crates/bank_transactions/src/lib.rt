@@ -40,7 +40,7 @@ mod next_branch;
 mod posting;
 mod transactions;
 
-pub use balances::{Holder, write_balance, write_decided};
+pub use balances::{write_balance, write_decided};
 pub use found::{
     branch_at, decided, kept_request, open_balance, place_of_account, teller_balances,
 };

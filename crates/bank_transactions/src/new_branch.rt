@@ -11,11 +11,10 @@ ghost use Rattle.bank_transactions.specs.NewRows.{with_new, with_new_rows, is_ta
 use crate::found::branch_at;
 use message_records::{Account, Branch, Cents, Teller};
 use posting_rules::{
-    ACCOUNTS_PER_BRANCH, AccountRow, BranchRow, LAST_BRANCH, MOST_ACCOUNTS, Opening,
-    TELLERS_PER_BRANCH, TellerRow,
+    ACCOUNTS_PER_BRANCH, BranchRow, LAST_BRANCH, MOST_ACCOUNTS, Opening, TELLERS_PER_BRANCH,
 };
 use sqlite::{Alter, Transaction};
-use store_rows::{TableFault, add_account, add_branch, add_teller};
+use store_rows::{Member, TableFault, add_branch, add_member};
 
 /// The rows that come with a branch.
 #[derive(Clone, Copy, Debug, PartialEq, Eq)]
@@ -39,11 +38,11 @@ fn add_new<S: Alter>(
     match kind {
         NewRows::Tellers => {
             let teller = Teller::new(number).unwrap();
-            add_teller(tx, TellerRow { teller, balance })
+            add_member(tx, Member::Teller(teller), balance)
         }
         NewRows::Accounts => {
             let account = Account::new(number).unwrap();
-            add_account(tx, AccountRow { account, balance })
+            add_member(tx, Member::Account(account), balance)
         }
     }
 }

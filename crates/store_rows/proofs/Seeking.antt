@@ -2,17 +2,18 @@
 use Rattle.std.proofs.Common.{◌≡◌, ℕ, ℤ, pos, List, [], ◌∷◌, find, slice_get, Some, option_map, refl}
 use Rattle.sqlite.specs.Term.{Term, col, eval_all}
 use Rattle.sqlite.specs.declared.types.Value.TheVariants.{Int}
+use Rattle.posting_rules.specs.LookUps.{balance_of_account, balance_of_teller}
 use Rattle.posting_rules.specs.Tables.{branch_key, row_at}
 use Rattle.sql_meanings.specs.Entries.{Entry, has_two, is_above, stored}
 use Rattle.sql_meanings.specs.Tables.{width_of}
 use Rattle.sql_meanings.proofs.Keyed.{Gets}
 use Rattle.sql_meanings.proofs.Texts.{only_reads}
-use Rattle.store_rows.specs.Columns.{account_balance_in, account_balance_of, balance_shown, branch_above}
-use Rattle.store_rows.specs.Columns.{branch_shown}
-use Rattle.store_rows.specs.Columns.{request_in, teller_balance_in, teller_balance_of}
+use Rattle.store_rows.specs.Columns.{balance_shown, branch_above, branch_shown, request_in}
 use Rattle.store_rows.specs.Forms.{balance_form, branch_form, request_form}
+use Rattle.store_rows.specs.Holders.{balance_in, entry_under}
 use Rattle.store_rows.specs.Rules.{StoredRows, row_under, six_lists}
 use Rattle.store_rows.specs.Stored.{balance_stored, branch_stored}
+use Rattle.store_rows.specs.declared.holders.Member.TheVariants.{Account, Teller}
 use Rattle.store_rows.specs.declared.texts.TheConstants.{GET_ACCOUNT, GET_BRANCH, GET_REQUEST, GET_TELLER}
 use Rattle.store_rows.specs.declared.texts.TheConstants.{NEXT_BRANCH}
 use Rattle.store_rows.proofs.BankTables.{Kind, table_of, tells_row, tells_whole}
@@ -49,17 +50,15 @@ seeks_balance kind value same wide rows_of there text get k = record {
 }
 
 -- of an account
-pub seeks_account : (k : ℕ) → Seeks GET_ACCOUNT.now (Int (pos k) ∷ []) 1 balance_form
-    (λ t. account_balance_in t k)
-    (λ rows. row_under rows.accounts k)
-seeks_account = seeks_balance accounts account_balance_of (λ _ _. refl) refl (λ rows. rows.accounts)
+pub seeks_account : (k : ℕ) → Seeks GET_ACCOUNT.now (Int (pos k) ∷ []) 1 balance_form (balance_in (Account k))
+    (entry_under (Account k))
+seeks_account = seeks_balance accounts balance_of_account (λ _ _. refl) refl (λ rows. rows.accounts)
     (λ _. refl) _ gets.account
 
 -- of a teller
-pub seeks_teller : (k : ℕ) → Seeks GET_TELLER.now (Int (pos k) ∷ []) 1 balance_form
-    (λ t. teller_balance_in t k)
-    (λ rows. row_under rows.tellers k)
-seeks_teller = seeks_balance tellers teller_balance_of (λ _ _. refl) refl (λ rows. rows.tellers) (λ _. refl) _
+pub seeks_teller : (k : ℕ) → Seeks GET_TELLER.now (Int (pos k) ∷ []) 1 balance_form (balance_in (Teller k))
+    (entry_under (Teller k))
+seeks_teller = seeks_balance tellers balance_of_teller (λ _ _. refl) refl (λ rows. rows.tellers) (λ _. refl) _
     gets.teller
 
 -- ---- whole rows

@@ -4,10 +4,8 @@ use Rattle.std.specs.Prelude.{slice_index_or}
 use Rattle.sqlite.specs.Order.{Row}
 use Rattle.sqlite.specs.declared.types.Value.TheVariants.{Int}
 use Rattle.message_records.specs.Outcomes.{code_of}
-use Rattle.posting_rules.specs.Tables.{Tables, row_at, teller_key, account_key}
+use Rattle.posting_rules.specs.Tables.{Tables}
 use Rattle.posting_rules.specs.declared.rows.BranchRow.{BranchRow}
-use Rattle.posting_rules.specs.declared.rows.TellerRow.{TellerRow}
-use Rattle.posting_rules.specs.declared.rows.AccountRow.{AccountRow}
 use Rattle.posting_rules.specs.declared.rows.RequestRow.{RequestRow}
 use Rattle.store_rows.specs.declared.metas.StoredMeta.{StoredMeta}
 use Rattle.store_rows.specs.declared.metas.TheConstants.{META_ID}
@@ -45,22 +43,6 @@ meta_numbers row = record { version = number_at 0 row; decided = number_at 1 row
 -- what the row of the bank holds among the rows of `meta`
 abbrev pub meta_in : List Entry → Option StoredMeta
 meta_in rows = option_map meta_numbers (find (has_key (pos META_ID)) rows)
-
--- a teller's balance
-abbrev pub teller_balance_of : TellerRow → ℤ
-teller_balance_of r = r.balance
-
--- the balance of a teller
-abbrev pub teller_balance_in : Tables → ℕ → Option ℤ
-teller_balance_in t teller = option_map teller_balance_of (row_at teller_key t.tellers teller)
-
--- an account's balance
-abbrev pub account_balance_of : AccountRow → ℤ
-account_balance_of r = r.balance
-
--- the balance of an account
-abbrev pub account_balance_in : Tables → ℕ → Option ℤ
-account_balance_in t account = option_map account_balance_of (row_at account_key t.accounts account)
 
 -- the branch with the least number above one
 abbrev pub branch_above : Tables → ℕ → Option BranchRow

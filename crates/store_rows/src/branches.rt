@@ -2,22 +2,21 @@
 ghost use Rattle.std.specs.Prelude.{find, is_some, pos};
 ghost use Rattle.sql_meanings.specs.Entries.{is_above};
 ghost use Rattle.posting_rules.specs.Tables.{row_at, branch_key};
-ghost use Rattle.posting_rules.specs.Changes.{with_branch, with_branch_balance};
-ghost use Rattle.store_rows.specs.Calls.{AddsRow, LooksUp, SetsNumber};
+ghost use Rattle.posting_rules.specs.Changes.{with_branch};
+ghost use Rattle.store_rows.specs.Calls.{AddsRow, LooksUp};
 ghost use Rattle.store_rows.specs.Columns.{branch_above};
 ghost use Rattle.store_rows.specs.Forms.{branch_form};
 ghost use Rattle.store_rows.specs.Rules.{row_under};
-ghost use Rattle.store_rows.specs.declared.texts.TheConstants.{SET_BRANCH as text};
 ghost use Rattle.store_rows.specs.SixTables.{branch as table};
 
 use crate::columns::{cents_at, count_at, whole_at};
 use crate::fault::TableFault;
 use crate::found::{FromRow, found};
-use crate::statements::{put_in, row_under, write_balance};
-use crate::texts::{ADD_BRANCH, GET_BRANCH, NEXT_BRANCH, SET_BRANCH};
-use message_records::{Branch, Cents};
+use crate::statements::{put_in, row_under};
+use crate::texts::{ADD_BRANCH, GET_BRANCH, NEXT_BRANCH};
+use message_records::Branch;
 use posting_rules::{BranchRow, Rule};
-use sqlite::{Alter, Error, Row, Transaction, params};
+use sqlite::{Alter, Row, Transaction, params};
 
 impl FromRow for BranchRow {
     ghost use Rattle.store_rows.specs.Forms.{branch_form as form};
@@ -53,19 +52,6 @@ pub fn next_branch<S: Alter>(
         (λ rows. find (is_above (pos after)) rows.branches) result }
 {
     found(row_under(tx, NEXT_BRANCH, u64::from(after)))
-}
-
-/// Writes the balance of a branch, and reports whether it has a row.
-pub fn set_branch_balance<S: Alter>(
-    tx: &mut Transaction<'_, S>,
-    branch: Branch,
-    balance: Cents,
-) -> Result<bool, Error>
-    ensures { SetsNumber S.Store tx.old tx.new table text.now
-        (λ tables. is_some (row_at branch_key tables.branches branch))
-        (with_branch_balance branch balance) result }
-{
-    write_balance(tx, SET_BRANCH, branch.get(), balance)
 }
 
 /// Adds a branch. `Damaged(Rule::Key)` is a number that is taken.

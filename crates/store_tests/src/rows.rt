@@ -3,15 +3,15 @@ ghost use Rattle.std.specs.Prelude.{◌≡◌, ◌≤◌};
 
 use crate::sql::{batch, number};
 use message_records::{Account, Branch, Cents, Moment, Number, Outcome, Teller};
-use posting_core::{AccountRow, BranchRow, HistoryRow, Kept, Ordinal, RequestRow, Rule, TellerRow};
+use posting_core::{BranchRow, HistoryRow, Kept, Ordinal, RequestRow, Rule};
 use sqlite::{Alter, Connection, Error, ErrorCode, Transaction};
 use std::process::Abort;
 use std::test::Fail;
 use store_rows::{
-    StoredMeta, TableFault, account_balance, add_account, add_branch, add_history, add_request,
-    add_teller, commit, create, find_branch, find_request, next_branch, probe_accounts,
+    Holder, Member, StoredMeta, TableFault, add_branch, add_history, add_member, add_request,
+    balance_of, commit, create, find_branch, find_request, next_branch, probe_accounts,
     probe_branches, probe_history, probe_meta, probe_requests, probe_tellers, read_meta,
-    set_account_balance, set_branch_balance, set_decided, set_teller_balance, teller_balance,
+    set_balance, set_decided,
 };
 
 fn not_now() -> Error {
@@ -100,20 +100,8 @@ fn open<S: Alter>(tx: &mut Transaction<'_, S>) -> Result<(), TableFault>
     ensures { tx.new.conn.ghost_name ≡ tx.old.conn.ghost_name }
 {
     add_branch(tx, branch_row(0))?;
-    add_teller(
-        tx,
-        TellerRow {
-            teller: teller(),
-            balance: cents(0),
-        },
-    )?;
-    add_account(
-        tx,
-        AccountRow {
-            account: account(),
-            balance: cents(0),
-        },
-    )
+    add_member(tx, Member::Teller(teller()), cents(0))?;
+    add_member(tx, Member::Account(account()), cents(0))
 }
 
 // The rows of a posting.
@@ -138,9 +126,9 @@ fn keep<S: Alter>(tx: &mut Transaction<'_, S>) -> Result<(), TableFault>
 fn write<S: Alter>(tx: &mut Transaction<'_, S>) -> Result<u32, TableFault>
     ensures { tx.new.conn.ghost_name ≡ tx.old.conn.ghost_name }
 {
-    let one = set_account_balance(tx, account(), cents(-500))?;
-    let two = set_teller_balance(tx, teller(), cents(-500))?;
-    let three = set_branch_balance(tx, branch(), cents(-500))?;
+    let one = set_balance(tx, Holder::Account(account()), cents(-500))?;
+    let two = set_balance(tx, Holder::Teller(teller()), cents(-500))?;
+    let three = set_balance(tx, Holder::Branch(branch()), cents(-500))?;
     let four = set_decided(tx, 1)?;
     Ok(counted([one, two, three]) + u32::from(four))
 }
@@ -171,9 +159,9 @@ fn read_balances<S: Alter>(tx: &mut Transaction<'_, S>) -> Result<Balances, Tabl
 {
     Ok(Balances {
         meta: read_meta(tx)?,
-        teller: teller_balance(tx, teller())?,
-        account: account_balance(tx, account())?,
-        no_account: account_balance(tx, Account::new(100_002).unwrap())?,
+        teller: balance_of(tx, Member::Teller(teller()))?,
+        account: balance_of(tx, Member::Account(account()))?,
+        no_account: balance_of(tx, Member::Account(Account::new(100_002).unwrap()))?,
     })
 }
 

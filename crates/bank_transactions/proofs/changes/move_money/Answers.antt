@@ -9,12 +9,12 @@ use Rattle.posting_rules.specs.Changes.{HasRowsOf, tables_moved, with_history}
 use Rattle.posting_rules.specs.Changes.{with_account_balance, with_teller_balance, with_branch_balance}
 use Rattle.posting_rules.specs.Entries.{posted_entry}
 use Rattle.posting_rules.specs.Tables.{Tables, row_at, history_key, history_row_of}
+use Rattle.store_rows.specs.Holders.{HasRow, with_balance}
 use Rattle.store_rows.specs.SixTables.{history}
+use Rattle.store_rows.specs.declared.holders.Holder.{Holder}
+use Rattle.store_rows.specs.declared.holders.Holder.TheVariants.{Account, Teller, Branch}
 use Rattle.store_rows.specs.declared.fault.TableFault.{TableFault}
 use Rattle.bank_transactions.specs.Doing.{Does}
-use Rattle.bank_transactions.specs.Holders.{HasRow, with_balance}
-use Rattle.bank_transactions.specs.declared.balances.Holder.{Holder}
-use Rattle.bank_transactions.specs.declared.balances.Holder.TheVariants.{Account, Teller, Branch}
 use Rattle.bank_transactions.proofs.Chained.{does_then, does_err, does_for}
 use Rattle.bank_transactions.proofs.Statements.{does_add}
 use Rattle.bank_transactions.proofs.changes.move_money.Goals as goal

@@ -1,14 +1,15 @@
 -- What the balance of an account tells.
 use Rattle.std.proofs.Common.{◌≡◌, Err, rules}
-use Rattle.bank_transactions.proofs.FailedBalances.{account_failed}
+use Rattle.store_rows.specs.declared.holders.Member.TheVariants.{Account}
+use Rattle.bank_transactions.proofs.FailedBalances.{balance_failed}
 use Rattle.bank_transactions.proofs.ReadsInTurn.{behind_found}
 use Rattle.bank_transactions.proofs.found.open_balance.Goals as goal
 
 pub returns-in_err-balance : goal.returns-in_err-balance
 returns-in_err-balance g c =
     let same : c.from_residual.result ≡ Err c.in_err-balance.field-0.0 = search rules in
-    rw same (account_failed
-    (λ t sound. sound) c.args.account c.in_err-balance.field-0.0 c.in_err-balance.ensures)
+    rw same (balance_failed
+    (λ t sound. sound) (Account c.args.account) c.in_err-balance.field-0.0 c.in_err-balance.ensures)
 
 pub returns-then-is_some-is_open : goal.returns-then-is_some-is_open
 returns-then-is_some-is_open g c =

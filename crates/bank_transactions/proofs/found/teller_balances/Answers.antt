@@ -6,16 +6,17 @@ use Rattle.sqlite.specs.State.{KeepsCommit}
 use Rattle.posting_rules.specs.declared.fault.Rule.TheVariants.{Teller}
 use Rattle.posting_rules.specs.LookUps.{teller_balances_in}
 use Rattle.store_rows.specs.Rules.{IsBroken}
+use Rattle.store_rows.specs.declared.holders.Member.TheVariants as member
 use Rattle.bank_transactions.specs.Doing.{Stays}
-use Rattle.bank_transactions.proofs.FailedBalances.{teller_failed}
+use Rattle.bank_transactions.proofs.FailedBalances.{balance_failed}
 use Rattle.bank_transactions.proofs.ReadsInTurn.{behind_found}
 use Rattle.bank_transactions.proofs.found.teller_balances.Goals as goal
 
 pub returns-in_err-balance : goal.returns-in_err-balance
 returns-in_err-balance g c =
     let same : c.from_residual.result ≡ Err c.in_err-balance.field-0.0 = search rules in
-    rw same (teller_failed
-    (λ t sound. sound) c.args.teller c.in_err-balance.field-0.0 c.in_err-balance.ensures)
+    rw same (balance_failed
+    (λ t sound. sound) (member.Teller c.args.teller) c.in_err-balance.field-0.0 c.in_err-balance.ensures)
 
 -- neither is there, and nothing has changed
 pub returns-in-None-None : goal.returns-in-None-None

@@ -4,9 +4,9 @@ use Rattle.std.specs.Prelude.{ℤ, IfSome}
 use Rattle.message_records.specs.Ranges.{whole_within}
 use Rattle.message_records.specs.declared.limits.TheConstants.{MAX_BRANCH}
 use Rattle.posting_rules.specs.Tables.{Tables}
+use Rattle.store_rows.specs.Holders.{HasRow, with_balance}
+use Rattle.store_rows.specs.declared.holders.Holder.TheVariants.{Branch}
 use Rattle.bank_transactions.specs.Doing.{Does}
-use Rattle.bank_transactions.specs.Holders.{HasRow, with_balance}
-use Rattle.bank_transactions.specs.declared.balances.Holder.TheVariants.{Branch}
 use Rattle.bank_transactions.proofs.Chained.{does_for, does_none}
 use Rattle.bank_batches.specs.Writing.{by_change}
 use Rattle.bank_batches.proofs.Rows.{branch_made}

@@ -1,9 +1,0 @@
--- What there is under the number.
-use Rattle.store_rows.proofs.Seeking.{seeks_account}
-use Rattle.store_rows.proofs.Telling.{looks_up}
-use Rattle.store_rows.proofs.accounts.account_balance.Goals as goal
-
-pub returns : goal.returns
-returns g c = looks_up g.S.Store _ _ (seeks_account c.args.account) c.row_under.result c.found.result
-    c.found.ensures.reads c.found.ensures.stored
-    (rw c.get.ensures.value at c.row_under.ensures)
