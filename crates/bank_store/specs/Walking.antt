@@ -1,8 +1,10 @@
 -- What a walk has yet to give, and what a step of it gives.
 use Rattle.std.specs.Prelude.{◌≡◌, ◌++◌, ◌≤ℤ◌, ◌+ℤ◌, pos, ℕ, ℤ, Bool, List, [], ◌∷◌, map, drop, filter}
-use Rattle.std.specs.Prelude.{Option, Some, None, Result, Ok, Err, ⊤}
+use Rattle.std.specs.Prelude.{Option, Some, None, Result, Ok, Err, IfOk, IfErr, ⊤}
 use Rattle.std.specs.Borrow.{GName}
+use Rattle.std.specs.Result.{IsErrOf}
 use Rattle.sqlite_trees.specs.declared.store.Store.{Ghosts}
+use Rattle.sqlite.specs.Effect.{Database}
 use Rattle.sqlite.specs.Held.{state}
 use Rattle.sqlite.specs.State.{State}
 use Rattle.sqlite.specs.declared.error.Error.{Error}
@@ -12,8 +14,8 @@ use Rattle.posting_rules.specs.declared.fault.Rule.TheVariants as rule
 use Rattle.sql_meanings.specs.Entries.{Entry}
 use Rattle.sql_meanings.specs.Outcomes.{IsStoreError}
 use Rattle.bank_walks.specs.Rising.{RisesFrom}
-use Rattle.bank_walks.specs.Rows.{entry_key, items_behind}
-use Rattle.bank_store.specs.Seen.{connection_of}
+use Rattle.bank_walks.specs.Rows.{LEAST, entry_key, items_behind}
+use Rattle.bank_store.specs.Seen.{bank_seen, connection_of, database_of}
 use Rattle.bank_store.specs.declared.bank.Bank.{Bank}
 use Rattle.bank_store.specs.declared.walks.Walk.{Walk}
 use Rattle.bank_store.specs.declared.walks.Stage.{Stage}
@@ -74,6 +76,22 @@ IsEnded w = w.stage ≡ Ended
 -- it has ended with a fault
 abbrev pub HasToldFault : {S R : Type 0} {g : Ghosts S} → Walk S R g → Type 0
 HasToldFault w = w.stage ≡ Failed
+
+-- ---- its beginning
+
+-- A walk over such items, all of them or those of an account, begins over a bank that is not down, and borrows
+-- it under this name; no other fault is told.
+pub record BeginsWalk {S R X : Type 0} (g : Ghosts S) (key : X → ℤ) (item : R → X)
+    (is_given : Option ℕ → X → Bool) (HasItems : Database → List X → Type 0) (of : Option ℕ) (name : GName)
+    (old : Bank S g) (result : Result (Walk S R g) Fault) : Type 0 where
+  pub same_reference : IfOk result (λ it. loan_of it ≡ name)
+  pub same : IfOk result (λ it. lent it ≡ old)
+  -- all that are given are to come
+  pub all : IfOk result (λ it. (items : List X) → HasItems (database_of g old) items
+      → items_to_come key item is_given items it ≡ given_of is_given of items)
+  pub rises : IfOk result (λ it. ComesFrom (λ r. key (item r)) LEAST it)
+  pub fault : IfErr result (λ f. (f ≡ told.Down) × (bank_seen g old).is_down)
+  pub down : (bank_seen g old).is_down → IsErrOf result told.Down
 
 -- ---- a step
 

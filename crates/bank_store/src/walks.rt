@@ -6,7 +6,6 @@ ghost use Rattle.std.specs.Result.{IsErrOf};
 ghost use Rattle.sqlite.specs.State.{HasCleanDisk, Survives};
 ghost use Rattle.sqlite.specs.Held.{state};
 ghost use Rattle.posting_rules.specs.declared.fault.Fault.TheVariants as fault;
-ghost use Rattle.sql_meanings.specs.Entries.{Entry};
 ghost use Rattle.sql_meanings.specs.Outcomes.{IsStoreError};
 ghost use Rattle.bank_walks.specs.Outcomes.{BreaksFirst};
 ghost use Rattle.bank_walks.specs.Rising.{RisesFrom};
@@ -259,9 +258,8 @@ impl<'bank, S: Alter, R: WalkedRow> Walk<'bank, S, R> {
 
 ghost use Rattle.std.specs.Prelude.{true, Some};
 ghost use Rattle.bank_store.specs.contracts.bank.Bank.{the_row};
-ghost use Rattle.bank_store.specs.Seen.{bank_seen, database_of};
-ghost use Rattle.bank_store.specs.Walking.{ComesFrom, given_of, items_to_come, lent, loan_of, to_come};
-ghost use Rattle.bank_walks.specs.Pairs.{HasPairs, Pair, pair_key};
+ghost use Rattle.bank_store.specs.Walking.{BeginsWalk, loan_of};
+ghost use Rattle.bank_walks.specs.Pairs.{HasPairs, pair_key};
 ghost use Rattle.bank_walks.specs.Rows.{HasStoredRows, LEAST, entry_key};
 ghost use Rattle.bank_walks.specs.Stored.{account_entry, asked_pair, branch_entry, is_of, posted_pair};
 ghost use Rattle.bank_walks.specs.Stored.{posting_entry, teller_entry};
@@ -276,15 +274,8 @@ fn begin_walk<S: Alter, R: WalkedRow>(
 ) -> Result<Walk<'_, S, R>, Fault>
     ensures* refused { sem 𝓛 (RestsIfErr (the_row S.row S.Store) bank.entry loan_of result
         (λ last. last ≡ bank.old)) }
-    ensures same_reference { IfOk result (λ it. loan_of it ≡ bank.entry.ghost_name) }
-    ensures same { IfOk result (λ it. lent it ≡ bank.old) }
-    ensures all { IfOk result (λ it. (all : List R.WalkedRow.Item)
-        → R.WalkedRow.HasItems (database_of S.Store bank.old) all
-        → items_to_come R.WalkedRow.key R.WalkedRow.item R.WalkedRow.is_given all it
-        ≡ given_of R.WalkedRow.is_given of all) }
-    ensures rises { IfOk result (λ it. ComesFrom (λ r. R.WalkedRow.key (R.WalkedRow.item r)) LEAST it) }
-    ensures fault { IfErr result (λ f. (f ≡ fault.Down) × (bank_seen S.Store bank.old).is_down) }
-    ensures down { (bank_seen S.Store bank.old).is_down → IsErrOf result fault.Down }
+    ensures begins { BeginsWalk S.Store R.WalkedRow.key R.WalkedRow.item R.WalkedRow.is_given
+        R.WalkedRow.HasItems of bank.entry.ghost_name bank.old result }
 {
     if bank.is_down() {
         return Err(Fault::Down);
@@ -300,14 +291,8 @@ fn begin_walk<S: Alter, R: WalkedRow>(
 pub fn each_branch<S: Alter>(bank: &mut Bank<S>) -> Result<Walk<'_, S, StoredBranch>, Fault>
     ensures* refused { sem 𝓛 (RestsIfErr (the_row S.row S.Store) bank.entry loan_of result
         (λ last. last ≡ bank.old)) }
-    ensures same_reference { IfOk result (λ it. loan_of it ≡ bank.entry.ghost_name) }
-    ensures same { IfOk result (λ it. lent it ≡ bank.old) }
-    ensures all { IfOk result (λ it. (rows : List Entry)
-        → HasStoredRows (database_of S.Store bank.old) branch_table rows
-        → to_come branch_entry (λ of e. true) rows it ≡ rows) }
-    ensures rises { IfOk result (λ it. ComesFrom (λ r. entry_key (branch_entry r)) LEAST it) }
-    ensures fault { IfErr result (λ f. (f ≡ fault.Down) × (bank_seen S.Store bank.old).is_down) }
-    ensures down { (bank_seen S.Store bank.old).is_down → IsErrOf result fault.Down }
+    ensures begins { BeginsWalk S.Store entry_key branch_entry (λ of e. true)
+        (λ db rows. HasStoredRows db branch_table rows) None bank.entry.ghost_name bank.old result }
 {
     begin_walk(bank, None)
 }
@@ -320,14 +305,8 @@ pub fn each_branch<S: Alter>(bank: &mut Bank<S>) -> Result<Walk<'_, S, StoredBra
 pub fn each_teller<S: Alter>(bank: &mut Bank<S>) -> Result<Walk<'_, S, StoredTeller>, Fault>
     ensures* refused { sem 𝓛 (RestsIfErr (the_row S.row S.Store) bank.entry loan_of result
         (λ last. last ≡ bank.old)) }
-    ensures same_reference { IfOk result (λ it. loan_of it ≡ bank.entry.ghost_name) }
-    ensures same { IfOk result (λ it. lent it ≡ bank.old) }
-    ensures all { IfOk result (λ it. (rows : List Entry)
-        → HasStoredRows (database_of S.Store bank.old) teller_table rows
-        → to_come teller_entry (λ of e. true) rows it ≡ rows) }
-    ensures rises { IfOk result (λ it. ComesFrom (λ r. entry_key (teller_entry r)) LEAST it) }
-    ensures fault { IfErr result (λ f. (f ≡ fault.Down) × (bank_seen S.Store bank.old).is_down) }
-    ensures down { (bank_seen S.Store bank.old).is_down → IsErrOf result fault.Down }
+    ensures begins { BeginsWalk S.Store entry_key teller_entry (λ of e. true)
+        (λ db rows. HasStoredRows db teller_table rows) None bank.entry.ghost_name bank.old result }
 {
     begin_walk(bank, None)
 }
@@ -340,14 +319,8 @@ pub fn each_teller<S: Alter>(bank: &mut Bank<S>) -> Result<Walk<'_, S, StoredTel
 pub fn each_account<S: Alter>(bank: &mut Bank<S>) -> Result<Walk<'_, S, StoredAccount>, Fault>
     ensures* refused { sem 𝓛 (RestsIfErr (the_row S.row S.Store) bank.entry loan_of result
         (λ last. last ≡ bank.old)) }
-    ensures same_reference { IfOk result (λ it. loan_of it ≡ bank.entry.ghost_name) }
-    ensures same { IfOk result (λ it. lent it ≡ bank.old) }
-    ensures all { IfOk result (λ it. (rows : List Entry)
-        → HasStoredRows (database_of S.Store bank.old) account_table rows
-        → to_come account_entry (λ of e. true) rows it ≡ rows) }
-    ensures rises { IfOk result (λ it. ComesFrom (λ r. entry_key (account_entry r)) LEAST it) }
-    ensures fault { IfErr result (λ f. (f ≡ fault.Down) × (bank_seen S.Store bank.old).is_down) }
-    ensures down { (bank_seen S.Store bank.old).is_down → IsErrOf result fault.Down }
+    ensures begins { BeginsWalk S.Store entry_key account_entry (λ of e. true)
+        (λ db rows. HasStoredRows db account_table rows) None bank.entry.ghost_name bank.old result }
 {
     begin_walk(bank, None)
 }
@@ -364,14 +337,9 @@ pub fn history_of<S: Alter>(
 ) -> Result<Walk<'_, S, StoredPosting>, Fault>
     ensures* refused { sem 𝓛 (RestsIfErr (the_row S.row S.Store) bank.entry loan_of result
         (λ last. last ≡ bank.old)) }
-    ensures same_reference { IfOk result (λ it. loan_of it ≡ bank.entry.ghost_name) }
-    ensures same { IfOk result (λ it. lent it ≡ bank.old) }
-    ensures all { IfOk result (λ it. (rows : List Entry)
-        → HasStoredRows (database_of S.Store bank.old) history_table rows
-        → to_come posting_entry is_of rows it ≡ filter (is_of (Some account)) rows) }
-    ensures rises { IfOk result (λ it. ComesFrom (λ r. entry_key (posting_entry r)) LEAST it) }
-    ensures fault { IfErr result (λ f. (f ≡ fault.Down) × (bank_seen S.Store bank.old).is_down) }
-    ensures down { (bank_seen S.Store bank.old).is_down → IsErrOf result fault.Down }
+    ensures begins { BeginsWalk S.Store entry_key posting_entry is_of
+        (λ db rows. HasStoredRows db history_table rows) (Some account) bank.entry.ghost_name bank.old
+        result }
 {
     begin_walk(bank, Some(account))
 }
@@ -387,14 +355,9 @@ pub fn each_request<S: Alter>(
 ) -> Result<Walk<'_, S, Joined<StoredRequest, StoredPosting>>, Fault>
     ensures* refused { sem 𝓛 (RestsIfErr (the_row S.row S.Store) bank.entry loan_of result
         (λ last. last ≡ bank.old)) }
-    ensures same_reference { IfOk result (λ it. loan_of it ≡ bank.entry.ghost_name) }
-    ensures same { IfOk result (λ it. lent it ≡ bank.old) }
-    ensures all { IfOk result (λ it. (pairs : List Pair)
-        → HasPairs (database_of S.Store bank.old) request_table history_table pairs
-        → items_to_come pair_key asked_pair (λ of p. true) pairs it ≡ pairs) }
-    ensures rises { IfOk result (λ it. ComesFrom (λ j. pair_key (asked_pair j)) LEAST it) }
-    ensures fault { IfErr result (λ f. (f ≡ fault.Down) × (bank_seen S.Store bank.old).is_down) }
-    ensures down { (bank_seen S.Store bank.old).is_down → IsErrOf result fault.Down }
+    ensures begins { BeginsWalk S.Store pair_key asked_pair (λ of p. true)
+        (λ db pairs. HasPairs db request_table history_table pairs) None bank.entry.ghost_name bank.old
+        result }
 {
     begin_walk(bank, None)
 }
@@ -410,14 +373,9 @@ pub fn each_history<S: Alter>(
 ) -> Result<Walk<'_, S, Joined<StoredPosting, StoredRequest>>, Fault>
     ensures* refused { sem 𝓛 (RestsIfErr (the_row S.row S.Store) bank.entry loan_of result
         (λ last. last ≡ bank.old)) }
-    ensures same_reference { IfOk result (λ it. loan_of it ≡ bank.entry.ghost_name) }
-    ensures same { IfOk result (λ it. lent it ≡ bank.old) }
-    ensures all { IfOk result (λ it. (pairs : List Pair)
-        → HasPairs (database_of S.Store bank.old) history_table request_table pairs
-        → items_to_come pair_key posted_pair (λ of p. true) pairs it ≡ pairs) }
-    ensures rises { IfOk result (λ it. ComesFrom (λ j. pair_key (posted_pair j)) LEAST it) }
-    ensures fault { IfErr result (λ f. (f ≡ fault.Down) × (bank_seen S.Store bank.old).is_down) }
-    ensures down { (bank_seen S.Store bank.old).is_down → IsErrOf result fault.Down }
+    ensures begins { BeginsWalk S.Store pair_key posted_pair (λ of p. true)
+        (λ db pairs. HasPairs db history_table request_table pairs) None bank.entry.ghost_name bank.old
+        result }
 {
     begin_walk(bank, None)
 }

@@ -15,13 +15,15 @@ returns g c = (
   search rules,
   record {
     refused = tt;
-    same_reference = c.over.ensures.same_reference;
-    same = c.over.ensures.same;
-    all =
-        λ all has. c.over.ensures.all all has
-        ∙ passed g.R.WalkedRow.is_given g.met.R.WalkedRow.all_given c.args.of all;
-    rises = c.over.ensures.rises;
-    fault = tt;
-    down = λ down. absurd (let tells = c.is_down.ensures in let up = c.if-is_down.false in cc);
+    begins = record {
+      same_reference = c.over.ensures.same_reference;
+      same = c.over.ensures.same;
+      all =
+          λ all has. c.over.ensures.all all has
+          ∙ passed g.R.WalkedRow.is_given g.met.R.WalkedRow.all_given c.args.of all;
+      rises = c.over.ensures.rises;
+      fault = tt;
+      down = λ down. absurd (let tells = c.is_down.ensures in let up = c.if-is_down.false in cc);
+    };
   },
 )
