@@ -5,5 +5,6 @@ pub mod PairKeys
 pub mod Pairs
 pub mod Reading
 pub mod Rising
+pub mod Room
 pub mod Rows
 pub mod Stored

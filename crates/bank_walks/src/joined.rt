@@ -10,6 +10,7 @@ ghost use Rattle.bank_walks.specs.Outcomes.{BreaksFirst};
 ghost use Rattle.bank_walks.specs.Pairs.{AreJoined, BreaksPair, BreaksUnder, HasPairs, ComesBefore, Pair};
 ghost use Rattle.bank_walks.specs.Pairs.{pair_key, pair_of, paired};
 ghost use Rattle.bank_walks.specs.Rising.{RisesFrom};
+ghost use Rattle.bank_walks.specs.Room.{RoomFits};
 ghost use Rattle.bank_walks.specs.Rows.{HasStoredRows, entry_key, items_behind, items_from, rows_behind};
 ghost use Rattle.bank_walks.specs.Rows.{rows_from};
 
@@ -164,8 +165,7 @@ fn join_first<S: Alter, R: StoredRow, O: StoredRow>(
     }
 }
 
-// Fills the room of a walk, with room for the rows of each table. Only of known types is it known how much
-// room that is, so it is handed in.
+// Fills the room of a walk, with room for the rows of each table.
 fn fill_joined<S: Alter, R: StoredRow, O: StoredRow>(
     conn: &mut Connection<S>,
     of: Option<Account>,
@@ -200,59 +200,42 @@ fn fill_joined<S: Alter, R: StoredRow, O: StoredRow>(
     }
 }
 
-impl WalkedRow for Joined<StoredRequest, StoredPosting> {
-    ghost use Rattle.std.specs.Prelude.{true, refl};
-    ghost use Rattle.bank_walks.specs.PairKeys.{pairs_have_keys};
-    ghost use Rattle.bank_walks.specs.Stored.{asked_pair, IsNoAsked};
-    ghost use Rattle.store_rows.specs.SixTables.{history, request};
-
-    ghost Item = { Pair };
-
-    ghost item = { asked_pair };
-
-    ghost key = { pair_key };
-
-    ghost is_broken = { IsNoAsked };
-
-    ghost is_given = { λ of p. true };
-
-    ghost HasItems = { λ db pairs. HasPairs db request history pairs };
-
-    ghost have_keys = { λ db pairs has. pairs_have_keys db request history pairs has };
-
-    ghost all_given = { λ p. refl };
-
-    fn fill<S: Alter>(
-        conn: &mut Connection<S>,
-        _of: Option<Account>,
-        from: i64,
-        rows: &mut ArrayVec<Self, AHEAD>,
-    ) -> Result<Option<i64>, TableFault> {
-        let mut own = ArrayVec::<StoredRequest, AHEAD>::new();
-        let mut beside = ArrayVec::<StoredPosting, AHEAD>::new();
-        fill_joined(conn, None, from, &mut own, &mut beside, rows)
-    }
+/// A row of one table that is read with those of another one.
+pub trait Paired: StoredRow {
+    /// There can be room for as many as are read ahead.
+    ghost has_room: { RoomFits Self.row };
 }
 
-impl WalkedRow for Joined<StoredPosting, StoredRequest> {
+impl Paired for StoredRequest {
+    ghost use Rattle.std.proofs.Common.{lit<};
+
+    ghost has_room = { lit< tt };
+}
+
+impl Paired for StoredPosting {
+    ghost use Rattle.std.proofs.Common.{lit<};
+
+    ghost has_room = { lit< tt };
+}
+
+impl<R: Paired, O: Paired> WalkedRow for Joined<R, O> {
     ghost use Rattle.std.specs.Prelude.{true, refl};
     ghost use Rattle.bank_walks.specs.PairKeys.{pairs_have_keys};
-    ghost use Rattle.bank_walks.specs.Stored.{posted_pair, IsNoPosted};
-    ghost use Rattle.store_rows.specs.SixTables.{history, request};
 
     ghost Item = { Pair };
 
-    ghost item = { posted_pair };
+    ghost item = { pair_of R.StoredRow.kind.entry O.StoredRow.kind.entry };
 
     ghost key = { pair_key };
 
-    ghost is_broken = { IsNoPosted };
+    ghost is_broken = { BreaksPair R.StoredRow.kind.Breaks O.StoredRow.kind.Breaks };
 
     ghost is_given = { λ of p. true };
 
-    ghost HasItems = { λ db pairs. HasPairs db history request pairs };
+    ghost HasItems = { λ db pairs. HasPairs db R.StoredRow.kind.table O.StoredRow.kind.table pairs };
 
-    ghost have_keys = { λ db pairs has. pairs_have_keys db history request pairs has };
+    ghost have_keys = { λ db pairs has.
+        pairs_have_keys db R.StoredRow.kind.table O.StoredRow.kind.table pairs has };
 
     ghost all_given = { λ p. refl };
 
@@ -262,8 +245,8 @@ impl WalkedRow for Joined<StoredPosting, StoredRequest> {
         from: i64,
         rows: &mut ArrayVec<Self, AHEAD>,
     ) -> Result<Option<i64>, TableFault> {
-        let mut own = ArrayVec::<StoredPosting, AHEAD>::new();
-        let mut beside = ArrayVec::<StoredRequest, AHEAD>::new();
+        let mut own = ArrayVec::new();
+        let mut beside = ArrayVec::new();
         fill_joined(conn, None, from, &mut own, &mut beside, rows)
     }
 }

@@ -26,6 +26,7 @@
 //! `specs/Stream`.
 #![tactic(auto)]
 
+mod branches;
 mod clock;
 mod ends;
 mod once;

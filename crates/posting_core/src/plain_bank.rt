@@ -10,7 +10,8 @@ ghost use Rattle.posting_rules.specs.Entries.{DecidedRequest};
 ghost use Rattle.posting_rules.specs.Tables.{request_row_of, history_row_of};
 ghost use Rattle.posting_core.specs.Appended.{rows_from};
 
-use crate::walking::{NewRow, balance_at, count_at, kept_at, next_at, put, set_balance_at};
+use crate::branches::{count_at, next_at};
+use crate::walking::{NewRow, balance_at, kept_at, put, set_balance_at};
 use message_records::{
     Account, Branch, Cents, MAX_ACCOUNT, MAX_MOMENT, MAX_TELLER, Moment, Outcome, REPLY_BYTES,
     REQUEST_BYTES, Reply, Request, Teller, decode_request, encode_reply,

@@ -1,14 +1,13 @@
 //! Rows in vectors, which are found by walking.
-ghost use Rattle.std.specs.Prelude.{◌≡◌, ◌<◌, ◌≤◌, ◌+◌, ◌++◌, ◌∷◌, [], ℕ, ℤ, List, vec_len, vec_capacity};
+ghost use Rattle.std.specs.Prelude.{◌≡◌, ◌<◌, ◌≤◌, ◌+◌, ◌++◌, ◌∷◌, [], ℕ, ℤ, vec_len, vec_capacity};
 ghost use Rattle.std.specs.Option.{option_map};
-ghost use Rattle.posting_rules.specs.declared.rows.BranchRow.{BranchRow};
-ghost use Rattle.posting_rules.specs.Branches.{IsNextIn};
-ghost use Rattle.posting_rules.specs.Tables.{row_at, branch_key};
-ghost use Rattle.posting_rules.specs.LookUps.{kept_in, count_of_branch};
+ghost use Rattle.posting_rules.specs.Tables.{account_key, row_at, teller_key};
+ghost use Rattle.posting_rules.specs.LookUps.{balance_of_account, balance_of_teller, kept_in};
+ghost use Rattle.posting_rules.specs.Steps.{with_account_balance, with_teller_balance};
 ghost use Rattle.posting_rules.specs.Changes.{row_changed};
 
 use message_records::{Cents, Number, Teller};
-use posting_rules::{AccountRow, BranchRow, Kept, RequestRow, TellerRow};
+use posting_rules::{AccountRow, Kept, RequestRow, TellerRow};
 
 /// A row that keeps a balance under a number.
 pub(crate) trait BalanceRow {
@@ -45,35 +44,7 @@ pub(crate) trait NewRow {
         ensures { result ≡ row_of number };
 }
 
-impl BalanceRow for BranchRow {
-    ghost use Rattle.posting_rules.specs.Tables.{branch_key};
-    ghost use Rattle.posting_rules.specs.LookUps.{balance_of_branch};
-    ghost use Rattle.posting_rules.specs.Steps.{with_branch_balance};
-
-    ghost key = { branch_key };
-
-    ghost balance_in = { balance_of_branch };
-
-    ghost with_balance = { with_branch_balance };
-
-    fn number(&self) -> u64 {
-        self.branch.get()
-    }
-
-    fn balance(&self) -> Cents {
-        self.balance
-    }
-
-    fn set_balance(&mut self, balance: Cents) {
-        self.balance = balance;
-    }
-}
-
 impl BalanceRow for TellerRow {
-    ghost use Rattle.posting_rules.specs.Tables.{teller_key};
-    ghost use Rattle.posting_rules.specs.LookUps.{balance_of_teller};
-    ghost use Rattle.posting_rules.specs.Steps.{with_teller_balance};
-
     ghost key = { teller_key };
 
     ghost balance_in = { balance_of_teller };
@@ -94,10 +65,6 @@ impl BalanceRow for TellerRow {
 }
 
 impl BalanceRow for AccountRow {
-    ghost use Rattle.posting_rules.specs.Tables.{account_key};
-    ghost use Rattle.posting_rules.specs.LookUps.{balance_of_account};
-    ghost use Rattle.posting_rules.specs.Steps.{with_account_balance};
-
     ghost key = { account_key };
 
     ghost balance_in = { balance_of_account };
@@ -135,42 +102,6 @@ pub(crate) fn set_balance_at<R: BalanceRow>(rows: &mut [R], number: u64, balance
             row.set_balance(balance);
         }
     }
-}
-
-/// How many accounts a branch is open with.
-pub(crate) fn count_at(rows: &[BranchRow], number: u64) -> Option<u32>
-    ensures { result ≡ option_map count_of_branch (row_at branch_key rows.now number) }
-{
-    rows.iter()
-        .find(|row| row.number() == number)
-        .map(|row| row.accounts)
-}
-
-// The next row above a number, where one more row is looked at.
-fn nearer(next: Option<BranchRow>, row: BranchRow, after: u32) -> Option<BranchRow>
-    ensures { (rows : List BranchRow) → IsNextIn rows after next → IsNextIn (rows ++ row ∷ []) after result }
-{
-    if row.branch.get() <= u64::from(after) {
-        return next;
-    }
-    let Some(found) = &next else {
-        return Some(row);
-    };
-    if row.branch.get() < found.branch.get() {
-        return Some(row);
-    }
-    next
-}
-
-/// The row of the branch with the least number above this one, none where there is no such row.
-pub(crate) fn next_at(rows: &[BranchRow], after: u32) -> Option<BranchRow>
-    ensures { IsNextIn rows.now after result }
-{
-    let mut next = None;
-    for row in rows {
-        next = nearer(next, *row, after);
-    }
-    next
 }
 
 /// The request that is kept under a teller and a number.

@@ -21,7 +21,7 @@ returns-in_err-walk-clause-told g c clean rows has =
     let all = filter (is_of (Some c.args.account)) rows in
     let old = g.W.Sink.contents c.args.writer.now in
     let same : c.from_residual.result ≡ Err (Bank c.in_err-walk.field-0.0) = search rules in
-    let is : c.in_err-walk.field-0.0 ≡ Down = c.in_err-walk.ensures.fault.0 in
+    let is : c.in_err-walk.field-0.0 ≡ Down = c.in_err-walk.ensures.begins.fault.0 in
     rw (same, is) (down_err all old all old _ _ (at_first all all old refl))
 
 pub returns-in_err-row-clause-told : goal.returns-in_err-row-clause-told
@@ -60,7 +60,7 @@ returns-in_err-walk-clause-store g c is clean rows has =
     let same : c.from_residual.result ≡ Err (Bank c.in_err-walk.field-0.0) = search rules in
     let store : c.in_err-walk.field-0.0 ≡ Store =
     bank_fault _ _ (error_is (Bank c.in_err-walk.field-0.0) (Bank Store) (sym same ∙ is)) in
-    absurd (let down : Store ≡ Down = sym store ∙ c.in_err-walk.ensures.fault.0 in cc)
+    absurd (let down : Store ≡ Down = sym store ∙ c.in_err-walk.ensures.begins.fault.0 in cc)
 
 pub returns-in_err-row-clause-store : goal.returns-in_err-row-clause-store
 returns-in_err-row-clause-store g c is clean rows has =

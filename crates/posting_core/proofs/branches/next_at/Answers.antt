@@ -1,6 +1,6 @@
 use Rattle.std.proofs.Common.{◌≡◌, ◌+◌, ◌∷◌, ◌++◌, [], take, ◌∙◌, arith, refl}
 use Rattle.std.proofs.lemmas.List.{take_more}
-use Rattle.posting_core.proofs.walking.next_at.Goals as goal
+use Rattle.posting_core.proofs.branches.next_at.Goals as goal
 
 pub loop-row-preserved : goal.loop-row-preserved
 loop-row-preserved c =
