@@ -9,7 +9,9 @@ pub returns-in_err-balance : goal.returns-in_err-balance
 returns-in_err-balance g c =
     let fault = c.in_err-balance.field-0.0 in
     let same : c.from_residual.result ≡ Err fault = search rules in
-    rw same (record { says = balance_failed (λ t so. so.0) (Account c.args.account) fault c.in_err-balance.ensures })
+    rw same (record {
+      says = balance_failed (λ t so. so.0) (Account c.args.account) fault c.in_err-balance.ensures;
+    })
 
 -- both rows are looked up again
 pub returns-then-is_some-is_open : goal.returns-then-is_some-is_open
