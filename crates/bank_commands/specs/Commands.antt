@@ -1,7 +1,8 @@
 -- What a command did to the bank of its files; r and r' are the known bytes of the input before and after, w
 -- and w' those of the output, k and k' the clock's known readings.
-use Rattle.std.specs.Prelude.{◌≡◌, ◌⊎◌, ℕ, List, Option, Result, Ok, Err}
+use Rattle.std.specs.Prelude.{◌≡◌, ◌⊎◌, ℕ, List, Option, Result, Ok, Err, IsErrAnd}
 use Rattle.std.specs.Io.KnownBytes.{Keeps}
+use Rattle.sqlite.specs.State.{State}
 use Rattle.sqlite_wal.specs.Recovery.{Image}
 use Rattle.posting_rules.specs.Counter.{Seen}
 use Rattle.posting_core.specs.Stream.{Streamed, OutputsReplies, SurvivesStream, Resends}
@@ -10,12 +11,18 @@ use Rattle.bank_endings.specs.Faults.{fault_of_stream}
 use Rattle.bank_endings.specs.Looking.{IsOfOpening}
 use Rattle.bank_endings.specs.declared.fault.CommandFault.{CommandFault}
 use Rattle.bank_endings.specs.declared.status.Status.{Status}
-use Rattle.bank_openings.specs.InFile.{IsNewIn, WorksIn}
+use Rattle.bank_openings.specs.InFile.{IsFoundIn, IsNewIn, WorksIn}
+use Rattle.bank_openings.specs.Unfound.{IsUnfoundIn}
 use Rattle.bank_work.specs.Working.{DrivesOver, EndsInFault, LoadsOver, ServesOver}
 
 -- a new bank was made there
 abbrev pub MakesIn : {C : Type 0} → (C → Seen) → Image → Type 0
 MakesIn {C} seen image = (made : C) × IsNewIn image (seen made)
+
+-- no bank was found in the files, and the fault says why; or one was
+abbrev pub FindsBank : {C H X : Type 0} → (C → Seen) → (H → State) → Image → Result X CommandFault → Type 0
+FindsBank {C} seen state image result =
+    IsErrAnd result (IsUnfoundIn state image) ⊎ ((found : C) × IsFoundIn image (seen found))
 
 -- no bank was found in the files, and Unfound holds; or P holds of the bank that was, as it was found and as
 -- it was left

@@ -1,13 +1,15 @@
 //! The commands that make a bank in a file, and that open branches of it and post to it.
 ghost use Rattle.std.specs.Prelude.{◌≡◌, ◌≢◌, ◌⊎◌, ◌≤◌, IfErr, IfOk, IsErrAnd, OnOk};
 ghost use Rattle.std.specs.Io.KnownBytes.{Appends, IsAtEnd, Keeps};
+ghost use Rattle.sqlite.specs.Held.{state};
 ghost use Rattle.sqlite_wal.specs.Files.{image_at};
 ghost use Rattle.bank_store.specs.Seen.{bank_seen};
 ghost use Rattle.bank_endings.specs.Faults.{IsOfFile};
 ghost use Rattle.bank_endings.specs.Lines.{created_line, loaded_line};
 ghost use Rattle.bank_endings.specs.Looking.{IsOfOpening};
 ghost use Rattle.bank_work.specs.Working.{TellsDriven, done_after, ended_by_load};
-ghost use Rattle.bank_commands.specs.Commands.{DrivesIn, LoadsIn, MakesIn, PostsIn, said_of};
+ghost use Rattle.bank_openings.specs.Unfound.{IsUnmadeIn};
+ghost use Rattle.bank_commands.specs.Commands.{DrivesIn, FindsBank, LoadsIn, MakesIn, PostsIn, said_of};
 
 use bank_driver::MAX_DRIVEN;
 use bank_endings::{CommandFault, print_created};
@@ -31,6 +33,8 @@ pub fn init<S: Start, W: Write>(
     ensures unprinted { IfErr result (λ fault. fault ≡ CommandFault.Write
         → MakesIn (bank_seen ⟦<FileStore<FileFrom<S>> as Store>⟧) (image_at S.Start)) }
     ensures fault { IfErr result (λ fault. (fault ≡ CommandFault.Write) ⊎ IsOfOpening fault) }
+    ensures unmade { IfErr result (λ fault. (fault ≡ CommandFault.Write)
+        ⊎ IsUnmadeIn (state ⟦<FileStore<FileFrom<S>> as Store>⟧) (image_at S.Start) fault) }
     ensures silent { IfErr result
         (λ fault. fault ≢ CommandFault.Write → Keeps (W.contents output.old) (W.contents output.new)) }
 {
@@ -47,6 +51,8 @@ pub fn load_plan<S: Start, W: Write>(
     plan: &str,
     output: &mut W,
 ) -> Result<Loaded, CommandFault>
+    ensures finds { FindsBank (bank_seen ⟦<FileStore<FileFrom<S>> as Store>⟧)
+        (state ⟦<FileStore<FileFrom<S>> as Store>⟧) (image_at S.Start) result }
     ensures loads { LoadsIn (bank_seen ⟦<FileStore<FileFrom<S>> as Store>⟧) (image_at S.Start)
         (W.contents output.old) (W.contents output.new) (λ end. ended_by_load result ≡ end) }
     ensures line { IfOk result
@@ -69,6 +75,8 @@ pub fn post<S: Start, R: Read, W: Write, K: Clock>(
     output: &mut W,
     clock: &mut K,
 ) -> Result<Count, CommandFault>
+    ensures finds { FindsBank (bank_seen ⟦<FileStore<FileFrom<S>> as Store>⟧)
+        (state ⟦<FileStore<FileFrom<S>> as Store>⟧) (image_at S.Start) result }
     ensures posts { PostsIn (bank_seen ⟦<FileStore<FileFrom<S>> as Store>⟧) (image_at S.Start)
         (R.remaining input.old) (R.remaining input.new) (W.contents output.old) (W.contents output.new)
         (K.readings clock.old) (K.readings clock.new) (IsErrAnd result IsOfOpening)
@@ -97,6 +105,8 @@ pub fn drive<S: Start, W: Write, K: Clock>(
 ) -> Result<(), CommandFault>
     requires some { 1 ≤ count }
     requires few { count ≤ MAX_DRIVEN }
+    ensures finds { FindsBank (bank_seen ⟦<FileStore<FileFrom<S>> as Store>⟧)
+        (state ⟦<FileStore<FileFrom<S>> as Store>⟧) (image_at S.Start) result }
     ensures drives { DrivesIn (bank_seen ⟦<FileStore<FileFrom<S>> as Store>⟧) (image_at S.Start)
         (K.readings clock.old) (K.readings clock.new)
         (W.contents output.old) (W.contents output.new) seed count (λ end. done_after result ≡ end) }

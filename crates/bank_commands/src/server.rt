@@ -1,9 +1,10 @@
 //! The command that serves the counter over HTTP.
 ghost use Rattle.std.specs.Prelude.{◌≡◌, ◌≢◌, IfErr, OnOk};
+ghost use Rattle.sqlite.specs.Held.{state};
 ghost use Rattle.sqlite_wal.specs.Files.{image_at};
 ghost use Rattle.bank_store.specs.Seen.{bank_seen};
 ghost use Rattle.bank_work.specs.Working.{MayTellListening, TellsListening, done_after};
-ghost use Rattle.bank_commands.specs.Commands.{ServesIn};
+ghost use Rattle.bank_commands.specs.Commands.{FindsBank, ServesIn};
 
 use bank_endings::CommandFault;
 use bank_openings::{close, find_bank};
@@ -24,6 +25,8 @@ pub fn serve<S: Start, W: Write, K: Clock>(
     output: &mut W,
     clock: &mut K,
 ) -> Result<(), CommandFault>
+    ensures finds { FindsBank (bank_seen ⟦<FileStore<FileFrom<S>> as Store>⟧)
+        (state ⟦<FileStore<FileFrom<S>> as Store>⟧) (image_at S.Start) result }
     ensures serves { ServesIn (bank_seen ⟦<FileStore<FileFrom<S>> as Store>⟧) (image_at S.Start)
         (K.readings clock.old) (K.readings clock.new) connections (λ end. done_after result ≡ end) }
     ensures line { OnOk result (TellsListening (W.contents output.old) (W.contents output.new)) }

@@ -1,9 +1,11 @@
 //! The command that writes the statement of an account.
 ghost use Rattle.std.specs.Prelude.{◌≡◌, IsErrAnd};
+ghost use Rattle.sqlite.specs.Held.{state};
 ghost use Rattle.sqlite_wal.specs.Files.{image_at};
 ghost use Rattle.bank_store.specs.Seen.{bank_seen};
 ghost use Rattle.bank_endings.specs.Looking.{IsOfOpening};
 ghost use Rattle.bank_commands.specs.Stating.{StatesIn, said_of_statement};
+ghost use Rattle.bank_commands.specs.Commands.{FindsBank};
 
 use bank_audits::{ReportFault, write_statement};
 use bank_endings::CommandFault;
@@ -21,7 +23,9 @@ pub fn statement<S: Start, W: Write>(
     account: Account,
     output: &mut W,
 ) -> Result<(), CommandFault>
-    ensures { StatesIn (bank_seen ⟦<FileStore<FileFrom<S>> as Store>⟧) (image_at S.Start) account
+    ensures finds { FindsBank (bank_seen ⟦<FileStore<FileFrom<S>> as Store>⟧)
+        (state ⟦<FileStore<FileFrom<S>> as Store>⟧) (image_at S.Start) result }
+    ensures states { StatesIn (bank_seen ⟦<FileStore<FileFrom<S>> as Store>⟧) (image_at S.Start) account
         (W.contents output.old) (W.contents output.new) (IsErrAnd result IsOfOpening)
         (λ told. result ≡ said_of_statement account told) }
 {

@@ -1,1 +1,2 @@
 pub mod BankInFiles
+pub mod Refusals

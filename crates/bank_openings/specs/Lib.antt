@@ -1,1 +1,2 @@
 pub mod InFile
+pub mod Unfound

@@ -12,6 +12,7 @@ ghost use Rattle.bank_store.specs.Seen.{bank_seen};
 ghost use Rattle.bank_endings.specs.Faults.{fault_of_opening};
 ghost use Rattle.bank_files.specs.Opening.{IsOpenedOn};
 ghost use Rattle.bank_openings.specs.InFile.{HoldsLog, IsFoundIn, BankIsMadeOver, IsNewIn, IsTakenUp};
+ghost use Rattle.bank_openings.specs.Unfound.{IsMissedOver, IsUnfoundIn, IsUnmadeIn, IsUnmadeOver};
 ghost use Rattle.bank_endings.specs.Looking.{IsOfLook, IsOfOpening};
 
 use bank_endings::CommandFault;
@@ -20,6 +21,7 @@ use bank_lives::opened_law;
 use bank_store::{Bank, Refused, adopt, create};
 use sqlite::{Alter, Connection, FileFrom, FileStore, Files, Start};
 use sqlite_disk::Disk;
+use sqlite_trees::store::Store;
 use std::alloc::Global;
 use std::fs::{self, Metadata};
 use std::rt::Files as FileSystem;
@@ -37,6 +39,8 @@ pub fn make_bank<S: Start>(
 ) -> Result<Bank<FileStore<FileFrom<S>>>, CommandFault>
     ensures made { IfOk result (λ bank. IsNewIn (image_at S.Start) (bank_seen over_files bank)) }
     ensures fault { IfErr result IsOfOpening }
+    ensures unmade { IfErr result
+        (IsUnmadeIn (state ⟦<FileStore<FileFrom<S>> as Store>⟧) (image_at S.Start)) }
 {
     let conn = connect(rt, start, file)?;
     create_over(rt.alloc(), conn)
@@ -50,6 +54,8 @@ pub fn find_bank<S: Start>(
 ) -> Result<Bank<FileStore<FileFrom<S>>>, CommandFault>
     ensures found { IfOk result (λ bank. IsFoundIn (image_at S.Start) (bank_seen over_files bank)) }
     ensures fault { IfErr result IsOfOpening }
+    ensures unfound { IfErr result
+        (IsUnfoundIn (state ⟦<FileStore<FileFrom<S>> as Store>⟧) (image_at S.Start)) }
 {
     look_for(rt, file)?;
     let conn = connect(rt, start, file)?;
@@ -61,6 +67,7 @@ fn create_over<S: Alter + Drop>(alloc: Global, conn: Connection<S>) -> Result<Ba
     requires { conn.in_transaction ≡ false }
     ensures made { IfOk result (λ bank. BankIsMadeOver (state S.Store conn) (bank_seen S.Store bank)) }
     ensures fault { IfErr result IsOfOpening }
+    ensures unmade { IfErr result (IsUnmadeOver (state S.Store) conn) }
 {
     trees_show_law(&conn);
     match create(alloc, conn) {
@@ -74,6 +81,7 @@ fn take_up<S: Alter + Drop>(alloc: Global, conn: Connection<S>) -> Result<Bank<S
     requires { conn.in_transaction ≡ false }
     ensures taken { IfOk result (λ bank. IsTakenUp (state S.Store conn) (bank_seen S.Store bank)) }
     ensures fault { IfErr result IsOfOpening }
+    ensures missed { IfErr result (IsMissedOver (state S.Store) conn) }
 {
     opened_law(&conn);
     match adopt(alloc, conn) {

@@ -1,5 +1,5 @@
 -- The bank that was found is the one that is audited.
-use Rattle.std.proofs.Common.{◌≡◌, rules, inl, Err}
+use Rattle.std.proofs.Common.{◌≡◌, rules, inl, inr, Err}
 use Rattle.std.proofs.KnownBytes.{Keeps-refl}
 use Rattle.bank_commands.proofs.Worked.{audited}
 use Rattle.bank_commands.proofs.audit.audit_file.Goals as goal
@@ -23,3 +23,11 @@ returns-clause-audits g c =
       done = it.done;
       survives = it.survives;
     }
+
+pub returns-in_err-bank-clause-finds : goal.returns-in_err-bank-clause-finds
+returns-in_err-bank-clause-finds g c =
+    let same : c.from_residual.result ≡ Err c.in_err-bank.field-0.0 = search rules in
+    rw same (inl c.in_err-bank.ensures.unfound)
+
+pub returns-clause-finds : goal.returns-clause-finds
+returns-clause-finds g c = inr (c.in_ok-bank.bank, c.in_ok-bank.ensures.found)

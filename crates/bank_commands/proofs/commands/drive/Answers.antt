@@ -1,5 +1,5 @@
 -- The bank that was found is the one that was driven.
-use Rattle.std.proofs.Common.{◌≡◌, refl, rules, inl, Err}
+use Rattle.std.proofs.Common.{◌≡◌, refl, rules, inl, inr, Err}
 use Rattle.std.proofs.KnownBytes.{Keeps-refl}
 use Rattle.bank_commands.proofs.Worked.{runs}
 use Rattle.bank_commands.proofs.commands.drive.Goals as goal
@@ -18,3 +18,11 @@ pub returns-clause-drives : goal.returns-clause-drives
 returns-clause-drives g c =
     runs _ _ _ _ c.in_ok-bank.bank c.drive_into-driven.new.bank c.in_ok-bank.ensures.found
     c.drive_into-driven.ensures.drives
+
+pub returns-in_err-bank-clause-finds : goal.returns-in_err-bank-clause-finds
+returns-in_err-bank-clause-finds g c =
+    let same : c.from_residual.result ≡ Err c.in_err-bank.field-0.0 = search rules in
+    rw same (inl c.in_err-bank.ensures.unfound)
+
+pub returns-clause-finds : goal.returns-clause-finds
+returns-clause-finds g c = inr (c.in_ok-bank.bank, c.in_ok-bank.ensures.found)

@@ -24,3 +24,11 @@ returns-clause-unprinted g c = on_err _ c.print_created.result (c.in_ok-bank.ban
 
 pub returns-clause-fault : goal.returns-clause-fault
 returns-clause-fault g c = only_write _ c.print_created.result c.print_created.ensures.fault
+
+pub returns-in_err-bank-clause-unmade : goal.returns-in_err-bank-clause-unmade
+returns-in_err-bank-clause-unmade g c =
+    let same : c.from_residual.result ≡ Err c.in_err-bank.field-0.0 = search rules in
+    rw same (inr c.in_err-bank.ensures.unmade)
+
+pub returns-clause-unmade : goal.returns-clause-unmade
+returns-clause-unmade g c = only_write _ c.print_created.result c.print_created.ensures.fault

@@ -1,5 +1,5 @@
 -- The bank that was found is the one that the plan was loaded into.
-use Rattle.std.proofs.Common.{◌≡◌, refl, rules, inl, Err}
+use Rattle.std.proofs.Common.{◌≡◌, refl, rules, inl, inr, Err}
 use Rattle.std.proofs.KnownBytes.{Keeps-refl}
 use Rattle.bank_commands.proofs.Worked.{runs}
 use Rattle.bank_commands.proofs.commands.load_plan.Goals as goal
@@ -14,3 +14,11 @@ pub returns-clause-loads : goal.returns-clause-loads
 returns-clause-loads g c =
     runs _ _ _ _ c.in_ok-bank.bank c.load_into-loaded.new.bank c.in_ok-bank.ensures.found
     c.load_into-loaded.ensures.loads
+
+pub returns-in_err-bank-clause-finds : goal.returns-in_err-bank-clause-finds
+returns-in_err-bank-clause-finds g c =
+    let same : c.from_residual.result ≡ Err c.in_err-bank.field-0.0 = search rules in
+    rw same (inl c.in_err-bank.ensures.unfound)
+
+pub returns-clause-finds : goal.returns-clause-finds
+returns-clause-finds g c = inr (c.in_ok-bank.bank, c.in_ok-bank.ensures.found)

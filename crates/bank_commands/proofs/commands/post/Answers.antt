@@ -1,5 +1,5 @@
 -- The bank that was found is the one that the records were posted to.
-use Rattle.std.proofs.Common.{◌≡◌, ◌∙◌, ap, refl, rules, inl, Ok, Err}
+use Rattle.std.proofs.Common.{◌≡◌, ◌∙◌, ap, refl, rules, inl, inr, Ok, Err}
 use Rattle.std.proofs.KnownBytes.{Keeps-refl}
 use Rattle.std.proofs.lemmas.Result.{err_from_is_err_and}
 use Rattle.bank_commands.proofs.Worked.{posted}
@@ -33,3 +33,14 @@ returns-clause-posts g c =
     (g.K.Clock.readings c.args.clock.now) (g.K.Clock.readings c.post_stream-posted.new.clock)
     c.in_ok-bank.bank c.post_stream-posted.new.bank (Ok c.in_ok-posted.field-0) (Ok c.in_ok-posted.field-0) _
     refl c.in_ok-bank.ensures.found stream.stream stream.output stream.survives stream.resend
+
+pub returns-in_err-bank-clause-finds : goal.returns-in_err-bank-clause-finds
+returns-in_err-bank-clause-finds g c =
+    let same : c.from_residual.result ≡ Err c.in_err-bank.field-0.0 = search rules in
+    rw same (inl c.in_err-bank.ensures.unfound)
+
+pub returns-in_err-posted-clause-finds : goal.returns-in_err-posted-clause-finds
+returns-in_err-posted-clause-finds g c = inr (c.in_ok-bank.bank, c.in_ok-bank.ensures.found)
+
+pub returns-clause-finds : goal.returns-clause-finds
+returns-clause-finds g c = inr (c.in_ok-bank.bank, c.in_ok-bank.ensures.found)

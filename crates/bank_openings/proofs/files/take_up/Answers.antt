@@ -8,3 +8,11 @@ returns-in-Ok-clause-taken g c = record {
   stands = λ honest opens tables log are left shown.
       c.in-Ok.ensures.stands honest log (c.opened_law.ensures opens tables log are left shown);
 }
+
+pub returns-in-Err-clause-missed : goal.returns-in-Err-clause-missed
+returns-in-Err-clause-missed g c = record {
+  opening = c.in-Err.refused.fault;
+  is = c.fault_of.ensures.is;
+  end = c.in-Err.refused.conn;
+  missed = c.in-Err.ensures.missed;
+}

@@ -56,12 +56,12 @@ returns-in_err-statement-in-Statement-clause-does g c =
     let same : c.from_residual-in_err-statement-in-Statement.result ≡ Err f = search rules in
     rw (c.in-Statement.is, same) (states_done _ _ c.in-Statement.account
     (g.W.Write.contents c.args.output.now)
-    (g.W.Write.contents c.statement.new.output) (Err f) c.in_err-statement-in-Statement.ensures)
+    (g.W.Write.contents c.statement.new.output) (Err f) c.in_err-statement-in-Statement.ensures.states)
 
 pub returns-in_ok-statement-in-Statement-clause-does : goal.returns-in_ok-statement-in-Statement-clause-does
 returns-in_ok-statement-in-Statement-clause-does g c =
     rw c.in-Statement.is (states_done _ _ c.in-Statement.account (g.W.Write.contents c.args.output.now)
-    (g.W.Write.contents c.statement.new.output) (Ok tt) c.in_ok-statement-in-Statement.ensures)
+    (g.W.Write.contents c.statement.new.output) (Ok tt) c.in_ok-statement-in-Statement.ensures.states)
 
 pub returns-in-Audit-clause-does : goal.returns-in-Audit-clause-does
 returns-in-Audit-clause-does g c = rw c.in-Audit.is c.audit_file.ensures.audits

@@ -1,0 +1,27 @@
+-- Why a connection was refused, by the fault that the command ends with.
+use Rattle.std.proofs.Common.{◌≡◌, ◌∙◌, ◌⊎◌, inl, inr, sym, ap, subst}
+use Rattle.sqlite.specs.State.{State, HasCleanDisk}
+use Rattle.bank_store.specs.Opening.{IsTaken, IsUnmade}
+use Rattle.bank_store.specs.declared.refused.OpenFault.{OpenFault}
+use Rattle.bank_store.specs.declared.refused.OpenFault.TheVariants.{NotBlank}
+use Rattle.bank_endings.specs.Faults.{fault_of_opening}
+use Rattle.bank_endings.specs.Looking.{IsOfLook}
+use Rattle.bank_endings.specs.declared.fault.CommandFault.{CommandFault}
+use Rattle.bank_openings.specs.Unfound.{IsUnmadeOver}
+
+module _ {C : Type 0} (state : C → State) where
+  pub unmade_over : (start end : C) (opening : OpenFault) (fault : CommandFault)
+      → fault ≡ fault_of_opening opening → IsUnmade opening
+      → (HasCleanDisk (state end) → opening ≡ NotBlank → IsTaken (state start))
+      → IsUnmadeOver state start fault
+  unmade_over start end opening fault is (inl store) taken = record {
+    kind = inl (is ∙ ap fault_of_opening store);
+    end = end;
+    taken = λ clean already.
+        absurd (subst IsOfLook (sym (ap fault_of_opening store) ∙ sym is ∙ already) tt);
+  }
+  unmade_over start end opening fault is (inr blank) taken = record {
+    kind = inr (is ∙ ap fault_of_opening blank);
+    end = end;
+    taken = λ clean already. taken clean blank;
+  }
