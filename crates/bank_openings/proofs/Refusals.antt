@@ -1,7 +1,8 @@
 -- Why a connection was refused, by the fault that the command ends with.
 use Rattle.std.proofs.Common.{◌≡◌, ◌∙◌, ◌⊎◌, inl, inr, sym, ap, subst}
 use Rattle.sqlite.specs.State.{State, HasCleanDisk}
-use Rattle.bank_store.specs.Opening.{IsTaken, IsUnmade}
+use Rattle.bank_store.specs.NewBank.{IsTaken}
+use Rattle.bank_store.specs.OpenFaults.{IsUnmade}
 use Rattle.bank_store.specs.declared.refused.OpenFault.{OpenFault}
 use Rattle.bank_store.specs.declared.refused.OpenFault.TheVariants.{NotBlank}
 use Rattle.bank_endings.specs.Faults.{fault_of_opening}

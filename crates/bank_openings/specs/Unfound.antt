@@ -2,7 +2,8 @@
 use Rattle.std.specs.Prelude.{◌≡◌, ◌⊎◌}
 use Rattle.sqlite.specs.State.{State, HasCleanDisk}
 use Rattle.sqlite_wal.specs.Recovery.{Image}
-use Rattle.bank_store.specs.Opening.{IsTaken, Misses}
+use Rattle.bank_store.specs.FoundBank.{Misses}
+use Rattle.bank_store.specs.NewBank.{IsTaken}
 use Rattle.bank_store.specs.declared.refused.OpenFault.{OpenFault}
 use Rattle.bank_endings.specs.Faults.{fault_of_opening}
 use Rattle.bank_endings.specs.Looking.{IsOfLook}
@@ -11,7 +12,8 @@ use Rattle.bank_endings.specs.declared.fault.CommandFault.TheVariants.{AlreadyBa
 use Rattle.bank_files.specs.Opening.{IsOpenedOn}
 
 module _ {C : Type 0} (state : C → State) where
-  -- no bank was found over a connection that began so; on a disk that was honest to its end the fault says why
+  -- no bank was found over a connection that began so; on a disk that was honest to the end the fault says
+  -- why
   pub record IsMissedOver (start : C) (fault : CommandFault) : Type 0 where
     pub opening : OpenFault
     pub is : fault ≡ fault_of_opening opening
