@@ -1,15 +1,20 @@
 //! The clock by which the program dates postings: the system's time in whole seconds, as a [`Moment`]. It
-//! never fails: without a time it is the moment 0.
+//! never fails: without a time it is the moment 0. The test `first_moments` of `counter_tests` takes the
+//! moment of a known time, and asks the clock:
 //!
 //! ```rust
-//! use bank_clock::SystemClock;
+//! use bank_clock::{SystemClock, moment_of};
 //! use posting_core::Clock;
-//! use std::io;
+//! use std::test::Fail;
+//! use std::time::{Duration, SystemTime, UNIX_EPOCH};
 //!
-//! fn main(rt: HostRuntime) -> io::Result<()> {
+//! fn first_moments(rt: HostRuntime) -> Result<(), Fail> {
+//!     let opening = UNIX_EPOCH + Duration::from_secs(1_795_442_400);
+//!     assert_eq!(rt; moment_of(Ok(opening)).get(), 1_795_442_400);
+//!     let before = moment_of(SystemTime::now(&rt));
 //!     let mut clock = SystemClock::new(&rt);
-//!     let moment = clock.now();
-//!     println!(rt; "{moment} seconds since 1970-01-01T00:00:00Z")
+//!     assert!(rt; before.get() <= clock.now().get());
+//!     Ok(())
 //! }
 //! ```
 //!
