@@ -27,9 +27,6 @@ ghost use Rattle.posting_core.specs.Clock.{IsReading};
 ghost use Rattle.posting_core.specs.Told.{GrowsBy};
 ghost use Rattle.bank_clock.specs.Readings.{Reading, moment_at, reading_of, source_of};
 
-#[cfg(test)]
-mod tests;
-
 use message_records::{MAX_MOMENT, Moment};
 use posting_core::Clock;
 use std::io;

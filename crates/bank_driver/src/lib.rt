@@ -30,6 +30,3 @@ mod open_branches;
 
 pub use drive::{Driven, MAX_DRIVEN, drive_records};
 pub use fault::DriveFault;
-
-#[cfg(test)]
-mod tests;

@@ -6,6 +6,12 @@
 #[cfg(test)]
 mod banks;
 #[cfg(test)]
+mod clocks;
+#[cfg(test)]
+mod draws;
+#[cfg(test)]
+mod drives;
+#[cfg(test)]
 mod first_programs;
 #[cfg(test)]
 mod judging;

@@ -39,6 +39,3 @@ mod draws;
 mod driver;
 
 pub use driver::{Driver, DriverFault, MOST_RECORDS};
-
-#[cfg(test)]
-mod tests;
