@@ -1,15 +1,20 @@
 //! The clock by which the program dates postings: the system's time in whole seconds, as a [`Moment`]. It
-//! never fails: without a time it is the moment 0.
+//! never fails: without a time it is the moment 0. The test `first_moments` of `counter_tests` takes the
+//! moment of a known time, and asks the clock:
 //!
 //! ```rust
-//! use bank_clock::SystemClock;
+//! use bank_clock::{SystemClock, moment_of};
 //! use posting_core::Clock;
-//! use std::io;
+//! use std::test::Fail;
+//! use std::time::{Duration, SystemTime, UNIX_EPOCH};
 //!
-//! fn main(rt: HostRuntime) -> io::Result<()> {
+//! fn first_moments(rt: HostRuntime) -> Result<(), Fail> {
+//!     let opening = UNIX_EPOCH + Duration::from_secs(1_795_442_400);
+//!     assert_eq!(rt; moment_of(Ok(opening)).get(), 1_795_442_400);
+//!     let before = moment_of(SystemTime::now(&rt));
 //!     let mut clock = SystemClock::new(&rt);
-//!     let moment = clock.now();
-//!     println!(rt; "{moment} seconds since 1970-01-01T00:00:00Z")
+//!     assert!(rt; before.get() <= clock.now().get());
+//!     Ok(())
 //! }
 //! ```
 //!
@@ -21,9 +26,6 @@ ghost use Rattle.std.specs.Prelude.{◌≡◌, ℕ, List, [], ◌∷◌, Option,
 ghost use Rattle.posting_core.specs.Clock.{IsReading};
 ghost use Rattle.posting_core.specs.Told.{GrowsBy};
 ghost use Rattle.bank_clock.specs.Readings.{Reading, moment_at, reading_of, source_of};
-
-#[cfg(test)]
-mod tests;
 
 use message_records::{MAX_MOMENT, Moment};
 use posting_core::Clock;

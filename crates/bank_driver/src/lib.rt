@@ -1,18 +1,20 @@
 //! The driver at work: the requests of the 85/15 rule (TPC-B 5.3), drawn over the open branches of any
-//! counter, submitted in batches and counted by their replies. A program that drives a bank in memory:
+//! counter, submitted in batches and counted by their replies. The test `first_drive` of `counter_tests`
+//! drives a bank in memory:
 //!
 //! ```rust
 //! use bank_driver::drive_records;
 //! use message_records::Branch;
 //! use posting_core::{Counter, PlainBank, StoredClock};
+//! use std::test::Fail;
 //!
-//! fn main(rt: HostRuntime) -> Result<(), anyhow::Error> {
+//! fn first_drive(rt: HostRuntime) -> Result<(), Fail> {
 //!     let mut bank = PlainBank::new(rt.alloc());
 //!     bank.open_branch(Branch::new(1).unwrap(), 3)?;
 //!     bank.open_branch(Branch::new(2).unwrap(), 2)?;
 //!     let mut clock = StoredClock::new(Vec::new(rt.alloc()));
 //!     let driven = drive_records(rt.alloc(), &mut bank, &mut clock, 7, 1_000)?;
-//!     println!(rt; "posted {} refused {}", driven.posted, driven.refused)?; // posted 1000 refused 0
+//!     assert_eq!(rt; (driven.posted, driven.refused), (1_000, 0));
 //!     Ok(())
 //! }
 //! ```
@@ -28,6 +30,3 @@ mod open_branches;
 
 pub use drive::{Driven, MAX_DRIVEN, drive_records};
 pub use fault::DriveFault;
-
-#[cfg(test)]
-mod tests;

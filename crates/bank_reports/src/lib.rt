@@ -4,36 +4,33 @@
 //! An [`Audit`] has the numbers that TPC-B clause 2 compares. Rows are added up one by one, tellers before
 //! branches, by [`TellerSums`], [`BranchSums`], [`Sum`] (the accounts) and [`OrdinalSums`] (requests and
 //! postings). [`audit_of_sums`] makes the audit of what was added, and [`write_audit`] writes its text. All
-//! amounts are in cents. A program that audits a branch and its teller, who disagree, and prints the text:
+//! amounts are in cents. The test `first_report` of `store_tests` audits a teller and the accounts of a file
+//! without a branch, which disagree:
 //!
 //! ```rust
 //! use bank_reports::{BranchSums, OrdinalSums, Sum, TellerSums, audit_of_sums, write_audit};
-//! use bank_walks::{StoredBranch, StoredTeller};
+//! use bank_walks::StoredTeller;
 //! use message_records::Whole;
+//! use std::test::Fail;
 //!
-//! fn main(rt: HostRuntime) -> Result<(), anyhow::Error> {
+//! fn first_report(rt: HostRuntime) -> Result<(), Fail> {
 //!     let mut tellers = TellerSums::new(rt.alloc())?;
 //!     tellers.add(StoredTeller {
 //!         teller: Whole::new(1).unwrap(),
 //!         balance: 400,
 //!     });
-//!     let mut branches = BranchSums::new(rt.alloc())?;
-//!     branches.add(
-//!         StoredBranch {
-//!             branch: Whole::new(1).unwrap(),
-//!             accounts: Whole::new(1).unwrap(),
-//!             balance: 500,
-//!         },
-//!         &tellers,
-//!     );
+//!     let branches = BranchSums::new(rt.alloc())?;
 //!     let accounts = Sum::zero().plus(500);
 //!     let audit = audit_of_sums(&tellers, branches, accounts, OrdinalSums::none());
-//!     write_audit(&audit, &mut rt.stdout())?;
+//!     assert_eq!(rt; (audit.teller_sum, audit.account_sum), (400, 500));
+//!     let mut text: Vec<u8> = Vec::new(rt.alloc());
+//!     write_audit(&audit, &mut text)?;
+//!     assert!(rt; text.ends_with(b"INCONSISTENT\n"));
 //!     Ok(())
 //! }
 //! ```
 //!
-//! It prints ten numbers, then `branch 1 tellers 400 balance 500` and `INCONSISTENT`.
+//! The text has ten numbers before this line, and a line for each branch that differs from its tellers.
 //!
 //! | Error | What it means |
 //! |---|---|

@@ -1,18 +1,21 @@
 //! The plan of the branches that a bank is to have, read from CSV, and the loading of a plan into a counter.
 //! The first row is the header `branch,accounts`; each row behind it has the number of a branch, 1 to
-//! `LAST_BRANCH`, and how many accounts it is to have, 1 to `MOST_ACCOUNTS`. A program that loads a plan into
-//! a bank in memory:
+//! `LAST_BRANCH`, and how many accounts it is to have, 1 to `MOST_ACCOUNTS`. The test `first_plan` of
+//! `counter_tests` loads a plan into a bank in memory, twice:
 //!
 //! ```rust
 //! use branch_loader::{load, read_plan};
 //! use posting_core::PlainBank;
+//! use std::test::Fail;
 //!
-//! fn main(rt: HostRuntime) -> Result<(), anyhow::Error> {
+//! fn first_plan(rt: HostRuntime) -> Result<(), Fail> {
 //!     let source = b"branch,accounts\n1,3\n2,2\n".as_slice();
 //!     let plan = read_plan(rt.alloc(), source)?;
 //!     let mut bank = PlainBank::new(rt.alloc());
 //!     let loaded = load(&plan, &mut bank)?;
-//!     println!(rt; "opened {} already {}", loaded.opened, loaded.already)?; // opened 2 already 0
+//!     assert_eq!(rt; (loaded.opened, loaded.already), (2, 0));
+//!     let again = load(&plan, &mut bank)?;
+//!     assert_eq!(rt; (again.opened, again.already), (0, 2));
 //!     Ok(())
 //! }
 //! ```

@@ -1,5 +1,37 @@
-//! The counter over HTTP: messages that are read from a connection are answered one after another, and their
-//! records are submitted to a bank.
+//! The counter over HTTP: messages that are read from a connection are answered one after another, in their
+//! order, by any counter. `POST /post` with the 100 bytes of a record submits it (TPC-B 1.2), and the 200
+//! bytes of its reply come back; `GET /account/NUMBER` and `GET /branches` tell balances. The test
+//! `first_message` of `http_tests` posts 500 cents to a bank in memory:
+//!
+//! ```rust
+//! use counter_http::serve_connection;
+//! use message_records::{Account, Branch, Cents};
+//! use posting_core::{Counter, PlainBank, StoredClock};
+//! use std::test::Fail;
+//!
+//! fn first_message(rt: HostRuntime) -> Result<(), Fail> {
+//!     let mut bank = PlainBank::new(rt.alloc());
+//!     bank.open_branch(Branch::new(1).unwrap(), 3)?;
+//!     let mut clock = StoredClock::new(Vec::new(rt.alloc()));
+//!     let mut message = [b' '; 144];
+//!     message[..44].copy_from_slice(b"POST /post HTTP/1.1\r\nContent-Length: 100\r\n\r\n");
+//!     message[44..95].copy_from_slice(b"DC01000000000001000000010000010000000001+0000000500");
+//!     let mut reader = message.as_slice();
+//!     let mut answers: Vec<u8> = Vec::new(rt.alloc());
+//!     let served = serve_connection(rt.alloc(), &mut reader, &mut answers, &mut clock, &mut bank)?;
+//!     assert_eq!(rt; served, 1);
+//!     assert!(rt; answers.starts_with(b"HTTP/1.1 200 OK\r\n"));
+//!     assert_eq!(rt; bank.balance(Account::new(1).unwrap())?, Cents::new(500));
+//!     Ok(())
+//! }
+//! ```
+//!
+//! [`ServeFault`] says why a connection ended before its input did: a read or a write failed, memory was
+//! refused, or the bank refused a call, which is answered by a 503. Bytes that are no message within
+//! [`MAX_HEAD`], [`MAX_FIELDS`] and [`MAX_BODY`] are answered by a 400, and the connection ends.
+//!
+//! Read next: [`serve_connection`]; `specs/Messages`, what a message is, and `specs/Paths`, where each leads;
+//! the crate `counter_tcp`, which serves the connections of a listener.
 #![tactic(auto)]
 
 mod accounts;

@@ -6,8 +6,9 @@
 //! DR0100000000000001000000010000010000000001+0000000500+000000000500POSTED
 //! ```
 //!
-//! A refusal is a reply too, and ends with the status 0, as POSTED does. An input of fewer than 100 bytes
-//! gets no reply and ends with 4; refused memory, a read or a write that failed ends with 3.
+//! The gate runs it with this record (`stdin`), and wants this reply (`stdout`). A refusal is a reply too, and
+//! ends with the status 0, as POSTED does. An input of fewer than 100 bytes gets no reply and ends with 4;
+//! refused memory, a read or a write that failed ends with 3.
 //!
 //! Read next: `once::answer_first`, and `answer_once` of `posting_core`, which answers a record at any
 //! counter.

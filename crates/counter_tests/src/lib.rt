@@ -1,9 +1,18 @@
-//! Tests of what no scenario of a bank reaches: records and plans, fault by fault, streams over ends and
-//! banks that fail, a clock that stores moments, the verdict of a full bank, and the laws.
+//! Tests of what no scenario of a bank reaches: records and plans, fault by fault, the records that are drawn
+//! and driven, streams over ends and banks that fail, clocks, the verdict of a full bank, and the laws; and the
+//! first programs of the crates' pages.
 #![tactic(auto)]
 
 #[cfg(test)]
 mod banks;
+#[cfg(test)]
+mod clocks;
+#[cfg(test)]
+mod draws;
+#[cfg(test)]
+mod drives;
+#[cfg(test)]
+mod first_programs;
 #[cfg(test)]
 mod judging;
 #[cfg(test)]

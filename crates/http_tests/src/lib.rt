@@ -7,6 +7,8 @@ mod bank;
 #[cfg(test)]
 mod failing;
 #[cfg(test)]
+mod first_message;
+#[cfg(test)]
 mod messages;
 #[cfg(test)]
 mod refusals;

@@ -1,26 +1,28 @@
 //! The records of a bank, and the types of their fields. A request is [`REQUEST_BYTES`] bytes of ASCII, and
 //! its reply is [`REPLY_BYTES`] (TPC-A, contents of the messages). Each value has one spelling: what is
-//! written is read again as the same value, and no other bytes are read as it. A program that writes a
-//! request and reads it:
+//! written is read again as the same value, and no other bytes are read as it. The test `first_record` of
+//! `counter_tests` writes a request and reads it:
 //!
 //! ```rust
-//! use message_records::{Account, Branch, Cents, Number, Request, Teller};
-//! use message_records::{decode_request, encode_request};
-//! use std::io;
+//! use message_records::{
+//!     Account, Bad, Branch, Cents, Number, Request, Teller, decode_request, encode_request,
+//! };
+//! use std::test::Fail;
 //!
-//! fn main(rt: HostRuntime) -> io::Result<()> {
+//! fn first_record(rt: HostRuntime) -> Result<(), Fail> {
+//!     let account = Account::new(1).unwrap();
 //!     let teller = Teller::new(1).unwrap();
 //!     let branch = Branch::new(1).unwrap();
-//!     let account = Account::new(2).unwrap();
+//!     let number = Number::new(1).unwrap();
 //!     let delta = Cents::new(500).unwrap();
-//!     let request = Request::new(account, teller, branch, Number::new(1).unwrap(), delta).unwrap();
-//!     // DC01000000000002000000010000010000000001+0000000500, and 49 spaces
+//!     let request = Request::new(account, teller, branch, number, delta).unwrap();
 //!     let mut bytes = encode_request(&request);
+//!     let text = b"DC01000000000001000000010000010000000001+0000000500"; // and 49 spaces
+//!     assert!(rt; bytes.starts_with(text));
+//!     assert_eq!(rt; decode_request(&bytes), Ok(request));
 //!     bytes[99] = b'x';
-//!     match decode_request(&bytes) {
-//!         Ok(request) => println!(rt; "{} cents to account {}", request.delta(), request.account()),
-//!         Err(bad) => println!(rt; "{bad}"), // faulty filler
-//!     }
+//!     assert_eq!(rt; decode_request(&bytes), Err(Bad::Filler));
+//!     Ok(())
 //! }
 //! ```
 //!

@@ -1,5 +1,47 @@
-//! A batch of records, judged in memory: what is known of every row that its records can touch, and what they
-//! change.
+//! A batch of records, judged in memory (TPC-B 1.2). [`Batch::new`] places a slot under every key that the
+//! records can touch. The caller fills each slot with the row that the tables have there, and
+//! [`Batch::judge`] answers the records in order, each on what the ones before it left. The changed and the
+//! new rows are then in its [`Overlay`], to be written. The test `first_batch` of `counter_tests` fills the
+//! slots of one record by hand, with a branch of three accounts whose balances are zero:
+//!
+//! ```rust
+//! use message_records::{Branch, Cents, Moment};
+//! use posting_batch::Batch;
+//! use posting_rules::BranchRow;
+//! use std::test::Fail;
+//!
+//! fn first_batch(rt: HostRuntime) -> Result<(), Fail> {
+//!     let mut record = [b' '; 100];
+//!     record[..51].copy_from_slice(b"DC01000000000001000000010000010000000001+0000000500");
+//!     let mut batch = Batch::new(rt.alloc(), &[record])?;
+//!     let (branch, zero) = (Branch::new(1).unwrap(), Cents::new(0).unwrap());
+//!     let overlay = &mut batch.overlay;
+//!     for slot in overlay.branches.iter_mut() {
+//!         slot.stored = Some(BranchRow {
+//!             branch,
+//!             accounts: 3,
+//!             balance: zero,
+//!         });
+//!     }
+//!     for slot in overlay.tellers.iter_mut() {
+//!         slot.stored = Some(zero);
+//!     }
+//!     for slot in overlay.accounts.iter_mut() {
+//!         slot.stored = Some(zero);
+//!     }
+//!     let judged = batch.judge(Moment::new(1_795_442_400).unwrap());
+//!     assert_eq!(rt; judged.replies.len(), 1);
+//!     assert!(rt; judged.replies[0].starts_with(b"DR0100000000000001"));
+//!     assert_eq!(rt; judged.overlay.accounts.len(), 1);
+//!     assert_eq!(rt; judged.overlay.accounts[0].changed, Cents::new(500));
+//!     Ok(())
+//! }
+//! ```
+//!
+//! Only [`Batch::new`] takes memory, and where that was refused nothing is left. Judging can't fail.
+//!
+//! Read next: [`Batch`]; `specs/Batch`, what a batch covers and changes; the crate `bank_batches`, which
+//! fills a batch from the tables of a file and writes it.
 #![tactic(auto)]
 
 mod batch;

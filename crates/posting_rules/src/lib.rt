@@ -1,5 +1,47 @@
-//! What a posting is: the tables of a bank and the laws that they keep, judging a request, and the trait of a
-//! counter.
+//! What a posting is: the rows of a bank's tables, how a request is judged by them (TPC-B 1.2), the laws
+//! that hold of every bank, such as the consistency condition (TPC-B clause 2), and the trait of a counter,
+//! which every bank implements. It keeps no rows: what is looked up for a request is handed to [`judge`].
+//! The test `first_verdict` of `counter_tests` judges a posting of 500 cents, and the same to an account
+//! that isn't open:
+//!
+//! ```rust
+//! use message_records::{Account, Branch, Cents, Number, Outcome, Request, Teller};
+//! use posting_rules::{Found, Verdict, judge, reply_to};
+//! use std::test::Fail;
+//!
+//! fn first_verdict(rt: HostRuntime) -> Result<(), Fail> {
+//!     let (account, teller) = (Account::new(1).unwrap(), Teller::new(1).unwrap());
+//!     let (branch, number) = (Branch::new(1).unwrap(), Number::new(1).unwrap());
+//!     let (zero, delta) = (Cents::new(0).unwrap(), Cents::new(500).unwrap());
+//!     let request = Request::new(account, teller, branch, number, delta).unwrap();
+//!     let mut found = Found {
+//!         teller: Some((zero, zero)), // the balances of the teller and of its branch
+//!         kept: None,
+//!         decided: 0,
+//!         account: Some(zero),
+//!     };
+//!     let verdict = judge(&found, &request);
+//!     let posted = Verdict::Posted {
+//!         account: delta,
+//!         teller: delta,
+//!         branch: delta,
+//!     };
+//!     assert_eq!(rt; verdict, posted);
+//!     assert_eq!(rt; reply_to(&found, &request, &verdict).balance(), Some(delta));
+//!     found.account = None;
+//!     assert_eq!(rt;
+//!         judge(&found, &request),
+//!         Verdict::Refused(Outcome::NoAccount)
+//!     );
+//!     Ok(())
+//! }
+//! ```
+//!
+//! Nothing here fails or takes memory. [`Fault`] says why a counter refuses a call, and what holds after it.
+//!
+//! Read next: [`judge`] with its [`Verdict`]; the trait [`Counter`]; `specs/Stated`, which says who is
+//! refused, case by case; the laws, such as [`each_request_once`]; the crate `posting_core`, with a bank in
+//! memory.
 #![tactic(auto)]
 
 mod cases;

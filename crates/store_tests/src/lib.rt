@@ -8,6 +8,8 @@ mod calls;
 #[cfg(test)]
 mod files;
 #[cfg(test)]
+mod first_report;
+#[cfg(test)]
 mod readings;
 #[cfg(test)]
 mod report_texts;

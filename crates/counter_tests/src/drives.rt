@@ -1,5 +1,5 @@
 //! Drives over a bank in memory, beside the records of `tools/driver_vectors.py`.
-use crate::{DriveFault, Driven, drive_records};
+use bank_driver::{DriveFault, Driven, drive_records};
 use message_records::{Account, Branch, Cents, Moment, decode_request};
 use posting_core::{Counter, Fault, PlainBank, StoredClock};
 use std::alloc::{AllocError, Global};

@@ -1,6 +1,6 @@
 //! The requests of known seeds, and what a long run of them names.
-use crate::{Driver, DriverFault};
 use branch_loader::Plan;
+use load_driver::{Driver, DriverFault};
 use message_records::{Branch, decode_request};
 use std::alloc::{AllocError, Global};
 use std::test::Fail;

@@ -1,5 +1,5 @@
 //! The program's clock over a source that is known.
-use crate::SystemClock;
+use bank_clock::SystemClock;
 use message_records::Moment;
 use posting_core::Clock;
 use std::io::{self, ErrorKind};

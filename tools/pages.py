@@ -1,0 +1,85 @@
+#!/usr/bin/env python3
+"""Checks that the program on each library's page is one that the gate runs, line for line.
+
+    tools/pages.py
+
+The page of a library is the `//!` lines at the head of its src/lib.rt. It has one ```rust block, and the paragraph before
+it names "the test `NAME` of `CRATE`" or "the program `CRATE`". The block's lines stand one directly after the other in a
+file of that crate, from the first import to the end of the test, which is marked as one, or of `main`. Blank lines,
+`#[test]` and indentation don't count. Prints a line for each page, and ends with status 1 if one of them differs.
+"""
+import re
+import sys
+from pathlib import Path
+
+CRATES = Path(__file__).resolve().parent.parent / "crates"
+
+# What these have is tests, ends for tests, and lemmas: no program begins with them.
+NO_PROGRAM = {"counter_tests", "failing_ends", "http_tests", "sql_meanings", "store_tests"}
+
+TEST = re.compile(r"[Tt]he test `(\w+)` of `(\w+)`")
+PROGRAM = re.compile(r"[Tt]he program `(\w+)`")
+
+
+def page_of(lib):
+    """The lines of a page, without their `//!`."""
+    lines = []
+    for line in lib.read_text().splitlines():
+        if not line.startswith("//!"):
+            break
+        lines.append(line[3:].removeprefix(" "))
+    return lines
+
+
+def stripped(lines):
+    """The lines that count."""
+    return [line.strip() for line in lines if line.strip() not in ("", "#[test]")]
+
+
+def lines_to(text, name):
+    """The lines of a file to the end of its function `name`; none if it has no such test, or `main`."""
+    head = r"fn main\(" if name == "main" else rf"#\[test\]\s+fn {name}\("
+    found = re.search(rf"^( *){head}.*?^\1}}$", text, re.MULTILINE | re.DOTALL)
+    return found and stripped(text[: found.end()].splitlines())
+
+
+def fault_of(page):
+    """What is wrong with a page; none if its program is one that the gate runs."""
+    starts = [i for i, line in enumerate(page) if line == "```rust"]
+    if len(starts) != 1:
+        return f"{len(starts)} programs, not one"
+    start = starts[0]
+    block = stripped(page[start + 1 : page.index("```", start)])
+    paragraph = "\n".join(page[:start]).rstrip().split("\n\n")[-1].replace("\n", " ")
+    test, program = TEST.search(paragraph), PROGRAM.search(paragraph)
+    if test:
+        name, crate = test.groups()
+    elif program:
+        name, crate = "main", program.group(1)
+    else:
+        return "names no test and no program"
+    if not block[0].startswith("use ") or not any(line.startswith(f"fn {name}(") for line in block):
+        return f"shows no imports and `{name}`"
+    for file in sorted((CRATES / crate / "src").rglob("*.rt")):
+        lines = lines_to(file.read_text(), name)
+        if lines:
+            before = lines[: -len(block)]
+            same = lines[len(before) :] == block and not (before and before[-1].endswith(";"))
+            return None if same else f"differs from {file.relative_to(CRATES.parent)}"
+    return f"no `{name}` in `{crate}`"
+
+
+def main():
+    faulty = False
+    for lib in sorted(CRATES.glob("*/src/lib.rt")):
+        crate = lib.parent.parent.name
+        if crate in NO_PROGRAM:
+            continue
+        fault = fault_of(page_of(lib))
+        print(f"{crate}: {fault or 'as it is run'}")
+        faulty = faulty or fault is not None
+    sys.exit(faulty)
+
+
+if __name__ == "__main__":
+    main()
