@@ -2,33 +2,31 @@
 //!
 //! [`audit`] reads every row of the bank once and returns the numbers that TPC-B clause 2 compares.
 //! [`write_statement`] writes the postings of an account by their ordinals, each with the balance behind it.
-//! Both take the rows as the file has them, damaged or not, and change none. A program that makes a bank in
-//! memory, posts 500 cents to account 1, and prints its statement and the audit:
+//! Both take the rows as the file has them, damaged or not, and change none. The function `first_reports` of
+//! `store_tests`, which a test runs, writes the statement of account 1 and the audit, and returns whether
+//! the books agree:
 //!
 //! ```rust
 //! use bank_audits::{audit, write_statement};
 //! use bank_reports::write_audit;
-//! use bank_store::{Account, Branch, Counter, Moment, Refused, create};
-//! use sqlite::Connection;
+//! use bank_store::{Account, Bank};
+//! use sqlite::Alter;
+//! use std::io::Write;
+//! use std::test::Fail;
 //!
-//! fn main(rt: HostRuntime) -> Result<(), anyhow::Error> {
-//!     let conn = Connection::open_in_memory(rt.alloc())?;
-//!     let mut bank = match create(rt.alloc(), conn) {
-//!         Ok(bank) => bank,
-//!         Err(Refused { fault, conn: _conn }) => return Err(fault.into()),
-//!     };
-//!     bank.open_branch(Branch::new(1).unwrap(), 3)?;
-//!     let mut record = [b' '; 100];
-//!     record[..51].copy_from_slice(b"DC01000000000001000000010000010000000001+0000000500");
-//!     let _reply = bank.submit(Moment::new(1_000).unwrap(), &record)?;
-//!     write_statement(&mut bank, Account::new(1).unwrap(), &mut rt.stdout())?;
-//!     let found = audit(&mut bank)?;
-//!     write_audit(&found, &mut rt.stdout())?;
-//!     Ok(())
+//! pub fn first_reports<S: Alter + Drop, W: Write>(
+//!     bank: &mut Bank<S>,
+//!     output: &mut W,
+//! ) -> Result<bool, Fail> {
+//!     write_statement(bank, Account::new(1).unwrap(), output)?;
+//!     let found = audit(bank)?;
+//!     write_audit(&found, output)?;
+//!     Ok(found.is_consistent())
 //! }
 //! ```
 //!
-//! [`audit`] returns the bank's `Fault`, and [`write_statement`] a [`ReportFault`], which holds it as `Bank`:
+//! [`audit`] returns the bank's `Fault`, and [`write_statement`] a [`ReportFault`], which holds it as
+//! `Bank`:
 //!
 //! | Error | What it means |
 //! |---|---|

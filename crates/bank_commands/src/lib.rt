@@ -1,6 +1,36 @@
-//! The commands of the program over a bank in a file: `init` makes it, `load` opens its branches, `post`
-//! posts to it, `drive` posts what the driver draws, `serve` posts what comes over HTTP, `audit` says whether
-//! the books agree, and `statement` writes the postings of an account.
+//! The commands of the program over a bank in a file: [`init`] makes it, [`load_plan`] opens its branches,
+//! [`post`] posts to it, [`drive`] posts what the driver draws, [`serve`] posts what comes over HTTP,
+//! [`audit_file`] says whether the books agree (TPC-B clause 2), and [`statement`] writes the postings of an
+//! account. Each but [`init`] finds the bank in its file, and each closes the file after its work.
+//!
+//! The function `first_commands` of `bank_runs`, which its script runs, makes a bank, opens the branches of
+//! a plan and posts the records of an input:
+//!
+//! ```rust
+//! use bank_commands::{init, load_plan, post};
+//! use bank_endings::CommandFault;
+//! use posting_core::{Clock, Count};
+//! use sqlite::Unknown;
+//! use std::io::{Read, Write};
+//!
+//! pub fn first_commands<R: Read, W: Write, K: Clock>(
+//!     rt: &HostRuntime,
+//!     file: &str,
+//!     plan: &str,
+//!     input: &mut R,
+//!     output: &mut W,
+//!     clock: &mut K,
+//! ) -> Result<Count, CommandFault> {
+//!     init(rt, Unknown, file, output)?;
+//!     load_plan(rt, Unknown, file, plan, output)?;
+//!     post(rt, Unknown, file, input, output, clock)
+//! }
+//! ```
+//!
+//! For a record of 500 cents to account 1 the output is `created`, `opened 2 already 0 differs 0` and a
+//! reply with the balance 500 and the outcome `POSTED`. A fault is a `CommandFault` of `bank_endings`. Read
+//! next: `specs/Commands`, what each command does to the bank of its file; the crate `bank_work`, what it
+//! does with any bank; `bank_program`, which calls them by the words of the command line.
 #![tactic(auto)]
 
 mod audit;

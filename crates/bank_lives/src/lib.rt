@@ -2,17 +2,19 @@
 //! posted once, and books that agree (TPC-B clause 2).
 //!
 //! A life is the calls of a counter between two stops. At run time [`reopen`] does what `bank_store::adopt`
-//! does; its contract names the bank that was stopped, and says what the new one has of it. A caller that has
-//! both:
+//! does; its contract names the bank that was stopped, and says what the new one has of it. The function
+//! `next_life` of `store_tests`, which a test runs, is a caller that has both:
 //!
 //! ```rust
+//! ghost use Rattle.std.specs.Prelude.{◌≡◌, false};
+//!
 //! use bank_lives::reopen;
 //! use bank_store::{Bank, OpenFault, Refused};
 //! use sqlite::{Alter, Connection};
 //! use std::alloc::Global;
 //!
 //! // `conn` was opened on what a stop left of the files of `stopped`.
-//! fn next_life<S: Alter + Drop, T: Alter + Drop>(
+//! pub fn next_life<S: Alter + Drop, T: Alter + Drop>(
 //!     alloc: Global,
 //!     stopped: &Bank<S>,
 //!     conn: Connection<T>,

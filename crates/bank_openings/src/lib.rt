@@ -1,4 +1,29 @@
-//! A bank in its files: made there or found there for a command, and closed after it.
+//! A bank in its files: made there or found there for a command, and closed after it. [`make_bank`] makes
+//! the file if there is none. [`find_bank`] makes and writes no file where no bank can be. [`close`] closes
+//! the files; what was committed is kept even if that fails.
+//!
+//! The function `first_opening` of `bank_runs`, which its script runs, makes a bank, finds it again and
+//! opens branch 1 with three accounts:
+//!
+//! ```rust
+//! use bank_endings::CommandFault;
+//! use bank_openings::{close, find_bank, make_bank};
+//! use message_records::Branch;
+//! use posting_core::{Counter, Opening};
+//! use sqlite::Unknown;
+//!
+//! pub fn first_opening(rt: &HostRuntime, file: &str) -> Result<Opening, CommandFault> {
+//!     close(make_bank(rt, Unknown, file)?);
+//!     let mut bank = find_bank(rt, Unknown, file)?;
+//!     let opening = bank.open_branch(Branch::new(1).unwrap(), 3);
+//!     close(bank);
+//!     Ok(opening?)
+//! }
+//! ```
+//!
+//! `Unknown` is all that a program knows of what its files hold; a proof may put more in its place. A fault
+//! is a `CommandFault` of `bank_endings`, such as `AlreadyBank` or `NoBank`. Read next: `specs/InFile`,
+//! which bank is found there, by what the files held.
 #![tactic(auto)]
 
 mod files;

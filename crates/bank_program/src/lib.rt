@@ -1,5 +1,36 @@
 //! A run of the program: from the words of the command line, over the command that they ask for, to the
-//! status that the program ends with.
+//! status that the program ends with. [`words_of`] takes the words of the system, and [`run`] does what they
+//! say, between any reader, writers and clock.
+//!
+//! The program `bank` is one run, between the standard streams and by the system's clock:
+//!
+//! ```rust
+//! use bank_clock::SystemClock;
+//! use bank_endings::tell_no_words;
+//! use bank_program::{run, words_of};
+//! use sqlite::Unknown;
+//! use std::process::ExitCode;
+//!
+//! fn main(rt: HostRuntime) -> ExitCode {
+//!     let mut faults = rt.stderr();
+//!     let status = match words_of(&rt) {
+//!         Ok(words) => run(
+//!             &rt,
+//!             Unknown,
+//!             words.as_slice(),
+//!             &mut rt.stdin(),
+//!             &mut rt.stdout(),
+//!             &mut faults,
+//!             &mut SystemClock::new(&rt),
+//!         ),
+//!         Err(error) => tell_no_words(&error, &mut faults),
+//!     };
+//!     ExitCode::from(status)
+//! }
+//! ```
+//!
+//! Read next: the contract of [`run`], a clause for what each command does and prints; `specs/Running`, how
+//! a run ends. The crate `bank_runs` plays a script of such runs.
 #![tactic(auto)]
 
 mod running;

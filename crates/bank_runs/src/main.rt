@@ -17,9 +17,11 @@
 //!   `like FILE`         prints whether the last run wrote what a file holds
 //!   `broken END`        gives the next run an `input` that fails, or an `output` that does
 //!   `bank WORD..`       runs the program on these words
+//!   `first NAME FILE..` runs the first program of a library on these files
 #![tactic(auto)]
 
 mod ends;
+mod first_programs;
 mod script;
 mod showing;
 

@@ -1,5 +1,6 @@
 //! The lines of a script.
 use crate::ends::Broken;
+use crate::first_programs;
 use crate::showing::shown;
 use anyhow::bail;
 use bank_endings::Status;
@@ -58,6 +59,7 @@ impl Script {
             "broken" if rest == "input" => self.fails = Fails::Input,
             "broken" if rest == "output" => self.fails = Fails::Output,
             "bank" => self.run(rt, line)?,
+            "first" => self.run_first(rt, rest)?,
             _ => bail!("no such step: {line}"),
         }
         Ok(())
@@ -89,6 +91,16 @@ impl Script {
         self.input.clear();
         self.fails = Fails::Neither;
         self.output = output;
+        Ok(())
+    }
+
+    // Runs a first program, and prints how it went.
+    fn run_first(&mut self, rt: &HostRuntime, words: &str) -> Result<(), anyhow::Error> {
+        let mut output = Vec::new(rt.alloc());
+        let status = first_programs::play(rt, words, self.input.as_slice(), &mut output)?;
+        print!(rt; "{}", shown(rt.alloc(), "output", output.as_slice())?)?;
+        println!(rt; "  status: {status:?}")?;
+        self.input.clear();
         Ok(())
     }
 

@@ -2,16 +2,31 @@
 //! what it answered is found again after a stop of the machine (TPC-B, clauses 1 and 2).
 //!
 //! [`create`] makes a bank, [`adopt`] takes up the one that a file has, and [`Bank::release`] gives the
-//! connection back. A program that makes one, opens branch 1 with three accounts, posts 500 cents to the
-//! first and prints what the reply shows of it:
+//! connection back. The function `first_bank` of `store_tests`, which a test runs, makes a bank over a
+//! connection, opens branch 1 with three accounts and posts 500 cents to the first. The reply has the
+//! outcome `Posted` and the balance 500:
 //!
 //! ```rust
-//! use bank_files::open;
-//! use bank_store::{Account, Branch, Cents, Counter, Fault, Moment, Number, Refused, Request, Teller};
-//! use bank_store::{create, decode_reply, encode_request};
-//! use sqlite::Unknown;
+//! ghost use Rattle.std.specs.Prelude.{◌≡◌, false};
 //!
-//! fn first_posting<C: Counter>(bank: &mut C) -> Result<Option<Cents>, Fault> {
+//! use bank_store::{
+//!     Account, Branch, Cents, Counter, Moment, Number, Refused, Reply, Request, Teller, create,
+//!     decode_reply, encode_request,
+//! };
+//! use sqlite::{Alter, Connection};
+//! use std::alloc::Global;
+//! use std::test::Fail;
+//!
+//! pub fn first_bank<S: Alter + Drop>(
+//!     alloc: Global,
+//!     conn: Connection<S>,
+//! ) -> Result<(Reply, Connection<S>), Fail>
+//!     requires { conn.in_transaction ≡ false }
+//! {
+//!     let mut bank = match create(alloc, conn) {
+//!         Ok(bank) => bank,
+//!         Err(Refused { fault, conn: _conn }) => return Err(fault.into()),
+//!     };
 //!     bank.open_branch(Branch::new(1).unwrap(), 3)?;
 //!     let request = Request::new(
 //!         Account::new(1).unwrap(),
@@ -21,29 +36,14 @@
 //!         Cents::new(500).unwrap(),
 //!     );
 //!     let record = encode_request(&request.unwrap());
-//!     let reply = bank.submit(Moment::new(1_000).unwrap(), &record)?;
-//!     match decode_reply(&reply) {
-//!         Ok(reply) => Ok(reply.balance()),
-//!         Err(_) => Ok(None),
-//!     }
-//! }
-//!
-//! fn main(rt: HostRuntime) -> Result<(), anyhow::Error> {
-//!     let conn = open(&rt, "my.db", Unknown)?;
-//!     let mut bank = match create(rt.alloc(), conn) {
-//!         Ok(bank) => bank,
-//!         Err(Refused { fault, conn: _conn }) => return Err(fault.into()),
-//!     };
-//!     if let Some(balance) = first_posting(&mut bank)? {
-//!         println!(rt; "account 1 has {balance} cents")?;
-//!     }
-//!     bank.release().close()?;
-//!     Ok(())
+//!     let reply = bank.submit(Moment::new(1_795_442_400).unwrap(), &record)?;
+//!     Ok((decode_reply(&reply)?, bank.release()))
 //! }
 //! ```
 //!
-//! Read next: [`Bank`], with what holds after each fault; [`Counter`], with the five calls; [`Walk`], to read
-//! the rows. `specs/Seen` says what a bank shows, and the crate `bank_lives` what is found after a stop.
+//! A connection to a file is one of `open` of the crate `bank_files`. Read next: [`Bank`], with what holds
+//! after each fault; [`Counter`], with the five calls; [`Walk`], to read the rows. `specs/Seen` says what a
+//! bank shows, and the crate `bank_lives` what is found after a stop.
 #![tactic(auto)]
 
 mod adoption;

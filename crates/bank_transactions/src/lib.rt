@@ -1,35 +1,42 @@
 //! What a bank does to its tables: a request, an opening and a look-up, each in one transaction (TPC-B,
 //! clause 1.2). The tables are the six of `store_rows` in a SQLite file.
 //!
-//! Each of [`post`], [`open_branch`], [`read_balance`] and [`read_next_branch`] is a whole transaction. It is
-//! called outside of one, and none goes on after it. [`begin`] and [`finish`] stand around parts that are put
-//! together otherwise, as a batch is: [`branch_at`], [`teller_balances`], [`open_balance`], [`kept_request`]
-//! and [`decided`] look up, [`write_balance`] and [`write_decided`] write.
+//! Each of [`post`], [`open_branch`], [`read_balance`] and [`read_next_branch`] is a whole transaction. It
+//! is called outside of one, and none goes on after it. [`begin`] and [`finish`] stand around parts that are
+//! put together otherwise, as a batch is: [`branch_at`], [`teller_balances`], [`open_balance`],
+//! [`kept_request`] and [`decided`] look up, [`write_balance`] and [`write_decided`] write.
 //!
-//! Branch 1 is opened with three accounts in a file that has the tables, and a request is answered:
+//! The function `first_request` of `store_tests`, which a test runs, opens branch 1 with three accounts in a
+//! file that has the tables, and posts 500 cents to the first. Its reply says `POSTED` and a balance of 500:
 //!
 //! ```rust
+//! ghost use Rattle.std.specs.Prelude.{◌≡◌, false};
+//!
 //! use bank_transactions::{open_branch, post};
-//! use message_records::{Branch, Moment, Request};
-//! use posting_rules::Opening;
+//! use message_records::{Account, Branch, Cents, Moment, Number, Request, Teller};
 //! use sqlite::{Alter, Connection};
 //! use store_rows::TableFault;
 //!
-//! fn first_posting<S: Alter>(
-//!     conn: &mut Connection<S>,
-//!     request: &Request,
-//! ) -> Result<[u8; 200], TableFault>
+//! pub fn first_request<S: Alter>(conn: &mut Connection<S>) -> Result<[u8; 200], TableFault>
 //!     requires { conn.old.in_transaction ≡ false }
 //! {
-//!     let _opening: Opening = open_branch(conn, Branch::new(1).unwrap(), 3)?;
-//!     post(conn, Moment::new(1_000).unwrap(), request)
+//!     open_branch(conn, Branch::new(1).unwrap(), 3)?;
+//!     let request = Request::new(
+//!         Account::new(1).unwrap(),
+//!         Teller::new(1).unwrap(),
+//!         Branch::new(1).unwrap(),
+//!         Number::new(1).unwrap(),
+//!         Cents::new(500).unwrap(),
+//!     );
+//!     post(conn, Moment::new(1_795_442_400).unwrap(), &request.unwrap())
 //! }
 //! ```
 //!
-//! The reply has the request's outcome, be it posted or refused. A `TableFault` says that there is no answer:
-//! `Sqlite` that a call of `sqlite` failed, with its error, and `Damaged` which rule the stored rows break.
-//! Either way nothing of the call is kept, unless it is the commit that failed: then a stop may show later
-//! that it was kept after all. What the calls come to is said in `specs/Doing`; start with `Transacts`.
+//! The reply has the request's outcome, be it posted or refused. A `TableFault` says that there is no
+//! answer: `Sqlite` that a call of `sqlite` failed, with its error, and `Damaged` which rule the stored rows
+//! break. Either way nothing of the call is kept, unless it is the commit that failed: then a stop may show
+//! later that it was kept after all. What the calls come to is said in `specs/Doing`; start with
+//! `Transacts`.
 #![tactic(auto)]
 
 mod balances;

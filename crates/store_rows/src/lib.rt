@@ -1,4 +1,45 @@
-//! The six tables of a bank in `sqlite`, one statement a function, whatever else the file holds.
+//! The six tables of a bank in `sqlite`, one statement a function, whatever else the file holds. A posting
+//! of TPC-B (clause 1.2) writes four of them: the account, the teller, the branch and the history. The fifth
+//! keeps the requests that were decided, with their replies, and the sixth has one row of the bank as a
+//! whole.
+//!
+//! A function looks up a row, adds one or writes a number of one, inside a transaction of its caller;
+//! [`commit`] makes last what was written. The function `first_branch` of `store_tests`, which a test runs,
+//! makes the tables, adds branch 1 and finds it:
+//!
+//! ```rust
+//! ghost use Rattle.std.specs.Prelude.{◌≡◌, false};
+//!
+//! use message_records::{Branch, Cents};
+//! use posting_rules::BranchRow;
+//! use sqlite::{Alter, Connection};
+//! use store_rows::{TableFault, add_branch, commit, create, find_branch};
+//!
+//! pub fn first_branch<S: Alter>(conn: &mut Connection<S>) -> Result<Option<BranchRow>, TableFault>
+//!     requires { conn.old.in_transaction ≡ false }
+//! {
+//!     create(conn)?;
+//!     let branch = Branch::new(1).unwrap();
+//!     let balance = Cents::new(0).unwrap();
+//!     let mut tx = conn.transaction();
+//!     add_branch(
+//!         &mut tx,
+//!         BranchRow {
+//!             branch,
+//!             accounts: 3,
+//!             balance,
+//!         },
+//!     )?;
+//!     commit(tx)?;
+//!     let mut tx = conn.transaction();
+//!     find_branch(&mut tx, branch)
+//! }
+//! ```
+//!
+//! A [`TableFault`] says why a call failed: `Sqlite` that a call of `sqlite` did, with its error, and
+//! `Damaged` which rule a stored row breaks. Read next: `specs/SixTables`, the tables with their columns;
+//! `specs/View`, which rows a database shows; `specs/Calls`, what each function finds or leaves. The crate
+//! `bank_transactions` is a caller.
 #![tactic(auto)]
 
 mod branches;

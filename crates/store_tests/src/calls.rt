@@ -9,9 +9,11 @@ use std::alloc::{Alloc, Global};
 use std::process::Abort;
 use std::test::Fail;
 
-const RECORD: &str = "DC01000000000001000000010000010000000001+0000000500";
+/// A posting of 500 cents to account 1, by teller 1 of branch 1.
+pub const RECORD: &str = "DC01000000000001000000010000010000000001+0000000500";
 
-const REPLY: &str = "DR0100000000000001000000010000010000000001+0000000500+000000000500POSTED";
+/// The reply to it.
+pub const REPLY: &str = "DR0100000000000001000000010000010000000001+0000000500+000000000500POSTED";
 
 // Three records on two tellers and two accounts, and their replies.
 const RECORDS: [&str; 3] = [
@@ -62,8 +64,8 @@ fn added<S: Alter>(conn: &mut Connection<S>) -> Result<[i64; 4], Error> {
     Ok(found)
 }
 
-// The text, and spaces behind it.
-fn padded<const SIZE: usize>(text: &str) -> [u8; SIZE] {
+/// The text, and spaces behind it.
+pub fn padded<const SIZE: usize>(text: &str) -> [u8; SIZE] {
     let mut bytes = [b' '; SIZE];
     for (place, byte) in bytes.iter_mut().zip(text.as_bytes()) {
         *place = *byte;

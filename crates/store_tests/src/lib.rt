@@ -1,12 +1,14 @@
 //! Tests of the bank in tables that no scenario reaches: each statement of the six tables once, walks over
-//! rows that are beside one another, machines that stop, files that fail while a bank is read, and the texts
-//! of reports, whole and cut.
+//! rows that are beside one another, machines that stop, files that fail while a bank is read, the texts of
+//! reports, whole and cut, and the first programs of the libraries.
 #![tactic(auto)]
 
 #[cfg(test)]
 mod calls;
 #[cfg(test)]
 mod files;
+#[cfg(test)]
+mod first_programs;
 #[cfg(test)]
 mod first_report;
 #[cfg(test)]

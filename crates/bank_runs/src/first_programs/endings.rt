@@ -1,0 +1,10 @@
+//! The first program of `bank_endings`.
+use bank_endings::{Status, print_created, tell};
+use std::io::Write;
+
+pub fn first_ending<W: Write, E: Write>(output: &mut W, faults: &mut E) -> Status {
+    match print_created(output) {
+        Ok(()) => Status::Done,
+        Err(fault) => tell(fault, faults),
+    }
+}

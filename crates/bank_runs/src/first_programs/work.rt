@@ -1,0 +1,14 @@
+//! The first program of `bank_work`.
+use bank_endings::CommandFault;
+use bank_work::drive_into;
+use message_records::Branch;
+use posting_core::{Counter, PlainBank, StoredClock};
+use std::alloc::Global;
+use std::io::Write;
+
+pub fn first_drive<W: Write>(alloc: Global, output: &mut W) -> Result<(), CommandFault> {
+    let mut bank = PlainBank::new(alloc);
+    bank.open_branch(Branch::new(1).unwrap(), 3)?;
+    let mut clock = StoredClock::new(Vec::new(alloc));
+    drive_into(alloc, &mut bank, 7, 100, output, &mut clock)
+}

@@ -1,0 +1,21 @@
+//! The first program of `bank_batches`.
+ghost use Rattle.std.specs.Prelude.{◌≡◌, false};
+
+use bank_batches::post_all;
+use message_records::Moment;
+use posting_batch::Batch;
+use sqlite::{Alter, Connection};
+use std::alloc::Global;
+use std::test::Fail;
+
+pub fn first_batch<S: Alter>(
+    alloc: Global,
+    conn: &mut Connection<S>,
+    record: &[u8; 100],
+) -> Result<Vec<[u8; 200]>, Fail>
+    requires { conn.old.in_transaction ≡ false }
+{
+    let batch = Batch::new(alloc, &[*record, *record])?;
+    let moment = Moment::new(1_795_442_400).unwrap();
+    Ok(post_all(conn, moment, batch)?)
+}

@@ -1,0 +1,21 @@
+//! The first program of `bank_transactions`.
+ghost use Rattle.std.specs.Prelude.{◌≡◌, false};
+
+use bank_transactions::{open_branch, post};
+use message_records::{Account, Branch, Cents, Moment, Number, Request, Teller};
+use sqlite::{Alter, Connection};
+use store_rows::TableFault;
+
+pub fn first_request<S: Alter>(conn: &mut Connection<S>) -> Result<[u8; 200], TableFault>
+    requires { conn.old.in_transaction ≡ false }
+{
+    open_branch(conn, Branch::new(1).unwrap(), 3)?;
+    let request = Request::new(
+        Account::new(1).unwrap(),
+        Teller::new(1).unwrap(),
+        Branch::new(1).unwrap(),
+        Number::new(1).unwrap(),
+        Cents::new(500).unwrap(),
+    );
+    post(conn, Moment::new(1_795_442_400).unwrap(), &request.unwrap())
+}
