@@ -4,9 +4,10 @@
     tools/pages.py
 
 The page of a library is the `//!` lines at the head of its src/lib.rt. It has one ```rust block, and the paragraph before
-it names "the test `NAME` of `CRATE`" or "the program `CRATE`". The block's lines stand one directly after the other in a
-file of that crate, from the first import to the end of the test, which is marked as one, or of `main`. Blank lines,
-`#[test]` and indentation don't count. Prints a line for each page, and ends with status 1 if one of them differs.
+it names "the test `NAME` of `CRATE`", "the function `NAME` of `CRATE`" or "the program `CRATE`". The block's lines stand
+one directly after the other in a file of that crate, from the first import to the end of the test, which is marked as one,
+of the function, which is called elsewhere in the crate, or of `main`. Blank lines, `#[test]` and indentation don't count.
+Prints a line for each page, and ends with status 1 if one of them differs.
 """
 import re
 import sys
@@ -18,6 +19,7 @@ CRATES = Path(__file__).resolve().parent.parent / "crates"
 NO_PROGRAM = {"counter_tests", "failing_ends", "http_tests", "sql_meanings", "store_tests"}
 
 TEST = re.compile(r"[Tt]he test `(\w+)` of `(\w+)`")
+FUNCTION = re.compile(r"[Tt]he function `(\w+)` of `(\w+)`")
 PROGRAM = re.compile(r"[Tt]he program `(\w+)`")
 
 
@@ -36,9 +38,8 @@ def stripped(lines):
     return [line.strip() for line in lines if line.strip() not in ("", "#[test]")]
 
 
-def lines_to(text, name):
-    """The lines of a file to the end of its function `name`; none if it has no such test, or `main`."""
-    head = r"fn main\(" if name == "main" else rf"#\[test\]\s+fn {name}\("
+def lines_to(text, head):
+    """The lines of a file to the end of the function that begins so; none if it has no such function."""
     found = re.search(rf"^( *){head}.*?^\1}}$", text, re.MULTILINE | re.DOTALL)
     return found and stripped(text[: found.end()].splitlines())
 
@@ -51,17 +52,26 @@ def fault_of(page):
     start = starts[0]
     block = stripped(page[start + 1 : page.index("```", start)])
     paragraph = "\n".join(page[:start]).rstrip().split("\n\n")[-1].replace("\n", " ")
-    test, program = TEST.search(paragraph), PROGRAM.search(paragraph)
+    test, function, program = (it.search(paragraph) for it in (TEST, FUNCTION, PROGRAM))
     if test:
         name, crate = test.groups()
+        head = rf"#\[test\]\s+fn {name}\("
+    elif function:
+        name, crate = function.groups()
+        head = rf"(?:pub )?fn {name}[(<]"
     elif program:
         name, crate = "main", program.group(1)
+        head = r"fn main\("
     else:
-        return "names no test and no program"
-    if not block[0].startswith("use ") or not any(line.startswith(f"fn {name}(") for line in block):
+        return "names no test, no function and no program"
+    imports = block[0].startswith(("use ", "ghost use "))
+    if not imports or not any(re.match(rf"(?:pub )?fn {name}[(<]", line) for line in block):
         return f"shows no imports and `{name}`"
-    for file in sorted((CRATES / crate / "src").rglob("*.rt")):
-        lines = lines_to(file.read_text(), name)
+    files = sorted((CRATES / crate / "src").rglob("*.rt"))
+    if function and not any(re.search(rf"(?<!fn ){name}\(", it.read_text()) for it in files):
+        return f"`{name}` of `{crate}` isn't called"
+    for file in files:
+        lines = lines_to(file.read_text(), head)
         if lines:
             before = lines[: -len(block)]
             same = lines[len(before) :] == block and not (before and before[-1].endswith(";"))
