@@ -1,9 +1,10 @@
 //! What is found of a bank after a stop, for any number of stops: every acknowledged command, each request
 //! posted once, and books that agree (TPC-B clause 2).
 //!
-//! A life is the calls of a counter between two stops. At run time [`reopen`] does what `bank_store::adopt`
-//! does; its contract names the bank that was stopped, and says what the new one has of it. The function
-//! `next_life` of `store_tests`, which a test runs, is a caller that has both:
+//! A life is the calls of a counter between two stops. A program that was stopped has no old bank at hand
+//! when it runs again, and calls `bank_store::adopt`. [`reopen`] does at run time what `adopt` does; its
+//! contract names the bank that was stopped, and says what the new one has of it, so that a proof can follow
+//! a bank through its stops. The function `next_life` of `store_tests`, which a test runs, has both banks:
 //!
 //! ```rust
 //! ghost use Rattle.std.specs.Prelude.{◌≡◌, false};

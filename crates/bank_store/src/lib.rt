@@ -41,9 +41,12 @@
 //! }
 //! ```
 //!
-//! A connection to a file is one of `open` of the crate `bank_files`. Read next: [`Bank`], with what holds
-//! after each fault; [`Counter`], with the five calls; [`Walk`], to read the rows. `specs/Seen` says what a
-//! bank shows, and the crate `bank_lives` what is found after a stop.
+//! A connection to a file comes from `open` of the crate `bank_files`. A program that opens a bank's file
+//! again gives such a connection to [`adopt`] where this one calls [`create`]; `find_bank` of the crate
+//! `bank_openings` does both steps.
+//!
+//! Read next: [`Bank`], with what holds after each fault; [`Counter`], with the five calls; [`Walk`], to read
+//! the rows. `specs/Seen` says what a bank shows, and the crate `bank_lives` what is found after a stop.
 #![tactic(auto)]
 
 mod adoption;

@@ -20,6 +20,9 @@
 //! }
 //! ```
 //!
+//! A third count of [`Loaded`], `differs`, is of the branches that are open with another count of accounts,
+//! which they keep. [`Plan::from_list`] makes a plan of pairs in a vector, without a source.
+//!
 //! [`PlanFault`] says why a source is no plan: its header, or a row, counted from 1, whose columns, branch or
 //! count of accounts are wrong or whose branch an earlier row has; or that the source can't be read, or that
 //! memory was refused. Nothing is opened then. A fault of [`load`] is the counter's: the branches before it

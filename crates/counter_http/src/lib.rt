@@ -1,7 +1,8 @@
 //! The counter over HTTP: messages that are read from a connection are answered one after another, in their
 //! order, by any counter. `POST /post` with the 100 bytes of a record submits it (TPC-B 1.2), and the 200
-//! bytes of its reply come back; `GET /account/NUMBER` and `GET /branches` tell balances. The test
-//! `first_message` of `http_tests` posts 500 cents to a bank in memory:
+//! bytes of its reply come back. `GET /account/1` answers the line `account 1 balance 500`, and
+//! `GET /branches` a line for each open branch, with its number, its count of accounts and its balance. The
+//! test `first_message` of `http_tests` posts 500 cents to a bank in memory:
 //!
 //! ```rust
 //! use counter_http::serve_connection;
@@ -26,9 +27,13 @@
 //! }
 //! ```
 //!
+//! A posting that the bank refuses, as it does 100 bytes that are no request, is a 200 too: its reply has the
+//! outcome. A body of another length is answered by a 400, another path or an account that isn't open by a
+//! 404, and another method by a 405; the connection goes on. Bytes that are no message within [`MAX_HEAD`],
+//! [`MAX_FIELDS`] and [`MAX_BODY`] are answered by a 400, and the connection ends.
+//!
 //! [`ServeFault`] says why a connection ended before its input did: a read or a write failed, memory was
-//! refused, or the bank refused a call, which is answered by a 503. Bytes that are no message within
-//! [`MAX_HEAD`], [`MAX_FIELDS`] and [`MAX_BODY`] are answered by a 400, and the connection ends.
+//! refused, or the bank refused a call, which is answered by a 503.
 //!
 //! Read next: [`serve_connection`]; `specs/Messages`, what a message is, and `specs/Paths`, where each leads;
 //! the crate `counter_tcp`, which serves the connections of a listener.

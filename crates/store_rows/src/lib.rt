@@ -4,8 +4,8 @@
 //! whole.
 //!
 //! A function looks up a row, adds one or writes a number of one, inside a transaction of its caller;
-//! [`commit`] makes last what was written. The function `first_branch` of `store_tests`, which a test runs,
-//! makes the tables, adds branch 1 and finds it:
+//! [`commit`] makes last what was written, and a transaction that is dropped without it is undone. The
+//! function `first_branch` of `store_tests`, which a test runs, makes the tables, adds branch 1 and finds it:
 //!
 //! ```rust
 //! ghost use Rattle.std.specs.Prelude.{◌≡◌, false};
