@@ -34,7 +34,7 @@ with_branches rows branches = record rows { branches = branches }
 abbrev pub with_accounts : AuditRows → List StoredAccount → AuditRows
 with_accounts rows accounts = record rows { accounts = accounts }
 
--- a row and what stands beside it
+-- a row and what is beside it
 abbrev pub both : {R O : Type 0} → Joined R O → R × Option O
 both j = (j.stored, j.beside)
 

@@ -77,7 +77,7 @@ pub record WritesPostings (all : List Entry) (old new : Option (List ℕ))
   pub why : Why given rest result
   pub wrote : WritesText (text_of (posting_lines (pos 0) given)) old new result
 
--- the closing line stands behind the last posting
+-- the closing line is behind the last posting
 abbrev pub closing_behind : List Entry → ℤ → List (List ℕ)
 closing_behind [] balance = closing_line balance ∷ []
 closing_behind (e ∷ rest) balance = []

@@ -61,7 +61,7 @@ pub fn audit<S: Alter>(bank: &mut Bank<S>) -> Result<Audit, Fault>
         → (bank_seen S.Store bank.new).honest
         → (f : FileRows) → HasFile (database_of S.Store bank.old) f → (broken ≡ rule.Value)
         × HasBrokenRow f }
-    // The store is told to have failed where a read did.
+    // The store is said to have failed where a read did.
     ensures store { result ≡ Err Store → (bank_seen S.Store bank.new).honest → (f : FileRows)
         → HasFile (database_of S.Store bank.old) f
         → HasFailedToRead S.Store (connection_of bank.old) (connection_of bank.new) }

@@ -124,7 +124,7 @@ pub fn write_statement<S: Alter + Drop, W: Sink>(
         → (log : List Given) → ShowsLog (bank_seen S.Store bank.old) log → ⊥ }
     ensures down { (bank_seen S.Store bank.old).is_down → (result ≡ Err (OfBank Down))
         × (writer.new ≡ writer.old) }
-    // The store is told to have failed where the bank went down with its error, or where a read of the
+    // The store is said to have failed where the bank went down with its error, or where a read of the
     // postings failed.
     ensures cause { result ≡ Err (OfBank Store) → (bank_seen S.Store bank.new).is_down
         → KeepsCause S.Store bank.old bank.new }

@@ -1,6 +1,6 @@
 //! A batch of records in one transaction: each row that its records touch is read once, each row that they
 //! change is written once. There is a reply of 200 bytes for each record, in order, and what the records
-//! change stands together or not at all.
+//! change is found together or not at all.
 //!
 //! A batch is made of its records by `Batch::new` of `posting_batch`, and answered by [`post_all`]. The
 //! function `first_batch` of `store_tests`, which a test runs, submits a record and its repeat in one batch.

@@ -66,7 +66,7 @@ fn teller_beside<S: Alter>(tx: &mut Transaction<'_, S>, teller: Teller) -> Read<
 }
 
 // The balance of a teller, none where it isn't open, by the row of its branch. Where the two don't belong
-// together, both are looked up again: they are told to be damaged.
+// together, both are looked up again, so that one read reports it.
 fn teller_within<S: Alter>(
     tx: &mut Transaction<'_, S>,
     teller: Teller,

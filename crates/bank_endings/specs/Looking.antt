@@ -7,7 +7,7 @@ use Rattle.bank_endings.specs.declared.fault.CommandFault.TheVariants.{AlreadyBa
 use Rattle.bank_endings.specs.declared.fault.CommandFault.TheVariants.{NoBank}
 use Rattle.bank_endings.specs.declared.fault.CommandFault.TheVariants.{Plan, Store, Version}
 
--- a file that isn't there, or that stands below something that is no folder, is no bank
+-- a file that isn't there, or that is below something that is no folder, is no bank
 abbrev pub fault_of_look : ErrorKind → CommandFault
 fault_of_look kind.NotFound = NoBank
 fault_of_look kind.NotADirectory = NoBank

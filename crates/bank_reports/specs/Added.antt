@@ -31,7 +31,7 @@ pub record HasBranches (s : BranchSums) (tellers : List StoredTeller)
   pub all : IsSum s.all (map branch_balance branches)
   pub lines : take s.differing s.lines.items ≡ lines_of tellers branches
 
--- these requests and postings were added, each with what stands beside it
+-- these requests and postings were added, each with what is beside it
 pub record HasBeside (s : OrdinalSums) (asked : List (StoredRequest × Option StoredPosting))
     (posted : List (StoredPosting × Option StoredRequest)) : Type 0 where
   pub requests : s.requests ≡ length asked

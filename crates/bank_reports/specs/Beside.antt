@@ -1,4 +1,4 @@
--- The rows that an audit is given, each request and each posting with what stands beside it, and the audit of
+-- The rows that an audit is given, each request and each posting with what is beside it, and the audit of
 -- these.
 use Rattle.std.specs.Prelude.{◌≡◌, ℤ, ◌+◌, Bool, not, List, [], length, map, filter, Option, Some}
 use Rattle.std.specs.Prelude.{is_some}

@@ -123,7 +123,7 @@ fn padded(alloc: Global, text: &str) -> Result<Vec<u8>, AllocError> {
     Ok(bytes)
 }
 
-// Writes a file, whose name stands before its lines.
+// Writes a file, whose name comes before its lines.
 fn write_lines(rt: &HostRuntime, rest: &str) -> Result<(), anyhow::Error> {
     let mut words = rest.split(' ');
     let file = words.next().unwrap_or("");
@@ -136,7 +136,7 @@ fn write_lines(rt: &HostRuntime, rest: &str) -> Result<(), anyhow::Error> {
     Ok(())
 }
 
-// Writes a file, whose name stands before its text.
+// Writes a file, whose name comes before its text.
 fn put(rt: &HostRuntime, rest: &str) -> io::Result<()> {
     let (file, text) = rest.split_once(' ').unwrap_or((rest, ""));
     fs::write(rt, file, text)
@@ -150,7 +150,7 @@ fn look(rt: &HostRuntime, file: &str) -> io::Result<()> {
     }
 }
 
-// Runs a query on a file, whose name stands before it, and prints the number that it gives.
+// Runs a query on a file, whose name comes before it, and prints the number that it gives.
 fn ask(rt: &HostRuntime, rest: &str) -> Result<(), anyhow::Error> {
     let (file, sql) = rest.split_once(' ').unwrap_or((rest, ""));
     let number = number_of(rt, file, sql)?;
@@ -166,7 +166,7 @@ fn number_of(rt: &HostRuntime, file: &str, sql: &str) -> Result<i64, Error> {
     Ok(number)
 }
 
-// Runs SQL on a file, whose name stands before it.
+// Runs SQL on a file, whose name comes before it.
 fn execute(rt: &HostRuntime, rest: &str) -> Result<(), Error> {
     let (file, sql) = rest.split_once(' ').unwrap_or((rest, ""));
     let mut conn = Connection::open(rt, file)?;

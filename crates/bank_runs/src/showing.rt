@@ -5,7 +5,7 @@ use std::alloc::{AllocError, Global};
 const LONGEST: usize = 200;
 
 /// Shows each line of what a stream got, and bytes that end no line in pieces of up to 200. The stream's name
-/// stands before each, and how many spaces it ends with behind it.
+/// comes before each, and how many spaces it ends with behind it.
 pub fn shown(alloc: Global, stream: &str, bytes: &[u8]) -> Result<String, AllocError> {
     let mut text = String::new(alloc);
     for line in bytes.split_inclusive(|byte| *byte == b'\n') {

@@ -47,7 +47,7 @@ abbrev pub AnswersBy : {S X : Type 0} (g : Ghosts S) → Bank S g → Bank S g �
 AnswersBy g old new wanted result = IfOk result (λ answer. (bank_seen g new).honest → (log : List Command)
     → ShowsLog (bank_seen g old) log → answer ≡ wanted log)
 
--- where damage is told, all that the file holds is as it was
+-- where damage is reported, all that the file holds is as it was
 abbrev pub KeepsFile : {S : Type 0} (g : Ghosts S) → Bank S g → Bank S g → Fault → Type 0
 KeepsFile g old new fault = TellsDamage fault → (bank_seen g new).honest
     → database_of g new ≡ database_of g old

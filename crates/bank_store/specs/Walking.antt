@@ -80,7 +80,7 @@ HasToldFault w = w.stage ≡ Failed
 -- ---- its beginning
 
 -- A walk over such items, all of them or those of an account, begins over a bank that is not down, and borrows
--- it under this name; no other fault is told.
+-- it under this name; no other fault is reported.
 pub record BeginsWalk {S R X : Type 0} (g : Ghosts S) (key : X → ℤ) (item : R → X)
     (is_given : Option ℕ → X → Bool) (HasItems : Database → List X → Type 0) (of : Option ℕ) (name : GName)
     (old : Bank S g) (result : Result (Walk S R g) Fault) : Type 0 where

@@ -16,7 +16,7 @@ use std::io;
 
 fn main(rt: HostRuntime) -> Result<(), anyhow::Error> {
     let script = io::read_to_string(rt.alloc(), rt.stdin())?;
-    // What stands above the first scenario is no step.
+    // What is above the first scenario is no step.
     for scenario in script.split("\nbank ").skip(1) {
         play(&rt, Connection::open_in_memory(rt.alloc())?, scenario)?;
     }

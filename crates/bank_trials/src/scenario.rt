@@ -88,7 +88,7 @@ impl Scenario {
         }
     }
 
-    // Asks the bank, or both banks. Where these differ, the answers of both are told.
+    // Asks the bank, or both banks. Where these differ, the answers of both are printed.
     fn ask<S: Alter + Drop>(
         &mut self,
         stored: Stored<S>,

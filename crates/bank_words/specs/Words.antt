@@ -13,7 +13,7 @@ use Rattle.bank_words.specs.declared.reading.Command.{Command}
 use Rattle.bank_words.specs.declared.reading.Command.TheVariants.{Audit, Drive, Init, Load, Post, Serve}
 use Rattle.bank_words.specs.declared.reading.Command.TheVariants.{Statement}
 
--- the number that a text of digits spells; a plus may stand before them
+-- the number that a text of digits spells; a plus may come before them
 abbrev pub number_of : Text → ℕ
 number_of text = digits_value 10 (without_leading_plus text)
 

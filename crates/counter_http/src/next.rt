@@ -54,7 +54,7 @@ pub(crate) fn is_head(method: &[u8]) -> bool
     method == b"HEAD".as_slice()
 }
 
-// What stands behind a head.
+// What is behind a head.
 fn behind_head<'b>(buf: &'b [u8], head: RequestSpans, fields: &[HeaderSpan]) -> Next<'b>
     requires within { IsRequestWithin buf.now fields.now head }
     requires head { IsRequestOf buf.now fields.now head }

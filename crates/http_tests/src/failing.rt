@@ -91,7 +91,7 @@ fn written_in_part(
     assert_eq!(rt; result, Err(ServeFault::Write));
     assert!(rt; answers.starts_with(&writer.taken));
     assert_eq!(rt; writer.taken.len(), most);
-    // What was not answered wholly is submitted, and what stands behind it isn't.
+    // What was not answered wholly is submitted, and what is behind it isn't.
     let first_is_whole = writer.writes >= 2 && most >= answers.len() / 2;
     assert_eq!(rt; balance_of(&mut bank, 1)?, 500);
     assert_eq!(rt;

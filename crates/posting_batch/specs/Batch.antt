@@ -78,7 +78,7 @@ CoversRead o (Ok r) = Covers o r
 abbrev pub CoversAll : Overlay → List (Result RequestFields Bad) → Type 0
 CoversAll o reads = AllByRecursion (CoversRead o) reads
 
--- the slots stand in the order of their keys, and no two have one key
+-- the slots are in the order of their keys, and no two have one key
 pub record HasRisingSlots (o : Overlay) : Type 0 where
   pub branches : IsRising (number_below branch_slot_key) o.branches
   pub tellers : IsRising (number_below teller_slot_key) o.tellers

@@ -25,7 +25,7 @@ view o = record {
 abbrev pub reads_of : Batch → List (Result RequestFields Bad)
 reads_of b = b.reads.items
 
--- the batch is made of these records: an empty slot stands under each key that they can touch
+-- the batch is made of these records: there is an empty slot under each key that they can touch
 pub record IsMadeOf (b : Batch) (records : List (List ℕ)) : Type 0 where
   pub reads : reads_of b ≡ map request_of records
   pub overlay : view b.overlay ≡ covering_all no_slots (map request_of records)

@@ -1,4 +1,4 @@
--- Rows that stand in the order in which they came: what a record and an opening do to them.
+-- Rows in the order in which they came: what a record and an opening do to them.
 use Rattle.std.specs.Prelude.{ℕ, zero, suc, ◌+◌, ℤ, pos, List, [], ◌∷◌, ◌++◌, Result, Ok, Err}
 use Rattle.message_records.specs.declared.fault.Bad.{Bad}
 use Rattle.message_records.specs.Records.{RequestFields, ReplyFields}

@@ -54,7 +54,7 @@ pub record IsRefused (fault : Fault) (r r' w w' : Option (List ℕ)) (c c' : See
   pub written : Keeps w w'
   pub refuses : Refuses fault c c' (Post moment bytes ∷ [])
 
--- what stands after each fault
+-- what holds after each fault
 abbrev pub LeavesAfterFault : OnceFault → Option (List ℕ) → Option (List ℕ) → Option (List ℕ)
     → Option (List ℕ) → Seen
     → Seen → ℕ → Type 0

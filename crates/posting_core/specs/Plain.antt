@@ -1,4 +1,4 @@
--- A bank in memory: its rows stand in the order in which they came.
+-- A bank in memory: its rows are in the order in which they came.
 use Rattle.std.specs.Prelude.{◌≡◌, length}
 use Rattle.posting_core.specs.declared.plain_bank.PlainBank.{PlainBank}
 use Rattle.posting_rules.specs.Tables.{Tables}

@@ -159,7 +159,7 @@ IfTaken (Err (Bank fault)) P = ⊤
 IfTaken _ P = P
 
 -- where a bank showed posts p and took all that was read, it shows p and then what was read less the records
--- that stand in p
+-- that are in p
 pub record Resends (r r' : Option (List ℕ)) (c c' : Seen) (result : Result ℕ StreamFault) : Type 0 where
   pub bytes : List ℕ
   pub read : Consumes r r' bytes

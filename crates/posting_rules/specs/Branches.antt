@@ -28,7 +28,7 @@ pub record IsLineAbove (after : ℕ) (line : BranchLine) : Type 0 where
   pub some : 1 ≤ line.accounts
   pub few : line.accounts ≤ MOST_ACCOUNTS
 
--- ---- of rows, in whatever order they stand
+-- ---- of rows, in whatever order they are
 
 -- number and count are in the ranges of a bank's branches
 pub record IsInRange (row : BranchRow) : Type 0 where
@@ -36,7 +36,7 @@ pub record IsInRange (row : BranchRow) : Type 0 where
   pub some : 1 ≤ row.accounts
   pub few : row.accounts ≤ MOST_ACCOUNTS
 
--- the row stands above this number, and none above it has a lower one
+-- the row is above this number, and none above it has a lower one
 pub record IsNextRow (rows : List BranchRow) (after : ℕ) (row : BranchRow) : Type 0 where
   pub stands : Contains rows row
   pub above : after < row.branch

@@ -6,21 +6,21 @@ use Rattle.posting_rules.specs.Entries.{reply, decided}
 use Rattle.posting_rules.specs.Tables.{Tables, AreTablesOf}
 use Rattle.posting_rules.specs.Runs.{behind, replies_to, ArePosts}
 
--- a place where a record stands among commands
+-- a place where a record is among commands
 pub record Place (bytes : List ℕ) (commands : List Command) : Type 0 where
   pub before : List Command
   pub moment : ℕ
   pub after : List Command
   pub is : commands ≡ before ++ Post moment bytes ∷ after
 
--- the kept commands are those of r, less some whose records stand in p
+-- the kept commands are those of r, less some whose records are in p
 abbrev pub Skips : List Command → List Command → List Command → Type 0
 Skips p [] kept = kept ≡ []
 Skips p (Open branch count ∷ r) kept = ⊥
 Skips p (Post moment bytes ∷ r) kept = (Place bytes p × Skips p r kept) ⊎
     ((others : List Command) × (kept ≡ Post moment bytes ∷ others) × Skips p r others)
 
--- a record that stands in p gets, behind p and further posts q, the reply that it got in p, and is not
+-- a record that is in p gets, behind p and further posts q, the reply that it got in p, and is not
 -- decided again
 abbrev pub RepliesAgain : Type 0
 RepliesAgain = (log p q : List Command) (moment : ℕ) (bytes : List ℕ) → (at : Place bytes p) → ArePosts p
@@ -28,7 +28,7 @@ RepliesAgain = (log p q : List Command) (moment : ℕ) (bytes : List ℕ) → (a
     → (reply (behind (behind log p) q) bytes ≡ reply (behind log at.before) bytes)
     × (decided (Post moment bytes ∷ behind (behind log p) q) ≡ decided (behind (behind log p) q))
 
--- so where posts r are taken behind p, each of their records that stands in p gets, at its place, the reply
+-- so where posts r are taken behind p, each of their records that is in p gets, at its place, the reply
 -- that it got in p
 abbrev pub RepliesInPlace : Type 0
 RepliesInPlace = (log p r : List Command) (bytes : List ℕ) → (at : Place bytes p) → (again : Place bytes r)
@@ -36,7 +36,7 @@ RepliesInPlace = (log p r : List Command) (bytes : List ℕ) → (at : Place byt
     → get_or (replies_to (behind log p) r) (length again.before) [] ≡ reply_spelling
     (reply (behind log at.before) bytes)
 
--- tables that show p and then posts r show p and then r less the records that stand in p
+-- tables that show p and then posts r show p and then r less the records that are in p
 abbrev pub AddsOnce : Type 0
 AddsOnce = (tables : Tables) (log p r added : List Command) → ArePosts p → ArePosts r → Skips p r added
     → AreTablesOf tables (behind (behind log p) r) → AreTablesOf tables (behind (behind log p) added)

@@ -1,4 +1,4 @@
--- What becomes of a record, said case by case in the words of the profile, of what stands before it.
+-- What becomes of a record, said case by case in the words of the profile, by what came before it.
 use Rattle.std.specs.Prelude.{◌≡◌, ◌≢◌, ◌≤◌, ◌<◌, ◌↔◌, ℕ, ℤ, pos, ◌+ℤ◌, nat_abs, List, ◌∷◌, length, Some}
 use Rattle.std.specs.Prelude.{None, Ok, Err, true, false}
 use Rattle.posting_rules.specs.declared.limits.TheConstants.{MAX_DECIDED}
