@@ -2,10 +2,10 @@
 ghost use Rattle.std.specs.Prelude.{◌≡◌, ◌≢◌, Err, IfErr, OnOk};
 ghost use Rattle.sqlite.specs.State.{HasCleanDisk};
 ghost use Rattle.sqlite.specs.Held.{state};
-ghost use Rattle.posting_rules.specs.declared.fault.Fault.TheVariants.{Memory};
+ghost use Rattle.posting_rules.specs.declared.fault.Fault.TheVariants.{Down, Memory};
 ghost use Rattle.bank_reports.specs.Beside.{no_rows, rows_of};
 ghost use Rattle.bank_reports.specs.Stored.{StoredTables};
-ghost use Rattle.bank_store.specs.Seen.{connection_of, database_of, fault_of};
+ghost use Rattle.bank_store.specs.Seen.{bank_seen, connection_of, database_of, fault_of};
 ghost use Rattle.bank_audits.specs.Adding.{HasSums, IsPassed};
 ghost use Rattle.bank_audits.specs.Failures.{HasFailedToRead, Says};
 ghost use Rattle.bank_audits.specs.Files.{FileRows, HasBrokenRow, HasFile, rows_in};
@@ -27,6 +27,7 @@ pub(crate) fn add_all<S: Alter>(bank: &mut Bank<S>, sums: &mut Sums) -> Result<(
         → HasFile (database_of S.Store bank.old) f → IfErr result (Says (HasBrokenRow f)
         (HasFailedToRead S.Store (connection_of bank.old) (connection_of bank.new))) }
     ensures frugal { result ≢ Err Memory }
+    ensures tried { result ≡ Err Down → (bank_seen S.Store bank.old).is_down }
     ensures passed { IsPassed (state S.Store (connection_of bank.old))
         (state S.Store (connection_of bank.new)) result }
     ensures up { fault_of bank.new ≡ fault_of bank.old }

@@ -71,6 +71,7 @@ pub fn audit<S: Alter>(bank: &mut Bank<S>) -> Result<Audit, Fault>
         → (log : List Given) → ShowsLog (bank_seen S.Store bank.old) log → ⊥ }
     ensures memory { result ≡ Err Memory → bank.new ≡ bank.old }
     ensures down { (bank_seen S.Store bank.old).is_down → (result ≡ Err Down) × (bank.new ≡ bank.old) }
+    ensures tried { result ≡ Err Down → (bank_seen S.Store bank.old).is_down }
     ensures up { fault_of bank.new ≡ fault_of bank.old }
     // Whatever it answers, a stop leaves what shows the log.
     ensures survives { (bank_seen S.Store bank.new).honest → (log : List Given)

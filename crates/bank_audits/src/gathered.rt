@@ -1,11 +1,11 @@
 //! Rows of a walk that are added up.
 ghost use Rattle.std.specs.Prelude.{◌≡◌, ◌≢◌, [], List, Err, IfErr, IfOk, map};
 ghost use Rattle.sqlite.specs.State.{HasCleanDisk};
-ghost use Rattle.posting_rules.specs.declared.fault.Fault.TheVariants.{Memory};
+ghost use Rattle.posting_rules.specs.declared.fault.Fault.TheVariants.{Down, Memory};
 ghost use Rattle.bank_reports.specs.Beside.{AuditRows};
 ghost use Rattle.bank_walks.specs.Rows.{LEAST};
 ghost use Rattle.bank_store.specs.Seen.{connection_of, fault_of};
-ghost use Rattle.bank_store.specs.Walking.{ComesFrom, items_to_come, lent, lent_state, loan_of};
+ghost use Rattle.bank_store.specs.Walking.{ComesFrom, HasToldFault, items_to_come, lent, lent_state, loan_of};
 ghost use Rattle.bank_audits.specs.Adding.{AddsToSums, HasSums, IsPassed};
 ghost use Rattle.bank_audits.specs.Failures.{HasFailedToRead, Says};
 ghost use Rattle.bank_audits.specs.Files.{HasBroken};
@@ -22,6 +22,7 @@ pub(crate) fn add_rows<S: Alter, R: Summed>(
 ) -> Result<(), Fault>
     requires has { (rows : AuditRows) × HasSums sums.old (R.Summed.with_rows rows []) }
     requires rises { ComesFrom (λ r. R.WalkedRow.key (R.WalkedRow.item r)) LEAST walk.old }
+    requires fresh { HasToldFault walk.old → ⊥ }
     ensures same_reference { loan_of walk.new ≡ loan_of walk.old }
     ensures added { IfOk result (λ _. (given : List R) × AddsToSums R.Summed.with_rows sums.old sums.new given
         × (HasCleanDisk (lent_state S.Store walk.new) → (all : List R.WalkedRow.Item)
@@ -34,6 +35,7 @@ pub(crate) fn add_rows<S: Alter, R: Summed>(
         in IfErr result (Says (HasBroken R.WalkedRow.is_broken coming)
         (HasFailedToRead S.Store (connection_of (lent walk.old)) (connection_of (lent walk.new)))) }
     ensures frugal { result ≢ Err Memory }
+    ensures tried { result ≢ Err Down }
     ensures passed { IsPassed (lent_state S.Store walk.old) (lent_state S.Store walk.new) result }
     ensures up { fault_of (lent walk.new) ≡ fault_of (lent walk.old) }
 {

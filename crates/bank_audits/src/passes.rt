@@ -2,9 +2,9 @@
 ghost use Rattle.std.specs.Prelude.{◌≡◌, ◌≢◌, [], List, Err, IfErr, IfOk, map};
 ghost use Rattle.sqlite.specs.State.{HasCleanDisk};
 ghost use Rattle.sqlite.specs.Held.{state};
-ghost use Rattle.posting_rules.specs.declared.fault.Fault.TheVariants.{Memory};
+ghost use Rattle.posting_rules.specs.declared.fault.Fault.TheVariants.{Down, Memory};
 ghost use Rattle.bank_reports.specs.Beside.{AuditRows};
-ghost use Rattle.bank_store.specs.Seen.{connection_of, database_of, fault_of};
+ghost use Rattle.bank_store.specs.Seen.{bank_seen, connection_of, database_of, fault_of};
 ghost use Rattle.bank_audits.specs.Adding.{AddsToSums, HasSums, IsPassed};
 ghost use Rattle.bank_audits.specs.Failures.{HasFailedToRead, Says};
 ghost use Rattle.bank_audits.specs.Files.{HasBroken};
@@ -30,6 +30,7 @@ pub(crate) trait Added: Summed {
             → IfErr result (Says (HasBroken Self.is_broken all)
             (HasFailedToRead S.Store (connection_of bank.old) (connection_of bank.new))) }
         ensures frugal { result ≢ Err Memory }
+        ensures tried { result ≡ Err Down → (bank_seen S.Store bank.old).is_down }
         ensures passed { IsPassed (state S.Store (connection_of bank.old))
             (state S.Store (connection_of bank.new)) result }
         ensures up { fault_of bank.new ≡ fault_of bank.old };

@@ -2,7 +2,7 @@
 ghost use Rattle.std.specs.Prelude.{◌≡◌, ◌≢◌, List, Err, OnOk, Some, filter};
 ghost use Rattle.sqlite.specs.State.{HasCleanDisk, Survives};
 ghost use Rattle.sqlite.specs.Held.{state};
-ghost use Rattle.posting_rules.specs.declared.fault.Fault.TheVariants.{Store};
+ghost use Rattle.posting_rules.specs.declared.fault.Fault.TheVariants.{Down, Store};
 ghost use Rattle.posting_core.specs.Told.{HasMore, HasWriteFailed};
 ghost use Rattle.sql_meanings.specs.Entries.{Entry};
 ghost use Rattle.store_rows.specs.SixTables.{history as history_table};
@@ -43,6 +43,7 @@ pub(crate) fn write_postings<S: Alter, W: Sink>(
         → WritesPostings (filter (is_of (Some account)) rows) (W.contents writer.old)
         (W.contents writer.new) result }
     ensures found { result ≢ Err NoAccount }
+    ensures tried { result ≡ Err (OfBank Down) → (bank_seen S.Store bank.old).is_down }
     ensures store { result ≡ Err (OfBank Store) → HasCleanDisk (state S.Store (connection_of bank.new))
         → (rows : List Entry)
         → HasStoredRows (database_of S.Store bank.old) history_table rows

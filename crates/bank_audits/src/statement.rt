@@ -46,6 +46,7 @@ fn write_lines<S: Alter, W: Sink>(
         → WritesStatement account balance (filter (is_of (Some account)) rows) (W.contents writer.old)
         (W.contents writer.new) result }
     ensures found { result ≢ Err NoAccount }
+    ensures tried { result ≡ Err (OfBank Down) → (bank_seen S.Store bank.old).is_down }
     ensures store { result ≡ Err (OfBank Store) → HasCleanDisk (state S.Store (connection_of bank.new))
         → (rows : List Entry)
         → HasStoredRows (database_of S.Store bank.old) history_table rows
@@ -124,6 +125,7 @@ pub fn write_statement<S: Alter + Drop, W: Sink>(
         → (log : List Given) → ShowsLog (bank_seen S.Store bank.old) log → ⊥ }
     ensures down { (bank_seen S.Store bank.old).is_down → (result ≡ Err (OfBank Down))
         × (writer.new ≡ writer.old) }
+    ensures tried { result ≡ Err (OfBank Down) → (bank_seen S.Store bank.old).is_down }
     // The store is said to have failed where the bank went down with its error, or where a read of the
     // postings failed.
     ensures cause { result ≡ Err (OfBank Store) → (bank_seen S.Store bank.new).is_down

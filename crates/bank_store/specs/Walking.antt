@@ -90,6 +90,7 @@ pub record BeginsWalk {S R X : Type 0} (g : Ghosts S) (key : X → ℤ) (item : 
   pub all : IfOk result (λ it. (items : List X) → HasItems (database_of g old) items
       → items_to_come key item is_given items it ≡ given_of is_given of items)
   pub rises : IfOk result (λ it. ComesFrom (λ r. key (item r)) LEAST it)
+  pub fresh : IfOk result (λ it. HasToldFault it → ⊥)
   pub fault : IfErr result (λ f. (f ≡ told.Down) × (bank_seen g old).is_down)
   pub down : (bank_seen g old).is_down → IsErrOf result told.Down
 

@@ -137,6 +137,7 @@ impl<'bank, S: Alter, R: WalkedRow> Walk<'bank, S, R> {
             → items_to_come R.WalkedRow.key R.WalkedRow.item R.WalkedRow.is_given all result
             ≡ filter (R.WalkedRow.is_given of) all }
         ensures rises { ComesFrom (λ r. R.WalkedRow.key (R.WalkedRow.item r)) LEAST result }
+        ensures fresh { HasToldFault result → ⊥ }
     {
         Walk {
             bank,
@@ -232,6 +233,7 @@ impl<'bank, S: Alter, R: WalkedRow> Walk<'bank, S, R> {
         ensures ended { result ≡ Ok None → IsEnded self.new }
         ensures again { IsEnded self.old → (result ≡ Ok None) × (self.new ≡ self.old) }
         ensures failed { IfErr result (λ _. HasToldFault self.new) }
+        ensures going { OnOk result (HasToldFault self.new → ⊥) }
         ensures frugal { result ≢ Err fault.Memory }
         ensures down { (HasToldFault self.old → IsErrOf result fault.Down)
             × (IsErrOf result fault.Down → HasToldFault self.old × (self.new ≡ self.old)) }

@@ -15,6 +15,7 @@ rows-init g c = record {
   reference = refl;
   survives = search rules;
   up = refl;
+  fresh = c.requires.fresh;
   still = λ clean. (refl, refl, refl, refl);
   gathered = record { given = []; many = refl; are = λ clean items has. refl; added = λ rows none. none };
   along = record { next = LEAST; comes = c.requires.rises; behind = inl refl; few = omega arith };
@@ -107,6 +108,7 @@ rows-preserved g c =
       reference = c.next.ensures.same_reference ∙ it.reference;
       survives = quiet_then old mid new it.survives c.next.ensures.survives;
       up = c.next.ensures.up ∙ it.up;
+      fresh = c.in_ok-row.ensures.going;
       still = λ clean. still_then old mid new (it.still (before clean)) (c.in_ok-row.ensures.same clean);
       gathered = one_more_row g.R.WalkedRow.item g.R.WalkedRow.HasItems g.R.Summed.with_rows old.now
           (HasCleanDisk mid) (HasCleanDisk new) c.args.sums.now c.rows.sums

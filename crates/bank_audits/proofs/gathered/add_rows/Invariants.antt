@@ -3,7 +3,7 @@ use Rattle.std.proofs.Common.{◌≡◌}
 use Rattle.sqlite.specs.State.{HasCleanDisk, Survives}
 use Rattle.sqlite.specs.Held.{state}
 use Rattle.bank_store.specs.Walks.{IsStill}
-use Rattle.bank_store.specs.Walking.{ComesFrom, items_to_come}
+use Rattle.bank_store.specs.Walking.{ComesFrom, HasToldFault, items_to_come}
 use Rattle.bank_audits.proofs.AddedRows.{IsAlong, IsGathered}
 use Rattle.bank_audits.proofs.gathered.add_rows.Given as goal
 
@@ -15,6 +15,7 @@ invariant-rows g l =
       reference : l.walk.bank.ghost_name ≡ l.fn.walk.bank.ghost_name;
       survives : Survives old now (λ _. ⊥);
       up : l.walk.bank.now.fault ≡ l.fn.walk.bank.now.fault;
+      fresh : HasToldFault l.walk → ⊥;
       still : HasCleanDisk now → IsStill old now;
       gathered : IsGathered g.R.WalkedRow.item g.R.WalkedRow.HasItems g.R.Summed.with_rows old.now
           (HasCleanDisk now) l.fn.sums l.sums

@@ -98,6 +98,7 @@ lines-preserved g c =
       reference = c.next.ensures.same_reference ∙ it.reference;
       survives = quiet_then old mid new it.survives c.next.ensures.survives;
       up = c.next.ensures.up ∙ it.up;
+      fresh = c.in_ok-row.ensures.going;
       still = λ clean. still_then old mid new (it.still (before clean)) (c.in_ok-row.ensures.same clean);
       more = more_more it.more c.in_ok-balance.ensures.more;
       far = λ clean rows has.

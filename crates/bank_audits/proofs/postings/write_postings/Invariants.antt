@@ -8,7 +8,7 @@ use Rattle.store_rows.specs.SixTables.{history as history_table}
 use Rattle.bank_walks.specs.Rows.{HasStoredRows}
 use Rattle.bank_walks.specs.Stored.{is_of, posting_entry}
 use Rattle.bank_store.specs.Walks.{IsStill}
-use Rattle.bank_store.specs.Walking.{to_come}
+use Rattle.bank_store.specs.Walking.{HasToldFault, to_come}
 use Rattle.bank_audits.proofs.Further.{IsFar}
 use Rattle.bank_audits.proofs.postings.write_postings.Given as goal
 
@@ -20,6 +20,7 @@ invariant-lines g l =
       reference : l.walk.bank.ghost_name ≡ l.initial.walk.bank.ghost_name;
       survives : Survives old now (λ _. ⊥);
       up : l.walk.bank.now.fault ≡ l.fn.bank.fault;
+      fresh : HasToldFault l.walk → ⊥;
       still : HasCleanDisk now → IsStill old now;
       more : HasMore (g.W.Sink.told l.fn.writer) (g.W.Sink.told l.writer);
       far : HasCleanDisk now → (rows : List Entry) → HasStoredRows old.now history_table rows

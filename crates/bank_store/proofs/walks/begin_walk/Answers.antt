@@ -22,6 +22,7 @@ returns g c = (
           λ all has. c.over.ensures.all all has
           ∙ passed g.R.WalkedRow.is_given g.met.R.WalkedRow.all_given c.args.of all;
       rises = c.over.ensures.rises;
+      fresh = c.over.ensures.fresh;
       fault = tt;
       down = λ down. absurd (let tells = c.is_down.ensures in let up = c.if-is_down.false in cc);
     };
