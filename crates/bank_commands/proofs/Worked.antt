@@ -1,6 +1,7 @@
 -- The bank that was found is the one that the command worked with.
-use Rattle.std.proofs.Common.{◌≡◌, ◌⊎◌, inl, inr, subst, ℕ, List, Option, Result, Ok, Err, OnOk, OnErr, IfErr}
-use Rattle.std.proofs.Common.{IsErrOf}
+use Rattle.std.proofs.Common.{◌≡◌, ◌⊎◌, inl, inr, subst, sym, ℕ, List, Option, Result, Ok, Err, OnOk, OnErr}
+use Rattle.std.proofs.Common.{IfErr, IsErrOf}
+use Rattle.sqlite.specs.State.{State}
 use Rattle.sqlite_wal.specs.Recovery.{Image}
 use Rattle.posting_rules.specs.Counter.{Seen}
 use Rattle.posting_rules.specs.declared.fault.Fault.{Fault}
@@ -13,9 +14,10 @@ use Rattle.bank_endings.specs.declared.fault.CommandFault.TheVariants.{Write}
 use Rattle.bank_endings.specs.declared.status.Status.{Status}
 use Rattle.bank_endings.specs.Looking.{IsOfOpening}
 use Rattle.bank_openings.specs.InFile.{IsFoundIn}
+use Rattle.bank_openings.specs.Unfound.{IsUnfoundIn}
 use Rattle.bank_work.specs.Auditing.{Prints}
 use Rattle.bank_commands.specs.Auditing.{Audits, AuditsIn}
-use Rattle.bank_commands.specs.Commands.{PostsIn, RunsIn, said_of}
+use Rattle.bank_commands.specs.Commands.{FindsBank, PostsIn, RunsIn, said_of}
 use Rattle.bank_commands.specs.Stating.{States, StatesIn, said_of_statement}
 
 pub on_ok : {X E : Type 0} {P : Type 0} (r : Result X E) → P → OnOk r P
@@ -37,6 +39,13 @@ pub only_write : {X : Type 0} (P : CommandFault → Type 0) (r : Result X Comman
     → IfErr r (λ fault. (fault ≡ Write) ⊎ P fault)
 only_write P (Ok x) is = tt
 only_write P (Err fault) is = inl (let same : fault ≡ Write = cc in same)
+
+-- no bank was found, and the command ended with that fault
+pub none_found : {C H X : Type 0} {seen : C → Seen} {state : H → State} {image : Image}
+    (result : Result X CommandFault) (fault : CommandFault) → result ≡ Err fault
+    → IsUnfoundIn state image fault → FindsBank seen state image result
+none_found {seen} {state} {image} result fault same unfound =
+    subst (λ r. FindsBank seen state image r) (sym same) (inl unfound)
 
 module _ {C : Type 0} (seen : C → Seen) (image : Image) (Unfound : Type 0) (P : C → C → Type 0) where
   pub runs : (first last : C) → IsFoundIn image (seen first) → P first last → RunsIn seen image Unfound P

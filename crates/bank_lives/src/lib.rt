@@ -4,7 +4,8 @@
 //! A life is the calls of a counter between two stops. A program that was stopped has no old bank at hand
 //! when it runs again, and calls `bank_store::adopt`. [`reopen`] does at run time what `adopt` does; its
 //! contract names the bank that was stopped, and says what the new one has of it, so that a proof can follow
-//! a bank through its stops. The function `next_life` of `store_tests`, which a test runs, has both banks:
+//! a bank through its stops. The connection comes from `open` of `bank_files`, on the files of the bank that
+//! was stopped. The function `next_life` of `store_tests`, which a test runs, has both banks:
 //!
 //! ```rust
 //! ghost use Rattle.std.specs.Prelude.{◌≡◌, false};

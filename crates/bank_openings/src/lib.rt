@@ -21,9 +21,11 @@
 //! }
 //! ```
 //!
-//! `Unknown` is all that a program knows of what its files hold; a proof may put more in its place. A fault
-//! is a `CommandFault` of `bank_endings`, such as `AlreadyBank` or `NoBank`. Read next: `specs/InFile`,
-//! which bank is found there, by what the files held.
+//! `rt` is what `main` is given. `Unknown` is all that a program knows of what its files hold, and supposes
+//! that a torn write leaves each byte old or new; `Wary` of `sqlite` in its place doesn't suppose it, and
+//! syncs twice a commit. Where [`close`] gives no files back there is nothing to do: what was committed is
+//! kept, and the next open finds it. A fault is a `CommandFault` of `bank_endings`, such as `AlreadyBank` or
+//! `NoBank`. Read next: `specs/InFile`, which bank is found there, by what the files held.
 #![tactic(auto)]
 
 mod files;

@@ -43,7 +43,11 @@
 //!
 //! A connection to a file comes from `open` of the crate `bank_files`. A program that opens a bank's file
 //! again gives such a connection to [`adopt`] where this one calls [`create`]; `find_bank` of the crate
-//! `bank_openings` does both steps.
+//! `bank_openings` does both steps. So does a program after [`Fault::Store`], once it has released and closed
+//! the connection of the bank that is down.
+//!
+//! [`Counter::submit_all`] posts up to [`RECORDS_PER_BATCH`] records in one transaction. [`each_account`] and
+//! its five neighbours walk over the rows, one `next` a row.
 //!
 //! Read next: [`Bank`], with what holds after each fault; [`Counter`], with the five calls; [`Walk`], to read
 //! the rows. `specs/Seen` says what a bank shows, and the crate `bank_lives` what is found after a stop.

@@ -1,7 +1,7 @@
 //! The plan of the branches that a bank is to have, read from CSV, and the loading of a plan into a counter.
 //! The first row is the header `branch,accounts`; each row behind it has the number of a branch, 1 to
-//! `LAST_BRANCH`, and how many accounts it is to have, 1 to `MOST_ACCOUNTS`. The test `first_plan` of
-//! `counter_tests` loads a plan into a bank in memory, twice:
+//! 9,999 (`LAST_BRANCH`), and how many accounts it is to have, 1 to 100,000 (`MOST_ACCOUNTS`). The test
+//! `first_plan` of `counter_tests` loads a plan into a bank in memory, twice:
 //!
 //! ```rust
 //! use branch_loader::{load, read_plan};
@@ -21,7 +21,8 @@
 //! ```
 //!
 //! A third count of [`Loaded`], `differs`, is of the branches that are open with another count of accounts,
-//! which they keep. [`Plan::from_list`] makes a plan of pairs in a vector, without a source.
+//! which they keep. [`Plan::from_list`] makes a plan without a source, of a vector of pairs: a `Branch` and a
+//! `u32`, its count of accounts.
 //!
 //! [`PlanFault`] says why a source is no plan: its header, or a row, counted from 1, whose columns, branch or
 //! count of accounts are wrong or whose branch an earlier row has; or that the source can't be read, or that

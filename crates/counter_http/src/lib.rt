@@ -29,8 +29,11 @@
 //!
 //! A posting that the bank refuses, as it does 100 bytes that are no request, is a 200 too: its reply has the
 //! outcome. A body of another length is answered by a 400, another path or an account that isn't open by a
-//! 404, and another method by a 405; the connection goes on. Bytes that are no message within [`MAX_HEAD`],
-//! [`MAX_FIELDS`] and [`MAX_BODY`] are answered by a 400, and the connection ends.
+//! 404, and another method by a 405; the connection goes on. Bytes that are no message with a head of up to
+//! 8,192 bytes ([`MAX_HEAD`]) in 32 fields ([`MAX_FIELDS`]) and a body of up to 4,096 ([`MAX_BODY`]) are
+//! answered by a 400, and the connection ends.
+//!
+//! Any `Read` is a `Source` and any `Write` a `Sink` (`posting_core`), such as a `TcpStream`.
 //!
 //! [`ServeFault`] says why a connection ended before its input did: a read or a write failed, memory was
 //! refused, or the bank refused a call, which is answered by a 503.

@@ -135,7 +135,7 @@ pub record AreFree (rows : StoredRows) : Type 0 where
   pub accounts : (n : ℕ) → 1 ≤ n → branch_under rows (branch_of_account n) ≡ None
       → row_under rows.accounts n ≡ None
 
--- the seven rules
+-- the seven rules, numbered 1 to 7 in this order
 abbrev pub KeepsRule : Rule → StoredRows → Type 0
 KeepsRule Meta rows = (decided : ℕ) × HasDecided rows decided × (decided ≤ MAX_DECIDED)
 KeepsRule Teller rows = TellersFit rows

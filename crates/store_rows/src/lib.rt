@@ -36,6 +36,9 @@
 //! }
 //! ```
 //!
+//! [`balance_of`] reads the balance of a [`Member`], which is a teller or an account, and [`add_member`] adds
+//! its row. [`set_balance`] writes that of a [`Holder`], which may be a branch too.
+//!
 //! A [`TableFault`] says why a call failed: `Sqlite` that a call of `sqlite` did, with its error, and
 //! `Damaged` which rule a stored row breaks. Read next: `specs/SixTables`, the tables with their columns;
 //! `specs/View`, which rows a database shows; `specs/Calls`, what each function finds or leaves. The crate

@@ -1,7 +1,7 @@
 -- The bank that was found is the one that is audited.
 use Rattle.std.proofs.Common.{◌≡◌, rules, inl, inr, Err}
 use Rattle.std.proofs.KnownBytes.{Keeps-refl}
-use Rattle.bank_commands.proofs.Worked.{audited}
+use Rattle.bank_commands.proofs.Worked.{audited, none_found}
 use Rattle.bank_commands.proofs.audit.audit_file.Goals as goal
 
 pub returns-in_err-bank-clause-audits : goal.returns-in_err-bank-clause-audits
@@ -26,8 +26,7 @@ returns-clause-audits g c =
 
 pub returns-in_err-bank-clause-finds : goal.returns-in_err-bank-clause-finds
 returns-in_err-bank-clause-finds g c =
-    let same : c.from_residual.result ≡ Err c.in_err-bank.field-0.0 = search rules in
-    rw same (inl c.in_err-bank.ensures.unfound)
+    none_found c.from_residual.result c.in_err-bank.field-0.0 (search rules) c.in_err-bank.ensures.unfound
 
 pub returns-clause-finds : goal.returns-clause-finds
 returns-clause-finds g c = inr (c.in_ok-bank.bank, c.in_ok-bank.ensures.found)

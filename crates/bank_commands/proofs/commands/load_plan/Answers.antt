@@ -1,7 +1,7 @@
 -- The bank that was found is the one that the plan was loaded into.
 use Rattle.std.proofs.Common.{◌≡◌, refl, rules, inl, inr, Err}
 use Rattle.std.proofs.KnownBytes.{Keeps-refl}
-use Rattle.bank_commands.proofs.Worked.{runs}
+use Rattle.bank_commands.proofs.Worked.{none_found, runs}
 use Rattle.bank_commands.proofs.commands.load_plan.Goals as goal
 
 pub returns-in_err-bank-clause-loads : goal.returns-in_err-bank-clause-loads
@@ -17,8 +17,7 @@ returns-clause-loads g c =
 
 pub returns-in_err-bank-clause-finds : goal.returns-in_err-bank-clause-finds
 returns-in_err-bank-clause-finds g c =
-    let same : c.from_residual.result ≡ Err c.in_err-bank.field-0.0 = search rules in
-    rw same (inl c.in_err-bank.ensures.unfound)
+    none_found c.from_residual.result c.in_err-bank.field-0.0 (search rules) c.in_err-bank.ensures.unfound
 
 pub returns-clause-finds : goal.returns-clause-finds
 returns-clause-finds g c = inr (c.in_ok-bank.bank, c.in_ok-bank.ensures.found)

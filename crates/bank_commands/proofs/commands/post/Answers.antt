@@ -2,7 +2,7 @@
 use Rattle.std.proofs.Common.{◌≡◌, ◌∙◌, ap, refl, rules, inl, inr, Ok, Err}
 use Rattle.std.proofs.KnownBytes.{Keeps-refl}
 use Rattle.std.proofs.lemmas.Result.{err_from_is_err_and}
-use Rattle.bank_commands.proofs.Worked.{posted}
+use Rattle.bank_commands.proofs.Worked.{none_found, posted}
 use Rattle.bank_commands.proofs.commands.post.Goals as goal
 
 pub returns-in_err-bank-clause-posts : goal.returns-in_err-bank-clause-posts
@@ -36,8 +36,7 @@ returns-clause-posts g c =
 
 pub returns-in_err-bank-clause-finds : goal.returns-in_err-bank-clause-finds
 returns-in_err-bank-clause-finds g c =
-    let same : c.from_residual.result ≡ Err c.in_err-bank.field-0.0 = search rules in
-    rw same (inl c.in_err-bank.ensures.unfound)
+    none_found c.from_residual.result c.in_err-bank.field-0.0 (search rules) c.in_err-bank.ensures.unfound
 
 pub returns-in_err-posted-clause-finds : goal.returns-in_err-posted-clause-finds
 returns-in_err-posted-clause-finds g c = inr (c.in_ok-bank.bank, c.in_ok-bank.ensures.found)

@@ -1,7 +1,7 @@
 -- The bank that was found is the one whose account is stated.
 use Rattle.std.proofs.Common.{◌≡◌, ap, rules, inl, inr, Err}
 use Rattle.std.proofs.KnownBytes.{Keeps-refl}
-use Rattle.bank_commands.proofs.Worked.{stated}
+use Rattle.bank_commands.proofs.Worked.{none_found, stated}
 use Rattle.bank_commands.proofs.stating.statement.Goals as goal
 
 pub returns-in_err-bank-clause-states : goal.returns-in_err-bank-clause-states
@@ -29,8 +29,7 @@ returns-clause-states g c =
 
 pub returns-in_err-bank-clause-finds : goal.returns-in_err-bank-clause-finds
 returns-in_err-bank-clause-finds g c =
-    let same : c.from_residual.result ≡ Err c.in_err-bank.field-0.0 = search rules in
-    rw same (inl c.in_err-bank.ensures.unfound)
+    none_found c.from_residual.result c.in_err-bank.field-0.0 (search rules) c.in_err-bank.ensures.unfound
 
 pub returns-clause-finds : goal.returns-clause-finds
 returns-clause-finds g c = inr (c.in_ok-bank.bank, c.in_ok-bank.ensures.found)

@@ -1,7 +1,9 @@
-use Rattle.std.proofs.Common.{inr}
-use Rattle.std.proofs.lemmas.Result.{IfErr-weaker, IfOk-weaker}
+use Rattle.std.proofs.lemmas.Result.{IfOk-weaker}
 use Rattle.sqlite.specs.Files.{file_state}
 use Rattle.bank_openings.proofs.BankInFiles.{found_in}
+use Rattle.bank_endings.specs.Looking.{IsOfLook}
+use Rattle.bank_openings.specs.Unfound.{IsMissedOver}
+use Rattle.bank_openings.proofs.Refusals.{met_in}
 use Rattle.bank_openings.proofs.files.find_bank.Goals as goal
 
 pub returns-clause-found : goal.returns-clause-found
@@ -12,10 +14,5 @@ returns-clause-found g c =
 
 pub returns-clause-unfound : goal.returns-clause-unfound
 returns-clause-unfound g c =
-    IfErr-weaker c.take_up.result _ _
-    (λ fault missed. inr record {
-      start = c.in_ok-conn.conn;
-      opened = c.in_ok-conn.ensures.opened;
-      holds = missed;
-    })
-    c.take_up.ensures.missed
+    met_in file_state c.take_up.result _ c.in_ok-conn.conn IsOfLook (IsMissedOver file_state)
+    c.in_ok-conn.ensures.opened c.take_up.ensures.missed
