@@ -13,7 +13,7 @@ use Rattle.bank_store.specs.Walks.{IsStill, IsUntouchedIfOpen}
 use Rattle.bank_reports.specs.Beside.{AuditRows}
 use Rattle.bank_reports.specs.declared.limits.TheConstants.{MOST_ROWS}
 use Rattle.bank_audits.specs.Adding.{AddsToSums, HasSums, IsPassed}
-use Rattle.bank_audits.specs.Failures.{Says}
+use Rattle.bank_audits.specs.Failures.{SaysOf}
 use Rattle.bank_audits.specs.Files.{HasBroken}
 use Rattle.bank_audits.specs.declared.sums.Sums.{Sums}
 use Rattle.bank_audits.proofs.StepsKeep.{quiet_then, still_then, still_undone, undone_then}
@@ -75,7 +75,7 @@ module _ {R X : Type 0} (item : R → X) (HasItems : Database → List X → Typ
       → HasItems db items → (left : List X)
       → (fault : Fault) → Steps {R = R} item Breaks (coming items) left (Err fault)
       → (fault ≡ told.Store → Failed)
-      → Says (HasBroken Breaks (all items)) Failed fault
+      → SaysOf (HasBroken Breaks (all items)) Failed fault
   failed_row Breaks Failed late items there left told.Memory step failed = step
   failed_row Breaks Failed late items there left told.Store step failed = failed refl
   failed_row Breaks Failed late items there left told.Down step failed = tt

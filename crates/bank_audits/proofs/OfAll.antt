@@ -13,7 +13,7 @@ use Rattle.bank_store.specs.Walking.{BeginsWalk, items_to_come, lent}
 use Rattle.bank_store.specs.declared.bank.Bank.{Bank}
 use Rattle.bank_store.specs.declared.walks.Walk.{Walk}
 use Rattle.bank_audits.specs.Adding.{AddsToSums}
-use Rattle.bank_audits.specs.Failures.{HasFailedToRead, Says}
+use Rattle.bank_audits.specs.Failures.{HasFailedToRead, SaysOf}
 use Rattle.bank_audits.specs.Files.{HasBroken}
 use Rattle.bank_audits.specs.declared.sums.Sums.{Sums}
 
@@ -31,14 +31,16 @@ module _ {S R X : Type 0} {g : Ghosts S} {key : X → ℤ} {item : R → X} {is_
   -- at the end of the loan and behind it
   pub told_of_all : (Breaks : X → Type 0) {Clean Later : Type 0} {last new : Held S}
       → (Clean → (all : List X) → HasItems (database_of g (lent walk)) all
-      → IfErr r (Says (HasBroken Breaks (to_come all)) (HasFailedToRead g (connection_of (lent walk)) last)))
+      → IfErr r (SaysOf (HasBroken Breaks (to_come all))
+      (HasFailedToRead g (connection_of (lent walk)) last)))
       → last ≡ new → (Later → Clean) → Later → (all : List X) → HasItems (database_of g old) all
-      → IfErr r (Says (HasBroken Breaks all) (HasFailedToRead g (connection_of old) new))
+      → IfErr r (SaysOf (HasBroken Breaks all) (HasFailedToRead g (connection_of old) new))
   told_of_all Breaks {last = last} {new = new} told two before late all has =
-      subst (λ conn. IfErr r (Says (HasBroken Breaks all) (HasFailedToRead g (connection_of old) conn))) two
-      (subst (λ bank. IfErr r (Says (HasBroken Breaks all) (HasFailedToRead g (connection_of bank) last)))
+      subst (λ conn. IfErr r (SaysOf (HasBroken Breaks all) (HasFailedToRead g (connection_of old) conn))) two
+      (subst (λ bank. IfErr r (SaysOf (HasBroken Breaks all) (HasFailedToRead g (connection_of bank) last)))
       begins.same
-      (subst (λ xs. IfErr r (Says (HasBroken Breaks xs) (HasFailedToRead g (connection_of (lent walk)) last)))
+      (subst (λ xs. IfErr r (SaysOf (HasBroken Breaks xs)
+      (HasFailedToRead g (connection_of (lent walk)) last)))
       (begins.all all has) (told (before late) all (there all has))))
 
   pub added_of_all : (with_rows : AuditRows → List R → AuditRows) (from to : Sums) {Clean Later : Type 0}

@@ -15,7 +15,7 @@ use Rattle.store_rows.specs.SixTables.{history as history_table, request as requ
 use Rattle.bank_store.specs.Walks.{IsStill}
 use Rattle.bank_walks.specs.Pairs.{BreaksPair, HasPairs, pair_with, paired}
 use Rattle.bank_audits.specs.Adding.{IsPassed}
-use Rattle.bank_audits.specs.Failures.{HasFailedToRead, Says}
+use Rattle.bank_audits.specs.Failures.{HasFailedToRead, SaysOf}
 use Rattle.bank_audits.specs.Files.{FileRows, HasBroken, HasFile}
 use Rattle.bank_audits.proofs.StepsKeep.{quiet_then, still_then, undone_then}
 use Rattle.bank_audits.proofs.Read.{first_of, rest_of}
@@ -65,7 +65,7 @@ has_mid {old} {mid} {new} {r} f one two clean =
 
 -- what breaks the rows of a table breaks those of the file
 pub says_any : {Breaks AnyBreaks : Type 0} (Failed : Type 0) (fault : Fault) → (Breaks → AnyBreaks)
-    → Says Breaks Failed fault → Says AnyBreaks Failed fault
+    → SaysOf Breaks Failed fault → SaysOf AnyBreaks Failed fault
 says_any Failed told.Memory any says = says
 says_any Failed told.Store any says = says
 says_any Failed told.Down any says = tt
@@ -74,8 +74,8 @@ says_any Failed (told.Damaged rule) any says = (says.0, any says.1)
 -- so it does behind other passes
 pub says_behind : {S Breaks AnyBreaks : Type 0} (g : Ghosts S) (old mid new : Held S) (fault : Fault)
     → (Breaks → AnyBreaks)
-    → IsPassed (state g old) (state g mid) (Ok tt) → Says Breaks (HasFailedToRead g mid new) fault
-    → Says AnyBreaks (HasFailedToRead g old new) fault
+    → IsPassed (state g old) (state g mid) (Ok tt) → SaysOf Breaks (HasFailedToRead g mid new) fault
+    → SaysOf AnyBreaks (HasFailedToRead g old new) fault
 says_behind g old mid new told.Memory any pass says = says
 says_behind g old mid new told.Store any pass says = record {
   at = says.at;

@@ -17,8 +17,8 @@ pub record HasFailedToRead {S : Type 0} (g : Ghosts S) (old new : Held S) : Type
   pub failed : StoreFailed (state g at) (state g new)
 
 -- what a fault says of rows: a number is out of its range in rows of which this holds, or a read failed
-abbrev pub Says : Type 0 → Type 0 → Fault → Type 0
-Says Breaks Failed (Damaged rule) = (rule ≡ Value) × Breaks
-Says Breaks Failed Store = Failed
-Says Breaks Failed Down = ⊤
-Says Breaks Failed Memory = ⊥
+abbrev pub SaysOf : Type 0 → Type 0 → Fault → Type 0
+SaysOf Breaks Failed (Damaged rule) = (rule ≡ Value) × Breaks
+SaysOf Breaks Failed Store = Failed
+SaysOf Breaks Failed Down = ⊤
+SaysOf Breaks Failed Memory = ⊥

@@ -7,7 +7,7 @@ ghost use Rattle.bank_reports.specs.Beside.{no_rows, rows_of};
 ghost use Rattle.bank_reports.specs.Stored.{StoredTables};
 ghost use Rattle.bank_store.specs.Seen.{bank_seen, connection_of, database_of, fault_of};
 ghost use Rattle.bank_audits.specs.Adding.{HasSums, IsPassed};
-ghost use Rattle.bank_audits.specs.Failures.{HasFailedToRead, Says};
+ghost use Rattle.bank_audits.specs.Failures.{HasFailedToRead, SaysOf};
 ghost use Rattle.bank_audits.specs.Files.{FileRows, HasBrokenRow, HasFile, rows_in};
 
 use crate::passes::Added;
@@ -24,7 +24,7 @@ pub(crate) fn add_all<S: Alter>(bank: &mut Bank<S>, sums: &mut Sums) -> Result<(
         → HasFile (database_of S.Store bank.old) f
         → OnOk result ((t : StoredTables) × (rows_in t ≡ f) × HasSums sums.new (rows_of t)) }
     ensures told { HasCleanDisk (state S.Store (connection_of bank.new)) → (f : FileRows)
-        → HasFile (database_of S.Store bank.old) f → IfErr result (Says (HasBrokenRow f)
+        → HasFile (database_of S.Store bank.old) f → IfErr result (SaysOf (HasBrokenRow f)
         (HasFailedToRead S.Store (connection_of bank.old) (connection_of bank.new))) }
     ensures frugal { result ≢ Err Memory }
     ensures tried { result ≡ Err Down → (bank_seen S.Store bank.old).is_down }

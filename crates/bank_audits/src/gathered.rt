@@ -7,7 +7,7 @@ ghost use Rattle.bank_walks.specs.Rows.{LEAST};
 ghost use Rattle.bank_store.specs.Seen.{connection_of, fault_of};
 ghost use Rattle.bank_store.specs.Walking.{ComesFrom, HasToldFault, items_to_come, lent, lent_state, loan_of};
 ghost use Rattle.bank_audits.specs.Adding.{AddsToSums, HasSums, IsPassed};
-ghost use Rattle.bank_audits.specs.Failures.{HasFailedToRead, Says};
+ghost use Rattle.bank_audits.specs.Failures.{HasFailedToRead, SaysOf};
 ghost use Rattle.bank_audits.specs.Files.{HasBroken};
 
 use crate::sums::{Summed, Sums};
@@ -32,7 +32,7 @@ pub(crate) fn add_rows<S: Alter, R: Summed>(
     ensures told { HasCleanDisk (lent_state S.Store walk.new) → (all : List R.WalkedRow.Item)
         → R.WalkedRow.HasItems (lent_state S.Store walk.old).now all → let coming =
         items_to_come R.WalkedRow.key R.WalkedRow.item R.WalkedRow.is_given all walk.old
-        in IfErr result (Says (HasBroken R.WalkedRow.is_broken coming)
+        in IfErr result (SaysOf (HasBroken R.WalkedRow.is_broken coming)
         (HasFailedToRead S.Store (connection_of (lent walk.old)) (connection_of (lent walk.new)))) }
     ensures frugal { result ≢ Err Memory }
     ensures tried { result ≢ Err Down }

@@ -6,7 +6,7 @@ ghost use Rattle.posting_rules.specs.declared.fault.Fault.TheVariants.{Down, Mem
 ghost use Rattle.bank_reports.specs.Beside.{AuditRows};
 ghost use Rattle.bank_store.specs.Seen.{bank_seen, connection_of, database_of, fault_of};
 ghost use Rattle.bank_audits.specs.Adding.{AddsToSums, HasSums, IsPassed};
-ghost use Rattle.bank_audits.specs.Failures.{HasFailedToRead, Says};
+ghost use Rattle.bank_audits.specs.Failures.{HasFailedToRead, SaysOf};
 ghost use Rattle.bank_audits.specs.Files.{HasBroken};
 
 use crate::gathered::add_rows;
@@ -27,7 +27,7 @@ pub(crate) trait Added: Summed {
             → Self.HasItems (database_of S.Store bank.old) all → map Self.item given ≡ all)) }
         ensures told { HasCleanDisk (state S.Store (connection_of bank.new)) → (all : List Self.Item)
             → Self.HasItems (database_of S.Store bank.old) all
-            → IfErr result (Says (HasBroken Self.is_broken all)
+            → IfErr result (SaysOf (HasBroken Self.is_broken all)
             (HasFailedToRead S.Store (connection_of bank.old) (connection_of bank.new))) }
         ensures frugal { result ≢ Err Memory }
         ensures tried { result ≡ Err Down → (bank_seen S.Store bank.old).is_down }

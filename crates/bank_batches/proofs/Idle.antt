@@ -10,7 +10,7 @@ use Rattle.posting_rules.specs.Tables.{Tables}
 use Rattle.store_rows.specs.View.{Shows}
 use Rattle.store_rows.specs.declared.fault.TableFault.{TableFault}
 use Rattle.bank_transactions.specs.Doing.{Ends}
-use Rattle.bank_batches.specs.Batches.{items_of, DecidesNone, WritesNothing, HasOnly}
+use Rattle.bank_batches.specs.Batches.{items_of, DecidesNone, WritesNothing, KeepsOnly}
 
 -- the replies without where they lie in memory end the same way
 pub ends_items : {S Z : Type 0} (g : Ghosts S) (last new : Held S)
@@ -46,7 +46,7 @@ module _ (Made : List (List ℕ) → Type 0) (moment : ℕ) {S : Type 0} (g : Gh
   abbrev IdleAfter : Held S → Held S → Type 0
   IdleAfter old new = HasCleanDisk (state g new) → (records : List (List ℕ)) → Made records → (t : Tables)
       → Shows (state g old).now t → AreOfALog t → DecidesNone t moment records
-      → HasOnly (state g old) (state g new) t
+      → KeepsOnly (state g old) (state g new) t
 
   pub idle_after : {X : Type 0} (old begun last end new : Held S) (answer result : Result X TableFault)
       → begun ≡ record old { in_transaction = true } → Ends g last end answer result
@@ -62,7 +62,7 @@ module _ (Made : List (List ℕ) → Type 0) (moment : ℕ) {S : Type 0} (g : Gh
       let it = idle before records made t first so none in
       let told = ends.told ended in
       let left = told.1 t (subst (λ (db : Database). Shows db t) (sym it.stays.now) first) in
-      subst (λ (h : Held S). HasOnly (state g old) (state g h) t) (same records made) (record {
+      subst (λ (h : Held S). KeepsOnly (state g old) (state g h) t) (same records made) (record {
         same = told.0 ∙ it.stays.now ∙ ap (λ (h : Held S). (state g h).now) is;
         shows = left.0;
         survives = left.1;

@@ -14,7 +14,7 @@ use Rattle.store_rows.specs.declared.fault.TableFault.{TableFault}
 use Rattle.store_rows.specs.declared.fault.TableFault.TheVariants.{Sqlite, Damaged}
 use Rattle.store_rows.specs.Rules.{IsBroken}
 use Rattle.bank_transactions.specs.Causes.{IsFirstBroken}
-use Rattle.bank_transactions.specs.Doing.{DoesBy, ChangesNothing, LooksUp, Reads, Stays}
+use Rattle.bank_transactions.specs.Doing.{DoesBy, ChangesNothing, IsLookedUp, Reads, Stays}
 use Rattle.bank_transactions.proofs.Blamed.{blames_after, comes}
 use Rattle.bank_transactions.proofs.Statements.{looked, look_keeps}
 use Rattle.bank_transactions.proofs.ReadsInTurn.{stays_then}
@@ -30,14 +30,14 @@ looks_then old mid new (Err e) one two = record {
 }
 
 looked_then : {X : Type 0} (old mid new : State) (w : X) (r : Result X TableFault) → Stays old mid
-    → LooksUp mid new w r → LooksUp old new w r
+    → IsLookedUp mid new w r → IsLookedUp old new w r
 looked_then old mid new w (Ok x) one two = (two.0, stays_then old mid new one two.1)
 looked_then old mid new w (Err (Sqlite e)) one two = tt
 looked_then old mid new w (Err (Damaged rule)) one two = two
 
 -- no damage that a part tells is none that the whole does
-same_fault : {X Y : Type 0} (old new : State) (x : X) (y : Y) (e : TableFault) → LooksUp old new x (Err e)
-    → LooksUp old new y (Err e)
+same_fault : {X Y : Type 0} (old new : State) (x : X) (y : Y) (e : TableFault) → IsLookedUp old new x (Err e)
+    → IsLookedUp old new y (Err e)
 same_fault old new x y (Sqlite e) told = tt
 same_fault old new x y (Damaged rule) told = told
 

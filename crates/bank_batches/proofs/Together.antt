@@ -21,8 +21,8 @@ use Rattle.store_rows.specs.declared.fault.TableFault.{TableFault}
 use Rattle.bank_transactions.specs.Doing.{Does}
 use Rattle.bank_transactions.proofs.Chained.{does_then}
 use Rattle.bank_transactions.proofs.SoundRows.{no_branch_beyond}
-use Rattle.bank_batches.specs.Writing.{AreNumbers, MayChangeAccounts, MayChangeTellers, MayChangeBranches}
-use Rattle.bank_batches.specs.Writing.{MayAddPostings, MayAddRequests}
+use Rattle.bank_batches.specs.Writing.{AreBranchNumbers, MayChangeAccounts, MayChangeTellers}
+use Rattle.bank_batches.specs.Writing.{MayAddPostings, MayAddRequests, MayChangeBranches}
 
 -- ---- the numbers of branches that have a row
 
@@ -43,7 +43,7 @@ number_is t n sound there = elim (within_or_none n) [
 
 pub numbers : (t : Tables) (slots : List BranchSlot) → IsUndamaged t
     → AllByRecursion (λ s. IfSome s.changed (λ z. IsSome (row_at branch_key t.branches s.branch))) slots
-    → AreNumbers slots
+    → AreBranchNumbers slots
 numbers t [] sound all = tt
 numbers t (s ∷ slots) sound all = (one s.changed all.0, numbers t slots sound all.1)
   where

@@ -23,7 +23,7 @@ pub record WritesNothing (old new : State) (t : Tables) (moment : ℕ) (records 
   pub stays : Stays old new
 
 -- all is as it was, these tables are there, and everything that a stop may leave has them
-pub record HasOnly (old new : State) (t : Tables) : Type 0 where
+pub record KeepsOnly (old new : State) (t : Tables) : Type 0 where
   pub same : new.now ≡ old.now
   pub shows : Shows new.now t
   pub survives : (left : Trees) → new.may_leave left → ShowsTrees left t

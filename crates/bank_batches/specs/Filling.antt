@@ -11,7 +11,7 @@ use Rattle.sql_meanings.specs.Calls.{Says}
 use Rattle.store_rows.specs.Calls.{OfTables}
 use Rattle.store_rows.specs.declared.fault.TableFault.{TableFault}
 use Rattle.bank_transactions.specs.Causes.{Blames, IsFirstBroken}
-use Rattle.bank_transactions.specs.Doing.{LooksUp, ChangesNothing}
+use Rattle.bank_transactions.specs.Doing.{IsLookedUp, ChangesNothing}
 
 -- this is the answer, where the call was answered
 abbrev pub handing : {X Y : Type 0} → Y → Result X TableFault → Result Y TableFault
@@ -23,7 +23,7 @@ handing y (Err e) = Err e
 pub record ReadsWhere {S X : Type 0} (g : Ghosts S) (old new : Transaction S) (So : Tables → Type 0)
     (wanted : Tables → X) (result : Result X TableFault) : Type 0 where
   pub says : Says g old new
-      (OfTables (λ before now tables. So tables → LooksUp before now (wanted tables) result))
+      (OfTables (λ before now tables. So tables → IsLookedUp before now (wanted tables) result))
       (λ before now. ChangesNothing before now result
       × Blames (IsFirstBroken g) g old.conn.now new.conn.now result)
 

@@ -31,13 +31,13 @@ abbrev pub MayChangeTellers : List TellerSlot → Tables → Type 0
 MayChangeTellers slots t = MayChange teller_slot_key (λ s. s.changed) teller_key t.tellers slots
 
 -- the number of each changed branch is one of branches
-abbrev pub AreNumbers : List BranchSlot → Type 0
-AreNumbers slots =
+abbrev pub AreBranchNumbers : List BranchSlot → Type 0
+AreBranchNumbers slots =
     AllByRecursion (λ s. IfSome s.changed (λ z. whole_within 1 MAX_BRANCH s.branch ≡ Some s.branch)) slots
 
 abbrev pub MayChangeBranches : List BranchSlot → Tables → Type 0
 MayChangeBranches slots t = MayChange branch_slot_key (λ s. s.changed) branch_key t.branches slots
-    × AreNumbers slots
+    × AreBranchNumbers slots
 
 -- the key of each new row is free by then
 abbrev pub MayAddPostings : List HistoryRow → Tables → Type 0

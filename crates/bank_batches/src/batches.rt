@@ -8,7 +8,7 @@ ghost use Rattle.posting_rules.specs.Tables.{Tables};
 ghost use Rattle.posting_batch.specs.View.{reads_of, IsMadeOf};
 ghost use Rattle.store_rows.specs.View.{Shows};
 ghost use Rattle.bank_transactions.specs.Doing.{Acts, Transacts};
-ghost use Rattle.bank_batches.specs.Batches.{items_of, DecidesNone, WritesNothing, HasOnly};
+ghost use Rattle.bank_batches.specs.Batches.{items_of, DecidesNone, WritesNothing, KeepsOnly};
 
 use crate::changes::write;
 use crate::slots::fill;
@@ -60,7 +60,7 @@ pub fn post_all<S: Alter>(
         (HasCleanDisk (state S.Store conn.new) → (records : List (List ℕ)) → IsMadeOf batch records
         → (tables : Tables) → Shows (state S.Store conn.old).now tables → AreOfALog tables
         → DecidesNone tables moment records
-        → HasOnly (state S.Store conn.old) (state S.Store conn.new) tables) }
+        → KeepsOnly (state S.Store conn.old) (state S.Store conn.new) tables) }
 {
     let mut tx = begin(conn);
     let replies = answer_batch(&mut tx, moment, batch);

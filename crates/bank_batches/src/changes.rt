@@ -83,7 +83,7 @@ impl Change for BranchSlot {
 
     fn make<S: Alter>(&self, tx: &mut Transaction<'_, S>) -> Result<(), TableFault> {
         // A number that is none of branches has no row to change: `May` refuses such a slot by its
-        // `AreNumbers`, where it is changed.
+        // `AreBranchNumbers`, where it is changed.
         match Branch::new(self.branch) {
             Some(branch) => write_change(tx, Holder::Branch(branch), self.changed),
             None => Ok(()),

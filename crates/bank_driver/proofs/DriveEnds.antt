@@ -21,7 +21,7 @@ use Rattle.load_driver.specs.Requests.{IsAscending}
 use Rattle.bank_driver.specs.declared.drive.Driven.{Driven}
 use Rattle.bank_driver.specs.declared.fault.DriveFault.{DriveFault}
 use Rattle.bank_driver.specs.declared.fault.DriveFault.TheVariants.{NoBranches, Bank}
-use Rattle.bank_driver.specs.Drives.{Drives, EndsDrive, IfListed, IsUnlisted, MayRefuse, Resends, Submits}
+use Rattle.bank_driver.specs.Drives.{Drives, EndsDrive, IfListed, IsUnlisted, MayRefuse, DrivesAgain, Submits}
 use Rattle.bank_driver.specs.Records.{NoneOpen, first_drawn, open_branches, open_up_to, row_if_open}
 use Rattle.bank_driver.proofs.Again.{posted_again, skips_again}
 use Rattle.bank_driver.proofs.Drawn.{drawn_none}
@@ -201,7 +201,7 @@ module _ {C : Type 0} (seen : C → Seen) (old mid new : C) (k k' : Option (List
 
 pub resends : {C : Type 0} (seen : C → Seen) (old new : C) (k k' : Option (List ℕ)) (seed count : ℕ)
     (result : Result Driven DriveFault) → Drives seen old new k k' seed count result
-    → IfOk result (Resends (seen old) (seen new) seed count)
+    → IfOk result (DrivesAgain (seen old) (seen new) seed count)
 resends seen old new k k' seed count (Err fault) d = tt
 resends {C} seen old new k k' seed count (Ok driven) d =
     let s = d.submits in

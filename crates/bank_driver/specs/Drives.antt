@@ -106,7 +106,7 @@ pub record Drives {C : Type 0} (seen : C → Seen) (old new : C) (k k' : Option 
 -- ---- records that come again
 
 -- where a counter showed posts p behind a log, it shows p and then those of the records that p hasn't
-pub record Resends (c c' : Seen) (seed count : ℕ) (driven : Driven) : Type 0 where
+pub record DrivesAgain (c c' : Seen) (seed count : ℕ) (driven : Driven) : Type 0 where
   pub rows : Rows
   pub commands : List Command
   pub posts : ArePosts commands

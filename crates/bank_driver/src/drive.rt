@@ -4,7 +4,7 @@ ghost use Rattle.std.specs.Result.{IsErrOf};
 ghost use Rattle.posting_rules.specs.Commands.{Command};
 ghost use Rattle.posting_rules.specs.Counter.{ShowsLog};
 ghost use Rattle.load_driver.specs.Requests.{IsAscending};
-ghost use Rattle.bank_driver.specs.Drives.{Drives, MayRefuse, Resends, Submits};
+ghost use Rattle.bank_driver.specs.Drives.{Drives, MayRefuse, DrivesAgain, Submits};
 ghost use Rattle.bank_driver.specs.Records.{NoneOpen};
 
 use crate::batches::submit_batch;
@@ -106,7 +106,7 @@ pub fn drive_records<C: Counter, K: Clock>(
         → (log : List Command) → ShowsLog (C.seen counter.old) log → NoneOpen log }
     ensures some { OnOk result ((C.seen counter.new).honest
         → (log : List Command) → ShowsLog (C.seen counter.old) log → NoneOpen log → ⊥) }
-    ensures resend { IfOk result (Resends (C.seen counter.old) (C.seen counter.new) seed count) }
+    ensures resend { IfOk result (DrivesAgain (C.seen counter.old) (C.seen counter.new) seed count) }
     ensures down { IsErrOf result (DriveFault.Bank Fault.Down) ↔ (C.seen counter.old).is_down }
     ensures honest { (C.seen counter.new).honest → (C.seen counter.old).honest }
 {

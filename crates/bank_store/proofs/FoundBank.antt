@@ -27,7 +27,7 @@ use Rattle.store_rows.specs.declared.metas.StoredMeta.{StoredMeta}
 use Rattle.bank_store.specs.Connections.{IsAsBefore, IsReadOnly}
 use Rattle.bank_store.specs.FoundBank.{MetaIs, Misses, SeeksBank}
 use Rattle.bank_store.specs.MetaRow.{IsOurs, IsOfVersion, IsNoCount, ChecksMeta, TellsMeta, IsOfOtherType}
-use Rattle.bank_store.specs.OpenFaults.{IsUnread}
+use Rattle.bank_store.specs.OpenFaults.{RowIsUnread}
 use Rattle.bank_store.specs.TablePresence.{Lacks, IsPresent}
 use Rattle.bank_store.specs.declared.presence.Presence.TheVariants.{Absent, Whole}
 use Rattle.bank_store.specs.declared.refused.OpenFault.{OpenFault}
@@ -108,7 +108,7 @@ module _ (old mid new : State) (tables : IsPresent old.now six_probes Whole)
     as_before old mid new first same,
   )
 
-  pub missed : (fault : OpenFault) → IsUnread fault → MissedAt fault
+  pub missed : (fault : OpenFault) → RowIsUnread fault → MissedAt fault
   missed fault (inl is) = subst MissedAt (sym is) at_store
   missed fault (inr is) = subst MissedAt (sym is) at_value
 

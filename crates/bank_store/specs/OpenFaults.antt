@@ -38,8 +38,8 @@ unread_by (Broken rule) = Damaged Value
 unread_by (Sqlite e) = Store
 
 -- why the row isn't known
-abbrev pub IsUnread : OpenFault → Type 0
-IsUnread fault = (fault ≡ Store) ⊎ (fault ≡ Damaged Value)
+abbrev pub RowIsUnread : OpenFault → Type 0
+RowIsUnread fault = (fault ≡ Store) ⊎ (fault ≡ Damaged Value)
 
 -- what `{}` writes of a fault
 abbrev pub open_text : OpenFault → List ℕ

@@ -12,7 +12,7 @@ ghost use Rattle.store_rows.specs.View.{HoldsRows};
 ghost use Rattle.bank_store.specs.Connections.{conn_seen, state_in, IsAsBefore, IsReadOnly, IsUndoneIfOpen};
 ghost use Rattle.bank_store.specs.FoundBank.{BankIsFound, Misses, SeeksBank};
 ghost use Rattle.bank_store.specs.MetaRow.{ChecksMeta, TellsMeta, IsOfOtherType};
-ghost use Rattle.bank_store.specs.OpenFaults.{IsUnread};
+ghost use Rattle.bank_store.specs.OpenFaults.{RowIsUnread};
 ghost use Rattle.bank_store.specs.Seen.{alloc_of, bank_seen, connection_of};
 ghost use Rattle.bank_store.specs.StoreFaults.{KnowsCause};
 
@@ -33,7 +33,7 @@ fn stored_meta<S: Alter>(conn: &mut Connection<S>) -> Result<Option<StoredMeta>,
         → HoldsRows (state S.Store conn.old).now table rows → TellsMeta (meta_in rows) result }
     ensures undone { HasCleanDisk (state S.Store conn.new)
         → IsUndoneIfOpen (state S.Store conn.old) (state S.Store conn.new) }
-    ensures fault { IfErr result IsUnread }
+    ensures fault { IfErr result RowIsUnread }
     ensures other { HasCleanDisk (state S.Store conn.new)
         → IfErr result (IsOfOtherType (state S.Store conn.old).now) }
     ensures cause { IfErr result (KnowsCause S.Store conn.old conn.new) }
@@ -55,7 +55,7 @@ fn settled_meta<S: Alter>(conn: &mut Connection<S>) -> Result<Option<StoredMeta>
         → HoldsRows (state S.Store conn.old).now table rows → TellsMeta (meta_in rows) result }
     ensures same { HasCleanDisk (state S.Store conn.new)
         → IsReadOnly (state S.Store conn.old) (state S.Store conn.new) result }
-    ensures fault { IfErr result IsUnread }
+    ensures fault { IfErr result RowIsUnread }
     ensures other { HasCleanDisk (state S.Store conn.new)
         → IfErr result (IsOfOtherType (state S.Store conn.old).now) }
     ensures cause { IfErr result (KnowsCause S.Store conn.old conn.new) }

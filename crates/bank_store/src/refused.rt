@@ -1,6 +1,6 @@
 //! Why no bank is made or found over a connection.
 ghost use Rattle.std.specs.Prelude.{◌≡◌};
-ghost use Rattle.bank_store.specs.OpenFaults.{of_the_store, unmade_by, unread_by, IsUnmade, IsUnread};
+ghost use Rattle.bank_store.specs.OpenFaults.{of_the_store, unmade_by, unread_by, IsUnmade, RowIsUnread};
 
 use posting_rules::Rule;
 use sqlite::{Alter, Connection, Error, ErrorCode};
@@ -101,7 +101,7 @@ pub(crate) fn unmade(e: &Error) -> OpenFault
 /// The fault for an error that came while the row of the bank was read: `Store` or `Damaged(Rule::Value)`.
 pub(crate) fn unread(e: &TableFault) -> OpenFault
     ensures told { result ≡ unread_by e.now }
-    ensures fault { IsUnread result }
+    ensures fault { RowIsUnread result }
 {
     match e {
         TableFault::Damaged(_) => OpenFault::Damaged(Rule::Value),

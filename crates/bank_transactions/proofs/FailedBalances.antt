@@ -16,7 +16,7 @@ use Rattle.store_rows.specs.Stored.{BalanceKeeps, FindsStored, IsBalance}
 use Rattle.store_rows.specs.declared.fault.TableFault.{TableFault}
 use Rattle.store_rows.specs.declared.holders.Member.{Member}
 use Rattle.bank_transactions.specs.Causes.{IsFault, IsFirstBroken}
-use Rattle.bank_transactions.specs.Doing.{LooksUp}
+use Rattle.bank_transactions.specs.Doing.{IsLookedUp}
 use Rattle.bank_transactions.proofs.Broken.{member_broken}
 use Rattle.bank_transactions.proofs.ReadsInTurn.{find_failed}
 use Rattle.bank_transactions.proofs.SoundRows.{member_unbroken}
@@ -25,7 +25,7 @@ use Rattle.bank_transactions.proofs.SoundRows.{member_unbroken}
 abbrev pub Failed : {S : Type 0} → Ghosts S → Transaction S → Transaction S → (Tables → Type 0) → TableFault
     → Type 0
 Failed g old new So fault =
-    Says g old new (OfTables (λ before now t. So t → LooksUp {X = Unit {0}} before now tt (Err fault)))
+    Says g old new (OfTables (λ before now t. So t → IsLookedUp {X = Unit {0}} before now tt (Err fault)))
     (λ before now. KeepsCommit before now × IsFault (IsFirstBroken g) g old.conn.now new.conn.now fault)
 
 pub balance_failed : {S : Type 0} {g : Ghosts S} {old new : Transaction S} {So : Tables → Type 0}

@@ -18,7 +18,7 @@ use Rattle.store_rows.specs.declared.fault.TableFault.{TableFault}
 use Rattle.store_rows.specs.declared.fault.TableFault.TheVariants.{Sqlite, Damaged}
 use Rattle.store_rows.specs.Rules.{IsBroken}
 use Rattle.bank_transactions.specs.Causes.{IsBefore, IsFault, IsFirstBroken}
-use Rattle.bank_transactions.specs.Doing.{LooksUp, Reads, Stays}
+use Rattle.bank_transactions.specs.Doing.{IsLookedUp, Reads, Stays}
 use Rattle.bank_transactions.proofs.Blamed.{comes, failed_here, fault_within, same_moment}
 use Rattle.bank_transactions.proofs.Broken.{IsOf}
 use Rattle.bank_transactions.proofs.SoundRows.{err_found}
@@ -74,7 +74,7 @@ pub find_failed : {S Y : Type 0} {g : Ghosts S} {old new : Transaction S} {So : 
     → (Rows (state g old.conn.now) (state g new.conn.now) → IsOf (state g old.conn.now).now fault)
     → Says g old new (OfTables (λ before now t. Finds before now (wanted t) Breaks (Err fault)))
     (λ before now. (WriteFails before now × HasReason before now fault) × Rows before now)
-    → Says g old new (OfTables (λ before now t. So t → LooksUp {X = Unit {0}} before now tt (Err fault)))
+    → Says g old new (OfTables (λ before now t. So t → IsLookedUp {X = Unit {0}} before now tt (Err fault)))
     (λ before now. KeepsCommit before now × IsFault (IsFirstBroken g) g old.conn.now new.conn.now fault)
 find_failed {S} {Y} {g} {old} {new} {So} {Rows} wanted Breaks fault unbroken of says =
     let a = state g old.conn.now in
@@ -120,8 +120,8 @@ reads_both {S} {X} {Y} {g} {old} {mid} {new} {w} {w'} {x} {y} one two =
     (λ kept kept'.
     (stays_then (state g old.conn.now) (state g mid.conn.now) (state g new.conn.now) kept.0 kept'.0, tt))
 
-still_fails : (old mid new : State) (e : TableFault) → LooksUp {X = Unit {0}} mid new tt (Err e)
-    → LooksUp {X = Unit {0}} old new tt (Err e)
+still_fails : (old mid new : State) (e : TableFault) → IsLookedUp {X = Unit {0}} mid new tt (Err e)
+    → IsLookedUp {X = Unit {0}} old new tt (Err e)
 still_fails old mid new (Sqlite e) it = tt
 still_fails old mid new (Damaged rule) it = it
 

@@ -26,7 +26,7 @@ use Rattle.store_rows.specs.declared.fault.TableFault.TheVariants.{Sqlite, Damag
 use Rattle.store_rows.specs.declared.holders.Member.{Member}
 use Rattle.store_rows.specs.declared.holders.Member.TheVariants.{Account, Teller}
 use Rattle.sqlite.specs.State.{State}
-use Rattle.bank_transactions.specs.Doing.{LooksUp}
+use Rattle.bank_transactions.specs.Doing.{IsLookedUp}
 use Rattle.message_records.specs.declared.limits.TheConstants.{MAX_ACCOUNT, MAX_BALANCE, MAX_BRANCH}
 use Rattle.message_records.specs.declared.limits.TheConstants.{MAX_DELTA, MAX_NUMBER, MAX_TELLER}
 use Rattle.posting_rules.specs.declared.limits.TheConstants.{MAX_DECIDED}
@@ -192,7 +192,7 @@ is_a_request a t b n z le e = let test : leb (nat_abs z) MAX_DELTA ≡ true =
 pub err_found : {X Y : Type 0} (old new before after : State) (wanted : Option X) (Breaks : X → Rule → Type 0)
     (looked : Y) (e : TableFault)
     → ((x : X) (broken : Rule) → wanted ≡ Some x → Breaks x broken → ⊥) → Finds old new wanted Breaks (Err e)
-    → LooksUp before after looked (Err e)
+    → IsLookedUp before after looked (Err e)
 err_found old new before after wanted Breaks looked (Sqlite e) unbroken finds = tt
 err_found old new before after wanted Breaks looked (Damaged rule) unbroken finds =
     unbroken finds.0.0 rule finds.0.1 finds.0.2

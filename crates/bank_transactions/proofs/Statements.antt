@@ -22,13 +22,13 @@ use Rattle.store_rows.specs.declared.fault.TableFault.{TableFault}
 use Rattle.store_rows.specs.declared.fault.TableFault.TheVariants.{Sqlite, Damaged}
 use Rattle.bank_transactions.specs.Causes.{Blames, HasMetBetween, IsFirstBroken}
 use Rattle.bank_transactions.specs.Doing.{ChangesNothing, CommitsNothing, Does, DoesBy, LeavesAndAnswers}
-use Rattle.bank_transactions.specs.Doing.{LooksUp, Reads, expected}
+use Rattle.bank_transactions.specs.Doing.{IsLookedUp, Reads, expected}
 use Rattle.bank_transactions.proofs.Blamed.{blames_put, failed_here, met_here}
 
 -- ---- look-ups
 
 pub looked : {X : Type 0} (old new : State) (t : Tables) (w : X) (r : Result X TableFault) → Shows old.now t
-    → LooksUp old new w r → LeavesAndAnswers new t w r
+    → IsLookedUp old new w r → LeavesAndAnswers new t w r
 looked old new t w (Ok x) shows told = (told.0, subst (λ (db : Database). Shows db t) (sym told.1.now) shows)
 looked old new t w (Err (Sqlite e)) shows told = tt
 looked old new t w (Err (Damaged rule)) shows told = told

@@ -15,7 +15,7 @@ use Rattle.store_rows.specs.Failures.{Committing}
 use Rattle.store_rows.specs.declared.fault.TableFault.{TableFault}
 use Rattle.store_rows.specs.declared.fault.TableFault.TheVariants.{Sqlite, Damaged}
 use Rattle.bank_transactions.specs.Causes.{Blames, Damage, IsBefore, IsFirstBroken}
-use Rattle.bank_transactions.specs.Doing.{Acts, LeavesAndAnswers, Completes, DoesBy, Ends, EndsWith}
+use Rattle.bank_transactions.specs.Doing.{Acts, LeavesAndAnswers, Completes, DoesBy, Ends, EndsBy}
 use Rattle.bank_transactions.specs.Doing.{CommitsNothing, MayLeaveAfter, MayCommit, Reads, Undoes, Consults}
 use Rattle.bank_transactions.specs.Doing.{Transacts, TransactsBy}
 use Rattle.bank_transactions.proofs.Blamed.{Widens, comes, fault_within, met_within, same_moment, then_moment}
@@ -32,7 +32,7 @@ not_done last new after wanted (Damaged rule) told = told
 completes : {X : Type 0} (last new : State) (after : Tables) (wanted : X)
     (answer result : Result X TableFault)
     → IfOk result (λ x. answer ≡ Ok x) → LeavesAndAnswers last after wanted answer
-    → EndsWith last new answer result
+    → EndsBy last new answer result
     → Completes new after wanted result
 completes last new after wanted (Ok x) (Ok y) given told ends =
     let same : y ≡ x = (let is = given in cc) in
@@ -55,7 +55,7 @@ undone_by X old last new (Damaged rule) settled kept back = λ is_open.
 
 undoes : {X : Type 0} (old last new : State) (answer result : Result X TableFault)
     → (IsTrue old.is_open → old.now ≡ old.committed) → CommitsNothing old last answer
-    → EndsWith last new answer result
+    → EndsBy last new answer result
     → Undoes old new result
 undoes old last new (Ok x) (Ok y) settled kept ends = tt
 undoes old last new (Ok x) (Err (Sqlite e)) settled kept ends = tt
@@ -75,7 +75,7 @@ blamed : {S X : Type 0} (Met : Damage S) (g : Ghosts S) (old start last new : He
     → IsBefore (state g old) (state g start) → IsBefore (state g start) (state g last)
     → IsBefore (state g last) (state g new)
     → Widens Met old start last new → Blames Met g start last answer
-    → EndsWith (state g last) (state g new) answer result
+    → EndsBy (state g last) (state g new) answer result
     → Blames Met g old new result
 blamed Met g old start last new (Ok x) (Ok y) first then end wide it ends = tt
 blamed Met g old start last new (Ok x) (Err (Sqlite e)) first then end wide it ends = record {

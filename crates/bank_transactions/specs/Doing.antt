@@ -36,17 +36,17 @@ ChangesNothing old new (Ok x) = Stays old new
 ChangesNothing old new (Err fault) = KeepsCommit old new
 
 -- the answer is what was looked for, and nothing has changed; the tables are never reported as damaged
-abbrev pub LooksUp : {X : Type 0} → State → State → X → Result X TableFault → Type 0
-LooksUp old new wanted (Ok found) = (found ≡ wanted) × Stays old new
-LooksUp old new wanted (Err (Sqlite e)) = ⊤
-LooksUp old new wanted (Err (Damaged rule)) = ⊥
+abbrev pub IsLookedUp : {X : Type 0} → State → State → X → Result X TableFault → Type 0
+IsLookedUp old new wanted (Ok found) = (found ≡ wanted) × Stays old new
+IsLookedUp old new wanted (Err (Sqlite e)) = ⊤
+IsLookedUp old new wanted (Err (Damaged rule)) = ⊥
 
 -- in undamaged tables it is what was looked for; damage is of the rows that were there
 abbrev pub Reads : {S X : Type 0} → Ghosts S → Transaction S → Transaction S → (Tables → X)
     → Result X TableFault → Type 0
 Reads g old new wanted result =
     Says g old new
-    (OfTables (λ before now tables. IsUndamaged tables → LooksUp before now (wanted tables) result))
+    (OfTables (λ before now tables. IsUndamaged tables → IsLookedUp before now (wanted tables) result))
     (λ before now. ChangesNothing before now result
     × Blames (IsFirstBroken g) g old.conn.now new.conn.now result)
 
@@ -99,20 +99,20 @@ MayCommit last (Ok x) left = (tables : Tables) → Shows last.now tables → Sho
 MayCommit last (Err fault) left = ⊥
 
 -- an answer is committed, and a stop leaves its tables; or its commit fails; after a fault all is rolled back
-abbrev pub EndsWith : {X : Type 0} → State → State → Result X TableFault → Result X TableFault → Type 0
-EndsWith last new (Ok x) (Ok y) = (new.now ≡ last.now)
+abbrev pub EndsBy : {X : Type 0} → State → State → Result X TableFault → Result X TableFault → Type 0
+EndsBy last new (Ok x) (Ok y) = (new.now ≡ last.now)
     × ((tables : Tables) → Shows last.now tables
     → Shows new.now tables × ((left : Trees) → new.may_leave left → ShowsTrees left tables))
-EndsWith last new (Ok x) (Err (Sqlite e)) = FailsToCommit last new e
-EndsWith last new (Ok x) (Err (Damaged rule)) = ⊥
-EndsWith last new (Err fault) result = (result ≡ Err fault) × IsRolledBack last new
+EndsBy last new (Ok x) (Err (Sqlite e)) = FailsToCommit last new e
+EndsBy last new (Ok x) (Err (Damaged rule)) = ⊥
+EndsBy last new (Err fault) result = (result ≡ Err fault) × IsRolledBack last new
 
 -- A transaction of which the parts gave this answer has ended with that one.
 pub record Ends {S X : Type 0} (g : Ghosts S) (last new : Held S)
     (answer result : Result X TableFault) : Type 0 where
   pub mode : new.in_transaction ≡ false
   pub given : IfOk result (λ x. answer ≡ Ok x)
-  pub told : HasCleanDisk (state g new) → EndsWith (state g last) (state g new) answer result
+  pub told : HasCleanDisk (state g new) → EndsBy (state g last) (state g new) answer result
   pub survives : Survives (state g last) (state g new) (MayCommit (state g last) answer)
 
 -- ---- a transaction

@@ -10,7 +10,7 @@ use Rattle.branch_loader.specs.declared.fault.PlanFault.{PlanFault}
 use Rattle.branch_loader.specs.declared.fault.PlanFault.TheVariants.{Header, Columns, Branch, Accounts, Twice}
 use Rattle.branch_loader.specs.declared.fault.PlanFault.TheVariants.{Csv, Memory}
 use Rattle.branch_loader.specs.Records.{Fields, RecordTold, Found, Failed, WasRecord, IsSourceFailure}
-use Rattle.branch_loader.specs.Records.{IsWantOfMemory, record_told}
+use Rattle.branch_loader.specs.Records.{ToldWantOfMemory, record_told}
 use Rattle.branch_loader.specs.Plans.{IsToldSo, Rows, Row, names, row_of, row_of_two, row_of_fields, two_of}
 
 -- what one call told is the last that was told
@@ -40,12 +40,12 @@ failed_last P {a = a} {b = b} r e k x is kind_is k_is p tells =
 -- ---- what explains a fault
 
 pub fault_told : (o a b : Option (List RecordTold)) (fault : PlanFault)
-    → ((fault ≡ Csv) × EndsWith IsSourceFailure a b) ⊎ ((fault ≡ Memory) × EndsWith IsWantOfMemory a b)
+    → ((fault ≡ Csv) × EndsWith IsSourceFailure a b) ⊎ ((fault ≡ Memory) × EndsWith ToldWantOfMemory a b)
     → HasMore o a → IsToldSo (Err fault) o b
 fault_told o a b Csv (inl source) before = more_last IsSourceFailure before source.1
 fault_told o a b Csv (inr memory) before = absurd (cc memory.0)
 fault_told o a b Memory (inl source) before = absurd (cc source.0)
-fault_told o a b Memory (inr memory) before = inl (more_last IsWantOfMemory before memory.1)
+fault_told o a b Memory (inr memory) before = inl (more_last ToldWantOfMemory before memory.1)
 fault_told o a b Header h before = tt
 fault_told o a b (Columns n) h before = tt
 fault_told o a b (Branch n) h before = tt
@@ -110,7 +110,7 @@ pub told_listed : (result : Result Rows PlanFault) (a b : Option (List RecordTol
     → (told : List RecordTold) × IsToldSo result (Some []) (Some told)
 told_listed (Ok plan) a b h = ([], tt)
 told_listed (Err Csv) a b h = listed IsSourceFailure a b h
-told_listed (Err Memory) a b h = either_listed IsWantOfMemory WasRecord a b h
+told_listed (Err Memory) a b h = either_listed ToldWantOfMemory WasRecord a b h
 told_listed (Err Header) a b h = ([], tt)
 told_listed (Err (Columns n)) a b h = ([], tt)
 told_listed (Err (Branch n)) a b h = ([], tt)

@@ -14,7 +14,7 @@ use Rattle.branch_loader.specs.declared.fault.PlanFault.TheVariants.{Header, Col
 use Rattle.branch_loader.specs.declared.fault.PlanFault.TheVariants.{Csv, Memory}
 use Rattle.posting_core.specs.Told.{EndsWith}
 use Rattle.branch_loader.specs.Records.{Records, Fields, RecordTold, WasRecord, IsSourceFailure}
-use Rattle.branch_loader.specs.Records.{IsWantOfMemory}
+use Rattle.branch_loader.specs.Records.{ToldWantOfMemory}
 
 -- a branch, and how many accounts it is to have
 abbrev pub Row : Type 0
@@ -122,5 +122,5 @@ TellsPlan stated answer = stated ≡ answer
 -- answer is stated.
 abbrev pub IsToldSo : Result Rows PlanFault → Option (List RecordTold) → Option (List RecordTold) → Type 0
 IsToldSo (Err Csv) old new = EndsWith IsSourceFailure old new
-IsToldSo (Err Memory) old new = EndsWith IsWantOfMemory old new ⊎ EndsWith WasRecord old new
+IsToldSo (Err Memory) old new = EndsWith ToldWantOfMemory old new ⊎ EndsWith WasRecord old new
 IsToldSo answer old new = ⊤

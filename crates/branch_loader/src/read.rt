@@ -5,7 +5,7 @@ ghost use Rattle.posting_core.specs.Told.{EndsWith};
 ghost use Rattle.csv.specs.Records.{fields_of};
 ghost use Rattle.branch_loader.specs.Plans.{IsToldSo, TellsPlan, plan_of, plan_of_records};
 ghost use Rattle.branch_loader.specs.Plans.{is_header, number_within, row_of_fields, two_of};
-ghost use Rattle.branch_loader.specs.Records.{WasRecord, IsSourceFailure, IsWantOfMemory, RecordTold};
+ghost use Rattle.branch_loader.specs.Records.{WasRecord, IsSourceFailure, ToldWantOfMemory, RecordTold};
 ghost use Rattle.branch_loader.specs.Records.{Records};
 ghost use Rattle.branch_loader.specs.Records.{TakesRecord};
 
@@ -87,7 +87,7 @@ fn next_record<S: RecordSource>(source: &mut S, fields: &mut ByteRecord) -> Resu
         → EndsWith WasRecord (S.told source.old) (S.told source.new)) }
     ensures fault { IfErr result (λ fault.
         ((fault ≡ PlanFault.Csv) × EndsWith IsSourceFailure (S.told source.old) (S.told source.new))
-        ⊎ ((fault ≡ PlanFault.Memory) × EndsWith IsWantOfMemory (S.told source.old) (S.told source.new))) }
+        ⊎ ((fault ≡ PlanFault.Memory) × EndsWith ToldWantOfMemory (S.told source.old) (S.told source.new))) }
 {
     match source.next(fields) {
         Ok(found) => Ok(found),

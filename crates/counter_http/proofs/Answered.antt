@@ -24,14 +24,14 @@ use Rattle.counter_http.specs.Telling.{said}
 use Rattle.counter_http.specs.Paths.{account_in, route_of, path_of}
 use Rattle.counter_http.proofs.PartsWritten.{bare_of, front_of}
 use Rattle.counter_http.specs.Turns.{commands_if, commands_for, readings_if, readings_for, IsDealtWith}
-use Rattle.counter_http.specs.Turns.{IsRefusedAt, IsWrittenTo, BreaksOff, IsTellingOf}
+use Rattle.counter_http.specs.Turns.{IsRefusedAt, IsWrittenTo, ServingBreaksOff, IsTellingOf}
 
 -- the bank refused a call, and that was told
 pub told_refused : {C : Type 0} (seen : C → Seen) (fault : Fault) (result : ServeFault)
     (w w' : Option (List ℕ)) (old new : C) (a : Asked) (cs : List Command) (n : ℕ)
     → IsRefusedAt seen old new fault cs → Appends w w' (take n (unavailable a))
     → IsTellingOf fault result n (unavailable a)
-    → BreaksOff seen result w w' old new a cs
+    → ServingBreaksOff seen result w w' old new a cs
 told_refused seen fault told.Write w w' old new a cs n refused wrote is =
     inr (record {
       written = take n (unavailable a);
@@ -80,7 +80,7 @@ told_answer seen w w' old new a cs x (Ok u) takes up is t err =
     }
 told_answer seen w w' old new a cs x (Err e) takes up is t err =
     let write : e ≡ told.Write = cc err in
-    subst (λ (f : ServeFault). BreaksOff seen f w w' old new a cs) (sym write) (inl (record {
+    subst (λ (f : ServeFault). ServingBreaksOff seen f w w' old new a cs) (sym write) (inl (record {
       written = take t.0 (answer_text x (shows a) a.closes);
       wrote = t.1;
       up = up;

@@ -18,8 +18,8 @@ use Rattle.counter_http.specs.Messages.{IsMessage}
 use Rattle.counter_http.specs.Next.{asked, IsWhole}
 use Rattle.counter_http.specs.Answers.{Asked, asked_by, answer_of, unavailable}
 use Rattle.counter_http.specs.Turns.{Turn, commands_for, readings_for, commands_in, moments_in, text_in}
-use Rattle.counter_http.specs.Turns.{commands_of, moments_of, texts_of, answers_to, IsAnsweredInPart}
-use Rattle.counter_http.specs.Turns.{IsRefusedAt, BreaksOff}
+use Rattle.counter_http.specs.Turns.{commands_of, moments_of, texts_of, answers_to, TurnIsAnsweredInPart}
+use Rattle.counter_http.specs.Turns.{IsRefusedAt, ServingBreaksOff}
 use Rattle.posting_core.specs.Batches.{joined}
 use Rattle.posting_core.proofs.Batched.{joined-append}
 use Rattle.counter_http.specs.Serving.{At_message, At_refusal, Exits, AnswersAreWritten, ServesConnection}
@@ -36,7 +36,7 @@ answer_begun : {C : Type 0} (seen : C → Seen) {r r' w w' w'' k k' k'' : Option
     → Going r r' w w' k k' (seen old) (seen now) all count → IsMessage t.message → all ≡ text_in t ++ rest
     → AreReadings k' k'' (moments_in t)
     → ((seen new).honest → (seen now).honest)
-    → IsAnsweredInPart w' w'' (seen now) (seen new) (asked_by t.message) (commands_in t)
+    → TurnIsAnsweredInPart w' w'' (seen now) (seen new) (asked_by t.message) (commands_in t)
     → ServesConnection seen r r' q q' w w'' k k'' old new (Err Write)
 answer_begun seen {r = r} {r' = r'} {w = w} {w' = w'} {w'' = w''} {k = k} {k' = k'} {k'' = k''} old now new t
     all rest g is front reading honest a =
@@ -154,7 +154,7 @@ broken_at : {C : Type 0} (seen : C → Seen) (fault : ServeFault) {r r' w w' w''
     → Going r r' w w' k k' (seen old) (seen now) all count → IsMessage t.message → all ≡ text_in t ++ rest
     → AreReadings k' k'' (moments_in t)
     → ((seen new).honest → (seen now).honest)
-    → BreaksOff seen fault w' w'' now new (asked_by t.message) (commands_in t)
+    → ServingBreaksOff seen fault w' w'' now new (asked_by t.message) (commands_in t)
     → ServesConnection seen r r' q q' w w'' k k'' old new (Err fault)
 broken_at seen Write old now new t all rest g is front reading honest (inl a) =
     answer_begun seen old now new t all rest g is front reading honest a
@@ -183,9 +183,9 @@ pub end_broken : {C : Type 0} (seen : C → Seen) (fault : ServeFault)
     → Going r r' w w' k k' (seen old) (seen now) all count → IsWhole all p
     → AreReadings k' k'' (readings_for m (asked p))
     → ((seen new).honest → (seen now).honest)
-    → BreaksOff seen fault w' w'' now new (asked p) (commands_for m (asked p))
+    → ServingBreaksOff seen fault w' w'' now new (asked p) (commands_for m (asked p))
     → ServesConnection seen r r' q q' w w'' k k'' old new (Err fault)
 end_broken seen fault {w' = w'} {w'' = w''} {k' = k'} {k'' = k''} old now new m all p g is reading honest a =
     broken_at seen fault old now new (turn_of m is) all (drop p.length all) g is.whole is.front
     (subst (λ (x : Asked). AreReadings k' k'' (readings_for m x)) is.asks reading) honest
-    (subst (λ (x : Asked). BreaksOff seen fault w' w'' now new x (commands_for m x)) is.asks a)
+    (subst (λ (x : Asked). ServingBreaksOff seen fault w' w'' now new x (commands_for m x)) is.asks a)

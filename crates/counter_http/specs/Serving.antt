@@ -41,7 +41,7 @@ pub record IsWalked (has_ended : Type 0) (taken refused : List Turn) (rest : Lis
   pub none_refused : refused ≡ []
 
 -- the whole messages that were read were answered
-pub record IsCutOff (taken refused : List Turn) (rest : List ℕ) (last : List (List ℕ)) : Type 0 where
+pub record ServingIsCutOff (taken refused : List Turn) (rest : List ℕ) (last : List (List ℕ)) : Type 0 where
   pub stays : AllByRecursion (λ t. KeepsConnection t.message) taken
   pub no_more : BeginsWithNoMessage rest
   pub none_refused : refused ≡ []
@@ -66,7 +66,8 @@ pub record IsBrokenOff (taken refused : List Turn) (last : List (List ℕ)) : Ty
   pub last_is : last ≡ unavailable (asked_by turn.message) ∷ []
 
 -- no message was looked at
-pub record IsUntouched (taken refused : List Turn) (rest : List ℕ) (last : List (List ℕ)) : Type 0 where
+pub record ServingIsUntouched (taken refused : List Turn) (rest : List ℕ) (last : List (List ℕ))
+    : Type 0 where
   pub none_taken : taken ≡ []
   pub none_refused : refused ≡ []
   pub no_rest : rest ≡ []
@@ -94,13 +95,13 @@ abbrev pub Exits : {C : Type 0} → (C → Seen) → Result ℕ ServeFault → (
 Exits seen (Ok count) has_ended old stood new taken refused rest last =
     IsWalked has_ended taken refused rest last × (count ≡ length taken + length last) × (new ≡ stood)
 Exits seen (Err Read) has_ended old stood new taken refused rest last =
-    IsCutOff taken refused rest last × (new ≡ stood)
+    ServingIsCutOff taken refused rest last × (new ≡ stood)
 Exits seen (Err Write) has_ended old stood new taken refused rest last =
     IsUnwritten seen has_ended stood new taken refused rest last
 Exits seen (Err (Bank fault)) has_ended old stood new taken refused rest last =
     IsBrokenOff taken refused last × Refuses fault (seen stood) (seen new) (commands_of refused)
 Exits seen (Err Memory) has_ended old stood new taken refused rest last =
-    IsUntouched taken refused rest last × (new ≡ old)
+    ServingIsUntouched taken refused rest last × (new ≡ old)
 
 -- what was written of the answers: a beginning where the writer failed, and all of them elsewhere
 abbrev pub AnswersAreWritten : Result ℕ ServeFault → List ℕ → List ℕ → Type 0

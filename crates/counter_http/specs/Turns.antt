@@ -90,8 +90,8 @@ pub record TurnIsAnswered (w w' : Option (List ℕ)) (c c' : Seen) (asked : Aske
   pub answer : c'.honest → (log : List Command) → ShowsLog c log → written ≡ answer_of log asked
 
 -- the bank took its command, and a beginning of its answer was written
-pub record IsAnsweredInPart (w w' : Option (List ℕ)) (c c' : Seen) (asked : Asked) (commands : List Command)
-    : Type 0 where
+pub record TurnIsAnsweredInPart (w w' : Option (List ℕ)) (c c' : Seen) (asked : Asked)
+    (commands : List Command) : Type 0 where
   pub written : List ℕ
   pub wrote : Appends w w' written
   pub up : c'.is_down → c.is_down
@@ -126,14 +126,15 @@ pub record IsRefusedInPart {C : Type 0} (seen : C → Seen) (w w' : Option (List
   pub refused : IsRefusedAt seen old new fault commands
 
 -- what each fault says
-abbrev pub BreaksOff : {C : Type 0} → (C → Seen) → ServeFault → (w w' : Option (List ℕ)) → (old new : C)
-    → Asked → List Command → Type 0
-BreaksOff seen Write w w' old new asked commands =
-    IsAnsweredInPart w w' (seen old) (seen new) asked commands
+abbrev pub ServingBreaksOff : {C : Type 0} → (C → Seen) → ServeFault → (w w' : Option (List ℕ))
+    → (old new : C) → Asked → List Command → Type 0
+ServingBreaksOff seen Write w w' old new asked commands =
+    TurnIsAnsweredInPart w w' (seen old) (seen new) asked commands
     ⊎ IsRefusedInPart seen w w' old new asked commands
-BreaksOff seen (Bank fault) w w' old new asked commands = IsTurnedAway seen w w' old new fault asked commands
-BreaksOff seen Read w w' old new asked commands = ⊥
-BreaksOff seen Memory w w' old new asked commands = ⊥
+ServingBreaksOff seen (Bank fault) w w' old new asked commands =
+    IsTurnedAway seen w w' old new fault asked commands
+ServingBreaksOff seen Read w w' old new asked commands = ⊥
+ServingBreaksOff seen Memory w w' old new asked commands = ⊥
 
 -- the fault of the bank, where all of the text was written, and that of the writer elsewhere
 abbrev pub IsTellingOf : Fault → ServeFault → ℕ → List ℕ → Type 0
@@ -147,7 +148,7 @@ abbrev pub IsDealtWith : {C : Type 0} → (C → Seen) → (w w' : Option (List 
     → List Command → Result (Unit {0}) ServeFault → Type 0
 IsDealtWith seen w w' old new asked commands result =
     MatchResult result (λ _. TurnIsAnswered w w' (seen old) (seen new) asked commands)
-    (λ fault. BreaksOff seen fault w w' old new asked commands)
+    (λ fault. ServingBreaksOff seen fault w w' old new asked commands)
 
 -- so much of a text was written, and all of it where the result is none of a fault
 abbrev pub IsWrittenTo : (w w' : Option (List ℕ)) → List ℕ → Result (Unit {0}) ServeFault → Type 0

@@ -23,7 +23,7 @@ pub record FirstIsAnswered (r r' w w' : Option (List ℕ)) : Type 0 where
   pub written : Appends w w' (reply_spelling (reply two_branches bytes))
 
 -- the input ends before, and nothing is written
-pub record EndsShort (r r' w w' : Option (List ℕ)) : Type 0 where
+pub record FirstEndsShort (r r' w w' : Option (List ℕ)) : Type 0 where
   pub bytes : List ℕ
   pub few : length bytes < 100
   pub read : Consumes r r' bytes
@@ -31,7 +31,7 @@ pub record EndsShort (r r' w w' : Option (List ℕ)) : Type 0 where
   pub written : Keeps w w'
 
 -- 100 bytes are read, and a beginning of the reply is written
-pub record IsCutOff (r r' w w' : Option (List ℕ)) : Type 0 where
+pub record FirstIsCutOff (r r' w w' : Option (List ℕ)) : Type 0 where
   pub bytes : List ℕ
   pub whole : length bytes ≡ 100
   pub read : Consumes r r' bytes
@@ -46,7 +46,7 @@ pub record LacksMemory (fault : Fault) (w w' : Option (List ℕ)) : Type 0 where
 -- what each fault leaves
 abbrev pub FirstLeaves : OnceFault → Option (List ℕ) → Option (List ℕ) → Option (List ℕ) → Option (List ℕ)
     → Type 0
-FirstLeaves Short r r' w w' = EndsShort r r' w w'
+FirstLeaves Short r r' w w' = FirstEndsShort r r' w w'
 FirstLeaves Read r r' w w' = Keeps w w'
-FirstLeaves Write r r' w w' = IsCutOff r r' w w'
+FirstLeaves Write r r' w w' = FirstIsCutOff r r' w w'
 FirstLeaves (Bank fault) r r' w w' = LacksMemory fault w w'

@@ -14,7 +14,7 @@ use Rattle.std.proofs.lemmas.List.Elements.{All-from_recursion}
 use Rattle.std.proofs.lemmas.List.Folds.{find-append, list_any_none}
 use Rattle.std.proofs.lemmas.Map.Keys.{IsDistinct-push}
 use Rattle.posting_rules.specs.Tables.{row_at, HasKeys}
-use Rattle.posting_rules.specs.Steps.{AddsRow, AddsRows}
+use Rattle.posting_rules.specs.Steps.{GainsRow, AddsRows}
 use Rattle.posting_rules.proofs.RowChanges.{changed_at, free_apart, rows_none, rows_more}
 use Rattle.posting_core.specs.Appended.{rows_from}
 
@@ -27,7 +27,7 @@ or_put false (Some r) x none = refl
 or_put false None x none = refl
 
 pub row_behind : {R : Type 0} (key : R → ℕ) (rows : List R) (x : R) → HasKeys key rows
-    → row_at key rows (key x) ≡ None → AddsRow key x rows (rows ++ x ∷ [])
+    → row_at key rows (key x) ≡ None → GainsRow key x rows (rows ++ x ∷ [])
 row_behind key rows x keys none =
     let apart = list_any_none (nat_eq (key x)) (map key rows) (All-from_recursion
     (λ j. nat_eq (key x) j ≡ false) (map key rows) (free_apart key rows (key x) none)) in

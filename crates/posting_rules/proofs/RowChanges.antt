@@ -8,7 +8,7 @@ use Rattle.std.proofs.lemmas.Bool.{eqb-true}
 use Rattle.std.proofs.lemmas.Bool.Decides.{nat_tests}
 use Rattle.std.proofs.lemmas.Map.Keys.{IsDistinct-cons, IsDistinct-head, IsDistinct-tail}
 use Rattle.posting_rules.specs.Tables.{row_at, HasKeys}
-use Rattle.posting_rules.specs.Steps.{ChangesRow, AddsRow, AddsRows, is_from}
+use Rattle.posting_rules.specs.Steps.{ChangesRow, GainsRow, AddsRows, is_from}
 use Rattle.posting_rules.proofs.Keyed.{by_test}
 use Rattle.posting_rules.specs.Changes.{row_changed, row_put, rows_put}
 
@@ -133,7 +133,7 @@ keys-put key x (r ∷ rows) keys none =
 -- a row whose key was free is added
 pub row_adds : {R : Type 0} (key : R → ℕ) (rows : List R) (x : R) → HasKeys key rows
     → row_at key rows (key x) ≡ None
-    → AddsRow key x rows (row_put key x rows)
+    → GainsRow key x rows (row_put key x rows)
 row_adds key rows x keys none = record { rows = row_at-put key x rows; keys = keys-put key x rows keys none }
 
 -- ---- rows under numbers in a row are put in, one by one
@@ -186,7 +186,7 @@ pub rows_more : {R : Type 0} (key : R → ℕ) (row : ℕ → R) (first count : 
     → ((n : ℕ) → key (row n) ≡ n)
     → AddsRows key row first count old mid → row_at key old (first + count) ≡ None
     → (HasKeys key mid → row_at key mid (key (row (first + count))) ≡ None
-    → AddsRow key (row (first + count)) mid new)
+    → GainsRow key (row (first + count)) mid new)
     → AddsRows key row first (suc count) old new
 rows_more key row first count old mid new own before none adds =
     let free : row_at key mid (key (row (first + count))) ≡ None =

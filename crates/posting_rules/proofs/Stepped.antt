@@ -29,7 +29,7 @@ use Rattle.posting_rules.specs.Tables.{account_key, history_key, request_key, br
 use Rattle.posting_rules.specs.Tables.{account_row_of, history_row, history_row_of, request_row}
 use Rattle.posting_rules.specs.Tables.{request_row_of}
 use Rattle.posting_rules.specs.LookUps.{found_in}
-use Rattle.posting_rules.specs.Steps.{AddsRow, KeepsRefusal, KeepsPosting, IsStep, with_branch_balance}
+use Rattle.posting_rules.specs.Steps.{GainsRow, KeepsRefusal, KeepsPosting, IsStep, with_branch_balance}
 use Rattle.posting_rules.specs.Steps.{with_teller_balance, with_account_balance}
 use Rattle.posting_rules.proofs.Verdicts.{IsVerdict, IsPosting, IsRefusal, verdict_is}
 use Rattle.posting_rules.proofs.Requests.{are_new}
@@ -56,7 +56,7 @@ history_row_past (e ∷ es) o le = rw (other_ordinal (length es) o (omega arith)
     (history_row_past es o (omega arith))
 
 requests_added : (old new : List RequestRow) (es : List DecidedRequest) (e : DecidedRequest)
-    → AddsRow request_key (request_row_of (length es + 1) e) old new
+    → GainsRow request_key (request_row_of (length es + 1) e) old new
     → ((o : ℕ) → row_at request_key old o ≡ request_row es o) → (o : ℕ)
     → row_at request_key new o ≡ request_row (e ∷ es) o
 requests_added old new es e adds shown o =
@@ -71,7 +71,7 @@ requests_added old new es e adds shown o =
 
 history_added : (old new : List HistoryRow) (es : List DecidedRequest) (e : DecidedRequest)
     → is_posted e ≡ true
-    → AddsRow history_key (history_row_of (length es + 1) e) old new
+    → GainsRow history_key (history_row_of (length es + 1) e) old new
     → ((o : ℕ) → row_at history_key old o ≡ history_row es o) → (o : ℕ)
     → row_at history_key new o ≡ history_row (e ∷ es) o
 history_added old new es e done adds shown o =

@@ -15,7 +15,7 @@ use Rattle.posting_rules.specs.Tables.{history_key, request_key, branch_row_of, 
 use Rattle.posting_rules.specs.Tables.{history_row_of}
 use Rattle.posting_rules.specs.LookUps.{both_of, balance_of_branch, balance_of_teller, balance_of_account}
 use Rattle.posting_rules.specs.LookUps.{found_in}
-use Rattle.posting_rules.specs.Steps.{AddsRow, AddsRows, KeepsRefusal, KeepsPosting, IsStep, OpensBranch}
+use Rattle.posting_rules.specs.Steps.{GainsRow, AddsRows, KeepsRefusal, KeepsPosting, IsStep, OpensBranch}
 use Rattle.posting_rules.specs.Steps.{first_teller, first_account}
 use Rattle.posting_rules.specs.Steps as steps
 use Rattle.posting_rules.proofs.Undamaged.{undamaged}

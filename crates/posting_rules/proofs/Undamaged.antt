@@ -26,7 +26,7 @@ use Rattle.posting_rules.specs.Tables.{account_key}
 use Rattle.posting_rules.specs.Tables.{history_key, request_key, branch_row_of, teller_row_of, account_row_of}
 use Rattle.posting_rules.specs.Tables.{history_row, history_row_of, request_row, request_row_of}
 use Rattle.posting_rules.specs.Damage.{IsSoundBranch, IsSoundTeller, IsSoundAccount, IsSoundRequest}
-use Rattle.posting_rules.specs.Damage.{IsSoundPosting, AreInRange, IsUndamaged}
+use Rattle.posting_rules.specs.Damage.{IsSoundPosting, FieldsAreInRange, IsUndamaged}
 use Rattle.posting_rules.proofs.Keyed.{by_test}
 use Rattle.posting_rules.proofs.Verdicts.{when}
 use Rattle.posting_rules.proofs.NamedOpen.{both, some_within}
@@ -101,7 +101,7 @@ account_sound opened n z r open_ limit e =
 -- ---- requests and history
 
 -- a request's account, teller, branch and amount are in their ranges
-in_range : (r : RequestFields) → IsRequest r → AreInRange r.account r.teller r.branch r.delta
+in_range : (r : RequestFields) → IsRequest r → FieldsAreInRange r.account r.teller r.branch r.delta
 in_range r is = record {
   account_above = is.account_above;
   account = is.account;

@@ -47,7 +47,7 @@ pub record IsSoundAccount (r : AccountRow) : Type 0 where
   pub balance : nat_abs r.balance ≤ MAX_BALANCE
 
 -- account, teller, branch and amount of a request are in their ranges
-pub record AreInRange (account' teller' branch' : ℕ) (delta' : ℤ) : Type 0 where
+pub record FieldsAreInRange (account' teller' branch' : ℕ) (delta' : ℤ) : Type 0 where
   pub account_above : 1 ≤ account'
   pub account : account' ≤ MAX_ACCOUNT
   pub teller_above : 1 ≤ teller'
@@ -62,7 +62,7 @@ pub record IsSoundRequest (r : RequestRow) : Type 0 where
   pub ordinal_above : 1 ≤ r.ordinal
   pub ordinal : r.ordinal ≤ MAX_DECIDED
   -- each field of the request is in its range
-  pub fields : AreInRange r.kept.account r.teller r.kept.branch r.kept.delta
+  pub fields : FieldsAreInRange r.kept.account r.teller r.kept.branch r.kept.delta
   pub number_above : 1 ≤ r.number
   pub number : r.number ≤ MAX_NUMBER
   -- its outcome is one that is kept, and only a posting has a balance
@@ -76,7 +76,7 @@ pub record IsSoundPosting (r : HistoryRow) : Type 0 where
   pub ordinal_above : 1 ≤ r.ordinal
   pub ordinal : r.ordinal ≤ MAX_DECIDED
   -- each field of its request is in its range
-  pub fields : AreInRange r.account r.teller r.branch r.delta
+  pub fields : FieldsAreInRange r.account r.teller r.branch r.delta
   -- its moment is within its range
   pub moment : r.moment ≤ MAX_MOMENT
 

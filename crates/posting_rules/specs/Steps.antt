@@ -24,7 +24,7 @@ pub record ChangesRow {R : Type 0} (key : R → ℕ) (k : ℕ) (change : R → R
   pub keys : HasKeys key new
 
 -- this row is added, and no other
-pub record AddsRow {R : Type 0} (key : R → ℕ) (row : R) (old new : List R) : Type 0 where
+pub record GainsRow {R : Type 0} (key : R → ℕ) (row : R) (old new : List R) : Type 0 where
   pub rows : (n : ℕ) → row_at key new n ≡ (if key row == n then Some row else row_at key old n)
   pub keys : HasKeys key new
 
@@ -56,7 +56,7 @@ pub record KeepsRefusal (old new : Tables) (ordinal : ℕ) (e : DecidedRequest) 
   pub tellers : new.tellers ≡ old.tellers
   pub accounts : new.accounts ≡ old.accounts
   pub history : new.history ≡ old.history
-  pub requests : AddsRow request_key (request_row_of ordinal e) old.requests new.requests
+  pub requests : GainsRow request_key (request_row_of ordinal e) old.requests new.requests
 
 -- a posting is kept under this ordinal, with the new balances of its account, its teller and its branch
 -- (TPC-B 1.2)
@@ -68,8 +68,8 @@ pub record KeepsPosting (old new : Tables) (ordinal : ℕ) (e : DecidedRequest)
   pub tellers : ChangesRow teller_key e.request.teller (with_teller_balance teller) old.tellers new.tellers
   pub accounts : ChangesRow account_key e.request.account
       (with_account_balance e.balance) old.accounts new.accounts
-  pub history : AddsRow history_key (history_row_of ordinal e) old.history new.history
-  pub requests : AddsRow request_key (request_row_of ordinal e) old.requests new.requests
+  pub history : GainsRow history_key (history_row_of ordinal e) old.history new.history
+  pub requests : GainsRow request_key (request_row_of ordinal e) old.requests new.requests
 
 -- what a verdict on a request does to the tables, where this is the next ordinal
 abbrev pub IsStep : Tables → Tables → ℕ → ℕ → RequestFields → Verdict → Type 0
@@ -91,7 +91,7 @@ first_account b = ACCOUNTS_PER_BRANCH * (b - 1) + 1
 -- a branch is there, with its tellers and its accounts, all at zero
 pub record OpensBranch (old new : Tables) (b count : ℕ) : Type 0 where
   pub decided : new.decided ≡ old.decided
-  pub branches : AddsRow branch_key (branch_row_of b (pos 0) count) old.branches new.branches
+  pub branches : GainsRow branch_key (branch_row_of b (pos 0) count) old.branches new.branches
   pub tellers : AddsRows teller_key (λ n. teller_row_of n (pos 0))
       (first_teller b) TELLERS_PER_BRANCH old.tellers new.tellers
   pub accounts : AddsRows account_key (λ n. account_row_of n (pos 0))

@@ -1,5 +1,5 @@
 use Rattle.std.proofs.Common.{inl, inr, refl}
-use Rattle.branch_loader.specs.Records.{IsSourceFailure, IsWantOfMemory}
+use Rattle.branch_loader.specs.Records.{IsSourceFailure, ToldWantOfMemory}
 use Rattle.branch_loader.proofs.SourceRead.{failed_last, found_last}
 use Rattle.branch_loader.proofs.read.next_record.Goals as goal
 
@@ -19,6 +19,6 @@ pub returns-in-OutOfMemory-clause-fault : goal.returns-in-OutOfMemory-clause-fau
 returns-in-OutOfMemory-clause-fault g c =
     inr (
       refl,
-      failed_last IsWantOfMemory c.next.result c.in-Err.error c.into_kind.result _ c.in-Err.is
+      failed_last ToldWantOfMemory c.next.result c.in-Err.error c.into_kind.result _ c.in-Err.is
           c.into_kind.ensures c.in-OutOfMemory.is tt c.next.ensures.tells,
     )
