@@ -6,7 +6,7 @@ use anyhow::bail;
 use bank_endings::Status;
 use bank_program::run;
 use posting_core::StoredClock;
-use sqlite::{Connection, Error, Unknown};
+use sqlite::{Alter, Connection, Error, Unknown};
 use std::alloc::{AllocError, Global};
 use std::io::{Read, Write};
 use std::{fs, io};
@@ -161,9 +161,14 @@ fn ask(rt: &HostRuntime, rest: &str) -> Result<(), anyhow::Error> {
 // The number that a query gives.
 fn number_of(rt: &HostRuntime, file: &str, sql: &str) -> Result<i64, Error> {
     let mut conn = Connection::open(rt, file)?;
-    let number = conn.query_row(sql, &[])?.get(0)?;
+    let number = first_of(&mut conn, sql);
     conn.close()?;
-    Ok(number)
+    number
+}
+
+// What a query gives first.
+fn first_of<S: Alter + Drop>(conn: &mut Connection<S>, sql: &str) -> Result<i64, Error> {
+    conn.query_row(sql, &[])?.get(0)
 }
 
 // Runs SQL on a file, whose name comes before it.
