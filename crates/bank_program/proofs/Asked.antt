@@ -207,6 +207,14 @@ pub unfound : (kind : ErrorKind) (status : Status) → kind ≡ OutOfMemory → 
     → EndsUnfound status
 unfound kind status memory shown = (fault.Memory, tt, memory_ends kind status memory shown)
 
+-- and it has written nothing
+pub unfound_silent : (kind : ErrorKind) (status : Status) (w w' : Option (List ℕ)) → kind ≡ OutOfMemory
+    → IsShown kind status → Keeps w w' ⊎ IsHelpOrVersion kind → EndsUnfound status × Keeps w w'
+unfound_silent kind status w w' memory shown silent = (
+  unfound kind status memory shown,
+  mistake_keeps kind w w' (memory_is_no_request kind memory) silent,
+)
+
 pub nothing_posted : {C : Type 0} (seen : C → Seen) (image : Image) (r w w' k : Option (List ℕ))
     (kind : ErrorKind) (status : Status)
     → kind ≡ OutOfMemory → IsShown kind status → Keeps w w' ⊎ IsHelpOrVersion kind

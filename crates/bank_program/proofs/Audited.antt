@@ -18,8 +18,7 @@ use Rattle.bank_words.specs.declared.reading.Command.TheVariants.{Statement}
 use Rattle.bank_work.specs.Auditing.{Prints}
 use Rattle.bank_commands.specs.Auditing.{AuditsIn}
 use Rattle.bank_program.specs.Running.{DoesCommand, EndsAudit, EndsUnfound, status_after}
-use Rattle.bank_program.proofs.Asked.{letter, letter_of, memory_is_no_request, unfound}
-use Rattle.bank_program.proofs.Endings.{mistake_keeps}
+use Rattle.bank_program.proofs.Asked.{letter, letter_of, unfound_silent}
 
 module _ {C : Type 0} (seen : C → Seen) (image : Image) (w w' : Option (List ℕ)) where
   -- a run says what its command says
@@ -36,11 +35,7 @@ module _ {C : Type 0} (seen : C → Seen) (image : Image) (w w' : Option (List �
       → Keeps w w' ⊎ IsHelpOrVersion kind
       → AuditsIn seen image w w' (EndsUnfound status) (λ told. EndsAudit told w w' status)
   nothing_audited kind status memory shown silent =
-      inl (
-        unfound kind status memory shown,
-        mistake_keeps kind w w' (memory_is_no_request kind memory)
-            silent,
-      )
+      inl (unfound_silent kind status w w' memory shown silent)
 
 module _ {C : Type 0} (seen : C → Seen) (image : Image) (r r' w w' k k' : Option (List ℕ))
     (words : List Text) where

@@ -20,9 +20,8 @@ use Rattle.bank_words.proofs.Getters.{apart}
 use Rattle.bank_work.specs.Working.{done_after}
 use Rattle.bank_commands.specs.Stating.{StatesIn, said_of_statement}
 use Rattle.bank_program.specs.Running.{DoesCommand, EndsUnfound, stated_by, status_after}
-use Rattle.bank_program.proofs.Asked.{letter, letter_of, memory_is_no_request, unfound}
+use Rattle.bank_program.proofs.Asked.{letter, letter_of, unfound_silent}
 use Rattle.bank_program.proofs.Driven.{word_at}
-use Rattle.bank_program.proofs.Endings.{mistake_keeps}
 
 module _ {C : Type 0} (seen : C → Seen) (image : Image) (account : ℕ) (w w' : Option (List ℕ)) where
   -- how the command ends
@@ -51,11 +50,7 @@ module _ {C : Type 0} (seen : C → Seen) (image : Image) (account : ℕ) (w w' 
       → StatesIn seen image account w w' (EndsUnfound status)
       (λ told. status ≡ status_after (stated_by account told))
   nothing_stated kind status memory shown silent =
-      inl (
-        unfound kind status memory shown,
-        mistake_keeps kind w w' (memory_is_no_request kind memory)
-            silent,
-      )
+      inl (unfound_silent kind status w w' memory shown silent)
 
 module _ {C : Type 0} (seen : C → Seen) (image : Image) (r r' w w' k k' : Option (List ℕ))
     (words : List Text) where
