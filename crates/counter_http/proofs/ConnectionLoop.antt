@@ -3,8 +3,8 @@ use Rattle.std.proofs.Common.{◌≡◌, ℕ, ◌+◌, ◌<◌, ◌≤◌, ◌-�
 use Rattle.std.proofs.Common.{List, [], ◌∷◌, ◌++◌, length, take, drop, Option, refl, sym, ap, subst, ◌∙◌}
 use Rattle.std.proofs.Common.{append_assoc, append-nil, arith}
 use Rattle.std.specs.List.{AllByRecursion}
-use Rattle.std.specs.Io.KnownBytes.{Keeps, Consumes}
-use Rattle.std.proofs.KnownBytes.{Consumes-trans, Consumes-nil, Consumes-kept}
+use Rattle.std.specs.Io.KnownBytes.{Consumes}
+use Rattle.std.proofs.KnownBytes.{Consumes-trans, Consumes-nil}
 use Rattle.std.proofs.lemmas.List.{length-append, length-take-le, drop-take, nil_from_length}
 use Rattle.std.proofs.lemmas.List.Concat.{flat_map-append}
 use Rattle.posting_rules.specs.Counter.{Seen}
@@ -63,15 +63,6 @@ pub going_filled : {r r' r'' w w' k k' : Option (List ℕ)} {c c' : Seen} {count
     → filled' ≡ filled + n → Going r r'' w w' k k' c c' (take filled' new) count
 going_filled old new filled filled' n g got e =
     going_read (take filled old) got.0 (take filled' new) g got.2 (ap (λ (j : ℕ). take j new) e ∙ got.1)
-
-pub going_unread : {r r' r'' w w' k k' : Option (List ℕ)} {c c' : Seen} {count : ℕ} (old new : List ℕ)
-    (filled filled' : ℕ)
-    → Going r r' w w' k k' c c' (take filled old) count → (Keeps r' r'' × (take filled new ≡ take filled old))
-    → filled' ≡ filled
-    → Going r r'' w w' k k' c c' (take filled' new) count
-going_unread {r' = r'} {r'' = r''} old new filled filled' g kept e =
-    going_read (take filled old) [] (take filled' new) g (Consumes-kept r' r' r'' [] (Consumes-nil r') kept.0)
-    (ap (λ (j : ℕ). take j new) e ∙ kept.1 ∙ sym (append-nil (take filled old)))
 
 -- ---- a message
 

@@ -77,15 +77,16 @@ pub going_filled : {r r' r'' w w' k k' : Option (List ℕ)} {c c' : Seen} {count
 going_filled old new filled filled' n g got e =
     going_read (take filled old) got.0 (take filled' new) g got.2 (ap (λ (j : ℕ). take j new) e ∙ got.1)
 
--- a read that failed, where nothing was read
-pub going_unread : {r r' r'' w w' k k' : Option (List ℕ)} {c c' : Seen} {count : ℕ} (old new : List ℕ)
-    (filled filled' : ℕ)
-    → Going r r' w w' k k' c c' (take filled old) count → (Keeps r' r'' × (take filled new ≡ take filled old))
-    → filled' ≡ filled
-    → Going r r'' w w' k k' c c' (take filled' new) count
-going_unread {r' = r'} {r'' = r''} old new filled filled' g kept e =
-    going_read (take filled old) [] (take filled' new) g (Consumes-kept r' r' r'' [] (Consumes-nil r') kept.0)
-    (ap (λ (j : ℕ). take j new) e ∙ kept.1 ∙ sym (append-nil (take filled old)))
+-- of a read that failed nothing is behind it
+pub nothing_read : (r' r'' : Option (List ℕ)) (old new : List ℕ) (filled : ℕ)
+    → (Keeps r' r'' × (take filled new ≡ take filled old))
+    → ((bytes : List ℕ) × (take (filled + 0) new ≡ take filled old ++ bytes) × Consumes r' r'' bytes)
+nothing_read r' r'' old new filled kept =
+    let none : filled + 0 ≡ filled = omega arith in (
+      [],
+      ap (λ (j : ℕ). take j new) none ∙ kept.1 ∙ sym (append-nil (take filled old)),
+      Consumes-kept r' r' r'' [] (Consumes-nil r') kept.0,
+    )
 
 -- a read that came back: it read some, or it failed and read nothing
 pub going_on : {r r' r'' w w' k k' : Option (List ℕ)} {c c' : Seen} {count : ℕ} (old new : List ℕ)
@@ -98,8 +99,10 @@ pub going_on : {r r' r'' w w' k k' : Option (List ℕ)} {c c' : Seen} {count : �
     → Going r r'' w w' k k' c c' (take filled' new) count × (filled' ≤ length new)
 going_on old new filled filled' g few long (inl (n, got, fits, is)) =
     (going_filled old new filled filled' n g got is, omega (arith, fits, is))
-going_on old new filled filled' g few long (inr (kept, is)) =
-    (going_unread old new filled filled' g kept is, omega (arith, few, long, is))
+going_on old new filled filled' g few long (inr (kept, is)) = (
+  going_filled old new filled filled' 0 g (nothing_read _ _ old new filled kept) (omega (arith, is)),
+  omega (arith, few, long, is),
+)
 
 -- less than a record is left over
 pub few_left : (filled : ℕ) (buffer : List ℕ) → filled < 100 → length buffer ≡ BUFFER

@@ -1,12 +1,12 @@
 use Rattle.std.proofs.Common.{◌≡◌, ◌≤◌, ℕ, ◌+◌, List, [], refl, sym, subst, arith, inr, length, take}
 use Rattle.std.proofs.lemmas.Result.{err_from_is_err_and}
-use Rattle.posting_core.proofs.Streaming.{at_ok}
+use Rattle.posting_core.proofs.Streaming.{at_ok, nothing_read}
 use Rattle.posting_core.proofs.Telling.{made_many, made_none, made_one, other_kind, read_failed}
 use Rattle.posting_core.proofs.Through.{through_batch, through_first}
 use Rattle.counter_http.specs.declared.fault.ServeFault.TheVariants.{Write}
 use Rattle.counter_http.specs.Messages.{No_head}
 use Rattle.counter_http.specs.Next.{IsUnfinished}
-use Rattle.counter_http.proofs.ConnectionLoop.{Going, going_first, going_filled, going_unread, going_message}
+use Rattle.counter_http.proofs.ConnectionLoop.{Going, going_first, going_filled, going_message}
 use Rattle.counter_http.proofs.ConnectionLoop.{unfinished_none, range_all, range_next, range_long}
 use Rattle.counter_http.proofs.ConnectionLoop.{message_long}
 use Rattle.counter_http.proofs.Connected.{end_finished, end_unread, end_closed, short_read, hopeless_walk}
@@ -37,8 +37,8 @@ returns-clause-served g c =
 pub returns-in-Err-2-clause-served : goal.returns-in-Err-2-clause-served
 returns-in-Err-2-clause-served g c =
     end_unread g.C.Counter.seen c.args.bank.now c.reads.bank _
-    (going_unread c.reads.buffer c.fill.new.buffer c.reads.filled c.reads.filled c.reads.invariant.going
-    c.in-Err.ensures.err refl)
+    (going_filled c.reads.buffer c.fill.new.buffer c.reads.filled c.reads.filled 0 c.reads.invariant.going
+    (nothing_read _ _ c.reads.buffer c.fill.new.buffer c.reads.filled c.in-Err.ensures.err) (omega arith))
     (unfinished_none _ (subst (λ (t : List ℕ). IsUnfinished t c.reads.shows_body) (sym c.in-Err.ensures.err.1)
     c.reads.invariant.waits))
 
@@ -96,8 +96,10 @@ messages-init g c =
     elim c.match-fill.branch [
       | in-Ok w ↦ going_filled c.reads.buffer c.fill.new.buffer c.reads.filled c.match-fill.filled w.in-Ok.n
           c.reads.invariant.going w.in-Ok.ensures.ok w.filled-is
-      | in-Err w ↦ going_unread c.reads.buffer c.fill.new.buffer c.reads.filled c.match-fill.filled
-          c.reads.invariant.going w.in-Err.ensures.err w.filled-is
+      | in-Err w ↦ going_filled c.reads.buffer c.fill.new.buffer c.reads.filled c.match-fill.filled 0
+          c.reads.invariant.going
+          (nothing_read _ _ c.reads.buffer c.fill.new.buffer c.reads.filled w.in-Err.ensures.err)
+          (omega (arith, w.filled-is))
     ] in
     let long : length c.fill.new.buffer ≡ 12_288 =
     omega (arith, c.fill.auto.buffer, c.reads.invariant.room) in

@@ -4,7 +4,7 @@ use Rattle.std.proofs.lemmas.Result.{err_from_is_err_and}
 use Rattle.posting_core.specs.declared.stream.TheConstants.{BUFFER}
 use Rattle.posting_core.proofs.Batched.{cut_into, cut_and_moved}
 use Rattle.posting_core.proofs.Output.{output_of, survives_of, resends_of}
-use Rattle.posting_core.proofs.Streaming.{going_first, going_filled, going_on, going_unread}
+use Rattle.posting_core.proofs.Streaming.{going_first, going_filled, going_on, nothing_read}
 use Rattle.posting_core.proofs.StreamedBatches.{going_batch}
 use Rattle.posting_core.proofs.StreamEnds.{end_whole, end_in_record, end_unread, end_broken}
 use Rattle.posting_core.proofs.Streaming.{at_ok, few_left}
@@ -48,8 +48,9 @@ returns-in-Err-2 g c =
     let long : length c.fill.new.buffer ≡ BUFFER = omega
     (arith, c.fill.auto.buffer, c.reads.invariant.room) in
     let s =
-    end_unread _ (going_unread c.reads.buffer c.fill.new.buffer c.reads.filled c.reads.filled
-    c.reads.invariant.going c.in-Err.ensures.err refl)
+    end_unread _ (going_filled c.reads.buffer c.fill.new.buffer c.reads.filled c.reads.filled 0
+    c.reads.invariant.going
+    (nothing_read _ _ c.reads.buffer c.fill.new.buffer c.reads.filled c.in-Err.ensures.err) (omega arith))
     (few_left c.reads.filled c.fill.new.buffer c.reads.invariant.few long) in
     record {
       stream = s;
