@@ -90,6 +90,10 @@ bank_alone = let bank = new_app (codes "bank") in record bank {
 abbrev pub bank_commands : List App
 bank_commands = init_app ∷ load_app ∷ post_app ∷ drive_app ∷ audit_app ∷ statement_app ∷ serve_app ∷ []
 
+-- the command line `bank` with these commands
+abbrev pub with_commands : App → List App → App
+with_commands bank commands = fold (λ bank command. with_subcommand bank command.top) bank commands
+
 -- `bank` with its commands; clap adds the command `help`
 abbrev pub bank_app : App
-bank_app = fold (λ bank command. with_subcommand bank command.top) bank_alone bank_commands
+bank_app = with_commands bank_alone bank_commands
