@@ -24,7 +24,7 @@ pub fn bank_command<'a>(alloc: Global) -> Result<Command<'a>, AllocError>
         .subcommand(serve_command(alloc)?)
 }
 
-// The command line with its commands up to `drive`. One chain of all seven would take three times as long to prove.
+// The command line with its commands up to `drive`: two chains take less to prove than one.
 fn bank_up_to_drive<'a>(alloc: Global) -> Result<Command<'a>, AllocError>
     ensures { IfOk result (λ bank. app_of bank ≡
         with_commands bank_alone (init_app ∷ load_app ∷ post_app ∷ drive_app ∷ [])) }
