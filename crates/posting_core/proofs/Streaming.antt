@@ -77,7 +77,7 @@ pub going_filled : {r r' r'' w w' k k' : Option (List ℕ)} {c c' : Seen} {count
 going_filled old new filled filled' n g got e =
     going_read (take filled old) got.0 (take filled' new) g got.2 (ap (λ (j : ℕ). take j new) e ∙ got.1)
 
--- of a read that failed nothing is behind it
+-- a read that failed has read no bytes
 pub nothing_read : (r' r'' : Option (List ℕ)) (old new : List ℕ) (filled : ℕ)
     → (Keeps r' r'' × (take filled new ≡ take filled old))
     → ((bytes : List ℕ) × (take (filled + 0) new ≡ take filled old ++ bytes) × Consumes r' r'' bytes)
