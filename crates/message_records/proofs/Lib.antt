@@ -8,6 +8,7 @@ pub mod Filled
 pub mod Requests
 pub mod SpelledReplies
 pub mod ReadReplies
+pub mod FirstFaults
 pub mod Beginnings
 pub mod Written
 pub mod Composed

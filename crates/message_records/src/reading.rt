@@ -66,7 +66,7 @@ pub fn decode_reply(bytes: &[u8; REPLY_BYTES]) -> Result<Reply, BadReply>
 }
 
 // Field by field from the left, up to the first faulty one.
-#[tactic(auto, using(crate::proofs::Composed::name_short), unfolding(crate::specs::Reading::reply_of))]
+#[tactic(auto, using(crate::proofs::Composed::name_short))]
 fn read_reply(bytes: &[u8; REPLY_BYTES]) -> Result<Reply, BadReply>
     ensures { result ≡ reply_of bytes.now }
 {
