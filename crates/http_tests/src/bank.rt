@@ -1,9 +1,12 @@
 //! Banks that are served.
+use crate::texts::two_postings;
 use counter_http::{ServeFault, Served, serve_connection};
+use failing_ends::CutWriter;
 use message_records::{Account, Branch, Cents, Moment};
 use posting_core::{BranchLine, Counter, Fault, Opening, PlainBank, StoredClock};
 use std::alloc::{Alloc, Global};
 use std::io::{Read, Write};
+use std::process::Abort;
 use std::test::Fail;
 
 /// Branch 1 with three accounts and branch 2 with two.
@@ -23,6 +26,41 @@ pub fn served<R: Read, W: Write, C: Counter>(
 ) -> Result<Served, ServeFault> {
     let mut clock = StoredClock::new(Vec::new(rt.alloc()));
     serve_connection(rt.alloc(), reader, writer, &mut clock, bank)
+}
+
+/// Serves one connection of a new bank: how many messages it answers, and what it writes.
+pub fn answered(
+    rt: &(impl Abort + Alloc<A = Global>),
+    input: &[u8],
+    count: Served,
+    answers: &[u8],
+) -> Result<(), Fail> {
+    let mut output: Vec<u8> = Vec::new(rt.alloc());
+    let mut bank = fresh(rt)?;
+    let mut reader = input;
+    assert_eq!(rt; served(rt, &mut reader, &mut output, &mut bank), Ok(count));
+    assert_eq!(rt; output.as_slice(), answers);
+    Ok(())
+}
+
+/// A bank that two messages posted to.
+pub fn posted_to(rt: &(impl Abort + Alloc<A = Global>)) -> Result<PlainBank, Fail> {
+    let mut bank = fresh(rt)?;
+    let postings = two_postings(rt)?;
+    let mut writer = cut_after(rt, 1000);
+    let result = served(rt, &mut postings.as_slice(), &mut writer, &mut bank);
+    assert_eq!(rt; result, Ok(2));
+    Ok(bank)
+}
+
+/// Takes so many bytes, and then no more.
+pub fn cut_after(rt: &impl Alloc<A = Global>, most: usize) -> CutWriter {
+    CutWriter {
+        taken: Vec::new(rt.alloc()),
+        most,
+        fault: None,
+        writes: 0,
+    }
 }
 
 /// The balance of an account in cents.

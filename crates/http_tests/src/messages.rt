@@ -1,78 +1,77 @@
 //! Messages and their answers.
-use crate::bank::{balance_of, fresh, served};
-use crate::texts::{BAD, FIRST, FIRST_REPLY, REMOTE, joined, posted, posting};
-use failing_ends::{CutReader, CutWriter};
+use crate::bank::{answered, balance_of, cut_after, fresh, posted_to, served};
+use crate::texts::{BAD, FIRST, FIRST_REPLY, behind, filled, posted, posting};
+use failing_ends::CutReader;
 use std::alloc::{Alloc, Global};
 use std::process::Abort;
 use std::test::Fail;
 
-// Two messages with the same record, cut at every byte: two equal answers, each in one write.
+// The input comes in two parts: its two messages are posted once, and each has its answer in one write.
+fn two_in_parts(
+    rt: &(impl Abort + Alloc<A = Global>),
+    before: &[u8],
+    behind: &[u8],
+    answers: &[u8],
+) -> Result<(), Fail> {
+    let mut reader = CutReader {
+        before,
+        fault: None,
+        behind,
+    };
+    let mut writer = cut_after(rt, 1000);
+    let mut bank = fresh(rt)?;
+    assert_eq!(rt; served(rt, &mut reader, &mut writer, &mut bank), Ok(2));
+    assert_eq!(rt; writer.taken.as_slice(), answers);
+    assert_eq!(rt; writer.writes, 2);
+    assert_eq!(rt; balance_of(&mut bank, 1)?, 500);
+    Ok(())
+}
+
+// Two messages with the same record, cut at every byte: two equal answers.
 #[test]
 fn two_messages_in_a_row(rt: HostRuntime) -> Result<(), Fail> {
     let message = posting(&rt, FIRST)?;
     let answer = posted(&rt, FIRST_REPLY, b"POSTED")?;
-    let input = joined(&rt, &[&message, &message])?;
-    let both = joined(&rt, &[&answer, &answer])?;
+    let input = behind(&rt, &message, &message)?;
+    let answers = behind(&rt, &answer, &answer)?;
     for at in 0..=input.len() {
         let (before, behind) = input.split_at(at);
-        let mut reader = CutReader {
-            before,
-            fault: None,
-            behind,
-        };
-        let mut writer = CutWriter {
-            taken: Vec::new(rt.alloc()),
-            most: 1000,
-            fault: None,
-            writes: 0,
-        };
-        let mut bank = fresh(&rt)?;
-        assert_eq!(rt; served(&rt, &mut reader, &mut writer, &mut bank), Ok(2));
-        assert_eq!(rt; writer.taken.as_slice(), both.as_slice());
-        assert_eq!(rt; writer.writes, 2);
-        assert_eq!(rt; balance_of(&mut bank, 1)?, 500);
+        two_in_parts(&rt, before, behind, &answers)?;
     }
     Ok(())
+}
+
+// The input ends behind one whole message, or behind none, and within the next.
+fn ends_at(rt: &(impl Abort + Alloc<A = Global>), input: &[u8], answer: &[u8]) -> Result<(), Fail> {
+    let (count, part) = (input.len() / 144, input.len() % 144);
+    let mut answers: Vec<u8> = Vec::new(rt.alloc());
+    if count == 1 {
+        answers.extend_from_slice(answer)?;
+    }
+    if part != 0 {
+        answers.extend_from_slice(BAD)?;
+    }
+    let all = count as u128 + u128::from(part != 0);
+    answered(rt, input, all, &answers)
 }
 
 // The input ends within one of the messages.
 #[test]
 fn an_input_that_ends_at_each_byte(rt: HostRuntime) -> Result<(), Fail> {
     let message = posting(&rt, FIRST)?;
+    let input = behind(&rt, &message, &message)?;
     let answer = posted(&rt, FIRST_REPLY, b"POSTED")?;
-    let input = joined(&rt, &[&message, &message])?;
     assert_eq!(rt; input.len(), 288);
     for at in 0..input.len() {
-        let whole = at / 144;
-        let mut answers: Vec<u8> = Vec::new(rt.alloc());
-        let mut count = 0;
-        if whole == 1 {
-            answers.extend_from_slice(&answer)?;
-            count += 1;
-        }
-        if at % 144 != 0 {
-            answers.extend_from_slice(BAD)?;
-            count += 1;
-        }
-        let mut output: Vec<u8> = Vec::new(rt.alloc());
-        let mut bank = fresh(&rt)?;
-        let result = served(&rt, &mut &input[..at], &mut output, &mut bank);
-        assert_eq!(rt; result, Ok(count), "at {at}");
-        assert_eq!(rt; output.as_slice(), answers.as_slice(), "at {at}");
+        ends_at(&rt, &input[..at], &answer)?;
     }
     Ok(())
 }
 
 // What a bank answers to an input behind the first postings.
 fn expect(rt: &(impl Abort + Alloc<A = Global>), input: &[u8], answers: &[u8]) -> Result<(), Fail> {
-    let mut bank = fresh(rt)?;
+    let mut bank = posted_to(rt)?;
     let mut output: Vec<u8> = Vec::new(rt.alloc());
-    let postings = joined(rt, &[&posting(rt, FIRST)?, &posting(rt, REMOTE)?])?;
-    assert_eq!(rt;
-        served(rt, &mut postings.as_slice(), &mut output, &mut bank),
-        Ok(2)
-    );
-    output.clear();
     let mut reader = input;
     assert!(rt; served(rt, &mut reader, &mut output, &mut bank).is_ok());
     assert_eq!(rt; output.as_slice(), answers);
@@ -158,17 +157,11 @@ fn a_record_that_is_too_short(rt: HostRuntime) -> Result<(), Fail> {
     let first: &[u8] = b"POST /post HTTP/1.1\r\nContent-Length: 99\r\n\r\n";
     let refused: &[u8] =
         b"HTTP/1.1 400 Bad Request\r\nContent-Type: text/plain\r\nContent-Length: 16\r\n\r\n400 Bad Request\n";
+    let body = filled(&rt, b'x', 99)?;
     let second = posting(&rt, FIRST)?;
-    let mut input = joined(&rt, &[first])?;
-    input.resize(first.len().saturating_add(99), b'x')?;
-    input.extend_from_slice(&second)?;
     let answer = posted(&rt, FIRST_REPLY, b"POSTED")?;
-    let mut answers = joined(&rt, &[refused])?;
-    answers.extend_from_slice(&answer)?;
-    let mut output: Vec<u8> = Vec::new(rt.alloc());
-    let mut bank = fresh(&rt)?;
-    let result = served(&rt, &mut input.as_slice(), &mut output, &mut bank);
-    assert_eq!(rt; result, Ok(2));
-    assert_eq!(rt; output.as_slice(), answers.as_slice());
-    Ok(())
+    let short = behind(&rt, first, &body)?;
+    let input = behind(&rt, &short, &second)?;
+    let answers = behind(&rt, refused, &answer)?;
+    answered(&rt, &input, 2, &answers)
 }

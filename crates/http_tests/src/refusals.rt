@@ -1,18 +1,13 @@
 //! What is no message, and the greatest message.
-use crate::bank::{fresh, served};
-use crate::texts::{BAD, BAD_HEAD, filled, joined};
+use crate::bank::answered;
+use crate::texts::{BAD, BAD_HEAD, behind, filled, joined};
 use std::alloc::{Alloc, Global};
 use std::process::Abort;
 use std::test::Fail;
 
 // The input has one answer, and behind it the connection ends.
 fn refused(rt: &(impl Abort + Alloc<A = Global>), input: &[u8], answer: &[u8]) -> Result<(), Fail> {
-    let mut output: Vec<u8> = Vec::new(rt.alloc());
-    let mut bank = fresh(rt)?;
-    let mut reader = input;
-    assert_eq!(rt; served(rt, &mut reader, &mut output, &mut bank), Ok(1));
-    assert_eq!(rt; output.as_slice(), answer);
-    Ok(())
+    answered(rt, input, 1, answer)
 }
 
 #[test]
@@ -54,11 +49,8 @@ fn head_of(rt: &impl Alloc<A = Global>, fields: usize, bytes: usize) -> Result<V
     for _ in 1..fields {
         head.extend_from_slice(b"a:b\r\n")?;
     }
-    head.extend_from_slice(b"c:")?;
-    let rest = filled(rt, b'd', bytes.saturating_sub(head.len()).saturating_sub(4))?;
-    head.extend_from_slice(&rest)?;
-    head.extend_from_slice(b"\r\n\r\n")?;
-    Ok(head)
+    let rest = filled(rt, b'd', bytes.saturating_sub(head.len()).saturating_sub(6))?;
+    joined(rt, &[&head, b"c:", &rest, b"\r\n\r\n"])
 }
 
 #[test]
@@ -75,9 +67,12 @@ fn the_greatest_head(rt: HostRuntime) -> Result<(), Fail> {
 
 #[test]
 fn the_greatest_message(rt: HostRuntime) -> Result<(), Fail> {
-    let mut head = joined(&rt, &[b"HEAD / HTTP/1.1\r\nContent-Length: 4096\r\nc:"])?;
-    head.resize(8188, b'd')?;
-    let input = joined(&rt, &[&head, b"\r\n\r\n", &filled(&rt, b'e', 4096)?])?;
+    let first: &[u8] = b"HEAD / HTTP/1.1\r\nContent-Length: 4096\r\nc:";
+    let rest = filled(&rt, b'd', 8188usize.saturating_sub(first.len()))?;
+    let body = filled(&rt, b'e', 4096)?;
+    let field = behind(&rt, first, &rest)?;
+    let head = behind(&rt, &field, b"\r\n\r\n")?;
+    let input = behind(&rt, &head, &body)?;
     assert_eq!(rt; input.len(), 12288);
     let found: &[u8] =
         b"HTTP/1.1 404 Not Found\r\nContent-Type: text/plain\r\nContent-Length: 14\r\n\r\n";

@@ -11,6 +11,15 @@ pub fn joined(rt: &impl Alloc<A = Global>, texts: &[&[u8]]) -> Result<Vec<u8>, F
     Ok(all)
 }
 
+/// The one text behind the other.
+pub fn behind<'a>(
+    rt: &impl Alloc<A = Global>,
+    first: &'a [u8],
+    second: &'a [u8],
+) -> Result<Vec<u8>, Fail> {
+    joined(rt, &[first, second])
+}
+
 /// So many times the same byte.
 pub fn filled(rt: &impl Alloc<A = Global>, byte: u8, count: usize) -> Result<Vec<u8>, Fail> {
     let mut bytes = Vec::new(rt.alloc());
@@ -45,6 +54,22 @@ pub fn posted(rt: &impl Alloc<A = Global>, reply: &[u8], name: &[u8]) -> Result<
     )
 }
 
+/// Two postings.
+pub fn two_postings(rt: &impl Alloc<A = Global>) -> Result<Vec<u8>, Fail> {
+    joined(rt, &[&posting(rt, FIRST)?, &posting(rt, REMOTE)?])
+}
+
+/// Their answers.
+pub fn two_answers(rt: &impl Alloc<A = Global>) -> Result<Vec<u8>, Fail> {
+    joined(
+        rt,
+        &[
+            &posted(rt, FIRST_REPLY, b"POSTED")?,
+            &posted(rt, REMOTE_REPLY, b"POSTED")?,
+        ],
+    )
+}
+
 /// Five hundred cents to account 1 by teller 1 under the number 1.
 pub const FIRST: &[u8] = b"DC01000000000001000000010000010000000001+0000000500";
 
@@ -54,6 +79,9 @@ pub const FIRST_REPLY: &[u8] =
 
 /// Seven hundred cents from account 100001, by the same teller under the number 2.
 pub const REMOTE: &[u8] = b"DC01000000100001000000010000010000000002-0000000700";
+
+/// The reply to it, up to the outcome's name.
+const REMOTE_REPLY: &[u8] = b"DR0100000000100001000000010000010000000002-0000000700-000000000700";
 
 /// The answer to what is no message.
 pub const BAD: &[u8] =
