@@ -1,5 +1,5 @@
 //! The file of a bank.
-ghost use Rattle.std.specs.Prelude.{◌≡◌, List, IfErr, IfOk, IfSome, OnErr, IsErrOf, false};
+ghost use Rattle.std.specs.Prelude.{◌≡◌, List, IfErr, IfOk, IfSome, IsTrue, OnErr, IsErrOf, false};
 ghost use Rattle.sqlite.specs.Files.{file_state, over_files};
 ghost use Rattle.sqlite.specs.Held.{state};
 ghost use Rattle.sqlite.specs.State.{HasCleanDisk};
@@ -8,6 +8,9 @@ ghost use Rattle.sqlite_wal.specs.Reads.{AreClean};
 ghost use Rattle.sqlite_wal.specs.Recovery.{Image};
 ghost use Rattle.posting_rules.specs.Commands.{Command};
 ghost use Rattle.posting_rules.specs.Counter.{StandsAt};
+ghost use Rattle.posting_rules.specs.Tables.{Tables};
+ghost use Rattle.store_rows.specs.View.{Shows, ShowsTrees};
+ghost use Rattle.bank_store.specs.Connections.{conn_seen};
 ghost use Rattle.bank_store.specs.Seen.{bank_seen};
 ghost use Rattle.bank_endings.specs.Faults.{fault_of_opening};
 ghost use Rattle.bank_files.specs.Opening.{IsOpenedOn};
@@ -144,6 +147,22 @@ fn fault_of<S: Alter + Drop>(refused: Refused<S>) -> CommandFault
     CommandFault::from(fault)
 }
 
+// The connection of a bank, which shows what was committed.
+fn settled<S: Alter + Drop>(bank: Bank<S>) -> Connection<S>
+    ensures stands { (log : List Command) → StandsAt (bank_seen S.Store bank) log
+        → StandsAt (conn_seen S.Store result) log }
+    ensures committed { IsTrue (state S.Store result).is_open
+        → (state S.Store result).now ≡ (state S.Store result).committed }
+    ensures leaves { (tables : Tables) → Shows (state S.Store result).now tables
+        → ShowsTrees (state S.Store result).now.trees tables }
+{
+    let conn = bank.release();
+    // That it shows what was committed, a connection says only where it is asked.
+    let _idle = conn.is_autocommit();
+    trees_show_law(&conn);
+    conn
+}
+
 /// Closes the bank's files, and gives them back where they can be closed: then all that a stop may leave of
 /// them holds the bank. What was committed is kept even if this fails, so that no fault is reported.
 pub fn close<D: Disk + Drop>(bank: Bank<FileStore<D>>) -> Option<Files<D>>
@@ -151,10 +170,7 @@ pub fn close<D: Disk + Drop>(bank: Bank<FileStore<D>>) -> Option<Files<D>>
         → StandsAt (bank_seen over_files bank) log → (image : Image)
         → outcomes D.Disk files.log files.db image → ∥ HoldsLog image log ∥₁) }
 {
-    let conn = bank.release();
-    // That it shows what was committed, a connection says only where it is asked.
-    let _idle = conn.is_autocommit();
-    trees_show_law(&conn);
+    let conn = settled(bank);
     match conn.close_files() {
         Ok(files) => Some(files),
         Err((_, store)) => {
