@@ -182,6 +182,18 @@ fixed seen w w' k c a x result is t err =
           (λ h log s. sym (is.1 log)) t err,
     )
 
+-- nothing is submitted, and the bank was asked
+pub idle : {C : Type 0} (seen : C → Seen) (w w' k : Option (List ℕ)) (old new : C) (a : Asked)
+    (result : Result (Unit {0}) ServeFault)
+    → is_posting a ≡ false → IsDealtWith seen w w' old new a [] result
+    → (moment : ℕ) × AreReadings k k (readings_for moment a)
+    × IsDealtWith seen w w' old new a (commands_for moment a) result
+idle seen w w' k old new a result is d = (
+  0,
+  idle_readings k a 0 is,
+  subst (λ (cs : List Command). IsDealtWith seen w w' old new a cs result) (sym (idle_commands a 0 is)) d,
+)
+
 abbrev IsFixed : Asked → Response → Type 0
 IsFixed a response = (is_posting a ≡ false) × ((log : List Command) → answer_to log a ≡ said response)
 

@@ -1,9 +1,11 @@
 use Rattle.std.proofs.Common.{◌∙◌, ap, [], ℕ, List, Some}
+use Rattle.posting_rules.specs.declared.fault.Fault.TheVariants.{Memory}
 use Rattle.counter_http.specs.Answers.{account_named, plain}
 use Rattle.counter_http.specs.Next.{asked}
 use Rattle.counter_http.specs.Paths.{account_in}
 use Rattle.counter_http.specs.Telling.{said}
 use Rattle.counter_http.proofs.Answered.{told_answer, no_account, account_closed, account_told}
+use Rattle.counter_http.proofs.Answered.{told_refused, refused_first}
 use Rattle.counter_http.proofs.answers.answer_account.Goals as goal
 
 -- the path names no account
@@ -44,3 +46,61 @@ returns-in-Ok-clause-answers g c =
     c.in-Ok-Some.field-0-is
     (ap plain (c.as_bytes.ensures.value ∙ c.in-Ok.ensures)))
     c.say_text.ensures.written c.say_text.ensures.fault
+
+-- the bank refused the call
+pub returns-in-Err-clause-answers : goal.returns-in-Err-clause-answers
+returns-in-Err-clause-answers g c =
+    let seen = g.C.Counter.seen in
+    let old = c.args.bank.now in
+    let new = c.balance.new.self in
+    told_refused seen c.in-Err.fault c.fail.result _ _ old new (asked c.args.message.now) []
+    c.fail.ensures.written.0
+    (refused_first seen old new c.in-Err.fault [] c.in-Err.ensures.fault c.balance.ensures.honest)
+    c.fail.ensures.written.1 c.fail.ensures.written.2
+
+-- memory was refused behind it
+pub returns-in-Err-line_of_account-clause-answers : goal.returns-in-Err-line_of_account-clause-answers
+returns-in-Err-line_of_account-clause-answers g c =
+    let fails = c.fail-in-Err-line_of_account in
+    told_refused g.C.Counter.seen Memory fails.result _ _ c.args.bank.now c.balance.new.self
+    (asked c.args.message.now) [] fails.ensures.written.0
+    (record {
+      stood = c.balance.new.self;
+      honest_first = c.balance.ensures.honest;
+      honest = λ h. h;
+      up = λ d. absurd (c.in-Ok-Some.ensures.up d);
+      takes = c.in-Ok-Some.ensures.done;
+      refuses = record { tables = λ t is. is; down = λ d. d; left = λ r l. (r, l, λ t f. f) };
+    })
+    fails.ensures.written.1 fails.ensures.written.2
+
+-- what the bank and the writer ensure of every call
+pub returns-in_default-clause-honest : goal.returns-in_default-clause-honest
+returns-in_default-clause-honest g c = λ h. h
+
+pub returns-in-Ok-None-clause-honest : goal.returns-in-Ok-None-clause-honest
+returns-in-Ok-None-clause-honest g c = c.balance.ensures.honest
+
+pub returns-in-Ok-clause-honest : goal.returns-in-Ok-clause-honest
+returns-in-Ok-clause-honest g c = c.balance.ensures.honest
+
+pub returns-in-Err-clause-honest : goal.returns-in-Err-clause-honest
+returns-in-Err-clause-honest g c = c.balance.ensures.honest
+
+pub returns-in-Err-line_of_account-clause-honest : goal.returns-in-Err-line_of_account-clause-honest
+returns-in-Err-line_of_account-clause-honest g c = c.balance.ensures.honest
+
+pub returns-in_default-clause-ends : goal.returns-in_default-clause-ends
+returns-in_default-clause-ends g c = c.say.ensures.ends
+
+pub returns-in-Ok-None-clause-ends : goal.returns-in-Ok-None-clause-ends
+returns-in-Ok-None-clause-ends g c = c.say-in-Ok-None.ensures.ends
+
+pub returns-in-Ok-clause-ends : goal.returns-in-Ok-clause-ends
+returns-in-Ok-clause-ends g c = c.say_text.ensures.ends
+
+pub returns-in-Err-clause-ends : goal.returns-in-Err-clause-ends
+returns-in-Err-clause-ends g c = c.fail.ensures.ends
+
+pub returns-in-Err-line_of_account-clause-ends : goal.returns-in-Err-line_of_account-clause-ends
+returns-in-Err-line_of_account-clause-ends g c = c.fail-in-Err-line_of_account.ensures.ends

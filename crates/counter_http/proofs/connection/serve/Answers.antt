@@ -1,4 +1,6 @@
-use Rattle.std.proofs.Common.{◌≡◌, ◌≤◌, ℕ, ◌+◌, List, [], refl, sym, subst, arith, inr, length, take}
+use Rattle.std.proofs.Common.{◌≡◌, ◌<◌, ◌≤◌, ℕ, ◌+◌, ◌-◌, ◌*◌, List, [], refl, sym, subst, arith, inr}
+use Rattle.std.proofs.Common.{◌∙◌, length, take, Fits, w64}
+use Rattle.std.specs.Int.{w128}
 use Rattle.std.proofs.lemmas.Result.{err_from_is_err_and}
 use Rattle.posting_core.proofs.Streaming.{at_ok, nothing_read}
 use Rattle.posting_core.proofs.Telling.{made_many, made_none, made_one, other_kind, read_failed}
@@ -15,6 +17,58 @@ use Rattle.counter_http.proofs.BrokenOff.{end_broken}
 use Rattle.counter_http.proofs.Sent.{ended_at, sent_broken}
 use Rattle.counter_http.proofs.connection.serve.Goals as goal
 use Rattle.counter_http.proofs.connection.serve.Goals.{in-Ok, in-Err}
+
+-- ---- places in the buffer, and how many answers were written
+
+same_place : (f m n : ℕ) → m ≡ f → n ≡ 0 → m ≡ f + n
+same_place f m n e z = omega arith
+
+some_held : (f : ℕ) → (f ≡ 0 → ⊥) → 0 < f
+some_held f n = omega arith
+
+held_within : (f n : ℕ) → f < 12_288 → n ≡ 12_288 → f ≤ n
+held_within f n h e = omega arith
+
+read_fits : (f n m b : ℕ) → f + n ≤ b → b ≡ 12_288 → m ≡ f + n → m ≤ 12_288
+read_fits f n m b h e i = omega arith
+
+kept_fits : (f m : ℕ) → f < 12_288 → m ≡ f → m ≤ 12_288
+kept_fits f m h e = omega arith
+
+place_fits : (i n : ℕ) → i ≤ n → n ≡ 12_288 → Fits w64 i
+place_fits i n h e = omega arith
+
+from_none : (f s : ℕ) → (0 ≤ f) × (s ≤ s + 0)
+from_none f s = (omega arith, omega arith)
+
+-- m bytes from the place u are those of a message, and k stand there up to f
+message_within : (u m f k : ℕ) → m ≤ k → k ≡ f - u → u ≤ f → u + m ≤ f
+message_within u m f k h e o = omega arith
+
+fewer_left : (u m f k : ℕ) → 0 < m → m ≤ k → k ≡ f - u → u ≤ f → f - (u + m) < f - u
+fewer_left u m f k n h e o = omega arith
+
+used_fits : (u m f k : ℕ) → m ≤ k → k ≡ f - u → u ≤ f → f ≤ 12_288 → Fits w64 (u + m)
+used_fits u m f k h e o r = omega arith
+
+few_left : (u f k : ℕ) → k ≡ f - u → k < 12_288 → f - u < 12_288
+few_left u f k e l = omega arith
+
+one_more : (s t u m : ℕ) → t ≤ s + u → 0 < m → t + 1 ≤ s + (u + m)
+one_more s t u m h some = omega arith
+
+-- s answers were written in n reads, and t of them since the last, up to the place u
+after_read : (s t u f n : ℕ) → t ≤ s + u → u ≤ f → f ≤ 12_288 → s ≤ 12_289 * n → t ≤ 12_289 * (n + 1)
+after_read s t u f n m o r b = omega arith
+
+next_fits : (s n : ℕ) → s ≤ 12_289 * n → n < 18_446_744_073_709_551_615 → Fits w128 (s + 1)
+next_fits s n b l = omega arith
+
+message_fits : (s t u f n : ℕ) → t ≤ s + u → u ≤ f → f ≤ 12_288 → s ≤ 12_289 * n
+    → n < 18_446_744_073_709_551_615 → Fits w128 (t + 1)
+message_fits s t u f n m o r b l = omega arith
+
+-- ---- the loops, and what was served
 
 pub reads-init : goal.reads-init
 reads-init g c = record {
@@ -38,7 +92,8 @@ pub returns-in-Err-2-clause-served : goal.returns-in-Err-2-clause-served
 returns-in-Err-2-clause-served g c =
     end_unread g.C.Counter.seen c.args.bank.now c.reads.bank _
     (going_filled c.reads.buffer c.fill.new.buffer c.reads.filled c.reads.filled 0 c.reads.invariant.going
-    (nothing_read _ _ c.reads.buffer c.fill.new.buffer c.reads.filled c.in-Err.ensures.err) (omega arith))
+    (nothing_read _ _ c.reads.buffer c.fill.new.buffer c.reads.filled c.in-Err.ensures.err)
+    (same_place c.reads.filled c.reads.filled 0 refl refl))
     (unfinished_none _ (subst (λ (t : List ℕ). IsUnfinished t c.reads.shows_body) (sym c.in-Err.ensures.err.1)
     c.reads.invariant.waits))
 
@@ -50,7 +105,8 @@ returns-in-Ok-eq0-clause-served g c =
     let empty : c.reads.filled ≡ 0 = c.if-filled-eq0.true in
     end_finished g.C.Counter.seen c.args.bank.now c.reads.bank (take c.reads.filled c.fill.new.buffer)
     (going_filled c.reads.buffer c.fill.new.buffer c.reads.filled c.reads.filled n c.reads.invariant.going
-    (at_ok _ c.fill.result n c.in-Ok-eq0.is c.fill.ensures.ok) (omega arith))
+    (at_ok _ c.fill.result n c.in-Ok-eq0.is c.fill.ensures.ok)
+    (same_place c.reads.filled c.reads.filled n refl none))
     (ended_at c.fill.result n c.reads.invariant.made c.fill.ensures.tells c.in-Ok-eq0.is none
     c.fill.ensures.end) (rw empty refl)
 
@@ -60,8 +116,9 @@ returns-in-Ok-eq0-2-clause-served g c =
     short_read c.reads.buffer c.fill.new.buffer c.reads.filled c.in-Ok-eq0.field-0 c.fill.result
     c.reads.invariant.going
     c.in-Ok-eq0.is c.in-Ok-eq0.field-0-test c.fill.ensures.ok c.fill.ensures.end c.reads.invariant.made
-    c.fill.ensures.tells (omega (arith, c.if-filled-eq0.false))
-    (omega (arith, c.reads.invariant.few, c.reads.invariant.room)) (omega (arith, c.fill.auto.buffer))
+    c.fill.ensures.tells (some_held c.reads.filled c.if-filled-eq0.false)
+    (held_within c.reads.filled (length c.reads.buffer) c.reads.invariant.few c.reads.invariant.room)
+    (sym c.fill.auto.buffer)
     c.reads.invariant.waits in
     end_told g.C.Counter.seen c.args.bank.now c.reads.bank c.reads.shows_body _
     (take c.reads.filled c.fill.new.buffer)
@@ -73,8 +130,9 @@ returns-in_err-refuse-in-Ok-eq0-2-clause-served g c =
     short_read c.reads.buffer c.fill.new.buffer c.reads.filled c.in-Ok-eq0.field-0 c.fill.result
     c.reads.invariant.going
     c.in-Ok-eq0.is c.in-Ok-eq0.field-0-test c.fill.ensures.ok c.fill.ensures.end c.reads.invariant.made
-    c.fill.ensures.tells (omega (arith, c.if-filled-eq0.false))
-    (omega (arith, c.reads.invariant.few, c.reads.invariant.room)) (omega (arith, c.fill.auto.buffer))
+    c.fill.ensures.tells (some_held c.reads.filled c.if-filled-eq0.false)
+    (held_within c.reads.filled (length c.reads.buffer) c.reads.invariant.few c.reads.invariant.room)
+    (sym c.fill.auto.buffer)
     c.reads.invariant.waits in
     let told = err_from_is_err_and c.from_residual.result c.from_residual.ensures.1 in
     let w = c.in_err-refuse-in-Ok-eq0-2.ensures.written in
@@ -99,19 +157,19 @@ messages-init g c =
       | in-Err w ↦ going_filled c.reads.buffer c.fill.new.buffer c.reads.filled c.match-fill.filled 0
           c.reads.invariant.going
           (nothing_read _ _ c.reads.buffer c.fill.new.buffer c.reads.filled w.in-Err.ensures.err)
-          (omega (arith, w.filled-is))
+          (same_place c.reads.filled c.match-fill.filled 0 w.filled-is refl)
     ] in
-    let long : length c.fill.new.buffer ≡ 12_288 =
-    omega (arith, c.fill.auto.buffer, c.reads.invariant.room) in
+    let long : length c.fill.new.buffer ≡ 12_288 = c.fill.auto.buffer ∙ c.reads.invariant.room in
     let fits : c.match-fill.filled ≤ 12_288 =
     elim c.match-fill.branch [
-      | in-Ok w ↦ omega (arith, w.in-Ok.ensures.fits, w.filled-is)
-      | in-Err w ↦ omega (arith, c.reads.invariant.few, w.filled-is)
+      | in-Ok w ↦ read_fits c.reads.filled w.in-Ok.n c.match-fill.filled (length c.fill.new.buffer)
+          w.in-Ok.ensures.fits long w.filled-is
+      | in-Err w ↦ kept_fits c.reads.filled c.match-fill.filled c.reads.invariant.few w.filled-is
     ] in
     record {
-      order = omega arith;
+      order = (from_none c.match-fill.filled c.reads.served).0;
       fits = fits;
-      bound = omega arith;
+      bound = (from_none c.match-fill.filled c.reads.served).1;
       going = rw range_all going;
       through = c.reads.invariant.through;
     }
@@ -120,23 +178,26 @@ pub messages-smaller : goal.messages-smaller
 messages-smaller g c =
     let long = message_long c.in-Message.ensures in
     let fits : c.match-fill.filled ≤ length c.fill.new.buffer =
-    omega (arith, c.messages.invariant.fits, c.fill.auto.buffer, c.reads.invariant.room) in
+    rw (c.fill.auto.buffer ∙ c.reads.invariant.room) c.messages.invariant.fits in
     let all = range_long c.fill.new.buffer c.messages.used c.match-fill.filled fits in
-    omega (arith, long.0, long.1, all, c.messages.invariant.order)
+    fewer_left c.messages.used c.in-Message.message.length c.match-fill.filled _ long.0 long.1 all
+    c.messages.invariant.order
 
 pub messages-preserved : goal.messages-preserved
 messages-preserved g c =
     let long = message_long c.in-Message.ensures in
     let fits : c.match-fill.filled ≤ length c.fill.new.buffer =
-    omega (arith, c.messages.invariant.fits, c.fill.auto.buffer, c.reads.invariant.room) in
+    rw (c.fill.auto.buffer ∙ c.reads.invariant.room) c.messages.invariant.fits in
     let all = range_long c.fill.new.buffer c.messages.used c.match-fill.filled fits in
     let order : c.messages.used + c.in-Message.message.length ≤ c.match-fill.filled =
-    omega (arith, long.1, all, c.messages.invariant.order) in
+    message_within c.messages.used c.in-Message.message.length c.match-fill.filled _ long.1 all
+    c.messages.invariant.order in
     let a = c.in_ok-answer_message-in-Message.ensures.answers in
     record {
       order = order;
       fits = c.messages.invariant.fits;
-      bound = omega (arith, c.messages.invariant.bound, long.0);
+      bound = one_more c.reads.served c.messages.served c.messages.used c.in-Message.message.length
+          c.messages.invariant.bound long.0;
       going = going_message a.0 _ _ _ c.in-Message.message c.messages.invariant.going c.in-Message.ensures
           c.if-message.false
           (range_next c.fill.new.buffer c.messages.used c.in-Message.message.length c.match-fill.filled order)
@@ -183,19 +244,15 @@ returns-in-Refused-clause-served g c =
 pub reads-preserved : goal.reads-preserved
 reads-preserved g c =
     let fits : c.match-fill.filled ≤ length c.fill.new.buffer =
-    omega (arith, c.messages.invariant.fits, c.fill.auto.buffer, c.reads.invariant.room) in
+    rw (c.fill.auto.buffer ∙ c.reads.invariant.room) c.messages.invariant.fits in
     let all = range_long c.fill.new.buffer c.messages.used c.match-fill.filled fits in
     let moved = c.move_to_front.ensures in
     record {
-      few = omega (arith, all, c.in-Unfinished.ensures.room);
-      room = omega (arith, c.move_to_front.auto.buffer, c.fill.auto.buffer, c.reads.invariant.room);
-      bound = omega (
-        arith,
-        c.messages.invariant.bound,
-        c.messages.invariant.order,
-        c.messages.invariant.fits,
-        c.reads.invariant.bound,
-      );
+      few = few_left c.messages.used c.match-fill.filled _ all c.in-Unfinished.ensures.room;
+      room = c.move_to_front.auto.buffer ∙ c.fill.auto.buffer ∙ c.reads.invariant.room;
+      bound = after_read c.reads.served c.messages.served c.messages.used c.match-fill.filled
+          c.reads.counter c.messages.invariant.bound c.messages.invariant.order c.messages.invariant.fits
+          c.reads.invariant.bound;
       waits = rw moved c.in-Unfinished.ensures;
       going = rw moved c.messages.invariant.going;
       made = made_one _ _ c.reads.invariant.made c.fill.ensures.tells refl;
@@ -250,3 +307,47 @@ returns-in_err-refuse-in-Refused-clause-ends g c =
 pub returns-in-Refused-clause-ends : goal.returns-in-Refused-clause-ends
 returns-in-Refused-clause-ends g c =
     through_batch c.messages.invariant.through c.in_ok-refuse-in-Refused.ensures.ends
+
+-- ---- numbers that fit, and what the calls require
+
+pub fill-requires : goal.fill-requires
+fill-requires g c = rw c.reads.invariant.room c.reads.invariant.few
+
+pub overflow_add-result : goal.overflow_add-result
+overflow_add-result g c = next_fits c.reads.served c.reads.counter c.reads.invariant.bound c.reads-test.true
+
+pub overflow_add-filled : goal.overflow_add-filled
+overflow_add-filled g c =
+    place_fits (c.reads.filled + c.in-Ok.n) (length c.fill.new.buffer) c.in-Ok.ensures.fits
+    (c.fill.auto.buffer ∙ c.reads.invariant.room)
+
+pub overflow_add-served : goal.overflow_add-served
+overflow_add-served g c =
+    let m = c.messages.invariant in
+    message_fits c.reads.served c.messages.served c.messages.used c.match-fill.filled c.reads.counter
+    m.bound m.order m.fits c.reads.invariant.bound c.reads-test.true
+
+pub overflow_add-result-in-Refused : goal.overflow_add-result-in-Refused
+overflow_add-result-in-Refused g c =
+    let m = c.messages.invariant in
+    message_fits c.reads.served c.messages.served c.messages.used c.match-fill.filled c.reads.counter
+    m.bound m.order m.fits c.reads.invariant.bound c.reads-test.true
+
+pub move_to_front-requires-clause-order : goal.move_to_front-requires-clause-order
+move_to_front-requires-clause-order g c = c.messages.invariant.order
+
+pub move_to_front-requires-clause-within : goal.move_to_front-requires-clause-within
+move_to_front-requires-clause-within g c =
+    rw (c.fill.auto.buffer ∙ c.reads.invariant.room) c.messages.invariant.fits
+
+pub overflow_sub-filled : goal.overflow_sub-filled
+overflow_sub-filled g c = c.messages.invariant.order
+
+pub overflow_add-used : goal.overflow_add-used
+overflow_add-used g c =
+    let fits : c.match-fill.filled ≤ length c.fill.new.buffer =
+    rw (c.fill.auto.buffer ∙ c.reads.invariant.room) c.messages.invariant.fits in
+    used_fits c.messages.used c.in-Message.message.length c.match-fill.filled _
+    (message_long c.in-Message.ensures).1
+    (range_long c.fill.new.buffer c.messages.used c.match-fill.filled fits)
+    c.messages.invariant.order c.messages.invariant.fits
