@@ -17,6 +17,7 @@ use Rattle.store_rows.specs.declared.fault.TableFault.{TableFault}
 use Rattle.store_rows.specs.declared.fault.TableFault.TheVariants.{Sqlite, Damaged}
 use Rattle.bank_walks.specs.Outcomes.{BreaksFirst, IsRefusedMemory, ReadsNext, all_numbers, shown}
 use Rattle.bank_walks.specs.Rows.{IsWide, rows_from}
+use Rattle.bank_walks.specs.declared.ahead.TheConstants.{AHEAD}
 
 -- ---- how the rows that are yet to come grow fewer
 
@@ -73,6 +74,12 @@ behind_key n key same low =
 pub none_there : {X : Type 0} (xs : List X) → nat_eq (length xs) 0 ≡ true → xs ≡ []
 none_there [] h = refl
 none_there (x ∷ xs) h = absurd (grind (arith, nat_tests))
+
+-- no rows are shown of those that are to come where there are none
+pub no_more : (es : List Entry) (found : List Row) → length found ≤ 0 → found ≡ shown (take AHEAD es)
+    → es ≡ []
+no_more [] found low is = refl
+no_more (e ∷ es) found low is = absurd (omega (arith, ap length is))
 
 -- ---- a row of those that were found
 

@@ -1,4 +1,4 @@
--- What is gathered beside other rows.
+-- What is gathered beside other rows. What `gather` told is named: a search for it takes long.
 use Rattle.std.proofs.Common.{◌≡◌, ◌≤ℤ◌, Err, take, sym, ap, subst, ◌∙◌, rules, w64, to_z, of_z}
 use Rattle.std.specs.Prelude.{IsSomeAnd}
 use Rattle.std.proofs.lemmas.Int.{to_z-of_z}
@@ -57,3 +57,13 @@ returns-else-key-from-clause-told g c all rise wide is =
 
 pub returns-else-key-from-clause-beyond : goal.returns-else-key-from-clause-beyond
 returns-else-key-from-clause-beyond g c = search rules
+
+pub returns-in-Ok-clause-told : goal.returns-in-Ok-clause-told
+returns-in-Ok-clause-told g c all rise wide is =
+    let same : to_z w64 (of_z w64 c.args.from) ≡ c.args.from = search (rules, to_z-of_z) in
+    (rw same at (c.in-Ok.ensures.told all rise wide)) is
+
+pub returns-in-Err-Sqlite-clause-told : goal.returns-in-Err-Sqlite-clause-told
+returns-in-Err-Sqlite-clause-told g c all rise wide is =
+    let same : to_z w64 (of_z w64 c.args.from) ≡ c.args.from = search (rules, to_z-of_z) in
+    (rw (same, c.in-Err-Sqlite.field-0-is) at (c.in-Err-Sqlite.ensures.told all rise wide)) is
