@@ -8,6 +8,7 @@ use Rattle.sqlite_trees.specs.declared.store.Store.{Ghosts}
 use Rattle.posting_rules.specs.Tables.{Tables}
 use Rattle.posting_rules.specs.declared.fault.Rule.{Rule}
 use Rattle.sql_meanings.proofs.Saying.{says_then}
+use Rattle.store_rows.specs.View.{Shows}
 use Rattle.store_rows.specs.declared.fault.TableFault.{TableFault}
 use Rattle.store_rows.specs.declared.fault.TableFault.TheVariants.{Sqlite, Damaged}
 use Rattle.bank_transactions.specs.Causes.{Damage, IsBrokenOrMet, IsFirstBroken}
@@ -145,6 +146,52 @@ does_but {S} {X} {Y} {Z} {g} {old} {mid} {new} {So} {So'} {after} {after'} {afte
             same_fault (state g new.conn.now) (state g new.conn.now) (after' (after t)) (after'' t)
             (w' (after t)) (w'' t) e
             (both.says.told clean live t shows (so, first));
+        kept = both.says.kept;
+        survives = both.says.survives;
+      };
+    }
+
+-- the answer of the part tells that of the whole
+pub does_tell : {S X Y : Type 0} {g : Ghosts S} {old new : Transaction S} {So So' : Tables → Type 0}
+    {after after' : Tables → Tables}
+    {w : Tables → X} {w' : Tables → Y} {x : X} {y : Y} {Met : Damage S}
+    → DoesBy Met g old new So after w (Ok x)
+    → ((t : Tables) → So' t → So t × (x ≡ w t → (after t ≡ after' t) × (y ≡ w' t)))
+    → DoesBy Met g old new So' after' w' (Ok y)
+does_tell {S} {X} {Y} {g} {old} {new} {So} {So'} {after} {after'} {w} {w'} {x} {y} {Met} part so = record {
+  says = record {
+    same_reference = part.says.same_reference;
+    told = λ clean live t shows it.
+        let ready = so t it in
+        let found = part.says.told clean live t shows ready.0 in
+        let is = ready.1 found.0 in
+        (is.1, subst (λ (u : Tables). Shows (state g new.conn.now).now u) is.0 found.1);
+    kept = part.says.kept;
+    survives = part.says.survives;
+  };
+}
+
+-- the same of two, of which the second is done
+pub does_both : {S X Y Z : Type 0} {g : Ghosts S} {old mid new : Transaction S} {So So' : Tables → Type 0}
+    {after after' after'' : Tables → Tables}
+    {w : Tables → X} {w' : Tables → Y} {w'' : Tables → Z} {x : X} {y : Y} {z : Z} {Met : Damage S}
+    → DoesBy Met g old mid So after w (Ok x) → Does g mid new So' after' w' (Ok y)
+    → ((t : Tables) → So t → x ≡ w t → So' (after t) × (after' (after t) ≡ after'' t) × (z ≡ w'' t))
+    → Does g old new So after'' w'' (Ok z)
+does_both {S} {X} {Y} {Z} {g} {old} {mid} {new} {So} {So'} {after} {after'} {after''} {w} {w'} {w''} {x} {y}
+    {z} {Met} one two ready =
+    let both = knowing one two (λ t so found. (ready t so found).0) in
+    record {
+      says = record {
+        same_reference = both.says.same_reference;
+        told = λ clean live t shows so.
+            let before : HasCleanDisk (state g mid.conn.now) = omega (arith, two.says.survives.clean) in
+            let first = (one.says.told before live t shows so).0 in
+            let is = ready t so first in (
+              is.2,
+              subst (λ (u : Tables). Shows (state g new.conn.now).now u) is.1
+                  (both.says.told clean live t shows (so, first)).1,
+            );
         kept = both.says.kept;
         survives = both.says.survives;
       };

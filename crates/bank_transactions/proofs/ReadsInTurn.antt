@@ -1,5 +1,5 @@
 -- Reads one after another, and reads that fail.
-use Rattle.std.proofs.Common.{◌≡◌, Option, Some, Ok, Err, sym, subst, ◌∙◌, inl, inr}
+use Rattle.std.proofs.Common.{◌≡◌, Option, Some, Ok, Err, sym, ap, subst, ◌∙◌, inl, inr}
 use Rattle.sqlite.specs.Effect.{Database}
 use Rattle.sqlite.specs.State.{State, KeepsCommit, IsUnchanged}
 use Rattle.sqlite.specs.Held.{Held, state}
@@ -89,6 +89,28 @@ find_failed {S} {Y} {g} {old} {new} {So} {Rows} wanted Breaks fault unbroken of 
       survives = says.survives;
     }
 
+-- what is unchanged stays as it is
+pub stays : (old new : State) → IsUnchanged old new → Stays old new
+stays old new same = record {
+  goes_on = record { opened = λ h. same.0.was_open; committed = same.0.committed_is; mode = same.0.mode };
+  now = same.0.now_is;
+}
+
+-- a look-up under a key that was read
+pub find_tells : {S X Y : Type 0} {g : Ghosts S} {old new : Transaction S} {Rows : State → State → Type 0}
+    {wanted : Tables → X} {w : Tables → Y} {found : X} {answer : Y}
+    → Says g old new (OfTables (λ before now t. (found ≡ wanted t) × IsUnchanged before now))
+    (λ before now. IsUnchanged before now × Rows before now)
+    → ((t : Tables) → found ≡ wanted t → answer ≡ w t) → Reads g old new w (Ok answer)
+find_tells {S} {X} {Y} {g} {old} {new} {Rows} {wanted} {w} {found} {answer} says tells = record {
+  same_reference = says.same_reference;
+  told = λ clean t shows sound.
+      let it = says.told clean t shows in
+      (tells t it.0, stays (state g old.conn.now) (state g new.conn.now) it.1);
+  kept = λ clean. (stays (state g old.conn.now) (state g new.conn.now) (says.kept clean).0, tt);
+  survives = says.survives;
+}
+
 -- ---- two reads
 
 pub stays_then : (old mid new : State) → Stays old mid → Stays mid new → Stays old new
@@ -119,6 +141,18 @@ reads_both {S} {X} {Y} {g} {old} {mid} {new} {w} {w'} {x} {y} one two =
     ))
     (λ kept kept'.
     (stays_then (state g old.conn.now) (state g mid.conn.now) (state g new.conn.now) kept.0 kept'.0, tt))
+
+-- an answer that is put together from what was found
+pub reads_as : {S X Y : Type 0} {g : Ghosts S} {old new : Transaction S} {w : Tables → X} {w' : Tables → Y}
+    {x : X}
+    (put : X → Y) → Reads g old new w (Ok x) → ((t : Tables) → put (w t) ≡ w' t)
+    → Reads g old new w' (Ok (put x))
+reads_as put reads same = record {
+  same_reference = reads.same_reference;
+  told = λ clean t shows sound. let it = reads.told clean t shows sound in (ap put it.0 ∙ same t, it.1);
+  kept = reads.kept;
+  survives = reads.survives;
+}
 
 still_fails : (old mid new : State) (e : TableFault) → IsLookedUp {X = Unit {0}} mid new tt (Err e)
     → IsLookedUp {X = Unit {0}} old new tt (Err e)

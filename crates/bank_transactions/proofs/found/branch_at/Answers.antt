@@ -1,11 +1,18 @@
 -- What the row of a branch tells.
-use Rattle.std.proofs.Common.{◌≡◌, ap, Err, Some, rules, sym, ◌∙◌, inl, inr, arith}
+use Rattle.std.proofs.Common.{◌≡◌, ℕ, Option, Some, Result, Ok, Err, rules, sym, ap, subst, ◌∙◌}
+use Rattle.std.proofs.Common.{inl, inr, arith}
 use Rattle.posting_rules.specs.Tables.{row_at, branch_key}
 use Rattle.store_rows.specs.Outcomes.{BreaksBranch}
 use Rattle.std.specs.Prelude.{option_and_then}
-use Rattle.store_rows.specs.Rules.{branch_under, row_under}
+use Rattle.message_records.specs.Ranges.{whole_within}
+use Rattle.message_records.specs.declared.limits.TheConstants.{MAX_BRANCH}
+use Rattle.posting_rules.specs.declared.rows.BranchRow.{BranchRow}
+use Rattle.sql_meanings.specs.Entries.{Entry}
+use Rattle.store_rows.specs.Rules.{BranchKeeps, StoredRows, branch_under, row_under}
+use Rattle.store_rows.specs.Stored.{FindsStored, IsBranch}
+use Rattle.store_rows.specs.declared.fault.TableFault.{TableFault}
 use Rattle.bank_transactions.proofs.Broken.{branch_broken, count_broken, openable_under}
-use Rattle.bank_transactions.proofs.ReadsInTurn.{find_failed}
+use Rattle.bank_transactions.proofs.ReadsInTurn.{find_failed, find_tells}
 use Rattle.bank_transactions.proofs.SoundRows.{no_branch_beyond, branch_is, branch_unbroken}
 use Rattle.bank_transactions.proofs.found.branch_at.Goals as goal
 
@@ -67,16 +74,50 @@ returns-then-number-gt-LAST_BRANCH-clause-says g c = record {
   survives = search rules;
 }
 
+pub returns-in_default-2-clause-says : goal.returns-in_default-2-clause-says
+returns-in_default-2-clause-says g c =
+    let key : c.in-Some.branch ≡ c.args.number = search rules in
+    find_tells c.in_ok-row.ensures
+    (λ t told. sym c.in_default-2.is ∙ told ∙ ap (row_at branch_key t.branches) key)
+
+pub returns-clause-says : goal.returns-clause-says
+returns-clause-says g c =
+    let key : c.in-Some.branch ≡ c.args.number = search rules in
+    find_tells c.in_ok-row.ensures
+    (λ t told. sym c.in-Some-2.is ∙ told ∙ ap (row_at branch_key t.branches) key)
+
 -- ---- of the stored row
+
+-- the row under a branch's number, and what is found there
+module _ (rows : StoredRows) (n b : ℕ) (key : Option ℕ) (is : key ≡ whole_within 1 MAX_BRANCH n)
+    (some : key ≡ Some b) where
+  under_key : branch_under rows n ≡ row_under rows.branches b
+  under_key = ap (option_and_then (row_under rows.branches)) (sym is ∙ some)
+
+  finds_under : (r : Result (Option BranchRow) TableFault)
+      → FindsStored (row_under rows.branches b) IsBranch BranchKeeps r
+      → FindsStored (branch_under rows n) IsBranch BranchKeeps r
+  finds_under r = subst (λ (o : Option Entry). FindsStored o IsBranch BranchKeeps r) (sym under_key)
+
+pub returns-in_err-row-clause-stored : goal.returns-in_err-row-clause-stored
+returns-in_err-row-clause-stored g c = λ clean rows has.
+    let fault = c.in_err-row.field-0.0 in
+    let same : c.from_residual.result ≡ Err fault = search rules in
+    rw same (finds_under rows c.args.number c.in-Some.branch c.new.result c.new.ensures c.in-Some.is
+    (Err fault) ((c.in_err-row.ensures.kept clean).1 rows has))
+
+pub returns-clause-stored : goal.returns-clause-stored
+returns-clause-stored g c = λ clean rows has.
+    finds_under rows c.args.number c.in-Some.branch c.new.result c.new.ensures c.in-Some.is
+    (Ok (Some c.in-Some-2.row)) ((rw c.in-Some-2.is at (c.in_ok-row.ensures.kept clean).1) rows has)
 
 pub returns-then-number-gt-LAST_BRANCH-clause-stored : goal.returns-then-number-gt-LAST_BRANCH-clause-stored
 returns-then-number-gt-LAST_BRANCH-clause-stored g c = λ clean rows has.
     let finds = rw c.in-Some-2.is at (c.in_ok-row.ensures.kept clean).1 in
     let it = finds rows has in
-    let under : branch_under rows c.args.number ≡ row_under rows.branches c.in-Some.branch =
-    ap (option_and_then (row_under rows.branches)) (sym c.new.ensures ∙ c.in-Some.is) in (
+    let under = under_key rows c.args.number c.in-Some.branch c.new.result c.new.ensures c.in-Some.is in (
       it.0,
-      under ∙ it.1,
+      ◌∙◌ {c = Some it.0} under it.1,
       λ keeps.
           let is = openable_under rows.branches c.in-Some.branch c.in-Some-2.row it.0 it.1 it.2 keeps in
           let most = is.0 in

@@ -1,8 +1,22 @@
--- What is written after what was looked up.
-use Rattle.std.proofs.Common.{◌≡◌, Err, rules, refl}
-use Rattle.bank_transactions.proofs.Chained.{acts_wrote, does_but, does_for}
+-- What is judged of what was looked up, and what is written and answered after it.
+use Rattle.std.proofs.Common.{◌≡◌, Err, rules, refl, ap, ◌∙◌}
+use Rattle.message_records.specs.Spelling.{reply_spelling}
+use Rattle.posting_rules.specs.Cases.{case_of, reply_in}
+use Rattle.posting_rules.specs.Changes.{tables_after}
+use Rattle.posting_rules.specs.LookUps.{found_in}
+use Rattle.posting_rules.specs.declared.judgments.Found.{Found}
+use Rattle.posting_rules.specs.declared.judgments.Verdict.{Verdict}
+use Rattle.bank_transactions.proofs.Chained.{acts_read, acts_wrote, does_both, does_but, does_err, does_for}
 use Rattle.bank_transactions.proofs.Statements.{does_read}
 use Rattle.bank_transactions.proofs.posting.post_inside.Goals as goal
+
+pub returns-in_err-found : goal.returns-in_err-found
+returns-in_err-found g c =
+    let same : c.from_residual.result ≡ Err c.in_err-found.field-0.0 = search rules in
+    rw same (acts_read (does_err
+    (does_read g.S.Store c.args.tx.now c.look_up.new.tx
+    (λ t. found_in t c.args.request.now) _ c.in_err-found.ensures.says)
+    (λ t sound. sound.undamaged)))
 
 pub returns-in_err-apply : goal.returns-in_err-apply
 returns-in_err-apply g c =
@@ -10,4 +24,21 @@ returns-in_err-apply g c =
     rw same (acts_wrote (does_but
     (does_for (does_read g.S.Store c.args.tx.now c.look_up.new.tx _ _ c.in_ok-found.ensures.says)
     (λ t sound. (sound.undamaged, refl, refl)))
-    c.in_err-apply.ensures (λ t sound found. (sound, found, search rules))))
+    c.in_err-apply.ensures (λ t sound found. (sound, found, c.judge-verdict.ensures.value))))
+
+pub returns : goal.returns
+returns g c =
+    let r = c.args.request.now in
+    let judged = c.judge-verdict.ensures.value in
+    acts_wrote (does_both
+    (does_for (does_read g.S.Store c.args.tx.now c.look_up.new.tx _ _ c.in_ok-found.ensures.says)
+    (λ t sound. (sound.undamaged, refl, refl)))
+    c.in_ok-apply.ensures
+    (λ t sound found.
+    let is : c.judge-verdict.result
+    ≡ case_of (found_in t r) r = judged ∙ ap (λ (f : Found). case_of f r) found in (
+      (sound, found, judged),
+      ap (tables_after t c.args.moment r) is,
+      c.encode_reply.ensures.spelling ∙ ap reply_spelling c.reply_to.ensures
+          ∙ ap (λ (v : Verdict). reply_spelling (reply_in v r)) is,
+    )))
