@@ -1,9 +1,105 @@
--- A bank that shows a log is missed only where the store failed.
+-- What the found bank shows is what was shown. A bank that shows a log is missed only where the store failed.
+use Rattle.std.proofs.Common.{List, Err, refl, sym, subst, inl, inr}
+use Rattle.std.specs.Prelude.{IsSome, ◌≢◌}
+use Rattle.sqlite.specs.State.{State, HasCleanDisk, Survives}
 use Rattle.sqlite.specs.Held.{state}
+use Rattle.posting_rules.specs.Commands.{Command}
+use Rattle.posting_rules.specs.Counter.{LeavesOnly, ShowsLog}
+use Rattle.posting_rules.specs.Tables.{Tables}
+use Rattle.store_rows.specs.View.{Shows}
+use Rattle.bank_store.specs.Connections.{IsAsBefore, IsReadOnly, IsUndoneIfOpen}
+use Rattle.bank_store.specs.FoundBank.{BankIsFound}
+use Rattle.bank_store.specs.Seen.{seen_in}
+use Rattle.bank_store.specs.declared.refused.OpenFault.{OpenFault}
+use Rattle.bank_store.specs.declared.refused.OpenFault.TheVariants.{Store, NotBlank, Blank, Foreign, Version}
+use Rattle.bank_store.specs.declared.refused.OpenFault.TheVariants.{Damaged}
 use Rattle.bank_store.proofs.FoundBank.{known}
 use Rattle.bank_store.proofs.adoption.adopt.Goals as goal
 
-pub returns-in-Err-clause-known : goal.returns-in-Err-clause-known
-returns-in-Err-clause-known g c clean log s =
-    known (state g.S.Store c.args.conn) c.in-Err.fault s.tables log (c.in-Err.ensures.told clean).0 s.are
-    s.commands s.shows
+module _ (old new : State) where
+  still_shown : (D E : Type 0) (log : List Command) → IsAsBefore old new → ShowsLog (seen_in old D) log
+      → ShowsLog (seen_in new E) log
+  still_shown D E log same s = record {
+    commands = s.commands;
+    tables = s.tables;
+    are = subst (λ db. Shows db s.tables) (sym same.now_is) s.are;
+    shows = s.shows;
+  }
+
+  still_left : (D E : Type 0) (P : Tables → Type 0) → Survives old new (λ _. ⊥) → HasCleanDisk new
+      → LeavesOnly (seen_in old D) P → LeavesOnly (seen_in new E) P
+  still_left D E P quiet clean left trees may = elim (quiet.crash clean trees may) [
+    | inl before ↦ left trees before
+    | inr none ↦ absurd none
+  ]
+
+  as_it_was : (fault : OpenFault) → IsReadOnly {X = Unit {0}} old new (Err fault) → fault ≢ Store
+      → IsAsBefore old new
+  as_it_was Store reads other = absurd (other refl)
+  as_it_was NotBlank reads other = reads
+  as_it_was Blank reads other = reads
+  as_it_was Foreign reads other = reads
+  as_it_was (Version n) reads other = reads
+  as_it_was (Damaged rule) reads other = reads
+
+  undone : (fault : OpenFault) → IsReadOnly {X = Unit {0}} old new (Err fault) → IsUndoneIfOpen old new
+  undone Store reads = reads
+  undone NotBlank reads = λ _. reads
+  undone Blank reads = λ _. reads
+  undone Foreign reads = λ _. reads
+  undone (Version n) reads = λ _. reads
+  undone (Damaged rule) reads = λ _. reads
+
+pub returns-in-Ok : goal.returns-in-Ok
+returns-in-Ok g c =
+    let old = state g.S.Store c.args.conn in
+    let new = state g.S.Store c.over.result.conn in
+    let Down = IsSome c.over.result.fault in
+    let same = sym c.over.ensures.conn in
+    let found : HasCleanDisk new → BankIsFound old new =
+    subst (λ h. HasCleanDisk (state g.S.Store h) → BankIsFound old (state g.S.Store h)) same
+    c.in-Ok.ensures.told in
+    let quiet : Survives old new (λ _. ⊥) =
+    subst (λ h. Survives old (state g.S.Store h) (λ _. ⊥)) same c.in-Ok.ensures.survives in
+    let up : Down → ⊥ = λ some. (let none = c.over.ensures.up in let h = rw none at some in cc) in
+    record {
+      found = found;
+      shows = λ clean log. still_shown old new ⊥ Down log (found clean).same;
+      stands = λ clean log at. record {
+        shows = still_shown old new ⊥ Down log (found clean).same at.shows;
+        up = up;
+        survives = still_left old new ⊥ Down _ quiet clean at.survives;
+      };
+      up = up;
+      alloc = c.over.ensures.alloc;
+      missed = tt;
+      cause = tt;
+      same = tt;
+      undone = tt;
+      known = tt;
+      remains = tt;
+      idle = tt;
+      survives = quiet;
+    }
+
+pub returns-in-Err : goal.returns-in-Err
+returns-in-Err g c =
+    let old = state g.S.Store c.args.conn in
+    let new = state g.S.Store c.find_bank.new.conn in
+    let fault = c.in-Err.fault in
+    let told = c.in-Err.ensures.told in
+    record {
+      found = tt;
+      shows = tt;
+      stands = tt;
+      up = tt;
+      alloc = tt;
+      missed = λ clean. (told clean).0;
+      cause = c.in-Err.ensures.cause;
+      same = λ clean other. as_it_was old new fault (told clean).1 other;
+      undone = λ clean. undone old new fault (told clean).1;
+      known = λ clean log s. known old fault s.tables log (told clean).0 s.are s.commands s.shows;
+      remains = λ clean log at. still_left old new ⊥ ⊥ _ c.in-Err.ensures.survives clean at.survives;
+      idle = c.in-Err.ensures.mode;
+      survives = c.in-Err.ensures.survives;
+    }

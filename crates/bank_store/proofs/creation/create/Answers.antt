@@ -2,35 +2,69 @@
 -- store.
 use Rattle.std.proofs.Common.{sym, subst, inl, inr}
 use Rattle.std.specs.Prelude.{IsSome}
-use Rattle.sqlite.specs.State.{HasCleanDisk}
+use Rattle.sqlite.specs.State.{HasCleanDisk, Survives}
 use Rattle.sqlite.specs.Held.{state}
+use Rattle.store_rows.specs.Creation.{HasNewBank}
+use Rattle.store_rows.specs.Probes.{six_probes}
 use Rattle.bank_store.specs.NewBank.{BankIsMade}
+use Rattle.bank_store.specs.TablePresence.{IsPresent}
+use Rattle.bank_store.specs.declared.presence.Presence.TheVariants.{Absent}
 use Rattle.bank_store.proofs.FoundBank.{no_bank}
 use Rattle.bank_store.proofs.Unmade.{not_taken}
 use Rattle.bank_store.proofs.NewBank.{stands_empty}
 use Rattle.bank_store.proofs.creation.create.Goals as goal
 
-pub returns-in-Ok-clause-stands : goal.returns-in-Ok-clause-stands
-returns-in-Ok-clause-stands g c clean =
-    let same = c.over.ensures.conn in
-    let ended : HasCleanDisk (state g.S.Store c.make_bank.new.conn) =
-    subst (λ h. HasCleanDisk (state g.S.Store h)) same clean in
-    let made = c.in-Ok.ensures.makes.made ended in
-    let up : IsSome c.over.result.fault → ⊥ =
-    λ some. (let none = c.over.ensures.up in let h = rw none at some in cc) in
-    stands_empty (state g.S.Store c.args.conn) (state g.S.Store c.over.result.conn)
-    (IsSome c.over.result.fault) up
-    (subst (λ h. BankIsMade (state g.S.Store c.args.conn) (state g.S.Store h)) (sym same) made)
+pub returns-in-Ok : goal.returns-in-Ok
+returns-in-Ok g c =
+    let old = state g.S.Store c.args.conn in
+    let new = state g.S.Store c.over.result.conn in
+    let Down = IsSome c.over.result.fault in
+    let same = sym c.over.ensures.conn in
+    let made : HasCleanDisk new → BankIsMade old new =
+    subst (λ h. HasCleanDisk (state g.S.Store h) → BankIsMade old (state g.S.Store h)) same
+    c.in-Ok.ensures.makes.made in
+    let blank : HasCleanDisk new → IsPresent old.now six_probes Absent =
+    subst (λ h. HasCleanDisk (state g.S.Store h) → IsPresent old.now six_probes Absent) same
+    c.in-Ok.ensures.blank in
+    let up : Down → ⊥ = λ some. (let none = c.over.ensures.up in let h = rw none at some in cc) in
+    record {
+      stands = λ clean. stands_empty old new Down up (made clean);
+      keeps = λ clean. (made clean).keeps;
+      alone = λ clean. (made clean).alone;
+      blank = blank;
+      new = λ clean t. no_bank old.now t (blank clean);
+      up = up;
+      alloc = c.over.ensures.alloc;
+      undone = tt;
+      fault = tt;
+      refused = tt;
+      cause = tt;
+      empty = tt;
+      idle = tt;
+      survives =
+          subst (λ h. Survives old (state g.S.Store h) (HasNewBank old.now)) same
+          c.in-Ok.ensures.makes.survives;
+    }
 
-pub returns-in-Ok-clause-new : goal.returns-in-Ok-clause-new
-returns-in-Ok-clause-new g c clean t =
-    let ended : HasCleanDisk (state g.S.Store c.make_bank.new.conn) =
-    subst (λ h. HasCleanDisk (state g.S.Store h)) c.over.ensures.conn clean in
-    no_bank (state g.S.Store c.args.conn).now t (c.in-Ok.ensures.blank ended)
-
-pub returns-in-Err-clause-empty : goal.returns-in-Err-clause-empty
-returns-in-Err-clause-empty g c clean empty = elim c.in-Err.ensures.makes.fault [
-  | inl store ↦ store
-  | inr taken ↦ absurd (not_taken (state g.S.Store c.args.conn) empty
-      (c.in-Err.ensures.makes.refused clean taken))
-]
+pub returns-in-Err : goal.returns-in-Err
+returns-in-Err g c =
+    let makes = c.in-Err.ensures.makes in
+    record {
+      stands = tt;
+      keeps = tt;
+      alone = tt;
+      blank = tt;
+      new = tt;
+      up = tt;
+      alloc = tt;
+      undone = makes.undone;
+      fault = makes.fault;
+      refused = makes.refused;
+      cause = makes.cause;
+      empty = λ clean empty. elim makes.fault [
+        | inl store ↦ store
+        | inr taken ↦ absurd (not_taken (state g.S.Store c.args.conn) empty (makes.refused clean taken))
+      ];
+      idle = makes.mode;
+      survives = makes.survives;
+    }

@@ -1,11 +1,12 @@
 -- What the next branch comes to.
-use Rattle.std.proofs.Common.{◌≡◌, [], rules, sym, subst}
-use Rattle.std.specs.Prelude.{IsSome, option_map}
-use Rattle.posting_rules.specs.Branches.{IsNextIn, line_of}
+use Rattle.std.proofs.Common.{◌≡◌, [], Option, Some, None, rules, sym, subst}
+use Rattle.std.specs.Prelude.{IfSome, IsSome, option_map}
+use Rattle.posting_rules.specs.Branches.{IsLineAbove, IsNextIn, line_of}
 use Rattle.posting_rules.proofs.Calls.{stays}
 use Rattle.posting_rules.proofs.NextBranch.{next_shown}
 use Rattle.posting_rules.proofs.Stepping.{sound_tables}
 use Rattle.store_rows.specs.Columns.{branch_above}
+use Rattle.bank_store.proofs.Causes.{still_clean}
 use Rattle.bank_store.proofs.Countered.{takes}
 use Rattle.bank_store.proofs.Refusing.{consult_refused, Refusal}
 use Rattle.bank_transactions.proofs.NextRow.{next_is}
@@ -21,29 +22,53 @@ refused g c =
     stays tt c.in-Err.fault
     c.go_down.result c.go_down.ensures.down c.go_down.ensures.survives c.in-Err.ensures.says
 
-pub returns-in-Ok-clause-line : goal.returns-in-Ok-clause-line
-returns-in-Ok-clause-line g c clean log s =
+-- what holds of what a value becomes holds of the value that it became
+mapped : {X Y : Type 0} (P : Y → Type 0) (f : X → Y) (o : Option X) → IfSome o (λ x. P (f x))
+    → IfSome (option_map f o) P
+mapped P f None holds = tt
+mapped P f (Some x) holds = holds
+
+pub returns-in-Ok : goal.returns-in-Ok
+returns-in-Ok g c =
     let after = c.args.after in
-    let found : c.in-Ok.next ≡ branch_above s.tables after =
-    (c.in-Ok.ensures.says.told clean s.tables s.are (sound_tables s.tables log s.commands s.shows)).0 in
+    let says = c.in-Ok.ensures.says in
     let is : c.map.result ≡ option_map line_of c.in-Ok.next = search rules in
-    let next : IsNextIn s.tables.branches after c.in-Ok.next =
-    subst (IsNextIn s.tables.branches after) (sym found) (next_is _ s.tables after s.are) in
-    rw is (next_shown s.tables log s.shows after c.in-Ok.next next)
-
-pub returns-in-Ok-clause-done : goal.returns-in-Ok-clause-done
-returns-in-Ok-clause-done g c =
     let Down = IsSome c.args.self.now.fault in
-    takes sound_tables [] stays tt Down Down c.in_ok-up.ensures.up c.in-Ok.ensures.says
+    record {
+      line =
+          λ clean log s.
+          let found : c.in-Ok.next ≡ branch_above s.tables after =
+          (says.told clean s.tables s.are (sound_tables s.tables log s.commands s.shows)).0 in
+          let next : IsNextIn s.tables.branches after c.in-Ok.next =
+          subst (IsNextIn s.tables.branches after) (sym found) (next_is _ s.tables after s.are) in
+          rw is (next_shown s.tables log s.shows after c.in-Ok.next next);
+      within = rw is (mapped (IsLineAbove after) line_of c.in-Ok.next c.in-Ok.ensures.within);
+      done = takes sound_tables [] stays tt Down Down c.in_ok-up.ensures.up says;
+      tables = λ clean t shows. c.in-Ok.ensures.same clean t shows;
+      up = c.in_ok-up.ensures.up;
+      fault = tt;
+      kept = tt;
+      frugal = λ same. (let it = same in cc);
+      cause = tt;
+      broken = tt;
+      down = λ was. absurd (c.in_ok-up.ensures.up was);
+      honest = still_clean says.survives;
+    }
 
-pub returns-in-Err-clause-fault : goal.returns-in-Err-clause-fault
-returns-in-Err-clause-fault g c = (refused g c).fault
-
-pub returns-in-Err-clause-kept : goal.returns-in-Err-clause-kept
-returns-in-Err-clause-kept g c = (refused g c).kept
-
-pub returns-in-Err-clause-cause : goal.returns-in-Err-clause-cause
-returns-in-Err-clause-cause g c = (refused g c).cause
-
-pub returns-in-Err-clause-broken : goal.returns-in-Err-clause-broken
-returns-in-Err-clause-broken g c = (refused g c).broken
+pub returns-in-Err : goal.returns-in-Err
+returns-in-Err g c =
+    let no = refused g c in
+    record {
+      line = tt;
+      within = tt;
+      tables = tt;
+      done = tt;
+      up = tt;
+      fault = no.fault;
+      kept = no.kept;
+      frugal = λ same. no.frugal (let it = same in cc);
+      cause = no.cause;
+      broken = no.broken;
+      down = λ was. absurd (c.in_ok-up.ensures.up was);
+      honest = no.honest;
+    }

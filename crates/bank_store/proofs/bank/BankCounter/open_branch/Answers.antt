@@ -4,6 +4,7 @@ use Rattle.std.specs.Prelude.{IsSome}
 use Rattle.posting_rules.specs.Commands.{Open, AreCommands}
 use Rattle.posting_rules.proofs.Calls.{opens, answers}
 use Rattle.posting_rules.proofs.Stepping.{sound_tables}
+use Rattle.bank_store.proofs.Causes.{still_clean}
 use Rattle.bank_store.proofs.Countered.{takes}
 use Rattle.bank_store.proofs.Refusing.{transaction_refused, Refusal}
 use Rattle.bank_transactions.specs.Causes.{IsBrokenOrMet}
@@ -26,30 +27,45 @@ refused g c =
     c.go_down.ensures.survives
     c.in-Err.ensures
 
-pub returns-in-Ok-clause-answer : goal.returns-in-Ok-clause-answer
-returns-in-Ok-clause-answer g c clean log s =
-    (c.in-Ok.ensures.told clean s.tables s.are (sound_tables s.tables log s.commands s.shows)).0
-    ∙ answers s.tables log c.args.branch c.args.count s.shows
-
-pub returns-in-Ok-clause-done : goal.returns-in-Ok-clause-done
-returns-in-Ok-clause-done g c =
+pub returns-in-Ok : goal.returns-in-Ok
+returns-in-Ok g c =
     let b = c.args.branch in
     let count = c.args.count in
     let above : 1 ≤ b = c.range_law.ensures.least in
     let are : AreCommands (Open b count ∷ []) =
     ((above, c.requires.branch, c.requires.some, c.requires.few), tt) in
     let Down = IsSome c.args.self.now.fault in
-    takes sound_tables (Open b count ∷ []) (opens b count above c.requires.few) are Down Down
-    c.in_ok-up.ensures.up c.in-Ok.ensures
+    let says = c.in-Ok.ensures in
+    record {
+      answer =
+          λ clean log s. (says.told clean s.tables s.are
+          (sound_tables s.tables log s.commands s.shows)).0
+          ∙ answers s.tables log b count s.shows;
+      done =
+          takes sound_tables (Open b count ∷ []) (opens b count above c.requires.few) are Down Down
+          c.in_ok-up.ensures.up says;
+      up = c.in_ok-up.ensures.up;
+      fault = tt;
+      kept = tt;
+      frugal = λ same. (let it = same in cc);
+      cause = tt;
+      broken = tt;
+      down = λ was. absurd (c.in_ok-up.ensures.up was);
+      honest = still_clean says.survives;
+    }
 
-pub returns-in-Err-clause-fault : goal.returns-in-Err-clause-fault
-returns-in-Err-clause-fault g c = (refused g c).fault
-
-pub returns-in-Err-clause-kept : goal.returns-in-Err-clause-kept
-returns-in-Err-clause-kept g c = (refused g c).kept
-
-pub returns-in-Err-clause-cause : goal.returns-in-Err-clause-cause
-returns-in-Err-clause-cause g c = (refused g c).cause
-
-pub returns-in-Err-clause-broken : goal.returns-in-Err-clause-broken
-returns-in-Err-clause-broken g c = (refused g c).broken
+pub returns-in-Err : goal.returns-in-Err
+returns-in-Err g c =
+    let no = refused g c in
+    record {
+      answer = tt;
+      done = tt;
+      up = tt;
+      fault = no.fault;
+      kept = no.kept;
+      frugal = λ same. no.frugal (let it = same in cc);
+      cause = no.cause;
+      broken = no.broken;
+      down = λ was. absurd (c.in_ok-up.ensures.up was);
+      honest = no.honest;
+    }

@@ -5,6 +5,7 @@ use Rattle.message_records.specs.Reading.{request_of}
 use Rattle.posting_rules.specs.Commands.{Post, AreCommands}
 use Rattle.posting_rules.proofs.Calls.{posts, replies}
 use Rattle.posting_rules.proofs.Stepping.{sound_tables}
+use Rattle.bank_store.proofs.Causes.{still_clean}
 use Rattle.bank_store.proofs.Countered.{takes}
 use Rattle.bank_store.proofs.Refusing.{transaction_refused, Refusal}
 use Rattle.bank_transactions.specs.Causes.{IsBrokenOrMet}
@@ -27,31 +28,45 @@ refused g c =
     c.go_down.ensures.survives
     c.in-Err.ensures
 
-pub returns-in-Ok-post-clause-reply : goal.returns-in-Ok-post-clause-reply
-returns-in-Ok-post-clause-reply g c clean log s =
-    let read : request_of c.args.bytes.now ≡ Ok c.in-Ok.request = search rules in
-    (c.in-Ok-post.ensures.told clean s.tables s.are (sound_tables s.tables log s.commands s.shows)).0
-    ∙ replies s.tables log c.args.bytes.now c.in-Ok.request read s.shows
-
-pub returns-in-Ok-post-clause-done : goal.returns-in-Ok-post-clause-done
-returns-in-Ok-post-clause-done g c =
+pub returns-in-Ok-post : goal.returns-in-Ok-post
+returns-in-Ok-post g c =
     let m = c.args.moment in
     let bytes = c.args.bytes.now in
     let read : request_of bytes ≡ Ok c.in-Ok.request = search rules in
     let are : AreCommands (Post m bytes ∷ []) =
     ((c.range_law.ensures.most, search rules), tt) in
     let Down = IsSome c.args.self.now.fault in
-    takes sound_tables (Post m bytes ∷ []) (posts m bytes c.in-Ok.request read) are Down Down
-    c.in_ok-up.ensures.up c.in-Ok-post.ensures
+    let says = c.in-Ok-post.ensures in
+    record {
+      reply =
+          λ clean log s. (says.told clean s.tables s.are
+          (sound_tables s.tables log s.commands s.shows)).0
+          ∙ replies s.tables log bytes c.in-Ok.request read s.shows;
+      done =
+          takes sound_tables (Post m bytes ∷ []) (posts m bytes c.in-Ok.request read) are Down Down
+          c.in_ok-up.ensures.up says;
+      up = c.in_ok-up.ensures.up;
+      fault = tt;
+      kept = tt;
+      frugal = λ same. (let it = same in cc);
+      cause = tt;
+      broken = tt;
+      down = λ was. absurd (c.in_ok-up.ensures.up was);
+      honest = still_clean says.survives;
+    }
 
-pub returns-in-Err-clause-fault : goal.returns-in-Err-clause-fault
-returns-in-Err-clause-fault g c = (refused g c).fault
-
-pub returns-in-Err-clause-kept : goal.returns-in-Err-clause-kept
-returns-in-Err-clause-kept g c = (refused g c).kept
-
-pub returns-in-Err-clause-cause : goal.returns-in-Err-clause-cause
-returns-in-Err-clause-cause g c = (refused g c).cause
-
-pub returns-in-Err-clause-broken : goal.returns-in-Err-clause-broken
-returns-in-Err-clause-broken g c = (refused g c).broken
+pub returns-in-Err : goal.returns-in-Err
+returns-in-Err g c =
+    let no = refused g c in
+    record {
+      reply = tt;
+      done = tt;
+      up = tt;
+      fault = no.fault;
+      kept = no.kept;
+      frugal = λ same. no.frugal (let it = same in cc);
+      cause = no.cause;
+      broken = no.broken;
+      down = λ was. absurd (c.in_ok-up.ensures.up was);
+      honest = no.honest;
+    }
