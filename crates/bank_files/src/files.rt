@@ -113,7 +113,8 @@ fn files_at<S: Start>(rt: &HostRuntime, path: &str, start: S) -> Result<Files<Fi
     }
 }
 
-/// Opens the file at a path, or makes it, as `open_over` does. `S` stands for what the files hold.
+/// Opens the file at a path, or makes it, as `open_over` does. `S` stands for what the files hold. The
+/// connection has no clock, as no statement of a bank asks for the time.
 pub fn open<S: Start>(
     rt: &HostRuntime,
     path: &str,
@@ -128,7 +129,5 @@ pub fn open<S: Start>(
     let Ok(random) = RandomState::new(rt) else {
         return Err(CANNOT_OPEN);
     };
-    let mut conn = open_over(rt.alloc(), files, random.hash_one(&0u8))?;
-    conn.set_clock(rt);
-    Ok(conn)
+    open_over(rt.alloc(), files, random.hash_one(&0u8))
 }

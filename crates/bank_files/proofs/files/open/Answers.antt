@@ -1,5 +1,6 @@
 -- The files are as they were when the path was opened.
 use Rattle.std.proofs.Common.{ℕ, Bool, cond, List, ap₂, subst}
+use Rattle.std.proofs.lemmas.Result.{IfOk-weaker}
 use Rattle.sqlite.specs.Files.{file_state}
 use Rattle.sqlite_disk.specs.Events.{Event, replay}
 use Rattle.sqlite_wal.specs.Recovery.{Image}
@@ -13,8 +14,10 @@ abbrev seen : List ℕ → List ℕ → Bool → List Event → List ℕ
 seen log db is_log history = (replay (cond is_log log db) history).seen
 
 pub returns-clause-opened : goal.returns-clause-opened
-returns-clause-opened g c = rw c.set_clock.ensures λ clean.
+returns-clause-opened g c =
     let (log, db) = c.in_ok-files.ensures.fresh in
     let held = seen g.S.Start.log g.S.Start.db in
     let same = ap₂ image (ap₂ held log.0 log.1) (ap₂ held db.0 db.1) in
-    subst (λ i. IsOpenedOn i (file_state c.in_ok-conn.conn)) same (c.in_ok-conn.ensures.opened clean)
+    IfOk-weaker c.open_over.result _ _
+    (λ conn opened clean. subst (λ i. IsOpenedOn i (file_state conn)) same (opened clean))
+    c.open_over.ensures.opened
