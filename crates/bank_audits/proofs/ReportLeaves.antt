@@ -1,18 +1,19 @@
 -- What a report leaves of a bank that stands at a log.
 use Rattle.std.proofs.Common.{◌≡◌, ℕ, zero, suc, List, [], take, Ok, Err, Result, refl, sym, subst}
 use Rattle.std.proofs.Common.{inl, inr, arith}
-use Rattle.std.specs.Prelude.{OnErr, OnOk}
+use Rattle.std.specs.Prelude.{IsTrue, OnErr, OnOk}
 use Rattle.sqlite.specs.Effect.{Database}
 use Rattle.sqlite.specs.State.{State, HasCleanDisk, Survives}
 use Rattle.posting_rules.specs.declared.fault.Fault.{Fault}
 use Rattle.posting_rules.specs.declared.fault.Fault.TheVariants.{Memory, Store, Down, Damaged}
+use Rattle.posting_rules.specs.declared.fault.Rule.{Rule}
 use Rattle.posting_rules.specs.Commands.{Command}
 use Rattle.posting_rules.specs.Counter.{Seen, ShowsLog, StandsAt, Takes, Refuses, LeavesNoMore, LeavesOnly}
 use Rattle.posting_rules.specs.Runs.{behind}
 use Rattle.posting_rules.specs.Tables.{AreTablesOf}
 use Rattle.store_rows.specs.View.{Shows}
 use Rattle.bank_store.specs.Seen.{seen_in}
-use Rattle.bank_store.specs.Walks.{IsStill}
+use Rattle.bank_store.specs.Walks.{IsStill, IsUntouchedIfOpen}
 use Rattle.bank_audits.specs.declared.fault.ReportFault.{ReportFault}
 use Rattle.bank_audits.specs.declared.fault.ReportFault.TheVariants.{NoAccount, Write, Bank}
 use Rattle.bank_audits.specs.Postings.{HasAnswered, HasWritten}
@@ -24,6 +25,23 @@ of_ok (Err e) f = tt
 pub of_err : {E P : Type 0} (r : Result (Unit {0}) E) → ((e : E) → r ≡ Err e → P) → OnErr r P
 of_err (Ok x) f = tt
 of_err (Err e) f = f e refl
+
+-- a report that the bank's fault ended wasn't ended by anything else
+pub not_missing : (r : Result (Unit {0}) ReportFault) (e : Fault) → r ≡ Err (Bank e) → r ≡ Err NoAccount → ⊥
+not_missing r e is none = cc
+
+pub not_write : (r : Result (Unit {0}) ReportFault) (e : Fault) → r ≡ Err (Bank e) → r ≡ Err Write → ⊥
+not_write r e is write = cc
+
+pub not_both : (r : Result (Unit {0}) ReportFault) → r ≡ Err Write → r ≡ Err NoAccount → ⊥
+not_both r write none = cc
+
+pub same_fault : (r : Result (Unit {0}) ReportFault) (e f : Fault) → r ≡ Err (Bank e) → r ≡ Err (Bank f)
+    → e ≡ f
+same_fault r e f one other = cc
+
+pub not_ok : {A E : Type 0} (r : Result A E) (x : A) (e : E) → r ≡ Ok x → r ≡ Err e → ⊥
+not_ok r x e answer error = cc
 
 -- what was answered for an open account
 pub written_of : (r : Result (Unit {0}) ReportFault) → (r ≡ Err NoAccount → ⊥) → HasAnswered r
@@ -47,6 +65,19 @@ refused_down Memory old new commands frugal refused = absurd (frugal refl)
 refused_down Store old new commands frugal refused = refused.down
 refused_down Down old new commands frugal refused = refused.after
 refused_down (Damaged rule) old new commands frugal refused = refused.down
+
+-- a counter that tried nothing was down
+pub refused_before : (fault : Fault) (old new : Seen) (commands : List Command)
+    → Refuses fault old new commands → fault ≡ Down → old.is_down
+refused_before fault old new commands refused is =
+    (subst (λ f. Refuses f old new commands) is refused).before
+
+-- what is told to be damaged shows no log
+pub refused_sound : (fault : Fault) (old new : Seen) (commands : List Command)
+    → Refuses fault old new commands → (rule : Rule) → fault ≡ Damaged rule → new.honest
+    → (log : List Command) → ShowsLog old log → ⊥
+refused_sound fault old new commands refused rule is =
+    (subst (λ f. Refuses f old new commands) is refused).never_shown
 
 none_taken : (n : ℕ) → take n (let none : List Command = [] in none) ≡ []
 none_taken zero = refl
@@ -92,3 +123,38 @@ takes_then old mid new D E F takes still quiet up = record {
       are = subst (λ (db : Database). Shows db s.tables) (sym (still clean).0) s.are;
       shows = s.shows;
     }
+
+-- ---- what a call that only reads leaves
+
+pub clean_before : (old new : State) → Survives old new (λ _. ⊥) → HasCleanDisk new → HasCleanDisk old
+clean_before old new quiet clean = omega (arith, quiet.clean, clean)
+
+pub quiet_leaves : (old new : State) (D : Type 0) → Survives old new (λ _. ⊥) → HasCleanDisk new
+    → (log : List Command) → LeavesOnly (seen_in old D) (λ t. AreTablesOf t log)
+    → LeavesOnly (seen_in new D) (λ t. AreTablesOf t log)
+quiet_leaves old new D quiet clean log only = λ trees may. elim (quiet.crash clean trees may) [
+  | inl earlier ↦ only trees earlier
+  | inr none ↦ absurd none
+]
+
+-- as long as the store is open, it stands where it stood
+pub untouched_stands : (old new : State) (D E : Type 0) → IsUntouchedIfOpen old new
+    → Survives old new (λ _. ⊥) → (E → D) → HasCleanDisk new → IsTrue new.is_open
+    → (log : List Command) → StandsAt (seen_in old D) log → StandsAt (seen_in new E) log
+untouched_stands old new D E untouched quiet up clean is_open log at = record {
+  shows = record {
+    commands = at.shows.commands;
+    tables = at.shows.tables;
+    are = subst (λ (db : Database). Shows db at.shows.tables) (sym (untouched is_open).now_is) at.shows.are;
+    shows = at.shows.shows;
+  };
+  up = λ down. at.up (up down);
+  survives = quiet_leaves old new D quiet clean log at.survives;
+}
+
+-- where the connection sees what it saw, a call of no commands took them all
+pub still_takes : (old new : State) (D E : Type 0) → (HasCleanDisk new → IsStill old new)
+    → Survives old new (λ _. ⊥) → (E → D) → Takes (seen_in old D) (seen_in new E) []
+still_takes old new D E still quiet up =
+    takes_then old old new D D E (record { shows = λ clean log s. s; stands = λ clean log at. at })
+    still quiet up
