@@ -1,8 +1,9 @@
 //! The requests of known seeds, and what a long run of them names.
 use branch_loader::Plan;
 use load_driver::{Driver, DriverFault};
-use message_records::{Branch, decode_request};
+use message_records::{Branch, Request, decode_request};
 use std::alloc::{AllocError, Global};
+use std::process::Abort;
 use std::test::Fail;
 
 // The plan of these branches and counts.
@@ -72,6 +73,23 @@ fn one_account(rt: HostRuntime) -> Result<(), Fail> {
     Ok(())
 }
 
+// Whether the list opens the account at this place of the branch, from 0.
+fn is_open(list: &[(u64, u32)], branch: u64, place: u64) -> bool {
+    list.iter()
+        .any(|row| row.0 == branch && place < u64::from(row.1))
+}
+
+// Whether a request is of its account's own branch. It names an open account and a teller of an open branch.
+fn is_at_home(rt: &impl Abort, list: &[(u64, u32)], request: &Request) -> bool {
+    let account = request.account().get() - 1;
+    let home = account / 100_000 + 1;
+    let branch = request.branch().get();
+    assert!(rt; is_open(list, home, account % 100_000));
+    assert!(rt; is_open(list, branch, 0));
+    assert_eq!(rt; (request.teller().get() - 1) / 10 + 1, branch);
+    home == branch
+}
+
 #[test]
 fn the_85_15_rule(rt: HostRuntime) -> Result<(), Fail> {
     let records = 100_000u32;
@@ -84,19 +102,7 @@ fn the_85_15_rule(rt: HostRuntime) -> Result<(), Fail> {
         let Ok(request) = decode_request(&bytes) else {
             return Err("a request".into());
         };
-        let account = request.account().get() - 1;
-        let branch = account / 100_000 + 1;
-        let place = account % 100_000;
-        assert!(rt;
-            list.iter()
-                .any(|row| row.0 == branch && place < u64::from(row.1))
-        );
-        assert!(rt; list.iter().any(|row| row.0 == request.branch().get()));
-        assert_eq!(rt;
-            (request.teller().get() - 1) / 10 + 1,
-            request.branch().get()
-        );
-        if branch == request.branch().get() {
+        if is_at_home(&rt, list.as_slice(), &request) {
             at_home = at_home.saturating_add(1);
         }
     }

@@ -2,9 +2,10 @@
 use branch_loader::{Loaded, Plan, PlanFault, load, read_plan};
 use message_records::{Account, Branch};
 use posting_core::{Counter, PlainBank};
-use std::alloc::{AllocError, Global};
+use std::alloc::{Alloc, AllocError, Global};
 use std::io;
 use std::io::Read;
+use std::process::Abort;
 use std::test::Fail;
 
 // What the source is answered; memory that was refused fails the test.
@@ -47,6 +48,21 @@ fn written(
     Ok(text)
 }
 
+// The source gives this behind a byte order mark or none, and with each line end.
+fn gives<R: Abort + Alloc<A = Global>>(
+    rt: &R,
+    source: &[u8],
+    want: Result<usize, PlanFault>,
+) -> Result<(), Fail> {
+    for mark in [false, true] {
+        for line_end in [b"\n".as_slice(), b"\r\n".as_slice(), b"\r".as_slice()] {
+            let text = written(rt.alloc(), mark, line_end, source)?;
+            assert_eq!(rt; rows_in(rt.alloc(), text.as_slice())?, want);
+        }
+    }
+    Ok(())
+}
+
 #[test]
 fn sources(rt: HostRuntime) -> Result<(), Fail> {
     let cases: [(&[u8], Result<usize, PlanFault>); 24] = [
@@ -85,12 +101,7 @@ fn sources(rt: HostRuntime) -> Result<(), Fail> {
         (b"branch,accounts\n\n1,000000003\n", Ok(1)),
     ];
     for (source, want) in cases {
-        for mark in [false, true] {
-            for line_end in [b"\n".as_slice(), b"\r\n".as_slice(), b"\r".as_slice()] {
-                let text = written(rt.alloc(), mark, line_end, source)?;
-                assert_eq!(rt; rows_in(rt.alloc(), text.as_slice())?, want);
-            }
-        }
+        gives(&rt, source, want)?;
     }
     Ok(())
 }
@@ -147,6 +158,20 @@ fn counts(opened: u32, already: u32, differs: u32) -> Loaded {
     }
 }
 
+// The source's plan is loaded with these answers.
+fn loads<C: Counter>(
+    rt: &(impl Abort + Alloc<A = Global>),
+    bank: &mut C,
+    source: &[u8],
+    want: Loaded,
+) -> Result<(), Fail> {
+    let Ok(plan) = answer_to(rt.alloc(), source)? else {
+        return Err("a plan".into());
+    };
+    assert_eq!(rt; load(&plan, bank)?, want);
+    Ok(())
+}
+
 #[test]
 fn a_plan_loaded_twice(rt: HostRuntime) -> Result<(), Fail> {
     let cases: [(&[u8], Loaded); 4] = [
@@ -157,15 +182,28 @@ fn a_plan_loaded_twice(rt: HostRuntime) -> Result<(), Fail> {
     ];
     let mut bank = PlainBank::new(rt.alloc());
     for (source, want) in cases {
-        let Ok(plan) = answer_to(rt.alloc(), source)? else {
-            return Err("a plan".into());
-        };
-        assert_eq!(rt; load(&plan, &mut bank)?, want);
+        loads(&rt, &mut bank, source, want)?;
     }
     for (account, is_open) in [(3, true), (4, false), (100_002, true), (100_003, false)] {
         let account = Account::new(account).ok_or("an account")?;
         assert_eq!(rt; bank.balance(account)?.is_some(), is_open);
     }
+    Ok(())
+}
+
+// The plan of branch 1 with one account and of this row.
+fn lists_with<R: Abort + Alloc<A = Global>>(
+    rt: &R,
+    branch: u64,
+    accounts: u32,
+    want: Result<usize, PlanFault>,
+) -> Result<(), Fail> {
+    let first = Branch::new(1).ok_or("a branch")?;
+    let second = Branch::new(branch).ok_or("a branch")?;
+    let mut rows = Vec::new(rt.alloc());
+    rows.push((first, 1))?;
+    rows.push((second, accounts))?;
+    assert_eq!(rt; Plan::from_list(rows).map(|plan| plan.rows().len()), want);
     Ok(())
 }
 
@@ -179,12 +217,8 @@ fn lists(rt: HostRuntime) -> Result<(), Fail> {
         (2, 0, Err(PlanFault::Accounts(2))),
         (2, 100_001, Err(PlanFault::Accounts(2))),
     ];
-    let first = Branch::new(1).ok_or("a branch")?;
     for (branch, accounts, want) in cases {
-        let mut rows = Vec::new(rt.alloc());
-        rows.push((first, 1))?;
-        rows.push((Branch::new(branch).ok_or("a branch")?, accounts))?;
-        assert_eq!(rt; Plan::from_list(rows).map(|plan| plan.rows().len()), want);
+        lists_with(&rt, branch, accounts, want)?;
     }
     Ok(())
 }

@@ -26,29 +26,49 @@ fn padded<const SIZE: usize>(rt: &impl Abort, text: &[u8]) -> [u8; SIZE] {
     bytes
 }
 
+// The texts, one behind another.
+fn joined(rt: &impl Alloc<A = Global>, texts: &[&[u8]]) -> Result<Vec<u8>, Fail> {
+    let mut all = Vec::new(rt.alloc());
+    for text in texts {
+        all.extend_from_slice(text)?;
+    }
+    Ok(all)
+}
+
 // Two records and the beginning of a third.
 fn truncated_input(rt: &(impl Abort + Alloc<A = Global>)) -> Result<Vec<u8>, Fail> {
-    let mut input = Vec::new(rt.alloc());
-    input.extend_from_slice(&padded::<100>(rt, FIRST))?;
-    input.extend_from_slice(&padded::<100>(rt, REMOTE))?;
-    input.extend_from_slice(&padded::<50>(rt, b"DC01"))?;
-    Ok(input)
+    let first = padded::<100>(rt, FIRST);
+    let remote = padded::<100>(rt, REMOTE);
+    let third = padded::<50>(rt, b"DC01");
+    joined(rt, &[&first, &remote, &third])
 }
 
 // The replies to the two.
 fn two_replies(rt: &(impl Abort + Alloc<A = Global>)) -> Result<Vec<u8>, Fail> {
-    let mut replies = Vec::new(rt.alloc());
-    replies.extend_from_slice(&padded::<200>(rt, FIRST_REPLY))?;
-    replies.extend_from_slice(&padded::<200>(rt, REMOTE_REPLY))?;
-    Ok(replies)
+    let first = padded::<200>(rt, FIRST_REPLY);
+    let remote = padded::<200>(rt, REMOTE_REPLY);
+    joined(rt, &[&first, &remote])
+}
+
+// So many times the same bytes.
+fn repeated(rt: &impl Alloc<A = Global>, bytes: &[u8], times: u8) -> Result<Vec<u8>, Fail> {
+    let mut all = Vec::new(rt.alloc());
+    for _ in 0..times {
+        all.extend_from_slice(bytes)?;
+    }
+    Ok(all)
 }
 
 // How a stream ended on a fresh bank, and the balances then of the accounts that the two records name.
 #[derive(Drop)]
 struct Ended {
     result: Result<Count, StreamFault>,
-    first: i64,
-    remote: i64,
+    balances: (i64, i64),
+}
+
+fn balance_of<C: Counter>(bank: &mut C, account: u64) -> Result<i64, Fail> {
+    let balance = bank.balance(Account::new(account).ok_or("account")?)?;
+    Ok(balance.ok_or("closed")?.get())
 }
 
 fn streamed<R: Read, W: Write>(
@@ -59,53 +79,64 @@ fn streamed<R: Read, W: Write>(
     let mut bank = fresh(rt)?;
     let mut clock = StoredClock::new(Vec::new(rt.alloc()));
     let result = post_stream(reader, writer, &mut clock, &mut bank);
-    let first = bank.balance(Account::new(1).ok_or("account")?)?;
-    let remote = bank.balance(Account::new(100_001).ok_or("account")?)?;
-    Ok(Ended {
-        result,
-        first: first.ok_or("closed")?.get(),
-        remote: remote.ok_or("closed")?.get(),
-    })
+    let balances = (balance_of(&mut bank, 1)?, balance_of(&mut bank, 100_001)?);
+    Ok(Ended { result, balances })
+}
+
+// The input's stream ends so, with these replies and balances.
+fn ends(
+    rt: &(impl Abort + Alloc<A = Global>),
+    input: &[u8],
+    wanted: Result<Count, StreamFault>,
+    replies: &[u8],
+    balances: (i64, i64),
+) -> Result<(), Fail> {
+    let mut output: Vec<u8> = Vec::new(rt.alloc());
+    let mut reader = input;
+    let ended = streamed(rt, &mut reader, &mut output)?;
+    assert_eq!(rt; ended.result, wanted);
+    assert_eq!(rt; output.as_slice(), replies);
+    assert_eq!(rt; ended.balances, balances);
+    Ok(())
 }
 
 #[test]
 fn a_truncated_stream(rt: HostRuntime) -> Result<(), Fail> {
     let input = truncated_input(&rt)?;
-    let mut output: Vec<u8> = Vec::new(rt.alloc());
-    let ended = streamed(&rt, &mut input.as_slice(), &mut output)?;
-    assert_eq!(rt; ended.result, Err(StreamFault::Truncated(50)));
-    assert_eq!(rt; output.as_slice(), two_replies(&rt)?.as_slice());
-    assert_eq!(rt; (ended.first, ended.remote), (500, -700));
-    Ok(())
+    let replies = two_replies(&rt)?;
+    let wanted = Err(StreamFault::Truncated(50));
+    ends(&rt, &input, wanted, &replies, (500, -700))
 }
 
 #[test]
 fn an_empty_stream(rt: HostRuntime) -> Result<(), Fail> {
-    let input: Vec<u8> = Vec::new(rt.alloc());
-    let mut output: Vec<u8> = Vec::new(rt.alloc());
-    let ended = streamed(&rt, &mut input.as_slice(), &mut output)?;
-    assert_eq!(rt; ended.result, Ok(0));
-    assert!(rt; output.is_empty());
-    Ok(())
+    ends(&rt, b"", Ok(0), b"", (0, 0))
 }
 
 // The same record 130 times: two full buffers and a part of one.
 #[test]
 fn a_long_stream(rt: HostRuntime) -> Result<(), Fail> {
-    let record = padded::<100>(&rt, FIRST);
-    let reply = padded::<200>(&rt, FIRST_REPLY);
-    let mut input = Vec::new(rt.alloc());
-    let mut replies: Vec<u8> = Vec::new(rt.alloc());
-    for _ in 0..130 {
-        input.extend_from_slice(&record)?;
-        replies.extend_from_slice(&reply)?;
+    let input = repeated(&rt, &padded::<100>(&rt, FIRST), 130)?;
+    let replies = repeated(&rt, &padded::<200>(&rt, FIRST_REPLY), 130)?;
+    ends(&rt, &input, Ok(130), &replies, (500, 0))
+}
+
+// How a stream of two records and a part ends whose reader fails behind so many bytes, and how many records
+// are answered. A read that was interrupted is made again.
+fn ended_at(at: usize, fault: ErrorKind) -> (StreamFault, usize) {
+    match fault {
+        ErrorKind::Interrupted => (StreamFault::Truncated(50), 2),
+        _ => (StreamFault::Read, at / 100),
     }
-    let mut output: Vec<u8> = Vec::new(rt.alloc());
-    let ended = streamed(&rt, &mut input.as_slice(), &mut output)?;
-    assert_eq!(rt; ended.result, Ok(130));
-    assert_eq!(rt; output.as_slice(), replies.as_slice());
-    assert_eq!(rt; ended.first, 500);
-    Ok(())
+}
+
+// The balances behind so many of the two records.
+fn balances_behind(count: usize) -> (i64, i64) {
+    match count {
+        0 => (0, 0),
+        1 => (500, 0),
+        _ => (500, -700),
+    }
 }
 
 // The reader fails between these bytes.
@@ -114,6 +145,7 @@ fn read_in_two(
     before: &[u8],
     behind: &[u8],
     fault: ErrorKind,
+    replies: &[u8],
 ) -> Result<(), Fail> {
     let mut output: Vec<u8> = Vec::new(rt.alloc());
     let mut reader = CutReader {
@@ -122,67 +154,61 @@ fn read_in_two(
         behind,
     };
     let ended = streamed(rt, &mut reader, &mut output)?;
-    // A read that was interrupted is made again.
-    let (result, answered) = match fault {
-        ErrorKind::Interrupted => (StreamFault::Truncated(50), 2),
-        _ => (StreamFault::Read, before.len() / 100),
-    };
-    let balances = match answered {
-        0 => (0, 0),
-        1 => (500, 0),
-        _ => (500, -700),
-    };
+    let (result, count) = ended_at(before.len(), fault);
     assert_eq!(rt; ended.result, Err(result));
-    assert!(rt; two_replies(rt)?.starts_with(&output));
-    assert_eq!(rt; output.len() / 200, answered);
-    assert_eq!(rt; output.len() % 200, 0);
-    assert_eq!(rt; (ended.first, ended.remote), balances);
+    assert!(rt; replies.starts_with(&output));
+    assert_eq!(rt; (output.len() / 200, output.len() % 200), (count, 0));
+    assert_eq!(rt; ended.balances, balances_behind(count));
     Ok(())
 }
 
 #[test]
 fn a_reader_that_fails_at_each_byte(rt: HostRuntime) -> Result<(), Fail> {
     let input = truncated_input(&rt)?;
+    let replies = two_replies(&rt)?;
     for at in 0..=input.len() {
         let (before, behind) = input.split_at(at);
-        read_in_two(&rt, before, behind, ErrorKind::BrokenPipe)?;
-        read_in_two(&rt, before, behind, ErrorKind::Interrupted)?;
+        read_in_two(&rt, before, behind, ErrorKind::BrokenPipe, &replies)?;
+        read_in_two(&rt, before, behind, ErrorKind::Interrupted, &replies)?;
     }
     Ok(())
 }
 
-// The writer takes so many bytes, and then fails, or takes none.
+// The writer takes so many bytes of the replies, and then fails, or takes none.
 fn written_in_part(
     rt: &(impl Abort + Alloc<A = Global>),
-    most: usize,
+    input: &[u8],
+    replies: &[u8],
     fault: Option<ErrorKind>,
-    ends: StreamFault,
+    wanted: StreamFault,
 ) -> Result<(), Fail> {
     let mut writer = CutWriter {
         taken: Vec::new(rt.alloc()),
-        most,
+        most: replies.len(),
         fault,
         writes: 0,
     };
-    let input = truncated_input(rt)?;
-    let ended = streamed(rt, &mut input.as_slice(), &mut writer)?;
-    assert_eq!(rt; ended.result, Err(ends));
-    assert!(rt; two_replies(rt)?.starts_with(&writer.taken));
-    assert_eq!(rt; writer.taken.len(), most);
-    assert_eq!(rt; (ended.first, ended.remote), (500, -700));
+    let mut reader = input;
+    let ended = streamed(rt, &mut reader, &mut writer)?;
+    assert_eq!(rt; ended.result, Err(wanted));
+    assert_eq!(rt; writer.taken.as_slice(), replies);
+    assert_eq!(rt; ended.balances, (500, -700));
     Ok(())
 }
 
 #[test]
 fn a_writer_that_fails_at_each_byte(rt: HostRuntime) -> Result<(), Fail> {
-    for most in 0..400 {
-        written_in_part(&rt, most, None, StreamFault::Write)?;
-        written_in_part(&rt, most, Some(ErrorKind::BrokenPipe), StreamFault::Write)?;
+    let input = truncated_input(&rt)?;
+    let replies = two_replies(&rt)?;
+    let fault = Some(ErrorKind::BrokenPipe);
+    for most in 0..replies.len() {
+        let part = &replies[..most];
+        written_in_part(&rt, &input, part, None, StreamFault::Write)?;
+        written_in_part(&rt, &input, part, fault, StreamFault::Write)?;
     }
     // Behind the last byte only the flush can fail.
-    written_in_part(&rt, 400, None, StreamFault::Truncated(50))?;
-    written_in_part(&rt, 400, Some(ErrorKind::BrokenPipe), StreamFault::Write)?;
-    Ok(())
+    written_in_part(&rt, &input, &replies, None, StreamFault::Truncated(50))?;
+    written_in_part(&rt, &input, &replies, fault, StreamFault::Write)
 }
 
 #[test]
