@@ -111,11 +111,23 @@ fn over_banks<S: Alter + Drop>(
     over_lives(rt, &bank, other)
 }
 
+// Over three stores that hold nothing yet.
+fn over_stores<S: Alter + Drop>(
+    rt: &(impl Abort + Alloc<A = Global>),
+    one: Connection<S>,
+    mut two: Connection<S>,
+    three: Connection<S>,
+) -> Result<(), Fail> {
+    over_rows(rt, one)?;
+    over_tables(rt, &mut two)?;
+    over_banks(rt, three, two)
+}
+
 #[test]
 fn programs_of_the_pages(rt: HostRuntime) -> Result<(), Fail> {
     let alloc = rt.alloc();
-    over_rows(&rt, Connection::open_in_memory(alloc)?)?;
-    let mut conn = Connection::open_in_memory(alloc)?;
-    over_tables(&rt, &mut conn)?;
-    over_banks(&rt, Connection::open_in_memory(alloc)?, conn)
+    let one = Connection::open_in_memory(alloc)?;
+    let two = Connection::open_in_memory(alloc)?;
+    let three = Connection::open_in_memory(alloc)?;
+    over_stores(&rt, one, two, three)
 }

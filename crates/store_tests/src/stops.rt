@@ -58,20 +58,37 @@ fn either<'a>(is_first: bool, first: &'a [u8], other: &'a [u8]) -> &'a [u8] {
     if is_first { first } else { other }
 }
 
+// What the files hold as they are, and what is left of it when the machine stops.
+fn left_in(alloc: Global, mut files: Files<Fused>) -> Result<(Image, Image), Fail> {
+    let all = written(alloc, &files)?;
+    crash(&mut files);
+    let synced = written(alloc, &files)?;
+    Ok((all, synced))
+}
+
+// The task is done on files that hold these bytes.
+fn is_done_on(
+    rt: &(impl Abort + Alloc<A = Global>),
+    db: &[u8],
+    log: &[u8],
+    task: Task,
+) -> Result<(), Fail> {
+    let files = Files {
+        db: fused(rt, db, u64::MAX),
+        log: fused(rt, log, u64::MAX),
+    };
+    let ended = run(rt, files, task)?;
+    assert!(rt; ended.is_done, "files that open again");
+    Ok(())
+}
+
 // Each file holds all that was written, or just what was synced.
 fn holds_whatever_is_left(
     rt: &(impl Abort + Alloc<A = Global>),
-    ended: Ended,
-    call: Call,
+    files: Files<Fused>,
+    task: Task,
 ) -> Result<(), Fail> {
-    let Ended {
-        is_begun: _,
-        is_done,
-        mut files,
-    } = ended;
-    let all = written(rt.alloc(), &files)?;
-    crash(&mut files);
-    let synced = written(rt.alloc(), &files)?;
+    let (all, synced) = left_in(rt.alloc(), files)?;
     let is_db_same = all.db.as_slice() == synced.db.as_slice();
     let is_log_same = all.log.as_slice() == synced.log.as_slice();
     for (loses_db, loses_log) in [(false, false), (false, true), (true, false), (true, true)] {
@@ -80,14 +97,29 @@ fn holds_whatever_is_left(
         }
         let db = either(loses_db, &synced.db, &all.db);
         let log = either(loses_log, &synced.log, &all.log);
-        let files = Files {
-            db: fused(rt, db, u64::MAX),
-            log: fused(rt, log, u64::MAX),
-        };
-        let resent = run(rt, files, Task::Resend(call, is_done))?;
-        assert!(rt; resent.is_done, "files that open again");
+        is_done_on(rt, db, log, task)?;
     }
     Ok(())
+}
+
+// Makes the call, and stops the machine behind so many calls on the one file or the other.
+fn stopped_behind(
+    rt: &(impl Abort + Alloc<A = Global>),
+    start: &Image,
+    call: Call,
+    stops_db: bool,
+    calls: u64,
+) -> Result<Ended, Fail> {
+    let (db_calls, log_calls) = if stops_db {
+        (calls, u64::MAX)
+    } else {
+        (u64::MAX, calls)
+    };
+    let files = Files {
+        db: fused(rt, &start.db, db_calls),
+        log: fused(rt, &start.log, log_calls),
+    };
+    run(rt, files, Task::Call(call))
 }
 
 // Stops the machine at each call on the one file or the other, and counts the stops in the bank's call.
@@ -99,24 +131,18 @@ fn stop_at_each(
 ) -> Result<u64, Fail> {
     let mut stops = 0u64;
     for calls in 0..1_000u64 {
-        let (db_calls, log_calls) = if stops_db {
-            (calls, u64::MAX)
-        } else {
-            (u64::MAX, calls)
-        };
-        let files = Files {
-            db: fused(rt, &start.db, db_calls),
-            log: fused(rt, &start.log, log_calls),
-        };
-        let ended = run(rt, files, Task::Call(call))?;
-        if ended.is_done {
-            holds_whatever_is_left(rt, ended, call)?;
+        let Ended {
+            is_begun,
+            is_done,
+            files,
+        } = stopped_behind(rt, start, call, stops_db, calls)?;
+        if is_begun {
+            holds_whatever_is_left(rt, files, Task::Resend(call, is_done))?;
+        }
+        if is_done {
             return Ok(stops);
         }
-        if ended.is_begun {
-            stops = stops.saturating_add(1);
-            holds_whatever_is_left(rt, ended, call)?;
-        }
+        stops = stops.saturating_add(u64::from(is_begun));
     }
     Err("a run that ends".into())
 }

@@ -125,19 +125,50 @@ fn request_of_a_broken_posting<S: Alter>(rt: &impl Abort, bank: &mut Bank<S>) ->
     Ok(())
 }
 
+// Takes up the bank, asks it, and gives the connection back.
+fn walked<S: Alter + Drop>(
+    rt: &(impl Abort + Alloc<A = Global>),
+    conn: Connection<S>,
+) -> Result<Connection<S>, Fail> {
+    let mut bank = bank_of(rt, conn)?;
+    requests_are_given(rt, &mut bank)?;
+    postings_are_given(rt, &mut bank)?;
+    Ok(bank.release())
+}
+
+// The same where a request is beside the posting that can't be read.
+fn walked_to_the_broken<S: Alter + Drop>(
+    rt: &(impl Abort + Alloc<A = Global>),
+    mut conn: Connection<S>,
+) -> Result<Connection<S>, Fail> {
+    put(&mut conn, REQUEST, BROKEN)?;
+    let mut bank = bank_of(rt, conn)?;
+    request_of_a_broken_posting(rt, &mut bank)?;
+    Ok(bank.release())
+}
+
+// The same where that posting is gone.
+fn walked_to_the_last<S: Alter + Drop>(
+    rt: &(impl Abort + Alloc<A = Global>),
+    mut conn: Connection<S>,
+) -> Result<(), Fail> {
+    put(&mut conn, "DELETE FROM history WHERE ordinal = ?1", BROKEN)?;
+    let mut bank = bank_of(rt, conn)?;
+    last_posting_is_alone(rt, &mut bank)
+}
+
+fn beside_one_another<S: Alter + Drop>(
+    rt: &(impl Abort + Alloc<A = Global>),
+    conn: Connection<S>,
+) -> Result<(), Fail> {
+    let mut conn = made(rt, conn)?;
+    fill(&mut conn)?;
+    let conn = walked(rt, conn)?;
+    let conn = walked_to_the_broken(rt, conn)?;
+    walked_to_the_last(rt, conn)
+}
+
 #[test]
 fn rows_beside_one_another(rt: HostRuntime) -> Result<(), Fail> {
-    let mut conn = made(&rt, Connection::open_in_memory(rt.alloc())?)?;
-    fill(&mut conn)?;
-    let mut bank = bank_of(&rt, conn)?;
-    requests_are_given(&rt, &mut bank)?;
-    postings_are_given(&rt, &mut bank)?;
-    let mut conn = bank.release();
-    put(&mut conn, REQUEST, BROKEN)?;
-    let mut bank = bank_of(&rt, conn)?;
-    request_of_a_broken_posting(&rt, &mut bank)?;
-    let mut conn = bank.release();
-    put(&mut conn, "DELETE FROM history WHERE ordinal = ?1", BROKEN)?;
-    let mut bank = bank_of(&rt, conn)?;
-    last_posting_is_alone(&rt, &mut bank)
+    beside_one_another(&rt, Connection::open_in_memory(rt.alloc())?)
 }
