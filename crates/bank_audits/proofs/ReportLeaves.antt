@@ -151,10 +151,3 @@ untouched_stands old new D E untouched quiet up clean is_open log at = record {
   up = λ down. at.up (up down);
   survives = quiet_leaves old new D quiet clean log at.survives;
 }
-
--- where the connection sees what it saw, a call of no commands took them all
-pub still_takes : (old new : State) (D E : Type 0) → (HasCleanDisk new → IsStill old new)
-    → Survives old new (λ _. ⊥) → (E → D) → Takes (seen_in old D) (seen_in new E) []
-still_takes old new D E still quiet up =
-    takes_then old old new D D E (record { shows = λ clean log s. s; stands = λ clean log at. at })
-    still quiet up

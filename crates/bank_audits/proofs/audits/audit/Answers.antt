@@ -17,7 +17,7 @@ use Rattle.bank_audits.specs.Files.{rows_in}
 use Rattle.bank_audits.proofs.LogFiles.{balanced, has_file, has_ordinals, not_damaged, tells_in_file}
 use Rattle.bank_audits.proofs.OncePosted.{posted_once}
 use Rattle.bank_audits.proofs.Read.{one_file}
-use Rattle.bank_audits.proofs.ReportLeaves.{clean_before, not_ok, quiet_leaves, still_takes}
+use Rattle.bank_audits.proofs.ReportLeaves.{clean_before, not_ok, quiet_leaves}
 use Rattle.bank_audits.proofs.ReportLeaves.{untouched_stands}
 use Rattle.bank_audits.proofs.audits.audit.Given.{Over}
 use Rattle.bank_audits.proofs.audits.audit.Goals as goal
@@ -175,9 +175,3 @@ returns-clause-stands g c clean is_open log at =
 pub returns-clause-honest : goal.returns-clause-honest
 returns-clause-honest g c = clean_before (state g.S.Store c.args.bank.now.conn)
     (state g.S.Store c.add_all.new.bank.conn) c.in_ok-add_all.ensures.passed.survives
-
-pub returns-clause-done : goal.returns-clause-done
-returns-clause-done g c =
-    still_takes (state g.S.Store c.args.bank.now.conn) (state g.S.Store c.add_all.new.bank.conn) _ _
-    c.in_ok-add_all.ensures.passed.still c.in_ok-add_all.ensures.passed.survives
-    (subst (λ fault. IsSome fault) c.in_ok-add_all.ensures.up)
