@@ -85,35 +85,39 @@ fn open<C: Counter>(
     bank.open_branch(branch, count)
 }
 
+fn post_one<C: Counter>(rt: &impl Abort, bank: &mut C) -> Result<(), Fault> {
+    let moment = Moment::new(1000).expect(rt, "moment");
+    let reply = bank.submit(moment, &padded(RECORD))?;
+    assert_eq!(rt; reply, padded::<200>(REPLY));
+    Ok(())
+}
+
+fn post_three<C: Counter>(rt: &impl Abort, bank: &mut C) -> Result<(), Fault> {
+    let moment = Moment::new(1000).expect(rt, "moment");
+    let records = [
+        padded::<100>(RECORDS[0]),
+        padded::<100>(RECORDS[1]),
+        padded::<100>(RECORDS[2]),
+    ];
+    let replies = bank.submit_all(moment, &records)?;
+    assert_eq!(rt; replies.len(), REPLIES.len());
+    for (reply, text) in replies.iter().zip(REPLIES) {
+        assert_eq!(rt; *reply, padded::<200>(text));
+    }
+    Ok(())
+}
+
 // Makes the call. The answer is the one that it is to have.
 fn make<C: Counter>(rt: &impl Abort, bank: &mut C, call: Call) -> Result<(), Fault> {
     match call {
-        Call::Post => {
-            let moment = Moment::new(1000).expect(rt, "moment");
-            let reply = bank.submit(moment, &padded(RECORD))?;
-            assert_eq!(rt; reply, padded::<200>(REPLY));
-        }
-        Call::Batch => {
-            let moment = Moment::new(1000).expect(rt, "moment");
-            let replies = bank.submit_all(
-                moment,
-                &[
-                    padded::<100>(RECORDS[0]),
-                    padded::<100>(RECORDS[1]),
-                    padded::<100>(RECORDS[2]),
-                ],
-            )?;
-            assert_eq!(rt; replies.len(), REPLIES.len());
-            for (reply, text) in replies.iter().zip(REPLIES) {
-                assert_eq!(rt; *reply, padded::<200>(text));
-            }
-        }
+        Call::Post => post_one(rt, bank),
+        Call::Batch => post_three(rt, bank),
         Call::OpenBranch => {
             let opening = open(rt, bank, 3, 2)?;
             assert!(rt; opening != Opening::Differs);
+            Ok(())
         }
     }
-    Ok(())
 }
 
 /// Takes up the bank.

@@ -1,6 +1,8 @@
 //! Walks over rows that stand beside one another in two tables, across the border of what is read ahead.
 use crate::sql::put;
-use bank_store::{Bank, Refused, adopt, create, each_history, each_request};
+use bank_store::{
+    Bank, Joined, Refused, StoredPosting, StoredRequest, adopt, create, each_history, each_request,
+};
 use posting_core::{Fault, Rule};
 use sqlite::{Alter, Connection};
 use std::alloc::{Alloc, Global};
@@ -59,6 +61,27 @@ fn fill<S: Alter>(conn: &mut Connection<S>) -> Result<(), Fail> {
     Ok(())
 }
 
+// The row is the request of this ordinal, with its own posting where it was posted.
+fn is_request(rt: &impl Abort, row: Option<Joined<StoredRequest, StoredPosting>>, ordinal: u8) {
+    let row = row.expect(rt, "a request");
+    let stored = row.stored;
+    let beside = row.beside;
+    assert_eq!(rt; stored.ordinal.get(), u64::from(ordinal));
+    assert_eq!(rt; beside.is_some(), is_posted(i64::from(ordinal)));
+    if let Some(posting) = beside {
+        assert_eq!(rt; posting.ordinal.get(), u64::from(ordinal));
+    }
+}
+
+// The row is the posting of this ordinal, with its request.
+fn is_posting(rt: &impl Abort, row: Option<Joined<StoredPosting, StoredRequest>>, ordinal: u8) {
+    let row = row.expect(rt, "a posting");
+    let stored = row.stored;
+    let request = row.beside.expect(rt, "its request");
+    assert_eq!(rt; stored.ordinal.get(), u64::from(ordinal));
+    assert_eq!(rt; request.ordinal.get(), u64::from(ordinal));
+}
+
 // Each request is given once, with its own posting.
 fn requests_are_given<S: Alter>(rt: &impl Abort, bank: &mut Bank<S>) -> Result<(), Fail> {
     let mut walk = each_request(bank)?;
@@ -66,14 +89,7 @@ fn requests_are_given<S: Alter>(rt: &impl Abort, bank: &mut Bank<S>) -> Result<(
         if i64::from(ordinal) == BROKEN {
             continue;
         }
-        let row = walk.next()?.expect(rt, "a request");
-        let stored = row.stored;
-        let beside = row.beside;
-        assert_eq!(rt; stored.ordinal.get(), u64::from(ordinal));
-        assert_eq!(rt; beside.is_some(), is_posted(i64::from(ordinal)));
-        if let Some(posting) = beside {
-            assert_eq!(rt; posting.ordinal.get(), u64::from(ordinal));
-        }
+        is_request(rt, walk.next()?, ordinal);
     }
     assert_eq!(rt; walk.next()?, None);
     assert_eq!(rt; walk.next()?, None);
@@ -85,12 +101,7 @@ fn postings_are_given<S: Alter>(rt: &impl Abort, bank: &mut Bank<S>) -> Result<(
     let mut walk = each_history(bank)?;
     for ordinal in 1..90u8 {
         if is_posted(i64::from(ordinal)) {
-            let row = walk.next()?.expect(rt, "a posting");
-            let stored = row.stored;
-            let beside = row.beside;
-            assert_eq!(rt; stored.ordinal.get(), u64::from(ordinal));
-            let request = beside.expect(rt, "its request");
-            assert_eq!(rt; request.ordinal.get(), u64::from(ordinal));
+            is_posting(rt, walk.next()?, ordinal);
         }
     }
     assert_eq!(rt; walk.next(), Err(Fault::Damaged(Rule::Value)));
