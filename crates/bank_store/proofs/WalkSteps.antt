@@ -1,7 +1,8 @@
 -- What a step of a walk gives, of what was read ahead.
 use Rattle.std.proofs.Common.{◌≡◌, ◌≤◌, ◌≤ℤ◌, ◌+ℤ◌, ◌+◌, pos, subst, ℕ, ℤ, zero, suc, List, [], ◌∷◌, ◌++◌}
-use Rattle.std.proofs.Common.{map, drop, length, slice_get, Some, None, Option, refl, sym, ap, ◌∙◌, arith}
+use Rattle.std.proofs.Common.{map, drop, length, slice_get, Some, None, Option, Result, Ok, Err, refl, sym, ap, ◌∙◌, arith}
 use Rattle.posting_rules.specs.declared.fault.Fault.{Fault}
+use Rattle.posting_rules.specs.declared.fault.Fault.TheVariants as fault
 use Rattle.sqlite.specs.declared.error.Error.{Error}
 use Rattle.store_rows.specs.declared.fault.TableFault.{TableFault}
 use Rattle.store_rows.specs.declared.fault.TableFault.TheVariants.{Sqlite, Damaged}
@@ -10,9 +11,9 @@ use Rattle.bank_walks.specs.Rising.{RisesFrom}
 use Rattle.bank_walks.proofs.Rises.{from_lower}
 use Rattle.bank_walks.specs.Rows.{items_behind, items_from}
 use Rattle.bank_store.specs.Walks.{TellsFault}
-use Rattle.bank_store.specs.Walking.{IsToldFault, coming}
+use Rattle.bank_store.specs.Walking.{IsToldFault, Steps, coming}
 use Rattle.bank_store.specs.declared.walks.Stage.{Stage}
-use Rattle.bank_store.specs.declared.walks.Stage.TheVariants.{Going}
+use Rattle.bank_store.specs.declared.walks.Stage.TheVariants.{Going, Ended, Failed}
 
 -- what is told of a fault is the walk's fault
 pub told_of : {X : Type 0} (Because : Error → Type 0) (Breaks : X → Type 0) (items : List X) (f : TableFault)
@@ -20,6 +21,52 @@ pub told_of : {X : Type 0} (Because : Error → Type 0) (Breaks : X → Type 0) 
     → BreaksFirst Because Breaks items f → IsToldFault Because Breaks items fault
 told_of Because Breaks items (Sqlite e) fault tells broke = rw tells (e, broke)
 told_of Because Breaks items (Damaged broken) fault tells broke = rw tells broke
+
+-- the fault that is told is a step's
+pub faulty_step : {R X : Type 0} (item : R → X) (Because : Error → Type 0) (Breaks : X → Type 0)
+    (old new : List X) (f : Fault) → IsToldFault Because Breaks old f → Steps item Breaks old new (Err f)
+faulty_step item Because Breaks old new (fault.Damaged broken) is = is
+faulty_step item Because Breaks old new fault.Store is = tt
+faulty_step item Because Breaks old new fault.Down is = absurd is
+faulty_step item Because Breaks old new fault.Memory is = is
+
+-- where the store is told of, it failed
+pub store_told : {X : Type 0} (Because : Error → Type 0) (Breaks : X → Type 0) (items : List X) (f : Fault)
+    → IsToldFault Because Breaks items f → f ≡ fault.Store → (e : Error) × Because e
+store_told Because Breaks items f is same = subst (IsToldFault Because Breaks items) same is
+
+-- a walk on its way has not ended, nor failed
+pub not_ended : (stage : Stage) → stage ≡ Going → stage ≡ Ended → ⊥
+not_ended stage going ended = let it = sym going ∙ ended in cc
+
+pub not_failed : (stage : Stage) → stage ≡ Going → stage ≡ Failed → ⊥
+not_failed stage going failed = let it = sym going ∙ failed in cc
+
+-- one that has failed has not ended
+pub failed_not_ended : (stage : Stage) → stage ≡ Failed → stage ≡ Ended → ⊥
+failed_not_ended stage failed ended = let it = sym failed ∙ ended in cc
+
+-- a value is no fault, and what is given is not nothing
+pub ok_no_err : {A : Type 0} (a : A) (f : Fault) → Ok a ≡ Err f → ⊥
+ok_no_err a f is = cc
+
+pub some_not_none : {A : Type 0} (a : A) (r : Result (Option A) Fault) → r ≡ Ok (Some a) → r ≡ Ok None → ⊥
+some_not_none a r some none = let it = sym some ∙ none in cc
+
+pub err_not_ok : {A : Type 0} (r : Result A Fault) (f : Fault) (a : A) → r ≡ Err f → r ≡ Ok a → ⊥
+err_not_ok r f a fault is = let it = sym fault ∙ is in cc
+
+pub same_fault : {A : Type 0} (r : Result A Fault) (f other : Fault) → r ≡ Err f → r ≡ Err other → f ≡ other
+same_fault r f other is that = let it = sym is ∙ that in cc
+
+-- behind the last row none is to come
+pub none_behind_end : {X : Type 0} (stage : Stage) → stage ≡ Ended → (items : List X) → coming stage items ≡ []
+none_behind_end stage is items = ap (λ s. coming s items) is
+
+-- a list of no length holds nothing
+pub nothing_read : {R : Type 0} (rs : List R) → length rs ≤ 0 → rs ≡ []
+nothing_read [] low = refl
+nothing_read (r ∷ rs) low = absurd (omega arith)
 
 drop_all : {X : Type 0} (n : ℕ) (xs : List X) → length xs ≤ n → drop n xs ≡ []
 drop_all zero [] low = refl

@@ -1,31 +1,144 @@
 -- What a step gives.
-use Rattle.std.proofs.Common.{filter, refl, sym, ◌∙◌}
+use Rattle.std.proofs.Common.{◌≡◌, None, Err, filter, refl, sym, rules, ◌∙◌}
 use Rattle.bank_walks.specs.Rows.{items_behind}
-use Rattle.bank_store.proofs.WalkSteps.{gives_next, none_to_come, rises_next}
+use Rattle.bank_store.proofs.WalkSteps.{err_not_ok, failed_not_ended, faulty_step, gives_next}
+use Rattle.bank_store.proofs.WalkSteps.{none_behind_end, none_to_come, not_ended, not_failed, ok_no_err}
+use Rattle.bank_store.proofs.WalkSteps.{rises_next, same_fault, some_not_none, store_told}
 use Rattle.bank_store.proofs.walks.Walk.next.Goals as goal
 
-pub returns-in-Some-clause-told : goal.returns-in-Some-clause-told
-returns-in-Some-clause-told g c clean rows has =
-    let w = c.refill.new.self in
-    let given = filter (g.R.WalkedRow.is_given w.of) rows in
-    sym (c.in_ok-refill.ensures.told clean rows has)
-    ∙ gives_next g.R.WalkedRow.key g.R.WalkedRow.item w.stage c.in_ok-refill.ensures.going w.rows.items
-    w.given (items_behind g.R.WalkedRow.key w.rest given) c.in-Some.row
-    (sym c.ahead-next.ensures.value ∙ c.in-Some.is)
+pub returns-in-Failed : goal.returns-in-Failed
+returns-in-Failed g c = record {
+  same_reference = refl;
+  told = λ clean rows has. refl;
+  store = λ clean rows has no. absurd (let it = no in cc);
+  rises = λ k before. tt;
+  same = λ clean. tt;
+  undone = search rules;
+  up = refl;
+  survives = search rules;
+  ended = λ no. absurd (err_not_ok _ _ None refl no);
+  again = λ ended. absurd (failed_not_ended c.args.self.now.stage c.in-Failed.is ended);
+  failed = c.in-Failed.is;
+  going = tt;
+  frugal = λ no. absurd (let it = no in cc);
+  down = ((λ was. refl), (λ is. (c.in-Failed.is, refl)));
+}
 
-pub returns-in-None-clause-told : goal.returns-in-None-clause-told
-returns-in-None-clause-told g c clean rows has =
-    let w = c.refill.new.self in
-    let given = filter (g.R.WalkedRow.is_given w.of) rows in (
-      sym (c.in_ok-refill.ensures.told clean rows has)
-          ∙ none_to_come g.R.WalkedRow.key g.R.WalkedRow.item w.stage c.in_ok-refill.ensures.going
-          w.rows.items w.given w.rest given
-          (sym c.ahead-next.ensures.value ∙ c.in-None.is) c.in_ok-refill.ensures.rest,
-      refl,
-    )
+pub returns-in-Ended : goal.returns-in-Ended
+returns-in-Ended g c = record {
+  same_reference = refl;
+  told =
+      λ clean rows has.
+      let none = none_behind_end c.args.self.now.stage c.in-Ended.is _ in
+      (none, none);
+  store = λ clean rows has no. absurd (ok_no_err _ _ no);
+  rises = λ k before. tt;
+  same = λ clean. (refl, refl, refl, refl);
+  undone = search rules;
+  up = refl;
+  survives = search rules;
+  ended = λ is. c.in-Ended.is;
+  again = λ ended. (refl, refl);
+  failed = tt;
+  going = λ failed. absurd (failed_not_ended c.args.self.now.stage failed c.in-Ended.is);
+  frugal = λ no. absurd (ok_no_err _ _ no);
+  down = (
+    (λ was. absurd (failed_not_ended c.args.self.now.stage was c.in-Ended.is)),
+    (λ no. absurd (ok_no_err _ _ no)),
+  );
+}
 
-pub returns-in-Some-clause-rises : goal.returns-in-Some-clause-rises
-returns-in-Some-clause-rises g c k before =
+pub returns-in_err-refill : goal.returns-in_err-refill
+returns-in_err-refill g c =
+    let fault = c.in_err-refill.field-0.0 in
+    let same : c.from_residual.result ≡ Err fault = search rules in
+    let says = c.in_err-refill.ensures in
+    record {
+      same_reference = c.refill.ensures.same_reference;
+      told =
+          λ clean rows has.
+          rw same
+          (faulty_step g.R.WalkedRow.item _ g.R.WalkedRow.is_broken _ _ fault (says.told clean rows has));
+      store =
+          λ clean rows has is.
+          store_told _ g.R.WalkedRow.is_broken _ fault (says.told clean rows has)
+          (same_fault _ fault _ same is);
+      rises = λ k before. rw same tt;
+      same = λ clean. rw same tt;
+      undone = c.refill.ensures.undone;
+      up = c.refill.ensures.up;
+      survives = c.refill.ensures.survives;
+      ended = λ no. absurd (err_not_ok _ fault None same no);
+      again = λ ended. absurd (not_ended c.args.self.now.stage c.in-Going.is ended);
+      failed = rw same says.failed.0;
+      going = rw same tt;
+      frugal = λ no. says.failed.2 (same_fault _ fault _ same no);
+      down = (
+        (λ was. absurd (not_failed c.args.self.now.stage c.in-Going.is was)),
+        (λ no. absurd (says.failed.1 (same_fault _ fault _ same no))),
+      );
+    }
+
+pub returns-in-Some : goal.returns-in-Some
+returns-in-Some g c =
     let w = c.refill.new.self in
-    rises_next (λ r. g.R.WalkedRow.key (g.R.WalkedRow.item r)) k w.rows.items w.given w.rest c.in-Some.row
-    (sym c.ahead-next.ensures.value ∙ c.in-Some.is) (c.in_ok-refill.ensures.rises k before)
+    let says = c.in_ok-refill.ensures in
+    let given = filter (g.R.WalkedRow.is_given w.of) in
+    let row = sym c.ahead-next.ensures.value ∙ c.in-Some.is in
+    record {
+      same_reference = c.refill.ensures.same_reference;
+      told =
+          λ clean rows has.
+          sym (says.told clean rows has)
+          ∙ gives_next g.R.WalkedRow.key g.R.WalkedRow.item w.stage says.going w.rows.items w.given
+          (items_behind g.R.WalkedRow.key w.rest (given rows)) c.in-Some.row row;
+      store = λ clean rows has no. absurd (ok_no_err _ _ no);
+      rises =
+          λ k before.
+          rises_next (λ r. g.R.WalkedRow.key (g.R.WalkedRow.item r)) k w.rows.items w.given w.rest
+          c.in-Some.row row (says.rises k before);
+      same = says.same;
+      undone = c.refill.ensures.undone;
+      up = c.refill.ensures.up;
+      survives = c.refill.ensures.survives;
+      ended = λ no. absurd (some_not_none c.in-Some.row _ refl no);
+      again = λ ended. absurd (not_ended c.args.self.now.stage c.in-Going.is ended);
+      failed = tt;
+      going = λ failed. absurd (not_failed w.stage says.going failed);
+      frugal = λ no. absurd (ok_no_err _ _ no);
+      down = (
+        (λ was. absurd (not_failed c.args.self.now.stage c.in-Going.is was)),
+        (λ no. absurd (ok_no_err _ _ no)),
+      );
+    }
+
+pub returns-in-None : goal.returns-in-None
+returns-in-None g c =
+    let w = c.refill.new.self in
+    let says = c.in_ok-refill.ensures in
+    let given = filter (g.R.WalkedRow.is_given w.of) in
+    record {
+      same_reference = c.refill.ensures.same_reference;
+      told =
+          λ clean rows has. (
+            sym (says.told clean rows has)
+                ∙ none_to_come g.R.WalkedRow.key g.R.WalkedRow.item w.stage says.going w.rows.items w.given
+                w.rest (given rows) (sym c.ahead-next.ensures.value ∙ c.in-None.is) says.rest,
+            refl,
+          );
+      store = λ clean rows has no. absurd (ok_no_err _ _ no);
+      rises = λ k before. tt;
+      same = says.same;
+      undone = c.refill.ensures.undone;
+      up = c.refill.ensures.up;
+      survives = c.refill.ensures.survives;
+      ended = λ is. refl;
+      again = λ ended. absurd (not_ended c.args.self.now.stage c.in-Going.is ended);
+      failed = tt;
+      going = λ failed. absurd (let it = failed in cc);
+      frugal = λ no. absurd (ok_no_err _ _ no);
+      down = (
+        (λ was. absurd (not_failed c.args.self.now.stage c.in-Going.is was)),
+        (λ no. absurd (ok_no_err _ _ no)),
+      );
+    }
