@@ -1,72 +1,20 @@
-//! Banks that are served.
-use crate::texts::two_postings;
-use counter_http::{ServeFault, Served, serve_connection};
-use failing_ends::CutWriter;
+//! The bank that is served.
 use message_records::{Account, Branch, Cents, Moment};
-use posting_core::{BranchLine, Counter, Fault, Opening, PlainBank, StoredClock};
-use std::alloc::{Alloc, Global};
-use std::io::{Read, Write};
-use std::process::Abort;
-use std::test::Fail;
+use posting_core::{BranchLine, Counter, Fault, Opening, PlainBank};
 
-/// Branch 1 with three accounts and branch 2 with two.
-pub fn fresh(rt: &impl Alloc<A = Global>) -> Result<PlainBank, Fail> {
-    let mut bank = PlainBank::new(rt.alloc());
-    bank.open_branch(Branch::new(1).ok_or("branch")?, 3)?;
-    bank.open_branch(Branch::new(2).ok_or("branch")?, 2)?;
-    Ok(bank)
+/// Opens branch 1 with three accounts and branch 2 with two.
+pub fn open_branches<C: Counter>(bank: &mut C) -> Option<Opening> {
+    bank.open_branch(Branch::new(1)?, 3).ok()?;
+    bank.open_branch(Branch::new(2)?, 2).ok()
 }
 
-/// Serves one connection, by a clock at the moment 0.
-pub fn served<R: Read, W: Write, C: Counter>(
-    rt: &impl Alloc<A = Global>,
-    reader: &mut R,
-    writer: &mut W,
-    bank: &mut C,
-) -> Result<Served, ServeFault> {
-    let mut clock = StoredClock::new(Vec::new(rt.alloc()));
-    serve_connection(rt.alloc(), reader, writer, &mut clock, bank)
+/// The balances of account 1 and of account 100001 in cents.
+pub fn balances<C: Counter>(bank: &mut C) -> Option<(i64, i64)> {
+    Some((balance_of(bank, 1)?, balance_of(bank, 100_001)?))
 }
 
-/// Serves one connection of a new bank: how many messages it answers, and what it writes.
-pub fn answered(
-    rt: &(impl Abort + Alloc<A = Global>),
-    input: &[u8],
-    count: Served,
-    answers: &[u8],
-) -> Result<(), Fail> {
-    let mut output: Vec<u8> = Vec::new(rt.alloc());
-    let mut bank = fresh(rt)?;
-    let mut reader = input;
-    assert_eq!(rt; served(rt, &mut reader, &mut output, &mut bank), Ok(count));
-    assert_eq!(rt; output.as_slice(), answers);
-    Ok(())
-}
-
-/// A bank that two messages posted to.
-pub fn posted_to(rt: &(impl Abort + Alloc<A = Global>)) -> Result<PlainBank, Fail> {
-    let mut bank = fresh(rt)?;
-    let postings = two_postings(rt)?;
-    let mut writer = cut_after(rt, 1000);
-    let result = served(rt, &mut postings.as_slice(), &mut writer, &mut bank);
-    assert_eq!(rt; result, Ok(2));
-    Ok(bank)
-}
-
-/// Takes so many bytes, and then no more.
-pub fn cut_after(rt: &impl Alloc<A = Global>, most: usize) -> CutWriter {
-    CutWriter {
-        taken: Vec::new(rt.alloc()),
-        most,
-        fault: None,
-        writes: 0,
-    }
-}
-
-/// The balance of an account in cents.
-pub fn balance_of<C: Counter>(bank: &mut C, account: u64) -> Result<i64, Fail> {
-    let balance = bank.balance(Account::new(account).ok_or("account")?)?;
-    Ok(balance.ok_or("closed")?.get())
+fn balance_of<C: Counter>(bank: &mut C, account: u64) -> Option<i64> {
+    Some(bank.balance(Account::new(account)?).ok()??.get())
 }
 
 /// A bank that has memory for so many calls, and then for none.

@@ -5,6 +5,8 @@
 #[cfg(test)]
 mod bank;
 #[cfg(test)]
+mod connection;
+#[cfg(test)]
 mod failing;
 #[cfg(test)]
 mod first_message;

@@ -1,80 +1,86 @@
 //! What is no message, and the greatest message.
-use crate::bank::answered;
-use crate::texts::{BAD, BAD_HEAD, behind, filled, joined};
-use std::alloc::{Alloc, Global};
+use crate::connection::{Connection, play};
+use crate::texts::{BAD, BAD_HEAD};
+use std::alloc::{Alloc, AllocError, Global};
 use std::process::Abort;
-use std::test::Fail;
 
 // The input has one answer, and behind it the connection ends.
-fn refused(rt: &(impl Abort + Alloc<A = Global>), input: &[u8], answer: &[u8]) -> Result<(), Fail> {
-    answered(rt, input, 1, answer)
+fn refused<'a>(rt: &(impl Abort + Alloc<A = Global>), input: &'a [u8], answer: &'a [u8]) {
+    play(rt, &[Connection::new(input, 1, [answer, b""], (0, 0))]);
 }
 
+// An input and its answer.
+const CASES: &[(&[u8], &[u8])] = &[
+    (b"\0", BAD),
+    (b"GET /branches HTTP/1.1\r\n", BAD),
+    (b"GET /\xff HTTP/1.1\r\n\r\n", BAD),
+    (b"POST /post HTTP/1.1\r\nContent-Length: 4097\r\n\r\n", BAD),
+    (b"POST /post HTTP/1.1\r\nContent-Length: +100\r\n\r\n", BAD),
+    (b"POST /post HTTP/1.1\r\nContent-Length:\r\n\r\n", BAD),
+    (
+        b"POST /post HTTP/1.1\r\nContent-Length: 0\r\ncontent-length: 0\r\n\r\n",
+        BAD,
+    ),
+    (
+        b"POST /post HTTP/1.1\r\nTransfer-Encoding: chunked\r\n\r\n0\r\n\r\n",
+        BAD,
+    ),
+    (b"POST /post HTTP/1.1\r\nContent-Length: 4\r\n\r\nbod", BAD),
+    (
+        b"HEAD /branches HTTP/1.1\r\nContent-Length: 4\r\n\r\nbod",
+        BAD_HEAD,
+    ),
+    (
+        b"HEAD /branches HTTP/1.1\r\nContent-Length: many\r\n\r\nGET / HTTP/1.1\r\n\r\n",
+        BAD_HEAD,
+    ),
+];
+
 #[test]
-fn what_is_no_message(rt: HostRuntime) -> Result<(), Fail> {
-    let cases: [(&[u8], &[u8]); 11] = [
-        (b"\0", BAD),
-        (b"GET /branches HTTP/1.1\r\n", BAD),
-        (b"GET /\xff HTTP/1.1\r\n\r\n", BAD),
-        (b"POST /post HTTP/1.1\r\nContent-Length: 4097\r\n\r\n", BAD),
-        (b"POST /post HTTP/1.1\r\nContent-Length: +100\r\n\r\n", BAD),
-        (b"POST /post HTTP/1.1\r\nContent-Length:\r\n\r\n", BAD),
-        (
-            b"POST /post HTTP/1.1\r\nContent-Length: 0\r\ncontent-length: 0\r\n\r\n",
-            BAD,
-        ),
-        (
-            b"POST /post HTTP/1.1\r\nTransfer-Encoding: chunked\r\n\r\n0\r\n\r\n",
-            BAD,
-        ),
-        (b"POST /post HTTP/1.1\r\nContent-Length: 4\r\n\r\nbod", BAD),
-        (
-            b"HEAD /branches HTTP/1.1\r\nContent-Length: 4\r\n\r\nbod",
-            BAD_HEAD,
-        ),
-        (
-            b"HEAD /branches HTTP/1.1\r\nContent-Length: many\r\n\r\nGET / HTTP/1.1\r\n\r\n",
-            BAD_HEAD,
-        ),
-    ];
-    for (input, answer) in cases {
-        refused(&rt, input, answer)?;
+fn what_is_no_message(rt: HostRuntime) {
+    for &(input, answer) in CASES {
+        refused(&rt, input, answer);
     }
-    Ok(())
 }
 
 // A head of so many fields, of which the last is filled up to so many bytes for all of it.
-fn head_of(rt: &impl Alloc<A = Global>, fields: usize, bytes: usize) -> Result<Vec<u8>, Fail> {
-    let mut head = joined(rt, &[b"HEAD / HTTP/1.1\r\n"])?;
+fn write_head(head: &mut Vec<u8>, fields: usize, bytes: usize) -> Result<(), AllocError> {
+    head.extend_from_slice(b"HEAD / HTTP/1.1\r\n")?;
     for _ in 1..fields {
         head.extend_from_slice(b"a:b\r\n")?;
     }
-    let rest = filled(rt, b'd', bytes.saturating_sub(head.len()).saturating_sub(6))?;
-    joined(rt, &[&head, b"c:", &rest, b"\r\n\r\n"])
+    head.extend_from_slice(b"c:")?;
+    head.resize(bytes.saturating_sub(4), b'd')?;
+    head.extend_from_slice(b"\r\n\r\n")
 }
 
 #[test]
-fn the_greatest_head(rt: HostRuntime) -> Result<(), Fail> {
+fn the_greatest_head(rt: HostRuntime) {
+    let mut head = Vec::new(rt.alloc());
     let found: &[u8] =
         b"HTTP/1.1 404 Not Found\r\nContent-Type: text/plain\r\nContent-Length: 14\r\n\r\n";
     for (fields, bytes, answer) in [(32, 8192, found), (32, 8193, BAD), (33, 8192, BAD)] {
-        let head = head_of(&rt, fields, bytes)?;
+        head.clear();
+        assert!(rt; write_head(&mut head, fields, bytes).is_ok());
         assert_eq!(rt; head.len(), bytes);
-        refused(&rt, &head, answer)?;
+        refused(&rt, &head, answer);
     }
-    Ok(())
+}
+
+// A head of 8192 bytes and a body of 4096.
+fn write_message(message: &mut Vec<u8>) -> Result<(), AllocError> {
+    message.extend_from_slice(b"HEAD / HTTP/1.1\r\nContent-Length: 4096\r\nc:")?;
+    message.resize(8188, b'd')?;
+    message.extend_from_slice(b"\r\n\r\n")?;
+    message.resize(12288, b'e')
 }
 
 #[test]
-fn the_greatest_message(rt: HostRuntime) -> Result<(), Fail> {
-    let first: &[u8] = b"HEAD / HTTP/1.1\r\nContent-Length: 4096\r\nc:";
-    let rest = filled(&rt, b'd', 8188usize.saturating_sub(first.len()))?;
-    let body = filled(&rt, b'e', 4096)?;
-    let field = behind(&rt, first, &rest)?;
-    let head = behind(&rt, &field, b"\r\n\r\n")?;
-    let input = behind(&rt, &head, &body)?;
-    assert_eq!(rt; input.len(), 12288);
+fn the_greatest_message(rt: HostRuntime) {
+    let mut message = Vec::new(rt.alloc());
+    assert!(rt; write_message(&mut message).is_ok());
+    assert_eq!(rt; message.len(), 12288);
     let found: &[u8] =
         b"HTTP/1.1 404 Not Found\r\nContent-Type: text/plain\r\nContent-Length: 14\r\n\r\n";
-    refused(&rt, &input, found)
+    refused(&rt, &message, found);
 }

@@ -2,86 +2,29 @@
 use std::alloc::{Alloc, Global};
 use std::test::Fail;
 
-/// The texts, one behind another.
-pub fn joined(rt: &impl Alloc<A = Global>, texts: &[&[u8]]) -> Result<Vec<u8>, Fail> {
-    let mut all = Vec::new(rt.alloc());
-    for text in texts {
-        all.extend_from_slice(text)?;
-    }
-    Ok(all)
-}
+/// Two equal messages, each with the same record: five hundred cents to account 1 by teller 1 under the
+/// number 1.
+pub const FIRST_TWICE: &[u8] = b"POST /post HTTP/1.1\r\nContent-Length: 100\r\n\r\n\
+    DC01000000000001000000010000010000000001+0000000500                                                 \
+    POST /post HTTP/1.1\r\nContent-Length: 100\r\n\r\n\
+    DC01000000000001000000010000010000000001+0000000500                                                 ";
 
-/// The one text behind the other.
-pub fn behind<'a>(
-    rt: &impl Alloc<A = Global>,
-    first: &'a [u8],
-    second: &'a [u8],
-) -> Result<Vec<u8>, Fail> {
-    joined(rt, &[first, second])
-}
+/// One of them, and one with another record: seven hundred cents from account 100001 by the same teller under
+/// the number 2.
+pub const FIRST_AND_REMOTE: &[u8] = b"POST /post HTTP/1.1\r\nContent-Length: 100\r\n\r\n\
+    DC01000000000001000000010000010000000001+0000000500                                                 \
+    POST /post HTTP/1.1\r\nContent-Length: 100\r\n\r\n\
+    DC01000000100001000000010000010000000002-0000000700                                                 ";
 
-/// So many times the same byte.
-pub fn filled(rt: &impl Alloc<A = Global>, byte: u8, count: usize) -> Result<Vec<u8>, Fail> {
-    let mut bytes = Vec::new(rt.alloc());
-    bytes.resize(count, byte)?;
-    Ok(bytes)
-}
+/// The answer to the first record.
+pub const FIRST_ANSWER: &[u8] =
+    b"HTTP/1.1 200 OK\r\nContent-Type: application/octet-stream\r\nContent-Length: 200\r\n\r\n\
+    DR0100000000000001000000010000010000000001+0000000500+000000000500POSTED                                                                                                                                ";
 
-/// A message with a record of 51 bytes and 49 spaces behind them.
-pub fn posting(rt: &impl Alloc<A = Global>, record: &[u8]) -> Result<Vec<u8>, Fail> {
-    let spaces = filled(rt, b' ', 49)?;
-    joined(
-        rt,
-        &[
-            b"POST /post HTTP/1.1\r\nContent-Length: 100\r\n\r\n",
-            record,
-            &spaces,
-        ],
-    )
-}
-
-/// The answer to a posting, with a reply of 66 bytes, a name, and spaces up to 200.
-pub fn posted(rt: &impl Alloc<A = Global>, reply: &[u8], name: &[u8]) -> Result<Vec<u8>, Fail> {
-    let spaces = filled(rt, b' ', 134usize.saturating_sub(name.len()))?;
-    joined(
-        rt,
-        &[
-            b"HTTP/1.1 200 OK\r\nContent-Type: application/octet-stream\r\nContent-Length: 200\r\n\r\n",
-            reply,
-            name,
-            &spaces,
-        ],
-    )
-}
-
-/// Two postings.
-pub fn two_postings(rt: &impl Alloc<A = Global>) -> Result<Vec<u8>, Fail> {
-    joined(rt, &[&posting(rt, FIRST)?, &posting(rt, REMOTE)?])
-}
-
-/// Their answers.
-pub fn two_answers(rt: &impl Alloc<A = Global>) -> Result<Vec<u8>, Fail> {
-    joined(
-        rt,
-        &[
-            &posted(rt, FIRST_REPLY, b"POSTED")?,
-            &posted(rt, REMOTE_REPLY, b"POSTED")?,
-        ],
-    )
-}
-
-/// Five hundred cents to account 1 by teller 1 under the number 1.
-pub const FIRST: &[u8] = b"DC01000000000001000000010000010000000001+0000000500";
-
-/// The reply to it, up to the outcome's name.
-pub const FIRST_REPLY: &[u8] =
-    b"DR0100000000000001000000010000010000000001+0000000500+000000000500";
-
-/// Seven hundred cents from account 100001, by the same teller under the number 2.
-pub const REMOTE: &[u8] = b"DC01000000100001000000010000010000000002-0000000700";
-
-/// The reply to it, up to the outcome's name.
-const REMOTE_REPLY: &[u8] = b"DR0100000000100001000000010000010000000002-0000000700-000000000700";
+/// The answer to the second.
+pub const REMOTE_ANSWER: &[u8] =
+    b"HTTP/1.1 200 OK\r\nContent-Type: application/octet-stream\r\nContent-Length: 200\r\n\r\n\
+    DR0100000000100001000000010000010000000002-0000000700-000000000700POSTED                                                                                                                                ";
 
 /// The answer to what is no message.
 pub const BAD: &[u8] =
@@ -92,3 +35,12 @@ pub const BAD: &[u8] =
 pub const BAD_HEAD: &[u8] =
     b"HTTP/1.1 400 Bad Request\r\nContent-Type: text/plain\r\nContent-Length: 16\r\n\
     Connection: close\r\n\r\n";
+
+/// The texts, one behind another.
+pub fn joined(rt: &impl Alloc<A = Global>, texts: &[&[u8]]) -> Result<Vec<u8>, Fail> {
+    let mut all = Vec::new(rt.alloc());
+    for text in texts {
+        all.extend_from_slice(text)?;
+    }
+    Ok(all)
+}

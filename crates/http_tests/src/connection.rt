@@ -1,0 +1,96 @@
+//! Connections that are served, and what comes of them.
+use crate::bank::{FullBank, balances, open_branches};
+use counter_http::{ServeFault, Served, serve_connection};
+use failing_ends::{CutReader, CutWriter};
+use posting_core::{Counter, PlainBank, StoredClock};
+use std::alloc::{Alloc, Global};
+use std::io::ErrorKind;
+use std::process::Abort;
+
+/// What is read and how its ends fail, and what comes of it.
+#[derive(Clone, Copy)]
+pub struct Connection<'a> {
+    /// What is read before the reader fails once, if it does.
+    pub before: &'a [u8],
+    pub read_fault: Option<ErrorKind>,
+    /// What is read then.
+    pub behind: &'a [u8],
+    /// The writer takes so many bytes, and then fails, or takes none.
+    pub most: usize,
+    pub write_fault: Option<ErrorKind>,
+    /// The bank has memory for so many calls.
+    pub calls: u64,
+    pub ended: Result<Served, ServeFault>,
+    /// What is written: one answer behind another.
+    pub answers: [&'a [u8]; 2],
+    /// Of account 1 and of account 100001.
+    pub balances: (i64, i64),
+}
+
+impl<'a> Connection<'a> {
+    /// One that ends well.
+    pub fn new(
+        input: &'a [u8],
+        count: Served,
+        answers: [&'a [u8]; 2],
+        balances: (i64, i64),
+    ) -> Connection<'a> {
+        Connection {
+            before: input,
+            read_fault: None,
+            behind: b"",
+            most: 1000,
+            write_fault: None,
+            calls: u64::MAX,
+            ended: Ok(count),
+            answers,
+            balances,
+        }
+    }
+}
+
+/// Serves connections, one after another, on a new bank.
+pub fn play(rt: &(impl Abort + Alloc<A = Global>), connections: &[Connection]) {
+    let mut bank = FullBank {
+        bank: PlainBank::new(rt.alloc()),
+        left: 0,
+    };
+    play_on(rt, connections, &mut bank);
+}
+
+fn play_on(rt: &(impl Abort + Alloc<A = Global>), connections: &[Connection], bank: &mut FullBank) {
+    assert!(rt; open_branches(&mut bank.bank).is_some());
+    for connection in connections {
+        bank.left = connection.calls;
+        serve(rt, connection, bank);
+        assert_eq!(rt; balances(&mut bank.bank), Some(connection.balances));
+    }
+}
+
+// Serves one of them, by a clock at the moment 0.
+fn serve<C: Counter>(rt: &(impl Abort + Alloc<A = Global>), connection: &Connection, bank: &mut C) {
+    let mut reader = CutReader {
+        before: connection.before,
+        fault: connection.read_fault,
+        behind: connection.behind,
+    };
+    let mut writer = CutWriter {
+        taken: Vec::new(rt.alloc()),
+        most: connection.most,
+        fault: connection.write_fault,
+        writes: 0,
+    };
+    let mut clock = StoredClock::new(Vec::new(rt.alloc()));
+    let ended = serve_connection(rt.alloc(), &mut reader, &mut writer, &mut clock, bank);
+    assert_eq!(rt; ended, connection.ended);
+    compare(rt, connection, &writer);
+}
+
+// The writer took the answers, and each in one write where the connection ended well.
+fn compare(rt: &impl Abort, connection: &Connection, writer: &CutWriter) {
+    let [first, second] = connection.answers;
+    assert_eq!(rt; writer.taken.strip_prefix(first), Some(second));
+    if let Ok(count) = connection.ended {
+        assert_eq!(rt; u128::from(writer.writes), count);
+    }
+}
