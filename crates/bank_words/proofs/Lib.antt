@@ -3,7 +3,6 @@ pub mod Walked
 pub mod Levels
 pub mod Shapes
 pub mod Stopped
-mod Adding
 pub mod Complete
 pub mod Help
 pub mod Getters

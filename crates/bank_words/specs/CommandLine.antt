@@ -1,6 +1,8 @@
 -- The program's command line as clap's specification sees it: which commands there are, and what each takes.
-use Rattle.std.specs.Prelude.{ℕ, List, [], ◌∷◌, Some, true, codes, fold}
-use Rattle.clap.specs.Words.{App, Rule, Text, new_app, new_rule, with_rule, with_subcommand}
+use Rattle.std.specs.Prelude.{◌≡◌, ℕ, List, [], ◌∷◌, Some, true, false, codes, fold}
+use Rattle.clap.specs.Words.{App, Rule, Text, app_of, new_app, new_rule, with_rule, with_subcommand}
+use Rattle.clap.specs.declared.builder.command.Command.{Command}
+use Rattle.clap.specs.declared.builder.command.Command.TheViews.{out-Command as fields_of}
 use Rattle.clap.specs.declared.builder.value_parser.ValueParser.TheVariants.{Unsigned}
 use Rattle.bank_driver.specs.declared.drive.TheConstants.{MAX_DRIVEN}
 use Rattle.bank_words.specs.declared.limits.TheConstants.{MAX_CONNECTIONS}
@@ -46,6 +48,11 @@ count_rule = number_rule (codes "count") 1 MAX_DRIVEN
 -- `--connections N`, how many connections are served
 abbrev pub connections_rule : Rule
 connections_rule = number_rule (codes "connections") 1 MAX_CONNECTIONS
+
+-- the command is this app, and has no argument that holds below it too
+pub record IsApp (wanted : App) (command : Command) : Type 0 where
+  pub app : app_of command ≡ wanted
+  pub local : (fields_of command).has_globals ≡ false
 
 -- `init FILE`
 abbrev pub init_app : App

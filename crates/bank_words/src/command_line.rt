@@ -1,10 +1,9 @@
 //! The program's command line as `clap` gets it: seven commands, their arguments, and the texts of help.
-ghost use Rattle.std.specs.Prelude.{◌≡◌, [], ◌∷◌, IfOk, false};
-ghost use Rattle.clap.specs.Words.{app_of, new_app, rule_of, with_rule};
-ghost use Rattle.clap.specs.declared.builder.command.Command.TheViews.{out-Command as fields_of};
-ghost use Rattle.bank_words.specs.CommandLine.{audit_app, bank_alone, bank_app, drive_app, file_rule};
+ghost use Rattle.std.specs.Prelude.{◌≡◌, IfOk, false};
+ghost use Rattle.clap.specs.Words.{App, Rule, app_of, new_app, rule_of, with_rule, with_subcommand};
+ghost use Rattle.bank_words.specs.CommandLine.{IsApp, audit_app, bank_alone, bank_app, drive_app, file_rule};
 ghost use Rattle.bank_words.specs.CommandLine.{init_app, load_app, number_rule, post_app, required_rule};
-ghost use Rattle.bank_words.specs.CommandLine.{serve_app, statement_app, with_commands};
+ghost use Rattle.bank_words.specs.CommandLine.{serve_app, statement_app};
 
 use crate::limits::MAX_CONNECTIONS;
 use crate::texts;
@@ -18,22 +17,25 @@ use std::alloc::{AllocError, Global};
 pub fn bank_command<'a>(alloc: Global) -> Result<Command<'a>, AllocError>
     ensures { IfOk result (λ bank. app_of bank ≡ bank_app) }
 {
-    bank_up_to_drive(alloc)?
-        .subcommand(audit_command(alloc)?)?
-        .subcommand(statement_command(alloc)?)?
-        .subcommand(serve_command(alloc)?)
+    let bank = with_command(Ok(bank_alone(alloc)), init_command(alloc));
+    let bank = with_command(bank, load_command(alloc));
+    let bank = with_command(bank, post_command(alloc));
+    let bank = with_command(bank, drive_command(alloc));
+    let bank = with_command(bank, audit_command(alloc));
+    let bank = with_command(bank, statement_command(alloc));
+    with_command(bank, serve_command(alloc))
 }
 
-// The command line with its commands up to `drive`: two chains take less to prove than one.
-fn bank_up_to_drive<'a>(alloc: Global) -> Result<Command<'a>, AllocError>
-    ensures { IfOk result (λ bank. app_of bank ≡
-        with_commands bank_alone (init_app ∷ load_app ∷ post_app ∷ drive_app ∷ [])) }
+// The command line with one more command, where both could be made. No caller has to let go of one where
+// the other fails, which keeps their proofs short.
+fn with_command<'a>(
+    bank: Result<Command<'a>, AllocError>,
+    command: Result<Command<'a>, AllocError>,
+) -> Result<Command<'a>, AllocError>
+    ensures { (before app : App) → IfOk bank.entry (λ bank. app_of bank ≡ before)
+        → IfOk command.entry (IsApp app) → IfOk result (λ built. app_of built ≡ with_subcommand before app.top) }
 {
-    bank_alone(alloc)
-        .subcommand(init_command(alloc)?)?
-        .subcommand(load_command(alloc)?)?
-        .subcommand(post_command(alloc)?)?
-        .subcommand(drive_command(alloc)?)
+    bank?.subcommand(command?)
 }
 
 // The command line with no command yet.
@@ -50,98 +52,138 @@ fn bank_alone<'a>(alloc: Global) -> Command<'a>
         .arg_required_else_help(true)
 }
 
-// A command of this name with its two texts, which takes FILE first.
+// A command of this name with its three texts, which takes FILE first.
 fn command_on_file<'a>(
     alloc: Global,
     name: &'a str,
     about: &'a str,
     at_length: &'a str,
+    details: &'a str,
 ) -> Result<Command<'a>, AllocError>
-    ensures app { IfOk result (λ command. app_of command ≡ with_rule (new_app name.now) file_rule) }
-    ensures local { IfOk result (λ command. (fields_of command).has_globals ≡ false) }
+    ensures { IfOk result (IsApp (with_rule (new_app name.now) file_rule)) }
 {
     Command::new(alloc, name)
         .about(about)
         .long_about(at_length)
+        .after_long_help(details)
         .arg(required_argument(alloc, "file", "FILE", texts::FILE))
 }
 
-fn init_command<'a>(alloc: Global) -> Result<Command<'a>, AllocError>
-    ensures app { IfOk result (λ init. app_of init ≡ init_app) }
-    ensures local { IfOk result (λ init. (fields_of init).has_globals ≡ false) }
+// The command with one more argument, where it could be made.
+fn with_argument<'a>(
+    command: Result<Command<'a>, AllocError>,
+    argument: Arg<'a>,
+) -> Result<Command<'a>, AllocError>
+    requires { argument.global ≡ false }
+    ensures { (app : App) (rule : Rule) → IfOk command.entry (IsApp app) → rule_of argument.entry ≡ rule
+        → IfOk result (IsApp (with_rule app rule)) }
 {
-    Ok(command_on_file(alloc, "init", texts::INIT, texts::INIT_AT_LENGTH)?.after_help(
-        texts::INIT_EXAMPLE,
-    ))
+    command?.arg(argument)
+}
+
+fn init_command<'a>(alloc: Global) -> Result<Command<'a>, AllocError>
+    ensures { IfOk result (IsApp init_app) }
+{
+    let example = texts::INIT_EXAMPLE;
+    let init = command_on_file(alloc, "init", texts::INIT, texts::INIT_AT_LENGTH, example)?;
+    Ok(init.after_help(example))
 }
 
 fn load_command<'a>(alloc: Global) -> Result<Command<'a>, AllocError>
-    ensures app { IfOk result (λ load. app_of load ≡ load_app) }
-    ensures local { IfOk result (λ load. (fields_of load).has_globals ≡ false) }
+    ensures { IfOk result (IsApp load_app) }
 {
-    command_on_file(alloc, "load", texts::LOAD, texts::LOAD_AT_LENGTH)?
-        .after_long_help(texts::LOAD_DETAILS)
-        .arg(required_argument(alloc, "plan", "CSV", texts::PLAN))
+    let details = texts::LOAD_DETAILS;
+    let load = command_on_file(alloc, "load", texts::LOAD, texts::LOAD_AT_LENGTH, details);
+    with_argument(load, required_argument(alloc, "plan", "CSV", texts::PLAN))
 }
 
 fn post_command<'a>(alloc: Global) -> Result<Command<'a>, AllocError>
-    ensures app { IfOk result (λ post. app_of post ≡ post_app) }
-    ensures local { IfOk result (λ post. (fields_of post).has_globals ≡ false) }
+    ensures { IfOk result (IsApp post_app) }
 {
-    Ok(command_on_file(alloc, "post", texts::POST, texts::POST_AT_LENGTH)?.after_long_help(
+    command_on_file(
+        alloc,
+        "post",
+        texts::POST,
+        texts::POST_AT_LENGTH,
         texts::POST_DETAILS,
-    ))
+    )
 }
 
 fn drive_command<'a>(alloc: Global) -> Result<Command<'a>, AllocError>
-    ensures app { IfOk result (λ drive. app_of drive ≡ drive_app) }
-    ensures local { IfOk result (λ drive. (fields_of drive).has_globals ≡ false) }
+    ensures { IfOk result (IsApp drive_app) }
 {
-    command_on_file(alloc, "drive", texts::DRIVE, texts::DRIVE_AT_LENGTH)?
-        .after_long_help(texts::DRIVE_DETAILS)
-        .arg(number_option(alloc, "seed", "S", 0, u64::MAX, texts::SEED))?
-        .arg(number_option(alloc, "count", "N", 1, MAX_DRIVEN, texts::COUNT))
+    let details = texts::DRIVE_DETAILS;
+    let drive = command_on_file(
+        alloc,
+        "drive",
+        texts::DRIVE,
+        texts::DRIVE_AT_LENGTH,
+        details,
+    );
+    let drive = with_argument(
+        drive,
+        number_option(alloc, "seed", "S", 0, u64::MAX, texts::SEED),
+    );
+    with_argument(
+        drive,
+        number_option(alloc, "count", "N", 1, MAX_DRIVEN, texts::COUNT),
+    )
 }
 
 fn audit_command<'a>(alloc: Global) -> Result<Command<'a>, AllocError>
-    ensures app { IfOk result (λ audit. app_of audit ≡ audit_app) }
-    ensures local { IfOk result (λ audit. (fields_of audit).has_globals ≡ false) }
+    ensures { IfOk result (IsApp audit_app) }
 {
-    Ok(command_on_file(alloc, "audit", texts::AUDIT, texts::AUDIT_AT_LENGTH)?.after_long_help(
+    command_on_file(
+        alloc,
+        "audit",
+        texts::AUDIT,
+        texts::AUDIT_AT_LENGTH,
         texts::AUDIT_DETAILS,
-    ))
+    )
 }
 
 fn statement_command<'a>(alloc: Global) -> Result<Command<'a>, AllocError>
-    ensures app { IfOk result (λ statement. app_of statement ≡ statement_app) }
-    ensures local { IfOk result (λ statement. (fields_of statement).has_globals ≡ false) }
+    ensures { IfOk result (IsApp statement_app) }
 {
+    let example = texts::STATEMENT_EXAMPLE;
     let account = required_argument(alloc, "account", "ACCOUNT", texts::ACCOUNT);
     command_on_file(
         alloc,
         "statement",
         texts::STATEMENT,
         texts::STATEMENT_AT_LENGTH,
+        example,
     )?
-    .after_help(texts::STATEMENT_EXAMPLE)
+    .after_help(example)
     .arg(account.value_parser(ValueParser::unsigned(1, MAX_ACCOUNT)))
 }
 
 fn serve_command<'a>(alloc: Global) -> Result<Command<'a>, AllocError>
-    ensures app { IfOk result (λ serve. app_of serve ≡ serve_app) }
-    ensures local { IfOk result (λ serve. (fields_of serve).has_globals ≡ false) }
+    ensures { IfOk result (IsApp serve_app) }
 {
-    command_on_file(alloc, "serve", texts::SERVE, texts::SERVE_AT_LENGTH)?
-        .after_long_help(texts::SERVE_DETAILS)
-        .arg(required_argument(alloc, "address", "ADDR", texts::ADDRESS))?
-        .arg(number_option(
+    let details = texts::SERVE_DETAILS;
+    let serve = command_on_file(
+        alloc,
+        "serve",
+        texts::SERVE,
+        texts::SERVE_AT_LENGTH,
+        details,
+    );
+    let serve = with_argument(
+        serve,
+        required_argument(alloc, "address", "ADDR", texts::ADDRESS),
+    );
+    with_argument(
+        serve,
+        number_option(
             alloc,
             "connections",
             "N",
             1,
             MAX_CONNECTIONS,
             texts::CONNECTIONS,
-        ))
+        ),
+    )
 }
 
 // A required positional argument, which takes one value.

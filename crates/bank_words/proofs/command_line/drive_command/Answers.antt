@@ -1,5 +1,7 @@
-use Rattle.std.proofs.Common.{rules}
+use Rattle.bank_words.specs.CommandLine.{count_rule, seed_rule}
 use Rattle.bank_words.proofs.command_line.drive_command.Goals as goal
 
-pub returns-clause-app : goal.returns-clause-app
-returns-clause-app c = search rules
+pub returns : goal.returns
+returns c =
+    let seed = c.with_argument-drive.ensures _ seed_rule c.command_on_file-drive.ensures c.number_option.ensures.rule in
+    c.with_argument.ensures _ count_rule seed c.number_option-2.ensures.rule
