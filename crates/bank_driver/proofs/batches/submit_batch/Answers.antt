@@ -2,6 +2,7 @@ use Rattle.std.proofs.Common.{◌≡◌, ◌≤◌, length, refl, ap, ◌∙◌,
 use Rattle.std.specs.Prelude.{count_by}
 use Rattle.std.proofs.lemmas.List.{length-map}
 use Rattle.std.proofs.lemmas.List.Sums.{count_by-le-length}
+use Rattle.std.proofs.lemmas.Result.{err_from_is_err_and}
 use Rattle.posting_rules.specs.Runs.{posts}
 use Rattle.bank_driver.specs.Counted.{is_posted}
 use Rattle.bank_driver.proofs.Counted.{counted}
@@ -25,3 +26,8 @@ returns-clause-answers g c =
             ∙ counted log (posts moment records);
       },
     )
+
+pub returns-in_err-replies-clause-answers : goal.returns-in_err-replies-clause-answers
+returns-in_err-replies-clause-answers g c =
+    let p = err_from_is_err_and c.from_residual.result c.from_residual.ensures.1 in
+    rw (p.1, p.2) (c.now-moment.result, c.now-moment.ensures, c.in_err-replies.ensures.fault)

@@ -1,9 +1,44 @@
-use Rattle.std.proofs.Common.{◌∙◌, sym, rules}
+use Rattle.std.proofs.Common.{◌≡◌, ◌<◌, ◌∙◌, arith, length, take, sym, rules}
+use Rattle.std.proofs.KnownBytes.{Keeps-refl}
+use Rattle.std.proofs.lemmas.List.{length-take-le}
+use Rattle.posting_rules.specs.Counter.{Seen, IsUnchanged}
 use Rattle.posting_core.proofs.Transferred.{read_whole, wrote_all, wrote_some}
 use Rattle.posting_core.proofs.once.answer_once.Goals as goal
 
+same : (seen : Seen) → IsUnchanged seen seen
+same seen = record { tables = λ t there. there; down = λ down. down; left = λ r left. (r, left, λ t found. found) }
+
 pub returns-in-Ok-clause-ok : goal.returns-in-Ok-clause-ok
 returns-in-Ok-clause-ok g c = search rules
+
+pub returns-in-Ok-clause-fault : goal.returns-in-Ok-clause-fault
+returns-in-Ok-clause-fault g c =
+    let n = c.in-Ok.field-0 in
+    let bytes = c.read_full.new.buffer in
+    let few : n < length bytes = omega
+    (arith, c.read_full.auto.buffer, c.in-Ok.ensures.within, c.in-Ok.field-0-test.1) in
+    record {
+      bytes = take n bytes;
+      few = omega (arith, few, c.read_full.auto.buffer, length-take-le n bytes c.in-Ok.ensures.within);
+      read = c.in-Ok.ensures.bytes;
+      ended = c.in-Ok.ensures.end few;
+      written = Keeps-refl _;
+      unchanged = same _;
+    }
+
+pub returns-in-Err-clause-fault : goal.returns-in-Err-clause-fault
+returns-in-Err-clause-fault g c = record { written = Keeps-refl _; unchanged = same _ }
+
+pub returns-in-Err-submit-clause-fault : goal.returns-in-Err-submit-clause-fault
+returns-in-Err-submit-clause-fault g c =
+    let long : length c.read_full.new.buffer ≡ 100 = omega (arith, c.read_full.auto.buffer) in
+    record {
+      bytes = c.read_full.new.buffer;
+      whole = long;
+      read = read_whole _ _ _ _ (c.in-Ok-eq100.field-0-test ∙ sym long) c.in-Ok-eq100.ensures.bytes;
+      written = Keeps-refl _;
+      refuses = c.in-Err-submit.ensures.fault;
+    }
 
 pub returns-in-Ok-write_out-clause-ok : goal.returns-in-Ok-write_out-clause-ok
 returns-in-Ok-write_out-clause-ok g c =

@@ -1,5 +1,6 @@
-use Rattle.std.proofs.Common.{◌∙◌, ℕ, ap, sym, take, rules}
+use Rattle.std.proofs.Common.{◌∙◌, ℕ, ap, refl, sym, take}
 use Rattle.std.proofs.Math.Seq.{take-length}
+use Rattle.std.proofs.KnownBytes.{Keeps-refl}
 use Rattle.std.proofs.lemmas.List.{length-take-le}
 use Rattle.posting_rules.specs.Runs.{posts, replies_to}
 use Rattle.posting_core.specs.Batches.{joined}
@@ -25,10 +26,17 @@ pub returns-in-Ok-write_out-clause-flushed : goal.returns-in-Ok-write_out-clause
 returns-in-Ok-write_out-clause-flushed g c = c.in-Ok-write_out.ensures.flushed
 
 pub returns-in-Err-clause-answers : goal.returns-in-Err-clause-answers
-returns-in-Err-clause-answers g c = search rules
+returns-in-Err-clause-answers g c = (
+  c.now-moment.result,
+  c.now-moment.ensures,
+  record { wrote = Keeps-refl _; refuses = c.in-Err.ensures.fault },
+)
 
 pub returns-in-Err-clause-unasked : goal.returns-in-Err-clause-unasked
-returns-in-Err-clause-unasked g c = search rules
+returns-in-Err-clause-unasked g c = λ _. refl
+
+pub returns-in-Err-clause-down : goal.returns-in-Err-clause-down
+returns-in-Err-clause-down g c = λ down. let e = c.in-Err.ensures.down down in cc e
 
 pub returns-clause-answers : goal.returns-clause-answers
 returns-clause-answers g c =
