@@ -62,15 +62,6 @@ error_is {A} {E} e f same = ap error_in same
     error_in (Ok x) = f
     error_in (Err x) = x
 
--- the bank's fault in a report's
-pub bank_fault : (e f : Fault) → Bank e ≡ Bank f → e ≡ f
-bank_fault e f same = ap fault_in same
-  where
-    fault_in : ReportFault → Fault
-    fault_in NoAccount = f
-    fault_in Write = f
-    fault_in (Bank x) = x
-
 module _ (all : List Entry) (old : Option (List ℕ)) where
   -- the text of one more
   text_more : (given : List StoredPosting) (r : StoredPosting)
@@ -180,3 +171,14 @@ module _ (all : List Entry) (old : Option (List ℕ)) where
     walk_err after Store told = store_err
     walk_err after Down told = down_err
     walk_err after (Damaged rule) told = value_err rule told
+
+    -- the end of the walk ended it
+    pub walk_end : coming ≡ [] → WritesPostings all old new (Ok tt)
+    walk_end none = record { given = far.given; rest = coming; are = far.are; why = none; wrote = far.wrote }
+
+-- what ended a line is what ended the lines
+pub line_is : (row : StoredPosting) (before : ℤ) (old new : Option (List ℕ))
+    (r : Result (Unit {0}) ReportFault) (e f : ReportFault) → r ≡ Err e → r ≡ Err f
+    → WritesLine row before old new (Err e) → WritesLine row before old new (Err f)
+line_is row before old new r e f one other wrote =
+    subst (λ fault. WritesLine row before old new (Err fault)) (error_is e f (sym one ∙ other)) wrote

@@ -40,6 +40,19 @@ pub same_fault : (r : Result (Unit {0}) ReportFault) (e f : Fault) → r ≡ Err
     → e ≡ f
 same_fault r e f one other = cc
 
+-- a row's damage, or a bank that is down, is no fault of the store
+pub damaged_not_down : (r : Result (Unit {0}) ReportFault) (rule : Rule) → r ≡ Err (Bank (Damaged rule))
+    → r ≡ Err (Bank Down) → ⊥
+damaged_not_down r rule is down = cc
+
+pub damaged_not_store : (r : Result (Unit {0}) ReportFault) (rule : Rule) → r ≡ Err (Bank (Damaged rule))
+    → r ≡ Err (Bank Store) → ⊥
+damaged_not_store r rule is store = cc
+
+pub down_not_store : (r : Result (Unit {0}) ReportFault) (e : Fault) → r ≡ Err (Bank e) → e ≡ Down
+    → r ≡ Err (Bank Store) → ⊥
+down_not_store r e is down store = cc
+
 pub not_ok : {A E : Type 0} (r : Result A E) (x : A) (e : E) → r ≡ Ok x → r ≡ Err e → ⊥
 not_ok r x e answer error = cc
 

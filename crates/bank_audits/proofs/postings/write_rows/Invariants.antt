@@ -1,5 +1,5 @@
 -- The lines of the postings that the walk gave were written.
-use Rattle.std.proofs.Common.{◌≡◌, List, Some, filter}
+use Rattle.std.proofs.Common.{◌≡◌, List}
 use Rattle.sqlite.specs.State.{HasCleanDisk, Survives}
 use Rattle.sqlite.specs.Held.{state}
 use Rattle.posting_core.specs.Told.{HasMore}
@@ -10,20 +10,20 @@ use Rattle.bank_walks.specs.Stored.{is_of, posting_entry}
 use Rattle.bank_store.specs.Walks.{IsStill}
 use Rattle.bank_store.specs.Walking.{HasToldFault, to_come}
 use Rattle.bank_audits.proofs.Further.{IsFar}
-use Rattle.bank_audits.proofs.postings.write_postings.Given as goal
+use Rattle.bank_audits.proofs.postings.write_rows.Given as goal
 
 abbrev pub invariant-lines : goal.invariant-lines
 invariant-lines g l =
-    let old = state g.S.Store l.fn.bank.conn in
+    let old = state g.S.Store l.fn.walk.bank.now.conn in
     let now = state g.S.Store l.walk.bank.now.conn in
     record {
-      reference : l.walk.bank.ghost_name ≡ l.initial.walk.bank.ghost_name;
+      reference : l.walk.bank.ghost_name ≡ l.fn.walk.bank.ghost_name;
       survives : Survives old now (λ _. ⊥);
-      up : l.walk.bank.now.fault ≡ l.fn.bank.fault;
+      up : l.walk.bank.now.fault ≡ l.fn.walk.bank.now.fault;
       fresh : HasToldFault l.walk → ⊥;
       still : HasCleanDisk now → IsStill old now;
       more : HasMore (g.W.Sink.told l.fn.writer) (g.W.Sink.told l.writer);
       far : HasCleanDisk now → (rows : List Entry) → HasStoredRows old.now history_table rows
-          → IsFar (filter (is_of (Some l.fn.account)) rows) (to_come posting_entry is_of rows l.walk)
+          → IsFar (to_come posting_entry is_of rows l.fn.walk) (to_come posting_entry is_of rows l.walk)
           (g.W.Sink.contents l.fn.writer) (g.W.Sink.contents l.writer) l.balance l.counter;
     }
