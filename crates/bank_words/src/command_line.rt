@@ -84,17 +84,28 @@ fn with_argument<'a>(
 fn init_command<'a>(alloc: Global) -> Result<Command<'a>, AllocError>
     ensures { IfOk result (IsApp init_app) }
 {
-    let example = texts::INIT_EXAMPLE;
-    let init = command_on_file(alloc, "init", texts::INIT, texts::INIT_AT_LENGTH, example)?;
-    Ok(init.after_help(example))
+    let init = command_on_file(
+        alloc,
+        "init",
+        texts::INIT,
+        texts::INIT_AT_LENGTH,
+        texts::INIT_EXAMPLE,
+    )?;
+    Ok(init.after_help(texts::INIT_EXAMPLE))
 }
 
 fn load_command<'a>(alloc: Global) -> Result<Command<'a>, AllocError>
     ensures { IfOk result (IsApp load_app) }
 {
-    let details = texts::LOAD_DETAILS;
-    let load = command_on_file(alloc, "load", texts::LOAD, texts::LOAD_AT_LENGTH, details);
-    with_argument(load, required_argument(alloc, "plan", "CSV", texts::PLAN))
+    let load = command_on_file(
+        alloc,
+        "load",
+        texts::LOAD,
+        texts::LOAD_AT_LENGTH,
+        texts::LOAD_DETAILS,
+    );
+    let plan = required_argument(alloc, "plan", "CSV", texts::PLAN);
+    with_argument(load, plan)
 }
 
 fn post_command<'a>(alloc: Global) -> Result<Command<'a>, AllocError>
@@ -112,22 +123,16 @@ fn post_command<'a>(alloc: Global) -> Result<Command<'a>, AllocError>
 fn drive_command<'a>(alloc: Global) -> Result<Command<'a>, AllocError>
     ensures { IfOk result (IsApp drive_app) }
 {
-    let details = texts::DRIVE_DETAILS;
     let drive = command_on_file(
         alloc,
         "drive",
         texts::DRIVE,
         texts::DRIVE_AT_LENGTH,
-        details,
+        texts::DRIVE_DETAILS,
     );
-    let drive = with_argument(
-        drive,
-        number_option(alloc, "seed", "S", 0, u64::MAX, texts::SEED),
-    );
-    with_argument(
-        drive,
-        number_option(alloc, "count", "N", 1, MAX_DRIVEN, texts::COUNT),
-    )
+    let seed = number_option(alloc, "seed", "S", 0, u64::MAX, texts::SEED);
+    let count = number_option(alloc, "count", "N", 1, MAX_DRIVEN, texts::COUNT);
+    with_argument(with_argument(drive, seed), count)
 }
 
 fn audit_command<'a>(alloc: Global) -> Result<Command<'a>, AllocError>
@@ -145,45 +150,39 @@ fn audit_command<'a>(alloc: Global) -> Result<Command<'a>, AllocError>
 fn statement_command<'a>(alloc: Global) -> Result<Command<'a>, AllocError>
     ensures { IfOk result (IsApp statement_app) }
 {
-    let example = texts::STATEMENT_EXAMPLE;
-    let account = required_argument(alloc, "account", "ACCOUNT", texts::ACCOUNT);
-    command_on_file(
+    let statement = command_on_file(
         alloc,
         "statement",
         texts::STATEMENT,
         texts::STATEMENT_AT_LENGTH,
-        example,
-    )?
-    .after_help(example)
-    .arg(account.value_parser(ValueParser::unsigned(1, MAX_ACCOUNT)))
+        texts::STATEMENT_EXAMPLE,
+    )?;
+    let account = required_argument(alloc, "account", "ACCOUNT", texts::ACCOUNT).value_parser(
+        ValueParser::unsigned(1, MAX_ACCOUNT),
+    );
+    statement.after_help(texts::STATEMENT_EXAMPLE).arg(account)
 }
 
 fn serve_command<'a>(alloc: Global) -> Result<Command<'a>, AllocError>
     ensures { IfOk result (IsApp serve_app) }
 {
-    let details = texts::SERVE_DETAILS;
     let serve = command_on_file(
         alloc,
         "serve",
         texts::SERVE,
         texts::SERVE_AT_LENGTH,
-        details,
+        texts::SERVE_DETAILS,
     );
-    let serve = with_argument(
-        serve,
-        required_argument(alloc, "address", "ADDR", texts::ADDRESS),
+    let address = required_argument(alloc, "address", "ADDR", texts::ADDRESS);
+    let connections = number_option(
+        alloc,
+        "connections",
+        "N",
+        1,
+        MAX_CONNECTIONS,
+        texts::CONNECTIONS,
     );
-    with_argument(
-        serve,
-        number_option(
-            alloc,
-            "connections",
-            "N",
-            1,
-            MAX_CONNECTIONS,
-            texts::CONNECTIONS,
-        ),
-    )
+    with_argument(with_argument(serve, address), connections)
 }
 
 // A required positional argument, which takes one value.
