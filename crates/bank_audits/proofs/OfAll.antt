@@ -1,5 +1,5 @@
 -- What is told of the rows that are to come of a bank that was lent is told of all rows of the bank.
-use Rattle.std.proofs.Common.{ℕ, ℤ, Bool, Option, None, List, map, Result, Ok, Err, sym, subst, ◌∙◌}
+use Rattle.std.proofs.Common.{ℕ, ℤ, Bool, Option, None, List, map, Result, Ok, sym, subst, ◌∙◌}
 use Rattle.std.specs.Borrow.{GName}
 use Rattle.std.specs.Prelude.{◌≡◌, IfErr, IfOk}
 use Rattle.std.proofs.lemmas.Result.{IfOk-weaker}
@@ -7,7 +7,6 @@ use Rattle.sqlite.specs.Effect.{Database}
 use Rattle.sqlite.specs.Held.{Held}
 use Rattle.sqlite_trees.specs.declared.store.Store.{Ghosts}
 use Rattle.posting_rules.specs.declared.fault.Fault.{Fault}
-use Rattle.posting_rules.specs.declared.fault.Fault.TheVariants.{Down, Memory}
 use Rattle.bank_reports.specs.Beside.{AuditRows}
 use Rattle.bank_store.specs.Seen.{connection_of, database_of}
 use Rattle.bank_store.specs.Walking.{BeginsWalk, items_to_come, lent}
@@ -59,8 +58,3 @@ module _ {S R X : Type 0} {g : Ghosts S} {key : X → ℤ} {item : R → X} {is_
             ∙ begins.all all has,
       ))
       added
-
--- a bank that was down is told to be, and memory isn't
-pub down_not_memory : (r : Result (Unit {0}) Fault) (fault : Fault) → r ≡ Err fault → fault ≡ Down
-    → r ≡ Err Memory → ⊥
-down_not_memory r fault is down memory = cc
