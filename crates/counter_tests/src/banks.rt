@@ -4,11 +4,16 @@ use posting_core::{BranchLine, Counter, Fault, Opening, PlainBank};
 use std::alloc::{Alloc, Global};
 use std::test::Fail;
 
+fn open_both<C: Counter>(bank: &mut C) -> Result<(), Fault> {
+    bank.open_branch(Branch::new(1).unwrap(), 3)?;
+    bank.open_branch(Branch::new(2).unwrap(), 2)?;
+    Ok(())
+}
+
 /// Branch 1 with three accounts and branch 2 with two.
 pub fn fresh(rt: &impl Alloc<A = Global>) -> Result<PlainBank, Fail> {
     let mut bank = PlainBank::new(rt.alloc());
-    bank.open_branch(Branch::new(1).ok_or("branch")?, 3)?;
-    bank.open_branch(Branch::new(2).ok_or("branch")?, 2)?;
+    open_both(&mut bank)?;
     Ok(bank)
 }
 

@@ -2,9 +2,11 @@
 use branch_loader::Plan;
 use load_driver::{Driver, DriverFault};
 use message_records::{Branch, Request, decode_request};
-use std::alloc::{AllocError, Global};
+use std::alloc::Global;
 use std::process::Abort;
 use std::test::Fail;
+
+const THREE_BRANCHES: [(u64, u32); 3] = [(3, 70_000), (1, 5), (22, 100_000)];
 
 // The plan of these branches and counts.
 fn plan_of(alloc: Global, list: &[(u64, u32)]) -> Result<Plan, Fail> {
@@ -12,22 +14,17 @@ fn plan_of(alloc: Global, list: &[(u64, u32)]) -> Result<Plan, Fail> {
     for (branch, accounts) in list {
         rows.push((Branch::new(*branch).ok_or("a branch")?, *accounts))?;
     }
-    Plan::from_list(rows).map_err(|_| Fail::from("a plan"))
+    Ok(Plan::from_list(rows)?)
 }
 
-// The driver of a plan that has a branch; memory that was refused fails the test.
-fn driver_of(alloc: Global, plan: &Plan, seed: u64) -> Result<Driver, Fail> {
-    match Driver::new(alloc, plan, seed) {
-        Ok(driver) => Ok(driver),
-        Err(DriverFault::Memory) => Err(AllocError.into()),
-        Err(DriverFault::Empty) => Err("no branches".into()),
-    }
-}
-
-// Whether the first records of the plan and the seed are these, each with its 49 spaces.
-fn gives(alloc: Global, list: &[(u64, u32)], seed: u64, want: &[[u8; 51]]) -> Result<bool, Fail> {
+// The driver of their plan, which has a branch.
+fn driver_of(alloc: Global, list: &[(u64, u32)], seed: u64) -> Result<Driver, Fail> {
     let plan = plan_of(alloc, list)?;
-    let mut driver = driver_of(alloc, &plan, seed)?;
+    Ok(Driver::new(alloc, &plan, seed)?)
+}
+
+// Whether the driver's first records are these, each with its 49 spaces.
+fn gives(driver: &mut Driver, want: &[[u8; 51]]) -> Result<bool, Fail> {
     for text in want {
         let bytes = driver.next().ok_or("a record")?;
         let is_filled = bytes.iter().skip(51).all(|byte| *byte == b' ');
@@ -55,8 +52,8 @@ fn three_branches(rt: HostRuntime) -> Result<(), Fail> {
         *b"DC01000000000004000000070000010000000001-0000964975",
         *b"DC01000000220974000000270000030000000002-0000914880",
     ];
-    let list = [(3, 70_000), (1, 5), (22, 100_000)];
-    assert!(rt; gives(rt.alloc(), &list, 7, &want)?);
+    let mut driver = driver_of(rt.alloc(), &THREE_BRANCHES, 7)?;
+    assert!(rt; gives(&mut driver, &want)?);
     Ok(())
 }
 
@@ -69,7 +66,8 @@ fn one_account(rt: HostRuntime) -> Result<(), Fail> {
         *b"DC01000000000001000000030000010000000001+0000263492",
         *b"DC01000000000001000000070000010000000001-0000960298",
     ];
-    assert!(rt; gives(rt.alloc(), &[(1, 1)], u64::MAX, &want)?);
+    let mut driver = driver_of(rt.alloc(), &[(1, 1)], u64::MAX)?;
+    assert!(rt; gives(&mut driver, &want)?);
     Ok(())
 }
 
@@ -90,22 +88,29 @@ fn is_at_home(rt: &impl Abort, list: &[(u64, u32)], request: &Request) -> bool {
     home == branch
 }
 
-#[test]
-fn the_85_15_rule(rt: HostRuntime) -> Result<(), Fail> {
-    let records = 100_000u32;
-    let list = [(3u64, 70_000u32), (1, 5), (22, 100_000)];
-    let plan = plan_of(rt.alloc(), list.as_slice())?;
-    let mut driver = driver_of(rt.alloc(), &plan, 1)?;
+// How many of so many records of the driver are of their account's own branch.
+fn at_home_among(
+    rt: &impl Abort,
+    driver: &mut Driver,
+    list: &[(u64, u32)],
+    records: u32,
+) -> Result<u32, Fail> {
     let mut at_home = 0u32;
     for _ in 0..records {
         let bytes = driver.next().ok_or("a record")?;
-        let Ok(request) = decode_request(&bytes) else {
-            return Err("a request".into());
-        };
-        if is_at_home(&rt, list.as_slice(), &request) {
+        let request = decode_request(&bytes)?;
+        if is_at_home(rt, list, &request) {
             at_home = at_home.saturating_add(1);
         }
     }
+    Ok(at_home)
+}
+
+#[test]
+fn the_85_15_rule(rt: HostRuntime) -> Result<(), Fail> {
+    let records = 100_000;
+    let mut driver = driver_of(rt.alloc(), &THREE_BRANCHES, 1)?;
+    let at_home = at_home_among(&rt, &mut driver, &THREE_BRANCHES, records)?;
     assert!(rt;
         at_home >= 83_000 && at_home <= 87_000,
         "{at_home} of {records} at home"
@@ -115,8 +120,7 @@ fn the_85_15_rule(rt: HostRuntime) -> Result<(), Fail> {
 
 #[test]
 fn no_branches(rt: HostRuntime) -> Result<(), Fail> {
-    let plan = plan_of(rt.alloc(), &[])?;
-    let fault = Driver::new(rt.alloc(), &plan, 1).err();
+    let fault = Driver::new(rt.alloc(), &plan_of(rt.alloc(), &[])?, 1).err();
     assert_eq!(rt; fault, Some(DriverFault::Empty));
     let text = format!(in rt.alloc(); "{} {}", DriverFault::Empty, DriverFault::Memory)?;
     assert_eq!(rt; text.as_str(), "no branches no memory");

@@ -5,40 +5,36 @@ use posting_core::{
     equal_tables_answer_alike, judge, resends_get_their_replies, tables_are_consistent,
     tables_are_undamaged,
 };
-use std::test::Fail;
 
 // One cent to account 1, by teller 1 of branch 1, under the number 1.
-fn one_cent() -> Result<Request, Fail> {
-    let account = Account::new(1).ok_or("account")?;
-    let teller = Teller::new(1).ok_or("teller")?;
-    let branch = Branch::new(1).ok_or("branch")?;
-    let number = Number::new(1).ok_or("number")?;
-    let delta = Cents::new(1).ok_or("delta")?;
-    Ok(Request::new(account, teller, branch, number, delta).ok_or("request")?)
+fn one_cent() -> Request {
+    let account = Account::new(1).unwrap();
+    let teller = Teller::new(1).unwrap();
+    let branch = Branch::new(1).unwrap();
+    let number = Number::new(1).unwrap();
+    let delta = Cents::new(1).unwrap();
+    Request::new(account, teller, branch, number, delta).unwrap()
 }
 
 #[test]
-fn the_full_bank(rt: HostRuntime) -> Result<(), Fail> {
-    let zero = Cents::new(0).ok_or("zero")?;
-    let one = Cents::new(1).ok_or("one")?;
-    let record = one_cent()?;
-    let found = |decided: u64| Found {
+fn the_full_bank(rt: HostRuntime) {
+    let (zero, one) = (Cents::new(0).unwrap(), Cents::new(1).unwrap());
+    let record = one_cent();
+    let mut found = Found {
         teller: Some((zero, zero)),
         kept: None,
-        decided,
+        decided: 1_000_000_000_000,
         account: Some(zero),
     };
-    assert_eq!(rt;
-        judge(&found(1_000_000_000_000), &record),
-        Verdict::Unkept(Outcome::Full)
-    );
+    let full = Verdict::Unkept(Outcome::Full);
+    assert_eq!(rt; judge(&found, &record), full);
+    found.decided = 999_999_999_999;
     let posted = Verdict::Posted {
         account: one,
         teller: one,
         branch: one,
     };
-    assert_eq!(rt; judge(&found(999_999_999_999), &record), posted);
-    Ok(())
+    assert_eq!(rt; judge(&found, &record), posted);
 }
 
 #[test]

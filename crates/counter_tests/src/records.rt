@@ -90,55 +90,58 @@ fn record_of<const SIZE: usize>(rt: &impl Abort, front: &[u8]) -> [u8; SIZE] {
     bytes
 }
 
-fn deposit_of(cents: i64) -> Result<Option<Request>, Fail> {
-    let account = Account::new(1).ok_or("account")?;
-    let teller = Teller::new(1).ok_or("teller")?;
-    let branch = Branch::new(1).ok_or("branch")?;
-    let number = Number::new(1).ok_or("number")?;
-    let delta = Cents::new(cents).ok_or("delta")?;
-    Ok(Request::new(account, teller, branch, number, delta))
+fn deposit_of(delta: Cents) -> Option<Request> {
+    let account = Account::new(1).unwrap();
+    let teller = Teller::new(1).unwrap();
+    let branch = Branch::new(1).unwrap();
+    let number = Number::new(1).unwrap();
+    Request::new(account, teller, branch, number, delta)
+}
+
+// The request of `DEPOSIT`.
+fn deposit() -> Option<Request> {
+    deposit_of(Cents::new(500).unwrap())
 }
 
 #[test]
 fn requests(rt: HostRuntime) -> Result<(), Fail> {
     one_spelling();
-    let deposit = deposit_of(500)?.ok_or("request")?;
+    let deposit = deposit().ok_or("request")?;
     let bytes = record_of(&rt, DEPOSIT);
     assert_eq!(rt; decode_request(&bytes), Ok(deposit));
     assert_eq!(rt; encode_request(&deposit), bytes);
     Ok(())
 }
 
+// The record that begins so and the reply are read and written as one another.
+fn belong_together(rt: &impl Abort, front: &[u8], reply: &Reply) {
+    let bytes = record_of(rt, front);
+    assert_eq!(rt; decode_reply(&bytes), Ok(*reply));
+    assert_eq!(rt; encode_reply(reply), bytes);
+}
+
 #[test]
 fn replies(rt: HostRuntime) -> Result<(), Fail> {
-    let deposit = deposit_of(500)?.ok_or("request")?;
-    let balance = Cents::new(500).ok_or("balance")?;
-    let posted = Reply::new(Outcome::Posted, Some(deposit), Some(balance)).ok_or("posted")?;
+    let posted = Reply::new(Outcome::Posted, deposit(), Cents::new(500)).ok_or("posted")?;
+    belong_together(&rt, POSTED, &posted);
     let malformed = Reply::new(Outcome::Malformed, None, None).ok_or("malformed")?;
-    for (front, reply) in [
-        (POSTED.as_slice(), posted),
-        (MALFORMED.as_slice(), malformed),
-    ] {
-        let bytes = record_of(&rt, front);
-        assert_eq!(rt; decode_reply(&bytes), Ok(reply));
-        assert_eq!(rt; encode_reply(&reply), bytes);
-    }
+    belong_together(&rt, MALFORMED, &malformed);
     Ok(())
 }
 
 #[test]
 fn faulty_requests(rt: HostRuntime) {
-    for (front, fault) in FAULTY_REQUESTS {
-        let bytes = record_of(&rt, front);
-        assert_eq!(rt; decode_request(&bytes), Err(fault), "{fault}");
+    for (front, fault) in &FAULTY_REQUESTS {
+        let answer = decode_request(&record_of(&rt, *front));
+        assert_eq!(rt; answer.err(), Some(*fault));
     }
 }
 
 #[test]
 fn faulty_replies(rt: HostRuntime) {
-    for (front, fault) in FAULTY_REPLIES {
-        let bytes = record_of(&rt, front);
-        assert_eq!(rt; decode_reply(&bytes), Err(fault), "{fault}");
+    for (front, fault) in &FAULTY_REPLIES {
+        let answer = decode_reply(&record_of(&rt, front));
+        assert_eq!(rt; answer.err(), Some(*fault));
     }
 }
 
@@ -152,78 +155,115 @@ fn faulty_fillers(rt: HostRuntime) {
     assert_eq!(rt; decode_reply(&reply), Err(BadReply::Filler));
 }
 
+// Whether there is a number of each kind below its least, at its least, at its most and above that.
+fn accounts() -> [bool; 4] {
+    [
+        Account::new(0).is_some(),
+        Account::new(1).is_some(),
+        Account::new(999_999_999_999).is_some(),
+        Account::new(1_000_000_000_000).is_some(),
+    ]
+}
+
+fn tellers() -> [bool; 4] {
+    [
+        Teller::new(0).is_some(),
+        Teller::new(1).is_some(),
+        Teller::new(99_999_999).is_some(),
+        Teller::new(100_000_000).is_some(),
+    ]
+}
+
+fn branches() -> [bool; 4] {
+    [
+        Branch::new(0).is_some(),
+        Branch::new(1).is_some(),
+        Branch::new(999_999).is_some(),
+        Branch::new(1_000_000).is_some(),
+    ]
+}
+
+fn request_numbers() -> [bool; 4] {
+    [
+        Number::new(0).is_some(),
+        Number::new(1).is_some(),
+        Number::new(9_999_999_999).is_some(),
+        Number::new(10_000_000_000).is_some(),
+    ]
+}
+
+// None is below the least moment, which is 0.
+fn moments() -> [bool; 3] {
+    [
+        Moment::new(0).is_some(),
+        Moment::new(253_402_300_799).is_some(),
+        Moment::new(253_402_300_800).is_some(),
+    ]
+}
+
 #[test]
 fn ends_of_numbers(rt: HostRuntime) {
-    for (value, inside) in [
-        (0, false),
-        (1, true),
-        (999_999_999_999, true),
-        (1_000_000_000_000, false),
-    ] {
-        assert_eq!(rt; Account::new(value).is_some(), inside, "account {value}");
-    }
-    for (value, inside) in [
-        (0, false),
-        (1, true),
-        (99_999_999, true),
-        (100_000_000, false),
-    ] {
-        assert_eq!(rt; Teller::new(value).is_some(), inside, "teller {value}");
-    }
-    for (value, inside) in [(0, false), (1, true), (999_999, true), (1_000_000, false)] {
-        assert_eq!(rt; Branch::new(value).is_some(), inside, "branch {value}");
-    }
-    for (value, inside) in [
-        (0, false),
-        (1, true),
-        (9_999_999_999, true),
-        (10_000_000_000, false),
-    ] {
-        assert_eq!(rt; Number::new(value).is_some(), inside, "number {value}");
-    }
-    for (value, inside) in [(0, true), (253_402_300_799, true), (253_402_300_800, false)] {
-        assert_eq!(rt; Moment::new(value).is_some(), inside, "moment {value}");
-    }
+    let kinds = [accounts(), tellers(), branches(), request_numbers()];
+    assert_eq!(rt; kinds, [[false, true, true, false]; 4]);
+    assert_eq!(rt; moments(), [true, true, false]);
+}
+
+// Whether there is an amount below the least, at either end and above the most.
+fn amounts() -> [bool; 4] {
+    [
+        Cents::new(-1_000_000_000_000).is_some(),
+        Cents::new(-999_999_999_999).is_some(),
+        Cents::new(999_999_999_999).is_some(),
+        Cents::new(1_000_000_000_000).is_some(),
+    ]
+}
+
+// Likewise for the amounts that a request may add.
+fn deltas() -> [bool; 4] {
+    [
+        deposit_of(Cents::new(-10_000_000_000).unwrap()).is_some(),
+        deposit_of(Cents::new(-9_999_999_999).unwrap()).is_some(),
+        deposit_of(Cents::new(9_999_999_999).unwrap()).is_some(),
+        deposit_of(Cents::new(10_000_000_000).unwrap()).is_some(),
+    ]
 }
 
 #[test]
-fn ends_of_amounts(rt: HostRuntime) -> Result<(), Fail> {
-    for (value, inside) in [(999_999_999_999, true), (1_000_000_000_000, false)] {
-        assert_eq!(rt; Cents::new(value).is_some(), inside, "{value} cents");
-        assert_eq!(rt; Cents::new(-value).is_some(), inside, "-{value} cents");
-    }
-    for (value, inside) in [(9_999_999_999, true), (10_000_000_000, false)] {
-        assert_eq!(rt; deposit_of(value)?.is_some(), inside, "delta {value}");
-        assert_eq!(rt; deposit_of(-value)?.is_some(), inside, "delta -{value}");
-    }
-    Ok(())
+fn ends_of_amounts(rt: HostRuntime) {
+    let inside = [false, true, true, false];
+    assert_eq!(rt; amounts(), inside);
+    assert_eq!(rt; deltas(), inside);
 }
 
+// Parts of which some are missing or too many: the outcome, and whether there are a request and a balance.
+const LOOSE_PARTS: [(Outcome, bool, bool); 6] = [
+    (Outcome::Posted, true, false),
+    (Outcome::Posted, false, true),
+    (Outcome::NoTeller, false, false),
+    (Outcome::NoTeller, true, true),
+    (Outcome::Malformed, true, false),
+    (Outcome::Malformed, false, true),
+];
+
 #[test]
-fn parts_that_do_not_belong_together(rt: HostRuntime) -> Result<(), Fail> {
-    for (outcome, with_request, with_balance) in [
-        (Outcome::Posted, true, false),
-        (Outcome::Posted, false, true),
-        (Outcome::NoTeller, false, false),
-        (Outcome::NoTeller, true, true),
-        (Outcome::Malformed, true, false),
-        (Outcome::Malformed, false, true),
-    ] {
-        let request = if with_request { deposit_of(500)? } else { None };
-        let balance = if with_balance { Cents::new(500) } else { None };
-        assert_eq!(rt; Reply::new(outcome, request, balance), None, "{outcome}");
+fn parts_that_do_not_belong_together(rt: HostRuntime) {
+    for (outcome, with_request, with_balance) in &LOOSE_PARTS {
+        let request = if *with_request { deposit() } else { None };
+        let balance = if *with_balance { Cents::new(500) } else { None };
+        assert_eq!(rt; Reply::new(*outcome, request, balance), None, "{outcome}");
     }
-    Ok(())
 }
 
 #[test]
 fn printed(rt: HostRuntime) -> Result<(), Fail> {
-    let account = Account::new(100_001).ok_or("account")?;
-    let cents = Cents::new(-700).ok_or("cents")?;
+    let account = Account::new(100_001).unwrap();
+    let cents = Cents::new(-700).unwrap();
     let outcome = Outcome::ReusedNumber;
-    let text = format!(in rt.alloc(); "{account} {cents} {outcome}")?;
-    assert_eq!(rt; text.as_str(), "100001 -700 REUSED NUMBER");
-    let faults = format!(in rt.alloc(); "{}, {}", Bad::Delta, BadReply::Balance)?;
-    assert_eq!(rt; faults.as_str(), "faulty delta, faulty balance");
+    let (bad, bad_reply) = (Bad::Delta, BadReply::Balance);
+    let text = format!(in rt.alloc(); "{account} {cents} {outcome}, {bad}, {bad_reply}")?;
+    assert_eq!(rt;
+        text.as_str(),
+        "100001 -700 REUSED NUMBER, faulty delta, faulty balance"
+    );
     Ok(())
 }

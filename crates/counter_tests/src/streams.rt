@@ -18,36 +18,33 @@ const FIRST_REPLY: &[u8; 72] =
 const REMOTE_REPLY: &[u8; 72] =
     b"DR0100000000100001000000010000010000000002-0000000700-000000000700POSTED";
 
-// The text, and spaces behind it.
-fn padded<const SIZE: usize>(rt: &impl Abort, text: &[u8]) -> [u8; SIZE] {
-    let mut bytes = [b' '; SIZE];
-    assert!(rt; text.len() <= SIZE);
-    bytes[..text.len()].copy_from_slice(text);
-    bytes
+fn first_record() -> [u8; 100] {
+    let mut record = [b' '; 100];
+    record[..51].copy_from_slice(FIRST);
+    record
 }
 
-// The texts, one behind another.
-fn joined(rt: &impl Alloc<A = Global>, texts: &[&[u8]]) -> Result<Vec<u8>, Fail> {
-    let mut all = Vec::new(rt.alloc());
-    for text in texts {
-        all.extend_from_slice(text)?;
-    }
-    Ok(all)
+fn first_reply() -> [u8; 200] {
+    let mut reply = [b' '; 200];
+    reply[..72].copy_from_slice(FIRST_REPLY);
+    reply
 }
 
 // Two records and the beginning of a third.
-fn truncated_input(rt: &(impl Abort + Alloc<A = Global>)) -> Result<Vec<u8>, Fail> {
-    let first = padded::<100>(rt, FIRST);
-    let remote = padded::<100>(rt, REMOTE);
-    let third = padded::<50>(rt, b"DC01");
-    joined(rt, &[&first, &remote, &third])
+fn truncated_input() -> [u8; 250] {
+    let mut input = [b' '; 250];
+    input[..51].copy_from_slice(FIRST);
+    input[100..151].copy_from_slice(REMOTE);
+    input[200..204].copy_from_slice(b"DC01");
+    input
 }
 
 // The replies to the two.
-fn two_replies(rt: &(impl Abort + Alloc<A = Global>)) -> Result<Vec<u8>, Fail> {
-    let first = padded::<200>(rt, FIRST_REPLY);
-    let remote = padded::<200>(rt, REMOTE_REPLY);
-    joined(rt, &[&first, &remote])
+fn two_replies() -> [u8; 400] {
+    let mut replies = [b' '; 400];
+    replies[..72].copy_from_slice(FIRST_REPLY);
+    replies[200..272].copy_from_slice(REMOTE_REPLY);
+    replies
 }
 
 // So many times the same bytes.
@@ -60,15 +57,16 @@ fn repeated(rt: &impl Alloc<A = Global>, bytes: &[u8], times: u8) -> Result<Vec<
 }
 
 // How a stream ended on a fresh bank, and the balances then of the accounts that the two records name.
-#[derive(Drop)]
-struct Ended {
-    result: Result<Count, StreamFault>,
-    balances: (i64, i64),
+type Ended = (Result<Count, StreamFault>, (i64, i64));
+
+fn balance_of<C: Counter>(bank: &mut C, account: Account) -> Result<i64, Fail> {
+    Ok(bank.balance(account)?.ok_or("closed")?.get())
 }
 
-fn balance_of<C: Counter>(bank: &mut C, account: u64) -> Result<i64, Fail> {
-    let balance = bank.balance(Account::new(account).ok_or("account")?)?;
-    Ok(balance.ok_or("closed")?.get())
+fn balances<C: Counter>(bank: &mut C) -> Result<(i64, i64), Fail> {
+    let first = balance_of(bank, Account::new(1).unwrap())?;
+    let remote = balance_of(bank, Account::new(100_001).unwrap())?;
+    Ok((first, remote))
 }
 
 fn streamed<R: Read, W: Write>(
@@ -79,46 +77,45 @@ fn streamed<R: Read, W: Write>(
     let mut bank = fresh(rt)?;
     let mut clock = StoredClock::new(Vec::new(rt.alloc()));
     let result = post_stream(reader, writer, &mut clock, &mut bank);
-    let balances = (balance_of(&mut bank, 1)?, balance_of(&mut bank, 100_001)?);
-    Ok(Ended { result, balances })
+    Ok((result, balances(&mut bank)?))
 }
 
-// The input's stream ends so, with these replies and balances.
-fn ends(
+// The reader's stream ends so, with these replies.
+fn ends<R: Read>(
     rt: &(impl Abort + Alloc<A = Global>),
-    input: &[u8],
-    wanted: Result<Count, StreamFault>,
+    reader: &mut R,
+    wanted: Ended,
     replies: &[u8],
-    balances: (i64, i64),
 ) -> Result<(), Fail> {
     let mut output: Vec<u8> = Vec::new(rt.alloc());
-    let mut reader = input;
-    let ended = streamed(rt, &mut reader, &mut output)?;
-    assert_eq!(rt; ended.result, wanted);
+    let ended = streamed(rt, reader, &mut output)?;
+    assert_eq!(rt; ended, wanted);
     assert_eq!(rt; output.as_slice(), replies);
-    assert_eq!(rt; ended.balances, balances);
     Ok(())
 }
 
 #[test]
 fn a_truncated_stream(rt: HostRuntime) -> Result<(), Fail> {
-    let input = truncated_input(&rt)?;
-    let replies = two_replies(&rt)?;
-    let wanted = Err(StreamFault::Truncated(50));
-    ends(&rt, &input, wanted, &replies, (500, -700))
+    let wanted = (Err(StreamFault::Truncated(50)), (500, -700));
+    ends(
+        &rt,
+        &mut truncated_input().as_slice(),
+        wanted,
+        &two_replies(),
+    )
 }
 
 #[test]
 fn an_empty_stream(rt: HostRuntime) -> Result<(), Fail> {
-    ends(&rt, b"", Ok(0), b"", (0, 0))
+    ends(&rt, &mut b"".as_slice(), (Ok(0), (0, 0)), b"")
 }
 
 // The same record 130 times: two full buffers and a part of one.
 #[test]
 fn a_long_stream(rt: HostRuntime) -> Result<(), Fail> {
-    let input = repeated(&rt, &padded::<100>(&rt, FIRST), 130)?;
-    let replies = repeated(&rt, &padded::<200>(&rt, FIRST_REPLY), 130)?;
-    ends(&rt, &input, Ok(130), &replies, (500, 0))
+    let input = repeated(&rt, &first_record(), 130)?;
+    let replies = repeated(&rt, &first_reply(), 130)?;
+    ends(&rt, &mut input.as_slice(), (Ok(130), (500, 0)), &replies)
 }
 
 // How a stream of two records and a part ends whose reader fails behind so many bytes, and how many records
@@ -130,12 +127,12 @@ fn ended_at(at: usize, fault: ErrorKind) -> (StreamFault, usize) {
     }
 }
 
-// The balances behind so many of the two records.
-fn balances_behind(count: usize) -> (i64, i64) {
+// The balances behind so many of the two records, and their replies.
+fn balances_behind(count: usize, replies: &[u8; 400]) -> ((i64, i64), &[u8]) {
     match count {
-        0 => (0, 0),
-        1 => (500, 0),
-        _ => (500, -700),
+        0 => ((0, 0), b""),
+        1 => ((500, 0), &replies[..200]),
+        _ => ((500, -700), replies),
     }
 }
 
@@ -145,27 +142,22 @@ fn read_in_two(
     before: &[u8],
     behind: &[u8],
     fault: ErrorKind,
-    replies: &[u8],
+    replies: &[u8; 400],
 ) -> Result<(), Fail> {
-    let mut output: Vec<u8> = Vec::new(rt.alloc());
     let mut reader = CutReader {
         before,
         fault: Some(fault),
         behind,
     };
-    let ended = streamed(rt, &mut reader, &mut output)?;
     let (result, count) = ended_at(before.len(), fault);
-    assert_eq!(rt; ended.result, Err(result));
-    assert!(rt; replies.starts_with(&output));
-    assert_eq!(rt; (output.len() / 200, output.len() % 200), (count, 0));
-    assert_eq!(rt; ended.balances, balances_behind(count));
-    Ok(())
+    let (balances, answers) = balances_behind(count, replies);
+    ends(rt, &mut reader, (Err(result), balances), answers)
 }
 
 #[test]
 fn a_reader_that_fails_at_each_byte(rt: HostRuntime) -> Result<(), Fail> {
-    let input = truncated_input(&rt)?;
-    let replies = two_replies(&rt)?;
+    let input = truncated_input();
+    let replies = two_replies();
     for at in 0..=input.len() {
         let (before, behind) = input.split_at(at);
         read_in_two(&rt, before, behind, ErrorKind::BrokenPipe, &replies)?;
@@ -190,16 +182,15 @@ fn written_in_part(
     };
     let mut reader = input;
     let ended = streamed(rt, &mut reader, &mut writer)?;
-    assert_eq!(rt; ended.result, Err(wanted));
+    assert_eq!(rt; ended, (Err(wanted), (500, -700)));
     assert_eq!(rt; writer.taken.as_slice(), replies);
-    assert_eq!(rt; ended.balances, (500, -700));
     Ok(())
 }
 
 #[test]
 fn a_writer_that_fails_at_each_byte(rt: HostRuntime) -> Result<(), Fail> {
-    let input = truncated_input(&rt)?;
-    let replies = two_replies(&rt)?;
+    let input = truncated_input();
+    let replies = two_replies();
     let fault = Some(ErrorKind::BrokenPipe);
     for most in 0..replies.len() {
         let part = &replies[..most];
@@ -211,39 +202,51 @@ fn a_writer_that_fails_at_each_byte(rt: HostRuntime) -> Result<(), Fail> {
     written_in_part(&rt, &input, &replies, fault, StreamFault::Write)
 }
 
-#[test]
-fn a_store_that_fails(rt: HostRuntime) -> Result<(), Fail> {
+// Streams the first record.
+fn first_streamed<C: Counter>(
+    bank: &mut C,
+    clock: &mut StoredClock,
+    output: &mut Vec<u8>,
+) -> Result<Count, StreamFault> {
+    post_stream(&mut first_record().as_slice(), output, clock, bank)
+}
+
+// How three streams of it end on a bank whose store fails in the second.
+fn three_streams(
+    rt: &impl Alloc<A = Global>,
+    output: &mut Vec<u8>,
+) -> Result<[Result<Count, StreamFault>; 3], Fail> {
     let mut bank = FailingBank {
-        bank: fresh(&rt)?,
+        bank: fresh(rt)?,
         left: 1,
         down: false,
     };
     let mut clock = StoredClock::new(Vec::new(rt.alloc()));
-    let input = padded::<100>(&rt, FIRST);
+    Ok([
+        first_streamed(&mut bank, &mut clock, output),
+        first_streamed(&mut bank, &mut clock, output),
+        first_streamed(&mut bank, &mut clock, output),
+    ])
+}
+
+#[test]
+fn a_store_that_fails(rt: HostRuntime) -> Result<(), Fail> {
     let mut output: Vec<u8> = Vec::new(rt.alloc());
-    for result in [
+    let results = three_streams(&rt, &mut output)?;
+    let wanted = [
         Ok(1),
         Err(StreamFault::Bank(Fault::Store)),
         Err(StreamFault::Bank(Fault::Down)),
-    ] {
-        let mut reader = input.as_slice();
-        assert_eq!(rt;
-            post_stream(&mut reader, &mut output, &mut clock, &mut bank),
-            result
-        );
-    }
-    assert_eq!(rt;
-        output.as_slice(),
-        padded::<200>(&rt, FIRST_REPLY).as_slice()
-    );
+    ];
+    assert_eq!(rt; results, wanted);
+    assert_eq!(rt; output.as_slice(), first_reply().as_slice());
     Ok(())
 }
 
 #[test]
 fn a_stored_clock(rt: HostRuntime) -> Result<(), Fail> {
     let mut moments = Vec::new(rt.alloc());
-    moments.push(Moment::new(1000).ok_or("moment")?)?;
-    moments.push(Moment::new(2000).ok_or("moment")?)?;
+    moments.extend_from_slice(&[Moment::new(1000).unwrap(), Moment::new(2000).unwrap()])?;
     let mut clock = StoredClock::new(moments);
     for moment in [1000, 2000, 0, 0] {
         assert_eq!(rt; clock.now().get(), moment);
