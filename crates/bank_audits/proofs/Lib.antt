@@ -15,3 +15,4 @@ pub mod OfAll
 pub mod Broken
 pub mod OncePosted
 pub mod LogFiles
+pub mod RoomForWalks

@@ -6,3 +6,4 @@ pub mod Files
 pub mod Adding
 pub mod Failures
 pub mod Differing
+pub mod Room

@@ -10,7 +10,7 @@ ghost use Rattle.bank_audits.specs.Adding.{HasSums, IsPassed};
 ghost use Rattle.bank_audits.specs.Failures.{HasFailedToRead, SaysOf};
 ghost use Rattle.bank_audits.specs.Files.{FileRows, HasBrokenRow, HasFile, rows_in};
 
-use crate::passes::Added;
+use crate::passes::add_each;
 use crate::sums::Sums;
 use bank_store::Bank;
 use bank_walks::{Joined, StoredAccount, StoredBranch, StoredPosting, StoredRequest, StoredTeller};
@@ -32,10 +32,10 @@ pub(crate) fn add_all<S: Alter>(bank: &mut Bank<S>, sums: &mut Sums) -> Result<(
         (state S.Store (connection_of bank.new)) result }
     ensures up { fault_of bank.new ≡ fault_of bank.old }
 {
-    StoredTeller::add_each(bank, sums)?;
-    StoredBranch::add_each(bank, sums)?;
-    StoredAccount::add_each(bank, sums)?;
-    Joined::<StoredRequest, StoredPosting>::add_each(bank, sums)?;
-    Joined::<StoredPosting, StoredRequest>::add_each(bank, sums)?;
+    add_each::<S, StoredTeller>(bank, sums)?;
+    add_each::<S, StoredBranch>(bank, sums)?;
+    add_each::<S, StoredAccount>(bank, sums)?;
+    add_each::<S, Joined<StoredRequest, StoredPosting>>(bank, sums)?;
+    add_each::<S, Joined<StoredPosting, StoredRequest>>(bank, sums)?;
     Ok(())
 }

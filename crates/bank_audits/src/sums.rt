@@ -3,6 +3,7 @@ ghost use Rattle.std.specs.Prelude.{◌≡◌, ◌≤◌, ◌<◌, ◌++◌, ◌
 ghost use Rattle.std.specs.Prelude.{length, pos};
 ghost use Rattle.bank_reports.specs.Beside.{AuditRows, audit_of_rows, no_rows};
 ghost use Rattle.bank_audits.specs.Adding.{HasSums};
+ghost use Rattle.bank_audits.specs.Room.{TakesFewBytes};
 
 use bank_reports::{Audit, BranchSums, MOST_ROWS, OrdinalSums, Sum, TellerSums, audit_of_sums};
 use bank_walks::{
@@ -67,15 +68,21 @@ pub(crate) trait Summed: WalkedRow {
             × (length given < most) }
         ensures { (rows : AuditRows) (given : List Self) → HasSums sums.old (with_rows rows given)
             → HasSums sums.new (with_rows rows (given ++ self ∷ [])) };
+
+    /// There is room for a walk over rows of its kind.
+    ghost few_bytes: { TakesFewBytes Self.row };
 }
 
 impl Summed for StoredTeller {
+    ghost use Rattle.std.proofs.Common.{lit<};
     ghost use Rattle.bank_audits.specs.Adding.{with_tellers};
     ghost use Rattle.bank_walks.specs.declared.limits.TheConstants.{LAST_TELLER};
 
     ghost with_rows = { with_tellers };
 
     ghost most = { LAST_TELLER };
+
+    ghost few_bytes = { (lit< tt, lit< tt) };
 
     fn number(&self) -> u64 {
         self.teller.get()
@@ -87,12 +94,15 @@ impl Summed for StoredTeller {
 }
 
 impl Summed for StoredBranch {
+    ghost use Rattle.std.proofs.Common.{lit<};
     ghost use Rattle.bank_audits.specs.Adding.{with_branches};
     ghost use Rattle.posting_rules.specs.declared.limits.TheConstants.{LAST_BRANCH};
 
     ghost with_rows = { with_branches };
 
     ghost most = { LAST_BRANCH };
+
+    ghost few_bytes = { (lit< tt, lit< tt) };
 
     fn number(&self) -> u64 {
         self.branch.get()
@@ -104,12 +114,15 @@ impl Summed for StoredBranch {
 }
 
 impl Summed for StoredAccount {
+    ghost use Rattle.std.proofs.Common.{lit<};
     ghost use Rattle.bank_audits.specs.Adding.{with_accounts};
     ghost use Rattle.bank_walks.specs.declared.limits.TheConstants.{LAST_ACCOUNT};
 
     ghost with_rows = { with_accounts };
 
     ghost most = { LAST_ACCOUNT };
+
+    ghost few_bytes = { (lit< tt, lit< tt) };
 
     fn number(&self) -> u64 {
         self.account.get()
@@ -121,12 +134,15 @@ impl Summed for StoredAccount {
 }
 
 impl Summed for Joined<StoredRequest, StoredPosting> {
+    ghost use Rattle.std.proofs.Common.{lit<};
     ghost use Rattle.bank_audits.specs.Adding.{with_requests};
     ghost use Rattle.bank_reports.specs.declared.limits.TheConstants.{MOST_ROWS};
 
     ghost with_rows = { with_requests };
 
     ghost most = { MOST_ROWS };
+
+    ghost few_bytes = { (lit< tt, lit< tt) };
 
     fn number(&self) -> u64 {
         self.stored.ordinal.get()
@@ -139,12 +155,15 @@ impl Summed for Joined<StoredRequest, StoredPosting> {
 }
 
 impl Summed for Joined<StoredPosting, StoredRequest> {
+    ghost use Rattle.std.proofs.Common.{lit<};
     ghost use Rattle.bank_audits.specs.Adding.{with_history};
     ghost use Rattle.bank_reports.specs.declared.limits.TheConstants.{MOST_ROWS};
 
     ghost with_rows = { with_history };
 
     ghost most = { MOST_ROWS };
+
+    ghost few_bytes = { (lit< tt, lit< tt) };
 
     fn number(&self) -> u64 {
         self.stored.ordinal.get()

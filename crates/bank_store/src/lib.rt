@@ -47,7 +47,7 @@
 //! the connection of the bank that is down.
 //!
 //! [`Counter::submit_all`] posts up to [`RECORDS_PER_BATCH`] records in one transaction. [`each_account`] and
-//! its five neighbours walk over the rows, one `next` a row.
+//! its six neighbours walk over the rows, one `next` a row.
 //!
 //! Read next: [`Bank`], with what holds after each fault; [`Counter`], with the five calls; [`Walk`], to read
 //! the rows. `specs/Seen` says what a bank shows, and the crate `bank_lives` what is found after a stop.
@@ -77,5 +77,5 @@ pub use posting_rules::{
 };
 pub use refused::{OpenFault, Refused};
 pub use walks::{
-    Walk, each_account, each_branch, each_history, each_request, each_teller, history_of,
+    Walk, each_account, each_branch, each_history, each_request, each_row, each_teller, history_of,
 };

@@ -285,6 +285,20 @@ fn begin_walk<S: Alter, R: WalkedRow>(
     Ok(Walk::over(bank, of))
 }
 
+/// Begins a walk over all rows of a kind, by rising keys.
+///
+/// # Errors
+///
+/// [`Fault::Down`] alone: a fault brought the bank down before. Nothing was tried.
+pub fn each_row<S: Alter, R: WalkedRow>(bank: &mut Bank<S>) -> Result<Walk<'_, S, R>, Fault>
+    ensures* refused { sem 𝓛 (RestsIfErr (the_row S.row S.Store) bank.entry loan_of result
+        (λ last. last ≡ bank.old)) }
+    ensures begins { BeginsWalk S.Store R.WalkedRow.key R.WalkedRow.item R.WalkedRow.is_given
+        R.WalkedRow.HasItems None bank.entry.ghost_name bank.old result }
+{
+    begin_walk(bank, None)
+}
+
 /// Begins a walk over the rows of `branch`, by the branch's number, with balances in cents (TPC-B 1.2).
 ///
 /// # Errors
@@ -296,7 +310,7 @@ pub fn each_branch<S: Alter>(bank: &mut Bank<S>) -> Result<Walk<'_, S, StoredBra
     ensures begins { BeginsWalk S.Store entry_key branch_entry (λ of e. true)
         (λ db rows. HasStoredRows db branch_table rows) None bank.entry.ghost_name bank.old result }
 {
-    begin_walk(bank, None)
+    each_row(bank)
 }
 
 /// Begins a walk over the rows of `teller`, by the teller's number, with balances in cents (TPC-B 1.2).
@@ -310,7 +324,7 @@ pub fn each_teller<S: Alter>(bank: &mut Bank<S>) -> Result<Walk<'_, S, StoredTel
     ensures begins { BeginsWalk S.Store entry_key teller_entry (λ of e. true)
         (λ db rows. HasStoredRows db teller_table rows) None bank.entry.ghost_name bank.old result }
 {
-    begin_walk(bank, None)
+    each_row(bank)
 }
 
 /// Begins a walk over the rows of `account`, by the account's number, with balances in cents (TPC-B 1.2).
@@ -324,7 +338,7 @@ pub fn each_account<S: Alter>(bank: &mut Bank<S>) -> Result<Walk<'_, S, StoredAc
     ensures begins { BeginsWalk S.Store entry_key account_entry (λ of e. true)
         (λ db rows. HasStoredRows db account_table rows) None bank.entry.ghost_name bank.old result }
 {
-    begin_walk(bank, None)
+    each_row(bank)
 }
 
 /// Begins a walk over the postings of an account: its rows of `history`, in the order in which they were
@@ -361,7 +375,7 @@ pub fn each_request<S: Alter>(
         (λ db pairs. HasPairs db request_table history_table pairs) None bank.entry.ghost_name bank.old
         result }
 {
-    begin_walk(bank, None)
+    each_row(bank)
 }
 
 /// Begins a walk over the postings: the rows of `history` in the order in which they were posted, each with
@@ -379,5 +393,5 @@ pub fn each_history<S: Alter>(
         (λ db pairs. HasPairs db history_table request_table pairs) None bank.entry.ghost_name bank.old
         result }
 {
-    begin_walk(bank, None)
+    each_row(bank)
 }

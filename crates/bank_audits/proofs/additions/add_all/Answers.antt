@@ -1,5 +1,5 @@
 -- One pass after another.
-use Rattle.std.proofs.Common.{rules, ◌≡◌, Err, Ok}
+use Rattle.std.proofs.Common.{rules, ◌≡◌, Err}
 use Rattle.sqlite.specs.State.{HasCleanDisk}
 use Rattle.sqlite.specs.Held.{state}
 use Rattle.bank_walks.specs.Pairs.{paired}

@@ -8,6 +8,9 @@ use Rattle.bank_walks.specs.Rows.{LEAST}
 use Rattle.bank_audits.proofs.AddedRows.{all_given, along_more, failed_row, one_more_row}
 use Rattle.bank_audits.proofs.AddedRows.{passed_err, passed_ok, room_for}
 use Rattle.bank_audits.proofs.StepsKeep.{still_then, quiet_then}
+use Rattle.bank_audits.proofs.Further.{error_is}
+use Rattle.bank_audits.proofs.ReportLeaves.{not_ok}
+use Rattle.bank_audits.proofs.gathered.add_rows.Given.{Over}
 use Rattle.bank_audits.proofs.gathered.add_rows.Goals as goal
 
 pub rows-init : goal.rows-init
@@ -21,13 +24,36 @@ rows-init g c = record {
   along = record { next = LEAST; comes = c.requires.rises; behind = inl refl; few = omega arith };
 }
 
+-- ---- a step that failed
+
+refusal : (g : Over) (c : goal.After-from_residual g) → c.from_residual.result ≡ Err c.in_err-row.field-0.0
+refusal g c = search rules
+
+pub returns-in_err-row-clause-same_reference : goal.returns-in_err-row-clause-same_reference
+returns-in_err-row-clause-same_reference g c = c.next.ensures.same_reference ∙ c.rows.invariant.reference
+
+pub returns-in_err-row-clause-added : goal.returns-in_err-row-clause-added
+returns-in_err-row-clause-added g c = rw (refusal g c) tt
+
+pub returns-in_err-row-clause-frugal : goal.returns-in_err-row-clause-frugal
+returns-in_err-row-clause-frugal g c is =
+    c.in_err-row.ensures.frugal (ap Err (error_is _ _ (sym (refusal g c) ∙ is)))
+
+pub returns-in_err-row-clause-tried : goal.returns-in_err-row-clause-tried
+returns-in_err-row-clause-tried g c is =
+    c.rows.invariant.fresh
+    (c.next.ensures.down.1 (rw (c.in_err-row.was, error_is _ _ (sym (refusal g c) ∙ is)) refl)).0
+
+pub returns-in_err-row-clause-up : goal.returns-in_err-row-clause-up
+returns-in_err-row-clause-up g c = c.next.ensures.up ∙ c.rows.invariant.up
+
 pub returns-in_err-row-clause-told : goal.returns-in_err-row-clause-told
 returns-in_err-row-clause-told g c clean all has =
     let old = state g.S.Store c.args.walk.now.bank.now.conn in
     let mid = state g.S.Store c.rows.walk.bank.now.conn in
     let late : HasCleanDisk (state g.S.Store c.next.new.self.bank.now.conn) = clean in
     let before : HasCleanDisk mid = omega (arith, c.next.ensures.survives.clean, late) in
-    let same : c.from_residual.result ≡ Err c.in_err-row.field-0.0 = search rules in
+    let same = refusal g c in
     let there = subst (λ db. g.R.WalkedRow.HasItems db all) (sym (c.rows.invariant.still before).0) has in
     rw same (failed_row g.R.WalkedRow.item g.R.WalkedRow.HasItems g.R.Summed.with_rows old.now
     (HasCleanDisk mid) (HasCleanDisk mid)
@@ -46,11 +72,27 @@ returns-in_err-row-clause-told g c clean all has =
 
 pub returns-in_err-row-clause-passed : goal.returns-in_err-row-clause-passed
 returns-in_err-row-clause-passed g c =
-    let same : c.from_residual.result ≡ Err c.in_err-row.field-0.0 = search rules in
-    rw same (passed_err (state g.S.Store c.args.walk.now.bank.now.conn)
+    rw (refusal g c) (passed_err (state g.S.Store c.args.walk.now.bank.now.conn)
     (state g.S.Store c.rows.walk.bank.now.conn) (state g.S.Store c.next.new.self.bank.now.conn)
     c.rows.invariant.survives c.rows.invariant.still c.next.ensures.survives c.in_err-row.field-0.0
     c.next.ensures.undone)
+
+-- ---- the end of the walk
+
+pub returns-in_default-clause-same_reference : goal.returns-in_default-clause-same_reference
+returns-in_default-clause-same_reference g c = c.next.ensures.same_reference ∙ c.rows.invariant.reference
+
+pub returns-in_default-clause-told : goal.returns-in_default-clause-told
+returns-in_default-clause-told g c clean all has = tt
+
+pub returns-in_default-clause-frugal : goal.returns-in_default-clause-frugal
+returns-in_default-clause-frugal g c = not_ok _ _ _ refl
+
+pub returns-in_default-clause-tried : goal.returns-in_default-clause-tried
+returns-in_default-clause-tried g c = not_ok _ _ _ refl
+
+pub returns-in_default-clause-up : goal.returns-in_default-clause-up
+returns-in_default-clause-up g c = c.next.ensures.up ∙ c.rows.invariant.up
 
 pub returns-in_default-clause-added : goal.returns-in_default-clause-added
 returns-in_default-clause-added g c =
@@ -78,6 +120,16 @@ returns-in_default-clause-passed g c =
     passed_ok (state g.S.Store c.args.walk.now.bank.now.conn) (state g.S.Store c.rows.walk.bank.now.conn)
     (state g.S.Store c.next.new.self.bank.now.conn)
     c.rows.invariant.survives c.rows.invariant.still c.next.ensures.survives c.in_ok-row.ensures.same
+
+-- ---- there are no more rows than can be
+
+pub returns : goal.returns
+returns g c =
+    let few = c.rows.invariant.along.few in
+    let many = c.rows-test.false in
+    absurd (omega (arith, few, many))
+
+-- ---- one more row
 
 pub add_to-requires : goal.add_to-requires
 add_to-requires g c =
