@@ -1,13 +1,11 @@
 //! A call in which the machine stops, on any bank and any store: what it adds, and how far it came.
-use crate::readings::{Reading, made_of_postings, read};
 use crate::sql::number;
-use bank_store::{Bank, OpenFault, Refused, adopt, create};
+use crate::tasks::Progress;
+use bank_store::Bank;
 use message_records::{Branch, Moment};
 use posting_core::{Counter, Fault, Opening};
 use sqlite::{Alter, Connection, Error};
-use std::alloc::{Alloc, Global};
 use std::process::Abort;
-use std::test::Fail;
 
 /// A posting of 500 cents to account 1, by teller 1 of branch 1.
 pub const RECORD: &str = "DC01000000000001000000010000010000000001+0000000500";
@@ -39,14 +37,6 @@ pub enum Call {
     OpenBranch,
 }
 
-// What a call may add: the rows of history, the branch, its tellers and its accounts.
-const ADDED: [&str; 4] = [
-    "SELECT count(*) FROM history",
-    "SELECT count(*) FROM branch WHERE bid = 3",
-    "SELECT count(*) FROM teller WHERE tid >= 21 AND tid <= 30",
-    "SELECT count(*) FROM account WHERE aid >= 200001 AND aid <= 300000",
-];
-
 // What the call adds.
 fn whole(call: Call) -> [i64; 4] {
     match call {
@@ -56,12 +46,20 @@ fn whole(call: Call) -> [i64; 4] {
     }
 }
 
+// What is there of it: the rows of history, the branch, its tellers and its accounts.
 fn added<S: Alter>(conn: &mut Connection<S>) -> Result<[i64; 4], Error> {
-    let mut found = [0; 4];
-    for (place, sql) in found.iter_mut().zip(ADDED) {
-        *place = number(conn, sql)?;
-    }
-    Ok(found)
+    Ok([
+        number(conn, "SELECT count(*) FROM history")?,
+        number(conn, "SELECT count(*) FROM branch WHERE bid = 3")?,
+        number(
+            conn,
+            "SELECT count(*) FROM teller WHERE tid >= 21 AND tid <= 30",
+        )?,
+        number(
+            conn,
+            "SELECT count(*) FROM account WHERE aid >= 200001 AND aid <= 300000",
+        )?,
+    ])
 }
 
 /// The text, and spaces behind it.
@@ -86,24 +84,25 @@ fn open<C: Counter>(
 }
 
 fn post_one<C: Counter>(rt: &impl Abort, bank: &mut C) -> Result<(), Fault> {
-    let moment = Moment::new(1000).expect(rt, "moment");
+    let moment = Moment::new(1000).unwrap();
     let reply = bank.submit(moment, &padded(RECORD))?;
     assert_eq!(rt; reply, padded::<200>(REPLY));
     Ok(())
 }
 
-fn post_three<C: Counter>(rt: &impl Abort, bank: &mut C) -> Result<(), Fault> {
-    let moment = Moment::new(1000).expect(rt, "moment");
-    let records = [
-        padded::<100>(RECORDS[0]),
-        padded::<100>(RECORDS[1]),
-        padded::<100>(RECORDS[2]),
-    ];
-    let replies = bank.submit_all(moment, &records)?;
+// The replies to the three records.
+fn are_replies(rt: &impl Abort, replies: &[[u8; 200]]) {
     assert_eq!(rt; replies.len(), REPLIES.len());
-    for (reply, text) in replies.iter().zip(REPLIES) {
+    for (reply, text) in replies.iter().zip(&REPLIES) {
         assert_eq!(rt; *reply, padded::<200>(text));
     }
+}
+
+fn post_three<C: Counter>(rt: &impl Abort, bank: &mut C) -> Result<(), Fault> {
+    let moment = Moment::new(1000).unwrap();
+    let [one, two, three] = RECORDS;
+    let records = [padded::<100>(one), padded::<100>(two), padded::<100>(three)];
+    are_replies(rt, &bank.submit_all(moment, &records)?);
     Ok(())
 }
 
@@ -120,143 +119,40 @@ fn make<C: Counter>(rt: &impl Abort, bank: &mut C, call: Call) -> Result<(), Fau
     }
 }
 
-/// Takes up the bank.
-pub fn taken_up<S: Alter + Drop>(
-    rt: &(impl Abort + Alloc<A = Global>),
-    conn: Connection<S>,
-) -> Result<Bank<S>, OpenFault> {
-    assert!(rt; conn.is_autocommit());
-    match adopt(rt.alloc(), conn) {
-        Ok(bank) => Ok(bank),
-        Err(Refused { fault, conn: _conn }) => Err(fault),
-    }
+/// Opens branch 1 with three accounts and branch 2 with two.
+pub fn open_both<C: Counter>(rt: &impl Abort, bank: &mut C) {
+    assert_eq!(rt; open(rt, bank, 1, 3), Ok(Opening::Opened));
+    assert_eq!(rt; open(rt, bank, 2, 2), Ok(Opening::Opened));
 }
 
-/// Makes a bank: branch 1 with three accounts and branch 2 with two.
-pub fn made<S: Alter + Drop>(
-    rt: &(impl Abort + Alloc<A = Global>),
-    conn: Connection<S>,
-) -> Result<Connection<S>, OpenFault> {
-    assert!(rt; conn.is_autocommit());
-    match create(rt.alloc(), conn) {
-        Ok(mut bank) => {
-            assert_eq!(rt; open(rt, &mut bank, 1, 3), Ok(Opening::Opened));
-            assert_eq!(rt; open(rt, &mut bank, 2, 2), Ok(Opening::Opened));
-            Ok(bank.release())
-        }
-        Err(Refused { fault, conn: _conn }) => Err(fault),
-    }
-}
-
-// Takes up the bank, and gives the connection back where the machine stops.
-fn found<S: Alter + Drop>(
-    rt: &(impl Abort + Alloc<A = Global>),
-    conn: Connection<S>,
-) -> Result<Bank<S>, Connection<S>> {
-    assert!(rt; conn.is_autocommit());
-    match adopt(rt.alloc(), conn) {
-        Ok(bank) => Ok(bank),
-        Err(Refused { fault, conn }) => {
-            assert_eq!(rt; fault, OpenFault::Store);
-            Err(conn)
-        }
-    }
-}
-
-// Makes the call, until that ends or the machine stops.
-fn called<S: Alter + Drop>(rt: &impl Abort, mut bank: Bank<S>, call: Call) -> Worked<S> {
-    let answer = make(rt, &mut bank, call);
-    match answer {
-        Ok(()) => assert_eq!(rt; bank.cause(), None),
-        Err(fault) => {
-            assert_eq!(rt; fault, Fault::Store);
-            assert!(rt; bank.cause().is_some());
-        }
-    }
-    Worked {
+/// Makes the call, until that ends or the machine stops.
+pub fn call_until<S: Alter + Drop>(rt: &impl Abort, bank: &mut Bank<S>, call: Call) -> Progress {
+    let fault = make(rt, bank, call).err();
+    assert!(rt; fault.is_none() || fault == Some(Fault::Store));
+    assert_eq!(rt; bank.cause().is_some(), fault.is_some());
+    Progress {
         is_begun: true,
-        is_done: answer.is_ok(),
-        conn: bank.release(),
+        is_done: fault.is_none(),
     }
 }
 
-// Tests that the call is there whole or not at all, and whole if it was answered, and sends it again.
-fn resent<S: Alter + Drop>(
-    rt: &(impl Abort + Alloc<A = Global>),
-    mut conn: Connection<S>,
+/// Makes the call again, to its end.
+pub fn resend<C: Counter>(rt: &impl Abort, bank: &mut C, call: Call) {
+    assert_eq!(rt; make(rt, bank, call), Ok(()));
+}
+
+/// Tests that the call is there whole or not at all, and whole if it was answered.
+pub fn is_whole_or_none<S: Alter>(
+    rt: &impl Abort,
+    conn: &mut Connection<S>,
     call: Call,
     is_answered: bool,
-) -> Result<Connection<S>, Fail> {
-    let found = added(&mut conn)?;
-    assert!(rt; found == whole(call) || !is_answered && found == [0; 4]);
-    let mut bank = taken_up(rt, conn)?;
-    let answer = make(rt, &mut bank, call);
-    let mut conn = bank.release();
-    assert_eq!(rt; answer, Ok(()));
-    assert_eq!(rt; added(&mut conn)?, whole(call));
-    Ok(conn)
+) {
+    let found = added(conn);
+    assert!(rt; found == Ok(whole(call)) || !is_answered && found == Ok([0; 4]));
 }
 
-/// What a machine does with the bank in its files.
-#[derive(Clone, Copy)]
-pub enum Task {
-    /// Makes it, with two branches.
-    Make,
-    /// Makes it, with many postings.
-    MakeOfPostings,
-    /// Makes the call.
-    Call(Call),
-    /// Reads all that was posted.
-    Read(Reading),
-    /// Tests what the call left, which was answered or not, and makes it again.
-    Resend(Call, bool),
-}
-
-/// How far a task came, and the connection then.
-#[derive(Drop)]
-pub struct Worked<S: Alter> {
-    pub is_begun: bool,
-    pub is_done: bool,
-    pub conn: Connection<S>,
-}
-
-impl<S: Alter> Worked<S> {
-    // It came to its end.
-    fn done(conn: Connection<S>) -> Self {
-        Worked {
-            is_begun: true,
-            is_done: true,
-            conn,
-        }
-    }
-
-    // The machine stopped before it began.
-    fn not_begun(conn: Connection<S>) -> Self {
-        Worked {
-            is_begun: false,
-            is_done: false,
-            conn,
-        }
-    }
-}
-
-/// Does the task, until that ends or the machine stops. Only a call and a reading may stop.
-pub fn work<S: Alter + Drop>(
-    rt: &(impl Abort + Alloc<A = Global>),
-    conn: Connection<S>,
-    task: Task,
-) -> Result<Worked<S>, Fail> {
-    match task {
-        Task::Make => Ok(Worked::done(made(rt, conn)?)),
-        Task::MakeOfPostings => Ok(Worked::done(made_of_postings(rt, conn)?)),
-        Task::Resend(call, is_answered) => Ok(Worked::done(resent(rt, conn, call, is_answered)?)),
-        Task::Call(call) => match found(rt, conn) {
-            Ok(bank) => Ok(called(rt, bank, call)),
-            Err(conn) => Ok(Worked::not_begun(conn)),
-        },
-        Task::Read(reading) => match found(rt, conn) {
-            Ok(bank) => read(rt, bank, reading),
-            Err(conn) => Ok(Worked::not_begun(conn)),
-        },
-    }
+/// Tests that the call is there.
+pub fn is_whole<S: Alter>(rt: &impl Abort, conn: &mut Connection<S>, call: Call) {
+    assert_eq!(rt; added(conn), Ok(whole(call)));
 }

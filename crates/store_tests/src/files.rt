@@ -1,18 +1,43 @@
-//! Files in memory that stop after so many calls, and connections over them.
-use sqlite::{Connection, FileStore, Files, Options};
+//! Files in memory that stop after so many calls, and what tasks leave in them. The store over them is named
+//! here alone.
+use crate::tasks::{NOT_BEGUN, Progress, Task, play};
+use sqlite::{Connection, Files, Options};
 use sqlite_disk::{Crash, Disk, Fuse, Memory};
 use std::alloc::{Alloc, Global};
 use std::process::Abort;
 use std::test::Fail;
 
-/// A file that passes so many calls on, and fails each one behind them.
-pub type Fused = Fuse<Memory>;
+// A file that passes so many calls on, and fails each one behind them.
+type Fused = Fuse<Memory>;
 
 /// The bytes of the database file and of its log.
 #[derive(Drop)]
 pub struct Image {
     pub db: Vec<u8>,
     pub log: Vec<u8>,
+}
+
+/// How many calls on the database file and on its log pass.
+#[derive(Clone, Copy)]
+pub struct Passed {
+    pub db: u64,
+    pub log: u64,
+}
+
+/// No call fails.
+pub const ALL_PASS: Passed = Passed {
+    db: u64::MAX,
+    log: u64::MAX,
+};
+
+/// How far tasks on files came, and what the files hold then.
+#[derive(Drop)]
+pub struct Ended {
+    pub progress: Progress,
+    /// All that was written.
+    pub written: Image,
+    /// What was synced, which is left when the machine stops.
+    pub synced: Image,
 }
 
 // A small cache and a short log, so that a posting reads, writes and copies the log back.
@@ -25,43 +50,68 @@ fn options() -> Options {
     }
 }
 
-/// A file of these bytes.
-pub fn fused(rt: &(impl Abort + Alloc<A = Global>), bytes: &[u8], calls: u64) -> Fused {
-    let mut file = Memory::new(rt.alloc());
+// Puts these bytes into the file.
+fn fill(rt: &impl Abort, file: &mut Memory, bytes: &[u8]) {
     assert!(rt; file.may_be_used());
     assert!(rt; file.write_at(0, bytes).is_ok());
     assert!(rt; file.may_be_used());
     assert!(rt; file.sync().is_ok());
+}
+
+fn fused(rt: &(impl Abort + Alloc<A = Global>), bytes: &[u8], calls: u64) -> Fused {
+    let mut file = Memory::new(rt.alloc());
+    fill(rt, &mut file, bytes);
     Fuse::new(file, calls)
 }
 
-/// What is in the files as they are.
-pub fn written(alloc: Global, files: &Files<Fused>) -> Result<Image, Fail> {
-    Ok(Image {
-        db: files.db.inner().bytes().to_vec(alloc)?,
-        log: files.log.inner().bytes().to_vec(alloc)?,
+// What is in the files as they are.
+fn held(alloc: Global, files: &Files<Fused>) -> Result<Image, Fail> {
+    let db = files.db.inner().bytes().to_vec(alloc)?;
+    let log = files.log.inner().bytes().to_vec(alloc)?;
+    Ok(Image { db, log })
+}
+
+// Stops the machine.
+fn left_in(alloc: Global, files: &mut Files<Fused>, progress: Progress) -> Result<Ended, Fail> {
+    let written = held(alloc, files)?;
+    files.db.crash();
+    files.log.crash();
+    let synced = held(alloc, files)?;
+    Ok(Ended {
+        progress,
+        written,
+        synced,
     })
 }
 
-/// Leaves in each file what was synced.
-pub fn crash(files: &mut Files<Fused>) {
-    files.db.crash();
-    files.log.crash();
-}
-
-/// Opens the files, and gives them back where a call on them fails.
-pub fn opened(
+// Opens the files and does the tasks, until these end or a call on a file fails.
+fn played(
     rt: &(impl Abort + Alloc<A = Global>),
     files: Files<Fused>,
-) -> Result<Connection<FileStore<Fused>>, Files<Fused>> {
+    tasks: &[Task],
+) -> Result<(Progress, Files<Fused>), Fail> {
     assert!(rt; files.may_be_used());
     match Connection::open_files(rt.alloc(), files, options()) {
-        Ok(conn) => Ok(conn),
-        Err((_error, left)) => Err(left.into_files()),
+        Ok(conn) => {
+            let (progress, store) = play(rt, conn, tasks)?;
+            Ok((progress, store.close()))
+        }
+        Err((_error, left)) => Ok((NOT_BEGUN, left.into_files())),
     }
 }
 
-/// The files behind the connection.
-pub fn closed(conn: Connection<FileStore<Fused>>) -> Files<Fused> {
-    conn.into_store().close()
+/// Does the tasks on files that hold these bytes.
+pub fn play_on(
+    rt: &(impl Abort + Alloc<A = Global>),
+    db: &[u8],
+    log: &[u8],
+    passed: Passed,
+    tasks: &[Task],
+) -> Result<Ended, Fail> {
+    let files = Files {
+        db: fused(rt, db, passed.db),
+        log: fused(rt, log, passed.log),
+    };
+    let (progress, mut files) = played(rt, files, tasks)?;
+    left_in(rt.alloc(), &mut files, progress)
 }

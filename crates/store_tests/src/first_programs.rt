@@ -7,8 +7,9 @@ mod rows;
 mod transactions;
 mod walks;
 
-use crate::calls::{RECORD, REPLY, padded, taken_up};
-use bank_store::Bank;
+use crate::calls::{RECORD, REPLY, padded};
+use crate::tasks::Opened;
+use bank_store::{Bank, Refused, adopt};
 use banks::first_bank;
 use batches::first_batch;
 use lives::next_life;
@@ -45,21 +46,29 @@ fn is_posted(rt: &impl Abort, reply: &[u8; 200]) {
     assert_eq!(rt; *reply, padded::<200>(REPLY));
 }
 
+fn are_posted(rt: &impl Abort, replies: &[[u8; 200]]) {
+    for reply in replies {
+        is_posted(rt, reply);
+    }
+}
+
 fn has_new_balance(rt: &impl Abort, reply: &Reply) {
-    assert_eq!(rt; reply.outcome(), Outcome::Posted);
-    assert_eq!(rt; reply.balance(), Cents::new(500));
+    assert_eq!(rt;
+        (reply.outcome(), reply.balance()),
+        (Outcome::Posted, Cents::new(500))
+    );
 }
 
 // A branch is put into new tables, and found there.
-fn over_rows<S: Alter + Drop>(rt: &impl Abort, mut conn: Connection<S>) -> Result<(), Fail> {
+fn over_rows<S: Alter + Drop>(rt: &impl Abort, opened: Opened<S>) -> Result<(), Fail> {
+    let mut conn = opened?;
     assert!(rt; conn.is_autocommit());
-    let row = first_branch(&mut conn)?;
-    assert!(rt; row.is_some());
+    assert!(rt; first_branch(&mut conn)?.is_some());
     Ok(())
 }
 
 // A request is posted, and gets the same reply again, twice in one batch. The accounts have it once.
-fn over_tables<S: Alter>(
+fn over_new_tables<S: Alter>(
     rt: &(impl Abort + Alloc<A = Global>),
     conn: &mut Connection<S>,
 ) -> Result<(), Fail> {
@@ -67,11 +76,18 @@ fn over_tables<S: Alter>(
     store_rows::create(conn)?;
     is_posted(rt, &first_request(conn)?);
     assert!(rt; conn.is_autocommit());
-    for reply in &first_batch(rt.alloc(), conn, &padded::<100>(RECORD))? {
-        is_posted(rt, reply);
-    }
+    are_posted(rt, &first_batch(rt.alloc(), conn, &padded::<100>(RECORD))?);
     assert_eq!(rt; first_accounts(conn)?, (500, Some(4)));
     Ok(())
+}
+
+fn over_tables<S: Alter + Drop>(
+    rt: &(impl Abort + Alloc<A = Global>),
+    opened: Opened<S>,
+) -> Result<Connection<S>, Fail> {
+    let mut conn = opened?;
+    over_new_tables(rt, &mut conn)?;
+    Ok(conn)
 }
 
 fn over_books<S: Alter + Drop>(
@@ -79,9 +95,16 @@ fn over_books<S: Alter + Drop>(
     bank: &mut Bank<S>,
 ) -> Result<(), Fail> {
     let mut output: Vec<u8> = Vec::new(rt.alloc());
-    assert!(rt; first_reports(bank, &mut output)?);
-    assert_eq!(rt; output.as_slice(), REPORTS.as_bytes());
+    let is_consistent = first_reports(bank, &mut output)?;
+    assert_eq!(rt;
+        (is_consistent, output.as_slice()),
+        (true, REPORTS.as_bytes())
+    );
     Ok(())
+}
+
+fn has_balance<C: Counter>(rt: &impl Abort, bank: &mut C) {
+    assert_eq!(rt; bank.balance(Account::new(1).unwrap()), Ok(Cents::new(500)));
 }
 
 // A bank was stopped, and its posting is found in what a stop may have left.
@@ -92,42 +115,53 @@ fn over_lives<S: Alter + Drop>(
 ) -> Result<(), Fail> {
     assert!(rt; conn.is_autocommit());
     let mut bank = next_life(rt.alloc(), stopped, conn)?;
-    let account = Account::new(1).ok_or("account")?;
-    assert_eq!(rt; bank.balance(account)?, Cents::new(500));
+    has_balance(rt, &mut bank);
     Ok(())
 }
 
-// A bank is made and posted to, and its books are written. The other store was given the same calls.
-fn over_banks<S: Alter + Drop>(
+// A bank is made and posted to, and taken up again.
+fn banked<S: Alter + Drop>(
     rt: &(impl Abort + Alloc<A = Global>),
-    conn: Connection<S>,
-    other: Connection<S>,
-) -> Result<(), Fail> {
+    opened: Opened<S>,
+) -> Result<Bank<S>, Fail> {
+    let conn = opened?;
     assert!(rt; conn.is_autocommit());
     let (reply, conn) = first_bank(rt.alloc(), conn)?;
     has_new_balance(rt, &reply);
-    let mut bank = taken_up(rt, conn)?;
-    over_books(rt, &mut bank)?;
-    over_lives(rt, &bank, other)
+    assert!(rt; conn.is_autocommit());
+    match adopt(rt.alloc(), conn) {
+        Ok(bank) => Ok(bank),
+        Err(Refused { fault, conn: _conn }) => Err(fault.into()),
+    }
+}
+
+// The books of a bank are written. The other store was given the same calls.
+fn over_banks<S: Alter + Drop>(
+    rt: &(impl Abort + Alloc<A = Global>),
+    opened: Opened<S>,
+    other: Connection<S>,
+) -> Result<(), Fail> {
+    let mut bank = banked(rt, opened)?;
+    over_lives(rt, &bank, other)?;
+    over_books(rt, &mut bank)
 }
 
 // Over three stores that hold nothing yet.
 fn over_stores<S: Alter + Drop>(
     rt: &(impl Abort + Alloc<A = Global>),
-    one: Connection<S>,
-    mut two: Connection<S>,
-    three: Connection<S>,
+    one: Opened<S>,
+    two: Opened<S>,
+    three: Opened<S>,
 ) -> Result<(), Fail> {
     over_rows(rt, one)?;
-    over_tables(rt, &mut two)?;
+    let two = over_tables(rt, two)?;
     over_banks(rt, three, two)
 }
 
 #[test]
 fn programs_of_the_pages(rt: HostRuntime) -> Result<(), Fail> {
-    let alloc = rt.alloc();
-    let one = Connection::open_in_memory(alloc)?;
-    let two = Connection::open_in_memory(alloc)?;
-    let three = Connection::open_in_memory(alloc)?;
+    let one = Connection::open_in_memory(rt.alloc());
+    let two = Connection::open_in_memory(rt.alloc());
+    let three = Connection::open_in_memory(rt.alloc());
     over_stores(&rt, one, two, three)
 }

@@ -24,4 +24,6 @@ mod sql;
 #[cfg(test)]
 mod stops;
 #[cfg(test)]
+mod tasks;
+#[cfg(test)]
 mod walks;

@@ -1,8 +1,8 @@
 //! An audit that finds damage and a statement to the byte, and a writer that fails at each byte.
-use crate::reports::cut_after;
+use crate::reports::audit_is_cut_to;
 use bank_reports::{
-    Audit, BranchLines, BranchSums, OrdinalSums, Sum, TellerSums, WriteFault, audit_of_sums,
-    statement_closing, statement_heading, statement_line, statement_names, write_audit,
+    Audit, BranchLines, BranchSums, OrdinalSums, Sum, TellerSums, audit_of_sums, statement_closing,
+    statement_heading, statement_line, statement_names, write_audit,
 };
 use bank_store::{StoredBranch, StoredPosting, StoredTeller};
 use message_records::{Account, Cents, Moment, Whole};
@@ -87,33 +87,40 @@ fn an_audit_that_finds_damage(rt: HostRuntime) -> Result<(), Fail> {
 fn a_writer_that_fails_at_each_byte(rt: HostRuntime) -> Result<(), Fail> {
     let audit = damaged(rt.alloc())?;
     for most in 0..DAMAGE.len() {
-        let mut writer = cut_after(rt.alloc(), most);
-        assert_eq!(rt; write_audit(&audit, &mut writer), Err(WriteFault));
-        assert!(rt; writer.taken.as_slice() == &DAMAGE[..most]);
+        audit_is_cut_to(&rt, &audit, &DAMAGE[..most]);
+    }
+    Ok(())
+}
+
+fn posting() -> StoredPosting {
+    StoredPosting {
+        ordinal: Ordinal::new(1).unwrap(),
+        account: 1,
+        teller: 1,
+        branch: 1,
+        delta: 500,
+        moment: Moment::new(1000).unwrap(),
+    }
+}
+
+// Writes the lines of a statement of that posting.
+fn add_lines(text: &mut Vec<u8>) -> Result<(), Fail> {
+    let balance = Cents::new(500).unwrap();
+    for line in [
+        statement_heading(Account::new(1).unwrap()),
+        statement_names(),
+        statement_line(&posting(), balance),
+        statement_closing(balance),
+    ] {
+        text.extend_from_slice(line.as_str().as_bytes())?;
     }
     Ok(())
 }
 
 #[test]
 fn a_statement(rt: HostRuntime) -> Result<(), Fail> {
-    let balance = Cents::new(500).ok_or("balance")?;
-    let posting = StoredPosting {
-        ordinal: Ordinal::new(1).ok_or("ordinal")?,
-        account: 1,
-        teller: 1,
-        branch: 1,
-        delta: 500,
-        moment: Moment::new(1000).ok_or("moment")?,
-    };
     let mut text: Vec<u8> = Vec::new(rt.alloc());
-    for line in [
-        statement_heading(Account::new(1).ok_or("account")?),
-        statement_names(),
-        statement_line(&posting, balance),
-        statement_closing(balance),
-    ] {
-        text.extend_from_slice(line.as_str().as_bytes())?;
-    }
+    add_lines(&mut text)?;
     assert!(rt; text.as_slice() == STATEMENT);
     Ok(())
 }

@@ -1,26 +1,34 @@
 //! Reports to a writer that refuses after so many bytes.
-use crate::calls::{made, taken_up};
 use crate::readings::one_cent;
+use crate::tasks::{Task, play_in_memory};
 use bank_audits::{ReportFault, audit, write_statement};
-use bank_reports::{WriteFault, write_audit};
+use bank_reports::{Audit, WriteFault, write_audit};
 use bank_store::Bank;
 use failing_ends::CutWriter;
-use message_records::{Account, Cents, Moment, Outcome, Reply, encode_reply, encode_request};
+use message_records::{
+    Account, Cents, Moment, Outcome, Reply, Request, encode_reply, encode_request,
+};
 use posting_core::Counter;
-use sqlite::{Alter, Connection};
+use sqlite::Alter;
 use std::alloc::{Alloc, Global};
 use std::io::ErrorKind;
 use std::process::Abort;
 use std::test::Fail;
 
-/// Takes so many bytes, and then fails.
-pub fn cut_after(alloc: Global, most: usize) -> CutWriter {
+// Takes so many bytes, and then fails.
+fn cut_after(alloc: Global, most: usize) -> CutWriter {
     CutWriter {
         taken: Vec::new(alloc),
         most,
         fault: Some(ErrorKind::BrokenPipe),
         writes: 0,
     }
+}
+
+// The reply that it was posted.
+fn posted(request: Request, balance: u32) -> Option<Reply> {
+    let balance = Cents::new(i64::from(balance))?;
+    Reply::new(Outcome::Posted, Some(request), Some(balance))
 }
 
 // Posts a cent to an account, which is the last of so many that it gets. Its reply is that it was posted.
@@ -31,13 +39,35 @@ fn post<C: Counter>(
     number: u64,
     count: u32,
 ) -> Result<(), Fail> {
-    let moment = Moment::new(1000).ok_or("moment")?;
-    let request = one_cent(account, number)?;
-    let balance = Cents::new(i64::from(count)).ok_or("balance")?;
-    let wanted = Reply::new(Outcome::Posted, Some(request), Some(balance)).ok_or("reply")?;
-    let reply = bank.submit(moment, &encode_request(&request))?;
+    let request = one_cent(account, number).ok_or("request")?;
+    let wanted = posted(request, count).ok_or("reply")?;
+    let reply = bank.submit(Moment::new(1000).unwrap(), &encode_request(&request))?;
     assert_eq!(rt; reply, encode_reply(&wanted));
     Ok(())
+}
+
+fn account() -> Account {
+    Account::new(1).unwrap()
+}
+
+fn statement_of<S: Alter + Drop>(alloc: Global, bank: &mut Bank<S>) -> Result<Vec<u8>, Fail> {
+    let mut whole = Vec::new(alloc);
+    write_statement(bank, account(), &mut whole)?;
+    Ok(whole)
+}
+
+// A writer that refuses behind these bytes of the statement took them.
+fn statement_is_cut_to<S: Alter + Drop>(
+    rt: &(impl Abort + Alloc<A = Global>),
+    bank: &mut Bank<S>,
+    text: &[u8],
+) {
+    let mut writer = cut_after(rt.alloc(), text.len());
+    let written = write_statement(bank, account(), &mut writer);
+    assert_eq!(rt;
+        (written, writer.taken.as_slice()),
+        (Err(ReportFault::Write), text)
+    );
 }
 
 // The statement of account 1 to a writer that refuses after so many bytes, for each number of them, and a
@@ -45,16 +75,11 @@ fn post<C: Counter>(
 fn statement_is_cut<S: Alter + Drop>(
     rt: &(impl Abort + Alloc<A = Global>),
     bank: &mut Bank<S>,
+    whole: &[u8],
 ) -> Result<(), Fail> {
-    let account = Account::new(1).ok_or("account")?;
-    let mut whole = Vec::new(rt.alloc());
-    write_statement(bank, account, &mut whole)?;
     let mut count = 0u32;
     for most in 0..=whole.len() {
-        let mut writer = cut_after(rt.alloc(), most);
-        let written = write_statement(bank, account, &mut writer);
-        assert_eq!(rt; written, Err(ReportFault::Write));
-        assert_eq!(rt; writer.taken.as_slice(), &whole[..most]);
+        statement_is_cut_to(rt, bank, &whole[..most]);
         count = count.saturating_add(1);
         post(rt, bank, 2, u64::from(count) + 2, count)?;
     }
@@ -62,36 +87,45 @@ fn statement_is_cut<S: Alter + Drop>(
     Ok(())
 }
 
+/// A writer that refuses behind these bytes of an audit's text took them.
+pub fn audit_is_cut_to(rt: &(impl Abort + Alloc<A = Global>), told: &Audit, text: &[u8]) {
+    let mut writer = cut_after(rt.alloc(), text.len());
+    let written = write_audit(told, &mut writer);
+    assert_eq!(rt; (written, writer.taken.as_slice()), (Err(WriteFault), text));
+}
+
+fn audit_is_cut(rt: &(impl Abort + Alloc<A = Global>), told: &Audit, whole: &[u8]) {
+    assert!(rt; whole.len() > 300);
+    for most in 0..=whole.len() {
+        audit_is_cut_to(rt, told, &whole[..most]);
+    }
+}
+
 // The same of an audit's text.
-fn audit_is_cut<S: Alter + Drop>(
+fn audit_of_bank_is_cut<S: Alter + Drop>(
     rt: &(impl Abort + Alloc<A = Global>),
     bank: &mut Bank<S>,
 ) -> Result<(), Fail> {
     let told = audit(bank)?;
     let mut whole = Vec::new(rt.alloc());
     write_audit(&told, &mut whole)?;
-    assert!(rt; whole.len() > 300);
-    for most in 0..=whole.len() {
-        let mut writer = cut_after(rt.alloc(), most);
-        assert_eq!(rt; write_audit(&told, &mut writer), Err(WriteFault));
-        assert_eq!(rt; writer.taken.as_slice(), &whole[..most]);
-    }
+    audit_is_cut(rt, &told, &whole);
     Ok(())
 }
 
-// Of a bank with two postings to account 1.
-fn reports_are_cut<S: Alter + Drop>(
+/// Cuts the reports of a bank with two postings to account 1.
+pub fn reports_are_cut<S: Alter + Drop>(
     rt: &(impl Abort + Alloc<A = Global>),
-    conn: Connection<S>,
+    bank: &mut Bank<S>,
 ) -> Result<(), Fail> {
-    let mut bank = taken_up(rt, made(rt, conn)?)?;
-    post(rt, &mut bank, 1, 1, 1)?;
-    post(rt, &mut bank, 1, 2, 2)?;
-    statement_is_cut(rt, &mut bank)?;
-    audit_is_cut(rt, &mut bank)
+    post(rt, bank, 1, 1, 1)?;
+    post(rt, bank, 1, 2, 2)?;
+    let statement = statement_of(rt.alloc(), bank)?;
+    statement_is_cut(rt, bank, &statement)?;
+    audit_of_bank_is_cut(rt, bank)
 }
 
 #[test]
 fn reports_to_a_writer_that_refuses(rt: HostRuntime) -> Result<(), Fail> {
-    reports_are_cut(&rt, Connection::open_in_memory(rt.alloc())?)
+    play_in_memory(&rt, &[Task::Make, Task::Report])
 }

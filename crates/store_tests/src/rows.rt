@@ -2,9 +2,10 @@
 ghost use Rattle.std.specs.Prelude.{◌≡◌, ◌≤◌};
 
 use crate::sql::{batch, number};
+use crate::tasks::Opened;
 use message_records::{Account, Branch, Cents, Moment, Number, Outcome, Teller};
 use posting_core::{BranchRow, HistoryRow, Kept, Ordinal, RequestRow, Rule};
-use sqlite::{Alter, Connection, Error, ErrorCode, Transaction};
+use sqlite::{Alter, Connection, Error, Transaction};
 use std::process::Abort;
 use std::test::Fail;
 use store_rows::{
@@ -14,14 +15,8 @@ use store_rows::{
     set_balance, set_decided,
 };
 
-fn not_now() -> Error {
-    Error::SqliteFailure(ErrorCode::TransactionState)
-}
-
-fn make<S: Alter>(conn: &mut Connection<S>) -> Result<(), Error> {
-    if !conn.is_autocommit() {
-        return Err(not_now());
-    }
+fn make<S: Alter>(rt: &impl Abort, conn: &mut Connection<S>) -> Result<(), Error> {
+    assert!(rt; conn.is_autocommit());
     create(conn)
 }
 
@@ -122,143 +117,113 @@ fn keep<S: Alter>(tx: &mut Transaction<'_, S>) -> Result<(), TableFault>
     add_request(tx, request_row())
 }
 
-// The balances of a posting, and the count; how many of the four rows are there.
-fn write<S: Alter>(tx: &mut Transaction<'_, S>) -> Result<u32, TableFault>
+// The balances of a posting, and the count.
+fn set<S: Alter>(rt: &impl Abort, tx: &mut Transaction<'_, S>)
     ensures { tx.new.conn.ghost_name ≡ tx.old.conn.ghost_name }
 {
-    let one = set_balance(tx, Holder::Account(account()), cents(-500))?;
-    let two = set_balance(tx, Holder::Teller(teller()), cents(-500))?;
-    let three = set_balance(tx, Holder::Branch(branch()), cents(-500))?;
-    let four = set_decided(tx, 1)?;
-    Ok(counted([one, two, three]) + u32::from(four))
+    assert_eq!(rt;
+        set_balance(tx, Holder::Account(account()), cents(-500)),
+        Ok(true)
+    );
+    assert_eq!(rt;
+        set_balance(tx, Holder::Teller(teller()), cents(-500)),
+        Ok(true)
+    );
+    assert_eq!(rt;
+        set_balance(tx, Holder::Branch(branch()), cents(-500)),
+        Ok(true)
+    );
+    assert_eq!(rt; set_decided(tx, 1), Ok(true));
 }
 
-fn post<S: Alter>(conn: &mut Connection<S>) -> Result<u32, TableFault> {
-    if !conn.is_autocommit() {
-        return Err(TableFault::Sqlite(not_now()));
-    }
+fn post<S: Alter>(rt: &impl Abort, conn: &mut Connection<S>) -> Result<(), TableFault> {
+    assert!(rt; conn.is_autocommit());
     let mut tx = conn.transaction();
     open(&mut tx)?;
     keep(&mut tx)?;
-    let written = write(&mut tx)?;
+    set(rt, &mut tx);
     commit(tx)?;
-    Ok(written)
+    Ok(())
 }
 
 // What the tables hold, and what they don't.
-#[derive(Clone, Copy, Debug, PartialEq, Eq)]
-struct Balances {
-    meta: Option<StoredMeta>,
-    teller: Option<Cents>,
-    account: Option<Cents>,
-    no_account: Option<Cents>,
-}
-
-fn read_balances<S: Alter>(tx: &mut Transaction<'_, S>) -> Result<Balances, TableFault>
+fn has_balances<S: Alter>(rt: &impl Abort, tx: &mut Transaction<'_, S>)
     ensures { tx.new.conn.ghost_name ≡ tx.old.conn.ghost_name }
 {
-    Ok(Balances {
-        meta: read_meta(tx)?,
-        teller: balance_of(tx, Member::Teller(teller()))?,
-        account: balance_of(tx, Member::Account(account()))?,
-        no_account: balance_of(tx, Member::Account(Account::new(100_002).unwrap()))?,
-    })
+    let meta = StoredMeta {
+        version: 1,
+        decided: 1,
+    };
+    let other = Account::new(100_002).unwrap();
+    assert_eq!(rt; read_meta(tx), Ok(Some(meta)));
+    assert_eq!(rt;
+        balance_of(tx, Member::Teller(teller())),
+        Ok(Some(cents(-500)))
+    );
+    assert_eq!(rt;
+        balance_of(tx, Member::Account(account())),
+        Ok(Some(cents(-500)))
+    );
+    assert_eq!(rt; balance_of(tx, Member::Account(other)), Ok(None));
 }
 
-#[derive(Clone, Copy, Debug, PartialEq, Eq)]
-struct Rows {
-    branch: Option<BranchRow>,
-    next: Option<BranchRow>,
-    none_above: Option<BranchRow>,
-    request: Option<RequestRow>,
-}
-
-fn read_rows<S: Alter>(tx: &mut Transaction<'_, S>) -> Result<Rows, TableFault>
+fn has_rows<S: Alter>(rt: &impl Abort, tx: &mut Transaction<'_, S>)
     ensures { tx.new.conn.ghost_name ≡ tx.old.conn.ghost_name }
 {
-    Ok(Rows {
-        branch: find_branch(tx, branch())?,
-        next: next_branch(tx, 1)?,
-        none_above: next_branch(tx, 2)?,
-        request: find_request(tx, teller(), Number::new(7).unwrap())?,
-    })
+    let number = Number::new(7).unwrap();
+    assert_eq!(rt; find_branch(tx, branch()), Ok(Some(branch_row(-500))));
+    assert_eq!(rt; next_branch(tx, 1), Ok(Some(branch_row(-500))));
+    assert_eq!(rt; next_branch(tx, 2), Ok(None));
+    assert_eq!(rt; find_request(tx, teller(), number), Ok(Some(request_row())));
 }
 
-fn read<S: Alter>(conn: &mut Connection<S>) -> Result<(Balances, Rows), TableFault> {
-    if !conn.is_autocommit() {
-        return Err(TableFault::Sqlite(not_now()));
-    }
+fn read<S: Alter>(rt: &impl Abort, conn: &mut Connection<S>) {
+    assert!(rt; conn.is_autocommit());
     let mut tx = conn.transaction();
-    let one = read_balances(&mut tx)?;
-    let two = read_rows(&mut tx)?;
-    Ok((one, two))
+    has_balances(rt, &mut tx);
+    has_rows(rt, &mut tx);
 }
 
-fn taken<S: Alter>(conn: &mut Connection<S>) -> Result<(), TableFault> {
-    if !conn.is_autocommit() {
-        return Err(TableFault::Sqlite(not_now()));
-    }
+fn taken<S: Alter>(rt: &impl Abort, conn: &mut Connection<S>) -> Result<(), TableFault> {
+    assert!(rt; conn.is_autocommit());
     let mut tx = conn.transaction();
     open(&mut tx)
 }
 
+// A table of somebody else's.
+const NOTE: &str =
+    "CREATE TABLE note (id INTEGER PRIMARY KEY, title TEXT NOT NULL) STRICT; INSERT INTO note (title) VALUES ('mine')";
+
+const NOTES: &str = "SELECT count(*) FROM note WHERE title = 'mine'";
+
+const POSTINGS: &str = "SELECT count(*) FROM history WHERE delta = -500 AND moment = 1000";
+
 // A bank is made once, and a table that was there before stays with its row.
-fn is_made_beside<S: Alter>(rt: &impl Abort, conn: &mut Connection<S>) -> Result<(), Fail> {
-    batch(
-        conn,
-        "CREATE TABLE note (id INTEGER PRIMARY KEY, title TEXT NOT NULL) STRICT; INSERT INTO note (title) VALUES ('mine')",
-    )?;
-    assert_eq!(rt; accepted(conn)?, 0);
-    make(conn)?;
-    assert_eq!(rt; accepted(conn)?, 6);
-    assert_eq!(rt;
-        number(conn, "SELECT count(*) FROM note WHERE title = 'mine'")?,
-        1
-    );
-    assert!(rt; make(conn).is_err());
-    Ok(())
+fn is_made_beside<S: Alter>(rt: &impl Abort, conn: &mut Connection<S>) {
+    assert_eq!(rt; batch(conn, NOTE), Ok(()));
+    assert_eq!(rt; accepted(conn), Ok(0));
+    assert_eq!(rt; make(rt, conn), Ok(()));
+    assert_eq!(rt; accepted(conn), Ok(6));
+    assert_eq!(rt; number(conn, NOTES), Ok(1));
+    assert!(rt; make(rt, conn).is_err());
 }
 
 // What a posting wrote is read, and its keys are taken.
-fn is_read<S: Alter>(rt: &impl Abort, conn: &mut Connection<S>) -> Result<(), Fail> {
-    assert_eq!(rt; post(conn)?, 4);
-    let amount = Some(cents(-500));
-    let (balances, rows) = read(conn)?;
-    assert_eq!(rt;
-        balances,
-        Balances {
-            meta: Some(StoredMeta {
-                version: 1,
-                decided: 1
-            }),
-            teller: amount,
-            account: amount,
-            no_account: None,
-        }
-    );
-    assert_eq!(rt;
-        rows,
-        Rows {
-            branch: Some(branch_row(-500)),
-            next: Some(branch_row(-500)),
-            none_above: None,
-            request: Some(request_row()),
-        }
-    );
-    assert_eq!(rt;
-        number(
-            conn,
-            "SELECT count(*) FROM history WHERE delta = -500 AND moment = 1000"
-        )?,
-        1
-    );
-    assert_eq!(rt; taken(conn), Err(TableFault::Damaged(Rule::Key)));
+fn is_read<S: Alter>(rt: &impl Abort, conn: &mut Connection<S>) {
+    assert_eq!(rt; post(rt, conn), Ok(()));
+    read(rt, conn);
+    assert_eq!(rt; number(conn, POSTINGS), Ok(1));
+    assert_eq!(rt; taken(rt, conn), Err(TableFault::Damaged(Rule::Key)));
+}
+
+fn statements_over<S: Alter + Drop>(rt: &impl Abort, opened: Opened<S>) -> Result<(), Fail> {
+    let mut conn = opened?;
+    is_made_beside(rt, &mut conn);
+    is_read(rt, &mut conn);
     Ok(())
 }
 
 #[test]
 fn each_statement(rt: HostRuntime) -> Result<(), Fail> {
-    let mut conn = Connection::open_in_memory(rt.alloc())?;
-    is_made_beside(&rt, &mut conn)?;
-    is_read(&rt, &mut conn)
+    statements_over(&rt, Connection::open_in_memory(rt.alloc()))
 }

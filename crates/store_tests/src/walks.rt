@@ -1,11 +1,9 @@
 //! Walks over rows that stand beside one another in two tables, across the border of what is read ahead.
 use crate::sql::put;
-use bank_store::{
-    Bank, Joined, Refused, StoredPosting, StoredRequest, adopt, create, each_history, each_request,
-};
+use crate::tasks::{Task, play_in_memory};
+use bank_store::{Bank, Joined, StoredPosting, StoredRequest, Walk, each_history, each_request};
 use posting_core::{Fault, Rule};
-use sqlite::{Alter, Connection};
-use std::alloc::{Alloc, Global};
+use sqlite::{Alter, Connection, Error};
 use std::process::Abort;
 use std::test::Fail;
 
@@ -15,39 +13,37 @@ const POSTING: &str = "INSERT INTO history VALUES (?1, 1, 1, 1, 5, 1000)";
 
 const BROKEN_POSTING: &str = "INSERT INTO history VALUES (?1, 1, 1, 1, 5, -1)";
 
+const NO_POSTING: &str = "DELETE FROM history WHERE ordinal = ?1";
+
 // An ordinal whose posting can't be read, and which no request has.
 const BROKEN: i64 = 90;
+
+const DAMAGED: Fault = Fault::Damaged(Rule::Value);
+
+/// The rows that are put into the tables, one after another, before they are walked over.
+#[derive(Clone, Copy)]
+pub enum Rows {
+    /// 149 requests, and postings of some of them, of `BROKEN` and of 200.
+    Many,
+    /// A request beside the posting that can't be read.
+    Broken,
+    /// That posting is gone.
+    Gone,
+}
+
+/// The ordinal of a row, and that of the one beside it.
+pub type Ordinals = (u64, Option<u64>);
+
+pub type Requests<'a, S> = Walk<'a, S, Joined<StoredRequest, StoredPosting>>;
+
+pub type Postings<'a, S> = Walk<'a, S, Joined<StoredPosting, StoredRequest>>;
 
 // Those of 150 requests that were posted: few, none for longer than is read ahead, and few again.
 fn is_posted(ordinal: i64) -> bool {
     ordinal % 3 == 1 && !(30..=120).contains(&ordinal)
 }
 
-fn bank_of<S: Alter + Drop>(
-    rt: &(impl Abort + Alloc<A = Global>),
-    conn: Connection<S>,
-) -> Result<Bank<S>, Fail> {
-    assert!(rt; conn.is_autocommit());
-    match adopt(rt.alloc(), conn) {
-        Ok(bank) => Ok(bank),
-        Err(Refused { fault, conn: _conn }) => Err(fault.into()),
-    }
-}
-
-// A bank with no row but that of the bank itself.
-fn made<S: Alter + Drop>(
-    rt: &(impl Abort + Alloc<A = Global>),
-    conn: Connection<S>,
-) -> Result<Connection<S>, Fail> {
-    assert!(rt; conn.is_autocommit());
-    match create(rt.alloc(), conn) {
-        Ok(bank) => Ok(bank.release()),
-        Err(Refused { fault, conn: _conn }) => Err(fault.into()),
-    }
-}
-
-// 149 requests, and postings of some of them, of `BROKEN` and of 200.
-fn fill<S: Alter>(conn: &mut Connection<S>) -> Result<(), Fail> {
+fn fill<S: Alter>(conn: &mut Connection<S>) -> Result<usize, Error> {
     for ordinal in 1..=150 {
         if ordinal != BROKEN {
             put(conn, REQUEST, ordinal)?;
@@ -57,129 +53,130 @@ fn fill<S: Alter>(conn: &mut Connection<S>) -> Result<(), Fail> {
         }
     }
     put(conn, BROKEN_POSTING, BROKEN)?;
-    put(conn, POSTING, 200)?;
-    Ok(())
+    put(conn, POSTING, 200)
 }
 
-// The row is the request of this ordinal, with its own posting where it was posted.
-fn is_request(rt: &impl Abort, row: Option<Joined<StoredRequest, StoredPosting>>, ordinal: u8) {
-    let row = row.expect(rt, "a request");
-    let stored = row.stored;
-    let beside = row.beside;
-    assert_eq!(rt; stored.ordinal.get(), u64::from(ordinal));
-    assert_eq!(rt; beside.is_some(), is_posted(i64::from(ordinal)));
-    if let Some(posting) = beside {
-        assert_eq!(rt; posting.ordinal.get(), u64::from(ordinal));
+/// Puts the rows into the tables, the last of which is one row.
+pub fn put_rows<S: Alter>(conn: &mut Connection<S>, rows: Rows) -> Result<usize, Error> {
+    match rows {
+        Rows::Many => fill(conn),
+        Rows::Broken => put(conn, REQUEST, BROKEN),
+        Rows::Gone => put(conn, NO_POSTING, BROKEN),
     }
 }
 
-// The row is the posting of this ordinal, with its request.
-fn is_posting(rt: &impl Abort, row: Option<Joined<StoredPosting, StoredRequest>>, ordinal: u8) {
-    let row = row.expect(rt, "a posting");
-    let stored = row.stored;
-    let request = row.beside.expect(rt, "its request");
-    assert_eq!(rt; stored.ordinal.get(), u64::from(ordinal));
-    assert_eq!(rt; request.ordinal.get(), u64::from(ordinal));
+fn next_request<S: Alter>(walk: &mut Requests<'_, S>) -> Result<Option<Ordinals>, Fault> {
+    let Some(Joined { stored, beside }) = walk.next()? else {
+        return Ok(None);
+    };
+    let beside = match beside {
+        Some(posting) => Some(posting.ordinal.get()),
+        None => None,
+    };
+    Ok(Some((stored.ordinal.get(), beside)))
 }
 
-// Each request is given once, with its own posting.
-fn requests_are_given<S: Alter>(rt: &impl Abort, bank: &mut Bank<S>) -> Result<(), Fail> {
-    let mut walk = each_request(bank)?;
+/// The ordinals of the next posting and of its request.
+pub fn next_posting<S: Alter>(walk: &mut Postings<'_, S>) -> Result<Option<Ordinals>, Fault> {
+    let Some(Joined { stored, beside }) = walk.next()? else {
+        return Ok(None);
+    };
+    let beside = match beside {
+        Some(request) => Some(request.ordinal.get()),
+        None => None,
+    };
+    Ok(Some((stored.ordinal.get(), beside)))
+}
+
+// Each request is given once, with its own posting where it was posted.
+fn each_is_given<S: Alter>(rt: &impl Abort, walk: &mut Requests<'_, S>) {
     for ordinal in 1..=150u8 {
-        if i64::from(ordinal) == BROKEN {
-            continue;
-        }
-        is_request(rt, walk.next()?, ordinal);
-    }
-    assert_eq!(rt; walk.next()?, None);
-    assert_eq!(rt; walk.next()?, None);
-    Ok(())
-}
-
-// Each posting is given once with its request, up to the one that can't be read.
-fn postings_are_given<S: Alter>(rt: &impl Abort, bank: &mut Bank<S>) -> Result<(), Fail> {
-    let mut walk = each_history(bank)?;
-    for ordinal in 1..90u8 {
-        if is_posted(i64::from(ordinal)) {
-            is_posting(rt, walk.next()?, ordinal);
+        if i64::from(ordinal) != BROKEN {
+            let own = u64::from(ordinal);
+            let beside = if is_posted(i64::from(ordinal)) {
+                Some(own)
+            } else {
+                None
+            };
+            assert_eq!(rt; next_request(walk), Ok(Some((own, beside))));
         }
     }
-    assert_eq!(rt; walk.next(), Err(Fault::Damaged(Rule::Value)));
-    assert_eq!(rt; walk.next(), Err(Fault::Down));
-    Ok(())
-}
-
-// The posting without a request is given as one.
-fn last_posting_is_alone<S: Alter>(rt: &impl Abort, bank: &mut Bank<S>) -> Result<(), Fail> {
-    let mut walk = each_history(bank)?;
-    let mut last = None;
-    for _ in 0..150u8 {
-        match walk.next()? {
-            Some(row) => last = Some(row),
-            None => break,
-        }
-    }
-    let last = last.expect(rt, "a posting");
-    let stored = last.stored;
-    assert_eq!(rt; stored.ordinal.get(), 200);
-    assert_eq!(rt; last.beside, None);
-    Ok(())
+    assert_eq!(rt; next_request(walk), Ok(None));
+    assert_eq!(rt; next_request(walk), Ok(None));
 }
 
 // A request whose posting can't be read isn't given, and those before it are.
-fn request_of_a_broken_posting<S: Alter>(rt: &impl Abort, bank: &mut Bank<S>) -> Result<(), Fail> {
-    let mut walk = each_request(bank)?;
+fn given_to_the_broken<S: Alter>(rt: &impl Abort, walk: &mut Requests<'_, S>) {
     for _ in 1..BROKEN {
-        assert!(rt; walk.next()?.is_some());
+        assert!(rt; matches!(next_request(walk), Ok(Some(_))));
     }
-    assert_eq!(rt; walk.next(), Err(Fault::Damaged(Rule::Value)));
+    assert_eq!(rt; next_request(walk), Err(DAMAGED));
+}
+
+// Each posting is given once with its request, up to the one that can't be read.
+fn each_posting_to_the_broken<S: Alter>(rt: &impl Abort, walk: &mut Postings<'_, S>) {
+    for ordinal in 1..90u8 {
+        if is_posted(i64::from(ordinal)) {
+            let own = u64::from(ordinal);
+            assert_eq!(rt; next_posting(walk), Ok(Some((own, Some(own)))));
+        }
+    }
+    assert_eq!(rt; next_posting(walk), Err(DAMAGED));
+    assert_eq!(rt; next_posting(walk), Err(Fault::Down));
+}
+
+// The posting without a request is given as one.
+fn last_is_alone<S: Alter>(rt: &impl Abort, walk: &mut Postings<'_, S>) {
+    let mut last = Ok(None);
+    for _ in 0..150u8 {
+        let next = next_posting(walk);
+        if next == Ok(None) {
+            break;
+        }
+        last = next;
+    }
+    assert_eq!(rt; last, Ok(Some((200, None))));
+}
+
+fn over_requests<S: Alter>(rt: &impl Abort, bank: &mut Bank<S>, rows: Rows) -> Result<(), Fault> {
+    let mut walk = each_request(bank)?;
+    match rows {
+        Rows::Broken => given_to_the_broken(rt, &mut walk),
+        _ => each_is_given(rt, &mut walk),
+    }
     Ok(())
 }
 
-// Takes up the bank, asks it, and gives the connection back.
-fn walked<S: Alter + Drop>(
-    rt: &(impl Abort + Alloc<A = Global>),
-    conn: Connection<S>,
-) -> Result<Connection<S>, Fail> {
-    let mut bank = bank_of(rt, conn)?;
-    requests_are_given(rt, &mut bank)?;
-    postings_are_given(rt, &mut bank)?;
-    Ok(bank.release())
+fn over_postings<S: Alter>(rt: &impl Abort, bank: &mut Bank<S>, rows: Rows) -> Result<(), Fault> {
+    let mut walk = each_history(bank)?;
+    match rows {
+        Rows::Gone => last_is_alone(rt, &mut walk),
+        _ => each_posting_to_the_broken(rt, &mut walk),
+    }
+    Ok(())
 }
 
-// The same where a request is beside the posting that can't be read.
-fn walked_to_the_broken<S: Alter + Drop>(
-    rt: &(impl Abort + Alloc<A = Global>),
-    mut conn: Connection<S>,
-) -> Result<Connection<S>, Fail> {
-    put(&mut conn, REQUEST, BROKEN)?;
-    let mut bank = bank_of(rt, conn)?;
-    request_of_a_broken_posting(rt, &mut bank)?;
-    Ok(bank.release())
-}
-
-// The same where that posting is gone.
-fn walked_to_the_last<S: Alter + Drop>(
-    rt: &(impl Abort + Alloc<A = Global>),
-    mut conn: Connection<S>,
-) -> Result<(), Fail> {
-    put(&mut conn, "DELETE FROM history WHERE ordinal = ?1", BROKEN)?;
-    let mut bank = bank_of(rt, conn)?;
-    last_posting_is_alone(rt, &mut bank)
-}
-
-fn beside_one_another<S: Alter + Drop>(
-    rt: &(impl Abort + Alloc<A = Global>),
-    conn: Connection<S>,
-) -> Result<(), Fail> {
-    let mut conn = made(rt, conn)?;
-    fill(&mut conn)?;
-    let conn = walked(rt, conn)?;
-    let conn = walked_to_the_broken(rt, conn)?;
-    walked_to_the_last(rt, conn)
+/// Walks over what was put.
+pub fn walk_over<S: Alter>(rt: &impl Abort, bank: &mut Bank<S>, rows: Rows) -> Result<(), Fault> {
+    match rows {
+        Rows::Many => {
+            over_requests(rt, bank, rows)?;
+            over_postings(rt, bank, rows)
+        }
+        Rows::Broken => over_requests(rt, bank, rows),
+        Rows::Gone => over_postings(rt, bank, rows),
+    }
 }
 
 #[test]
 fn rows_beside_one_another(rt: HostRuntime) -> Result<(), Fail> {
-    beside_one_another(&rt, Connection::open_in_memory(rt.alloc())?)
+    play_in_memory(
+        &rt,
+        &[
+            Task::MakeEmpty,
+            Task::Walk(Rows::Many),
+            Task::Walk(Rows::Broken),
+            Task::Walk(Rows::Gone),
+        ],
+    )
 }
