@@ -4,12 +4,12 @@
 #     examples/day.sh [PROGRAM]
 #
 # It needs the built program (cd crates/bank && rt run -- --help), works in a folder of its own, and compares what the
-# program writes with the files of the day. The gate plays the same day: it is the first part of the script of
-# crates/bank_runs, whose folder data/ holds the plans, the records, and the replies and reports that have to come.
+# program writes with the files of the day. The gate plays the same day: it is the first of the runs of
+# crates/bank_trials, whose folder data/ holds the plans, the records, and the replies and reports that have to come.
 set -eu
 here="$(cd "$(dirname "$0")/.." && pwd)"
 bank="$(realpath "${1:-$here/crates/bank/out/bank}")"
-day="$here/crates/bank_runs/data"
+day="$here/crates/bank_trials/data"
 work="$(mktemp -d)"
 trap 'rm -rf "$work"' EXIT
 cd "$work"

@@ -69,7 +69,7 @@ def main():
     log = sys.argv[1]
     spent, peak, began = {}, 0, time.monotonic()
     with open(log, "w") as out:
-        gate = subprocess.Popen(["rt", "ci"], stdin=subprocess.DEVNULL, stdout=out, stderr=subprocess.STDOUT)
+        gate = subprocess.Popen(["rt", "ci", "--anew"], stdin=subprocess.DEVNULL, stdout=out, stderr=subprocess.STDOUT)
         while gate.poll() is None:
             peak = max(peak, sample(spent))
             time.sleep(1)

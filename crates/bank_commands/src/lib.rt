@@ -3,7 +3,7 @@
 //! [`audit_file`] says whether the books agree (TPC-B clause 2), and [`statement`] writes the postings of an
 //! account. Each but [`init`] finds the bank in its file, and each closes the file after its work.
 //!
-//! The function `first_commands` of `bank_runs`, which its script runs, makes a bank, opens the branches of
+//! The function `first_commands` of `bank_trials`, which its script runs, makes a bank, opens the branches of
 //! a plan and posts the records of an input:
 //!
 //! ```rust

@@ -1,7 +1,7 @@
 //! How a command of the program `bank` ends. One that did its work prints a line, if it has one, and ends
 //! with the status 0 or 5. One that didn't writes `bank: ` and the text of its [`CommandFault`] to standard
 //! error, and ends with the status 3 or 4. Words that are no command end with 2. The function `first_ending`
-//! of `bank_runs`, which its script runs, is the end of `init`:
+//! of `bank_trials`, which its script runs, is the end of `init`:
 //!
 //! ```rust
 //! use bank_endings::{Status, print_created, tell};

@@ -2,7 +2,7 @@
 //!
 //! A commit writes each page that it has changed whole, and so a new file has small pages, of
 //! [`PAGE_BYTES`]. A file that holds a database keeps the pages that it has. The function `first_file` of
-//! `bank_runs`, which its script runs, makes a file with one row in it. The file then has two pages, of
+//! `bank_trials`, which its script runs, makes a file with one row in it. The file then has two pages, of
 //! 2,048 bytes:
 //!
 //! ```rust

@@ -2,7 +2,7 @@
 //! the file if there is none. [`find_bank`] makes and writes no file where no bank can be. [`close`] closes
 //! the files; what was committed is kept even if that fails.
 //!
-//! The function `first_opening` of `bank_runs`, which its script runs, makes a bank, finds it again and
+//! The function `first_opening` of `bank_trials`, which its script runs, makes a bank, finds it again and
 //! opens branch 1 with three accounts:
 //!
 //! ```rust

@@ -30,7 +30,7 @@
 //! ```
 //!
 //! Read next: the contract of [`run`], a clause for what each command does and prints; `specs/Running`, how
-//! a run ends. The crate `bank_runs` plays a script of such runs.
+//! a run ends. The crate `bank_trials` plays a script of such runs.
 #![tactic(auto)]
 
 mod running;

@@ -52,38 +52,40 @@ fn moment_of(text: &str) -> Option<Moment> {
 pub fn make_call<C: Counter>(
     alloc: Global,
     bank: &mut C,
-    call: Call,
+    call: &Call,
     list: &str,
 ) -> Result<String, AllocError> {
     if let Call::Batch(moment) = call {
-        return together(alloc, bank, moment, list);
+        return together(alloc, bank, *moment, list);
     }
     let mut answers = String::new(alloc);
     for item in list.split(BETWEEN) {
-        add(&mut answers, one_by_one(alloc, bank, call, item)?.as_str())?;
+        let said = one_by_one(alloc, bank, call, item);
+        add(&mut answers, said)?;
     }
     Ok(answers)
 }
 
 // Adds an answer behind the others.
-fn add(answers: &mut String, said: &str) -> Result<(), AllocError> {
+fn add(answers: &mut String, said: Result<String, AllocError>) -> Result<(), AllocError> {
+    let said = said?;
     if !answers.is_empty() {
         answers.push_str(BETWEEN)?;
     }
-    answers.push_str(said)
+    answers.push_str(said.as_str())
 }
 
 fn one_by_one<C: Counter>(
     alloc: Global,
     bank: &mut C,
-    call: Call,
+    call: &Call,
     item: &str,
 ) -> Result<String, AllocError> {
     match call {
         Call::Open => opened(alloc, bank, item),
-        Call::Post(moment) | Call::Batch(moment) => posted(alloc, bank, moment, item),
+        Call::Post(moment) | Call::Batch(moment) => posted(alloc, bank, *moment, item),
         Call::Balance => balance_of(alloc, bank, item),
-        Call::Drive { seed } => driven(alloc, bank, seed, item),
+        Call::Drive { seed } => driven(alloc, bank, *seed, item),
     }
 }
 
@@ -155,23 +157,39 @@ fn together<C: Counter>(
     moment: Moment,
     list: &str,
 ) -> Result<String, AllocError> {
-    let Some(records) = records_of(alloc, list)? else {
-        return "no record".to_string(alloc);
-    };
+    match records_of(alloc, list)? {
+        Some(records) => submitted(alloc, bank, moment, records.as_slice()),
+        None => "no record".to_string(alloc),
+    }
+}
+
+fn submitted<C: Counter>(
+    alloc: Global,
+    bank: &mut C,
+    moment: Moment,
+    records: &[Record],
+) -> Result<String, AllocError> {
     let bytes: Vec<[u8; 100]> = records.iter().map(|record| record.bytes).collect(alloc)?;
     if bytes.is_empty() || bytes.len() > MOST_RECORDS {
         return "no batch".to_string(alloc);
     }
     match bank.submit_all(moment, bytes.as_slice()) {
-        Ok(replies) => {
-            let mut answers = String::new(alloc);
-            for (record, reply) in records.iter().zip(&replies) {
-                add(&mut answers, record.told(alloc, reply)?.as_str())?;
-            }
-            Ok(answers)
-        }
+        Ok(replies) => told_each(alloc, records, replies.as_slice()),
         Err(fault) => fault.to_string(alloc),
     }
+}
+
+// The texts of the replies to the records.
+fn told_each(
+    alloc: Global,
+    records: &[Record],
+    replies: &[[u8; 200]],
+) -> Result<String, AllocError> {
+    let mut answers = String::new(alloc);
+    for (record, reply) in records.iter().zip(replies) {
+        add(&mut answers, record.told(alloc, reply))?;
+    }
+    Ok(answers)
 }
 
 fn driven<C: Counter>(

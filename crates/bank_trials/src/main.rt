@@ -1,24 +1,62 @@
-//! Plays a script of scenarios: what banks are asked, a line for each step, and what they answer. The head of
-//! `stdin` has the words of a line.
+//! Plays two scripts, which stand one above the other in `stdin`. It wants an empty folder to run in.
+//!
+//! The first has scenarios: what banks in memory and in tables are asked, a line for each step, and what they
+//! answer. The head of `stdin` has the words of its lines.
+//!
+//! The second, below the line `runs`, has runs of the program over files, and what came of each. A line is a
+//! word and what it takes. It is printed, and below it, behind two spaces, what it led to:
+//!
+//!   `# TEXT`            is a heading
+//!   `write FILE LINE..` writes a file of these lines
+//!   `put FILE TEXT`     writes a file of this text, which ends no line
+//!   `sql FILE TEXT`     runs SQL on a file
+//!   `ask FILE TEXT`     runs a query on a file, and prints the number that it gives
+//!   `look FILE`         prints how long the file is, if it is there
+//!   `record TEXT`       gives the next run a record, which spaces fill to 100 bytes
+//!   `line TEXT`         gives it a record and an end of line
+//!   `part TEXT`         gives the next run these bytes
+//!   `from FILE`         gives it what a file holds
+//!   `like FILE`         prints whether the last run wrote what a file holds
+//!   `broken END`        gives the next run an `input` that fails, or an `output` that does
+//!   `bank WORD..`       runs the program on these words
+//!   `first NAME FILE..` runs the first program of a library on these files
 #![tactic(auto)]
 
 mod answers;
 mod draws;
+mod ends;
+mod files;
+mod first_programs;
 mod mixed;
 mod records;
 mod scenario;
+mod script;
+mod showing;
+mod steps;
 mod stored;
 mod tables;
 
+use anyhow::Context;
 use scenario::play;
+use script::Script;
 use sqlite::Connection;
 use std::io;
 
 fn main(rt: HostRuntime) -> Result<(), anyhow::Error> {
-    let script = io::read_to_string(rt.alloc(), rt.stdin())?;
-    // What is above the first scenario is no step.
-    for scenario in script.split("\nbank ").skip(1) {
-        play(&rt, Connection::open_in_memory(rt.alloc())?, scenario)?;
+    let text = io::read_to_string(rt.alloc(), rt.stdin())?;
+    let (scenarios, runs) = text.split_once("\nruns\n").context("no line `runs`")?;
+    play_scenarios(&rt, scenarios)?;
+    let mut script = Script::new(rt.alloc());
+    for line in runs.lines() {
+        script.play(&rt, line)?;
+    }
+    Ok(())
+}
+
+// What is above the first scenario is no step.
+fn play_scenarios(rt: &HostRuntime, text: &str) -> Result<(), anyhow::Error> {
+    for scenario in text.split("\nbank ").skip(1) {
+        play(rt, Connection::open_in_memory(rt.alloc())?, scenario)?;
     }
     Ok(())
 }

@@ -1,11 +1,11 @@
 //! Runs of mixed records, on the bank in memory and on the bank in tables.
 use crate::draws::{Draws, draw_group};
-use crate::stored::{Stored, taken_up};
+use crate::stored::Stored;
 use anyhow::{Context, Result, bail, ensure};
-use bank_store::{Bank, Refused};
+use bank_store::Bank;
 use message_records::{Account, Cents, Moment, Outcome, decode_reply};
 use posting_core::{Counter, PlainBank};
-use sqlite::{Alter, Connection};
+use sqlite::Alter;
 use std::alloc::{AllocError, Global};
 
 /// How many groups of records a run has. Behind each the bank in tables is given back, and taken up again.
@@ -50,13 +50,10 @@ pub struct Run {
 }
 
 impl Run {
-    /// The run that a step says, as `mixed 1 one by one`, `mixed 2 in batches` or `mixed 5 in batches beside
-    /// one by one`, none where it says no run.
-    pub fn of(word: &str, rest: &str) -> Option<Self> {
-        if word != "mixed" {
-            return None;
-        }
-        let (seed, way) = rest.split_once(' ')?;
+    /// The run that a step says behind its word, as `1 one by one`, `2 in batches` or `5 in batches beside one
+    /// by one`, none where it says no run.
+    pub fn of(text: &str) -> Option<Self> {
+        let (seed, way) = text.split_once(' ')?;
         let way = match way {
             "one by one" => Way::OneByOne,
             "in batches" => Way::InBatches,
@@ -106,52 +103,6 @@ fn balances_of<C: Counter>(
     Ok(balances)
 }
 
-fn found<S: Alter + Drop>(alloc: Global, conn: Connection<S>) -> Result<Bank<S>> {
-    match taken_up(alloc, conn) {
-        Ok(bank) => Ok(bank),
-        Err(Refused { fault, conn: _conn }) => bail!("{fault}"),
-    }
-}
-
-// Submits a group to both banks, and gives the replies, which are the same.
-fn submit_group<S: Alter + Drop>(
-    alloc: Global,
-    plain: &mut PlainBank,
-    conn: Connection<S>,
-    group: u16,
-    records: &[[u8; 100]],
-    way: Way,
-) -> Result<(Connection<S>, Vec<[u8; 200]>)> {
-    let wanted = replies_of(alloc, plain, group, records, way.in_memory())?;
-    let mut bank = found(alloc, conn)?;
-    let replies = replies_of(alloc, &mut bank, group, records, way.in_tables())?;
-    ensure!(
-        replies.as_slice() == wanted.as_slice(),
-        "other replies to group {group}"
-    );
-    Ok((bank.release(), wanted))
-}
-
-// Asks both banks for the balances of the branches, which are the same.
-fn agree<S: Alter + Drop>(
-    alloc: Global,
-    plain: &mut PlainBank,
-    mut conn: Connection<S>,
-    branches: &[(u64, u32)],
-) -> Result<Connection<S>> {
-    for (branch, count) in branches {
-        let wanted = balances_of(alloc, plain, *branch, *count)?;
-        let mut bank = found(alloc, conn)?;
-        let balances = balances_of(alloc, &mut bank, *branch, *count)?;
-        ensure!(
-            balances.as_slice() == wanted.as_slice(),
-            "other balances in branch {branch}"
-        );
-        conn = bank.release();
-    }
-    Ok(conn)
-}
-
 // The outcomes that came.
 fn told(alloc: Global, came: &[Outcome]) -> Result<String, AllocError> {
     let mut said = "agree:".to_string(alloc)?;
@@ -184,30 +135,108 @@ fn note(outcomes: &mut Vec<Outcome>, replies: &[[u8; 200]]) -> Result<()> {
     Ok(())
 }
 
+// The records of a run, and what came of them.
+#[derive(Drop)]
+struct Course {
+    alloc: Global,
+    run: Run,
+    draws: Draws,
+    sent: Vec<[u8; 100]>,
+    outcomes: Vec<Outcome>,
+}
+
+impl Course {
+    // Draws a group and submits it to both banks, whose replies are the same.
+    fn submit<C: Counter>(
+        &mut self,
+        plain: &mut PlainBank,
+        bank: &mut C,
+        group: u16,
+    ) -> Result<()> {
+        let before = self.sent.len();
+        let count = match self.run.way {
+            Way::Beside => self.draws.below(64).saturating_add(1),
+            _ => GROUP,
+        };
+        draw_group(&mut self.draws, count, &mut self.sent)?;
+        let records = self.sent.get(before..).context("a group")?;
+        let way = self.run.way;
+        let wanted = replies_of(self.alloc, plain, group, records, way.in_memory())?;
+        let replies = replies_of(self.alloc, bank, group, records, way.in_tables())?;
+        ensure!(
+            replies.as_slice() == wanted.as_slice(),
+            "other replies to group {group}"
+        );
+        note(&mut self.outcomes, replies.as_slice())
+    }
+
+    // Plays the groups, and asks for the balances that they may have changed behind each.
+    fn play<S: Alter + Drop>(
+        &mut self,
+        plain: &mut PlainBank,
+        stored: &mut Stored<S>,
+    ) -> Result<()> {
+        for group in 0..GROUPS {
+            self.submit(plain, taken_up(stored)?, group)?;
+            agree(self.alloc, plain, stored, &[(1, 3), (2, 2)])?;
+        }
+        agree(self.alloc, plain, stored, &BRANCHES)
+    }
+}
+
+fn taken_up<S: Alter + Drop>(stored: &mut Stored<S>) -> Result<&mut Bank<S>> {
+    match stored.anew() {
+        Ok(bank) => Ok(bank),
+        Err(fault) => bail!("{fault}"),
+    }
+}
+
+// Asks both banks for the balances of a branch, which are the same.
+fn agree_on<C: Counter>(
+    alloc: Global,
+    plain: &mut PlainBank,
+    bank: &mut C,
+    branch: u64,
+    count: u32,
+) -> Result<()> {
+    let wanted = balances_of(alloc, plain, branch, count)?;
+    let balances = balances_of(alloc, bank, branch, count)?;
+    ensure!(
+        balances.as_slice() == wanted.as_slice(),
+        "other balances in branch {branch}"
+    );
+    Ok(())
+}
+
+// Asks both banks for the balances of the branches. The bank in tables is taken up anew for each.
+fn agree<S: Alter + Drop>(
+    alloc: Global,
+    plain: &mut PlainBank,
+    stored: &mut Stored<S>,
+    branches: &[(u64, u32)],
+) -> Result<()> {
+    for (branch, count) in branches {
+        agree_on(alloc, plain, taken_up(stored)?, *branch, *count)?;
+    }
+    Ok(())
+}
+
 /// Submits mixed records to both banks, group by group, and says that their replies and balances agree, and
 /// which outcomes came. It fails where they don't agree.
 pub fn play_run<S: Alter + Drop>(
     alloc: Global,
     plain: &mut PlainBank,
-    stored: Stored<S>,
+    stored: &mut Stored<S>,
     run: Run,
-) -> Result<(Stored<S>, String)> {
-    let mut conn = stored.released();
-    let mut draws = Draws::new(run.seed);
-    let mut sent = Vec::new(alloc);
-    let mut outcomes = Vec::new(alloc);
-    for group in 0..GROUPS {
-        let before = sent.len();
-        let count = match run.way {
-            Way::Beside => draws.below(64).saturating_add(1),
-            _ => GROUP,
-        };
-        draw_group(&mut draws, count, &mut sent)?;
-        let records = sent.get(before..).context("a group")?;
-        let (left, replies) = submit_group(alloc, plain, conn, group, records, run.way)?;
-        note(&mut outcomes, replies.as_slice())?;
-        conn = agree(alloc, plain, left, &[(1, 3), (2, 2)])?;
-    }
-    conn = agree(alloc, plain, conn, &BRANCHES)?;
-    Ok((Stored::Released(conn), told(alloc, outcomes.as_slice())?))
+) -> Result<String> {
+    let mut course = Course {
+        alloc,
+        run,
+        draws: Draws::new(run.seed),
+        sent: Vec::new(alloc),
+        outcomes: Vec::new(alloc),
+    };
+    course.play(plain, stored)?;
+    stored.release();
+    Ok(told(alloc, course.outcomes.as_slice())?)
 }

@@ -44,10 +44,11 @@ pub fn bytes_of(
 // The record of a request's five numbers.
 fn bytes_of_numbers(text: &str) -> Option<[u8; 100]> {
     let mut words = text.split(' ');
-    let account = words.next()?.parse::<u64>().ok()?;
-    let teller = words.next()?.parse::<u64>().ok()?;
-    let branch = words.next()?.parse::<u64>().ok()?;
-    let number = words.next()?.parse::<u64>().ok()?;
+    let mut numbers = [0; 4];
+    for number in &mut numbers {
+        *number = words.next()?.parse::<u64>().ok()?;
+    }
+    let [account, teller, branch, number] = numbers;
     let delta = words.next()?.parse::<i64>().ok()?;
     bytes_of(account, teller, branch, number, delta)
 }

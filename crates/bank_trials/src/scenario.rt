@@ -1,40 +1,21 @@
-//! One scenario: where its bank is, and what each line does.
+//! One scenario: the banks that it asks, and what they answer to each step.
 use crate::answers::{Call, make_call};
-use crate::mixed::{Run, play_run};
+use crate::mixed::play_run;
+use crate::steps::{Place, Step, parts_of};
 use crate::stored::Stored;
-use crate::tables::{batch, number, sums};
+use crate::tables::{Found, Query};
 use anyhow::{Context, Result};
 use posting_core::PlainBank;
 use sqlite::{Alter, Connection};
 use std::alloc::{Alloc, AllocError, Global};
 
-/// Where the bank of a scenario is.
-#[derive(Clone, Copy, PartialEq, Eq)]
-enum Place {
-    Memory,
-    Tables,
-    /// One in memory and one in tables, side by side.
-    Both,
-}
-
-impl Place {
-    // By the head of a scenario, as `in memory: the first posting`.
-    fn of(head: &str) -> Option<Self> {
-        match head.split_once(':')?.0 {
-            "in memory" => Some(Place::Memory),
-            "in tables" => Some(Place::Tables),
-            "in both" => Some(Place::Both),
-            _ => None,
-        }
-    }
-}
-
-/// A scenario, but for its tables.
+/// A scenario.
 #[derive(Drop)]
-struct Scenario {
+struct Scenario<S: Alter> {
     alloc: Global,
     place: Place,
     plain: PlainBank,
+    stored: Stored<S>,
     // The sums over the tables at the last look.
     looked: Option<[i64; 6]>,
 }
@@ -46,122 +27,88 @@ pub fn play<S: Alter + Drop>(
     text: &str,
 ) -> Result<()> {
     let (head, steps) = text.split_once('\n').unwrap_or((text, ""));
-    println!(rt; "\nbank {head}")?;
+    let alloc = rt.alloc();
     let mut scenario = Scenario {
-        alloc: rt.alloc(),
-        place: Place::of(head).context("a scenario is in memory, in tables or in both")?,
-        plain: PlainBank::new(rt.alloc()),
+        alloc,
+        place: place_of(rt, head)?,
+        plain: PlainBank::new(alloc),
+        stored: Stored::new(alloc, conn),
         looked: None,
     };
-    let mut stored = Stored::Released(conn);
-    for line in steps.lines() {
-        if !line.is_empty() && !line.starts_with('#') {
-            let (left, said) = scenario.step(stored, line)?;
-            stored = left;
-            println!(rt; "{said}")?;
-        }
-    }
-    Ok(())
+    scenario.play_steps(rt, steps)
 }
 
-impl Scenario {
-    // Does what the line says, and prints what was answered.
-    fn step<S: Alter + Drop>(
-        &mut self,
-        stored: Stored<S>,
-        line: &str,
-    ) -> Result<(Stored<S>, String)> {
-        let (goes_on, line) = match line.strip_prefix("then ") {
-            Some(rest) => (true, rest),
-            None => (false, line),
-        };
-        let (word, rest) = line.split_once(' ').unwrap_or((line, ""));
-        if let Some((call, list)) = Call::of(word, rest) {
-            return Ok(self.ask(stored, call, list, goes_on)?);
+// Prints the head of a scenario, and says where its bank is.
+fn place_of(rt: &impl Print, head: &str) -> Result<Place> {
+    println!(rt; "\nbank {head}")?;
+    Place::of(head).context("a scenario is in memory, in tables or in both")
+}
+
+impl<S: Alter + Drop> Scenario<S> {
+    fn play_steps(&mut self, rt: &impl Print, steps: &str) -> Result<()> {
+        for line in steps.lines() {
+            if !line.is_empty() && !line.starts_with('#') {
+                let said = self.answer(line)?;
+                println!(rt; "{said}")?;
+            }
         }
-        if self.place == Place::Memory {
-            return Ok((stored, "no tables".to_string(self.alloc)?));
-        }
-        match Run::of(word, rest) {
-            Some(run) => play_run(self.alloc, &mut self.plain, stored, run),
-            None => Ok(self.step_on_tables(stored, word, rest)?),
+        Ok(())
+    }
+
+    // What is answered to a line.
+    fn answer(&mut self, line: &str) -> Result<String> {
+        let (goes_on, word, rest) = parts_of(line);
+        match Call::of(word, rest) {
+            Some((call, list)) => Ok(self.ask(&call, list, goes_on)?),
+            None => self.step(Step::of(word, rest), rest),
         }
     }
 
     // Asks the bank, or both banks. Where these differ, the answers of both are printed.
-    fn ask<S: Alter + Drop>(
-        &mut self,
-        stored: Stored<S>,
-        call: Call,
-        list: &str,
-        goes_on: bool,
-    ) -> Result<(Stored<S>, String), AllocError> {
-        let alloc = self.alloc;
+    fn ask(&mut self, call: &Call, list: &str, goes_on: bool) -> Result<String, AllocError> {
         match self.place {
-            Place::Memory => {
-                let said = make_call(alloc, &mut self.plain, call, list)?;
-                Ok((stored, said))
-            }
-            Place::Tables => stored.ask(alloc, call, list, goes_on),
+            Place::Memory => make_call(self.alloc, &mut self.plain, call, list),
+            Place::Tables => self.stored.ask(call, list, goes_on),
             Place::Both => {
-                let (left, said) = stored.ask(alloc, call, list, goes_on)?;
-                let plain = make_call(alloc, &mut self.plain, call, list)?;
-                Ok((left, side_by_side(alloc, plain.as_str(), said.as_str())?))
+                let said = self.stored.ask(call, list, goes_on)?;
+                let plain = make_call(self.alloc, &mut self.plain, call, list)?;
+                side_by_side(self.alloc, plain.as_str(), said.as_str())
             }
         }
     }
 
     // A step that only a bank in tables knows.
-    fn step_on_tables<S: Alter + Drop>(
-        &mut self,
-        stored: Stored<S>,
-        word: &str,
-        rest: &str,
-    ) -> Result<(Stored<S>, String), AllocError> {
-        match word {
-            "make" => stored.make(self.alloc),
-            "adopt" => stored.adopt(self.alloc),
-            "cause" => {
-                let said = stored.cause(self.alloc)?;
-                Ok((stored, said))
-            }
-            _ => {
-                let mut conn = stored.released();
-                let said = self.query(&mut conn, word, rest)?;
-                Ok((Stored::Released(conn), said))
-            }
+    fn step(&mut self, step: Step, text: &str) -> Result<String> {
+        if self.place == Place::Memory {
+            return Ok("no tables".to_string(self.alloc)?);
+        }
+        match step {
+            Step::Mixed(run) => play_run(self.alloc, &mut self.plain, &mut self.stored, run),
+            _ => Ok(self.step_on_tables(step, text)?),
         }
     }
 
-    // A step by SQL.
-    fn query<S: Alter>(
-        &mut self,
-        conn: &mut Connection<S>,
-        word: &str,
-        rest: &str,
-    ) -> Result<String, AllocError> {
-        let alloc = self.alloc;
-        let told = match word {
-            "sql" => batch(conn, rest).map(|()| "done"),
-            "look" => sums(conn).map(|sums| self.look(sums)),
-            "same" => sums(conn).map(|sums| self.compared(sums)),
-            "number" => {
-                return match number(conn, rest) {
-                    Ok(found) => found.to_string(alloc),
-                    Err(error) => error.to_string(alloc),
-                };
-            }
-            _ => Ok("no step"),
-        };
-        match told {
-            Ok(text) => text.to_string(alloc),
-            Err(error) => error.to_string(alloc),
+    fn step_on_tables(&mut self, step: Step, text: &str) -> Result<String, AllocError> {
+        match step {
+            Step::Make => self.stored.make(),
+            Step::Adopt => self.stored.adopt(),
+            Step::Cause => self.stored.cause(),
+            Step::Query(query) => self.query(query, text),
+            _ => "no step".to_string(self.alloc),
         }
     }
 
-    fn look(&mut self, sums: [i64; 6]) -> &'static str {
-        self.looked = Some(sums);
-        "looked"
+    fn query(&mut self, query: Query, sql: &str) -> Result<String, AllocError> {
+        match self.stored.query(query, sql) {
+            Ok(Found::Nothing) => "done".to_string(self.alloc),
+            Ok(Found::Number(number)) => number.to_string(self.alloc),
+            Ok(Found::Looked(sums)) => {
+                self.looked = Some(sums);
+                "looked".to_string(self.alloc)
+            }
+            Ok(Found::Compared(sums)) => self.compared(sums).to_string(self.alloc),
+            Err(error) => error.to_string(self.alloc),
+        }
     }
 
     fn compared(&self, sums: [i64; 6]) -> &'static str {

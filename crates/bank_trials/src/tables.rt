@@ -2,13 +2,29 @@
 //! carries the state of each call.
 use sqlite::{Alter, Connection, Error};
 
-/// Runs statements.
-pub fn batch<S: Alter>(conn: &mut Connection<S>, sql: &str) -> Result<(), Error> {
-    conn.execute_batch(sql)
+/// What the tables are asked.
+#[derive(Clone, Copy)]
+pub enum Query {
+    /// Runs statements.
+    Batch,
+    /// Finds a number.
+    Number,
+    /// Adds up each table, for a later look to be compared with.
+    Look,
+    /// Adds up each table, to be compared with the last look.
+    Same,
 }
 
-/// The number that a query finds.
-pub fn number<S: Alter>(conn: &mut Connection<S>, sql: &str) -> Result<i64, Error> {
+/// What a query found.
+#[derive(Clone, Copy)]
+pub enum Found {
+    Nothing,
+    Number(i64),
+    Looked([i64; 6]),
+    Compared([i64; 6]),
+}
+
+fn number<S: Alter>(conn: &mut Connection<S>, sql: &str) -> Result<i64, Error> {
     conn.query_row(sql, &[])?.get(0)
 }
 
@@ -22,11 +38,24 @@ const SUMS: [&str; 6] = [
     "SELECT coalesce(sum(1 + 2 * ordinal + 3 * tid + 5 * number + 7 * aid + 11 * bid + 13 * delta + 17 * outcome + 19 * balance), 0) FROM request",
 ];
 
-/// The sums over the six tables.
-pub fn sums<S: Alter>(conn: &mut Connection<S>) -> Result<[i64; 6], Error> {
+fn sums<S: Alter>(conn: &mut Connection<S>) -> Result<[i64; 6], Error> {
     let mut found = [0; 6];
     for (place, sql) in found.iter_mut().zip(SUMS) {
         *place = number(conn, sql)?;
     }
     Ok(found)
+}
+
+/// Asks the tables, by this text where the query has one.
+pub fn run_query<S: Alter>(
+    conn: &mut Connection<S>,
+    query: Query,
+    sql: &str,
+) -> Result<Found, Error> {
+    match query {
+        Query::Batch => conn.execute_batch(sql).map(|()| Found::Nothing),
+        Query::Number => number(conn, sql).map(Found::Number),
+        Query::Look => sums(conn).map(Found::Looked),
+        Query::Same => sums(conn).map(Found::Compared),
+    }
 }

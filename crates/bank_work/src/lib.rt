@@ -2,7 +2,7 @@
 //! loaded, records are driven, connections are served, and an audit is printed. The bank is any counter, and
 //! the output any writer, so that nothing here knows SQLite.
 //!
-//! The function `first_drive` of `bank_runs`, which its script runs, drives 100 records of the seed 7 over
+//! The function `first_drive` of `bank_trials`, which its script runs, drives 100 records of the seed 7 over
 //! branch 1 of a bank in memory, and prints `records 100 posted 100 refused 0`:
 //!
 //! ```rust

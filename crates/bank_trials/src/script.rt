@@ -1,0 +1,138 @@
+//! The lines of a script.
+use crate::ends::Broken;
+use crate::files::{Sql, ask, compare, look, put, write_lines};
+use crate::first_programs;
+use crate::showing::tell;
+use anyhow::{Result, bail};
+use bank_endings::Status;
+use bank_program::run;
+use posting_core::StoredClock;
+use sqlite::Unknown;
+use std::alloc::{AllocError, Global};
+use std::fs;
+use std::io::{Read, Write};
+
+// Which end of the next run fails.
+#[derive(Clone, Copy)]
+enum Fails {
+    Neither,
+    Input,
+    Output,
+}
+
+/// What the next run is given, and what the last one wrote.
+#[derive(Drop)]
+pub struct Script {
+    input: Vec<u8>,
+    fails: Fails,
+    output: Vec<u8>,
+}
+
+impl Script {
+    /// A script at its beginning: the next run has no input, and neither of its ends fails.
+    pub fn new(alloc: Global) -> Self {
+        Script {
+            input: Vec::new(alloc),
+            fails: Fails::Neither,
+            output: Vec::new(alloc),
+        }
+    }
+
+    /// Prints a line of the script, does what it says, and prints what came of it.
+    pub fn play(&mut self, rt: &HostRuntime, line: &str) -> Result<()> {
+        println!(rt; "{line}")?;
+        let (word, rest) = line.split_once(' ').unwrap_or((line, ""));
+        match word {
+            "#" | "" => Ok(()),
+            "write" => write_lines(rt, rest),
+            "put" => put(rt, rest),
+            "sql" => ask(rt, Sql::Nothing, rest),
+            "ask" => ask(rt, Sql::Number, rest),
+            "look" => look(rt, rest),
+            "like" => compare(rt, rest, self.output.as_slice()),
+            "bank" => self.run(rt, line),
+            "first" => self.run_first(rt, rest),
+            _ => self.prepare(rt, word, rest),
+        }
+    }
+
+    // Gives the next run what a line says.
+    fn prepare(&mut self, rt: &HostRuntime, word: &str, rest: &str) -> Result<()> {
+        match word {
+            "record" => self.give(rt.alloc(), rest, "")?,
+            "line" => self.give(rt.alloc(), rest, "\n")?,
+            "part" => self.input.extend_from_slice(rest.as_bytes())?,
+            "from" => self.input = fs::read(rt, rest)?,
+            "broken" if rest == "input" => self.fails = Fails::Input,
+            "broken" if rest == "output" => self.fails = Fails::Output,
+            _ => bail!("no such step: {word} {rest}"),
+        }
+        Ok(())
+    }
+
+    // Gives the next run a record of this text, which spaces fill to 100 bytes, and an end.
+    fn give(&mut self, alloc: Global, text: &str, end: &str) -> Result<(), AllocError> {
+        let record = padded(alloc, text)?;
+        self.input.extend_from_slice(record.as_slice())?;
+        self.input.extend_from_slice(end.as_bytes())
+    }
+
+    // Runs the program on the words of a line, with what the lines before it gave, and prints how it went.
+    fn run(&mut self, rt: &HostRuntime, line: &str) -> Result<()> {
+        let mut words = Vec::new(rt.alloc());
+        for word in line.split(' ') {
+            words.push(word)?;
+        }
+        let (status, faults) = self.run_words(rt, words.as_slice());
+        self.input.clear();
+        self.fails = Fails::Neither;
+        tell(rt, "output", self.output.as_slice())?;
+        tell(rt, "fault", faults.as_slice())?;
+        println!(rt; "  status: {status:?}")?;
+        Ok(())
+    }
+
+    // Runs the program on these words, and keeps what it writes.
+    fn run_words(&mut self, rt: &HostRuntime, words: &[&str]) -> (Status, Vec<u8>) {
+        let mut rest = self.input.as_slice();
+        let mut output = Vec::new(rt.alloc());
+        let (status, faults) = match self.fails {
+            Fails::Neither => run_between(rt, words, &mut rest, &mut output),
+            Fails::Input => run_between(rt, words, &mut Broken, &mut output),
+            Fails::Output => run_between(rt, words, &mut rest, &mut Broken),
+        };
+        self.output = output;
+        (status, faults)
+    }
+
+    // Runs a first program, and prints how it went.
+    fn run_first(&mut self, rt: &HostRuntime, words: &str) -> Result<()> {
+        let mut output = Vec::new(rt.alloc());
+        let status = first_programs::play(rt, words, self.input.as_slice(), &mut output)?;
+        self.input.clear();
+        tell(rt, "output", output.as_slice())?;
+        println!(rt; "  status: {status:?}")?;
+        Ok(())
+    }
+}
+
+// A record of this text, which spaces fill to 100 bytes.
+fn padded(alloc: Global, text: &str) -> Result<Vec<u8>, AllocError> {
+    let mut bytes = Vec::new(alloc);
+    bytes.extend_from_slice(text.as_bytes())?;
+    bytes.resize(100, b' ')?;
+    Ok(bytes)
+}
+
+// A run between a reader and a writer: how it ended, and what it told of faults.
+fn run_between<R: Read, W: Write>(
+    rt: &HostRuntime,
+    words: &[&str],
+    input: &mut R,
+    output: &mut W,
+) -> (Status, Vec<u8>) {
+    let mut faults = Vec::new(rt.alloc());
+    let mut clock = StoredClock::new(Vec::new(rt.alloc()));
+    let status = run(rt, Unknown, words, input, output, &mut faults, &mut clock);
+    (status, faults)
+}

@@ -1,0 +1,38 @@
+//! How bytes are shown in lines.
+use anyhow::Result;
+
+// A reply has so many bytes and no end of line.
+const LONGEST: usize = 200;
+
+/// Prints each line of what a stream got, and bytes that end no line in pieces of up to 200. The stream's name
+/// comes before each, and how many spaces it ends with behind it.
+pub fn tell(rt: &HostRuntime, stream: &str, bytes: &[u8]) -> Result<()> {
+    for line in bytes.split_inclusive(|byte| *byte == b'\n') {
+        match line.strip_suffix(b"\n") {
+            Some(whole) => tell_row(rt, stream, whole, "")?,
+            None => tell_pieces(rt, stream, line)?,
+        }
+    }
+    Ok(())
+}
+
+// Bytes that end no line.
+fn tell_pieces(rt: &HostRuntime, stream: &str, bytes: &[u8]) -> Result<()> {
+    for piece in bytes.chunks(LONGEST) {
+        tell_row(rt, stream, piece, " (no end of line)")?;
+    }
+    Ok(())
+}
+
+fn tell_row(rt: &HostRuntime, stream: &str, bytes: &[u8], mark: &str) -> Result<()> {
+    let text = String::from_utf8_lossy(rt.alloc(), bytes)?;
+    let kept = text.trim_end_matches(' ');
+    let spaces = text.len() - kept.len();
+    let gap = if kept.is_empty() { "" } else { " " };
+    if spaces > 0 {
+        println!(rt; "  {stream}:{gap}{kept} and {spaces} spaces{mark}")?;
+    } else {
+        println!(rt; "  {stream}:{gap}{kept}{mark}")?;
+    }
+    Ok(())
+}

@@ -1,0 +1,65 @@
+//! What the lines of a script say.
+use crate::mixed::Run;
+use crate::tables::Query;
+
+/// Where the bank of a scenario is.
+#[derive(Clone, Copy, PartialEq, Eq)]
+pub enum Place {
+    Memory,
+    Tables,
+    /// One in memory and one in tables, side by side.
+    Both,
+}
+
+impl Place {
+    /// By the head of a scenario, as `in memory: the first posting`.
+    pub fn of(head: &str) -> Option<Self> {
+        match head.split_once(':')?.0 {
+            "in memory" => Some(Place::Memory),
+            "in tables" => Some(Place::Tables),
+            "in both" => Some(Place::Both),
+            _ => None,
+        }
+    }
+}
+
+/// A step that is no call of a bank, but for the text that it takes.
+#[derive(Clone, Copy)]
+pub enum Step {
+    Mixed(Run),
+    Make,
+    Adopt,
+    Cause,
+    Query(Query),
+    Unknown,
+}
+
+impl Step {
+    /// The step of a word and the text behind it.
+    pub fn of(word: &str, rest: &str) -> Self {
+        match word {
+            "mixed" => match Run::of(rest) {
+                Some(run) => Step::Mixed(run),
+                None => Step::Unknown,
+            },
+            "make" => Step::Make,
+            "adopt" => Step::Adopt,
+            "cause" => Step::Cause,
+            "sql" => Step::Query(Query::Batch),
+            "number" => Step::Query(Query::Number),
+            "look" => Step::Query(Query::Look),
+            "same" => Step::Query(Query::Same),
+            _ => Step::Unknown,
+        }
+    }
+}
+
+/// Whether a line goes on with the bank as the step before left it, its word, and the text behind that.
+pub fn parts_of(line: &str) -> (bool, &str, &str) {
+    let (goes_on, line) = match line.strip_prefix("then ") {
+        Some(rest) => (true, rest),
+        None => (false, line),
+    };
+    let (word, rest) = line.split_once(' ').unwrap_or((line, ""));
+    (goes_on, word, rest)
+}
