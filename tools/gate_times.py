@@ -1,5 +1,5 @@
 #!/usr/bin/env python3
-"""Runs the merge gate and says where its time went, crate by crate, as the table of docs/TIMES.md.
+"""Runs the merge gate, all of it from nothing, and says where its time went, crate by crate, as the table of docs/TIMES.md.
 
     tools/gate_times.py LOG      what the gate prints goes to the file LOG
 
