@@ -2,7 +2,7 @@
 use Rattle.std.proofs.Common.{◌≡◌, ◌≢◌, ◌⊎◌, ◌∙◌, ap, refl, sym, subst, inl, inr, arith, ℕ, List, [], Option}
 use Rattle.std.proofs.Common.{Result, Ok, Err, drop}
 use Rattle.std.specs.Prelude.{IsErrAnd, slice_get, unwrap_or}
-use Rattle.std.specs.Io.KnownBytes.{Keeps}
+use Rattle.std.specs.Io.KnownBytes.{Appends, Keeps}
 use Rattle.clap.specs.Words.{Text}
 use Rattle.clap.specs.declared.error.kind.ErrorKind.{ErrorKind}
 use Rattle.clap.specs.declared.error.kind.ErrorKind.TheVariants.{DisplayHelp, DisplayVersion, OutOfMemory}
@@ -11,19 +11,20 @@ use Rattle.posting_rules.specs.Counter.{Seen}
 use Rattle.posting_core.specs.declared.stream.StreamFault.{StreamFault}
 use Rattle.bank_endings.specs.Faults.{status_of}
 use Rattle.bank_endings.specs.Looking.{IsOfOpening}
-use Rattle.bank_endings.specs.Lines.{IsHelpOrVersion, IsShown}
+use Rattle.bank_endings.specs.Lines.{IsHelpOrVersion, IsShown, created_line}
 use Rattle.bank_endings.specs.declared.fault.CommandFault.{CommandFault}
 use Rattle.bank_endings.specs.declared.fault.CommandFault.TheVariants as fault
 use Rattle.bank_endings.specs.declared.status.Status.{Status}
-use Rattle.bank_endings.specs.declared.status.Status.TheVariants.{Done, Input, System}
+use Rattle.bank_endings.specs.declared.status.Status.TheVariants.{Done, Input, System, Usage}
 use Rattle.bank_words.specs.Words.{AskToDrive, AskToInit, AskToLoad, AskToPost, IsSpelledBy, number_of}
 use Rattle.bank_words.specs.declared.reading.Command.{Command}
 use Rattle.bank_words.specs.declared.reading.Command.TheVariants.{Audit, Drive, Init, Load, Post, Serve}
 use Rattle.bank_words.specs.declared.reading.Command.TheVariants.{Statement}
 use Rattle.bank_commands.specs.Commands.{DrivesIn, LoadsIn, MakesIn, PostsIn, said_of}
-use Rattle.bank_program.specs.Running.{DoesCommand, EndsUnfound, ended_by, status_after}
+use Rattle.bank_program.specs.Running.{DoesCommand, EndsCommand, EndsUnfound, ended_by, status_after}
 use Rattle.bank_program.proofs.Driven.{word_at}
-use Rattle.bank_program.proofs.Endings.{memory_ends, mistake_keeps}
+use Rattle.bank_program.proofs.Endings.{input_is_not_usage, memory_ends, mistake_keeps}
+use Rattle.bank_program.proofs.Endings.{system_is_not_usage}
 use Rattle.bank_program.proofs.Worked.{drives_lift, loads_lift}
 
 -- ---- after a fault the work isn't done
@@ -56,6 +57,13 @@ fault_is_not_done f done = elim (fault_ends f) [
   | inr input ↦ input_is_not_done (status_of f) input done
 ]
 
+-- and it is no mistake in the words
+pub fault_is_not_usage : (f : CommandFault) → status_of f ≢ Usage
+fault_is_not_usage f other = elim (fault_ends f) [
+  | inl system ↦ system_is_not_usage (status_of f) system other
+  | inr input ↦ input_is_not_usage (status_of f) input other
+]
+
 -- ---- words of one command spell no other
 
 -- the first letter of the first word
@@ -80,6 +88,25 @@ letter_of words (Drive file seed count) spelled = ap letter spelled.2
 letter_of words (Audit file) spelled = ap letter spelled
 letter_of words (Statement file account) spelled = ap letter spelled.1
 letter_of words (Serve file address connections) spelled = ap letter spelled.1
+
+created_for : (status : Status) (old new : Option (List ℕ)) (command : Command) → letter_for command ≡ 105
+    → EndsCommand command status old new → Appends old new created_line
+created_for status old new (Init file) is ends = ends.1
+created_for status old new (Load file plan) is ends = absurd (omega arith)
+created_for status old new (Post file) is ends = absurd (omega arith)
+created_for status old new (Drive f s n) is ends = absurd (omega arith)
+created_for status old new (Audit file) is ends = absurd (omega arith)
+created_for status old new (Statement f n) is ends = absurd (omega arith)
+created_for status old new (Serve f a n) is ends = absurd (omega arith)
+
+-- words that ask for a new bank tell no other command
+pub created_by : (words : List Text) → AskToInit words → (command : Command) (status : Status)
+    (old new : Option (List ℕ))
+    → IsSpelledBy words command → EndsCommand command status old new → Appends old new created_line
+created_by words asked command status old new spelled ends =
+    let is : letter_for command ≡ 105 = sym (letter_of words command spelled)
+    ∙ ap letter (ap (drop 1) asked.3) in
+    created_for status old new command is ends
 
 module _ {C : Type 0} (seen : C → Seen) (image : Image) (r r' w w' k k' : Option (List ℕ)) where
   -- how the command ends that posted it

@@ -1,9 +1,9 @@
 -- Room that is filled with rows and those beside them.
 use Rattle.std.proofs.Common.{◌≡◌, ◌⊎◌, ◌≤ℤ◌, ◌+ℤ◌, drop, slice_get, Ok, Err, Result, ℤ, pos, List, [], ◌∷◌}
 use Rattle.std.proofs.Common.{◌++◌, map, filter, Bool, Some, None, Option, refl, sym, ap, subst, ◌∙◌, inl}
-use Rattle.std.proofs.Common.{inr}
+use Rattle.std.proofs.Common.{arith, inr}
 use Rattle.std.specs.Prelude.{IfOk, IsSome, OnOk, IsSomeAnd, MatchResult}
-use Rattle.sqlite.specs.State.{State, IsUnchanged, Survives}
+use Rattle.sqlite.specs.State.{HasCleanDisk, State, IsUnchanged, Survives}
 use Rattle.sqlite.specs.State.{Shows as StateShows}
 use Rattle.sqlite.proofs.Callers.{unchanged_then}
 use Rattle.sqlite.specs.declared.error.Error.{Error}
@@ -18,7 +18,7 @@ use Rattle.bank_walks.specs.Outcomes.{BreaksFirst}
 use Rattle.bank_walks.specs.Pairs.{AreJoined, BreaksPair, BreaksUnder, Pair, pair_key, pair_of, pair_with}
 use Rattle.bank_walks.specs.Pairs.{paired, row_under}
 use Rattle.bank_walks.specs.Rising.{RisesFrom}
-use Rattle.bank_walks.specs.Rows.{items_behind, items_from, rows_from}
+use Rattle.bank_walks.specs.Rows.{items_behind, items_from, rows_behind, rows_from}
 use Rattle.bank_walks.specs.declared.joined.Joined.{Joined}
 use Rattle.bank_walks.proofs.Joining.{pairs_behind, pairs_from}
 use Rattle.bank_walks.proofs.Rises.{from_lower, le_itself}
@@ -29,6 +29,10 @@ use Rattle.bank_walks.proofs.Under.{from_its_key}
 pub first_is : {R : Type 0} (rs : List R) (r : R) → Some r ≡ slice_get rs 0 → rs ≡ r ∷ drop 1 rs
 first_is [] r at = absurd (cc)
 first_is (x ∷ rs) r at = ap (λ y. y ∷ rs) (let it = at in cc)
+
+pub nothing_is : {R : Type 0} (rs : List R) → None ≡ slice_get rs 0 → rs ≡ []
+nothing_is [] at = refl
+nothing_is (x ∷ rs) at = absurd (cc)
 
 module _ {R : Type 0} (key : R → ℤ) (from : ℤ) (rs more : List R) (r : R) (rest : Option ℤ)
     (is : rs ≡ r ∷ more)
@@ -86,6 +90,15 @@ module _ (others base : List Entry) (from start : ℤ) (e : Entry) (more : List 
     ),
   )
 
+-- where there were none, none follow
+pub nothing_joined : {R O : Type 0} (entry : R → Entry) (other : O → Entry) (others base : List Entry)
+    (from : ℤ) (own : List R) (rest : Option ℤ) (rows : List (Joined R O))
+    → own ≡ [] → rest ≡ None → rows ≡ [] → rows_from from base ≡ map entry own ++ rows_behind rest base
+    → AreJoined entry other others base from rows None
+nothing_joined entry other others base from own rest rows empty ended cleared is =
+    rw cleared (ap (paired others)
+    (is ∙ ap (λ l. map entry l ++ rows_behind rest base) empty ∙ ap (λ r. rows_behind r base) ended))
+
 -- something was joined
 pub none_joined : {J E : Type 0} (js : List J) (result : Result (Option ℤ) E) → OnOk result (js ≡ [] → ⊥)
     → IfOk result (λ next. js ≡ [] → next ≡ None)
@@ -138,6 +151,10 @@ module _ (others rows : List Entry) (q : Entry → Bool) (pairs : List Pair) (ar
       (h.0, (h.1.0, h.1.1, pairs_from others rows q pairs are from ∙ h.1.2, h.1.3))
 
 -- ---- two reads, one after the other
+
+-- the disk was clean between them
+pub clean_between : (b c : State) → Survives b c (λ _. ⊥) → HasCleanDisk c → HasCleanDisk b
+clean_between b c survives clean = let more = survives.clean in omega arith
 
 module _ (a b c : State) (same : IsUnchanged a b) where
   shows_mid : StateShows a b b.now a.committed a.in_transaction

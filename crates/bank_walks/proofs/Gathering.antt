@@ -75,6 +75,13 @@ pub none_there : {X : Type 0} (xs : List X) → nat_eq (length xs) 0 ≡ true �
 none_there [] h = refl
 none_there (x ∷ xs) h = absurd (grind (arith, nat_tests))
 
+-- something is, where they aren't empty or they are full
+pub some_there : {X : Type 0} (xs : List X) → nat_eq (length xs) 0 ≡ false → xs ≡ [] → ⊥
+some_there xs some none = let h = rw none at some in cc
+
+pub full_there : {X : Type 0} (n : ℕ) (xs : List X) → 0 < n → nat_eq (length xs) n ≡ true → xs ≡ [] → ⊥
+full_there n xs room full none = let h = rw none at full in grind (arith, nat_tests)
+
 -- no rows are shown of those that are to come where there are none
 pub no_more : (es : List Entry) (found : List Row) → length found ≤ 0 → found ≡ shown (take AHEAD es)
     → es ≡ []

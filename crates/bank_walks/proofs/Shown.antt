@@ -1,5 +1,5 @@
 -- What the tables hold of a bank that shows tables.
-use Rattle.std.proofs.Common.{ℕ, pos, List, [], ◌∷◌, map, refl}
+use Rattle.std.proofs.Common.{List, [], ◌∷◌, map, refl}
 use Rattle.sqlite.specs.Effect.{Database}
 use Rattle.sqlite.specs.Table.{Table}
 use Rattle.posting_rules.specs.Tables.{Tables}

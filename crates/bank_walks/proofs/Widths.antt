@@ -33,6 +33,13 @@ eight (a ∷ b ∷ c ∷ d ∷ e ∷ []) h = absurd (omega arith)
 eight (a ∷ b ∷ c ∷ d ∷ e ∷ f ∷ ns) h =
     ap (λ l. a ∷ b ∷ c ∷ d ∷ e ∷ f ∷ l) (two_more ns (omega arith))
 
+-- three numbers as a row
+pub three_are : (ns : List ℤ) (k next : ℤ) → length ns ≡ 3 → at ns 0 ≡ k → at ns 1 ≡ next
+    → (let it : Entry = record { key = k; values = next ∷ at ns 2 ∷ [] } in it) ≡ entry_of ns
+three_are (a ∷ ns) k next wide first second =
+    rw (← first, ← second) (ap (λ l. entry_of (a ∷ l)) (sym (two_more ns (omega arith))))
+three_are [] k next wide first second = absurd (omega arith)
+
 -- six numbers as a row
 pub six_are : (ns : List ℤ) (k last : ℤ) → length ns ≡ 6 → at ns 0 ≡ k → at ns 5 ≡ last
     → (let it : Entry = record { key = k; values = at ns 1 ∷ at ns 2 ∷ at ns 3 ∷ at ns 4 ∷ last ∷ [] } in it)

@@ -119,8 +119,10 @@ fn join_ahead<S: Alter, R: StoredRow, O: StoredRow>(
     ensures mode { conn.old.in_transaction ≡ false → conn.new.in_transaction ≡ false }
     ensures survives { Survives (state S.Store conn.old) (state S.Store conn.new) (λ _. ⊥) }
 {
-    let behind = read_beside::<S, O>(conn, start, beside)?;
-    Ok(join(own, rest, beside.as_slice(), behind, start, rows))
+    match read_beside::<S, O>(conn, start, beside) {
+        Ok(behind) => Ok(join(own, rest, beside.as_slice(), behind, start, rows)),
+        Err(fault) => Err(fault),
+    }
 }
 
 // The same, from where the first of these begins.

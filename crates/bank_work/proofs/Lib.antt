@@ -1,1 +1,2 @@
+pub mod LoadEnds
 pub mod Printed

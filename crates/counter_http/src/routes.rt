@@ -1,5 +1,5 @@
 //! The routes, which are made once.
-ghost use Rattle.std.specs.Prelude.{◌≡◌};
+ghost use Rattle.std.specs.Prelude.{◌≡◌, [], OnOk};
 ghost use Rattle.counter_http.specs.Paths.{route_of, path_of, path_end};
 ghost use Rattle.counter_http.specs.Rows.{all_routes};
 
@@ -41,13 +41,22 @@ pub(crate) fn path_of(target: &[u8]) -> &[u8]
     &target[..end_of_path(target)]
 }
 
+// Puts every route into a router that has none.
+fn insert_all(router: &mut Router<Route>) -> Result<(), InsertError>
+    requires { router.old ≡ [] }
+    ensures { OnOk result (router.new ≡ all_routes) }
+{
+    router.insert("/post", Route::Posting)?;
+    router.insert("/account/{id}", Route::Account)?;
+    router.insert("/branches", Route::Branches)?;
+    Ok(())
+}
+
 impl Routes {
     /// Makes the routes.
     pub(crate) fn new(alloc: Global) -> Result<Self, InsertError> {
         let mut router = Router::new(alloc);
-        router.insert("/post", Route::Posting)?;
-        router.insert("/account/{id}", Route::Account)?;
-        router.insert("/branches", Route::Branches)?;
+        insert_all(&mut router)?;
         Ok(Routes { router })
     }
 

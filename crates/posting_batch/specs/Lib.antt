@@ -4,4 +4,5 @@ pub mod Placed
 pub mod Overlay
 pub mod Judging
 pub mod Batch
+pub mod Room
 pub mod View

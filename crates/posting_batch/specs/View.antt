@@ -1,5 +1,5 @@
 -- What a batch holds, without where it lies in memory.
-use Rattle.std.specs.Prelude.{◌≡◌, ℕ, List, map, Result}
+use Rattle.std.specs.Prelude.{◌≡◌, ◌*◌, ℕ, List, map, Result}
 use Rattle.message_records.specs.declared.fault.Bad.{Bad}
 use Rattle.message_records.specs.Reading.{request_of}
 use Rattle.message_records.specs.Records.{RequestFields}
@@ -7,6 +7,7 @@ use Rattle.posting_rules.specs.Tables.{Tables}
 use Rattle.posting_batch.specs.declared.overlay.Overlay as held
 use Rattle.posting_batch.specs.declared.batch.Batch.{Batch}
 use Rattle.posting_batch.specs.Overlay.{Overlay}
+use Rattle.posting_batch.specs.Room.{IsRoomFor}
 use Rattle.posting_batch.specs.Batch.{covering_all, no_slots, filled}
 
 -- the overlay
@@ -20,6 +21,16 @@ view o = record {
   history = o.history.items;
   requests = o.requests.items;
 }
+
+-- it is empty, and has room for what so many records come to
+pub record IsForRecords (count : ℕ) (o : held.Overlay) : Type 0 where
+  pub branches : IsRoomFor (2 * count) o.branches
+  pub tellers : IsRoomFor count o.tellers
+  pub accounts : IsRoomFor count o.accounts
+  pub kept : IsRoomFor count o.kept
+  pub undecided : o.decided ≡ 0
+  pub history : IsRoomFor count o.history
+  pub requests : IsRoomFor count o.requests
 
 -- what was read of the records
 abbrev pub reads_of : Batch → List (Result RequestFields Bad)

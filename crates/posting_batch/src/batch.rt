@@ -11,7 +11,7 @@ ghost use Rattle.posting_batch.specs.Overlay.{tables_over};
 ghost use Rattle.posting_batch.specs.Batch.{CoversAll, HasRisingSlots, ChangesRows, AddsFreeRows};
 
 use crate::cover::decode_all;
-use crate::overlay::Overlay;
+use crate::overlay::{Overlay, with_room};
 use message_records::{Bad, Moment, Request};
 use posting_rules::RECORDS_PER_BATCH;
 use std::alloc::{AllocError, Global};
@@ -51,25 +51,9 @@ impl Batch {
         ensures rising { IfOk result (λ batch. HasRisingSlots (view batch.overlay)) }
     {
         let count = records.len();
-        let mut overlay = Overlay {
-            branches: Vec::new(alloc),
-            tellers: Vec::new(alloc),
-            accounts: Vec::new(alloc),
-            kept: Vec::new(alloc),
-            decided: 0,
-            history: Vec::new(alloc),
-            requests: Vec::new(alloc),
-        };
-        let mut reads = Vec::new(alloc);
-        let mut replies = Vec::new(alloc);
-        reads.reserve(count)?;
-        replies.reserve(count)?;
-        overlay.branches.reserve(2 * count)?;
-        overlay.tellers.reserve(count)?;
-        overlay.accounts.reserve(count)?;
-        overlay.kept.reserve(count)?;
-        overlay.history.reserve(count)?;
-        overlay.requests.reserve(count)?;
+        let mut overlay = Overlay::for_records(alloc, count)?;
+        let mut reads = with_room(alloc, count)?;
+        let replies = with_room(alloc, count)?;
         decode_all(records, &mut reads, &mut overlay);
         Ok(Batch {
             reads,

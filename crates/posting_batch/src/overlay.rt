@@ -1,11 +1,12 @@
 //! Records are judged in the slots of a batch, one after another.
 ghost use Rattle.std.specs.Prelude.{◌≡◌, ◌≤◌, ◌<◌, ◌+◌, ◌++◌, [], ◌∷◌, map, length, vec_len, vec_capacity};
-ghost use Rattle.std.specs.Prelude.{IsTrue};
+ghost use Rattle.std.specs.Prelude.{IfOk, IsTrue};
 ghost use Rattle.message_records.specs.Spelling.{reply_spelling};
-ghost use Rattle.posting_rules.specs.declared.limits.TheConstants.{MAX_DECIDED};
+ghost use Rattle.posting_rules.specs.declared.limits.TheConstants.{MAX_DECIDED, RECORDS_PER_BATCH};
 ghost use Rattle.posting_rules.specs.Cases.{IsProper};
 ghost use Rattle.posting_rules.specs.Entries.{posted_entry};
 ghost use Rattle.posting_rules.specs.Kept.{is_kept_with};
+ghost use Rattle.posting_batch.specs.Room.{IsRoomFor};
 
 use crate::changes::{change_at, keep_at};
 use crate::search::{balance_at, kept_at};
@@ -15,6 +16,7 @@ use posting_rules::{
     Found, HistoryRow, Kept, MAX_DECIDED, Ordinal, RequestRow, Verdict, branch_of_teller, judge,
     reply_to,
 };
+use std::alloc::{AllocError, Global};
 
 // Puts something behind the others, for which there is room.
 pub(crate) fn put<T: Drop>(items: &mut Vec<T>, item: T)
@@ -24,6 +26,15 @@ pub(crate) fn put<T: Drop>(items: &mut Vec<T>, item: T)
     ensures capacity { vec_capacity items.old ≤ vec_capacity items.new }
 {
     let _ = items.push(item);
+}
+
+// A vector with room for so many, which is all that it takes of memory.
+pub(crate) fn with_room<T: Drop>(alloc: Global, count: usize) -> Result<Vec<T>, AllocError>
+    ensures { IfOk result (IsRoomFor count) }
+{
+    let mut items = Vec::new(alloc);
+    items.reserve(count)?;
+    Ok(items)
 }
 
 /// What is known of the rows that a batch can touch, and the rows that are new.
@@ -49,7 +60,23 @@ pub struct Overlay {
 impl Overlay {
     ghost use Rattle.posting_batch.specs.Judging.{found_over, overlay_kept, overlay_posted, overlay_after};
     ghost use Rattle.posting_batch.specs.Judging.{overlay_with, reply_over, overlay_with_all, replies_over};
-    ghost use Rattle.posting_batch.specs.View.{view};
+    ghost use Rattle.posting_batch.specs.View.{view, IsForRecords};
+
+    // One without a slot and without a new row, with room for what so many records come to.
+    pub(crate) fn for_records(alloc: Global, count: usize) -> Result<Self, AllocError>
+        requires { count ≤ RECORDS_PER_BATCH }
+        ensures { IfOk result (IsForRecords count) }
+    {
+        Ok(Overlay {
+            branches: with_room(alloc, 2 * count)?,
+            tellers: with_room(alloc, count)?,
+            accounts: with_room(alloc, count)?,
+            kept: with_room(alloc, count)?,
+            decided: 0,
+            history: with_room(alloc, count)?,
+            requests: with_room(alloc, count)?,
+        })
+    }
 
     // All that is looked up for a request.
     fn look_up(&self, request: &Request) -> Found

@@ -1,4 +1,5 @@
 pub mod Behind
+mod NextBranch
 pub mod Telling
 pub mod Appending
 pub mod InMemory

@@ -85,11 +85,11 @@ fn left_in(alloc: Global, files: &mut Files<Fused>, progress: Progress) -> Resul
 }
 
 // Opens the files and does the tasks, until these end or a call on a file fails.
-fn played(
+fn played<D: Disk + Drop>(
     rt: &(impl Abort + Alloc<A = Global>),
-    files: Files<Fused>,
+    files: Files<D>,
     tasks: &[Task],
-) -> Result<(Progress, Files<Fused>), Fail> {
+) -> Result<(Progress, Files<D>), Fail> {
     assert!(rt; files.may_be_used());
     match Connection::open_files(rt.alloc(), files, options()) {
         Ok(conn) => {

@@ -67,14 +67,19 @@ fn over_rows<S: Alter + Drop>(rt: &impl Abort, opened: Opened<S>) -> Result<(), 
     Ok(())
 }
 
-// A request is posted, and gets the same reply again, twice in one batch. The accounts have it once.
-fn over_new_tables<S: Alter>(
-    rt: &(impl Abort + Alloc<A = Global>),
-    conn: &mut Connection<S>,
-) -> Result<(), Fail> {
+// A request is posted.
+fn is_posted_first<S: Alter>(rt: &impl Abort, conn: &mut Connection<S>) -> Result<(), Fail> {
     assert!(rt; conn.is_autocommit());
     store_rows::create(conn)?;
     is_posted(rt, &first_request(conn)?);
+    Ok(())
+}
+
+// It gets the same reply again, twice in one batch. The accounts have it once.
+fn is_posted_once<S: Alter>(
+    rt: &(impl Abort + Alloc<A = Global>),
+    conn: &mut Connection<S>,
+) -> Result<(), Fail> {
     assert!(rt; conn.is_autocommit());
     are_posted(rt, &first_batch(rt.alloc(), conn, &padded::<100>(RECORD))?);
     assert_eq!(rt; first_accounts(conn)?, (500, Some(4)));
@@ -86,7 +91,8 @@ fn over_tables<S: Alter + Drop>(
     opened: Opened<S>,
 ) -> Result<Connection<S>, Fail> {
     let mut conn = opened?;
-    over_new_tables(rt, &mut conn)?;
+    is_posted_first(rt, &mut conn)?;
+    is_posted_once(rt, &mut conn)?;
     Ok(conn)
 }
 

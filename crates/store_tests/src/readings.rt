@@ -35,18 +35,30 @@ pub fn one_cent(account: u64, number: u64) -> Option<Request> {
     )
 }
 
+// The records of cents to account 1, under the numbers behind one.
+fn records_behind(last: u64) -> Option<[[u8; 100]; TOGETHER]> {
+    let mut number = last;
+    let mut records = [[b' '; 100]; TOGETHER];
+    for record in &mut records {
+        number = number.saturating_add(1);
+        *record = encode_request(&one_cent(1, number)?);
+    }
+    Some(records)
+}
+
+// Posts a batch. The answer is how many replies came.
+fn post_behind<C: Counter>(bank: &mut C, last: u64) -> Result<usize, Fail> {
+    let moment = Moment::new(1000).unwrap();
+    let records = records_behind(last).ok_or("request")?;
+    Ok(bank.submit_all(moment, &records)?.len())
+}
+
 /// Posts cents to account 1, so many together.
 pub fn post<C: Counter>(rt: &impl Abort, bank: &mut C) -> Result<(), Fail> {
-    let moment = Moment::new(1000).ok_or("moment")?;
     let mut number = 0u64;
     for _ in 0..BATCHES {
-        let mut records = [[b' '; 100]; TOGETHER];
-        for record in &mut records {
-            number = number.saturating_add(1);
-            *record = encode_request(&one_cent(1, number).ok_or("request")?);
-        }
-        let replies = bank.submit_all(moment, &records)?;
-        assert_eq!(rt; replies.len(), TOGETHER);
+        assert_eq!(rt; post_behind(bank, number)?, TOGETHER);
+        number = number.saturating_add(TOGETHER as u64);
     }
     assert_eq!(rt; number, POSTINGS);
     Ok(())

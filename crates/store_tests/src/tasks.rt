@@ -1,5 +1,4 @@
-//! Tasks on the bank of any store, one after another. A bank is owned here alone: what is done with it borrows
-//! it.
+//! Tasks on the bank of any store, one after another. What a task does with the bank borrows it.
 use crate::calls::{Call, call_until, is_whole, is_whole_or_none, open_both, resend};
 use crate::readings::{Reading, post, read};
 use crate::reports::reports_are_cut;

@@ -69,10 +69,7 @@ fn next_request<S: Alter>(walk: &mut Requests<'_, S>) -> Result<Option<Ordinals>
     let Some(Joined { stored, beside }) = walk.next()? else {
         return Ok(None);
     };
-    let beside = match beside {
-        Some(posting) => Some(posting.ordinal.get()),
-        None => None,
-    };
+    let beside = beside.map(|posting| posting.ordinal.get());
     Ok(Some((stored.ordinal.get(), beside)))
 }
 
@@ -81,10 +78,7 @@ pub fn next_posting<S: Alter>(walk: &mut Postings<'_, S>) -> Result<Option<Ordin
     let Some(Joined { stored, beside }) = walk.next()? else {
         return Ok(None);
     };
-    let beside = match beside {
-        Some(request) => Some(request.ordinal.get()),
-        None => None,
-    };
+    let beside = beside.map(|request| request.ordinal.get());
     Ok(Some((stored.ordinal.get(), beside)))
 }
 
@@ -93,11 +87,7 @@ fn each_is_given<S: Alter>(rt: &impl Abort, walk: &mut Requests<'_, S>) {
     for ordinal in 1..=150u8 {
         if i64::from(ordinal) != BROKEN {
             let own = u64::from(ordinal);
-            let beside = if is_posted(i64::from(ordinal)) {
-                Some(own)
-            } else {
-                None
-            };
+            let beside = is_posted(i64::from(ordinal)).then_some(own);
             assert_eq!(rt; next_request(walk), Ok(Some((own, beside))));
         }
     }

@@ -1,5 +1,5 @@
 -- The audit of a file, and of one that shows a log.
-use Rattle.std.proofs.Common.{rules, ◌≡◌, Err, refl, sym, ap, subst, ◌∙◌}
+use Rattle.std.proofs.Common.{rules, ◌≡◌, Bool, Result, Ok, Err, false, true, refl, sym, ap, subst, ◌∙◌}
 use Rattle.std.specs.Prelude.{◌↔◌, IsSome, IsTrue}
 use Rattle.sqlite.specs.State.{HasCleanDisk}
 use Rattle.sqlite.specs.Held.{state}
@@ -10,17 +10,82 @@ use Rattle.bank_reports.specs.Consistency.{IsSoundFile}
 use Rattle.bank_reports.specs.Stored.{stored}
 use Rattle.bank_reports.proofs.OfRows.{rows_tell}
 use Rattle.bank_reports.proofs.Telling.{tells}
-use Rattle.posting_rules.specs.declared.fault.Fault.TheVariants.{Damaged, Store}
+use Rattle.posting_rules.specs.declared.fault.Fault.{Fault}
+use Rattle.posting_rules.specs.declared.fault.Fault.TheVariants.{Damaged, Down, Memory, Store}
+use Rattle.posting_rules.specs.declared.fault.Rule.{Rule as Broken}
 use Rattle.bank_audits.proofs.Further.{error_is}
 use Rattle.bank_store.specs.Seen.{database_of}
 use Rattle.bank_audits.specs.Files.{rows_in}
 use Rattle.bank_audits.proofs.LogFiles.{balanced, has_file, has_ordinals, not_damaged, tells_in_file}
 use Rattle.bank_audits.proofs.OncePosted.{posted_once}
 use Rattle.bank_audits.proofs.Read.{one_file}
-use Rattle.bank_audits.proofs.ReportLeaves.{clean_before, not_ok, quiet_leaves}
+use Rattle.bank_audits.proofs.ReportLeaves.{clean_before, not_ok, quiet_leaves, takes_then}
 use Rattle.bank_audits.proofs.ReportLeaves.{untouched_stands}
 use Rattle.bank_audits.proofs.audits.audit.Given.{Over}
 use Rattle.bank_audits.proofs.audits.audit.Goals as goal
+
+-- ---- a bank that was down, and one that wasn't
+
+tested_up : (tested is_down : Bool) → tested ≡ is_down → tested ≡ false → is_down ≡ true → ⊥
+tested_up tested is_down same up down = cc
+
+-- what is told with one fault is told with no other
+down_only : {A : Type 0} (r : Result A Fault) → r ≡ Err Down
+    → (r ≡ Err Memory → ⊥) × (r ≡ Err Store → ⊥) × ((broken : Broken) → r ≡ Err (Damaged broken) → ⊥)
+down_only r is = (λ other. cc, λ other. cc, λ broken other. cc)
+
+memory_only : {A : Type 0} (r : Result A Fault) → r ≡ Err Memory
+    → (r ≡ Err Down → ⊥) × (r ≡ Err Store → ⊥) × ((broken : Broken) → r ≡ Err (Damaged broken) → ⊥)
+memory_only r is = (λ other. cc, λ other. cc, λ broken other. cc)
+
+pub returns-then-is_down : goal.returns-then-is_down
+returns-then-is_down g c =
+    let only = down_only _ refl in
+    record {
+      numbers = λ clean f has. tt;
+      consistent = λ clean t has. tt;
+      tables = λ clean t shown. tt;
+      condition = λ clean t shown. tt;
+      balanced = λ clean log s. tt;
+      once = tt;
+      damaged = λ broken is. absurd (only.2 broken is);
+      store = λ is. absurd (only.1 is);
+      sound = λ broken is clean log s. only.2 broken is;
+      memory = λ is. refl;
+      down = λ down. (refl, refl);
+      tried = λ is. sym c.is_down.ensures ∙ c.if-is_down.true;
+      up = refl;
+      survives = λ clean log at. at.survives;
+      done = tt;
+      stands = λ clean is_open log at. at;
+      honest = λ clean. clean;
+    }
+
+-- ---- where there was no memory for the sums
+
+pub returns-in_err-sums : goal.returns-in_err-sums
+returns-in_err-sums g c =
+    let same : c.from_residual.result ≡ Err Memory = search rules in
+    let only = memory_only _ same in
+    record {
+      numbers = λ clean f has. rw same tt;
+      consistent = λ clean t has. rw same tt;
+      tables = λ clean t shown. rw same tt;
+      condition = λ clean t shown. rw same tt;
+      balanced = λ clean log s. rw same tt;
+      once = rw same tt;
+      damaged = λ broken is. absurd (only.2 broken is);
+      store = λ is. absurd (only.1 is);
+      sound = λ broken is clean log s. only.2 broken is;
+      memory = λ is. refl;
+      down = λ down. absurd (tested_up _ _ c.is_down.ensures c.if-is_down.false down);
+      tried = λ is. absurd (only.0 is);
+      up = refl;
+      survives = λ clean log at. at.survives;
+      done = rw same tt;
+      stands = λ clean is_open log at. at;
+      honest = λ clean. clean;
+    }
 
 -- ---- where a pass ended it: what it is told with, and what each clause is then, which takes a search
 -- much longer to find
@@ -53,6 +118,10 @@ returns-in_err-add_all-clause-done g c = rw (refusal g c) tt
 pub returns-in_err-add_all-clause-memory : goal.returns-in_err-add_all-clause-memory
 returns-in_err-add_all-clause-memory g c is =
     absurd (c.in_err-add_all.ensures.frugal (ap Err (error_is _ _ (sym (refusal g c) ∙ is))))
+
+pub returns-in_err-add_all-clause-down : goal.returns-in_err-add_all-clause-down
+returns-in_err-add_all-clause-down g c down =
+    absurd (tested_up _ _ c.is_down.ensures c.if-is_down.false down)
 
 pub returns-in_err-add_all-clause-tried : goal.returns-in_err-add_all-clause-tried
 returns-in_err-add_all-clause-tried g c is =
@@ -155,6 +224,9 @@ returns-clause-store g c is = absurd (not_ok _ _ _ refl is)
 pub returns-clause-memory : goal.returns-clause-memory
 returns-clause-memory g c is = absurd (not_ok _ _ _ refl is)
 
+pub returns-clause-down : goal.returns-clause-down
+returns-clause-down g c down = absurd (tested_up _ _ c.is_down.ensures c.if-is_down.false down)
+
 pub returns-clause-tried : goal.returns-clause-tried
 returns-clause-tried g c is = absurd (not_ok _ _ _ refl is)
 
@@ -165,6 +237,15 @@ pub returns-clause-survives : goal.returns-clause-survives
 returns-clause-survives g c clean log at =
     quiet_leaves (state g.S.Store c.args.bank.now.conn) (state g.S.Store c.add_all.new.bank.conn) (Unit {0})
     c.in_ok-add_all.ensures.passed.survives clean log at.survives
+
+pub returns-clause-done : goal.returns-clause-done
+returns-clause-done g c =
+    let old = state g.S.Store c.args.bank.now.conn in
+    let all : c.add_all.result ≡ Ok tt = search rules in
+    takes_then old old (state g.S.Store c.add_all.new.bank.conn) _ _ _
+    (record { shows = λ clean log s. s; stands = λ clean log at. at })
+    (rw all at c.add_all.ensures.passed.still) c.add_all.ensures.passed.survives
+    (subst (λ fault. IsSome fault) c.add_all.ensures.up)
 
 pub returns-clause-stands : goal.returns-clause-stands
 returns-clause-stands g c clean is_open log at =

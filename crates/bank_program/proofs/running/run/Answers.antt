@@ -1,11 +1,12 @@
 use Rattle.std.proofs.Common.{◌∙◌, inl, inr, map, refl, sym, Ok, Err}
 use Rattle.clap.specs.Words.{kind_of}
-use Rattle.bank_program.proofs.Asked.{driven_in, loaded_by, made_by, posted_by}
-use Rattle.bank_program.proofs.Asked.{memory_is_no_request, not_done, nothing_posted}
+use Rattle.bank_program.proofs.Asked.{created_by, driven_in, fault_is_not_done, fault_is_not_usage}
+use Rattle.bank_program.proofs.Asked.{loaded_by, made_by, memory_is_no_request, not_done, nothing_posted}
+use Rattle.bank_program.proofs.Asked.{posted_by}
 use Rattle.bank_program.proofs.Audited.{audited_in, nothing_audited}
 use Rattle.bank_program.proofs.Driven.{driven_by}
-use Rattle.bank_program.proofs.Endings.{help_ends, memory_ends, mistake_ends, mistake_keeps, not_asked}
-use Rattle.bank_program.proofs.Endings.{system_is_not_usage}
+use Rattle.bank_program.proofs.Endings.{ends_is_not_usage, help_ends, memory_ends, mistake_ends}
+use Rattle.bank_program.proofs.Endings.{mistake_keeps, not_asked, system_is_not_usage}
 use Rattle.bank_program.proofs.Served.{served_by, served_in}
 use Rattle.bank_program.proofs.Stated.{nothing_stated, stated_in}
 use Rattle.bank_program.proofs.Worked.{none_run}
@@ -37,13 +38,82 @@ returns-in-Err-clause-taken g c spelled =
     system_is_not_usage c.explain.result
     (memory_ends kind c.explain.result (c.in-Err.ensures.spelled spelled) c.explain.ensures.status)
 
--- ---- words that clap takes ask for no help
+pub returns-in-Err-clause-unread : goal.returns-in-Err-clause-unread
+returns-in-Err-clause-unread g c some = refl
+
+-- ---- words that clap takes aren't refused, and ask for no help
+
+pub returns-in-Ok-perform-clause-refused : goal.returns-in-Ok-perform-clause-refused
+returns-in-Ok-perform-clause-refused g c refused = absurd (refused.some c.in-Ok.ensures.fault)
+
+pub returns-in-Ok-perform-clause-silent : goal.returns-in-Ok-perform-clause-silent
+returns-in-Ok-perform-clause-silent g c refused = absurd (refused.some c.in-Ok.ensures.fault)
+
+pub returns-in-Ok-perform-clause-unread : goal.returns-in-Ok-perform-clause-unread
+returns-in-Ok-perform-clause-unread g c some = absurd (some c.in-Ok.ensures.fault)
+
+pub returns-in-Err-perform-clause-refused : goal.returns-in-Err-perform-clause-refused
+returns-in-Err-perform-clause-refused g c refused = absurd (refused.some c.in-Ok.ensures.fault)
+
+pub returns-in-Err-perform-clause-silent : goal.returns-in-Err-perform-clause-silent
+returns-in-Err-perform-clause-silent g c refused = absurd (refused.some c.in-Ok.ensures.fault)
+
+pub returns-in-Err-perform-clause-unread : goal.returns-in-Err-perform-clause-unread
+returns-in-Err-perform-clause-unread g c some = absurd (some c.in-Ok.ensures.fault)
 
 pub returns-in-Ok-perform-clause-help : goal.returns-in-Ok-perform-clause-help
 returns-in-Ok-perform-clause-help g c asks = absurd (c.in-Ok.ensures.help asks)
 
 pub returns-in-Err-perform-clause-help : goal.returns-in-Err-perform-clause-help
 returns-in-Err-perform-clause-help g c asks = absurd (c.in-Ok.ensures.help asks)
+
+-- ---- words of a command are no mistake
+
+pub returns-in-Ok-perform-clause-taken : goal.returns-in-Ok-perform-clause-taken
+returns-in-Ok-perform-clause-taken g c spelled =
+    ends_is_not_usage c.in-Ok.command c.in-Ok-perform.status (g.W.Write.contents c.args.output.now)
+    (g.W.Write.contents c.perform.new.output) c.in-Ok-perform.ensures.ends
+
+pub returns-in-Err-perform-clause-taken : goal.returns-in-Err-perform-clause-taken
+returns-in-Err-perform-clause-taken g c spelled other =
+    fault_is_not_usage c.in-Err-perform.fault (sym c.tell.ensures ∙ other)
+
+-- ---- words that ask for a new bank
+
+pub returns-in-Ok-perform-clause-created : goal.returns-in-Ok-perform-clause-created
+returns-in-Ok-perform-clause-created g c asked done =
+    created_by (map g.T.AsStr.text c.args.words.now) asked c.in-Ok.command c.in-Ok-perform.status
+    (g.W.Write.contents c.args.output.now) (g.W.Write.contents c.perform.new.output)
+    (c.in-Ok.ensures.spelled (inl asked)) c.in-Ok-perform.ensures.ends
+
+-- ---- after a fault nothing is done
+
+pub returns-in-Err-perform-clause-created : goal.returns-in-Err-perform-clause-created
+returns-in-Err-perform-clause-created g c asked done =
+    absurd (fault_is_not_done c.in-Err-perform.fault (sym c.tell.ensures ∙ done))
+
+pub returns-in-Err-perform-clause-driven : goal.returns-in-Err-perform-clause-driven
+returns-in-Err-perform-clause-driven g c asked done =
+    absurd (fault_is_not_done c.in-Err-perform.fault (sym c.tell.ensures ∙ done))
+
+pub returns-in-Err-perform-clause-served : goal.returns-in-Err-perform-clause-served
+returns-in-Err-perform-clause-served g c asked done =
+    absurd (fault_is_not_done c.in-Err-perform.fault (sym c.tell.ensures ∙ done))
+
+pub returns-in-Err-clause-created : goal.returns-in-Err-clause-created
+returns-in-Err-clause-created g c asked done =
+    absurd (not_done (kind_of c.in-Err.error) c.explain.result (c.in-Err.ensures.spelled (inl asked))
+    c.explain.ensures.status done)
+
+pub returns-in-Err-clause-driven : goal.returns-in-Err-clause-driven
+returns-in-Err-clause-driven g c asked done =
+    absurd (not_done (kind_of c.in-Err.error) c.explain.result
+    (c.in-Err.ensures.spelled (inr (inr (inr (inl asked))))) c.explain.ensures.status done)
+
+pub returns-in-Err-clause-served : goal.returns-in-Err-clause-served
+returns-in-Err-clause-served g c asked done =
+    absurd (not_done (kind_of c.in-Err.error) c.explain.result
+    (c.in-Err.ensures.spelled (inr (inr (inr (inr (inr (inr asked))))))) c.explain.ensures.status done)
 
 -- ---- words that ask to drive
 

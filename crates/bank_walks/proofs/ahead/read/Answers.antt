@@ -1,5 +1,5 @@
 -- What the row is.
-use Rattle.std.proofs.Common.{◌≡◌, Err, rules, ◌∙◌}
+use Rattle.std.proofs.Common.{◌≡◌, Err, rules}
 use Rattle.bank_walks.proofs.EntriesRead.{reads_by, reads_fails}
 use Rattle.bank_walks.proofs.ahead.read.Goals as goal
 

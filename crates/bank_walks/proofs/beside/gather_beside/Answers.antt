@@ -11,7 +11,7 @@ use Rattle.bank_walks.proofs.beside.gather_beside.Goals as goal
 pub returns-in_err-key-in-Err-Damaged-clause-told : goal.returns-in_err-key-in-Err-Damaged-clause-told
 returns-in_err-key-in-Err-Damaged-clause-told g c all rise wide is =
     let from = c.args.from in
-    let same : to_z w64 (of_z w64 from) ≡ from = search (rules, to_z-of_z) in
+    let same = to_z-of_z w64 from c.ranges.from in
     let broke = broken_first IsRefusedMemory g.O.StoredRow.kind.Breaks (rows_from from all) _ _
     c.in-Err-Damaged.field-0-is ((rw same at (c.in-Err-Damaged.ensures.told all rise wide)) is) in
     let fault = c.in_err-key-in-Err-Damaged.field-0.0 in
@@ -22,7 +22,7 @@ returns-in_err-key-in-Err-Damaged-clause-told g c all rise wide is =
 pub returns-then-key-from-clause-told : goal.returns-then-key-from-clause-told
 returns-then-key-from-clause-told g c all rise wide is =
     let from = c.args.from in
-    let same : to_z w64 (of_z w64 from) ≡ from = search (rules, to_z-of_z) in
+    let same = to_z-of_z w64 from c.ranges.from in
     let broke = broken_first IsRefusedMemory g.O.StoredRow.kind.Breaks (rows_from from all) _ _
     c.in-Err-Damaged.field-0-is ((rw same at (c.in-Err-Damaged.ensures.told all rise wide)) is) in
     let key =
@@ -36,14 +36,14 @@ returns-then-key-from-clause-told g c all rise wide is =
 
 pub returns-in-Ok-clause-beyond : goal.returns-in-Ok-clause-beyond
 returns-in-Ok-clause-beyond g c =
-    let same : to_z w64 (of_z w64 c.args.from) ≡ c.args.from = search (rules, to_z-of_z) in
+    let same = to_z-of_z w64 c.args.from c.ranges.from in
     beyond (λ r. entry_key (g.O.StoredRow.kind.entry r)) c.args.from c.gather.new.rows.items c.in-Ok.rest
     (rw same at c.in-Ok.ensures.rises) c.in-Ok.ensures.ended
 
 pub returns-else-key-from-clause-told : goal.returns-else-key-from-clause-told
 returns-else-key-from-clause-told g c all rise wide is =
     let from = c.args.from in
-    let same : to_z w64 (of_z w64 from) ≡ from = search (rules, to_z-of_z) in
+    let same = to_z-of_z w64 from c.ranges.from in
     let broke = broken_first IsRefusedMemory g.O.StoredRow.kind.Breaks (rows_from from all) _ _
     c.in-Err-Damaged.field-0-is ((rw same at (c.in-Err-Damaged.ensures.told all rise wide)) is) in
     let key =
@@ -60,10 +60,10 @@ returns-else-key-from-clause-beyond g c = search rules
 
 pub returns-in-Ok-clause-told : goal.returns-in-Ok-clause-told
 returns-in-Ok-clause-told g c all rise wide is =
-    let same : to_z w64 (of_z w64 c.args.from) ≡ c.args.from = search (rules, to_z-of_z) in
+    let same = to_z-of_z w64 c.args.from c.ranges.from in
     (rw same at (c.in-Ok.ensures.told all rise wide)) is
 
 pub returns-in-Err-Sqlite-clause-told : goal.returns-in-Err-Sqlite-clause-told
 returns-in-Err-Sqlite-clause-told g c all rise wide is =
-    let same : to_z w64 (of_z w64 c.args.from) ≡ c.args.from = search (rules, to_z-of_z) in
+    let same = to_z-of_z w64 c.args.from c.ranges.from in
     (rw (same, c.in-Err-Sqlite.field-0-is) at (c.in-Err-Sqlite.ensures.told all rise wide)) is

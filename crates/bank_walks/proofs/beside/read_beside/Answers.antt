@@ -1,25 +1,49 @@
--- What is read beside other rows is gathered of what was found.
-use Rattle.std.proofs.Common.{◌≡◌, filter, None, rules, ap, take, ◌∙◌, w64, to_z, of_z}
+-- What is read beside other rows is gathered of what was found. Each clause is named: a search for them takes
+-- long.
+use Rattle.std.proofs.Common.{inl, None, ap, take, ◌∙◌, w64}
 use Rattle.std.proofs.lemmas.Int.{to_z-of_z}
 use Rattle.sqlite.specs.Held.{state}
+use Rattle.sqlite.specs.State.{IsUnchanged}
+use Rattle.sql_meanings.specs.Outcomes.{WriteFails}
 use Rattle.bank_walks.specs.Outcomes.{shown}
 use Rattle.bank_walks.specs.Rows.{rows_from}
 use Rattle.bank_walks.specs.declared.ahead.TheConstants.{AHEAD}
-use Rattle.bank_walks.proofs.Sought.{all_pass, match_err}
+use Rattle.bank_walks.proofs.Sought.{all_pass, err_any, match_err, on_any}
 use Rattle.bank_walks.proofs.Under.{refused_under}
 use Rattle.bank_walks.proofs.beside.read_beside.Goals as goal
 
-pub returns-in-Ok-clause-told : goal.returns-in-Ok-clause-told
-returns-in-Ok-clause-told g c clean all has =
+pub returns-in-Ok : goal.returns-in-Ok
+returns-in-Ok g c =
     let from = c.args.from in
-    let same : to_z w64 (of_z w64 from) ≡ from = search (rules, to_z-of_z) in
-    let whole : filter (g.O.StoredRow.kind.is_given None) all ≡ all =
-    all_pass (g.O.StoredRow.kind.is_given None) g.O.StoredRow.kind.all_given all in
-    let found = (rw same at (c.in-Ok.ensures.told clean all has))
-    ∙ ap (λ es. shown (take AHEAD (rows_from from es))) whole in
+    let same = to_z-of_z w64 from c.ranges.from in
     let old = state g.S.Store c.args.conn.now in
     let new = state g.S.Store c.seek.new.conn in
-    match_err _ _ _ c.gather_beside.result
-    (refused_under old new g.O.StoredRow.kind.Breaks from all (c.in-Ok.ensures.same clean))
-    ((rw same at (c.gather_beside.ensures.told all has.holds.rows.rise has.holds.rows.wide))
-    (c.deref.ensures.value ∙ found))
+    let sought = c.in-Ok.ensures in
+    let gathered = c.gather_beside.ensures in
+    record {
+      told = λ clean all has.
+          let whole = all_pass (g.O.StoredRow.kind.is_given None) g.O.StoredRow.kind.all_given all in
+          let found = (rw same at (sought.told clean all has))
+          ∙ ap (λ es. shown (take AHEAD (rows_from from es))) whole in
+          match_err _ _ _ c.gather_beside.result
+          (refused_under old new g.O.StoredRow.kind.Breaks from all (sought.same clean))
+          ((rw same at (gathered.told all has.holds.rows.rise has.holds.rows.wide))
+          (c.deref.ensures.value ∙ found));
+      beyond = rw same at gathered.beyond;
+      same = λ clean. on_any (IsUnchanged old new) c.gather_beside.result (sought.same clean);
+      err = λ clean. err_any (WriteFails old new) c.gather_beside.result (inl (sought.same clean));
+      mode = sought.mode;
+      survives = sought.survives;
+    }
+
+pub returns-in-Err : goal.returns-in-Err
+returns-in-Err g c =
+    let sought = c.in-Err.ensures in
+    record {
+      told = sought.told;
+      beyond = tt;
+      same = λ clean. tt;
+      err = sought.err;
+      mode = sought.mode;
+      survives = sought.survives;
+    }

@@ -1,6 +1,6 @@
 -- Rows are joined one by one. What is returned follows from the invariant; a search takes long to see it.
-use Rattle.std.proofs.Common.{◌≡◌, ◌≤ℤ◌, ◌≤◌, ◌<◌, ◌+◌, ◌++◌, suc, ◌∷◌, map, drop, length, get_or, refl, sym}
-use Rattle.std.proofs.Common.{ap, subst, ◌∙◌, rules, arith, w64, to_z, of_z}
+use Rattle.std.proofs.Common.{◌≡◌, ◌≤ℤ◌, ◌<◌, ◌+◌, ◌++◌, suc, ◌∷◌, map, drop, length, get_or, refl, sym}
+use Rattle.std.proofs.Common.{ap, subst, ◌∙◌, rules, arith, w64, to_z}
 use Rattle.std.proofs.Math.Seq.{drop-cons}
 use Rattle.std.proofs.lemmas.Int.{ints, to_z-of_z}
 use Rattle.store_rows.proofs.Lookups.{as_integer}
@@ -15,7 +15,7 @@ use Rattle.bank_walks.proofs.joined.join.Goals as goal
 pub loop-row-preserved : goal.loop-row-preserved
 loop-row-preserved g c =
     let start = c.args.start in
-    let same : to_z w64 (of_z w64 start) ≡ start = search (rules, to_z-of_z) in
+    let same = to_z-of_z w64 start c.ranges.start in
     let entry = g.R.StoredRow.kind.entry in
     let r = c.row-item.result in
     let at = c.loop-row.row-index in
@@ -56,51 +56,43 @@ loop-row-preserved g c =
           (map g.O.StoredRow.kind.entry c.args.beside.now) c.args.behind others_are above decided)));
     }
 
-pub returns-then-is_beyond-clause-told : goal.returns-then-is_beyond-clause-told
-returns-then-is_beyond-clause-told g c base others rise own_is others_are =
-    let same : to_z w64 (of_z w64 c.args.start) ≡ c.args.start = search (rules, to_z-of_z) in
-    let both = (rw same at (c.loop-row.invariant.told base others rise)) own_is others_are in
-    both.1
-
-pub returns-then-is_beyond-clause-rises : goal.returns-then-is_beyond-clause-rises
-returns-then-is_beyond-clause-rises g c =
-    let same : to_z w64 (of_z w64 c.args.start) ≡ c.args.start = search (rules, to_z-of_z) in
-    rw same at c.loop-row.invariant.rises
-
-pub returns-then-is_beyond-clause-some : goal.returns-then-is_beyond-clause-some
-returns-then-is_beyond-clause-some g c r more is before none =
+pub returns-then-is_beyond : goal.returns-then-is_beyond
+returns-then-is_beyond g c =
+    let same = to_z-of_z w64 c.args.start c.ranges.start in
     let n = c.key-key.result in
     let key = λ (x : g.row.R.Denot). entry_key (g.R.StoredRow.kind.entry x) in
-    let none_yet : c.loop-row.row-index ≡ 0 = sym c.loop-row.invariant.count ∙ ap length none in
-    let first : c.row-item.result ≡ r =
-    c.row-item.is ∙ ap (λ k. get_or c.args.own.now k c.row-item.result) none_yet
-    ∙ ap (λ l. get_or l 0 c.row-item.result) is in
-    c.if-is_beyond.ensures.beyond
-    (subst (ComesBefore c.args.behind)
-    (sym (as_integer n n refl c.key-key.ensures.most ∙ sym c.key-key.ensures.key ∙ ap key first)) before)
+    record {
+      told = λ base others rise own_is others_are.
+          ((rw same at (c.loop-row.invariant.told base others rise)) own_is others_are).1;
+      rises = rw same at c.loop-row.invariant.rises;
+      some = λ r more is before none.
+          let none_yet : c.loop-row.row-index ≡ 0 = sym c.loop-row.invariant.count ∙ ap length none in
+          let first : c.row-item.result ≡ r =
+          c.row-item.is ∙ ap (λ k. get_or c.args.own.now k c.row-item.result) none_yet
+          ∙ ap (λ l. get_or l 0 c.row-item.result) is in
+          c.if-is_beyond.ensures.beyond
+          (subst (ComesBefore c.args.behind)
+          (sym (as_integer n n refl c.key-key.ensures.most ∙ sym c.key-key.ensures.key ∙ ap key first))
+          before);
+    }
 
-pub returns-clause-told : goal.returns-clause-told
-returns-clause-told g c base others rise own_is others_are =
-    let same : to_z w64 (of_z w64 c.args.start) ≡ c.args.start = search (rules, to_z-of_z) in
+pub returns : goal.returns
+returns g c =
+    let start = c.args.start in
+    let same = to_z-of_z w64 start c.ranges.start in
     let entry = g.R.StoredRow.kind.entry in
     let other = g.O.StoredRow.kind.entry in
-    let both = (rw same at (c.loop-row.invariant.told base others rise)) own_is others_are in
-    let left = none_left c.loop-row.row-index c.args.own.now c.loop-row-test.false in
-    both.1 ∙ ap (λ l. map (pair_of entry other) c.loop-row.rows.items ++ paired others l)
-    (both.0 ∙ ap (λ l. map entry l ++ rows_behind c.args.rest base) left)
-
-pub returns-clause-some : goal.returns-clause-some
-returns-clause-some g c r more is before none = omega (arith, ap length none, ap length is)
-
-pub returns-clause-rises : goal.returns-clause-rises
-returns-clause-rises g c =
-    let start = c.args.start in
-    let same : to_z w64 (of_z w64 start) ≡ start = search (rules, to_z-of_z) in
-    let entry = g.R.StoredRow.kind.entry in
     let next = to_z w64 c.loop-row.next-bits in
-    let low : length c.args.own.now ≤ c.loop-row.row-index = search rules in
-    rest_behind (λ j. entry_key (entry j.stored)) start c.loop-row.rows.items next c.args.rest
-    (rw same at c.loop-row.invariant.rises)
-    (subst (λ l. RisesFrom next (map (λ x. entry_key (entry x)) l) c.args.rest)
-    (none_left c.loop-row.row-index c.args.own.now low)
-    c.loop-row.invariant.ahead)
+    let left = none_left c.loop-row.row-index c.args.own.now c.loop-row-test.false in
+    record {
+      told = λ base others rise own_is others_are.
+          let both = (rw same at (c.loop-row.invariant.told base others rise)) own_is others_are in
+          both.1 ∙ ap (λ l. map (pair_of entry other) c.loop-row.rows.items ++ paired others l)
+          (both.0 ∙ ap (λ l. map entry l ++ rows_behind c.args.rest base) left);
+      rises =
+          rest_behind (λ j. entry_key (entry j.stored)) start c.loop-row.rows.items next c.args.rest
+          (rw same at c.loop-row.invariant.rises)
+          (subst (λ l. RisesFrom next (map (λ x. entry_key (entry x)) l) c.args.rest) left
+          c.loop-row.invariant.ahead);
+      some = λ r more is before none. omega (arith, ap length none, ap length is);
+    }
