@@ -4,16 +4,19 @@
     tools/http_model.py [COUNT] [SEED]
 
 The model walks over an input by the rules of the counter over HTTP, with a grammar of request heads of its own and a bank
-of two branches. It needs the built program (cd crates/http_stdio && rt run <stdin), and stands outside the gate.
+of two branches. The program, `http_stdio.rt.in`, is proved and built first, as a crate of its own above copies of those that
+it uses. All of it stands outside the gate.
 """
 import os
 import random
+import shutil
 import subprocess
 import sys
+import tempfile
 from concurrent.futures import ThreadPoolExecutor
 
 HERE = os.path.dirname(os.path.dirname(os.path.abspath(__file__)))
-PROGRAM = os.path.join(HERE, "crates", "http_stdio", "out", "http_stdio")
+BELOW = ["message_records", "posting_rules", "posting_core", "counter_http"]
 
 MAX_HEAD, MAX_FIELDS, MAX_BODY = 8192, 32, 4096
 TOKEN = frozenset(b"!#$%&'*+-.^_`|~0123456789ABCDEFGHIJKLMNOPQRSTUVWXYZabcdefghijklmnopqrstuvwxyz")
@@ -276,18 +279,35 @@ def an_input(draw):
     return text[:draw.randrange(len(text) + 1)] if draw.random() < 0.15 else text
 
 
-def compare(text):
-    run = subprocess.run([PROGRAM], input=text, stdout=subprocess.PIPE, check=False)
+def built(folder):
+    """Proves and builds the program in a new folder, and gives its path."""
+    with open(os.path.join(HERE, "crates.txt"), encoding="utf-8") as file:
+        lines = [line for line in file if line.split(":")[0] in BELOW]
+    with open(os.path.join(folder, "crates.txt"), "w", encoding="utf-8") as file:
+        file.writelines([*lines, "http_stdio: message_records posting_core counter_http\n"])
+    for crate in BELOW:
+        shutil.copytree(os.path.join(HERE, "crates", crate), os.path.join(folder, "crates", crate), symlinks=True)
+    own = os.path.join(folder, "crates", "http_stdio")
+    os.makedirs(os.path.join(own, "src"))
+    shutil.copy(os.path.join(HERE, "tools", "http_stdio.rt.in"), os.path.join(own, "src", "main.rt"))
+    subprocess.run(["git", "init", "-q"], cwd=folder, check=True)
+    subprocess.run(["rt", "run"], cwd=own, input=b"", check=True)
+    return os.path.join(own, "out", "http_stdio")
+
+
+def compare(program, text):
+    run = subprocess.run([program], input=text, stdout=subprocess.PIPE, check=False)
     return (run.stdout, run.returncode) == (walk(text), 0)
 
 
 def main():
     count = int(sys.argv[1]) if len(sys.argv) > 1 else 100_000
     draw = random.Random(int(sys.argv[2]) if len(sys.argv) > 2 else 1)
-    with ThreadPoolExecutor(2) as pool:
+    with tempfile.TemporaryDirectory() as folder, ThreadPoolExecutor(2) as pool:
+        program = built(folder)
         for first in range(0, count, 1000):
             texts = [an_input(draw) for _ in range(min(1000, count - first))]
-            for text, same in zip(texts, pool.map(compare, texts)):
+            for text, same in zip(texts, pool.map(lambda it: compare(program, it), texts)):
                 if not same:
                     sys.exit("http_model: differs at the input %r" % text)
     print("http_model: %d inputs, all alike" % count)

@@ -15,7 +15,7 @@ use store_rows::{
 };
 
 /// How many of some tables are there.
-#[derive(Clone, Copy, Debug, PartialEq, Eq)]
+#[derive(Clone, Copy)]
 pub(crate) enum Presence {
     Absent,
     Partial,
@@ -45,7 +45,7 @@ impl Presence {
 }
 
 /// One of the six tables.
-#[derive(Clone, Copy, Debug, PartialEq, Eq)]
+#[derive(Clone, Copy)]
 pub(crate) enum BankTable {
     Meta,
     Branch,

@@ -26,7 +26,7 @@ use std::fmt;
 use store_rows::TableFault;
 
 // How far a walk is: on its way, behind its last row, or behind a fault.
-#[derive(Clone, Copy, Debug, PartialEq, Eq)]
+#[derive(Clone, Copy, Debug)]
 pub(crate) enum Stage {
     Going,
     Ended,

@@ -17,7 +17,7 @@ use sqlite::{Alter, Transaction};
 use store_rows::{Member, TableFault, add_branch, add_member};
 
 /// The rows that come with a branch.
-#[derive(Clone, Copy, Debug, PartialEq, Eq)]
+#[derive(Clone, Copy)]
 pub(crate) enum NewRows {
     Tellers,
     Accounts,
