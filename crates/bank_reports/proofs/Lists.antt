@@ -1,9 +1,10 @@
 -- Small facts of lists, tests and look-ups.
 use Rattle.std.proofs.Common.{◌≡◌, Bool, true, false, not, ◌&&◌, List, [], ◌∷◌, ◌++◌, map}
-use Rattle.std.proofs.Common.{filter, length, refl, inl, inr, arith}
+use Rattle.std.proofs.Common.{FitsSigned, filter, length, refl, inl, inr, arith, of_z, rules, w64}
 use Rattle.std.specs.Prelude.{ℤ, ◌==◌}
 use Rattle.std.specs.List.{AllByRecursion}
 use Rattle.std.specs.Ordering.{int_eq}
+use Rattle.std.proofs.Math.Dec.{eqb}
 use Rattle.std.proofs.lemmas.Bool.{cases_Bool, eqb-true}
 use Rattle.std.proofs.lemmas.Int.{ints}
 
@@ -19,6 +20,10 @@ same_int a b h = grind (arith, ints, h)
 
 pub int_same : (a b : ℤ) → a ≡ b → int_eq a b ≡ true
 int_same a b h = grind (arith, ints, h)
+
+-- two numbers are the same word just where they are equal
+pub same_words : (a b : ℤ) → FitsSigned w64 a → FitsSigned w64 b → eqb (of_z w64 a) (of_z w64 b) ≡ int_eq a b
+same_words a b fa fb = search rules
 
 -- ---- lists
 

@@ -1,6 +1,6 @@
 //! Requests and their postings.
 ghost use Rattle.std.specs.Prelude.{◌≡◌, Some};
-ghost use Rattle.bank_reports.specs.Audit.{is_matched as matches};
+ghost use Rattle.bank_reports.specs.Audit.{agree, is_matched as matches};
 
 use bank_walks::{StoredPosting, StoredRequest};
 
@@ -15,12 +15,14 @@ pub(crate) fn is_matched(request: &StoredRequest, posting: Option<StoredPosting>
     let posted = request.outcome == POSTED;
     match posting {
         None => !posted,
-        Some(posting) => {
-            posted
-                && posting.account == request.account
-                && posting.teller == request.teller
-                && posting.branch == request.branch
-                && posting.delta == request.delta
-        }
+        Some(posting) => posted & agree(request, &posting),
     }
+}
+
+// Whether they name the same account, teller and branch, and the same amount.
+fn agree(request: &StoredRequest, posting: &StoredPosting) -> bool
+    ensures { result ≡ agree request.now posting.now }
+{
+    let holders = (posting.account == request.account) & (posting.teller == request.teller);
+    holders & (posting.branch == request.branch) & (posting.delta == request.delta)
 }

@@ -15,8 +15,6 @@
 #![tactic(auto)]
 
 mod once;
-#[cfg(test)]
-mod tests;
 
 use posting_core::OnceFault;
 use std::process::ExitCode;

@@ -1,5 +1,5 @@
 //! Tests of what no scenario of a bank reaches: records and plans, fault by fault, the records that are drawn
-//! and driven, streams over ends and banks that fail, clocks, the verdict of a full bank, and the laws; and the
+//! and driven, one record alone, streams over ends and banks that fail, clocks, the verdict of a full bank, and the laws; and the
 //! first programs of the crates' pages.
 #![tactic(auto)]
 
@@ -15,6 +15,8 @@ mod drives;
 mod first_programs;
 #[cfg(test)]
 mod judging;
+#[cfg(test)]
+mod once;
 #[cfg(test)]
 mod plans;
 #[cfg(test)]
