@@ -1,22 +1,33 @@
--- Reads one after another, and reads that fail.
-use Rattle.std.proofs.Common.{◌≡◌, Option, Some, Ok, Err, sym, ap, subst, ◌∙◌, inl, inr}
+-- Reads one after another, and reads that fail. Last of a teller and its branch.
+use Rattle.std.proofs.Common.{◌≡◌, ◌≤◌, ℕ, ℤ, Bool, true, false, Option, Some, None, Ok, Err, refl, sym, ap}
+use Rattle.std.proofs.Common.{subst, ◌∙◌, inl, inr}
+use Rattle.std.specs.Prelude.{is_some, option_map}
 use Rattle.sqlite.specs.Effect.{Database}
-use Rattle.sqlite.specs.State.{State, KeepsCommit, IsUnchanged}
+use Rattle.sqlite.specs.State.{State, HasCleanDisk, KeepsCommit, IsUnchanged}
 use Rattle.sqlite.specs.Held.{Held, state}
 use Rattle.sqlite.specs.declared.transaction.Transaction.{Transaction}
 use Rattle.sqlite_trees.specs.declared.store.Store.{Ghosts}
-use Rattle.posting_rules.specs.Tables.{Tables}
+use Rattle.message_records.specs.declared.limits.TheConstants.{MAX_TELLER}
+use Rattle.posting_rules.specs.Commands.{branch_of_teller}
+use Rattle.posting_rules.specs.LookUps.{balance_of_branch, balance_of_teller, both_of, teller_balances_in}
+use Rattle.posting_rules.specs.Tables.{Tables, row_at, branch_key, teller_key}
 use Rattle.posting_rules.specs.declared.fault.Rule.{Rule}
+use Rattle.posting_rules.specs.declared.fault.Rule.TheVariants as broken
+use Rattle.posting_rules.specs.declared.rows.BranchRow.{BranchRow}
 use Rattle.sql_meanings.specs.Calls.{Says}
 use Rattle.sql_meanings.specs.Outcomes.{WriteFails}
-use Rattle.sql_meanings.proofs.Saying.{says_then}
+use Rattle.sql_meanings.specs.Entries.{Entry}
+use Rattle.sql_meanings.proofs.Saying.{clean_between, says_then}
 use Rattle.store_rows.specs.Calls.{OfTables}
 use Rattle.store_rows.specs.Failures.{HasReason}
+use Rattle.store_rows.specs.Holders.{balance_in}
 use Rattle.store_rows.specs.Outcomes.{Finds}
 use Rattle.store_rows.specs.View.{Shows}
 use Rattle.store_rows.specs.declared.fault.TableFault.{TableFault}
 use Rattle.store_rows.specs.declared.fault.TableFault.TheVariants.{Sqlite, Damaged}
-use Rattle.store_rows.specs.Rules.{IsBroken}
+use Rattle.store_rows.specs.declared.holders.Member.TheVariants.{Teller}
+use Rattle.store_rows.specs.Rules.{BranchKeeps, HoldsBank, IsBroken, OfRows, branch_under, row_under}
+use Rattle.store_rows.specs.Stored.{BalanceKeeps, FindsStored, IsBalance, IsBranch}
 use Rattle.bank_transactions.specs.Causes.{IsBefore, IsFault, IsFirstBroken}
 use Rattle.bank_transactions.specs.Doing.{IsLookedUp, Reads, Stays}
 use Rattle.bank_transactions.proofs.Blamed.{comes, failed_here, fault_within, same_moment}
@@ -189,3 +200,73 @@ behind_found {S} {g} {old} {mid} {new} {Told} {Rows} e one two =
     still_fails (state g old.conn.now) (state g mid.conn.now) (state g new.conn.now) e
     (told' t (subst (λ (db : Database). Shows db t) (sym same.0.0.now_is) shows) sound))
     (λ same kept'. second_failed g old.conn.now mid.conn.now new.conn.now e (comes one.survives) same.0 kept')
+
+-- ---- a teller and its branch
+
+-- a value is reported where a row is stored
+some_stored : {X : Type 0} (stored : Option Entry) (Is : X → Entry → Type 0) (Keeps : Rule → Entry → Type 0)
+    (x : Option X) → FindsStored stored Is Keeps (Ok x) → is_some stored ≡ is_some x
+some_stored stored Is Keeps None finds = ap is_some finds
+some_stored stored Is Keeps (Some x) finds = ap is_some finds.1
+
+-- a value that is changed stays there
+mapped : {X Y : Type 0} (f : X → Y) (o : Option X) → is_some (option_map f o) ≡ is_some o
+mapped f None = refl
+mapped f (Some x) = refl
+
+-- where each stands for the other
+alike : (a b : Bool) → (a ≡ true → b ≡ true) → (b ≡ true → a ≡ true) → a ≡ b
+alike true b there back = sym (there refl)
+alike false true there back = back refl
+alike false false there back = refl
+
+-- a value and no value
+pub one_alone : {X Y : Type 0} (x : Option X) (y : Option Y) (z : X) → x ≡ Some z → y ≡ None
+    → is_some x ≡ is_some y → ⊥
+one_alone x y z some none same = let h = rw (some, none) at same in cc
+
+-- what was found of a teller, and then of the branch of its number
+module _ {S : Type 0} {g : Ghosts S} {old mid new : Transaction S} (n number : ℕ) {x : Option ℤ}
+    {row : Option BranchRow} (is : number ≡ branch_of_teller n)
+    (first : Says g old mid (OfTables (λ before now t. (x ≡ balance_in (Teller n) t) × IsUnchanged before now))
+    (λ before now. IsUnchanged before now × OfRows (λ rows.
+    FindsStored (row_under rows.tellers n) IsBalance BalanceKeeps (Ok x)) before.now))
+    (second : Reads g mid new (λ t. row_at branch_key t.branches number) (Ok row)) where
+  both_found : Reads {X = Option ℤ × Option BranchRow} g old new
+      (λ t. (balance_in (Teller n) t, row_at branch_key t.branches number)) (Ok (x, row))
+  both_found = reads_both (find_tells first (λ t told. told)) second
+
+  -- the balances of both, or none
+  pub teller_told : Reads g old new (λ t. teller_balances_in t n)
+      (Ok (both_of x (option_map balance_of_branch row)))
+  teller_told =
+      reads_as (λ (p : Option ℤ × Option BranchRow). both_of p.0 (option_map balance_of_branch p.1)) both_found
+      (λ t. ap (λ k. both_of (balance_in (Teller n) t)
+      (option_map balance_of_branch (row_at branch_key t.branches k))) is)
+
+  -- one alone is damage
+  pub teller_alone : 1 ≤ n → n ≤ MAX_TELLER
+      → (HasCleanDisk (state g new.conn.now) → OfRows (λ rows.
+      FindsStored (branch_under rows number) IsBranch BranchKeeps (Ok row)) (state g mid.conn.now).now)
+      → (is_some x ≡ is_some row → ⊥) → Reads g old new (λ t. teller_balances_in t n) (Err (Damaged broken.Teller))
+  teller_alone above most stored alone = record {
+    same_reference = both_found.same_reference;
+    told = λ clean t shows sound.
+        let it = (both_found.told clean t shows sound).0 in
+        alone (ap (λ p. is_some p.0) it ∙ mapped balance_of_teller (row_at teller_key t.tellers n)
+        ∙ sound.tellers n above ∙ ap (λ k. is_some (row_at branch_key t.branches k)) (sym is)
+        ∙ sym (ap (λ p. is_some p.1) it));
+    kept = λ clean.
+        let before = first.kept (clean_between g old mid new first second clean) in
+        let on = (both_found.kept clean).0.goes_on in (
+          record { was_open = on.opened; committed = λ h. on.committed },
+          λ rows has keeps.
+              let fits = keeps n above most in
+              let branch = stored clean rows
+              (subst (λ (db : Database). HoldsBank db rows) (sym before.0.0.now_is) has) in
+              alone (sym (some_stored (row_under rows.tellers n) IsBalance BalanceKeeps x (before.1 rows has))
+              ∙ alike _ _ fits.0 fits.1 ∙ ap (λ k. is_some (branch_under rows k)) (sym is)
+              ∙ some_stored (branch_under rows number) IsBranch BranchKeeps row branch),
+        );
+    survives = both_found.survives;
+  }

@@ -1,14 +1,17 @@
 -- The body's length, read from the fields in order.
 use Rattle.std.proofs.Common.{◌≡◌, ℕ, ◌+◌, ◌-◌, ◌*◌, ◌<◌, ◌≤◌, inl}
 use Rattle.std.proofs.Common.{inr, min, Bool, true, false, cond, leb, List, [], ◌∷◌, length, Option}
-use Rattle.std.proofs.Common.{Some, None, refl, sym, ap, ◌∙◌, arith}
+use Rattle.std.proofs.Common.{Some, None, refl, sym, ap, ◌∙◌, arith, map, drop, get_or}
 use Rattle.std.specs.Prelude.{◌&&◌, codes, unwrap_or}
+use Rattle.std.specs.Option.{is_some}
 use Rattle.std.specs.List.{list_any, list_all}
 use Rattle.std.specs.Char.{is_ascii_digit, digit_value}
 use Rattle.std.specs.Str.Parse.{digits_value_after}
-use Rattle.std.proofs.lemmas.Bool.{cases_Bool, cases_lt, and_parts, leb-true, lt-leb, lt-ltb}
+use Rattle.std.proofs.lemmas.Bool.{cases_Bool, cases_lt, and_parts, false≢true, leb-true, lt-leb, lt-ltb}
+use Rattle.std.proofs.lemmas.List.{at_drop_more}
 use Rattle.std.proofs.lemmas.Str.{digit_value_digit}
-use Rattle.counter_http.specs.Fields.{NamedValue, is_named, values_of, stated_length, length_by, body_length}
+use Rattle.counter_http.specs.Fields.{NamedValue, is_alike, is_named, values_of, stated_length, length_by}
+use Rattle.counter_http.specs.Fields.{body_length}
 
 -- ---- a number in digits, that stays at 4097 once it is too large
 
@@ -114,3 +117,39 @@ length_is (f ∷ fs) = elim (cases_Bool (is_named (codes "transfer-encoding") f)
     | inr v ↦ rw (u, v) (length_is fs)
   ]
 ]
+
+-- ---- one more field
+
+-- the field at a place, and those behind it
+pub at_field : {X : Type 0} (all stated : Option ℕ) (field : X → NamedValue) (xs : List X) (i : ℕ) (d : X)
+    → i < length xs → all ≡ length_behind stated (map field (drop i xs))
+    → all ≡ length_behind stated (field (get_or xs i d) ∷ map field (drop (i + 1) xs))
+at_field all stated field xs i d within is =
+    is ∙ at_drop_more (λ ys. length_behind stated (map field ys)) xs i d within
+
+-- a test compared its name
+pub named_so : (text name : List ℕ) (f : NamedValue) (tested so : Bool) → text ≡ f.0
+    → tested ≡ is_alike text name → tested ≡ so → is_named name f ≡ so
+named_so text name f tested so same test is = ap (λ t. is_alike t name) (sym same) ∙ sym test ∙ is
+
+pub one_coded : (all stated : Option ℕ) (f : NamedValue) (fs : List NamedValue)
+    → all ≡ length_behind stated (f ∷ fs) → is_named (codes "transfer-encoding") f ≡ true → None ≡ all
+one_coded all stated f fs is t = sym (rw t at is)
+
+pub one_other : (all stated : Option ℕ) (f : NamedValue) (fs : List NamedValue)
+    → all ≡ length_behind stated (f ∷ fs) → is_named (codes "transfer-encoding") f ≡ false
+    → is_named (codes "content-length") f ≡ false → all ≡ length_behind stated fs
+one_other all stated f fs is u v = rw (u, v) at is
+
+pub one_again : (all stated : Option ℕ) (f : NamedValue) (fs : List NamedValue)
+    → all ≡ length_behind stated (f ∷ fs) → is_named (codes "transfer-encoding") f ≡ false
+    → is_named (codes "content-length") f ≡ true → is_some stated ≡ true → None ≡ all
+one_again all None f fs is u t some = absurd (false≢true some)
+one_again all (Some n) f fs is u t some = sym (rw (u, t) at is)
+
+pub one_length : (all stated : Option ℕ) (f : NamedValue) (fs : List NamedValue)
+    → all ≡ length_behind stated (f ∷ fs) → is_named (codes "transfer-encoding") f ≡ false
+    → is_named (codes "content-length") f ≡ true → is_some stated ≡ false
+    → all ≡ on_stated None (stated_length f.1) (λ o. length_behind o fs)
+one_length all (Some n) f fs is u t first = absurd (false≢true (sym first))
+one_length all None f fs is u t first = rw (u, t) at is

@@ -1,11 +1,23 @@
 -- How a transaction ends.
-use Rattle.std.proofs.Common.{rules}
+use Rattle.std.proofs.Common.{◌≡◌, Err, refl, rules}
 use Rattle.bank_transactions.proofs.transactions.finish.Goals as goal
 
 pub returns-in_err-answer : goal.returns-in_err-answer
 returns-in_err-answer g c =
-    record { mode = search rules; given = search rules; told = search rules; survives = search rules }
+    let same : c.from_residual.result ≡ Err c.in_err-answer.field-0.0 = search rules in
+    rw (same, c.in_err-answer.was) record {
+      mode = c.drop-tx.ensures.ended;
+      given = tt;
+      told = λ clean. (refl, c.drop-tx.ensures.undone clean);
+      survives = c.drop-tx.ensures.survives;
+    }
 
 pub returns : goal.returns
 returns g c =
-    record { mode = search rules; given = search rules; told = search rules; survives = search rules }
+    let done = c.in_ok-commit.ensures in
+    rw c.in_ok-answer.was record {
+      mode = done.ended;
+      given = refl;
+      told = λ clean. (done.same clean, λ t shows. ((done.ok clean t shows).0, done.alone clean t shows));
+      survives = done.survives;
+    }
