@@ -1,5 +1,5 @@
 -- Look-ups one after another.
-use Rattle.std.proofs.Common.{◌≡◌, Ok, Err, Result, refl, sym, subst, ◌∙◌}
+use Rattle.std.proofs.Common.{◌≡◌, Ok, Err, Result, refl, sym, ap, subst, ◌∙◌}
 use Rattle.sqlite.specs.Effect.{Database}
 use Rattle.sqlite.specs.State.{State, IsUnchanged, Survives}
 use Rattle.sqlite.specs.Held.{state}
@@ -115,6 +115,33 @@ module _ {S X Y : Type 0} {g : Ghosts S} {old mid new : Transaction S} {So So' :
                   (λ rule. subst (IsBroken rule) kept.0.now) (comes one.says.survives) kept'.1,
             ));
       }
+
+-- a look-up of one key fills a slot
+pub fills : {S X A : Type 0} {g : Ghosts S} {old new : Transaction S} {Knows : Tables → Type 0}
+    {w : Tables → X} {x : X} (put : X → A) → Reads g old new w (Ok x)
+    → ReadsWhere g old new (λ t. IsUndamaged t × Knows t) (λ t. put (w t)) (Ok (put x))
+fills put reads = record {
+  says = record {
+    same_reference = reads.same_reference;
+    told = λ clean t shows so. let it = reads.told clean t shows so.0 in (ap put it.0, it.1);
+    kept = reads.kept;
+    survives = reads.survives;
+  };
+}
+
+pub fills_none : {S X A : Type 0} {g : Ghosts S} {old new : Transaction S} {Knows : Tables → Type 0}
+    {w' : Tables → A} {e : TableFault} (w : Tables → X) → Reads g old new w (Err e)
+    → ReadsWhere g old new (λ t. IsUndamaged t × Knows t) w' (Err e)
+fills_none {S} {X} {A} {g} {old} {new} {Knows} {w'} {e} w reads = record {
+  says = record {
+    same_reference = reads.same_reference;
+    told = λ clean t shows so.
+        same_fault (state g old.conn.now) (state g new.conn.now) (w t) (w' t) e
+        (reads.told clean t shows so.0);
+    kept = reads.kept;
+    survives = reads.survives;
+  };
+}
 
 -- a statement that changed nothing
 stays_of : (old new : State) → IsUnchanged old new → Stays old new

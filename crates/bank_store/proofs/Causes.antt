@@ -8,6 +8,7 @@ use Rattle.sqlite.specs.State.{State, HasCleanDisk, Survives}
 use Rattle.sqlite.specs.Held.{Held, state}
 use Rattle.sqlite.specs.Steps.{FailsToCommit}
 use Rattle.sqlite.specs.declared.error.Error.{Error}
+use Rattle.sqlite.proofs.StateLemmas.{survives_then}
 use Rattle.sqlite_trees.specs.declared.store.Store.{Ghosts}
 use Rattle.store_rows.specs.Calls.{Probes}
 use Rattle.store_rows.specs.Creation.{CreatesBank}
@@ -63,6 +64,12 @@ module _ {S : Type 0} (g : Ghosts S) (old new : Held S) where
 pub still_clean : {P : Trees → Type 0} {old new : State} → Survives old new P → HasCleanDisk new
     → HasCleanDisk old
 still_clean s clean = omega (arith, s.clean)
+
+-- one reading after another
+pub reads_then : (old mid new : State) → Survives old mid (λ _. ⊥) → Survives mid new (λ _. ⊥)
+    → Survives old new (λ _. ⊥)
+reads_then old mid new =
+    survives_then old mid new (λ _. ⊥) (λ _. ⊥) (λ _. ⊥) (λ clean db none. none) (λ clean db none. none)
 
 -- a transaction begins
 pub begun_after : {S : Type 0} (g : Ghosts S) (conn : Held S) (live : Bool)

@@ -1,8 +1,6 @@
 -- What is found of a bank.
 use Rattle.std.proofs.Common.{◌≡◌, Some, None, Err, Result, rules, refl, sym, ap, ◌∙◌, subst, inl}
-use Rattle.sqlite.specs.State.{State, Survives}
 use Rattle.sqlite.specs.Held.{state}
-use Rattle.sqlite.proofs.StateLemmas.{survives_then}
 use Rattle.store_rows.specs.Probes.{six_probes}
 use Rattle.posting_rules.specs.declared.fault.Rule.TheVariants.{Meta}
 use Rattle.bank_store.specs.Connections.{IsAsBefore}
@@ -12,15 +10,9 @@ use Rattle.bank_store.specs.declared.presence.Presence.{Presence}
 use Rattle.bank_store.specs.declared.refused.OpenFault.{OpenFault}
 use Rattle.bank_store.specs.declared.refused.OpenFault.TheVariants.{Store, Damaged}
 use Rattle.bank_transactions.proofs.Blamed.{comes, same_moment}
-use Rattle.bank_store.proofs.Causes.{checks_known, known_within, still_clean}
+use Rattle.bank_store.proofs.Causes.{checks_known, known_within, reads_then, still_clean}
 use Rattle.bank_store.proofs.FoundBank.{looked, missed}
 use Rattle.bank_store.proofs.adoption.find_bank.Goals as goal
-
--- one reading after another
-both : (old mid new : State) → Survives old mid (λ _. ⊥) → Survives mid new (λ _. ⊥)
-    → Survives old new (λ _. ⊥)
-both old mid new =
-    survives_then old mid new (λ _. ⊥) (λ _. ⊥) (λ _. ⊥) (λ clean db none. none) (λ clean db none. none)
 
 pub returns-in_err-tables_there : goal.returns-in_err-tables_there
 returns-in_err-tables_there g c =
@@ -88,7 +80,7 @@ returns-in_err-settled_meta-in-Whole g c =
           (λ clean. clean)
           (same_moment new) e.field-0.0 e.ensures.cause);
       mode = c.settled_meta.ensures.mode;
-      survives = both old mid new c.tables_there.ensures.survives c.settled_meta.ensures.survives;
+      survives = reads_then old mid new c.tables_there.ensures.survives c.settled_meta.ensures.survives;
     }
 
 pub returns-in-None : goal.returns-in-None
@@ -107,7 +99,7 @@ returns-in-None g c =
           (read.same clean) (Err (Damaged Meta)) (inl refl);
       cause = tt;
       mode = c.settled_meta.ensures.mode;
-      survives = both old mid new c.tables_there.ensures.survives c.settled_meta.ensures.survives;
+      survives = reads_then old mid new c.tables_there.ensures.survives c.settled_meta.ensures.survives;
     }
 
 pub returns-in-Some : goal.returns-in-Some
@@ -129,5 +121,5 @@ returns-in-Some g c =
           checks_known g.S.Store c.args.conn.now c.settled_meta.new.conn meta c.check_meta.result
           c.check_meta.ensures;
       mode = c.settled_meta.ensures.mode;
-      survives = both old mid new c.tables_there.ensures.survives c.settled_meta.ensures.survives;
+      survives = reads_then old mid new c.tables_there.ensures.survives c.settled_meta.ensures.survives;
     }
