@@ -1,20 +1,11 @@
 //! Banks to be streamed to.
 use message_records::{Account, Branch, Cents, Moment};
 use posting_core::{BranchLine, Counter, Fault, Opening, PlainBank};
-use std::alloc::{Alloc, Global};
-use std::test::Fail;
 
-fn open_both<C: Counter>(bank: &mut C) -> Result<(), Fault> {
+/// Opens branch 1 with three accounts and branch 2 with two.
+pub fn open_both<C: Counter>(bank: &mut C) -> Result<Opening, Fault> {
     bank.open_branch(Branch::new(1).unwrap(), 3)?;
-    bank.open_branch(Branch::new(2).unwrap(), 2)?;
-    Ok(())
-}
-
-/// Branch 1 with three accounts and branch 2 with two.
-pub fn fresh(rt: &impl Alloc<A = Global>) -> Result<PlainBank, Fail> {
-    let mut bank = PlainBank::new(rt.alloc());
-    open_both(&mut bank)?;
-    Ok(bank)
+    bank.open_branch(Branch::new(2).unwrap(), 2)
 }
 
 /// A bank whose store fails for good after so many submissions.

@@ -2,42 +2,50 @@
 use branch_loader::Plan;
 use load_driver::{Driver, DriverFault};
 use message_records::{Branch, Request, decode_request};
-use std::alloc::Global;
+use std::alloc::{Alloc, Global};
 use std::process::Abort;
-use std::test::Fail;
 
 const THREE_BRANCHES: [(u64, u32); 3] = [(3, 70_000), (1, 5), (22, 100_000)];
 
 // The plan of these branches and counts.
-fn plan_of(alloc: Global, list: &[(u64, u32)]) -> Result<Plan, Fail> {
-    let mut rows = Vec::new(alloc);
+fn plan_of(rt: &(impl Abort + Alloc<A = Global>), list: &[(u64, u32)]) -> Plan {
+    let mut rows = Vec::new(rt.alloc());
     for (branch, accounts) in list {
-        rows.push((Branch::new(*branch).ok_or("a branch")?, *accounts))?;
+        let branch = Branch::new(*branch).expect(rt, "a branch");
+        rows.push((branch, *accounts)).expect(rt, "memory");
     }
-    Ok(Plan::from_list(rows)?)
+    Plan::from_list(rows).expect(rt, "a plan")
 }
 
-// The driver of their plan, which has a branch.
-fn driver_of(alloc: Global, list: &[(u64, u32)], seed: u64) -> Result<Driver, Fail> {
-    let plan = plan_of(alloc, list)?;
-    Ok(Driver::new(alloc, &plan, seed)?)
+// The driver of their plan, or its fault.
+fn driver_of(
+    rt: &(impl Abort + Alloc<A = Global>),
+    list: &[(u64, u32)],
+    seed: u64,
+) -> Result<Driver, DriverFault> {
+    Driver::new(rt.alloc(), &plan_of(rt, list), seed)
 }
 
-// Whether the driver's first records are these, each with its 49 spaces.
-fn gives(driver: &mut Driver, want: &[[u8; 51]]) -> Result<bool, Fail> {
+// Whether the driver's next record is this one with 49 spaces.
+fn gives_next(driver: &mut Driver, text: &[u8; 51]) -> bool {
+    let Some(bytes) = driver.next() else {
+        return false;
+    };
+    let is_filled = bytes.iter().skip(51).all(|byte| *byte == b' ');
+    is_filled && bytes.starts_with(text.as_slice())
+}
+
+// The first records of the seed over these branches are these.
+fn draws(rt: &(impl Abort + Alloc<A = Global>), list: &[(u64, u32)], seed: u64, want: &[[u8; 51]]) {
+    let mut driver = driver_of(rt, list, seed).expect(rt, "a driver");
     for text in want {
-        let bytes = driver.next().ok_or("a record")?;
-        let is_filled = bytes.iter().skip(51).all(|byte| *byte == b' ');
-        if !is_filled || !bytes.starts_with(text.as_slice()) {
-            return Ok(false);
-        }
+        assert!(rt; gives_next(&mut driver, text));
     }
-    Ok(true)
 }
 
 // From tools/driver_vectors.py, with the arguments `7 12 3:70000 1:5 22:100000`.
 #[test]
-fn three_branches(rt: HostRuntime) -> Result<(), Fail> {
+fn three_branches(rt: HostRuntime) {
     let want = [
         *b"DC01000000233386000002170000220000000001+0000232911",
         *b"DC01000002161064000002160000220000000001+0000052382",
@@ -52,23 +60,19 @@ fn three_branches(rt: HostRuntime) -> Result<(), Fail> {
         *b"DC01000000000004000000070000010000000001-0000964975",
         *b"DC01000000220974000000270000030000000002-0000914880",
     ];
-    let mut driver = driver_of(rt.alloc(), &THREE_BRANCHES, 7)?;
-    assert!(rt; gives(&mut driver, &want)?);
-    Ok(())
+    draws(&rt, &THREE_BRANCHES, 7, &want);
 }
 
 // From tools/driver_vectors.py, with the arguments `18446744073709551615 4 1:1`.
 #[test]
-fn one_account(rt: HostRuntime) -> Result<(), Fail> {
+fn one_account(rt: HostRuntime) {
     let want = [
         *b"DC01000000000001000000020000010000000001-0000395323",
         *b"DC01000000000001000000080000010000000001-0000796073",
         *b"DC01000000000001000000030000010000000001+0000263492",
         *b"DC01000000000001000000070000010000000001-0000960298",
     ];
-    let mut driver = driver_of(rt.alloc(), &[(1, 1)], u64::MAX)?;
-    assert!(rt; gives(&mut driver, &want)?);
-    Ok(())
+    draws(&rt, &[(1, 1)], u64::MAX, &want);
 }
 
 // Whether the list opens the account at this place of the branch, from 0.
@@ -89,40 +93,44 @@ fn is_at_home(rt: &impl Abort, list: &[(u64, u32)], request: &Request) -> bool {
 }
 
 // How many of so many records of the driver are of their account's own branch.
-fn at_home_among(
-    rt: &impl Abort,
-    driver: &mut Driver,
-    list: &[(u64, u32)],
-    records: u32,
-) -> Result<u32, Fail> {
+fn at_home_among(rt: &impl Abort, driver: &mut Driver, list: &[(u64, u32)], records: u32) -> u32 {
     let mut at_home = 0u32;
     for _ in 0..records {
-        let bytes = driver.next().ok_or("a record")?;
-        let request = decode_request(&bytes)?;
+        let bytes = driver.next().expect(rt, "a record");
+        let request = decode_request(&bytes).expect(rt, "a request");
         if is_at_home(rt, list, &request) {
             at_home = at_home.saturating_add(1);
         }
     }
-    Ok(at_home)
+    at_home
 }
 
 #[test]
-fn the_85_15_rule(rt: HostRuntime) -> Result<(), Fail> {
+fn the_85_15_rule(rt: HostRuntime) {
     let records = 100_000;
-    let mut driver = driver_of(rt.alloc(), &THREE_BRANCHES, 1)?;
-    let at_home = at_home_among(&rt, &mut driver, &THREE_BRANCHES, records)?;
+    let mut driver = driver_of(&rt, &THREE_BRANCHES, 1).expect(&rt, "a driver");
+    let at_home = at_home_among(&rt, &mut driver, &THREE_BRANCHES, records);
     assert!(rt;
         at_home >= 83_000 && at_home <= 87_000,
         "{at_home} of {records} at home"
     );
-    Ok(())
 }
 
 #[test]
-fn no_branches(rt: HostRuntime) -> Result<(), Fail> {
-    let fault = Driver::new(rt.alloc(), &plan_of(rt.alloc(), &[])?, 1).err();
+fn no_branches(rt: HostRuntime) {
+    let fault = driver_of(&rt, &[], 1).err();
     assert_eq!(rt; fault, Some(DriverFault::Empty));
-    let text = format!(in rt.alloc(); "{} {}", DriverFault::Empty, DriverFault::Memory)?;
-    assert_eq!(rt; text.as_str(), "no branches no memory");
-    Ok(())
+}
+
+const TEXTS: [(DriverFault, &str); 2] = [
+    (DriverFault::Empty, "no branches"),
+    (DriverFault::Memory, "no memory"),
+];
+
+#[test]
+fn texts(rt: HostRuntime) {
+    for (fault, want) in &TEXTS {
+        let text = format!(in rt.alloc(); "{fault}").expect(&rt, "memory");
+        assert_eq!(rt; text.as_str(), *want);
+    }
 }

@@ -4,34 +4,43 @@ use message_records::{Account, Branch, Cents, Moment, decode_request};
 use posting_core::{Counter, Fault, PlainBank, StoredClock};
 use std::alloc::{Alloc, Global};
 use std::process::Abort;
-use std::test::Fail;
+
+// Branches and their counts of accounts, a seed, how many records are driven, and some of these.
+#[derive(Clone, Copy)]
+struct Drive<'a> {
+    branches: &'a [(u64, u32)],
+    seed: u64,
+    count: u64,
+    texts: &'a [[u8; 51]],
+}
 
 // Opens the branch, which has to be one of a plan.
-fn open<C: Counter>(bank: &mut C, branch: u64, accounts: u32) -> Result<(), Fail> {
-    let branch = Branch::new(branch).ok_or("a branch")?;
-    if branch.get() > 9999 || accounts < 1 || accounts > 100_000 {
-        return Err("a branch of a plan".into());
-    }
-    bank.open_branch(branch, accounts)?;
-    Ok(())
+fn open<C: Counter>(rt: &impl Abort, bank: &mut C, branch: u64, accounts: u32) {
+    let branch = Branch::new(branch).expect(rt, "a branch");
+    assert!(rt; branch.get() <= 9999 && accounts >= 1 && accounts <= 100_000);
+    assert!(rt; bank.open_branch(branch, accounts).is_ok());
 }
 
-// A bank in memory with these branches and counts.
-fn bank_with(alloc: Global, branches: &[(u64, u32)]) -> Result<PlainBank, Fail> {
-    let mut bank = PlainBank::new(alloc);
-    for (branch, accounts) in branches {
-        open(&mut bank, *branch, *accounts)?;
-    }
-    Ok(bank)
+// How the records are answered, all at the moment 0.
+fn answers<C: Counter>(
+    rt: &(impl Abort + Alloc<A = Global>),
+    bank: &mut C,
+    drive: &Drive,
+) -> Result<Driven, DriveFault> {
+    assert!(rt; drive.count >= 1 && drive.count <= 1_000_000_000);
+    let mut clock = StoredClock::new(Vec::new(rt.alloc()));
+    drive_records(rt.alloc(), bank, &mut clock, drive.seed, drive.count)
 }
 
-// Drives so many records of a seed through the bank, all at the moment 0.
-fn driven<C: Counter>(alloc: Global, bank: &mut C, seed: u64, count: u64) -> Result<Driven, Fail> {
-    if count < 1 || count > 1_000_000_000 {
-        return Err("a count".into());
-    }
-    let mut clock = StoredClock::new(Vec::new(alloc));
-    Ok(drive_records(alloc, bank, &mut clock, seed, count)?)
+// How many of them are posted and refused, and the balance of account 1 then.
+fn driven<C: Counter>(
+    rt: &(impl Abort + Alloc<A = Global>),
+    bank: &mut C,
+    drive: &Drive,
+) -> (u64, u64, Option<Cents>) {
+    let driven = answers(rt, bank, drive).expect(rt, "a drive");
+    let balance = bank.balance(Account::new(1).unwrap());
+    (driven.posted, driven.refused, balance.expect(rt, "a bank"))
 }
 
 // The record of this text, and its account.
@@ -53,71 +62,56 @@ fn was_posted<C: Counter>(
     Ok(reply.starts_with(b"DR0100") && bank.balance(account)? == before)
 }
 
-// Whether each of these records was posted.
-fn were_posted<C: Counter>(bank: &mut C, texts: &[[u8; 51]]) -> Result<bool, Fail> {
+// Each of these records was posted.
+fn were_posted<C: Counter>(rt: &impl Abort, bank: &mut C, texts: &[[u8; 51]]) {
     for text in texts {
-        let (bytes, account) = record_of(text).ok_or("a record")?;
-        if !was_posted(bank, &bytes, account)? {
-            return Ok(false);
-        }
+        let (bytes, account) = record_of(text).expect(rt, "a record");
+        assert!(rt; was_posted(bank, &bytes, account).expect(rt, "a bank"));
     }
-    Ok(true)
 }
 
-// How 50 records of the seed 7 are answered, and the balance of account 1 then.
-fn fifty_driven<C: Counter>(alloc: Global, bank: &mut C) -> Result<(Driven, Option<Cents>), Fail> {
-    let answers = driven(alloc, bank, 7, 50)?;
-    Ok((answers, bank.balance(Account::new(1).unwrap())?))
+// A drive posts all its records, and a second one is answered alike and leaves the balance as it is.
+fn drives_twice<C: Counter>(rt: &(impl Abort + Alloc<A = Global>), bank: &mut C, drive: &Drive) {
+    let first = driven(rt, bank, drive);
+    assert_eq!(rt; (first.0, first.1), (drive.count, 0));
+    assert_eq!(rt; driven(rt, bank, drive), first);
+    were_posted(rt, bank, drive.texts);
 }
 
-// A drive posts them all, and a second one is answered alike and leaves the balance as it is.
-fn drives_twice<C: Counter>(
-    rt: &(impl Abort + Alloc<A = Global>),
-    bank: &mut C,
-) -> Result<(), Fail> {
-    let first = fifty_driven(rt.alloc(), bank)?;
-    let second = fifty_driven(rt.alloc(), bank)?;
-    let all = Driven {
-        posted: 50,
-        refused: 0,
-    };
-    assert_eq!(rt; first.0, all);
-    assert_eq!(rt; second, first);
-    Ok(())
+// Opens the branches, and drives.
+fn posts<C: Counter>(rt: &(impl Abort + Alloc<A = Global>), bank: &mut C, drive: &Drive) {
+    for (branch, accounts) in drive.branches {
+        open(rt, bank, *branch, *accounts);
+    }
+    drives_twice(rt, bank, drive);
+}
+
+// Drives on a new bank.
+fn play(rt: &(impl Abort + Alloc<A = Global>), drive: &Drive) {
+    posts(rt, &mut PlainBank::new(rt.alloc()), drive);
 }
 
 // The arguments of `tools/driver_vectors.py` are `7 4 1:1`.
 #[test]
-fn one_account(rt: HostRuntime) -> Result<(), Fail> {
+fn one_account(rt: HostRuntime) {
     let texts = [
         *b"DC01000000000001000000090000010000000001+0000232911",
         *b"DC01000000000001000000090000010000000002+0000052382",
         *b"DC01000000000001000000060000010000000001+0000206313",
         *b"DC01000000000001000000050000010000000001-0000763092",
     ];
-    let mut bank = bank_with(rt.alloc(), &[(1, 1)])?;
-    drives_twice(&rt, &mut bank)?;
-    assert!(rt; were_posted(&mut bank, &texts)?);
-    Ok(())
-}
-
-// Drives so many records through the bank: all are posted, and these are among them.
-fn posts<C: Counter>(
-    rt: &(impl Abort + Alloc<A = Global>),
-    bank: &mut C,
-    seed: u64,
-    count: u64,
-    texts: &[[u8; 51]],
-) -> Result<(), Fail> {
-    let answers = driven(rt.alloc(), bank, seed, count)?;
-    assert_eq!(rt; (answers.posted, answers.refused), (count, 0));
-    assert!(rt; were_posted(bank, texts)?);
-    Ok(())
+    let drive = Drive {
+        branches: &[(1, 1)],
+        seed: 7,
+        count: 50,
+        texts: &texts,
+    };
+    play(&rt, &drive);
 }
 
 // They are `11 6 2:3 1:2`: the branches are drawn from in ascending order.
 #[test]
-fn two_branches(rt: HostRuntime) -> Result<(), Fail> {
+fn two_branches(rt: HostRuntime) {
     let texts = [
         *b"DC01000000000001000000120000020000000001-0000895354",
         *b"DC01000000100001000000130000020000000001-0000836062",
@@ -126,14 +120,19 @@ fn two_branches(rt: HostRuntime) -> Result<(), Fail> {
         *b"DC01000000100003000000100000010000000002-0000432263",
         *b"DC01000000000001000000010000010000000001+0000509516",
     ];
-    let mut bank = bank_with(rt.alloc(), &[(2, 3), (1, 2)])?;
-    posts(&rt, &mut bank, 11, 6, &texts)
+    let drive = Drive {
+        branches: &[(2, 3), (1, 2)],
+        seed: 11,
+        count: 6,
+        texts: &texts,
+    };
+    play(&rt, &drive);
 }
 
 // They are `5 129 1:1 2:2 3:3 4:4 5:5 6:6 7:7 8:8 9:9 10:10 11:11 9999:12`: of three batches the records at
 // either end of each.
 #[test]
-fn twelve_branches(rt: HostRuntime) -> Result<(), Fail> {
+fn twelve_branches(rt: HostRuntime) {
     let texts = [
         *b"DC01000000600001000000630000070000000001+0000619934",
         *b"DC01000000300003000000400000040000000001+0000509482",
@@ -158,15 +157,23 @@ fn twelve_branches(rt: HostRuntime) -> Result<(), Fail> {
         (11, 11),
         (9999, 12),
     ];
-    let mut bank = bank_with(rt.alloc(), &branches)?;
-    posts(&rt, &mut bank, 5, 129, &texts)
+    let drive = Drive {
+        branches: &branches,
+        seed: 5,
+        count: 129,
+        texts: &texts,
+    };
+    play(&rt, &drive);
 }
 
 #[test]
-fn no_branches(rt: HostRuntime) -> Result<(), Fail> {
-    let mut bank = PlainBank::new(rt.alloc());
-    let mut clock = StoredClock::new(Vec::new(rt.alloc()));
-    let answer = drive_records(rt.alloc(), &mut bank, &mut clock, 7, 50);
+fn no_branches(rt: HostRuntime) {
+    let drive = Drive {
+        branches: &[],
+        seed: 7,
+        count: 50,
+        texts: &[],
+    };
+    let answer = answers(&rt, &mut PlainBank::new(rt.alloc()), &drive);
     assert_eq!(rt; answer, Err(DriveFault::NoBranches));
-    Ok(())
 }

@@ -1,26 +1,19 @@
 //! Plans: sources and lists, and the plan or the fault that each gives.
-use branch_loader::{Loaded, Plan, PlanFault, load, read_plan};
+use branch_loader::{Plan, PlanFault, load, read_plan};
 use message_records::{Account, Branch};
-use posting_core::{Counter, Fault, PlainBank};
+use posting_core::{Counter, PlainBank};
 use std::alloc::{Alloc, AllocError, Global};
 use std::io;
 use std::io::Read;
 use std::process::Abort;
-use std::test::Fail;
 
 // How many rows the source's plan has, or the fault.
 fn rows_in<R: Read + Drop>(alloc: Global, source: R) -> Result<usize, PlanFault> {
     Ok(read_plan(alloc, source)?.rows().len())
 }
 
-// The source behind a byte order mark, if there is to be one, and with these line ends.
-fn written(
-    alloc: Global,
-    mark: bool,
-    line_end: &[u8],
-    source: &[u8],
-) -> Result<Vec<u8>, AllocError> {
-    let mut text = Vec::new(alloc);
+// Writes the source behind a byte order mark, if there is to be one, and with these line ends.
+fn write(text: &mut Vec<u8>, mark: bool, line_end: &[u8], source: &[u8]) -> Result<(), AllocError> {
     if mark {
         text.extend_from_slice(b"\xEF\xBB\xBF")?;
     }
@@ -31,7 +24,7 @@ fn written(
             text.push(*byte)?;
         }
     }
-    Ok(text)
+    Ok(())
 }
 
 const LINE_ENDS: [&[u8]; 3] = [b"\n", b"\r\n", b"\r"];
@@ -42,12 +35,12 @@ fn gives(
     mark: bool,
     source: &[u8],
     want: Result<usize, PlanFault>,
-) -> Result<(), Fail> {
+) {
     for line_end in &LINE_ENDS {
-        let text = written(rt.alloc(), mark, line_end, source)?;
+        let mut text = Vec::new(rt.alloc());
+        write(&mut text, mark, line_end, source).expect(rt, "memory");
         assert_eq!(rt; rows_in(rt.alloc(), text.as_slice()), want);
     }
-    Ok(())
 }
 
 const SOURCES: [(&[u8], Result<usize, PlanFault>); 24] = [
@@ -87,24 +80,22 @@ const SOURCES: [(&[u8], Result<usize, PlanFault>); 24] = [
 ];
 
 #[test]
-fn sources(rt: HostRuntime) -> Result<(), Fail> {
+fn sources(rt: HostRuntime) {
     for (source, want) in &SOURCES {
-        gives(&rt, false, source, *want)?;
-        gives(&rt, true, source, *want)?;
+        gives(&rt, false, source, *want);
+        gives(&rt, true, source, *want);
     }
-    Ok(())
 }
 
 #[test]
-fn rows_in_their_order(rt: HostRuntime) -> Result<(), Fail> {
+fn rows_in_their_order(rt: HostRuntime) {
     let source = b"branch,accounts\n22,000100000\n0003,2\n".as_slice();
-    let plan = read_plan(rt.alloc(), source)?;
+    let plan = read_plan(rt.alloc(), source).expect(&rt, "a plan");
     let rows = [
         (Branch::new(22).unwrap(), 100_000),
         (Branch::new(3).unwrap(), 2),
     ];
     assert_eq!(rt; plan.rows(), rows.as_slice());
-    Ok(())
 }
 
 // Gives a part of its text at a time, and fails behind it.
@@ -135,68 +126,49 @@ fn a_failing_source(rt: HostRuntime) {
     }
 }
 
-// The counts of the answers, as `opened`, `already` and `differs`.
-fn counts(opened: u32, already: u32, differs: u32) -> Loaded {
-    Loaded {
-        opened,
-        already,
-        differs,
+// A plan of no branch, one of two, the same again, and one in which a branch has more accounts; and how many
+// openings of each are `opened`, `already` and `differs`.
+const LOADS: [(&[u8], (u32, u32, u32)); 4] = [
+    (b"branch,accounts\n", (0, 0, 0)),
+    (b"branch,accounts\n1,3\n2,2\n", (2, 0, 0)),
+    (b"branch,accounts\n1,3\n2,2\n", (0, 2, 0)),
+    (b"branch,accounts\n1,3\n2,5\n", (0, 1, 1)),
+];
+
+fn loads_again<C: Counter>(rt: &(impl Abort + Alloc<A = Global>), bank: &mut C) {
+    for (source, want) in &LOADS {
+        let plan = read_plan(rt.alloc(), *source).expect(rt, "a plan");
+        let loaded = load(&plan, bank).expect(rt, "a bank");
+        assert_eq!(rt; (loaded.opened, loaded.already, loaded.differs), *want);
     }
 }
 
-// How the source's plan is loaded.
-fn loaded<C: Counter>(alloc: Global, bank: &mut C, source: &[u8]) -> Result<Loaded, Fail> {
-    let plan = read_plan(alloc, source)?;
-    Ok(load(&plan, bank)?)
-}
+// The last account of either branch, and the one behind it: whether it is open then.
+const LAST_ACCOUNTS: [(u64, bool); 4] = [(3, true), (4, false), (100_002, true), (100_003, false)];
 
-// A plan of no branch, one of two, the same again, and one in which a branch has more accounts.
-fn loads_again<C: Counter>(
-    rt: &(impl Abort + Alloc<A = Global>),
-    bank: &mut C,
-) -> Result<(), Fail> {
-    let answers = [
-        loaded(rt.alloc(), bank, b"branch,accounts\n")?,
-        loaded(rt.alloc(), bank, b"branch,accounts\n1,3\n2,2\n")?,
-        loaded(rt.alloc(), bank, b"branch,accounts\n1,3\n2,2\n")?,
-        loaded(rt.alloc(), bank, b"branch,accounts\n1,3\n2,5\n")?,
-    ];
-    let wanted = [
-        counts(0, 0, 0),
-        counts(2, 0, 0),
-        counts(0, 2, 0),
-        counts(0, 1, 1),
-    ];
-    assert_eq!(rt; answers, wanted);
-    Ok(())
-}
-
-// Whether the last account of either branch is open, and the one behind it.
-fn last_open<C: Counter>(bank: &mut C) -> Result<[bool; 4], Fault> {
-    Ok([
-        bank.balance(Account::new(3).unwrap())?.is_some(),
-        bank.balance(Account::new(4).unwrap())?.is_some(),
-        bank.balance(Account::new(100_002).unwrap())?.is_some(),
-        bank.balance(Account::new(100_003).unwrap())?.is_some(),
-    ])
+fn has_opened<C: Counter>(rt: &impl Abort, bank: &mut C) {
+    for (account, is_open) in &LAST_ACCOUNTS {
+        let account = Account::new(*account).expect(rt, "an account");
+        let balance = bank.balance(account).expect(rt, "a bank");
+        assert_eq!(rt; balance.is_some(), *is_open, "{account}");
+    }
 }
 
 #[test]
-fn a_plan_loaded_twice(rt: HostRuntime) -> Result<(), Fail> {
+fn a_plan_loaded_twice(rt: HostRuntime) {
     let mut bank = PlainBank::new(rt.alloc());
-    loads_again(&rt, &mut bank)?;
-    assert_eq!(rt; last_open(&mut bank)?, [true, false, true, false]);
-    Ok(())
+    loads_again(&rt, &mut bank);
+    has_opened(&rt, &mut bank);
 }
 
 // How many rows the plan of these two rows has, or the fault.
-fn rows_of(alloc: Global, rows: &[(Branch, u32); 2]) -> Result<Result<usize, PlanFault>, Fail> {
-    let mut list = Vec::new(alloc);
-    list.extend_from_slice(rows)?;
-    match Plan::from_list(list) {
-        Ok(plan) => Ok(Ok(plan.rows().len())),
-        Err(fault) => Ok(Err(fault)),
-    }
+fn rows_of(
+    rt: &(impl Abort + Alloc<A = Global>),
+    rows: &[(Branch, u32); 2],
+) -> Result<usize, PlanFault> {
+    let mut list = Vec::new(rt.alloc());
+    list.extend_from_slice(rows).expect(rt, "memory");
+    Ok(Plan::from_list(list)?.rows().len())
 }
 
 // The second row of a list whose first one is branch 1 with one account, and how many rows its plan has.
@@ -210,14 +182,13 @@ const SECOND_ROWS: [(u64, u32, Result<usize, PlanFault>); 6] = [
 ];
 
 #[test]
-fn lists(rt: HostRuntime) -> Result<(), Fail> {
+fn lists(rt: HostRuntime) {
     let first = Branch::new(1).unwrap();
     for (branch, accounts, want) in &SECOND_ROWS {
-        let second = Branch::new(*branch).ok_or("a branch")?;
+        let second = Branch::new(*branch).expect(&rt, "a branch");
         let rows = [(first, 1), (second, *accounts)];
-        assert_eq!(rt; rows_of(rt.alloc(), &rows)?, *want);
+        assert_eq!(rt; rows_of(&rt, &rows), *want);
     }
-    Ok(())
 }
 
 const TEXTS: [(PlanFault, &str); 7] = [
@@ -231,10 +202,9 @@ const TEXTS: [(PlanFault, &str); 7] = [
 ];
 
 #[test]
-fn texts(rt: HostRuntime) -> Result<(), Fail> {
+fn texts(rt: HostRuntime) {
     for (fault, want) in &TEXTS {
-        let text = format!(in rt.alloc(); "{fault}")?;
+        let text = format!(in rt.alloc(); "{fault}").expect(&rt, "memory");
         assert_eq!(rt; text.as_str(), *want);
     }
-    Ok(())
 }

@@ -4,7 +4,6 @@ use message_records::{
     decode_reply, decode_request, encode_reply, encode_request, one_spelling,
 };
 use std::process::Abort;
-use std::test::Fail;
 
 const DEPOSIT: &[u8; 51] = b"DC01000000000001000000010000010000000001+0000000500";
 
@@ -104,13 +103,12 @@ fn deposit() -> Option<Request> {
 }
 
 #[test]
-fn requests(rt: HostRuntime) -> Result<(), Fail> {
+fn requests(rt: HostRuntime) {
     one_spelling();
-    let deposit = deposit().ok_or("request")?;
+    let deposit = deposit().expect(&rt, "a request");
     let bytes = record_of(&rt, DEPOSIT);
     assert_eq!(rt; decode_request(&bytes), Ok(deposit));
     assert_eq!(rt; encode_request(&deposit), bytes);
-    Ok(())
 }
 
 // The record that begins so and the reply are read and written as one another.
@@ -121,12 +119,11 @@ fn belong_together(rt: &impl Abort, front: &[u8], reply: &Reply) {
 }
 
 #[test]
-fn replies(rt: HostRuntime) -> Result<(), Fail> {
-    let posted = Reply::new(Outcome::Posted, deposit(), Cents::new(500)).ok_or("posted")?;
-    belong_together(&rt, POSTED, &posted);
-    let malformed = Reply::new(Outcome::Malformed, None, None).ok_or("malformed")?;
-    belong_together(&rt, MALFORMED, &malformed);
-    Ok(())
+fn replies(rt: HostRuntime) {
+    let posted = Reply::new(Outcome::Posted, deposit(), Cents::new(500));
+    belong_together(&rt, POSTED, &posted.expect(&rt, "a reply"));
+    let malformed = Reply::new(Outcome::Malformed, None, None);
+    belong_together(&rt, MALFORMED, &malformed.expect(&rt, "a reply"));
 }
 
 #[test]
@@ -255,15 +252,14 @@ fn parts_that_do_not_belong_together(rt: HostRuntime) {
 }
 
 #[test]
-fn printed(rt: HostRuntime) -> Result<(), Fail> {
+fn printed(rt: HostRuntime) {
     let account = Account::new(100_001).unwrap();
     let cents = Cents::new(-700).unwrap();
     let outcome = Outcome::ReusedNumber;
     let (bad, bad_reply) = (Bad::Delta, BadReply::Balance);
-    let text = format!(in rt.alloc(); "{account} {cents} {outcome}, {bad}, {bad_reply}")?;
+    let text = format!(in rt.alloc(); "{account} {cents} {outcome}, {bad}, {bad_reply}");
     assert_eq!(rt;
-        text.as_str(),
+        text.expect(&rt, "memory").as_str(),
         "100001 -700 REUSED NUMBER, faulty delta, faulty balance"
     );
-    Ok(())
 }

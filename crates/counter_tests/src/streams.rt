@@ -1,12 +1,13 @@
 //! Streams over ends and a bank that fail, at every byte.
-use crate::banks::{FailingBank, fresh};
+use crate::banks::{FailingBank, open_both};
 use failing_ends::{CutReader, CutWriter};
 use message_records::{Account, Moment};
-use posting_core::{Clock, Count, Counter, Fault, StoredClock, StreamFault, post_stream};
+use posting_core::{
+    Clock, Count, Counter, Fault, PlainBank, StoredClock, StreamFault, post_stream,
+};
 use std::alloc::{Alloc, Global};
 use std::io::{ErrorKind, Read, Write};
 use std::process::Abort;
-use std::test::Fail;
 
 const FIRST: &[u8; 51] = b"DC01000000000001000000010000010000000001+0000000500";
 
@@ -48,36 +49,42 @@ fn two_replies() -> [u8; 400] {
 }
 
 // So many times the same bytes.
-fn repeated(rt: &impl Alloc<A = Global>, bytes: &[u8], times: u8) -> Result<Vec<u8>, Fail> {
+fn repeated(rt: &(impl Abort + Alloc<A = Global>), bytes: &[u8], times: u8) -> Vec<u8> {
     let mut all = Vec::new(rt.alloc());
     for _ in 0..times {
-        all.extend_from_slice(bytes)?;
+        all.extend_from_slice(bytes).expect(rt, "memory");
     }
-    Ok(all)
+    all
 }
 
 // How a stream ended on a fresh bank, and the balances then of the accounts that the two records name.
 type Ended = (Result<Count, StreamFault>, (i64, i64));
 
-fn balance_of<C: Counter>(bank: &mut C, account: Account) -> Result<i64, Fail> {
-    Ok(bank.balance(account)?.ok_or("closed")?.get())
+fn balance_of<C: Counter>(rt: &impl Abort, bank: &mut C, account: Account) -> i64 {
+    let balance = bank.balance(account).expect(rt, "a bank");
+    balance.expect(rt, "an open account").get()
 }
 
-fn balances<C: Counter>(bank: &mut C) -> Result<(i64, i64), Fail> {
-    let first = balance_of(bank, Account::new(1).unwrap())?;
-    let remote = balance_of(bank, Account::new(100_001).unwrap())?;
-    Ok((first, remote))
+fn streamed_to<R: Read, W: Write, C: Counter>(
+    rt: &(impl Abort + Alloc<A = Global>),
+    reader: &mut R,
+    writer: &mut W,
+    bank: &mut C,
+) -> Ended {
+    assert!(rt; open_both(bank).is_ok());
+    let mut clock = StoredClock::new(Vec::new(rt.alloc()));
+    let result = post_stream(reader, writer, &mut clock, bank);
+    let first = balance_of(rt, bank, Account::new(1).unwrap());
+    let remote = balance_of(rt, bank, Account::new(100_001).unwrap());
+    (result, (first, remote))
 }
 
 fn streamed<R: Read, W: Write>(
-    rt: &impl Alloc<A = Global>,
+    rt: &(impl Abort + Alloc<A = Global>),
     reader: &mut R,
     writer: &mut W,
-) -> Result<Ended, Fail> {
-    let mut bank = fresh(rt)?;
-    let mut clock = StoredClock::new(Vec::new(rt.alloc()));
-    let result = post_stream(reader, writer, &mut clock, &mut bank);
-    Ok((result, balances(&mut bank)?))
+) -> Ended {
+    streamed_to(rt, reader, writer, &mut PlainBank::new(rt.alloc()))
 }
 
 // The reader's stream ends so, with these replies.
@@ -86,36 +93,35 @@ fn ends<R: Read>(
     reader: &mut R,
     wanted: Ended,
     replies: &[u8],
-) -> Result<(), Fail> {
+) {
     let mut output: Vec<u8> = Vec::new(rt.alloc());
-    let ended = streamed(rt, reader, &mut output)?;
+    let ended = streamed(rt, reader, &mut output);
     assert_eq!(rt; ended, wanted);
     assert_eq!(rt; output.as_slice(), replies);
-    Ok(())
 }
 
 #[test]
-fn a_truncated_stream(rt: HostRuntime) -> Result<(), Fail> {
+fn a_truncated_stream(rt: HostRuntime) {
     let wanted = (Err(StreamFault::Truncated(50)), (500, -700));
     ends(
         &rt,
         &mut truncated_input().as_slice(),
         wanted,
         &two_replies(),
-    )
+    );
 }
 
 #[test]
-fn an_empty_stream(rt: HostRuntime) -> Result<(), Fail> {
-    ends(&rt, &mut b"".as_slice(), (Ok(0), (0, 0)), b"")
+fn an_empty_stream(rt: HostRuntime) {
+    ends(&rt, &mut b"".as_slice(), (Ok(0), (0, 0)), b"");
 }
 
 // The same record 130 times: two full buffers and a part of one.
 #[test]
-fn a_long_stream(rt: HostRuntime) -> Result<(), Fail> {
-    let input = repeated(&rt, &first_record(), 130)?;
-    let replies = repeated(&rt, &first_reply(), 130)?;
-    ends(&rt, &mut input.as_slice(), (Ok(130), (500, 0)), &replies)
+fn a_long_stream(rt: HostRuntime) {
+    let input = repeated(&rt, &first_record(), 130);
+    let replies = repeated(&rt, &first_reply(), 130);
+    ends(&rt, &mut input.as_slice(), (Ok(130), (500, 0)), &replies);
 }
 
 // How a stream of two records and a part ends whose reader fails behind so many bytes, and how many records
@@ -143,7 +149,7 @@ fn read_in_two(
     behind: &[u8],
     fault: ErrorKind,
     replies: &[u8; 400],
-) -> Result<(), Fail> {
+) {
     let mut reader = CutReader {
         before,
         fault: Some(fault),
@@ -151,19 +157,18 @@ fn read_in_two(
     };
     let (result, count) = ended_at(before.len(), fault);
     let (balances, answers) = balances_behind(count, replies);
-    ends(rt, &mut reader, (Err(result), balances), answers)
+    ends(rt, &mut reader, (Err(result), balances), answers);
 }
 
 #[test]
-fn a_reader_that_fails_at_each_byte(rt: HostRuntime) -> Result<(), Fail> {
+fn a_reader_that_fails_at_each_byte(rt: HostRuntime) {
     let input = truncated_input();
     let replies = two_replies();
     for at in 0..=input.len() {
         let (before, behind) = input.split_at(at);
-        read_in_two(&rt, before, behind, ErrorKind::BrokenPipe, &replies)?;
-        read_in_two(&rt, before, behind, ErrorKind::Interrupted, &replies)?;
+        read_in_two(&rt, before, behind, ErrorKind::BrokenPipe, &replies);
+        read_in_two(&rt, before, behind, ErrorKind::Interrupted, &replies);
     }
-    Ok(())
 }
 
 // The writer takes so many bytes of the replies, and then fails, or takes none.
@@ -173,7 +178,7 @@ fn written_in_part(
     replies: &[u8],
     fault: Option<ErrorKind>,
     wanted: StreamFault,
-) -> Result<(), Fail> {
+) {
     let mut writer = CutWriter {
         taken: Vec::new(rt.alloc()),
         most: replies.len(),
@@ -181,58 +186,52 @@ fn written_in_part(
         writes: 0,
     };
     let mut reader = input;
-    let ended = streamed(rt, &mut reader, &mut writer)?;
+    let ended = streamed(rt, &mut reader, &mut writer);
     assert_eq!(rt; ended, (Err(wanted), (500, -700)));
     assert_eq!(rt; writer.taken.as_slice(), replies);
-    Ok(())
 }
 
 #[test]
-fn a_writer_that_fails_at_each_byte(rt: HostRuntime) -> Result<(), Fail> {
+fn a_writer_that_fails_at_each_byte(rt: HostRuntime) {
     let input = truncated_input();
     let replies = two_replies();
     let fault = Some(ErrorKind::BrokenPipe);
     for most in 0..replies.len() {
         let part = &replies[..most];
-        written_in_part(&rt, &input, part, None, StreamFault::Write)?;
-        written_in_part(&rt, &input, part, fault, StreamFault::Write)?;
+        written_in_part(&rt, &input, part, None, StreamFault::Write);
+        written_in_part(&rt, &input, part, fault, StreamFault::Write);
     }
     // Behind the last byte only the flush can fail.
-    written_in_part(&rt, &input, &replies, None, StreamFault::Truncated(50))?;
-    written_in_part(&rt, &input, &replies, fault, StreamFault::Write)
+    written_in_part(&rt, &input, &replies, None, StreamFault::Truncated(50));
+    written_in_part(&rt, &input, &replies, fault, StreamFault::Write);
 }
 
-// Streams the first record.
-fn first_streamed<C: Counter>(
+// How three streams of the first record end.
+fn three_streams<C: Counter>(
     bank: &mut C,
     clock: &mut StoredClock,
     output: &mut Vec<u8>,
-) -> Result<Count, StreamFault> {
-    post_stream(&mut first_record().as_slice(), output, clock, bank)
+) -> [Result<Count, StreamFault>; 3] {
+    let record = first_record();
+    [
+        post_stream(&mut record.as_slice(), output, clock, bank),
+        post_stream(&mut record.as_slice(), output, clock, bank),
+        post_stream(&mut record.as_slice(), output, clock, bank),
+    ]
 }
 
-// How three streams of it end on a bank whose store fails in the second.
-fn three_streams(
-    rt: &impl Alloc<A = Global>,
-    output: &mut Vec<u8>,
-) -> Result<[Result<Count, StreamFault>; 3], Fail> {
+// On a bank whose store fails in the second of them.
+#[test]
+fn a_store_that_fails(rt: HostRuntime) {
     let mut bank = FailingBank {
-        bank: fresh(rt)?,
+        bank: PlainBank::new(rt.alloc()),
         left: 1,
         down: false,
     };
+    assert!(rt; open_both(&mut bank.bank).is_ok());
     let mut clock = StoredClock::new(Vec::new(rt.alloc()));
-    Ok([
-        first_streamed(&mut bank, &mut clock, output),
-        first_streamed(&mut bank, &mut clock, output),
-        first_streamed(&mut bank, &mut clock, output),
-    ])
-}
-
-#[test]
-fn a_store_that_fails(rt: HostRuntime) -> Result<(), Fail> {
     let mut output: Vec<u8> = Vec::new(rt.alloc());
-    let results = three_streams(&rt, &mut output)?;
+    let results = three_streams(&mut bank, &mut clock, &mut output);
     let wanted = [
         Ok(1),
         Err(StreamFault::Bank(Fault::Store)),
@@ -240,16 +239,13 @@ fn a_store_that_fails(rt: HostRuntime) -> Result<(), Fail> {
     ];
     assert_eq!(rt; results, wanted);
     assert_eq!(rt; output.as_slice(), first_reply().as_slice());
-    Ok(())
 }
 
 #[test]
-fn a_stored_clock(rt: HostRuntime) -> Result<(), Fail> {
-    let mut moments = Vec::new(rt.alloc());
-    moments.extend_from_slice(&[Moment::new(1000).unwrap(), Moment::new(2000).unwrap()])?;
-    let mut clock = StoredClock::new(moments);
+fn a_stored_clock(rt: HostRuntime) {
+    let moments = vec![in rt.alloc(); Moment::new(1000).unwrap(), Moment::new(2000).unwrap()];
+    let mut clock = StoredClock::new(moments.expect(&rt, "memory"));
     for moment in [1000, 2000, 0, 0] {
         assert_eq!(rt; clock.now().get(), moment);
     }
-    Ok(())
 }
