@@ -50,6 +50,15 @@ abbrev pub ServesIn : {C : Type 0} → (C → Seen) → Image → (k k' : Option
 ServesIn seen image k k' count Ends =
     RunsIn seen image (EndsInFault IsOfOpening Ends × (k' ≡ k)) (ServesOver seen k k' count Ends)
 
+-- what the work of a command reads, writes and asks
+pub record Ends (R W K : Type 0) : Type 0 where
+  pub input : R
+  pub output : W
+  pub clock : K
+
+abbrev pub ends : {R W K : Type 0} → R → W → K → Ends R W K
+ends input output clock = record { input = input; output = output; clock = clock }
+
 -- ---- posting
 
 -- what a command says of a stream

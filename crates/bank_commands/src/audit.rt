@@ -1,18 +1,22 @@
 //! The command that audits a bank.
-ghost use Rattle.std.specs.Prelude.{◌≡◌, ◌⊎◌, IfOk, IsErrAnd};
+ghost use Rattle.std.specs.Prelude.{◌≡◌, ◌⊎◌, Result, IfOk, IsErrAnd};
 ghost use Rattle.sqlite.specs.Held.{state};
 ghost use Rattle.sqlite_wal.specs.Files.{image_at};
+ghost use Rattle.posting_rules.specs.declared.fault.Fault.{Fault};
+ghost use Rattle.bank_reports.specs.declared.audit.Audit.{Audit};
 ghost use Rattle.bank_store.specs.Seen.{bank_seen};
 ghost use Rattle.bank_endings.specs.Looking.{IsOfOpening};
+ghost use Rattle.bank_endings.specs.declared.status.Status.TheVariants.{Done, Inconsistent};
 ghost use Rattle.bank_work.specs.Auditing.{Prints};
-ghost use Rattle.bank_commands.specs.Auditing.{AuditsIn};
+ghost use Rattle.bank_commands.specs.Auditing.{Audits, AuditsIn};
 ghost use Rattle.bank_commands.specs.Commands.{FindsBank};
 
+use crate::work::{Work, work_in};
 use bank_audits::audit;
 use bank_endings::{CommandFault, Status};
-use bank_openings::{close, find_bank};
+use bank_store::Bank;
 use bank_work::print_audit;
-use sqlite::{FileFrom, FileStore, Start};
+use sqlite::{Alter, FileFrom, FileStore, Start};
 use sqlite_trees::store::Store;
 use std::io::Write;
 
@@ -30,8 +34,29 @@ pub fn audit_file<S: Start, W: Write>(
         (λ told. Prints told (W.contents output.old) (W.contents output.new) result) }
     ensures ends { IfOk result (λ status. (status ≡ Status.Done) ⊎ (status ≡ Status.Inconsistent)) }
 {
-    let mut bank = find_bank(rt, start, file)?;
-    let told = audit(&mut bank);
-    close(bank);
-    print_audit(told, output)
+    work_in(rt, start, file, &Auditing, &mut (), output, &mut ())
+}
+
+// The audit of a bank, which is printed.
+#[derive(Drop)]
+struct Auditing;
+
+impl<W: Write> Work<(), W, ()> for Auditing {
+    type Told = Status;
+
+    ghost Does = { λ work {C} seen old new before after result.
+        ((told : Result Audit Fault) × Prints told (W.contents before.output) (W.contents after.output) result
+        × Audits (seen old) (seen new) told)
+        × IfOk result (λ status. (status ≡ Done) ⊎ (status ≡ Inconsistent)) };
+
+    fn work_with<S: Alter + Drop>(
+        &self,
+        _: &HostRuntime,
+        bank: &mut Bank<S>,
+        _: &mut (),
+        output: &mut W,
+        _: &mut (),
+    ) -> Result<Status, CommandFault> {
+        print_audit(audit(bank), output)
+    }
 }

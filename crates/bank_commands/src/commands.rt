@@ -1,23 +1,28 @@
 //! The commands that make a bank in a file, and that open branches of it and post to it.
-ghost use Rattle.std.specs.Prelude.{◌≡◌, ◌≢◌, ◌⊎◌, ◌≤◌, IfErr, IfOk, IsErrAnd, OnOk};
+ghost use Rattle.std.specs.Prelude.{◌≡◌, ◌≢◌, ◌⊎◌, ◌≤◌, ℕ, Result, IfErr, IfOk, IsErrAnd, OnOk};
 ghost use Rattle.std.specs.Io.KnownBytes.{Appends, IsAtEnd, Keeps};
 ghost use Rattle.sqlite.specs.Held.{state};
 ghost use Rattle.sqlite_wal.specs.Files.{image_at};
+ghost use Rattle.posting_core.specs.declared.stream.StreamFault.{StreamFault};
 ghost use Rattle.bank_store.specs.Seen.{bank_seen};
 ghost use Rattle.bank_endings.specs.Faults.{IsOfFile};
+ghost use Rattle.bank_endings.specs.declared.fault.CommandFault.TheVariants as faults;
 ghost use Rattle.bank_endings.specs.Lines.{created_line, loaded_line};
 ghost use Rattle.bank_endings.specs.Looking.{IsOfOpening};
-ghost use Rattle.bank_work.specs.Working.{TellsDriven, done_after, ended_by_load};
+ghost use Rattle.bank_driver.specs.declared.drive.TheConstants.{MAX_DRIVEN};
+ghost use Rattle.bank_work.specs.Working.{DrivesOver, LoadsOver, TellsDriven, done_after, ended_by_load};
 ghost use Rattle.bank_openings.specs.Unfound.{IsUnmadeIn};
-ghost use Rattle.bank_commands.specs.Commands.{DrivesIn, FindsBank, LoadsIn, MakesIn, PostsIn, said_of};
+ghost use Rattle.bank_commands.specs.Commands.{DrivesIn, FindsBank, LoadsIn, MakesIn, PostsIn, PostsTo, said_of};
 
+use crate::work::{Work, work_in};
 use bank_driver::MAX_DRIVEN;
 use bank_endings::{CommandFault, print_created};
-use bank_openings::{close, find_bank, make_bank};
+use bank_openings::{close, make_bank};
+use bank_store::Bank;
 use bank_work::{drive_into, load_into};
 use branch_loader::Loaded;
 use posting_core::{Clock, Count, post_stream};
-use sqlite::{FileFrom, FileStore, Start};
+use sqlite::{Alter, FileFrom, FileStore, Start};
 use sqlite_trees::store::Store;
 use std::io::{Read, Write};
 
@@ -60,10 +65,36 @@ pub fn load_plan<S: Start, W: Write>(
     ensures silent { IfErr result
         (λ fault. fault ≢ CommandFault.Write → Keeps (W.contents output.old) (W.contents output.new)) }
 {
-    let mut bank = find_bank(rt, start, file)?;
-    let loaded = load_into(rt, plan, &mut bank, output);
-    close(bank);
-    loaded
+    work_in(rt, start, file, &Loading { plan }, &mut (), output, &mut ())
+}
+
+// The loading of the plan in a file.
+#[derive(Drop)]
+struct Loading<'a> {
+    plan: &'a str,
+}
+
+impl<W: Write> Work<(), W, ()> for Loading<'_> {
+    type Told = Loaded;
+
+    ghost Does = { λ work {C} seen old new before after result.
+        LoadsOver seen (W.contents before.output) (W.contents after.output)
+        (λ end. ended_by_load result ≡ end) old new
+        × IfOk result (λ loaded. Appends (W.contents before.output) (W.contents after.output)
+        (loaded_line loaded))
+        × IfErr result (λ fault. fault ≢ faults.Write
+        → Keeps (W.contents before.output) (W.contents after.output)) };
+
+    fn work_with<S: Alter + Drop>(
+        &self,
+        rt: &HostRuntime,
+        bank: &mut Bank<S>,
+        _: &mut (),
+        output: &mut W,
+        _: &mut (),
+    ) -> Result<Loaded, CommandFault> {
+        load_into(rt, self.plan, bank, output)
+    }
 }
 
 /// Posts the records of the input to the file's bank, and writes their replies.
@@ -86,10 +117,36 @@ pub fn post<S: Start, R: Read, W: Write, K: Clock>(
     ensures silent { IfErr result
         (λ fault. IsOfFile fault → Keeps (W.contents output.old) (W.contents output.new)) }
 {
-    let mut bank = find_bank(rt, start, file)?;
-    let posted = post_stream(input, output, clock, &mut bank);
-    close(bank);
-    Ok(posted?)
+    work_in(rt, start, file, &Posting, input, output, clock)
+}
+
+// The posting of an input's records.
+#[derive(Drop)]
+struct Posting;
+
+impl<R: Read, W: Write, K: Clock> Work<R, W, K> for Posting {
+    type Told = Count;
+
+    ghost Does = { λ work {C} seen old new before after result.
+        ((told : Result ℕ StreamFault) × (result ≡ said_of told)
+        × PostsTo seen (R.remaining before.input) (R.remaining after.input)
+        (W.contents before.output) (W.contents after.output)
+        (K.readings before.clock) (K.readings after.clock) told old new)
+        × OnOk result (IsAtEnd (R.remaining after.input))
+        × IfErr result (λ fault. IsOfFile fault → R.remaining after.input ≡ R.remaining before.input)
+        × IfErr result (λ fault. IsOfFile fault
+        → Keeps (W.contents before.output) (W.contents after.output)) };
+
+    fn work_with<S: Alter + Drop>(
+        &self,
+        _: &HostRuntime,
+        bank: &mut Bank<S>,
+        input: &mut R,
+        output: &mut W,
+        clock: &mut K,
+    ) -> Result<Count, CommandFault> {
+        Ok(post_stream(input, output, clock, bank)?)
+    }
 }
 
 /// Posts the first `count` records of a seed over the open branches of the file's bank, and prints how many
@@ -114,8 +171,38 @@ pub fn drive<S: Start, W: Write, K: Clock>(
     ensures silent { IfErr result
         (λ fault. fault ≢ CommandFault.Write → Keeps (W.contents output.old) (W.contents output.new)) }
 {
-    let mut bank = find_bank(rt, start, file)?;
-    let driven = drive_into(rt.alloc(), &mut bank, seed, count, output, clock);
-    close(bank);
-    driven
+    let work = Driving { seed, count };
+    work_in(rt, start, file, &work, &mut (), output, clock)
+}
+
+// The posting of the first records of a seed.
+#[derive(Drop)]
+struct Driving {
+    seed: u64,
+    count: u64,
+    ghost some: { 1 ≤ count },
+    ghost few: { count ≤ MAX_DRIVEN },
+}
+
+impl<W: Write, K: Clock> Work<(), W, K> for Driving {
+    type Told = ();
+
+    ghost Does = { λ work {C} seen old new before after result.
+        DrivesOver seen (K.readings before.clock) (K.readings after.clock)
+        (W.contents before.output) (W.contents after.output) work.seed work.count
+        (λ end. done_after result ≡ end) old new
+        × OnOk result (TellsDriven work.count (W.contents before.output) (W.contents after.output))
+        × IfErr result (λ fault. fault ≢ faults.Write
+        → Keeps (W.contents before.output) (W.contents after.output)) };
+
+    fn work_with<S: Alter + Drop>(
+        &self,
+        rt: &HostRuntime,
+        bank: &mut Bank<S>,
+        _: &mut (),
+        output: &mut W,
+        clock: &mut K,
+    ) -> Result<(), CommandFault> {
+        drive_into(rt.alloc(), bank, self.seed, self.count, output, clock)
+    }
 }

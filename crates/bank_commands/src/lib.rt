@@ -37,6 +37,7 @@ mod audit;
 mod commands;
 mod server;
 mod stating;
+mod work;
 
 pub use audit::audit_file;
 pub use commands::{drive, init, load_plan, post};

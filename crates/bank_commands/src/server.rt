@@ -3,14 +3,16 @@ ghost use Rattle.std.specs.Prelude.{◌≡◌, ◌≢◌, IfErr, OnOk};
 ghost use Rattle.sqlite.specs.Held.{state};
 ghost use Rattle.sqlite_wal.specs.Files.{image_at};
 ghost use Rattle.bank_store.specs.Seen.{bank_seen};
-ghost use Rattle.bank_work.specs.Working.{MayTellListening, TellsListening, done_after};
+ghost use Rattle.bank_endings.specs.declared.fault.CommandFault.TheVariants as faults;
+ghost use Rattle.bank_work.specs.Working.{MayTellListening, ServesOver, TellsListening, done_after};
 ghost use Rattle.bank_commands.specs.Commands.{FindsBank, ServesIn};
 
+use crate::work::{Work, work_in};
 use bank_endings::CommandFault;
-use bank_openings::{close, find_bank};
+use bank_store::Bank;
 use bank_work::listen;
 use posting_core::Clock;
-use sqlite::{FileFrom, FileStore, Start};
+use sqlite::{Alter, FileFrom, FileStore, Start};
 use sqlite_trees::store::Store;
 use std::io::Write;
 
@@ -33,8 +35,38 @@ pub fn serve<S: Start, W: Write, K: Clock>(
     ensures silent { IfErr result (λ fault. fault ≢ CommandFault.Write
         → MayTellListening (W.contents output.old) (W.contents output.new)) }
 {
-    let mut bank = find_bank(rt, start, file)?;
-    let served = listen(rt, address, connections, &mut bank, output, clock);
-    close(bank);
-    served
+    let work = Serving {
+        address,
+        connections,
+    };
+    work_in(rt, start, file, &work, &mut (), output, clock)
+}
+
+// The serving of connections at an address.
+#[derive(Drop)]
+struct Serving<'a> {
+    address: &'a str,
+    connections: u64,
+}
+
+impl<W: Write, K: Clock> Work<(), W, K> for Serving<'_> {
+    type Told = ();
+
+    ghost Does = { λ work {C} seen old new before after result.
+        ServesOver seen (K.readings before.clock) (K.readings after.clock) work.connections
+        (λ end. done_after result ≡ end) old new
+        × OnOk result (TellsListening (W.contents before.output) (W.contents after.output))
+        × IfErr result (λ fault. fault ≢ faults.Write
+        → MayTellListening (W.contents before.output) (W.contents after.output)) };
+
+    fn work_with<S: Alter + Drop>(
+        &self,
+        rt: &HostRuntime,
+        bank: &mut Bank<S>,
+        _: &mut (),
+        output: &mut W,
+        clock: &mut K,
+    ) -> Result<(), CommandFault> {
+        listen(rt, self.address, self.connections, bank, output, clock)
+    }
 }

@@ -1,17 +1,19 @@
 //! The command that writes the statement of an account.
-ghost use Rattle.std.specs.Prelude.{◌≡◌, IsErrAnd};
+ghost use Rattle.std.specs.Prelude.{◌≡◌, Result, IsErrAnd};
 ghost use Rattle.sqlite.specs.Held.{state};
 ghost use Rattle.sqlite_wal.specs.Files.{image_at};
 ghost use Rattle.bank_store.specs.Seen.{bank_seen};
+ghost use Rattle.bank_audits.specs.declared.fault.ReportFault.{ReportFault};
 ghost use Rattle.bank_endings.specs.Looking.{IsOfOpening};
-ghost use Rattle.bank_commands.specs.Stating.{StatesIn, said_of_statement};
+ghost use Rattle.bank_commands.specs.Stating.{States, StatesIn, said_of_statement};
 ghost use Rattle.bank_commands.specs.Commands.{FindsBank};
 
+use crate::work::{Work, work_in};
 use bank_audits::{ReportFault, write_statement};
 use bank_endings::CommandFault;
-use bank_openings::{close, find_bank};
+use bank_store::Bank;
 use message_records::Account;
-use sqlite::{FileFrom, FileStore, Start};
+use sqlite::{Alter, FileFrom, FileStore, Start};
 use sqlite_trees::store::Store;
 use std::io::Write;
 
@@ -29,10 +31,34 @@ pub fn statement<S: Start, W: Write>(
         (W.contents output.old) (W.contents output.new) (IsErrAnd result IsOfOpening)
         (λ told. result ≡ said_of_statement account told) }
 {
-    let mut bank = find_bank(rt, start, file)?;
-    let told = write_statement(&mut bank, account, output);
-    close(bank);
-    said_of(account, told)
+    let work = Stating { account };
+    work_in(rt, start, file, &work, &mut (), output, &mut ())
+}
+
+// The statement of an account.
+#[derive(Drop)]
+struct Stating {
+    account: Account,
+}
+
+impl<W: Write> Work<(), W, ()> for Stating {
+    type Told = ();
+
+    ghost Does = { λ work {C} seen old new before after result.
+        (told : Result (Unit {0}) ReportFault) × (result ≡ said_of_statement work.account told)
+        × States (seen old) (seen new) work.account (W.contents before.output) (W.contents after.output) told };
+
+    fn work_with<S: Alter + Drop>(
+        &self,
+        _: &HostRuntime,
+        bank: &mut Bank<S>,
+        _: &mut (),
+        output: &mut W,
+        _: &mut (),
+    ) -> Result<(), CommandFault> {
+        let told = write_statement(bank, self.account, output);
+        said_of(self.account, told)
+    }
 }
 
 // What the command says of a statement.

@@ -106,10 +106,16 @@ fn opened<C: Counter>(alloc: Global, bank: &mut C, item: &str) -> Result<String,
         return "out of range".to_string(alloc);
     }
     match bank.open_branch(branch, count) {
-        Ok(Opening::Opened) => "opened".to_string(alloc),
-        Ok(Opening::Already) => "already".to_string(alloc),
-        Ok(Opening::Differs) => "differs".to_string(alloc),
+        Ok(opening) => word_of(opening).to_string(alloc),
         Err(fault) => fault.to_string(alloc),
+    }
+}
+
+fn word_of(opening: Opening) -> &'static str {
+    match opening {
+        Opening::Opened => "opened",
+        Opening::Already => "already",
+        Opening::Differs => "differs",
     }
 }
 

@@ -5,10 +5,11 @@ mod files;
 mod openings;
 mod work;
 
-use anyhow::bail;
+use anyhow::{Result, bail};
 use bank_endings::Status;
 use commands::first_commands;
 use endings::first_ending;
+pub use files::ask;
 use files::first_file;
 use openings::first_opening;
 use posting_core::StoredClock;
@@ -16,25 +17,44 @@ use work::first_drive;
 
 /// Runs a first program on the files that the words name, between an input and an output, and returns the
 /// status that it ends with.
-pub fn play(
-    rt: &HostRuntime,
-    words: &str,
-    mut input: &[u8],
-    output: &mut Vec<u8>,
-) -> Result<Status, anyhow::Error> {
+pub fn play(rt: &HostRuntime, words: &str, input: &[u8], output: &mut Vec<u8>) -> Result<Status> {
     let (name, files) = words.split_once(' ').unwrap_or((words, ""));
     match name {
-        "file" => println!(rt; "  {}", first_file(rt, files)?)?,
-        "opening" => println!(rt; "  {:?}", first_opening(rt, files)?)?,
-        "drive" => first_drive(rt.alloc(), output)?,
-        "ending" => return Ok(first_ending(output, &mut rt.stderr())),
-        "commands" => {
-            let (file, plan) = files.split_once(' ').unwrap_or((files, ""));
-            let mut clock = StoredClock::new(Vec::new(rt.alloc()));
-            let count = first_commands(rt, file, plan, &mut input, output, &mut clock)?;
-            println!(rt; "  {count}")?;
-        }
+        "file" => play_file(rt, files),
+        "opening" => play_opening(rt, files),
+        "drive" => play_drive(rt, output),
+        "ending" => Ok(first_ending(output, &mut rt.stderr())),
+        "commands" => play_commands(rt, files, input, output),
         _ => bail!("no such program: {name}"),
     }
+}
+
+fn play_file(rt: &HostRuntime, file: &str) -> Result<Status> {
+    let notes = first_file(rt, file)?;
+    println!(rt; "  {notes}")?;
+    Ok(Status::Done)
+}
+
+fn play_opening(rt: &HostRuntime, file: &str) -> Result<Status> {
+    let opening = first_opening(rt, file)?;
+    println!(rt; "  {opening:?}")?;
+    Ok(Status::Done)
+}
+
+fn play_drive(rt: &HostRuntime, output: &mut Vec<u8>) -> Result<Status> {
+    first_drive(rt.alloc(), output)?;
+    Ok(Status::Done)
+}
+
+fn play_commands(
+    rt: &HostRuntime,
+    files: &str,
+    mut input: &[u8],
+    output: &mut Vec<u8>,
+) -> Result<Status> {
+    let (file, plan) = files.split_once(' ').unwrap_or((files, ""));
+    let mut clock = StoredClock::new(Vec::new(rt.alloc()));
+    let count = first_commands(rt, file, plan, &mut input, output, &mut clock)?;
+    println!(rt; "  {count}")?;
     Ok(Status::Done)
 }

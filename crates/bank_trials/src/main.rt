@@ -44,11 +44,19 @@ use std::io;
 
 fn main(rt: HostRuntime) -> Result<(), anyhow::Error> {
     let text = io::read_to_string(rt.alloc(), rt.stdin())?;
+    play_scripts(&rt, text.as_str())
+}
+
+fn play_scripts(rt: &HostRuntime, text: &str) -> Result<(), anyhow::Error> {
     let (scenarios, runs) = text.split_once("\nruns\n").context("no line `runs`")?;
-    play_scenarios(&rt, scenarios)?;
+    play_scenarios(rt, scenarios)?;
+    play_runs(rt, runs)
+}
+
+fn play_runs(rt: &HostRuntime, text: &str) -> Result<(), anyhow::Error> {
     let mut script = Script::new(rt.alloc());
-    for line in runs.lines() {
-        script.play(&rt, line)?;
+    for line in text.lines() {
+        script.play(rt, line)?;
     }
     Ok(())
 }

@@ -1,6 +1,6 @@
 //! The lines of a script.
 use crate::ends::Broken;
-use crate::files::{Sql, ask, compare, look, put, write_lines};
+use crate::files::{compare, look, put, query, run_sql, write_lines};
 use crate::first_programs;
 use crate::showing::tell;
 use anyhow::{Result, bail};
@@ -10,7 +10,7 @@ use posting_core::StoredClock;
 use sqlite::Unknown;
 use std::alloc::{AllocError, Global};
 use std::fs;
-use std::io::{Read, Write};
+use std::io::{self, Read, Write};
 
 // Which end of the next run fails.
 #[derive(Clone, Copy)]
@@ -44,13 +44,13 @@ impl Script {
         let (word, rest) = line.split_once(' ').unwrap_or((line, ""));
         match word {
             "#" | "" => Ok(()),
-            "write" => write_lines(rt, rest),
-            "put" => put(rt, rest),
-            "sql" => ask(rt, Sql::Nothing, rest),
-            "ask" => ask(rt, Sql::Number, rest),
-            "look" => look(rt, rest),
-            "like" => compare(rt, rest, self.output.as_slice()),
-            "bank" => self.run(rt, line),
+            "write" => any(write_lines(rt, rest)),
+            "put" => any(put(rt, rest)),
+            "sql" => run_sql(rt, rest),
+            "ask" => query(rt, rest),
+            "look" => any(look(rt, rest)),
+            "like" => any(compare(rt, rest, self.output.as_slice())),
+            "bank" => any(self.run(rt, line)),
             "first" => self.run_first(rt, rest),
             _ => self.prepare(rt, word, rest),
         }
@@ -78,18 +78,18 @@ impl Script {
     }
 
     // Runs the program on the words of a line, with what the lines before it gave, and prints how it went.
-    fn run(&mut self, rt: &HostRuntime, line: &str) -> Result<()> {
-        let mut words = Vec::new(rt.alloc());
-        for word in line.split(' ') {
-            words.push(word)?;
-        }
+    fn run(&mut self, rt: &HostRuntime, line: &str) -> io::Result<()> {
+        let words: Vec<&str> = line.split(' ').collect(rt.alloc())?;
         let (status, faults) = self.run_words(rt, words.as_slice());
         self.input.clear();
         self.fails = Fails::Neither;
+        self.tell_run(rt, status, faults.as_slice())
+    }
+
+    fn tell_run(&self, rt: &HostRuntime, status: Status, faults: &[u8]) -> io::Result<()> {
         tell(rt, "output", self.output.as_slice())?;
-        tell(rt, "fault", faults.as_slice())?;
-        println!(rt; "  status: {status:?}")?;
-        Ok(())
+        tell(rt, "fault", faults)?;
+        println!(rt; "  status: {status:?}")
     }
 
     // Runs the program on these words, and keeps what it writes.
@@ -110,10 +110,18 @@ impl Script {
         let mut output = Vec::new(rt.alloc());
         let status = first_programs::play(rt, words, self.input.as_slice(), &mut output)?;
         self.input.clear();
-        tell(rt, "output", output.as_slice())?;
-        println!(rt; "  status: {status:?}")?;
-        Ok(())
+        any(tell_first(rt, status, output.as_slice()))
     }
+}
+
+fn tell_first(rt: &HostRuntime, status: Status, output: &[u8]) -> io::Result<()> {
+    tell(rt, "output", output)?;
+    println!(rt; "  status: {status:?}")
+}
+
+// A failure of the system as any other.
+fn any(done: io::Result<()>) -> Result<()> {
+    Ok(done?)
 }
 
 // A record of this text, which spaces fill to 100 bytes.

@@ -1,5 +1,5 @@
 //! How bytes are shown in lines.
-use anyhow::Result;
+use std::io::Result;
 
 // A reply has so many bytes and no end of line.
 const LONGEST: usize = 200;
@@ -26,13 +26,16 @@ fn tell_pieces(rt: &HostRuntime, stream: &str, bytes: &[u8]) -> Result<()> {
 
 fn tell_row(rt: &HostRuntime, stream: &str, bytes: &[u8], mark: &str) -> Result<()> {
     let text = String::from_utf8_lossy(rt.alloc(), bytes)?;
+    print_row(rt, stream, text.as_str(), mark)
+}
+
+fn print_row(rt: &HostRuntime, stream: &str, text: &str, mark: &str) -> Result<()> {
     let kept = text.trim_end_matches(' ');
     let spaces = text.len() - kept.len();
     let gap = if kept.is_empty() { "" } else { " " };
     if spaces > 0 {
-        println!(rt; "  {stream}:{gap}{kept} and {spaces} spaces{mark}")?;
+        println!(rt; "  {stream}:{gap}{kept} and {spaces} spaces{mark}")
     } else {
-        println!(rt; "  {stream}:{gap}{kept}{mark}")?;
+        println!(rt; "  {stream}:{gap}{kept}{mark}")
     }
-    Ok(())
 }

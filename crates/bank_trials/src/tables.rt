@@ -40,8 +40,8 @@ const SUMS: [&str; 6] = [
 
 fn sums<S: Alter>(conn: &mut Connection<S>) -> Result<[i64; 6], Error> {
     let mut found = [0; 6];
-    for (place, sql) in found.iter_mut().zip(SUMS) {
-        *place = number(conn, sql)?;
+    for place in 0..SUMS.len() {
+        found[place] = number(conn, SUMS[place])?;
     }
     Ok(found)
 }
@@ -53,9 +53,12 @@ pub fn run_query<S: Alter>(
     sql: &str,
 ) -> Result<Found, Error> {
     match query {
-        Query::Batch => conn.execute_batch(sql).map(|()| Found::Nothing),
-        Query::Number => number(conn, sql).map(Found::Number),
-        Query::Look => sums(conn).map(Found::Looked),
-        Query::Same => sums(conn).map(Found::Compared),
+        Query::Batch => {
+            conn.execute_batch(sql)?;
+            Ok(Found::Nothing)
+        }
+        Query::Number => Ok(Found::Number(number(conn, sql)?)),
+        Query::Look => Ok(Found::Looked(sums(conn)?)),
+        Query::Same => Ok(Found::Compared(sums(conn)?)),
     }
 }

@@ -1,27 +1,21 @@
 -- The bank that was found is the one that was driven.
-use Rattle.std.proofs.Common.{◌≡◌, refl, rules, inl, inr, Err}
-use Rattle.std.proofs.KnownBytes.{Keeps-refl}
-use Rattle.bank_commands.proofs.Worked.{none_found, runs}
+use Rattle.std.proofs.Common.{refl}
+use Rattle.std.proofs.lemmas.Result.{err_from_is_err_and}
+use Rattle.bank_commands.proofs.Worked.{asks, keeps, runs, says}
 use Rattle.bank_commands.proofs.commands.drive.Goals as goal
 
-pub returns-in_err-bank-clause-drives : goal.returns-in_err-bank-clause-drives
-returns-in_err-bank-clause-drives g c =
-    let f = c.in_err-bank.field-0.0 in
-    let same : c.from_residual.result ≡ Err f = search rules in
-    rw same (inl (
-      (f, c.in_err-bank.ensures.fault, refl),
-      Keeps-refl (g.W.Write.contents c.args.output.now),
-      refl,
-    ))
-
-pub returns-clause-drives : goal.returns-clause-drives
-returns-clause-drives g c =
-    runs _ _ _ _ c.in_ok-bank.bank c.drive_into-driven.new.bank c.in_ok-bank.ensures.found
-    c.drive_into-driven.ensures.drives
-
-pub returns-in_err-bank-clause-finds : goal.returns-in_err-bank-clause-finds
-returns-in_err-bank-clause-finds g c =
-    none_found c.from_residual.result c.in_err-bank.field-0.0 (search rules) c.in_err-bank.ensures.unfound
-
-pub returns-clause-finds : goal.returns-clause-finds
-returns-clause-finds g c = inr (c.in_ok-bank.bank, c.in_ok-bank.ensures.found)
+pub returns : goal.returns
+returns g c =
+    let contents = g.W.Write.contents in
+    let it = c.work_in.ensures in
+    record {
+      finds = it.finds;
+      drives = runs it.works
+          (λ none. let f = err_from_is_err_and c.work_in.result none.0 in
+          rw f.1 ((f.0, f.2, refl), keeps contents none.1, asks g.K.Clock.readings none.1))
+          (λ _ _ did. did.0);
+      line = says it.works (λ none. rw (err_from_is_err_and c.work_in.result none.0).1 tt) (λ _ _ did. did.1);
+      silent = says it.works
+          (λ none. rw (err_from_is_err_and c.work_in.result none.0).1 (λ _. keeps contents none.1))
+          (λ _ _ did. did.2);
+    }
