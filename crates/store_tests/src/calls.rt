@@ -1,8 +1,11 @@
-//! A call in which the machine stops, on any bank and any store: what it adds, and how far it came.
+//! What a bank is asked for as a counter, and a call in which the machine stops: what it adds, and how far it
+//! came.
+use crate::readings::post_many;
+use crate::reports::{Cent, post_cent};
 use crate::sql::number;
 use crate::tasks::Progress;
 use bank_store::Bank;
-use message_records::{Branch, Moment};
+use message_records::{Account, Branch, Cents, Moment};
 use posting_core::{Counter, Fault, Opening};
 use sqlite::{Alter, Connection, Error};
 use std::process::Abort;
@@ -35,6 +38,21 @@ pub enum Call {
     Batch,
     /// Branch 3 is opened with two accounts.
     OpenBranch,
+}
+
+/// What a bank is asked for.
+#[derive(Clone, Copy)]
+pub enum Asked {
+    /// Branch 1 is opened with three accounts and branch 2 with two.
+    Branches,
+    /// 1,000 postings.
+    Postings,
+    /// The call.
+    Call(Call),
+    /// The last of so many cents.
+    Cent(Cent),
+    /// The balance of account 1, which is 500.
+    Balance,
 }
 
 // What the call adds.
@@ -83,10 +101,15 @@ fn open<C: Counter>(
     bank.open_branch(branch, count)
 }
 
+/// Tests that the reply is this text.
+pub fn is_reply(rt: &impl Abort, reply: &[u8; 200], text: &str) {
+    assert_eq!(rt; *reply, padded::<200>(text));
+}
+
 fn post_one<C: Counter>(rt: &impl Abort, bank: &mut C) -> Result<(), Fault> {
     let moment = Moment::new(1000).unwrap();
     let reply = bank.submit(moment, &padded(RECORD))?;
-    assert_eq!(rt; reply, padded::<200>(REPLY));
+    is_reply(rt, &reply, REPLY);
     Ok(())
 }
 
@@ -94,7 +117,7 @@ fn post_one<C: Counter>(rt: &impl Abort, bank: &mut C) -> Result<(), Fault> {
 fn are_replies(rt: &impl Abort, replies: &[[u8; 200]]) {
     assert_eq!(rt; replies.len(), REPLIES.len());
     for (reply, text) in replies.iter().zip(&REPLIES) {
-        assert_eq!(rt; *reply, padded::<200>(text));
+        is_reply(rt, reply, text);
     }
 }
 
@@ -119,26 +142,50 @@ fn make<C: Counter>(rt: &impl Abort, bank: &mut C, call: Call) -> Result<(), Fau
     }
 }
 
-/// Opens branch 1 with three accounts and branch 2 with two.
-pub fn open_both<C: Counter>(rt: &impl Abort, bank: &mut C) {
+fn open_both<C: Counter>(rt: &impl Abort, bank: &mut C) {
     assert_eq!(rt; open(rt, bank, 1, 3), Ok(Opening::Opened));
     assert_eq!(rt; open(rt, bank, 2, 2), Ok(Opening::Opened));
 }
 
+fn has_balance<C: Counter>(rt: &impl Abort, bank: &mut C) {
+    assert_eq!(rt; bank.balance(Account::new(1).unwrap()), Ok(Cents::new(500)));
+}
+
+// Asks any counter.
+fn ask_counter<C: Counter>(rt: &impl Abort, bank: &mut C, asked: Asked) -> Result<(), Fault> {
+    match asked {
+        Asked::Branches => open_both(rt, bank),
+        Asked::Postings => return post_many(rt, bank),
+        Asked::Call(call) => return make(rt, bank, call),
+        Asked::Cent(cent) => return post_cent(rt, bank, cent),
+        Asked::Balance => has_balance(rt, bank),
+    }
+    Ok(())
+}
+
+/// Asks a bank. That a bank in a store is a counter is used here alone: it costs each function that uses it.
+pub fn ask<S: Alter + Drop>(
+    rt: &impl Abort,
+    bank: &mut Bank<S>,
+    asked: Asked,
+) -> Result<(), Fault> {
+    ask_counter(rt, bank, asked)
+}
+
+/// Asks a bank that doesn't stop.
+pub fn ask_to_the_end<S: Alter + Drop>(rt: &impl Abort, bank: &mut Bank<S>, asked: Asked) {
+    assert_eq!(rt; ask(rt, bank, asked), Ok(()));
+}
+
 /// Makes the call, until that ends or the machine stops.
 pub fn call_until<S: Alter + Drop>(rt: &impl Abort, bank: &mut Bank<S>, call: Call) -> Progress {
-    let fault = make(rt, bank, call).err();
+    let fault = ask(rt, bank, Asked::Call(call)).err();
     assert!(rt; fault.is_none() || fault == Some(Fault::Store));
     assert_eq!(rt; bank.cause().is_some(), fault.is_some());
     Progress {
         is_begun: true,
         is_done: fault.is_none(),
     }
-}
-
-/// Makes the call again, to its end.
-pub fn resend<C: Counter>(rt: &impl Abort, bank: &mut C, call: Call) {
-    assert_eq!(rt; make(rt, bank, call), Ok(()));
 }
 
 /// Tests that the call is there whole or not at all, and whole if it was answered.

@@ -5,7 +5,6 @@ use sqlite::{Connection, Files, Options};
 use sqlite_disk::{Crash, Disk, Fuse, Memory};
 use std::alloc::{Alloc, Global};
 use std::process::Abort;
-use std::test::Fail;
 
 // A file that passes so many calls on, and fails each one behind them.
 type Fused = Fuse<Memory>;
@@ -64,24 +63,32 @@ fn fused(rt: &(impl Abort + Alloc<A = Global>), bytes: &[u8], calls: u64) -> Fus
     Fuse::new(file, calls)
 }
 
+fn copied(rt: &(impl Abort + Alloc<A = Global>), bytes: &[u8]) -> Vec<u8> {
+    bytes.to_vec(rt.alloc()).expect(rt, "memory")
+}
+
 // What is in the files as they are.
-fn held(alloc: Global, files: &Files<Fused>) -> Result<Image, Fail> {
-    let db = files.db.inner().bytes().to_vec(alloc)?;
-    let log = files.log.inner().bytes().to_vec(alloc)?;
-    Ok(Image { db, log })
+fn held(rt: &(impl Abort + Alloc<A = Global>), files: &Files<Fused>) -> Image {
+    Image {
+        db: copied(rt, files.db.inner().bytes()),
+        log: copied(rt, files.log.inner().bytes()),
+    }
 }
 
 // Stops the machine.
-fn left_in(alloc: Global, files: &mut Files<Fused>, progress: Progress) -> Result<Ended, Fail> {
-    let written = held(alloc, files)?;
+fn left_in(
+    rt: &(impl Abort + Alloc<A = Global>),
+    files: &mut Files<Fused>,
+    progress: Progress,
+) -> Ended {
+    let written = held(rt, files);
     files.db.crash();
     files.log.crash();
-    let synced = held(alloc, files)?;
-    Ok(Ended {
+    Ended {
         progress,
         written,
-        synced,
-    })
+        synced: held(rt, files),
+    }
 }
 
 // Opens the files and does the tasks, until these end or a call on a file fails.
@@ -89,14 +96,14 @@ fn played<D: Disk + Drop>(
     rt: &(impl Abort + Alloc<A = Global>),
     files: Files<D>,
     tasks: &[Task],
-) -> Result<(Progress, Files<D>), Fail> {
+) -> (Progress, Files<D>) {
     assert!(rt; files.may_be_used());
     match Connection::open_files(rt.alloc(), files, options()) {
         Ok(conn) => {
-            let (progress, store) = play(rt, conn, tasks)?;
-            Ok((progress, store.close()))
+            let (progress, store) = play(rt, conn, tasks);
+            (progress, store.close())
         }
-        Err((_error, left)) => Ok((NOT_BEGUN, left.into_files())),
+        Err((_error, left)) => (NOT_BEGUN, left.into_files()),
     }
 }
 
@@ -107,11 +114,11 @@ pub fn play_on(
     log: &[u8],
     passed: Passed,
     tasks: &[Task],
-) -> Result<Ended, Fail> {
+) -> Ended {
     let files = Files {
         db: fused(rt, db, passed.db),
         log: fused(rt, log, passed.log),
     };
-    let (progress, mut files) = played(rt, files, tasks)?;
-    left_in(rt.alloc(), &mut files, progress)
+    let (progress, mut files) = played(rt, files, tasks);
+    left_in(rt, &mut files, progress)
 }

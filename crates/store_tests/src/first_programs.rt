@@ -7,14 +7,13 @@ mod rows;
 mod transactions;
 mod walks;
 
-use crate::calls::{RECORD, REPLY, padded};
+use crate::calls::{Asked, RECORD, REPLY, ask_to_the_end, is_reply, padded};
 use crate::tasks::Opened;
 use bank_store::{Bank, Refused, adopt};
 use banks::first_bank;
 use batches::first_batch;
 use lives::next_life;
-use message_records::{Account, Cents, Outcome, Reply};
-use posting_core::Counter;
+use message_records::{Cents, Outcome, Reply};
 use reports::first_reports;
 use rows::first_branch;
 use sqlite::{Alter, Connection};
@@ -41,14 +40,9 @@ unmatched                      0
 CONSISTENT
 ";
 
-// The reply of the example.
-fn is_posted(rt: &impl Abort, reply: &[u8; 200]) {
-    assert_eq!(rt; *reply, padded::<200>(REPLY));
-}
-
 fn are_posted(rt: &impl Abort, replies: &[[u8; 200]]) {
     for reply in replies {
-        is_posted(rt, reply);
+        is_reply(rt, reply, REPLY);
     }
 }
 
@@ -60,18 +54,16 @@ fn has_new_balance(rt: &impl Abort, reply: &Reply) {
 }
 
 // A branch is put into new tables, and found there.
-fn over_rows<S: Alter + Drop>(rt: &impl Abort, opened: Opened<S>) -> Result<(), Fail> {
-    let mut conn = opened?;
+fn over_rows<S: Alter>(rt: &impl Abort, conn: &mut Connection<S>) {
     assert!(rt; conn.is_autocommit());
-    assert!(rt; first_branch(&mut conn)?.is_some());
-    Ok(())
+    assert!(rt; matches!(first_branch(conn), Ok(Some(_))));
 }
 
 // A request is posted.
 fn is_posted_first<S: Alter>(rt: &impl Abort, conn: &mut Connection<S>) -> Result<(), Fail> {
     assert!(rt; conn.is_autocommit());
     store_rows::create(conn)?;
-    is_posted(rt, &first_request(conn)?);
+    is_reply(rt, &first_request(conn)?, REPLY);
     Ok(())
 }
 
@@ -86,14 +78,12 @@ fn is_posted_once<S: Alter>(
     Ok(())
 }
 
-fn over_tables<S: Alter + Drop>(
+fn over_tables<S: Alter>(
     rt: &(impl Abort + Alloc<A = Global>),
-    opened: Opened<S>,
-) -> Result<Connection<S>, Fail> {
-    let mut conn = opened?;
-    is_posted_first(rt, &mut conn)?;
-    is_posted_once(rt, &mut conn)?;
-    Ok(conn)
+    conn: &mut Connection<S>,
+) -> Result<(), Fail> {
+    is_posted_first(rt, conn)?;
+    is_posted_once(rt, conn)
 }
 
 fn over_books<S: Alter + Drop>(
@@ -109,10 +99,6 @@ fn over_books<S: Alter + Drop>(
     Ok(())
 }
 
-fn has_balance<C: Counter>(rt: &impl Abort, bank: &mut C) {
-    assert_eq!(rt; bank.balance(Account::new(1).unwrap()), Ok(Cents::new(500)));
-}
-
 // A bank was stopped, and its posting is found in what a stop may have left.
 fn over_lives<S: Alter + Drop>(
     rt: &(impl Abort + Alloc<A = Global>),
@@ -121,7 +107,7 @@ fn over_lives<S: Alter + Drop>(
 ) -> Result<(), Fail> {
     assert!(rt; conn.is_autocommit());
     let mut bank = next_life(rt.alloc(), stopped, conn)?;
-    has_balance(rt, &mut bank);
+    ask_to_the_end(rt, &mut bank, Asked::Balance);
     Ok(())
 }
 
@@ -142,32 +128,46 @@ fn banked<S: Alter + Drop>(
 }
 
 // The books of a bank are written. The other store was given the same calls.
-fn over_banks<S: Alter + Drop>(
+fn over_bank<S: Alter + Drop>(
     rt: &(impl Abort + Alloc<A = Global>),
-    opened: Opened<S>,
+    bank: &mut Bank<S>,
     other: Connection<S>,
 ) -> Result<(), Fail> {
-    let mut bank = banked(rt, opened)?;
-    over_lives(rt, &bank, other)?;
-    over_books(rt, &mut bank)
+    over_lives(rt, bank, other)?;
+    over_books(rt, bank)
 }
 
-// Over three stores that hold nothing yet.
-fn over_stores<S: Alter + Drop>(
+// Over a store that holds nothing yet.
+fn over_one<S: Alter + Drop>(rt: &impl Abort, opened: Opened<S>) -> Result<(), Fail> {
+    let mut conn = opened?;
+    over_rows(rt, &mut conn);
+    Ok(())
+}
+
+fn tables_over<S: Alter + Drop>(
     rt: &(impl Abort + Alloc<A = Global>),
-    one: Opened<S>,
+    opened: Opened<S>,
+) -> Result<Connection<S>, Fail> {
+    let mut conn = opened?;
+    over_tables(rt, &mut conn)?;
+    Ok(conn)
+}
+
+// Over two stores that hold nothing yet.
+fn over_two<S: Alter + Drop>(
+    rt: &(impl Abort + Alloc<A = Global>),
     two: Opened<S>,
     three: Opened<S>,
 ) -> Result<(), Fail> {
-    over_rows(rt, one)?;
-    let two = over_tables(rt, two)?;
-    over_banks(rt, three, two)
+    let tables = tables_over(rt, two)?;
+    let mut bank = banked(rt, three)?;
+    over_bank(rt, &mut bank, tables)
 }
 
 #[test]
 fn programs_of_the_pages(rt: HostRuntime) -> Result<(), Fail> {
-    let one = Connection::open_in_memory(rt.alloc());
+    over_one(&rt, Connection::open_in_memory(rt.alloc()))?;
     let two = Connection::open_in_memory(rt.alloc());
     let three = Connection::open_in_memory(rt.alloc());
-    over_stores(&rt, one, two, three)
+    over_two(&rt, two, three)
 }

@@ -1,13 +1,12 @@
 //! Calls that read all that was posted, on any store: what they give until it fails.
 use crate::tasks::Progress;
-use crate::walks::{Postings, next_posting};
+use crate::walks::{Ordinals, Postings, gives_posting, next_posting};
 use bank_audits::audit;
 use bank_store::{Bank, each_history};
 use message_records::{Account, Branch, Cents, Moment, Number, Request, Teller, encode_request};
 use posting_core::{Counter, Fault};
 use sqlite::Alter;
 use std::process::Abort;
-use std::test::Fail;
 
 const BATCHES: u64 = 20;
 
@@ -47,21 +46,27 @@ fn records_behind(last: u64) -> Option<[[u8; 100]; TOGETHER]> {
 }
 
 // Posts a batch. The answer is how many replies came.
-fn post_behind<C: Counter>(bank: &mut C, last: u64) -> Result<usize, Fail> {
+fn post_behind<C: Counter>(rt: &impl Abort, bank: &mut C, last: u64) -> Result<usize, Fault> {
     let moment = Moment::new(1000).unwrap();
-    let records = records_behind(last).ok_or("request")?;
+    let records = records_behind(last).expect(rt, "request");
     Ok(bank.submit_all(moment, &records)?.len())
 }
 
 /// Posts cents to account 1, so many together.
-pub fn post<C: Counter>(rt: &impl Abort, bank: &mut C) -> Result<(), Fail> {
+pub fn post_many<C: Counter>(rt: &impl Abort, bank: &mut C) -> Result<(), Fault> {
     let mut number = 0u64;
     for _ in 0..BATCHES {
-        assert_eq!(rt; post_behind(bank, number)?, TOGETHER);
+        assert_eq!(rt; post_behind(rt, bank, number)?, TOGETHER);
         number = number.saturating_add(TOGETHER as u64);
     }
     assert_eq!(rt; number, POSTINGS);
     Ok(())
+}
+
+// The next posting has its own request.
+fn is_behind(rt: &impl Abort, count: u64, found: Ordinals) {
+    let ordinal = count.saturating_add(1);
+    assert_eq!(rt; found, (ordinal, Some(ordinal)));
 }
 
 // How many postings a walk gives, in order and each with its request, and the fault that ended it, if one
@@ -69,13 +74,10 @@ pub fn post<C: Counter>(rt: &impl Abort, bank: &mut C) -> Result<(), Fail> {
 fn given_by<S: Alter>(rt: &impl Abort, walk: &mut Postings<'_, S>) -> (u64, Option<Fault>) {
     for count in 0..=POSTINGS {
         match next_posting(walk) {
-            Ok(Some(found)) => {
-                let ordinal = count.saturating_add(1);
-                assert_eq!(rt; found, (ordinal, Some(ordinal)));
-            }
+            Ok(Some(found)) => is_behind(rt, count, found),
             Ok(None) => return (count, None),
             Err(fault) => {
-                assert_eq!(rt; next_posting(walk), Err(Fault::Down));
+                gives_posting(rt, walk, Err(Fault::Down));
                 return (count, Some(fault));
             }
         }
@@ -109,25 +111,24 @@ fn audited<S: Alter>(rt: &impl Abort, bank: &mut Bank<S>) -> Option<Fault> {
     None
 }
 
+// Whether a walk gave a row, and its fault, if it has one. Else all is there.
+fn walked<S: Alter>(rt: &impl Abort, bank: &mut Bank<S>) -> (bool, Option<Fault>) {
+    let (count, fault) = given(rt, bank).expect(rt, "a walk");
+    assert!(rt; count == POSTINGS || fault.is_some());
+    (count > 0, fault)
+}
+
 /// Reads until that ends or the store fails. A walk is begun where a row was given. Neither brings the bank
 /// down.
-pub fn read<S: Alter + Drop>(
-    rt: &impl Abort,
-    bank: &mut Bank<S>,
-    reading: Reading,
-) -> Result<Progress, Fail> {
+pub fn read<S: Alter + Drop>(rt: &impl Abort, bank: &mut Bank<S>, reading: Reading) -> Progress {
     let (is_begun, fault) = match reading {
-        Reading::History => {
-            let (count, fault) = given(rt, bank)?;
-            assert!(rt; count == POSTINGS || fault.is_some());
-            (count > 0, fault)
-        }
+        Reading::History => walked(rt, bank),
         Reading::Audit => (true, audited(rt, bank)),
     };
     assert!(rt; fault.is_none() || fault == Some(Fault::Store));
     assert!(rt; !bank.is_down());
-    Ok(Progress {
+    Progress {
         is_begun,
         is_done: fault.is_none(),
-    })
+    }
 }

@@ -1,4 +1,5 @@
 //! Reports to a writer that refuses after so many bytes.
+use crate::calls::{Asked, ask_to_the_end};
 use crate::readings::one_cent;
 use crate::tasks::{Task, play_in_memory};
 use bank_audits::{ReportFault, audit, write_statement};
@@ -8,7 +9,7 @@ use failing_ends::CutWriter;
 use message_records::{
     Account, Cents, Moment, Outcome, Reply, Request, encode_reply, encode_request,
 };
-use posting_core::Counter;
+use posting_core::{Counter, Fault};
 use sqlite::Alter;
 use std::alloc::{Alloc, Global};
 use std::io::ErrorKind;
@@ -31,29 +32,49 @@ fn posted(request: Request, balance: u32) -> Option<Reply> {
     Reply::new(Outcome::Posted, Some(request), Some(balance))
 }
 
-// Posts a cent to an account, which is the last of so many that it gets. Its reply is that it was posted.
-fn post<C: Counter>(
-    rt: &impl Abort,
-    bank: &mut C,
+/// A cent to an account under a number, which is the last of so many that it gets.
+#[derive(Clone, Copy)]
+pub struct Cent {
     account: u64,
     number: u64,
     count: u32,
-) -> Result<(), Fail> {
-    let request = one_cent(account, number).ok_or("request")?;
-    let wanted = posted(request, count).ok_or("reply")?;
+}
+
+/// Posts the cent. Its reply is that it was posted.
+pub fn post_cent<C: Counter>(rt: &impl Abort, bank: &mut C, cent: Cent) -> Result<(), Fault> {
+    let request = one_cent(cent.account, cent.number).expect(rt, "request");
+    let wanted = posted(request, cent.count).expect(rt, "reply");
     let reply = bank.submit(Moment::new(1000).unwrap(), &encode_request(&request))?;
     assert_eq!(rt; reply, encode_reply(&wanted));
     Ok(())
+}
+
+fn post<S: Alter + Drop>(
+    rt: &impl Abort,
+    bank: &mut Bank<S>,
+    account: u64,
+    number: u64,
+    count: u32,
+) {
+    let cent = Cent {
+        account,
+        number,
+        count,
+    };
+    ask_to_the_end(rt, bank, Asked::Cent(cent));
 }
 
 fn account() -> Account {
     Account::new(1).unwrap()
 }
 
-fn statement_of<S: Alter + Drop>(alloc: Global, bank: &mut Bank<S>) -> Result<Vec<u8>, Fail> {
-    let mut whole = Vec::new(alloc);
-    write_statement(bank, account(), &mut whole)?;
-    Ok(whole)
+fn statement_of<S: Alter + Drop>(
+    rt: &(impl Abort + Alloc<A = Global>),
+    bank: &mut Bank<S>,
+) -> Vec<u8> {
+    let mut whole = Vec::new(rt.alloc());
+    assert_eq!(rt; write_statement(bank, account(), &mut whole), Ok(()));
+    whole
 }
 
 // A writer that refuses behind these bytes of the statement took them.
@@ -76,15 +97,14 @@ fn statement_is_cut<S: Alter + Drop>(
     rt: &(impl Abort + Alloc<A = Global>),
     bank: &mut Bank<S>,
     whole: &[u8],
-) -> Result<(), Fail> {
+) {
     let mut count = 0u32;
     for most in 0..=whole.len() {
         statement_is_cut_to(rt, bank, &whole[..most]);
         count = count.saturating_add(1);
-        post(rt, bank, 2, u64::from(count) + 2, count)?;
+        post(rt, bank, 2, u64::from(count) + 2, count);
     }
     assert!(rt; count > 300);
-    Ok(())
 }
 
 /// A writer that refuses behind these bytes of an audit's text took them.
@@ -105,24 +125,20 @@ fn audit_is_cut(rt: &(impl Abort + Alloc<A = Global>), told: &Audit, whole: &[u8
 fn audit_of_bank_is_cut<S: Alter + Drop>(
     rt: &(impl Abort + Alloc<A = Global>),
     bank: &mut Bank<S>,
-) -> Result<(), Fail> {
-    let told = audit(bank)?;
+) {
+    let told = audit(bank).expect(rt, "an audit");
     let mut whole = Vec::new(rt.alloc());
-    write_audit(&told, &mut whole)?;
+    assert_eq!(rt; write_audit(&told, &mut whole), Ok(()));
     audit_is_cut(rt, &told, &whole);
-    Ok(())
 }
 
 /// Cuts the reports of a bank with two postings to account 1.
-pub fn reports_are_cut<S: Alter + Drop>(
-    rt: &(impl Abort + Alloc<A = Global>),
-    bank: &mut Bank<S>,
-) -> Result<(), Fail> {
-    post(rt, bank, 1, 1, 1)?;
-    post(rt, bank, 1, 2, 2)?;
-    let statement = statement_of(rt.alloc(), bank)?;
-    statement_is_cut(rt, bank, &statement)?;
-    audit_of_bank_is_cut(rt, bank)
+pub fn reports_are_cut<S: Alter + Drop>(rt: &(impl Abort + Alloc<A = Global>), bank: &mut Bank<S>) {
+    post(rt, bank, 1, 1, 1);
+    post(rt, bank, 1, 2, 2);
+    let statement = statement_of(rt, bank);
+    statement_is_cut(rt, bank, &statement);
+    audit_of_bank_is_cut(rt, bank);
 }
 
 #[test]

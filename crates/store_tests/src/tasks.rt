@@ -1,6 +1,6 @@
 //! Tasks on the bank of any store, one after another. What a task does with the bank borrows it.
-use crate::calls::{Call, call_until, is_whole, is_whole_or_none, open_both, resend};
-use crate::readings::{Reading, post, read};
+use crate::calls::{Asked, Call, ask_to_the_end, call_until, is_whole, is_whole_or_none};
+use crate::readings::{Reading, read};
 use crate::reports::reports_are_cut;
 use crate::walks::{Rows, put_rows, walk_over};
 use bank_store::{Bank, OpenFault, Refused, adopt, create};
@@ -54,7 +54,7 @@ pub const NOT_BEGUN: Progress = Progress {
 
 // How far a task came, and the connection then.
 struct Worked<S: Alter> {
-    came: Result<Progress, Fail>,
+    came: Progress,
     conn: Connection<S>,
 }
 
@@ -72,18 +72,18 @@ fn act<S: Alter + Drop>(
     rt: &(impl Abort + Alloc<A = Global>),
     bank: &mut Bank<S>,
     task: Task,
-) -> Result<Progress, Fail> {
+) -> Progress {
     match task {
         Task::MakeEmpty => {}
-        Task::Make => open_both(rt, bank),
-        Task::Post => post(rt, bank)?,
-        Task::Call(call) => return Ok(call_until(rt, bank, call)),
-        Task::Resend(call, _) => resend(rt, bank, call),
+        Task::Make => ask_to_the_end(rt, bank, Asked::Branches),
+        Task::Post => ask_to_the_end(rt, bank, Asked::Postings),
+        Task::Call(call) => return call_until(rt, bank, call),
+        Task::Resend(call, _) => ask_to_the_end(rt, bank, Asked::Call(call)),
         Task::Read(reading) => return read(rt, bank, reading),
-        Task::Walk(rows) => walk_over(rt, bank, rows)?,
-        Task::Report => reports_are_cut(rt, bank)?,
+        Task::Walk(rows) => assert_eq!(rt; walk_over(rt, bank, rows), Ok(())),
+        Task::Report => reports_are_cut(rt, bank),
     }
-    Ok(DONE)
+    DONE
 }
 
 // What is found in the tables behind it.
@@ -118,7 +118,7 @@ fn work<S: Alter + Drop>(
         Err(Refused { fault, conn }) => {
             refused(rt, fault, task);
             Worked {
-                came: Ok(NOT_BEGUN),
+                came: NOT_BEGUN,
                 conn,
             }
         }
@@ -130,16 +130,16 @@ pub fn play<S: Alter + Drop>(
     rt: &(impl Abort + Alloc<A = Global>),
     mut conn: Connection<S>,
     tasks: &[Task],
-) -> Result<(Progress, S), Fail> {
+) -> (Progress, S) {
     let mut progress = NOT_BEGUN;
     for task in tasks {
         prepare(rt, &mut conn, *task);
         let Worked { came, conn: left } = work(rt, conn, *task);
         conn = left;
-        progress = came?;
+        progress = came;
         review(rt, &mut conn, *task);
     }
-    Ok((progress, conn.into_store()))
+    (progress, conn.into_store())
 }
 
 // Does the tasks over a store that was opened.
@@ -148,7 +148,7 @@ fn play_over<S: Alter + Drop>(
     opened: Opened<S>,
     tasks: &[Task],
 ) -> Result<(), Fail> {
-    play(rt, opened?, tasks)?;
+    play(rt, opened?, tasks);
     Ok(())
 }
 

@@ -34,6 +34,9 @@ pub enum Rows {
 /// The ordinal of a row, and that of the one beside it.
 pub type Ordinals = (u64, Option<u64>);
 
+/// What a walk gives next.
+pub type Given = Result<Option<Ordinals>, Fault>;
+
 pub type Requests<'a, S> = Walk<'a, S, Joined<StoredRequest, StoredPosting>>;
 
 pub type Postings<'a, S> = Walk<'a, S, Joined<StoredPosting, StoredRequest>>;
@@ -65,7 +68,7 @@ pub fn put_rows<S: Alter>(conn: &mut Connection<S>, rows: Rows) -> Result<usize,
     }
 }
 
-fn next_request<S: Alter>(walk: &mut Requests<'_, S>) -> Result<Option<Ordinals>, Fault> {
+fn next_request<S: Alter>(walk: &mut Requests<'_, S>) -> Given {
     let Some(Joined { stored, beside }) = walk.next()? else {
         return Ok(None);
     };
@@ -74,12 +77,21 @@ fn next_request<S: Alter>(walk: &mut Requests<'_, S>) -> Result<Option<Ordinals>
 }
 
 /// The ordinals of the next posting and of its request.
-pub fn next_posting<S: Alter>(walk: &mut Postings<'_, S>) -> Result<Option<Ordinals>, Fault> {
+pub fn next_posting<S: Alter>(walk: &mut Postings<'_, S>) -> Given {
     let Some(Joined { stored, beside }) = walk.next()? else {
         return Ok(None);
     };
     let beside = beside.map(|request| request.ordinal.get());
     Ok(Some((stored.ordinal.get(), beside)))
+}
+
+fn gives_request<S: Alter>(rt: &impl Abort, walk: &mut Requests<'_, S>, wanted: Given) {
+    assert_eq!(rt; next_request(walk), wanted);
+}
+
+/// Tests that the walk gives this.
+pub fn gives_posting<S: Alter>(rt: &impl Abort, walk: &mut Postings<'_, S>, wanted: Given) {
+    assert_eq!(rt; next_posting(walk), wanted);
 }
 
 // Each request is given once, with its own posting where it was posted.
@@ -88,11 +100,11 @@ fn each_is_given<S: Alter>(rt: &impl Abort, walk: &mut Requests<'_, S>) {
         if i64::from(ordinal) != BROKEN {
             let own = u64::from(ordinal);
             let beside = is_posted(i64::from(ordinal)).then_some(own);
-            assert_eq!(rt; next_request(walk), Ok(Some((own, beside))));
+            gives_request(rt, walk, Ok(Some((own, beside))));
         }
     }
-    assert_eq!(rt; next_request(walk), Ok(None));
-    assert_eq!(rt; next_request(walk), Ok(None));
+    gives_request(rt, walk, Ok(None));
+    gives_request(rt, walk, Ok(None));
 }
 
 // A request whose posting can't be read isn't given, and those before it are.
@@ -100,7 +112,7 @@ fn given_to_the_broken<S: Alter>(rt: &impl Abort, walk: &mut Requests<'_, S>) {
     for _ in 1..BROKEN {
         assert!(rt; matches!(next_request(walk), Ok(Some(_))));
     }
-    assert_eq!(rt; next_request(walk), Err(DAMAGED));
+    gives_request(rt, walk, Err(DAMAGED));
 }
 
 // Each posting is given once with its request, up to the one that can't be read.
@@ -108,11 +120,11 @@ fn each_posting_to_the_broken<S: Alter>(rt: &impl Abort, walk: &mut Postings<'_,
     for ordinal in 1..90u8 {
         if is_posted(i64::from(ordinal)) {
             let own = u64::from(ordinal);
-            assert_eq!(rt; next_posting(walk), Ok(Some((own, Some(own)))));
+            gives_posting(rt, walk, Ok(Some((own, Some(own)))));
         }
     }
-    assert_eq!(rt; next_posting(walk), Err(DAMAGED));
-    assert_eq!(rt; next_posting(walk), Err(Fault::Down));
+    gives_posting(rt, walk, Err(DAMAGED));
+    gives_posting(rt, walk, Err(Fault::Down));
 }
 
 // The posting without a request is given as one.
