@@ -15,8 +15,8 @@ from pathlib import Path
 
 CRATES = Path(__file__).resolve().parent.parent / "crates"
 
-# What these have is tests, ends for tests, and lemmas: no program begins with them.
-NO_PROGRAM = {"counter_tests", "failing_ends", "http_tests", "sql_meanings", "store_tests"}
+# What these have is tests, what tests and trials are made with, and lemmas: no program begins with them.
+NO_PROGRAM = {"bank_scenarios", "counter_tests", "failing_ends", "http_tests", "sql_meanings", "store_tests"}
 
 TEST = re.compile(r"[Tt]he test `(\w+)` of `(\w+)`")
 FUNCTION = re.compile(r"[Tt]he function `(\w+)` of `(\w+)`")

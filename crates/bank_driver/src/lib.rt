@@ -1,21 +1,15 @@
 //! The driver at work: the requests of the 85/15 rule (TPC-B 5.3), drawn over the open branches of any
-//! counter, submitted in batches and counted by their replies. The test `first_drive` of `counter_tests`
-//! drives a bank in memory:
+//! counter, submitted in batches and counted by their replies. The function `first_drive` of
+//! `counter_tests`, which a test runs, submits a thousand records of the seed 7, each at the moment 0:
 //!
 //! ```rust
-//! use bank_driver::drive_records;
-//! use message_records::Branch;
-//! use posting_core::{Counter, PlainBank, StoredClock};
-//! use std::test::Fail;
+//! use bank_driver::{DriveFault, Driven, drive_records};
+//! use posting_core::{Counter, StoredClock};
+//! use std::alloc::Global;
 //!
-//! fn first_drive(rt: HostRuntime) -> Result<(), Fail> {
-//!     let mut bank = PlainBank::new(rt.alloc());
-//!     bank.open_branch(Branch::new(1).unwrap(), 3)?;
-//!     bank.open_branch(Branch::new(2).unwrap(), 2)?;
-//!     let mut clock = StoredClock::new(Vec::new(rt.alloc()));
-//!     let driven = drive_records(rt.alloc(), &mut bank, &mut clock, 7, 1_000)?;
-//!     assert_eq!(rt; (driven.posted, driven.refused), (1_000, 0));
-//!     Ok(())
+//! pub fn first_drive<C: Counter>(alloc: Global, bank: &mut C) -> Result<Driven, DriveFault> {
+//!     let mut clock = StoredClock::new(Vec::new(alloc));
+//!     drive_records(alloc, bank, &mut clock, 7, 1_000)
 //! }
 //! ```
 //!

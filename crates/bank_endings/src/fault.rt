@@ -7,11 +7,10 @@ ghost use Rattle.bank_endings.specs.Faults.{fault_of_serving, fault_of_stream, s
 
 use crate::status::Status;
 use bank_driver::DriveFault;
-use bank_store::OpenFault;
 use branch_loader::PlanFault;
 use counter_tcp::ListenFault;
 use message_records::Account;
-use posting_core::{Fault, Rule, StreamFault};
+use posting_core::{Fault, OpenFault, Rule, StreamFault};
 use std::fmt;
 use std::io::{self, ErrorKind};
 

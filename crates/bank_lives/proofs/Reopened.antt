@@ -1,32 +1,17 @@
 -- A connection that was opened on what a stop left.
-use Rattle.std.proofs.Common.{◌≡◌, ◌≤◌, ◌∙◌, ℕ, List, length, take, Result, Ok, Err, sym, ap, subst}
+use Rattle.std.proofs.Common.{◌≡◌, ◌≤◌, ℕ, List, length, take, Result, Ok, Err, sym, subst}
 use Rattle.std.specs.Prelude.{IfOk}
 use Rattle.sqlite.specs.State.{State, Opens}
 use Rattle.sqlite.specs.Tree.{Trees}
-use Rattle.sqlite.specs.Effect.{Database}
 use Rattle.posting_rules.specs.Commands.{Command, AreCommands}
 use Rattle.posting_rules.specs.Counter.{Seen, StandsAt, ShowsBeginning}
 use Rattle.posting_rules.specs.Runs.{behind}
 use Rattle.posting_rules.specs.Tables.{Tables}
-use Rattle.posting_rules.specs.Tables.{AreTablesOf as Show}
 use Rattle.store_rows.specs.View.{Shows, ShowsTrees}
 use Rattle.bank_store.specs.Seen.{seen_in}
+use Rattle.bank_store.proofs.Opened.{stands_opened}
 use Rattle.posting_rules.specs.Laws.{IsConsistent, NoneShares, TablesAreConsistent}
 use Rattle.bank_lives.specs.Lives.{IsFoundAgain}
-
--- it stands at what its trees show
-pub stands_opened : (s : State) (D : Type 0) → (D → ⊥) → Opens s
-    → ((db : Trees) → s.may_leave db → db ≡ s.committed.trees)
-    → (t : Tables) (log : List Command) → AreCommands log → ShowsTrees s.now.trees t → Shows s.now t
-    → Show t log
-    → StandsAt (seen_in s D) log
-stands_opened s D up opens settled t log are left shown shows = record {
-  shows = record { commands = are; tables = t; are = shown; shows = shows };
-  up = up;
-  survives = λ db may.
-      let same = settled db may ∙ ap (λ (it : Database). it.trees) (sym opens.clean) in
-      (t, subst (λ (trees : Trees). ShowsTrees trees t) (sym same) left, shows);
-}
 
 -- the beginning that a connection stands at
 pub record Begins (seen : Seen) (log given : List Command) (least : ℕ) : Type 0 where

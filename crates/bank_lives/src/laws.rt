@@ -1,8 +1,6 @@
 //! Laws of a counter's life. Each is a function that does nothing and can't fail: its contract is the law. A
 //! caller that calls one has its clauses at hand.
 ghost use Rattle.std.specs.Prelude.{◌≡◌, ◌≤◌, ℕ, List, length};
-ghost use Rattle.sqlite.specs.Held.{state};
-ghost use Rattle.sqlite.specs.State.{Opens};
 ghost use Rattle.posting_rules.specs.declared.fault.Fault.{Fault as Told};
 ghost use Rattle.posting_rules.specs.declared.fault.Fault.TheVariants.{Down};
 ghost use Rattle.posting_rules.specs.Commands.{Command, AreCommands};
@@ -10,14 +8,10 @@ ghost use Rattle.posting_rules.specs.Counter.{Takes, Refuses, StandsAt, LeavesOn
 ghost use Rattle.posting_rules.specs.Tables.{Tables, AreTablesOf};
 ghost use Rattle.posting_rules.specs.declared.fault.Rule.{Rule};
 ghost use Rattle.store_rows.specs.Rules.{KeepsRule};
-ghost use Rattle.store_rows.specs.View.{ShowsTrees};
 ghost use Rattle.bank_lives.specs.TableRows.{stored_rows};
-ghost use Rattle.bank_store.specs.Connections.{conn_seen};
 ghost use Rattle.bank_lives.specs.Lives.{IsCall, Life, given_to};
 
 use posting_rules::Counter;
-use sqlite::{Alter, Connection};
-use store_rows::trees_show_law;
 
 /// Each call of a counter is a call of its life (`IsCall`), by what the trait `Counter` says of it. One that
 /// was answered acknowledges all of its commands, and one that was refused acknowledges none.
@@ -48,15 +42,6 @@ pub fn life_law<C: Counter>(counter: &C)
         → StandsAt (C.seen first) log → (C.seen counter.now).honest
         → ∥ ((tables : Tables) × ShowsBeginning log given least tables) ∥₁ }
 {}
-
-/// What a connection shows as it is opened, a stop leaves too: it stands at whatever log its trees show.
-pub fn opened_law<S: Alter>(conn: &Connection<S>)
-    ensures { Opens (state S.Store conn.now) → (tables : Tables) (log : List Command) → AreCommands log
-        → ShowsTrees (state S.Store conn.now).now.trees tables → AreTablesOf tables log
-        → StandsAt (conn_seen S.Store conn.now) log }
-{
-    trees_show_law(conn);
-}
 
 /// The tables of every log of a bank's commands keep each of the seven rules of `Rule`, so that a file which
 /// breaks one of them holds no bank.

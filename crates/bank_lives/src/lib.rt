@@ -37,5 +37,5 @@
 mod laws;
 mod reopening;
 
-pub use laws::{calls_law, life_law, opened_law, rules_law};
+pub use laws::{calls_law, life_law, rules_law};
 pub use reopening::reopen;

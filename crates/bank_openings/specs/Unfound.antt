@@ -4,7 +4,7 @@ use Rattle.sqlite.specs.State.{State, HasCleanDisk}
 use Rattle.sqlite_wal.specs.Recovery.{Image}
 use Rattle.bank_store.specs.FoundBank.{Misses}
 use Rattle.bank_store.specs.NewBank.{IsTaken}
-use Rattle.bank_store.specs.declared.refused.OpenFault.{OpenFault}
+use Rattle.posting_rules.specs.declared.open_fault.OpenFault.{OpenFault}
 use Rattle.bank_endings.specs.Faults.{fault_of_opening}
 use Rattle.bank_endings.specs.Looking.{IsOfLook}
 use Rattle.bank_endings.specs.declared.fault.CommandFault.{CommandFault}

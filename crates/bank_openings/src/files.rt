@@ -20,8 +20,7 @@ ghost use Rattle.bank_endings.specs.Looking.{IsOfLook, IsOfOpening};
 
 use bank_endings::CommandFault;
 use bank_files::open;
-use bank_lives::opened_law;
-use bank_store::{Bank, Refused, adopt, create};
+use bank_store::{Bank, Refused, adopt, create, opened_law};
 use sqlite::{Alter, Connection, FileFrom, FileStore, Files, Start};
 use sqlite_disk::Disk;
 use sqlite_trees::store::Store;
@@ -46,7 +45,7 @@ pub fn make_bank<S: Start>(
         (IsUnmadeIn (state ⟦<FileStore<FileFrom<S>> as Store>⟧) (image_at S.Start)) }
 {
     let conn = connect(rt, start, file)?;
-    create_over(rt.alloc(), conn)
+    bank_over(rt.alloc(), conn, Way::Make)
 }
 
 /// Takes up the bank in the file. Where no bank can be there, no file is made or written.
@@ -62,7 +61,53 @@ pub fn find_bank<S: Start>(
 {
     look_for(rt, file)?;
     let conn = connect(rt, start, file)?;
-    take_up(rt.alloc(), conn)
+    bank_over(rt.alloc(), conn, Way::Find)
+}
+
+// How a bank is had over the connection to its file.
+#[derive(Clone, Copy)]
+enum Way {
+    Make,
+    Find,
+}
+
+// Makes a bank over a connection to files, or takes up the one that is there.
+fn bank_over<D: Disk + Drop>(
+    alloc: Global,
+    conn: Connection<FileStore<D>>,
+    way: Way,
+) -> Result<Bank<FileStore<D>>, CommandFault>
+    requires { conn.in_transaction ≡ false }
+    ensures made { way ≡ Way.Make → IfOk result
+        (λ bank. BankIsMadeOver (file_state conn) (bank_seen over_files bank)) }
+    ensures taken { way ≡ Way.Find → IfOk result
+        (λ bank. IsTakenUp (file_state conn) (bank_seen over_files bank)) }
+    ensures fault { IfErr result IsOfOpening }
+    ensures unmade { way ≡ Way.Make → IfErr result (IsUnmadeOver file_state conn) }
+    ensures missed { way ≡ Way.Find → IfErr result (IsMissedOver file_state conn) }
+{
+    bank_by(alloc, conn, way)
+}
+
+// The same over any store.
+fn bank_by<S: Alter + Drop>(
+    alloc: Global,
+    conn: Connection<S>,
+    way: Way,
+) -> Result<Bank<S>, CommandFault>
+    requires { conn.in_transaction ≡ false }
+    ensures made { way ≡ Way.Make → IfOk result
+        (λ bank. BankIsMadeOver (state S.Store conn) (bank_seen S.Store bank)) }
+    ensures taken { way ≡ Way.Find → IfOk result
+        (λ bank. IsTakenUp (state S.Store conn) (bank_seen S.Store bank)) }
+    ensures fault { IfErr result IsOfOpening }
+    ensures unmade { way ≡ Way.Make → IfErr result (IsUnmadeOver (state S.Store) conn) }
+    ensures missed { way ≡ Way.Find → IfErr result (IsMissedOver (state S.Store) conn) }
+{
+    match way {
+        Way::Make => create_over(alloc, conn),
+        Way::Find => take_up(alloc, conn),
+    }
 }
 
 // Makes a bank over a connection, which is dropped where that is refused.

@@ -21,9 +21,9 @@ use Rattle.store_rows.specs.declared.metas.StoredMeta.{StoredMeta}
 use Rattle.bank_store.specs.MetaRow.{ChecksMeta}
 use Rattle.bank_store.specs.OpenFaults.{of_the_store, unmade_by, unread_by}
 use Rattle.bank_store.specs.StoreFaults.{CallFailed, KnowsCause, KnowsWhyUnmade, MakingFailed}
-use Rattle.bank_store.specs.declared.refused.OpenFault.{OpenFault}
-use Rattle.bank_store.specs.declared.refused.OpenFault.TheVariants.{Store, NotBlank, Blank, Foreign, Version}
-use Rattle.bank_store.specs.declared.refused.OpenFault.TheVariants.{Damaged}
+use Rattle.posting_rules.specs.declared.open_fault.OpenFault.{OpenFault}
+use Rattle.posting_rules.specs.declared.open_fault.OpenFault.TheVariants.{Store, NotBlank, Blank, Foreign, Version}
+use Rattle.posting_rules.specs.declared.open_fault.OpenFault.TheVariants.{Damaged}
 
 module _ {S : Type 0} (g : Ghosts S) (old new : Held S) where
   -- a probe failed

@@ -30,9 +30,9 @@ use Rattle.bank_store.specs.MetaRow.{IsOurs, IsOfVersion, IsNoCount, ChecksMeta,
 use Rattle.bank_store.specs.OpenFaults.{RowIsUnread}
 use Rattle.bank_store.specs.TablePresence.{Lacks, IsPresent}
 use Rattle.bank_store.specs.declared.presence.Presence.TheVariants.{Absent, Whole}
-use Rattle.bank_store.specs.declared.refused.OpenFault.{OpenFault}
-use Rattle.bank_store.specs.declared.refused.OpenFault.TheVariants.{Store, NotBlank, Blank, Foreign, Version}
-use Rattle.bank_store.specs.declared.refused.OpenFault.TheVariants.{Damaged}
+use Rattle.posting_rules.specs.declared.open_fault.OpenFault.{OpenFault}
+use Rattle.posting_rules.specs.declared.open_fault.OpenFault.TheVariants.{Store, NotBlank, Blank, Foreign, Version}
+use Rattle.posting_rules.specs.declared.open_fault.OpenFault.TheVariants.{Damaged}
 use Rattle.store_rows.proofs.Checked.{one_at_most}
 use Rattle.store_rows.proofs.MetaRow.{has_one}
 use Rattle.store_rows.specs.declared.metas.TheConstants.{VERSION}

@@ -7,5 +7,6 @@ pub mod Probed
 pub mod MetaRow
 pub mod Refusing
 pub mod NewBank
+pub mod Opened
 pub mod Unmade
 pub mod WalkSteps

@@ -9,8 +9,8 @@ use Rattle.store_rows.specs.Outcomes.{Finds, Never}
 use Rattle.store_rows.specs.declared.fault.TableFault.{TableFault}
 use Rattle.store_rows.specs.declared.fault.TableFault.TheVariants.{Sqlite, Damaged}
 use Rattle.store_rows.specs.declared.metas.StoredMeta.{StoredMeta}
-use Rattle.bank_store.specs.declared.refused.OpenFault.{OpenFault}
-use Rattle.bank_store.specs.declared.refused.OpenFault.TheVariants.{Store}
+use Rattle.posting_rules.specs.declared.open_fault.OpenFault.{OpenFault}
+use Rattle.posting_rules.specs.declared.open_fault.OpenFault.TheVariants.{Store}
 use Rattle.sqlite.specs.Effect.{Database}
 use Rattle.store_rows.specs.Statements.{TellsOther}
 use Rattle.bank_store.specs.MetaRow.{IsOfOtherType, TellsMeta}

@@ -20,8 +20,8 @@ use Rattle.bank_store.specs.OpenFaults.{of_the_store, unmade_by}
 use Rattle.bank_store.specs.TablePresence.{IsReadable, OneOf, IsPresent}
 use Rattle.bank_store.specs.declared.presence.Presence.{Presence}
 use Rattle.bank_store.specs.declared.presence.Presence.TheVariants.{Absent, Partial, Whole}
-use Rattle.bank_store.specs.declared.refused.OpenFault.{OpenFault}
-use Rattle.bank_store.specs.declared.refused.OpenFault.TheVariants.{NotBlank}
+use Rattle.posting_rules.specs.declared.open_fault.OpenFault.{OpenFault}
+use Rattle.posting_rules.specs.declared.open_fault.OpenFault.TheVariants.{NotBlank}
 
 -- what the store names is its own
 own_error : (cause : StoreError) → of_the_store (store_error cause) ≡ true

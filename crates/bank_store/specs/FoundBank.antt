@@ -14,9 +14,9 @@ use Rattle.bank_store.specs.Connections.{IsAsBefore, IsReadOnly}
 use Rattle.bank_store.specs.MetaRow.{IsOurs, IsOfVersion, IsNoCount}
 use Rattle.bank_store.specs.TablePresence.{IsPresent}
 use Rattle.bank_store.specs.declared.presence.Presence.TheVariants.{Absent, Partial, Whole}
-use Rattle.bank_store.specs.declared.refused.OpenFault.{OpenFault}
-use Rattle.bank_store.specs.declared.refused.OpenFault.TheVariants.{Store, NotBlank, Blank, Foreign, Version}
-use Rattle.bank_store.specs.declared.refused.OpenFault.TheVariants.{Damaged}
+use Rattle.posting_rules.specs.declared.open_fault.OpenFault.{OpenFault}
+use Rattle.posting_rules.specs.declared.open_fault.OpenFault.TheVariants.{Store, NotBlank, Blank, Foreign, Version}
+use Rattle.posting_rules.specs.declared.open_fault.OpenFault.TheVariants.{Damaged}
 
 -- whatever rows of `meta` the database holds, the row of the bank is so
 abbrev pub MetaIs : State → (Option StoredMeta → Type 0) → Type 0

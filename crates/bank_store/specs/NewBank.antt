@@ -14,8 +14,8 @@ use Rattle.bank_store.specs.Connections.{IsUndoneIfOpen}
 use Rattle.bank_store.specs.OpenFaults.{of_the_store, IsUnmade}
 use Rattle.bank_store.specs.StoreFaults.{KnowsWhyUnmade}
 use Rattle.bank_store.specs.TablePresence.{IsReadable, OneOf}
-use Rattle.bank_store.specs.declared.refused.OpenFault.{OpenFault}
-use Rattle.bank_store.specs.declared.refused.OpenFault.TheVariants.{NotBlank}
+use Rattle.posting_rules.specs.declared.open_fault.OpenFault.{OpenFault}
+use Rattle.posting_rules.specs.declared.open_fault.OpenFault.TheVariants.{NotBlank}
 
 -- a bank with nothing in it is there, whatever a stop leaves, and every table that was there is there, with
 -- its rows, and nothing else is

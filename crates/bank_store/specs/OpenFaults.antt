@@ -1,16 +1,13 @@
--- Which fault is answered for which error, as a bank is made or looked for, and the text of each.
-use Rattle.std.specs.Prelude.{◌≡◌, ◌⊎◌, if◌then◌else◌, ℕ, Bool, true, false, List, ◌++◌, codes}
-use Rattle.std.specs.Fmt.{decimal, signed_decimal}
+-- Which fault is answered for which error, as a bank is made or looked for.
+use Rattle.std.specs.Prelude.{◌≡◌, ◌⊎◌, if◌then◌else◌, Bool, true, false}
 use Rattle.sqlite.specs.declared.error.Error.{Error}
 use Rattle.sqlite.specs.declared.error.Error.TheVariants.{SqliteFailure}
 use Rattle.sqlite.specs.declared.error.ErrorCode.TheVariants as code
-use Rattle.posting_rules.specs.FaultTexts.{number_of_rule}
 use Rattle.posting_rules.specs.declared.fault.Rule.TheVariants.{Value}
 use Rattle.store_rows.specs.declared.fault.TableFault.{TableFault}
 use Rattle.store_rows.specs.declared.fault.TableFault.TheVariants.{Sqlite, Damaged as Broken}
-use Rattle.bank_store.specs.declared.refused.OpenFault.{OpenFault}
-use Rattle.bank_store.specs.declared.refused.OpenFault.TheVariants.{Store, NotBlank, Blank, Foreign, Version}
-use Rattle.bank_store.specs.declared.refused.OpenFault.TheVariants.{Damaged}
+use Rattle.posting_rules.specs.declared.open_fault.OpenFault.{OpenFault}
+use Rattle.posting_rules.specs.declared.open_fault.OpenFault.TheVariants.{Store, NotBlank, Damaged}
 
 -- the error is the store's own: for memory, the disk, a size or the limit on steps
 abbrev pub of_the_store : Error → Bool
@@ -40,12 +37,3 @@ unread_by (Sqlite e) = Store
 -- why the row isn't known
 abbrev pub RowIsUnread : OpenFault → Type 0
 RowIsUnread fault = (fault ≡ Store) ⊎ (fault ≡ Damaged Value)
-
--- what `{}` writes of a fault
-abbrev pub open_text : OpenFault → List ℕ
-open_text Store = codes "store fault"
-open_text NotBlank = codes "already a bank"
-open_text Blank = codes "no bank"
-open_text Foreign = codes "foreign tables"
-open_text (Version n) = codes "version " ++ signed_decimal n
-open_text (Damaged rule) = codes "damaged rule " ++ decimal (number_of_rule rule)

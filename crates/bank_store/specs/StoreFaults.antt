@@ -7,8 +7,8 @@ use Rattle.sqlite_trees.specs.declared.store.Store.{Ghosts}
 use Rattle.bank_transactions.specs.Causes.{HasFailedBetween, IsBefore}
 use Rattle.store_rows.specs.Creation.{CreatesBank}
 use Rattle.bank_store.specs.OpenFaults.{of_the_store}
-use Rattle.bank_store.specs.declared.refused.OpenFault.{OpenFault}
-use Rattle.bank_store.specs.declared.refused.OpenFault.TheVariants.{Store}
+use Rattle.posting_rules.specs.declared.open_fault.OpenFault.{OpenFault}
+use Rattle.posting_rules.specs.declared.open_fault.OpenFault.TheVariants.{Store}
 
 -- between these two moments of a connection a call of `sqlite` failed
 abbrev pub CallFailed : {S : Type 0} → Ghosts S → Held S → Held S → Type 0

@@ -18,9 +18,9 @@ ghost use Rattle.bank_store.specs.StoreFaults.{KnowsCause};
 
 use crate::bank::Bank;
 use crate::presence::{Presence, tables_there};
-use crate::refused::{OpenFault, Refused, unread};
+use crate::refused::{Refused, unread};
 use bank_transactions::{begin, note_settled};
-use posting_rules::{MAX_DECIDED, Rule};
+use posting_rules::{MAX_DECIDED, OpenFault, Rule};
 use sqlite::{Alter, Connection};
 use std::alloc::Global;
 use store_rows::{StoredMeta, VERSION, probe_meta, read_meta};

@@ -18,8 +18,9 @@ ghost use Rattle.bank_store.specs.declared.presence.Presence.TheVariants.{Absent
 
 use crate::bank::Bank;
 use crate::presence::{Presence, tables_there};
-use crate::refused::{OpenFault, Refused, unmade};
+use crate::refused::{Refused, unmade};
 use bank_transactions::begin;
+use posting_rules::OpenFault;
 use sqlite::{Alter, Connection};
 use std::alloc::Global;
 use store_rows::create_tables;

@@ -1,8 +1,17 @@
-//! A fact that a value's type keeps inside. The function reads its value once, which tells the fact, and does
-//! nothing else: a caller that calls it has its clauses at hand.
-ghost use Rattle.std.specs.Prelude.{◌≤◌};
+//! Facts that hold without anything being done: what a value's type keeps inside, and what a connection that
+//! was just opened stands at. A caller that calls such a function has its clauses at hand.
+ghost use Rattle.std.specs.Prelude.{◌≤◌, List};
+ghost use Rattle.sqlite.specs.Held.{state};
+ghost use Rattle.sqlite.specs.State.{Opens};
+ghost use Rattle.posting_rules.specs.Commands.{Command, AreCommands};
+ghost use Rattle.posting_rules.specs.Counter.{StandsAt};
+ghost use Rattle.posting_rules.specs.Tables.{Tables, AreTablesOf};
+ghost use Rattle.store_rows.specs.View.{ShowsTrees};
+ghost use Rattle.bank_store.specs.Connections.{conn_seen};
 
 use message_records::Whole;
+use sqlite::{Alter, Connection};
+use store_rows::trees_show_law;
 
 /// A number is in its range. A proof sees the number alone, until it is read.
 pub(crate) fn range_law<const LEAST: u64, const MOST: u64>(number: Whole<LEAST, MOST>)
@@ -10,4 +19,13 @@ pub(crate) fn range_law<const LEAST: u64, const MOST: u64>(number: Whole<LEAST, 
     ensures most { number.entry ≤ MOST }
 {
     let _number = number.get();
+}
+
+/// What a connection shows as it is opened, a stop leaves too: it stands at whatever log its trees show.
+pub fn opened_law<S: Alter>(conn: &Connection<S>)
+    ensures { Opens (state S.Store conn.now) → (tables : Tables) (log : List Command) → AreCommands log
+        → ShowsTrees (state S.Store conn.now).now.trees tables → AreTablesOf tables log
+        → StandsAt (conn_seen S.Store conn.now) log }
+{
+    trees_show_law(conn);
 }

@@ -67,15 +67,16 @@ pub use bank_walks::{
     Joined, StoredAccount, StoredBranch, StoredPosting, StoredRequest, StoredTeller,
 };
 pub use creation::create;
+pub use laws::opened_law;
 pub use message_records::{
     Account, Bad, BadReply, Branch, Cents, Moment, Number, Outcome, Reply, Request, Teller,
     decode_reply, decode_request, encode_request,
 };
 pub use posting_rules::{
-    BranchLine, Counter, Fault, LAST_BRANCH, MAX_DECIDED, MOST_ACCOUNTS, Opening, Ordinal,
-    RECORDS_PER_BATCH, Rule,
+    BranchLine, Counter, Fault, LAST_BRANCH, MAX_DECIDED, MOST_ACCOUNTS, OpenFault, Opening,
+    Ordinal, RECORDS_PER_BATCH, Rule,
 };
-pub use refused::{OpenFault, Refused};
+pub use refused::Refused;
 pub use walks::{
     Walk, each_account, each_branch, each_history, each_request, each_row, each_teller, history_of,
 };

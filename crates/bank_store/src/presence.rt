@@ -7,8 +7,8 @@ ghost use Rattle.store_rows.specs.Probes.{six_probes};
 ghost use Rattle.bank_store.specs.StoreFaults.{KnowsCause};
 ghost use Rattle.bank_store.specs.TablePresence.{joined, presence_of, probe_of, TellsPresence};
 
-use crate::refused::OpenFault;
 use bank_transactions::note_settled;
+use posting_rules::OpenFault;
 use sqlite::{Alter, Connection, Error};
 use store_rows::{
     probe_accounts, probe_branches, probe_history, probe_meta, probe_requests, probe_tellers,

@@ -3,6 +3,7 @@ mod commands;
 mod endings;
 mod files;
 mod openings;
+mod words;
 mod work;
 
 use anyhow::{Result, bail};
@@ -13,6 +14,7 @@ pub use files::ask;
 use files::first_file;
 use openings::first_opening;
 use posting_core::StoredClock;
+use words::first_words;
 use work::first_drive;
 
 /// Runs a first program on the files that the words name, between an input and an output, and returns the
@@ -20,6 +22,7 @@ use work::first_drive;
 pub fn play(rt: &HostRuntime, words: &str, input: &[u8], output: &mut Vec<u8>) -> Result<Status> {
     let (name, files) = words.split_once(' ').unwrap_or((words, ""));
     match name {
+        "words" => play_words(rt, files),
         "file" => play_file(rt, files),
         "opening" => play_opening(rt, files),
         "drive" => play_drive(rt, output),
@@ -27,6 +30,13 @@ pub fn play(rt: &HostRuntime, words: &str, input: &[u8], output: &mut Vec<u8>) -
         "commands" => play_commands(rt, files, input, output),
         _ => bail!("no such program: {name}"),
     }
+}
+
+fn play_words(rt: &HostRuntime, words: &str) -> Result<Status> {
+    let words: Vec<&str> = words.split(' ').collect(rt.alloc())?;
+    let drive = first_words(rt.alloc(), words.as_slice());
+    println!(rt; "  {drive:?}")?;
+    Ok(Status::Done)
 }
 
 fn play_file(rt: &HostRuntime, file: &str) -> Result<Status> {

@@ -22,22 +22,14 @@
 //!   `first NAME FILE..` runs the first program of a library on these files
 #![tactic(auto)]
 
-mod answers;
-mod draws;
 mod ends;
 mod files;
 mod first_programs;
-mod mixed;
-mod records;
-mod scenario;
 mod script;
 mod showing;
-mod steps;
-mod stored;
-mod tables;
 
 use anyhow::Context;
-use scenario::play;
+use bank_scenarios::play;
 use script::Script;
 use sqlite::Connection;
 use std::io;

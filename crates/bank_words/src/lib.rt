@@ -1,20 +1,17 @@
 //! The command line of the program: which words it takes, and which command on which files, with which
 //! numbers, they ask for. It opens no file and does nothing of what is asked. The words are matched by
-//! `clap`, which also lays out the help and the faults. The test `first_words` of `counter_tests` reads the
-//! words of a drive:
+//! `clap`, which also lays out the help and the faults. The function `first_words` of `bank_trials`, to which
+//! its script gives the words `bank drive bank.db --seed 7 --count 1000`, finds the file, 7 and 1000 in them:
 //!
 //! ```rust
 //! use bank_words::{Command, read_words};
-//! use std::test::Fail;
+//! use std::alloc::Global;
 //!
-//! fn first_words(rt: HostRuntime) -> Result<(), Fail> {
-//!     let words = ["bank", "drive", "bank.db", "--seed", "7", "--count", "1000"];
-//!     let Ok(Command::Drive { file, seed, count }) = read_words(rt.alloc(), &words) else {
-//!         return Err("another command".into());
-//!     };
-//!     assert_eq!(rt; file, "bank.db");
-//!     assert_eq!(rt; (seed, count), (7, 1_000));
-//!     Ok(())
+//! pub fn first_words<'a>(alloc: Global, words: &'a [&'a str]) -> Option<(&'a str, u64, u64)> {
+//!     match read_words(alloc, words) {
+//!         Ok(Command::Drive { file, seed, count }) => Some((file, seed, count)),
+//!         _ => None,
+//!     }
 //! }
 //! ```
 //!

@@ -2,28 +2,25 @@
 //! order, by any counter. `POST /post` with the 100 bytes of a record submits it (TPC-B 1.2), and the 200
 //! bytes of its reply come back. `GET /account/1` answers the line `account 1 balance 500`, and
 //! `GET /branches` a line for each open branch, with its number, its count of accounts and its balance. The
-//! test `first_message` of `http_tests` posts 500 cents to a bank in memory:
+//! function `first_message` of `http_tests`, which a test runs, posts a record, and gives what is answered:
 //!
 //! ```rust
-//! use counter_http::serve_connection;
-//! use message_records::{Account, Branch, Cents};
-//! use posting_core::{Counter, PlainBank, StoredClock};
-//! use std::test::Fail;
+//! use counter_http::{ServeFault, serve_connection};
+//! use posting_core::{Clock, Counter};
+//! use std::alloc::Global;
 //!
-//! fn first_message(rt: HostRuntime) -> Result<(), Fail> {
-//!     let mut bank = PlainBank::new(rt.alloc());
-//!     bank.open_branch(Branch::new(1).unwrap(), 3)?;
-//!     let mut clock = StoredClock::new(Vec::new(rt.alloc()));
+//! pub fn first_message<C: Counter, K: Clock>(
+//!     alloc: Global,
+//!     bank: &mut C,
+//!     clock: &mut K,
+//!     record: &[u8; 100],
+//! ) -> Result<Vec<u8>, ServeFault> {
 //!     let mut message = [b' '; 144];
 //!     message[..44].copy_from_slice(b"POST /post HTTP/1.1\r\nContent-Length: 100\r\n\r\n");
-//!     message[44..95].copy_from_slice(b"DC01000000000001000000010000010000000001+0000000500");
-//!     let mut reader = message.as_slice();
-//!     let mut answers: Vec<u8> = Vec::new(rt.alloc());
-//!     let served = serve_connection(rt.alloc(), &mut reader, &mut answers, &mut clock, &mut bank)?;
-//!     assert_eq!(rt; served, 1);
-//!     assert!(rt; answers.starts_with(b"HTTP/1.1 200 OK\r\n"));
-//!     assert_eq!(rt; bank.balance(Account::new(1).unwrap())?, Cents::new(500));
-//!     Ok(())
+//!     message[44..].copy_from_slice(record);
+//!     let mut answers = Vec::new(alloc);
+//!     serve_connection(alloc, &mut message.as_slice(), &mut answers, clock, bank)?;
+//!     Ok(answers)
 //! }
 //! ```
 //!

@@ -8,7 +8,8 @@ pub fn open_both<C: Counter>(bank: &mut C) -> Result<Opening, Fault> {
     bank.open_branch(Branch::new(2).unwrap(), 2)
 }
 
-/// A bank whose store fails for good after so many submissions.
+/// A bank whose store fails for good after so many batches. It takes batches alone: any other call is refused,
+/// for memory.
 #[derive(Drop)]
 pub struct FailingBank {
     pub bank: PlainBank,
@@ -29,19 +30,6 @@ impl Counter for FailingBank {
 
     ghost leaves_something = { λ b _. ∣ (plain_tables b.bank, refl) ∣₁ };
 
-    fn submit(&mut self, moment: Moment, bytes: &[u8; 100]) -> Result<[u8; 200], Fault> {
-        if self.down {
-            return Err(Fault::Down);
-        }
-        let reply = self.bank.submit(moment, bytes)?;
-        if self.left == 0 {
-            self.down = true;
-            return Err(Fault::Store);
-        }
-        self.left -= 1;
-        Ok(reply)
-    }
-
     fn submit_all(
         &mut self,
         moment: Moment,
@@ -59,7 +47,13 @@ impl Counter for FailingBank {
         Ok(replies)
     }
 
-    // It opens no further branch.
+    fn submit(&mut self, _moment: Moment, _bytes: &[u8; 100]) -> Result<[u8; 200], Fault> {
+        if self.down {
+            return Err(Fault::Down);
+        }
+        Err(Fault::Memory)
+    }
+
     fn open_branch(&mut self, _branch: Branch, _count: u32) -> Result<Opening, Fault> {
         if self.down {
             return Err(Fault::Down);
@@ -67,17 +61,17 @@ impl Counter for FailingBank {
         Err(Fault::Memory)
     }
 
-    fn balance(&mut self, account: Account) -> Result<Option<Cents>, Fault> {
+    fn balance(&mut self, _account: Account) -> Result<Option<Cents>, Fault> {
         if self.down {
             return Err(Fault::Down);
         }
-        self.bank.balance(account)
+        Err(Fault::Memory)
     }
 
-    fn next_branch(&mut self, after: u32) -> Result<Option<BranchLine>, Fault> {
+    fn next_branch(&mut self, _after: u32) -> Result<Option<BranchLine>, Fault> {
         if self.down {
             return Err(Fault::Down);
         }
-        self.bank.next_branch(after)
+        Err(Fault::Memory)
     }
 }

@@ -1,4 +1,5 @@
 //! The requests of known seeds, and what a long run of them names.
+use crate::first_programs::first_requests;
 use branch_loader::Plan;
 use load_driver::{Driver, DriverFault};
 use message_records::{Branch, Request, decode_request};
@@ -26,9 +27,9 @@ fn driver_of(
     Driver::new(rt.alloc(), &plan_of(rt, list), seed)
 }
 
-// Whether the driver's next record is this one with 49 spaces.
-fn gives_next(driver: &mut Driver, text: &[u8; 51]) -> bool {
-    let Some(bytes) = driver.next() else {
+// Whether there is a record, and it is this one with 49 spaces.
+fn is_record(record: Option<[u8; 100]>, text: &[u8; 51]) -> bool {
+    let Some(bytes) = record else {
         return false;
     };
     let is_filled = bytes.iter().skip(51).all(|byte| *byte == b' ');
@@ -39,28 +40,39 @@ fn gives_next(driver: &mut Driver, text: &[u8; 51]) -> bool {
 fn draws(rt: &(impl Abort + Alloc<A = Global>), list: &[(u64, u32)], seed: u64, want: &[[u8; 51]]) {
     let mut driver = driver_of(rt, list, seed).expect(rt, "a driver");
     for text in want {
-        assert!(rt; gives_next(&mut driver, text));
+        assert!(rt; is_record(driver.next(), text));
     }
 }
 
 // From tools/driver_vectors.py, with the arguments `7 12 3:70000 1:5 22:100000`.
+const TWELVE_RECORDS: [[u8; 51]; 12] = [
+    *b"DC01000000233386000002170000220000000001+0000232911",
+    *b"DC01000002161064000002160000220000000001+0000052382",
+    *b"DC01000000203623000000270000030000000001+0000206313",
+    *b"DC01000000210695000000240000030000000001-0000763092",
+    *b"DC01000002139115000002160000220000000002-0000741958",
+    *b"DC01000002112108000000250000030000000001+0000249945",
+    *b"DC01000002149132000002160000220000000003+0000494548",
+    *b"DC01000002196353000002120000220000000001-0000753718",
+    *b"DC01000000227277000002180000220000000001-0000955235",
+    *b"DC01000000245353000000300000030000000001+0000780504",
+    *b"DC01000000000004000000070000010000000001-0000964975",
+    *b"DC01000000220974000000270000030000000002-0000914880",
+];
+
 #[test]
 fn three_branches(rt: HostRuntime) {
-    let want = [
-        *b"DC01000000233386000002170000220000000001+0000232911",
-        *b"DC01000002161064000002160000220000000001+0000052382",
-        *b"DC01000000203623000000270000030000000001+0000206313",
-        *b"DC01000000210695000000240000030000000001-0000763092",
-        *b"DC01000002139115000002160000220000000002-0000741958",
-        *b"DC01000002112108000000250000030000000001+0000249945",
-        *b"DC01000002149132000002160000220000000003+0000494548",
-        *b"DC01000002196353000002120000220000000001-0000753718",
-        *b"DC01000000227277000002180000220000000001-0000955235",
-        *b"DC01000000245353000000300000030000000001+0000780504",
-        *b"DC01000000000004000000070000010000000001-0000964975",
-        *b"DC01000000220974000000270000030000000002-0000914880",
-    ];
-    draws(&rt, &THREE_BRANCHES, 7, &want);
+    draws(&rt, &THREE_BRANCHES, 7, &TWELVE_RECORDS);
+}
+
+// Those of the function on the driver's page are the first three of them.
+#[test]
+fn first_three(rt: HostRuntime) {
+    let plan = plan_of(&rt, &THREE_BRANCHES);
+    let records = first_requests(rt.alloc(), &plan).expect(&rt, "a driver");
+    for (record, text) in records.iter().zip(&TWELVE_RECORDS) {
+        assert!(rt; is_record(*record, text));
+    }
 }
 
 // From tools/driver_vectors.py, with the arguments `18446744073709551615 4 1:1`.

@@ -1,4 +1,5 @@
-//! The programs of the crates' pages, one in each file: a page shows all of its file but the head.
+//! The programs of the crates' pages, one in each file: a page shows all of its file but the head. Those that
+//! are no tests are run by the tests here.
 mod batches;
 mod clocks;
 mod drives;
@@ -7,4 +8,65 @@ mod records;
 mod requests;
 mod streams;
 mod verdicts;
-mod words;
+
+use crate::banks::open_both;
+use batches::first_batch;
+use drives::first_drive;
+use message_records::{Account, Cents, Outcome};
+use posting_core::{Counter, PlainBank, StoredClock};
+use posting_rules::Verdict;
+pub use requests::first_requests;
+use streams::first_stream;
+use verdicts::first_verdict;
+
+const RECORD: &[u8; 51] = b"DC01000000000001000000010000010000000001+0000000500";
+
+const REPLY: &[u8; 72] =
+    b"DR0100000000000001000000010000010000000001+0000000500+000000000500POSTED";
+
+fn record() -> [u8; 100] {
+    let mut record = [b' '; 100];
+    record[..51].copy_from_slice(RECORD);
+    record
+}
+
+#[test]
+fn a_stream_of_one_record(rt: HostRuntime) {
+    let mut bank = PlainBank::new(rt.alloc());
+    let mut clock = StoredClock::new(Vec::new(rt.alloc()));
+    let mut replies = Vec::new(rt.alloc());
+    let count = first_stream(&mut bank, &mut clock, record().as_slice(), &mut replies);
+    assert_eq!(rt; count, Ok(1));
+    assert!(rt; replies.starts_with(REPLY));
+    let balance = bank.balance(Account::new(1).unwrap());
+    assert_eq!(rt; balance, Ok(Cents::new(500)));
+}
+
+#[test]
+fn a_batch_of_one_record(rt: HostRuntime) {
+    let judged = first_batch(rt.alloc(), record()).expect(&rt, "memory");
+    assert!(rt; judged.replies.len() == 1 && judged.replies[0].starts_with(REPLY));
+    let accounts = &judged.overlay.accounts;
+    assert!(rt; accounts.len() == 1 && accounts[0].changed == Cents::new(500));
+}
+
+#[test]
+fn a_drive_over_two_branches(rt: HostRuntime) {
+    let mut bank = PlainBank::new(rt.alloc());
+    assert!(rt; open_both(&mut bank).is_ok());
+    let driven = first_drive(rt.alloc(), &mut bank).expect(&rt, "a drive");
+    assert_eq!(rt; (driven.posted, driven.refused), (1_000, 0));
+}
+
+#[test]
+fn an_open_account_and_none(rt: HostRuntime) {
+    let (zero, delta) = (Cents::new(0).unwrap(), Cents::new(500).unwrap());
+    let posted = Verdict::Posted {
+        account: delta,
+        teller: delta,
+        branch: delta,
+    };
+    assert_eq!(rt; first_verdict(Some(zero)), (posted, Some(delta)));
+    let refused = Verdict::Refused(Outcome::NoAccount);
+    assert_eq!(rt; first_verdict(None), (refused, None));
+}

@@ -1,9 +1,25 @@
 //! Messages and their answers.
+use crate::bank::{balances, open_branches};
 use crate::connection::{Connection, play};
+use crate::first_message::first_message;
 use crate::texts::{BAD, FIRST_AND_REMOTE, FIRST_ANSWER, FIRST_TWICE, REMOTE_ANSWER, joined};
+use posting_core::{PlainBank, StoredClock};
 use std::alloc::{Alloc, Global};
 use std::process::Abort;
 use std::test::Fail;
+
+// The record of the first message on a connection of its own.
+#[test]
+fn a_record_in_a_message(rt: HostRuntime) {
+    let mut bank = PlainBank::new(rt.alloc());
+    assert!(rt; open_branches(&mut bank).is_some());
+    let mut clock = StoredClock::new(Vec::new(rt.alloc()));
+    let mut record = [b' '; 100];
+    record.copy_from_slice(&FIRST_TWICE[44..144]);
+    let answers = first_message(rt.alloc(), &mut bank, &mut clock, &record);
+    assert_eq!(rt; answers.expect(&rt, "an answer").as_slice(), FIRST_ANSWER);
+    assert_eq!(rt; balances(&mut bank), Some((500, 0)));
+}
 
 // Two messages with the same record, cut at every byte: it is posted once, and there are two equal answers.
 #[test]

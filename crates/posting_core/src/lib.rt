@@ -1,28 +1,22 @@
 //! Records to a bank and replies from it: the bank in memory, and the functions that take records from any
 //! reader to any counter and write the replies to any writer. What a posting is says the crate
-//! `posting_rules`, whose names can be used from here too. The test `first_stream` of `counter_tests`
-//! answers a stream of one record:
+//! `posting_rules`, whose names can be used from here too. The function `first_stream` of `counter_tests`, which
+//! a test runs, opens branch 1 with three accounts and answers the records:
 //!
 //! ```rust
-//! use message_records::{Account, Branch, Cents, Moment};
-//! use posting_core::{Counter, PlainBank, StoredClock, post_stream};
-//! use std::test::Fail;
+//! use message_records::Branch;
+//! use posting_core::{Clock, Count, Counter, StreamFault, post_stream};
 //!
-//! fn first_stream(rt: HostRuntime) -> Result<(), Fail> {
-//!     let mut bank = PlainBank::new(rt.alloc());
-//!     bank.open_branch(Branch::new(1).unwrap(), 3)?;
-//!     let mut moments = Vec::new(rt.alloc());
-//!     moments.push(Moment::new(1_795_442_400).unwrap())?;
-//!     let mut clock = StoredClock::new(moments);
-//!     let mut record = [b' '; 100];
-//!     record[..51].copy_from_slice(b"DC01000000000001000000010000010000000001+0000000500");
-//!     let mut replies: Vec<u8> = Vec::new(rt.alloc());
-//!     let count = post_stream(&mut record.as_slice(), &mut replies, &mut clock, &mut bank)?;
-//!     assert_eq!(rt; count, 1);
-//!     let reply = b"DR0100000000000001000000010000010000000001+0000000500+000000000500POSTED";
-//!     assert!(rt; replies.starts_with(reply));
-//!     assert_eq!(rt; bank.balance(Account::new(1).unwrap())?, Cents::new(500));
-//!     Ok(())
+//! pub fn first_stream<C: Counter, K: Clock>(
+//!     bank: &mut C,
+//!     clock: &mut K,
+//!     mut records: &[u8],
+//!     replies: &mut Vec<u8>,
+//! ) -> Result<Count, StreamFault> {
+//!     match bank.open_branch(Branch::new(1).unwrap(), 3) {
+//!         Ok(_) => post_stream(&mut records, replies, clock, bank),
+//!         Err(fault) => Err(StreamFault::Bank(fault)),
+//!     }
 //! }
 //! ```
 //!
@@ -51,10 +45,10 @@ pub use once::{OnceFault, answer_once};
 pub use plain_bank::PlainBank;
 pub use posting_rules::{
     ACCOUNTS_PER_BRANCH, AccountRow, BranchLine, BranchRow, Counter, Fault, Found, HistoryRow,
-    Kept, LAST_BRANCH, MAX_DECIDED, MOST_ACCOUNTS, Opening, Ordinal, RECORDS_PER_BATCH, RequestRow,
-    Rule, TELLERS_PER_BRANCH, TellerRow, Verdict, balances_stay_within, branch_of_teller,
-    cases_are_as_stated, each_request_once, equal_tables_answer_alike, judge, reply_to,
-    resends_get_their_replies, tables_are_consistent, tables_are_undamaged,
+    Kept, LAST_BRANCH, MAX_DECIDED, MOST_ACCOUNTS, OpenFault, Opening, Ordinal, RECORDS_PER_BATCH,
+    RequestRow, Rule, TELLERS_PER_BRANCH, TellerRow, Verdict, balances_stay_within,
+    branch_of_teller, cases_are_as_stated, each_request_once, equal_tables_answer_alike, judge,
+    reply_to, resends_get_their_replies, tables_are_consistent, tables_are_undamaged,
 };
 pub use stream::{Count, StreamFault, post_stream};
 pub use transfer::{WriteFailed, write_each, write_out};

@@ -1,39 +1,26 @@
 //! What a posting is: the rows of a bank's tables, how a request is judged by them (TPC-B 1.2), the laws
 //! that hold of every bank, such as the consistency condition (TPC-B clause 2), and the trait of a counter,
 //! which every bank implements. It keeps no rows: what is looked up for a request is handed to [`judge`].
-//! The test `first_verdict` of `counter_tests` judges a posting of 500 cents, and the same to an account
-//! that isn't open:
+//! The function `first_verdict` of `counter_tests`, which a test runs, judges a posting of 500 cents to an
+//! account of this balance, or to one that isn't open, and gives the balance that the reply shows:
 //!
 //! ```rust
-//! use message_records::{Account, Branch, Cents, Number, Outcome, Request, Teller};
+//! use message_records::{Account, Branch, Cents, Number, Request, Teller};
 //! use posting_rules::{Found, Verdict, judge, reply_to};
-//! use std::test::Fail;
 //!
-//! fn first_verdict(rt: HostRuntime) -> Result<(), Fail> {
+//! pub fn first_verdict(balance: Option<Cents>) -> (Verdict, Option<Cents>) {
 //!     let (account, teller) = (Account::new(1).unwrap(), Teller::new(1).unwrap());
 //!     let (branch, number) = (Branch::new(1).unwrap(), Number::new(1).unwrap());
 //!     let (zero, delta) = (Cents::new(0).unwrap(), Cents::new(500).unwrap());
 //!     let request = Request::new(account, teller, branch, number, delta).unwrap();
-//!     let mut found = Found {
+//!     let found = Found {
 //!         teller: Some((zero, zero)), // the balances of the teller and of its branch
 //!         kept: None,
 //!         decided: 0,
-//!         account: Some(zero),
+//!         account: balance,
 //!     };
 //!     let verdict = judge(&found, &request);
-//!     let posted = Verdict::Posted {
-//!         account: delta,
-//!         teller: delta,
-//!         branch: delta,
-//!     };
-//!     assert_eq!(rt; verdict, posted);
-//!     assert_eq!(rt; reply_to(&found, &request, &verdict).balance(), Some(delta));
-//!     found.account = None;
-//!     assert_eq!(rt;
-//!         judge(&found, &request),
-//!         Verdict::Refused(Outcome::NoAccount)
-//!     );
-//!     Ok(())
+//!     (verdict, reply_to(&found, &request, &verdict).balance())
 //! }
 //! ```
 //!
@@ -50,6 +37,7 @@ mod fault;
 mod judgments;
 mod laws;
 mod limits;
+mod open_fault;
 mod rows;
 
 pub use cases::{branch_of_teller, judge, reply_to};
@@ -64,4 +52,5 @@ pub use limits::{
     ACCOUNTS_PER_BRANCH, LAST_BRANCH, MAX_DECIDED, MOST_ACCOUNTS, RECORDS_PER_BATCH,
     TELLERS_PER_BRANCH,
 };
+pub use open_fault::OpenFault;
 pub use rows::{AccountRow, BranchRow, HistoryRow, Ordinal, RequestRow, TellerRow};

@@ -1,4 +1,4 @@
-use Rattle.std.proofs.Common.{◌≡◌}
+use Rattle.std.proofs.Common.{◌≡◌, refl}
 use Rattle.std.proofs.lemmas.Result.{IfOk-weaker}
 use Rattle.sqlite.specs.Files.{file_state}
 use Rattle.bank_openings.proofs.BankInFiles.{new_in}
@@ -9,11 +9,11 @@ use Rattle.bank_openings.proofs.files.make_bank.Goals as goal
 
 pub returns-clause-made : goal.returns-clause-made
 returns-clause-made g c =
-    IfOk-weaker c.create_over.result _ _
+    IfOk-weaker c.bank_over.result _ _
     (λ bank made. new_in _ (file_state c.in_ok-conn.conn) _ c.in_ok-conn.ensures.opened made)
-    c.create_over.ensures.made
+    (c.bank_over.ensures.made refl)
 
 pub returns-clause-unmade : goal.returns-clause-unmade
 returns-clause-unmade g c =
-    met_in file_state c.create_over.result _ c.in_ok-conn.conn (λ fault. fault ≡ Store)
-    (IsUnmadeOver file_state) c.in_ok-conn.ensures.opened c.create_over.ensures.unmade
+    met_in file_state c.bank_over.result _ c.in_ok-conn.conn (λ fault. fault ≡ Store)
+    (IsUnmadeOver file_state) c.in_ok-conn.ensures.opened (c.bank_over.ensures.unmade refl)

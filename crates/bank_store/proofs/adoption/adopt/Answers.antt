@@ -10,9 +10,9 @@ use Rattle.store_rows.specs.View.{Shows}
 use Rattle.bank_store.specs.Connections.{IsAsBefore, IsReadOnly, IsUndoneIfOpen}
 use Rattle.bank_store.specs.FoundBank.{BankIsFound}
 use Rattle.bank_store.specs.Seen.{seen_in}
-use Rattle.bank_store.specs.declared.refused.OpenFault.{OpenFault}
-use Rattle.bank_store.specs.declared.refused.OpenFault.TheVariants.{Store, NotBlank, Blank, Foreign, Version}
-use Rattle.bank_store.specs.declared.refused.OpenFault.TheVariants.{Damaged}
+use Rattle.posting_rules.specs.declared.open_fault.OpenFault.{OpenFault}
+use Rattle.posting_rules.specs.declared.open_fault.OpenFault.TheVariants.{Store, NotBlank, Blank, Foreign, Version}
+use Rattle.posting_rules.specs.declared.open_fault.OpenFault.TheVariants.{Damaged}
 use Rattle.bank_store.proofs.FoundBank.{known}
 use Rattle.bank_store.proofs.adoption.adopt.Goals as goal
 

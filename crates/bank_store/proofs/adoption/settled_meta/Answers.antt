@@ -9,9 +9,9 @@ use Rattle.store_rows.specs.declared.metas.StoredMeta.{StoredMeta}
 use Rattle.bank_transactions.proofs.Blamed.{comes, same_moment}
 use Rattle.bank_store.specs.Connections.{IsAsBefore, IsReadOnly, IsUndoneIfOpen}
 use Rattle.bank_store.specs.StoreFaults.{KnowsCause}
-use Rattle.bank_store.specs.declared.refused.OpenFault.{OpenFault}
-use Rattle.bank_store.specs.declared.refused.OpenFault.TheVariants.{Store, NotBlank, Blank, Foreign, Version}
-use Rattle.bank_store.specs.declared.refused.OpenFault.TheVariants.{Damaged}
+use Rattle.posting_rules.specs.declared.open_fault.OpenFault.{OpenFault}
+use Rattle.posting_rules.specs.declared.open_fault.OpenFault.TheVariants.{Store, NotBlank, Blank, Foreign, Version}
+use Rattle.posting_rules.specs.declared.open_fault.OpenFault.TheVariants.{Damaged}
 use Rattle.bank_store.proofs.Causes.{known_within, probe_failed, reads_then, still_clean}
 use Rattle.bank_store.proofs.Probed.{as_before, probed}
 use Rattle.bank_store.proofs.Unmade.{if_err}

@@ -5,7 +5,7 @@ use Rattle.sqlite.specs.Held.{state}
 use Rattle.store_rows.specs.Columns.{meta_in}
 use Rattle.store_rows.specs.SixTables.{meta}
 use Rattle.store_rows.specs.View.{HoldsRows}
-use Rattle.bank_store.specs.declared.refused.OpenFault.{OpenFault}
+use Rattle.posting_rules.specs.declared.open_fault.OpenFault.{OpenFault}
 use Rattle.bank_transactions.specs.Causes.{IsBefore}
 use Rattle.bank_transactions.proofs.Blamed.{comes}
 use Rattle.bank_store.specs.MetaRow.{IsOfOtherType, TellsMeta}

@@ -9,7 +9,7 @@ use Rattle.bank_store.specs.Connections.{IsAsBefore}
 use Rattle.bank_store.specs.NewBank.{IsRefusedOnTheWay, IsTaken}
 use Rattle.bank_store.specs.StoreFaults.{KnowsWhyUnmade}
 use Rattle.bank_store.specs.TablePresence.{IsPresent}
-use Rattle.bank_store.specs.declared.refused.OpenFault.TheVariants.{NotBlank}
+use Rattle.posting_rules.specs.declared.open_fault.OpenFault.TheVariants.{NotBlank}
 use Rattle.bank_store.specs.declared.presence.Presence.{Presence}
 use Rattle.bank_store.proofs.Causes.{unmade_as_known, unmade_within}
 use Rattle.bank_store.proofs.Unmade.{if_err, refused_before, some_there}

@@ -6,7 +6,7 @@ use Rattle.bank_transactions.specs.Causes.{IsBefore}
 use Rattle.bank_transactions.proofs.Blamed.{comes, same_moment, then_moment}
 use Rattle.bank_store.specs.NewBank.{IsRefusedOnTheWay}
 use Rattle.bank_store.specs.OpenFaults.{unmade_by}
-use Rattle.bank_store.specs.declared.refused.OpenFault.TheVariants.{Store}
+use Rattle.posting_rules.specs.declared.open_fault.OpenFault.TheVariants.{Store}
 use Rattle.bank_store.proofs.Causes.{begun_after, commit_failed, making_failed, still_clean, unmade_within}
 use Rattle.bank_store.proofs.Unmade.{refused_because}
 use Rattle.bank_store.proofs.creation.make_tables.Goals as goal

@@ -5,7 +5,7 @@ use Rattle.sqlite.specs.Held.{state}
 use Rattle.bank_transactions.proofs.Blamed.{comes, same_moment}
 use Rattle.bank_store.specs.Connections.{IsAsBefore}
 use Rattle.bank_store.specs.TablePresence.{joined, presence_of, probe_of, IsPresent}
-use Rattle.bank_store.specs.declared.refused.OpenFault.TheVariants.{Store}
+use Rattle.posting_rules.specs.declared.open_fault.OpenFault.TheVariants.{Store}
 use Rattle.bank_store.proofs.Causes.{known_within, probe_failed, still_clean}
 use Rattle.bank_store.proofs.Probed.{next_probe, one_more, probed}
 use Rattle.bank_store.proofs.presence.count_tables.Goals as goal

@@ -1,7 +1,7 @@
 -- What its trees show is what its database shows, and all that a stop may leave.
 use Rattle.sqlite.specs.Held.{state}
-use Rattle.bank_lives.proofs.Reopened.{stands_opened}
-use Rattle.bank_lives.proofs.laws.opened_law.Goals as goal
+use Rattle.bank_store.proofs.Opened.{stands_opened}
+use Rattle.bank_store.proofs.laws.opened_law.Goals as goal
 
 pub returns : goal.returns
 returns g c opens t log are left shown =

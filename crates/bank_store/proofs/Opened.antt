@@ -1,0 +1,23 @@
+-- A connection that was just opened.
+use Rattle.std.proofs.Common.{◌≡◌, ◌∙◌, List, sym, ap, subst}
+use Rattle.sqlite.specs.Effect.{Database}
+use Rattle.sqlite.specs.State.{State, Opens}
+use Rattle.sqlite.specs.Tree.{Trees}
+use Rattle.posting_rules.specs.Commands.{Command, AreCommands}
+use Rattle.posting_rules.specs.Counter.{StandsAt}
+use Rattle.posting_rules.specs.Tables.{Tables, AreTablesOf}
+use Rattle.store_rows.specs.View.{Shows, ShowsTrees}
+use Rattle.bank_store.specs.Seen.{seen_in}
+
+-- it stands at what its trees show
+pub stands_opened : (s : State) (D : Type 0) → (D → ⊥) → Opens s
+    → ((db : Trees) → s.may_leave db → db ≡ s.committed.trees)
+    → (t : Tables) (log : List Command) → AreCommands log → ShowsTrees s.now.trees t → Shows s.now t
+    → AreTablesOf t log → StandsAt (seen_in s D) log
+stands_opened s D up opens settled t log are left shown shows = record {
+  shows = record { commands = are; tables = t; are = shown; shows = shows };
+  up = up;
+  survives = λ db may.
+      let same = settled db may ∙ ap (λ (it : Database). it.trees) (sym opens.clean) in
+      (t, subst (λ (trees : Trees). ShowsTrees trees t) (sym same) left, shows);
+}
