@@ -10,6 +10,7 @@ mod streams;
 mod verdicts;
 
 use crate::banks::open_both;
+use crate::streams::{FIRST_REPLY, first_record};
 use batches::first_batch;
 use drives::first_drive;
 use message_records::{Account, Cents, Outcome};
@@ -19,33 +20,23 @@ pub use requests::first_requests;
 use streams::first_stream;
 use verdicts::first_verdict;
 
-const RECORD: &[u8; 51] = b"DC01000000000001000000010000010000000001+0000000500";
-
-const REPLY: &[u8; 72] =
-    b"DR0100000000000001000000010000010000000001+0000000500+000000000500POSTED";
-
-fn record() -> [u8; 100] {
-    let mut record = [b' '; 100];
-    record[..51].copy_from_slice(RECORD);
-    record
-}
-
 #[test]
 fn a_stream_of_one_record(rt: HostRuntime) {
     let mut bank = PlainBank::new(rt.alloc());
     let mut clock = StoredClock::new(Vec::new(rt.alloc()));
     let mut replies = Vec::new(rt.alloc());
-    let count = first_stream(&mut bank, &mut clock, record().as_slice(), &mut replies);
+    let record = first_record();
+    let count = first_stream(&mut bank, &mut clock, record.as_slice(), &mut replies);
     assert_eq!(rt; count, Ok(1));
-    assert!(rt; replies.starts_with(REPLY));
+    assert!(rt; replies.starts_with(FIRST_REPLY));
     let balance = bank.balance(Account::new(1).unwrap());
     assert_eq!(rt; balance, Ok(Cents::new(500)));
 }
 
 #[test]
 fn a_batch_of_one_record(rt: HostRuntime) {
-    let judged = first_batch(rt.alloc(), record()).expect(&rt, "memory");
-    assert!(rt; judged.replies.len() == 1 && judged.replies[0].starts_with(REPLY));
+    let judged = first_batch(rt.alloc(), first_record()).expect(&rt, "memory");
+    assert!(rt; judged.replies.len() == 1 && judged.replies[0].starts_with(FIRST_REPLY));
     let accounts = &judged.overlay.accounts;
     assert!(rt; accounts.len() == 1 && accounts[0].changed == Cents::new(500));
 }
