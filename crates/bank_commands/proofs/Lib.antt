@@ -1,1 +1,4 @@
+pub mod BankInFiles
+pub mod InFiles
+pub mod Refusals
 pub mod Worked

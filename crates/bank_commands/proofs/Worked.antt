@@ -8,8 +8,8 @@ use Rattle.posting_rules.specs.Counter.{Seen}
 use Rattle.bank_endings.specs.declared.fault.CommandFault.{CommandFault}
 use Rattle.bank_endings.specs.declared.fault.CommandFault.TheVariants.{Write}
 use Rattle.bank_endings.specs.Looking.{IsOfOpening}
-use Rattle.bank_openings.specs.InFile.{WorksIn}
-use Rattle.bank_commands.specs.Commands.{Ends, RunsIn}
+use Rattle.bank_commands.specs.InFile.{WorksIn}
+use Rattle.bank_commands.specs.Commands.{Ends, MakesIn, RunsIn, RunsInNew}
 
 pub on_ok : {X E : Type 0} {P : Type 0} (r : Result X E) → P → OnOk r P
 on_ok (Ok x) h = h
@@ -30,6 +30,17 @@ pub only_write : {X : Type 0} (P : CommandFault → Type 0) (r : Result X Comman
     → IfErr r (λ fault. (fault ≡ Write) ⊎ P fault)
 only_write P (Ok x) is = tt
 only_write P (Err fault) is = inl (let same : fault ≡ Write = cc in same)
+
+-- ---- the making of a bank, with which nothing is done
+
+module _ {C Same : Type 0} {seen : C → Seen} {image : Image} where
+  pub is_made : {P : C → C → Type 0} → RunsInNew seen image (⊥ × Same) P → MakesIn seen image
+  is_made (inl none) = absurd none.0
+  is_made (inr it) = (it.first, it.had)
+
+  pub is_unmade : {Why : Type 0} → RunsInNew seen image (Why × Same) (λ _ _. ⊥) → Why
+  is_unmade (inl it) = it.0
+  is_unmade (inr it) = absurd it.works
 
 -- ---- a work
 
@@ -54,7 +65,7 @@ module _ {C : Type 0} {seen : C → Seen} {image : Image} {None : Type 0} {P : C
   runs (inr it) idle did = inr record {
     first = it.first;
     last = it.last;
-    found = it.found;
+    had = it.had;
     works = did it.first it.last it.works;
   }
 
@@ -72,5 +83,5 @@ module _ {C : Type 0} {seen : C → Seen} {image : Image} {None : Type 0} {P : C
       inr (
         works.0,
         works.1,
-        record { first = it.first; last = it.last; found = it.found; works = works.2 },
+        record { first = it.first; last = it.last; had = it.had; works = works.2 },
       )

@@ -12,7 +12,7 @@ use Rattle.posting_rules.specs.declared.fault.Rule.{Rule}
 use Rattle.bank_reports.specs.Audit.{audit_of, is_sound}
 use Rattle.bank_reports.specs.Stored.{stored}
 use Rattle.bank_reports.specs.declared.audit.Audit.{Audit}
-use Rattle.bank_openings.specs.InFile.{WorksIn}
+use Rattle.bank_commands.specs.InFile.{WorksIn}
 
 -- The bank's tables were audited, and it is answered whether they are consistent, which those of a log are.
 -- The bank took no command, and a stop leaves what it showed.

@@ -11,8 +11,8 @@ use Rattle.bank_endings.specs.Faults.{fault_of_stream}
 use Rattle.bank_endings.specs.Looking.{IsOfOpening}
 use Rattle.bank_endings.specs.declared.fault.CommandFault.{CommandFault}
 use Rattle.bank_endings.specs.declared.status.Status.{Status}
-use Rattle.bank_openings.specs.InFile.{IsFoundIn, IsNewIn, WorksIn}
-use Rattle.bank_openings.specs.Unfound.{IsUnfoundIn}
+use Rattle.bank_commands.specs.InFile.{IsFoundIn, IsNewIn, WorksFrom, WorksIn}
+use Rattle.bank_commands.specs.Unfound.{IsUnfoundIn}
 use Rattle.bank_work.specs.Working.{DrivesOver, EndsInFault, LoadsOver, ServesOver}
 
 -- a new bank was made there
@@ -28,6 +28,10 @@ FindsBank {C} seen state image result =
 -- it was left
 abbrev pub RunsIn : {C : Type 0} → (C → Seen) → Image → (Unfound : Type 0) → (P : C → C → Type 0) → Type 0
 RunsIn seen image Unfound P = Unfound ⊎ WorksIn seen image P
+
+-- the same, of a bank that was made there
+abbrev pub RunsInNew : {C : Type 0} → (C → Seen) → Image → (Unmade : Type 0) → (P : C → C → Type 0) → Type 0
+RunsInNew seen image Unmade P = Unmade ⊎ WorksFrom seen (IsNewIn image) P
 
 -- a plan's openings were taken, or the first of them, and the line that was printed has the counts of their
 -- answers
@@ -58,6 +62,11 @@ pub record Ends (R W K : Type 0) : Type 0 where
 
 abbrev pub ends : {R W K : Type 0} → R → W → K → Ends R W K
 ends input output clock = record { input = input; output = output; clock = clock }
+
+-- it ended at such a fault, and they are as they were
+abbrev pub IsIdleIn : {X R W K : Type 0} → Result X CommandFault → (CommandFault → Type 0)
+    → (before after : Ends R W K) → Type 0
+IsIdleIn result IsSo before after = IsErrAnd result IsSo × (after ≡ before)
 
 -- ---- posting
 

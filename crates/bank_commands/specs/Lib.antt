@@ -1,3 +1,5 @@
+pub mod InFile
+pub mod Unfound
 pub mod Commands
 pub mod Stating
 pub mod Auditing

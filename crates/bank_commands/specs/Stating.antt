@@ -16,7 +16,7 @@ use Rattle.bank_audits.specs.declared.fault.ReportFault.TheVariants as report
 use Rattle.bank_endings.specs.Faults.{fault_of_bank}
 use Rattle.bank_endings.specs.declared.fault.CommandFault.{CommandFault}
 use Rattle.bank_endings.specs.declared.fault.CommandFault.TheVariants as fault
-use Rattle.bank_openings.specs.InFile.{WorksIn}
+use Rattle.bank_commands.specs.InFile.{WorksIn}
 
 -- what the command says of a statement of this account
 abbrev pub said_of_statement : ℕ → Result (Unit {0}) ReportFault → Result (Unit {0}) CommandFault

@@ -11,6 +11,7 @@ ghost use Rattle.bank_work.specs.Auditing.{Prints};
 ghost use Rattle.bank_commands.specs.Auditing.{Audits, AuditsIn};
 ghost use Rattle.bank_commands.specs.Commands.{FindsBank};
 
+use crate::openings::Way;
 use crate::work::{Work, work_in};
 use bank_audits::audit;
 use bank_endings::{CommandFault, Status};
@@ -34,7 +35,16 @@ pub fn audit_file<S: Start, W: Write>(
         (λ told. Prints told (W.contents output.old) (W.contents output.new) result) }
     ensures ends { IfOk result (λ status. (status ≡ Status.Done) ⊎ (status ≡ Status.Inconsistent)) }
 {
-    work_in(rt, start, file, &Auditing, &mut (), output, &mut ())
+    work_in(
+        rt,
+        start,
+        file,
+        Way::Find,
+        &Auditing,
+        &mut (),
+        output,
+        &mut (),
+    )
 }
 
 // The audit of a bank, which is printed.

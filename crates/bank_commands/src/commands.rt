@@ -1,5 +1,5 @@
 //! The commands that make a bank in a file, and that open branches of it and post to it.
-ghost use Rattle.std.specs.Prelude.{◌≡◌, ◌≢◌, ◌⊎◌, ◌≤◌, ℕ, Result, IfErr, IfOk, IsErrAnd, OnOk};
+ghost use Rattle.std.specs.Prelude.{◌≡◌, ◌≢◌, ◌⊎◌, ◌≤◌, ℕ, Result, IfErr, IfOk, IsErrAnd, OnErr, OnOk};
 ghost use Rattle.std.specs.Io.KnownBytes.{Appends, IsAtEnd, Keeps};
 ghost use Rattle.sqlite.specs.Held.{state};
 ghost use Rattle.sqlite_wal.specs.Files.{image_at};
@@ -11,13 +11,13 @@ ghost use Rattle.bank_endings.specs.Lines.{created_line, loaded_line};
 ghost use Rattle.bank_endings.specs.Looking.{IsOfOpening};
 ghost use Rattle.bank_driver.specs.declared.drive.TheConstants.{MAX_DRIVEN};
 ghost use Rattle.bank_work.specs.Working.{DrivesOver, LoadsOver, TellsDriven, done_after, ended_by_load};
-ghost use Rattle.bank_openings.specs.Unfound.{IsUnmadeIn};
+ghost use Rattle.bank_commands.specs.Unfound.{IsUnmadeIn};
 ghost use Rattle.bank_commands.specs.Commands.{DrivesIn, FindsBank, LoadsIn, MakesIn, PostsIn, PostsTo, said_of};
 
+use crate::openings::Way;
 use crate::work::{Work, work_in};
 use bank_driver::MAX_DRIVEN;
 use bank_endings::{CommandFault, print_created};
-use bank_openings::{close, make_bank};
 use bank_store::Bank;
 use bank_work::{drive_into, load_into};
 use branch_loader::Loaded;
@@ -43,9 +43,38 @@ pub fn init<S: Start, W: Write>(
     ensures silent { IfErr result
         (λ fault. fault ≢ CommandFault.Write → Keeps (W.contents output.old) (W.contents output.new)) }
 {
-    let bank = make_bank(rt, start, file)?;
-    close(bank);
+    work_in(
+        rt,
+        start,
+        file,
+        Way::Make,
+        &Making,
+        &mut (),
+        &mut (),
+        &mut (),
+    )?;
     print_created(output)
+}
+
+// The making of a bank, with which nothing more is done.
+#[derive(Drop)]
+struct Making;
+
+impl Work<(), (), ()> for Making {
+    type Told = ();
+
+    ghost Does = { λ work {C} seen old new before after result. OnErr result ⊥ };
+
+    fn work_with<S: Alter + Drop>(
+        &self,
+        _: &HostRuntime,
+        _: &mut Bank<S>,
+        _: &mut (),
+        _: &mut (),
+        _: &mut (),
+    ) -> Result<(), CommandFault> {
+        Ok(())
+    }
 }
 
 /// Opens the branches of a plan in the file's bank, and prints how many got each answer.
@@ -65,7 +94,16 @@ pub fn load_plan<S: Start, W: Write>(
     ensures silent { IfErr result
         (λ fault. fault ≢ CommandFault.Write → Keeps (W.contents output.old) (W.contents output.new)) }
 {
-    work_in(rt, start, file, &Loading { plan }, &mut (), output, &mut ())
+    work_in(
+        rt,
+        start,
+        file,
+        Way::Find,
+        &Loading { plan },
+        &mut (),
+        output,
+        &mut (),
+    )
 }
 
 // The loading of the plan in a file.
@@ -117,7 +155,7 @@ pub fn post<S: Start, R: Read, W: Write, K: Clock>(
     ensures silent { IfErr result
         (λ fault. IsOfFile fault → Keeps (W.contents output.old) (W.contents output.new)) }
 {
-    work_in(rt, start, file, &Posting, input, output, clock)
+    work_in(rt, start, file, Way::Find, &Posting, input, output, clock)
 }
 
 // The posting of an input's records.
@@ -172,7 +210,7 @@ pub fn drive<S: Start, W: Write, K: Clock>(
         (λ fault. fault ≢ CommandFault.Write → Keeps (W.contents output.old) (W.contents output.new)) }
 {
     let work = Driving { seed, count };
-    work_in(rt, start, file, &work, &mut (), output, clock)
+    work_in(rt, start, file, Way::Find, &work, &mut (), output, clock)
 }
 
 // The posting of the first records of a seed.

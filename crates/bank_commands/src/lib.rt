@@ -28,18 +28,30 @@
 //! ```
 //!
 //! For a record of 500 cents to account 1 the output is `created`, `opened 2 already 0 differs 0` and a
-//! reply with the balance 500 and the outcome `POSTED`. A fault is a `CommandFault` of `bank_endings`. Read
-//! next: `specs/Commands`, what each command does to the bank of its file; the crate `bank_work`, what it
-//! does with any bank; `bank_program`, which calls them by the words of the command line.
+//! reply with the balance 500 and the outcome `POSTED`. A fault is a `CommandFault` of `bank_endings`.
+//!
+//! `rt` is what `main` is given. `Unknown` is all that a program knows of what its files hold, and supposes
+//! that a torn write leaves each byte old or new; `Wary` of `sqlite` in its place doesn't suppose it, and
+//! syncs twice a commit. Who has a bank in a file for anything else opens the file with `bank_files`, and lets go
+//! of the bank with [`settled`] and [`close`]; where that gives no files back there is nothing to do, as what was
+//! committed is kept and the next open finds it.
+//!
+//! Read next: `specs/Commands`, what each command does to the bank of its file; `specs/InFile`, which bank is
+//! found there, by what the files held; the crate `bank_work`, what it does with any bank; `bank_program`,
+//! which calls them by the words of the command line.
 #![tactic(auto)]
 
 mod audit;
 mod commands;
+mod files;
+mod openings;
 mod server;
 mod stating;
 mod work;
 
 pub use audit::audit_file;
 pub use commands::{drive, init, load_plan, post};
+pub use files::close;
+pub use openings::settled;
 pub use server::serve;
 pub use stating::statement;

@@ -7,6 +7,7 @@ ghost use Rattle.bank_endings.specs.declared.fault.CommandFault.TheVariants as f
 ghost use Rattle.bank_work.specs.Working.{MayTellListening, ServesOver, TellsListening, done_after};
 ghost use Rattle.bank_commands.specs.Commands.{FindsBank, ServesIn};
 
+use crate::openings::Way;
 use crate::work::{Work, work_in};
 use bank_endings::CommandFault;
 use bank_store::Bank;
@@ -39,7 +40,7 @@ pub fn serve<S: Start, W: Write, K: Clock>(
         address,
         connections,
     };
-    work_in(rt, start, file, &work, &mut (), output, clock)
+    work_in(rt, start, file, Way::Find, &work, &mut (), output, clock)
 }
 
 // The serving of connections at an address.

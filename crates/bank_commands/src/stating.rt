@@ -8,6 +8,7 @@ ghost use Rattle.bank_endings.specs.Looking.{IsOfOpening};
 ghost use Rattle.bank_commands.specs.Stating.{States, StatesIn, said_of_statement};
 ghost use Rattle.bank_commands.specs.Commands.{FindsBank};
 
+use crate::openings::Way;
 use crate::work::{Work, work_in};
 use bank_audits::{ReportFault, write_statement};
 use bank_endings::CommandFault;
@@ -32,7 +33,7 @@ pub fn statement<S: Start, W: Write>(
         (λ told. result ≡ said_of_statement account told) }
 {
     let work = Stating { account };
-    work_in(rt, start, file, &work, &mut (), output, &mut ())
+    work_in(rt, start, file, Way::Find, &work, &mut (), output, &mut ())
 }
 
 // The statement of an account.

@@ -40,7 +40,7 @@
 //! ```
 //!
 //! An error is one of the kinds that an open of `sqlite` has. [`open_over`] is the same for files that are
-//! open. Read next: `specs/Opening`, what an open finds. The crate `bank_openings` is a caller.
+//! open. Read next: `specs/Opening`, what an open finds. The crate `bank_commands` is a caller.
 #![tactic(auto)]
 
 mod creation;

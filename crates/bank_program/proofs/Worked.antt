@@ -33,7 +33,7 @@ module _ {C : Type 0} (seen : C → Seen) (image : Image) (Unfound Unfound' : Ty
   runs_lift (inr it) = inr record {
     first = it.first;
     last = it.last;
-    found = it.found;
+    had = it.had;
     works = works it.first it.last it.works;
   }
 

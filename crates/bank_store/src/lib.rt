@@ -42,9 +42,9 @@
 //! ```
 //!
 //! A connection to a file comes from `open` of the crate `bank_files`. A program that opens a bank's file
-//! again gives such a connection to [`adopt`] where this one calls [`create`]; `find_bank` of the crate
-//! `bank_openings` does both steps. So does a program after [`Fault::Store`], once it has released and closed
-//! the connection of the bank that is down.
+//! again gives such a connection to [`adopt`] where this one calls [`create`], as the commands of the crate
+//! `bank_commands` do. So does a program after [`Fault::Store`], once it has released and closed the
+//! connection of the bank that is down.
 //!
 //! [`Counter::submit_all`] posts up to [`RECORDS_PER_BATCH`] records in one transaction. [`each_account`] and
 //! its six neighbours walk over the rows, one `next` a row.

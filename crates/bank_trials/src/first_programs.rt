@@ -2,7 +2,6 @@
 mod commands;
 mod endings;
 mod files;
-mod openings;
 mod words;
 mod work;
 
@@ -12,7 +11,6 @@ use commands::first_commands;
 use endings::first_ending;
 pub use files::ask;
 use files::first_file;
-use openings::first_opening;
 use posting_core::StoredClock;
 use words::first_words;
 use work::first_drive;
@@ -24,7 +22,6 @@ pub fn play(rt: &HostRuntime, words: &str, input: &[u8], output: &mut Vec<u8>) -
     match name {
         "words" => play_words(rt, files),
         "file" => play_file(rt, files),
-        "opening" => play_opening(rt, files),
         "drive" => play_drive(rt, output),
         "ending" => Ok(first_ending(output, &mut rt.stderr())),
         "commands" => play_commands(rt, files, input, output),
@@ -42,12 +39,6 @@ fn play_words(rt: &HostRuntime, words: &str) -> Result<Status> {
 fn play_file(rt: &HostRuntime, file: &str) -> Result<Status> {
     let notes = first_file(rt, file)?;
     println!(rt; "  {notes}")?;
-    Ok(Status::Done)
-}
-
-fn play_opening(rt: &HostRuntime, file: &str) -> Result<Status> {
-    let opening = first_opening(rt, file)?;
-    println!(rt; "  {opening:?}")?;
     Ok(Status::Done)
 }
 

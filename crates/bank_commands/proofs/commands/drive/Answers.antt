@@ -9,13 +9,13 @@ returns g c =
     let contents = g.W.Write.contents in
     let it = c.work_in.ensures in
     record {
-      finds = it.finds;
-      drives = runs it.works
+      finds = it.finds refl;
+      drives = runs (it.works refl)
           (λ none. let f = err_from_is_err_and c.work_in.result none.0 in
           rw f.1 ((f.0, f.2, refl), keeps contents none.1, asks g.K.Clock.readings none.1))
           (λ _ _ did. did.0);
-      line = says it.works (λ none. rw (err_from_is_err_and c.work_in.result none.0).1 tt) (λ _ _ did. did.1);
-      silent = says it.works
+      line = says (it.works refl) (λ none. rw (err_from_is_err_and c.work_in.result none.0).1 tt) (λ _ _ did. did.1);
+      silent = says (it.works refl)
           (λ none. rw (err_from_is_err_and c.work_in.result none.0).1 (λ _. keeps contents none.1))
           (λ _ _ did. did.2);
     }

@@ -1,4 +1,5 @@
 -- The bank that was found is the one that the records were posted to.
+use Rattle.std.proofs.Common.{refl}
 use Rattle.std.proofs.lemmas.Result.{err_from_is_err_and}
 use Rattle.bank_commands.proofs.Worked.{asks, keeps, reads, says, tells}
 use Rattle.bank_commands.proofs.commands.post.Goals as goal
@@ -9,8 +10,8 @@ returns g c =
     let contents = g.W.Write.contents in
     let it = c.work_in.ensures in
     record {
-      finds = it.finds;
-      posts = tells it.works
+      finds = it.finds refl;
+      posts = tells (it.works refl)
           (λ none. (
             none.0,
             record {
@@ -20,11 +21,11 @@ returns g c =
             },
           ))
           (λ _ _ did. did.0);
-      ended = says it.works (λ none. rw (err_from_is_err_and c.work_in.result none.0).1 tt) (λ _ _ did. did.1);
-      unread = says it.works
+      ended = says (it.works refl) (λ none. rw (err_from_is_err_and c.work_in.result none.0).1 tt) (λ _ _ did. did.1);
+      unread = says (it.works refl)
           (λ none. rw (err_from_is_err_and c.work_in.result none.0).1 (λ _. reads remaining none.1))
           (λ _ _ did. did.2);
-      silent = says it.works
+      silent = says (it.works refl)
           (λ none. rw (err_from_is_err_and c.work_in.result none.0).1 (λ _. keeps contents none.1))
           (λ _ _ did. did.3);
     }

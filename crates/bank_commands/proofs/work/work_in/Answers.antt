@@ -1,24 +1,58 @@
--- The bank that was found is the one that is worked with.
+-- The bank that was had is the one that is worked with.
 use Rattle.std.proofs.Common.{◌≡◌, refl, rules, inl, inr, Err}
-use Rattle.bank_commands.specs.Commands.{ends}
+use Rattle.sqlite.specs.Files.{file_state}
+use Rattle.bank_commands.proofs.InFiles.{not_both, of_opening, of_store, works_in, works_in_new}
 use Rattle.bank_commands.proofs.work.work_in.Goals as goal
 
-pub returns-in_err-bank : goal.returns-in_err-bank
-returns-in_err-bank g c =
-    let same : c.from_residual.result ≡ Err c.in_err-bank.field-0.0 = search rules in
-    let it = c.in_err-bank.ensures in
-    let unchanged = refl {a = ends c.args.input.now c.args.output.now c.args.clock.now} in
-    record { finds = rw same (inl it.unfound); works = rw same (inl (it.fault, unchanged)) }
+pub returns-in_err-look_before : goal.returns-in_err-look_before
+returns-in_err-look_before g c =
+    let f = c.in_err-look_before.field-0.0 in
+    let same : c.from_residual.result ≡ Err f = search rules in
+    let it = c.in_err-look_before.ensures in
+    record {
+      made = λ make. absurd (not_both c.args.way it.finds make);
+      finds = λ _. rw same (inl (inl it.fault));
+      works = λ _. rw same (inl (of_opening f it.fault, refl));
+    }
+
+pub returns-in_err-conn : goal.returns-in_err-conn
+returns-in_err-conn g c =
+    let f = c.in_err-conn.field-0.0 in
+    let same : c.from_residual-in_err-conn.result ≡ Err f = search rules in
+    let store = c.in_err-conn.ensures.fault in
+    let look = of_store f store in
+    record {
+      made = λ _. rw same (inl ((of_opening f look, inl store), refl));
+      finds = λ _. rw same (inl (inl look));
+      works = λ _. rw same (inl (of_opening f look, refl));
+    }
+
+pub returns-in_err-told : goal.returns-in_err-told
+returns-in_err-told g c =
+    let f = c.in_err-told.field-0.0 in
+    let same : c.from_residual-in_err-told.result ≡ Err f = search rules in
+    let it = c.in_err-told.ensures in
+    let opened = c.in_ok-conn.ensures.opened in
+    record {
+      made = λ make. rw same (inl (
+        (it.fault, inr record { start = c.in_ok-conn.conn; opened = opened; holds = it.unmade make }),
+        it.idle,
+      ));
+      finds = λ find. rw same (inl (inr record {
+        start = c.in_ok-conn.conn;
+        opened = opened;
+        holds = it.missed find;
+      }));
+      works = λ _. rw same (inl (it.fault, it.idle));
+    }
 
 pub returns : goal.returns
 returns g c =
-    let found = c.in_ok-bank.ensures.found in
+    let it = c.in_ok-told.ensures in
+    let conn = c.in_ok-conn.conn in
+    let opened = c.in_ok-conn.ensures.opened in
     record {
-      finds = inr (c.in_ok-bank.bank, found);
-      works = inr record {
-        first = c.in_ok-bank.bank;
-        last = c.work_with-told.new.bank;
-        found = found;
-        works = c.work_with-told.ensures;
-      };
+      made = λ make. inr (works_in_new _ (file_state conn) opened (it.made make));
+      finds = λ find. let had = works_in _ (file_state conn) opened (it.found find) in inr (had.first, had.had);
+      works = λ find. inr (works_in _ (file_state conn) opened (it.found find));
     }

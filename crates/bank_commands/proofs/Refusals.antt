@@ -11,7 +11,7 @@ use Rattle.bank_endings.specs.Faults.{fault_of_opening}
 use Rattle.bank_endings.specs.Looking.{IsOfLook}
 use Rattle.bank_endings.specs.declared.fault.CommandFault.{CommandFault}
 use Rattle.bank_files.specs.Opening.{IsOpenedOn}
-use Rattle.bank_openings.specs.Unfound.{IsOpenedIn, IsUnmadeOver}
+use Rattle.bank_commands.specs.Unfound.{IsOpenedIn, IsUnmadeOver}
 
 module _ {C : Type 0} (state : C → State) where
   -- what was met over the connection that was opened was met in what the files held

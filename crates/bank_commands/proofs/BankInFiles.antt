@@ -14,11 +14,10 @@ use Rattle.sqlite_wal.specs.Files.{outcomes}
 use Rattle.sqlite_wal.specs.Recovery.{Image}
 use Rattle.posting_rules.specs.Commands.{Command}
 use Rattle.posting_rules.specs.Counter.{Seen, StandsAt}
-use Rattle.posting_rules.specs.Tables.{Tables}
-use Rattle.store_rows.specs.View.{Shows, ShowsTrees}
+use Rattle.store_rows.specs.View.{ShowsTrees}
 use Rattle.bank_store.specs.Connections.{conn_seen}
 use Rattle.bank_files.specs.Opening.{IsOpenedOn}
-use Rattle.bank_openings.specs.InFile.{HoldsLog, IsFoundIn, BankIsMadeOver, IsNewIn, IsTakenUp}
+use Rattle.bank_commands.specs.InFile.{HoldsLog, IsFoundIn, BankIsMadeOver, IsNewIn, IsSettled, IsTakenUp}
 
 -- the connection's trees show what the files held
 left_in : (image : Image) (s : State) (log : List Command) → IsOpenedOn image s → (holds : HoldsLog image log)
@@ -54,18 +53,16 @@ settled_outside s idle is outside settles = settles (is ∙ ap not outside)
 pub closed_holds : {D : Type 0} {g : disk.Ghosts D} (conn : Held (FileStore D g)) (files : Files D)
     (image : Image)
     (log : List Command) → StandsAt (conn_seen over_files conn) log → IsCopied conn files
-    → (file_state conn).now ≡ (file_state conn).committed
-    → ((t : Tables) → Shows (file_state conn).now t → ShowsTrees (file_state conn).now.trees t)
-    → outcomes g files.log files.db image → ∥ HoldsLog image log ∥₁
-closed_holds conn files image log stood copied settled leaves left =
+    → IsSettled (file_state conn) → outcomes g files.log files.db image → ∥ HoldsLog image log ∥₁
+closed_holds conn files image log stood copied settled left =
     ∥∥₁_map (copied.left image left).both (λ holds.
     let it : HoldsLog image log = record {
       commands = stood.shows.commands;
       trees = (file_state conn).committed.trees;
       holds = holds;
       tables = stood.shows.tables;
-      are = subst (λ (db : Database). ShowsTrees db.trees stood.shows.tables) settled
-          (leaves stood.shows.tables stood.shows.are);
+      are = subst (λ (db : Database). ShowsTrees db.trees stood.shows.tables) (settled.committed copied.was_open)
+          (settled.leaves stood.shows.tables stood.shows.are);
       shows = stood.shows.shows;
     } in
     it)

@@ -1,6 +1,6 @@
 -- Where the connection was opened it stands at what its trees show, and so does the bank.
 use Rattle.std.proofs.Common.{arith}
-use Rattle.bank_openings.proofs.files.take_up.Goals as goal
+use Rattle.bank_commands.proofs.openings.take_up.Goals as goal
 
 pub returns-in-Ok-clause-taken : goal.returns-in-Ok-clause-taken
 returns-in-Ok-clause-taken g c = record {

@@ -1,6 +1,6 @@
 use Rattle.sqlite.specs.Held.{state}
-use Rattle.bank_openings.proofs.Refusals.{unmade_over}
-use Rattle.bank_openings.proofs.files.create_over.Goals as goal
+use Rattle.bank_commands.proofs.Refusals.{unmade_over}
+use Rattle.bank_commands.proofs.openings.make.Goals as goal
 
 pub returns-in-Err-clause-unmade : goal.returns-in-Err-clause-unmade
 returns-in-Err-clause-unmade g c =

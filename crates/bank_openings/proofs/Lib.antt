@@ -1,2 +1,0 @@
-pub mod BankInFiles
-pub mod Refusals

@@ -1,2 +1,0 @@
-pub mod InFile
-pub mod Unfound
