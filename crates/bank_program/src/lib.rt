@@ -6,24 +6,28 @@
 //!
 //! ```rust
 //! use bank_clock::SystemClock;
-//! use bank_endings::tell_no_words;
+//! use bank_endings::{Status, tell_no_words};
 //! use bank_program::{run, words_of};
-//! use sqlite::Unknown;
+//! use sqlite::{Start, Unknown};
 //! use std::process::ExitCode;
 //!
+//! // A run on these words between the standard streams, whatever the files hold.
+//! fn run_on<S: Start>(rt: &HostRuntime, start: S, words: &[String]) -> Status {
+//!     run(
+//!         rt,
+//!         start,
+//!         words,
+//!         &mut rt.stdin(),
+//!         &mut rt.stdout(),
+//!         &mut rt.stderr(),
+//!         &mut SystemClock::new(rt),
+//!     )
+//! }
+//!
 //! fn main(rt: HostRuntime) -> ExitCode {
-//!     let mut faults = rt.stderr();
 //!     let status = match words_of(&rt) {
-//!         Ok(words) => run(
-//!             &rt,
-//!             Unknown,
-//!             words.as_slice(),
-//!             &mut rt.stdin(),
-//!             &mut rt.stdout(),
-//!             &mut faults,
-//!             &mut SystemClock::new(&rt),
-//!         ),
-//!         Err(error) => tell_no_words(&error, &mut faults),
+//!         Ok(words) => run_on(&rt, Unknown, words.as_slice()),
+//!         Err(error) => tell_no_words(&error, &mut rt.stderr()),
 //!     };
 //!     ExitCode::from(status)
 //! }

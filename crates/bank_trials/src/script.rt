@@ -7,7 +7,7 @@ use anyhow::{Result, bail};
 use bank_endings::Status;
 use bank_program::run;
 use posting_core::StoredClock;
-use sqlite::Unknown;
+use sqlite::{Start, Unknown};
 use std::alloc::{AllocError, Global};
 use std::fs;
 use std::io::{self, Read, Write};
@@ -97,9 +97,9 @@ impl Script {
         let mut rest = self.input.as_slice();
         let mut output = Vec::new(rt.alloc());
         let (status, faults) = match self.fails {
-            Fails::Neither => run_between(rt, words, &mut rest, &mut output),
-            Fails::Input => run_between(rt, words, &mut Broken, &mut output),
-            Fails::Output => run_between(rt, words, &mut rest, &mut Broken),
+            Fails::Neither => run_between(rt, Unknown, words, &mut rest, &mut output),
+            Fails::Input => run_between(rt, Unknown, words, &mut Broken, &mut output),
+            Fails::Output => run_between(rt, Unknown, words, &mut rest, &mut Broken),
         };
         self.output = output;
         (status, faults)
@@ -132,15 +132,17 @@ fn padded(alloc: Global, text: &str) -> Result<Vec<u8>, AllocError> {
     Ok(bytes)
 }
 
-// A run between a reader and a writer: how it ended, and what it told of faults.
-fn run_between<R: Read, W: Write>(
+// A run between a reader and a writer: how it ended, and what it told of faults. That the files are of any
+// start keeps the proof short.
+fn run_between<S: Start, R: Read, W: Write>(
     rt: &HostRuntime,
+    start: S,
     words: &[&str],
     input: &mut R,
     output: &mut W,
 ) -> (Status, Vec<u8>) {
     let mut faults = Vec::new(rt.alloc());
     let mut clock = StoredClock::new(Vec::new(rt.alloc()));
-    let status = run(rt, Unknown, words, input, output, &mut faults, &mut clock);
+    let status = run(rt, start, words, input, output, &mut faults, &mut clock);
     (status, faults)
 }
