@@ -4,7 +4,7 @@ ghost use Rattle.sqlite.specs.Held.{state};
 ghost use Rattle.posting_rules.specs.Commands.{Command};
 ghost use Rattle.posting_rules.specs.Counter.{StandsAt};
 ghost use Rattle.bank_store.specs.Connections.{conn_seen};
-ghost use Rattle.bank_store.specs.Seen.{bank_seen};
+ghost use Rattle.bank_store.specs.Seen.{bank_seen, connection_of};
 ghost use Rattle.bank_endings.specs.Faults.{fault_of_opening};
 ghost use Rattle.bank_endings.specs.Looking.{IsOfOpening};
 ghost use Rattle.bank_commands.specs.InFile.{BankIsMadeOver, IsSettled, IsTakenUp};
@@ -85,8 +85,11 @@ fn fault_of<S: Alter + Drop>(refused: Refused<S>) -> CommandFault
     CommandFault::from(fault)
 }
 
-/// The connection of a bank, which shows what was committed.
+/// The connection of a bank as it is, outside a transaction, with what [`close`](crate::close) wants to know of
+/// it: it shows what was committed.
 pub fn settled<S: Alter + Drop>(bank: Bank<S>) -> Connection<S>
+    ensures same { result ≡ connection_of bank }
+    ensures idle { result.in_transaction ≡ false }
     ensures stands { (log : List Command) → StandsAt (bank_seen S.Store bank) log
         → StandsAt (conn_seen S.Store result) log }
     ensures settled { IsSettled (state S.Store result) }
