@@ -1,16 +1,18 @@
 -- What is written of the postings of an account, and why not all of them are.
 use Rattle.std.specs.Prelude.{◌≡◌, ◌⊎◌, ◌<◌, ◌≤◌, ◌-◌, ◌^◌, ◌+ℤ◌, ℕ}
-use Rattle.std.specs.Prelude.{ℤ, pos, nat_abs, List, [], ◌∷◌, ◌++◌, map, length, Option, Result}
-use Rattle.std.specs.Prelude.{Ok, Err, ⊤}
+use Rattle.std.specs.Prelude.{ℤ, pos, nat_abs, List, [], ◌∷◌, ◌++◌, filter, map, length, Option, Some}
+use Rattle.std.specs.Prelude.{Result, Ok, Err, ⊤}
 use Rattle.std.specs.Io.KnownBytes.{Appends}
+use Rattle.sqlite.specs.Effect.{Database}
 use Rattle.message_records.specs.declared.limits.TheConstants.{MAX_BALANCE}
 use Rattle.posting_rules.specs.declared.fault.Fault.TheVariants.{Memory, Store, Down, Damaged}
 use Rattle.posting_rules.specs.declared.fault.Rule.{Rule}
 use Rattle.posting_rules.specs.declared.fault.Rule.TheVariants.{Balance, Value}
 use Rattle.posting_rules.specs.Laws.{total}
 use Rattle.sql_meanings.specs.Entries.{Entry}
+use Rattle.bank_transactions.specs.Stored.{IsStoredBalance}
 use Rattle.bank_walks.specs.declared.postings.StoredPosting.{StoredPosting}
-use Rattle.bank_walks.specs.Stored.{posting_entry, IsNoPosting}
+use Rattle.bank_walks.specs.Stored.{posting_entry, is_of, IsNoPosting}
 use Rattle.bank_reports.specs.Audit.{delta_of}
 use Rattle.bank_reports.specs.Lines.{text_of}
 use Rattle.bank_reports.specs.StatementText.{heading_line, names_line, posting_line, posting_lines}
@@ -96,6 +98,13 @@ pub record WritesStatement (account : ℕ) (balance : ℤ) (all : List Entry) (o
   pub are : map posting_entry given ++ rest ≡ all
   pub why : Why given rest result
   pub wrote : WritesText (text_so_far account balance given rest) old new result
+
+-- so the account's rows of history are written, of these, and then the balance that its own row has
+abbrev pub StatesRows : Database → ℕ → List Entry → Option (List ℕ) → Option (List ℕ)
+    → Result (Unit {0}) ReportFault → Type 0
+StatesRows db account rows old new result =
+    (balance : ℤ) × IsStoredBalance db account (Some balance)
+    × WritesStatement account balance (filter (is_of (Some account)) rows) old new result
 
 -- all was written, or the writer failed
 abbrev pub HasWritten : Result (Unit {0}) ReportFault → Type 0

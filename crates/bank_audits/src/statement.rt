@@ -14,6 +14,7 @@ ghost use Rattle.posting_core.specs.Told.{EndsWith, HasWriteFailed, IsFlush};
 ghost use Rattle.sql_meanings.specs.Entries.{Entry};
 ghost use Rattle.store_rows.specs.SixTables.{history as history_table};
 ghost use Rattle.store_rows.specs.View.{history_entry};
+ghost use Rattle.bank_transactions.specs.Stored.{IsStoredBalance};
 ghost use Rattle.bank_walks.specs.Rows.{HasStoredRows};
 ghost use Rattle.bank_walks.specs.Stored.{is_of};
 ghost use Rattle.bank_reports.specs.Written.{AppendsPart};
@@ -23,7 +24,7 @@ ghost use Rattle.bank_store.specs.Walks.{IsStill, IsUntouchedIfOpen};
 ghost use Rattle.bank_audits.specs.declared.fault.ReportFault.TheVariants.{Bank as OfBank, NoAccount, Write};
 ghost use Rattle.bank_audits.specs.Behind.{statement_behind};
 ghost use Rattle.bank_audits.specs.Failures.{HasFailedToRead};
-ghost use Rattle.bank_audits.specs.Postings.{HasAnswered, HasWritten, WritesStatement};
+ghost use Rattle.bank_audits.specs.Postings.{HasAnswered, HasWritten, StatesRows, WritesStatement};
 
 use crate::fault::ReportFault;
 use crate::postings::write_postings;
@@ -101,19 +102,24 @@ pub fn write_statement<S: Alter + Drop, W: Sink>(
         → ShowsLog (bank_seen S.Store bank.old) log
         → AppendsPart (W.contents writer.old) (W.contents writer.new) (statement_behind log account)) }
     // Of a bank's tables, be they of a log or not: the account's postings are written by their ordinals, all
-    // of them or, at a fault, the first, and then a balance.
+    // of them or, at a fault, the first, and then the balance that its row has.
     ensures tables { (bank_seen S.Store bank.new).honest → ((bank_seen S.Store bank.new).is_down → ⊥)
         → result ≢ Err NoAccount → (t : Tables) → (bank_seen S.Store bank.old).tables t
-        → (balance : ℤ) × WritesStatement account balance
-        (filter (is_of (Some account)) (map history_entry t.history))
+        → StatesRows (database_of S.Store bank.old) account (map history_entry t.history)
         (W.contents writer.old) (W.contents writer.new) result }
-    // Of any file so are the rows of history that it holds at the end, as long as the store is open.
+    // Of any file so are the rows of history that it holds.
     ensures rows { (bank_seen S.Store bank.new).honest → ((bank_seen S.Store bank.new).is_down → ⊥)
-        → result ≢ Err NoAccount → IsTrue (state S.Store (connection_of bank.new)).is_open
-        → (rows : List Entry)
-        → HasStoredRows (database_of S.Store bank.new) history_table rows
-        → (balance : ℤ) × WritesStatement account balance (filter (is_of (Some account)) rows)
+        → result ≢ Err NoAccount → (rows : List Entry)
+        → HasStoredRows (database_of S.Store bank.old) history_table rows
+        → StatesRows (database_of S.Store bank.old) account rows
         (W.contents writer.old) (W.contents writer.new) result }
+    // Of any file, the account has no row.
+    ensures absent { result ≡ Err NoAccount → (bank_seen S.Store bank.new).honest
+        → IsStoredBalance (database_of S.Store bank.old) account None }
+    // As long as the store is open and the bank isn't down, the file holds what it held.
+    ensures still { (bank_seen S.Store bank.new).honest → ((bank_seen S.Store bank.new).is_down → ⊥)
+        → IsTrue (state S.Store (connection_of bank.new)).is_open
+        → database_of S.Store bank.new ≡ database_of S.Store bank.old }
     ensures flushed { OnOk result (EndsWith IsFlush (W.told writer.old) (W.told writer.new)) }
     // The last write or flush failed, or it was asked too often.
     ensures failed { result ≡ Err Write → HasWriteFailed (W.told writer.old) (W.told writer.new) }
@@ -131,7 +137,8 @@ pub fn write_statement<S: Alter + Drop, W: Sink>(
     ensures cause { result ≡ Err (OfBank Store) → (bank_seen S.Store bank.new).is_down
         → KeepsCause S.Store bank.old bank.new }
     ensures store { result ≡ Err (OfBank Store) → ((bank_seen S.Store bank.new).is_down → ⊥)
-        → (bank_seen S.Store bank.new).honest → (t : Tables) → (bank_seen S.Store bank.old).tables t
+        → (bank_seen S.Store bank.new).honest → (rows : List Entry)
+        → HasStoredRows (database_of S.Store bank.old) history_table rows
         → (mid : Held S) × HasFailedToRead S.Store mid (connection_of bank.new) }
     // Whatever it answers, a stop leaves what shows the log.
     ensures survives { (bank_seen S.Store bank.new).honest → (log : List Given)

@@ -1,12 +1,12 @@
 //! The bank over a connection: its calls, and how a fault brings it down.
 ghost use Rattle.posting_rules.specs.declared.fault.Fault.TheVariants as fault;
 ghost use Rattle.std.specs.Prelude.{◌≡◌, ◌≢◌, ◌≤◌, [], ◌∷◌, List, length, Err, IfOk, OnOk, IfErr, IfSome};
-ghost use Rattle.std.specs.Prelude.{None, false};
+ghost use Rattle.std.specs.Prelude.{None, Option, false, option_map};
 ghost use Rattle.std.specs.Result.{IsErrOf};
 ghost use Rattle.sqlite.specs.State.{Survives};
 ghost use Rattle.sqlite.specs.Held.{state};
 ghost use Rattle.message_records.specs.Spelling.{reply_spelling};
-ghost use Rattle.posting_rules.specs.Branches.{IsNextBranch, IsLineAbove};
+ghost use Rattle.posting_rules.specs.Branches.{IsNextBranch, IsLineAbove, line_of};
 ghost use Rattle.posting_rules.specs.Commands.{Command, Open, Post};
 ghost use Rattle.posting_rules.specs.Counter.{ShowsLog, StandsAt, Takes, Refuses, opening_behind};
 ghost use Rattle.posting_rules.specs.Entries.{reply, balance_behind};
@@ -205,6 +205,8 @@ impl<S: Alter> fmt::Debug for Bank<S> {
 
 /// Each call is one transaction. See [`Bank`] for what holds after each fault.
 impl<S: Alter + Drop> Counter for Bank<S> {
+    ghost use Rattle.posting_rules.specs.declared.rows.BranchRow.{BranchRow};
+    ghost use Rattle.bank_transactions.specs.Stored.{IsStoredBalance, IsStoredNext};
     ghost use Rattle.bank_batches.specs.Batches.{DecidesNone};
     ghost use Rattle.bank_store.specs.Down.{AnswersBy, KeepsCause, KeepsFile, OfDamage, TellsFailure};
     ghost use Rattle.bank_store.specs.Down.{WasBroken, WasBrokenOrMet};
@@ -319,6 +321,11 @@ impl<S: Alter + Drop> Counter for Bank<S> {
         ensures done { OnOk result (Takes (bank_seen S.Store self.old) (bank_seen S.Store self.new) []) }
         ensures tables { OnOk result ((bank_seen S.Store self.new).honest → (t : Tables)
             → (bank_seen S.Store self.old).tables t → (bank_seen S.Store self.new).tables t) }
+        // Whatever rows the file holds.
+        ensures stored { IfOk result (λ balance. (bank_seen S.Store self.new).honest
+            → IsStoredBalance (database_of S.Store self.old) account balance) }
+        ensures still { OnOk result ((bank_seen S.Store self.new).honest
+            → database_of S.Store self.new ≡ database_of S.Store self.old) }
         ensures up { OnOk result ((bank_seen S.Store self.new).is_down → ⊥) }
         ensures fault { IfErr result (λ fault. Refuses fault (bank_seen S.Store self.old)
             (bank_seen S.Store self.new) []) }
@@ -343,6 +350,11 @@ impl<S: Alter + Drop> Counter for Bank<S> {
         ensures done { OnOk result (Takes (bank_seen S.Store self.old) (bank_seen S.Store self.new) []) }
         ensures tables { OnOk result ((bank_seen S.Store self.new).honest
             → (t : Tables) → (bank_seen S.Store self.old).tables t → (bank_seen S.Store self.new).tables t) }
+        // Whatever rows the file holds.
+        ensures stored { IfOk result (λ line. (bank_seen S.Store self.new).honest → (row : Option BranchRow)
+            × IsStoredNext (database_of S.Store self.old) after row × (line ≡ option_map line_of row)) }
+        ensures still { OnOk result ((bank_seen S.Store self.new).honest
+            → database_of S.Store self.new ≡ database_of S.Store self.old) }
         ensures up { OnOk result ((bank_seen S.Store self.new).is_down → ⊥) }
         ensures fault { IfErr result (λ fault.
             Refuses fault (bank_seen S.Store self.old) (bank_seen S.Store self.new) []) }

@@ -120,7 +120,7 @@ pub delta_broken : (db : Database) (a b : ℕ) (row : RequestRow)
 delta_broken db a b row finds beyond = λ rows has keeps.
     let it = finds rows has in
     let request = request_keeps Request rows keeps (has_two (pos a) (pos b)) it.0 it.1 in
-    beyond (subst (λ z. nat_abs z ≤ MAX_DELTA) it.2 request.delta)
+    beyond (subst (λ z. nat_abs z ≤ MAX_DELTA) it.2.3.delta request.delta)
 
 -- ---- a number or a count of a branch that can't be opened
 

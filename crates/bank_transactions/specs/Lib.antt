@@ -2,3 +2,4 @@
 pub mod Causes
 pub mod Doing
 pub mod NewRows
+pub mod Stored

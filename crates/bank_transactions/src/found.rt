@@ -9,6 +9,7 @@ ghost use Rattle.sqlite.specs.State.{HasCleanDisk};
 ghost use Rattle.store_rows.specs.Rules.{branch_under, BranchKeeps, OfRows};
 ghost use Rattle.store_rows.specs.Stored.{FindsStored, IsBranch};
 ghost use Rattle.bank_transactions.specs.Doing.{Reads};
+ghost use Rattle.bank_transactions.specs.Stored.{IsStoredBalance};
 
 use message_records::{Account, Branch, Cents, Number, Request, Teller};
 use posting_rules::{
@@ -75,7 +76,9 @@ pub fn open_balance<S: Alter>(
     tx: &mut Transaction<'_, S>,
     account: Account,
 ) -> Result<Option<Cents>, TableFault>
-    ensures { Reads S.Store tx.old tx.new (λ tables. account_balance_in tables account) result }
+    ensures says { Reads S.Store tx.old tx.new (λ tables. account_balance_in tables account) result }
+    ensures stored { IfOk result (λ balance. HasCleanDisk (state S.Store tx.new.conn.now)
+        → IsStoredBalance (state S.Store tx.old.conn.now).now account balance) }
 {
     let balance = balance_of(tx, Member::Account(account))?;
     let branch = branch_at(tx, branch_of_account(account))?;

@@ -8,6 +8,7 @@ ghost use Rattle.posting_rules.specs.Tables.{Tables};
 ghost use Rattle.store_rows.specs.Columns.{branch_above};
 ghost use Rattle.store_rows.specs.View.{Shows};
 ghost use Rattle.bank_transactions.specs.Doing.{Consults, Reads};
+ghost use Rattle.bank_transactions.specs.Stored.{IsStoredNext};
 
 use crate::transactions::{begin, finish};
 use posting_rules::{BranchRow, LAST_BRANCH, MOST_ACCOUNTS, Rule};
@@ -21,6 +22,8 @@ fn branch_after<S: Alter>(
 ) -> Result<Option<BranchRow>, TableFault>
     ensures says { Reads S.Store tx.old tx.new (λ tables. branch_above tables after) result }
     ensures within { IfOk result (λ next. IfSome next (λ row. IsLineAbove after (line_of row))) }
+    ensures stored { IfOk result (λ next. HasCleanDisk (state S.Store tx.new.conn.now)
+        → IsStoredNext (state S.Store tx.old.conn.now).now after next) }
 {
     let Some(row) = next_branch(tx, after)? else {
         return Ok(None);
@@ -52,6 +55,11 @@ pub fn read_next_branch<S: Alter>(
     ensures same { HasCleanDisk (state S.Store conn.new) → (tables : Tables)
         → Shows (state S.Store conn.old).now tables
         → OnOk result (Shows (state S.Store conn.new).now tables) }
+    // Whatever rows the file holds.
+    ensures stored { IfOk result (λ next. HasCleanDisk (state S.Store conn.new)
+        → IsStoredNext (state S.Store conn.old).now after next) }
+    ensures still { OnOk result (HasCleanDisk (state S.Store conn.new)
+        → (state S.Store conn.new).now ≡ (state S.Store conn.old).now) }
 {
     let mut tx = begin(conn);
     let next = branch_after(&mut tx, after);

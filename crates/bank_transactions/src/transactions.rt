@@ -1,5 +1,5 @@
 //! Each call is one transaction. A commit writes nothing where nothing was changed.
-ghost use Rattle.std.specs.Prelude.{◌≡◌, ◌≤◌, IsTrue, OnOk, true, false};
+ghost use Rattle.std.specs.Prelude.{◌≡◌, ◌≤◌, IfOk, IsTrue, OnOk, true, false};
 ghost use Rattle.sqlite.specs.State.{HasCleanDisk};
 ghost use Rattle.sqlite.specs.Held.{state};
 ghost use Rattle.posting_rules.specs.Changes.{reply_bytes, tables_with, tables_with_branch};
@@ -9,6 +9,7 @@ ghost use Rattle.posting_rules.specs.Sound.{AreSound};
 ghost use Rattle.posting_rules.specs.Tables.{Tables};
 ghost use Rattle.store_rows.specs.View.{Shows};
 ghost use Rattle.bank_transactions.specs.Doing.{Consults, Ends, Transacts};
+ghost use Rattle.bank_transactions.specs.Stored.{IsStoredBalance};
 
 use crate::found::open_balance;
 use crate::new_branch::open_inside;
@@ -122,6 +123,11 @@ pub fn read_balance<S: Alter>(
     ensures same { HasCleanDisk (state S.Store conn.new) → (tables : Tables)
         → Shows (state S.Store conn.old).now tables
         → OnOk result (Shows (state S.Store conn.new).now tables) }
+    // Whatever rows the file holds.
+    ensures stored { IfOk result (λ balance. HasCleanDisk (state S.Store conn.new)
+        → IsStoredBalance (state S.Store conn.old).now account balance) }
+    ensures still { OnOk result (HasCleanDisk (state S.Store conn.new)
+        → (state S.Store conn.new).now ≡ (state S.Store conn.old).now) }
 {
     let mut tx = begin(conn);
     let balance = open_balance(&mut tx, account);

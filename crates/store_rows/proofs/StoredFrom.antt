@@ -4,11 +4,12 @@ use Rattle.std.proofs.Common.{subst, ◌∙◌}
 use Rattle.std.specs.Option.{ok_or}
 use Rattle.sqlite.specs.Order.{Row, column}
 use Rattle.message_records.specs.Outcomes.{code_of}
+use Rattle.message_records.specs.declared.limits.TheConstants.{MAX_ACCOUNT, MAX_BRANCH}
 use Rattle.message_records.specs.declared.records.Outcome.{Outcome}
 use Rattle.posting_rules.specs.Kept.{KeptFields, is_kept_with, kept_from}
 use Rattle.posting_rules.specs.declared.fault.Rule.TheVariants.{Request}
 use Rattle.store_rows.specs.Columns.{number_at}
-use Rattle.store_rows.specs.Outcomes.{ReadsCents, ReadsOutcome}
+use Rattle.store_rows.specs.Outcomes.{ReadsCents, ReadsOutcome, ReadsWhole}
 use Rattle.store_rows.specs.Rules.{RequestKeeps}
 use Rattle.store_rows.specs.Stored.{IsKept, ReadsStored, request_stored}
 use Rattle.store_rows.specs.declared.fault.TableFault.{TableFault}
@@ -28,8 +29,11 @@ same_code : (a b : Outcome) → ◌≡◌ {A = ℤ} (pos (code_of a)) (pos (code
 same_code a b same = same_outcome a b (let n : code_of a ≡ code_of b = cc in n)
 
 module _ (row : Row) (account branch : ℕ) (delta : ℤ) (outcome : Outcome) (balance : ℤ)
-    (three : ReadsCents Request (column row 5) (Ok delta)) (four : ReadsOutcome (column row 6) (Ok outcome))
-    (five : ReadsCents Request (column row 7) (Ok balance)) where
+    (first : ReadsWhole 1 MAX_ACCOUNT Request (column row 3) (Ok account))
+    (second : ReadsWhole 1 MAX_BRANCH Request (column row 4) (Ok branch))
+    (third : ReadsCents Request (column row 5) (Ok delta))
+    (fourth : ReadsOutcome (column row 6) (Ok outcome))
+    (fifth : ReadsCents Request (column row 7) (Ok balance)) where
   abbrev fields : KeptFields
   fields = record { account = account; branch = branch; delta = delta; outcome = outcome; balance = balance }
 
@@ -41,12 +45,18 @@ module _ (row : Row) (account branch : ℕ) (delta : ℤ) (outcome : Outcome) (b
       go : (b : Bool) → is_kept_with outcome balance ≡ b
           → ReadsStored request_stored IsKept RequestKeeps row
           (ok_or (cond b (Some fields) None) (Damaged Request))
-      go true is = λ r shown. sym (three (number_at 4 r) (ap (λ x. column x 5) shown))
+      go true is = λ r shown. record {
+        account = first (number_at 2 r) (ap (λ x. column x 3) shown);
+        branch = second (number_at 3 r) (ap (λ x. column x 4) shown);
+        delta = sym (third (number_at 4 r) (ap (λ x. column x 5) shown));
+        outcome = fourth (number_at 5 r) (ap (λ x. column x 6) shown);
+        balance = sym (fifth (number_at 6 r) (ap (λ x. column x 7) shown));
+      }
       go false is = λ r shown request.
           let o = request.outcome in
-          let code = four (number_at 5 r) (ap (λ x. column x 6) shown) in
+          let code = fourth (number_at 5 r) (ap (λ x. column x 6) shown) in
           let same : o.0 ≡ outcome = same_code o.0 outcome (sym o.1 ∙ code) in
-          let amount : balance ≡ number_at 6 r = five (number_at 6 r) (ap (λ x. column x 7) shown) in
+          let amount : balance ≡ number_at 6 r = fifth (number_at 6 r) (ap (λ x. column x 7) shown) in
           let no : is_kept_with o.0 (number_at 6 r) ≡ false =
           ap (λ x. is_kept_with x (number_at 6 r)) same ∙ ap (is_kept_with outcome) (sym amount) ∙ is in
           let yes : is_kept_with o.0 (number_at 6 r) ≡ true = o.2 in

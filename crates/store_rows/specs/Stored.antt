@@ -2,6 +2,7 @@
 use Rattle.std.specs.Prelude.{◌≡◌, ◌≤◌, ℤ, pos, nat_abs, [], ◌∷◌, Option, Some, None, Result, Ok, Err, ⊤}
 use Rattle.sqlite.specs.Order.{Row}
 use Rattle.sqlite.specs.declared.types.Value.TheVariants.{Int}
+use Rattle.message_records.specs.Outcomes.{code_of}
 use Rattle.message_records.specs.declared.limits.TheConstants.{MAX_BALANCE}
 use Rattle.posting_rules.specs.Kept.{KeptFields}
 use Rattle.posting_rules.specs.declared.fault.Rule.{Rule}
@@ -36,17 +37,22 @@ request_stored r =
 abbrev pub IsBalance : ℤ → Entry → Type 0
 IsBalance z r = number_at 0 r ≡ z
 
--- it is of this branch, with this count of accounts
+-- it is of this branch, with this count of accounts and this balance
 abbrev pub IsBranch : BranchRow → Entry → Type 0
-IsBranch b r = (r.key ≡ pos b.branch) × (number_at 0 r ≡ pos b.accounts)
+IsBranch b r = (r.key ≡ pos b.branch) × (number_at 0 r ≡ pos b.accounts) × (number_at 1 r ≡ b.balance)
 
 -- it keeps this
-abbrev pub IsKept : KeptFields → Entry → Type 0
-IsKept kept r = number_at 4 r ≡ kept.delta
+pub record IsKept (kept : KeptFields) (r : Entry) : Type 0 where
+  pub account : number_at 2 r ≡ pos kept.account
+  pub branch : number_at 3 r ≡ pos kept.branch
+  pub delta : number_at 4 r ≡ kept.delta
+  pub outcome : number_at 5 r ≡ pos (code_of kept.outcome)
+  pub balance : number_at 6 r ≡ kept.balance
 
 -- it is of this request
 abbrev pub IsSameRequest : RequestRow → Entry → Type 0
-IsSameRequest request r = IsKept request.kept r
+IsSameRequest request r = (r.key ≡ pos request.ordinal) × (number_at 0 r ≡ pos request.teller)
+    × (number_at 1 r ≡ pos request.number) × IsKept request.kept r
 
 -- a row of one balance: that is within the limits
 abbrev pub BalanceKeeps : Rule → Entry → Type 0

@@ -1,15 +1,17 @@
 -- The statement of an account of a bank that shows a log.
-use Rattle.std.proofs.Common.{rules, ◌≡◌, [], map, Err, refl, sym, ap, subst, ◌∙◌, arith}
+use Rattle.std.proofs.Common.{rules, ◌≡◌, List, [], map, Err, refl, sym, ap, subst, ◌∙◌, arith}
 use Rattle.std.specs.Prelude.{IsSome}
 use Rattle.sqlite.specs.State.{HasCleanDisk}
 use Rattle.sqlite.specs.Held.{state}
+use Rattle.sql_meanings.specs.Entries.{Entry}
 use Rattle.store_rows.specs.SixTables.{history as history_table}
 use Rattle.store_rows.specs.View.{history_entry}
 use Rattle.bank_walks.specs.Rows.{HasStoredRows}
 use Rattle.bank_reports.proofs.Written.{on_err_any}
-use Rattle.bank_store.specs.Seen.{bank_seen}
+use Rattle.bank_store.specs.Seen.{bank_seen, database_of}
 use Rattle.bank_audits.specs.declared.fault.ReportFault.TheVariants.{Bank}
 use Rattle.bank_audits.specs.Behind.{statement_behind}
+use Rattle.bank_audits.specs.Postings.{StatesRows}
 use Rattle.bank_audits.proofs.Further.{error_is, nothing_written}
 use Rattle.bank_audits.proofs.OnLogs.{account_rows, has_history}
 use Rattle.bank_audits.proofs.ReportLeaves.{clean_before, not_both, not_missing, not_ok, not_write}
@@ -95,10 +97,16 @@ pub returns-in_err-balance-clause-tables : goal.returns-in_err-balance-clause-ta
 returns-in_err-balance-clause-tables g c clean up found t shown = absurd (up (went_down g c))
 
 pub returns-in_err-balance-clause-rows : goal.returns-in_err-balance-clause-rows
-returns-in_err-balance-clause-rows g c clean up found is_open rows has = absurd (up (went_down g c))
+returns-in_err-balance-clause-rows g c clean up found rows has = absurd (up (went_down g c))
 
 pub returns-in_err-balance-clause-store : goal.returns-in_err-balance-clause-store
-returns-in_err-balance-clause-store g c is up clean t shown = absurd (up (went_down g c))
+returns-in_err-balance-clause-store g c is up clean rows has = absurd (up (went_down g c))
+
+pub returns-in_err-balance-clause-absent : goal.returns-in_err-balance-clause-absent
+returns-in_err-balance-clause-absent g c none = absurd (not_missing _ _ (refusal g c) none)
+
+pub returns-in_err-balance-clause-still : goal.returns-in_err-balance-clause-still
+returns-in_err-balance-clause-still g c clean up = absurd (up (went_down g c))
 
 pub returns-in_err-balance-clause-cause : goal.returns-in_err-balance-clause-cause
 returns-in_err-balance-clause-cause g c is down =
@@ -130,6 +138,12 @@ returns-in_default-clause-tables g c clean up found = absurd (found refl)
 
 pub returns-in_default-clause-rows : goal.returns-in_default-clause-rows
 returns-in_default-clause-rows g c clean up found = absurd (found refl)
+
+pub returns-in_default-clause-absent : goal.returns-in_default-clause-absent
+returns-in_default-clause-absent g c none clean = rw c.in_default.is at (c.in_ok-balance.ensures.stored clean)
+
+pub returns-in_default-clause-still : goal.returns-in_default-clause-still
+returns-in_default-clause-still g c clean up is_open = c.in_ok-balance.ensures.still clean
 
 pub returns-in_default-clause-failed : goal.returns-in_default-clause-failed
 returns-in_default-clause-failed g c write = absurd (not_both _ write refl)
@@ -168,28 +182,51 @@ returns-in_default-clause-honest g c = c.in_ok-balance.ensures.honest
 
 -- ---- where the lines were begun
 
+-- the disk was clean when the balance was known
+clean_at : (g : Over) (c : goal.After-write_lines g)
+    → HasCleanDisk (state g.S.Store c.write_lines.new.bank.conn)
+    → HasCleanDisk (state g.S.Store c.balance.new.self.conn)
+clean_at g c clean = omega (arith, c.write_lines.ensures.survives.clean, clean)
+
+-- the rows are those that the file held
+rows_at : (g : Over) (c : goal.After-write_lines g)
+    → HasCleanDisk (state g.S.Store c.write_lines.new.bank.conn) → (rows : List Entry)
+    → HasStoredRows (database_of g.S.Store c.args.bank.now) history_table rows
+    → HasStoredRows (database_of g.S.Store c.balance.new.self) history_table rows
+rows_at g c clean rows has =
+    subst (λ db. HasStoredRows db history_table rows) (sym (c.in_ok-balance.ensures.still (clean_at g c clean)))
+    has
+
+stated : (g : Over) (c : goal.After-write_lines g)
+    → HasCleanDisk (state g.S.Store c.write_lines.new.bank.conn) → (rows : List Entry)
+    → HasStoredRows (database_of g.S.Store c.args.bank.now) history_table rows
+    → StatesRows (database_of g.S.Store c.args.bank.now) c.args.account rows
+    (g.W.Sink.contents c.args.writer.now) (g.W.Sink.contents c.write_lines.new.writer) c.write_lines.result
+stated g c clean rows has =
+    let balance = rw c.in-Some.is at (c.in_ok-balance.ensures.stored (clean_at g c clean)) in
+    (c.in-Some.balance, balance, c.write_lines.ensures.told clean rows (rows_at g c clean rows has))
+
 pub returns-clause-tables : goal.returns-clause-tables
 returns-clause-tables g c clean up found t shown =
-    let mid : HasCleanDisk (state g.S.Store c.balance.new.self.conn) =
-    omega (arith, c.write_lines.ensures.survives.clean, clean) in
-    let has = has_history _ t (c.in_ok-balance.ensures.tables mid t shown) in
-    (c.in-Some.balance, c.write_lines.ensures.told clean (map history_entry t.history) has)
+    stated g c clean (map history_entry t.history) (has_history _ t shown)
 
 pub returns-clause-rows : goal.returns-clause-rows
-returns-clause-rows g c clean up found is_open rows has =
-    let there = subst (λ db. HasStoredRows db history_table rows)
-    (c.write_lines.ensures.undone clean is_open).now_is has in
-    (c.in-Some.balance, c.write_lines.ensures.told clean rows there)
+returns-clause-rows g c clean up found rows has = stated g c clean rows has
+
+pub returns-clause-absent : goal.returns-clause-absent
+returns-clause-absent g c none = absurd (c.write_lines.ensures.found none)
+
+pub returns-clause-still : goal.returns-clause-still
+returns-clause-still g c clean up is_open =
+    (c.write_lines.ensures.undone clean is_open).now_is
+    ∙ c.in_ok-balance.ensures.still (clean_at g c clean)
 
 pub returns-clause-cause : goal.returns-clause-cause
 returns-clause-cause g c is down = absurd (c.in_ok-balance.ensures.up (c.write_lines.ensures.up down))
 
 pub returns-clause-store : goal.returns-clause-store
-returns-clause-store g c is up clean t shown =
-    let mid : HasCleanDisk (state g.S.Store c.balance.new.self.conn) =
-    omega (arith, c.write_lines.ensures.survives.clean, clean) in
-    let has = has_history _ t (c.in_ok-balance.ensures.tables mid t shown) in
-    (c.balance.new.self.conn, c.write_lines.ensures.store is clean (map history_entry t.history) has)
+returns-clause-store g c is up clean rows has =
+    (c.balance.new.self.conn, c.write_lines.ensures.store is clean rows (rows_at g c clean rows has))
 
 pub returns-clause-text : goal.returns-clause-text
 returns-clause-text g c = of_ok c.write_lines.result (λ is clean log s.

@@ -39,12 +39,12 @@ returns-in_err-open_balance-clause-says g c =
     rw same (reads_but c.in_err-open_balance.field-0.0
     (reads_both (reads_both c.in_ok-decided.ensures.says c.in_ok-teller_balances.ensures)
     c.in_ok-kept_request.ensures)
-    c.in_err-open_balance.ensures)
+    c.in_err-open_balance.ensures.says)
 
 pub returns-clause-says : goal.returns-clause-says
 returns-clause-says g c =
     reads_as found_of (reads_both
     (reads_both (reads_both c.in_ok-decided.ensures.says c.in_ok-teller_balances.ensures)
     c.in_ok-kept_request.ensures)
-    c.in_ok-open_balance.ensures)
+    c.in_ok-open_balance.ensures.says)
     (λ t. search rules)

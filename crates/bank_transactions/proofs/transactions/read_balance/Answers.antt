@@ -7,4 +7,4 @@ pub returns-clause-says : goal.returns-clause-says
 returns-clause-says g c =
     consults g.S.Store c.args.conn.now c.begin-tx.result c.open_balance-balance.new.tx c.finish.new.tx.0 _
     c.begin-tx.ensures.begun
-    c.begin-tx.ensures.settled c.open_balance-balance.ensures c.finish.ensures (search rules)
+    c.begin-tx.ensures.settled c.open_balance-balance.ensures.says c.finish.ensures (search rules)

@@ -36,9 +36,8 @@ pub returns-clause-stored : goal.returns-clause-stored
 returns-clause-stored c =
     rw (c.ok_or.ensures.value, c.new.ensures)
     (keeps_stored c.args.row.now c.in_ok-account.account c.in_ok-branch.branch c.in_ok-delta.delta
-    c.in_ok-outcome.outcome
-    c.in_ok-balance.balance c.in_ok-delta.ensures.reads c.in_ok-outcome.ensures.reads
-    c.in_ok-balance.ensures.reads)
+    c.in_ok-outcome.outcome c.in_ok-balance.balance c.in_ok-account.ensures.reads c.in_ok-branch.ensures.reads
+    c.in_ok-delta.ensures.reads c.in_ok-outcome.ensures.reads c.in_ok-balance.ensures.reads)
 
 pub returns-in_err-account-clause-stored : goal.returns-in_err-account-clause-stored
 returns-in_err-account-clause-stored c =
