@@ -16,7 +16,8 @@ use Rattle.bank_endings.specs.declared.fault.CommandFault.TheVariants.{Memory}
 use Rattle.bank_endings.specs.declared.status.Status.{Status}
 use Rattle.bank_work.specs.Working.{EndsInFault, EndsWithLine, IsOfListening, TellsDrive, TellsLoad}
 use Rattle.bank_work.specs.Working.{TellsServing, Works}
-use Rattle.bank_commands.specs.Commands.{DrivesIn, LoadsIn, RunsIn, ServesIn}
+use Rattle.bank_commands.specs.Commands.{DrivesIn, LoadsIn, ServesIn}
+use Rattle.bank_commands.proofs.Worked.{runs}
 use Rattle.bank_program.specs.Running.{status_after}
 use Rattle.bank_program.proofs.Endings.{memory_ends}
 
@@ -25,17 +26,6 @@ module _ {C X : Type 0} (Idle : Type 0) (Tells : X → Type 0) (Did : X → C �
   works_lift : (old new : C) → Works Idle Tells Did old new → Works Idle' Tells' Did old new
   works_lift old new (inl (was, same)) = inl (idle was, same)
   works_lift old new (inr (told, says, did)) = inr (told, tells told says, did)
-
-module _ {C : Type 0} (seen : C → Seen) (image : Image) (Unfound Unfound' : Type 0) (P P' : C → C → Type 0)
-    (unfound : Unfound → Unfound') (works : (old new : C) → P old new → P' old new) where
-  runs_lift : RunsIn seen image Unfound P → RunsIn seen image Unfound' P'
-  runs_lift (inl was) = inl (unfound was)
-  runs_lift (inr it) = inr record {
-    first = it.first;
-    last = it.last;
-    had = it.had;
-    works = works it.first it.last it.works;
-  }
 
 module _ (result : Result Status CommandFault) where
   abbrev pub Ends : Result Status CommandFault → Type 0
@@ -72,19 +62,19 @@ module _ (result : Result Status CommandFault) where
 
   module _ {C : Type 0} (seen : C → Seen) (image : Image) (k k' w w' : Option (List ℕ)) where
     pub loads_lift : LoadsIn seen image w w' Ends → LoadsIn seen image w w' Ends'
-    loads_lift =
-        runs_lift seen image _ _ _ _ (λ none. (in_fault IsOfOpening none.0, none.1))
+    loads_lift it =
+        runs it (λ none. (in_fault IsOfOpening none.0, none.1))
         (works_lift _ _ _ _ _ (λ idle. (in_fault IsPlanFault idle.0, idle.1)) (tells_load w w'))
 
     pub drives_lift : (seed count : ℕ) → DrivesIn seen image k k' w w' seed count Ends
         → DrivesIn seen image k k' w w' seed count Ends'
-    drives_lift seed count =
-        runs_lift seen image _ _ _ _ (λ none. (in_fault IsOfOpening none.0, none.1, none.2))
+    drives_lift seed count it =
+        runs it (λ none. (in_fault IsOfOpening none.0, none.1, none.2))
         (λ old new did. (did.0, tells_drive w w' count did.0 did.1, did.2))
 
     pub serves_lift : (count : ℕ) → ServesIn seen image k k' count Ends → ServesIn seen image k k' count Ends'
-    serves_lift count =
-        runs_lift seen image _ _ _ _ (λ none. (in_fault IsOfOpening none.0, none.1))
+    serves_lift count it =
+        runs it (λ none. (in_fault IsOfOpening none.0, none.1))
         (works_lift _ _ _ _ _ (λ idle. (in_fault IsOfListening idle.0, idle.1)) tells_serving)
 
 -- where memory ran out before the command was read

@@ -1,7 +1,8 @@
 -- The bank that was had is the one that is worked with.
 use Rattle.std.proofs.Common.{◌≡◌, refl, rules, inl, inr, Err}
 use Rattle.sqlite.specs.Files.{file_state}
-use Rattle.bank_commands.proofs.InFiles.{not_both, of_opening, of_store, works_in, works_in_new}
+use Rattle.bank_commands.proofs.BankInFiles.{found_in, new_in}
+use Rattle.bank_commands.proofs.InFiles.{not_both, of_opening, of_store, works_had}
 use Rattle.bank_commands.proofs.work.work_in.Goals as goal
 
 pub returns-in_err-look_before : goal.returns-in_err-look_before
@@ -52,7 +53,9 @@ returns g c =
     let conn = c.in_ok-conn.conn in
     let opened = c.in_ok-conn.ensures.opened in
     record {
-      made = λ make. inr (works_in_new _ (file_state conn) opened (it.made make));
-      finds = λ find. let had = works_in _ (file_state conn) opened (it.found find) in inr (had.first, had.had);
-      works = λ find. inr (works_in _ (file_state conn) opened (it.found find));
+      made = λ make. inr (works_had (λ bank. new_in _ (file_state conn) bank opened) (it.made make));
+      finds = λ find.
+          let had = it.found find in
+          inr (had.first, found_in _ (file_state conn) _ opened had.had);
+      works = λ find. inr (works_had (λ bank. found_in _ (file_state conn) bank opened) (it.found find));
     }
