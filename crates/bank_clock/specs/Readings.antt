@@ -1,5 +1,5 @@
 -- What a source of the time gave, and the moment that a reading of it is.
-use Rattle.std.specs.Prelude.{◌/◌, ℕ, List, Option, None, Some, Result, Ok, Err, min}
+use Rattle.std.specs.Prelude.{◌/◌, ℕ, Option, None, Some, Result, Ok, Err, min}
 use Rattle.std.specs.Time.{system_time_nanos}
 use Rattle.std.specs.declared.io.Error.{Error}
 use Rattle.std.specs.declared.time.SystemTime.{SystemTime}

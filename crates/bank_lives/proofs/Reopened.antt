@@ -3,7 +3,7 @@ use Rattle.std.proofs.Common.{◌≡◌, ◌≤◌, ℕ, List, length, take, Res
 use Rattle.std.specs.Prelude.{IfOk}
 use Rattle.sqlite.specs.State.{State, Opens}
 use Rattle.sqlite.specs.Tree.{Trees}
-use Rattle.posting_rules.specs.Commands.{Command, AreCommands}
+use Rattle.posting_rules.specs.Commands.{Command}
 use Rattle.posting_rules.specs.Counter.{Seen, StandsAt, ShowsBeginning}
 use Rattle.posting_rules.specs.Runs.{behind}
 use Rattle.posting_rules.specs.Tables.{Tables}

@@ -2,15 +2,12 @@
 -- is seen of it is given by seen, and the clock's known readings are k before and k' after.
 use Rattle.std.specs.Prelude.{◌≡◌, ◌<◌, ◌≤◌, ℕ, List, [], ◌∷◌, ◌++◌, length, Option, Result, Ok, Err}
 use Rattle.std.specs.List.{AllByRecursion}
-use Rattle.posting_rules.specs.Commands.{Command}
-use Rattle.posting_rules.specs.Counter.{LeavesOnly, Seen, ShowsBeginning, StandsAt}
-use Rattle.posting_rules.specs.Runs.{ArePosts, behind}
+use Rattle.posting_rules.specs.Counter.{Seen}
 use Rattle.posting_core.specs.Told.{ReadTold, WriteTold}
 use Rattle.counter_http.specs.Ends as ends
 use Rattle.counter_http.specs.Outputs.{OutputsAnswers, SurvivesServing}
 use Rattle.counter_http.specs.Serving as http
 use Rattle.counter_http.specs.declared.fault.ServeFault.{ServeFault}
-use Rattle.counter_http.specs.declared.fault.ServeFault.TheVariants.{Write}
 use Rattle.counter_tcp.specs.declared.fault.ListenFault.{ListenFault}
 use Rattle.counter_tcp.specs.declared.fault.ListenFault.TheVariants.{Network, Bank}
 use Rattle.counter_tcp.specs.Faults.{after_connection}

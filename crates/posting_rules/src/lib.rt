@@ -24,7 +24,8 @@
 //! }
 //! ```
 //!
-//! Nothing here fails or takes memory. [`Fault`] says why a counter refuses a call, and what holds after it.
+//! Nothing here fails or takes memory. [`Fault`] says why a counter refuses a call, and what holds after it;
+//! [`OpenFault`] says why no bank is made or found where its tables are kept.
 //!
 //! Read next: [`judge`] with its [`Verdict`]; the trait [`Counter`]; `specs/Stated`, which says who is
 //! refused, case by case; the laws, such as [`each_request_once`]; the crate `posting_core`, with a bank in

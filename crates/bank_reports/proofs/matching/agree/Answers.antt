@@ -1,5 +1,5 @@
 -- What it means that a request and a posting agree.
-use Rattle.std.proofs.Common.{FitsSigned, refl, rules, w64}
+use Rattle.std.proofs.Common.{refl, rules}
 use Rattle.bank_reports.proofs.Lists.{same_words}
 use Rattle.bank_reports.proofs.matching.agree.Goals as goal
 

@@ -8,7 +8,7 @@ use Rattle.bank_store.specs.FoundBank.{SeeksBank}
 use Rattle.bank_store.specs.TablePresence.{IsPresent}
 use Rattle.bank_store.specs.declared.presence.Presence.{Presence}
 use Rattle.posting_rules.specs.declared.open_fault.OpenFault.{OpenFault}
-use Rattle.posting_rules.specs.declared.open_fault.OpenFault.TheVariants.{Store, Damaged}
+use Rattle.posting_rules.specs.declared.open_fault.OpenFault.TheVariants.{Damaged}
 use Rattle.bank_transactions.proofs.Blamed.{comes, same_moment}
 use Rattle.bank_store.proofs.Causes.{checks_known, known_within, reads_then, still_clean}
 use Rattle.bank_store.proofs.FoundBank.{looked, missed}

@@ -1,6 +1,5 @@
 use Rattle.std.proofs.Common.{◌≡◌, sym, rules, subst, ◌∙◌, Ok, Err, Result}
 use Rattle.counter_tcp.specs.Connections.{ServesConnections}
-use Rattle.counter_tcp.specs.Faults.{after_connection}
 use Rattle.counter_tcp.specs.declared.fault.ListenFault.{ListenFault}
 use Rattle.counter_tcp.proofs.Chained.{ends, goes_on}
 use Rattle.counter_tcp.proofs.connections.serve_connections.Goals as goal

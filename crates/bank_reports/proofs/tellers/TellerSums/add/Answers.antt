@@ -1,7 +1,7 @@
 -- One more teller, under its branch.
-use Rattle.std.proofs.Common.{rules, ◌≡◌, ◌≤◌, ◌<◌, ◌-◌, ◌/◌, ◌*◌, ℕ, length}
-use Rattle.std.proofs.Common.{get_or, ap, ◌∙◌, subst, sym, arith, w64, FitsSigned}
-use Rattle.std.specs.Prelude.{ℤ, pos, ◌+ℤ◌, nat_abs}
+use Rattle.std.proofs.Common.{rules, ◌≡◌, ◌≤◌, ◌<◌, ◌-◌, ◌/◌, ℕ, length}
+use Rattle.std.proofs.Common.{ap, ◌∙◌, arith, w64, FitsSigned}
+use Rattle.std.specs.Prelude.{ℤ, ◌+ℤ◌}
 use Rattle.bank_reports.specs.Audit.{teller_balance}
 use Rattle.bank_reports.proofs.OneMore.{sum_fits, sum_is, small_after, branches_after}
 use Rattle.bank_reports.proofs.OneMore.{small_at, sum_more_64}
