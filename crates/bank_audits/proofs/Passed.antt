@@ -10,6 +10,7 @@ use Rattle.posting_rules.specs.declared.fault.Fault.TheVariants as told
 use Rattle.sqlite.specs.Held.{Held, state}
 use Rattle.sqlite_trees.specs.declared.store.Store.{Ghosts}
 use Rattle.sql_meanings.specs.Entries.{Entry}
+use Rattle.bank_transactions.specs.Causes.{IsBefore}
 use Rattle.bank_transactions.proofs.Blamed.{comes, then_moment}
 use Rattle.store_rows.specs.SixTables.{history as history_table, request as request_table}
 use Rattle.bank_store.specs.Walks.{IsStill}
@@ -71,17 +72,23 @@ says_any Failed told.Store any says = says
 says_any Failed told.Down any says = tt
 says_any Failed (told.Damaged rule) any says = (says.0, any says.1)
 
+-- a read that failed later has failed since before
+pub failed_later : {S : Type 0} (g : Ghosts S) (old mid new : Held S) → IsBefore (state g old) (state g mid)
+    → HasFailedToRead g mid new → HasFailedToRead g old new
+failed_later g old mid new later failed = record {
+  at = failed.at;
+  before = then_moment (state g old) (state g mid) (state g failed.at) later failed.before;
+  failed = failed.failed;
+}
+
 -- so it does behind other passes
 pub says_behind : {S Breaks AnyBreaks : Type 0} (g : Ghosts S) (old mid new : Held S) (fault : Fault)
     → (Breaks → AnyBreaks)
     → IsPassed (state g old) (state g mid) (Ok tt) → SaysOf Breaks (HasFailedToRead g mid new) fault
     → SaysOf AnyBreaks (HasFailedToRead g old new) fault
 says_behind g old mid new told.Memory any pass says = says
-says_behind g old mid new told.Store any pass says = record {
-  at = says.at;
-  before = then_moment (state g old) (state g mid) (state g says.at) (comes pass.survives) says.before;
-  failed = says.failed;
-}
+says_behind g old mid new told.Store any pass says =
+    failed_later g old mid new (comes pass.survives) says
 says_behind g old mid new told.Down any pass says = tt
 says_behind g old mid new (told.Damaged rule) any pass says = (says.0, any says.1)
 

@@ -3,7 +3,7 @@ ghost use Rattle.std.specs.Prelude.{◌≡◌, ◌≢◌, ℤ, [], List, Err, No
 ghost use Rattle.std.specs.Prelude.{IsSome, IsTrue, filter, map};
 ghost use Rattle.std.specs.Io.KnownBytes.{Appends};
 ghost use Rattle.sqlite.specs.State.{HasCleanDisk, Survives};
-ghost use Rattle.sqlite.specs.Held.{Held, state};
+ghost use Rattle.sqlite.specs.Held.{state};
 ghost use Rattle.posting_rules.specs.declared.fault.Fault.TheVariants.{Damaged, Down, Memory, Store};
 ghost use Rattle.posting_rules.specs.declared.fault.Rule.{Rule as Broken};
 ghost use Rattle.posting_rules.specs.Commands.{Command as Given};
@@ -139,7 +139,7 @@ pub fn write_statement<S: Alter + Drop, W: Sink>(
     ensures store { result ≡ Err (OfBank Store) → ((bank_seen S.Store bank.new).is_down → ⊥)
         → (bank_seen S.Store bank.new).honest → (rows : List Entry)
         → HasStoredRows (database_of S.Store bank.old) history_table rows
-        → (mid : Held S) × HasFailedToRead S.Store mid (connection_of bank.new) }
+        → HasFailedToRead S.Store (connection_of bank.old) (connection_of bank.new) }
     // Whatever it answers, a stop leaves what shows the log.
     ensures survives { (bank_seen S.Store bank.new).honest → (log : List Given)
         → StandsAt (bank_seen S.Store bank.old) log

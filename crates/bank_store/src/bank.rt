@@ -206,12 +206,13 @@ impl<S: Alter> fmt::Debug for Bank<S> {
 /// Each call is one transaction. See [`Bank`] for what holds after each fault.
 impl<S: Alter + Drop> Counter for Bank<S> {
     ghost use Rattle.posting_rules.specs.declared.rows.BranchRow.{BranchRow};
+    ghost use Rattle.bank_transactions.specs.Causes.{IsBefore};
     ghost use Rattle.bank_transactions.specs.Stored.{IsStoredBalance, IsStoredNext};
     ghost use Rattle.bank_batches.specs.Batches.{DecidesNone};
     ghost use Rattle.bank_store.specs.Down.{AnswersBy, KeepsCause, KeepsFile, OfDamage, TellsFailure};
     ghost use Rattle.bank_store.specs.Down.{WasBroken, WasBrokenOrMet};
     ghost use Rattle.bank_store.specs.NoneOrAll.{LeavesNoneOrAll, HasOnly};
-    ghost use Rattle.bank_store.specs.Seen.{bank_seen, database_of};
+    ghost use Rattle.bank_store.specs.Seen.{bank_seen, connection_of, database_of};
     ghost use Rattle.sqlite.specs.Effect.{Database};
     ghost use Rattle.posting_rules.specs.Sound.{AreOfALog};
 
@@ -326,6 +327,8 @@ impl<S: Alter + Drop> Counter for Bank<S> {
             → IsStoredBalance (database_of S.Store self.old) account balance) }
         ensures still { OnOk result ((bank_seen S.Store self.new).honest
             → database_of S.Store self.new ≡ database_of S.Store self.old) }
+        ensures later { OnOk result (IsBefore (state S.Store (connection_of self.old))
+            (state S.Store (connection_of self.new))) }
         ensures up { OnOk result ((bank_seen S.Store self.new).is_down → ⊥) }
         ensures fault { IfErr result (λ fault. Refuses fault (bank_seen S.Store self.old)
             (bank_seen S.Store self.new) []) }

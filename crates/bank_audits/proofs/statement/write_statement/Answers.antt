@@ -14,6 +14,7 @@ use Rattle.bank_audits.specs.Behind.{statement_behind}
 use Rattle.bank_audits.specs.Postings.{StatesRows}
 use Rattle.bank_audits.proofs.Further.{error_is, nothing_written}
 use Rattle.bank_audits.proofs.OnLogs.{account_rows, has_history}
+use Rattle.bank_audits.proofs.Passed.{failed_later}
 use Rattle.bank_audits.proofs.ReportLeaves.{clean_before, not_both, not_missing, not_ok, not_write}
 use Rattle.bank_audits.proofs.ReportLeaves.{of_err, of_ok, quiet_leaves, refused_before, untouched_stands}
 use Rattle.bank_audits.proofs.ReportLeaves.{refused_down, refused_leaves, refused_sound, same_fault}
@@ -226,7 +227,8 @@ returns-clause-cause g c is down = absurd (c.in_ok-balance.ensures.up (c.write_l
 
 pub returns-clause-store : goal.returns-clause-store
 returns-clause-store g c is up clean rows has =
-    (c.balance.new.self.conn, c.write_lines.ensures.store is clean rows (rows_at g c clean rows has))
+    failed_later g.S.Store c.args.bank.now.conn c.balance.new.self.conn c.write_lines.new.bank.conn
+    c.in_ok-balance.ensures.later (c.write_lines.ensures.store is clean rows (rows_at g c clean rows has))
 
 pub returns-clause-text : goal.returns-clause-text
 returns-clause-text g c = of_ok c.write_lines.result (λ is clean log s.

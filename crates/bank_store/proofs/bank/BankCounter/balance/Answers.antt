@@ -7,6 +7,7 @@ use Rattle.posting_rules.proofs.Stepping.{sound_tables}
 use Rattle.bank_store.proofs.Countered.{takes}
 use Rattle.bank_store.proofs.Refusing.{consult_refused, Refusal}
 use Rattle.bank_transactions.specs.Causes.{IsFirstBroken}
+use Rattle.bank_transactions.proofs.Blamed.{comes}
 use Rattle.bank_store.proofs.bank.BankCounter.balance.Given.{Over}
 use Rattle.bank_store.proofs.bank.BankCounter.balance.Goals as goal
 
@@ -36,6 +37,9 @@ returns-in-Ok-clause-stored g c = c.in-Ok.ensures.stored
 
 pub returns-in-Ok-clause-still : goal.returns-in-Ok-clause-still
 returns-in-Ok-clause-still g c = c.in-Ok.ensures.still
+
+pub returns-in-Ok-clause-later : goal.returns-in-Ok-clause-later
+returns-in-Ok-clause-later g c = comes c.in-Ok.ensures.says.survives
 
 pub returns-in-Ok-clause-fault : goal.returns-in-Ok-clause-fault
 returns-in-Ok-clause-fault g c = tt
