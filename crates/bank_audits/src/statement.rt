@@ -18,7 +18,7 @@ ghost use Rattle.bank_transactions.specs.Stored.{IsStoredBalance};
 ghost use Rattle.bank_walks.specs.Rows.{HasStoredRows};
 ghost use Rattle.bank_walks.specs.Stored.{is_of};
 ghost use Rattle.bank_reports.specs.Written.{AppendsPart};
-ghost use Rattle.bank_store.specs.Down.{KeepsCause};
+ghost use Rattle.bank_store.specs.Down.{KeepsCause, WasBroken};
 ghost use Rattle.bank_store.specs.Seen.{bank_seen, connection_of, database_of};
 ghost use Rattle.bank_store.specs.Walks.{IsStill, IsUntouchedIfOpen};
 ghost use Rattle.bank_audits.specs.declared.fault.ReportFault.TheVariants.{Bank as OfBank, NoAccount, Write};
@@ -140,6 +140,11 @@ pub fn write_statement<S: Alter + Drop, W: Sink>(
         → (bank_seen S.Store bank.new).honest → (rows : List Entry)
         → HasStoredRows (database_of S.Store bank.old) history_table rows
         → HasFailedToRead S.Store (connection_of bank.old) (connection_of bank.new) }
+    // Where damage brought the bank down, the rows that the file held break that rule, and it holds them yet.
+    ensures broken { (rule : Broken) → result ≡ Err (OfBank (Damaged rule)) → (bank_seen S.Store bank.new).is_down
+        → WasBroken S.Store bank.old bank.new rule }
+    ensures kept { (rule : Broken) → result ≡ Err (OfBank (Damaged rule)) → (bank_seen S.Store bank.new).is_down
+        → (bank_seen S.Store bank.new).honest → database_of S.Store bank.new ≡ database_of S.Store bank.old }
     // Whatever it answers, a stop leaves what shows the log.
     ensures survives { (bank_seen S.Store bank.new).honest → (log : List Given)
         → StandsAt (bank_seen S.Store bank.old) log

@@ -8,6 +8,7 @@ use Rattle.store_rows.specs.SixTables.{history as history_table}
 use Rattle.store_rows.specs.View.{history_entry}
 use Rattle.bank_walks.specs.Rows.{HasStoredRows}
 use Rattle.bank_reports.proofs.Written.{on_err_any}
+use Rattle.bank_store.specs.Down.{OfDamage, WasBroken}
 use Rattle.bank_store.specs.Seen.{bank_seen, database_of}
 use Rattle.bank_audits.specs.declared.fault.ReportFault.TheVariants.{Bank}
 use Rattle.bank_audits.specs.Behind.{statement_behind}
@@ -113,6 +114,15 @@ pub returns-in_err-balance-clause-cause : goal.returns-in_err-balance-clause-cau
 returns-in_err-balance-clause-cause g c is down =
     c.in_err-balance.ensures.cause (rw (same_fault _ _ _ (refusal g c) is) tt)
 
+pub returns-in_err-balance-clause-broken : goal.returns-in_err-balance-clause-broken
+returns-in_err-balance-clause-broken g c rule is down =
+    subst (λ fault. OfDamage fault (WasBroken g.S.Store c.args.bank.now c.balance.new.self))
+    (same_fault _ _ _ (refusal g c) is) c.in_err-balance.ensures.broken
+
+pub returns-in_err-balance-clause-kept : goal.returns-in_err-balance-clause-kept
+returns-in_err-balance-clause-kept g c rule is down =
+    c.in_err-balance.ensures.kept (rw (same_fault _ _ _ (refusal g c) is) tt)
+
 -- ---- where the account isn't open
 
 pub returns-in_default-clause-text : goal.returns-in_default-clause-text
@@ -166,6 +176,12 @@ returns-in_default-clause-cause g c is = absurd (not_missing _ _ is refl)
 
 pub returns-in_default-clause-store : goal.returns-in_default-clause-store
 returns-in_default-clause-store g c is = absurd (not_missing _ _ is refl)
+
+pub returns-in_default-clause-broken : goal.returns-in_default-clause-broken
+returns-in_default-clause-broken g c rule is = absurd (not_missing _ _ is refl)
+
+pub returns-in_default-clause-kept : goal.returns-in_default-clause-kept
+returns-in_default-clause-kept g c rule is = absurd (not_missing _ _ is refl)
 
 pub returns-in_default-clause-survives : goal.returns-in_default-clause-survives
 returns-in_default-clause-survives g c clean log at =
@@ -224,6 +240,12 @@ returns-clause-still g c clean up is_open =
 
 pub returns-clause-cause : goal.returns-clause-cause
 returns-clause-cause g c is down = absurd (c.in_ok-balance.ensures.up (c.write_lines.ensures.up down))
+
+pub returns-clause-broken : goal.returns-clause-broken
+returns-clause-broken g c rule is down = absurd (c.in_ok-balance.ensures.up (c.write_lines.ensures.up down))
+
+pub returns-clause-kept : goal.returns-clause-kept
+returns-clause-kept g c rule is down = absurd (c.in_ok-balance.ensures.up (c.write_lines.ensures.up down))
 
 pub returns-clause-store : goal.returns-clause-store
 returns-clause-store g c is up clean rows has =
