@@ -141,10 +141,11 @@ pub fn write_statement<S: Alter + Drop, W: Sink>(
         → HasStoredRows (database_of S.Store bank.old) history_table rows
         → HasFailedToRead S.Store (connection_of bank.old) (connection_of bank.new) }
     // Where damage brought the bank down, the rows that the file held break that rule, and it holds them yet.
-    ensures broken { (rule : Broken) → result ≡ Err (OfBank (Damaged rule)) → (bank_seen S.Store bank.new).is_down
-        → WasBroken S.Store bank.old bank.new rule }
-    ensures kept { (rule : Broken) → result ≡ Err (OfBank (Damaged rule)) → (bank_seen S.Store bank.new).is_down
-        → (bank_seen S.Store bank.new).honest → database_of S.Store bank.new ≡ database_of S.Store bank.old }
+    ensures broken { (rule : Broken) → result ≡ Err (OfBank (Damaged rule))
+        → (bank_seen S.Store bank.new).is_down → WasBroken S.Store bank.old bank.new rule }
+    ensures kept { (rule : Broken) → result ≡ Err (OfBank (Damaged rule))
+        → (bank_seen S.Store bank.new).is_down → (bank_seen S.Store bank.new).honest
+        → database_of S.Store bank.new ≡ database_of S.Store bank.old }
     // Whatever it answers, a stop leaves what shows the log.
     ensures survives { (bank_seen S.Store bank.new).honest → (log : List Given)
         → StandsAt (bank_seen S.Store bank.old) log

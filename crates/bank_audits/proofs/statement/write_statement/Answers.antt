@@ -211,8 +211,8 @@ rows_at : (g : Over) (c : goal.After-write_lines g)
     → HasStoredRows (database_of g.S.Store c.args.bank.now) history_table rows
     → HasStoredRows (database_of g.S.Store c.balance.new.self) history_table rows
 rows_at g c clean rows has =
-    subst (λ db. HasStoredRows db history_table rows) (sym (c.in_ok-balance.ensures.still (clean_at g c clean)))
-    has
+    let same = c.in_ok-balance.ensures.still (clean_at g c clean) in
+    subst (λ db. HasStoredRows db history_table rows) (sym same) has
 
 stated : (g : Over) (c : goal.After-write_lines g)
     → HasCleanDisk (state g.S.Store c.write_lines.new.bank.conn) → (rows : List Entry)
