@@ -320,8 +320,6 @@ impl<S: Alter + Drop> Counter for Bank<S> {
     fn balance(&mut self, account: Account) -> Result<Option<Cents>, Fault>
         ensures value { AnswersBy S.Store self.old self.new (λ log. balance_behind log account) result }
         ensures done { OnOk result (Takes (bank_seen S.Store self.old) (bank_seen S.Store self.new) []) }
-        ensures tables { OnOk result ((bank_seen S.Store self.new).honest → (t : Tables)
-            → (bank_seen S.Store self.old).tables t → (bank_seen S.Store self.new).tables t) }
         // Whatever rows the file holds.
         ensures stored { IfOk result (λ balance. (bank_seen S.Store self.new).honest
             → IsStoredBalance (database_of S.Store self.old) account balance) }
@@ -351,8 +349,6 @@ impl<S: Alter + Drop> Counter for Bank<S> {
             → ShowsLog (bank_seen S.Store self.old) log → IsNextBranch log after line) }
         ensures within { IfOk result (λ line. IfSome line (IsLineAbove after)) }
         ensures done { OnOk result (Takes (bank_seen S.Store self.old) (bank_seen S.Store self.new) []) }
-        ensures tables { OnOk result ((bank_seen S.Store self.new).honest
-            → (t : Tables) → (bank_seen S.Store self.old).tables t → (bank_seen S.Store self.new).tables t) }
         // Whatever rows the file holds.
         ensures stored { IfOk result (λ line. (bank_seen S.Store self.new).honest → (row : Option BranchRow)
             × IsStoredNext (database_of S.Store self.old) after row × (line ≡ option_map line_of row)) }

@@ -4,9 +4,7 @@ ghost use Rattle.sqlite.specs.State.{HasCleanDisk};
 ghost use Rattle.sqlite.specs.Held.{state};
 ghost use Rattle.posting_rules.specs.Branches.{IsLineAbove, line_of};
 ghost use Rattle.posting_rules.specs.Sound.{AreSound};
-ghost use Rattle.posting_rules.specs.Tables.{Tables};
 ghost use Rattle.store_rows.specs.Columns.{branch_above};
-ghost use Rattle.store_rows.specs.View.{Shows};
 ghost use Rattle.bank_transactions.specs.Doing.{Consults, Reads};
 ghost use Rattle.bank_transactions.specs.Stored.{IsStoredNext};
 
@@ -52,9 +50,6 @@ pub fn read_next_branch<S: Alter>(
     requires { conn.old.in_transaction ≡ false }
     ensures says { Consults S.Store conn.old conn.new AreSound (λ tables. branch_above tables after) result }
     ensures within { IfOk result (λ next. IfSome next (λ row. IsLineAbove after (line_of row))) }
-    ensures same { HasCleanDisk (state S.Store conn.new) → (tables : Tables)
-        → Shows (state S.Store conn.old).now tables
-        → OnOk result (Shows (state S.Store conn.new).now tables) }
     // Whatever rows the file holds.
     ensures stored { IfOk result (λ next. HasCleanDisk (state S.Store conn.new)
         → IsStoredNext (state S.Store conn.old).now after next) }

@@ -6,8 +6,6 @@ ghost use Rattle.posting_rules.specs.Changes.{reply_bytes, tables_with, tables_w
 ghost use Rattle.posting_rules.specs.Counter.{opening_for};
 ghost use Rattle.posting_rules.specs.LookUps.{account_balance_in, count_in};
 ghost use Rattle.posting_rules.specs.Sound.{AreSound};
-ghost use Rattle.posting_rules.specs.Tables.{Tables};
-ghost use Rattle.store_rows.specs.View.{Shows};
 ghost use Rattle.bank_transactions.specs.Doing.{Consults, Ends, Transacts};
 ghost use Rattle.bank_transactions.specs.Stored.{IsStoredBalance};
 
@@ -120,9 +118,6 @@ pub fn read_balance<S: Alter>(
     requires { conn.old.in_transaction ≡ false }
     ensures says { Consults S.Store conn.old conn.new AreSound
         (λ tables. account_balance_in tables account) result }
-    ensures same { HasCleanDisk (state S.Store conn.new) → (tables : Tables)
-        → Shows (state S.Store conn.old).now tables
-        → OnOk result (Shows (state S.Store conn.new).now tables) }
     // Whatever rows the file holds.
     ensures stored { IfOk result (λ balance. HasCleanDisk (state S.Store conn.new)
         → IsStoredBalance (state S.Store conn.old).now account balance) }

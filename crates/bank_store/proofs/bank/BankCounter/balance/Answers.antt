@@ -29,9 +29,6 @@ returns-in-Ok-clause-done g c =
     let Down = IsSome c.args.self.now.fault in
     takes sound_tables [] stays tt Down Down c.in_ok-up.ensures.up c.in-Ok.ensures.says
 
-pub returns-in-Ok-clause-tables : goal.returns-in-Ok-clause-tables
-returns-in-Ok-clause-tables g c clean t shows = c.in-Ok.ensures.same clean t shows
-
 pub returns-in-Ok-clause-stored : goal.returns-in-Ok-clause-stored
 returns-in-Ok-clause-stored g c = c.in-Ok.ensures.stored
 

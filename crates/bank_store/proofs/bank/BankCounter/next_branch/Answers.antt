@@ -44,7 +44,6 @@ returns-in-Ok g c =
           rw is (next_shown s.tables log s.shows after c.in-Ok.next next);
       within = rw is (mapped (IsLineAbove after) line_of c.in-Ok.next c.in-Ok.ensures.within);
       done = takes sound_tables [] stays tt Down Down c.in_ok-up.ensures.up says;
-      tables = λ clean t shows. c.in-Ok.ensures.same clean t shows;
       stored = λ clean. (c.in-Ok.next, c.in-Ok.ensures.stored clean, is);
       still = c.in-Ok.ensures.still;
       up = c.in_ok-up.ensures.up;
@@ -63,7 +62,6 @@ returns-in-Err g c =
     record {
       line = tt;
       within = tt;
-      tables = tt;
       stored = tt;
       still = tt;
       done = tt;
