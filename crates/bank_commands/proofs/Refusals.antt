@@ -1,8 +1,6 @@
 -- Why a connection was refused, by the fault that the command ends with.
-use Rattle.std.proofs.Common.{◌≡◌, ◌∙◌, ◌⊎◌, inl, inr, sym, ap, subst, Result, IfErr}
-use Rattle.std.proofs.lemmas.Result.{IfErr-weaker}
+use Rattle.std.proofs.Common.{◌≡◌, ◌∙◌, inl, inr, sym, ap, subst}
 use Rattle.sqlite.specs.State.{State, HasCleanDisk}
-use Rattle.sqlite_wal.specs.Recovery.{Image}
 use Rattle.bank_store.specs.NewBank.{IsTaken}
 use Rattle.bank_store.specs.OpenFaults.{IsUnmade}
 use Rattle.posting_rules.specs.declared.open_fault.OpenFault.{OpenFault}
@@ -10,18 +8,9 @@ use Rattle.posting_rules.specs.declared.open_fault.OpenFault.TheVariants.{NotBla
 use Rattle.bank_endings.specs.Faults.{fault_of_opening}
 use Rattle.bank_endings.specs.Looking.{IsOfLook}
 use Rattle.bank_endings.specs.declared.fault.CommandFault.{CommandFault}
-use Rattle.bank_files.specs.Opening.{IsOpenedOn}
-use Rattle.bank_commands.specs.Unfound.{IsOpenedIn, IsUnmadeOver}
+use Rattle.bank_commands.specs.Unfound.{IsUnmadeOver}
 
 module _ {C : Type 0} (state : C → State) where
-  -- what was met over the connection that was opened was met in what the files held
-  pub met_in : {X : Type 0} (result : Result X CommandFault) (image : Image) (start : C)
-      (Before : CommandFault → Type 0) (P : C → CommandFault → Type 0)
-      → (HasCleanDisk (state start) → IsOpenedOn image (state start)) → IfErr result (P start)
-      → IfErr result (λ fault. Before fault ⊎ IsOpenedIn state image (λ c. P c fault))
-  met_in result image start Before P opened met =
-      IfErr-weaker result _ _ (λ fault it. inr record { start = start; opened = opened; holds = it }) met
-
   pub unmade_over : (start end : C) (opening : OpenFault) (fault : CommandFault)
       → fault ≡ fault_of_opening opening → IsUnmade opening
       → (HasCleanDisk (state end) → opening ≡ NotBlank → IsTaken (state start))

@@ -1,15 +1,12 @@
 -- What the tables hold of a bank that shows tables.
 use Rattle.std.proofs.Common.{List, [], ◌∷◌, map, refl}
 use Rattle.sqlite.specs.Effect.{Database}
-use Rattle.sqlite.specs.Table.{Table}
 use Rattle.posting_rules.specs.Tables.{Tables}
-use Rattle.sql_meanings.specs.Entries.{Entry}
 use Rattle.store_rows.specs.SixTables as six
 use Rattle.store_rows.specs.View.{Shows, account_entry, branch_entry, history_entry, request_entry}
 use Rattle.store_rows.specs.View.{teller_entry}
 use Rattle.store_rows.proofs.BankTables.{Kind, holds, table_of}
 use Rattle.store_rows.proofs.TheTables as the
-use Rattle.bank_walks.specs.Pairs.{HasPairs, paired}
 use Rattle.bank_walks.specs.Rows.{HasStoredRows, HaveKeys, entry_key}
 
 -- keys of a bank's rows are numbers of 64 bits
@@ -40,19 +37,3 @@ module _ (db : Database) (t : Tables) (shows : Shows db t) where
 
   pub has_requests : HasStoredRows db six.request (map request_entry t.requests)
   has_requests = has_rows the.requests
-
-  -- the rows of two tables are pairs of them
-  has_both : (table other : Table) (rows others : List Entry) → HasStoredRows db table rows
-      → HasStoredRows db other others → HasPairs db table other (paired others rows)
-  has_both table other rows others has has_others =
-      record { rows = rows; others = others; has = has; has_others = has_others; are = refl }
-
-  -- each request with the posting of its ordinal
-  pub has_asked : HasPairs db six.request six.history
-      (paired (map history_entry t.history) (map request_entry t.requests))
-  has_asked = has_both six.request six.history _ _ has_requests has_history
-
-  -- each posting with the request of its ordinal
-  pub has_posted : HasPairs db six.history six.request
-      (paired (map request_entry t.requests) (map history_entry t.history))
-  has_posted = has_both six.history six.request _ _ has_history has_requests

@@ -129,8 +129,3 @@ module _ {R : Type 0} (entry : R → Entry) (rows : List R) (i : ℕ) (r : R) (k
   -- it is under the key
   pub found_at : has_key k (entry r) ≡ true → row_under (map entry (drop i rows)) k ≡ Some (entry r)
   found_at is = ap (λ l. row_under (map entry l) k) drops ∙ rw is refl
-
-  -- it isn't
-  pub not_at : has_key k (entry r) ≡ false
-      → row_under (map entry (drop i rows)) k ≡ row_under (map entry (drop (suc i) rows)) k
-  not_at is = ap (λ l. row_under (map entry l) k) drops ∙ rw is refl
