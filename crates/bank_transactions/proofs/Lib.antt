@@ -3,6 +3,7 @@ pub mod Blamed
 pub mod Broken
 pub mod Chained
 pub mod FailedBalances
+pub mod FittingAccounts
 pub mod NextRow
 pub mod Opened
 pub mod ReadsInTurn

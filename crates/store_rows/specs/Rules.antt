@@ -120,11 +120,13 @@ TellersFit rows = (n : ℕ) → 1 ≤ n → n ≤ MAX_TELLER
     → (IsSome (row_under rows.tellers n) → IsSome (branch_under rows (branch_of_teller n)))
     × (IsSome (branch_under rows (branch_of_teller n)) → IsSome (row_under rows.tellers n))
 
--- an account has a row just where its place is within its branch's count
-abbrev pub AccountsFit : StoredRows → Type 0
-AccountsFit rows = (n : ℕ) → 1 ≤ n → n ≤ MAX_ACCOUNT
-    → (IsSome (row_under rows.accounts n) → IsWithinCount rows n)
+-- the account has a row just where its place is within its branch's count
+abbrev pub AccountFits : StoredRows → ℕ → Type 0
+AccountFits rows n = (IsSome (row_under rows.accounts n) → IsWithinCount rows n)
     × (IsWithinCount rows n → IsSome (row_under rows.accounts n))
+
+abbrev pub AccountsFit : StoredRows → Type 0
+AccountsFit rows = (n : ℕ) → 1 ≤ n → n ≤ MAX_ACCOUNT → AccountFits rows n
 
 -- no ordinal above those that are decided is taken, and no teller and no account of a branch that isn't there
 pub record AreFree (rows : StoredRows) : Type 0 where

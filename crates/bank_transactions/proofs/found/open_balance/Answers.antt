@@ -1,5 +1,11 @@
 -- What the balance of an account tells.
-use Rattle.std.proofs.Common.{◌≡◌, Err, rules}
+use Rattle.std.proofs.Common.{◌≡◌, ℕ, Ok, Err, rules, sym, subst, arith}
+use Rattle.sqlite.specs.Effect.{Database}
+use Rattle.sqlite.specs.Held.{state}
+use Rattle.sqlite.specs.State.{HasCleanDisk}
+use Rattle.store_rows.specs.Rules.{BranchKeeps, HoldsBank, branch_under}
+use Rattle.store_rows.specs.Stored.{FindsStored, IsBranch}
+use Rattle.bank_transactions.proofs.FittingAccounts.{fits}
 use Rattle.store_rows.specs.declared.holders.Member.TheVariants.{Account}
 use Rattle.bank_transactions.proofs.FailedBalances.{balance_failed}
 use Rattle.bank_transactions.proofs.ReadsInTurn.{behind_found}
@@ -20,7 +26,27 @@ returns-then-is_some-is_open-clause-says g c =
       survives = search rules;
     }
 
+pub returns-then-is_some-is_open-clause-stored : goal.returns-then-is_some-is_open-clause-stored
+returns-then-is_some-is_open-clause-stored g c = tt
+
 pub returns-in_err-branch-clause-says : goal.returns-in_err-branch-clause-says
 returns-in_err-branch-clause-says g c =
     let same : c.from_residual-in_err-branch.result ≡ Err c.in_err-branch.field-0.0 = search rules in
     rw same (behind_found c.in_err-branch.field-0.0 c.in_ok-balance.ensures c.in_err-branch.ensures.says)
+
+pub returns-clause-stored : goal.returns-clause-stored
+returns-clause-stored g c clean =
+    let mid : HasCleanDisk (state g.S.Store c.balance_of.new.tx.conn.now) =
+    omega (arith, c.in_ok-branch.ensures.says.survives.clean, clean) in
+    let looked = c.in_ok-balance.ensures.kept mid in
+    record {
+      found = looked.1;
+      fits = λ rows has.
+          let there : HoldsBank (state g.S.Store c.balance_of.new.tx.conn.now).now rows =
+          subst (λ (db : Database). HoldsBank db rows) (sym looked.0.0.now_is) has in
+          let branch =
+          subst (λ (k : ℕ). FindsStored (branch_under rows k) IsBranch BranchKeeps (Ok c.in_ok-branch.branch))
+          c.branch_of_account.ensures (c.in_ok-branch.ensures.stored clean rows there) in
+          fits rows c.args.account c.in_ok-balance.balance c.in_ok-branch.branch (looked.1 rows has) branch
+          (search rules);
+    }

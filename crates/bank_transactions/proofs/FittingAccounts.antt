@@ -1,0 +1,48 @@
+-- An account that was looked up beside its branch fits that branch.
+use Rattle.std.proofs.Common.{◌≡◌, ◌≤ℤ◌, ℕ, ℤ, pos, true, Option, Some, None, Ok, refl, sym, subst, arith}
+use Rattle.std.specs.Prelude.{is_some, nat_le, option_map}
+use Rattle.std.proofs.lemmas.Int.{ints}
+use Rattle.std.proofs.lemmas.Bool.Decides.{nat_tests}
+use Rattle.posting_rules.specs.Commands.{branch_of_account, is_within, place_of_account}
+use Rattle.posting_rules.specs.LookUps.{count_of_branch}
+use Rattle.posting_rules.specs.declared.rows.BranchRow.{BranchRow}
+use Rattle.sql_meanings.specs.Entries.{Entry}
+use Rattle.store_rows.specs.Columns.{number_at}
+use Rattle.store_rows.specs.Rules.{AccountFits, BranchKeeps, StoredRows, branch_under, row_under}
+use Rattle.store_rows.specs.Stored.{BalanceKeeps, FindsStored, IsBalance, IsBranch}
+
+le_number : (a b : ℕ) → nat_le a b ≡ true → pos a ≤ℤ pos b
+le_number a b le = grind (arith, nat_tests, ints)
+
+le_test : (a b : ℕ) → pos a ≤ℤ pos b → nat_le a b ≡ true
+le_test a b le = grind (arith, nat_tests, ints)
+
+same_entry : (o : Option Entry) (r s : Entry) → o ≡ Some r → o ≡ Some s → s ≡ r
+same_entry o r s one two = cc
+
+module _ (rows : StoredRows) (n : ℕ) where
+  abbrev Finds : Option ℤ → Type 0
+  Finds balance = FindsStored (row_under rows.accounts n) IsBalance BalanceKeeps (Ok balance)
+
+  abbrev Has : Option BranchRow → Type 0
+  Has branch = FindsStored (branch_under rows (branch_of_account n)) IsBranch BranchKeeps (Ok branch)
+
+  pub fits : (balance : Option ℤ) (branch : Option BranchRow) → Finds balance → Has branch
+      → is_some balance ≡ is_within (place_of_account n) (option_map count_of_branch branch)
+      → AccountFits rows n
+  fits None None finds has is = (λ there. absurd cc, λ within. absurd (let found = within.1 in cc))
+  fits None (Some b) finds has is = (
+    λ there. absurd cc,
+    λ within. absurd (let same = same_entry _ has.0 within.0 has.1 within.1 in
+        let count = subst (λ (e : Entry). pos (place_of_account n) ≤ℤ number_at 0 e) same within.2 in
+        let le = le_test (place_of_account n) b.accounts
+        (subst (λ (k : ℤ). pos (place_of_account n) ≤ℤ k) has.2.1 count) in
+        cc),
+  )
+  fits (Some z) None finds has is = absurd cc
+  fits (Some z) (Some b) finds has is = (
+    λ there.
+        let le = le_number (place_of_account n) b.accounts (sym is) in
+        (has.0, has.1, subst (λ (k : ℤ). pos (place_of_account n) ≤ℤ k) (sym has.2.1) le),
+    λ within. (let found = finds.1 in cc),
+  )
