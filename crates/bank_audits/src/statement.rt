@@ -113,7 +113,7 @@ pub fn write_statement<S: Alter + Drop, W: Sink>(
         → HasStoredRows (database_of S.Store bank.old) history_table rows
         → StatesRows (database_of S.Store bank.old) account rows
         (W.contents writer.old) (W.contents writer.new) result }
-    // Of any file, the account has no row.
+    // Of any file, the account has no row, and none is due by its branch's count.
     ensures absent { result ≡ Err NoAccount → (bank_seen S.Store bank.new).honest
         → IsStoredBalance (database_of S.Store bank.old) account None }
     // As long as the store is open and the bank isn't down, the file holds what it held.

@@ -3,8 +3,6 @@ use Rattle.std.proofs.Common.{◌≡◌, ◌≤◌, ◌<◌, ℕ, zero, suc, ℤ
 use Rattle.std.proofs.Common.{Option, Some, None, option_map, refl, sym, ap, subst, ◌∙◌, arith}
 use Rattle.std.specs.Prelude.{◌&&◌, cond, ◌≤ℤ◌, nat_le, nat_eq, is_some, option_and_then}
 use Rattle.std.specs.List.{AllByRecursion, Contains}
-use Rattle.std.proofs.lemmas.Bool.Decides.{nat_tests}
-use Rattle.std.proofs.lemmas.Int.{ints}
 use Rattle.message_records.specs.Ranges.{whole_within}
 use Rattle.message_records.specs.declared.limits.TheConstants.{MAX_BRANCH}
 use Rattle.posting_rules.specs.Commands.{Command, AreCommands, branch_of_teller, branch_of_account}
@@ -27,6 +25,7 @@ use Rattle.store_rows.specs.Rules.{PostingKeeps, RequestKeeps, TellerKeeps, bran
 use Rattle.store_rows.specs.View.{account_entry, branch_entry, history_entry, request_entry, teller_entry}
 use Rattle.store_rows.specs.declared.metas.TheConstants.{VERSION}
 use Rattle.store_rows.proofs.RowLists.{found_by, has_row_key, taken_row_key}
+use Rattle.bank_transactions.proofs.FittingAccounts.{le_number, le_test, same_entry}
 use Rattle.bank_transactions.proofs.SoundRows.{no_branch_beyond}
 use Rattle.bank_lives.specs.TableRows.{stored_rows}
 
@@ -133,20 +132,11 @@ module _ (t : Tables) (sound : IsUndamaged t) where
   account_there n least = taken_row_key account_key account_entry (λ _. refl) n t.accounts
       ∙ sound.accounts n least
 
-  le_number : (a b : ℕ) → nat_le a b ≡ true → pos a ≤ℤ pos b
-  le_number a b le = grind (arith, nat_tests, ints)
-
-  le_test : (a b : ℕ) → pos a ≤ℤ pos b → nat_le a b ≡ true
-  le_test a b le = grind (arith, nat_tests, ints)
-
   counted : (n : ℕ) (o : Option BranchRow) → branch_under (stored_rows t) (branch_of_account n)
       ≡ option_map branch_entry o
       → is_within (place_of_account n) (option_map count_of_branch o) ≡ true → IsWithinCount (stored_rows t) n
   counted n None is within = absurd cc
   counted n (Some r) is within = (branch_entry r, is, le_number (place_of_account n) r.accounts within)
-
-  same_entry : (o : Option Entry) (r s : Entry) → o ≡ Some r → o ≡ Some s → s ≡ r
-  same_entry o r s one two = cc
 
   uncounted : (n : ℕ) (o : Option BranchRow) → branch_under (stored_rows t) (branch_of_account n)
       ≡ option_map branch_entry o

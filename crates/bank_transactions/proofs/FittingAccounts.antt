@@ -1,5 +1,5 @@
 -- An account that was looked up beside its branch fits that branch.
-use Rattle.std.proofs.Common.{◌≡◌, ◌≤ℤ◌, ℕ, ℤ, pos, true, Option, Some, None, Ok, refl, sym, subst, arith}
+use Rattle.std.proofs.Common.{◌≡◌, ◌≤ℤ◌, ℕ, ℤ, pos, true, Option, Some, None, Ok, sym, subst, arith}
 use Rattle.std.specs.Prelude.{is_some, nat_le, option_map}
 use Rattle.std.proofs.lemmas.Int.{ints}
 use Rattle.std.proofs.lemmas.Bool.Decides.{nat_tests}
@@ -11,13 +11,15 @@ use Rattle.store_rows.specs.Columns.{number_at}
 use Rattle.store_rows.specs.Rules.{AccountFits, BranchKeeps, StoredRows, branch_under, row_under}
 use Rattle.store_rows.specs.Stored.{BalanceKeeps, FindsStored, IsBalance, IsBranch}
 
-le_number : (a b : ℕ) → nat_le a b ≡ true → pos a ≤ℤ pos b
+-- the test on numbers, said of the whole numbers that a row holds
+pub le_number : (a b : ℕ) → nat_le a b ≡ true → pos a ≤ℤ pos b
 le_number a b le = grind (arith, nat_tests, ints)
 
-le_test : (a b : ℕ) → pos a ≤ℤ pos b → nat_le a b ≡ true
+pub le_test : (a b : ℕ) → pos a ≤ℤ pos b → nat_le a b ≡ true
 le_test a b le = grind (arith, nat_tests, ints)
 
-same_entry : (o : Option Entry) (r s : Entry) → o ≡ Some r → o ≡ Some s → s ≡ r
+-- what was found twice is one row
+pub same_entry : (o : Option Entry) (r s : Entry) → o ≡ Some r → o ≡ Some s → s ≡ r
 same_entry o r s one two = cc
 
 module _ (rows : StoredRows) (n : ℕ) where
