@@ -1,9 +1,9 @@
 #!/usr/bin/env python3
-"""Checks that the program on each library's page is one that the gate runs, line for line.
+"""Checks that the program on each library's page, and that of README.md, is one that the gate runs, line for line.
 
     tools/pages.py
 
-The page of a library is the `//!` lines at the head of its src/lib.rt. It has one ```rust block, and the paragraph before
+The page of a library is the `//!` lines at the head of its src/lib.rt. A page has one ```rust block, and the paragraph before
 it names "the test `NAME` of `CRATE`", "the function `NAME` of `CRATE`" or "the program `CRATE`". The block's lines stand
 one directly after the other in a file of that crate, from the first import to the end of the test, which is marked as one,
 of the function, which is called elsewhere in the crate, or of `main`. Blank lines, `#[test]` and indentation don't count.
@@ -14,6 +14,7 @@ import sys
 from pathlib import Path
 
 CRATES = Path(__file__).resolve().parent.parent / "crates"
+README = CRATES.parent / "README.md"
 
 # What these have is tests, what tests and trials are made with, and lemmas: no program begins with them.
 NO_PROGRAM = {"bank_scenarios", "counter_tests", "failing_ends", "http_tests", "sql_meanings", "store_tests"}
@@ -80,15 +81,14 @@ def fault_of(page):
 
 
 def main():
-    faulty = False
+    pages = {"README.md": README.read_text().splitlines()}
     for lib in sorted(CRATES.glob("*/src/lib.rt")):
-        crate = lib.parent.parent.name
-        if crate in NO_PROGRAM:
-            continue
-        fault = fault_of(page_of(lib))
-        print(f"{crate}: {fault or 'as it is run'}")
-        faulty = faulty or fault is not None
-    sys.exit(faulty)
+        if lib.parent.parent.name not in NO_PROGRAM:
+            pages[lib.parent.parent.name] = page_of(lib)
+    faults = {name: fault_of(page) for name, page in pages.items()}
+    for name, fault in faults.items():
+        print(f"{name}: {fault or 'as it is run'}")
+    sys.exit(any(faults.values()))
 
 
 if __name__ == "__main__":
