@@ -1,7 +1,7 @@
 -- What is found of a bank, and that nothing is missed where a log is shown.
 use Rattle.std.proofs.Common.{◌≡◌, ◌≤◌, ℕ, ℤ, pos, List, [], ◌∷◌, length, map, Option, Some, None, Ok, Err}
 use Rattle.std.proofs.Common.{Result, refl, sym, ap, subst, ◌∙◌, inl, inr, arith}
-use Rattle.std.specs.Prelude.{◌⊎◌, ◌<ℤ◌}
+use Rattle.std.specs.Prelude.{◌⊎◌, ◌≢◌, ◌<ℤ◌}
 use Rattle.std.proofs.lemmas.Int.{ints}
 use Rattle.sqlite.specs.Table.{Table}
 use Rattle.sqlite.specs.Effect.{Database}
@@ -25,17 +25,19 @@ use Rattle.store_rows.specs.Statements.{HasOtherValue}
 use Rattle.store_rows.specs.View.{HoldsRows, Shows, contents, meta_entry}
 use Rattle.store_rows.specs.declared.metas.StoredMeta.{StoredMeta}
 use Rattle.bank_store.specs.Connections.{IsAsBefore, IsReadOnly}
-use Rattle.bank_store.specs.FoundBank.{MetaIs, Misses, SeeksBank}
+use Rattle.bank_store.specs.FoundBank.{HasNoOtherVersion, MetaIs, Misses, SeeksBank}
 use Rattle.bank_store.specs.MetaRow.{IsOurs, IsOfVersion, IsNoCount, ChecksMeta, TellsMeta, IsOfOtherType}
 use Rattle.bank_store.specs.OpenFaults.{RowIsUnread}
-use Rattle.bank_store.specs.TablePresence.{Lacks, IsPresent}
-use Rattle.bank_store.specs.declared.presence.Presence.TheVariants.{Absent, Whole}
+use Rattle.bank_store.specs.TablePresence.{Lacks, IsPresent, IsReadable}
+use Rattle.bank_store.specs.declared.presence.Presence.{Presence}
+use Rattle.bank_store.specs.declared.presence.Presence.TheVariants.{Absent, Partial, Whole}
 use Rattle.posting_rules.specs.declared.open_fault.OpenFault.{OpenFault}
 use Rattle.posting_rules.specs.declared.open_fault.OpenFault.TheVariants.{Store, NotBlank, Blank, Foreign, Version}
 use Rattle.posting_rules.specs.declared.open_fault.OpenFault.TheVariants.{Damaged}
 use Rattle.store_rows.proofs.Checked.{one_at_most}
 use Rattle.store_rows.proofs.MetaRow.{has_one}
 use Rattle.store_rows.specs.declared.metas.TheConstants.{VERSION}
+use Rattle.bank_store.proofs.MetaRow.{other_version}
 use Rattle.bank_store.proofs.Probed.{as_before}
 use Rattle.posting_rules.specs.declared.limits.TheConstants.{MAX_DECIDED}
 
@@ -135,7 +137,7 @@ module _ (old mid new : State) (stored : Option StoredMeta) (tables : IsPresent 
   looked (Err NotBlank) checks = absurd checks
   looked (Err Blank) checks = absurd checks
   looked (Err Foreign) checks = absurd checks
-  looked (Err (Version n)) checks = ((tables, row_is (IsOfVersion n) checks), same)
+  looked (Err (Version n)) checks = ((tables.0, row_is (IsOfVersion n) checks), same)
   looked (Err (Damaged Meta)) checks = ((tables, row_is IsNoCount checks), same)
   looked (Err (Damaged Teller)) checks = absurd checks
   looked (Err (Damaged Account)) checks = absurd checks
@@ -143,6 +145,86 @@ module _ (old mid new : State) (stored : Option StoredMeta) (tables : IsPresent 
   looked (Err (Damaged Request)) checks = absurd checks
   looked (Err (Damaged Value)) checks = absurd checks
   looked (Err (Damaged Key)) checks = absurd checks
+
+-- ---- the version comes first
+
+module _ (old mid : State) (same : IsAsBefore old mid) where
+  meta_at : (P : Option StoredMeta → Type 0) → MetaIs mid P → MetaIs old P
+  meta_at P is rows has = is rows (subst (λ (db : Database). HoldsRows db six.meta rows) (sym same.now_is) has)
+
+  present_at : (p : Presence) → IsPresent mid.now six_probes p → IsPresent old.now six_probes p
+  present_at p = subst (λ (db : Database). IsPresent db six_probes p) same.now_is
+
+  -- nothing has changed, so there is no other version yet
+  pub no_other_yet : HasNoOtherVersion old → HasNoOtherVersion mid
+  no_other_yet none n rows has =
+      none n rows (subst (λ (db : Database). HoldsRows db six.meta rows) same.now_is has)
+
+  misses_at : (fault : OpenFault) → Misses mid fault → Misses old fault
+  misses_at Store misses = tt
+  misses_at NotBlank misses = absurd misses
+  misses_at Blank misses = present_at Absent misses
+  misses_at Foreign misses = (present_at Partial misses.0, λ n. meta_at (λ stored. IsOfVersion n stored → ⊥) (misses.1 n))
+  misses_at (Version n) misses = (
+    subst (λ (db : Database). IsReadable db probe.meta) same.now_is misses.0,
+    meta_at (IsOfVersion n) misses.1,
+  )
+  misses_at (Damaged Meta) misses = (present_at Whole misses.0, meta_at IsNoCount misses.1)
+  misses_at (Damaged Teller) misses = absurd misses
+  misses_at (Damaged Account) misses = absurd misses
+  misses_at (Damaged Balance) misses = absurd misses
+  misses_at (Damaged Request) misses = absurd misses
+  misses_at (Damaged Value) misses = (
+    present_at Whole misses.0,
+    meta_at (λ _. ⊥) misses.1,
+    subst HasOtherValue same.now_is misses.2,
+  )
+  misses_at (Damaged Key) misses = absurd misses
+
+  reads_at : (new : State) (fault : OpenFault) → IsReadOnly {X = Unit {0}} mid new (Err fault)
+      → IsReadOnly {X = Unit {0}} old new (Err fault)
+  reads_at new Store reads = λ still. as_before old mid new same (reads still)
+  reads_at new NotBlank reads = as_before old mid new same reads
+  reads_at new Blank reads = as_before old mid new same reads
+  reads_at new Foreign reads = as_before old mid new same reads
+  reads_at new (Version n) reads = as_before old mid new same reads
+  reads_at new (Damaged rule) reads = as_before old mid new same reads
+
+  -- what is found then was there before
+  pub seeks_at : (new : State) (r : Result (Unit {0}) OpenFault) → SeeksBank mid new r → SeeksBank old new r
+  seeks_at new (Ok done) found = record {
+    tables = present_at Whole found.tables;
+    meta = meta_at IsOurs found.meta;
+    one = λ rows has. found.one rows (subst (λ (db : Database). HoldsRows db six.meta rows) (sym same.now_is) has);
+    same = as_before old mid new same found.same;
+  }
+  seeks_at new (Err fault) missed = (misses_at fault missed.0, reads_at new fault missed.1)
+
+-- where the probe of `meta` isn't understood, it holds no rows
+pub no_rows_there : (old : State) → Lacks old.now probe.meta → HasNoOtherVersion old
+no_rows_there old lacks n rows has other = lacks.1 has.sound has.holds.defined
+
+-- what its row says of another version
+pub no_other_read : (old : State) (stored : Option StoredMeta)
+    → ((rows : List Entry) → HoldsRows old.now six.meta rows → stored ≡ meta_in rows)
+    → ((n : ℤ) → IsOfVersion n stored → ⊥) → HasNoOtherVersion old
+no_other_read old stored read none n rows has other =
+    none n (subst (IsOfVersion n) (sym (read rows has)) other)
+
+-- the row of `meta` has another version
+pub other_read : (old mid new : State) (m : StoredMeta) (version : ℤ) → IsReadable old.now probe.meta
+    → IsAsBefore old mid → ((rows : List Entry) → HoldsRows mid.now six.meta rows → Some m ≡ meta_in rows)
+    → IsAsBefore mid new → version ≡ m.version → version ≢ VERSION
+    → Misses old (Version version) × IsReadOnly {X = Unit {0}} old new (Err (Version version))
+other_read old mid new m version there first read then same other = (
+  (
+    there,
+    λ rows has. subst (IsOfVersion version)
+        (read rows (subst (λ (db : Database). HoldsRows db six.meta rows) (sym first.now_is) has))
+        (other_version m version same other),
+  ),
+  as_before old mid new first then,
+)
 
 -- ---- where a log is shown
 
@@ -177,8 +259,8 @@ not_outside z n most is le (inr above) = let h = rw is at above in omega (arith,
 not_missing : (stored : Option StoredMeta) → IsOurs stored → IsNoCount stored → ⊥
 not_missing stored ours (inl none) = let both = sym none ∙ ours.1 in cc
 not_missing stored ours (inr outside) =
-    not_outside outside.1 ours.0 MAX_DECIDED (sym (ap decided_in outside.2) ∙ ap decided_in ours.1) ours.2
-    outside.3
+    not_outside outside.0 ours.0 MAX_DECIDED (sym (ap decided_in outside.1) ∙ ap decided_in ours.1) ours.2
+    outside.2
 
 -- a bank that shows a log is missed only where the store failed
 pub known : (old : State) (fault : OpenFault) (t : Tables) (log : List Command) → Misses old fault
@@ -187,7 +269,7 @@ known old Store t log misses shows are log_shown = refl
 known old NotBlank t log misses shows are log_shown = absurd misses
 known old Blank t log misses shows are log_shown = absurd (no_bank old.now t misses shows)
 known old Foreign t log misses shows are log_shown =
-    absurd (lacks_none old.now t shows misses.1.0 misses.1.1 misses.1.2)
+    absurd (lacks_none old.now t shows misses.0.1.0 misses.0.1.1 misses.0.1.2)
 known old (Version n) t log misses shows are log_shown =
     absurd (not_other _ n (holds t (undamaged t log are log_shown))
     (misses.1 (meta_entry t.decided ∷ []) (has_one old.now t shows)))

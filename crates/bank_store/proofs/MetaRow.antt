@@ -1,5 +1,6 @@
 -- What the row of the bank tells, and what stands after it was read.
-use Rattle.std.proofs.Common.{◌≡◌, Option, Err, refl, sym, ap, subst, ◌∙◌, inl, inr}
+use Rattle.std.proofs.Common.{◌≡◌, ℤ, Option, Some, Err, refl, sym, ap, subst, ◌∙◌, inl, inr}
+use Rattle.std.specs.Prelude.{◌≢◌}
 use Rattle.sqlite.specs.State.{State, store_error}
 use Rattle.sqlite.specs.declared.error.Error.{Error}
 use Rattle.sqlite_trees.specs.declared.error.StoreError.{StoreError}
@@ -8,12 +9,13 @@ use Rattle.sql_meanings.specs.Outcomes.{IsStoreError}
 use Rattle.store_rows.specs.Outcomes.{Finds, Never}
 use Rattle.store_rows.specs.declared.fault.TableFault.{TableFault}
 use Rattle.store_rows.specs.declared.fault.TableFault.TheVariants.{Sqlite, Damaged}
+use Rattle.store_rows.specs.declared.metas.TheConstants.{VERSION}
 use Rattle.store_rows.specs.declared.metas.StoredMeta.{StoredMeta}
 use Rattle.posting_rules.specs.declared.open_fault.OpenFault.{OpenFault}
 use Rattle.posting_rules.specs.declared.open_fault.OpenFault.TheVariants.{Store}
 use Rattle.sqlite.specs.Effect.{Database}
 use Rattle.store_rows.specs.Statements.{TellsOther}
-use Rattle.bank_store.specs.MetaRow.{IsOfOtherType, TellsMeta}
+use Rattle.bank_store.specs.MetaRow.{IsOfOtherType, IsOfVersion, TellsMeta}
 use Rattle.bank_store.specs.OpenFaults.{unread_by}
 
 by_cause : (c : StoreError) → unread_by (Sqlite (store_error c)) ≡ Store
@@ -36,6 +38,12 @@ pub read_err : (old new : State) (wanted : Option StoredMeta) (e : TableFault)
 read_err old new wanted (Sqlite e) finds =
     subst (λ (f : OpenFault). TellsMeta wanted (Err f)) (sym (by_store old new e finds)) tt
 read_err old new wanted (Damaged rule) finds = absurd finds.0.2
+
+-- a row has another version than ours
+pub other_version : (m : StoredMeta) (version : ℤ) → version ≡ m.version → version ≢ VERSION
+    → IsOfVersion version (Some m)
+other_version m version same other =
+    (m.decided, ap (λ (x : ℤ). let it : StoredMeta = record m { version = x } in Some it) (sym same), other)
 
 -- what is told as a damaged value is one
 pub other_value : (db : Database) (e : TableFault) → TellsOther db e → IsOfOtherType db (unread_by e)

@@ -20,11 +20,11 @@ abbrev pub IsOfVersion : ℤ → Option StoredMeta → Type 0
 IsOfVersion version stored =
     (decided : ℤ) × (stored ≡ Some (record { version = version; decided = decided })) × (version ≢ VERSION)
 
--- it is missing, or its count is outside its range
+-- it is missing, or it has our version and its count is outside its range
 abbrev pub IsNoCount : Option StoredMeta → Type 0
 IsNoCount stored =
     (stored ≡ None)
-    ⊎ ((version decided : ℤ) × (stored ≡ Some (record { version = version; decided = decided }))
+    ⊎ ((decided : ℤ) × (stored ≡ Some (record { version = VERSION; decided = decided }))
     × ((decided <ℤ pos 0) ⊎ (pos MAX_DECIDED <ℤ decided)))
 
 -- what is said against the row

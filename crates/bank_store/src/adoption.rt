@@ -10,14 +10,14 @@ ghost use Rattle.sql_meanings.specs.Entries.{Entry};
 ghost use Rattle.store_rows.specs.SixTables.{meta as table};
 ghost use Rattle.store_rows.specs.View.{HoldsRows};
 ghost use Rattle.bank_store.specs.Connections.{conn_seen, state_in, IsAsBefore, IsReadOnly, IsUndoneIfOpen};
-ghost use Rattle.bank_store.specs.FoundBank.{BankIsFound, Misses, SeeksBank};
+ghost use Rattle.bank_store.specs.FoundBank.{BankIsFound, HasNoOtherVersion, LooksAtVersion, Misses, SeeksBank};
 ghost use Rattle.bank_store.specs.MetaRow.{ChecksMeta, TellsMeta, IsOfOtherType};
 ghost use Rattle.bank_store.specs.OpenFaults.{RowIsUnread};
 ghost use Rattle.bank_store.specs.Seen.{alloc_of, bank_seen, connection_of};
 ghost use Rattle.bank_store.specs.StoreFaults.{KnowsCause};
 
 use crate::bank::Bank;
-use crate::presence::{Presence, tables_there};
+use crate::presence::{BankTable, Presence, count_tables, tables_there};
 use crate::refused::{Refused, unread};
 use bank_transactions::{begin, note_settled};
 use posting_rules::{MAX_DECIDED, OpenFault, Rule};
@@ -83,9 +83,10 @@ fn check_meta(meta: &StoredMeta) -> Result<(), OpenFault>
     Ok(())
 }
 
-// Looks for the six tables, and then for the row of `meta`.
-fn find_bank<S: Alter>(conn: &mut Connection<S>) -> Result<(), OpenFault>
-    requires { conn.old.in_transaction ≡ false }
+// Looks for the tables of a bank, and then for the row of `meta`.
+fn find_tables<S: Alter>(conn: &mut Connection<S>) -> Result<(), OpenFault>
+    requires mode { conn.old.in_transaction ≡ false }
+    requires ours { HasCleanDisk (state S.Store conn.old) → HasNoOtherVersion (state S.Store conn.old) }
     ensures told { HasCleanDisk (state S.Store conn.new)
         → SeeksBank (state S.Store conn.old) (state S.Store conn.new) result }
     ensures cause { IfErr result (KnowsCause S.Store conn.old conn.new) }
@@ -102,8 +103,42 @@ fn find_bank<S: Alter>(conn: &mut Connection<S>) -> Result<(), OpenFault>
     }
 }
 
-/// Takes up the bank that the connection's file has. It looks for the six tables and reads the row of `meta`,
-/// and changes nothing. Other rows are checked by the calls that meet them.
+// Refuses a bank of another version before its other tables are looked for, as these may be others. What else
+// `meta` may have against it is said once they are there.
+fn refuse_other_version<S: Alter>(conn: &mut Connection<S>) -> Result<(), OpenFault>
+    requires { conn.old.in_transaction ≡ false }
+    ensures told { HasCleanDisk (state S.Store conn.new)
+        → LooksAtVersion (state S.Store conn.old) (state S.Store conn.new) result }
+    ensures cause { IfErr result (KnowsCause S.Store conn.old conn.new) }
+    ensures mode { conn.new.in_transaction ≡ false }
+    ensures survives { Survives (state S.Store conn.old) (state S.Store conn.new) (λ _. ⊥) }
+{
+    let Presence::Whole = count_tables(conn, BankTable::Meta, &[])? else {
+        return Ok(());
+    };
+    match settled_meta(conn) {
+        Ok(Some(meta)) if meta.version != VERSION => Err(OpenFault::Version(meta.version)),
+        Err(OpenFault::Store) => Err(OpenFault::Store),
+        _ => Ok(()),
+    }
+}
+
+// Looks for a bank of this version.
+fn find_bank<S: Alter>(conn: &mut Connection<S>) -> Result<(), OpenFault>
+    requires { conn.old.in_transaction ≡ false }
+    ensures told { HasCleanDisk (state S.Store conn.new)
+        → SeeksBank (state S.Store conn.old) (state S.Store conn.new) result }
+    ensures cause { IfErr result (KnowsCause S.Store conn.old conn.new) }
+    ensures mode { conn.new.in_transaction ≡ false }
+    ensures survives { Survives (state S.Store conn.old) (state S.Store conn.new) (λ _. ⊥) }
+{
+    refuse_other_version(conn)?;
+    find_tables(conn)
+}
+
+/// Takes up the bank that the connection's file has. It reads the row of `meta`, whose version comes first,
+/// and looks for the other tables of a bank, and changes nothing. Other rows are checked by the calls that
+/// meet them.
 ///
 /// The connection has to be outside a transaction, as a new one is.
 ///
@@ -112,9 +147,9 @@ fn find_bank<S: Alter>(conn: &mut Connection<S>) -> Result<(), OpenFault>
 /// The connection comes back with each, outside a transaction. The first four say what the file has, and that
 /// it is as it was.
 ///
-/// - [`OpenFault::Blank`]: none of the six tables is there.
+/// - [`OpenFault::Version`]: `meta` is there and has another version, whatever other tables there are.
+/// - [`OpenFault::Blank`]: none of a bank's tables is there.
 /// - [`OpenFault::Foreign`]: some of them are there, and some aren't.
-/// - [`OpenFault::Version`]: the tables are those of another version.
 /// - [`OpenFault::Damaged`]: the row of `meta` is missing, is out of its range or has a value of another
 ///   type.
 /// - [`OpenFault::Store`]: a call of `sqlite` failed. Nothing has changed, as long as the store is open. It

@@ -69,8 +69,8 @@ fn probe<S: Alter>(conn: &mut Connection<S>, table: BankTable) -> Result<bool, E
     }
 }
 
-// How many there are of a table and of others.
-fn count_tables<S: Alter>(
+/// How many there are of a table and of others.
+pub(crate) fn count_tables<S: Alter>(
     conn: &mut Connection<S>,
     first: BankTable,
     others: &[BankTable],

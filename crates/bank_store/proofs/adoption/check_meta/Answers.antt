@@ -1,15 +1,16 @@
 -- What the row of the bank says against it.
 use Rattle.std.proofs.Common.{◌≡◌, ◌≤◌, ◌<◌, ℕ, ℤ, pos, negsuc, nat_abs, Some, true, false, rules, arith}
 use Rattle.std.proofs.Common.{refl, sym, ◌∙◌, ap, inl, inr}
-use Rattle.std.specs.Prelude.{◌<ℤ◌, ◌≢◌, ◌⊎◌, int_lt}
+use Rattle.std.specs.Prelude.{◌<ℤ◌, ◌⊎◌, int_lt}
 use Rattle.std.proofs.lemmas.Int.{ints}
 use mir.Val.{to_z, of_z}
 use mir.Syntax.{w64}
 use Rattle.store_rows.specs.declared.metas.StoredMeta.{StoredMeta}
-use Rattle.bank_store.specs.MetaRow.{IsOurs, IsOfVersion, IsNoCount}
+use Rattle.bank_store.specs.MetaRow.{IsOurs, IsNoCount}
 use Rattle.bank_store.proofs.adoption.check_meta.Goals.{then-meta-lt0-via-then-meta-lt0}
 use Rattle.bank_store.proofs.adoption.check_meta.Goals.{then-meta-lt0-via-else-meta-lt0+then-meta-gt-MAX_DECIDED}
 use Rattle.posting_rules.specs.declared.limits.TheConstants.{MAX_DECIDED}
+use Rattle.bank_store.proofs.MetaRow.{other_version}
 use Rattle.bank_store.proofs.adoption.check_meta.Goals as goal
 
 below_zero : (z : ℤ) → int_lt z (pos 0) ≡ true → z <ℤ pos 0
@@ -24,12 +25,13 @@ not_below_zero : (z : ℤ) → int_lt z (pos 0) ≡ false → z ≡ pos (nat_abs
 not_below_zero (pos n) h = refl
 not_below_zero (negsuc n) h = cc
 
-other_version : (m : StoredMeta) (v : ℤ) → v ≡ m.version → v ≢ pos 1 → IsOfVersion v (Some m)
-other_version m v same other =
-    (m.decided, ap (λ (x : ℤ). let it : StoredMeta = record m { version = x } in Some it) (sym same), other)
-
-no_count : (m : StoredMeta) → (m.decided <ℤ pos 0) ⊎ (pos MAX_DECIDED <ℤ m.decided) → IsNoCount (Some m)
-no_count m outside = inr (m.version, m.decided, refl, outside)
+no_count : (m : StoredMeta) → m.version ≡ pos 1 → (m.decided <ℤ pos 0) ⊎ (pos MAX_DECIDED <ℤ m.decided)
+    → IsNoCount (Some m)
+no_count m version outside = inr (
+  m.decided,
+  ap (λ (x : ℤ). let it : StoredMeta = record m { version = x } in Some it) version,
+  outside,
+)
 
 our_version : (m : StoredMeta) (n : ℕ) → m.version ≡ pos 1 → m.decided ≡ pos n → n ≤ MAX_DECIDED
     → IsOurs (Some m)
@@ -51,7 +53,9 @@ pub returns-then-meta-lt0 : goal.returns-then-meta-lt0
 returns-then-meta-lt0 c =
     let m = c.args.meta.now in
     let same : to_z w64 (of_z w64 m.decided) ≡ m.decided = search rules in
-    no_count m (elim c.then-meta-lt0.branch [
+    let version : to_z w64 (of_z w64 m.version) ≡ m.version = search rules in
+    let one : to_z w64 (of_z w64 m.version) ≡ pos 1 = ap (to_z w64) c.if-meta-ne-VERSION.false in
+    no_count m (sym version ∙ one) (elim c.then-meta-lt0.branch [
       | then-meta-lt0-via-then-meta-lt0 w ↦ inl (below_zero m.decided (rw same at w.if-meta-lt0.true))
       | then-meta-lt0-via-else-meta-lt0+then-meta-gt-MAX_DECIDED w ↦
           inr (beyond m.decided MAX_DECIDED (rw same at w.if-meta-lt0.false)

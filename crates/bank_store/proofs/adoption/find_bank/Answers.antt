@@ -1,125 +1,33 @@
--- What is found of a bank.
-use Rattle.std.proofs.Common.{◌≡◌, Some, None, Err, Result, rules, refl, sym, ap, ◌∙◌, subst, inl}
+-- A bank is sought where `meta` has no other version.
 use Rattle.sqlite.specs.Held.{state}
-use Rattle.store_rows.specs.Probes.{six_probes}
-use Rattle.posting_rules.specs.declared.fault.Rule.TheVariants.{Meta}
-use Rattle.bank_store.specs.Connections.{IsAsBefore}
-use Rattle.bank_store.specs.FoundBank.{SeeksBank}
-use Rattle.bank_store.specs.TablePresence.{IsPresent}
-use Rattle.bank_store.specs.declared.presence.Presence.{Presence}
-use Rattle.posting_rules.specs.declared.open_fault.OpenFault.{OpenFault}
-use Rattle.posting_rules.specs.declared.open_fault.OpenFault.TheVariants.{Damaged}
+use Rattle.bank_store.specs.StoreFaults.{KnowsCause}
 use Rattle.bank_transactions.proofs.Blamed.{comes, same_moment}
-use Rattle.bank_store.proofs.Causes.{checks_known, known_within, reads_then, still_clean}
-use Rattle.bank_store.proofs.FoundBank.{looked, missed}
+use Rattle.bank_store.proofs.Causes.{known_within, still_clean}
+use Rattle.bank_store.proofs.FoundBank.{no_other_yet, seeks_at}
+use Rattle.bank_store.proofs.Unmade.{if_err}
 use Rattle.bank_store.proofs.adoption.find_bank.Goals as goal
 
-pub returns-in_err-tables_there : goal.returns-in_err-tables_there
-returns-in_err-tables_there g c =
+pub find_tables-requires-clause-ours : goal.find_tables-requires-clause-ours
+find_tables-requires-clause-ours g c clean =
     let old = state g.S.Store c.args.conn.now in
-    let new = state g.S.Store c.tables_there.new.conn in
-    let e = c.in_err-tables_there in
-    let is : c.from_residual.result ≡ Err e.field-0.0 = search rules in
-    record {
-      told =
-          λ clean. subst (λ (r : Result (Unit {0}) OpenFault). SeeksBank old new r)
-          (sym (is ∙ ap Err e.ensures.fault))
-          (tt, e.ensures.told clean);
-      cause = rw is e.ensures.cause;
-      mode = c.tables_there.ensures.mode;
-      survives = c.tables_there.ensures.survives;
-    }
+    let mid = state g.S.Store c.refuse_other_version.new.conn in
+    let looked = c.in_ok-refuse_other_version.ensures.told clean in
+    no_other_yet old mid looked.1 looked.0
 
-pub returns-in-Absent : goal.returns-in-Absent
-returns-in-Absent g c =
+pub returns-clause-told : goal.returns-clause-told
+returns-clause-told g c clean =
     let old = state g.S.Store c.args.conn.now in
-    let new = state g.S.Store c.tables_there.new.conn in
-    record {
-      told =
-          λ clean.
-          subst (λ (p : Presence). IsPresent old.now six_probes p × IsAsBefore old new) c.in-Absent.is
-          (c.in_ok-tables_there.ensures.told clean);
-      cause = tt;
-      mode = c.tables_there.ensures.mode;
-      survives = c.tables_there.ensures.survives;
-    }
+    let mid = state g.S.Store c.refuse_other_version.new.conn in
+    let new = state g.S.Store c.find_tables.new.conn in
+    let looked = c.in_ok-refuse_other_version.ensures.told (still_clean c.find_tables.ensures.survives clean) in
+    seeks_at old mid looked.1 new c.find_tables.result (c.find_tables.ensures.told clean)
 
-pub returns-in-Partial : goal.returns-in-Partial
-returns-in-Partial g c =
-    let old = state g.S.Store c.args.conn.now in
-    let new = state g.S.Store c.tables_there.new.conn in
-    record {
-      told =
-          λ clean.
-          subst (λ (p : Presence). IsPresent old.now six_probes p × IsAsBefore old new) c.in-Partial.is
-          (c.in_ok-tables_there.ensures.told clean);
-      cause = tt;
-      mode = c.tables_there.ensures.mode;
-      survives = c.tables_there.ensures.survives;
-    }
-
-pub returns-in_err-settled_meta-in-Whole : goal.returns-in_err-settled_meta-in-Whole
-returns-in_err-settled_meta-in-Whole g c =
-    let old = state g.S.Store c.args.conn.now in
-    let mid = state g.S.Store c.tables_there.new.conn in
-    let new = state g.S.Store c.settled_meta.new.conn in
-    let e = c.in_err-settled_meta-in-Whole in
-    let is : c.from_residual-in_err-settled_meta-in-Whole.result ≡ Err e.field-0.0 = search rules in
-    record {
-      told =
-          λ clean.
-          let there =
-          subst (λ (p : Presence). IsPresent old.now six_probes p × IsAsBefore old mid) c.in-Whole.is
-          (c.in_ok-tables_there.ensures.told (still_clean e.ensures.survives clean)) in
-          subst (λ (r : Result (Unit {0}) OpenFault). SeeksBank old new r) (sym is)
-          (missed old mid new there.0 there.1 e.field-0.0 e.ensures.fault (e.ensures.told clean)
-          (e.ensures.other clean) (e.ensures.same clean));
-      cause =
-          rw is (known_within g.S.Store c.args.conn.now c.tables_there.new.conn c.settled_meta.new.conn
-          c.settled_meta.new.conn (comes c.tables_there.ensures.survives)
-          (λ clean. clean)
-          (same_moment new) e.field-0.0 e.ensures.cause);
-      mode = c.settled_meta.ensures.mode;
-      survives = reads_then old mid new c.tables_there.ensures.survives c.settled_meta.ensures.survives;
-    }
-
-pub returns-in-None : goal.returns-in-None
-returns-in-None g c =
-    let old = state g.S.Store c.args.conn.now in
-    let mid = state g.S.Store c.tables_there.new.conn in
-    let new = state g.S.Store c.settled_meta.new.conn in
-    let read = c.in_ok-settled_meta-in-Whole.ensures in
-    record {
-      told =
-          λ clean.
-          let there =
-          subst (λ (p : Presence). IsPresent old.now six_probes p × IsAsBefore old mid) c.in-Whole.is
-          (c.in_ok-tables_there.ensures.told (still_clean read.survives clean)) in
-          looked old mid new None there.0 there.1 (λ rows has. sym c.in-None.is ∙ read.told clean rows has)
-          (read.same clean) (Err (Damaged Meta)) (inl refl);
-      cause = tt;
-      mode = c.settled_meta.ensures.mode;
-      survives = reads_then old mid new c.tables_there.ensures.survives c.settled_meta.ensures.survives;
-    }
-
-pub returns-in-Some : goal.returns-in-Some
-returns-in-Some g c =
-    let old = state g.S.Store c.args.conn.now in
-    let mid = state g.S.Store c.tables_there.new.conn in
-    let new = state g.S.Store c.settled_meta.new.conn in
-    let read = c.in_ok-settled_meta-in-Whole.ensures in
-    let meta = Some c.in-Some.meta in
-    record {
-      told =
-          λ clean.
-          let there =
-          subst (λ (p : Presence). IsPresent old.now six_probes p × IsAsBefore old mid) c.in-Whole.is
-          (c.in_ok-tables_there.ensures.told (still_clean read.survives clean)) in
-          looked old mid new meta there.0 there.1 (λ rows has. sym c.in-Some.is ∙ read.told clean rows has)
-          (read.same clean) c.check_meta.result c.check_meta.ensures;
-      cause =
-          checks_known g.S.Store c.args.conn.now c.settled_meta.new.conn meta c.check_meta.result
-          c.check_meta.ensures;
-      mode = c.settled_meta.ensures.mode;
-      survives = reads_then old mid new c.tables_there.ensures.survives c.settled_meta.ensures.survives;
-    }
+pub returns-clause-cause : goal.returns-clause-cause
+returns-clause-cause g c =
+    let old = c.args.conn.now in
+    let mid = c.refuse_other_version.new.conn in
+    let new = c.find_tables.new.conn in
+    if_err (KnowsCause g.S.Store mid new) (KnowsCause g.S.Store old new)
+    (known_within g.S.Store old mid new new (comes c.refuse_other_version.ensures.survives) (λ clean. clean)
+    (same_moment (state g.S.Store new)))
+    c.find_tables.result c.find_tables.ensures.cause
