@@ -4,7 +4,7 @@ use Rattle.std.specs.Prelude.{⊤}
 use Rattle.std.specs.List.{AllByRecursion}
 use Rattle.sqlite.specs.declared.transaction.Transaction.{Transaction}
 use Rattle.sqlite_trees.specs.declared.store.Store.{Ghosts}
-use Rattle.posting_rules.specs.Commands.{branch_of_teller, branch_of_account}
+use Rattle.posting_rules.specs.Numbering.{branch_of_teller, branch_of_account}
 use Rattle.posting_rules.specs.Damage.{IsUndamaged}
 use Rattle.posting_rules.specs.Tables.{Tables}
 use Rattle.posting_batch.specs.declared.slots.AccountSlot.{AccountSlot}

@@ -13,7 +13,7 @@ ghost use Rattle.bank_batches.specs.Batches.{items_of, DecidesNone, WritesNothin
 use crate::changes::write;
 use crate::slots::fill;
 use bank_transactions::{begin, finish};
-use message_records::Moment;
+use message_records::{Moment, REPLY_BYTES};
 use posting_batch::{Batch, Judged};
 use sqlite::{Alter, Connection, Transaction};
 use store_rows::TableFault;
@@ -23,7 +23,7 @@ pub fn answer_batch<S: Alter>(
     tx: &mut Transaction<'_, S>,
     moment: Moment,
     mut batch: Batch,
-) -> Result<Vec<[u8; 200]>, TableFault>
+) -> Result<Vec<[u8; REPLY_BYTES]>, TableFault>
     ensures says { (records : List (List ℕ)) → IsMadeOf batch records
         → Acts S.Store tx.old tx.new AreOfALog (λ tables. tables_past_all tables moment records)
         (λ tables. replies_past_all tables moment records) (items_of result) }
@@ -50,7 +50,7 @@ pub fn post_all<S: Alter>(
     conn: &mut Connection<S>,
     moment: Moment,
     batch: Batch,
-) -> Result<Vec<[u8; 200]>, TableFault>
+) -> Result<Vec<[u8; REPLY_BYTES]>, TableFault>
     requires { conn.old.in_transaction ≡ false }
     ensures says { (records : List (List ℕ)) → IsMadeOf batch records
         → Transacts S.Store conn.old conn.new AreOfALog (λ tables. tables_past_all tables moment records)

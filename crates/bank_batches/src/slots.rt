@@ -2,7 +2,7 @@
 ghost use Rattle.std.specs.Prelude.{◌≡◌, ⊤, List, map};
 ghost use Rattle.std.specs.List.{AllByRecursion};
 ghost use Rattle.std.specs.Option.{option_map};
-ghost use Rattle.posting_rules.specs.Commands.{branch_of_teller, branch_of_account};
+ghost use Rattle.posting_rules.specs.Numbering.{branch_of_teller, branch_of_account};
 ghost use Rattle.posting_rules.specs.Damage.{IsUndamaged};
 ghost use Rattle.posting_rules.specs.LookUps.{account_balance_in, balance_of_teller};
 ghost use Rattle.posting_rules.specs.Tables.{Tables, row_at, teller_key};
@@ -12,14 +12,10 @@ ghost use Rattle.posting_batch.specs.View.{view, reads_of};
 ghost use Rattle.bank_transactions.specs.Doing.{Reads};
 ghost use Rattle.bank_batches.specs.Filling.{handing, HasBranch, ReadsWhere, TellsBranch};
 
-use bank_transactions::{
-    branch_at, decided, kept_request, open_balance, place_of_account, teller_balances,
-};
+use bank_transactions::{branch_at, decided, kept_request, open_balance, teller_balances};
 use message_records::{Account, Cents, Teller};
-use posting_batch::{
-    AccountSlot, Batch, BranchSlot, RequestSlot, TellerSlot, branch_of_account, stored_branch,
-};
-use posting_rules::{BranchRow, branch_of_teller};
+use posting_batch::{AccountSlot, Batch, BranchSlot, RequestSlot, TellerSlot, stored_branch};
+use posting_rules::{BranchRow, branch_of_account, branch_of_teller, place_of_account};
 use sqlite::{Alter, Transaction};
 use store_rows::{Member, TableFault, balance_of};
 

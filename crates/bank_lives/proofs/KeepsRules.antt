@@ -5,11 +5,11 @@ use Rattle.std.specs.Prelude.{◌&&◌, cond, ◌≤ℤ◌, nat_le, nat_eq, is_s
 use Rattle.std.specs.List.{AllByRecursion, Contains}
 use Rattle.message_records.specs.Ranges.{whole_within}
 use Rattle.message_records.specs.declared.limits.TheConstants.{MAX_BRANCH}
-use Rattle.posting_rules.specs.Commands.{Command, AreCommands, branch_of_teller, branch_of_account}
-use Rattle.posting_rules.specs.Commands.{place_of_account, is_within}
+use Rattle.posting_rules.specs.Commands.{Command, AreCommands, is_within}
+use Rattle.posting_rules.specs.Numbering.{branch_of_teller, branch_of_account, place_of_account}
 use Rattle.posting_rules.specs.Damage.{IsUndamaged}
 use Rattle.posting_rules.specs.Entries.{decided}
-use Rattle.posting_rules.specs.LookUps.{count_of_branch}
+use Rattle.posting_rules.specs.LookUps.{terms_of_branch}
 use Rattle.posting_rules.specs.Tables.{Tables, AreTablesOf, row_at, account_key, branch_key, history_key}
 use Rattle.posting_rules.specs.Tables.{request_key, teller_key}
 use Rattle.posting_rules.specs.declared.fault.Rule.{Rule}
@@ -128,19 +128,19 @@ module _ (t : Tables) (sound : IsUndamaged t) where
 
   account_there : (n : ℕ) → 1 ≤ n → is_some (row_under (map account_entry t.accounts) n)
       ≡ is_within (place_of_account n)
-      (option_map count_of_branch (row_at branch_key t.branches (branch_of_account n)))
+      (option_map terms_of_branch (row_at branch_key t.branches (branch_of_account n)))
   account_there n least = taken_row_key account_key account_entry (λ _. refl) n t.accounts
       ∙ sound.accounts n least
 
   counted : (n : ℕ) (o : Option BranchRow) → branch_under (stored_rows t) (branch_of_account n)
       ≡ option_map branch_entry o
-      → is_within (place_of_account n) (option_map count_of_branch o) ≡ true → IsWithinCount (stored_rows t) n
+      → is_within (place_of_account n) (option_map terms_of_branch o) ≡ true → IsWithinCount (stored_rows t) n
   counted n None is within = absurd cc
   counted n (Some r) is within = (branch_entry r, is, le_number (place_of_account n) r.accounts within)
 
   uncounted : (n : ℕ) (o : Option BranchRow) → branch_under (stored_rows t) (branch_of_account n)
       ≡ option_map branch_entry o
-      → IsWithinCount (stored_rows t) n → is_within (place_of_account n) (option_map count_of_branch o) ≡ true
+      → IsWithinCount (stored_rows t) n → is_within (place_of_account n) (option_map terms_of_branch o) ≡ true
   uncounted n None is it = let found = it.1 in absurd cc
   uncounted n (Some r) is it =
       le_test (place_of_account n) r.accounts
@@ -167,7 +167,7 @@ module _ (t : Tables) (sound : IsUndamaged t) where
       (teller_there n least ∙ ap is_some none)
 
   not_within : (n : ℕ) (o : Option BranchRow) → option_map branch_entry o ≡ None
-      → is_within (place_of_account n) (option_map count_of_branch o) ≡ false
+      → is_within (place_of_account n) (option_map terms_of_branch o) ≡ false
   not_within n None none = refl
   not_within n (Some r) none = absurd cc
 

@@ -7,7 +7,7 @@ ghost use Rattle.sqlite.specs.State.{Survives};
 ghost use Rattle.sqlite.specs.Held.{state};
 ghost use Rattle.message_records.specs.Spelling.{reply_spelling};
 ghost use Rattle.posting_rules.specs.Branches.{IsNextBranch, IsLineAbove, line_of};
-ghost use Rattle.posting_rules.specs.Commands.{Command, Open, Post};
+ghost use Rattle.posting_rules.specs.Commands.{Command, Open, Post, opened_with};
 ghost use Rattle.posting_rules.specs.Counter.{ShowsLog, StandsAt, Takes, Refuses, opening_behind};
 ghost use Rattle.posting_rules.specs.Entries.{reply, balance_behind};
 ghost use Rattle.posting_rules.specs.Runs.{posts, replies_to};
@@ -296,7 +296,8 @@ impl<S: Alter + Drop> Counter for Bank<S> {
         requires branch { branch ≤ LAST_BRANCH }
         requires some { 1 ≤ count }
         requires few { count ≤ MOST_ACCOUNTS }
-        ensures answer { AnswersBy S.Store self.old self.new (λ log. opening_behind log branch count) result }
+        ensures answer { AnswersBy S.Store self.old self.new
+            (λ log. opening_behind log branch (opened_with count)) result }
         ensures done { OnOk result (Takes (bank_seen S.Store self.old) (bank_seen S.Store self.new)
             (Open branch count ∷ [])) }
         ensures up { OnOk result ((bank_seen S.Store self.new).is_down → ⊥) }

@@ -3,8 +3,9 @@ use Rattle.std.proofs.Common.{◌≡◌, ◌≤ℤ◌, ℕ, ℤ, pos, true, Opti
 use Rattle.std.specs.Prelude.{is_some, nat_le, option_map}
 use Rattle.std.proofs.lemmas.Int.{ints}
 use Rattle.std.proofs.lemmas.Bool.Decides.{nat_tests}
-use Rattle.posting_rules.specs.Commands.{branch_of_account, is_within, place_of_account}
-use Rattle.posting_rules.specs.LookUps.{count_of_branch}
+use Rattle.posting_rules.specs.Commands.{is_within}
+use Rattle.posting_rules.specs.Numbering.{branch_of_account, place_of_account}
+use Rattle.posting_rules.specs.LookUps.{terms_of_branch}
 use Rattle.posting_rules.specs.declared.rows.BranchRow.{BranchRow}
 use Rattle.sql_meanings.specs.Entries.{Entry}
 use Rattle.store_rows.specs.Columns.{number_at}
@@ -30,7 +31,7 @@ module _ (rows : StoredRows) (n : ℕ) where
   Has branch = FindsStored (branch_under rows (branch_of_account n)) IsBranch BranchKeeps (Ok branch)
 
   pub fits : (balance : Option ℤ) (branch : Option BranchRow) → Finds balance → Has branch
-      → is_some balance ≡ is_within (place_of_account n) (option_map count_of_branch branch)
+      → is_some balance ≡ is_within (place_of_account n) (option_map terms_of_branch branch)
       → AccountFits rows n
   fits None None finds has is = (λ there. absurd cc, λ within. absurd (let found = within.1 in cc))
   fits None (Some b) finds has is = (

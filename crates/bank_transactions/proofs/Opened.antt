@@ -4,7 +4,8 @@ use Rattle.std.specs.Prelude.{is_some, pos}
 use Rattle.posting_rules.specs.Changes.{with_branch, with_teller, with_tellers, with_account, with_accounts}
 use Rattle.posting_rules.specs.Changes.{new_teller, new_account, tables_opened}
 use Rattle.posting_rules.specs.Sound.{AreSound}
-use Rattle.posting_rules.specs.Steps.{first_teller, first_account}
+use Rattle.posting_rules.specs.Commands.{opened_with}
+use Rattle.posting_rules.specs.Numbering.{first_teller, first_account}
 use Rattle.posting_rules.specs.Tables.{Tables, row_at, branch_key, branch_row_of}
 use Rattle.posting_rules.proofs.Stepping.{no_more_tellers, no_more_accounts, one_more_teller}
 use Rattle.posting_rules.proofs.Stepping.{one_more_account, opening_teller_is_free, opening_account_is_free}
@@ -29,7 +30,7 @@ accounts_are first (suc count) t =
 module _ (t : Tables) (b count teller account : ℕ) (from : teller ≡ first_teller b)
     (start : account ≡ first_account b) where
   abbrev branched : Tables
-  branched = with_branch (branch_row_of b (pos 0) count) t
+  branched = with_branch (branch_row_of b (pos 0) (opened_with count)) t
 
   staffed : with_new_rows Tellers teller 10 branched ≡ with_tellers (first_teller b) 10 branched
   staffed = ap (λ (first : ℕ). with_new_rows Tellers first 10 branched) from

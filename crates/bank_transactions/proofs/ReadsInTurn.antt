@@ -8,7 +8,7 @@ use Rattle.sqlite.specs.Held.{Held, state}
 use Rattle.sqlite.specs.declared.transaction.Transaction.{Transaction}
 use Rattle.sqlite_trees.specs.declared.store.Store.{Ghosts}
 use Rattle.message_records.specs.declared.limits.TheConstants.{MAX_TELLER}
-use Rattle.posting_rules.specs.Commands.{branch_of_teller}
+use Rattle.posting_rules.specs.Numbering.{branch_of_teller}
 use Rattle.posting_rules.specs.LookUps.{balance_of_branch, balance_of_teller, both_of, teller_balances_in}
 use Rattle.posting_rules.specs.Tables.{Tables, row_at, branch_key, teller_key}
 use Rattle.posting_rules.specs.declared.fault.Rule.{Rule}

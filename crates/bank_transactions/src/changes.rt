@@ -11,7 +11,7 @@ ghost use Rattle.bank_transactions.specs.Doing.{Does};
 
 use crate::balances::{write_balance, write_decided};
 use message_records::{Cents, Moment, Outcome, Request};
-use posting_rules::{Found, HistoryRow, Kept, Ordinal, RequestRow, Verdict};
+use posting_rules::{Found, HistoryRow, Ordinal, RequestRow, Verdict};
 use sqlite::{Alter, Transaction};
 use store_rows::{Holder, TableFault, add_history, add_request};
 
@@ -30,20 +30,7 @@ fn keep_request<S: Alter>(
         (record { moment = 0; request = request.now; outcome = outcome; balance = balance }))
         (λ _. tt) result }
 {
-    let kept = Kept::new(
-        request.account(),
-        request.branch(),
-        request.delta(),
-        outcome,
-        balance,
-    );
-    let row = RequestRow {
-        ordinal,
-        teller: request.teller(),
-        number: request.number(),
-        kept: kept.unwrap(),
-    };
-    add_request(tx, row)?;
+    add_request(tx, RequestRow::decided(ordinal, request, outcome, balance))?;
     write_decided(tx, ordinal.get())
 }
 
@@ -66,15 +53,7 @@ fn move_money<S: Alter>(
     write_balance(tx, Holder::Account(request.account()), account)?;
     write_balance(tx, Holder::Teller(request.teller()), teller)?;
     write_balance(tx, Holder::Branch(request.branch()), branch)?;
-    let row = HistoryRow {
-        ordinal,
-        account: request.account(),
-        teller: request.teller(),
-        branch: request.branch(),
-        delta: request.delta(),
-        moment,
-    };
-    add_history(tx, row)
+    add_history(tx, HistoryRow::posted(ordinal, moment, request))
 }
 
 /// Writes what a verdict on what was looked up changes, under the next ordinal.
@@ -95,7 +74,7 @@ pub(crate) fn apply<S: Alter>(
         Verdict::Unkept(_) | Verdict::Again(_) => Ok(()),
         Verdict::Refused(outcome) => {
             let ordinal = Ordinal::new(found.decided + 1).unwrap();
-            keep_request(tx, request, ordinal, *outcome, Cents::new(0).unwrap())
+            keep_request(tx, request, ordinal, *outcome, Cents::zero())
         }
         Verdict::Posted {
             account,

@@ -1,7 +1,7 @@
 //! What is looked up in the tables. Rows that belong together are read together, and reported as damage where
 //! they differ.
 ghost use Rattle.std.specs.Prelude.{◌≡◌, ◌≤◌, IfOk};
-ghost use Rattle.posting_rules.specs.Commands.{branch_of_account, place_of_account};
+ghost use Rattle.posting_rules.specs.Numbering.{branch_of_account, place_of_account};
 ghost use Rattle.posting_rules.specs.LookUps.{teller_balances_in, account_balance_in, kept_in, found_in};
 ghost use Rattle.posting_rules.specs.Tables.{row_at, branch_key};
 ghost use Rattle.sqlite.specs.Held.{state};
@@ -13,25 +13,11 @@ ghost use Rattle.bank_transactions.specs.Stored.{IsStoredBalance};
 
 use message_records::{Account, Branch, Cents, Number, Request, Teller};
 use posting_rules::{
-    ACCOUNTS_PER_BRANCH, BranchRow, Found, Kept, LAST_BRANCH, MAX_DECIDED, MOST_ACCOUNTS, Rule,
-    branch_of_teller,
+    BranchRow, Found, Kept, LAST_BRANCH, MAX_DECIDED, MOST_ACCOUNTS, Rule, branch_of_account,
+    branch_of_teller, place_of_account,
 };
 use sqlite::{Alter, Transaction};
 use store_rows::{Member, TableFault, balance_of, find_branch, find_request, read_meta};
-
-/// The number of the branch that an account's number gives.
-fn branch_of_account(account: Account) -> u64
-    ensures { result ≡ branch_of_account account }
-{
-    (account.get() - 1) / ACCOUNTS_PER_BRANCH + 1
-}
-
-/// The place of an account among those of its branch: 1..=100,000.
-pub fn place_of_account(account: Account) -> u64
-    ensures { result ≡ place_of_account account }
-{
-    (account.get() - 1) % ACCOUNTS_PER_BRANCH + 1
-}
 
 /// The branch under a number, none where it isn't open.
 pub fn branch_at<S: Alter>(

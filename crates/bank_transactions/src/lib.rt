@@ -13,11 +13,11 @@
 //! ghost use Rattle.std.specs.Prelude.{◌≡◌, false};
 //!
 //! use bank_transactions::{open_branch, post};
-//! use message_records::{Account, Branch, Cents, Moment, Number, Request, Teller};
+//! use message_records::{Account, Branch, Cents, Moment, Number, REPLY_BYTES, Request, Teller};
 //! use sqlite::{Alter, Connection};
 //! use store_rows::TableFault;
 //!
-//! pub fn first_request<S: Alter>(conn: &mut Connection<S>) -> Result<[u8; 200], TableFault>
+//! pub fn first_request<S: Alter>(conn: &mut Connection<S>) -> Result<[u8; REPLY_BYTES], TableFault>
 //!     requires { conn.old.in_transaction ≡ false }
 //! {
 //!     open_branch(conn, Branch::new(1).unwrap(), 3)?;
@@ -48,8 +48,6 @@ mod posting;
 mod transactions;
 
 pub use balances::{write_balance, write_decided};
-pub use found::{
-    branch_at, decided, kept_request, open_balance, place_of_account, teller_balances,
-};
+pub use found::{branch_at, decided, kept_request, open_balance, teller_balances};
 pub use next_branch::read_next_branch;
 pub use transactions::{begin, finish, note_settled, open_branch, post, read_balance};

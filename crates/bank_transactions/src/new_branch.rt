@@ -1,8 +1,9 @@
 //! A branch comes with its ten tellers and its accounts.
 ghost use Rattle.std.specs.Prelude.{◌≡◌, ◌≤◌, ◌<◌, ◌+◌, ℕ, None, false};
 ghost use Rattle.posting_rules.specs.Changes.{tables_opened, tables_with_branch};
+ghost use Rattle.posting_rules.specs.Commands.{opened_with};
 ghost use Rattle.posting_rules.specs.Counter.{opening_for};
-ghost use Rattle.posting_rules.specs.LookUps.{count_in};
+ghost use Rattle.posting_rules.specs.LookUps.{terms_in};
 ghost use Rattle.posting_rules.specs.Sound.{AreSound};
 ghost use Rattle.posting_rules.specs.Tables.{row_at, branch_key};
 ghost use Rattle.bank_transactions.specs.Doing.{Acts, Does};
@@ -11,7 +12,7 @@ ghost use Rattle.bank_transactions.specs.NewRows.{with_new, with_new_rows, is_ta
 use crate::found::branch_at;
 use message_records::{Account, Branch, Cents, Teller};
 use posting_rules::{
-    ACCOUNTS_PER_BRANCH, BranchRow, LAST_BRANCH, MOST_ACCOUNTS, Opening, TELLERS_PER_BRANCH,
+    BranchRow, LAST_BRANCH, MOST_ACCOUNTS, Opening, TELLERS_PER_BRANCH, first_account, first_teller,
 };
 use sqlite::{Alter, Transaction};
 use store_rows::{Member, TableFault, add_branch, add_member};
@@ -34,7 +35,7 @@ fn add_new<S: Alter>(
     ensures { Does S.Store tx.old tx.new (λ tables. is_taken kind number tables ≡ false)
         (with_new kind number) (λ _. tt) result }
 {
-    let balance = Cents::new(0).unwrap();
+    let balance = Cents::zero();
     match kind {
         NewRows::Tellers => {
             let teller = Teller::new(number).unwrap();
@@ -79,17 +80,16 @@ fn add_whole_branch<S: Alter>(
         (λ tables. AreSound tables × (row_at branch_key tables.branches branch ≡ None))
         (λ tables. tables_opened tables branch count) (λ _. tt) result }
 {
-    let before = branch.get() - 1;
     let row = BranchRow {
         branch,
         accounts: count,
-        balance: Cents::new(0).unwrap(),
+        balance: Cents::zero(),
     };
     add_branch(tx, row)?;
-    let first_teller = TELLERS_PER_BRANCH * before + 1;
-    add_rows(tx, NewRows::Tellers, first_teller, TELLERS_PER_BRANCH)?;
-    let first_account = ACCOUNTS_PER_BRANCH * before + 1;
-    add_rows(tx, NewRows::Accounts, first_account, u64::from(count))
+    let teller = first_teller(branch);
+    add_rows(tx, NewRows::Tellers, teller, TELLERS_PER_BRANCH)?;
+    let account = first_account(branch);
+    add_rows(tx, NewRows::Accounts, account, u64::from(count))
 }
 
 /// Looks the branch up, and adds it where it isn't open.
@@ -101,7 +101,7 @@ pub(crate) fn open_inside<S: Alter>(
     requires branch { branch ≤ LAST_BRANCH }
     requires few { count ≤ MOST_ACCOUNTS }
     ensures { Acts S.Store tx.old tx.new AreSound (λ tables. tables_with_branch tables branch count)
-        (λ tables. opening_for (count_in tables branch) count) result }
+        (λ tables. opening_for (terms_in tables branch) (opened_with count)) result }
 {
     if let Some(row) = branch_at(tx, branch.get())? {
         return Ok(if row.accounts == count {

@@ -5,7 +5,7 @@ ghost use Rattle.bank_transactions.specs.Doing.{Acts};
 
 use crate::changes::apply;
 use crate::found::look_up;
-use message_records::{Moment, Request, encode_reply};
+use message_records::{Moment, REPLY_BYTES, Request, encode_reply};
 use posting_rules::{judge, reply_to};
 use sqlite::{Alter, Transaction};
 use store_rows::TableFault;
@@ -15,7 +15,7 @@ pub(crate) fn post_inside<S: Alter>(
     tx: &mut Transaction<'_, S>,
     moment: Moment,
     request: &Request,
-) -> Result<[u8; 200], TableFault>
+) -> Result<[u8; REPLY_BYTES], TableFault>
     ensures { Acts S.Store tx.old tx.new AreSound (λ tables. tables_with tables moment request.now)
         (λ tables. reply_bytes tables request.now) result }
 {

@@ -3,8 +3,9 @@ ghost use Rattle.std.specs.Prelude.{◌≡◌, ◌≤◌, IfOk, IsTrue, OnOk, tr
 ghost use Rattle.sqlite.specs.State.{HasCleanDisk};
 ghost use Rattle.sqlite.specs.Held.{state};
 ghost use Rattle.posting_rules.specs.Changes.{reply_bytes, tables_with, tables_with_branch};
+ghost use Rattle.posting_rules.specs.Commands.{opened_with};
 ghost use Rattle.posting_rules.specs.Counter.{opening_for};
-ghost use Rattle.posting_rules.specs.LookUps.{account_balance_in, count_in};
+ghost use Rattle.posting_rules.specs.LookUps.{account_balance_in, terms_in};
 ghost use Rattle.posting_rules.specs.Sound.{AreSound};
 ghost use Rattle.bank_transactions.specs.Doing.{Consults, Ends, Transacts};
 ghost use Rattle.bank_transactions.specs.Stored.{IsStoredBalance};
@@ -12,7 +13,7 @@ ghost use Rattle.bank_transactions.specs.Stored.{IsStoredBalance};
 use crate::found::open_balance;
 use crate::new_branch::open_inside;
 use crate::posting::post_inside;
-use message_records::{Account, Branch, Cents, Moment, Request};
+use message_records::{Account, Branch, Cents, Moment, REPLY_BYTES, Request};
 use posting_rules::{LAST_BRANCH, MOST_ACCOUNTS, Opening};
 use sqlite::{Alter, Connection, Transaction};
 use store_rows::{TableFault, commit};
@@ -74,7 +75,7 @@ pub fn post<S: Alter>(
     conn: &mut Connection<S>,
     moment: Moment,
     request: &Request,
-) -> Result<[u8; 200], TableFault>
+) -> Result<[u8; REPLY_BYTES], TableFault>
     requires { conn.old.in_transaction ≡ false }
     ensures { Transacts S.Store conn.old conn.new AreSound (λ tables. tables_with tables moment request.now)
         (λ tables. reply_bytes tables request.now) result }
@@ -99,7 +100,7 @@ pub fn open_branch<S: Alter>(
     requires branch { branch ≤ LAST_BRANCH }
     requires few { count ≤ MOST_ACCOUNTS }
     ensures { Transacts S.Store conn.old conn.new AreSound (λ tables. tables_with_branch tables branch count)
-        (λ tables. opening_for (count_in tables branch) count) result }
+        (λ tables. opening_for (terms_in tables branch) (opened_with count)) result }
 {
     let mut tx = begin(conn);
     let opening = open_inside(&mut tx, branch, count);

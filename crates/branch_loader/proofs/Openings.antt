@@ -6,7 +6,7 @@ use Rattle.std.proofs.Math.Seq.{take-append-add, take-append_seam, take-length}
 use Rattle.std.proofs.lemmas.List.{drop-map, drop_more, length-append, length-map, length-take-le, map-append}
 use Rattle.std.proofs.lemmas.List.{take-append-drop, take-map}
 use Rattle.std.proofs.lemmas.List.Sums.{sum_by-append}
-use Rattle.posting_rules.specs.Commands.{Command, Open, AreCommands}
+use Rattle.posting_rules.specs.Commands.{Command, Open, AreCommands, opened_with}
 use Rattle.posting_rules.specs.Counter.{Seen, ShowsLog, ShowsBeginning, Takes, Refuses, opening_behind}
 use Rattle.posting_rules.specs.Runs.{behind}
 use Rattle.posting_rules.specs.Tables.{Tables, AreTablesOf}
@@ -38,11 +38,11 @@ Takes-append a b c xs ys p q honest = record {
 
 answers-push : (log : List Command) (rows : Rows) (p : Row)
     → answers log (rows ++ p ∷ []) ≡ answers log rows ++ opening_behind
-    (behind log (openings rows)) p.0 p.1 ∷ []
+    (behind log (openings rows)) p.0 (opened_with p.1) ∷ []
 unfolding answers
 answers-push log [] p = refl
 answers-push log (q ∷ rows) p =
-    ap (λ (given : List Opening). opening_behind log q.0 q.1 ∷ given)
+    ap (λ (given : List Opening). opening_behind log q.0 (opened_with q.1) ∷ given)
     (answers-push (Open q.0 q.1 ∷ log) rows p)
 
 count_by-push : (test : Opening → Bool) (given : List Opening) (o : Opening)
@@ -182,7 +182,7 @@ pub behind-more : {C : Type 0} (seen : C → Seen) (old now new : C) (rows : Row
     → IsBehind seen old now rows loaded
     → Takes (seen now) (seen new) (Open p.0 p.1 ∷ [])
     → ((seen new).honest → (log : List Command) → ShowsLog (seen now) log
-    → opening ≡ opening_behind log p.0 p.1)
+    → opening ≡ opening_behind log p.0 (opened_with p.1))
     → ((seen now).is_down → ⊥) → ((seen new).is_down → ⊥) → ((seen new).honest → (seen now).honest)
     → IsBehind seen old new (rows ++ p ∷ []) (with_answer loaded opening)
 behind-more seen old now new rows p loaded opening b takes answer was_up is_up honest = record {
@@ -194,12 +194,13 @@ behind-more seen old now new rows p loaded opening b takes answer was_up is_up h
   up = λ down. absurd (is_up down);
   honest = λ h. b.honest (honest h);
   counts = λ h log shown.
-      let given : opening ≡ opening_behind (behind log (openings rows)) p.0 p.1 =
+      let given : opening ≡ opening_behind (behind log (openings rows)) p.0 (opened_with p.1) =
       answer h (behind log (openings rows)) (b.taken.shows (honest h) log shown) in
       let before : loaded ≡ counted (answers log rows) = b.counts (honest h) log shown in
       ap (λ (l : Loaded). with_answer l opening) before ∙ ap
       (λ (o : Opening). with_answer (counted (answers log rows)) o) given
-      ∙ sym (counted-push (answers log rows) (opening_behind (behind log (openings rows)) p.0 p.1))
+      ∙ sym (counted-push (answers log rows)
+      (opening_behind (behind log (openings rows)) p.0 (opened_with p.1)))
       ∙ ap counted (sym (answers-push log rows p));
   sum = with_answer-total loaded opening ∙ ap (λ (n : ℕ). n + 1) b.sum ∙ sym (length-append rows (p ∷ []));
 }

@@ -1,7 +1,7 @@
 -- What loading a plan into a counter does.
 use Rattle.std.specs.Prelude.{◌≡◌, ℕ, ◌+◌, ◌<◌, List, [], ◌∷◌, Bool, true, false, count_by, length, take}
 use Rattle.std.specs.Prelude.{drop}
-use Rattle.posting_rules.specs.Commands.{Command, Open}
+use Rattle.posting_rules.specs.Commands.{Command, Open, opened_with}
 use Rattle.posting_rules.specs.Counter.{Seen, StandsAt, LeavesOnly, ShowsBeginning, Takes, Refuses}
 use Rattle.posting_rules.specs.Counter.{opening_behind}
 use Rattle.posting_rules.specs.declared.counter.Opening.{Opening}
@@ -14,7 +14,7 @@ use Rattle.branch_loader.specs.Plans.{Rows}
 -- the answers to a plan's openings, each behind the log and the openings before it
 unfoldable pub answers : List Command → Rows → List Opening
 answers log [] = []
-answers log (p ∷ rows) = opening_behind log p.0 p.1 ∷ answers (Open p.0 p.1 ∷ log) rows
+answers log (p ∷ rows) = opening_behind log p.0 (opened_with p.1) ∷ answers (Open p.0 p.1 ∷ log) rows
 
 -- the branch was opened now
 abbrev pub is_opened : Opening → Bool

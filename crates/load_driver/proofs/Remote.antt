@@ -5,7 +5,7 @@ use Rattle.std.specs.Prelude.{◌||◌}
 use Rattle.std.proofs.lemmas.Bool.Decides.{nat_tests}
 use Rattle.std.proofs.lemmas.List.{drop_more, get_or-append_right, get_or_append_left}
 use Rattle.std.proofs.lemmas.List.FromFn.{get_or-range_with_len, length-range_with_len}
-use Rattle.posting_rules.specs.Steps.{first_account}
+use Rattle.posting_rules.specs.Numbering.{first_account}
 use Rattle.load_driver.specs.Draw.{draw}
 use Rattle.load_driver.specs.Requests.{account_by, accounts_of, count_of, is_home, remote_accounts}
 use Rattle.branch_loader.specs.Plans.{Rows, Row}

@@ -12,7 +12,7 @@ use Rattle.std.proofs.lemmas.List.Sums.{sum_by-cons}
 use Rattle.std.proofs.lemmas.Map.Keys.{apart_from_distinct}
 use Rattle.posting_rules.specs.declared.limits.TheConstants.{TELLERS_PER_BRANCH}
 use Rattle.branch_loader.specs.Plans.{IsPlan, IsRow, Rows, Row}
-use Rattle.posting_rules.specs.Steps.{first_account}
+use Rattle.posting_rules.specs.Numbering.{first_account}
 use Rattle.load_driver.specs.OfPlan.{IsAccountFor, IsAccountOf}
 use Rattle.load_driver.specs.Requests.{CountsOthers, accounts_of, count_of, home_of, others, remote_accounts}
 use Rattle.load_driver.specs.Requests.{teller_of}

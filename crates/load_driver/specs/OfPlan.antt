@@ -1,7 +1,7 @@
 -- What a request of a plan names.
 use Rattle.std.specs.Prelude.{◌≡◌, ◌≤◌, ◌↔◌, ℕ, Bool, IsTrue, Contains}
 use Rattle.message_records.specs.Records.{RequestFields}
-use Rattle.posting_rules.specs.Commands.{branch_of_account, branch_of_teller, place_of_account}
+use Rattle.posting_rules.specs.Numbering.{branch_of_account, branch_of_teller, place_of_account}
 use Rattle.branch_loader.specs.Plans.{Rows, Row}
 
 -- the account is one of the row's branch, within its count

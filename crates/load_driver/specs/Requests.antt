@@ -7,7 +7,7 @@ use Rattle.std.specs.List.Sorted.{IsStrictlyIncreasing}
 use Rattle.posting_rules.specs.declared.limits.TheConstants.{TELLERS_PER_BRANCH}
 use Rattle.message_records.specs.Records.{RequestFields}
 use Rattle.load_driver.specs.declared.driver.TheConstants.{MOST_AMOUNT}
-use Rattle.posting_rules.specs.Steps.{first_account}
+use Rattle.posting_rules.specs.Numbering.{first_account, first_teller}
 use Rattle.load_driver.specs.Draw.{draw, word}
 use Rattle.branch_loader.specs.Plans.{Rows, Row}
 
@@ -34,7 +34,7 @@ home_of rows place = get_or rows (place / TELLERS_PER_BRANCH) (0, 0)
 
 -- the teller at a place
 abbrev pub teller_of : Rows → ℕ → ℕ
-teller_of rows place = TELLERS_PER_BRANCH * ((home_of rows place).0 - 1) + 1 + place % TELLERS_PER_BRANCH
+teller_of rows place = first_teller (home_of rows place).0 + place % TELLERS_PER_BRANCH
 
 -- ---- the account (TPC-B 5.3: the 85/15 rule)
 

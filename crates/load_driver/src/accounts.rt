@@ -3,20 +3,11 @@ ghost use Rattle.std.specs.Prelude.{◌≡◌, ◌≢◌, ◌<◌, ◌≤◌, �
 ghost use Rattle.branch_loader.specs.Plans.{IsPlan};
 ghost use Rattle.load_driver.specs.Draw.{draw};
 ghost use Rattle.load_driver.specs.Requests.{account_by, count_of, is_home, remote_accounts};
-ghost use Rattle.posting_rules.specs.Steps.{first_account};
 ghost use Rattle.load_driver.specs.OfPlan.{IsAccountFor};
 
 use crate::draws::draw;
 use message_records::Branch;
-use posting_core::{ACCOUNTS_PER_BRANCH, LAST_BRANCH};
-
-// The number of a branch's first account.
-fn first_account(branch: Branch) -> u64
-    ensures value { result ≡ first_account branch }
-    ensures small { result < 2 ^ 40 }
-{
-    ACCOUNTS_PER_BRANCH * (branch.get() - 1) + 1
-}
+use posting_core::{LAST_BRANCH, first_account};
 
 // How many accounts the rows have together.
 fn count_of(rows: &[(Branch, u32)]) -> u64

@@ -16,7 +16,7 @@ use branch_loader::Plan;
 use message_records::{
     Account, Branch, Cents, MAX_NUMBER, Number, REQUEST_BYTES, Request, Teller, encode_request,
 };
-use posting_core::TELLERS_PER_BRANCH;
+use posting_core::{TELLERS_PER_BRANCH, first_teller};
 use rand_pcg::Lcg128Xsl64;
 use std::alloc::{AllocError, Global};
 use std::fmt;
@@ -86,9 +86,7 @@ fn request_by(rows: &[(Branch, u32)], place: u64, words: Words, number: u64) -> 
     let home = rows[(place / TELLERS_PER_BRANCH) as usize];
     let (branch, _) = home;
     let account = Account::new(account_by(rows, home, words.choice, words.account)).unwrap();
-    let teller = Teller::new(
-        TELLERS_PER_BRANCH * (branch.get() - 1) + 1 + place % TELLERS_PER_BRANCH,
-    ).unwrap();
+    let teller = Teller::new(first_teller(branch) + place % TELLERS_PER_BRANCH).unwrap();
     let number = Number::new(number).unwrap();
     Request::new(account, teller, branch, number, amount_by(words.amount)).unwrap()
 }

@@ -99,6 +99,14 @@ impl Cents {
     // The greatest amount, and the least with the other sign.
     const LIMIT: i64 = MAX_BALANCE as i64;
 
+    /// No money.
+    #[must_use]
+    pub fn zero() -> Self
+        ensures { result ≡ pos 0 }
+    {
+        Cents { value: 0 }
+    }
+
     /// The amount, in cents; none where it is further from zero than `MAX_BALANCE`.
     #[must_use]
     pub fn new(value: i64) -> Option<Self>

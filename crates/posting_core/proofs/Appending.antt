@@ -9,20 +9,20 @@ use Rattle.message_records.specs.Records.{RequestFields}
 use Rattle.message_records.specs.Reading.{request_of}
 use Rattle.posting_rules.specs.declared.judgments.Verdict.{Verdict}
 use Rattle.posting_rules.specs.declared.judgments.Verdict.TheVariants.{Unkept, Again, Refused, Posted}
-use Rattle.posting_rules.specs.Commands.{Command, Open, Post, opened, branch_of_teller}
+use Rattle.posting_rules.specs.Commands.{Command, Open, Post, opened, opened_with}
 use Rattle.posting_rules.specs.Cases.{case_of}
 use Rattle.posting_rules.specs.Entries.{refused_entry, posted_entry, reply_to, decided, reply}
 use Rattle.posting_rules.specs.Tables.{Tables, AreTablesOf, row_at, branch_key, teller_key, account_key}
 use Rattle.posting_rules.specs.Tables.{history_key, request_key, branch_row_of, history_row_of}
 use Rattle.posting_rules.specs.Tables.{request_row_of}
-use Rattle.posting_rules.specs.LookUps.{found_in, count_in, count_of_branch}
+use Rattle.posting_rules.specs.LookUps.{found_in, terms_of_branch}
 use Rattle.posting_rules.specs.Changes.{new_teller, new_account}
 use Rattle.posting_rules.specs.Steps.{IsStep, with_branch_balance, with_teller_balance, with_account_balance}
-use Rattle.posting_rules.specs.Steps.{first_teller, first_account}
+use Rattle.posting_rules.specs.Numbering.{branch_of_teller, first_teller, first_account}
 use Rattle.posting_core.specs.Appended.{tables_after, tables_with, tables_opened, reply_in_tables}
 use Rattle.posting_rules.proofs.RowChanges.{row_changes}
 use Rattle.posting_rules.proofs.Ready.{AreReady, ready_shown, no_teller, no_account}
-use Rattle.posting_rules.proofs.Looked.{count_shown}
+use Rattle.posting_rules.proofs.Looked.{terms_shown}
 use Rattle.posting_rules.proofs.Stepped.{post_shown, malformed_shown, reply_shown}
 use Rattle.posting_rules.proofs.Opened.{opening_shown}
 use Rattle.posting_core.proofs.Behind.{row_behind, rows_behind}
@@ -85,21 +85,19 @@ reply_is t log bytes s = by_read (request_of bytes) refl
 
 -- ---- an opening
 
-unmapped : {A B : Type 0} (f : A → B) (o : Option A) → option_map f o ≡ None → o ≡ None
-unmapped f None e = refl
-unmapped f (Some x) e = absurd cc
-
 -- the tables with a branch that wasn't open show the log with its opening
-pub opened_shown : (t : Tables) (log : List Command) (b count : ℕ) → count_in t b ≡ None → 1 ≤ b
+pub opened_shown : (t : Tables) (log : List Command) (b count : ℕ)
+    → row_at branch_key t.branches b ≡ None → 1 ≤ b
     → count ≤ MOST_ACCOUNTS → AreTablesOf t log → AreTablesOf (tables_opened t b count) (Open b count ∷ log)
-opened_shown t log b count none hb hc s =
+opened_shown t log b count closed hb hc s =
     let ready = ready_shown t log s in
-    let closed = unmapped count_of_branch (row_at branch_key t.branches b) none in
     opening_shown t (tables_opened t b count) log b count
-    (sym (count_shown t (λ x. opened log x) (decided log) b s.rows) ∙ none) hb hc s
+    (sym (terms_shown t (λ x. opened log x) (decided log) b s.rows)
+    ∙ ap (option_map terms_of_branch) closed) hb hc s
     (record {
       decided = refl;
-      branches = row_behind branch_key t.branches (branch_row_of b (pos 0) count) ready.branches closed;
+      branches = row_behind branch_key t.branches
+          (branch_row_of b (pos 0) (opened_with count)) ready.branches closed;
       tellers = rows_behind teller_key new_teller (first_teller b) 10 t.tellers (λ _. refl) ready.tellers
           (λ n lt. no_teller t b n ready hb closed lt);
       accounts = rows_behind account_key new_account (first_account b) count t.accounts

@@ -1,5 +1,6 @@
 -- The rows of a bank in memory show a log, and what a call does to them shows the log with its command.
-use Rattle.std.proofs.Common.{◌≡◌, ℕ, ◌≤◌, List, [], ◌∷◌, length, None, refl, sym, ap, subst, ◌∙◌}
+use Rattle.std.proofs.Common.{◌≡◌, ℕ, ◌≤◌, List, [], ◌∷◌, length, Option, Some, None, refl, sym, ap, subst, ◌∙◌}
+use Rattle.std.specs.Option.{option_map}
 use Rattle.posting_rules.specs.declared.limits.TheConstants.{MOST_ACCOUNTS}
 use Rattle.message_records.specs.Reading.{request_of}
 use Rattle.message_records.specs.Spelling.{reply_spelling}
@@ -10,8 +11,7 @@ use Rattle.posting_rules.specs.declared.rows.HistoryRow.{HistoryRow}
 use Rattle.posting_rules.specs.declared.rows.RequestRow.{RequestRow}
 use Rattle.posting_rules.specs.Commands.{Command, Open, Post, AreCommands}
 use Rattle.posting_rules.specs.Entries.{reply}
-use Rattle.posting_rules.specs.Tables.{Tables, AreTablesOf}
-use Rattle.posting_rules.specs.LookUps.{count_in}
+use Rattle.posting_rules.specs.Tables.{Tables, AreTablesOf, row_at, branch_key}
 use Rattle.posting_rules.specs.Runs.{behind}
 use Rattle.posting_rules.specs.Counter.{ShowsLog, StandsAt, Takes}
 use Rattle.posting_core.specs.declared.plain_bank.PlainBank.{PlainBank}
@@ -72,8 +72,12 @@ reply_from t t' log bytes out e same s =
     e ∙ ap (λ (u : Tables). reply_spelling (reply_in_tables u (request_of bytes))) same ∙ ap reply_spelling
     (reply_is t log bytes s)
 
+pub unmapped : {A B : Type 0} (f : A → B) (o : Option A) → option_map f o ≡ None → o ≡ None
+unmapped f None e = refl
+unmapped f (Some x) e = absurd cc
+
 pub opened_from : (t t' new : Tables) (log : List Command) (b count : ℕ) → new ≡ tables_opened t' b count
-    → t' ≡ t → count_in t b ≡ None → 1 ≤ b → count ≤ MOST_ACCOUNTS → AreTablesOf t log
+    → t' ≡ t → row_at branch_key t.branches b ≡ None → 1 ≤ b → count ≤ MOST_ACCOUNTS → AreTablesOf t log
     → AreTablesOf new (Open b count ∷ log)
 opened_from t t' new log b count e same none hb hc s =
     subst (λ (u : Tables). AreTablesOf u (Open b count ∷ log))

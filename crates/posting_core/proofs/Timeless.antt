@@ -11,8 +11,8 @@ use Rattle.posting_rules.specs.declared.judgments.Found.{Found}
 use Rattle.posting_rules.specs.declared.judgments.Verdict.{Verdict}
 use Rattle.posting_rules.specs.declared.judgments.Verdict.TheVariants.{Unkept, Again, Refused, Posted}
 use Rattle.posting_rules.specs.Kept.{KeptFields}
-use Rattle.posting_rules.specs.Commands.{Command, Post, opened, branch_of_teller, is_teller_open}
-use Rattle.posting_rules.specs.Commands.{is_account_open}
+use Rattle.posting_rules.specs.Commands.{Command, Post, opened, is_teller_open, is_account_open, Terms}
+use Rattle.posting_rules.specs.Numbering.{branch_of_teller}
 use Rattle.posting_rules.specs.Cases.{case_of}
 use Rattle.posting_rules.specs.Entries.{DecidedRequest, is_posted, facts, kept, kept_fields, posted_sum}
 use Rattle.posting_rules.specs.Entries.{with_verdict}
@@ -50,7 +50,7 @@ length_zeroed [] = refl
 length_zeroed (e ∷ es) = ap suc (length_zeroed es)
 
 -- what is known of them is the same
-facts_zeroed : (opened : ℕ → Option ℕ) (es : List DecidedRequest) (r : RequestFields)
+facts_zeroed : (opened : ℕ → Option Terms) (es : List DecidedRequest) (r : RequestFields)
     → facts opened (zeroed es) r ≡ facts opened es r
 facts_zeroed opened es r =
     made _ _ _ _ _ _ _ _ _ _ (sum_zeroed (λ x. eqb x.teller r.teller) es)
@@ -71,7 +71,7 @@ facts_zeroed opened es r =
     made t t' b b' k k' n n' a a' et eb ek en ea = rw (et, eb, ek, en, ea) refl
 
 -- and so is the reply
-pub reply_zeroed : (opened : ℕ → Option ℕ) (es : List DecidedRequest) (read : Result RequestFields Bad)
+pub reply_zeroed : (opened : ℕ → Option Terms) (es : List DecidedRequest) (read : Result RequestFields Bad)
     → reply_to read opened (zeroed es) ≡ reply_to read opened es
 reply_zeroed opened es (Ok r) = rw (facts_zeroed opened es r) refl
 reply_zeroed opened es (Err e) = refl
@@ -83,7 +83,7 @@ verdict_zeroed m r (Again a) es = refl
 verdict_zeroed m r (Refused o) es = refl
 verdict_zeroed m r (Posted a t b) es = refl
 
-pub record_zeroed : (m : ℕ) (opened : ℕ → Option ℕ) (es : List DecidedRequest)
+pub record_zeroed : (m : ℕ) (opened : ℕ → Option Terms) (es : List DecidedRequest)
     (read : Result RequestFields Bad)
     → zeroed (with_record m read opened es) ≡ with_record 0 read opened (zeroed es)
 record_zeroed m opened es (Ok r) =
@@ -94,16 +94,16 @@ record_zeroed m opened es (Err e) = refl
 -- ---- records from what is open and decided
 
 -- their replies, and what is decided behind them
-replies_from : (ℕ → Option ℕ) → List DecidedRequest → List (List ℕ) → List (List ℕ)
+replies_from : (ℕ → Option Terms) → List DecidedRequest → List (List ℕ) → List (List ℕ)
 replies_from opened es [] = []
 replies_from opened es (r ∷ rs) = reply_spelling (reply_to (request_of r) opened es) ∷ replies_from opened
     (with_record 0 (request_of r) opened es) rs
 
-entries_behind : (ℕ → Option ℕ) → List DecidedRequest → List (List ℕ) → List DecidedRequest
+entries_behind : (ℕ → Option Terms) → List DecidedRequest → List (List ℕ) → List DecidedRequest
 entries_behind opened es [] = es
 entries_behind opened es (r ∷ rs) = entries_behind opened (with_record 0 (request_of r) opened es) rs
 
-replies_from-append : (opened : ℕ → Option ℕ) (es : List DecidedRequest) (rs ss : List (List ℕ))
+replies_from-append : (opened : ℕ → Option Terms) (es : List DecidedRequest) (rs ss : List (List ℕ))
     → replies_from opened es (rs ++ ss) ≡ replies_from opened es rs ++ replies_from opened
     (entries_behind opened es rs) ss
 unfolding replies_from entries_behind
@@ -113,7 +113,7 @@ replies_from-append opened es (r ∷ rs) ss =
     (replies_from-append opened (with_record 0 (request_of r) opened es) rs ss)
 
 -- what is open behind a log, and what is decided there but for the moments
-abbrev open_behind : List Command → ℕ → Option ℕ
+abbrev open_behind : List Command → ℕ → Option Terms
 open_behind log b = opened log b
 
 abbrev entries_of : List Command → List DecidedRequest
@@ -141,7 +141,7 @@ posts_decided log m (r ∷ rs) =
     ∙ ap (λ (es : List DecidedRequest). entries_behind (λ b. opened log b) es rs)
     (record_zeroed m (λ b. opened log b) (decided log) (request_of r))
 
-posts_opened : (log : List Command) (m : ℕ) (rs : List (List ℕ)) → ◌≡◌ {A = ℕ → Option ℕ}
+posts_opened : (log : List Command) (m : ℕ) (rs : List (List ℕ)) → ◌≡◌ {A = ℕ → Option Terms}
     (λ b. opened (behind log (posts m rs)) b) (λ b. opened log b)
 posts_opened log m [] = refl
 posts_opened log m (r ∷ rs) = posts_opened (Post m r ∷ log) m rs
@@ -159,7 +159,7 @@ batches_replied log (b ∷ bs) =
     ∙ ap (λ (t : List (List ℕ)). t ++ replies_to now (posts_of bs)) (posts_replied log b.moment b.records)
     ∙ ap (λ (t : List (List ℕ)). first ++ t)
     (batches_replied now bs
-    ∙ ap (λ (o : ℕ → Option ℕ). replies_from o (zeroed (decided now)) (records_of bs))
+    ∙ ap (λ (o : ℕ → Option Terms). replies_from o (zeroed (decided now)) (records_of bs))
     (posts_opened log b.moment b.records)
     ∙ ap (λ (es : List DecidedRequest). replies_from (λ x. opened log x) es (records_of bs))
     (posts_decided log b.moment b.records))

@@ -4,14 +4,14 @@ use Rattle.message_records.specs.declared.fault.Bad.{Bad}
 use Rattle.message_records.specs.Records.{RequestFields, ReplyFields}
 use Rattle.posting_rules.specs.declared.judgments.Verdict.{Verdict}
 use Rattle.posting_rules.specs.declared.judgments.Verdict.TheVariants.{Unkept, Again, Refused, Posted}
-use Rattle.posting_rules.specs.Commands.{branch_of_teller}
+use Rattle.posting_rules.specs.Commands.{opened_with}
 use Rattle.posting_rules.specs.Cases.{case_of, reply_in}
 use Rattle.posting_rules.specs.Entries.{DecidedRequest, refused_entry, posted_entry, malformed_reply}
 use Rattle.posting_rules.specs.Tables.{Tables, branch_key, teller_key, account_key, branch_row_of}
 use Rattle.posting_rules.specs.Tables.{request_row_of, history_row_of}
 use Rattle.posting_rules.specs.LookUps.{found_in}
 use Rattle.posting_rules.specs.Steps.{with_branch_balance, with_teller_balance, with_account_balance}
-use Rattle.posting_rules.specs.Steps.{first_teller, first_account}
+use Rattle.posting_rules.specs.Numbering.{branch_of_teller, first_teller, first_account}
 use Rattle.posting_rules.specs.Changes.{row_changed, new_teller, new_account}
 
 -- a row for each of so many numbers from the first one on
@@ -59,7 +59,7 @@ tables_with t moment (Ok r) = tables_after t moment r (case_of (found_in t r) r)
 abbrev pub tables_opened : Tables → ℕ → ℕ → Tables
 tables_opened t b count = record {
   decided = t.decided;
-  branches = t.branches ++ branch_row_of b (pos 0) count ∷ [];
+  branches = t.branches ++ branch_row_of b (pos 0) (opened_with count) ∷ [];
   tellers = t.tellers ++ rows_from new_teller (first_teller b) 10;
   accounts = t.accounts ++ rows_from new_account (first_account b) count;
   history = t.history;

@@ -47,8 +47,10 @@ pub use posting_rules::{
     ACCOUNTS_PER_BRANCH, AccountRow, BranchLine, BranchRow, Counter, Fault, Found, HistoryRow,
     Kept, LAST_BRANCH, MAX_DECIDED, MOST_ACCOUNTS, OpenFault, Opening, Ordinal, RECORDS_PER_BATCH,
     RequestRow, Rule, TELLERS_PER_BRANCH, TellerRow, Verdict, balances_stay_within,
-    branch_of_teller, cases_are_as_stated, each_request_once, equal_tables_answer_alike, judge,
-    reply_to, resends_get_their_replies, tables_are_consistent, tables_are_undamaged,
+    branch_of_account, branch_of_teller, cases_are_as_stated, each_request_once,
+    equal_tables_answer_alike, first_account, first_teller, judge, malformed_reply,
+    place_of_account, reply_to, resends_get_their_replies, tables_are_consistent,
+    tables_are_undamaged,
 };
 pub use stream::{Count, StreamFault, post_stream};
 pub use transfer::{WriteFailed, write_each, write_out};

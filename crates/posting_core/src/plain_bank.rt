@@ -7,28 +7,21 @@ ghost use Rattle.posting_rules.specs.declared.limits.TheConstants.{MAX_DECIDED};
 ghost use Rattle.posting_rules.specs.Branches.{IsInRange};
 ghost use Rattle.posting_rules.specs.Kept.{is_kept_with};
 ghost use Rattle.posting_rules.specs.Entries.{DecidedRequest};
-ghost use Rattle.posting_rules.specs.Tables.{request_row_of, history_row_of};
+ghost use Rattle.posting_rules.specs.Tables.{request_row_of};
 ghost use Rattle.posting_core.specs.Appended.{rows_from};
 
 use crate::branches::{count_at, next_at};
 use crate::walking::{NewRow, balance_at, kept_at, put, set_balance_at};
 use message_records::{
     Account, Branch, Cents, MAX_ACCOUNT, MAX_MOMENT, MAX_TELLER, Moment, Outcome, REPLY_BYTES,
-    REQUEST_BYTES, Reply, Request, Teller, decode_request, encode_reply,
+    REQUEST_BYTES, Request, Teller, decode_request, encode_reply,
 };
 use posting_rules::{
-    ACCOUNTS_PER_BRANCH, AccountRow, BranchLine, BranchRow, Counter, Fault, Found, HistoryRow,
-    Kept, LAST_BRANCH, MOST_ACCOUNTS, Opening, Ordinal, RequestRow, TELLERS_PER_BRANCH, TellerRow,
-    Verdict, branch_of_teller, judge, reply_to,
+    AccountRow, BranchLine, BranchRow, Counter, Fault, Found, HistoryRow, LAST_BRANCH,
+    MOST_ACCOUNTS, Opening, Ordinal, RequestRow, TELLERS_PER_BRANCH, TellerRow, Verdict,
+    branch_of_teller, first_account, first_teller, judge, malformed_reply, reply_to,
 };
 use std::alloc::Global;
-
-// A balance of zero.
-fn zero() -> Cents
-    ensures { result ≡ pos 0 }
-{
-    Cents::new(0).unwrap()
-}
 
 // Keeps a decided request behind the others, for which there is room.
 fn keep(requests: &mut Vec<RequestRow>, request: &Request, outcome: Outcome, balance: Cents)
@@ -41,50 +34,11 @@ fn keep(requests: &mut Vec<RequestRow>, request: &Request, outcome: Outcome, bal
     ensures len { vec_len requests.new ≡ vec_len requests.old + 1 }
     ensures capacity { vec_capacity requests.old ≤ vec_capacity requests.new }
 {
-    let kept = Kept::new(
-        request.account(),
-        request.branch(),
-        request.delta(),
-        outcome,
-        balance,
+    let ordinal = Ordinal::new(requests.len() as u64 + 1).unwrap();
+    put(
+        requests,
+        RequestRow::decided(ordinal, request, outcome, balance),
     );
-    let row = RequestRow {
-        ordinal: Ordinal::new(requests.len() as u64 + 1).unwrap(),
-        teller: request.teller(),
-        number: request.number(),
-        kept: kept.unwrap(),
-    };
-    put(requests, row);
-}
-
-// Records a posting behind the others, for which there is room.
-fn record_posting(
-    history: &mut Vec<HistoryRow>,
-    ordinal: Ordinal,
-    moment: Moment,
-    request: &Request,
-    balance: Cents,
-)
-    requires room { vec_len history.old < vec_capacity history.old }
-    ensures items { history.new.items ≡ history.old.items
-        ++ history_row_of ordinal (record {
-          moment = moment;
-          request = request.now;
-          outcome = Outcome.Posted;
-          balance = balance;
-        }) ∷ [] }
-    ensures len { vec_len history.new ≡ vec_len history.old + 1 }
-    ensures capacity { vec_capacity history.old ≤ vec_capacity history.new }
-{
-    let row = HistoryRow {
-        ordinal,
-        account: request.account(),
-        teller: request.teller(),
-        branch: request.branch(),
-        delta: request.delta(),
-        moment,
-    };
-    put(history, row);
 }
 
 impl NewRow for TellerRow {
@@ -98,7 +52,7 @@ impl NewRow for TellerRow {
     fn numbered(number: u64) -> Self {
         TellerRow {
             teller: Teller::new(number).unwrap(),
-            balance: zero(),
+            balance: Cents::zero(),
         }
     }
 }
@@ -114,7 +68,7 @@ impl NewRow for AccountRow {
     fn numbered(number: u64) -> Self {
         AccountRow {
             account: Account::new(number).unwrap(),
-            balance: zero(),
+            balance: Cents::zero(),
         }
     }
 }
@@ -207,7 +161,7 @@ impl PlainBank {
     {
         match verdict {
             Verdict::Unkept(_) | Verdict::Again(_) => {}
-            Verdict::Refused(outcome) => keep(&mut self.requests, request, *outcome, zero()),
+            Verdict::Refused(outcome) => keep(&mut self.requests, request, *outcome, Cents::zero()),
             Verdict::Posted {
                 account,
                 teller,
@@ -218,7 +172,10 @@ impl PlainBank {
                 set_balance_at(&mut self.accounts, request.account().get(), *account);
                 set_balance_at(&mut self.tellers, request.teller().get(), *teller);
                 set_balance_at(&mut self.branches, home, *branch);
-                record_posting(&mut self.history, ordinal, moment, request, *account);
+                put(
+                    &mut self.history,
+                    HistoryRow::posted(ordinal, moment, request),
+                );
                 keep(&mut self.requests, request, Outcome::Posted, *account);
             }
         }
@@ -244,7 +201,7 @@ impl PlainBank {
     {
         read_range(moment);
         let Ok(request) = decode_request(bytes) else {
-            return encode_reply(&Reply::new(Outcome::Malformed, None, None).unwrap());
+            return encode_reply(&malformed_reply());
         };
         let found = self.look_up(&request);
         let verdict = judge(&found, &request);
@@ -286,23 +243,14 @@ impl PlainBank {
         ensures tables { plain_tables self.new ≡ tables_opened (plain_tables self.old) branch count }
         ensures above { 1 ≤ branch }
     {
-        let before = branch.get() - 1;
         let row = BranchRow {
             branch,
             accounts: count,
-            balance: zero(),
+            balance: Cents::zero(),
         };
         put(&mut self.branches, row);
-        put_new(
-            &mut self.tellers,
-            TELLERS_PER_BRANCH * before + 1,
-            TELLERS_PER_BRANCH,
-        );
-        put_new(
-            &mut self.accounts,
-            ACCOUNTS_PER_BRANCH * before + 1,
-            u64::from(count),
-        );
+        put_new(&mut self.tellers, first_teller(branch), TELLERS_PER_BRANCH);
+        put_new(&mut self.accounts, first_account(branch), u64::from(count));
     }
 }
 

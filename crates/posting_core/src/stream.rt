@@ -1,5 +1,5 @@
 //! A stream of records in, and a stream of replies out.
-ghost use Rattle.std.specs.Prelude.{◌≡◌, ◌≢◌, ℕ, ◌-◌, ◌≤◌, MatchResult, IfErr, OnOk, length, take, drop};
+ghost use Rattle.std.specs.Prelude.{◌≡◌, ◌≢◌, ℕ, ◌≤◌, MatchResult, IfErr, OnOk, length};
 ghost use Rattle.std.specs.Result.{IsErrOf};
 ghost use Rattle.posting_core.specs.Clock.{IsReading};
 ghost use Rattle.posting_rules.specs.Runs.{posts};
@@ -11,7 +11,7 @@ ghost use Rattle.posting_core.specs.Told.{EndsWith, HasWriteFailed, IsFlush};
 
 use crate::clock::Clock;
 use crate::ends::{Sink, Source};
-use crate::transfer::{fill, write_out};
+use crate::transfer::{fill, move_to_front, write_out};
 use message_records::REQUEST_BYTES;
 use posting_rules::{Counter, Fault, RECORDS_PER_BATCH};
 use std::fmt;
@@ -55,15 +55,6 @@ impl fmt::Display for StreamFault {
 }
 
 impl std::error::Error for StreamFault {}
-
-// Moves what lies between to the front.
-fn move_to_front(buffer: &mut [u8; BUFFER], from: usize, to: usize)
-    requires order { from ≤ to }
-    requires within { to ≤ BUFFER }
-    ensures { take (to - from) buffer.new ≡ take (to - from) (drop from buffer.old) }
-{
-    buffer.copy_within(from..to, 0);
-}
 
 // Submits a batch under one reading of the clock, and writes the replies.
 fn reply_to_batch<W: Sink, K: Clock, C: Counter>(

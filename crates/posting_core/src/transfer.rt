@@ -1,6 +1,6 @@
 //! Bytes from a reader and to a writer, with what is known of both.
-ghost use Rattle.std.specs.Prelude.{◌≡◌, ◌≤◌, ◌<◌, ◌+◌, ◌++◌, ◌∷◌, [], ℕ, List, IfOk, OnOk, OnErr, length};
-ghost use Rattle.std.specs.Prelude.{take};
+ghost use Rattle.std.specs.Prelude.{◌≡◌, ◌≤◌, ◌<◌, ◌+◌, ◌-◌, ◌++◌, ◌∷◌, [], ℕ, List, IfOk, OnOk, OnErr, length};
+ghost use Rattle.std.specs.Prelude.{take, drop};
 ghost use Rattle.std.specs.Io.KnownBytes.{Keeps, Appends, Consumes, IsAtEnd};
 ghost use Rattle.posting_core.specs.Told.{GrowsBy, EndsWith, HasMore, HasReadFailed, HasWriteFailed};
 ghost use Rattle.posting_core.specs.Told.{IsEndOfInput, IsFlush, read_told};
@@ -54,6 +54,15 @@ pub fn fill<R: Source>(reader: &mut R, buffer: &mut [u8], filled: usize) -> io::
     ensures tells { GrowsBy (R.told reader.old) (R.told reader.new) (read_told result ∷ []) }
 {
     reader.give(&mut buffer[filled..])
+}
+
+/// Moves what lies between the two places to the front of the buffer.
+pub fn move_to_front(buffer: &mut [u8], from: usize, to: usize)
+    requires order { from ≤ to }
+    requires within { to ≤ length buffer.old }
+    ensures { take (to - from) buffer.new ≡ take (to - from) (drop from buffer.old) }
+{
+    buffer.copy_within(from..to, 0);
 }
 
 /// Reads until the buffer is full or the input ends, and answers how many bytes were read. An interrupted

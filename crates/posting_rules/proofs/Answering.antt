@@ -4,7 +4,7 @@ use Rattle.std.specs.Prelude.{option_map}
 use Rattle.posting_rules.specs.declared.counter.BranchLine.{BranchLine}
 use Rattle.posting_rules.specs.Branches.{IsNextBranch}
 use Rattle.posting_rules.specs.Changes.{tables_past, tables_with_branch}
-use Rattle.posting_rules.specs.Commands.{Command, Open, Post, AreCommands, opened}
+use Rattle.posting_rules.specs.Commands.{Command, Open, Post, AreCommands, opened, Terms, opened_with}
 use Rattle.posting_rules.specs.Counter.{opening_for, opening_behind}
 use Rattle.posting_rules.specs.Entries.{balance_behind, branch_balance, decided}
 use Rattle.posting_rules.specs.LookUps.{balance_of_branch}
@@ -12,7 +12,7 @@ use Rattle.posting_rules.specs.Runs.{behind}
 use Rattle.posting_rules.specs.Tables.{Tables, AreTablesOf}
 use Rattle.posting_rules.specs.Alike.{AreAlike}
 use Rattle.posting_rules.proofs.Calls.{opens}
-use Rattle.posting_rules.proofs.Looked.{balance_shown, count_shown}
+use Rattle.posting_rules.proofs.Looked.{balance_shown, terms_shown}
 use Rattle.posting_rules.proofs.Records.{past_shown}
 
 -- tables that show both logs with the commands behind them
@@ -36,11 +36,11 @@ both_shown t one two (Open b count ∷ cs) s u valid =
 
 opened_alike : (one two : List Command) → BothShown one two → (b : ℕ) → opened one b ≡ opened two b
 opened_alike one two x b =
-    sym (count_shown x.tables (λ n. opened one n) (decided one) b x.first.rows) ∙ count_shown x.tables
+    sym (terms_shown x.tables (λ n. opened one n) (decided one) b x.first.rows) ∙ terms_shown x.tables
     (λ n. opened two n) (decided two) b x.second.rows
 
 -- an open branch has one balance
-open_alike : (one two : List Command) → BothShown one two → (b n : ℕ) → opened one b ≡ Some n
+open_alike : (one two : List Command) → BothShown one two → (b : ℕ) (n : Terms) → opened one b ≡ Some n
     → branch_balance (decided one) b ≡ branch_balance (decided two) b
 open_alike one two x b n is =
     let other : opened two b ≡ Some n = sym (opened_alike one two x b) ∙ is in
@@ -55,8 +55,8 @@ next_alike : (one two : List Command) → BothShown one two → (after : ℕ) (l
 next_alike one two x after None h = λ b above. sym (opened_alike one two x b) ∙ h b above
 next_alike one two x after (Some line) h = record {
   above = h.above;
-  accounts = sym (opened_alike one two x line.branch) ∙ h.accounts;
-  balance = h.balance ∙ open_alike one two x line.branch line.accounts h.accounts;
+  terms = sym (opened_alike one two x line.branch) ∙ h.terms;
+  balance = h.balance ∙ open_alike one two x line.branch (opened_with line.accounts) h.terms;
   none_between = λ b low high. sym (opened_alike one two x b) ∙ h.none_between b low high;
 }
 
@@ -66,10 +66,10 @@ both_of : (t : Tables) (one two cs : List Command) → AreAlike t one two cs
     → BothShown (behind one cs) (behind two cs)
 both_of t one two cs a = both_shown t one two cs a.first a.second a.valid
 
-pub openings_alike : (t : Tables) (one two cs : List Command) → AreAlike t one two cs → (b count : ℕ)
-    → opening_behind (behind one cs) b count ≡ opening_behind (behind two cs) b count
-openings_alike t one two cs a b count =
-    ap (λ (o : Option ℕ). opening_for o count)
+pub openings_alike : (t : Tables) (one two cs : List Command) → AreAlike t one two cs → (b : ℕ) (terms : Terms)
+    → opening_behind (behind one cs) b terms ≡ opening_behind (behind two cs) b terms
+openings_alike t one two cs a b terms =
+    ap (λ (o : Option Terms). opening_for o terms)
     (opened_alike (behind one cs) (behind two cs) (both_of t one two cs a) b)
 
 pub balances_alike : (t : Tables) (one two cs : List Command) → AreAlike t one two cs → (account : ℕ)

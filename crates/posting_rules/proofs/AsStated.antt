@@ -12,8 +12,8 @@ use Rattle.message_records.specs.Records.{RequestFields}
 use Rattle.message_records.specs.Reading.{request_of}
 use Rattle.posting_rules.specs.declared.judgments.Verdict.{Verdict}
 use Rattle.posting_rules.specs.declared.judgments.Verdict.TheVariants.{Unkept, Again, Refused}
-use Rattle.posting_rules.specs.Commands.{Command, Post, opened, branch_of_teller, is_teller_open}
-use Rattle.posting_rules.specs.Commands.{is_account_open}
+use Rattle.posting_rules.specs.Commands.{Command, Post, opened, is_teller_open, is_account_open}
+use Rattle.posting_rules.specs.Numbering.{branch_of_teller}
 use Rattle.posting_rules.specs.Kept.{KeptFields}
 use Rattle.posting_rules.specs.Cases.{balance_shown, is_same, kept_reply, reply_in}
 use Rattle.posting_rules.specs.Entries.{DecidedRequest, kept, account_balance, teller_balance, branch_balance}

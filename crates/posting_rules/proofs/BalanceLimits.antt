@@ -9,7 +9,7 @@ use Rattle.message_records.specs.Records.{RequestFields}
 use Rattle.message_records.specs.Reading.{request_of}
 use Rattle.posting_rules.specs.declared.judgments.Verdict.{Verdict}
 use Rattle.posting_rules.specs.declared.judgments.Verdict.TheVariants.{Unkept, Again, Refused, Posted}
-use Rattle.posting_rules.specs.Commands.{Command, Open, Post, opened}
+use Rattle.posting_rules.specs.Commands.{Command, Open, Post, opened, Terms}
 use Rattle.posting_rules.specs.Cases.{case_of}
 use Rattle.posting_rules.specs.Entries.{DecidedRequest, is_posted, facts, account_balance, teller_balance}
 use Rattle.posting_rules.specs.Entries.{branch_balance, refused_entry, with_verdict, with_record, decided}
@@ -35,7 +35,8 @@ keeps_within false hit old delta h new = h
 sum_within : (old delta new : ℤ) → IsSum old delta new → IsWithin (old +ℤ delta)
 sum_within old delta new s = subst IsWithin s.sum s.within
 
-within_verdict : (opened : ℕ → Option ℕ) (es : List DecidedRequest) (m : ℕ) (r : RequestFields) (v : Verdict)
+within_verdict : (opened : ℕ → Option Terms) (es : List DecidedRequest) (m : ℕ) (r : RequestFields)
+    (v : Verdict)
     → IsVerdict opened es r v → AllWithin es → AllWithin (with_verdict m r v es)
 within_verdict opened es m r (Unkept o) h all = all
 within_verdict opened es m r (Again x) h all = all
@@ -59,7 +60,7 @@ within_verdict opened es m r (Posted a t b) h all = record {
       ∙ eqb-true _ _ e) (sum_within _ _ b h.branch_is));
 }
 
-within_record : (opened : ℕ → Option ℕ) (es : List DecidedRequest) (m : ℕ) (read : Result RequestFields Bad)
+within_record : (opened : ℕ → Option Terms) (es : List DecidedRequest) (m : ℕ) (read : Result RequestFields Bad)
     → AllWithin es → AllWithin (with_record m read opened es)
 within_record opened es m (Ok r) all = within_verdict opened es m r (case_of (facts opened es r) r)
     (verdict_is opened es r) all

@@ -6,16 +6,16 @@ use Rattle.message_records.specs.Records.{RequestFields}
 use Rattle.message_records.specs.Reading.{request_of}
 use Rattle.message_records.specs.Spelling.{reply_spelling}
 use Rattle.posting_rules.specs.declared.rows.BranchRow.{BranchRow}
-use Rattle.posting_rules.specs.Commands.{Command, Open, Post, opened}
+use Rattle.posting_rules.specs.Commands.{Command, Open, Post, opened, Terms}
 use Rattle.posting_rules.specs.Runs.{behind}
 use Rattle.posting_rules.specs.Cases.{case_of}
 use Rattle.posting_rules.specs.Counter.{opening_for, opening_behind}
 use Rattle.posting_rules.specs.Entries.{decided, reply}
-use Rattle.posting_rules.specs.LookUps.{found_in, count_in, count_of_branch}
+use Rattle.posting_rules.specs.LookUps.{found_in, terms_in, terms_of_branch}
 use Rattle.posting_rules.specs.Steps.{IsStep}
 use Rattle.posting_rules.specs.Tables.{Tables, row_at, branch_key}
 use Rattle.posting_rules.specs.Tables.{AreTablesOf as Show}
-use Rattle.posting_rules.proofs.Looked.{count_shown}
+use Rattle.posting_rules.proofs.Looked.{terms_shown}
 use Rattle.posting_rules.proofs.Opened.{opening_shown, already_open_shown}
 use Rattle.posting_rules.proofs.Stepped.{post_shown, reply_shown}
 use Rattle.posting_rules.specs.Changes.{tables_with, reply_bytes, opened_where, tables_with_branch}
@@ -48,21 +48,21 @@ pub opens : (b count : ℕ) → 1 ≤ b → count ≤ MOST_ACCOUNTS
     → IsChange (λ t. tables_with_branch t b count) (Open b count ∷ [])
 opens b count above few t log shows = by_row (row_at branch_key t.branches b) refl
   where
-    counted : count_in t b ≡ opened log b
-    counted = count_shown t (λ x. opened log x) (decided log) b shows.rows
+    counted : terms_in t b ≡ opened log b
+    counted = terms_shown t (λ x. opened log x) (decided log) b shows.rows
 
     by_row : (o : Option BranchRow) → row_at branch_key t.branches b ≡ o
         → Show (opened_where o t b count) (Open b count ∷ log)
     by_row None e = opening_shown t _ log b count
-        (sym counted ∙ ap (option_map count_of_branch) e) above few shows
+        (sym counted ∙ ap (option_map terms_of_branch) e) above few shows
         (opens_is t b count (ready_shown t log shows) above few e)
-    by_row (Some row) e = already_open_shown t log b count row.accounts
-        (sym counted ∙ ap (option_map count_of_branch) e) shows
+    by_row (Some row) e = already_open_shown t log b count (terms_of_branch row)
+        (sym counted ∙ ap (option_map terms_of_branch) e) shows
 
-pub answers : (t : Tables) (log : List Command) (b count : ℕ) → Show t log
-    → opening_for (count_in t b) count ≡ opening_behind log b count
-answers t log b count shows = ap (λ o. opening_for o count)
-    (count_shown t (λ x. opened log x) (decided log) b shows.rows)
+pub answers : (t : Tables) (log : List Command) (b : ℕ) (terms : Terms) → Show t log
+    → opening_for (terms_in t b) terms ≡ opening_behind log b terms
+answers t log b terms shows = ap (λ o. opening_for o terms)
+    (terms_shown t (λ x. opened log x) (decided log) b shows.rows)
 
 -- ---- a look-up
 

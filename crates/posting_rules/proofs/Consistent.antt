@@ -8,7 +8,8 @@ use Rattle.std.proofs.Math.IntN.{+ℤ_idl}
 use Rattle.std.proofs.lemmas.Bool.{eqb-true, eq-eqb}
 use Rattle.std.proofs.lemmas.Bool.Decides.{nat_tests}
 use Rattle.posting_rules.specs.declared.rows.HistoryRow.{HistoryRow}
-use Rattle.posting_rules.specs.Commands.{Command, opened, branch_of_teller}
+use Rattle.posting_rules.specs.Commands.{Command, opened, Terms}
+use Rattle.posting_rules.specs.Numbering.{branch_of_teller}
 use Rattle.posting_rules.specs.Entries.{DecidedRequest, is_posted, posted_sum, branch_balance, decided}
 use Rattle.posting_rules.specs.Tables.{Tables, HasRows, AreTablesOf, row_at, branch_key, teller_key}
 use Rattle.posting_rules.specs.Tables.{account_key}
@@ -52,7 +53,7 @@ row_has_delta (d ∷ es) o r e =
       | inr f ↦ rw f (row_has_delta es o r (let h = rw f at e in h))
     ]
 
-history_has : (t : Tables) (opened : ℕ → Option ℕ) (es : List DecidedRequest) → HasRows t opened es
+history_has : (t : Tables) (opened : ℕ → Option Terms) (es : List DecidedRequest) → HasRows t opened es
     → AllByRecursion (λ r. delta_of r ≡ sum_where (λ k. eqb k (history_key r)) (posted_at es)) t.history
 history_has t opened es s =
     all_follow (λ r. row_at history_key t.history (history_key r) ≡ Some r)
@@ -109,7 +110,7 @@ rows_match (e ∷ es) o =
 -- ---- the condition
 
 -- a posting's branch is its teller's, so that both have it
-same_branch : (opened : ℕ → Option ℕ) (es : List DecidedRequest) (b : ℕ) → AllNameOpen opened es
+same_branch : (opened : ℕ → Option Terms) (es : List DecidedRequest) (b : ℕ) → AllNameOpen opened es
     → posted_sum (λ r. leb 1 r.teller && eqb (branch_of_teller r.teller) b) es ≡ posted_sum
     (λ r. eqb r.branch b) es
 same_branch opened [] b h = refl

@@ -4,7 +4,8 @@ use Rattle.std.specs.Prelude.{ℤ, is_some, ◌&&◌}
 use Rattle.std.specs.Option.{option_map}
 use Rattle.message_records.specs.Records.{RequestFields}
 use Rattle.posting_rules.specs.declared.judgments.Found.{Found}
-use Rattle.posting_rules.specs.Commands.{Command, opened, branch_of_teller, is_teller_open, is_account_open}
+use Rattle.posting_rules.specs.Commands.{Command, opened, is_teller_open, is_account_open, Terms}
+use Rattle.posting_rules.specs.Numbering.{branch_of_teller}
 use Rattle.posting_rules.specs.Kept.{KeptFields}
 use Rattle.posting_rules.specs.Entries.{DecidedRequest, facts, teller_balance, branch_balance}
 use Rattle.posting_rules.specs.Entries.{account_balance}
@@ -12,13 +13,13 @@ use Rattle.posting_rules.specs.Entries.{decided, balance_behind}
 use Rattle.posting_rules.specs.Tables.{Tables, HasRows, AreTablesOf, row_at, branch_key, branch_row_of}
 use Rattle.posting_rules.specs.Tables.{teller_row}
 use Rattle.posting_rules.specs.Tables.{teller_row_of, account_row_of}
-use Rattle.posting_rules.specs.LookUps.{found_in, both_of, teller_balances_in, account_balance_in, count_in}
-use Rattle.posting_rules.specs.LookUps.{count_of_branch, balance_of_branch, balance_of_teller}
+use Rattle.posting_rules.specs.LookUps.{found_in, both_of, teller_balances_in, account_balance_in, terms_in}
+use Rattle.posting_rules.specs.LookUps.{terms_of_branch, balance_of_branch, balance_of_teller}
 use Rattle.posting_rules.specs.LookUps.{balance_of_account}
 use Rattle.posting_rules.proofs.Requests.{AreNew, kept_shown}
 
 -- an open teller has its branch's row
-both_rows : (low : Bool) (o : Option ℕ) (t b : ℕ) (x y : ℤ)
+both_rows : (low : Bool) (o : Option Terms) (t b : ℕ) (x y : ℤ)
     → both_of (option_map balance_of_teller (cond (low && is_some o) (Some (teller_row_of t x)) None))
     (option_map balance_of_branch (option_map (branch_row_of b y) o))
     ≡ cond (low && is_some o) (Some (x, y)) None
@@ -27,7 +28,7 @@ both_rows true None t b x y = refl
 both_rows false (Some n) t b x y = refl
 both_rows false None t b x y = refl
 
-pub teller_balances_shown : (t : Tables) (opened : ℕ → Option ℕ) (es : List DecidedRequest) (n : ℕ)
+pub teller_balances_shown : (t : Tables) (opened : ℕ → Option Terms) (es : List DecidedRequest) (n : ℕ)
     → HasRows t opened es
     → teller_balances_in t n ≡ cond (is_teller_open opened n)
     (Some (teller_balance es n, branch_balance es (branch_of_teller n))) None
@@ -44,26 +45,26 @@ balance_if_open : (b : Bool) (n : ℕ) (z : ℤ)
 balance_if_open true n z = refl
 balance_if_open false n z = refl
 
-pub account_balance_shown : (t : Tables) (opened : ℕ → Option ℕ) (es : List DecidedRequest) (n : ℕ)
+pub account_balance_shown : (t : Tables) (opened : ℕ → Option Terms) (es : List DecidedRequest) (n : ℕ)
     → HasRows t opened es
     → account_balance_in t n ≡ cond (is_account_open opened n) (Some (account_balance es n)) None
 account_balance_shown t opened es n s =
     ap (option_map balance_of_account) (s.accounts n) ∙ balance_if_open (is_account_open opened n) n
     (account_balance es n)
 
-count_of_row : (o : Option ℕ) (b : ℕ) (z : ℤ)
-    → option_map count_of_branch (option_map (branch_row_of b z) o) ≡ o
-count_of_row (Some n) b z = refl
-count_of_row None b z = refl
+terms_of_row : (o : Option Terms) (b : ℕ) (z : ℤ)
+    → option_map terms_of_branch (option_map (branch_row_of b z) o) ≡ o
+terms_of_row (Some n) b z = refl
+terms_of_row None b z = refl
 
-pub count_shown : (t : Tables) (opened : ℕ → Option ℕ) (es : List DecidedRequest) (b : ℕ)
+pub terms_shown : (t : Tables) (opened : ℕ → Option Terms) (es : List DecidedRequest) (b : ℕ)
     → HasRows t opened es
-    → count_in t b ≡ opened b
-count_shown t opened es b s = ap (option_map count_of_branch) (s.branches b) ∙ count_of_row (opened b) b
+    → terms_in t b ≡ opened b
+terms_shown t opened es b s = ap (option_map terms_of_branch) (s.branches b) ∙ terms_of_row (opened b) b
     (branch_balance es b)
 
 -- all that is looked up for a request
-pub found_shown : (t : Tables) (opened : ℕ → Option ℕ) (es : List DecidedRequest) (r : RequestFields)
+pub found_shown : (t : Tables) (opened : ℕ → Option Terms) (es : List DecidedRequest) (r : RequestFields)
     → AreNew es
     → HasRows t opened es → found_in t r ≡ facts opened es r
 found_shown t opened es r new s =

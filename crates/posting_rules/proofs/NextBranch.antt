@@ -8,10 +8,10 @@ use Rattle.posting_rules.specs.declared.rows.BranchRow.{BranchRow}
 use Rattle.posting_rules.specs.Branches.{IsNextIn, IsNextBranch, line_of}
 use Rattle.posting_rules.specs.Commands.{Command, opened}
 use Rattle.posting_rules.specs.Entries.{branch_balance, decided}
-use Rattle.posting_rules.specs.LookUps.{count_of_branch, balance_of_branch}
+use Rattle.posting_rules.specs.LookUps.{terms_of_branch, balance_of_branch}
 use Rattle.posting_rules.specs.Tables.{Tables, AreTablesOf, row_at, branch_key, branch_row_of}
 use Rattle.posting_rules.proofs.Keyed.{by_test, found_passes}
-use Rattle.posting_rules.proofs.Looked.{count_shown}
+use Rattle.posting_rules.proofs.Looked.{terms_shown}
 use Rattle.posting_rules.proofs.Undamaged.{row_at-contained}
 
 -- ---- the rows of a log
@@ -31,8 +31,8 @@ found_within test (r ∷ rows) row e =
 
 module _ (t : Tables) (log : List Command) (shows : AreTablesOf t log) where
   counted : (branch : ℕ)
-      → opened log branch ≡ option_map count_of_branch (row_at branch_key t.branches branch)
-  counted branch = sym (count_shown t (λ b. opened log b) (decided log) branch shows.rows)
+      → opened log branch ≡ option_map terms_of_branch (row_at branch_key t.branches branch)
+  counted branch = sym (terms_shown t (λ b. opened log b) (decided log) branch shows.rows)
 
   -- a number that no row has is no open branch
   closed : (branch : ℕ) → ((row : BranchRow) → Contains t.branches row → row.branch ≡ branch → ⊥)
@@ -40,7 +40,7 @@ module _ (t : Tables) (log : List Command) (shows : AreTablesOf t log) where
   closed branch none = by_row (row_at branch_key t.branches branch) refl
     where
       by_row : (o : Option BranchRow) → row_at branch_key t.branches branch ≡ o → opened log branch ≡ None
-      by_row None e = counted branch ∙ ap (option_map count_of_branch) e
+      by_row None e = counted branch ∙ ap (option_map terms_of_branch) e
       by_row (Some row) e =
           let number = eqb-true row.branch branch
           (found_passes (λ r. nat_eq r.branch branch) t.branches row e) in
@@ -51,11 +51,11 @@ module _ (t : Tables) (log : List Command) (shows : AreTablesOf t log) where
       → row.balance ≡ branch_balance (decided log) row.branch
   balance_is row under =
       let sum = branch_balance (decided log) row.branch in
-      let open_ : opened log row.branch ≡ Some row.accounts = counted row.branch
-      ∙ ap (option_map count_of_branch) under in
+      let open_ : opened log row.branch ≡ Some (terms_of_branch row) = counted row.branch
+      ∙ ap (option_map terms_of_branch) under in
       let is : Some row ≡ option_map (branch_row_of row.branch sum) (opened log row.branch) =
       sym under ∙ shows.rows.branches row.branch in
-      let both : Some row ≡ Some (branch_row_of row.branch sum row.accounts) = rw open_ at is in
+      let both : Some row ≡ Some (branch_row_of row.branch sum (terms_of_branch row)) = rw open_ at is in
       let balances : Some row.balance ≡ Some sum = ap (option_map balance_of_branch) both in
       cc
 
@@ -69,7 +69,7 @@ module _ (t : Tables) (log : List Command) (shows : AreTablesOf t log) where
       let under = row_at-contained branch_key t.branches row shows.rows.branch_keys found.stands in
       record {
         above = found.above;
-        accounts = counted row.branch ∙ ap (option_map count_of_branch) under;
+        terms = counted row.branch ∙ ap (option_map terms_of_branch) under;
         balance = balance_is row under;
         none_between = λ branch low high. closed branch (λ r has e.
             let least =

@@ -5,7 +5,7 @@ use Rattle.std.specs.Prelude.{pos, is_some}
 use Rattle.std.specs.List.{AllByRecursion}
 use Rattle.std.proofs.lemmas.Bool.{eqb-true}
 use Rattle.message_records.specs.Records.{RequestFields}
-use Rattle.posting_rules.specs.Commands.{opened, is_teller_open, is_account_open}
+use Rattle.posting_rules.specs.Commands.{opened, is_teller_open, is_account_open, Terms}
 use Rattle.posting_rules.specs.Entries.{DecidedRequest, is_posted, posted_sum, teller_balance, branch_balance}
 use Rattle.posting_rules.specs.Entries.{account_balance}
 use Rattle.posting_rules.proofs.Keyed.{by_test}
@@ -34,19 +34,19 @@ none_named name is_open es n named closed =
     sum_none (λ r. eqb (name r) n) es (all_follow _ (λ e. is_posted e ≡ true → eqb (name e.request) n ≡ false)
     es (λ e open_there p. apart is_open (name e.request) n (open_there p) closed) named)
 
-pub teller_none : (opened : ℕ → Option ℕ) (es : List DecidedRequest) (n : ℕ) → AllNameOpen opened es
+pub teller_none : (opened : ℕ → Option Terms) (es : List DecidedRequest) (n : ℕ) → AllNameOpen opened es
     → is_teller_open opened n ≡ false → teller_balance es n ≡ pos 0
 teller_none opened es n all closed =
     none_named (λ r. r.teller) (λ k. is_teller_open opened k) es n
     (all_follow (NamesOpen opened) _ es (λ e named. named.teller) all) closed
 
-pub account_none : (opened : ℕ → Option ℕ) (es : List DecidedRequest) (n : ℕ) → AllNameOpen opened es
+pub account_none : (opened : ℕ → Option Terms) (es : List DecidedRequest) (n : ℕ) → AllNameOpen opened es
     → is_account_open opened n ≡ false → account_balance es n ≡ pos 0
 account_none opened es n all closed =
     none_named (λ r. r.account) (λ k. is_account_open opened k) es n
     (all_follow (NamesOpen opened) _ es (λ e named. named.account) all) closed
 
-pub branch_none : (opened : ℕ → Option ℕ) (es : List DecidedRequest) (n : ℕ) → AllNameOpen opened es
+pub branch_none : (opened : ℕ → Option Terms) (es : List DecidedRequest) (n : ℕ) → AllNameOpen opened es
     → opened n ≡ None
     → branch_balance es n ≡ pos 0
 branch_none opened es n all closed =

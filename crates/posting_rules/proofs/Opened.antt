@@ -6,13 +6,15 @@ use Rattle.std.specs.Prelude.{ℤ, pos, ◌⊎◌, is_some, ◌&&◌}
 use Rattle.std.specs.Option.{option_map, option_or}
 use Rattle.std.proofs.lemmas.Bool.{eqb-true}
 use Rattle.posting_rules.specs.declared.limits.TheConstants.{MOST_ACCOUNTS}
-use Rattle.posting_rules.specs.Commands.{Command, Open, opened, branch_of_teller, branch_of_account}
-use Rattle.posting_rules.specs.Commands.{place_of_account, is_within, is_teller_open, is_account_open}
+use Rattle.posting_rules.specs.Commands.{Command, Open, opened, is_within, is_teller_open, is_account_open}
+use Rattle.posting_rules.specs.Commands.{Terms, opened_with}
 use Rattle.posting_rules.specs.Entries.{DecidedRequest, teller_balance, branch_balance, account_balance}
 use Rattle.posting_rules.specs.Entries.{decided}
 use Rattle.posting_rules.specs.Tables.{Tables, HasRows, AreTablesOf, branch_row_of, teller_row_of}
 use Rattle.posting_rules.specs.Tables.{account_row_of}
-use Rattle.posting_rules.specs.Steps.{OpensBranch, is_from, first_teller, first_account}
+use Rattle.posting_rules.specs.Steps.{OpensBranch, is_from}
+use Rattle.posting_rules.specs.Numbering.{branch_of_teller, branch_of_account, place_of_account, first_teller}
+use Rattle.posting_rules.specs.Numbering.{first_account}
 use Rattle.posting_rules.proofs.Keyed.{by_test}
 use Rattle.posting_rules.proofs.NamedOpen.{AllNameOpen, with_branch, all_name_open, teller_stays}
 use Rattle.posting_rules.proofs.NamedOpen.{account_stays, both}
@@ -21,22 +23,24 @@ use Rattle.posting_rules.proofs.NumbersInARow.{tellers_in_a_row, accounts_in_a_r
 
 -- ---- the rows with a branch more
 
-now_open : (low : Bool) (o : Option ℕ) (new : Bool) (count : ℕ) → (low && is_some o) ≡ false
-    → (low && is_some (option_or o (cond new (Some count) None))) ≡ (low && new)
-now_open true (Some n) new count h = absurd cc
-now_open true None true count h = refl
-now_open true None false count h = refl
-now_open false o new count h = refl
+now_open : (low : Bool) (o : Option Terms) (new : Bool) (terms : Terms) → (low && is_some o) ≡ false
+    → (low && is_some (option_or o (cond new (Some terms) None))) ≡ (low && new)
+now_open true (Some n) new terms h = absurd cc
+now_open true None true terms h = refl
+now_open true None false terms h = refl
+now_open false o new terms h = refl
 
-now_within : (low : Bool) (place : ℕ) (o : Option ℕ) (new : Bool) (count : ℕ) → (o ≡ None) ⊎ (new ≡ false)
+now_within : (low : Bool) (place : ℕ) (o : Option Terms) (new : Bool) (terms : Terms)
+    → (o ≡ None) ⊎ (new ≡ false)
     → (low && is_within place o) ≡ false
-    → (low && is_within place (option_or o (cond new (Some count) None))) ≡ (low && (new && leb place count))
-now_within false place o new count c h = refl
-now_within true place None true count c h = refl
-now_within true place None false count c h = refl
-now_within true place (Some n) false count c h = h
-now_within true place (Some n) true count (inl e) h = absurd cc
-now_within true place (Some n) true count (inr e) h = absurd cc
+    → (low && is_within place (option_or o (cond new (Some terms) None)))
+    ≡ (low && (new && leb place terms.accounts))
+now_within false place o new terms c h = refl
+now_within true place None true terms c h = refl
+now_within true place None false terms c h = refl
+now_within true place (Some n) false terms c h = h
+now_within true place (Some n) true terms (inl e) h = absurd cc
+now_within true place (Some n) true terms (inr e) h = absurd cc
 
 -- a row that is new, or one that was there
 row_put : {R : Type 0} (row : ℕ → ℤ → R) (was is new : Bool) (n : ℕ) (z : ℤ) → (new ≡ true → was ≡ false)
@@ -48,18 +52,18 @@ row_put row false is true n z closed kept fresh zeroed = rw (fresh refl)
     (ap (λ (v : ℤ). Some (row n v)) (sym (zeroed refl)))
 row_put row false is false n z closed kept fresh zeroed = rw (fresh refl) refl
 
-branch_put : (o : Option ℕ) (new : Bool) (b n count : ℕ) (z : ℤ) → (new ≡ true → b ≡ n)
+branch_put : (o : Option Terms) (new : Bool) (b n : ℕ) (terms : Terms) (z : ℤ) → (new ≡ true → b ≡ n)
     → (new ≡ true → o ≡ None) → (o ≡ None → z ≡ pos 0)
-    → cond new (Some (branch_row_of b (pos 0) count)) (option_map (branch_row_of n z) o) ≡ option_map
-    (branch_row_of n z) (option_or o (cond new (Some count) None))
-branch_put (Some k) true b n count z same closed zeroed = absurd (let h = closed refl in cc)
-branch_put (Some k) false b n count z same closed zeroed = refl
-branch_put None false b n count z same closed zeroed = refl
-branch_put None true b n count z same closed zeroed =
-    ap (λ (x : ℕ). Some (branch_row_of x (pos 0) count)) (same refl) ∙ ap
-    (λ (v : ℤ). Some (branch_row_of n v count)) (sym (zeroed refl))
+    → cond new (Some (branch_row_of b (pos 0) terms)) (option_map (branch_row_of n z) o) ≡ option_map
+    (branch_row_of n z) (option_or o (cond new (Some terms) None))
+branch_put (Some k) true b n terms z same closed zeroed = absurd (let h = closed refl in cc)
+branch_put (Some k) false b n terms z same closed zeroed = refl
+branch_put None false b n terms z same closed zeroed = refl
+branch_put None true b n terms z same closed zeroed =
+    ap (λ (x : ℕ). Some (branch_row_of x (pos 0) terms)) (same refl) ∙ ap
+    (λ (v : ℤ). Some (branch_row_of n v terms)) (sym (zeroed refl))
 
-pub closed_teller : (opened : ℕ → Option ℕ) (b n : ℕ) → opened b ≡ None → 1 ≤ b
+pub closed_teller : (opened : ℕ → Option Terms) (b n : ℕ) → opened b ≡ None → 1 ≤ b
     → is_from (first_teller b) 10 n ≡ true → is_teller_open opened n ≡ false
 closed_teller opened b n closed hb e =
     let two = both (leb 1 n) (eqb b (branch_of_teller n)) (tellers_in_a_row b n hb ∙ e) in
@@ -67,7 +71,8 @@ closed_teller opened b n closed hb e =
     ∙ closed in
     rw (two.0, none) refl
 
-pub closed_account : (opened : ℕ → Option ℕ) (b n count : ℕ) → opened b ≡ None → 1 ≤ b → count ≤ MOST_ACCOUNTS
+pub closed_account : (opened : ℕ → Option Terms) (b n count : ℕ) → opened b ≡ None → 1 ≤ b
+    → count ≤ MOST_ACCOUNTS
     → is_from (first_account b) count n ≡ true → is_account_open opened n ≡ false
 closed_account opened b n count closed hb hc e =
     let one = both (leb 1 n) (eqb b (branch_of_account n) && leb (place_of_account n) count)
@@ -77,35 +82,39 @@ closed_account opened b n count closed hb hc e =
     ∙ closed in
     rw (one.0, none) refl
 
-either_none : (opened : ℕ → Option ℕ) (b x : ℕ) → opened b ≡ None → (opened x ≡ None) ⊎ (eqb b x ≡ false)
+either_none : (opened : ℕ → Option Terms) (b x : ℕ) → opened b ≡ None → (opened x ≡ None) ⊎ (eqb b x ≡ false)
 either_none opened b x closed =
     elim (by_test (eqb b x)) [ inl t ↦ inl (ap opened (sym (eqb-true b x t)) ∙ closed) | inr f ↦ inr f ]
 
-branch_added : (old new : Tables) (opened : ℕ → Option ℕ) (es : List DecidedRequest) (b count : ℕ)
+branch_added : (old new : Tables) (opened : ℕ → Option Terms) (es : List DecidedRequest) (b count : ℕ)
     → AllNameOpen opened es → opened b ≡ None → 1 ≤ b → count ≤ MOST_ACCOUNTS
-    → HasRows old opened es → OpensBranch old new b count → HasRows new (λ x. with_branch opened b count x) es
+    → HasRows old opened es → OpensBranch old new b count
+    → HasRows new (λ x. with_branch opened b (opened_with count) x) es
 branch_added old new opened es b count all closed hb hc s step = record {
   decided = step.decided ∙ s.decided;
-  branches = λ n. step.branches.rows n ∙ ap (cond (eqb b n) (Some (branch_row_of b (pos 0) count)))
+  branches = λ n. step.branches.rows n
+      ∙ ap (cond (eqb b n) (Some (branch_row_of b (pos 0) (opened_with count))))
       (s.branches n)
-      ∙ branch_put (opened n) (eqb b n) b n count (branch_balance es n) (eqb-true b n)
+      ∙ branch_put (opened n) (eqb b n) b n (opened_with count) (branch_balance es n) (eqb-true b n)
       (λ t. ap opened (sym (eqb-true b n t)) ∙ closed) (branch_none opened es n all);
   tellers = λ n. step.tellers.rows n ∙ ap
       (cond (is_from (first_teller b) 10 n) (Some (teller_row_of n (pos 0)))) (s.tellers n)
-      ∙ row_put teller_row_of (is_teller_open opened n) (is_teller_open (λ x. with_branch opened b count x) n)
+      ∙ row_put teller_row_of (is_teller_open opened n)
+      (is_teller_open (λ x. with_branch opened b (opened_with count) x) n)
       (is_from (first_teller b) 10 n) n (teller_balance es n)
-      (closed_teller opened b n closed hb) (teller_stays opened b count n)
-      (λ f. now_open (leb 1 n) (opened (branch_of_teller n)) (eqb b (branch_of_teller n)) count f
+      (closed_teller opened b n closed hb) (teller_stays opened b (opened_with count) n)
+      (λ f. now_open (leb 1 n) (opened (branch_of_teller n)) (eqb b (branch_of_teller n)) (opened_with count) f
       ∙ tellers_in_a_row b n hb)
       (teller_none opened es n all);
   accounts = λ n. step.accounts.rows n ∙ ap
       (cond (is_from (first_account b) count n) (Some (account_row_of n (pos 0)))) (s.accounts n)
       ∙ row_put account_row_of (is_account_open opened n)
-      (is_account_open (λ x. with_branch opened b count x) n) (is_from (first_account b) count n) n
+      (is_account_open (λ x. with_branch opened b (opened_with count) x) n)
+      (is_from (first_account b) count n) n
       (account_balance es n)
-      (closed_account opened b n count closed hb hc) (account_stays opened b count n)
+      (closed_account opened b n count closed hb hc) (account_stays opened b (opened_with count) n)
       (λ f. now_within (leb 1 n) (place_of_account n) (opened (branch_of_account n))
-      (eqb b (branch_of_account n)) count (either_none opened b (branch_of_account n) closed) f
+      (eqb b (branch_of_account n)) (opened_with count) (either_none opened b (branch_of_account n) closed) f
       ∙ accounts_in_a_row b n count hb hc)
       (account_none opened es n all);
   history = λ o. rw step.history (s.history o);
@@ -127,28 +136,28 @@ opening_shown old new log b count closed hb hc s step =
           hb hc s.rows step;
     }
 
-opened_first : (o p : Option ℕ) (n : ℕ) → o ≡ Some n → option_or o p ≡ o
+opened_first : (o p : Option Terms) (n : Terms) → o ≡ Some n → option_or o p ≡ o
 opened_first (Some k) p n e = refl
 opened_first None p n e = absurd cc
 
 -- a branch that was open stays as it was
-opened_again : (log : List Command) (b count n : ℕ) → opened log b ≡ Some n → (x : ℕ)
+opened_again : (log : List Command) (b count : ℕ) (n : Terms) → opened log b ≡ Some n → (x : ℕ)
     → opened (Open b count ∷ log) x ≡ opened log x
 opened_again log b count n h x =
     elim (by_test (eqb b x)) [
       | inl t ↦ let same : opened log x ≡ Some n = ap (λ (y : ℕ). opened log y) (sym (eqb-true b x t))
-          ∙ h in opened_first (opened log x) (cond (eqb b x) (Some count) None) n same
+          ∙ h in opened_first (opened log x) (cond (eqb b x) (Some (opened_with count)) None) n same
       | inr f ↦ rw f (none_more (opened log x))
     ]
   where
-    none_more : (o : Option ℕ) → option_or o None ≡ o
+    none_more : (o : Option Terms) → option_or o None ≡ o
     none_more None = refl
     none_more (Some y) = refl
 
-pub already_open_shown : (t : Tables) (log : List Command) (b count n : ℕ) → opened log b ≡ Some n
+pub already_open_shown : (t : Tables) (log : List Command) (b count : ℕ) (n : Terms) → opened log b ≡ Some n
     → AreTablesOf t log → AreTablesOf t (Open b count ∷ log)
 already_open_shown t log b count n h s =
     record {
-      rows = subst (λ (o : ℕ → Option ℕ). HasRows t o (decided log))
+      rows = subst (λ (o : ℕ → Option Terms). HasRows t o (decided log))
           (sym (fun_ext (opened_again log b count n h))) s.rows;
     }

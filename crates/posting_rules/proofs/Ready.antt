@@ -5,17 +5,17 @@ use Rattle.std.specs.Prelude.{is_some, ◌&&◌}
 use Rattle.std.specs.Option.{option_map}
 use Rattle.std.proofs.lemmas.Bool.{le-leb}
 use Rattle.posting_rules.specs.declared.rows.BranchRow.{BranchRow}
-use Rattle.posting_rules.specs.Commands.{Command, opened, branch_of_teller, branch_of_account}
-use Rattle.posting_rules.specs.Commands.{place_of_account, is_within}
+use Rattle.posting_rules.specs.Commands.{Command, opened, is_within, Terms}
 use Rattle.posting_rules.specs.Entries.{DecidedRequest, account_balance, teller_balance, branch_balance}
 use Rattle.posting_rules.specs.Entries.{decided}
 use Rattle.posting_rules.specs.Tables.{Tables, HasRows, AreTablesOf, HasKeys, row_at, branch_key, teller_key}
 use Rattle.posting_rules.specs.Tables.{account_key, history_key, request_key, branch_row_of, teller_row_of}
 use Rattle.posting_rules.specs.Tables.{account_row_of}
-use Rattle.posting_rules.specs.LookUps.{count_in, count_of_branch}
+use Rattle.posting_rules.specs.LookUps.{terms_in, terms_of_branch}
 use Rattle.posting_rules.specs.Sound.{AreSound}
-use Rattle.posting_rules.specs.Steps.{first_teller, first_account}
-use Rattle.posting_rules.proofs.Looked.{count_shown}
+use Rattle.posting_rules.specs.Numbering.{branch_of_teller, branch_of_account, place_of_account, first_teller}
+use Rattle.posting_rules.specs.Numbering.{first_account}
+use Rattle.posting_rules.proofs.Looked.{terms_shown}
 use Rattle.posting_rules.proofs.Stepped.{request_row_past, history_row_past}
 use Rattle.posting_rules.specs.declared.limits.TheConstants.{ACCOUNTS_PER_BRANCH}
 
@@ -27,7 +27,7 @@ pub record AreReady (t : Tables) : Type 0 where
       → is_some (row_at teller_key t.tellers n) ≡ is_some (row_at branch_key t.branches (branch_of_teller n))
   pub its_accounts : (n : ℕ) → 1 ≤ n
       → is_some (row_at account_key t.accounts n) ≡ is_within (place_of_account n)
-      (count_in t (branch_of_account n))
+      (terms_in t (branch_of_account n))
   pub branches : HasKeys branch_key t.branches
   pub tellers : HasKeys teller_key t.tellers
   pub accounts : HasKeys account_key t.accounts
@@ -61,14 +61,14 @@ is_some-mapped : {A B : Type 0} (f : A → B) (o : Option A) → is_some (option
 is_some-mapped f (Some x) = refl
 is_some-mapped f None = refl
 
-next_request : (t : Tables) (opened : ℕ → Option ℕ) (es : List DecidedRequest) → HasRows t opened es
+next_request : (t : Tables) (opened : ℕ → Option Terms) (es : List DecidedRequest) → HasRows t opened es
     → row_at request_key t.requests (length es + 1) ≡ None
 next_request t opened es s =
     let next : length es + 1 ≡ suc (length es) = omega arith in
     ap (λ (o : ℕ). row_at request_key t.requests o) next ∙ s.requests (suc (length es)) ∙ request_row_past es
     (length es) (omega arith)
 
-next_posting : (t : Tables) (opened : ℕ → Option ℕ) (es : List DecidedRequest) → HasRows t opened es
+next_posting : (t : Tables) (opened : ℕ → Option Terms) (es : List DecidedRequest) → HasRows t opened es
     → row_at history_key t.history (length es + 1) ≡ None
 next_posting t opened es s =
     let next : length es + 1 ≡ suc (length es) = omega arith in
@@ -97,7 +97,7 @@ ready_shown t log shows =
           ap is_some (s.accounts n)
           ∙ there (leb 1 n) (is_within (place_of_account n) (open_ (branch_of_account n)))
           (account_row_of n (account_balance es n)) (le-leb _ _ h)
-          ∙ ap (is_within (place_of_account n)) (sym (count_shown t open_ es (branch_of_account n) s));
+          ∙ ap (is_within (place_of_account n)) (sym (terms_shown t open_ es (branch_of_account n) s));
       branches = s.branch_keys;
       tellers = s.teller_keys;
       accounts = s.account_keys;
@@ -112,7 +112,7 @@ is_none None h = refl
 is_none (Some x) h = absurd cc
 
 none_within : (place : ℕ) (o : Option BranchRow) → o ≡ None
-    → is_within place (option_map count_of_branch o) ≡ false
+    → is_within place (option_map terms_of_branch o) ≡ false
 none_within place None e = refl
 none_within place (Some r) e = absurd cc
 
@@ -140,7 +140,7 @@ pub no_account : (t : Tables) (b n : ℕ) → AreReady t → 1 ≤ b → row_at 
 no_account t b n ready low none lt =
     is_none (row_at account_key t.accounts (first_account b + n)) (
     ready.its_accounts (first_account b + n) (omega arith)
-    ∙ ap (λ (x : ℕ). is_within (place_of_account (first_account b + n)) (count_in t x))
+    ∙ ap (λ (x : ℕ). is_within (place_of_account (first_account b + n)) (terms_in t x))
     (branch_of_its_account b n low lt)
     ∙ none_within (place_of_account (first_account b + n)) (row_at branch_key t.branches b) none
     )

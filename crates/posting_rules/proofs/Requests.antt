@@ -14,7 +14,7 @@ use Rattle.message_records.specs.Reading.{request_of}
 use Rattle.posting_rules.specs.declared.judgments.Verdict.{Verdict}
 use Rattle.posting_rules.specs.declared.judgments.Verdict.TheVariants.{Unkept, Again, Refused, Posted}
 use Rattle.posting_rules.specs.declared.rows.RequestRow.{RequestRow}
-use Rattle.posting_rules.specs.Commands.{Command, Open, Post, opened}
+use Rattle.posting_rules.specs.Commands.{Command, Open, Post, opened, Terms}
 use Rattle.posting_rules.specs.Kept.{KeptFields}
 use Rattle.posting_rules.specs.Cases.{case_of}
 use Rattle.posting_rules.specs.Entries.{DecidedRequest, kept, facts, with_verdict, with_record, decided}
@@ -29,14 +29,14 @@ abbrev pub AreNew : List DecidedRequest → Type 0
 AreNew [] = Unit {0}
 AreNew (e ∷ es) = (kept es e.request.teller e.request.number ≡ None) × AreNew es
 
-new_verdict : (opened : ℕ → Option ℕ) (es : List DecidedRequest) (m : ℕ) (r : RequestFields) (v : Verdict)
+new_verdict : (opened : ℕ → Option Terms) (es : List DecidedRequest) (m : ℕ) (r : RequestFields) (v : Verdict)
     → IsVerdict opened es r v → AreNew es → AreNew (with_verdict m r v es)
 new_verdict opened es m r (Unkept o) h all = all
 new_verdict opened es m r (Again x) h all = all
 new_verdict opened es m r (Refused o) h all = (h.new, all)
 new_verdict opened es m r (Posted a t b) h all = (h.new, all)
 
-new_record : (opened : ℕ → Option ℕ) (es : List DecidedRequest) (m : ℕ) (read : Result RequestFields Bad)
+new_record : (opened : ℕ → Option Terms) (es : List DecidedRequest) (m : ℕ) (read : Result RequestFields Bad)
     → AreNew es
     → AreNew (with_record m read opened es)
 new_record opened es m (Ok r) all = new_verdict opened es m r (case_of (facts opened es r) r)

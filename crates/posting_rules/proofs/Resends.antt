@@ -4,7 +4,7 @@ use Rattle.std.proofs.Common.{append_assoc, inl, inr}
 use Rattle.std.proofs.Math.Seq.{get_or-append_seam}
 use Rattle.message_records.specs.Spelling.{reply_spelling}
 use Rattle.message_records.specs.Reading.{request_of}
-use Rattle.posting_rules.specs.Commands.{Command, Open, Post, AreCommands, opened}
+use Rattle.posting_rules.specs.Commands.{Command, Open, Post, AreCommands, opened, Terms}
 use Rattle.posting_rules.specs.Entries.{DecidedRequest, decided, with_record, reply}
 use Rattle.posting_rules.specs.Tables.{Tables, HasRows, AreTablesOf}
 use Rattle.posting_rules.specs.Counter.{Seen, ShowsLog}
@@ -17,21 +17,22 @@ use Rattle.posting_rules.proofs.Settled.{again}
 -- ---- posts
 
 -- posts open nothing
-opened_behind : (log cs : List Command) → ArePosts cs → ◌≡◌ {A = ℕ → Option ℕ} (λ b. opened (behind log cs) b)
+opened_behind : (log cs : List Command) → ArePosts cs
+    → ◌≡◌ {A = ℕ → Option Terms} (λ b. opened (behind log cs) b)
     (λ b. opened log b)
 opened_behind log [] h = refl
 opened_behind log (Open b n ∷ cs) h = absurd h
 opened_behind log (Post m r ∷ cs) h = opened_behind (Post m r ∷ log) cs h
 
 -- what is decided behind a log depends on what is open and decided there
-decided_same : (one two cs : List Command) → ArePosts cs → ◌≡◌ {A = ℕ → Option ℕ} (λ b. opened one b)
+decided_same : (one two cs : List Command) → ArePosts cs → ◌≡◌ {A = ℕ → Option Terms} (λ b. opened one b)
     (λ b. opened two b) → decided one ≡ decided two
     → decided (behind one cs) ≡ decided (behind two cs)
 decided_same one two [] h eo ed = ed
 decided_same one two (Open b n ∷ cs) h eo ed = absurd h
 decided_same one two (Post m r ∷ cs) h eo ed =
     decided_same (Post m r ∷ one) (Post m r ∷ two) cs h eo
-    (ap (λ (o : ℕ → Option ℕ). with_record m (request_of r) o (decided one)) eo
+    (ap (λ (o : ℕ → Option Terms). with_record m (request_of r) o (decided one)) eo
     ∙ ap (λ (es : List DecidedRequest). with_record m (request_of r) (λ b. opened two b) es) ed)
 
 pub posts_both : (xs ys : List Command) → ArePosts xs → ArePosts ys → ArePosts (xs ++ ys)
@@ -127,7 +128,7 @@ shows_left_out t log p r f hp hr s shows =
     record {
       rows = subst (λ (es : List DecidedRequest). HasRows t (λ b. opened after b) es)
           (left_out log p [] r f hp tt hr s)
-          (subst (λ (o : ℕ → Option ℕ). HasRows t o (decided (behind (behind log p) r))) (all ∙ sym less)
+          (subst (λ (o : ℕ → Option Terms). HasRows t o (decided (behind (behind log p) r))) (all ∙ sym less)
           shows.rows);
     }
 

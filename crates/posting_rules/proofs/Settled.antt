@@ -15,7 +15,8 @@ use Rattle.posting_rules.specs.declared.judgments.Found.{Found}
 use Rattle.posting_rules.specs.declared.judgments.Verdict.{Verdict}
 use Rattle.posting_rules.specs.declared.judgments.Verdict.TheVariants.{Unkept, Again, Refused}
 use Rattle.posting_rules.specs.Kept.{KeptFields}
-use Rattle.posting_rules.specs.Commands.{Command, Open, Post, opened, branch_of_teller, is_teller_open}
+use Rattle.posting_rules.specs.Commands.{Command, Open, Post, opened, is_teller_open, Terms}
+use Rattle.posting_rules.specs.Numbering.{branch_of_teller}
 use Rattle.posting_rules.specs.Cases.{new_case, account_case, plus_within, is_same, reply_in, kept_reply}
 use Rattle.posting_rules.specs.Cases.{balance_shown}
 use Rattle.posting_rules.specs.Entries.{DecidedRequest, facts, kept, with_verdict, with_record, decided}
@@ -31,11 +32,11 @@ use Rattle.posting_rules.proofs.StaysSettled.{settled_stays}
 -- ---- each record settles its request
 
 -- the verdict on a request settles what it replies
-abbrev Settles : (ℕ → Option ℕ) → List DecidedRequest → RequestFields → ℕ → Verdict → Type 0
+abbrev Settles : (ℕ → Option Terms) → List DecidedRequest → RequestFields → ℕ → Verdict → Type 0
 Settles opened es r m v = IsSettled opened (with_verdict m r v es) r (reply_in v r)
 
 -- a request that is decided now is known from then on
-decided_now : (opened : ℕ → Option ℕ) (es : List DecidedRequest) (r : RequestFields) (m : ℕ) (o : Outcome)
+decided_now : (opened : ℕ → Option Terms) (es : List DecidedRequest) (r : RequestFields) (m : ℕ) (o : Outcome)
     (z : ℤ)
     (out : ReplyFields)
     → is_teller_open opened r.teller ≡ true
@@ -64,7 +65,7 @@ decided_now opened es r m o z out teller_open is =
     }))
 
 -- a request whose reply was settled before it
-unchanged : (opened : ℕ → Option ℕ) (es : List DecidedRequest) (r : RequestFields) (m : ℕ)
+unchanged : (opened : ℕ → Option Terms) (es : List DecidedRequest) (r : RequestFields) (m : ℕ)
     → IsSettled opened es r (reply_to (Ok r) opened es)
     → IsSettled opened (with_record m (Ok r) opened es) r (reply_to (Ok r) opened es)
 unchanged opened es r m h =
@@ -77,7 +78,7 @@ room_is : (f : Found) (r : RequestFields) (t b : ℤ) → leb MAX_DECIDED f.deci
 room_is f r t b e = rw e refl
 
 -- a new request for which there is room
-new_settles : (opened : ℕ → Option ℕ) (es : List DecidedRequest) (r : RequestFields) (m : ℕ) (same : Bool)
+new_settles : (opened : ℕ → Option Terms) (es : List DecidedRequest) (r : RequestFields) (m : ℕ) (same : Bool)
     (account : Option ℤ) (t b : ℤ)
     → is_teller_open opened r.teller ≡ true
     → Settles opened es r m (cond same (account_case account t b r.delta) (Refused outcome.WrongBranch))
@@ -91,7 +92,7 @@ new_settles opened es r m true account t b up =
     (decided_now opened es r m outcome.OverLimit (pos 0) _ up refl)
     (λ x y w ex ey ew. decided_now opened es r m outcome.Posted x _ up refl))
 
-open_settles : (opened : ℕ → Option ℕ) (es : List DecidedRequest) (r : RequestFields) (m : ℕ)
+open_settles : (opened : ℕ → Option Terms) (es : List DecidedRequest) (r : RequestFields) (m : ℕ)
     → is_teller_open opened r.teller ≡ true
     → (o : Option KeptFields) → kept es r.teller r.number ≡ o
     → IsSettled opened (with_record m (Ok r) opened es) r (reply_to (Ok r) opened es)
@@ -116,7 +117,7 @@ open_settles opened es r m up None e =
           (new_settles opened es r m (eqb r.branch (branch_of_teller r.teller)) f.account _ _ up)
     ]
 
-settles : (opened : ℕ → Option ℕ) (es : List DecidedRequest) (r : RequestFields) (m : ℕ)
+settles : (opened : ℕ → Option Terms) (es : List DecidedRequest) (r : RequestFields) (m : ℕ)
     → IsSettled opened (with_record m (Ok r) opened es) r (reply_to (Ok r) opened es)
 settles opened es r m =
     elim (by_test (is_teller_open opened r.teller)) [
@@ -130,22 +131,23 @@ settles opened es r m =
 
 -- ---- over logs
 
-abbrev IsReadSettled : (ℕ → Option ℕ) → List DecidedRequest → Result RequestFields Bad → ReplyFields → Type 0
+abbrev IsReadSettled : (ℕ → Option Terms) → List DecidedRequest → Result RequestFields Bad → ReplyFields
+    → Type 0
 IsReadSettled opened es (Ok r) out = IsSettled opened es r out
 IsReadSettled opened es (Err e) out = out ≡ reply_to (Err e) opened es
 
-read_settles : (opened : ℕ → Option ℕ) (es : List DecidedRequest) (read : Result RequestFields Bad) (m : ℕ)
+read_settles : (opened : ℕ → Option Terms) (es : List DecidedRequest) (read : Result RequestFields Bad) (m : ℕ)
     → IsReadSettled opened (with_record m read opened es) read (reply_to read opened es)
 read_settles opened es (Ok r) m = settles opened es r m
 read_settles opened es (Err e) m = refl
 
-read_stays : (opened : ℕ → Option ℕ) (es : List DecidedRequest) (read other : Result RequestFields Bad)
+read_stays : (opened : ℕ → Option Terms) (es : List DecidedRequest) (read other : Result RequestFields Bad)
     (out : ReplyFields) (m : ℕ)
     → IsReadSettled opened es read out → IsReadSettled opened (with_record m other opened es) read out
 read_stays opened es (Ok r) other out m h = settled_stays opened es r out m other h
 read_stays opened es (Err e) other out m h = h
 
-read_says : (opened : ℕ → Option ℕ) (es : List DecidedRequest) (read : Result RequestFields Bad)
+read_says : (opened : ℕ → Option Terms) (es : List DecidedRequest) (read : Result RequestFields Bad)
     (out : ReplyFields)
     → IsReadSettled opened es read out
     → (reply_to read opened es ≡ out) × ((m : ℕ) → with_record m read opened es ≡ es)

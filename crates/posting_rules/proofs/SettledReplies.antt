@@ -9,7 +9,8 @@ use Rattle.posting_rules.specs.declared.judgments.Found.{Found}
 use Rattle.posting_rules.specs.declared.judgments.Verdict.{Verdict}
 use Rattle.posting_rules.specs.declared.judgments.Verdict.TheVariants.{Unkept, Again}
 use Rattle.posting_rules.specs.Kept.{KeptFields}
-use Rattle.posting_rules.specs.Commands.{opened, branch_of_teller, is_teller_open}
+use Rattle.posting_rules.specs.Commands.{opened, is_teller_open, Terms}
+use Rattle.posting_rules.specs.Numbering.{branch_of_teller}
 use Rattle.posting_rules.specs.Cases.{case_of, teller_case, known_case, new_case, is_same, reply_in}
 use Rattle.posting_rules.specs.Cases.{kept_reply}
 use Rattle.posting_rules.specs.Entries.{DecidedRequest, facts, kept, teller_balance, branch_balance}
@@ -24,12 +25,12 @@ known_verdict k r = cond (is_same k r) (Again (kept_reply k r)) (Unkept outcome.
 -- ---- the three ways in which a reply is settled
 
 -- the teller isn't open
-pub record IsClosed (opened : ℕ → Option ℕ) (r : RequestFields) (out : ReplyFields) : Type 0 where
+pub record IsClosed (opened : ℕ → Option Terms) (r : RequestFields) (out : ReplyFields) : Type 0 where
   pub teller : is_teller_open opened r.teller ≡ false
   pub is_reply : out ≡ reply_in (Unkept outcome.NoTeller) r
 
 -- a request is kept under the teller and number
-pub record IsKnown (opened : ℕ → Option ℕ) (es : List DecidedRequest) (r : RequestFields)
+pub record IsKnown (opened : ℕ → Option Terms) (es : List DecidedRequest) (r : RequestFields)
     (out : ReplyFields) : Type 0 where
   pub teller : is_teller_open opened r.teller ≡ true
   pub fields : KeptFields
@@ -37,22 +38,22 @@ pub record IsKnown (opened : ℕ → Option ℕ) (es : List DecidedRequest) (r :
   pub is_reply : out ≡ reply_in (known_verdict fields r) r
 
 -- no more requests are decided
-pub record IsFull (opened : ℕ → Option ℕ) (es : List DecidedRequest) (r : RequestFields)
+pub record IsFull (opened : ℕ → Option Terms) (es : List DecidedRequest) (r : RequestFields)
     (out : ReplyFields) : Type 0 where
   pub teller : is_teller_open opened r.teller ≡ true
   pub none : kept es r.teller r.number ≡ None
   pub full : leb MAX_DECIDED (length es) ≡ true
   pub is_reply : out ≡ reply_in (Unkept outcome.Full) r
 
-abbrev pub IsSettled : (ℕ → Option ℕ) → List DecidedRequest → RequestFields → ReplyFields → Type 0
+abbrev pub IsSettled : (ℕ → Option Terms) → List DecidedRequest → RequestFields → ReplyFields → Type 0
 IsSettled opened es r out = IsClosed opened r out ⊎ IsKnown opened es r out ⊎ IsFull opened es r out
 
 -- ---- what is settled is replied so, and nothing is decided
 
-abbrev SaysSame : (ℕ → Option ℕ) → List DecidedRequest → RequestFields → ReplyFields → Type 0
+abbrev SaysSame : (ℕ → Option Terms) → List DecidedRequest → RequestFields → ReplyFields → Type 0
 SaysSame opened es r out = (reply_to (Ok r) opened es ≡ out) × ((m : ℕ) → with_record m (Ok r) opened es ≡ es)
 
-by_verdict : (opened : ℕ → Option ℕ) (es : List DecidedRequest) (r : RequestFields) (out : ReplyFields)
+by_verdict : (opened : ℕ → Option Terms) (es : List DecidedRequest) (r : RequestFields) (out : ReplyFields)
     (v : Verdict)
     → case_of (facts opened es r) r ≡ v → reply_in v r ≡ out
     → ((m : ℕ) → with_verdict m r v es ≡ es) → SaysSame opened es r out
@@ -65,7 +66,7 @@ known_same : (k : KeptFields) (r : RequestFields) (m : ℕ) (es : List DecidedRe
 known_same k r m es = elim (by_test (is_same k r)) [ inl h ↦ rw h refl | inr h ↦ rw h refl ]
 
 -- the case where the teller isn't open
-pub closed_case : (opened : ℕ → Option ℕ) (es : List DecidedRequest) (r : RequestFields)
+pub closed_case : (opened : ℕ → Option Terms) (es : List DecidedRequest) (r : RequestFields)
     → is_teller_open opened r.teller ≡ false
     → case_of (facts opened es r) r ≡ Unkept outcome.NoTeller
 unfolding case_of
@@ -76,7 +77,7 @@ closed_case opened es r e =
     )) None) (facts opened es r) r) e
 
 -- where it is open, what is kept decides
-open_case : (opened : ℕ → Option ℕ) (es : List DecidedRequest) (r : RequestFields)
+open_case : (opened : ℕ → Option Terms) (es : List DecidedRequest) (r : RequestFields)
     → is_teller_open opened r.teller ≡ true
     → case_of (facts opened es r) r
     ≡ known_case (kept es r.teller r.number) (facts opened es r) r (teller_balance es r.teller)
@@ -89,7 +90,7 @@ open_case opened es r e =
     )) None) (facts opened es r) r) e
 
 -- where a request is kept, it is a known one
-pub known_is : (opened : ℕ → Option ℕ) (es : List DecidedRequest) (r : RequestFields) (k : KeptFields)
+pub known_is : (opened : ℕ → Option Terms) (es : List DecidedRequest) (r : RequestFields) (k : KeptFields)
     → is_teller_open opened r.teller ≡ true
     → kept es r.teller r.number ≡ Some k → case_of (facts opened es r) r ≡ known_verdict k r
 known_is opened es r k e ek =
@@ -98,7 +99,7 @@ known_is opened es r k e ek =
     (branch_balance es (branch_of_teller r.teller))) ek
 
 -- where none is kept, it is a new one
-pub new_is : (opened : ℕ → Option ℕ) (es : List DecidedRequest) (r : RequestFields)
+pub new_is : (opened : ℕ → Option Terms) (es : List DecidedRequest) (r : RequestFields)
     → is_teller_open opened r.teller ≡ true
     → kept es r.teller r.number ≡ None
     → case_of (facts opened es r) r ≡ new_case (facts opened es r) r (teller_balance es r.teller)
@@ -112,7 +113,8 @@ pub full_is : (f : Found) (r : RequestFields) (t b : ℤ) → leb MAX_DECIDED f.
     → new_case f r t b ≡ Unkept outcome.Full
 full_is f r t b e = rw e refl
 
-pub settled_says : (opened : ℕ → Option ℕ) (es : List DecidedRequest) (r : RequestFields) (out : ReplyFields)
+pub settled_says : (opened : ℕ → Option Terms) (es : List DecidedRequest) (r : RequestFields)
+    (out : ReplyFields)
     → IsSettled opened es r out → SaysSame opened es r out
 settled_says opened es r out (inl h) = by_verdict opened es r out (Unkept outcome.NoTeller)
     (closed_case opened es r h.teller) (sym h.is_reply) (λ m. refl)

@@ -12,7 +12,8 @@ use Rattle.message_records.specs.Reading.{request_of}
 use Rattle.message_records.proofs.Requests.{request_takes}
 use Rattle.posting_rules.specs.declared.judgments.Verdict.{Verdict}
 use Rattle.posting_rules.specs.declared.judgments.Verdict.TheVariants.{Unkept, Again, Refused, Posted}
-use Rattle.posting_rules.specs.Commands.{Command, Open, Post, IsCommand, AreCommands, opened}
+use Rattle.posting_rules.specs.Commands.{Command, Open, Post, IsCommand, AreCommands, opened, Terms}
+use Rattle.posting_rules.specs.Commands.{opened_with}
 use Rattle.posting_rules.specs.Kept.{is_kept_with}
 use Rattle.posting_rules.specs.Cases.{case_of, plus_within}
 use Rattle.posting_rules.specs.Entries.{DecidedRequest, facts, with_verdict, with_record, decided}
@@ -21,20 +22,22 @@ use Rattle.posting_rules.proofs.Verdicts.{by_posting}
 
 -- ---- what is open
 
-or_within : (P : ℕ → Type 0) (o p : Option ℕ) → IfSome o P → IfSome p P → IfSome (option_or o p) P
+or_within : (P : Terms → Type 0) (o p : Option Terms) → IfSome o P → IfSome p P → IfSome (option_or o p) P
 or_within P (Some n) p h k = h
 or_within P None p h k = k
 
 -- an open branch and its count are those of an opening
 pub open_within : (log : List Command) → AreCommands log → (b : ℕ)
-    → IfSome (opened log b) (λ n. IsCommand (Open b n))
+    → IfSome (opened log b) (λ n. IsCommand (Open b n.accounts))
 open_within [] are b = tt
 open_within (Post m bytes ∷ log) are b = open_within log are.1 b
 open_within (Open c count ∷ log) are b =
-    or_within (λ n. IsCommand (Open b n)) (opened log b) (cond (eqb c b) (Some count) None)
+    or_within (λ n. IsCommand (Open b n.accounts)) (opened log b)
+    (cond (eqb c b) (Some (opened_with count)) None)
     (open_within log are.1 b) (here (eqb c b) refl)
   where
-    here : (hit : Bool) → eqb c b ≡ hit → IfSome (cond hit (Some count) None) (λ n. IsCommand (Open b n))
+    here : (hit : Bool) → eqb c b ≡ hit
+        → IfSome (cond hit (Some (opened_with count)) None) (λ n. IsCommand (Open b n.accounts))
     here true e = subst (λ (x : ℕ). IsCommand (Open x count)) (eqb-true c b e) are.0
     here false e = tt
 
@@ -62,7 +65,7 @@ abbrev IsKeepable : Verdict → Type 0
 IsKeepable (Refused outcome) = is_kept_with outcome (pos 0) ≡ true
 IsKeepable v = Unit {0}
 
-keepable : (opened : ℕ → Option ℕ) (es : List DecidedRequest) (r : RequestFields)
+keepable : (opened : ℕ → Option Terms) (es : List DecidedRequest) (r : RequestFields)
     → IsKeepable (case_of (facts opened es r) r)
 unfolding case_of
 keepable opened es r =
@@ -75,7 +78,7 @@ keepable opened es r =
     by_posting P (plus_within a r.delta) (plus_within z.0 r.delta) (plus_within z.1 r.delta) refl
     (λ x y w ex ey ew. tt)))))
 
-sound_verdict : (opened : ℕ → Option ℕ) (es : List DecidedRequest) (m : ℕ) (r : RequestFields) (v : Verdict)
+sound_verdict : (opened : ℕ → Option Terms) (es : List DecidedRequest) (m : ℕ) (r : RequestFields) (v : Verdict)
     → IsVerdict opened es r v → IsKeepable v → IsRequest r → m ≤ MAX_MOMENT → AreSound es
     → AreSound (with_verdict m r v es)
 sound_verdict opened es m r (Unkept o) h k read late all = all
@@ -85,7 +88,7 @@ sound_verdict opened es m r (Refused o) h k read late all =
 sound_verdict opened es m r (Posted a t b) h k read late all =
     (record { request = read; moment = late; kept = refl; balance = h.account_is.within }, h.room, all)
 
-sound_record : (opened : ℕ → Option ℕ) (es : List DecidedRequest) (m : ℕ) (bytes : List ℕ)
+sound_record : (opened : ℕ → Option Terms) (es : List DecidedRequest) (m : ℕ) (bytes : List ℕ)
     (read : Result RequestFields Bad)
     → request_of bytes ≡ read → IsCommand (Post m bytes) → AreSound es
     → AreSound (with_record m read opened es)

@@ -9,7 +9,7 @@ use Rattle.message_records.specs.Records.{RequestFields, ReplyFields}
 use Rattle.posting_rules.specs.declared.judgments.Verdict.{Verdict}
 use Rattle.posting_rules.specs.declared.judgments.Verdict.TheVariants.{Unkept, Again, Refused, Posted}
 use Rattle.posting_rules.specs.Kept.{KeptFields}
-use Rattle.posting_rules.specs.Commands.{opened}
+use Rattle.posting_rules.specs.Commands.{opened, Terms}
 use Rattle.posting_rules.specs.Cases.{case_of}
 use Rattle.posting_rules.specs.Entries.{DecidedRequest, facts, kept, with_verdict, with_record}
 use Rattle.posting_rules.proofs.Keyed.{by_test}
@@ -42,7 +42,8 @@ kept_behind : (es : List DecidedRequest) (e : DecidedRequest) (r : RequestFields
 kept_behind es e r k other is = rw other is
 
 -- what is kept stays kept
-kept_stays : (opened : ℕ → Option ℕ) (es : List DecidedRequest) (x r : RequestFields) (k : KeptFields) (m : ℕ)
+kept_stays : (opened : ℕ → Option Terms) (es : List DecidedRequest) (x r : RequestFields) (k : KeptFields)
+    (m : ℕ)
     (v : Verdict) → IsVerdict opened es x v
     → kept es r.teller r.number ≡ Some k → kept (with_verdict m x v es) r.teller r.number ≡ Some k
 kept_stays opened es x r k m (Unkept o) h is = is
@@ -51,7 +52,7 @@ kept_stays opened es x r k m (Refused o) h is = kept_behind es _ r k (other_numb
 kept_stays opened es x r k m (Posted a t b) h is = kept_behind es _ r k (other_number es x r k h.new is) is
 
 -- where no more are decided, nothing changes
-full_stays : (opened : ℕ → Option ℕ) (es : List DecidedRequest) (x : RequestFields) (m : ℕ) (v : Verdict)
+full_stays : (opened : ℕ → Option Terms) (es : List DecidedRequest) (x : RequestFields) (m : ℕ) (v : Verdict)
     → IsVerdict opened es x v
     → leb MAX_DECIDED (length es) ≡ true → with_verdict m x v es ≡ es
 full_stays opened es x m (Unkept o) h e = refl
@@ -60,7 +61,8 @@ full_stays opened es x m (Refused o) h e = let le = leb-true _ _ e in let lt = h
 full_stays opened es x m (Posted a t b) h e = let le = leb-true _ _ e in let lt = h.room in absurd
     (omega arith)
 
-pub settled_stays : (opened : ℕ → Option ℕ) (es : List DecidedRequest) (r : RequestFields) (out : ReplyFields)
+pub settled_stays : (opened : ℕ → Option Terms) (es : List DecidedRequest) (r : RequestFields)
+    (out : ReplyFields)
     (m : ℕ)
     (read : Result RequestFields Bad)
     → IsSettled opened es r out → IsSettled opened (with_record m read opened es) r out

@@ -17,8 +17,8 @@ use Rattle.posting_rules.specs.declared.rows.TellerRow.{TellerRow}
 use Rattle.posting_rules.specs.declared.rows.AccountRow.{AccountRow}
 use Rattle.posting_rules.specs.declared.rows.HistoryRow.{HistoryRow}
 use Rattle.posting_rules.specs.declared.rows.RequestRow.{RequestRow}
-use Rattle.posting_rules.specs.Commands.{Command, Post, opened, branch_of_teller, is_teller_open}
-use Rattle.posting_rules.specs.Commands.{is_account_open}
+use Rattle.posting_rules.specs.Commands.{Command, Post, opened, is_teller_open, is_account_open, Terms}
+use Rattle.posting_rules.specs.Numbering.{branch_of_teller}
 use Rattle.posting_rules.specs.Cases.{case_of, reply_in}
 use Rattle.posting_rules.specs.Entries.{DecidedRequest, is_posted, facts, posted_sum, teller_balance}
 use Rattle.posting_rules.specs.Entries.{branch_balance}
@@ -96,7 +96,7 @@ unposted_history : (es : List DecidedRequest) (e : DecidedRequest) → is_posted
     → history_row es o ≡ history_row (e ∷ es) o
 unposted_history es e h o = rw h refl
 
-branch_changed : (o : Option ℕ) (hit : Bool) (b : ℕ) (z old delta : ℤ) → (hit ≡ true → z ≡ old +ℤ delta)
+branch_changed : (o : Option Terms) (hit : Bool) (b : ℕ) (z old delta : ℤ) → (hit ≡ true → z ≡ old +ℤ delta)
     → option_map (λ r. cond hit (with_branch_balance z r) r) (option_map (branch_row_of b old) o) ≡ option_map
     (branch_row_of b (cond hit (old +ℤ delta) old)) o
 branch_changed (Some count) true b z old delta h = ap (λ (v : ℤ). Some (branch_row_of b v count)) (h refl)
@@ -123,7 +123,7 @@ account_changed false hit n z old delta h = refl
 one_more : (n : ℕ) → n + 1 ≡ suc n
 one_more n = omega arith
 
-refusal_shown : (old new : Tables) (opened : ℕ → Option ℕ) (es : List DecidedRequest) (m : ℕ)
+refusal_shown : (old new : Tables) (opened : ℕ → Option Terms) (es : List DecidedRequest) (m : ℕ)
     (r : RequestFields)
     (o : Outcome)
     → HasRows old opened es → IsRefusal es r o → KeepsRefusal old new (length es + 1) (refused_entry m r o)
@@ -155,7 +155,7 @@ refusal_shown old new opened es m r o s h step =
       request_keys = step.requests.keys;
     }
 
-posting_shown : (old new : Tables) (opened : ℕ → Option ℕ) (es : List DecidedRequest) (m : ℕ)
+posting_shown : (old new : Tables) (opened : ℕ → Option Terms) (es : List DecidedRequest) (m : ℕ)
     (r : RequestFields)
     (a t b : ℤ)
     → HasRows old opened es → IsPosting opened es r a t b
@@ -189,7 +189,7 @@ posting_shown old new opened es m r a t b s h step =
       request_keys = step.requests.keys;
     }
 
-verdict_shown : (old new : Tables) (opened : ℕ → Option ℕ) (es : List DecidedRequest) (m : ℕ)
+verdict_shown : (old new : Tables) (opened : ℕ → Option Terms) (es : List DecidedRequest) (m : ℕ)
     (r : RequestFields)
     (v : Verdict)
     → HasRows old opened es → IsVerdict opened es r v → IsStep old new (length es + 1) m r v

@@ -7,7 +7,7 @@ use Rattle.message_records.specs.Records.{RequestFields}
 use Rattle.posting_rules.specs.declared.judgments.Verdict.{Verdict}
 use Rattle.posting_rules.specs.declared.judgments.Verdict.TheVariants.{Unkept, Again, Refused, Posted}
 use Rattle.posting_rules.specs.declared.rows.RequestRow.{RequestRow}
-use Rattle.posting_rules.specs.Commands.{Command, AreCommands, branch_of_teller}
+use Rattle.posting_rules.specs.Commands.{Command, AreCommands, opened_with}
 use Rattle.posting_rules.specs.Cases.{case_of, plus_within}
 use Rattle.posting_rules.specs.Entries.{DecidedRequest, refused_entry, posted_entry}
 use Rattle.posting_rules.specs.Tables.{Tables, AreTablesOf, row_at, branch_key, teller_key, account_key}
@@ -16,7 +16,7 @@ use Rattle.posting_rules.specs.Tables.{history_row_of}
 use Rattle.posting_rules.specs.LookUps.{both_of, balance_of_branch, balance_of_teller, balance_of_account}
 use Rattle.posting_rules.specs.LookUps.{found_in}
 use Rattle.posting_rules.specs.Steps.{GainsRow, AddsRows, KeepsRefusal, KeepsPosting, IsStep, OpensBranch}
-use Rattle.posting_rules.specs.Steps.{first_teller, first_account}
+use Rattle.posting_rules.specs.Numbering.{branch_of_teller, first_teller, first_account}
 use Rattle.posting_rules.specs.Steps as steps
 use Rattle.posting_rules.proofs.Undamaged.{undamaged}
 use Rattle.posting_rules.proofs.Verdicts.{by_posting, by_account, by_new, by_known, by_teller}
@@ -146,7 +146,7 @@ pub opens_is : (t : Tables) (b count : ℕ) → AreReady t → 1 ≤ b → count
 unfolding with_branch with_tellers with_accounts
 opens_is t b count ready low most none = record {
   decided = refl;
-  branches = row_adds branch_key t.branches (branch_row_of b (pos 0) count) ready.branches none;
+  branches = row_adds branch_key t.branches (branch_row_of b (pos 0) (opened_with count)) ready.branches none;
   tellers = rows_add teller_key new_teller (first_teller b) 10 t.tellers (λ _. refl) ready.tellers
       (λ n lt. no_teller t b n ready low none lt);
   accounts = rows_add account_key new_account (first_account b) count t.accounts (λ _. refl) ready.accounts
@@ -179,7 +179,7 @@ one_more_account first n t = refl
 pub opening_teller_is_free : (t : Tables) (b count n : ℕ) → AreSound t → 1 ≤ b
     → row_at branch_key t.branches b ≡ None → n < 10
     → row_at teller_key (with_tellers (first_teller b) n
-    (with_branch (branch_row_of b (pos 0) count) t)).tellers (first_teller b + n)
+    (with_branch (branch_row_of b (pos 0) (opened_with count)) t)).tellers (first_teller b + n)
     ≡ None
 unfolding with_branch with_tellers
 opening_teller_is_free t b count n sound low none lt =
@@ -194,7 +194,8 @@ opening_teller_is_free t b count n sound low none lt =
 pub opening_account_is_free : (t : Tables) (b count tellers n : ℕ) → AreSound t → 1 ≤ b
     → count ≤ MOST_ACCOUNTS
     → row_at branch_key t.branches b ≡ None → n < count
-    → let staffed = with_tellers (first_teller b) tellers (with_branch (branch_row_of b (pos 0) count) t) in
+    → let staffed = with_tellers (first_teller b) tellers
+    (with_branch (branch_row_of b (pos 0) (opened_with count)) t) in
     row_at account_key (with_accounts (first_account b) n staffed).accounts (first_account b + n) ≡ None
 unfolding with_branch with_tellers with_accounts
 opening_account_is_free t b count tellers n sound low most none lt =

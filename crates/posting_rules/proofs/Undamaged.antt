@@ -15,9 +15,9 @@ use Rattle.posting_rules.specs.declared.rows.TellerRow.{TellerRow}
 use Rattle.posting_rules.specs.declared.rows.AccountRow.{AccountRow}
 use Rattle.posting_rules.specs.declared.rows.HistoryRow.{HistoryRow}
 use Rattle.posting_rules.specs.declared.rows.RequestRow.{RequestRow}
-use Rattle.posting_rules.specs.Commands.{Command, Open, IsCommand, AreCommands, opened, branch_of_teller}
-use Rattle.posting_rules.specs.Commands.{branch_of_account, place_of_account, is_within, is_teller_open}
-use Rattle.posting_rules.specs.Commands.{is_account_open}
+use Rattle.posting_rules.specs.Commands.{Command, Open, IsCommand, AreCommands, opened, is_within}
+use Rattle.posting_rules.specs.Commands.{is_teller_open, is_account_open, Terms}
+use Rattle.posting_rules.specs.Numbering.{branch_of_teller, branch_of_account, place_of_account}
 use Rattle.posting_rules.specs.Entries.{DecidedRequest, is_posted, account_balance, teller_balance}
 use Rattle.posting_rules.specs.Entries.{branch_balance}
 use Rattle.posting_rules.specs.Entries.{decided}
@@ -46,8 +46,8 @@ row_at-contained {R} key rows r keys has =
 -- ---- branches, tellers and accounts
 
 -- the row of an open branch
-branch_sound : (o : Option ℕ) (b : ℕ) (z : ℤ) (r : BranchRow)
-    → IfSome o (λ n. IsCommand (Open b n)) → nat_abs z ≤ MAX_BALANCE
+branch_sound : (o : Option Terms) (b : ℕ) (z : ℤ) (r : BranchRow)
+    → IfSome o (λ n. IsCommand (Open b n.accounts)) → nat_abs z ≤ MAX_BALANCE
     → option_map (branch_row_of b z) o ≡ Some r → IsSoundBranch r
 branch_sound None b z r h limit e = absurd cc
 branch_sound (Some n) b z r h limit e =
@@ -55,7 +55,7 @@ branch_sound (Some n) b z r h limit e =
     subst IsSoundBranch is (record { some = h.0; most = h.1; few = h.2; many = h.3; balance = limit })
 
 -- a branch that is open has one of the numbers of branches
-number_within : (o : Option ℕ) (b : ℕ) → IfSome o (λ n. IsCommand (Open b n)) → is_some o ≡ true
+number_within : (o : Option Terms) (b : ℕ) → IfSome o (λ n. IsCommand (Open b n.accounts)) → is_some o ≡ true
     → b ≤ LAST_BRANCH
 number_within (Some n) b h e = h.1
 number_within None b h e = absurd cc
@@ -68,8 +68,8 @@ last_account : (n : ℕ) → branch_of_account n ≤ LAST_BRANCH → n ≤ ACCOU
 last_account n h = omega arith
 
 -- the row of an open teller
-teller_sound : (opened : ℕ → Option ℕ) (n : ℕ) (z : ℤ) (r : TellerRow)
-    → ((b : ℕ) → IfSome (opened b) (λ k. IsCommand (Open b k))) → nat_abs z ≤ MAX_BALANCE
+teller_sound : (opened : ℕ → Option Terms) (n : ℕ) (z : ℤ) (r : TellerRow)
+    → ((b : ℕ) → IfSome (opened b) (λ k. IsCommand (Open b k.accounts))) → nat_abs z ≤ MAX_BALANCE
     → cond (is_teller_open opened n) (Some (teller_row_of n z)) None ≡ Some r → IsSoundTeller r
 teller_sound opened n z r open_ limit e =
     let is = when (is_teller_open opened n) (teller_row_of n z) r e in
@@ -83,8 +83,8 @@ teller_sound opened n z r open_ limit e =
     })
 
 -- the row of an open account
-account_sound : (opened : ℕ → Option ℕ) (n : ℕ) (z : ℤ) (r : AccountRow)
-    → ((b : ℕ) → IfSome (opened b) (λ k. IsCommand (Open b k))) → nat_abs z ≤ MAX_BALANCE
+account_sound : (opened : ℕ → Option Terms) (n : ℕ) (z : ℤ) (r : AccountRow)
+    → ((b : ℕ) → IfSome (opened b) (λ k. IsCommand (Open b k.accounts))) → nat_abs z ≤ MAX_BALANCE
     → cond (is_account_open opened n) (Some (account_row_of n z)) None ≡ Some r → IsSoundAccount r
 account_sound opened n z r open_ limit e =
     let is = when (is_account_open opened n) (account_row_of n z) r e in

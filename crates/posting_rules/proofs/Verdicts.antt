@@ -13,7 +13,8 @@ use Rattle.posting_rules.specs.declared.judgments.Found.{Found}
 use Rattle.posting_rules.specs.declared.judgments.Verdict.{Verdict}
 use Rattle.posting_rules.specs.declared.judgments.Verdict.TheVariants.{Unkept, Again, Refused, Posted}
 use Rattle.posting_rules.specs.Kept.{KeptFields}
-use Rattle.posting_rules.specs.Commands.{branch_of_teller, is_teller_open, is_account_open}
+use Rattle.posting_rules.specs.Commands.{is_teller_open, is_account_open, Terms}
+use Rattle.posting_rules.specs.Numbering.{branch_of_teller}
 use Rattle.posting_rules.specs.Cases.{case_of, teller_case, known_case, new_case, account_case, posting_of}
 use Rattle.posting_rules.specs.Cases.{plus_within, is_same}
 use Rattle.posting_rules.specs.Entries.{DecidedRequest, facts, kept, teller_balance, branch_balance}
@@ -26,7 +27,7 @@ pub record IsSum (balance delta new : ℤ) : Type 0 where
   pub within : nat_abs new ≤ MAX_BALANCE
 
 -- what is so where a request is posted
-pub record IsPosting (opened : ℕ → Option ℕ) (es : List DecidedRequest) (r : RequestFields)
+pub record IsPosting (opened : ℕ → Option Terms) (es : List DecidedRequest) (r : RequestFields)
     (account teller branch : ℤ) : Type 0 where
   pub new : kept es r.teller r.number ≡ None
   pub room : length es < MAX_DECIDED
@@ -43,7 +44,7 @@ pub record IsRefusal (es : List DecidedRequest) (r : RequestFields) (outcome : O
   pub room : length es < MAX_DECIDED
   pub unposted : has_balance outcome ≡ false
 
-abbrev pub IsVerdict : (ℕ → Option ℕ) → List DecidedRequest → RequestFields → Verdict → Type 0
+abbrev pub IsVerdict : (ℕ → Option Terms) → List DecidedRequest → RequestFields → Verdict → Type 0
 IsVerdict opened es r (Unkept outcome) = Unit {0}
 IsVerdict opened es r (Again reply) = Unit {0}
 IsVerdict opened es r (Refused outcome) = IsRefusal es r outcome
@@ -104,7 +105,7 @@ module _ (P : Verdict → Type 0) where
   by_teller (Some z) f r closed some = some z refl
 
 -- what the case of a request says, by what stands before it
-pub verdict_is : (opened : ℕ → Option ℕ) (es : List DecidedRequest) (r : RequestFields)
+pub verdict_is : (opened : ℕ → Option Terms) (es : List DecidedRequest) (r : RequestFields)
     → IsVerdict opened es r (case_of (facts opened es r) r)
 unfolding case_of
 verdict_is opened es r =

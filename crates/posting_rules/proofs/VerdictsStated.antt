@@ -12,7 +12,8 @@ use Rattle.message_records.specs.Ranges.{cents_within}
 use Rattle.message_records.specs.Records.{RequestFields}
 use Rattle.posting_rules.specs.declared.judgments.Verdict.{Verdict}
 use Rattle.posting_rules.specs.declared.judgments.Verdict.TheVariants.{Unkept, Again, Refused, Posted}
-use Rattle.posting_rules.specs.Commands.{Command, opened, branch_of_teller, is_teller_open, is_account_open}
+use Rattle.posting_rules.specs.Commands.{Command, opened, is_teller_open, is_account_open}
+use Rattle.posting_rules.specs.Numbering.{branch_of_teller}
 use Rattle.posting_rules.specs.Kept.{KeptFields}
 use Rattle.posting_rules.specs.Cases.{case_of, new_case, posting_of, plus_within, is_same, kept_reply}
 use Rattle.posting_rules.specs.Entries.{facts, kept, account_balance, teller_balance, branch_balance, decided}

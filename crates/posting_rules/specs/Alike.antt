@@ -3,7 +3,7 @@
 use Rattle.std.specs.Prelude.{◌≡◌, ℕ, List, Option}
 use Rattle.posting_rules.specs.declared.counter.BranchLine.{BranchLine}
 use Rattle.posting_rules.specs.Branches.{IsNextBranch}
-use Rattle.posting_rules.specs.Commands.{Command, AreCommands}
+use Rattle.posting_rules.specs.Commands.{Command, Terms, AreCommands}
 use Rattle.posting_rules.specs.Counter.{opening_behind}
 use Rattle.posting_rules.specs.Entries.{balance_behind}
 use Rattle.posting_rules.specs.Runs.{behind}
@@ -18,8 +18,8 @@ pub record AreAlike (t : Tables) (one two commands : List Command) : Type 0 wher
 -- an opening gets one answer
 abbrev pub OpeningsAnswerAlike : Type 0
 OpeningsAnswerAlike = (t : Tables) (one two commands : List Command) → AreAlike t one two commands
-    → (branch count : ℕ)
-    → opening_behind (behind one commands) branch count ≡ opening_behind (behind two commands) branch count
+    → (branch : ℕ) (terms : Terms)
+    → opening_behind (behind one commands) branch terms ≡ opening_behind (behind two commands) branch terms
 
 -- an account has one balance
 abbrev pub BalancesAnswerAlike : Type 0

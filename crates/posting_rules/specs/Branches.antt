@@ -4,15 +4,15 @@ use Rattle.std.specs.List.{Contains}
 use Rattle.posting_rules.specs.declared.counter.BranchLine.{BranchLine}
 use Rattle.posting_rules.specs.declared.rows.BranchRow.{BranchRow}
 use Rattle.posting_rules.specs.declared.limits.TheConstants.{LAST_BRANCH, MOST_ACCOUNTS}
-use Rattle.posting_rules.specs.Commands.{Command, opened}
+use Rattle.posting_rules.specs.Commands.{Command, opened, opened_with}
 use Rattle.posting_rules.specs.Entries.{branch_balance, decided}
 
 -- ---- of a log
 
--- the branch is open above this number, with this count and this balance, and none between is open
+-- the branch is open above this number, on these terms and with this balance, and none between is open
 pub record IsNextOpen (log : List Command) (after : ℕ) (line : BranchLine) : Type 0 where
   pub above : after < line.branch
-  pub accounts : opened log line.branch ≡ Some line.accounts
+  pub terms : opened log line.branch ≡ Some (opened_with line.accounts)
   pub balance : line.balance ≡ branch_balance (decided log) line.branch
   pub none_between : (branch : ℕ) → after < branch → branch < line.branch → opened log branch ≡ None
 

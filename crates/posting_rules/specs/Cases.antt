@@ -11,7 +11,7 @@ use Rattle.message_records.specs.Records.{RequestFields, ReplyFields}
 use Rattle.posting_rules.specs.declared.judgments.Found.{Found}
 use Rattle.posting_rules.specs.declared.judgments.Verdict.{Verdict}
 use Rattle.posting_rules.specs.declared.judgments.Verdict.TheVariants.{Unkept, Again, Refused, Posted}
-use Rattle.posting_rules.specs.Commands.{branch_of_teller}
+use Rattle.posting_rules.specs.Numbering.{branch_of_teller}
 use Rattle.posting_rules.specs.Kept.{KeptFields}
 
 -- the kept request has the content of this one

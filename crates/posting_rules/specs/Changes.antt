@@ -16,11 +16,11 @@ use Rattle.message_records.specs.Records.{RequestFields}
 use Rattle.message_records.specs.Reading.{request_of}
 use Rattle.posting_rules.specs.declared.judgments.Verdict.{Verdict}
 use Rattle.posting_rules.specs.declared.judgments.Verdict.TheVariants.{Unkept, Again, Refused, Posted}
-use Rattle.posting_rules.specs.Commands.{branch_of_teller}
+use Rattle.posting_rules.specs.Commands.{opened_with}
 use Rattle.posting_rules.specs.Entries.{DecidedRequest, refused_entry, posted_entry, malformed_reply}
 use Rattle.posting_rules.specs.Cases.{case_of, reply_in}
 use Rattle.posting_rules.specs.LookUps.{found_in}
-use Rattle.posting_rules.specs.Steps.{first_teller, first_account}
+use Rattle.posting_rules.specs.Numbering.{branch_of_teller, first_teller, first_account}
 
 -- the rows, of which the one under a key is changed
 abbrev pub row_changed : {R : Type 0} → (R → ℕ) → (R → R) → ℕ → List R → List R
@@ -171,7 +171,8 @@ with_accounts first count t = record t { accounts = rows_put account_key new_acc
 -- a branch more, with its tellers and its accounts
 abbrev pub tables_opened : Tables → ℕ → ℕ → Tables
 tables_opened t b count = with_accounts (first_account b) count
-    (with_tellers (first_teller b) TELLERS_PER_BRANCH (with_branch (branch_row_of b (pos 0) count) t))
+    (with_tellers (first_teller b) TELLERS_PER_BRANCH
+    (with_branch (branch_row_of b (pos 0) (opened_with count)) t))
 
 -- what an opening leaves, by the row that is there
 abbrev pub opened_where : Option BranchRow → Tables → ℕ → ℕ → Tables

@@ -4,7 +4,7 @@ use Rattle.posting_rules.specs.declared.fault.Fault.{Fault}
 use Rattle.posting_rules.specs.declared.fault.Fault.TheVariants.{Memory, Store, Down, Damaged}
 use Rattle.posting_rules.specs.declared.counter.Opening.{Opening}
 use Rattle.posting_rules.specs.declared.counter.Opening.TheVariants.{Opened, Already, Differs}
-use Rattle.posting_rules.specs.Commands.{Command, AreCommands, opened}
+use Rattle.posting_rules.specs.Commands.{Command, AreCommands, Terms, opened}
 use Rattle.posting_rules.specs.Tables.{Tables, AreTablesOf}
 use Rattle.posting_rules.specs.Runs.{behind}
 
@@ -108,9 +108,9 @@ TellsDamage _ = ⊥
 
 -- ---- the answer to an opening
 
-abbrev pub opening_for : Option ℕ → ℕ → Opening
-opening_for None count = Opened
-opening_for (Some n) count = if n == count then Already else Differs
+abbrev pub opening_for : Option Terms → Terms → Opening
+opening_for None terms = Opened
+opening_for (Some first) terms = if first.accounts == terms.accounts then Already else Differs
 
-abbrev pub opening_behind : List Command → ℕ → ℕ → Opening
-opening_behind log branch count = opening_for (opened log branch) count
+abbrev pub opening_behind : List Command → ℕ → Terms → Opening
+opening_behind log branch terms = opening_for (opened log branch) terms

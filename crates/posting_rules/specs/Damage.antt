@@ -10,12 +10,12 @@ use Rattle.posting_rules.specs.declared.rows.TellerRow.{TellerRow}
 use Rattle.posting_rules.specs.declared.rows.AccountRow.{AccountRow}
 use Rattle.posting_rules.specs.declared.rows.HistoryRow.{HistoryRow}
 use Rattle.posting_rules.specs.declared.rows.RequestRow.{RequestRow}
-use Rattle.posting_rules.specs.Commands.{Command, AreCommands, branch_of_teller, branch_of_account}
-use Rattle.posting_rules.specs.Commands.{place_of_account, is_within}
+use Rattle.posting_rules.specs.Commands.{Command, AreCommands, is_within}
+use Rattle.posting_rules.specs.Numbering.{branch_of_teller, branch_of_account, place_of_account}
 use Rattle.posting_rules.specs.Kept.{is_kept_with}
 use Rattle.posting_rules.specs.Tables.{Tables, AreTablesOf, row_at, branch_key, teller_key, account_key}
 use Rattle.posting_rules.specs.Tables.{history_key, request_key}
-use Rattle.posting_rules.specs.LookUps.{count_in}
+use Rattle.posting_rules.specs.LookUps.{terms_in}
 
 -- ---- one row
 
@@ -92,7 +92,7 @@ pub record IsUndamaged (t : Tables) : Type 0 where
   -- an account has its row just where its place is within its branch's count
   pub accounts : (n : ℕ) → 1 ≤ n
       → is_some (row_at account_key t.accounts n) ≡ is_within (place_of_account n)
-      (count_in t (branch_of_account n))
+      (terms_in t (branch_of_account n))
   -- every row of branches has a number, a count and a balance within their ranges
   pub each_branch : (r : BranchRow) → Contains t.branches r → IsSoundBranch r
   -- every row of tellers has a number and a balance within their ranges

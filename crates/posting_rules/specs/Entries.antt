@@ -12,8 +12,8 @@ use Rattle.message_records.specs.Reading.{request_of}
 use Rattle.posting_rules.specs.declared.judgments.Found.{Found}
 use Rattle.posting_rules.specs.declared.judgments.Verdict.{Verdict}
 use Rattle.posting_rules.specs.declared.judgments.Verdict.TheVariants.{Unkept, Again, Refused, Posted}
-use Rattle.posting_rules.specs.Commands.{Command, Open, Post, opened, branch_of_teller, is_teller_open}
-use Rattle.posting_rules.specs.Commands.{is_account_open}
+use Rattle.posting_rules.specs.Commands.{Command, Open, Post, opened, is_teller_open, Terms, is_account_open}
+use Rattle.posting_rules.specs.Numbering.{branch_of_teller}
 use Rattle.posting_rules.specs.Kept.{KeptFields}
 use Rattle.posting_rules.specs.Cases.{case_of, reply_in}
 
@@ -57,7 +57,7 @@ abbrev pub kept : List DecidedRequest → ℕ → ℕ → Option KeptFields
 kept es t n = option_map kept_fields (find (λ e. (e.request.teller == t) && (e.request.number == n)) es)
 
 -- what is known where a request comes in
-abbrev pub facts : (ℕ → Option ℕ) → List DecidedRequest → RequestFields → Found
+abbrev pub facts : (ℕ → Option Terms) → List DecidedRequest → RequestFields → Found
 facts opened es r = record {
   teller = if is_teller_open opened r.teller then Some
       (teller_balance es r.teller, branch_balance es (branch_of_teller r.teller)) else None;
@@ -84,7 +84,7 @@ with_verdict moment r (Again reply) es = es
 with_verdict moment r (Refused outcome) es = refused_entry moment r outcome ∷ es
 with_verdict moment r (Posted account teller branch) es = posted_entry moment r account ∷ es
 
-abbrev pub with_record : ℕ → Result RequestFields Bad → (ℕ → Option ℕ) → List DecidedRequest
+abbrev pub with_record : ℕ → Result RequestFields Bad → (ℕ → Option Terms) → List DecidedRequest
     → List DecidedRequest
 with_record moment (Err fault) opened es = es
 with_record moment (Ok r) opened es = with_verdict moment r (case_of (facts opened es r) r) es
@@ -98,7 +98,7 @@ decided (Post moment bytes ∷ log) = with_record moment (request_of bytes) (λ 
 abbrev pub malformed_reply : ReplyFields
 malformed_reply = record { outcome = outcome.Malformed; request = None; balance = None }
 
-abbrev pub reply_to : Result RequestFields Bad → (ℕ → Option ℕ) → List DecidedRequest → ReplyFields
+abbrev pub reply_to : Result RequestFields Bad → (ℕ → Option Terms) → List DecidedRequest → ReplyFields
 reply_to (Err fault) opened es = malformed_reply
 reply_to (Ok r) opened es = reply_in (case_of (facts opened es r) r) r
 

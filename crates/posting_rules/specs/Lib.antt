@@ -1,4 +1,5 @@
 pub mod FaultTexts
+pub mod Numbering
 pub mod Commands
 pub mod Kept
 pub mod Cases

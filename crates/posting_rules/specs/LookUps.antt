@@ -8,16 +8,20 @@ use Rattle.posting_rules.specs.declared.rows.BranchRow.{BranchRow}
 use Rattle.posting_rules.specs.declared.rows.TellerRow.{TellerRow}
 use Rattle.posting_rules.specs.declared.rows.AccountRow.{AccountRow}
 use Rattle.posting_rules.specs.declared.rows.RequestRow.{RequestRow}
-use Rattle.posting_rules.specs.Commands.{branch_of_teller}
+use Rattle.posting_rules.specs.Commands.{Terms, opened_with}
+use Rattle.posting_rules.specs.Numbering.{branch_of_teller}
 use Rattle.posting_rules.specs.Kept.{KeptFields}
 use Rattle.posting_rules.specs.Tables.{Tables, row_at, branch_key, teller_key, account_key}
 
 abbrev pub count_of_branch : BranchRow → ℕ
 count_of_branch r = r.accounts
 
--- how many accounts a branch is open with
-abbrev pub count_in : Tables → ℕ → Option ℕ
-count_in t b = option_map count_of_branch (row_at branch_key t.branches b)
+abbrev pub terms_of_branch : BranchRow → Terms
+terms_of_branch r = opened_with (count_of_branch r)
+
+-- what a branch is open with
+abbrev pub terms_in : Tables → ℕ → Option Terms
+terms_in t b = option_map terms_of_branch (row_at branch_key t.branches b)
 
 abbrev pub balance_of_branch : BranchRow → ℤ
 balance_of_branch r = r.balance

@@ -8,8 +8,8 @@ use Rattle.message_records.specs.declared.records.Outcome.TheVariants as outcome
 use Rattle.message_records.specs.declared.fault.Bad.{Bad}
 use Rattle.message_records.specs.Records.{RequestFields, ReplyFields}
 use Rattle.message_records.specs.Reading.{request_of}
-use Rattle.posting_rules.specs.Commands.{Command, Post, opened, branch_of_teller, is_teller_open}
-use Rattle.posting_rules.specs.Commands.{is_account_open}
+use Rattle.posting_rules.specs.Commands.{Command, Post, opened, is_teller_open, is_account_open}
+use Rattle.posting_rules.specs.Numbering.{branch_of_teller}
 use Rattle.posting_rules.specs.Kept.{KeptFields}
 use Rattle.posting_rules.specs.Cases.{balance_shown}
 use Rattle.posting_rules.specs.Entries.{DecidedRequest, is_posted, kept, account_balance, teller_balance}

@@ -1,16 +1,17 @@
 -- How a verdict, and an opening, change tables. Each speaks of look-ups by key, so that the rows may stand in
 -- any order.
-use Rattle.std.specs.Prelude.{◌≡◌, ℕ, ◌+◌, ◌-◌, ◌*◌, ℤ, pos, List, Some, Bool, ◌==◌, ◌&&◌, nat_le, nat_lt}
+use Rattle.std.specs.Prelude.{◌≡◌, ℕ, ◌+◌, ℤ, pos, List, Some, Bool, ◌==◌, ◌&&◌, nat_le, nat_lt}
 use Rattle.std.specs.Prelude.{if◌then◌else◌}
 use Rattle.std.specs.Option.{option_map}
-use Rattle.posting_rules.specs.declared.limits.TheConstants.{ACCOUNTS_PER_BRANCH, TELLERS_PER_BRANCH}
+use Rattle.posting_rules.specs.declared.limits.TheConstants.{TELLERS_PER_BRANCH}
 use Rattle.message_records.specs.Records.{RequestFields}
 use Rattle.posting_rules.specs.declared.judgments.Verdict.{Verdict}
 use Rattle.posting_rules.specs.declared.judgments.Verdict.TheVariants.{Unkept, Again, Refused, Posted}
 use Rattle.posting_rules.specs.declared.rows.BranchRow.{BranchRow}
 use Rattle.posting_rules.specs.declared.rows.TellerRow.{TellerRow}
 use Rattle.posting_rules.specs.declared.rows.AccountRow.{AccountRow}
-use Rattle.posting_rules.specs.Commands.{branch_of_teller}
+use Rattle.posting_rules.specs.Commands.{opened_with}
+use Rattle.posting_rules.specs.Numbering.{branch_of_teller, first_teller, first_account}
 use Rattle.posting_rules.specs.Entries.{DecidedRequest, refused_entry, posted_entry}
 use Rattle.posting_rules.specs.Tables.{Tables, row_at, HasKeys, branch_key, teller_key, account_key}
 use Rattle.posting_rules.specs.Tables.{history_key, request_key, branch_row_of, teller_row_of, account_row_of}
@@ -82,16 +83,10 @@ IsStep old new ordinal moment r (Posted account teller branch) = KeepsPosting ol
 
 -- ---- an opening
 
-abbrev pub first_teller : ℕ → ℕ
-first_teller b = TELLERS_PER_BRANCH * (b - 1) + 1
-
-abbrev pub first_account : ℕ → ℕ
-first_account b = ACCOUNTS_PER_BRANCH * (b - 1) + 1
-
 -- a branch is there, with its tellers and its accounts, all at zero
 pub record OpensBranch (old new : Tables) (b count : ℕ) : Type 0 where
   pub decided : new.decided ≡ old.decided
-  pub branches : GainsRow branch_key (branch_row_of b (pos 0) count) old.branches new.branches
+  pub branches : GainsRow branch_key (branch_row_of b (pos 0) (opened_with count)) old.branches new.branches
   pub tellers : AddsRows teller_key (λ n. teller_row_of n (pos 0))
       (first_teller b) TELLERS_PER_BRANCH old.tellers new.tellers
   pub accounts : AddsRows account_key (λ n. account_row_of n (pos 0))

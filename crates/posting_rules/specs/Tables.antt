@@ -8,7 +8,7 @@ use Rattle.posting_rules.specs.declared.rows.TellerRow.{TellerRow}
 use Rattle.posting_rules.specs.declared.rows.AccountRow.{AccountRow}
 use Rattle.posting_rules.specs.declared.rows.HistoryRow.{HistoryRow}
 use Rattle.posting_rules.specs.declared.rows.RequestRow.{RequestRow}
-use Rattle.posting_rules.specs.Commands.{Command, opened, is_teller_open, is_account_open}
+use Rattle.posting_rules.specs.Commands.{Command, Terms, opened, is_teller_open, is_account_open}
 use Rattle.posting_rules.specs.Entries.{DecidedRequest, is_posted, account_balance, teller_balance}
 use Rattle.posting_rules.specs.Entries.{branch_balance}
 use Rattle.posting_rules.specs.Entries.{kept_fields, decided}
@@ -47,23 +47,23 @@ request_key r = r.ordinal
 
 -- ---- the rows that a log leads to, by what is open and what is decided
 
-abbrev pub branch_row_of : ℕ → ℤ → ℕ → BranchRow
-branch_row_of b balance count = record { branch = b; accounts = count; balance = balance }
+abbrev pub branch_row_of : ℕ → ℤ → Terms → BranchRow
+branch_row_of b balance terms = record { branch = b; accounts = terms.accounts; balance = balance }
 
-abbrev pub branch_row : (ℕ → Option ℕ) → List DecidedRequest → ℕ → Option BranchRow
+abbrev pub branch_row : (ℕ → Option Terms) → List DecidedRequest → ℕ → Option BranchRow
 branch_row opened es b = option_map (branch_row_of b (branch_balance es b)) (opened b)
 
 abbrev pub teller_row_of : ℕ → ℤ → TellerRow
 teller_row_of t balance = record { teller = t; balance = balance }
 
-abbrev pub teller_row : (ℕ → Option ℕ) → List DecidedRequest → ℕ → Option TellerRow
+abbrev pub teller_row : (ℕ → Option Terms) → List DecidedRequest → ℕ → Option TellerRow
 teller_row opened es t = if is_teller_open opened t then Some
     (teller_row_of t (teller_balance es t)) else None
 
 abbrev pub account_row_of : ℕ → ℤ → AccountRow
 account_row_of a balance = record { account = a; balance = balance }
 
-abbrev pub account_row : (ℕ → Option ℕ) → List DecidedRequest → ℕ → Option AccountRow
+abbrev pub account_row : (ℕ → Option Terms) → List DecidedRequest → ℕ → Option AccountRow
 account_row opened es a = if is_account_open opened a then Some
     (account_row_of a (account_balance es a)) else None
 
@@ -97,7 +97,7 @@ history_row (e ∷ es) o = if (is_posted e && (length es + 1 == o)) then Some
     (history_row_of o e) else history_row es o
 
 -- the tables have these rows and no others, in whatever order
-pub record HasRows (tables : Tables) (opened : ℕ → Option ℕ) (es : List DecidedRequest) : Type 0 where
+pub record HasRows (tables : Tables) (opened : ℕ → Option Terms) (es : List DecidedRequest) : Type 0 where
   pub decided : tables.decided ≡ length es
   pub branches : (b : ℕ) → row_at branch_key tables.branches b ≡ branch_row opened es b
   pub tellers : (t : ℕ) → row_at teller_key tables.tellers t ≡ teller_row opened es t

@@ -1,20 +1,12 @@
 //! Judges a request by what was looked up for it.
 ghost use Rattle.std.specs.Prelude.{◌≡◌, ◌≤◌};
-ghost use Rattle.posting_rules.specs.Commands.{branch_of_teller};
 ghost use Rattle.posting_rules.specs.Cases.{case_of, plus_within, IsProper, reply_in};
+ghost use Rattle.posting_rules.specs.Entries.{malformed_reply};
 
 use crate::judgments::{Found, Verdict};
-use crate::limits::{MAX_DECIDED, TELLERS_PER_BRANCH};
-use message_records::{Cents, Outcome, Reply, Request, Teller};
-
-/// The number of the branch that a teller's number gives: the first `TELLERS_PER_BRANCH` tellers are those of
-/// branch 1, and so on. It may be beyond `LAST_BRANCH`.
-#[must_use]
-pub fn branch_of_teller(teller: Teller) -> u64
-    ensures { result ≡ branch_of_teller teller }
-{
-    (teller.get() - 1) / TELLERS_PER_BRANCH + 1
-}
+use crate::limits::MAX_DECIDED;
+use crate::numbering::branch_of_teller;
+use message_records::{Cents, Outcome, Reply, Request};
 
 // The balance with the amount added, where it stays within the limit.
 fn plus(balance: Cents, delta: Cents) -> Option<Cents>
@@ -63,6 +55,14 @@ pub fn judge(found: &Found, request: &Request) -> Verdict
         },
         _ => Verdict::Refused(Outcome::OverLimit),
     }
+}
+
+/// The reply to bytes that are no request.
+#[must_use]
+pub fn malformed_reply() -> Reply
+    ensures { result ≡ malformed_reply }
+{
+    Reply::new(Outcome::Malformed, None, None).unwrap()
 }
 
 /// The reply to a verdict. That to a posting has the account's new balance.

@@ -3,7 +3,7 @@ ghost use Rattle.std.specs.Prelude.{◌≡◌, ◌≤◌, ℕ, List, [], ◌∷�
 ghost use Rattle.std.specs.Result.{IsErrOf};
 ghost use Rattle.message_records.specs.Spelling.{reply_spelling};
 ghost use Rattle.posting_rules.specs.Branches.{IsNextBranch, IsLineAbove};
-ghost use Rattle.posting_rules.specs.Commands.{Command, Open, Post};
+ghost use Rattle.posting_rules.specs.Commands.{Command, Open, Post, opened_with};
 ghost use Rattle.posting_rules.specs.Entries.{reply, balance_behind};
 ghost use Rattle.posting_rules.specs.Tables.{Tables};
 ghost use Rattle.posting_rules.specs.Counter.{Seen, ShowsLog, Takes, LeavesSomething, Refuses, TellsDamage};
@@ -117,7 +117,7 @@ pub trait Counter {
         requires few { count ≤ MOST_ACCOUNTS }
         ensures answer { IfOk result (λ opening. (seen self.new).honest
             → (log : List Command) → ShowsLog (seen self.old) log
-            → opening ≡ opening_behind log branch count) }
+            → opening ≡ opening_behind log branch (opened_with count)) }
         ensures done { OnOk result (Takes (seen self.old) (seen self.new) (Open branch count ∷ [])) }
         ensures up { OnOk result ((seen self.new).is_down → ⊥) }
         ensures fault { IfErr result

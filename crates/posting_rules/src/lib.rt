@@ -11,7 +11,7 @@
 //! pub fn first_verdict(balance: Option<Cents>) -> (Verdict, Option<Cents>) {
 //!     let (account, teller) = (Account::new(1).unwrap(), Teller::new(1).unwrap());
 //!     let (branch, number) = (Branch::new(1).unwrap(), Number::new(1).unwrap());
-//!     let (zero, delta) = (Cents::new(0).unwrap(), Cents::new(500).unwrap());
+//!     let (zero, delta) = (Cents::zero(), Cents::new(500).unwrap());
 //!     let request = Request::new(account, teller, branch, number, delta).unwrap();
 //!     let found = Found {
 //!         teller: Some((zero, zero)), // the balances of the teller and of its branch
@@ -38,10 +38,11 @@ mod fault;
 mod judgments;
 mod laws;
 mod limits;
+mod numbering;
 mod open_fault;
 mod rows;
 
-pub use cases::{branch_of_teller, judge, reply_to};
+pub use cases::{judge, malformed_reply, reply_to};
 pub use counter::{BranchLine, Counter, Opening};
 pub use fault::{Fault, Rule};
 pub use judgments::{Found, Kept, Verdict};
@@ -52,6 +53,9 @@ pub use laws::{
 pub use limits::{
     ACCOUNTS_PER_BRANCH, LAST_BRANCH, MAX_DECIDED, MOST_ACCOUNTS, RECORDS_PER_BATCH,
     TELLERS_PER_BRANCH,
+};
+pub use numbering::{
+    branch_of_account, branch_of_teller, first_account, first_teller, place_of_account,
 };
 pub use open_fault::OpenFault;
 pub use rows::{AccountRow, BranchRow, HistoryRow, Ordinal, RequestRow, TellerRow};

@@ -1,7 +1,12 @@
 //! The rows of a bank's tables.
+ghost use Rattle.std.specs.Prelude.{◌≡◌, pos, IsTrue};
+ghost use Rattle.posting_rules.specs.Entries.{posted_entry};
+ghost use Rattle.posting_rules.specs.Kept.{is_kept_with};
+ghost use Rattle.posting_rules.specs.Tables.{request_row_of, history_row_of};
+
 use crate::judgments::Kept;
 use crate::limits::MAX_DECIDED;
-use message_records::{Account, Branch, Cents, Moment, Number, Teller, Whole};
+use message_records::{Account, Branch, Cents, Moment, Number, Outcome, Request, Teller, Whole};
 
 /// How many requests were decided with and before one: 1..=`MAX_DECIDED`.
 pub type Ordinal = Whole<1, MAX_DECIDED>;
@@ -52,6 +57,23 @@ pub struct HistoryRow {
     pub moment: Moment,
 }
 
+impl HistoryRow {
+    /// The row of a request that is posted at this moment, whatever balance the account has then.
+    #[must_use]
+    pub fn posted(ordinal: Ordinal, moment: Moment, request: &Request) -> Self
+        ensures { result ≡ history_row_of ordinal (posted_entry moment request.now (pos 0)) }
+    {
+        HistoryRow {
+            ordinal,
+            account: request.account(),
+            teller: request.teller(),
+            branch: request.branch(),
+            delta: request.delta(),
+            moment,
+        }
+    }
+}
+
 /// A decided request, under its ordinal.
 #[derive(Clone, Copy, Debug, PartialEq, Eq)]
 pub struct RequestRow {
@@ -63,4 +85,23 @@ pub struct RequestRow {
     pub number: Number,
     /// What is kept of it.
     pub kept: Kept,
+}
+
+impl RequestRow {
+    /// The row of a request that is decided with this outcome, and with the account's balance behind a posting
+    /// or zero, whenever that is.
+    #[must_use]
+    pub fn decided(ordinal: Ordinal, request: &Request, outcome: Outcome, balance: Cents) -> Self
+        requires { IsTrue (is_kept_with outcome balance) }
+        ensures { result ≡ request_row_of ordinal
+            (record { moment = 0; request = request.now; outcome = outcome; balance = balance }) }
+    {
+        let (account, branch, delta) = (request.account(), request.branch(), request.delta());
+        RequestRow {
+            ordinal,
+            teller: request.teller(),
+            number: request.number(),
+            kept: Kept::new(account, branch, delta, outcome, balance).unwrap(),
+        }
+    }
 }

@@ -9,7 +9,7 @@ use Rattle.message_records.specs.Ranges.{whole_within}
 use Rattle.message_records.specs.declared.records.Outcome.{Outcome}
 use Rattle.message_records.specs.declared.limits.TheConstants.{MAX_ACCOUNT, MAX_BALANCE, MAX_BRANCH}
 use Rattle.message_records.specs.declared.limits.TheConstants.{MAX_DELTA, MAX_MOMENT, MAX_NUMBER, MAX_TELLER}
-use Rattle.posting_rules.specs.Commands.{branch_of_teller, branch_of_account, place_of_account}
+use Rattle.posting_rules.specs.Numbering.{branch_of_teller, branch_of_account, place_of_account}
 use Rattle.posting_rules.specs.Kept.{is_kept_with}
 use Rattle.posting_rules.specs.declared.fault.Rule.{Rule}
 use Rattle.posting_rules.specs.declared.fault.Rule.TheVariants.{Meta, Teller, Account, Balance, Request}

@@ -20,7 +20,7 @@
 //! {
 //!     create(conn)?;
 //!     let branch = Branch::new(1).unwrap();
-//!     let balance = Cents::new(0).unwrap();
+//!     let balance = Cents::zero();
 //!     let mut tx = conn.transaction();
 //!     add_branch(
 //!         &mut tx,

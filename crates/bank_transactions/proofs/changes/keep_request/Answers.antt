@@ -1,12 +1,11 @@
 -- What a kept request leaves.
-use Rattle.std.proofs.Common.{◌≡◌, Result, Err, rules, refl, ap, None}
+use Rattle.std.proofs.Common.{◌≡◌, ◌∙◌, Result, Err, rules, refl, ap, None}
 use Rattle.std.specs.Prelude.{is_some}
 use Rattle.sqlite.specs.declared.transaction.Transaction.{Transaction}
 use Rattle.sqlite_trees.specs.declared.store.Store.{Ghosts}
 use Rattle.posting_rules.specs.declared.rows.RequestRow.{RequestRow}
 use Rattle.posting_rules.specs.Changes.{with_decided, with_request}
-use Rattle.posting_rules.specs.Entries.{DecidedRequest}
-use Rattle.posting_rules.specs.Tables.{row_at, request_key, request_row_of}
+use Rattle.posting_rules.specs.Tables.{row_at, request_key}
 use Rattle.sql_meanings.specs.Calls.{Says, Inside}
 use Rattle.store_rows.specs.Calls.{OfTables}
 use Rattle.store_rows.specs.Failures.{Puts}
@@ -35,30 +34,17 @@ pub returns-in_err-add_request : goal.returns-in_err-add_request
 returns-in_err-add_request g c =
     let e = c.in_err-add_request.field-0.0 in
     let same : c.from_residual.result ≡ Err e = search rules in
-    let row : RequestRow = record {
-      ordinal = c.args.ordinal;
-      teller = c.teller.result;
-      number = c.number.result;
-      kept = c.unwrap.result;
-    } in
-    rw same (does_err (put row (Err e) c.in_err-add_request.ensures) (λ t free. free))
+    rw same (does_err (put c.decided.result (Err e) c.in_err-add_request.ensures)
+    (λ t free. ap (λ (r : RequestRow). row_at request_key t.requests r.ordinal) c.decided.ensures ∙ free))
 
 pub returns : goal.returns
 returns g c =
     let ordinal = c.args.ordinal in
-    let row : RequestRow = record {
-      ordinal = ordinal;
-      teller = c.teller.result;
-      number = c.number.result;
-      kept = c.unwrap.result;
-    } in
-    let e : DecidedRequest = record {
-      moment = 0;
-      request = c.args.request.now;
-      outcome = c.args.outcome;
-      balance = c.args.balance;
-    } in
-    let is : row ≡ request_row_of ordinal e = search rules in
+    let row = c.decided.result in
     let decided = rw c.get.ensures.value at c.write_decided.ensures in
     does_for (does_then (put row _ c.in_ok-add_request.ensures) decided (λ t free. tt))
-    (λ t free. (free, ap (λ r. with_decided ordinal (with_request r t)) is, refl))
+    (λ t free. (
+      ap (λ (r : RequestRow). row_at request_key t.requests r.ordinal) c.decided.ensures ∙ free,
+      ap (λ r. with_decided ordinal (with_request r t)) c.decided.ensures,
+      refl,
+    ))

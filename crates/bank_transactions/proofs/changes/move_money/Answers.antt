@@ -1,5 +1,5 @@
 -- What the balances of a posting leave.
-use Rattle.std.proofs.Common.{◌≡◌, Result, false, Ok, Err, rules, refl, ap, ℕ, None}
+use Rattle.std.proofs.Common.{◌≡◌, ◌∙◌, Result, false, Ok, Err, rules, refl, ap, ℕ, None}
 use Rattle.std.specs.Prelude.{ℤ, is_some}
 use Rattle.sqlite.specs.declared.transaction.Transaction.{Transaction}
 use Rattle.sqlite_trees.specs.declared.store.Store.{Ghosts}
@@ -106,21 +106,15 @@ pub returns : goal.returns
 returns g c =
     let r = c.args.request.now in
     let n = c.args.ordinal in
-    let row : HistoryRow = record {
-      ordinal = n;
-      account = c.account-2.result;
-      teller = c.teller-2.result;
-      branch = c.branch-request-2.result;
-      delta = c.delta.result;
-      moment = c.args.moment;
-    } in
-    let is : row ≡ history_row_of n (posted_entry c.args.moment r c.args.account) = search rules in
+    let row = c.posted.result in
+    let is : row ≡ history_row_of n (posted_entry c.args.moment r c.args.account) = c.posted.ensures in
     let one = rw c.account.ensures at c.in_ok-write_balance.ensures in
     let two = rw c.teller.ensures at c.in_ok-write_balance-2.ensures in
     let three = rw c.branch-request.ensures at c.in_ok-write_balance-3.ensures in
     let put = does_add {So = λ t. is_some (row_at history_key t.history n) ≡ false} g.S.Store _ _ history
-    (λ t. is_some (row_at history_key t.history n))
-    (with_history row) c.add_history.result c.add_history.ensures (λ t so. so) in
+    (λ t. is_some (row_at history_key t.history row.ordinal))
+    (with_history row) c.add_history.result c.add_history.ensures
+    (λ t so. ap (λ (r : HistoryRow). is_some (row_at history_key t.history r.ordinal)) is ∙ so) in
     does_for (does_then (branch_set r n c.args.account c.args.teller c.args.branch one two three) put
     (free r n c.args.account c.args.teller c.args.branch))
     (λ t may. (may, moved r n c.args.account c.args.teller c.args.branch t c.args.moment row may is, refl))

@@ -10,7 +10,7 @@ pub returns-in-Tellers : goal.returns-in-Tellers
 returns-in-Tellers g c =
     let n = c.args.number in
     let same : c.unwrap-teller.result ≡ n = search rules in
-    let nothing : c.unwrap-balance.result ≡ pos 0 = search rules in
+    let nothing : c.zero-balance.result ≡ pos 0 = c.zero-balance.ensures in
     rw c.in-Tellers.is
     (does_add g.S.Store _ _ teller (is_taken Tellers n) (with_new Tellers n) _
     (rw (same, nothing) at c.add_member.ensures) (λ t free. free))
@@ -19,7 +19,7 @@ pub returns-in-Accounts : goal.returns-in-Accounts
 returns-in-Accounts g c =
     let n = c.args.number in
     let same : c.unwrap-account.result ≡ n = search rules in
-    let nothing : c.unwrap-balance.result ≡ pos 0 = search rules in
+    let nothing : c.zero-balance.result ≡ pos 0 = c.zero-balance.ensures in
     rw c.in-Accounts.is
     (does_add g.S.Store _ _ account (is_taken Accounts n) (with_new Accounts n) _
     (rw (same, nothing) at c.add_member-in-Accounts.ensures) (λ t free. free))

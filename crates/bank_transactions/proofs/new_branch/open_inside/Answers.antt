@@ -1,8 +1,9 @@
 -- What is answered where a branch was found, and what is added where none was.
 use Rattle.std.proofs.Common.{◌≡◌, ℕ, None, Some, Err, rules, refl, sym, ap, ◌∙◌}
 use Rattle.posting_rules.specs.Changes.{tables_opened, tables_with_branch}
+use Rattle.posting_rules.specs.Commands.{opened_with}
 use Rattle.posting_rules.specs.Counter.{opening_for}
-use Rattle.posting_rules.specs.LookUps.{count_in}
+use Rattle.posting_rules.specs.LookUps.{terms_in}
 use Rattle.posting_rules.specs.Tables.{Tables, row_at, branch_key}
 use Rattle.posting_rules.specs.declared.counter.Opening.TheVariants.{Opened, Already, Differs}
 use Rattle.posting_rules.specs.declared.rows.BranchRow.{BranchRow}
@@ -14,17 +15,18 @@ use Rattle.bank_transactions.proofs.new_branch.open_inside.Goals as goal
 -- a branch that is open stays as it is, and the count tells the answer
 already : (t : Tables) (b count : ℕ) (row : BranchRow) → row_at branch_key t.branches b ≡ Some row
     → row.accounts ≡ count
-    → (t ≡ tables_with_branch t b count) × (Already ≡ opening_for (count_in t b) count)
+    → (t ≡ tables_with_branch t b count) × (Already ≡ opening_for (terms_in t b) (opened_with count))
 already t b count row is same = rw is (refl, search rules)
 
 differs : (t : Tables) (b count : ℕ) (row : BranchRow) → row_at branch_key t.branches b ≡ Some row
     → (row.accounts ≡ count → ⊥)
-    → (t ≡ tables_with_branch t b count) × (Differs ≡ opening_for (count_in t b) count)
+    → (t ≡ tables_with_branch t b count) × (Differs ≡ opening_for (terms_in t b) (opened_with count))
 differs t b count row is other = rw is (refl, search rules)
 
 -- where it isn't, it is added
 opened_now : (t : Tables) (b count : ℕ) → row_at branch_key t.branches b ≡ None
-    → (tables_opened t b count ≡ tables_with_branch t b count) × (Opened ≡ opening_for (count_in t b) count)
+    → (tables_opened t b count ≡ tables_with_branch t b count)
+    × (Opened ≡ opening_for (terms_in t b) (opened_with count))
 opened_now t b count is = rw is (refl, refl)
 
 pub returns-in_err-row : goal.returns-in_err-row

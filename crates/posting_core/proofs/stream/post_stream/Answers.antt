@@ -1,4 +1,4 @@
-use Rattle.std.proofs.Common.{◌≡◌, ◌≤◌, inl, inr, refl, ap, Err, arith, length, take}
+use Rattle.std.proofs.Common.{◌≡◌, ◌≤◌, ◌∙◌, inl, inr, refl, ap, Err, arith, length, take}
 use Rattle.std.proofs.lemmas.List.{length-take-le}
 use Rattle.std.proofs.lemmas.Result.{err_from_is_err_and}
 use Rattle.posting_core.specs.declared.stream.TheConstants.{BUFFER}
@@ -175,7 +175,7 @@ reads-preserved g c =
           w.as_chunks.ensures.front w.as_chunks.ensures.back_len w.move_to_front.ensures in
           rw (w.writer-is, w.clock-is, w.bank-is, w.buffer-is, w.filled-is, w.count-is) (record {
             few = omega (arith, w.as_chunks.ensures.back_len);
-            room = w.move_to_front.array_long;
+            room = w.move_to_front.auto.buffer ∙ long;
             bound = omega (arith, w.as_chunks.ensures.front_len, c.reads.invariant.bound, long);
             first = λ none. absurd (omega (arith, w.as_chunks.ensures.front_len));
             up = λ down. absurd (w.in_ok-reply_to_batch.ensures.up down);

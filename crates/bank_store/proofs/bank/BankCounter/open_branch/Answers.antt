@@ -1,7 +1,7 @@
 -- What an opening comes to.
 use Rattle.std.proofs.Common.{◌≤◌, [], ◌∷◌, ◌∙◌}
 use Rattle.std.specs.Prelude.{IsSome}
-use Rattle.posting_rules.specs.Commands.{Open, AreCommands}
+use Rattle.posting_rules.specs.Commands.{Open, AreCommands, opened_with}
 use Rattle.posting_rules.proofs.Calls.{opens, answers}
 use Rattle.posting_rules.proofs.Stepping.{sound_tables}
 use Rattle.bank_store.proofs.Causes.{still_clean}
@@ -40,7 +40,7 @@ returns-in-Ok g c =
       answer =
           λ clean log s. (says.told clean s.tables s.are
           (sound_tables s.tables log s.commands s.shows)).0
-          ∙ answers s.tables log b count s.shows;
+          ∙ answers s.tables log b (opened_with count) s.shows;
       done =
           takes sound_tables (Open b count ∷ []) (opens b count above c.requires.few) are Down Down
           c.in_ok-up.ensures.up says;

@@ -1,11 +1,11 @@
 use Rattle.std.proofs.Common.{ℕ, List, [], ◌∷◌, sym, ap, ◌∙◌}
-use Rattle.std.specs.Option.{option_map}
 use Rattle.posting_rules.specs.declared.rows.BranchRow.{BranchRow}
 use Rattle.posting_rules.specs.Commands.{Open}
 use Rattle.posting_rules.specs.Tables.{row_at, branch_key}
-use Rattle.posting_rules.specs.LookUps.{count_of_branch}
 use Rattle.posting_core.specs.Plain.{plain_tables}
-use Rattle.posting_core.proofs.InMemory.{opened_from, branches_as_before, takes_plain}
+use Rattle.posting_rules.specs.LookUps.{count_of_branch}
+use Rattle.std.specs.Option.{option_map}
+use Rattle.posting_core.proofs.InMemory.{unmapped, opened_from, branches_as_before, takes_plain}
 use Rattle.posting_core.proofs.plain_bank.PlainBankCounter.open_branch.Goals as goal
 
 pub returns-clause-done : goal.returns-clause-done
@@ -16,8 +16,9 @@ returns-clause-done c =
     (plain_tables c.add_branch.new.self) log c.args.branch c.args.count c.add_branch.ensures.tables
     (branches_as_before (plain_tables c.args.self.now) _ _ _ c.reserve.ensures.items
     c.reserve-2.ensures.items c.reserve-3.ensures.items)
+    (unmapped count_of_branch (row_at branch_key c.args.self.now.branches.items c.args.branch)
     (ap (λ (rows : List BranchRow). option_map count_of_branch (row_at branch_key rows c.args.branch))
     (sym c.deref.ensures.value)
     ∙ ap (λ (n : ℕ). option_map count_of_branch (row_at branch_key c.deref.result.now n))
-    (sym c.get.ensures.value) ∙ sym c.count_at.ensures ∙ c.in_default.is)
+    (sym c.get.ensures.value) ∙ sym c.count_at.ensures ∙ c.in_default.is))
     c.add_branch.ensures.above c.requires.few s)
