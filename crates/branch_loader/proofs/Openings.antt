@@ -10,6 +10,7 @@ use Rattle.posting_rules.specs.Commands.{Command, Open, AreCommands, opened_with
 use Rattle.posting_rules.specs.Counter.{Seen, ShowsLog, ShowsBeginning, Takes, Refuses, opening_behind}
 use Rattle.posting_rules.specs.Runs.{behind}
 use Rattle.posting_rules.specs.Tables.{Tables, AreTablesOf}
+use Rattle.posting_rules.proofs.CounterCalls.{Takes-append}
 use Rattle.posting_rules.proofs.Remaining.{leaves_still, leaves_weaker}
 use Rattle.posting_rules.proofs.Sequence.{behind-append}
 use Rattle.posting_core.proofs.Refused.{still_down}
@@ -18,21 +19,10 @@ use Rattle.posting_rules.specs.declared.counter.Opening.TheVariants.{Opened, Alr
 use Rattle.posting_rules.specs.declared.fault.Fault.{Fault}
 use Rattle.posting_rules.specs.declared.fault.Fault.TheVariants.{Memory, Store, Down, Damaged}
 use Rattle.branch_loader.specs.Plans.{openings, Rows, Row}
-use Rattle.branch_loader.specs.Loading.{IsRefusedAfter, LeavesBeginning, answers, counted, total, with_answer}
+use Rattle.branch_loader.specs.Loading.{IsRefusedAfter, LeavesBeginning, LoadsAll, answers, counted, total}
+use Rattle.branch_loader.specs.Loading.{with_answer}
 use Rattle.branch_loader.specs.Loading.{is_opened, is_already, is_differs}
 use Rattle.branch_loader.specs.declared.loader.Loaded.{Loaded}
-
--- ---- commands behind commands
-
--- two calls take what they take together
-pub Takes-append : (a b c : Seen) (xs ys : List Command) → Takes a b xs → Takes b c ys → (c.honest → b.honest)
-    → Takes a c (xs ++ ys)
-Takes-append a b c xs ys p q honest = record {
-  shows = λ h log shown. rw (behind-append log xs ys)
-      (q.shows h (behind log xs) (p.shows (honest h) log shown));
-  stands = λ h log stood. rw (behind-append log xs ys)
-      (q.stands h (behind log xs) (p.stands (honest h) log stood));
-}
 
 -- ---- answers
 
@@ -244,14 +234,18 @@ behind-refused seen old now new rows i p loaded fault b within read refused hone
           (subst (λ (n : ℕ). LeavesBeginning (seen old) (seen new) behind_all n) count left);
     }
 
--- at the end of the rows it leaves them all
-pub left-end : {C : Type 0} (seen : C → Seen) (old now : C) (rows plan : List (ℕ × ℕ)) (i : ℕ)
+-- at the end of the rows it took them all
+pub loaded_all : {C : Type 0} (seen : C → Seen) (old now : C) (rows plan : List (ℕ × ℕ)) (i : ℕ)
     (loaded : Loaded) → IsBehind seen old now (take i rows) loaded → length rows ≤ i → rows ≡ plan
-    → LeavesBeginning (seen old) (seen now) (openings plan) (length plan)
-left-end seen old now rows plan i loaded b all is =
+    → LoadsAll (seen old) (seen now) plan
+loaded_all seen old now rows plan i loaded b all is =
     let whole : take i rows ≡ plan = take_all i rows all ∙ is in
     let taken : Takes (seen old) (seen now) (openings plan) = subst
     (λ (rs : List (ℕ × ℕ)). Takes (seen old) (seen now) (openings rs)) whole b.taken in
     let count : length (openings plan) ≡ length plan = rw length-map refl in
-    subst (λ (n : ℕ). LeavesBeginning (seen old) (seen now) (openings plan) n) count
-    (left-all (seen old) (seen now) (openings plan) taken)
+    record {
+      takes = taken;
+      survives = subst (λ (n : ℕ). LeavesBeginning (seen old) (seen now) (openings plan) n) count
+          (left-all (seen old) (seen now) (openings plan) taken);
+      up = b.up;
+    }

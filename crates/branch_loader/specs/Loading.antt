@@ -9,7 +9,7 @@ use Rattle.posting_rules.specs.declared.counter.Opening.TheVariants.{Opened, Alr
 use Rattle.posting_rules.specs.declared.fault.Fault.{Fault}
 use Rattle.posting_rules.specs.declared.fault.Fault.TheVariants.{Down}
 use Rattle.branch_loader.specs.declared.loader.Loaded.{Loaded}
-use Rattle.branch_loader.specs.Plans.{Rows}
+use Rattle.branch_loader.specs.Plans.{Rows, openings}
 
 -- the answers to a plan's openings, each behind the log and the openings before it
 unfoldable pub answers : List Command → Rows → List Opening
@@ -54,6 +54,12 @@ total loaded = loaded.opened + loaded.already + loaded.differs
 abbrev pub LeavesBeginning : Seen → Seen → List Command → ℕ → Type 0
 LeavesBeginning old new commands least =
     new.honest → (log : List Command) → StandsAt old log → LeavesOnly new (ShowsBeginning log commands least)
+
+-- it took the openings of all rows, a stop leaves them all, and the counter is up if it was
+pub record LoadsAll (old new : Seen) (rows : Rows) : Type 0 where
+  pub takes : Takes old new (openings rows)
+  pub survives : LeavesBeginning old new (openings rows) (length rows)
+  pub up : new.is_down → old.is_down
 
 -- The counter answered so many of the commands, stood there, and refused the next one. Where it stood it was
 -- honest and up wherever it is so afterwards, and down only where it was down from the start.

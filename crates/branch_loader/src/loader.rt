@@ -2,7 +2,7 @@
 ghost use Rattle.std.specs.Prelude.{◌≡◌, ◌≢◌, ◌+◌, ◌≤◌, ◌↔◌, ℕ, List, [], length, IfOk, IfErr, OnOk};
 ghost use Rattle.std.specs.Result.{IsErrOf};
 ghost use Rattle.posting_rules.specs.Commands.{Command};
-ghost use Rattle.posting_rules.specs.Counter.{Seen, ShowsLog, Takes};
+ghost use Rattle.posting_rules.specs.Counter.{HasRefused, ShowsLog};
 ghost use Rattle.branch_loader.specs.Plans.{openings};
 
 use crate::plan::Plan;
@@ -19,7 +19,7 @@ pub struct Loaded {
     pub differs: u32,
 }
 
-ghost use Rattle.branch_loader.specs.Loading.{IsRefusedAfter, LeavesBeginning, answers, counted, total};
+ghost use Rattle.branch_loader.specs.Loading.{IsRefusedAfter, LoadsAll, answers, counted, total};
 ghost use Rattle.branch_loader.specs.Loading.{with_answer};
 
 // The counts with one answer more.
@@ -51,15 +51,12 @@ pub fn load<C: Counter>(plan: &Plan, counter: &mut C) -> Result<Loaded, Fault>
         → ShowsLog (C.seen counter.old) log
         → loaded ≡ counted (answers log plan.now)) }
     ensures all { IfOk result (λ loaded. total loaded ≡ length plan.now) }
-    ensures done { OnOk result (Takes (C.seen counter.old) (C.seen counter.new) (openings plan.now)) }
-    ensures survives { OnOk result
-        (LeavesBeginning (C.seen counter.old) (C.seen counter.new) (openings plan.now)
-        (length plan.now)) }
-    ensures up { OnOk result ((C.seen counter.new).is_down → (C.seen counter.old).is_down) }
+    ensures done { OnOk result (LoadsAll (C.seen counter.old) (C.seen counter.new) plan.now) }
 
     // A fault tells how many openings were answered before it.
     ensures fault { IfErr result (λ fault. (answered : ℕ)
         × IsRefusedAfter C.seen counter.old counter.new (openings plan.now) fault answered) }
+    ensures why { IfErr result (HasRefused C.seen C.reason counter.old counter.new) }
     ensures down { IsErrOf result Fault.Down ↔ ((C.seen counter.old).is_down × (plan.now ≢ [])) }
 
     ensures honest { (C.seen counter.new).honest → (C.seen counter.old).honest }

@@ -1,6 +1,6 @@
 -- The rows of a bank in memory show a log, and what a call does to them shows the log with its command.
-use Rattle.std.proofs.Common.{◌≡◌, ℕ, ◌≤◌, List, [], ◌∷◌, length, Option, Some, None, refl, sym, ap, subst, ◌∙◌}
-use Rattle.std.specs.Option.{option_map}
+use Rattle.std.proofs.Common.{◌≡◌, ℕ, ◌≤◌, List, [], ◌∷◌, length, None, Result, Ok, Err, refl, sym, ap, subst}
+use Rattle.std.proofs.Common.{◌∙◌}
 use Rattle.posting_rules.specs.declared.limits.TheConstants.{MOST_ACCOUNTS}
 use Rattle.message_records.specs.Reading.{request_of}
 use Rattle.message_records.specs.Spelling.{reply_spelling}
@@ -9,14 +9,17 @@ use Rattle.posting_rules.specs.declared.rows.TellerRow.{TellerRow}
 use Rattle.posting_rules.specs.declared.rows.AccountRow.{AccountRow}
 use Rattle.posting_rules.specs.declared.rows.HistoryRow.{HistoryRow}
 use Rattle.posting_rules.specs.declared.rows.RequestRow.{RequestRow}
+use Rattle.posting_rules.specs.declared.fault.Fault.{Fault}
+use Rattle.posting_rules.specs.declared.fault.Fault.TheVariants.{Memory}
 use Rattle.posting_rules.specs.Commands.{Command, Open, Post, AreCommands}
 use Rattle.posting_rules.specs.Entries.{reply}
 use Rattle.posting_rules.specs.Tables.{Tables, AreTablesOf, row_at, branch_key}
 use Rattle.posting_rules.specs.Runs.{behind}
-use Rattle.posting_rules.specs.Counter.{ShowsLog, StandsAt, Takes}
+use Rattle.posting_rules.specs.Counter.{IsCounterCall, IsUnchanged, ShowsLog, StandsAt, Takes}
 use Rattle.posting_core.specs.declared.plain_bank.PlainBank.{PlainBank}
 use Rattle.posting_core.specs.Appended.{tables_with, tables_opened, reply_in_tables}
-use Rattle.posting_core.specs.Plain.{plain_tables, plain_seen}
+use Rattle.posting_core.specs.Plain.{plain_reason, plain_tables, plain_seen}
+use Rattle.posting_rules.proofs.CounterCalls.{call_answered, call_spared}
 use Rattle.posting_rules.proofs.Empty.{empty_shown}
 use Rattle.posting_core.proofs.Appending.{record_shown, reply_is, opened_shown}
 use Rattle.posting_rules.proofs.Sequence.{commands_behind}
@@ -119,3 +122,38 @@ takes_plain old new cs valid s = record {
   stands = λ h log st. stands_plain new (behind log cs) (commands_behind log cs st.shows.commands valid)
       (s log (plain_shows old log st.shows));
 }
+
+-- ---- a call
+
+-- it was answered
+pub answered_plain : {X : Type 0} (old new : PlainBank) (cs : List Command) (x : X)
+    → Takes (plain_seen old) (plain_seen new) cs
+    → IsCounterCall plain_seen plain_tables plain_reason old new cs (Ok x)
+answered_plain old new cs x takes =
+    call_answered plain_seen plain_tables plain_reason old new cs (λ down. down) (λ honest. honest) x
+    (λ down. down) takes
+
+-- the rows are those that they were
+stays_plain : (old new : PlainBank) → plain_tables new ≡ plain_tables old
+    → IsUnchanged (plain_seen old) (plain_seen new)
+stays_plain old new same = record {
+  tables = λ t is. is ∙ sym same;
+  down = λ down. down;
+  left = λ remains is. (remains, is ∙ same, λ t found. found);
+}
+
+-- it only read
+pub read_plain : {X : Type 0} (old new : PlainBank) (x : X) → plain_tables new ≡ plain_tables old
+    → IsCounterCall plain_seen plain_tables plain_reason old new [] (Ok x)
+read_plain old new x same =
+    answered_plain old new [] x
+    (takes_plain old new [] tt (λ log s. subst (λ (t : Tables). AreTablesOf t log) (sym same) s))
+
+-- memory was refused
+pub spared_plain : {X : Type 0} (old new : PlainBank) (cs : List Command) (result : Result X Fault)
+    → result ≡ Err Memory → plain_tables new ≡ plain_tables old
+    → IsCounterCall plain_seen plain_tables plain_reason old new cs result
+spared_plain {X} old new cs result is same =
+    subst (λ (r : Result X Fault). IsCounterCall plain_seen plain_tables plain_reason old new cs r) (sym is)
+    (call_spared plain_seen plain_tables plain_reason old new cs (λ down. down) (λ honest. honest)
+    (stays_plain old new same) tt same)

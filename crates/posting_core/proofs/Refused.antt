@@ -41,7 +41,8 @@ still_down Store old new cs u e = u.down
 still_down Down old new cs u e = u.after
 still_down (Damaged rule) old new cs u e = u.down
 
-pub refused_broken : {C : Type 0} (seen : C → Seen) (old stood new : C) {r r' w w' k k' : Option (List ℕ)}
+pub refused_broken : {C : Type 0} (seen : C → Seen) (reason : Fault → C → C → Type 0) (old stood new : C)
+    {r r' w w' k k' : Option (List ℕ)}
     {count : ℕ} (v v' : Option (List ℕ)) (fault : StreamFault)
     (m : ℕ) (all rest : List ℕ) (rs : List (List ℕ)) → Going r r' w w' k k' (seen old) (seen stood) all count
     → (all ≡ joined rs ++ rest) × AllByRecursion IsRecord rs → length rest < 100 → 1 ≤ length rs
@@ -49,9 +50,10 @@ pub refused_broken : {C : Type 0} (seen : C → Seen) (old stood new : C) {r r' 
     → (count ≡ 0 → stood ≡ old) → ((seen stood).is_down → (seen old).is_down × (count ≡ 0))
     → ((seen new).honest → (seen stood).honest)
     → BreaksOff fault v v' (seen stood) (seen new) (posts m rs) → ((seen stood).is_down → fault ≡ Bank Down)
-    → IfBank fault (IsRefusedBehind seen old new r r')
-refused_broken seen old stood new {r = r} {r' = r'} {count = count} v v'
-    (Bank fault) m all rest rs g cut few some most first up honest a down =
+    → IfBank fault (λ told. reason told stood new)
+    → IfBank fault (IsRefusedBehind seen reason old new r r')
+refused_broken seen reason old stood new {r = r} {r' = r'} {count = count} v v'
+    (Bank fault) m all rest rs g cut few some most first up honest a down why =
     let b : Batch = record { moment = m; records = rs } in
     let bs = g.batches ++ b ∷ [] in
     let made : posts_of bs ≡ posts_of g.batches ++ posts m rs = posts_of_one_more g.batches b in
@@ -73,14 +75,17 @@ refused_broken seen old stood new {r = r} {r' = r'} {count = count} v v'
       takes = g.takes;
       up = λ d. let (before, none) = up d in (before, none_long (posts_of g.batches) (each ∙ none));
       refuses = a.refuses;
+      why = why;
       tried = λ d. let e = down d in cc e;
       down = λ d. let e = down d in still_down fault (seen stood) (seen new) (posts m rs) a.refuses (cc e);
       honest = honest;
     }
-refused_broken seen old stood new v v' Read m all rest rs g cut few some most first up honest a down = tt
-refused_broken seen old stood new v v' Write m all rest rs g cut few some most first up honest a down = tt
-refused_broken seen old stood new v v'
-    (Truncated n) m all rest rs g cut few some most first up honest a down = tt
+refused_broken seen reason old stood new v v'
+    Read m all rest rs g cut few some most first up honest a down why = tt
+refused_broken seen reason old stood new v v'
+    Write m all rest rs g cut few some most first up honest a down why = tt
+refused_broken seen reason old stood new v v'
+    (Truncated n) m all rest rs g cut few some most first up honest a down why = tt
 
 -- ---- whether it is down
 

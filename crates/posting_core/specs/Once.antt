@@ -1,5 +1,5 @@
 -- One record from a reader, and its reply to a writer.
-use Rattle.std.specs.Prelude.{◌≡◌, ◌<◌, ℕ, List, [], ◌∷◌, length, take, Option}
+use Rattle.std.specs.Prelude.{◌≡◌, ◌<◌, ℕ, List, [], ◌∷◌, length, take, Option, ⊤}
 use Rattle.std.specs.Io.KnownBytes.{Keeps, Appends, Consumes, IsAtEnd}
 use Rattle.message_records.specs.declared.limits.TheConstants.{REQUEST_BYTES}
 use Rattle.message_records.specs.Spelling.{reply_spelling}
@@ -19,6 +19,7 @@ pub record RecordIsAnswered (r r' w w' : Option (List ℕ)) (c c' : Seen) (momen
   pub whole : length bytes ≡ REQUEST_BYTES
   pub read : Consumes r r' bytes
   pub takes : Takes c c' (Post moment bytes ∷ [])
+  pub up : c'.is_down → ⊥
   pub written : c'.honest → (log : List Command) → ShowsLog c log
       → Appends w w' (reply_spelling (reply log bytes))
 
@@ -42,6 +43,7 @@ pub record IsCutOff (r r' w w' : Option (List ℕ)) (c c' : Seen) (moment : ℕ)
   pub whole : length bytes ≡ REQUEST_BYTES
   pub read : Consumes r r' bytes
   pub takes : Takes c c' (Post moment bytes ∷ [])
+  pub up : c'.is_down → ⊥
   pub count : ℕ
   pub written : c'.honest → (log : List Command) → ShowsLog c log
       → Appends w w' (take count (reply_spelling (reply log bytes)))
@@ -62,3 +64,8 @@ LeavesAfterFault Short r r' w w' c c' moment = EndsShort r r' w w' c c'
 LeavesAfterFault Read r r' w w' c c' moment = IsUnread w w' c c'
 LeavesAfterFault Write r r' w w' c c' moment = IsCutOff r r' w w' c c' moment
 LeavesAfterFault (Bank fault) r r' w w' c c' moment = IsRefused fault r r' w w' c c' moment
+
+-- what the fault of the counter says
+abbrev pub IfRefused : OnceFault → (Fault → Type 0) → Type 0
+IfRefused (Bank fault) P = P fault
+IfRefused _ P = ⊤

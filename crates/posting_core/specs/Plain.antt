@@ -1,6 +1,8 @@
 -- A bank in memory: its rows are in the order in which they came.
-use Rattle.std.specs.Prelude.{◌≡◌, length}
+use Rattle.std.specs.Prelude.{◌≡◌, length, ⊤}
 use Rattle.posting_core.specs.declared.plain_bank.PlainBank.{PlainBank}
+use Rattle.posting_rules.specs.declared.fault.Fault.{Fault}
+use Rattle.posting_rules.specs.declared.fault.Fault.TheVariants.{Memory}
 use Rattle.posting_rules.specs.Tables.{Tables}
 use Rattle.posting_rules.specs.Counter.{Seen}
 
@@ -25,3 +27,8 @@ plain_seen bank = record {
   found = λ remains t. t ≡ remains;
   honest = Unit {0};
 }
+
+-- it refuses a call only for want of memory
+abbrev pub plain_reason : Fault → PlainBank → PlainBank → Type 0
+plain_reason Memory old new = ⊤
+plain_reason _ old new = ⊥

@@ -1,5 +1,5 @@
 -- A stream of records: what is read, what is written, what the bank shows, and what a stop may leave.
-use Rattle.std.specs.Prelude.{◌≡◌, ℕ, zero, suc, ◌-◌, ◌≤◌, ◌<◌, ◌/◌, List, [], ◌∷◌, ◌++◌, length, take, ⊤}
+use Rattle.std.specs.Prelude.{◌≡◌, ◌⊎◌, ℕ, zero, suc, ◌-◌, ◌≤◌, ◌<◌, ◌/◌, List, [], ◌∷◌, ◌++◌, length, take, ⊤}
 use Rattle.std.specs.Prelude.{Option, Result, Ok, Err}
 use Rattle.std.specs.List.{AllByRecursion}
 use Rattle.std.specs.Simd.{first_chunks}
@@ -12,6 +12,7 @@ use Rattle.posting_core.specs.declared.stream.StreamFault.{StreamFault}
 use Rattle.posting_core.specs.declared.stream.StreamFault.TheVariants.{Truncated, Read, Write, Bank}
 use Rattle.posting_rules.specs.Commands.{Command, Open, Post}
 use Rattle.posting_rules.specs.Counter.{Seen, ShowsLog, LeavesOnly, StandsAt, ShowsBeginning, Takes, Refuses}
+use Rattle.posting_rules.specs.Counter.{HasRefused}
 use Rattle.posting_rules.specs.Runs.{behind, posts, replies_to, ArePosts}
 use Rattle.posting_core.specs.Clock.{AreReadings}
 use Rattle.posting_core.specs.Told.{ReadTold, WriteTold, EndsWith, HasReadFailed, HasWriteFailed}
@@ -176,9 +177,15 @@ abbrev pub IfBank : StreamFault → (Fault → Type 0) → Type 0
 IfBank (Bank fault) P = P fault
 IfBank _ P = ⊤
 
+-- a call was refused, for the reason that its fault gives; or the bank is up, and memory was refused to who
+-- asked it
+abbrev pub IsOfCall : {C : Type 0} → (C → Seen) → (Fault → C → C → Type 0) → (old new : C) → Fault → Type 0
+IsOfCall seen reason old new fault =
+    HasRefused seen reason old new fault ⊎ ((fault ≡ Memory) × ((seen new).is_down → ⊥))
+
 -- the bank took some of the records that were read, stood there, and refused the next batch
-pub record IsRefusedBehind {C : Type 0} (seen : C → Seen) (old new : C) (r r' : Option (List ℕ))
-    (fault : Fault) : Type 0 where
+pub record IsRefusedBehind {C : Type 0} (seen : C → Seen) (reason : Fault → C → C → Type 0) (old new : C)
+    (r r' : Option (List ℕ)) (fault : Fault) : Type 0 where
   pub bytes : List ℕ
   pub read : Consumes r r' bytes
   pub taken : List Command
@@ -192,8 +199,9 @@ pub record IsRefusedBehind {C : Type 0} (seen : C → Seen) (old new : C) (r r' 
   pub first : taken ≡ [] → stood ≡ old
   pub takes : Takes (seen old) (seen stood) taken
   pub up : (seen stood).is_down → (seen old).is_down × (taken ≡ [])
-  -- what it did then
+  -- what it did then, and why
   pub refuses : Refuses fault (seen stood) (seen new) batch
+  pub why : reason fault stood new
   pub tried : (seen stood).is_down → fault ≡ Down
   pub down : (seen stood).is_down → (seen new).is_down
   pub honest : (seen new).honest → (seen stood).honest

@@ -1,7 +1,7 @@
 //! One record from a reader, and its reply to a writer.
 ghost use Rattle.std.specs.Prelude.{OnOk, IfErr};
 ghost use Rattle.std.specs.Result.{IsErrOf};
-ghost use Rattle.posting_core.specs.Once.{RecordIsAnswered, LeavesAfterFault};
+ghost use Rattle.posting_core.specs.Once.{RecordIsAnswered, LeavesAfterFault, IfRefused};
 ghost use Rattle.posting_core.specs.Told.{EndsWith, HasReadFailed, HasWriteFailed, IsEndOfInput, IsFlush};
 
 use crate::ends::{Sink, Source};
@@ -67,6 +67,7 @@ pub fn answer_once<R: Source, W: Sink, C: Counter>(
         (λ fault. LeavesAfterFault fault (R.remaining reader.old) (R.remaining reader.new)
         (W.contents writer.old) (W.contents writer.new)
         (C.seen bank.old) (C.seen bank.new) moment) }
+    ensures why { IfErr result (λ fault. IfRefused fault (λ told. C.reason told bank.old bank.new)) }
     ensures ended { IsErrOf result OnceFault.Short
         → EndsWith IsEndOfInput (R.told reader.old) (R.told reader.new) }
     ensures unread { IsErrOf result OnceFault.Read → HasReadFailed (R.told reader.old) (R.told reader.new) }

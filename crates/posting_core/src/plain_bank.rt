@@ -257,16 +257,18 @@ impl PlainBank {
 impl Counter for PlainBank {
     ghost use Rattle.std.specs.Prelude.{IsOk, IfOk, IfSome, refl};
     ghost use Rattle.posting_rules.specs.Branches.{IsNextBranch, IsLineAbove};
-    ghost use Rattle.posting_rules.specs.Commands.{Command};
     ghost use Rattle.posting_rules.specs.Entries.{balance_behind};
-    ghost use Rattle.posting_rules.specs.Tables.{AreTablesOf, Tables};
-    ghost use Rattle.posting_core.specs.Plain.{plain_seen, plain_tables};
+    ghost use Rattle.posting_rules.specs.Tables.{Tables};
+    ghost use Rattle.posting_rules.specs.Counter.{Answers, IsCounterCall};
+    ghost use Rattle.posting_core.specs.Plain.{plain_reason, plain_seen, plain_tables};
 
     ghost seen = { plain_seen };
 
     ghost Contents = { Tables };
 
     ghost contents = { plain_tables };
+
+    ghost reason = { plain_reason };
 
     ghost leaves_something = { λ bank _. ∣ (plain_tables bank, refl) ∣₁ };
 
@@ -311,8 +313,9 @@ impl Counter for PlainBank {
     // It takes no memory, and always answers.
     fn balance(&mut self, account: Account) -> Result<Option<Cents>, Fault>
         ensures ok { IsOk result }
-        ensures value { IfOk result (λ balance. (log : List Command) → AreTablesOf (plain_tables self.old) log
-            → balance ≡ balance_behind log account) }
+        ensures answer { Answers (plain_seen self.old) (plain_seen self.new) result
+            (λ log balance. balance ≡ balance_behind log account) }
+        ensures call { IsCounterCall plain_seen plain_tables plain_reason self.old self.new [] result }
         ensures stays { plain_tables self.new ≡ plain_tables self.old }
     {
         Ok(balance_at(&self.accounts, account.get()))
@@ -321,9 +324,10 @@ impl Counter for PlainBank {
     // It takes no memory, and always answers.
     fn next_branch(&mut self, after: u32) -> Result<Option<BranchLine>, Fault>
         ensures ok { IsOk result }
-        ensures line { IfOk result (λ line. (log : List Command) → AreTablesOf (plain_tables self.old) log
-            → IsNextBranch log after line) }
+        ensures answer { Answers (plain_seen self.old) (plain_seen self.new) result
+            (λ log line. IsNextBranch log after line) }
         ensures within { IfOk result (λ line. IfSome line (IsLineAbove after)) }
+        ensures call { IsCounterCall plain_seen plain_tables plain_reason self.old self.new [] result }
         ensures stays { plain_tables self.new ≡ plain_tables self.old }
     {
         Ok(next_at(&self.branches, after).map(BranchLine::from))

@@ -78,6 +78,7 @@ fn reply_to_batch<W: Sink, K: Clock, C: Counter>(
     ensures unasked { IfErr result (λ fault. fault ≢ StreamFault.Write
         → W.told writer.new ≡ W.told writer.old) }
     ensures up { IfTaken result ((C.seen bank.new).is_down → ⊥) }
+    ensures why { IfErr result (λ fault. IfBank fault (λ told. C.reason told bank.old bank.new)) }
     ensures down { (C.seen bank.old).is_down → IsErrOf result (StreamFault.Bank Fault.Down) }
     ensures honest { (C.seen bank.new).honest → (C.seen bank.old).honest }
 {
@@ -124,7 +125,8 @@ pub fn post_stream<R: Source, W: Sink, K: Clock, C: Counter>(
     ensures resend { Resends (R.remaining reader.old) (R.remaining reader.new) (C.seen bank.old)
         (C.seen bank.new) result }
     ensures refused { IfErr result (λ fault. IfBank fault
-        (IsRefusedBehind C.seen bank.old bank.new (R.remaining reader.old) (R.remaining reader.new))) }
+        (IsRefusedBehind C.seen C.reason bank.old bank.new (R.remaining reader.old)
+        (R.remaining reader.new))) }
     ensures up { UnlessDown result ((C.seen bank.new).is_down → (C.seen bank.old).is_down) }
     ensures ends { StreamFaultIsOfItsEnd result (R.told reader.old) (R.told reader.new)
         (W.told writer.old) (W.told writer.new) }

@@ -30,4 +30,5 @@ pub mod Ready
 pub mod Empty
 pub mod Stepping
 pub mod Calls
+pub mod CounterCalls
 pub mod Records

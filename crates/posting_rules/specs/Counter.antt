@@ -1,5 +1,7 @@
 -- What a counter shows, what a stop may leave of it, and what a call does to both.
-use Rattle.std.specs.Prelude.{⊤, ℕ, ◌≤◌, List, length, take, Option, Some, None, ◌==◌, if◌then◌else◌}
+use Rattle.std.specs.Prelude.{⊤, ◌≡◌, ℕ, ◌≤◌, List, length, take, Option, Some, None, ◌==◌, if◌then◌else◌}
+use Rattle.std.specs.Prelude.{Result, IfOk, OnOk, IfErr}
+use Rattle.std.specs.Result.{IsErrOf}
 use Rattle.posting_rules.specs.declared.fault.Fault.{Fault}
 use Rattle.posting_rules.specs.declared.fault.Fault.TheVariants.{Memory, Store, Down, Damaged}
 use Rattle.posting_rules.specs.declared.counter.Opening.{Opening}
@@ -105,6 +107,45 @@ Refuses (Damaged rule) old new commands = IsDamaged old new
 abbrev pub TellsDamage : Fault → Type 0
 TellsDamage (Damaged rule) = ⊤
 TellsDamage _ = ⊥
+
+-- ---- what every call promises
+
+-- the answer is one of whatever log was shown
+abbrev pub Answers : {X : Type 0} → Seen → Seen → Result X Fault → (List Command → X → Type 0) → Type 0
+Answers old new result IsAnswerOf =
+    IfOk result (λ x. new.honest → (log : List Command) → ShowsLog old log → IsAnswerOf log x)
+
+-- Some commands were given to a counter, whatever it answered: seen is what is seen of it, contents what it
+-- keeps, and reason what a fault says of the call that it refused.
+pub record IsCounterCall {C K X : Type 0} (seen : C → Seen) (contents : C → K)
+    (reason : Fault → C → C → Type 0)
+    (old new : C) (commands : List Command) (result : Result X Fault) : Type 0 where
+  -- it took them all, and can be used
+  pub done : OnOk result (Takes (seen old) (seen new) commands)
+  pub up : OnOk result ((seen new).is_down → ⊥)
+  -- it refused them, for the reason that its fault gives
+  pub fault : IfErr result (λ fault. Refuses fault (seen old) (seen new) commands)
+  pub why : IfErr result (λ fault. reason fault old new)
+  -- for want of memory, or at damage, all that it keeps is as it was
+  pub spared : IsErrOf result Memory → contents new ≡ contents old
+  pub kept : IfErr result (λ fault. TellsDamage fault → (seen new).honest → contents new ≡ contents old)
+  -- one that was down tried nothing, and is the counter that it was
+  pub down : (seen old).is_down → IsErrOf result Down
+  pub untried : IsErrOf result Down → new ≡ old
+  pub honest : (seen new).honest → (seen old).honest
+
+-- commands were given call by call: the counter took some, stood there, and refused the next call for the
+-- reason that its fault gives
+pub record HasRefused {C : Type 0} (seen : C → Seen) (reason : Fault → C → C → Type 0) (old new : C)
+    (fault : Fault) : Type 0 where
+  pub taken : List Command
+  pub stood : C
+  pub takes : Takes (seen old) (seen stood) taken
+  pub honest_first : (seen stood).honest → (seen old).honest
+  pub honest : (seen new).honest → (seen stood).honest
+  pub why : reason fault stood new
+  pub tried : (seen stood).is_down → fault ≡ Down
+  pub untried : fault ≡ Down → new ≡ stood
 
 -- ---- the answer to an opening
 

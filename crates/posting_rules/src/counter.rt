@@ -1,14 +1,13 @@
 //! A counter that takes requests, whatever keeps its tables.
-ghost use Rattle.std.specs.Prelude.{◌≡◌, ◌≤◌, ℕ, List, [], ◌∷◌, length, IfOk, IfSome, OnOk, IfErr};
-ghost use Rattle.std.specs.Result.{IsErrOf};
+ghost use Rattle.std.specs.Prelude.{◌≡◌, ◌≤◌, [], ◌∷◌, length, IfOk, IfSome, OnOk};
 ghost use Rattle.message_records.specs.Spelling.{reply_spelling};
 ghost use Rattle.posting_rules.specs.Branches.{IsNextBranch, IsLineAbove};
-ghost use Rattle.posting_rules.specs.Commands.{Command, Open, Post, opened_with};
+ghost use Rattle.posting_rules.specs.Commands.{Open, Post, opened_with};
 ghost use Rattle.posting_rules.specs.Entries.{reply, balance_behind};
 ghost use Rattle.posting_rules.specs.Tables.{Tables};
-ghost use Rattle.posting_rules.specs.Counter.{Seen, ShowsLog, Takes, LeavesSomething, Refuses, TellsDamage};
-ghost use Rattle.posting_rules.specs.Counter.{opening_behind};
+ghost use Rattle.posting_rules.specs.Counter.{Seen, Answers, IsCounterCall, LeavesSomething, opening_behind};
 ghost use Rattle.posting_rules.specs.Runs.{posts, replies_to};
+ghost use Rattle.posting_rules.specs.declared.fault.Fault.{Fault as Told};
 
 use crate::fault::Fault;
 use crate::limits::{LAST_BRANCH, MOST_ACCOUNTS, RECORDS_PER_BATCH};
@@ -54,10 +53,10 @@ impl From<BranchRow> for BranchLine {
 /// A counter of the bank. What it answers is said by the log of commands that its tables show: it holds of
 /// every log that they show, wherever the disk is honest.
 ///
-/// What holds after a fault is the same for every call. After `Memory` nothing has changed, and the counter
-/// can be used. After `Store`, `Down` and `Damaged` it is down, and every later call answers `Down`. After
-/// `Store` what is found is what stood before, with a beginning of the call's commands behind it; after
-/// `Damaged` no row has changed.
+/// What every call promises is one record, `IsCounterCall`, so that what holds after a fault is the same for
+/// each. After `Memory` nothing has changed, and the counter can be used. After `Store`, `Down` and `Damaged`
+/// it is down, and every later call answers `Down` and changes nothing. After `Store` what is found is what
+/// stood before, with a beginning of the call's commands behind it; after `Damaged` no row has changed.
 pub trait Counter {
     /// Its tables, whether it is down, what a stop at this moment may leave, and whether the disk is honest.
     ghost seen: { Self → Seen };
@@ -68,6 +67,10 @@ pub trait Counter {
     /// What it keeps at this moment. Damage leaves it.
     ghost contents: { Self → Contents };
 
+    /// What a fault says of a call that it refused, from the counter before to the counter after: which call of
+    /// the store failed, or which rule the rows break.
+    ghost reason: { Told → Self → Self → Type 0 };
+
     /// Submits the bytes of a record, and answers those of its reply (TPC-B 1.2). Bytes that are
     /// no request get the reply `Malformed`.
     fn submit(
@@ -75,17 +78,10 @@ pub trait Counter {
         moment: Moment,
         bytes: &[u8; REQUEST_BYTES],
     ) -> Result<[u8; REPLY_BYTES], Fault>
-        ensures reply { IfOk result (λ out. (seen self.new).honest
-            → (log : List Command) → ShowsLog (seen self.old) log
-            → out ≡ reply_spelling (reply log bytes.now)) }
-        ensures done { OnOk result (Takes (seen self.old) (seen self.new) (Post moment bytes.now ∷ [])) }
-        ensures up { OnOk result ((seen self.new).is_down → ⊥) }
-        ensures fault { IfErr result
-            (λ fault. Refuses fault (seen self.old) (seen self.new) (Post moment bytes.now ∷ [])) }
-        ensures kept { IfErr result (λ fault. TellsDamage fault → (seen self.new).honest
-            → contents self.new ≡ contents self.old) }
-        ensures down { (seen self.old).is_down → IsErrOf result Fault.Down }
-        ensures honest { (seen self.new).honest → (seen self.old).honest };
+        ensures answer { Answers (seen self.old) (seen self.new) result
+            (λ log out. out ≡ reply_spelling (reply log bytes.now)) }
+        ensures call { IsCounterCall seen contents reason self.old self.new (Post moment bytes.now ∷ [])
+            result };
 
     /// Submits 1 to `RECORDS_PER_BATCH` records at one moment, and answers their replies in order, as if each
     /// record were submitted after the one before it. After a fault no reply is handed out.
@@ -97,17 +93,9 @@ pub trait Counter {
         requires some { 1 ≤ length records.now }
         requires few { length records.now ≤ RECORDS_PER_BATCH }
         ensures count { IfOk result (λ replies. length replies.items ≡ length records.now) }
-        ensures replies { IfOk result (λ replies. (seen self.new).honest
-            → (log : List Command) → ShowsLog (seen self.old) log
-            → replies.items ≡ replies_to log (posts moment records.now)) }
-        ensures done { OnOk result (Takes (seen self.old) (seen self.new) (posts moment records.now)) }
-        ensures up { OnOk result ((seen self.new).is_down → ⊥) }
-        ensures fault { IfErr result
-            (λ fault. Refuses fault (seen self.old) (seen self.new) (posts moment records.now)) }
-        ensures kept { IfErr result (λ fault. TellsDamage fault → (seen self.new).honest
-            → contents self.new ≡ contents self.old) }
-        ensures down { (seen self.old).is_down → IsErrOf result Fault.Down }
-        ensures honest { (seen self.new).honest → (seen self.old).honest };
+        ensures answer { Answers (seen self.old) (seen self.new) result
+            (λ log replies. replies.items ≡ replies_to log (posts moment records.now)) }
+        ensures call { IsCounterCall seen contents reason self.old self.new (posts moment records.now) result };
 
     /// Opens a branch of 1 to `LAST_BRANCH`, its tellers, and 1 to `MOST_ACCOUNTS` accounts, all with a
     /// balance of zero. A branch that is open stays as it is.
@@ -115,49 +103,28 @@ pub trait Counter {
         requires branch { branch ≤ LAST_BRANCH }
         requires some { 1 ≤ count }
         requires few { count ≤ MOST_ACCOUNTS }
-        ensures answer { IfOk result (λ opening. (seen self.new).honest
-            → (log : List Command) → ShowsLog (seen self.old) log
-            → opening ≡ opening_behind log branch (opened_with count)) }
-        ensures done { OnOk result (Takes (seen self.old) (seen self.new) (Open branch count ∷ [])) }
-        ensures up { OnOk result ((seen self.new).is_down → ⊥) }
-        ensures fault { IfErr result
-            (λ fault. Refuses fault (seen self.old) (seen self.new) (Open branch count ∷ [])) }
-        ensures kept { IfErr result (λ fault. TellsDamage fault → (seen self.new).honest
-            → contents self.new ≡ contents self.old) }
-        ensures down { (seen self.old).is_down → IsErrOf result Fault.Down }
-        ensures honest { (seen self.new).honest → (seen self.old).honest };
+        ensures answer { Answers (seen self.old) (seen self.new) result
+            (λ log opening. opening ≡ opening_behind log branch (opened_with count)) }
+        ensures call { IsCounterCall seen contents reason self.old self.new (Open branch count ∷ []) result };
 
     /// The balance of an account in cents; none where it isn't open. It changes nothing.
     fn balance(&mut self, account: Account) -> Result<Option<Cents>, Fault>
-        ensures value { IfOk result (λ balance. (seen self.new).honest
-            → (log : List Command) → ShowsLog (seen self.old) log
-            → balance ≡ balance_behind log account) }
-        ensures done { OnOk result (Takes (seen self.old) (seen self.new) []) }
+        ensures answer { Answers (seen self.old) (seen self.new) result
+            (λ log balance. balance ≡ balance_behind log account) }
+        ensures call { IsCounterCall seen contents reason self.old self.new [] result }
         ensures tables { OnOk result ((seen self.new).honest → (t : Tables) → (seen self.old).tables t
-            → (seen self.new).tables t) }
-        ensures up { OnOk result ((seen self.new).is_down → ⊥) }
-        ensures fault { IfErr result (λ fault. Refuses fault (seen self.old) (seen self.new) []) }
-        ensures kept { IfErr result (λ fault. TellsDamage fault → (seen self.new).honest
-            → contents self.new ≡ contents self.old) }
-        ensures down { (seen self.old).is_down → IsErrOf result Fault.Down }
-        ensures honest { (seen self.new).honest → (seen self.old).honest };
+            → (seen self.new).tables t) };
 
     /// The open branch with the least number above this one; none where no such branch is open. It changes
     /// nothing. Whatever the tables hold, a branch that it answers is above this one, and its number and
     /// its count are in their ranges.
     fn next_branch(&mut self, after: u32) -> Result<Option<BranchLine>, Fault>
-        ensures line { IfOk result (λ line. (seen self.new).honest
-            → (log : List Command) → ShowsLog (seen self.old) log → IsNextBranch log after line) }
+        ensures answer { Answers (seen self.old) (seen self.new) result
+            (λ log line. IsNextBranch log after line) }
         ensures within { IfOk result (λ line. IfSome line (IsLineAbove after)) }
-        ensures done { OnOk result (Takes (seen self.old) (seen self.new) []) }
-        ensures tables { OnOk result ((seen self.new).honest
-            → (t : Tables) → (seen self.old).tables t → (seen self.new).tables t) }
-        ensures up { OnOk result ((seen self.new).is_down → ⊥) }
-        ensures fault { IfErr result (λ fault. Refuses fault (seen self.old) (seen self.new) []) }
-        ensures kept { IfErr result (λ fault. TellsDamage fault → (seen self.new).honest
-            → contents self.new ≡ contents self.old) }
-        ensures down { (seen self.old).is_down → IsErrOf result Fault.Down }
-        ensures honest { (seen self.new).honest → (seen self.old).honest };
+        ensures call { IsCounterCall seen contents reason self.old self.new [] result }
+        ensures tables { OnOk result ((seen self.new).honest → (t : Tables) → (seen self.old).tables t
+            → (seen self.new).tables t) };
 
     // What is said of everything that a stop may leave is said of something.
     ghost leaves_something: { (counter : Self) → LeavesSomething (seen counter) };

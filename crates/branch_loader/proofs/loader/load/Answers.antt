@@ -1,7 +1,8 @@
 use Rattle.std.proofs.Common.{◌≡◌, ◌+◌, ◌∷◌, ◌++◌, ◌∙◌, [], take, arith, refl}
 use Rattle.std.proofs.lemmas.List.{length-take-le, take_more}
 use Rattle.std.proofs.lemmas.Result.{err_from_is_err_and}
-use Rattle.branch_loader.proofs.Openings.{behind-more, behind-none, behind-refused, left-end}
+use Rattle.posting_rules.proofs.CounterCalls.{call_refused_behind}
+use Rattle.branch_loader.proofs.Openings.{behind-more, behind-none, behind-refused, loaded_all}
 use Rattle.branch_loader.proofs.Rows.{plan-short}
 use Rattle.branch_loader.proofs.loader.load.Goals as goal
 
@@ -26,9 +27,10 @@ loop-row-preserved g c =
     rw (more, c.with_answer-loaded.ensures)
     (behind-more g.C.Counter.seen c.args.counter.now c.loop-row.counter c.open_branch.new.self (take i rows)
     p c.loop-row.loaded
-    c.in_ok-opening.opening c.loop-row.invariant c.in_ok-opening.ensures.done c.in_ok-opening.ensures.answer
-    (λ down. cc (c.in_ok-opening.ensures.down down)) c.in_ok-opening.ensures.up
-    c.in_ok-opening.ensures.honest)
+    c.in_ok-opening.opening c.loop-row.invariant c.in_ok-opening.ensures.call.done
+    c.in_ok-opening.ensures.answer
+    (λ down. cc (c.in_ok-opening.ensures.call.down down)) c.in_ok-opening.ensures.call.up
+    c.in_ok-opening.ensures.call.honest)
 
 pub returns-in_err-opening-clause-fault : goal.returns-in_err-opening-clause-fault
 returns-in_err-opening-clause-fault g c =
@@ -38,13 +40,21 @@ returns-in_err-opening-clause-fault g c =
     c.loop-row.row-index
     c.row-item.result c.loop-row.loaded c.in_err-opening.field-0.0 c.loop-row.invariant
     (omega arith) c.row-item.is
-    c.in_err-opening.ensures.fault c.in_err-opening.ensures.honest
-    (λ down. let e = c.in_err-opening.ensures.down down in cc e) in
+    c.in_err-opening.ensures.call.fault c.in_err-opening.ensures.call.honest
+    (λ down. let e = c.in_err-opening.ensures.call.down down in cc e) in
     let p = err_from_is_err_and c.from_residual.result c.from_residual.ensures.1 in
     rw (p.1, p.2) (c.loop-row.row-index, rw c.rows-row-items.ensures.rows at refused)
 
-pub returns-clause-survives : goal.returns-clause-survives
-returns-clause-survives g c =
-    left-end g.C.Counter.seen c.args.counter.now c.loop-row.counter c.rows-row-items.result.now
+pub returns-in_err-opening-clause-why : goal.returns-in_err-opening-clause-why
+returns-in_err-opening-clause-why g c =
+    let p = err_from_is_err_and c.from_residual.result c.from_residual.ensures.1 in
+    rw (p.1, p.2)
+    (call_refused_behind g.C.Counter.seen g.C.Counter.reason c.args.counter.now c.loop-row.counter
+    c.open_branch.new.self _ c.loop-row.invariant.taken c.loop-row.invariant.honest
+    c.in_err-opening.field-0.0 g.C.Counter.contents _ c.in_err-opening.ensures.call)
+
+pub returns-clause-done : goal.returns-clause-done
+returns-clause-done g c =
+    loaded_all g.C.Counter.seen c.args.counter.now c.loop-row.counter c.rows-row-items.result.now
     c.args.plan.now c.loop-row.row-index c.loop-row.loaded
     c.loop-row.invariant c.loop-row-test.false c.rows-row-items.ensures.rows

@@ -1,12 +1,9 @@
 use Rattle.std.proofs.Common.{◌≡◌, ◌<◌, ◌∙◌, arith, length, take, sym, rules}
 use Rattle.std.proofs.KnownBytes.{Keeps-refl}
 use Rattle.std.proofs.lemmas.List.{length-take-le}
-use Rattle.posting_rules.specs.Counter.{Seen, IsUnchanged}
+use Rattle.posting_rules.proofs.CounterCalls.{unchanged_seen}
 use Rattle.posting_core.proofs.Transferred.{read_whole, wrote_all, wrote_some}
 use Rattle.posting_core.proofs.once.answer_once.Goals as goal
-
-same : (seen : Seen) → IsUnchanged seen seen
-same seen = record { tables = λ t there. there; down = λ down. down; left = λ r left. (r, left, λ t found. found) }
 
 pub returns-in-Ok-clause-ok : goal.returns-in-Ok-clause-ok
 returns-in-Ok-clause-ok g c = search rules
@@ -23,11 +20,11 @@ returns-in-Ok-clause-fault g c =
       read = c.in-Ok.ensures.bytes;
       ended = c.in-Ok.ensures.end few;
       written = Keeps-refl _;
-      unchanged = same _;
+      unchanged = unchanged_seen _;
     }
 
 pub returns-in-Err-clause-fault : goal.returns-in-Err-clause-fault
-returns-in-Err-clause-fault g c = record { written = Keeps-refl _; unchanged = same _ }
+returns-in-Err-clause-fault g c = record { written = Keeps-refl _; unchanged = unchanged_seen _ }
 
 pub returns-in-Err-submit-clause-fault : goal.returns-in-Err-submit-clause-fault
 returns-in-Err-submit-clause-fault g c =
@@ -37,8 +34,11 @@ returns-in-Err-submit-clause-fault g c =
       whole = long;
       read = read_whole _ _ _ _ (c.in-Ok-eq100.field-0-test ∙ sym long) c.in-Ok-eq100.ensures.bytes;
       written = Keeps-refl _;
-      refuses = c.in-Err-submit.ensures.fault;
+      refuses = c.in-Err-submit.ensures.call.fault;
     }
+
+pub returns-in-Err-submit-clause-why : goal.returns-in-Err-submit-clause-why
+returns-in-Err-submit-clause-why g c = c.in-Err-submit.ensures.call.why
 
 pub returns-in-Ok-write_out-clause-ok : goal.returns-in-Ok-write_out-clause-ok
 returns-in-Ok-write_out-clause-ok g c =
@@ -47,8 +47,9 @@ returns-in-Ok-write_out-clause-ok g c =
       bytes = c.read_full.new.buffer;
       whole = search rules;
       read = read_whole _ _ _ _ (c.in-Ok-eq100.field-0-test ∙ sym (search rules)) c.in-Ok-eq100.ensures.bytes;
-      takes = c.in-Ok-submit.ensures.done;
-      written = λ h log s. wrote_all _ _ _ _ _ w.2 w.3 (c.in-Ok-submit.ensures.reply h log s);
+      takes = c.in-Ok-submit.ensures.call.done;
+      up = c.in-Ok-submit.ensures.call.up;
+      written = λ h log s. wrote_all _ _ _ _ _ w.2 w.3 (c.in-Ok-submit.ensures.answer h log s);
     }
 
 pub returns-in-Ok-write_out-clause-flushed : goal.returns-in-Ok-write_out-clause-flushed
@@ -61,9 +62,10 @@ returns-in-Err-write_out-clause-fault g c =
       bytes = c.read_full.new.buffer;
       whole = search rules;
       read = read_whole _ _ _ _ (c.in-Ok-eq100.field-0-test ∙ sym (search rules)) c.in-Ok-eq100.ensures.bytes;
-      takes = c.in-Ok-submit.ensures.done;
+      takes = c.in-Ok-submit.ensures.call.done;
+      up = c.in-Ok-submit.ensures.call.up;
       count = w.0;
-      written = λ h log s. wrote_some _ _ _ _ _ w.2 (c.in-Ok-submit.ensures.reply h log s);
+      written = λ h log s. wrote_some _ _ _ _ _ w.2 (c.in-Ok-submit.ensures.answer h log s);
     }
 
 pub returns-in-Err-write_out-clause-unwritten : goal.returns-in-Err-write_out-clause-unwritten

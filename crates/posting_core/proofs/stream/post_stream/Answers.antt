@@ -139,12 +139,13 @@ returns-in_err-reply_to_batch g c =
       output = output_of _ s;
       survives = survives_of _ s;
       resend = resends_of _ s;
-      refused = refused_broken g.C.Counter.seen c.args.bank.now c.reads.bank c.reply_to_batch.new.bank _ _
-          fault a.0 _ _ c.as_chunks.result.0.now on.0 cut
+      refused = refused_broken g.C.Counter.seen g.C.Counter.reason c.args.bank.now c.reads.bank
+          c.reply_to_batch.new.bank _ _ fault a.0 _ _ c.as_chunks.result.0.now on.0 cut
           (omega (arith, c.as_chunks.ensures.back_len)) (omega (arith, c.as_chunks.ensures.front_len, len))
           (omega (arith, c.as_chunks.ensures.front_len, len)) c.reads.invariant.first c.reads.invariant.up
           c.in_err-reply_to_batch.ensures.honest a.2
-          (λ down. let e = c.in_err-reply_to_batch.ensures.down down in cc e);
+          (λ down. let e = c.in_err-reply_to_batch.ensures.down down in cc e)
+          c.in_err-reply_to_batch.ensures.why;
       up = up_broken _ _ (g.C.Counter.seen c.args.bank.now) (g.C.Counter.seen c.reads.bank)
           (g.C.Counter.seen c.reply_to_batch.new.bank) _ fault a.2 c.in_err-reply_to_batch.ensures.up
           (λ down. (c.reads.invariant.up down).0);

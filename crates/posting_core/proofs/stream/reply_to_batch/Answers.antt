@@ -15,10 +15,10 @@ returns-in-Ok-write_out-clause-answers g c =
       record {
         written = take w.0 bytes;
         wrote = w.2;
-        takes = c.in-Ok.ensures.done;
+        takes = c.in-Ok.ensures.call.done;
         replies = λ h log s. ap (λ (n : ℕ). take n bytes) w.3 ∙ take-length bytes
             ∙ c.as_flattened.ensures.value
-            ∙ ap joined (c.deref.ensures.value ∙ c.in-Ok.ensures.replies h log s);
+            ∙ ap joined (c.deref.ensures.value ∙ c.in-Ok.ensures.answer h log s);
       },
     )
 
@@ -29,14 +29,17 @@ pub returns-in-Err-clause-answers : goal.returns-in-Err-clause-answers
 returns-in-Err-clause-answers g c = (
   c.now-moment.result,
   c.now-moment.ensures,
-  record { wrote = Keeps-refl _; refuses = c.in-Err.ensures.fault },
+  record { wrote = Keeps-refl _; refuses = c.in-Err.ensures.call.fault },
 )
 
 pub returns-in-Err-clause-unasked : goal.returns-in-Err-clause-unasked
 returns-in-Err-clause-unasked g c = λ _. refl
 
+pub returns-in-Err-clause-why : goal.returns-in-Err-clause-why
+returns-in-Err-clause-why g c = c.in-Err.ensures.call.why
+
 pub returns-in-Err-clause-down : goal.returns-in-Err-clause-down
-returns-in-Err-clause-down g c = λ down. let e = c.in-Err.ensures.down down in cc e
+returns-in-Err-clause-down g c = λ down. let e = c.in-Err.ensures.call.down down in cc e
 
 pub returns-clause-answers : goal.returns-clause-answers
 returns-clause-answers g c =
@@ -47,9 +50,9 @@ returns-clause-answers g c =
       record {
         written = take w.0 bytes;
         wrote = w.2;
-        takes = c.in-Ok.ensures.done;
+        takes = c.in-Ok.ensures.call.done;
         replies = λ h log s. ap (take w.0) (c.as_flattened.ensures.value
-            ∙ ap joined (c.deref.ensures.value ∙ c.in-Ok.ensures.replies h log s))
+            ∙ ap joined (c.deref.ensures.value ∙ c.in-Ok.ensures.answer h log s))
             ∙ ap (λ (n : ℕ). take n (joined (replies_to log (posts c.now-moment.result c.args.records.now))))
             (sym (length-take-le w.0 bytes w.1));
       },

@@ -1,16 +1,21 @@
-use Rattle.std.proofs.Common.{List, ap, ◌∙◌}
+use Rattle.std.proofs.Common.{List, ap, refl, ◌∙◌}
 use Rattle.std.specs.Option.{option_map}
 use Rattle.posting_rules.specs.declared.rows.AccountRow.{AccountRow}
 use Rattle.posting_rules.specs.LookUps.{account_balance_in, balance_of_account}
 use Rattle.posting_rules.specs.Tables.{account_key, row_at}
 use Rattle.posting_rules.proofs.Looked.{balance_shown}
 use Rattle.posting_core.specs.Plain.{plain_tables}
+use Rattle.posting_core.proofs.InMemory.{plain_shows, read_plain}
 use Rattle.posting_core.proofs.plain_bank.PlainBankCounter.balance.Goals as goal
 
-pub returns-clause-value : goal.returns-clause-value
-returns-clause-value c log shows =
+pub returns-clause-answer : goal.returns-clause-answer
+returns-clause-answer c h log s =
+    let shows = plain_shows c.args.self.now log s in
     let t = plain_tables c.args.self.now in
     c.balance_at.ensures
     ∙ ap (λ (rows : List AccountRow). option_map balance_of_account (row_at account_key rows c.get.result))
     c.deref.ensures.value
     ∙ ap (account_balance_in t) c.get.ensures.value ∙ balance_shown t log c.args.account shows
+
+pub returns-clause-call : goal.returns-clause-call
+returns-clause-call c = read_plain c.args.self.now c.args.self.now c.balance_at.result refl

@@ -1,16 +1,16 @@
 use Rattle.std.proofs.Common.{ℕ, List, [], ◌∷◌, sym, ap, ◌∙◌}
 use Rattle.posting_rules.specs.declared.rows.BranchRow.{BranchRow}
+use Rattle.posting_rules.specs.declared.counter.Opening.TheVariants.{Opened}
 use Rattle.posting_rules.specs.Commands.{Open}
 use Rattle.posting_rules.specs.Tables.{row_at, branch_key}
 use Rattle.posting_core.specs.Plain.{plain_tables}
-use Rattle.posting_rules.specs.LookUps.{count_of_branch}
-use Rattle.std.specs.Option.{option_map}
-use Rattle.posting_core.proofs.InMemory.{unmapped, opened_from, branches_as_before, takes_plain}
+use Rattle.posting_core.proofs.InMemory.{answered_plain, opened_from, branches_as_before, takes_plain}
 use Rattle.posting_core.proofs.plain_bank.PlainBankCounter.open_branch.Goals as goal
 
-pub returns-clause-done : goal.returns-clause-done
-returns-clause-done c =
-    takes_plain c.args.self.now c.add_branch.new.self (Open c.args.branch c.args.count ∷ [])
+pub returns-clause-call : goal.returns-clause-call
+returns-clause-call c =
+    answered_plain c.args.self.now c.add_branch.new.self (Open c.args.branch c.args.count ∷ []) Opened
+    (takes_plain c.args.self.now c.add_branch.new.self (Open c.args.branch c.args.count ∷ [])
     ((c.add_branch.ensures.above, c.requires.branch, c.requires.some, c.requires.few), tt) (λ log s.
     opened_from (plain_tables c.args.self.now) _
     (plain_tables c.add_branch.new.self) log c.args.branch c.args.count c.add_branch.ensures.tables
@@ -20,5 +20,5 @@ returns-clause-done c =
     (ap (λ (rows : List BranchRow). option_map count_of_branch (row_at branch_key rows c.args.branch))
     (sym c.deref.ensures.value)
     ∙ ap (λ (n : ℕ). option_map count_of_branch (row_at branch_key c.deref.result.now n))
-    (sym c.get.ensures.value) ∙ sym c.count_at.ensures ∙ c.in_default.is))
-    c.add_branch.ensures.above c.requires.few s)
+    (sym c.get.ensures.value) ∙ sym c.count_at.ensures ∙ c.in_default.is)
+    c.add_branch.ensures.above c.requires.few s))

@@ -1,0 +1,147 @@
+-- What became of a counter's call, as the one record of it.
+use Rattle.std.proofs.Common.{◌≡◌, ◌++◌, List, [], Result, Ok, Err, refl, ap}
+use Rattle.posting_rules.specs.declared.fault.Fault.{Fault}
+use Rattle.posting_rules.specs.declared.fault.Fault.TheVariants.{Memory, Down}
+use Rattle.posting_rules.specs.Commands.{Command}
+use Rattle.posting_rules.specs.Counter.{Seen, HasRefused, IsCounterCall, IsUnchanged, Refuses, Takes}
+use Rattle.posting_rules.specs.Counter.{TellsDamage}
+use Rattle.posting_rules.specs.Runs.{behind}
+use Rattle.posting_rules.proofs.Sequence.{behind-append}
+
+-- an answer is no fault, and one fault isn't another
+no_fault : {X : Type 0} (x : X) (fault : Fault) → (let r : Result X Fault = Ok x in r ≡ Err fault) → ⊥
+no_fault x fault is = cc
+
+one_fault : {X : Type 0} (a b : Fault) → (let r : Result X Fault = Err a in r ≡ Err b) → a ≡ b
+one_fault a b is = cc
+
+memory_not_down : Memory ≡ Down → ⊥
+memory_not_down is = cc
+
+down_not_memory : Down ≡ Memory → ⊥
+down_not_memory is = cc
+
+-- what didn't change
+pub unchanged_seen : (seen : Seen) → IsUnchanged seen seen
+unchanged_seen seen = record {
+  tables = λ t there. there;
+  down = λ down. down;
+  left = λ remains left. (remains, left, λ t found. found);
+}
+
+module _ {C K X : Type 0} (seen : C → Seen) (contents : C → K) (reason : Fault → C → C → Type 0) where
+  -- it was down
+  pub call_untried : (c : C) (cs : List Command) → (seen c).is_down → reason Down c c
+      → IsCounterCall {X = X} seen contents reason c c cs (Err Down)
+  call_untried c cs is_down why = record {
+    done = tt;
+    up = tt;
+    fault = record {
+      before = is_down;
+      after = is_down;
+      tables = λ honest t there. there;
+      left = λ remains left. (remains, left, λ t found. found);
+    };
+    why = why;
+    spared = λ is. absurd (down_not_memory (one_fault {X = X} Down Memory is));
+    kept = λ damage. absurd damage;
+    down = λ was. refl;
+    untried = λ is. refl;
+    honest = λ honest. honest;
+  }
+
+module _ {C K X : Type 0} (seen : C → Seen) (contents : C → K) (reason : Fault → C → C → Type 0)
+    (old new : C) (cs : List Command) (was_up : (seen old).is_down → ⊥)
+    (honest : (seen new).honest → (seen old).honest) where
+  -- it was answered
+  pub call_answered : (x : X) → ((seen new).is_down → ⊥) → Takes (seen old) (seen new) cs
+      → IsCounterCall seen contents reason old new cs (Ok x)
+  call_answered x up takes = record {
+    done = takes;
+    up = up;
+    fault = tt;
+    why = tt;
+    spared = λ is. absurd (no_fault x Memory is);
+    kept = tt;
+    down = λ was. absurd (was_up was);
+    untried = λ is. absurd (no_fault x Down is);
+    honest = honest;
+  }
+
+  -- memory was refused
+  pub call_spared : IsUnchanged (seen old) (seen new) → reason Memory old new → contents new ≡ contents old
+      → IsCounterCall {X = X} seen contents reason old new cs (Err Memory)
+  call_spared unchanged why same = record {
+    done = tt;
+    up = tt;
+    fault = unchanged;
+    why = why;
+    spared = λ is. same;
+    kept = λ damage. absurd damage;
+    down = λ was. absurd (was_up was);
+    untried = λ is. absurd (memory_not_down (one_fault {X = X} Memory Down is));
+    honest = honest;
+  }
+
+  -- a fault brought it down
+  pub call_refused : (fault : Fault) → (fault ≡ Memory → ⊥) → (fault ≡ Down → ⊥)
+      → Refuses fault (seen old) (seen new) cs → reason fault old new
+      → (TellsDamage fault → (seen new).honest → contents new ≡ contents old)
+      → IsCounterCall {X = X} seen contents reason old new cs (Err fault)
+  call_refused fault frugal tried refuses why kept = record {
+    done = tt;
+    up = tt;
+    fault = refuses;
+    why = why;
+    spared = λ is. absurd (frugal (one_fault {X = X} fault Memory is));
+    kept = kept;
+    down = λ was. absurd (was_up was);
+    untried = λ is. absurd (tried (one_fault {X = X} fault Down is));
+    honest = honest;
+  }
+
+-- ---- calls one after another
+
+-- two calls take what they take together
+pub Takes-append : (a b c : Seen) (xs ys : List Command) → Takes a b xs → Takes b c ys → (c.honest → b.honest)
+    → Takes a c (xs ++ ys)
+Takes-append a b c xs ys p q honest = record {
+  shows = λ h log shown. rw (behind-append log xs ys)
+      (q.shows h (behind log xs) (p.shows (honest h) log shown));
+  stands = λ h log stood. rw (behind-append log xs ys)
+      (q.stands h (behind log xs) (p.stands (honest h) log stood));
+}
+
+module _ {C : Type 0} (seen : C → Seen) (reason : Fault → C → C → Type 0) (old mid new : C)
+    (before : List Command) (takes : Takes (seen old) (seen mid) before)
+    (honest : (seen mid).honest → (seen old).honest) (fault : Fault) where
+  -- a call was refused where some commands had been taken
+  pub call_refused_behind : {K X : Type 0} (contents : C → K) (cs : List Command)
+      → IsCounterCall {X = X} seen contents reason mid new cs (Err fault) → HasRefused seen reason old new fault
+  call_refused_behind {X = X} contents cs call = record {
+    taken = before;
+    stood = mid;
+    takes = takes;
+    honest_first = honest;
+    honest = call.honest;
+    why = call.why;
+    tried = λ down. one_fault {X = X} fault Down (call.down down);
+    untried = λ is. call.untried (ap (λ (f : Fault). let r : Result X Fault = Err f in r) is);
+  }
+
+  -- what was refused later was refused behind all that was taken
+  pub refused_behind : HasRefused seen reason mid new fault → HasRefused seen reason old new fault
+  refused_behind it = record {
+    taken = before ++ it.taken;
+    stood = it.stood;
+    takes = Takes-append (seen old) (seen mid) (seen it.stood) before it.taken takes it.takes it.honest_first;
+    honest_first = λ h. honest (it.honest_first h);
+    honest = it.honest;
+    why = it.why;
+    tried = it.tried;
+    untried = it.untried;
+  }
+
+-- no command is taken by doing nothing
+pub takes_none : (seen : Seen) → Takes seen seen []
+takes_none seen = record { shows = λ h log s. s; stands = λ h log s. s }
