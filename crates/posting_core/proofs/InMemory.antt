@@ -1,6 +1,7 @@
 -- The rows of a bank in memory show a log, and what a call does to them shows the log with its command.
-use Rattle.std.proofs.Common.{◌≡◌, ℕ, ◌≤◌, List, [], ◌∷◌, length, None, Result, Ok, Err, refl, sym, ap, subst}
-use Rattle.std.proofs.Common.{◌∙◌}
+use Rattle.std.proofs.Common.{◌≡◌, ℕ, ◌≤◌, List, [], ◌∷◌, length, Option, Some, None, Result, Ok, Err, refl, sym, ap}
+use Rattle.std.proofs.Common.{subst, ◌∙◌}
+use Rattle.std.specs.Option.{option_map}
 use Rattle.posting_rules.specs.declared.limits.TheConstants.{MOST_ACCOUNTS}
 use Rattle.message_records.specs.Reading.{request_of}
 use Rattle.message_records.specs.Spelling.{reply_spelling}

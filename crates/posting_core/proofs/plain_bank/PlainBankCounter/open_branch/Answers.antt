@@ -4,7 +4,10 @@ use Rattle.posting_rules.specs.declared.counter.Opening.TheVariants.{Opened}
 use Rattle.posting_rules.specs.Commands.{Open}
 use Rattle.posting_rules.specs.Tables.{row_at, branch_key}
 use Rattle.posting_core.specs.Plain.{plain_tables}
-use Rattle.posting_core.proofs.InMemory.{answered_plain, opened_from, branches_as_before, takes_plain}
+use Rattle.posting_rules.specs.LookUps.{count_of_branch}
+use Rattle.std.specs.Option.{option_map}
+use Rattle.posting_core.proofs.InMemory.{answered_plain, unmapped, opened_from, branches_as_before}
+use Rattle.posting_core.proofs.InMemory.{takes_plain}
 use Rattle.posting_core.proofs.plain_bank.PlainBankCounter.open_branch.Goals as goal
 
 pub returns-clause-call : goal.returns-clause-call
@@ -20,5 +23,5 @@ returns-clause-call c =
     (ap (λ (rows : List BranchRow). option_map count_of_branch (row_at branch_key rows c.args.branch))
     (sym c.deref.ensures.value)
     ∙ ap (λ (n : ℕ). option_map count_of_branch (row_at branch_key c.deref.result.now n))
-    (sym c.get.ensures.value) ∙ sym c.count_at.ensures ∙ c.in_default.is)
+    (sym c.get.ensures.value) ∙ sym c.count_at.ensures ∙ c.in_default.is))
     c.add_branch.ensures.above c.requires.few s))
