@@ -12,7 +12,7 @@ use Rattle.message_records.specs.Reading.{request_of}
 use Rattle.posting_rules.specs.declared.rows.HistoryRow.{HistoryRow}
 use Rattle.posting_rules.specs.declared.judgments.Verdict.{Verdict}
 use Rattle.posting_rules.specs.declared.judgments.Verdict.TheVariants.{Unkept, Again, Refused, Posted}
-use Rattle.posting_rules.specs.Commands.{Command, Open, Post, opened}
+use Rattle.posting_rules.specs.Commands.{Command, Open, Post, opened, Terms}
 use Rattle.posting_rules.specs.Cases.{case_of}
 use Rattle.posting_rules.specs.Entries.{DecidedRequest, is_posted, facts, account_balance, with_verdict}
 use Rattle.posting_rules.specs.Entries.{with_record}
@@ -96,7 +96,8 @@ within_verdict a m r (Again x) es now before = before
 within_verdict a m r (Refused o) es now before = (now, before)
 within_verdict a m r (Posted x t b) es now before = (now, before)
 
-within_record : (a m : ℕ) (read : Result RequestFields Bad) (opened : ℕ → Option ℕ) (es : List DecidedRequest)
+within_record : (a m : ℕ) (read : Result RequestFields Bad) (opened : ℕ → Option Terms)
+    (es : List DecidedRequest)
     → nat_abs (account_balance (with_record m read opened es) a) ≤ MAX_BALANCE → EachWithin a es
     → EachWithin a (with_record m read opened es)
 within_record a m (Err fault) opened es now before = before

@@ -24,15 +24,6 @@ use posting_core::Sink;
 use posting_rules::{Fault, Rule};
 use sqlite::Alter;
 
-// An account opens at zero.
-fn nothing() -> Cents
-    ensures { result ≡ pos 0 }
-{
-    Cents::new(0).unwrap()
-}
-
-ghost use Rattle.std.specs.Prelude.{pos};
-
 // Writes the lines of the postings that a walk gives. A fault of the rows leaves the bank as it was.
 fn write_rows<S: Alter, W: Sink>(
     walk: &mut Walk<'_, S, StoredPosting>,
@@ -59,7 +50,7 @@ fn write_rows<S: Alter, W: Sink>(
     ensures up { fault_of (lent walk.new) ≡ fault_of (lent walk.old) }
     ensures survives { Survives (lent_state S.Store walk.old) (lent_state S.Store walk.new) (λ _. ⊥) }
 {
-    let mut balance = nothing();
+    let mut balance = Cents::zero(); // an account opens at zero
     'lines: for _ in 0..u64::MAX {
         let Some(row) = walk.next()? else {
             return Ok(());

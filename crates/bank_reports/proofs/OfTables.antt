@@ -15,7 +15,7 @@ use Rattle.posting_rules.specs.declared.rows.HistoryRow.{HistoryRow}
 use Rattle.posting_rules.specs.declared.rows.RequestRow.{RequestRow}
 use Rattle.posting_rules.specs.declared.rows.TellerRow.{TellerRow}
 use Rattle.posting_rules.specs.declared.rows.BranchRow.{BranchRow}
-use Rattle.posting_rules.specs.Commands.{branch_of_teller}
+use Rattle.posting_rules.specs.Numbering.{branch_of_teller}
 use Rattle.posting_rules.specs.Laws.{total, tellers_of, Match, IsConsistent}
 use Rattle.posting_rules.specs.LookUps.{balance_of_teller, balance_of_account, balance_of_branch}
 use Rattle.posting_rules.specs.Tables.{Tables, row_at, history_key, request_key}

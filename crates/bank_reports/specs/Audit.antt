@@ -2,7 +2,7 @@
 use Rattle.std.specs.Prelude.{ℕ, ℤ, pos, nat_le, Bool, true, false, not, ◌&&◌, ◌==◌, List}
 use Rattle.std.specs.Prelude.{◌++◌, length, map, filter, Option, Some, None, is_some}
 use Rattle.std.specs.Ordering.{int_eq}
-use Rattle.posting_rules.specs.Commands.{branch_of_teller}
+use Rattle.posting_rules.specs.Numbering.{branch_of_teller}
 use Rattle.posting_rules.specs.Laws.{total}
 use Rattle.posting_rules.specs.Tables.{row_at}
 use Rattle.bank_walks.specs.declared.branches.StoredBranch.{StoredBranch}

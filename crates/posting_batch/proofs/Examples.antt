@@ -9,6 +9,7 @@ use Rattle.posting_rules.specs.Tables.{Tables, branch_row_of, teller_row_of, acc
 use Rattle.posting_batch.specs.Batch.{covering_all, no_slots, filled}
 use Rattle.posting_batch.specs.Judging.{overlay_with_all, replies_over}
 use Rattle.posting_batch.specs.Overlay.{Overlay}
+use Rattle.posting_rules.specs.Commands.{opened_with}
 
 -- account, teller, branch, number and amount
 request : ℕ → ℕ → ℕ → ℕ → ℤ → Result RequestFields Bad
@@ -18,7 +19,7 @@ request a t b n z = Ok (record { account = a; teller = t; branch = b; number = n
 bank : Tables
 bank = record {
   decided = 0;
-  branches = branch_row_of 1 (pos 0) 3 ∷ branch_row_of 2 (pos 0) 2 ∷ [];
+  branches = branch_row_of 1 (pos 0) (opened_with 3) ∷ branch_row_of 2 (pos 0) (opened_with 2) ∷ [];
   tellers = teller_row_of 1 (pos 0) ∷ teller_row_of 11 (pos 0) ∷ [];
   accounts = map (λ n. account_row_of n (pos 0)) (1 ∷ 2 ∷ 3 ∷ 100_001 ∷ 100_002 ∷ []);
   history = [];

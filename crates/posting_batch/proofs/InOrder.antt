@@ -13,7 +13,7 @@ use Rattle.posting_rules.specs.declared.judgments.Verdict.{Verdict}
 use Rattle.posting_rules.specs.declared.judgments.Verdict.TheVariants.{Unkept, Again, Refused, Posted}
 use Rattle.posting_rules.specs.Cases.{case_of, reply_in}
 use Rattle.posting_rules.specs.Changes.{row_changed, tables_past_all, reply_read, replies_past_all}
-use Rattle.posting_rules.specs.Commands.{branch_of_teller, branch_of_account}
+use Rattle.posting_rules.specs.Numbering.{branch_of_teller, branch_of_account}
 use Rattle.posting_rules.specs.Kept.{KeptFields}
 use Rattle.posting_rules.specs.Tables.{Tables, row_at}
 use Rattle.posting_rules.proofs.Keyed.{by_test}

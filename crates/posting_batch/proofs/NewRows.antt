@@ -16,7 +16,8 @@ use Rattle.posting_rules.specs.declared.rows.TellerRow.{TellerRow}
 use Rattle.posting_rules.specs.declared.rows.AccountRow.{AccountRow}
 use Rattle.posting_rules.specs.Cases.{case_of}
 use Rattle.posting_rules.specs.Changes.{row_changed, row_put, HasRowsOf}
-use Rattle.posting_rules.specs.Commands.{Command, Post, branch_of_teller}
+use Rattle.posting_rules.specs.Commands.{Command, Post}
+use Rattle.posting_rules.specs.Numbering.{branch_of_teller}
 use Rattle.posting_rules.specs.Entries.{refused_entry, posted_entry}
 use Rattle.posting_rules.specs.LookUps.{balance_of_branch, balance_of_teller, balance_of_account}
 use Rattle.posting_rules.specs.Steps as steps

@@ -12,7 +12,7 @@ use Rattle.posting_rules.specs.declared.judgments.Verdict.TheVariants.{Unkept, A
 use Rattle.posting_rules.specs.declared.rows.RequestRow.{RequestRow}
 use Rattle.posting_rules.specs.Cases.{case_of, plus_within}
 use Rattle.posting_rules.specs.Changes.{row_changed, tables_after, tables_read}
-use Rattle.posting_rules.specs.Commands.{branch_of_teller}
+use Rattle.posting_rules.specs.Numbering.{branch_of_teller}
 use Rattle.posting_rules.specs.Entries.{DecidedRequest, refused_entry, posted_entry}
 use Rattle.posting_rules.specs.LookUps.{kept_in, account_balance_in, balance_of_teller, found_in}
 use Rattle.posting_rules.specs.Tables.{Tables, row_at, branch_key, teller_key, request_key, request_row_of}

@@ -7,7 +7,7 @@ use Rattle.posting_rules.specs.declared.judgments.Verdict.{Verdict}
 use Rattle.posting_rules.specs.declared.judgments.Verdict.TheVariants.{Unkept, Again, Refused, Posted}
 use Rattle.posting_rules.specs.Cases.{case_of, reply_in}
 use Rattle.posting_rules.specs.Changes.{row_changed}
-use Rattle.posting_rules.specs.Commands.{branch_of_teller}
+use Rattle.posting_rules.specs.Numbering.{branch_of_teller}
 use Rattle.posting_rules.specs.Entries.{DecidedRequest, refused_entry, posted_entry, kept_fields}
 use Rattle.posting_rules.specs.Entries.{malformed_reply}
 use Rattle.posting_rules.specs.LookUps.{both_of}

@@ -12,7 +12,7 @@ ghost use Rattle.posting_batch.specs.Batch.{CoversAll, HasRisingSlots, ChangesRo
 
 use crate::cover::decode_all;
 use crate::overlay::{Overlay, with_room};
-use message_records::{Bad, Moment, Request};
+use message_records::{Bad, Moment, REPLY_BYTES, REQUEST_BYTES, Request};
 use posting_rules::RECORDS_PER_BATCH;
 use std::alloc::{AllocError, Global};
 
@@ -22,7 +22,7 @@ pub struct Batch {
     reads: Vec<Result<Request, Bad>>,
     /// Its slots are filled from the tables before the records are judged.
     pub overlay: Overlay,
-    replies: Vec<[u8; 200]>,
+    replies: Vec<[u8; REPLY_BYTES]>,
     ghost fresh: { replies.items ≡ [] },
     ghost room: { length reads.items ≤ vec_capacity replies },
     ghost requests: { vec_len overlay.requests + length reads.items ≤ vec_capacity overlay.requests },
@@ -36,7 +36,7 @@ pub struct Judged {
     /// The changed rows and the new ones.
     pub overlay: Overlay,
     /// The replies of 200 bytes in order, one to each record.
-    pub replies: Vec<[u8; 200]>,
+    pub replies: Vec<[u8; REPLY_BYTES]>,
 }
 
 impl Batch {
@@ -44,7 +44,7 @@ impl Batch {
 
     /// Decodes up to `RECORDS_PER_BATCH` records, and places an empty slot under every key that they can
     /// touch. All that a batch ever takes of memory is taken here; where it was refused, nothing is left.
-    pub fn new(alloc: Global, records: &[[u8; 100]]) -> Result<Self, AllocError>
+    pub fn new(alloc: Global, records: &[[u8; REQUEST_BYTES]]) -> Result<Self, AllocError>
         requires { length records.now ≤ RECORDS_PER_BATCH }
         ensures made { IfOk result (λ batch. IsMadeOf batch records.now) }
         ensures covers { IfOk result (λ batch. CoversAll (view batch.overlay) (map request_of records.now)) }

@@ -1,24 +1,14 @@
 //! An empty slot for every key that a record can touch.
 ghost use Rattle.std.specs.Prelude.{◌≡◌, ◌≤◌, ◌<◌, ◌+◌, ◌*◌, ◌++◌, map, length, vec_len, vec_capacity};
 ghost use Rattle.message_records.specs.Reading.{request_of};
-ghost use Rattle.posting_rules.specs.Commands.{branch_of_account};
 ghost use Rattle.posting_batch.specs.Batch.{covering, covering_all, with_branch_slot};
 ghost use Rattle.posting_batch.specs.View.{view};
 
 use crate::overlay::{Overlay, put};
 use crate::placement::place;
 use crate::slots::{AccountSlot, BranchSlot, RequestSlot, TellerSlot};
-use message_records::{Account, Bad, Request, decode_request};
-use posting_rules::{ACCOUNTS_PER_BRANCH, branch_of_teller};
-
-/// The number of the branch that an account's number gives: the first `ACCOUNTS_PER_BRANCH` accounts are
-/// those of branch 1, and so on. It may be beyond `LAST_BRANCH`.
-#[must_use]
-pub fn branch_of_account(account: Account) -> u64
-    ensures { result ≡ branch_of_account account }
-{
-    (account.get() - 1) / ACCOUNTS_PER_BRANCH + 1
-}
+use message_records::{Bad, REQUEST_BYTES, Request, decode_request};
+use posting_rules::{branch_of_account, branch_of_teller};
 
 // Places an empty slot for a branch, for which there is room.
 fn place_branch(slots: &mut Vec<BranchSlot>, branch: u64)
@@ -82,7 +72,7 @@ impl Overlay {
 
 /// Decodes records and places their slots, for which there is room.
 pub(crate) fn decode_all(
-    records: &[[u8; 100]],
+    records: &[[u8; REQUEST_BYTES]],
     reads: &mut Vec<Result<Request, Bad>>,
     overlay: &mut Overlay,
 )

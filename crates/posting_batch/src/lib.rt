@@ -5,14 +5,14 @@
 //! test runs, fills the slots of one record by hand, with a branch of three accounts whose balances are zero:
 //!
 //! ```rust
-//! use message_records::{Branch, Cents, Moment};
+//! use message_records::{Branch, Cents, Moment, REQUEST_BYTES};
 //! use posting_batch::{Batch, Judged};
 //! use posting_rules::BranchRow;
 //! use std::alloc::{AllocError, Global};
 //!
-//! pub fn first_batch(alloc: Global, record: [u8; 100]) -> Result<Judged, AllocError> {
+//! pub fn first_batch(alloc: Global, record: [u8; REQUEST_BYTES]) -> Result<Judged, AllocError> {
 //!     let mut batch = Batch::new(alloc, &[record])?;
-//!     let (branch, zero) = (Branch::new(1).unwrap(), Cents::new(0).unwrap());
+//!     let (branch, zero) = (Branch::new(1).unwrap(), Cents::zero());
 //!     let overlay = &mut batch.overlay;
 //!     for slot in overlay.branches.iter_mut() {
 //!         slot.stored = Some(BranchRow {
@@ -46,7 +46,6 @@ mod search;
 mod slots;
 
 pub use batch::{Batch, Judged};
-pub use cover::branch_of_account;
 pub use overlay::Overlay;
 pub use search::stored_branch;
 pub use slots::{AccountSlot, BranchSlot, RequestSlot, TellerSlot};

@@ -11,10 +11,10 @@ ghost use Rattle.posting_batch.specs.Room.{IsRoomFor};
 use crate::changes::{change_at, keep_at};
 use crate::search::{balance_at, kept_at};
 use crate::slots::{AccountSlot, BranchSlot, RequestSlot, TellerSlot};
-use message_records::{Bad, Cents, Moment, Outcome, Reply, Request, encode_reply};
+use message_records::{Bad, Cents, Moment, Outcome, REPLY_BYTES, Request, encode_reply};
 use posting_rules::{
-    Found, HistoryRow, Kept, MAX_DECIDED, Ordinal, RequestRow, Verdict, branch_of_teller, judge,
-    reply_to,
+    Found, HistoryRow, MAX_DECIDED, Ordinal, RequestRow, Verdict, branch_of_teller, judge,
+    malformed_reply, reply_to,
 };
 use std::alloc::{AllocError, Global};
 
@@ -105,21 +105,9 @@ impl Overlay {
             ≡ overlay_kept (view self.old)
             (record { moment = 0; request = request.now; outcome = outcome; balance = balance }) }
     {
-        let kept = Kept::new(
-            request.account(),
-            request.branch(),
-            request.delta(),
-            outcome,
-            balance,
-        )
-        .unwrap();
-        let row = RequestRow {
-            ordinal: Ordinal::new(self.decided + 1).unwrap(),
-            teller: request.teller(),
-            number: request.number(),
-            kept,
-        };
-        keep_at(&mut self.kept, request.teller(), request.number(), kept);
+        let ordinal = Ordinal::new(self.decided + 1).unwrap();
+        let row = RequestRow::decided(ordinal, request, outcome, balance);
+        keep_at(&mut self.kept, request.teller(), request.number(), row.kept);
         put(&mut self.requests, row);
         self.decided += 1;
     }
@@ -146,15 +134,11 @@ impl Overlay {
         change_at(&mut self.accounts, request.account().get(), account);
         change_at(&mut self.tellers, request.teller().get(), teller);
         change_at(&mut self.branches, home, branch);
-        let row = HistoryRow {
-            ordinal: Ordinal::new(self.decided + 1).unwrap(),
-            account: request.account(),
-            teller: request.teller(),
-            branch: request.branch(),
-            delta: request.delta(),
-            moment,
-        };
-        put(&mut self.history, row);
+        let ordinal = Ordinal::new(self.decided + 1).unwrap();
+        put(
+            &mut self.history,
+            HistoryRow::posted(ordinal, moment, request),
+        );
     }
 
     // Changes the slots as the verdict says, and puts the new rows, for which there is room.
@@ -170,7 +154,7 @@ impl Overlay {
     {
         match verdict {
             Verdict::Unkept(_) | Verdict::Again(_) => {}
-            Verdict::Refused(outcome) => self.keep(request, *outcome, Cents::new(0).unwrap()),
+            Verdict::Refused(outcome) => self.keep(request, *outcome, Cents::zero()),
             Verdict::Posted {
                 account,
                 teller,
@@ -183,7 +167,7 @@ impl Overlay {
     }
 
     // Judges a record, for which there is room, and answers it.
-    fn judge_record(&mut self, moment: Moment, read: &Result<Request, Bad>) -> [u8; 200]
+    fn judge_record(&mut self, moment: Moment, read: &Result<Request, Bad>) -> [u8; REPLY_BYTES]
         requires requests { vec_len self.old.requests < vec_capacity self.old.requests }
         requires history { vec_len self.old.history < vec_capacity self.old.history }
         ensures requests { (vec_len self.new.requests ≤ vec_len self.old.requests + 1)
@@ -194,7 +178,7 @@ impl Overlay {
         ensures overlay { view self.new ≡ overlay_with (view self.old) moment read.now }
     {
         let Ok(request) = read else {
-            return encode_reply(&Reply::new(Outcome::Malformed, None, None).unwrap());
+            return encode_reply(&malformed_reply());
         };
         let found = self.look_up(request);
         let verdict = judge(&found, request);
@@ -207,7 +191,7 @@ impl Overlay {
         &mut self,
         moment: Moment,
         reads: &[Result<Request, Bad>],
-        replies: &mut Vec<[u8; 200]>,
+        replies: &mut Vec<[u8; REPLY_BYTES]>,
     )
         requires requests { vec_len self.old.requests + length reads.now ≤ vec_capacity self.old.requests }
         requires history { vec_len self.old.history + length reads.now ≤ vec_capacity self.old.history }

@@ -24,7 +24,7 @@ lines-init g c = record {
   fresh = c.requires.fresh;
   still = λ clean. (refl, refl, refl, refl);
   more = more_none _;
-  far = λ clean rows has. rw c.nothing-balance.ensures (at_first _ _ _ refl);
+  far = λ clean rows has. rw c.zero-balance.ensures (at_first _ _ _ refl);
 }
 
 pub returns-in_err-row : goal.returns-in_err-row
