@@ -14,7 +14,7 @@ use Rattle.store_rows.specs.SixTables as six
 use Rattle.store_rows.specs.SixTables.{bank_tables}
 use Rattle.store_rows.specs.declared.texts.TheConstants.{ADD_META}
 use Rattle.store_rows.proofs.Failing.{forbidden, key_fits}
-use Rattle.store_rows.proofs.MetaRow.{holds_one, meta_written, numbered}
+use Rattle.store_rows.proofs.MetaRow.{holds_one, meta_written, is_plain}
 use Rattle.store_rows.proofs.Puts.{first_row, given, puts}
 
 none_yet : (db : Database) → AreEmpty db → Holds db six.meta []
@@ -25,14 +25,14 @@ pub starts : (old new : State) (r : Result ℕ Error) → AreEmpty old.now
     → ExecutesInside 0 ADD_META.now (given first_row) old new r
     → StartsBank old new r
 starts old new (Ok count) made h =
-    let done = puts_row old new six.meta numbered made.sound [] (none_yet old.now made) ADD_META.now _ _
+    let done = puts_row old new six.meta is_plain made.sound [] (none_yet old.now made) ADD_META.now _ _
     puts.meta count h.0 in (
       record { sound = ∣ done.0.sound ∣₁; each = meta_written old new no_rows made.each [] _ refl done.0 },
       done.2,
       done.0.steps.schema,
     )
 starts old new (Err e) made h =
-    elim (refuses_insert old new six.meta numbered made.sound [] (none_yet old.now made) ADD_META.now
+    elim (refuses_insert old new six.meta is_plain made.sound [] (none_yet old.now made) ADD_META.now
     (given first_row) first_row
     puts.meta (key_fits 1 (lit≤ tt)) e h) [
       | inl taken ↦ absurd (let none = taken.1 in cc)

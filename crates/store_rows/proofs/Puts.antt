@@ -42,16 +42,16 @@ pub puts : PutsEntries
 unfolding everything
 puts = record {
   meta = puts_by six.meta text.ADD_META.now (given first_row) first_row 2 _ _ _ refl refl refl refl
-      (λ _ _. refl) (lit≤ tt) refl (λ _. refl) refl (λ _. refl)
+      (λ _ _. refl) (lit≤ tt) refl (λ _. refl) (refl, refl) tt (λ _. refl)
       (meta_checked (pos 1) (Null ∷ Int (pos 1) ∷ Int (pos 0) ∷ []) refl);
   branch = λ r. puts_by six.branch text.ADD_BRANCH.now (given (branch_entry r)) (branch_entry r) 2 _ _ _ refl
-      refl refl refl (λ _ _. refl) (lit≤ tt) refl (λ _. refl) refl (λ _. refl) refl;
+      refl refl refl (λ _ _. refl) (lit≤ tt) refl (λ _. refl) (refl, refl) tt (λ _. refl) refl;
   teller = λ r. puts_by six.teller text.ADD_TELLER.now (given (teller_entry r)) (teller_entry r) 1 _ _ _ refl
-      refl refl refl (λ _ _. refl) (lit≤ tt) refl (λ _. refl) refl (λ _. refl) refl;
+      refl refl refl (λ _ _. refl) (lit≤ tt) refl (λ _. refl) (refl, refl) tt (λ _. refl) refl;
   account = λ r. puts_by six.account text.ADD_ACCOUNT.now (given (account_entry r)) (account_entry r) 1 _ _ _
-      refl refl refl refl (λ _ _. refl) (lit≤ tt) refl (λ _. refl) refl (λ _. refl) refl;
+      refl refl refl refl (λ _ _. refl) (lit≤ tt) refl (λ _. refl) (refl, refl) tt (λ _. refl) refl;
   posting = λ r. puts_by six.history text.ADD_HISTORY.now (given (history_entry r)) (history_entry r) 5 _ _ _
-      refl refl refl refl (λ _ _. refl) (lit≤ tt) refl (λ _. refl) refl (λ _. refl) refl;
+      refl refl refl refl (λ _ _. refl) (lit≤ tt) refl (λ _. refl) (refl, refl) tt (λ _. refl) refl;
   request = λ r. puts_by six.request text.ADD_REQUEST.now (given (request_entry r)) (request_entry r) 7 _ _ _
-      refl refl refl refl (λ _ _. refl) (lit≤ tt) refl (λ _. refl) refl (λ _. refl) refl;
+      refl refl refl refl (λ _ _. refl) (lit≤ tt) refl (λ _. refl) (refl, refl) tt (λ _. refl) refl;
 }

@@ -107,7 +107,7 @@ EachKeeps rule rows =
 -- `meta` has exactly one row, and this many requests are decided
 abbrev pub HasDecided : StoredRows → ℕ → Type 0
 HasDecided rows decided = (version : ℤ)
-    × (rows.meta ≡ record { key = pos META_ID; values = version ∷ pos decided ∷ [] } ∷ [])
+    × (rows.meta ≡ record { key = pos META_ID; values = version ∷ pos decided ∷ []; texts = [] } ∷ [])
 
 -- the place of an account is within its branch's count
 abbrev pub IsWithinCount : StoredRows → ℕ → Type 0

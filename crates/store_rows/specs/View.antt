@@ -21,19 +21,19 @@ use Rattle.store_rows.specs.SixTables.{bank_tables}
 
 -- the one row of `meta`: the version of the tables, and how many requests are decided
 abbrev pub meta_entry : ℕ → Entry
-meta_entry decided = record { key = pos META_ID; values = VERSION ∷ pos decided ∷ [] }
+meta_entry decided = record { key = pos META_ID; values = VERSION ∷ pos decided ∷ []; texts = [] }
 
 -- a row of `branch`
 abbrev pub branch_entry : BranchRow → Entry
-branch_entry r = record { key = pos r.branch; values = pos r.accounts ∷ r.balance ∷ [] }
+branch_entry r = record { key = pos r.branch; values = pos r.accounts ∷ r.balance ∷ []; texts = [] }
 
 -- a row of `teller`
 abbrev pub teller_entry : TellerRow → Entry
-teller_entry r = record { key = pos r.teller; values = r.balance ∷ [] }
+teller_entry r = record { key = pos r.teller; values = r.balance ∷ []; texts = [] }
 
 -- a row of `account`
 abbrev pub account_entry : AccountRow → Entry
-account_entry r = record { key = pos r.account; values = r.balance ∷ [] }
+account_entry r = record { key = pos r.account; values = r.balance ∷ []; texts = [] }
 
 -- a row of `history`
 abbrev pub history_entry : HistoryRow → Entry
@@ -41,6 +41,7 @@ history_entry r = record {
   key = pos r.ordinal;
   values = pos r.account ∷ pos r.teller ∷ pos r.branch ∷ r.delta
       ∷ pos r.moment ∷ [];
+  texts = [];
 }
 
 -- an outcome is held as its code
@@ -49,6 +50,7 @@ request_entry r = record {
   key = pos r.ordinal;
   values = pos r.teller ∷ pos r.number ∷ pos r.kept.account ∷ pos r.kept.branch ∷ r.kept.delta ∷ pos
       (code_of r.kept.outcome) ∷ r.kept.balance ∷ [];
+  texts = [];
 }
 
 -- ---- the view
