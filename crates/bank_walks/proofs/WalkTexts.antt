@@ -21,7 +21,7 @@ use Rattle.sqlite_resolve.specs.Scope.{Name, alias_of, declared}
 use Rattle.sqlite_resolve.specs.Select.{ungrouped}
 use Rattle.sqlite_resolve.specs.Terms.{number}
 use Rattle.sqlite_typing.specs.Types.{accepts_program}
-use Rattle.sql_meanings.specs.Entries.{Entry, numbers, stored}
+use Rattle.sql_meanings.specs.Entries.{Entry, HasWidth, numbers, stored}
 use Rattle.sql_meanings.specs.Plain.{key_column, number_column}
 use Rattle.sql_meanings.specs.Queries.{ascending}
 use Rattle.sql_meanings.specs.Seeks.{key_from, next_from, next_of_from}
@@ -78,7 +78,7 @@ walks_by : {table : Table} {text : List ℕ} {places : List ℕ} (is : IsSelect 
     ≡ Ok (record { lets = []; body = next_from AHEAD tree project }))
     → ((k : ℤ) (schema : Schema) (p tree : ℕ) → HasTable schema table.name p (placed_at table tree)
     → accepts_program schema [] (next_from AHEAD tree project) (Int k ∷ []) ≡ true)
-    → ((params : Row) (e : Entry) → length e.values ≡ width_of table
+    → ((params : Row) (e : Entry) → HasWidth (width_of table) e
     → eval_all project (params ∷ stored e ∷ []) ≡ numbers (all_numbers e))
     → Walks table text
 walks_by {table} {text} {places} is key project {sort} {cap} {test} {e} {a} {b} {most} ordered limited
