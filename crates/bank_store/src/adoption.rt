@@ -7,7 +7,7 @@ ghost use Rattle.posting_rules.specs.Counter.{ShowsLog, StandsAt, LeavesOnly};
 ghost use Rattle.posting_rules.specs.Tables.{AreTablesOf as Show};
 ghost use Rattle.store_rows.specs.Columns.{meta_in};
 ghost use Rattle.sql_meanings.specs.Entries.{Entry};
-ghost use Rattle.store_rows.specs.SixTables.{meta as table};
+ghost use Rattle.store_rows.specs.BankTables.{meta as table};
 ghost use Rattle.store_rows.specs.View.{HoldsRows};
 ghost use Rattle.bank_store.specs.Connections.{conn_seen, state_in, IsAsBefore, IsReadOnly, IsUndoneIfOpen};
 ghost use Rattle.bank_store.specs.FoundBank.{BankIsFound, Misses, SeeksBank};
@@ -83,7 +83,7 @@ fn check_meta(meta: &StoredMeta) -> Result<(), OpenFault>
     Ok(())
 }
 
-// Looks for the six tables, and then for the row of `meta`.
+// Looks for the tables of a bank, and then for the row of `meta`.
 fn find_bank<S: Alter>(conn: &mut Connection<S>) -> Result<(), OpenFault>
     requires { conn.old.in_transaction ≡ false }
     ensures told { HasCleanDisk (state S.Store conn.new)
@@ -102,7 +102,7 @@ fn find_bank<S: Alter>(conn: &mut Connection<S>) -> Result<(), OpenFault>
     }
 }
 
-/// Takes up the bank that the connection's file has. It looks for the six tables and reads the row of `meta`,
+/// Takes up the bank that the connection's file has. It looks for its tables and reads the row of `meta`,
 /// and changes nothing. Other rows are checked by the calls that meet them.
 ///
 /// The connection has to be outside a transaction, as a new one is.
@@ -112,7 +112,7 @@ fn find_bank<S: Alter>(conn: &mut Connection<S>) -> Result<(), OpenFault>
 /// The connection comes back with each, outside a transaction. The first four say what the file has, and that
 /// it is as it was.
 ///
-/// - [`OpenFault::Blank`]: none of the six tables is there.
+/// - [`OpenFault::Blank`]: none of a bank's tables is there.
 /// - [`OpenFault::Foreign`]: some of them are there, and some aren't.
 /// - [`OpenFault::Version`]: the tables are those of another version.
 /// - [`OpenFault::Damaged`]: the row of `meta` is missing, is out of its range or has a value of another

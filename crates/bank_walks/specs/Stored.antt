@@ -5,7 +5,7 @@ use Rattle.message_records.specs.declared.limits.TheConstants.{MAX_MOMENT}
 use Rattle.posting_rules.specs.declared.limits.TheConstants.{LAST_BRANCH, MAX_DECIDED}
 use Rattle.sql_meanings.specs.Entries.{Entry}
 use Rattle.sql_meanings.specs.Seeks.{begins}
-use Rattle.store_rows.specs.SixTables.{account, branch, history, request, teller}
+use Rattle.store_rows.specs.BankTables.{account, branch, history, request, teller}
 use Rattle.bank_walks.specs.Kinds.{Kind, given_all}
 use Rattle.bank_walks.specs.Pairs.{BreaksPair, Pair, pair_of}
 use Rattle.bank_walks.specs.Reading.{IsOutside}

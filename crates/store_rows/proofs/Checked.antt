@@ -21,7 +21,7 @@ use Rattle.sqlite_sql.specs.Ops.{binary}
 use Rattle.sqlite_value.specs.Order.{value_cmp}
 use Rattle.sqlite_value.proofs.OrderLemmas.{value_cmp-Int}
 use lib.Ieee.{is_nan, lt}
-use Rattle.store_rows.specs.SixTables.{meta}
+use Rattle.store_rows.specs.BankTables.{meta}
 
 first_checked : (rest : Row) → passes_checks meta (Int (pos 1) ∷ rest) ≡ true
 unfolding everything binary value_cmp is_nan lt

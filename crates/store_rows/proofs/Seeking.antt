@@ -11,12 +11,12 @@ use Rattle.sql_meanings.proofs.Texts.{only_reads}
 use Rattle.store_rows.specs.Columns.{balance_shown, branch_above, branch_shown, request_in}
 use Rattle.store_rows.specs.Forms.{balance_form, branch_form, request_form}
 use Rattle.store_rows.specs.Holders.{balance_in, entry_under}
-use Rattle.store_rows.specs.Rules.{StoredRows, row_under, six_lists}
+use Rattle.store_rows.specs.Rules.{StoredRows, row_under, stored_lists}
 use Rattle.store_rows.specs.Stored.{balance_stored, branch_stored}
 use Rattle.store_rows.specs.declared.holders.Member.TheVariants.{Account, Teller}
 use Rattle.store_rows.specs.declared.texts.TheConstants.{GET_ACCOUNT, GET_BRANCH, GET_REQUEST, GET_TELLER}
 use Rattle.store_rows.specs.declared.texts.TheConstants.{NEXT_BRANCH}
-use Rattle.store_rows.proofs.BankTables.{Kind, table_of, tells_row, tells_whole}
+use Rattle.store_rows.proofs.TableKinds.{Kind, table_of, tells_row, tells_whole}
 use Rattle.store_rows.proofs.GetRequest as request
 use Rattle.store_rows.proofs.Getting.{gets}
 use Rattle.store_rows.proofs.NextBranch as next
@@ -35,7 +35,7 @@ seeks_balance : {R : Type 0} (kind : Kind R) (value : R → ℤ)
     → ((k : ℕ) (r : R) → eval_all balance_project ((Int (pos k) ∷ []) ∷ stored (kind.entry r) ∷ [])
     ≡ balance_shown (value r))
     → width_of (table_of kind) ≡ (1, 0) → (rows_of : StoredRows → List Entry)
-    → ((rows : StoredRows) → slice_get (six_lists rows) kind.place ≡ Some (rows_of rows))
+    → ((rows : StoredRows) → slice_get (stored_lists rows) kind.place ≡ Some (rows_of rows))
     → (text : List ℕ) → Gets (table_of kind) text (1 ∷ []) balance_project
     → (k : ℕ) → Seeks text (Int (pos k) ∷ []) 1 balance_form
     (λ t. option_map value (row_at kind.key (kind.rows t) k))

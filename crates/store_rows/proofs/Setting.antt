@@ -7,7 +7,7 @@ use Rattle.sqlite_resolve.specs.Program as program
 use Rattle.sql_meanings.specs.Entries.{Entry, numbers, stored}
 use Rattle.sql_meanings.proofs.Keyed.{sets_by}
 use Rattle.sql_meanings.proofs.SetRows.{ChangesAs}
-use Rattle.store_rows.specs.SixTables as six
+use Rattle.store_rows.specs.BankTables as bank
 use Rattle.store_rows.specs.declared.texts.TheConstants.{SET_META, SET_BRANCH, SET_TELLER}
 use Rattle.store_rows.specs.declared.texts.TheConstants.{SET_ACCOUNT}
 use Rattle.store_rows.proofs.Checked.{meta_checked}
@@ -50,30 +50,30 @@ second_wide v (a ∷ []) wide = wide
 second_wide v (a ∷ b ∷ more) wide = wide
 
 pub record SetsNumbers : Type 0 where
-  pub meta : (v : ℤ) → ChangesAs six.meta SET_META.now (pos 1) (Int v ∷ []) (set_second v)
-  pub branch : (k v : ℤ) → ChangesAs six.branch SET_BRANCH.now k (Int v ∷ []) (set_second v)
-  pub teller : (k v : ℤ) → ChangesAs six.teller SET_TELLER.now k (Int v ∷ []) (set_first v)
-  pub account : (k v : ℤ) → ChangesAs six.account SET_ACCOUNT.now k (Int v ∷ []) (set_first v)
+  pub meta : (v : ℤ) → ChangesAs bank.meta SET_META.now (pos 1) (Int v ∷ []) (set_second v)
+  pub branch : (k v : ℤ) → ChangesAs bank.branch SET_BRANCH.now k (Int v ∷ []) (set_second v)
+  pub teller : (k v : ℤ) → ChangesAs bank.teller SET_TELLER.now k (Int v ∷ []) (set_first v)
+  pub account : (k v : ℤ) → ChangesAs bank.account SET_ACCOUNT.now k (Int v ∷ []) (set_first v)
 
 pub sets : SetsNumbers
 unfolding everything program.program
 sets = record {
-  meta = λ v. sets_by six.meta SET_META.now set_second second_set (pos 1) v _ _ _ _ _ _ _ _ keys.meta refl
+  meta = λ v. sets_by bank.meta SET_META.now set_second second_set (pos 1) v _ _ _ _ _ _ _ _ keys.meta refl
       refl refl (lit≤ tt) refl refl refl refl refl
       (λ _. refl) (λ _. refl) (λ _ _ _ has. rw (has.low, has.found)) (λ _ _ _ has. rw (has.low, has.found))
       (λ e wide. second_shown (pos 1) v e.key e.values e.texts wide.0) (λ _. refl)
       (λ e wide. (second_wide v e.values wide.0, refl))
       (λ e _. meta_checked e.key (Null ∷ (numbers (second_as v e.values) ++ []))) refl;
-  branch = λ k v. sets_by six.branch SET_BRANCH.now set_second second_set k v _ _ _ _ _ _ _ _ keys.branch refl
+  branch = λ k v. sets_by bank.branch SET_BRANCH.now set_second second_set k v _ _ _ _ _ _ _ _ keys.branch refl
       refl refl (lit≤ tt) refl refl refl refl refl
       (λ _. refl) (λ _. refl) (λ _ _ _ has. rw (has.low, has.found)) (λ _ _ _ has. rw (has.low, has.found))
       (λ e wide. second_shown k v e.key e.values e.texts wide.0) (λ _. refl)
       (λ e wide. (second_wide v e.values wide.0, refl)) (λ _ _ _. refl) refl;
-  teller = λ k v. sets_by six.teller SET_TELLER.now set_first first_set k v _ _ _ _ _ _ _ _ keys.teller refl
+  teller = λ k v. sets_by bank.teller SET_TELLER.now set_first first_set k v _ _ _ _ _ _ _ _ keys.teller refl
       refl refl (lit≤ tt) refl refl refl refl refl
       (λ _. refl) (λ _. refl) (λ _ _ _ has. rw (has.low, has.found)) (λ _ _ _ has. rw (has.low, has.found))
       (λ _ _. refl) (λ _. refl) (λ _ _. (refl, refl)) (λ _ _ _. refl) refl;
-  account = λ k v. sets_by six.account SET_ACCOUNT.now set_first first_set k v _ _ _ _ _ _ _ _ keys.account
+  account = λ k v. sets_by bank.account SET_ACCOUNT.now set_first first_set k v _ _ _ _ _ _ _ _ keys.account
       refl refl refl (lit≤ tt) refl refl refl refl refl
       (λ _. refl) (λ _. refl) (λ _ _ _ has. rw (has.low, has.found)) (λ _ _ _ has. rw (has.low, has.found))
       (λ _ _. refl) (λ _. refl) (λ _ _. (refl, refl)) (λ _ _ _. refl) refl;

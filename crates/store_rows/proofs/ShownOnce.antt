@@ -17,7 +17,7 @@ use Rattle.sql_meanings.specs.Entries.{Entry, numbers, texts_held, stored}
 use Rattle.sql_meanings.specs.Tables.{Holds}
 use Rattle.sql_meanings.specs.Contents.{HoldsEach}
 use Rattle.sql_meanings.proofs.Trees.{same_schema}
-use Rattle.store_rows.specs.SixTables.{bank_tables}
+use Rattle.store_rows.specs.BankTables.{bank_tables}
 use Rattle.store_rows.specs.View.{Shows, ShowsTrees, contents, branch_entry, teller_entry, account_entry}
 use Rattle.store_rows.specs.View.{history_entry, request_entry}
 use Rattle.store_rows.proofs.KeptRows.{decode, decoded}

@@ -16,9 +16,9 @@ use Rattle.sql_meanings.proofs.Changes.{found_all}
 use Rattle.sql_meanings.proofs.Contents.{held}
 use Rattle.sql_meanings.proofs.ReadRows.{reads_key, reads_next, reads_two}
 use Rattle.sql_meanings.proofs.ReadTables.{ReadsAs}
-use Rattle.store_rows.specs.Rules.{HoldsBank, StoredRows, row_under, six_lists}
-use Rattle.store_rows.specs.SixTables as six
-use Rattle.store_rows.specs.SixTables.{bank_tables}
+use Rattle.store_rows.specs.Rules.{HoldsBank, StoredRows, row_under, stored_lists}
+use Rattle.store_rows.specs.BankTables as bank
+use Rattle.store_rows.specs.BankTables.{bank_tables}
 use Rattle.store_rows.specs.Stored.{balance_stored, branch_stored, request_stored}
 use Rattle.store_rows.specs.declared.texts.TheConstants.{GET_REQUEST, NEXT_BRANCH}
 use Rattle.store_rows.proofs.GetRequest as request
@@ -27,8 +27,8 @@ use Rattle.store_rows.proofs.NextBranch as next
 -- the rows of one table
 pub holds_list : (db : Database) (rows : StoredRows) → HoldsBank db rows
     → (at : ℕ) (t : Table) (es : List Entry)
-    → slice_get bank_tables at ≡ Some t → slice_get (six_lists rows) at ≡ Some es → Holds db t es
-holds_list db rows has at t es is are = held db bank_tables (six_lists rows) has.each at t es is are
+    → slice_get bank_tables at ≡ Some t → slice_get (stored_lists rows) at ≡ Some es → Holds db t es
+holds_list db rows has at t es is are = held db bank_tables (stored_lists rows) has.each at t es is are
 
 -- what is shown of a row that is found
 same_shown : (width : ℕ × ℕ) (show shown : Entry → Row)
@@ -40,7 +40,7 @@ same_shown width show shown same (Some r) wide = ap Some (same r (wide r refl))
 -- of the row under a key
 pub stored_under : (at : ℕ) (t : Table) → t.references ≡ [] → slice_get bank_tables at ≡ Some t
     → (rows_of : StoredRows → List Entry)
-    → ((rows : StoredRows) → slice_get (six_lists rows) at ≡ Some (rows_of rows))
+    → ((rows : StoredRows) → slice_get (stored_lists rows) at ≡ Some (rows_of rows))
     → (text : List ℕ) (project : List Term) (k : ℕ)
     → ReadsAs t text (Int (pos k) ∷ []) (λ tree. by_key tree project) → (held : Entry → Row)
     → ((e : Entry) → HasWidth (width_of t) e → eval_all project ((Int (pos k) ∷ []) ∷ stored e ∷ [])
@@ -86,13 +86,13 @@ pub stored_next : (old new : State) (rows : StoredRows) → HoldsBank old.now ro
     → QueriesRowInside NEXT_BRANCH.now (Int (pos k) ∷ []) old new r
     → TellsRow old new (option_map branch_stored (find (is_above (pos k)) rows.branches)) r
 stored_next old new rows has k r h =
-    let holds = holds_list old.now rows has 1 six.branch rows.branches refl refl in
+    let holds = holds_list old.now rows has 1 bank.branch rows.branches refl refl in
     subst (λ o. TellsRow old new o r)
     (same_shown (2, 0) _ branch_stored (λ e wide. two_numbers (pos k) e.key e.values e.texts wide.0)
     (find (is_above (pos k)) rows.branches)
     (λ e found. found_all (λ x. HasWidth (2, 0) x) (is_above (pos k)) rows.branches e holds.rows.wide
     found))
-    (reads_next old new six.branch refl has.sound rows.branches holds NEXT_BRANCH.now branch_project (pos k)
+    (reads_next old new bank.branch refl has.sound rows.branches holds NEXT_BRANCH.now branch_project (pos k)
     (next.reads (pos k)) r h)
 
 -- ---- requests
@@ -117,12 +117,12 @@ pub stored_request : (old new : State) (rows : StoredRows) → HoldsBank old.now
     → QueriesRowInside GET_REQUEST.now (Int (pos a) ∷ Int (pos b) ∷ []) old new r
     → TellsRow old new (option_map request_stored (find (has_two (pos a) (pos b)) rows.requests)) r
 stored_request old new rows has a b r h =
-    let holds = holds_list old.now rows has 5 six.request rows.requests refl refl in
+    let holds = holds_list old.now rows has 5 bank.request rows.requests refl refl in
     subst (λ o. TellsRow old new o r)
     (same_shown (7, 0) _ request_stored (λ e wide. seven_numbers (pos a) (pos b) e.key e.values e.texts wide.0)
     (find (has_two (pos a) (pos b)) rows.requests)
     (λ e found. found_all (λ x. HasWidth (7, 0) x) (has_two (pos a) (pos b)) rows.requests e holds.rows.wide
     found))
-    (reads_two old new six.request refl has.sound rows.requests holds GET_REQUEST.now request.project (pos a)
+    (reads_two old new bank.request refl has.sound rows.requests holds GET_REQUEST.now request.project (pos a)
     (pos b) refl refl
     (request.reads (pos a) (pos b)) r h)

@@ -32,7 +32,7 @@ use Rattle.sql_meanings.proofs.TableWrites.{IsPlain, Leaves, spares_standing}
 use Rattle.sql_meanings.proofs.Writing.{uncounted}
 use Rattle.store_rows.specs.Faults.{added}
 use Rattle.store_rows.specs.Outcomes.{PutsOneRow, IsForbidden, SetsRow}
-use Rattle.store_rows.specs.SixTables.{bank_tables}
+use Rattle.store_rows.specs.BankTables.{bank_tables}
 use Rattle.store_rows.specs.Statements.{MeetsOne}
 use Rattle.store_rows.specs.View.{Shows, contents}
 use Rattle.store_rows.proofs.Failing.{adds_err, forbidden, forbidden_put, key_fits}
