@@ -2,7 +2,7 @@
  *
  * usage: peer FILE BRANCHES ACCOUNTS BEFORE COUNT TOGETHER
  *
- * Makes the bank's six tables in a new file, opens the branches with as many accounts each, posts BEFORE records, and
+ * Makes the bank's tables in a new file, opens the branches with as many accounts each, posts BEFORE records, and
  * prints how many of the COUNT that follow it posts a second, TOGETHER in a transaction. */
 #include <sqlite3.h>
 #include <stdio.h>

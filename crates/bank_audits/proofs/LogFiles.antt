@@ -14,7 +14,7 @@ use Rattle.posting_rules.specs.Tables.{Tables, AreTablesOf, history_key, request
 use Rattle.posting_rules.proofs.Consistent.{consistent}
 use Rattle.posting_rules.proofs.Undamaged.{undamaged}
 use Rattle.sql_meanings.specs.Entries.{Entry, Rise}
-use Rattle.store_rows.specs.SixTables as six
+use Rattle.store_rows.specs.BankTables as bank
 use Rattle.store_rows.specs.View as view
 use Rattle.store_rows.specs.View.{Shows}
 use Rattle.bank_walks.specs.Rows.{HasStoredRows}
@@ -69,16 +69,16 @@ twice f g h is (x ∷ xs) = rw (is x, twice f g h is xs) refl
 
 pub has_file : (db : Database) (t : Tables) → Shows db t → HasFile db (rows_in (stored t))
 has_file db t shows = record {
-  branches = subst (HasStoredRows db six.branch)
+  branches = subst (HasStoredRows db bank.branch)
       (twice branch_stored branch_entry view.branch_entry (λ r. refl) t.branches) (has_branches db t shows);
-  tellers = subst (HasStoredRows db six.teller)
+  tellers = subst (HasStoredRows db bank.teller)
       (twice teller_stored teller_entry view.teller_entry (λ r. refl) t.tellers) (has_tellers db t shows);
-  accounts = subst (HasStoredRows db six.account)
+  accounts = subst (HasStoredRows db bank.account)
       (twice account_stored account_entry view.account_entry (λ r. refl) t.accounts)
       (has_accounts db t shows);
-  history = subst (HasStoredRows db six.history)
+  history = subst (HasStoredRows db bank.history)
       (twice posting_stored posting_entry view.history_entry (λ r. refl) t.history) (has_history db t shows);
-  requests = subst (HasStoredRows db six.request)
+  requests = subst (HasStoredRows db bank.request)
       (twice request_stored request_entry view.request_entry (λ r. refl) t.requests)
       (has_requests db t shows);
 }

@@ -18,8 +18,8 @@ use Rattle.sql_meanings.specs.Entries.{Rise}
 use Rattle.sql_meanings.specs.Entries.{Entry as Stored}
 use Rattle.sql_meanings.specs.Seeks.{is_from}
 use Rattle.sql_meanings.proofs.Contents.{held}
-use Rattle.store_rows.specs.SixTables.{bank_tables}
-use Rattle.store_rows.specs.SixTables.{history as history_table}
+use Rattle.store_rows.specs.BankTables.{bank_tables}
+use Rattle.store_rows.specs.BankTables.{history as history_table}
 use Rattle.store_rows.specs.View.{history_entry, contents}
 use Rattle.store_rows.specs.View.{Shows}
 use Rattle.bank_walks.specs.declared.postings.StoredPosting.{StoredPosting}

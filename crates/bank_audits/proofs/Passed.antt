@@ -12,7 +12,7 @@ use Rattle.sqlite_trees.specs.declared.store.Store.{Ghosts}
 use Rattle.sql_meanings.specs.Entries.{Entry}
 use Rattle.bank_transactions.specs.Causes.{IsBefore}
 use Rattle.bank_transactions.proofs.Blamed.{comes, then_moment}
-use Rattle.store_rows.specs.SixTables.{history as history_table, request as request_table}
+use Rattle.store_rows.specs.BankTables.{history as history_table, request as request_table}
 use Rattle.bank_store.specs.Walks.{IsStill}
 use Rattle.bank_walks.specs.Pairs.{BreaksPair, HasPairs, pair_with, paired}
 use Rattle.bank_audits.specs.Adding.{IsPassed}

@@ -2,9 +2,9 @@
 use Rattle.std.specs.Prelude.{◌≡◌, ◌⊎◌, ◌++◌, ◌∷◌, List, map}
 use Rattle.sqlite.specs.Effect.{Database}
 use Rattle.sql_meanings.specs.Entries.{Entry}
-use Rattle.store_rows.specs.SixTables.{account as account_table, branch as branch_table}
-use Rattle.store_rows.specs.SixTables.{history as history_table, request as request_table}
-use Rattle.store_rows.specs.SixTables.{teller as teller_table}
+use Rattle.store_rows.specs.BankTables.{account as account_table, branch as branch_table}
+use Rattle.store_rows.specs.BankTables.{history as history_table, request as request_table}
+use Rattle.store_rows.specs.BankTables.{teller as teller_table}
 use Rattle.bank_walks.specs.Rows.{HasStoredRows}
 use Rattle.bank_walks.specs.Stored.{account_entry, branch_entry, posting_entry, request_entry, teller_entry}
 use Rattle.bank_walks.specs.Stored.{IsNoAccount, IsNoBranch, IsNoPosting, IsNoRequest, IsNoTeller}

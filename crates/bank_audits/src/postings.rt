@@ -5,7 +5,7 @@ ghost use Rattle.sqlite.specs.Held.{state};
 ghost use Rattle.posting_rules.specs.declared.fault.Fault.TheVariants.{Down, Store};
 ghost use Rattle.posting_core.specs.Told.{HasMore, HasWriteFailed};
 ghost use Rattle.sql_meanings.specs.Entries.{Entry};
-ghost use Rattle.store_rows.specs.SixTables.{history as history_table};
+ghost use Rattle.store_rows.specs.BankTables.{history as history_table};
 ghost use Rattle.bank_walks.specs.Rows.{HasStoredRows};
 ghost use Rattle.bank_walks.specs.Stored.{is_of, posting_entry};
 ghost use Rattle.bank_store.specs.Seen.{bank_seen, connection_of, database_of, fault_of};

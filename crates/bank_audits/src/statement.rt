@@ -12,7 +12,7 @@ ghost use Rattle.posting_rules.specs.Entries.{balance_behind};
 ghost use Rattle.posting_rules.specs.Tables.{AreTablesOf, Tables};
 ghost use Rattle.posting_core.specs.Told.{EndsWith, HasWriteFailed, IsFlush};
 ghost use Rattle.sql_meanings.specs.Entries.{Entry};
-ghost use Rattle.store_rows.specs.SixTables.{history as history_table};
+ghost use Rattle.store_rows.specs.BankTables.{history as history_table};
 ghost use Rattle.store_rows.specs.View.{history_entry};
 ghost use Rattle.bank_transactions.specs.Stored.{IsStoredBalance};
 ghost use Rattle.bank_walks.specs.Rows.{HasStoredRows};

@@ -15,12 +15,12 @@ use Rattle.posting_rules.specs.declared.fault.Rule.TheVariants.{Meta, Teller, Ac
 use Rattle.posting_rules.specs.declared.fault.Rule.TheVariants.{Value, Key}
 use Rattle.posting_rules.proofs.Undamaged.{undamaged}
 use Rattle.sql_meanings.proofs.Contents.{each_defined}
-use Rattle.sql_meanings.specs.Entries.{Entry}
+use Rattle.sql_meanings.specs.Entries.{Entry, HasWidth}
 use Rattle.store_rows.specs.Columns.{meta_in}
-use Rattle.store_rows.specs.Probes.{six_probes}
+use Rattle.store_rows.specs.Probes.{all_probes}
 use Rattle.store_rows.specs.Probes as probe
-use Rattle.store_rows.specs.SixTables as six
-use Rattle.store_rows.specs.SixTables.{bank_tables}
+use Rattle.store_rows.specs.BankTables as bank
+use Rattle.store_rows.specs.BankTables.{bank_tables}
 use Rattle.store_rows.specs.Statements.{HasOtherValue}
 use Rattle.store_rows.specs.View.{HoldsRows, Shows, contents, meta_entry}
 use Rattle.store_rows.specs.declared.metas.StoredMeta.{StoredMeta}
@@ -52,48 +52,47 @@ decided_in None = pos 0
 decided_in (Some m) = m.decided
 
 two_are : (a b : ℤ) (d : ℕ) → a ≡ VERSION → b ≡ pos d
-    → (let it : Entry = record { key = pos 1; values = a ∷ b ∷ [] } in it) ≡ meta_entry d
+    → (let it : Entry = record { key = pos 1; values = a ∷ b ∷ []; texts = [] } in it) ≡ meta_entry VERSION d
 two_are a b d version decided = rw (version, decided) refl
 
-whole_row : (values : List ℤ) (d : ℕ) → length values ≡ 2
-    → meta_in (record { key = pos 1; values = values } ∷ [])
+whole_row : (values : List ℤ) (texts : List (List ℕ)) (d : ℕ) → length values ≡ 2 → length texts ≡ 0
+    → meta_in (record { key = pos 1; values = values; texts = texts } ∷ [])
     ≡ Some (record { version = VERSION; decided = pos d })
-    → (let it : Entry = record { key = pos 1; values = values } in it) ≡ meta_entry d
-whole_row [] d wide told = absurd (omega arith)
-whole_row (a ∷ []) d wide told = absurd (omega arith)
-whole_row (a ∷ b ∷ []) d wide told = two_are a b d (ap version_in told) (ap decided_in told)
-whole_row (a ∷ b ∷ c ∷ more) d wide told = absurd (omega arith)
+    → (let it : Entry = record { key = pos 1; values = values; texts = texts } in it) ≡ meta_entry VERSION d
+whole_row [] texts d wide none told = absurd (omega arith)
+whole_row (a ∷ []) texts d wide none told = absurd (omega arith)
+whole_row (a ∷ b ∷ []) [] d wide none told = two_are a b d (ap version_in told) (ap decided_in told)
+whole_row (a ∷ b ∷ []) (t ∷ texts) d wide none told = absurd (omega arith)
+whole_row (a ∷ b ∷ c ∷ more) texts d wide none told = absurd (omega arith)
 
-one_row : (key : ℤ) (values : List ℤ) (d : ℕ) → key ≡ pos 1 → length values ≡ 2
-    → meta_in (record { key = key; values = values } ∷ [])
-    ≡ Some (record { version = VERSION; decided = pos d })
-    → (let it : Entry = record { key = key; values = values } in it) ≡ meta_entry d
-one_row key values d is wide told =
-    ap (λ (k : ℤ). let it : Entry = record { key = k; values = values } in it) is
-    ∙ whole_row values d wide (subst
-    (λ (k : ℤ). meta_in (record { key = k; values = values } ∷ [])
-    ≡ Some (record { version = VERSION; decided = pos d })) is told)
+one_row : (e : Entry) (d : ℕ) → e.key ≡ pos 1 → HasWidth (2, 0) e
+    → meta_in (e ∷ []) ≡ Some (record { version = VERSION; decided = pos d }) → e ≡ meta_entry VERSION d
+one_row e d is wide told =
+    ap (λ (k : ℤ). let it : Entry = record e { key = k } in it) is
+    ∙ whole_row e.values e.texts d wide.0 wide.1 (subst
+    (λ (k : ℤ). meta_in (record e { key = k } ∷ []) ≡ Some (record { version = VERSION; decided = pos d })) is
+    told)
 
 -- where it is ours, it is the one row of `meta`
-one_of_ours : (db : Database) (rows : List Entry) → HoldsRows db six.meta rows → IsOurs (meta_in rows)
-    → (decided : ℕ) × (rows ≡ meta_entry decided ∷ []) × (decided ≤ MAX_DECIDED)
+one_of_ours : (db : Database) (rows : List Entry) → HoldsRows db bank.meta rows → IsOurs (meta_in rows)
+    → (decided : ℕ) × (rows ≡ meta_entry VERSION decided ∷ []) × (decided ≤ MAX_DECIDED)
 one_of_ours db rows has ours = elim (one_at_most db rows has) [
   | inl none ↦ absurd (let told = rw none at ours.1 in cc)
   | inr one ↦
       let e = one.0 in
-      let wide : length e.values ≡ 2 = (subst (HoldsRows db six.meta) one.1 has).holds.rows.wide.0 in
+      let wide : HasWidth (2, 0) e = (subst (HoldsRows db bank.meta) one.1 has).holds.rows.wide.0 in
       let told =
       subst (λ (rs : List Entry). meta_in rs ≡ Some (record { version = VERSION; decided = pos ours.0 }))
       one.1 ours.1 in
-      (ours.0, one.1 ∙ ap (λ (r : Entry). r ∷ []) (one_row e.key e.values ours.0 one.2 wide told), ours.2)
+      (ours.0, one.1 ∙ ap (λ (r : Entry). r ∷ []) (one_row e ours.0 one.2 wide told), ours.2)
 ]
 
 -- the row wasn't read
-module _ (old mid new : State) (tables : IsPresent old.now six_probes Whole)
+module _ (old mid new : State) (tables : IsPresent old.now all_probes Whole)
     (first : IsAsBefore old mid) where
   abbrev MissedAt : OpenFault → Type 0
   MissedAt fault =
-      ((rows : List Entry) → HoldsRows mid.now six.meta rows → TellsMeta (meta_in rows) (Err fault))
+      ((rows : List Entry) → HoldsRows mid.now bank.meta rows → TellsMeta (meta_in rows) (Err fault))
       → IsOfOtherType mid.now fault → IsReadOnly {X = Option StoredMeta} mid new (Err fault)
       → SeeksBank old new (Err fault)
 
@@ -104,7 +103,7 @@ module _ (old mid new : State) (tables : IsPresent old.now six_probes Whole)
   at_value tells other same = (
     (
       tables,
-      λ rows has. tells rows (subst (λ (db : Database). HoldsRows db six.meta rows) (sym first.now_is) has),
+      λ rows has. tells rows (subst (λ (db : Database). HoldsRows db bank.meta rows) (sym first.now_is) has),
       subst HasOtherValue first.now_is other,
     ),
     as_before old mid new first same,
@@ -115,13 +114,13 @@ module _ (old mid new : State) (tables : IsPresent old.now six_probes Whole)
   missed fault (inr is) = subst MissedAt (sym is) at_value
 
 -- what was read of the row, and what was said against it
-module _ (old mid new : State) (stored : Option StoredMeta) (tables : IsPresent old.now six_probes Whole)
+module _ (old mid new : State) (stored : Option StoredMeta) (tables : IsPresent old.now all_probes Whole)
     (first : IsAsBefore old mid)
-    (read : (rows : List Entry) → HoldsRows mid.now six.meta rows → stored ≡ meta_in rows)
+    (read : (rows : List Entry) → HoldsRows mid.now bank.meta rows → stored ≡ meta_in rows)
     (then : IsAsBefore mid new) where
   row_is : (P : Option StoredMeta → Type 0) → P stored → MetaIs old P
   row_is P holds rows has =
-      subst P (read rows (subst (λ (db : Database). HoldsRows db six.meta rows) (sym first.now_is) has)) holds
+      subst P (read rows (subst (λ (db : Database). HoldsRows db bank.meta rows) (sym first.now_is) has)) holds
 
   same : IsAsBefore old new
   same = as_before old mid new first then
@@ -150,15 +149,15 @@ module _ (old mid new : State) (stored : Option StoredMeta) (tables : IsPresent 
 
 module _ (old mid : State) (same : IsAsBefore old mid) where
   meta_at : (P : Option StoredMeta → Type 0) → MetaIs mid P → MetaIs old P
-  meta_at P is rows has = is rows (subst (λ (db : Database). HoldsRows db six.meta rows) (sym same.now_is) has)
+  meta_at P is rows has = is rows (subst (λ (db : Database). HoldsRows db bank.meta rows) (sym same.now_is) has)
 
-  present_at : (p : Presence) → IsPresent mid.now six_probes p → IsPresent old.now six_probes p
-  present_at p = subst (λ (db : Database). IsPresent db six_probes p) same.now_is
+  present_at : (p : Presence) → IsPresent mid.now all_probes p → IsPresent old.now all_probes p
+  present_at p = subst (λ (db : Database). IsPresent db all_probes p) same.now_is
 
   -- nothing has changed, so there is no other version yet
   pub no_other_yet : HasNoOtherVersion old → HasNoOtherVersion mid
   no_other_yet none n rows has =
-      none n rows (subst (λ (db : Database). HoldsRows db six.meta rows) same.now_is has)
+      none n rows (subst (λ (db : Database). HoldsRows db bank.meta rows) same.now_is has)
 
   misses_at : (fault : OpenFault) → Misses mid fault → Misses old fault
   misses_at Store misses = tt
@@ -195,7 +194,7 @@ module _ (old mid : State) (same : IsAsBefore old mid) where
   seeks_at new (Ok done) found = record {
     tables = present_at Whole found.tables;
     meta = meta_at IsOurs found.meta;
-    one = λ rows has. found.one rows (subst (λ (db : Database). HoldsRows db six.meta rows) (sym same.now_is) has);
+    one = λ rows has. found.one rows (subst (λ (db : Database). HoldsRows db bank.meta rows) (sym same.now_is) has);
     same = as_before old mid new same found.same;
   }
   seeks_at new (Err fault) missed = (misses_at fault missed.0, reads_at new fault missed.1)
@@ -206,21 +205,21 @@ no_rows_there old lacks n rows has other = lacks.1 has.sound has.holds.defined
 
 -- what its row says of another version
 pub no_other_read : (old : State) (stored : Option StoredMeta)
-    → ((rows : List Entry) → HoldsRows old.now six.meta rows → stored ≡ meta_in rows)
+    → ((rows : List Entry) → HoldsRows old.now bank.meta rows → stored ≡ meta_in rows)
     → ((n : ℤ) → IsOfVersion n stored → ⊥) → HasNoOtherVersion old
 no_other_read old stored read none n rows has other =
     none n (subst (IsOfVersion n) (sym (read rows has)) other)
 
 -- the row of `meta` has another version
 pub other_read : (old mid new : State) (m : StoredMeta) (version : ℤ) → IsReadable old.now probe.meta
-    → IsAsBefore old mid → ((rows : List Entry) → HoldsRows mid.now six.meta rows → Some m ≡ meta_in rows)
+    → IsAsBefore old mid → ((rows : List Entry) → HoldsRows mid.now bank.meta rows → Some m ≡ meta_in rows)
     → IsAsBefore mid new → version ≡ m.version → version ≢ VERSION
     → Misses old (Version version) × IsReadOnly {X = Unit {0}} old new (Err (Version version))
 other_read old mid new m version there first read then same other = (
   (
     there,
     λ rows has. subst (IsOfVersion version)
-        (read rows (subst (λ (db : Database). HoldsRows db six.meta rows) (sym first.now_is) has))
+        (read rows (subst (λ (db : Database). HoldsRows db bank.meta rows) (sym first.now_is) has))
         (other_version m version same other),
   ),
   as_before old mid new first then,
@@ -228,25 +227,25 @@ other_read old mid new m version there first read then same other = (
 
 -- ---- where a log is shown
 
--- a database that shows tables lacks none of the six
+-- a database that shows tables lacks none of them
 has_its_table : (probes : List (List ℕ × Table)) (it : List ℕ × Table) → Has probes it
     → Has (map (λ p. p.1) probes) it.1
 has_its_table [] it has = has
 has_its_table (p ∷ probes) it (inl is) = inl (ap (λ q. q.1) is)
 has_its_table (p ∷ probes) it (inr has) = inr (has_its_table probes it has)
 
-lacks_none : (db : Database) (t : Tables) → Shows db t → (it : List ℕ × Table) → Has six_probes it
+lacks_none : (db : Database) (t : Tables) → Shows db t → (it : List ℕ × Table) → Has all_probes it
     → Lacks db it → ⊥
 lacks_none db t shows it has lacks =
     lacks.1 shows.sound (each_defined db bank_tables (contents t) shows.each it.1
-    (has_its_table six_probes it has))
+    (has_its_table all_probes it has))
 
--- where none of the six is, no tables are shown
-pub no_bank : (db : Database) (t : Tables) → IsPresent db six_probes Absent → Shows db t → ⊥
+-- where none of a bank's tables is, no tables are shown
+pub no_bank : (db : Database) (t : Tables) → IsPresent db all_probes Absent → Shows db t → ⊥
 no_bank db t absent shows = lacks_none db t shows probe.meta (inl refl) absent.0
 
 -- what meta holds of a log
-holds : (t : Tables) → IsUndamaged t → IsOurs (meta_in (meta_entry t.decided ∷ []))
+holds : (t : Tables) → IsUndamaged t → IsOurs (meta_in (meta_entry VERSION t.decided ∷ []))
 holds t sound = (t.decided, refl, sound.decided)
 
 not_other : (stored : Option StoredMeta) (n : ℤ) → IsOurs stored → IsOfVersion n stored → ⊥
@@ -272,14 +271,14 @@ known old Foreign t log misses shows are log_shown =
     absurd (lacks_none old.now t shows misses.0.1.0 misses.0.1.1 misses.0.1.2)
 known old (Version n) t log misses shows are log_shown =
     absurd (not_other _ n (holds t (undamaged t log are log_shown))
-    (misses.1 (meta_entry t.decided ∷ []) (has_one old.now t shows)))
+    (misses.1 (meta_entry VERSION t.decided ∷ []) (has_one old.now t shows)))
 known old (Damaged Meta) t log misses shows are log_shown =
     absurd (not_missing _ (holds t (undamaged t log are log_shown))
-    (misses.1 (meta_entry t.decided ∷ []) (has_one old.now t shows)))
+    (misses.1 (meta_entry VERSION t.decided ∷ []) (has_one old.now t shows)))
 known old (Damaged Teller) t log misses shows are log_shown = absurd misses
 known old (Damaged Account) t log misses shows are log_shown = absurd misses
 known old (Damaged Balance) t log misses shows are log_shown = absurd misses
 known old (Damaged Request) t log misses shows are log_shown = absurd misses
 known old (Damaged Value) t log misses shows are log_shown =
-    absurd (misses.1 (meta_entry t.decided ∷ []) (has_one old.now t shows))
+    absurd (misses.1 (meta_entry VERSION t.decided ∷ []) (has_one old.now t shows))
 known old (Damaged Key) t log misses shows are log_shown = absurd misses

@@ -11,8 +11,8 @@ use Rattle.sqlite_trees.specs.declared.error.StoreError.TheVariants.{Unstorable}
 use Rattle.sqlite_schema.specs.Names.{table_named, view_named}
 use Rattle.posting_rules.proofs.Keyed.{by_test}
 use Rattle.sql_meanings.specs.Making.{KeepsTables}
-use Rattle.store_rows.specs.Creation.{CreatesBank, IsEmpty, TablesAreMade, RefusesNext}
-use Rattle.store_rows.specs.Probes.{six_probes}
+use Rattle.store_rows.specs.Creation.{CreatesBank, IsEmpty, TablesAreMade, RefusesNext, all_texts}
+use Rattle.store_rows.specs.Probes.{all_probes}
 use Rattle.store_rows.specs.Probes as probe
 use Rattle.store_rows.proofs.EmptyFile.{refused_on_nothing}
 use Rattle.bank_store.specs.NewBank.{IsRefusedOnTheWay, IsTaken}
@@ -51,7 +51,7 @@ refused_before old mid now limit (e, db, other, inl one) = (
   e,
   db,
   other,
-  inl (subst (λ (it : Database). RefusesNext it.schema db.schema e
+  inl (subst (λ (it : Database). RefusesNext all_texts it.schema db.schema e
       × KeepsTables it db) now one),
 )
 refused_before old mid now limit (e, db, other, inr first) = (
@@ -63,7 +63,7 @@ refused_before old mid now limit (e, db, other, inr first) = (
       | inl met ↦ inl (met.0, subst (λ o. IsSome o) limit met.1)
       | inr none ↦ inr none
     ],
-    subst (λ (it : Database). TablesAreMade it db) now first.1,
+    subst (λ (it : Database). TablesAreMade all_texts it db) now first.1,
   ),
 )
 
@@ -72,8 +72,8 @@ pub if_err : {X E : Type 0} (P Q : E → Type 0) → ((e : E) → P e → Q e) �
 if_err P Q f (Ok x) h = tt
 if_err P Q f (Err e) h = f e h
 
-pub some_there : (db : Database) (p : Presence) → (p ≡ Absent → ⊥) → IsPresent db six_probes p
-    → OneOf six_probes (IsReadable db)
+pub some_there : (db : Database) (p : Presence) → (p ≡ Absent → ⊥) → IsPresent db all_probes p
+    → OneOf all_probes (IsReadable db)
 some_there db Absent not_so here = absurd (not_so refl)
 some_there db Partial not_so here = here.0
 some_there db Whole not_so here = (probe.meta, inl refl, here.0)

@@ -5,11 +5,12 @@ use Rattle.posting_rules.specs.declared.fault.Rule.TheVariants.{Meta, Value}
 use Rattle.posting_rules.specs.declared.limits.TheConstants.{MAX_DECIDED}
 use Rattle.sql_meanings.specs.Entries.{Entry}
 use Rattle.store_rows.specs.Columns.{meta_in}
-use Rattle.store_rows.specs.Probes.{six_probes}
+use Rattle.store_rows.specs.Probes.{all_probes}
 use Rattle.store_rows.specs.Probes as probe
-use Rattle.store_rows.specs.SixTables as six
+use Rattle.store_rows.specs.BankTables as bank
 use Rattle.store_rows.specs.Statements.{HasOtherValue}
 use Rattle.store_rows.specs.View.{HoldsRows, meta_entry}
+use Rattle.store_rows.specs.declared.metas.TheConstants.{VERSION}
 use Rattle.store_rows.specs.declared.metas.StoredMeta.{StoredMeta}
 use Rattle.bank_store.specs.Connections.{IsAsBefore, IsReadOnly}
 use Rattle.bank_store.specs.MetaRow.{IsOurs, IsOfVersion, IsNoCount}
@@ -21,15 +22,15 @@ use Rattle.posting_rules.specs.declared.open_fault.OpenFault.TheVariants.{Damage
 
 -- whatever rows of `meta` the database holds, the row of the bank is so
 abbrev pub MetaIs : State → (Option StoredMeta → Type 0) → Type 0
-MetaIs s P = (rows : List Entry) → HoldsRows s.now six.meta rows → P (meta_in rows)
+MetaIs s P = (rows : List Entry) → HoldsRows s.now bank.meta rows → P (meta_in rows)
 
--- the six tables are there, `meta` with its one row, of our version and with a count within its range, and
+-- its tables are there, `meta` with its one row, of our version and with a count within its range, and
 -- everything is as it was
 pub record BankIsFound (old new : State) : Type 0 where
-  pub tables : IsPresent old.now six_probes Whole
+  pub tables : IsPresent old.now all_probes Whole
   pub meta : MetaIs old IsOurs
-  pub one : (rows : List Entry) → HoldsRows old.now six.meta rows
-      → (decided : ℕ) × (rows ≡ meta_entry decided ∷ []) × (decided ≤ MAX_DECIDED)
+  pub one : (rows : List Entry) → HoldsRows old.now bank.meta rows
+      → (decided : ℕ) × (rows ≡ meta_entry VERSION decided ∷ []) × (decided ≤ MAX_DECIDED)
   pub same : IsAsBefore old new
 
 -- `meta` has no other version than ours
@@ -40,11 +41,11 @@ HasNoOtherVersion old = (n : ℤ) → MetaIs old (λ stored. IsOfVersion n store
 abbrev pub Misses : State → OpenFault → Type 0
 Misses old Store = ⊤
 Misses old NotBlank = ⊥
-Misses old Blank = IsPresent old.now six_probes Absent
-Misses old Foreign = IsPresent old.now six_probes Partial × HasNoOtherVersion old
+Misses old Blank = IsPresent old.now all_probes Absent
+Misses old Foreign = IsPresent old.now all_probes Partial × HasNoOtherVersion old
 Misses old (Version n) = IsReadable old.now probe.meta × MetaIs old (IsOfVersion n)
-Misses old (Damaged Meta) = IsPresent old.now six_probes Whole × MetaIs old IsNoCount
-Misses old (Damaged Value) = IsPresent old.now six_probes Whole × MetaIs old (λ _. ⊥) × HasOtherValue old.now
+Misses old (Damaged Meta) = IsPresent old.now all_probes Whole × MetaIs old IsNoCount
+Misses old (Damaged Value) = IsPresent old.now all_probes Whole × MetaIs old (λ _. ⊥) × HasOtherValue old.now
 Misses old (Damaged _) = ⊥
 
 -- a bank is found, or why it isn't

@@ -8,7 +8,7 @@ use Rattle.sqlite.specs.declared.error.Error.{Error}
 use Rattle.sqlite_trees.specs.declared.store.Store.{Ghosts}
 use Rattle.sql_meanings.specs.Making.{KeepsTables}
 use Rattle.store_rows.specs.Creation.{HasNewBank, IsAlone, RefusedIn, new_tables}
-use Rattle.store_rows.specs.Probes.{six_probes}
+use Rattle.store_rows.specs.Probes.{all_probes}
 use Rattle.store_rows.specs.View.{Shows, ShowsTrees}
 use Rattle.bank_store.specs.Connections.{IsUndoneIfOpen}
 use Rattle.bank_store.specs.OpenFaults.{of_the_store, IsUnmade}
@@ -31,7 +31,7 @@ IsRefusedOnTheWay old = (e : Error) × (db : Database) × (of_the_store e ≡ fa
 
 -- why there is something already: one of the tables is there, or the bank can't be made
 abbrev pub IsTaken : State → Type 0
-IsTaken old = OneOf six_probes (IsReadable old.now) ⊎ IsRefusedOnTheWay old
+IsTaken old = OneOf all_probes (IsReadable old.now) ⊎ IsRefusedOnTheWay old
 
 -- What a call that makes the tables comes to: a bank is made, or, as long as the store is open, nothing has
 -- changed. `Taken` says why there is something already. A stop leaves what it could leave before, or the new

@@ -1,4 +1,4 @@
--- How many of the six tables are there.
+-- How many of a bank's tables are there.
 use Rattle.std.specs.Prelude.{ℕ, Bool, true, false, List, Result, Ok, Err}
 use Rattle.std.specs.List.{AllByRecursion}
 use Rattle.sqlite.specs.Table.{Table}

@@ -7,7 +7,7 @@ ghost use Rattle.posting_rules.specs.Counter.{ShowsLog, StandsAt, LeavesOnly};
 ghost use Rattle.posting_rules.specs.Tables.{AreTablesOf as Show};
 ghost use Rattle.store_rows.specs.Columns.{meta_in};
 ghost use Rattle.sql_meanings.specs.Entries.{Entry};
-ghost use Rattle.store_rows.specs.SixTables.{meta as table};
+ghost use Rattle.store_rows.specs.BankTables.{meta as table};
 ghost use Rattle.store_rows.specs.View.{HoldsRows};
 ghost use Rattle.bank_store.specs.Connections.{conn_seen, state_in, IsAsBefore, IsReadOnly, IsUndoneIfOpen};
 ghost use Rattle.bank_store.specs.FoundBank.{BankIsFound, HasNoOtherVersion, LooksAtVersion, Misses, SeeksBank};

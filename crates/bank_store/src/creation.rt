@@ -1,4 +1,4 @@
-//! A new bank in a file: the six tables, empty but for the row of `meta`.
+//! A new bank in a file: its tables, empty but for the row of `meta`.
 ghost use Rattle.std.specs.Prelude.{◌≡◌, [], IfOk, IfErr, OnOk, false};
 ghost use Rattle.sqlite.specs.State.{HasCleanDisk, Survives};
 ghost use Rattle.sqlite.specs.Held.{state};
@@ -6,7 +6,7 @@ ghost use Rattle.posting_rules.specs.Counter.{StandsAt};
 ghost use Rattle.posting_rules.specs.Tables.{Tables};
 ghost use Rattle.sql_meanings.specs.Making.{KeepsTables};
 ghost use Rattle.store_rows.specs.Creation.{HasNewBank, IsAlone, IsEmpty};
-ghost use Rattle.store_rows.specs.Probes.{six_probes};
+ghost use Rattle.store_rows.specs.Probes.{all_probes};
 ghost use Rattle.store_rows.specs.View.{Shows};
 ghost use Rattle.bank_store.specs.Connections.{state_in, IsUndoneIfOpen};
 ghost use Rattle.bank_store.specs.NewBank.{IsRefusedOnTheWay, IsTaken, MakesBank};
@@ -25,7 +25,7 @@ use sqlite::{Alter, Connection};
 use std::alloc::Global;
 use store_rows::create_tables;
 
-// Makes the six tables and the first row of meta, in one transaction.
+// Makes the tables of a bank and the first row of meta, in one transaction.
 fn make_tables<S: Alter>(conn: &mut Connection<S>) -> Result<(), OpenFault>
     requires { conn.old.in_transaction ≡ false }
     ensures { MakesBank S.Store conn.old conn.new IsRefusedOnTheWay result }
@@ -45,7 +45,7 @@ fn make_tables<S: Alter>(conn: &mut Connection<S>) -> Result<(), OpenFault>
 fn make_bank<S: Alter>(conn: &mut Connection<S>) -> Result<(), OpenFault>
     requires { conn.old.in_transaction ≡ false }
     ensures blank { HasCleanDisk (state S.Store conn.new)
-        → OnOk result (IsPresent (state S.Store conn.old).now six_probes Absent) }
+        → OnOk result (IsPresent (state S.Store conn.old).now all_probes Absent) }
     ensures makes { MakesBank S.Store conn.old conn.new IsTaken result }
 {
     match tables_there(conn)? {
@@ -64,7 +64,7 @@ fn make_bank<S: Alter>(conn: &mut Connection<S>) -> Result<(), OpenFault>
 /// The connection comes back with each, outside a transaction. As long as its store is open, nothing has
 /// changed.
 ///
-/// - [`OpenFault::NotBlank`]: one of the six tables is there, or a statement that makes one is refused.
+/// - [`OpenFault::NotBlank`]: one of a bank's tables is there, or a statement that makes one is refused.
 /// - [`OpenFault::Store`]: a call of `sqlite` failed.
 pub fn create<S: Alter>(alloc: Global, mut conn: Connection<S>) -> Result<Bank<S>, Refused<S>>
     requires { conn.in_transaction ≡ false }
@@ -75,7 +75,7 @@ pub fn create<S: Alter>(alloc: Global, mut conn: Connection<S>) -> Result<Bank<S
     ensures alone { IfOk result (λ bank. HasCleanDisk (state S.Store (connection_of bank))
         → IsAlone (state S.Store conn).now (state S.Store (connection_of bank)).now) }
     ensures blank { IfOk result (λ bank. HasCleanDisk (state S.Store (connection_of bank))
-        → IsPresent (state S.Store conn).now six_probes Absent) }
+        → IsPresent (state S.Store conn).now all_probes Absent) }
     ensures new { IfOk result (λ bank. HasCleanDisk (state S.Store (connection_of bank)) → (tables : Tables)
         → Shows (state S.Store conn).now tables → ⊥) }
     ensures up { IfOk result (λ bank. (bank_seen S.Store bank).is_down → ⊥) }

@@ -1,9 +1,9 @@
-//! Which of the six tables are there.
+//! Which of a bank's tables are there.
 ghost use Rattle.std.specs.Prelude.{◌≡◌, ◌∷◌, IfErr, false, map};
 ghost use Rattle.sqlite.specs.State.{HasCleanDisk, Survives};
 ghost use Rattle.sqlite.specs.Held.{state};
 ghost use Rattle.store_rows.specs.Calls.{Probes};
-ghost use Rattle.store_rows.specs.Probes.{six_probes};
+ghost use Rattle.store_rows.specs.Probes.{all_probes};
 ghost use Rattle.bank_store.specs.StoreFaults.{KnowsCause};
 ghost use Rattle.bank_store.specs.TablePresence.{joined, presence_of, probe_of, TellsPresence};
 
@@ -44,7 +44,7 @@ impl Presence {
     }
 }
 
-/// One of the six tables.
+/// One of a bank's tables.
 #[derive(Clone, Copy)]
 pub(crate) enum BankTable {
     Meta,
@@ -97,11 +97,11 @@ pub(crate) fn count_tables<S: Alter>(
     Ok(there)
 }
 
-/// How many of the six tables are there.
+/// How many of a bank's tables are there.
 pub(crate) fn tables_there<S: Alter>(conn: &mut Connection<S>) -> Result<Presence, OpenFault>
     requires { conn.old.in_transaction ≡ false }
     ensures told { HasCleanDisk (state S.Store conn.new)
-        → TellsPresence (state S.Store conn.old) (state S.Store conn.new) six_probes result }
+        → TellsPresence (state S.Store conn.old) (state S.Store conn.new) all_probes result }
     ensures fault { IfErr result (λ fault. fault ≡ OpenFault.Store) }
     ensures cause { IfErr result (KnowsCause S.Store conn.old conn.new) }
     ensures mode { conn.new.in_transaction ≡ false }

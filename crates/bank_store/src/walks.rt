@@ -265,9 +265,9 @@ ghost use Rattle.bank_walks.specs.Pairs.{HasPairs, pair_key};
 ghost use Rattle.bank_walks.specs.Rows.{HasStoredRows, LEAST, entry_key};
 ghost use Rattle.bank_walks.specs.Stored.{account_entry, asked_pair, branch_entry, is_of, posted_pair};
 ghost use Rattle.bank_walks.specs.Stored.{posting_entry, teller_entry};
-ghost use Rattle.store_rows.specs.SixTables.{account as account_table, branch as branch_table};
-ghost use Rattle.store_rows.specs.SixTables.{history as history_table, request as request_table};
-ghost use Rattle.store_rows.specs.SixTables.{teller as teller_table};
+ghost use Rattle.store_rows.specs.BankTables.{account as account_table, branch as branch_table};
+ghost use Rattle.store_rows.specs.BankTables.{history as history_table, request as request_table};
+ghost use Rattle.store_rows.specs.BankTables.{teller as teller_table};
 
 // Begins a walk over the rows of a kind, those of an account where one is named. The only fault is `Down`.
 fn begin_walk<S: Alter, R: WalkedRow>(

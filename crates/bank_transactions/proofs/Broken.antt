@@ -21,7 +21,7 @@ use Rattle.store_rows.specs.Holders.{entry_under}
 use Rattle.store_rows.specs.Outcomes.{Finds, Never}
 use Rattle.store_rows.specs.Rules.{HoldsBank, IsBroken, KeepsRule, OfRows, StoredRows, HasDecided}
 use Rattle.store_rows.specs.Rules.{BranchKeeps, TellerKeeps, AccountKeeps, RequestKeeps, row_under}
-use Rattle.store_rows.specs.SixTables as six
+use Rattle.store_rows.specs.BankTables as bank
 use Rattle.store_rows.specs.Stored.{BalanceKeeps, FindsStored, IsBalance, IsBranch, IsSameRequest}
 use Rattle.store_rows.specs.View.{HoldsRows}
 use Rattle.store_rows.specs.declared.fault.TableFault.{TableFault}
@@ -177,9 +177,9 @@ above_broken db n b finds beyond = λ rows has keeps.
 
 -- ---- the row of the bank
 
-meta_rows : (db : Database) (rows : StoredRows) → HoldsBank db rows → HoldsRows db six.meta rows.meta
+meta_rows : (db : Database) (rows : StoredRows) → HoldsBank db rows → HoldsRows db bank.meta rows.meta
 meta_rows db rows has =
-    record { sound = has.sound; holds = holds_list db rows has 0 six.meta rows.meta refl refl }
+    record { sound = has.sound; holds = holds_list db rows has 0 bank.meta rows.meta refl refl }
 
 -- a row of whole numbers is never told to be damaged
 pub never_broken : (old new : State) (fault : TableFault)

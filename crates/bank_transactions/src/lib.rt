@@ -1,5 +1,5 @@
 //! What a bank does to its tables: a request, an opening and a look-up, each in one transaction (TPC-B,
-//! clause 1.2). The tables are the six of `store_rows` in a SQLite file.
+//! clause 1.2). The tables are those of `store_rows` in a SQLite file.
 //!
 //! Each of [`post`], [`open_branch`], [`read_balance`] and [`read_next_branch`] is a whole transaction. It
 //! is called outside of one, and none goes on after it. [`begin`] and [`finish`] stand around parts that are

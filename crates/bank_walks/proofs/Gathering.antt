@@ -8,7 +8,7 @@ use Rattle.std.proofs.lemmas.Bool.{cases_Bool}
 use Rattle.std.proofs.lemmas.Bool.Decides.{nat_tests}
 use Rattle.std.proofs.lemmas.Int.{ints, to_z-of_z}
 use Rattle.sqlite.specs.Order.{Row}
-use Rattle.sql_meanings.specs.Entries.{Entry, Rise, numbers}
+use Rattle.sql_meanings.specs.Entries.{Entry, HasWidth, Rise, numbers}
 use Rattle.sql_meanings.specs.Seeks.{is_from}
 use Rattle.sql_meanings.proofs.Changes.{found_all, found_passes}
 use Rattle.sql_meanings.proofs.EntryLists.{Above}
@@ -107,8 +107,8 @@ first_of (suc n) [] [] d low = absurd (omega arith)
 first_of (suc n) [] (e ∷ more) d low = (e, more, refl, refl)
 first_of (suc n) (x ∷ before) behind d low = first_of n before behind d (omega arith)
 
-module _ {R : Type 0} (entry : R → Entry) (Breaks : Entry → Type 0) (width most : ℕ) (found : List Row)
-    (from : ℤ) (rows : List Entry)
+module _ {R : Type 0} (entry : R → Entry) (Breaks : Entry → Type 0) (width : ℕ × ℕ) (most : ℕ)
+    (found : List Row) (from : ℤ) (rows : List Entry)
     (rise : Rise rows) (wide : IsWide width rows) (is : found ≡ shown (take most (rows_from from rows))) where
   -- so many were gathered, and from a number on the others follow
   abbrev pub Gathered : List R → ℤ → Type 0
@@ -123,7 +123,7 @@ module _ {R : Type 0} (entry : R → Entry) (Breaks : Entry → Type 0) (width m
       (so_far : Gathered done next) where
     -- the next row that was found is the next one
     next_is : (e : Entry) × (find (is_from next) rows ≡ Some e) × (row ≡ numbers (all_numbers e))
-        × (length e.values ≡ width)
+        × HasWidth width e
     next_is =
         let all : found ≡ shown (take most (map entry done ++ rows_from next rows)) =
         is ∙ ap (λ l. shown (take most l)) so_far in
@@ -136,7 +136,7 @@ module _ {R : Type 0} (entry : R → Entry) (Breaks : Entry → Type 0) (width m
           at ∙ ap (λ l. get_or l (length done) row) all
               ∙ ap (λ n. get_or (shown (take most (map entry done ++ rows_from next rows))) n row) (sym count)
               ∙ it.3,
-          found_all (λ x. length x.values ≡ width) (is_from next) rows it.0 wide some,
+          found_all (λ x. HasWidth width x) (is_from next) rows it.0 wide some,
         )
 
     -- it was read

@@ -2,10 +2,10 @@
 use Rattle.std.proofs.Common.{List, [], ◌∷◌, map, refl}
 use Rattle.sqlite.specs.Effect.{Database}
 use Rattle.posting_rules.specs.Tables.{Tables}
-use Rattle.store_rows.specs.SixTables as six
+use Rattle.store_rows.specs.BankTables as bank
 use Rattle.store_rows.specs.View.{Shows, account_entry, branch_entry, history_entry, request_entry}
 use Rattle.store_rows.specs.View.{teller_entry}
-use Rattle.store_rows.proofs.BankTables.{Kind, holds, table_of}
+use Rattle.store_rows.proofs.TableKinds.{Kind, holds, table_of}
 use Rattle.store_rows.proofs.TheTables as the
 use Rattle.bank_walks.specs.Rows.{HasStoredRows, HaveKeys, entry_key}
 
@@ -23,17 +23,17 @@ module _ (db : Database) (t : Tables) (shows : Shows db t) where
     least = whole_keys kind (kind.rows t);
   }
 
-  pub has_branches : HasStoredRows db six.branch (map branch_entry t.branches)
+  pub has_branches : HasStoredRows db bank.branch (map branch_entry t.branches)
   has_branches = has_rows the.branches
 
-  pub has_tellers : HasStoredRows db six.teller (map teller_entry t.tellers)
+  pub has_tellers : HasStoredRows db bank.teller (map teller_entry t.tellers)
   has_tellers = has_rows the.tellers
 
-  pub has_accounts : HasStoredRows db six.account (map account_entry t.accounts)
+  pub has_accounts : HasStoredRows db bank.account (map account_entry t.accounts)
   has_accounts = has_rows the.accounts
 
-  pub has_history : HasStoredRows db six.history (map history_entry t.history)
+  pub has_history : HasStoredRows db bank.history (map history_entry t.history)
   has_history = has_rows the.history
 
-  pub has_requests : HasStoredRows db six.request (map request_entry t.requests)
+  pub has_requests : HasStoredRows db bank.request (map request_entry t.requests)
   has_requests = has_rows the.requests

@@ -11,7 +11,7 @@ use Rattle.sqlite.specs.Listing.{understood}
 use Rattle.sqlite.specs.State.{State, FailsToQuery, IsUnchanged, Shown}
 use Rattle.sqlite.specs.declared.error.Error.{Error}
 use Rattle.sqlite.specs.declared.types.Value.TheVariants.{Int}
-use Rattle.sql_meanings.specs.Entries.{Entry, numbers, stored}
+use Rattle.sql_meanings.specs.Entries.{Entry, HasWidth, numbers, stored}
 use Rattle.sql_meanings.specs.Outcomes.{IsStoreError, OnlyShows, ReadFails, WriteFails}
 use Rattle.sql_meanings.specs.Seeks.{begins, is_from, is_of_from, next_from, next_of_from}
 use Rattle.sql_meanings.specs.Tables.{width_of}
@@ -26,7 +26,7 @@ use Rattle.bank_walks.specs.declared.ahead.TheConstants.{AHEAD}
 -- ---- lists
 
 -- rows that pass a test are as wide
-pub wide_filter : (width : ℕ) (p : Entry → Bool) (es : List Entry) → IsWide width es
+pub wide_filter : (width : ℕ × ℕ) (p : Entry → Bool) (es : List Entry) → IsWide width es
     → IsWide width (filter p es)
 wide_filter width p [] all = all
 wide_filter width p (e ∷ es) all = go (p e) (wide_filter width p es all.1)
@@ -66,8 +66,8 @@ taken f zero xs = refl
 taken f (suc n) [] = refl
 taken f (suc n) (x ∷ xs) = ap (λ l. f x ∷ l) (taken f n xs)
 
-same_shown : (width : ℕ) (f : Entry → Row)
-    → ((e : Entry) → length e.values ≡ width → f e ≡ numbers (all_numbers e)) → (es : List Entry)
+same_shown : (width : ℕ × ℕ) (f : Entry → Row)
+    → ((e : Entry) → HasWidth width e → f e ≡ numbers (all_numbers e)) → (es : List Entry)
     → IsWide width es → map f es ≡ shown es
 same_shown width f same [] all = refl
 same_shown width f same (e ∷ es) all =
@@ -85,7 +85,7 @@ module _ (old new : State) (table : Table) (free : table.references ≡ []) (row
     (text : List ℕ) (project : List Term) {V : Type 0} (items : V → List Row) where
   -- the rows from a number on
   pub tells_from : (k : ℤ) → ReadsAs table text (Int k ∷ []) (λ t. next_from AHEAD t project)
-      → ((e : Entry) → length e.values ≡ width_of table → eval_all project ((Int k ∷ []) ∷ stored e ∷ [])
+      → ((e : Entry) → HasWidth (width_of table) e → eval_all project ((Int k ∷ []) ∷ stored e ∷ [])
       ≡ numbers (all_numbers e))
       → (r : Result V Error) → MatchResult r (λ v. Shown text (Int k ∷ []) old new (items v))
       (FailsToQuery text (Int k ∷ []) old new)
@@ -106,7 +106,7 @@ module _ (old new : State) (table : Table) (free : table.references ≡ []) (row
   -- the same of those with a number behind their keys
   pub tells_of_from : (one k : ℤ)
       → ReadsAs table text (Int one ∷ Int k ∷ []) (λ t. next_of_from AHEAD t project)
-      → ((e : Entry) → length e.values ≡ width_of table
+      → ((e : Entry) → HasWidth (width_of table) e
       → eval_all project ((Int one ∷ Int k ∷ []) ∷ stored e ∷ []) ≡ numbers (all_numbers e))
       → (r : Result V Error)
       → MatchResult r (λ v. Shown text (Int one ∷ Int k ∷ []) old new (items v))
@@ -132,7 +132,7 @@ pub record Walks (table : Table) (text : List ℕ) : Type 0 where
   pub free : table.references ≡ []
   pub only : (schema : Schema) → OnlyShows text 1 (understood schema text)
   pub reads : (k : ℤ) → ReadsAs table text (Int k ∷ []) (λ t. next_from AHEAD t project)
-  pub whole : (k : ℤ) (e : Entry) → length e.values ≡ width_of table
+  pub whole : (k : ℤ) (e : Entry) → HasWidth (width_of table) e
       → eval_all project ((Int k ∷ []) ∷ stored e ∷ []) ≡ numbers (all_numbers e)
 
 -- so it tells them

@@ -1,5 +1,5 @@
 -- What the statement of each walk means of its table.
-use Rattle.std.proofs.Common.{◌≡◌, ℕ, ℤ, pos, List, [], ◌∷◌, None, Some, Ok, codes, length, lit≤, refl}
+use Rattle.std.proofs.Common.{◌≡◌, ℕ, ℤ, pos, List, [], ◌∷◌, None, Some, Ok, codes, lit≤, refl}
 use Rattle.std.proofs.Common.{true, false, slice_get}
 use Rattle.sqlite.specs.Order.{Row}
 use Rattle.sqlite.specs.Schema.{Schema}
@@ -21,7 +21,7 @@ use Rattle.sqlite_resolve.specs.Scope.{Name, alias_of, declared}
 use Rattle.sqlite_resolve.specs.Select.{ungrouped}
 use Rattle.sqlite_resolve.specs.Terms.{number}
 use Rattle.sqlite_typing.specs.Types.{accepts_program}
-use Rattle.sql_meanings.specs.Entries.{Entry, numbers, stored}
+use Rattle.sql_meanings.specs.Entries.{Entry, HasWidth, numbers, stored}
 use Rattle.sql_meanings.specs.Plain.{key_column, number_column}
 use Rattle.sql_meanings.specs.Queries.{ascending}
 use Rattle.sql_meanings.specs.Seeks.{key_from, next_from, next_of_from}
@@ -32,7 +32,7 @@ use Rattle.sql_meanings.proofs.ShownColumns.{outputs_at}
 use Rattle.sql_meanings.proofs.SeekTexts.{seeks_by, seeks_of_by}
 use Rattle.sql_meanings.proofs.Statements.{HasTable}
 use Rattle.sql_meanings.proofs.Texts.{IsSelect, only_reads, select_of}
-use Rattle.store_rows.specs.SixTables as six
+use Rattle.store_rows.specs.BankTables as bank
 use Rattle.bank_walks.specs.Outcomes.{all_numbers}
 use Rattle.bank_walks.specs.declared.ahead.TheConstants.{AHEAD}
 use Rattle.bank_walks.specs.declared.texts.TheConstants.{ACCOUNTS_FROM, BRANCHES_FROM, POSTINGS_FROM}
@@ -78,7 +78,7 @@ walks_by : {table : Table} {text : List ℕ} {places : List ℕ} (is : IsSelect 
     ≡ Ok (record { lets = []; body = next_from AHEAD tree project }))
     → ((k : ℤ) (schema : Schema) (p tree : ℕ) → HasTable schema table.name p (placed_at table tree)
     → accepts_program schema [] (next_from AHEAD tree project) (Int k ∷ []) ≡ true)
-    → ((params : Row) (e : Entry) → length e.values ≡ width_of table
+    → ((params : Row) (e : Entry) → HasWidth (width_of table) e
     → eval_all project (params ∷ stored e ∷ []) ≡ numbers (all_numbers e))
     → Walks table text
 walks_by {table} {text} {places} is key project {sort} {cap} {test} {e} {a} {b} {most} ordered limited
@@ -93,53 +93,53 @@ walks_by {table} {text} {places} is key project {sort} {cap} {test} {e} {a} {b} 
       whole = λ k. whole (Int k ∷ []);
     }
 
-is_tellers : IsSelect six.teller TELLERS_FROM.now 1 (0 ∷ 1 ∷ [])
+is_tellers : IsSelect bank.teller TELLERS_FROM.now 1 (0 ∷ 1 ∷ [])
 unfolding everything
-is_tellers = select_of six.teller TELLERS_FROM.now 1 _ _ _ _ _ _ _ _ _ refl refl refl (lit≤ tt) refl refl
+is_tellers = select_of bank.teller TELLERS_FROM.now 1 _ _ _ _ _ _ _ _ _ refl refl refl (lit≤ tt) refl refl
     refl refl (λ tree. refl) (lit≤ tt)
 
-is_branches : IsSelect six.branch BRANCHES_FROM.now 1 (0 ∷ 1 ∷ 2 ∷ [])
+is_branches : IsSelect bank.branch BRANCHES_FROM.now 1 (0 ∷ 1 ∷ 2 ∷ [])
 unfolding everything
-is_branches = select_of six.branch BRANCHES_FROM.now 1 _ _ _ _ _ _ _ _ _ refl refl refl (lit≤ tt) refl refl
+is_branches = select_of bank.branch BRANCHES_FROM.now 1 _ _ _ _ _ _ _ _ _ refl refl refl (lit≤ tt) refl refl
     refl refl (λ tree. refl) (lit≤ tt)
 
-is_accounts : IsSelect six.account ACCOUNTS_FROM.now 1 (0 ∷ 1 ∷ [])
+is_accounts : IsSelect bank.account ACCOUNTS_FROM.now 1 (0 ∷ 1 ∷ [])
 unfolding everything
-is_accounts = select_of six.account ACCOUNTS_FROM.now 1 _ _ _ _ _ _ _ _ _ refl refl refl (lit≤ tt) refl refl
+is_accounts = select_of bank.account ACCOUNTS_FROM.now 1 _ _ _ _ _ _ _ _ _ refl refl refl (lit≤ tt) refl refl
     refl refl (λ tree. refl) (lit≤ tt)
 
-is_postings : IsSelect six.history POSTINGS_FROM.now 1 (0 ∷ 1 ∷ 2 ∷ 3 ∷ 4 ∷ 5 ∷ [])
+is_postings : IsSelect bank.history POSTINGS_FROM.now 1 (0 ∷ 1 ∷ 2 ∷ 3 ∷ 4 ∷ 5 ∷ [])
 unfolding everything
-is_postings = select_of six.history POSTINGS_FROM.now 1 _ _ _ _ _ _ _ _ _ refl refl refl (lit≤ tt) refl refl
+is_postings = select_of bank.history POSTINGS_FROM.now 1 _ _ _ _ _ _ _ _ _ refl refl refl (lit≤ tt) refl refl
     refl refl (λ tree. refl) (lit≤ tt)
 
-is_requests : IsSelect six.request REQUESTS_FROM.now 1 (0 ∷ 1 ∷ 2 ∷ 3 ∷ 4 ∷ 5 ∷ 6 ∷ 7 ∷ [])
+is_requests : IsSelect bank.request REQUESTS_FROM.now 1 (0 ∷ 1 ∷ 2 ∷ 3 ∷ 4 ∷ 5 ∷ 6 ∷ 7 ∷ [])
 unfolding everything
-is_requests = select_of six.request REQUESTS_FROM.now 1 _ _ _ _ _ _ _ _ _ refl refl refl (lit≤ tt) refl refl
+is_requests = select_of bank.request REQUESTS_FROM.now 1 _ _ _ _ _ _ _ _ _ refl refl refl (lit≤ tt) refl refl
     refl refl (λ tree. refl) (lit≤ tt)
 
-pub walks_tellers : Walks six.teller TELLERS_FROM.now
+pub walks_tellers : Walks bank.teller TELLERS_FROM.now
 unfolding is_tellers everything program.program ungrouped
 walks_tellers = walks_by is_tellers (codes "tid") (col 1 0 ∷ col 1 2 ∷ [])
     refl refl refl refl refl refl refl refl refl refl refl refl (λ tree. refl) (λ tree. refl) (λ tree. refl)
     (λ tree. refl) (λ tree. refl) (λ schema p tree has. rw (has.low, has.found))
     (λ k schema p tree has. rw (has.low, has.found)) shows_one
 
-pub walks_branches : Walks six.branch BRANCHES_FROM.now
+pub walks_branches : Walks bank.branch BRANCHES_FROM.now
 unfolding is_branches everything program.program ungrouped
 walks_branches = walks_by is_branches (codes "bid") (col 1 0 ∷ col 1 2 ∷ col 1 3 ∷ [])
     refl refl refl refl refl refl refl refl refl refl refl refl (λ tree. refl) (λ tree. refl) (λ tree. refl)
     (λ tree. refl) (λ tree. refl) (λ schema p tree has. rw (has.low, has.found))
     (λ k schema p tree has. rw (has.low, has.found)) shows_two
 
-pub walks_accounts : Walks six.account ACCOUNTS_FROM.now
+pub walks_accounts : Walks bank.account ACCOUNTS_FROM.now
 unfolding is_accounts everything program.program ungrouped
 walks_accounts = walks_by is_accounts (codes "aid") (col 1 0 ∷ col 1 2 ∷ [])
     refl refl refl refl refl refl refl refl refl refl refl refl (λ tree. refl) (λ tree. refl) (λ tree. refl)
     (λ tree. refl) (λ tree. refl) (λ schema p tree has. rw (has.low, has.found))
     (λ k schema p tree has. rw (has.low, has.found)) shows_one
 
-pub walks_postings : Walks six.history POSTINGS_FROM.now
+pub walks_postings : Walks bank.history POSTINGS_FROM.now
 unfolding is_postings everything program.program ungrouped
 walks_postings = walks_by is_postings (codes "ordinal")
     (col 1 0 ∷ col 1 2 ∷ col 1 3 ∷ col 1 4 ∷ col 1 5 ∷ col 1 6 ∷ [])
@@ -147,7 +147,7 @@ walks_postings = walks_by is_postings (codes "ordinal")
     (λ tree. refl) (λ tree. refl) (λ schema p tree has. rw (has.low, has.found))
     (λ k schema p tree has. rw (has.low, has.found)) shows_five
 
-pub walks_requests : Walks six.request REQUESTS_FROM.now
+pub walks_requests : Walks bank.request REQUESTS_FROM.now
 unfolding is_requests everything program.program ungrouped
 walks_requests = walks_by is_requests (codes "ordinal")
     (col 1 0 ∷ col 1 2 ∷ col 1 3 ∷ col 1 4 ∷ col 1 5 ∷ col 1 6 ∷ col 1 7 ∷ col 1 8 ∷ [])
@@ -156,7 +156,7 @@ walks_requests = walks_by is_requests (codes "ordinal")
     (λ k schema p tree has. rw (has.low, has.found)) shows_seven
 
 -- the account of a posting
-account_of_history : (tree : ℕ) → Tests (placed_at six.history tree) (codes "aid") 2
+account_of_history : (tree : ℕ) → Tests (placed_at bank.history tree) (codes "aid") 2
 unfolding everything
 account_of_history tree =
     record {
@@ -168,22 +168,22 @@ account_of_history tree =
       by_bytes = refl;
     }
 
-pub is_postings_of : IsSelect six.history POSTINGS_OF.now 2 (0 ∷ 1 ∷ 2 ∷ 3 ∷ 4 ∷ 5 ∷ [])
+pub is_postings_of : IsSelect bank.history POSTINGS_OF.now 2 (0 ∷ 1 ∷ 2 ∷ 3 ∷ 4 ∷ 5 ∷ [])
 unfolding everything
-is_postings_of = select_of six.history POSTINGS_OF.now 2 _ _ _ _ _ _ _ _ _ refl refl refl
+is_postings_of = select_of bank.history POSTINGS_OF.now 2 _ _ _ _ _ _ _ _ _ refl refl refl
     (lit≤ tt) refl refl refl refl
     (λ tree. refl) (lit≤ tt)
 
 pub reads_postings_of : (one k : ℤ)
-    → ReadsAs six.history POSTINGS_OF.now (Int one ∷ Int k ∷ [])
+    → ReadsAs bank.history POSTINGS_OF.now (Int one ∷ Int k ∷ [])
     (λ tree. next_of_from AHEAD tree (col 1 0 ∷ col 1 2 ∷ col 1 3 ∷ col 1 4 ∷ col 1 5 ∷ col 1 6 ∷ []))
 unfolding is_postings_of account_of_history everything program.program ungrouped
-reads_postings_of one k = seeks_of_by six.history POSTINGS_OF.now _ AHEAD
+reads_postings_of one k = seeks_of_by bank.history POSTINGS_OF.now _ AHEAD
     (col 1 0 ∷ col 1 2 ∷ col 1 3 ∷ col 1 4 ∷ col 1 5 ∷ col 1 6 ∷ []) (codes "ordinal")
-    (key_of six.history (codes "ordinal") (λ tree. refl) refl (λ tree. refl) (λ tree. refl))
+    (key_of bank.history (codes "ordinal") (λ tree. refl) refl (λ tree. refl) (λ tree. refl))
     (λ tree. refl) (λ tree. refl)
     (codes "aid") account_of_history is_postings_of _ _ _ _ _ _ _ _ _ _ _ refl refl refl refl refl refl refl
     refl refl refl refl refl refl refl
-    (λ schema p tree has. number_at schema p (placed_at six.history tree) has.listed (codes "history")
-    (outputs_at (placed_at six.history tree) (0 ∷ 1 ∷ 2 ∷ 3 ∷ 4 ∷ 5 ∷ [])) false 1 _ refl refl)
+    (λ schema p tree has. number_at schema p (placed_at bank.history tree) has.listed (codes "history")
+    (outputs_at (placed_at bank.history tree) (0 ∷ 1 ∷ 2 ∷ 3 ∷ 4 ∷ 5 ∷ [])) false 1 _ refl refl)
     (λ schema p tree has. rw (has.low, has.found)) one k (λ schema p tree has. rw (has.low, has.found))

@@ -35,14 +35,18 @@ eight (a ∷ b ∷ c ∷ d ∷ e ∷ f ∷ ns) h =
 
 -- three numbers as a row
 pub three_are : (ns : List ℤ) (k next : ℤ) → length ns ≡ 3 → at ns 0 ≡ k → at ns 1 ≡ next
-    → (let it : Entry = record { key = k; values = next ∷ at ns 2 ∷ [] } in it) ≡ entry_of ns
+    → (let it : Entry = record { key = k; values = next ∷ at ns 2 ∷ []; texts = [] } in it) ≡ entry_of ns
 three_are (a ∷ ns) k next wide first second =
     rw (← first, ← second) (ap (λ l. entry_of (a ∷ l)) (sym (two_more ns (omega arith))))
 three_are [] k next wide first second = absurd (omega arith)
 
 -- six numbers as a row
 pub six_are : (ns : List ℤ) (k last : ℤ) → length ns ≡ 6 → at ns 0 ≡ k → at ns 5 ≡ last
-    → (let it : Entry = record { key = k; values = at ns 1 ∷ at ns 2 ∷ at ns 3 ∷ at ns 4 ∷ last ∷ [] } in it)
+    → (let it : Entry = record {
+      key = k;
+      values = at ns 1 ∷ at ns 2 ∷ at ns 3 ∷ at ns 4 ∷ last ∷ [];
+      texts = [];
+    } in it)
     ≡ entry_of ns
 six_are ns k last wide first fifth = rw (← first, ← fifth) (ap entry_of (sym (six ns wide)))
 
@@ -51,6 +55,7 @@ pub eight_are : (ns : List ℤ) (k : ℤ) → length ns ≡ 8 → at ns 0 ≡ k
     → (let it : Entry = record {
       key = k;
       values = at ns 1 ∷ at ns 2 ∷ at ns 3 ∷ at ns 4 ∷ at ns 5 ∷ at ns 6 ∷ at ns 7 ∷ [];
+      texts = [];
     } in it)
     ≡ entry_of ns
 eight_are ns k wide first = rw (← first) (ap entry_of (sym (eight ns wide)))

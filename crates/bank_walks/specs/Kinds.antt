@@ -2,13 +2,13 @@
 use Rattle.std.specs.Prelude.{◌≡◌, ◌≤◌, ◌+◌, ℕ, Bool, true, Option, None, refl}
 use Rattle.sqlite.specs.Table.{Table}
 use Rattle.sql_meanings.specs.Entries.{Entry}
-use Rattle.sql_meanings.specs.Tables.{width_of}
+use Rattle.sql_meanings.specs.Tables.{texts_of, width_of}
 use Rattle.bank_walks.specs.declared.numbers.TheConstants.{MOST_COLUMNS}
 
 pub record Kind (R : Type 0) : Type 1 where
   -- the table that the rows are in
   pub table : Table
-  -- how many numbers a row has, with its key
+  -- how many numbers a row has, with its key; it has no texts
   pub columns : ℕ
   -- how a file holds a row
   pub entry : R → Entry
@@ -16,20 +16,22 @@ pub record Kind (R : Type 0) : Type 1 where
   pub Breaks : Entry → Type 0
   -- the row is one of an account's, or any if none is named
   pub is_given : Option ℕ → Entry → Bool
-  pub are_all : columns ≡ width_of table + 1
+  pub are_all : columns ≡ (width_of table).0 + 1
+  pub untexted : texts_of table ≡ 0
   pub are_few : columns ≤ MOST_COLUMNS
   pub all_given : (e : Entry) → is_given None e ≡ true
 
 -- any row is given
 abbrev pub given_all : {R : Type 0} (table : Table) (columns : ℕ) → (R → Entry) → (Entry → Type 0)
-    → columns ≡ width_of table + 1 → columns ≤ MOST_COLUMNS → Kind R
-given_all table columns entry Breaks are_all are_few = record {
+    → columns ≡ (width_of table).0 + 1 → texts_of table ≡ 0 → columns ≤ MOST_COLUMNS → Kind R
+given_all table columns entry Breaks are_all untexted are_few = record {
   table = table;
   columns = columns;
   entry = entry;
   Breaks = Breaks;
   is_given = λ of e. true;
   are_all = are_all;
+  untexted = untexted;
   are_few = are_few;
   all_given = λ e. refl;
 }

@@ -1,12 +1,12 @@
 -- What is read of a row, and what a step of a walk meets.
-use Rattle.std.specs.Prelude.{◌≡◌, ℕ, ℤ, pos, true, List, [], ◌∷◌, length, map, Option, Some, None, Result}
+use Rattle.std.specs.Prelude.{◌≡◌, ℕ, ℤ, pos, true, List, [], ◌∷◌, map, Option, Some, None, Result}
 use Rattle.std.specs.Prelude.{Ok, Err}
 use Rattle.sqlite.specs.Order.{Row}
 use Rattle.sqlite.specs.declared.error.Error.{Error}
 use Rattle.sqlite.specs.declared.error.Error.TheVariants.{SqliteFailure}
 use Rattle.sqlite.specs.declared.error.ErrorCode.TheVariants.{OutOfMemory}
 use Rattle.posting_rules.specs.declared.fault.Rule.TheVariants as rule
-use Rattle.sql_meanings.specs.Entries.{Entry, numbers}
+use Rattle.sql_meanings.specs.Entries.{Entry, HasWidth, numbers}
 use Rattle.sql_meanings.specs.Seeks.{is_from}
 use Rattle.store_rows.specs.declared.fault.TableFault.{TableFault}
 use Rattle.store_rows.specs.declared.fault.TableFault.TheVariants.{Sqlite, Damaged}
@@ -19,40 +19,41 @@ IsRefusedMemory e = e ≡ SqliteFailure OutOfMemory
 abbrev pub all_numbers : Entry → List ℤ
 all_numbers e = e.key ∷ e.values
 
--- the row that these numbers are, the key first
+-- the row that these numbers are, the key first, and that has no texts
 abbrev pub entry_of : List ℤ → Entry
-entry_of [] = record { key = pos 0; values = [] }
-entry_of (k ∷ values) = record { key = k; values = values }
+entry_of [] = record { key = pos 0; values = []; texts = [] }
+entry_of (k ∷ values) = record { key = k; values = values; texts = [] }
 
 -- the numbers are such a row, or one with a number out of its range
 abbrev pub Stores : {R : Type 0} → (R → Entry) → (Entry → Type 0) → List ℤ → Option R → Type 0
 Stores entry Breaks ns (Some r) = entry r ≡ entry_of ns
 Stores entry Breaks ns None = Breaks (entry_of ns)
 
--- of a row of so many numbers behind the key: what it is; or memory was refused; or a number is out of its
+-- of a row of this width: what it is; or memory was refused; or a number is out of its
 -- range
-abbrev pub ReadsEntry : {R : Type 0} → ℕ → (R → Entry) → (Entry → Type 0) → Row → Result R TableFault → Type 0
+abbrev pub ReadsEntry : {R : Type 0} → ℕ × ℕ → (R → Entry) → (Entry → Type 0) → Row → Result R TableFault
+    → Type 0
 ReadsEntry width entry Breaks row (Ok r) = (e : Entry) → row ≡ numbers (all_numbers e)
-    → length e.values ≡ width → entry r ≡ e
+    → HasWidth width e → entry r ≡ e
 ReadsEntry width entry Breaks row (Err (Sqlite x)) =
-    (e : Entry) → row ≡ numbers (all_numbers e) → length e.values ≡ width → IsRefusedMemory x
+    (e : Entry) → row ≡ numbers (all_numbers e) → HasWidth width e → IsRefusedMemory x
 ReadsEntry width entry Breaks row (Err (Damaged broken)) =
-    (e : Entry) → row ≡ numbers (all_numbers e) → length e.values ≡ width → (broken ≡ rule.Value) × Breaks e
+    (e : Entry) → row ≡ numbers (all_numbers e) → HasWidth width e → (broken ≡ rule.Value) × Breaks e
 
 -- the rows as a statement shows them
 abbrev pub shown : List Entry → List Row
 shown = map (λ e. numbers (all_numbers e))
 
 -- The same of a row whose key is a number or above it: the key of what was read is that number or above it.
-abbrev pub ReadsNext : {R : Type 0} → ℕ → (R → Entry) → (Entry → Type 0) → ℤ → Row → Result R TableFault
+abbrev pub ReadsNext : {R : Type 0} → ℕ × ℕ → (R → Entry) → (Entry → Type 0) → ℤ → Row → Result R TableFault
     → Type 0
 ReadsNext width entry Breaks next row (Ok r) =
-    ((e : Entry) → row ≡ numbers (all_numbers e) → length e.values ≡ width → entry r ≡ e)
+    ((e : Entry) → row ≡ numbers (all_numbers e) → HasWidth width e → entry r ≡ e)
     × (is_from next (entry r) ≡ true)
 ReadsNext width entry Breaks next row (Err (Sqlite x)) =
-    (e : Entry) → row ≡ numbers (all_numbers e) → length e.values ≡ width → IsRefusedMemory x
+    (e : Entry) → row ≡ numbers (all_numbers e) → HasWidth width e → IsRefusedMemory x
 ReadsNext width entry Breaks next row (Err (Damaged broken)) =
-    (e : Entry) → row ≡ numbers (all_numbers e) → length e.values ≡ width → is_from next e ≡ true
+    (e : Entry) → row ≡ numbers (all_numbers e) → HasWidth width e → is_from next e ≡ true
     → (broken ≡ rule.Value) × Breaks e
 
 -- an error of the store of which this holds, or a number of the first to come is out of its range

@@ -1,10 +1,10 @@
 -- The rows of a table in a database, as walks speak of them: of any sound file, whatever its numbers.
-use Rattle.std.specs.Prelude.{◌≡◌, ◌^◌, ◌-◌, ℤ, negsuc, true, ℕ, List, [], length, filter, Option, Some, None}
+use Rattle.std.specs.Prelude.{◌≡◌, ◌^◌, ◌-◌, ℤ, negsuc, true, ℕ, List, [], filter, Option, Some, None}
 use Rattle.std.specs.List.{AllByRecursion}
 use Rattle.std.specs.Ordering.{int_cmp, is_ge}
 use Rattle.sqlite.specs.Table.{Table}
 use Rattle.sqlite.specs.Effect.{Database, IsDatabase}
-use Rattle.sql_meanings.specs.Entries.{Entry}
+use Rattle.sql_meanings.specs.Entries.{Entry, HasWidth}
 use Rattle.sql_meanings.specs.Seeks.{is_from}
 use Rattle.sql_meanings.specs.Tables.{Holds}
 
@@ -19,9 +19,9 @@ pub record HasStoredRows (db : Database) (table : Table) (rows : List Entry) : T
   -- each key is a number of 64 bits
   pub least : AllByRecursion (λ e. is_from LEAST e ≡ true) rows
 
--- each row has so many numbers behind its key
-abbrev pub IsWide : ℕ → List Entry → Type 0
-IsWide width = AllByRecursion (λ e. length e.values ≡ width)
+-- each row is of this width
+abbrev pub IsWide : ℕ × ℕ → List Entry → Type 0
+IsWide width = AllByRecursion (λ e. HasWidth width e)
 
 -- ---- what has keys
 

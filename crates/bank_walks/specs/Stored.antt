@@ -5,7 +5,7 @@ use Rattle.message_records.specs.declared.limits.TheConstants.{MAX_MOMENT}
 use Rattle.posting_rules.specs.declared.limits.TheConstants.{LAST_BRANCH, MAX_DECIDED}
 use Rattle.sql_meanings.specs.Entries.{Entry}
 use Rattle.sql_meanings.specs.Seeks.{begins}
-use Rattle.store_rows.specs.SixTables.{account, branch, history, request, teller}
+use Rattle.store_rows.specs.BankTables.{account, branch, history, request, teller}
 use Rattle.bank_walks.specs.Kinds.{Kind, given_all}
 use Rattle.bank_walks.specs.Pairs.{BreaksPair, Pair, pair_of}
 use Rattle.bank_walks.specs.Reading.{IsOutside}
@@ -23,7 +23,7 @@ number_behind at e = slice_index_or e.values at (pos 0)
 
 -- a row of `branch`
 abbrev pub branch_entry : StoredBranch → Entry
-branch_entry r = record { key = pos r.branch; values = pos r.accounts ∷ r.balance ∷ [] }
+branch_entry r = record { key = pos r.branch; values = pos r.accounts ∷ r.balance ∷ []; texts = [] }
 
 -- no branch has this number, or it can't have so many accounts
 abbrev pub IsNoBranch : Entry → Type 0
@@ -31,7 +31,7 @@ IsNoBranch e = IsOutside 1 LAST_BRANCH e.key ⊎ IsOutside 1 MOST_COUNTED (numbe
 
 -- a row of `teller`
 abbrev pub teller_entry : StoredTeller → Entry
-teller_entry r = record { key = pos r.teller; values = r.balance ∷ [] }
+teller_entry r = record { key = pos r.teller; values = r.balance ∷ []; texts = [] }
 
 -- no teller has this number
 abbrev pub IsNoTeller : Entry → Type 0
@@ -39,7 +39,7 @@ IsNoTeller e = IsOutside 1 LAST_TELLER e.key
 
 -- a row of `account`
 abbrev pub account_entry : StoredAccount → Entry
-account_entry r = record { key = pos r.account; values = r.balance ∷ [] }
+account_entry r = record { key = pos r.account; values = r.balance ∷ []; texts = [] }
 
 -- no account has this number
 abbrev pub IsNoAccount : Entry → Type 0
@@ -50,6 +50,7 @@ abbrev pub posting_entry : StoredPosting → Entry
 posting_entry r = record {
   key = pos r.ordinal;
   values = r.account ∷ r.teller ∷ r.branch ∷ r.delta ∷ pos r.moment ∷ [];
+  texts = [];
 }
 
 -- no posting has this ordinal, or this moment
@@ -61,6 +62,7 @@ abbrev pub request_entry : StoredRequest → Entry
 request_entry r = record {
   key = pos r.ordinal;
   values = r.teller ∷ r.number ∷ r.account ∷ r.branch ∷ r.delta ∷ r.outcome ∷ r.balance ∷ [];
+  texts = [];
 }
 
 -- no request has this ordinal
@@ -75,13 +77,13 @@ is_of (Some account) e = begins (pos account) e.values
 -- ---- what walks go by
 
 abbrev pub branch_kind : Kind StoredBranch
-branch_kind = given_all branch 3 branch_entry IsNoBranch refl (lit≤ tt)
+branch_kind = given_all branch 3 branch_entry IsNoBranch refl refl (lit≤ tt)
 
 abbrev pub teller_kind : Kind StoredTeller
-teller_kind = given_all teller 2 teller_entry IsNoTeller refl (lit≤ tt)
+teller_kind = given_all teller 2 teller_entry IsNoTeller refl refl (lit≤ tt)
 
 abbrev pub account_kind : Kind StoredAccount
-account_kind = given_all account 2 account_entry IsNoAccount refl (lit≤ tt)
+account_kind = given_all account 2 account_entry IsNoAccount refl refl (lit≤ tt)
 
 abbrev pub posting_kind : Kind StoredPosting
 posting_kind = record {
@@ -91,12 +93,13 @@ posting_kind = record {
   Breaks = IsNoPosting;
   is_given = is_of;
   are_all = refl;
+  untexted = refl;
   are_few = lit≤ tt;
   all_given = λ e. refl;
 }
 
 abbrev pub request_kind : Kind StoredRequest
-request_kind = given_all request 8 request_entry IsNoRequest refl (lit≤ tt)
+request_kind = given_all request 8 request_entry IsNoRequest refl refl (lit≤ tt)
 
 -- ---- rows with what is beside them
 

@@ -1,33 +1,6 @@
 -- The row under a key is changed, or a row is put in: what is found after it, and that keys rise on.
-use Rattle.std.proofs.Common.{
-  ◌≡◌,
-  ◌||◌,
-  ℕ,
-  ℤ,
-  List,
-  [],
-  ◌∷◌,
-  map,
-  find,
-  length,
-  is_some,
-  cond,
-  Bool,
-  true,
-  false,
-  Some,
-  None,
-  refl,
-  sym,
-  ap,
-  subst,
-  ◌∙◌,
-  Less,
-  Equal,
-  Greater,
-  Ordering,
-  int_cmp,
-}
+use Rattle.std.proofs.Common.{◌≡◌, ◌||◌, ℕ, ℤ, List, [], ◌∷◌, map, find, is_some, cond, Bool, true, false}
+use Rattle.std.proofs.Common.{Some, None, refl, sym, ap, subst, ◌∙◌, Less, Equal, Greater, Ordering, int_cmp}
 use Rattle.std.specs.Ordering.{int_eq, match_ordering}
 use Rattle.std.specs.List.{AllByRecursion}
 use Rattle.std.proofs.lemmas.Int.{ints}
@@ -36,7 +9,7 @@ use Rattle.std.proofs.lemmas.Bool.Decides.{Decides-int_eq}
 use Rattle.sqlite_value.proofs.OrderLemmas.{value_cmp-Int}
 use Rattle.sqlite.specs.Order.{Row}
 use Rattle.sqlite_rules.specs.Edit.{is_taken}
-use Rattle.sql_meanings.specs.Entries.{Entry, IsTree, Rise, changed, has_key, put, stored}
+use Rattle.sql_meanings.specs.Entries.{HasWidth, Entry, IsTree, Rise, changed, has_key, put, stored}
 use Rattle.sql_meanings.proofs.EntryLists.{Above, rise_put}
 
 -- what holds of every element holds of the one that is found
@@ -64,21 +37,21 @@ pub found_key : (k : ℤ) (es : List Entry) (e : Entry) → find (has_key k) es 
 found_key k es e h = (Decides-int_eq e.key k).0 (found_passes (has_key k) es e h)
 
 -- every row keeps its width as one is put in
-pub wide_put : (width : ℕ) (new : Entry) (es : List Entry) → length new.values ≡ width
-    → AllByRecursion (λ e. length e.values ≡ width) es
-    → AllByRecursion (λ e. length e.values ≡ width) (put new es)
+pub wide_put : (width : ℕ × ℕ) (new : Entry) (es : List Entry) → HasWidth width new
+    → AllByRecursion (λ e. HasWidth width e) es
+    → AllByRecursion (λ e. HasWidth width e) (put new es)
 wide_put width new [] h all = (h, all)
 wide_put width new (e ∷ es) h all = go (int_cmp e.key new.key) (wide_put width new es h all.1)
   where
-    go : (o : Ordering) → AllByRecursion (λ e. length e.values ≡ width) (put new es)
-        → AllByRecursion (λ e. length e.values ≡ width)
+    go : (o : Ordering) → AllByRecursion (λ e. HasWidth width e) (put new es)
+        → AllByRecursion (λ e. HasWidth width e)
         (match_ordering o (e ∷ put new es) (new ∷ es) (new ∷ e ∷ es))
     go Less more = (all.0, more)
     go Equal more = (h, all.1)
     go Greater more = (h, all)
 
 -- a row that is put in keeps a tree a tree
-pub tree_put : {width : ℕ} (rows rows' : List Row) (new : Entry) (es : List Entry) → length new.values ≡ width
+pub tree_put : {width : ℕ × ℕ} (rows rows' : List Row) (new : Entry) (es : List Entry) → HasWidth width new
     → rows' ≡ map stored (put new es)
     → IsTree width rows es → IsTree width rows' (put new es)
 tree_put {width} rows rows' new es wide are tree =

@@ -1,6 +1,7 @@
 -- The rows of a tree and their entries.
 use Rattle.std.proofs.Common.{
   ◌≡◌,
+  ℕ,
   ℤ,
   List,
   [],
@@ -31,13 +32,14 @@ use Rattle.std.specs.Ordering.{is_eq, int_eq, match_ordering}
 use Rattle.std.proofs.lemmas.Int.{ints}
 use Rattle.std.proofs.lemmas.Bool.{cases_Bool}
 use Rattle.std.specs.List.{AllByRecursion}
-use Rattle.sqlite.specs.declared.types.Value.TheVariants.{Null, Int}
+use Rattle.sqlite.specs.declared.types.Value.TheVariants.{Null, Int, Text}
 use Rattle.sqlite.specs.Tree.{has_rowid, put_row, without_rowid}
 use Rattle.sqlite_sql.specs.Ops.{is_true, from_truth, binary, unary}
 use Rattle.sqlite_sql.specs.declared.ops.BinaryOp.TheVariants.{Compare}
 use Rattle.sqlite_sql.specs.declared.ops.CompareOp.TheVariants.{Eq}
 use Rattle.sqlite.specs.Collation.TheVariants.{Binary}
 use Rattle.sqlite_value.proofs.OrderLemmas.{value_cmp-Int}
+use Rattle.sqlite_value.specs.Order.{value_cmp}
 use Rattle.sqlite_trees.proofs.ListLemmas.{filter-map}
 use Rattle.sqlite_schema.specs.declared.schema.Kind.TheVariants.{Integer}
 use Rattle.sqlite.specs.Cast.{cast}
@@ -56,6 +58,11 @@ truth_back false = refl
 pub int_equals : (a b : ℤ) → is_true (binary (Compare Eq Binary) (Int a) (Int b)) ≡ int_eq a b
 unfolding binary
 int_equals a b = truth_back _ ∙ ap is_eq (value_cmp-Int a b)
+
+-- a text is no number
+pub text_apart : (t : List ℕ) (a : ℤ) → is_true (binary (Compare Eq Binary) (Text t) (Int a)) ≡ false
+unfolding binary value_cmp
+text_apart t a = refl
 
 -- a number is stored as it is
 pub cast_int : (n : ℤ) → cast Integer (Int n) ≡ Int n

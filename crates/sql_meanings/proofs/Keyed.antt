@@ -24,10 +24,10 @@ use Rattle.sqlite_sql.specs.declared.ops.CompareOp.TheVariants.{Eq}
 use Rattle.sqlite_syntax.specs.declared.statement.Parsed.{Parsed}
 use Rattle.sqlite_typing.specs.Types.{accepts_program}
 use Rattle.sqlite_value.specs.declared.keys.Collation.TheVariants.{Binary}
-use Rattle.sql_meanings.specs.Entries.{Entry, stored}
+use Rattle.sql_meanings.specs.Entries.{HasWidth, Entry, stored}
 use Rattle.sql_meanings.specs.Plain.{key_column}
 use Rattle.sql_meanings.specs.Queries.{by_key, key_is, no_limit}
-use Rattle.sql_meanings.specs.Tables.{placed_at, width_of}
+use Rattle.sql_meanings.specs.Tables.{placed_at, texts_of, width_of}
 use Rattle.sql_meanings.proofs.ByKey.{Tests, key_at, update_by_key}
 use Rattle.sql_meanings.proofs.Means.{means}
 use Rattle.sql_meanings.proofs.ReadTables.{ReadsAs}
@@ -98,16 +98,16 @@ pub sets_by : (table : Table) (text : List ℕ) (change : ℤ → Entry → Entr
     ≡ Ok (record { lets = []; body = by_key tree project }))
     → ((schema : Schema) (p tree : ℕ) → HasTable schema table.name p (placed_at table tree)
     → accepts_program schema [] (by_key tree project) (Int k ∷ Int v ∷ []) ≡ true)
-    → ((e : Entry) → length e.values ≡ width_of table
+    → ((e : Entry) → HasWidth (width_of table) e
     → eval_all project ((Int k ∷ Int v ∷ []) ∷ stored e ∷ []) ≡ Int e.key ∷ stored (change v e))
     → ((e : Entry) → (change v e).key ≡ e.key)
-    → ((e : Entry) → length e.values ≡ width_of table → length (change v e).values ≡ width_of table)
-    → ((e : Entry) → length e.values ≡ width_of table → e.key ≡ k → passes_checks table (stored (change v e))
+    → ((e : Entry) → HasWidth (width_of table) e → HasWidth (width_of table) (change v e))
+    → ((e : Entry) → HasWidth (width_of table) e → e.key ≡ k → passes_checks table (stored (change v e))
     ≡ true)
-    → ChangesAs table text k (Int v ∷ []) (change v)
+    → texts_of table ≡ 0 → ChangesAs table text k (Int v ∷ []) (change v)
 sets_by table text change project k v P key wanted e test a b places tests parsed is plain whole given value
     equal left right place row typed
-    accepts projects keeps_key keeps_width passes = record {
+    accepts projects keeps_key keeps_width passes untexted = record {
       project = project;
       means = λ schema p tree has. means schema text 2 _ _
           (update_by_key schema table.name p (placed_at table tree) has text P wanted key e test a b 2 1 0
@@ -116,6 +116,7 @@ sets_by table text change project k v P key wanted e test a b places tests parse
       projects = projects;
       keeps_key = keeps_key;
       keeps_width = keeps_width;
+      untexted = untexted;
       accepts = accepts;
       passes = passes;
     }

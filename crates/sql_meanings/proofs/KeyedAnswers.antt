@@ -81,9 +81,8 @@ small_permutation f None ys h = none_permuted ys (length_permutation [] ys h)
 small_permutation f (Some x) ys h = one_permutation (f x) ys h
 
 -- the rows that a keyed query shows are those of the entry with the key
-pub keyed_answer : (lost : Value) {width : ℕ} (t : ℕ) (project : List Term) (db : Trees) (k : ℤ) (more : Row)
-    (rows : List Row)
-    (es : List Entry) → IsTree width (db t) es
+pub keyed_answer : (lost : Value) {width : ℕ × ℕ} (t : ℕ) (project : List Term) (db : Trees) (k : ℤ)
+    (more : Row) (rows : List Row) (es : List Entry) → IsTree width (db t) es
     → IsAnswerAs lost (query (inner t end) (is (col 1 0) (col 0 0) ∷ []) project [] no_limit) db
     (Int k ∷ more) rows
     → rows ≡ map (λ e. eval_all project (met k more e)) (listed (find (has_key k) es))

@@ -131,7 +131,7 @@ first_of g p (x ∷ xs) = go (p x) (first_of g p xs)
     go false more = more
 
 -- the row with the least key above the parameter
-pub next_answer : (lost : Value) {width : ℕ} (t : ℕ) (project : List Term) (db : Trees) (k : ℤ)
+pub next_answer : (lost : Value) {width : ℕ × ℕ} (t : ℕ) (project : List Term) (db : Trees) (k : ℤ)
     (rows : List Row) (es : List Entry)
     → IsTree width (db t) es
     → IsAnswerAs lost (query (inner t end) key_above project ascending (lit (Int (pos 1)))) db

@@ -74,18 +74,17 @@ use Rattle.sqlite_rules.proofs.TableLemmas.{put_all_keeps}
 use Rattle.sql_meanings.specs.Entries.{Entry, has_key, put, stored}
 use Rattle.sql_meanings.specs.Outcomes.{Forbids, HasWideIndex, IsInterrupted, PutFails}
 use Rattle.sql_meanings.specs.Tables.{Holds, placed_at, tree_of}
-use Rattle.sql_meanings.proofs.Casting.{cast_stored}
 use Rattle.sql_meanings.proofs.Means.{Means, no_refusal}
 use Rattle.sql_meanings.proofs.PutRows.{PutsAs, fresh_is, not_both, put_is}
 use Rattle.sql_meanings.proofs.Referring.{asks_none, refers_after}
 use Rattle.sql_meanings.proofs.Refusals.{EditStops, IsFit, edit_stops, forbids}
 use Rattle.sql_meanings.proofs.Steps.{Standing, standing}
 use Rattle.sql_meanings.proofs.Stopping.{Stops, fails_for, stops}
-use Rattle.sql_meanings.proofs.TableWrites.{IsOfNumbers, numbers_at}
+use Rattle.sql_meanings.proofs.TableWrites.{IsPlain, cast_is, plain_at}
 use Rattle.sql_meanings.proofs.PuttingIn.{key_taken, never, none_in, put_in_applies, stopped}
 use Rattle.sql_meanings.proofs.Writing.{same_value, uncounted, went}
 
-module _ (old new : State) (t : Table) (is : IsOfNumbers (uncounted t)) (sound : ∥ IsDatabase old.now ∥₁)
+module _ (old new : State) (t : Table) (is : IsPlain (uncounted t)) (sound : ∥ IsDatabase old.now ∥₁)
     (es : List Entry)
     (holds : Holds old.now (uncounted t) es)
     (text : List ℕ) (params : Row) (e : Entry) (puts : PutsAs (uncounted t) text params e)
@@ -111,8 +110,8 @@ module _ (old new : State) (t : Table) (is : IsOfNumbers (uncounted t)) (sound :
   at : Standing schema table
   at = standing old.now table is.free sound holds.defined
 
-  numbered : IsOfNumbers here
-  numbered = numbers_at table tree is
+  is_plain : IsPlain here
+  is_plain = plain_at table tree is
 
   -- ---- what is put in
 
@@ -130,13 +129,13 @@ module _ (old new : State) (t : Table) (is : IsOfNumbers (uncounted t)) (sound :
   given : (rows : List Row) → rows ≡ source → Given rows
   given rows are = subst Given (sym (are ∙ puts.gives tree)) (record {
     news = ap (λ row. with_rowids Chosen (db tree) (row ∷ []))
-        (cast_stored here is.key is.names e is.columns);
+        (cast_is here is_plain e puts.wide puts.short);
     after = put_is old new t is sound es holds text params e puts;
     taken = λ h. not_both _ (sym (fresh_is old new t is sound es holds text params e puts) ∙ h);
   })
 
   fits : AllByRecursion (IsFit here) (e ∷ [])
-  fits = (record { wide = puts.wide; low = low; checked = puts.passes }, tt)
+  fits = (record { wide = puts.wide; short = puts.short; low = low; checked = puts.passes }, tt)
 
   -- ---- how each part may stop
 
@@ -157,11 +156,11 @@ module _ (old new : State) (t : Table) (is : IsOfNumbers (uncounted t)) (sound :
 
   edit_is : (rows : List Row) (it : Given rows) (stop : Option Error)
       → Edited schema Enforced db (put_by rows) (Err stop) → PutStops stop
-  edit_is rows it stop h = go stop (edit_stops schema db (put_by rows) numbered (e ∷ []) it.news fits ⊥
+  edit_is rows it stop h = go stop (edit_stops schema db (put_by rows) is_plain (e ∷ []) it.news fits ⊥
       (inl (none_in schema Enforced tree (put_by rows).news schema.tables))
       (asks_none schema (put_by rows) is.free refl) refl stop h)
     where
-      go : (stop : Option Error) → EditStops schema db (put_by rows) numbered (e ∷ []) it.news fits ⊥
+      go : (stop : Option Error) → EditStops schema db (put_by rows) is_plain (e ∷ []) it.news fits ⊥
           (inl (none_in schema Enforced tree (put_by rows).news schema.tables))
           (asks_none schema (put_by rows) is.free refl) refl stop
           → PutStops stop

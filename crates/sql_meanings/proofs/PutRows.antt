@@ -14,11 +14,10 @@ use Rattle.sqlite.specs.Command.TheVariants.{Insert}
 use Rattle.sqlite.specs.Effect.{IsDatabase, value_rows}
 use Rattle.sqlite.specs.Rows.{stamped}
 use Rattle.sqlite.specs.State.{State, Executes}
-use Rattle.sql_meanings.specs.Entries.{Entry, has_key, listed, put, stored}
+use Rattle.sql_meanings.specs.Entries.{AreShort, HasWidth, Entry, has_key, listed, put, stored}
 use Rattle.sql_meanings.specs.Tables.{Holds, placed_at, tree_of, width_of}
 use Rattle.sql_meanings.proofs.Statements.{HasTable}
 use Rattle.sql_meanings.proofs.Means.{Means}
-use Rattle.sql_meanings.proofs.Casting.{cast_stored}
 use Rattle.sql_meanings.proofs.Changes.{taken_is, tree_put}
 use Rattle.sql_meanings.proofs.EntryLists.{put_stored}
 use Rattle.sql_meanings.proofs.Steps.{standing}
@@ -30,7 +29,7 @@ use Rattle.sqlite_typing.specs.Types.{accepts_terms}
 use Rattle.sqlite_rules.proofs.ListLemmas.{all_has}
 use Rattle.sql_meanings.specs.Making.{SparesTables}
 use Rattle.sql_meanings.proofs.PuttingIn.{put_in_applies}
-use Rattle.sql_meanings.proofs.TableWrites.{IsOfNumbers, Leaves, steps_by}
+use Rattle.sql_meanings.proofs.TableWrites.{cast_is, IsPlain, Leaves, steps_by}
 
 not_then : (b c : Bool) → (not b && c) ≡ true → b ≡ false
 not_then true c h = absurd cc
@@ -50,11 +49,12 @@ pub record PutsAs (table : Table) (text : List ℕ) (params : Row) (new : Entry)
   pub gives : (tree : ℕ)
       → value_rows (stamped (placed_at table tree) params) width (length terms / width) terms
       ≡ stored new ∷ []
-  pub wide : length new.values ≡ width_of table
+  pub wide : HasWidth (width_of table) new
+  pub short : AreShort new.texts
   pub accepts : (tree : ℕ) → accepts_terms terms (stamped (placed_at table tree) params) ≡ true
   pub passes : passes_checks table (stored new) ≡ true
 
-module _ (old new : State) (t : Table) (is : IsOfNumbers (uncounted t)) (sound : ∥ IsDatabase old.now ∥₁)
+module _ (old new : State) (t : Table) (is : IsPlain (uncounted t)) (sound : ∥ IsDatabase old.now ∥₁)
     (es : List Entry)
     (holds : Holds old.now (uncounted t) es)
     (text : List ℕ) (params : Row) (e : Entry) (puts : PutsAs (uncounted t) text params e) where
@@ -74,7 +74,7 @@ module _ (old new : State) (t : Table) (is : IsOfNumbers (uncounted t)) (sound :
   pub put_is : edited db (put_by (stored e ∷ [])) ≡ map stored (put e es)
   put_is =
       ap (λ row. put_all (db tree) (numbered Chosen (db tree) (row ∷ [])))
-      (cast_stored table is.key is.names e is.columns)
+      (cast_is table is e puts.wide puts.short)
       ∙ ap (put_row (stored e)) holds.rows.are ∙ put_stored e es
 
   -- where its key is free
@@ -82,7 +82,7 @@ module _ (old new : State) (t : Table) (is : IsOfNumbers (uncounted t)) (sound :
       ≡ (not (is_some (find (has_key e.key) es)) && true)
   fresh_is =
       ap (λ row. are_fresh (db tree) (numbered Chosen (db tree) (row ∷ [])))
-      (cast_stored table is.key is.names e is.columns)
+      (cast_is table is e puts.wide puts.short)
       ∙ rw (holds.rows.are, taken_is e es) refl
 
   spares : (count : ℕ) → Wrote old new (put_by (stored e ∷ [])) count → SparesTables old.now new.now t.name

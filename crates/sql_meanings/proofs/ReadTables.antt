@@ -58,7 +58,7 @@ pub overlay_low : (db : Trees) (t : ℕ) → nat_le (2 ^ 31) t ≡ false → ove
 overlay_low db t low = rw low
 
 -- so are its rows
-pub under_overlay : {width : ℕ} {es : List Entry} (db : Trees) (t : ℕ) → nat_le (2 ^ 31) t ≡ false
+pub under_overlay : {width : ℕ × ℕ} {es : List Entry} (db : Trees) (t : ℕ) → nat_le (2 ^ 31) t ≡ false
     → IsTree width (db t) es
     → IsTree width (overlay db [] t) es
 under_overlay {width} {es} db t low tree = subst (λ rows. IsTree width rows es)

@@ -2,7 +2,6 @@
 use Rattle.std.proofs.Common.{◌≡◌, ◌⊎◌, inl, inr, ℕ, ◌==◌, ◌&&◌, not, List, [], ◌∷◌, map, length, Bool, true}
 use Rattle.std.proofs.Common.{false, Some, None, Option, option_map, Err, refl, sym, ap, subst, ◌∙◌, arith}
 use Rattle.std.specs.List.{AllByRecursion, list_all, list_any}
-use Rattle.std.proofs.lemmas.List.{length-map}
 use Rattle.std.proofs.lemmas.Bool.{cases_Bool, cases_lt}
 use Rattle.std.proofs.Math.Logic.{∥∥₁_elim}
 use Rattle.sqlite.specs.Order.{Row}
@@ -32,18 +31,18 @@ use Rattle.sqlite_rules.specs.Action.{Writes, works}
 use Rattle.sqlite_rules.specs.Edit.{IsOversized, are_fresh, have_rowids, id_in, is_referred, left_by}
 use Rattle.sqlite_rules.specs.Edit.{taken_by}
 use Rattle.sqlite_rules.proofs.RuleLemmas.{keeps_at, keeps_from}
-use Rattle.sql_meanings.specs.Entries.{Entry, stored}
+use Rattle.sql_meanings.specs.Entries.{AreShort, HasWidth, Entry, stored}
 use Rattle.sql_meanings.specs.Outcomes.{Forbids, HasWideIndex, has_unique}
 use Rattle.sql_meanings.specs.Tables.{tree_of, width_of}
-use Rattle.sql_meanings.specs.Plain.{key_column, number_column}
 use Rattle.sql_meanings.proofs.NumberRows.{entry_fits, entry_present, entry_typed, none_indexed, none_real}
 use Rattle.sql_meanings.proofs.NumberRows.{row_fits}
-use Rattle.sql_meanings.proofs.TableWrites.{IsOfNumbers}
+use Rattle.sql_meanings.proofs.TableWrites.{fits_columns, IsPlain}
 use Rattle.sql_meanings.proofs.PuttingIn.{key_taken, no_end}
 
 -- the row has as many numbers as the table, its key is one that a file can hold, and it passes the CHECKs
 pub record IsFit (table : Table) (x : Entry) : Type 0 where
-  pub wide : length x.values ≡ width_of table
+  pub wide : HasWidth (width_of table) x
+  pub short : AreShort x.texts
   pub low : fits_i64 x.key ≡ true
   pub checked : passes_checks table (stored x) ≡ true
 
@@ -61,14 +60,7 @@ all_stored : (table : Table) (p : Row → Bool) → ((x : Entry) → IsFit table
 all_stored table p each [] fits = refl
 all_stored table p each (x ∷ xs) fits = rw (each x fits.0) (all_stored table p each xs fits.1)
 
-names_wide : (key : List ℕ) (names : List (List ℕ)) (table : Table) (n : ℕ)
-    → table.columns ≡ key_column key ∷ map number_column names
-    → n ≡ width_of table → n ≡ length names
-names_wide key names table n is wide =
-    let long : length table.columns ≡ length (key_column key ∷ map number_column names) = ap length is in
-    let same : length (map number_column names) ≡ length names = length-map names number_column in omega arith
-
-module _ (schema : Schema) (db : Trees) (edit : Edit) (is : IsOfNumbers edit.table) (xs : List Entry)
+module _ (schema : Schema) (db : Trees) (edit : Edit) (is : IsPlain edit.table) (xs : List Entry)
     (news : edit.news ≡ map stored xs)
     (fits : AllByRecursion (IsFit edit.table) xs) where
   regular : Regular schema db edit
@@ -79,13 +71,12 @@ module _ (schema : Schema) (db : Trees) (edit : Edit) (is : IsOfNumbers edit.tab
           is.keyed,
           is.columns,
           is.uncomputed,
-          entry_typed is.key is.names x
-              (names_wide is.key is.names edit.table _ is.columns h.wide),
+          entry_typed is.key _ x (fits_columns edit.table is x h.wide h.short),
         ) refl) xs fits;
     present = ap (list_all (passes NotNull schema db edit.table)) news ∙ all_stored edit.table
         (passes NotNull schema db edit.table)
-        (λ x h. rw (is.keyed, is.columns) (entry_present is.key is.names x
-        (names_wide is.key is.names edit.table _ is.columns h.wide))) xs fits;
+        (λ x h. rw (is.keyed, is.columns) (entry_present is.key _ x
+        (fits_columns edit.table is x h.wide h.short))) xs fits;
     checked = ap (list_all (passes Check schema db edit.table)) news ∙ all_stored edit.table
         (passes Check schema db edit.table) (λ x h. h.checked) xs fits;
     keyed = ap have_rowids news ∙ all_stored edit.table _ (λ x h. refl) xs fits;
@@ -122,18 +113,20 @@ module _ (schema : Schema) (db : Trees) (edit : Edit) (is : IsOfNumbers edit.tab
       → HasWideIndex schema edit.table
   oversized at row there h =
       let x = one_stored xs fits row (subst (λ rows. Has rows row) news there) in
-      let none = none_real edit.table is.key is.names is.columns in
+      let none =
+      none_real edit.table is.key _ _ is.columns (fits_columns edit.table is x.0 x.2.wide x.2.short) in
       elim h [
         | inl big ↦ absurd (big (subst (IsStorableRow (table_reals edit.table)) (sym x.1)
             (subst (λ n. IsStorableRow n (stored x.0)) (sym none)
-            (row_fits x.0 (let wide = x.2.wide in let narrow = is.narrow in omega arith)))))
+            (row_fits x.0 x.2.short (let wide = x.2.wide.0 ∙ ap (λ w. w.0) is.width in
+            let also = x.2.wide.1 ∙ ap (λ w. w.1) is.width in let narrow = is.narrow in omega arith)))))
         | inr (i, listed, of, big) ↦ elim (cases_lt 2000 (length i.columns)) [
           | inl wide ↦ (i, listed, of ∙ sym at, wide)
           | inr few ↦ absurd (big (subst (IsStorable (index_reals (table_reals edit.table) i.columns))
               (ap (entry_of i.columns) (sym x.1))
               (subst (λ n. IsStorable n (entry_of i.columns (stored x.0)))
               (sym (ap (λ n. index_reals n i.columns) none ∙ none_indexed i.columns))
-              (entry_fits x.0 i.columns few))))
+              (entry_fits x.0 i.columns x.2.short few))))
         ]
       ]
 

@@ -16,7 +16,7 @@ use Rattle.sqlite.specs.Term.{Term, Env, eval_all, holds}
 use Rattle.sqlite.specs.Query.{IsAnswerAs, matches_as, page, inner, end}
 use Rattle.sql_meanings.specs.Entries.{Entry, IsTree, stored}
 use Rattle.sql_meanings.specs.Seeks.{is_from, is_of_from, key_from, next_from, next_of_from, of_from}
-use Rattle.sql_meanings.proofs.EntryLists.{int_equals}
+use Rattle.sql_meanings.proofs.EntryLists.{int_equals, text_apart}
 use Rattle.sql_meanings.proofs.OrderedAnswers.{ordered_answer, rise_filter}
 use Rattle.sql_meanings.proofs.TestedAnswers.{passing}
 
@@ -40,21 +40,24 @@ both_true false b = refl
 passes_from : (k : ℤ) (e : Entry) → list_all (holds ((Int k ∷ []) ∷ stored e ∷ [])) key_from ≡ is_from k e
 passes_from k e = rw (int_from e.key k) (and_true (is_from k e))
 
-first_two : (one k key n : ℤ) (more : List ℤ)
-    → list_all (holds ((Int one ∷ Int k ∷ []) ∷ stored (record { key = key; values = n ∷ more }) ∷ []))
-    of_from
+first_two : (one k key n : ℤ) (more : List ℤ) (texts : List (List ℕ))
+    → list_all (holds ((Int one ∷ Int k ∷ [])
+    ∷ stored (record { key = key; values = n ∷ more; texts = texts }) ∷ [])) of_from
     ≡ (int_eq n one && (is_ge (int_cmp key k) && true))
-first_two one k key n more = rw (int_equals n one, int_from key k)
+first_two one k key n more texts = rw (int_equals n one, int_from key k)
 
-passes_of : (one k key : ℤ) (values : List ℤ)
-    → list_all (holds ((Int one ∷ Int k ∷ []) ∷ stored (record { key = key; values = values }) ∷ [])) of_from
-    ≡ is_of_from one k (record { key = key; values = values })
+passes_of : (one k key : ℤ) (values : List ℤ) (texts : List (List ℕ))
+    → list_all (holds ((Int one ∷ Int k ∷ [])
+    ∷ stored (record { key = key; values = values; texts = texts }) ∷ [])) of_from
+    ≡ is_of_from one k (record { key = key; values = values; texts = texts })
 unfolding binary
-passes_of one k key [] = refl
-passes_of one k key (n ∷ more) = first_two one k key n more ∙ both_true (int_eq n one) (is_ge (int_cmp key k))
+passes_of one k key [] [] = refl
+passes_of one k key [] (s ∷ texts) = rw (text_apart s one) refl
+passes_of one k key (n ∷ more) texts = first_two one k key n more texts
+    ∙ both_true (int_eq n one) (is_ge (int_cmp key k))
 
 -- the rows from the parameter on, by rising keys, cut by the limit
-pub from_answer : (lost : Value) {width : ℕ} (most t : ℕ) (project : List Term) (db : Trees) (k : ℤ)
+pub from_answer : (lost : Value) {width : ℕ × ℕ} (most t : ℕ) (project : List Term) (db : Trees) (k : ℤ)
     (rows : List Row) (es : List Entry)
     → IsTree width (db t) es
     → IsAnswerAs lost (next_from most t project) db (Int k ∷ []) rows
@@ -71,7 +74,7 @@ from_answer lost most t project db k rows es tree a =
     (rise_filter (is_from k) es tree.rise) matched a
 
 -- the same of those with the first parameter behind their keys
-pub of_from_answer : (lost : Value) {width : ℕ} (most t : ℕ) (project : List Term) (db : Trees) (one k : ℤ)
+pub of_from_answer : (lost : Value) {width : ℕ × ℕ} (most t : ℕ) (project : List Term) (db : Trees) (one k : ℤ)
     (rows : List Row)
     (es : List Entry) → IsTree width (db t) es
     → IsAnswerAs lost (next_of_from most t project) db (Int one ∷ Int k ∷ []) rows
@@ -83,6 +86,6 @@ of_from_answer lost most t project db one k rows es tree a =
     let kept = filter (is_of_from one k) es in
     let matched : matches_as lost db of_from (inner t end) (params ∷ []) ≡ map f kept =
     ap (flat_map (λ r. matches_as lost db of_from end (params ∷ r ∷ []))) tree.are
-    ∙ passing params of_from (is_of_from one k) (λ e. passes_of one k e.key e.values) lost db es in
+    ∙ passing params of_from (is_of_from one k) (λ e. passes_of one k e.key e.values e.texts) lost db es in
     ordered_answer (inner t end) of_from project _ f (λ e. refl) lost db params rows kept
     (rise_filter (is_of_from one k) es tree.rise) matched a

@@ -33,16 +33,16 @@ use Rattle.sqlite_schema.specs.Rules.{Refers}
 use Rattle.sqlite_rules.specs.declared.error.Refusal.{Refusal}
 use Rattle.sqlite_rules.specs.declared.error.Refusal.TheVariants.{Violates}
 use Rattle.sqlite.specs.Rowids.TheVariants.{Given}
+use Rattle.sqlite_rules.specs.Cast.{cast_row}
 use Rattle.sqlite_rules.specs.Calls.{ids_of}
 use Rattle.sqlite_rules.specs.Edit.{are_fresh, is_taken, left_by, taken_by}
 use Rattle.sqlite_rules.specs.Action.{works}
 use Rattle.sqlite_rules.specs.Lists.{Has}
 use Rattle.sqlite_rules.proofs.ListLemmas.{all_has}
-use Rattle.sql_meanings.specs.Entries.{Entry, changed, has_key, listed, stored}
+use Rattle.sql_meanings.specs.Entries.{HasWidth, Entry, changed, has_key, listed, stored}
 use Rattle.sql_meanings.specs.Outcomes.{Forbids, HasWideIndex, IsInterrupted, SetFails, is_parent}
 use Rattle.sql_meanings.specs.Tables.{Holds, placed_at, tree_of, width_of}
 use Rattle.sql_meanings.specs.Queries.{by_key}
-use Rattle.sql_meanings.proofs.Casting.{cast_stored}
 use Rattle.sql_meanings.proofs.Changes.{found_all, found_key, taken_is}
 use Rattle.sql_meanings.proofs.EntryLists.{none_without, without, without_stored}
 use Rattle.sql_meanings.proofs.KeyedAnswers.{keyed_answer}
@@ -53,11 +53,11 @@ use Rattle.sql_meanings.proofs.Refusals.{EditStops, IsFit, edit_stops, forbids}
 use Rattle.sql_meanings.proofs.SetRows.{ChangesAs, set_rows}
 use Rattle.sql_meanings.proofs.Steps.{Standing, standing}
 use Rattle.sql_meanings.proofs.Stopping.{Stops, fails_for, fails_split, stops}
-use Rattle.sql_meanings.proofs.TableWrites.{IsOfNumbers, numbers_at}
+use Rattle.sql_meanings.proofs.TableWrites.{IsPlain, cast_is, none_short, plain_at}
 use Rattle.sql_meanings.proofs.PuttingIn.{never, stopped}
 use Rattle.sql_meanings.proofs.Writing.{same_value, went}
 
-module _ (old new : State) (table : Table) (is : IsOfNumbers table) (sound : ∥ IsDatabase old.now ∥₁)
+module _ (old new : State) (table : Table) (is : IsPlain table) (sound : ∥ IsDatabase old.now ∥₁)
     (es : List Entry)
     (holds : Holds old.now table es)
     (text : List ℕ) (k : ℤ) (more : Row) (change : Entry → Entry)
@@ -87,8 +87,8 @@ module _ (old new : State) (table : Table) (is : IsOfNumbers table) (sound : ∥
     at : Standing schema table
     at = standing old.now table is.free sound holds.defined
 
-    numbered : IsOfNumbers here
-    numbered = numbers_at table tree is
+    is_plain : IsPlain here
+    is_plain = plain_at table tree is
 
     -- ---- what is written
 
@@ -116,6 +116,7 @@ module _ (old new : State) (table : Table) (is : IsOfNumbers table) (sound : ∥
       fits = (
         record {
           wide = changes.keeps_width e wide;
+          short = none_short here changes.untexted (change e) after_wide;
           low = rw (changes.keeps_key e ∙ key) low;
           checked = changes.passes e wide key;
         },
@@ -126,15 +127,21 @@ module _ (old new : State) (table : Table) (is : IsOfNumbers table) (sound : ∥
       fresh = still_fresh;
     }
       where
-        wide : length e.values ≡ width_of table
-        wide = found_all (λ x. length x.values ≡ width_of table) (has_key k) es e holds.rows.wide found
+        wide : HasWidth (width_of table) e
+        wide = found_all (λ x. HasWidth (width_of table) x) (has_key k) es e holds.rows.wide found
+
+        after_wide : HasWidth (width_of table) (change e)
+        after_wide = changes.keeps_width e wide
+
+        unchanged : cast_row here (stored (change e)) ≡ stored (change e)
+        unchanged = cast_is here is_plain (change e) after_wide
+            (none_short here changes.untexted (change e) after_wide)
 
         rows_are : rows ≡ (Int e.key ∷ stored (change e)) ∷ []
         rows_are = are ∙ ap (λ row. row ∷ []) (changes.projects e wide)
 
         new_row : (set_by rows).news ≡ stored (change e) ∷ []
-        new_row = ap (λ rs. (set_by rs).news) rows_are ∙ ap (λ row. row ∷ [])
-            (cast_stored here is.key is.names (change e) is.columns)
+        new_row = ap (λ rs. (set_by rs).news) rows_are ∙ ap (λ row. row ∷ []) unchanged
 
         key : e.key ≡ k
         key = found_key k es e found
@@ -142,8 +149,7 @@ module _ (old new : State) (table : Table) (is : IsOfNumbers table) (sound : ∥
         still_fresh : are_fresh (left_by db (set_by rows)) (set_by rows).news ≡ true
         still_fresh =
             ap (λ rs. are_fresh (left_by db (set_by rs)) (set_by rs).news) rows_are
-            ∙ ap (λ row. not (is_taken (without_rowid e.key (db tree)) row) && true)
-            (cast_stored here is.key is.names (change e) is.columns)
+            ∙ ap (λ row. not (is_taken (without_rowid e.key (db tree)) row) && true) unchanged
             ∙ ap (λ rs. not (is_taken (without_rowid e.key rs) (stored (change e))) && true) holds.rows.are
             ∙ ap (λ rs. not (is_taken rs (stored (change e))) && true) (without_stored e.key es)
             ∙ rw (taken_is (change e) (without e.key es), changes.keeps_key e, none_without e.key es) refl
@@ -186,11 +192,11 @@ module _ (old new : State) (table : Table) (is : IsOfNumbers table) (sound : ∥
 
     edit_is : (rows : List Row) (it : Met rows) (stop : Option Error)
         → Edited schema Enforced db (set_by rows) (Err stop) → SetStops stop
-    edit_is rows it stop h = go stop (edit_stops schema db (set_by rows) numbered it.entries it.news it.fits
+    edit_is rows it stop h = go stop (edit_stops schema db (set_by rows) is_plain it.entries it.news it.fits
         (IsTrue (is_parent schema table)) (acts rows) (asks_parent schema (set_by rows) is.free) refl stop h)
       where
         go : (stop : Option Error)
-            → EditStops schema db (set_by rows) numbered it.entries it.news it.fits
+            → EditStops schema db (set_by rows) is_plain it.entries it.news it.fits
             (IsTrue (is_parent schema table))
             (acts rows) (asks_parent schema (set_by rows) is.free) refl stop → SetStops stop
         go None h = h

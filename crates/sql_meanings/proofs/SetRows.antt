@@ -39,19 +39,18 @@ use Rattle.sqlite.specs.Rowids.TheVariants.{Given}
 use Rattle.sqlite.specs.Command.TheVariants.{Update}
 use Rattle.sqlite.specs.Effect.{IsDatabase}
 use Rattle.sqlite.specs.State.{State, Executes}
-use Rattle.sql_meanings.specs.Entries.{Entry, IsTree, changed, has_key, listed, put, stored}
-use Rattle.sql_meanings.specs.Tables.{Holds, placed_at, tree_of, width_of}
+use Rattle.sql_meanings.specs.Entries.{HasWidth, Entry, IsTree, changed, has_key, listed, put, stored}
+use Rattle.sql_meanings.specs.Tables.{Holds, placed_at, tree_of, width_of, texts_of}
 use Rattle.sql_meanings.specs.Queries.{by_key}
 use Rattle.sql_meanings.proofs.Statements.{HasTable}
 use Rattle.sql_meanings.proofs.Means.{Means}
-use Rattle.sql_meanings.proofs.Casting.{cast_stored}
 use Rattle.sql_meanings.proofs.Changes.{none_changed, put_changed, tree_put, found_all}
 use Rattle.sql_meanings.proofs.EntryLists.{put_stored, put_without, without, without_stored}
 use Rattle.sql_meanings.proofs.KeyedAnswers.{keyed_answer}
 use Rattle.sql_meanings.proofs.ReadTables.{under_overlay}
 use Rattle.sql_meanings.proofs.Steps.{standing}
 use Rattle.sql_meanings.proofs.Writing.{updates}
-use Rattle.sql_meanings.proofs.TableWrites.{IsOfNumbers, Leaves, steps_by}
+use Rattle.sql_meanings.proofs.TableWrites.{cast_is, none_short, IsPlain, Leaves, steps_by}
 
 -- with these parameters the text changes so the row under the key
 pub record ChangesAs (table : Table) (text : List ℕ) (k : ℤ) (more : Row)
@@ -60,16 +59,17 @@ pub record ChangesAs (table : Table) (text : List ℕ) (k : ℤ) (more : Row)
   pub means : (schema : Schema) (p tree : ℕ) → HasTable schema table.name p (placed_at table tree)
       → Means schema text (length (Int k ∷ more))
       (Update p (record { lets = []; body = by_key tree project }))
-  pub projects : (e : Entry) → length e.values ≡ width_of table
+  pub projects : (e : Entry) → HasWidth (width_of table) e
       → eval_all project ((Int k ∷ more) ∷ stored e ∷ []) ≡ Int e.key ∷ stored (change e)
   pub keeps_key : (e : Entry) → (change e).key ≡ e.key
-  pub keeps_width : (e : Entry) → length e.values ≡ width_of table → length (change e).values ≡ width_of table
+  pub keeps_width : (e : Entry) → HasWidth (width_of table) e → HasWidth (width_of table) (change e)
+  pub untexted : texts_of table ≡ 0
   pub accepts : (schema : Schema) (p tree : ℕ) → HasTable schema table.name p (placed_at table tree)
       → accepts_program schema [] (by_key tree project) (Int k ∷ more) ≡ true
-  pub passes : (e : Entry) → length e.values ≡ width_of table → e.key ≡ k
+  pub passes : (e : Entry) → HasWidth (width_of table) e → e.key ≡ k
       → passes_checks table (stored (change e)) ≡ true
 
-module _ (old new : State) (table : Table) (is : IsOfNumbers table) (sound : ∥ IsDatabase old.now ∥₁)
+module _ (old new : State) (table : Table) (is : IsPlain table) (sound : ∥ IsDatabase old.now ∥₁)
     (es : List Entry)
     (holds : Holds old.now table es)
     (text : List ℕ) (k : ℤ) (more : Row) (change : Entry → Entry)
@@ -91,18 +91,19 @@ module _ (old new : State) (table : Table) (is : IsOfNumbers table) (sound : ∥
     pub stands : IsTree (width_of table) rows after
     pub met : count ≡ cond there 1 0
 
-  one_edit : (e : Entry) → edited db (set_by ((Int e.key ∷ stored (change e)) ∷ []))
+  one_edit : (e : Entry) → HasWidth (width_of table) (change e)
+      → edited db (set_by ((Int e.key ∷ stored (change e)) ∷ []))
       ≡ put_row (stored (change e)) (without_rowid e.key (db tree))
-  one_edit e = ap (λ row. put_row row (without_rowid e.key (db tree)))
-      (cast_stored table is.key is.names (change e) is.columns)
+  one_edit e after = ap (λ row. put_row row (without_rowid e.key (db tree)))
+      (cast_is table is (change e) after (none_short table changes.untexted (change e) after))
 
   set_one : (e : Entry) → find (has_key k) es ≡ Some e
       → edited db (set_by (shown e ∷ [])) ≡ map stored (changed change k es)
   set_one e found =
-      let wide = found_all (λ x. length x.values ≡ width_of table) (has_key k) es e holds.rows.wide found in
+      let wide = found_all (λ x. HasWidth (width_of table) x) (has_key k) es e holds.rows.wide found in
       let key = changes.keeps_key e in
       ap (λ row. edited db (set_by (row ∷ []))) (changes.projects e wide)
-      ∙ one_edit e
+      ∙ one_edit e (changes.keeps_width e wide)
       ∙ ap (λ rows. put_row (stored (change e)) (without_rowid e.key rows)) holds.rows.are
       ∙ ap (put_row (stored (change e))) (without_stored e.key es)
       ∙ put_stored (change e) (without e.key es)
@@ -119,7 +120,7 @@ module _ (old new : State) (table : Table) (is : IsOfNumbers table) (sound : ∥
       (subst (λ l. Set (db tree) l 0 false) (sym (none_changed change changes.keeps_key k es found))
       (record { stands = holds.rows; met = refl }))
   set_rows rows (Some e) found are =
-      let wide = found_all (λ x. length x.values ≡ width_of table) (has_key k) es e holds.rows.wide found in
+      let wide = found_all (λ x. HasWidth (width_of table) x) (has_key k) es e holds.rows.wide found in
       let put_is = put_changed change changes.keeps_key k es e holds.rows.rise found in
       let after = tree_put (db tree) (map stored (put (change e) es)) (change e) es
       (changes.keeps_width e wide) refl holds.rows in

@@ -1,14 +1,17 @@
 -- What a write of one table leaves.
-use Rattle.std.proofs.Common.{◌≡◌, ◌≤◌, ℕ, Some, List, [], ◌∷◌, map, sym, ap, subst, ◌∙◌}
+use Rattle.std.proofs.Common.{◌≡◌, ◌≤◌, ◌+◌, ◌++◌, length, ℕ, Some, List, [], ◌∷◌, map, sym, ap, subst, ◌∙◌}
+use Rattle.std.proofs.Common.{arith}
 use Rattle.sqlite.specs.Order.{Row}
 use Rattle.sqlite.specs.Table.{Table}
 use Rattle.sqlite.specs.Edit.{Edit, edited}
 use Rattle.sqlite.specs.Effect.{IsDatabase}
 use Rattle.sqlite.specs.State.{State}
-use Rattle.sql_meanings.specs.Entries.{Entry, IsTree}
+use Rattle.sql_meanings.specs.Entries.{Entry, IsTree, HasWidth, AreShort, numbers, texts_held, stored}
+use Rattle.sqlite_rules.specs.Cast.{cast_row}
+use Rattle.sql_meanings.proofs.Casting.{AreFor, all_for, cast_stored}
 use Rattle.sql_meanings.specs.Making.{SparesStanding, Stands}
-use Rattle.sql_meanings.specs.Tables.{placed_at, tree_of, width_of}
-use Rattle.sql_meanings.specs.Plain.{key_column, number_column}
+use Rattle.sql_meanings.specs.Tables.{placed_at, tree_of, width_of, texts_of}
+use Rattle.sql_meanings.specs.Plain.{key_column, number_column, text_column}
 use Rattle.sql_meanings.proofs.Steps.{Steps}
 use Rattle.sql_meanings.proofs.Writing.{Wrote}
 
@@ -20,27 +23,45 @@ pub record Leaves (old new : State) (table : Table) (es : List Entry) : Type 0 w
   pub sound : IsDatabase new.now
   pub marks : new.marks ≡ old.marks
 
--- a table of a key and at most 1999 whole numbers, with no foreign key of its own and no AUTOINCREMENT
-pub record IsOfNumbers (table : Table) : Type 0 where
+-- a table of a key, and of at most 1999 whole numbers and texts behind it, with no foreign key of its own and
+-- no AUTOINCREMENT
+pub record IsPlain (table : Table) : Type 0 where
   pub free : table.references ≡ []
   pub keyed : table.key ≡ Some 0
   pub uncomputed : table.computed ≡ []
-  pub narrow : width_of table ≤ 1999
   pub key : List ℕ
   pub names : List (List ℕ)
-  pub columns : table.columns ≡ key_column key ∷ map number_column names
+  pub texts : List (List ℕ)
+  pub columns : table.columns ≡ key_column key ∷ (map number_column names ++ map text_column texts)
+  pub width : width_of table ≡ (length names, length texts)
+  pub narrow : length names + length texts ≤ 1999
 
 -- so is the same table in another tree
-pub numbers_at : (table : Table) (tree : ℕ) → IsOfNumbers table → IsOfNumbers (placed_at table tree)
-numbers_at table tree is = record {
+pub plain_at : (table : Table) (tree : ℕ) → IsPlain table → IsPlain (placed_at table tree)
+plain_at table tree is = record {
   free = is.free;
   keyed = is.keyed;
   uncomputed = is.uncomputed;
-  narrow = is.narrow;
   key = is.key;
   names = is.names;
+  texts = is.texts;
   columns = is.columns;
+  width = is.width;
+  narrow = is.narrow;
 }
+
+-- a row of its width has a value for each column, where its texts are short
+pub fits_columns : (table : Table) (is : IsPlain table) (e : Entry) → HasWidth (width_of table) e
+    → AreShort e.texts
+    → AreFor (map number_column is.names ++ map text_column is.texts) (numbers e.values ++ texts_held e.texts)
+fits_columns table is e wide short =
+    all_for is.names e.values is.texts e.texts (wide.0 ∙ ap (λ w. w.0) is.width)
+    (wide.1 ∙ ap (λ w. w.1) is.width) short
+
+-- such a row is stored as it is
+pub cast_is : (table : Table) (is : IsPlain table) (e : Entry) → HasWidth (width_of table) e
+    → AreShort e.texts → cast_row table (stored e) ≡ stored e
+cast_is table is e wide short = cast_stored table is.key _ e is.columns (fits_columns table is e wide short)
 
 -- what a write that is done leaves of every table
 pub steps_by : (old new : State) (edit : Edit) (count : ℕ) (name : List ℕ)
@@ -57,3 +78,12 @@ pub spares_standing : (old new : State) (table : Table) (es : List Entry) → Le
     → SparesStanding old.now new.now table.name
 spares_standing old new table es left t stands apart =
     (subst (λ s. Stands s t) (sym left.steps.schema) stands, left.steps.others t stands apart)
+
+-- a row of a table without texts has none
+pub none_short : (table : Table) → texts_of table ≡ 0 → (e : Entry) → HasWidth (width_of table) e
+    → AreShort e.texts
+none_short table none e wide = go e.texts (wide.1 ∙ none)
+  where
+    go : (texts : List (List ℕ)) → length texts ≡ 0 → AreShort texts
+    go [] h = tt
+    go (t ∷ texts) h = absurd (omega arith)

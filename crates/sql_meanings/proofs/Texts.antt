@@ -11,7 +11,7 @@ use Rattle.sqlite.specs.Source.TheVariants.{Values}
 use Rattle.sqlite_schema.specs.Rules.{passes_checks}
 use Rattle.sqlite_ast.specs.declared.Conflict.TheVariants as conflict
 use Rattle.sqlite_ast.specs.declared.Rows.{Rows}
-use Rattle.sql_meanings.specs.Entries.{Entry, stored}
+use Rattle.sql_meanings.specs.Entries.{AreShort, HasWidth, Entry, stored}
 use Rattle.sql_meanings.proofs.PutRows.{PutsAs}
 use Rattle.sqlite.specs.Schema.{Schema}
 use Rattle.sqlite.specs.Table.{Table}
@@ -205,11 +205,11 @@ pub puts_by : (table : Table) (text : List ℕ) (params : Row) (new : Entry) (co
     → ((tree : ℕ) → value_rows (stamped (placed_at table tree) params) (count + 2)
     (length (put_terms count) / (count + 2)) (put_terms count)
     ≡ stored new ∷ [])
-    → length new.values ≡ width_of table
+    → HasWidth (width_of table) new → AreShort new.texts
     → ((tree : ℕ) → accepts_terms (put_terms count) (stamped (placed_at table tree) params) ≡ true)
     → passes_checks table (stored new) ≡ true → PutsAs table text params new
 puts_by table text params new count P columns rows parsed is plain untimed made whole counted gives wide
-    accepts passes = record {
+    short accepts passes = record {
       terms = put_terms count;
       width = count + 2;
       means = λ schema p tree has. means schema text (length params) _ _
@@ -218,6 +218,7 @@ puts_by table text params new count P columns rows parsed is plain untimed made 
           (made schema tree)) refl whole counted refl refl;
       gives = gives;
       wide = wide;
+      short = short;
       accepts = accepts;
       passes = passes;
     }

@@ -15,7 +15,7 @@ use Rattle.sqlite_trees.specs.Objects.{catalog_tree}
 use Rattle.sqlite_catalog.specs.Listing.{IsSound}
 use Rattle.sqlite_catalog.proofs.ReadLemmas.{lists_once}
 use Rattle.sql_meanings.proofs.Defining.{Defines-prop}
-use Rattle.sql_meanings.specs.Entries.{Entry, IsTree, Rise}
+use Rattle.sql_meanings.specs.Entries.{HasWidth, Entry, IsTree, Rise}
 use Rattle.sql_meanings.specs.Tables.{Holds, tree_of, width_of}
 
 Schema-set : IsSet Schema
@@ -25,10 +25,11 @@ nat_set : IsSet ℕ
 nat_set = Coded-set coded_ℕ
 
 -- that a tree is of these rows is a proposition
-pub IsTree-prop : (width : ℕ) (rows : List Row) (es : List Entry) → IsProp (IsTree width rows es)
+pub IsTree-prop : (width : ℕ × ℕ) (rows : List Row) (es : List Entry) → IsProp (IsTree width rows es)
 IsTree-prop width rows es = let up : IsProp (Rise es) = IsAscending-prop _ (λ a b. Ordering-set _ Less) es in
-    let wide : IsProp (AllByRecursion (λ e. length e.values ≡ width) es) = AllByRecursion-prop _
-    (λ e. nat_set _ width) es in
+    let wide : IsProp (AllByRecursion (λ e. HasWidth width e) es) = AllByRecursion-prop _
+    (λ e. let one = nat_set (length e.values) width.0 in let two = nat_set (length e.texts) width.1 in
+    hlevel (one, two)) es in
     hlevel (rows_set, up, wide)
 
 -- what a database holds of a table is a proposition

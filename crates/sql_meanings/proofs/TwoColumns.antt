@@ -55,17 +55,17 @@ use Rattle.sqlite_rules.specs.Lists.{Has}
 use Rattle.sqlite_catalog.proofs.AlterLemmas.{keys_are_unique}
 use Rattle.sql_meanings.specs.Entries.{Entry, IsTree, Rise, begins_with, has_two, listed, stored}
 use Rattle.sql_meanings.specs.Queries.{no_limit, query, two_are}
-use Rattle.sql_meanings.proofs.EntryLists.{Above, int_equals}
+use Rattle.sql_meanings.proofs.EntryLists.{Above, int_equals, text_apart}
 use Rattle.sql_meanings.proofs.KeyedAnswers.{small_permutation}
 use Rattle.sql_meanings.proofs.TestedAnswers.{looked_up}
 use Rattle.sql_meanings.proofs.Tests.{and_both}
 
 -- the test on the two columns
-first_two_test : (one two key : ℤ) (t n : ℤ) (more : List ℤ)
-    → list_all (holds ((Int one ∷ Int two ∷ []) ∷ stored (record { key = key; values = t ∷ n ∷ more }) ∷ []))
-    (two_are 2 3)
+first_two_test : (one two key : ℤ) (t n : ℤ) (more : List ℤ) (texts : List (List ℕ))
+    → list_all (holds ((Int one ∷ Int two ∷ [])
+    ∷ stored (record { key = key; values = t ∷ n ∷ more; texts = texts }) ∷ [])) (two_are 2 3)
     ≡ (int_eq t one && (int_eq n two && true))
-first_two_test one two key t n more = rw (int_equals t one, int_equals n two)
+first_two_test one two key t n more texts = rw (int_equals t one, int_equals n two)
 
 and_true : (a b : Bool) → (a && (b && true)) ≡ (a && b)
 and_true true true = refl
@@ -76,13 +76,16 @@ and_false : (a : Bool) → (a && false) ≡ false
 and_false true = refl
 and_false false = refl
 
-passes_is : (one two key : ℤ) (values : List ℤ) → list_all
-    (holds ((Int one ∷ Int two ∷ []) ∷ stored (record { key = key; values = values }) ∷ [])) (two_are 2 3) ≡
-    begins_with one two values
+passes_is : (one two key : ℤ) (values : List ℤ) (texts : List (List ℕ))
+    → list_all (holds ((Int one ∷ Int two ∷ [])
+    ∷ stored (record { key = key; values = values; texts = texts }) ∷ [])) (two_are 2 3)
+    ≡ begins_with one two values
 unfolding binary
-passes_is one two key [] = refl
-passes_is one two key (t ∷ []) = and_false _
-passes_is one two key (t ∷ n ∷ more) = first_two_test one two key t n more ∙ and_true (int_eq t one)
+passes_is one two key [] [] = refl
+passes_is one two key [] (s ∷ texts) = rw (text_apart s one) refl
+passes_is one two key (t ∷ []) [] = and_false _
+passes_is one two key (t ∷ []) (s ∷ texts) = rw (text_apart s two) (and_false _)
+passes_is one two key (t ∷ n ∷ more) texts = first_two_test one two key t n more texts ∙ and_true (int_eq t one)
     (int_eq n two)
 
 -- ---- UNIQUE
@@ -118,16 +121,16 @@ same_two a b k p q = grind (arith, ints)
 abbrev pub Clear : List Entry → Type 0
 Clear es = (e : Entry) → Has es e → clashes plain (2 ∷ 3 ∷ []) (map stored es) (stored e) ≡ false
 
-two_clash : (one two a b : ℤ) (xs ys : List ℤ) → int_cmp a b ≡ Less → begins_with one two xs ≡ true
-    → begins_with one two ys ≡ true
-    → (agree plain (2 ∷ 3 ∷ []) (stored (record { key = a; values = xs })) (2 ∷ 3 ∷ [])
-    (stored (record { key = b; values = ys })) && differ (Int a) (Int b)) ≡ true
+two_clash : (one two a b : ℤ) (xs ys : List ℤ) (vs ws : List (List ℕ)) → int_cmp a b ≡ Less
+    → begins_with one two xs ≡ true → begins_with one two ys ≡ true
+    → (agree plain (2 ∷ 3 ∷ []) (stored (record { key = a; values = xs; texts = vs })) (2 ∷ 3 ∷ [])
+    (stored (record { key = b; values = ys; texts = ws })) && differ (Int a) (Int b)) ≡ true
 unfolding first_key
-two_clash one two a b [] ys low p q = absurd (cc)
-two_clash one two a b (t ∷ []) ys low p q = absurd (cc)
-two_clash one two a b (t ∷ n ∷ more) [] low p q = absurd (cc)
-two_clash one two a b (t ∷ n ∷ more) (u ∷ []) low p q = absurd (cc)
-two_clash one two a b (t ∷ n ∷ more) (u ∷ m ∷ rest) low p q =
+two_clash one two a b [] ys vs ws low p q = absurd (cc)
+two_clash one two a b (t ∷ []) ys vs ws low p q = absurd (cc)
+two_clash one two a b (t ∷ n ∷ more) [] vs ws low p q = absurd (cc)
+two_clash one two a b (t ∷ n ∷ more) (u ∷ []) vs ws low p q = absurd (cc)
+two_clash one two a b (t ∷ n ∷ more) (u ∷ m ∷ rest) vs ws low p q =
     let first = and_both (int_eq t one) (int_eq n two) p in
     let second = and_both (int_eq u one) (int_eq m two) q in
     rw (
@@ -144,7 +147,7 @@ not_both : (all : List Entry) (one two : ℤ) (e x : Entry) → Clear all → Ha
     → has_two one two e ≡ true → has_two one two x ≡ true → ⊥
 not_both all one two e x clear he hx low p q =
     let none = none_any _ (map stored all) (stored e) (clear x hx) (has_stored all e he) in
-    true≢false (sym (two_clash one two e.key x.key e.values x.values low p q) ∙ none)
+    true≢false (sym (two_clash one two e.key x.key e.values x.values e.texts x.texts low p q) ∙ none)
 
 none_above : (all : List Entry) (one two : ℤ) (e : Entry) → Clear all → Has all e → has_two one two e ≡ true
     → (es : List Entry)
@@ -184,7 +187,7 @@ clear schema db t es sound listed unique order are e h =
     (keys_are_unique schema db t 0 (2 ∷ 3 ∷ []) (stored e) sound listed unique there))
 
 -- a query of the two columns shows the one row that has the two numbers, if any
-pub two_answer : (lost : Value) {width : ℕ} (t : ℕ) (project : List Term) (db : Trees) (one two : ℤ)
+pub two_answer : (lost : Value) {width : ℕ × ℕ} (t : ℕ) (project : List Term) (db : Trees) (one two : ℤ)
     (rows : List Row) (es : List Entry)
     → IsTree width (db t) es → Clear es
     → IsAnswerAs lost (query (inner t end) (two_are 2 3) project [] no_limit) db (Int one ∷ Int two ∷ []) rows
@@ -193,7 +196,7 @@ pub two_answer : (lost : Value) {width : ℕ} (t : ℕ) (project : List Term) (d
 two_answer lost t project db one two rows es tree apart a =
     let show : Entry → Row = λ e. eval_all project ((Int one ∷ Int two ∷ []) ∷ stored e ∷ []) in
     let perm = looked_up (Int one ∷ Int two ∷ []) (two_are 2 3) (has_two one two)
-    (λ e. passes_is one two e.key e.values) lost t project db rows es tree.are a in
+    (λ e. passes_is one two e.key e.values e.texts) lost t project db rows es tree.are a in
     let single = one_row es one two apart es (λ x h. h) tree.rise in
     small_permutation show (find (has_two one two) es) rows
     (subst (λ l. IsPermutation (map show l) rows) single perm)

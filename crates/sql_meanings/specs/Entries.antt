@@ -1,25 +1,31 @@
--- Rows of whole numbers under rising keys.
-use Rattle.std.specs.Prelude.{◌≡◌, ◌&&◌, ℕ, ℤ, Bool, false, List, [], ◌∷◌, length, map, Option, Some, None}
+-- Rows of whole numbers and texts under rising keys.
+use Rattle.std.specs.Prelude.{◌≡◌, ◌≤◌, ◌&&◌, ◌++◌, ℕ, ℤ, Bool, false, List, [], ◌∷◌, length, map, Option}
+use Rattle.std.specs.Prelude.{Some, None}
 use Rattle.std.specs.Prelude.{cond}
 use Rattle.std.specs.Ordering.{int_cmp, int_eq, is_gt, match_ordering}
 use Rattle.std.specs.declared.cmp.Ordering.TheVariants.{Less}
 use Rattle.std.specs.List.{AllByRecursion}
-use Rattle.sqlite.specs.declared.types.Value.TheVariants.{Null, Int}
+use Rattle.sqlite.specs.declared.types.Value.TheVariants.{Null, Int, Text}
 use Rattle.sqlite.specs.Order.{Row}
 use Rattle.sqlite.specs.Tree.{IsAscending}
 
--- a row: its key and its other numbers, in the order of the columns
+-- a row: its key, its other numbers and behind them its texts, each in the order of the columns
 pub record Entry : Type 0 where
   pub key : ℤ
   pub values : List ℤ
+  pub texts : List (List ℕ)
 
 -- the numbers as a file holds them
 abbrev pub numbers : List ℤ → Row
 numbers = map (λ n. Int n)
 
+-- the texts as a file holds them
+abbrev pub texts_held : List (List ℕ) → Row
+texts_held = map (λ t. Text t)
+
 -- the row as a file holds it: the key's own column is empty, since the key is kept before the columns
 abbrev pub stored : Entry → Row
-stored e = Int e.key ∷ Null ∷ numbers e.values
+stored e = Int e.key ∷ Null ∷ (numbers e.values ++ texts_held e.texts)
 
 -- the row has this key
 abbrev pub has_key : ℤ → Entry → Bool
@@ -46,11 +52,19 @@ changed change k = map (at_key change k)
 abbrev pub Rise : List Entry → Type 0
 Rise = IsAscending (λ a b. int_cmp a.key b.key ≡ Less)
 
--- the rows of a tree are these, by rising keys, each with so many numbers behind its key
-pub record IsTree (width : ℕ) (rows : List Row) (entries : List Entry) : Type 0 where
+-- each text has at most 1000 bytes, so that a row with it can be stored
+abbrev pub AreShort : List (List ℕ) → Type 0
+AreShort texts = AllByRecursion (λ t. length t ≤ 1000) texts
+
+-- the row has so many numbers and so many texts behind its key
+abbrev pub HasWidth : ℕ × ℕ → Entry → Type 0
+HasWidth width e = (length e.values ≡ width.0) × (length e.texts ≡ width.1)
+
+-- the rows of a tree are these, by rising keys, each of this width
+pub record IsTree (width : ℕ × ℕ) (rows : List Row) (entries : List Entry) : Type 0 where
   pub are : rows ≡ map stored entries
   pub rise : Rise entries
-  pub wide : AllByRecursion (λ e. length e.values ≡ width) entries
+  pub wide : AllByRecursion (λ e. HasWidth width e) entries
 
 -- the one that was found, if any, as a list
 abbrev pub listed : {X : Type 0} → Option X → List X

@@ -1,7 +1,7 @@
--- STRICT tables of a key and whole numbers.
-use Rattle.std.specs.Prelude.{ℕ, true, false, List, [], ◌∷◌, Some, map}
+-- STRICT tables of a key, whole numbers and texts.
+use Rattle.std.specs.Prelude.{ℕ, true, false, List, [], ◌∷◌, ◌++◌, Some, map}
 use Rattle.sqlite.specs.Collation.TheVariants.{Binary}
-use Rattle.sqlite.specs.Kind.TheVariants.{Integer}
+use Rattle.sqlite.specs.Kind.TheVariants.{Integer, Text}
 use Rattle.sqlite.specs.Table.{Table}
 use Rattle.sqlite.specs.declared.types.Value.TheVariants.{Null}
 use Rattle.sqlite_schema.specs.declared.schema.Column.{Column}
@@ -28,12 +28,24 @@ number_column name = record {
   collation = Binary;
 }
 
--- the table of this name, key and further columns, with no other rule; its tree is chosen as it is made
-abbrev pub plain_table : List ℕ → List ℕ → List (List ℕ) → Table
-plain_table name key columns = record {
+-- the column of a TEXT NOT NULL
+abbrev pub text_column : List ℕ → Column
+text_column name = record {
+  name = name;
+  kind = Text;
+  is_strict = true;
+  not_null = true;
+  default = Null;
+  collation = Binary;
+}
+
+-- the table of this name and key, with columns of numbers and of texts behind them, and no other rule; its tree
+-- is chosen as it is made
+abbrev pub text_table : List ℕ → List ℕ → List (List ℕ) → List (List ℕ) → Table
+text_table name key columns texts = record {
   name = name;
   tree = 0;
-  columns = key_column key ∷ map number_column columns;
+  columns = key_column key ∷ (map number_column columns ++ map text_column texts);
   key = Some 0;
   primary = 0 ∷ [];
   uniques = [];
@@ -44,3 +56,7 @@ plain_table name key columns = record {
   stamps = record { places = []; terms = []; formats = [] };
   is_counted = false;
 }
+
+-- the same without texts
+abbrev pub plain_table : List ℕ → List ℕ → List (List ℕ) → Table
+plain_table name key columns = text_table name key columns []

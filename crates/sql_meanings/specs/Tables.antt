@@ -1,7 +1,8 @@
 -- A table that a schema defines, and the rows that a database holds of it.
-use Rattle.std.specs.Prelude.{◌≡◌, ℕ, ◌-◌, List, length, Option, Some, slice_get, option_map, option_and_then}
-use Rattle.std.specs.Prelude.{unwrap_or}
+use Rattle.std.specs.Prelude.{◌≡◌, ◌==◌, ℕ, ◌-◌, List, length, filter, Option, Some, slice_get, option_map}
+use Rattle.std.specs.Prelude.{option_and_then, unwrap_or}
 use Rattle.std.specs.List.{AllByRecursion}
+use Rattle.sqlite_schema.specs.Rules.{kind_code}
 use Rattle.sqlite.specs.Schema.{Schema}
 use Rattle.sqlite.specs.Table.{Table}
 use Rattle.sqlite.specs.Effect.{Database}
@@ -26,9 +27,13 @@ pub record Defines (schema : Schema) (table : Table) : Type 0 where
   pub apart : AllByRecursion (λ t. t.tree ≡ tree_of schema table.name
       → t ≡ placed_at table (tree_of schema table.name)) schema.tables
 
--- how many columns it has beside its key
-abbrev pub width_of : Table → ℕ
-width_of table = length table.columns - 1
+-- how many of its columns are TEXT
+abbrev pub texts_of : Table → ℕ
+texts_of table = length (filter (λ c. kind_code c.kind == 3) table.columns)
+
+-- how many columns of numbers it has beside its key, and how many of texts behind them
+abbrev pub width_of : Table → ℕ × ℕ
+width_of table = (length table.columns - 1 - texts_of table, texts_of table)
 
 -- the table is defined, and has these rows
 pub record Holds (db : Database) (table : Table) (entries : List Entry) : Type 0 where

@@ -1,5 +1,5 @@
-//! What SQL statements mean for any table of whole numbers under a whole key, whatever else the database
-//! holds. There are definitions and lemmas, and no code. Nothing here knows a bank.
+//! What SQL statements mean for any table of whole numbers and texts under a whole key, whatever else the
+//! database holds. There are definitions and lemmas, and no code. Nothing here knows a bank.
 //!
 //! A table, and what it means that a database has it with the rows `es`, by rising keys:
 //!
@@ -22,5 +22,5 @@
 //! ```
 //!
 //! Read next: `specs/Entries`, the rows; `specs/Tables`, a table that a database holds; `specs/Outcomes`,
-//! what each statement answers and why it may fail. The crate `store_rows` is a caller, with six tables.
+//! what each statement answers and why it may fail. The crate `store_rows` is a caller, with a bank's tables.
 #![tactic(auto)]

@@ -1,5 +1,5 @@
 -- The CHECK of `meta`.
-use Rattle.std.proofs.Common.{◌≡◌, ◌⊎◌, inl, inr, ℤ, pos, true, false, List, [], ◌∷◌, map, Ordering, Less}
+use Rattle.std.proofs.Common.{◌++◌, ◌≡◌, ◌⊎◌, inl, inr, ℤ, pos, true, false, List, [], ◌∷◌, map, Ordering, Less}
 use Rattle.std.proofs.Common.{Equal, Greater, int_cmp, refl, sym, subst, arith}
 use Rattle.std.specs.Ordering.{int_eq}
 use Rattle.std.proofs.lemmas.Bool.{cases_Bool}
@@ -9,7 +9,7 @@ use Rattle.sqlite.specs.Effect.{Database, IsDatabase}
 use Rattle.sqlite_rules.specs.Lists.{Has}
 use Rattle.sqlite_rules.proofs.RuleLemmas.{keeps_at}
 use Rattle.sqlite_schema.specs.declared.schema.Constraint.TheVariants.{Check}
-use Rattle.sql_meanings.specs.Entries.{Entry, numbers, stored}
+use Rattle.sql_meanings.specs.Entries.{Entry, numbers, stored, texts_held}
 use Rattle.sql_meanings.specs.Tables.{placed_at, tree_of}
 use Rattle.sql_meanings.proofs.Steps.{standing}
 use Rattle.store_rows.specs.View.{HoldsRows}
@@ -21,7 +21,7 @@ use Rattle.sqlite_sql.specs.Ops.{binary}
 use Rattle.sqlite_value.specs.Order.{value_cmp}
 use Rattle.sqlite_value.proofs.OrderLemmas.{value_cmp-Int}
 use lib.Ieee.{is_nan, lt}
-use Rattle.store_rows.specs.SixTables.{meta}
+use Rattle.store_rows.specs.BankTables.{meta}
 
 first_checked : (rest : Row) → passes_checks meta (Int (pos 1) ∷ rest) ≡ true
 unfolding everything binary value_cmp is_nan lt
@@ -55,7 +55,7 @@ module _ (db : Database) (rows : List Entry) (has : HoldsRows db meta rows) wher
       ≡ true = keeps_at Check db.schema db.trees (placed_at meta tree) (stored e)
       (sound.obeys.rules Check) at.stands.listed
       (subst (λ rs. Has rs (stored e)) (sym has.holds.rows.are) there) in
-      same_key e.key (by_order e.key (Null ∷ numbers e.values) (int_cmp e.key (pos 1))
+      same_key e.key (by_order e.key (Null ∷ (numbers e.values ++ texts_held e.texts)) (int_cmp e.key (pos 1))
       (value_cmp-Int e.key (pos 1)) passed) other
 
   has_key_one : (e : Entry) → Has (map stored rows) (stored e) → e.key ≡ pos 1

@@ -9,8 +9,8 @@ use Rattle.std.proofs.Common.{◌≡◌, false}
 use Rattle.sql_meanings.specs.Making.{CreatesOnly, IsMakeable}
 use Rattle.sql_meanings.proofs.ListedTexts.{listing_tests}
 use Rattle.sql_meanings.proofs.Makeable.{creates_by, makeable}
-use Rattle.store_rows.specs.Creation.{six_texts}
-use Rattle.store_rows.specs.SixTables as six
+use Rattle.store_rows.specs.Creation.{all_texts}
+use Rattle.store_rows.specs.BankTables as bank
 use Rattle.store_rows.specs.declared.texts.TheConstants.{MAKE_META, MAKE_BRANCH, MAKE_TELLER, MAKE_ACCOUNT}
 use Rattle.store_rows.specs.declared.texts.TheConstants.{MAKE_HISTORY, MAKE_REQUEST}
 
@@ -20,32 +20,32 @@ unfolding everything listing_tests
 sequence = (_, makeable sequence_text _ refl refl refl refl refl refl refl refl)
 
 -- what meta holds, and each balance
-of_numbers : CreatesOnly MAKE_META.now six.meta × CreatesOnly MAKE_BRANCH.now six.branch
-    × CreatesOnly MAKE_TELLER.now six.teller × CreatesOnly MAKE_ACCOUNT.now six.account
+of_numbers : CreatesOnly MAKE_META.now bank.meta × CreatesOnly MAKE_BRANCH.now bank.branch
+    × CreatesOnly MAKE_TELLER.now bank.teller × CreatesOnly MAKE_ACCOUNT.now bank.account
 unfolding everything listing_tests
 of_numbers = (
-  creates_by _ _ (makeable MAKE_META.now six.meta refl refl refl refl refl refl refl refl) refl _ _ _
+  creates_by _ _ (makeable MAKE_META.now bank.meta refl refl refl refl refl refl refl refl) refl _ _ _
       refl refl refl refl refl refl refl (lit≤ tt) refl,
-  creates_by _ _ (makeable MAKE_BRANCH.now six.branch refl refl refl refl refl refl refl refl) refl _ _ _
+  creates_by _ _ (makeable MAKE_BRANCH.now bank.branch refl refl refl refl refl refl refl refl) refl _ _ _
       refl refl refl refl refl refl refl (lit≤ tt) refl,
-  creates_by _ _ (makeable MAKE_TELLER.now six.teller refl refl refl refl refl refl refl refl) refl _ _ _
+  creates_by _ _ (makeable MAKE_TELLER.now bank.teller refl refl refl refl refl refl refl refl) refl _ _ _
       refl refl refl refl refl refl refl (lit≤ tt) refl,
-  creates_by _ _ (makeable MAKE_ACCOUNT.now six.account refl refl refl refl refl refl refl refl) refl _ _ _
+  creates_by _ _ (makeable MAKE_ACCOUNT.now bank.account refl refl refl refl refl refl refl refl) refl _ _ _
       refl refl refl refl refl refl refl (lit≤ tt) refl,
 )
 
 -- what was asked
-of_records : CreatesOnly MAKE_HISTORY.now six.history × CreatesOnly MAKE_REQUEST.now six.request
+of_records : CreatesOnly MAKE_HISTORY.now bank.history × CreatesOnly MAKE_REQUEST.now bank.request
 unfolding everything listing_tests
 of_records = (
-  creates_by _ _ (makeable MAKE_HISTORY.now six.history refl refl refl refl refl refl refl refl) refl _ _ _
+  creates_by _ _ (makeable MAKE_HISTORY.now bank.history refl refl refl refl refl refl refl refl) refl _ _ _
       refl refl refl refl refl refl refl (lit≤ tt) refl,
-  creates_by _ _ (makeable MAKE_REQUEST.now six.request refl refl refl refl refl refl refl refl) refl _ _ _
+  creates_by _ _ (makeable MAKE_REQUEST.now bank.request refl refl refl refl refl refl refl refl) refl _ _ _
       refl refl refl refl refl refl refl (lit≤ tt) refl,
 )
 
 -- each text makes its table, which counts no rows
-pub each_creates : AllByRecursion (λ it. CreatesOnly it.0 it.1 × (it.1.is_counted ≡ false)) six_texts
+pub each_creates : AllByRecursion (λ it. CreatesOnly it.0 it.1 × (it.1.is_counted ≡ false)) all_texts
 each_creates =
     let n = of_numbers in let r = of_records in
     ((n.0, refl), ((n.1, refl), ((n.2, refl), ((n.3, refl), ((r.0, refl), ((r.1, refl), tt))))))

@@ -1,6 +1,7 @@
--- How the creation of a bank goes on from table to table, and how one of them is refused.
+-- How tables are made one after another, and how one of them is refused.
 use Rattle.std.proofs.Common.{length, ◌≡◌, inl, inr, ℕ, suc, ◌<◌, ◌≤◌, List, [], ◌∷◌, map, take, slice_get}
 use Rattle.std.proofs.Common.{Some, Ok, Err, IsTrue, refl, sym, ap, subst, ◌∙◌, arith, true, false}
+use Rattle.std.proofs.Math.Seq.{take-length}
 use Rattle.std.specs.List.{AllByRecursion}
 use Rattle.sqlite.specs.Table.{Table}
 use Rattle.sqlite.specs.Change.{created}
@@ -15,24 +16,19 @@ use Rattle.sql_meanings.specs.Contents.{HoldsEach}
 use Rattle.sql_meanings.specs.Outcomes.{GoesOn, MakeFails, MakesTold}
 use Rattle.sql_meanings.proofs.Afterwards.{fails_since}
 use Rattle.sql_meanings.proofs.Makings.{holds_none, kept}
-use Rattle.sql_meanings.proofs.Places.{all_more, fold_more, some_at}
+use Rattle.sql_meanings.proofs.Places.{all_more, fold_more}
 use Rattle.sql_meanings.proofs.TableStands.{then_keeps}
-use Rattle.store_rows.specs.SixTables as six
-use Rattle.store_rows.specs.Creation.{TablesAreMade, MakesAll, six_texts, with_first}
+use Rattle.store_rows.specs.Creation.{IsApart, TablesAreMade, MakesAll, with_first}
 use Rattle.store_rows.proofs.MadeSoFar.{Begun, IsNew, Reached, grown, keeps_itself, made_new, stay_new}
 
--- a text for each place
-pub next_at : (at : ℕ) → at < length six_texts → (it : List ℕ × Table) × (slice_get six_texts at ≡ Some it)
-next_at at low = some_at six_texts at low
-
-module _ (old mid new : State) (made : ℕ) (it : List ℕ × Table)
-    (has : slice_get six_texts made ≡ Some it) where
+module _ (texts : List (List ℕ × Table)) (old mid new : State) (made : ℕ) (it : List ℕ × Table)
+    (has : slice_get texts made ≡ Some it) where
   -- ---- one more
 
   module _ (uncounted : it.1.is_counted ≡ false) (told : MakesTold mid new it.0 it.1 (Ok 0))
       (shows : StateShows mid new new.now mid.committed true)
       (more : mid.faults ≤ new.faults) where
-    after_some : Reached old mid made → Reached old new (suc made)
+    after_some : Reached texts old mid made → Reached texts old new (suc made)
     after_some reached = record {
       shows = record {
         was_open = reached.shows.was_open;
@@ -49,19 +45,19 @@ module _ (old mid new : State) (made : ℕ) (it : List ℕ × Table)
       keeps = then_keeps old.now mid.now new.now reached.keeps told.0.keeps;
       faults = let before = reached.faults in omega arith;
       sound = told.1;
-      new = all_more (λ x. IsNew old.now new.now x.1) six_texts made it has
-          (stay_new old.now mid.now new.now (take made six_texts) told.0.keeps reached.new)
+      new = all_more (λ x. IsNew old.now new.now x.1) texts made it has
+          (stay_new old.now mid.now new.now (take made texts) told.0.keeps reached.new)
           (made_new old.now mid.now new.now it.1 reached.keeps told.0);
       alone = λ none.
           let before = reached.alone none in
           let grew = grown mid.now.schema new.now.schema it.1 uncounted told.0.alone before.0 in (
             grew.0,
             grew.1 ∙ ap (λ s. created s it.1) before.1
-                ∙ sym (fold_more (λ s x. created s x.1) six_texts made it has old.now.schema),
+                ∙ sym (fold_more (λ s x. created s x.1) texts made it has old.now.schema),
           );
     }
 
-    after_none : made ≡ 0 → Reached mid new (suc made)
+    after_none : made ≡ 0 → Reached texts mid new (suc made)
     after_none none = record {
       shows = shows;
       marks = told.3;
@@ -69,21 +65,21 @@ module _ (old mid new : State) (made : ℕ) (it : List ℕ × Table)
       keeps = told.0.keeps;
       faults = more;
       sound = told.1;
-      new = all_more (λ x. IsNew mid.now new.now x.1) six_texts made it has
-          (subst (λ n. AllByRecursion (λ x. IsNew mid.now new.now x.1) (take n six_texts)) (sym none) tt)
+      new = all_more (λ x. IsNew mid.now new.now x.1) texts made it has
+          (subst (λ n. AllByRecursion (λ x. IsNew mid.now new.now x.1) (take n texts)) (sym none) tt)
           (made_new mid.now mid.now new.now it.1 (keeps_itself mid.now) told.0);
       alone = λ nothing.
           let grew = grown mid.now.schema new.now.schema it.1 uncounted told.0.alone nothing in (
             grew.0,
-            grew.1 ∙ sym (fold_more (λ s x. created s x.1) six_texts made it has mid.now.schema
-                ∙ ap (λ n. created (with_first n mid.now.schema) it.1) none),
+            grew.1 ∙ sym (fold_more (λ s x. created s x.1) texts made it has mid.now.schema
+                ∙ ap (λ n. created (with_first texts n mid.now.schema) it.1) none),
           );
     }
 
   -- ---- one is refused
 
   -- the state after a refusal shows what was made before it
-  still : Reached old mid made → IsUnchanged mid new → GoesOn old new × KeepsCounts old new
+  still : Reached texts old mid made → IsUnchanged mid new → GoesOn old new × KeepsCounts old new
   still reached same = (
     (
       record {
@@ -102,7 +98,8 @@ module _ (old mid new : State) (made : ℕ) (it : List ℕ × Table)
     },
   )
 
-  fails_after : (e : Error) → MakeFails mid new it.0 it.1 e → Reached old mid made → MakesAll old new (Err e)
+  fails_after : (e : Error) → MakeFails mid new it.0 it.1 e → Reached texts old mid made
+      → MakesAll texts old new (Err e)
   fails_after e (inl store) reached =
       inl (fails_since old mid new ⊥ ⊥ (λ x. x) e true reached.shows reached.counts reached.faults store)
   fails_after e (inr (refused, same)) reached =
@@ -124,13 +121,13 @@ module _ (old mid new : State) (made : ℕ) (it : List ℕ × Table)
       )
 
   fails_first : (e : Error) → IsTrue mid.in_transaction → MakeFails mid new it.0 it.1 e → made ≡ 0
-      → MakesAll mid new (Err e)
+      → MakesAll texts mid new (Err e)
   fails_first e live (inl store) none = inl store
   fails_first e live (inr (refused, same)) none = inr (
     record {
       made = 0;
       next = it;
-      is_next = subst (λ n. slice_get six_texts n ≡ Some it) none has;
+      is_next = subst (λ n. slice_get texts n ≡ Some it) none has;
       alone = λ nothing. ap (λ (d : Database). d.schema) same.0.now_is;
       refused = subst (λ (d : Database). NotMade d.schema it.0 it.1 e) (sym same.0.now_is) refused;
     },
@@ -152,32 +149,32 @@ module _ (old mid new : State) (made : ℕ) (it : List ℕ × Table)
     same.1,
   )
 
-module _ {S : Type 0} (g : Ghosts S) (old mid : Held S) (new : State) (made : ℕ) (it : List ℕ × Table)
-    (has : slice_get six_texts made ≡ Some it)
-  where
-    -- one table more
-    pub one_more : it.1.is_counted ≡ false → MakesTold (state g mid) new it.0 it.1 (Ok 0)
-        → StateShows (state g mid) new new.now (state g mid).committed true
-        → (state g mid).faults ≤ new.faults → Begun g old mid made
-        → Reached (state g old) new (suc made)
-    one_more uncounted told shows more (inl none) =
-        subst (λ h. Reached (state g h) new (suc made)) none.1
-        (after_none (state g mid) (state g mid) new made it has uncounted told shows more none.0)
-    one_more uncounted told shows more (inr reached) = after_some (state g old) (state g mid) new made it has
-        uncounted told shows more reached
+module _ (texts : List (List ℕ × Table)) {S : Type 0} (g : Ghosts S) (old mid : Held S) (new : State)
+    (made : ℕ) (it : List ℕ × Table) (has : slice_get texts made ≡ Some it) where
+  -- one table more
+  pub one_more : it.1.is_counted ≡ false → MakesTold (state g mid) new it.0 it.1 (Ok 0)
+      → StateShows (state g mid) new new.now (state g mid).committed true
+      → (state g mid).faults ≤ new.faults → Begun texts g old mid made
+      → Reached texts (state g old) new (suc made)
+  one_more uncounted told shows more (inl none) =
+      subst (λ h. Reached texts (state g h) new (suc made)) none.1
+      (after_none texts (state g mid) (state g mid) new made it has uncounted told shows more none.0)
+  one_more uncounted told shows more (inr reached) = after_some texts (state g old) (state g mid) new made it
+      has uncounted told shows more reached
 
-    -- a table is refused after those before it were made
-    pub then_fails : (e : Error) → IsTrue mid.in_transaction → MakeFails (state g mid) new it.0 it.1 e
-        → Begun g old mid made
-        → MakesAll (state g old) new (Err e)
-    then_fails e live fails (inl none) =
-        subst (λ h. MakesAll (state g h) new (Err e)) none.1
-        (fails_first (state g mid) (state g mid) new made it has e live fails none.0)
-    then_fails e live fails (inr reached) = fails_after (state g old) (state g mid) new made it has e fails
-        reached
+  -- a table is refused after those before it were made
+  pub then_fails : (e : Error) → IsTrue mid.in_transaction → MakeFails (state g mid) new it.0 it.1 e
+      → Begun texts g old mid made
+      → MakesAll texts (state g old) new (Err e)
+  then_fails e live fails (inl none) =
+      subst (λ h. MakesAll texts (state g h) new (Err e)) none.1
+      (fails_first texts (state g mid) (state g mid) new made it has e live fails none.0)
+  then_fails e live fails (inr reached) = fails_after texts (state g old) (state g mid) new made it has e
+      fails reached
 
 -- ---- all of them
 
+-- each is there, and empty
 none_held : (old g : Database) (its : List (List ℕ × Table)) → IsDatabase g
     → AllByRecursion (λ it. IsNew old g it.1) its
     → HoldsEach g (map (λ it. it.1) its) (map (λ it. []) its)
@@ -185,37 +182,50 @@ none_held old g [] sound all = tt
 none_held old g (it ∷ its) sound all =
     ((holds_none g it.1 all.0.tree sound all.0.stands all.0.empty).0, none_held old g its sound all.1)
 
--- the six are made
-pub all_made : (old new : State) → Reached old new (length six_texts) → TablesAreMade old.now new.now
-all_made old new reached = record {
-  empty = record {
-    sound = ∣ reached.sound ∣₁;
-    each = none_held old.now new.now six_texts reached.sound
-        reached.new;
-  };
-  keeps = λ t h. (reached.keeps.has t h, reached.keeps.rows t h);
-  alone = λ none. (reached.alone none).1;
-  apart = λ t h same. reached.new.0.apart t h
-      (same ∙ (holds_none new.now six.meta reached.new.0.tree reached.sound reached.new.0.stands
-      reached.new.0.empty).1);
-}
+-- each has a tree of its own
+all_apart : (old g : Database) (its : List (List ℕ × Table)) → IsDatabase g
+    → AllByRecursion (λ it. IsNew old g it.1) its
+    → AllByRecursion (λ it. IsApart old.schema g.schema it.1) its
+all_apart old g [] sound all = tt
+all_apart old g (it ∷ its) sound all = (
+  λ t h same. all.0.apart t h (same ∙ (holds_none g it.1 all.0.tree sound all.0.stands all.0.empty).1),
+  all_apart old g its sound all.1,
+)
 
-module _ {S : Type 0} (g : Ghosts S) (old mid : Held S) where
+-- they are made
+pub all_made : (texts : List (List ℕ × Table)) (old new : State) → Reached texts old new (length texts)
+    → TablesAreMade texts old.now new.now
+all_made texts old new reached =
+    let all : AllByRecursion (λ it. IsNew old.now new.now it.1) texts = rw (take-length texts) at reached.new in
+    record {
+      empty = record {
+        sound = ∣ reached.sound ∣₁;
+        each = none_held old.now new.now texts reached.sound all;
+      };
+      keeps = λ t h. (reached.keeps.has t h, reached.keeps.rows t h);
+      alone = λ none. (reached.alone none).1;
+      apart = all_apart old.now new.now texts reached.sound all;
+    }
+
+module _ (texts : List (List ℕ × Table)) {S : Type 0} (g : Ghosts S) (old mid : Held S) where
   -- the transaction is in the transaction still
-  pub begun_live : (made : ℕ) → Begun g old mid made → IsTrue old.in_transaction → IsTrue mid.in_transaction
+  pub begun_live : (made : ℕ) → Begun texts g old mid made → IsTrue old.in_transaction
+      → IsTrue mid.in_transaction
   begun_live made (inl none) live = subst (λ (h : Held S). IsTrue h.in_transaction) (sym none.1) live
   begun_live made (inr reached) live = reached.shows.mode
 
-  -- after the last the six are made
-  pub ends_made : Begun g old mid (length six_texts) → MakesAll (state g old) (state g mid) (Ok tt)
-  ends_made (inl none) = absurd (let six = none.0 in omega arith)
-  ends_made (inr reached) =
-      (all_made (state g old) (state g mid) reached, (reached.shows, reached.marks), reached.counts)
+  -- after the last they are made
+  pub ends_made : 0 < length texts → Begun texts g old mid (length texts)
+      → MakesAll texts (state g old) (state g mid) (Ok tt)
+  ends_made some (inl none) = absurd (let empty = none.0 in omega arith)
+  ends_made some (inr reached) =
+      (all_made texts (state g old) (state g mid) reached, (reached.shows, reached.marks), reached.counts)
 
 -- a refusal commits nothing
-pub makes_leave : (old new : State) (e : Error) → MakesAll old new (Err e) → KeepsCommit old new
-makes_leave old new e (inl store) = kept old new (inr store.3)
-makes_leave old new e (inr refused) = record {
+pub makes_leave : (texts : List (List ℕ × Table)) (old new : State) (e : Error)
+    → MakesAll texts old new (Err e) → KeepsCommit old new
+makes_leave texts old new e (inl store) = kept old new (inr store.3)
+makes_leave texts old new e (inr refused) = record {
   was_open = λ live. refused.2.0.was_open;
   committed = λ live.
       refused.2.0.committed_is;

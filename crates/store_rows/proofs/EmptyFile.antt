@@ -19,8 +19,8 @@ use Rattle.sqlite_rules.specs.Lists.{Has}
 use Rattle.sqlite_tied.specs.Compute.{everything}
 use Rattle.sql_meanings.specs.Making.{NotMade, counts_rows}
 use Rattle.sql_meanings.specs.Outcomes.{IsInterrupted, has_unique}
-use Rattle.store_rows.specs.SixTables as six
-use Rattle.store_rows.specs.Creation.{IsEmpty, RefusedIn, six_texts, with_first}
+use Rattle.store_rows.specs.BankTables as bank
+use Rattle.store_rows.specs.Creation.{IsEmpty, RefusedIn, all_texts, with_first}
 
 abbrev nothing : Schema
 nothing = record { tables = []; indexes = []; views = [] }
@@ -38,7 +38,7 @@ takes_all : Schema → List (List ℕ × Table) → Bool
 takes_all schema [] = true
 takes_all schema (it ∷ its) = takes schema it && takes_all (created schema it.1) its
 
-all_taken : takes_all nothing six_texts ≡ true
+all_taken : takes_all nothing all_texts ≡ true
 unfolding takes_all understood everything
 all_taken = refl
 
@@ -93,22 +93,22 @@ not_refused schema it taken e refused =
     go known free indexes room counted (inr (inl (inr (tells, full)))) = grind arith
     go known free indexes room counted (inr (inr rest)) = let bad = rest.0 in cc
 
--- none of the six is refused
-each_taken : (made : ℕ) (next : List ℕ × Table) → slice_get six_texts made ≡ Some next → (e : Error)
-    → NotMade (with_first made nothing) next.0 next.1 e → ⊥
-each_taken made next is e refused = not_refused (with_first made nothing) next
-    (taken_at nothing six_texts all_taken made next is) e refused
+-- none of the tables is refused
+each_taken : (made : ℕ) (next : List ℕ × Table) → slice_get all_texts made ≡ Some next → (e : Error)
+    → NotMade (with_first all_texts made nothing) next.0 next.1 e → ⊥
+each_taken made next is e refused = not_refused (with_first all_texts made nothing) next
+    (taken_at nothing all_texts all_taken made next is) e refused
 
 -- a new bank's meta has no UNIQUE
-no_unique : has_unique (with_first (length six_texts) nothing) six.meta ≡ false
+no_unique : has_unique (with_first all_texts (length all_texts) nothing) bank.meta ≡ false
 unfolding understood everything
 no_unique = refl
 
 -- the schema of an empty file, and what is made of it
 from_nothing : (old : Database) (now : Schema) (n : ℕ) → IsEmpty old
-    → (counts_rows old.schema ≡ false → now ≡ with_first n old.schema)
-    → now ≡ with_first n nothing
-from_nothing old now n empty alone = alone (ap counts_rows empty) ∙ ap (with_first n) empty
+    → (counts_rows old.schema ≡ false → now ≡ with_first all_texts n old.schema)
+    → now ≡ with_first all_texts n nothing
+from_nothing old now n empty alone = alone (ap counts_rows empty) ∙ ap (with_first all_texts n) empty
 
 -- what may be refused in an empty file: the first row, by the limit on steps
 pub refused_on_nothing : (old : State) (db : Database) (e : Error) → IsEmpty old.now → RefusedIn old db e
@@ -119,6 +119,6 @@ refused_on_nothing old db e empty (inl (one, keeps)) =
     one.refused))
 refused_on_nothing old db e empty (inr (inl limit, made)) = limit
 refused_on_nothing old db e empty (inr (inr (unique, none), made)) =
-    absurd (let bad = subst (λ s. IsTrue (has_unique s six.meta))
-    (from_nothing old.now db.schema (length six_texts) empty made.alone) none.0 in
+    absurd (let bad = subst (λ s. IsTrue (has_unique s bank.meta))
+    (from_nothing old.now db.schema (length all_texts) empty made.alone) none.0 in
     let good = no_unique in cc)

@@ -32,10 +32,10 @@ use Rattle.sql_meanings.proofs.ShownColumns.{outputs_at, shows_named}
 use Rattle.sql_meanings.proofs.Statements.{HasTable}
 use Rattle.sql_meanings.proofs.Texts.{IsSelect, only_reads, select_of}
 use Rattle.store_rows.specs.Columns.{request_shown, request_in}
-use Rattle.store_rows.specs.SixTables.{request}
+use Rattle.store_rows.specs.BankTables.{request}
 use Rattle.store_rows.specs.declared.texts.TheConstants.{GET_REQUEST}
 use Rattle.store_rows.specs.View.{Shows, request_entry}
-use Rattle.store_rows.proofs.BankTables.{holds}
+use Rattle.store_rows.proofs.TableKinds.{holds}
 use Rattle.store_rows.proofs.TheTables.{requests}
 use Rattle.store_rows.proofs.RowLists.{same_number, shown_by, shown_itself}
 

@@ -6,15 +6,15 @@ use Rattle.sqlite_resolve.specs.Program as program
 use Rattle.sqlite_resolve.specs.Select.{ungrouped}
 use Rattle.sql_meanings.proofs.Keyed.{Gets, IsFirst, first_key, gets_by}
 use Rattle.sql_meanings.proofs.Texts.{select_of}
-use Rattle.store_rows.specs.SixTables as six
+use Rattle.store_rows.specs.BankTables as bank
 use Rattle.store_rows.specs.declared.texts.TheConstants.{GET_META, GET_BRANCH, GET_TELLER, GET_ACCOUNT}
 
 -- the key of each is first
 pub record Keys : Type 0 where
-  pub meta : IsFirst six.meta (codes "id")
-  pub branch : IsFirst six.branch (codes "bid")
-  pub teller : IsFirst six.teller (codes "tid")
-  pub account : IsFirst six.account (codes "aid")
+  pub meta : IsFirst bank.meta (codes "id")
+  pub branch : IsFirst bank.branch (codes "bid")
+  pub teller : IsFirst bank.teller (codes "tid")
+  pub account : IsFirst bank.account (codes "aid")
 
 unfoldable pub keys : Keys
 unfolding everything
@@ -26,27 +26,27 @@ keys = record {
 }
 
 pub record GetsRows : Type 0 where
-  pub meta : Gets six.meta GET_META.now (1 ∷ 2 ∷ []) (col 1 2 ∷ col 1 3 ∷ [])
-  pub branch : Gets six.branch GET_BRANCH.now (0 ∷ 1 ∷ 2 ∷ []) (col 1 0 ∷ col 1 2 ∷ col 1 3 ∷ [])
-  pub teller : Gets six.teller GET_TELLER.now (1 ∷ []) (col 1 2 ∷ [])
-  pub account : Gets six.account GET_ACCOUNT.now (1 ∷ []) (col 1 2 ∷ [])
+  pub meta : Gets bank.meta GET_META.now (1 ∷ 2 ∷ []) (col 1 2 ∷ col 1 3 ∷ [])
+  pub branch : Gets bank.branch GET_BRANCH.now (0 ∷ 1 ∷ 2 ∷ []) (col 1 0 ∷ col 1 2 ∷ col 1 3 ∷ [])
+  pub teller : Gets bank.teller GET_TELLER.now (1 ∷ []) (col 1 2 ∷ [])
+  pub account : Gets bank.account GET_ACCOUNT.now (1 ∷ []) (col 1 2 ∷ [])
 
 pub gets : GetsRows
 unfolding everything program.program ungrouped
 gets = record {
-  meta = gets_by (select_of six.meta GET_META.now 1 _ _ _ _ _ _ _ _ _ refl refl refl (lit≤ tt) refl refl refl
+  meta = gets_by (select_of bank.meta GET_META.now 1 _ _ _ _ _ _ _ _ _ refl refl refl (lit≤ tt) refl refl refl
       refl (λ _. refl) (lit≤ tt))
       _ _ _ _ _ keys.meta refl refl refl refl refl refl (λ _ _ _ has. rw (has.low, has.found))
       (λ _ _ _ _ has. rw (has.low, has.found));
-  branch = gets_by (select_of six.branch GET_BRANCH.now 1 _ _ _ _ _ _ _ _ _ refl refl refl (lit≤ tt) refl refl
+  branch = gets_by (select_of bank.branch GET_BRANCH.now 1 _ _ _ _ _ _ _ _ _ refl refl refl (lit≤ tt) refl refl
       refl refl (λ _. refl) (lit≤ tt))
       _ _ _ _ _ keys.branch refl refl refl refl refl refl (λ _ _ _ has. rw (has.low, has.found))
       (λ _ _ _ _ has. rw (has.low, has.found));
-  teller = gets_by (select_of six.teller GET_TELLER.now 1 _ _ _ _ _ _ _ _ _ refl refl refl (lit≤ tt) refl refl
+  teller = gets_by (select_of bank.teller GET_TELLER.now 1 _ _ _ _ _ _ _ _ _ refl refl refl (lit≤ tt) refl refl
       refl refl (λ _. refl) (lit≤ tt))
       _ _ _ _ _ keys.teller refl refl refl refl refl refl (λ _ _ _ has. rw (has.low, has.found))
       (λ _ _ _ _ has. rw (has.low, has.found));
-  account = gets_by (select_of six.account GET_ACCOUNT.now 1 _ _ _ _ _ _ _ _ _ refl refl refl (lit≤ tt) refl
+  account = gets_by (select_of bank.account GET_ACCOUNT.now 1 _ _ _ _ _ _ _ _ _ refl refl refl (lit≤ tt) refl
       refl refl refl (λ _. refl) (lit≤ tt))
       _ _ _ _ _ keys.account refl refl refl refl refl refl (λ _ _ _ has. rw (has.low, has.found))
       (λ _ _ _ _ has. rw (has.low, has.found));

@@ -1,6 +1,5 @@
--- What each statement means of the six tables, and what it leaves of them.
+-- What each statement means of the tables of a bank, and what it leaves of them.
 pub mod AddMeta
-pub mod BankTables
 pub mod Checked
 pub mod CreateTexts
 pub mod CreationEnds
@@ -26,6 +25,7 @@ pub mod ShownOnce
 pub mod StoredFrom
 pub mod StoredReads
 pub mod StoredRows
+pub mod TableKinds
 pub mod Telling
 pub mod TheTables
 pub mod Writes

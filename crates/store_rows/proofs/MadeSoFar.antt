@@ -1,4 +1,4 @@
--- What is there of a bank whose tables are being made: so many of them so far.
+-- What is there of tables that are being made, each by its text: so many of them so far.
 use Rattle.std.proofs.Common.{◌≡◌, ◌≢◌, ◌⊎◌, ℕ, ◌≤◌, List, [], ◌∷◌, take, IsTrue, refl, ap, ◌∙◌, arith, true}
 use Rattle.std.proofs.Common.{false}
 use Rattle.std.specs.List.{AllByRecursion}
@@ -15,7 +15,7 @@ use Rattle.sqlite_rules.specs.Lists.{Has}
 use Rattle.sql_meanings.specs.Making.{AddsTable, KeepsWhatStood, Stands, counts_rows}
 use Rattle.sql_meanings.specs.Tables.{placed_at}
 use Rattle.sql_meanings.proofs.TableStands.{counts_created}
-use Rattle.store_rows.specs.Creation.{six_texts, with_first}
+use Rattle.store_rows.specs.Creation.{with_first}
 
 -- the table is new, and has no rows
 pub record IsNew (old now : Database) (t : Table) : Type 0 where
@@ -49,26 +49,27 @@ made_new old mid new t before made = record {
 }
 
 -- the first so many tables were made so far
-pub record Reached (old mid : State) (made : ℕ) : Type 0 where
+pub record Reached (texts : List (List ℕ × Table)) (old mid : State) (made : ℕ) : Type 0 where
   pub shows : StateShows old mid mid.now old.committed true
   pub marks : mid.marks ≡ old.marks
   pub counts : KeepsCounts old mid
   pub keeps : KeepsWhatStood old.now mid.now
   pub faults : old.faults ≤ mid.faults
   pub sound : IsDatabase mid.now
-  pub new : AllByRecursion (λ it. IsNew old.now mid.now it.1) (take made six_texts)
+  pub new : AllByRecursion (λ it. IsNew old.now mid.now it.1) (take made texts)
   pub alone : counts_rows old.now.schema ≡ false → (counts_rows mid.now.schema ≡ false)
-      × (mid.now.schema ≡ with_first made old.now.schema)
+      × (mid.now.schema ≡ with_first texts made old.now.schema)
 
 -- the same, or none was made and nothing has changed
-abbrev pub Begun : {S : Type 0} → Ghosts S → Held S → Held S → ℕ → Type 0
-Begun g old mid made = ((made ≡ 0) × (mid ≡ old)) ⊎ Reached (state g old) (state g mid) made
+abbrev pub Begun : List (List ℕ × Table) → {S : Type 0} → Ghosts S → Held S → Held S → ℕ → Type 0
+Begun texts g old mid made = ((made ≡ 0) × (mid ≡ old)) ⊎ Reached texts (state g old) (state g mid) made
 
 -- what the loop keeps
-pub record Going {S : Type 0} (g : Ghosts S) (old mid : Transaction S) (made : ℕ) : Type 0 where
+pub record Going (texts : List (List ℕ × Table)) {S : Type 0} (g : Ghosts S) (old mid : Transaction S)
+    (made : ℕ) : Type 0 where
   pub same_reference : mid.conn.ghost_name ≡ old.conn.ghost_name
   pub begun : HasCleanDisk (state g mid.conn.now) → IsTrue old.conn.now.in_transaction
-      → Begun g old.conn.now mid.conn.now made
+      → Begun texts g old.conn.now mid.conn.now made
   pub survives : Survives (state g old.conn.now) (state g mid.conn.now) (λ _. ⊥)
 
 -- the new schema, where no table counts its rows

@@ -11,7 +11,7 @@ use Rattle.sqlite.specs.declared.types.Value.TheVariants.{Int}
 use Rattle.posting_rules.specs.Changes.{with_decided}
 use Rattle.posting_rules.specs.Tables.{Tables}
 use Rattle.sql_meanings.specs.Contents.{HoldsEach}
-use Rattle.sql_meanings.specs.Entries.{Entry, has_key, stored}
+use Rattle.sql_meanings.specs.Entries.{Entry, HasWidth, has_key, stored}
 use Rattle.sql_meanings.specs.Outcomes.{TellsRow}
 use Rattle.sql_meanings.specs.Tables.{Holds}
 use Rattle.sql_meanings.proofs.Changes.{found_all}
@@ -20,14 +20,14 @@ use Rattle.sql_meanings.proofs.Failures.{set_fails_as}
 use Rattle.sql_meanings.proofs.ReadRows.{reads_key}
 use Rattle.sql_meanings.proofs.SetFailures.{refuses_update}
 use Rattle.sql_meanings.proofs.SetRows.{sets_row}
-use Rattle.sql_meanings.proofs.TableWrites.{IsOfNumbers, Leaves, spares_standing}
+use Rattle.sql_meanings.proofs.TableWrites.{IsPlain, Leaves, spares_standing}
 use Rattle.store_rows.specs.Columns.{meta_in, meta_numbers, meta_shown}
 use Rattle.store_rows.specs.Outcomes.{IsForbidden, SetsRow}
-use Rattle.store_rows.specs.SixTables as six
-use Rattle.store_rows.specs.SixTables.{bank_tables}
+use Rattle.store_rows.specs.BankTables as bank
+use Rattle.store_rows.specs.BankTables.{bank_tables}
 use Rattle.store_rows.specs.Statements.{MeetsOne}
 use Rattle.store_rows.specs.View.{HoldsRows, Shows, contents, meta_entry}
-use Rattle.store_rows.specs.declared.metas.TheConstants.{META_ID}
+use Rattle.store_rows.specs.declared.metas.TheConstants.{META_ID, VERSION}
 use Rattle.store_rows.specs.declared.texts.TheConstants.{GET_META, SET_META}
 use Rattle.store_rows.proofs.Failing.{forbidden, key_fits}
 use Rattle.store_rows.proofs.Getting.{gets}
@@ -35,23 +35,27 @@ use Rattle.store_rows.proofs.Lookups.{one_written as one_met}
 use Rattle.store_rows.proofs.Setting.{set_second, sets}
 
 -- it is a table of a key and numbers
-pub numbered : IsOfNumbers six.meta
-numbered = record {
+pub is_plain : IsPlain bank.meta
+is_plain = record {
   free = refl;
   keyed = refl;
   uncomputed = refl;
-  narrow = lit≤ tt;
   key = codes "id";
   names = codes "version" ∷ codes "decided" ∷ [];
+  texts = [];
   columns = refl;
+  width = refl;
+  narrow = lit≤ tt;
 }
 
 -- where tables are shown, it is the one row with their count
-pub holds_one : (db : Database) (t : Tables) → Shows db t → Holds db six.meta (meta_entry t.decided ∷ [])
-holds_one db t shows = held db bank_tables (contents t) shows.each 0 six.meta (meta_entry t.decided ∷ []) refl
-    refl
+pub holds_one : (db : Database) (t : Tables) → Shows db t
+    → Holds db bank.meta (meta_entry VERSION t.decided ∷ [])
+holds_one db t shows =
+    held db bank_tables (contents t) shows.each 0 bank.meta (meta_entry VERSION t.decided ∷ []) refl refl
 
-pub has_one : (db : Database) (t : Tables) → Shows db t → HoldsRows db six.meta (meta_entry t.decided ∷ [])
+pub has_one : (db : Database) (t : Tables) → Shows db t
+    → HoldsRows db bank.meta (meta_entry VERSION t.decided ∷ [])
 has_one db t shows = record { sound = shows.sound; holds = holds_one db t shows }
 
 -- ---- what is read
@@ -59,31 +63,31 @@ has_one db t shows = record { sound = shows.sound; holds = holds_one db t shows 
 abbrev project : List Term
 project = col 1 2 ∷ col 1 3 ∷ []
 
-two_shown : (k key : ℤ) (values : List ℤ) → length values ≡ 2
-    → eval_all project ((Int k ∷ []) ∷ stored (record { key = key; values = values }) ∷ [])
-    ≡ meta_shown (meta_numbers (record { key = key; values = values }))
-two_shown k key [] wide = absurd (omega arith)
-two_shown k key (a ∷ []) wide = absurd (omega arith)
-two_shown k key (a ∷ b ∷ []) wide = refl
-two_shown k key (a ∷ b ∷ c ∷ more) wide = absurd (omega arith)
+two_shown : (k key : ℤ) (values : List ℤ) (texts : List (List ℕ)) → length values ≡ 2
+    → eval_all project ((Int k ∷ []) ∷ stored (record { key = key; values = values; texts = texts }) ∷ [])
+    ≡ meta_shown (meta_numbers (record { key = key; values = values; texts = texts }))
+two_shown k key [] texts wide = absurd (omega arith)
+two_shown k key (a ∷ []) texts wide = absurd (omega arith)
+two_shown k key (a ∷ b ∷ []) texts wide = refl
+two_shown k key (a ∷ b ∷ c ∷ more) texts wide = absurd (omega arith)
 
-shown_is : (k : ℤ) (o : Option Entry) → ((e : Entry) → o ≡ Some e → length e.values ≡ 2)
+shown_is : (k : ℤ) (o : Option Entry) → ((e : Entry) → o ≡ Some e → HasWidth (2, 0) e)
     → option_map (λ e. eval_all project ((Int k ∷ []) ∷ stored e ∷ [])) o
     ≡ option_map meta_shown (option_map meta_numbers o)
 shown_is k None wide = refl
-shown_is k (Some e) wide = ap Some (two_shown k e.key e.values (wide e refl))
+shown_is k (Some e) wide = ap Some (two_shown k e.key e.values e.texts (wide e refl).0)
 
 -- the row under the bank's id is reported
-pub tells_meta : (old new : State) (rows : List Entry) → HoldsRows old.now six.meta rows
+pub tells_meta : (old new : State) (rows : List Entry) → HoldsRows old.now bank.meta rows
     → (r : Result Row Error)
     → QueriesRowInside GET_META.now (Int (pos META_ID) ∷ []) old new r
     → TellsRow old new (option_map meta_shown (meta_in rows)) r
 tells_meta old new rows has r h =
     subst (λ o. TellsRow old new o r)
     (shown_is (pos META_ID) (find (has_key (pos META_ID)) rows)
-    (λ e found. found_all (λ x. length x.values ≡ 2) (has_key (pos META_ID)) rows e has.holds.rows.wide
+    (λ e found. found_all (λ x. HasWidth (2, 0) x) (has_key (pos META_ID)) rows e has.holds.rows.wide
     found))
-    (reads_key old new six.meta refl has.sound rows has.holds GET_META.now project (pos META_ID)
+    (reads_key old new bank.meta refl has.sound rows has.holds GET_META.now project (pos META_ID)
     (gets.meta.reads (pos META_ID)) r h)
 
 -- ---- what is written
@@ -91,47 +95,47 @@ tells_meta old new rows has r h =
 -- after a write of `meta` each other table holds what it held
 pub meta_written : (old new : State) (all : List (List Entry)) → HoldsEach old.now bank_tables all
     → (before after : List Entry)
-    → slice_get all 0 ≡ Some before → Leaves old new six.meta after
+    → slice_get all 0 ≡ Some before → Leaves old new bank.meta after
     → HoldsEach new.now bank_tables (slice_set all 0 after)
 meta_written old new all each before after is left =
-    one_written old new six.meta refl before after
-    (held old.now bank_tables all each 0 six.meta before refl is) left bank_tables all refl each 0 refl
+    one_written old new bank.meta refl before after
+    (held old.now bank_tables all each 0 bank.meta before refl is) left bank_tables all refl each 0 refl
 
 module _ (old new : State) (t : Tables) (shows : Shows old.now t) (n : ℕ) where
   -- the count is written, since the row is there
   set : (count : ℕ) → ExecutesInside 0 SET_META.now (Int (pos META_ID) ∷ Int (pos n) ∷ []) old new (Ok count)
-      → SetsRow old new six.meta true (with_decided n t) (Ok (nat_eq count 1))
+      → SetsRow old new bank.meta true (with_decided n t) (Ok (nat_eq count 1))
   unfolding with_decided
   set count h =
-      let done = sets_row old new six.meta numbered shows.sound _ (holds_one old.now t shows) SET_META.now
+      let done = sets_row old new bank.meta is_plain shows.sound _ (holds_one old.now t shows) SET_META.now
       (pos META_ID) _ (set_second (pos n))
       (sets.meta (pos n)) count h.0 in (
         one_met count true done.1,
         record {
           sound = ∣ done.0.sound ∣₁;
           each = meta_written old new (contents t) shows.each
-              (meta_entry t.decided ∷ []) _ refl done.0;
+              (meta_entry VERSION t.decided ∷ []) _ refl done.0;
         },
         (h.1, done.0.marks),
-        spares_standing old new six.meta _ done.0,
+        spares_standing old new bank.meta _ done.0,
       )
 
   -- or why it can't be
   fails : (e : Error) → ExecutesInside 0 SET_META.now (Int (pos META_ID) ∷ Int (pos n) ∷ []) old new (Err e)
-      → SetsRow old new six.meta true (with_decided n t) (Err e)
+      → SetsRow old new bank.meta true (with_decided n t) (Err e)
   unfolding with_decided
   fails e h =
-      set_fails_as old new six.meta _ e (IsForbidden old.now.schema six.meta (with_decided n t))
-      (forbidden old.now.schema (with_decided n t) six.meta (meta_entry n ∷ [])
+      set_fails_as old new bank.meta _ e (IsForbidden old.now.schema bank.meta (with_decided n t))
+      (forbidden old.now.schema (with_decided n t) bank.meta (meta_entry VERSION n ∷ [])
       (λ db s. holds_one db (with_decided n t) s))
-      (refuses_update old new six.meta numbered shows.sound _ (holds_one old.now t shows) SET_META.now
+      (refuses_update old new bank.meta is_plain shows.sound _ (holds_one old.now t shows) SET_META.now
       (pos META_ID) _ (set_second (pos n))
       (sets.meta (pos n)) (key_fits META_ID (lit≤ tt)) e h)
 
   -- either
   pub tells_decided : (answer : Result Bool Error)
       → MeetsOne SET_META.now (Int (pos META_ID) ∷ Int (pos n) ∷ []) old new answer
-      → SetsRow old new six.meta true (with_decided n t) answer
-  tells_decided (Ok met) h = subst (λ b. SetsRow old new six.meta true (with_decided n t) (Ok b)) (sym h.2)
+      → SetsRow old new bank.meta true (with_decided n t) answer
+  tells_decided (Ok met) h = subst (λ b. SetsRow old new bank.meta true (with_decided n t) (Ok b)) (sym h.2)
       (set h.0 h.1)
   tells_decided (Err e) h = fails e h

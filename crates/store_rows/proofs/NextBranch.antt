@@ -30,10 +30,10 @@ use Rattle.sql_meanings.proofs.ShownColumns.{outputs_at, shows_named}
 use Rattle.sql_meanings.proofs.Statements.{HasTable}
 use Rattle.sql_meanings.proofs.Texts.{IsSelect, only_reads, select_of}
 use Rattle.store_rows.specs.Columns.{branch_shown, branch_above}
-use Rattle.store_rows.specs.SixTables.{branch}
+use Rattle.store_rows.specs.BankTables.{branch}
 use Rattle.store_rows.specs.declared.texts.TheConstants.{NEXT_BRANCH}
 use Rattle.store_rows.specs.View.{Shows, branch_entry}
-use Rattle.store_rows.proofs.BankTables.{holds}
+use Rattle.store_rows.proofs.TableKinds.{holds}
 use Rattle.store_rows.proofs.Getting.{keys}
 use Rattle.store_rows.proofs.TheTables.{branches}
 use Rattle.store_rows.proofs.RowLists.{is_row_above, shown_by, shown_itself}

@@ -7,74 +7,74 @@ use Rattle.sqlite_resolve.specs.Program as program
 use Rattle.sqlite_resolve.specs.Select.{ungrouped}
 use Rattle.sql_meanings.proofs.Probing.{ProbesAs}
 use Rattle.sql_meanings.proofs.Texts.{IsSelect, probes_by, select_of}
-use Rattle.store_rows.specs.SixTables as six
+use Rattle.store_rows.specs.BankTables as bank
 use Rattle.store_rows.specs.declared.texts.TheConstants.{PROBE_META, PROBE_BRANCH, PROBE_TELLER}
 use Rattle.store_rows.specs.declared.texts.TheConstants.{PROBE_ACCOUNT, PROBE_HISTORY, PROBE_REQUEST}
 
-is_meta : IsSelect six.meta PROBE_META.now 0 (0 ∷ 1 ∷ 2 ∷ [])
+is_meta : IsSelect bank.meta PROBE_META.now 0 (0 ∷ 1 ∷ 2 ∷ [])
 unfolding everything
-is_meta = select_of six.meta PROBE_META.now 0 _ _ _ _ _ _ _ _ _ refl refl refl (lit≤ tt) refl refl refl refl
+is_meta = select_of bank.meta PROBE_META.now 0 _ _ _ _ _ _ _ _ _ refl refl refl (lit≤ tt) refl refl refl refl
     (λ tree. refl) (lit≤ tt)
 
-pub probes_meta : ProbesAs six.meta PROBE_META.now
+pub probes_meta : ProbesAs bank.meta PROBE_META.now
 unfolding is_meta everything listing_schema program.program ungrouped
-probes_meta = probes_by six.meta PROBE_META.now _ is_meta (col 1 0 ∷ col 1 2 ∷ col 1 3 ∷ []) refl refl refl
+probes_meta = probes_by bank.meta PROBE_META.now _ is_meta (col 1 0 ∷ col 1 2 ∷ col 1 3 ∷ []) refl refl refl
     (λ schema p tree has. rw (has.low, has.found)) refl
 
-is_branch : IsSelect six.branch PROBE_BRANCH.now 0 (0 ∷ 1 ∷ 2 ∷ [])
+is_branch : IsSelect bank.branch PROBE_BRANCH.now 0 (0 ∷ 1 ∷ 2 ∷ [])
 unfolding everything
-is_branch = select_of six.branch PROBE_BRANCH.now 0 _ _ _ _ _ _ _ _ _ refl refl refl (lit≤ tt) refl refl refl
+is_branch = select_of bank.branch PROBE_BRANCH.now 0 _ _ _ _ _ _ _ _ _ refl refl refl (lit≤ tt) refl refl refl
     refl
     (λ tree. refl) (lit≤ tt)
 
-pub probes_branch : ProbesAs six.branch PROBE_BRANCH.now
+pub probes_branch : ProbesAs bank.branch PROBE_BRANCH.now
 unfolding is_branch everything listing_schema program.program ungrouped
-probes_branch = probes_by six.branch PROBE_BRANCH.now _ is_branch (col 1 0 ∷ col 1 2 ∷ col 1 3 ∷ []) refl refl
+probes_branch = probes_by bank.branch PROBE_BRANCH.now _ is_branch (col 1 0 ∷ col 1 2 ∷ col 1 3 ∷ []) refl refl
     refl
     (λ schema p tree has. rw (has.low, has.found)) refl
 
-is_teller : IsSelect six.teller PROBE_TELLER.now 0 (0 ∷ 1 ∷ [])
+is_teller : IsSelect bank.teller PROBE_TELLER.now 0 (0 ∷ 1 ∷ [])
 unfolding everything
-is_teller = select_of six.teller PROBE_TELLER.now 0 _ _ _ _ _ _ _ _ _ refl refl refl (lit≤ tt) refl refl refl
+is_teller = select_of bank.teller PROBE_TELLER.now 0 _ _ _ _ _ _ _ _ _ refl refl refl (lit≤ tt) refl refl refl
     refl
     (λ tree. refl) (lit≤ tt)
 
-pub probes_teller : ProbesAs six.teller PROBE_TELLER.now
+pub probes_teller : ProbesAs bank.teller PROBE_TELLER.now
 unfolding is_teller everything listing_schema program.program ungrouped
-probes_teller = probes_by six.teller PROBE_TELLER.now _ is_teller (col 1 0 ∷ col 1 2 ∷ []) refl refl refl
+probes_teller = probes_by bank.teller PROBE_TELLER.now _ is_teller (col 1 0 ∷ col 1 2 ∷ []) refl refl refl
     (λ schema p tree has. rw (has.low, has.found)) refl
 
-is_account : IsSelect six.account PROBE_ACCOUNT.now 0 (0 ∷ 1 ∷ [])
+is_account : IsSelect bank.account PROBE_ACCOUNT.now 0 (0 ∷ 1 ∷ [])
 unfolding everything
-is_account = select_of six.account PROBE_ACCOUNT.now 0 _ _ _ _ _ _ _ _ _ refl refl refl (lit≤ tt) refl refl
+is_account = select_of bank.account PROBE_ACCOUNT.now 0 _ _ _ _ _ _ _ _ _ refl refl refl (lit≤ tt) refl refl
     refl refl
     (λ tree. refl) (lit≤ tt)
 
-pub probes_account : ProbesAs six.account PROBE_ACCOUNT.now
+pub probes_account : ProbesAs bank.account PROBE_ACCOUNT.now
 unfolding is_account everything listing_schema program.program ungrouped
-probes_account = probes_by six.account PROBE_ACCOUNT.now _ is_account (col 1 0 ∷ col 1 2 ∷ []) refl refl refl
+probes_account = probes_by bank.account PROBE_ACCOUNT.now _ is_account (col 1 0 ∷ col 1 2 ∷ []) refl refl refl
     (λ schema p tree has. rw (has.low, has.found)) refl
 
-is_history : IsSelect six.history PROBE_HISTORY.now 0 (0 ∷ 1 ∷ 2 ∷ 3 ∷ 4 ∷ 5 ∷ [])
+is_history : IsSelect bank.history PROBE_HISTORY.now 0 (0 ∷ 1 ∷ 2 ∷ 3 ∷ 4 ∷ 5 ∷ [])
 unfolding everything
-is_history = select_of six.history PROBE_HISTORY.now 0 _ _ _ _ _ _ _ _ _ refl refl refl (lit≤ tt) refl refl
+is_history = select_of bank.history PROBE_HISTORY.now 0 _ _ _ _ _ _ _ _ _ refl refl refl (lit≤ tt) refl refl
     refl refl
     (λ tree. refl) (lit≤ tt)
 
-pub probes_history : ProbesAs six.history PROBE_HISTORY.now
+pub probes_history : ProbesAs bank.history PROBE_HISTORY.now
 unfolding is_history everything listing_schema program.program ungrouped
-probes_history = probes_by six.history PROBE_HISTORY.now _ is_history
+probes_history = probes_by bank.history PROBE_HISTORY.now _ is_history
     (col 1 0 ∷ col 1 2 ∷ col 1 3 ∷ col 1 4 ∷ col 1 5 ∷ col 1 6 ∷ []) refl refl refl
     (λ schema p tree has. rw (has.low, has.found)) refl
 
-is_request : IsSelect six.request PROBE_REQUEST.now 0 (0 ∷ 1 ∷ 2 ∷ 3 ∷ 4 ∷ 5 ∷ 6 ∷ 7 ∷ [])
+is_request : IsSelect bank.request PROBE_REQUEST.now 0 (0 ∷ 1 ∷ 2 ∷ 3 ∷ 4 ∷ 5 ∷ 6 ∷ 7 ∷ [])
 unfolding everything
-is_request = select_of six.request PROBE_REQUEST.now 0 _ _ _ _ _ _ _ _ _ refl refl refl (lit≤ tt) refl refl
+is_request = select_of bank.request PROBE_REQUEST.now 0 _ _ _ _ _ _ _ _ _ refl refl refl (lit≤ tt) refl refl
     refl refl
     (λ tree. refl) (lit≤ tt)
 
-pub probes_request : ProbesAs six.request PROBE_REQUEST.now
+pub probes_request : ProbesAs bank.request PROBE_REQUEST.now
 unfolding is_request everything listing_schema program.program ungrouped
-probes_request = probes_by six.request PROBE_REQUEST.now _ is_request
+probes_request = probes_by bank.request PROBE_REQUEST.now _ is_request
     (col 1 0 ∷ col 1 2 ∷ col 1 3 ∷ col 1 4 ∷ col 1 5 ∷ col 1 6 ∷ col 1 7 ∷ col 1 8 ∷ []) refl refl refl
     (λ schema p tree has. rw (has.low, has.found)) refl

@@ -12,9 +12,10 @@ use Rattle.sqlite_tied.specs.Compute.{everything}
 use Rattle.sql_meanings.specs.Entries.{Entry, numbers}
 use Rattle.sql_meanings.proofs.PutRows.{PutsAs}
 use Rattle.sql_meanings.proofs.Texts.{puts_by}
-use Rattle.store_rows.specs.SixTables as six
+use Rattle.store_rows.specs.BankTables as bank
 use Rattle.store_rows.specs.View.{meta_entry, branch_entry, teller_entry, account_entry, history_entry}
 use Rattle.store_rows.specs.View.{request_entry}
+use Rattle.store_rows.specs.declared.metas.TheConstants.{VERSION}
 use Rattle.store_rows.specs.declared.texts.TheConstants as text
 use Rattle.store_rows.proofs.Checked.{meta_checked}
 
@@ -28,30 +29,30 @@ Puts table text entry = PutsAs table text (given entry) entry
 
 -- the first row of meta
 abbrev pub first_row : Entry
-first_row = meta_entry 0
+first_row = meta_entry VERSION 0
 
 pub record PutsEntries : Type 0 where
-  pub meta : Puts six.meta text.ADD_META.now first_row
-  pub branch : (r : BranchRow) → Puts six.branch text.ADD_BRANCH.now (branch_entry r)
-  pub teller : (r : TellerRow) → Puts six.teller text.ADD_TELLER.now (teller_entry r)
-  pub account : (r : AccountRow) → Puts six.account text.ADD_ACCOUNT.now (account_entry r)
-  pub posting : (r : HistoryRow) → Puts six.history text.ADD_HISTORY.now (history_entry r)
-  pub request : (r : RequestRow) → Puts six.request text.ADD_REQUEST.now (request_entry r)
+  pub meta : Puts bank.meta text.ADD_META.now first_row
+  pub branch : (r : BranchRow) → Puts bank.branch text.ADD_BRANCH.now (branch_entry r)
+  pub teller : (r : TellerRow) → Puts bank.teller text.ADD_TELLER.now (teller_entry r)
+  pub account : (r : AccountRow) → Puts bank.account text.ADD_ACCOUNT.now (account_entry r)
+  pub posting : (r : HistoryRow) → Puts bank.history text.ADD_HISTORY.now (history_entry r)
+  pub request : (r : RequestRow) → Puts bank.request text.ADD_REQUEST.now (request_entry r)
 
 pub puts : PutsEntries
 unfolding everything
 puts = record {
-  meta = puts_by six.meta text.ADD_META.now (given first_row) first_row 2 _ _ _ refl refl refl refl
-      (λ _ _. refl) (lit≤ tt) refl (λ _. refl) refl (λ _. refl)
+  meta = puts_by bank.meta text.ADD_META.now (given first_row) first_row 2 _ _ _ refl refl refl refl
+      (λ _ _. refl) (lit≤ tt) refl (λ _. refl) (refl, refl) tt (λ _. refl)
       (meta_checked (pos 1) (Null ∷ Int (pos 1) ∷ Int (pos 0) ∷ []) refl);
-  branch = λ r. puts_by six.branch text.ADD_BRANCH.now (given (branch_entry r)) (branch_entry r) 2 _ _ _ refl
-      refl refl refl (λ _ _. refl) (lit≤ tt) refl (λ _. refl) refl (λ _. refl) refl;
-  teller = λ r. puts_by six.teller text.ADD_TELLER.now (given (teller_entry r)) (teller_entry r) 1 _ _ _ refl
-      refl refl refl (λ _ _. refl) (lit≤ tt) refl (λ _. refl) refl (λ _. refl) refl;
-  account = λ r. puts_by six.account text.ADD_ACCOUNT.now (given (account_entry r)) (account_entry r) 1 _ _ _
-      refl refl refl refl (λ _ _. refl) (lit≤ tt) refl (λ _. refl) refl (λ _. refl) refl;
-  posting = λ r. puts_by six.history text.ADD_HISTORY.now (given (history_entry r)) (history_entry r) 5 _ _ _
-      refl refl refl refl (λ _ _. refl) (lit≤ tt) refl (λ _. refl) refl (λ _. refl) refl;
-  request = λ r. puts_by six.request text.ADD_REQUEST.now (given (request_entry r)) (request_entry r) 7 _ _ _
-      refl refl refl refl (λ _ _. refl) (lit≤ tt) refl (λ _. refl) refl (λ _. refl) refl;
+  branch = λ r. puts_by bank.branch text.ADD_BRANCH.now (given (branch_entry r)) (branch_entry r) 2 _ _ _ refl
+      refl refl refl (λ _ _. refl) (lit≤ tt) refl (λ _. refl) (refl, refl) tt (λ _. refl) refl;
+  teller = λ r. puts_by bank.teller text.ADD_TELLER.now (given (teller_entry r)) (teller_entry r) 1 _ _ _ refl
+      refl refl refl (λ _ _. refl) (lit≤ tt) refl (λ _. refl) (refl, refl) tt (λ _. refl) refl;
+  account = λ r. puts_by bank.account text.ADD_ACCOUNT.now (given (account_entry r)) (account_entry r) 1 _ _ _
+      refl refl refl refl (λ _ _. refl) (lit≤ tt) refl (λ _. refl) (refl, refl) tt (λ _. refl) refl;
+  posting = λ r. puts_by bank.history text.ADD_HISTORY.now (given (history_entry r)) (history_entry r) 5 _ _ _
+      refl refl refl refl (λ _ _. refl) (lit≤ tt) refl (λ _. refl) (refl, refl) tt (λ _. refl) refl;
+  request = λ r. puts_by bank.request text.ADD_REQUEST.now (given (request_entry r)) (request_entry r) 7 _ _ _
+      refl refl refl refl (λ _ _. refl) (lit≤ tt) refl (λ _. refl) (refl, refl) tt (λ _. refl) refl;
 }

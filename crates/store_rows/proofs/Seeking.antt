@@ -1,5 +1,5 @@
 -- What each look-up of a row looks up.
-use Rattle.std.proofs.Common.{◌≡◌, ℕ, ℤ, pos, List, [], ◌∷◌, find, slice_get, Some, option_map, refl}
+use Rattle.std.proofs.Common.{◌≡◌, ℕ, ℤ, pos, List, [], ◌∷◌, find, slice_get, Some, option_map, refl, ap, ◌∙◌}
 use Rattle.sqlite.specs.Term.{Term, col, eval_all}
 use Rattle.sqlite.specs.declared.types.Value.TheVariants.{Int}
 use Rattle.posting_rules.specs.LookUps.{balance_of_account, balance_of_teller}
@@ -11,12 +11,12 @@ use Rattle.sql_meanings.proofs.Texts.{only_reads}
 use Rattle.store_rows.specs.Columns.{balance_shown, branch_above, branch_shown, request_in}
 use Rattle.store_rows.specs.Forms.{balance_form, branch_form, request_form}
 use Rattle.store_rows.specs.Holders.{balance_in, entry_under}
-use Rattle.store_rows.specs.Rules.{StoredRows, row_under, six_lists}
+use Rattle.store_rows.specs.Rules.{StoredRows, row_under, stored_lists}
 use Rattle.store_rows.specs.Stored.{balance_stored, branch_stored}
 use Rattle.store_rows.specs.declared.holders.Member.TheVariants.{Account, Teller}
 use Rattle.store_rows.specs.declared.texts.TheConstants.{GET_ACCOUNT, GET_BRANCH, GET_REQUEST, GET_TELLER}
 use Rattle.store_rows.specs.declared.texts.TheConstants.{NEXT_BRANCH}
-use Rattle.store_rows.proofs.BankTables.{Kind, table_of, tells_row, tells_whole}
+use Rattle.store_rows.proofs.TableKinds.{Kind, table_of, tells_row, tells_whole}
 use Rattle.store_rows.proofs.GetRequest as request
 use Rattle.store_rows.proofs.Getting.{gets}
 use Rattle.store_rows.proofs.NextBranch as next
@@ -34,8 +34,8 @@ balance_project = col 1 2 ∷ []
 seeks_balance : {R : Type 0} (kind : Kind R) (value : R → ℤ)
     → ((k : ℕ) (r : R) → eval_all balance_project ((Int (pos k) ∷ []) ∷ stored (kind.entry r) ∷ [])
     ≡ balance_shown (value r))
-    → width_of (table_of kind) ≡ 1 → (rows_of : StoredRows → List Entry)
-    → ((rows : StoredRows) → slice_get (six_lists rows) kind.place ≡ Some (rows_of rows))
+    → width_of (table_of kind) ≡ (1, 0) → (rows_of : StoredRows → List Entry)
+    → ((rows : StoredRows) → slice_get (stored_lists rows) kind.place ≡ Some (rows_of rows))
     → (text : List ℕ) → Gets (table_of kind) text (1 ∷ []) balance_project
     → (k : ℕ) → Seeks text (Int (pos k) ∷ []) 1 balance_form
     (λ t. option_map value (row_at kind.key (kind.rows t) k))
@@ -44,9 +44,9 @@ seeks_balance kind value same wide rows_of there text get k = record {
   only = only_reads get.is;
   told = λ old new t shows. tells_row kind old new t shows text balance_project k (get.reads (pos k))
       balance_shown value (same k);
-  kept = stored_under kind.place (table_of kind) kind.numbered.free kind.listed rows_of there text
+  kept = stored_under kind.place (table_of kind) kind.is_plain.free kind.listed rows_of there text
       balance_project k (get.reads (pos k)) balance_stored
-      (λ e w. one_number (pos k) e.key e.values (rw wide at w));
+      (λ e w. one_number (pos k) e.key e.values e.texts (w.0 ∙ ap (λ p. p.0) wide));
 }
 
 -- of an account
@@ -73,7 +73,7 @@ seeks_branch k = record {
       branch_shown (λ _. refl);
   kept = stored_under 1 (table_of branches) refl refl (λ rows. rows.branches) (λ _. refl) _ branch_project k
       (gets.branch.reads (pos k)) branch_stored
-      (λ e wide. two_numbers (pos k) e.key e.values wide);
+      (λ e wide. two_numbers (pos k) e.key e.values e.texts wide.0);
 }
 
 -- the branch with the least number above one

@@ -1,5 +1,5 @@
 -- What each UPDATE under a key changes.
-use Rattle.std.proofs.Common.{◌≡◌, ℤ, pos, List, [], ◌∷◌, length, lit≤, refl, arith}
+use Rattle.std.proofs.Common.{◌≡◌, ◌++◌, ℕ, ℤ, pos, List, [], ◌∷◌, length, lit≤, refl, arith}
 use Rattle.sqlite.specs.Term.{Term, col, lit, eval_all}
 use Rattle.sqlite.specs.declared.types.Value.TheVariants.{Null, Int}
 use Rattle.sqlite_tied.specs.Compute.{everything}
@@ -7,15 +7,16 @@ use Rattle.sqlite_resolve.specs.Program as program
 use Rattle.sql_meanings.specs.Entries.{Entry, numbers, stored}
 use Rattle.sql_meanings.proofs.Keyed.{sets_by}
 use Rattle.sql_meanings.proofs.SetRows.{ChangesAs}
-use Rattle.store_rows.specs.SixTables as six
-use Rattle.store_rows.specs.declared.texts.TheConstants.{SET_META, SET_BRANCH, SET_TELLER, SET_ACCOUNT}
+use Rattle.store_rows.specs.BankTables as bank
+use Rattle.store_rows.specs.declared.texts.TheConstants.{SET_META, SET_BRANCH, SET_TELLER}
+use Rattle.store_rows.specs.declared.texts.TheConstants.{SET_ACCOUNT}
 use Rattle.store_rows.proofs.Checked.{meta_checked}
 use Rattle.store_rows.proofs.Getting.{keys}
 
 -- ---- the one number behind the key
 
 abbrev pub set_first : ℤ → Entry → Entry
-set_first v e = record e { values = v ∷ [] }
+set_first v e = record e { values = v ∷ []; texts = [] }
 
 abbrev first_set : List Term
 first_set = col 1 0 ∷ col 1 0 ∷ lit Null ∷ col 0 1 ∷ []
@@ -29,18 +30,19 @@ second_as v (a ∷ []) = a ∷ []
 second_as v (a ∷ b ∷ more) = a ∷ v ∷ more
 
 abbrev pub set_second : ℤ → Entry → Entry
-set_second v e = record e { values = second_as v e.values }
+set_second v e = record e { values = second_as v e.values; texts = [] }
 
 abbrev second_set : List Term
 second_set = col 1 0 ∷ col 1 0 ∷ lit Null ∷ col 1 2 ∷ col 0 1 ∷ []
 
-second_shown : (k v key : ℤ) (values : List ℤ) → length values ≡ 2
-    → eval_all second_set ((Int k ∷ Int v ∷ []) ∷ stored (record { key = key; values = values }) ∷ [])
-    ≡ Int key ∷ stored (record { key = key; values = second_as v values })
-second_shown k v key [] wide = absurd (omega arith)
-second_shown k v key (a ∷ []) wide = absurd (omega arith)
-second_shown k v key (a ∷ b ∷ []) wide = refl
-second_shown k v key (a ∷ b ∷ c ∷ more) wide = absurd (omega arith)
+second_shown : (k v key : ℤ) (values : List ℤ) (texts : List (List ℕ)) → length values ≡ 2
+    → eval_all second_set ((Int k ∷ Int v ∷ [])
+    ∷ stored (record { key = key; values = values; texts = texts }) ∷ [])
+    ≡ Int key ∷ stored (record { key = key; values = second_as v values; texts = [] })
+second_shown k v key [] texts wide = absurd (omega arith)
+second_shown k v key (a ∷ []) texts wide = absurd (omega arith)
+second_shown k v key (a ∷ b ∷ []) texts wide = refl
+second_shown k v key (a ∷ b ∷ c ∷ more) texts wide = absurd (omega arith)
 
 second_wide : (v : ℤ) (values : List ℤ) → length values ≡ 2 → length (second_as v values) ≡ 2
 second_wide v [] wide = wide
@@ -48,29 +50,31 @@ second_wide v (a ∷ []) wide = wide
 second_wide v (a ∷ b ∷ more) wide = wide
 
 pub record SetsNumbers : Type 0 where
-  pub meta : (v : ℤ) → ChangesAs six.meta SET_META.now (pos 1) (Int v ∷ []) (set_second v)
-  pub branch : (k v : ℤ) → ChangesAs six.branch SET_BRANCH.now k (Int v ∷ []) (set_second v)
-  pub teller : (k v : ℤ) → ChangesAs six.teller SET_TELLER.now k (Int v ∷ []) (set_first v)
-  pub account : (k v : ℤ) → ChangesAs six.account SET_ACCOUNT.now k (Int v ∷ []) (set_first v)
+  pub meta : (v : ℤ) → ChangesAs bank.meta SET_META.now (pos 1) (Int v ∷ []) (set_second v)
+  pub branch : (k v : ℤ) → ChangesAs bank.branch SET_BRANCH.now k (Int v ∷ []) (set_second v)
+  pub teller : (k v : ℤ) → ChangesAs bank.teller SET_TELLER.now k (Int v ∷ []) (set_first v)
+  pub account : (k v : ℤ) → ChangesAs bank.account SET_ACCOUNT.now k (Int v ∷ []) (set_first v)
 
 pub sets : SetsNumbers
 unfolding everything program.program
 sets = record {
-  meta = λ v. sets_by six.meta SET_META.now set_second second_set (pos 1) v _ _ _ _ _ _ _ _ keys.meta refl
+  meta = λ v. sets_by bank.meta SET_META.now set_second second_set (pos 1) v _ _ _ _ _ _ _ _ keys.meta refl
       refl refl (lit≤ tt) refl refl refl refl refl
       (λ _. refl) (λ _. refl) (λ _ _ _ has. rw (has.low, has.found)) (λ _ _ _ has. rw (has.low, has.found))
-      (λ e. second_shown (pos 1) v e.key e.values) (λ _. refl) (λ e. second_wide v e.values)
-      (λ e _. meta_checked e.key (Null ∷ numbers (second_as v e.values)));
-  branch = λ k v. sets_by six.branch SET_BRANCH.now set_second second_set k v _ _ _ _ _ _ _ _ keys.branch refl
+      (λ e wide. second_shown (pos 1) v e.key e.values e.texts wide.0) (λ _. refl)
+      (λ e wide. (second_wide v e.values wide.0, refl))
+      (λ e _. meta_checked e.key (Null ∷ (numbers (second_as v e.values) ++ []))) refl;
+  branch = λ k v. sets_by bank.branch SET_BRANCH.now set_second second_set k v _ _ _ _ _ _ _ _ keys.branch refl
       refl refl (lit≤ tt) refl refl refl refl refl
       (λ _. refl) (λ _. refl) (λ _ _ _ has. rw (has.low, has.found)) (λ _ _ _ has. rw (has.low, has.found))
-      (λ e. second_shown k v e.key e.values) (λ _. refl) (λ e. second_wide v e.values) (λ _ _ _. refl);
-  teller = λ k v. sets_by six.teller SET_TELLER.now set_first first_set k v _ _ _ _ _ _ _ _ keys.teller refl
+      (λ e wide. second_shown k v e.key e.values e.texts wide.0) (λ _. refl)
+      (λ e wide. (second_wide v e.values wide.0, refl)) (λ _ _ _. refl) refl;
+  teller = λ k v. sets_by bank.teller SET_TELLER.now set_first first_set k v _ _ _ _ _ _ _ _ keys.teller refl
       refl refl (lit≤ tt) refl refl refl refl refl
       (λ _. refl) (λ _. refl) (λ _ _ _ has. rw (has.low, has.found)) (λ _ _ _ has. rw (has.low, has.found))
-      (λ _ _. refl) (λ _. refl) (λ _ _. refl) (λ _ _ _. refl);
-  account = λ k v. sets_by six.account SET_ACCOUNT.now set_first first_set k v _ _ _ _ _ _ _ _ keys.account
+      (λ _ _. refl) (λ _. refl) (λ _ _. (refl, refl)) (λ _ _ _. refl) refl;
+  account = λ k v. sets_by bank.account SET_ACCOUNT.now set_first first_set k v _ _ _ _ _ _ _ _ keys.account
       refl refl refl (lit≤ tt) refl refl refl refl refl
       (λ _. refl) (λ _. refl) (λ _ _ _ has. rw (has.low, has.found)) (λ _ _ _ has. rw (has.low, has.found))
-      (λ _ _. refl) (λ _. refl) (λ _ _. refl) (λ _ _ _. refl);
+      (λ _ _. refl) (λ _. refl) (λ _ _. (refl, refl)) (λ _ _ _. refl) refl;
 }

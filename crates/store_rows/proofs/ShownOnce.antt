@@ -1,5 +1,5 @@
 -- Trees show one bank at most, and who opens on them finds it.
-use Rattle.std.proofs.Common.{◌≡◌, ℕ, ℤ, pos, nat_abs, List, [], ◌∷◌, map, refl, sym, ap, subst, ◌∙◌}
+use Rattle.std.proofs.Common.{◌++◌, ◌≡◌, ℕ, ℤ, pos, nat_abs, List, [], ◌∷◌, map, refl, sym, ap, subst, ◌∙◌}
 use Rattle.std.specs.Prelude.{slice_index_or}
 use Rattle.sqlite.specs.Order.{Row}
 use Rattle.sqlite.specs.declared.types.Value.{Value}
@@ -13,11 +13,11 @@ use Rattle.posting_rules.specs.declared.rows.TellerRow.{TellerRow}
 use Rattle.posting_rules.specs.declared.rows.AccountRow.{AccountRow}
 use Rattle.posting_rules.specs.declared.rows.HistoryRow.{HistoryRow}
 use Rattle.posting_rules.specs.declared.rows.RequestRow.{RequestRow}
-use Rattle.sql_meanings.specs.Entries.{Entry, stored}
+use Rattle.sql_meanings.specs.Entries.{Entry, numbers, texts_held, stored}
 use Rattle.sql_meanings.specs.Tables.{Holds}
 use Rattle.sql_meanings.specs.Contents.{HoldsEach}
 use Rattle.sql_meanings.proofs.Trees.{same_schema}
-use Rattle.store_rows.specs.SixTables.{bank_tables}
+use Rattle.store_rows.specs.BankTables.{bank_tables}
 use Rattle.store_rows.specs.View.{Shows, ShowsTrees, contents, branch_entry, teller_entry, account_entry}
 use Rattle.store_rows.specs.View.{history_entry, request_entry}
 use Rattle.store_rows.proofs.KeptRows.{decode, decoded}
@@ -40,19 +40,57 @@ number_in (Real x) = pos 0
 number_in (Text t) = pos 0
 number_in (Blob b) = pos 0
 
-entry_in : Row → Entry
-entry_in [] = record { key = pos 0; values = [] }
-entry_in (v ∷ []) = record { key = number_in v; values = [] }
-entry_in (v ∷ w ∷ row) = record { key = number_in v; values = map number_in row }
+-- the numbers of a row, and its texts
+numbers_in : Row → List ℤ
+numbers_in [] = []
+numbers_in (Int n ∷ row) = n ∷ numbers_in row
+numbers_in (Null ∷ row) = numbers_in row
+numbers_in (Real x ∷ row) = numbers_in row
+numbers_in (Text t ∷ row) = numbers_in row
+numbers_in (Blob b ∷ row) = numbers_in row
 
-numbers_back : (values : List ℤ) → map number_in (map (λ n. Int n) values) ≡ values
-unfolding number_in
-numbers_back [] = refl
-numbers_back (v ∷ values) = ap (λ l. v ∷ l) (numbers_back values)
+texts_in : Row → List (List ℕ)
+texts_in [] = []
+texts_in (Text t ∷ row) = t ∷ texts_in row
+texts_in (Null ∷ row) = texts_in row
+texts_in (Real x ∷ row) = texts_in row
+texts_in (Int n ∷ row) = texts_in row
+texts_in (Blob b ∷ row) = texts_in row
+
+entry_in : Row → Entry
+entry_in [] = record { key = pos 0; values = []; texts = [] }
+entry_in (v ∷ []) = record { key = number_in v; values = []; texts = [] }
+entry_in (v ∷ w ∷ row) = record { key = number_in v; values = numbers_in row; texts = texts_in row }
+
+no_numbers : (texts : List (List ℕ)) → numbers_in (texts_held texts) ≡ []
+unfolding numbers_in
+no_numbers [] = refl
+no_numbers (t ∷ texts) = no_numbers texts
+
+texts_back : (texts : List (List ℕ)) → texts_in (texts_held texts) ≡ texts
+unfolding texts_in
+texts_back [] = refl
+texts_back (t ∷ texts) = ap (λ l. t ∷ l) (texts_back texts)
+
+numbers_back : (values : List ℤ) (texts : List (List ℕ))
+    → numbers_in (numbers values ++ texts_held texts) ≡ values
+unfolding numbers_in
+numbers_back [] texts = no_numbers texts
+numbers_back (v ∷ values) texts = ap (λ l. v ∷ l) (numbers_back values texts)
+
+also_back : (values : List ℤ) (texts : List (List ℕ)) → texts_in (numbers values ++ texts_held texts) ≡ texts
+unfolding texts_in
+also_back [] texts = texts_back texts
+also_back (v ∷ values) texts = also_back values texts
 
 entry_back : (e : Entry) → entry_in (stored e) ≡ e
 unfolding entry_in number_in
-entry_back e = ap (λ vs. let it : Entry = record { key = e.key; values = vs } in it) (numbers_back e.values)
+entry_back e =
+    let texts = texts_in (numbers e.values ++ texts_held e.texts) in
+    ap (λ vs. let it : Entry = record { key = e.key; values = vs; texts = texts } in it)
+    (numbers_back e.values e.texts)
+    ∙ ap (λ ts. let it : Entry = record { key = e.key; values = e.values; texts = ts } in it)
+    (also_back e.values e.texts)
 
 abbrev at : Entry → ℕ → ℕ
 at e i = nat_abs (slice_index_or e.values i (pos 0))

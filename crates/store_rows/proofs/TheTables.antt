@@ -6,44 +6,44 @@ use Rattle.posting_rules.specs.declared.rows.TellerRow.{TellerRow}
 use Rattle.posting_rules.specs.declared.rows.AccountRow.{AccountRow}
 use Rattle.posting_rules.specs.declared.rows.HistoryRow.{HistoryRow}
 use Rattle.posting_rules.specs.declared.rows.RequestRow.{RequestRow}
-use Rattle.store_rows.specs.SixTables as six
+use Rattle.store_rows.specs.BankTables as bank
 use Rattle.store_rows.specs.View.{branch_entry, teller_entry, account_entry, history_entry, request_entry}
-use Rattle.store_rows.proofs.BankTables.{Kind, kind_of}
+use Rattle.store_rows.proofs.TableKinds.{Kind, kind_of}
 
 -- the branches
 abbrev pub branches : Kind BranchRow
-branches = kind_of 1 six.branch branch_key branch_entry (λ t. t.branches)
+branches = kind_of 1 bank.branch branch_key branch_entry (λ t. t.branches)
     (λ rows t. record t { branches = rows }) (λ _. refl) refl (λ _. refl)
     (λ _ _. refl) (λ _ _. refl) (codes "bid") (codes "accounts" ∷ codes "balance" ∷ [])
-    refl refl refl (lit≤ tt) refl
+    refl refl refl refl (lit≤ tt) refl
 
 -- the tellers
 abbrev pub tellers : Kind TellerRow
-tellers = kind_of 2 six.teller teller_key teller_entry (λ t. t.tellers)
+tellers = kind_of 2 bank.teller teller_key teller_entry (λ t. t.tellers)
     (λ rows t. record t { tellers = rows }) (λ _. refl) refl (λ _. refl)
     (λ _ _. refl) (λ _ _. refl) (codes "tid") (codes "balance" ∷ [])
-    refl refl refl (lit≤ tt) refl
+    refl refl refl refl (lit≤ tt) refl
 
 -- the accounts
 abbrev pub accounts : Kind AccountRow
-accounts = kind_of 3 six.account account_key account_entry (λ t. t.accounts)
+accounts = kind_of 3 bank.account account_key account_entry (λ t. t.accounts)
     (λ rows t. record t { accounts = rows }) (λ _. refl) refl (λ _. refl)
     (λ _ _. refl) (λ _ _. refl) (codes "aid") (codes "balance" ∷ [])
-    refl refl refl (lit≤ tt) refl
+    refl refl refl refl (lit≤ tt) refl
 
 -- the postings
 abbrev pub history : Kind HistoryRow
-history = kind_of 4 six.history history_key history_entry (λ t. t.history)
+history = kind_of 4 bank.history history_key history_entry (λ t. t.history)
     (λ rows t. record t { history = rows }) (λ _. refl) refl (λ _. refl)
     (λ _ _. refl) (λ _ _. refl) (codes "ordinal")
     (codes "aid" ∷ codes "tid" ∷ codes "bid" ∷ codes "delta" ∷ codes "moment" ∷ [])
-    refl refl refl (lit≤ tt) refl
+    refl refl refl refl (lit≤ tt) refl
 
 -- the decided requests
 abbrev pub requests : Kind RequestRow
-requests = kind_of 5 six.request request_key request_entry (λ t. t.requests)
+requests = kind_of 5 bank.request request_key request_entry (λ t. t.requests)
     (λ rows t. record t { requests = rows }) (λ _. refl) refl (λ _. refl)
     (λ _ _. refl) (λ _ _. refl) (codes "ordinal")
     (codes "tid" ∷ codes "number" ∷ codes "aid" ∷ codes "bid" ∷ codes "delta" ∷ codes "outcome"
     ∷ codes "balance" ∷ [])
-    refl refl refl (lit≤ tt) refl
+    refl refl refl refl (lit≤ tt) refl

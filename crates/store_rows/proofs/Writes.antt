@@ -15,7 +15,7 @@ use Rattle.store_rows.specs.Statements.{PutsRow, RunsUnder}
 use Rattle.store_rows.specs.declared.fault.TableFault.{TableFault}
 use Rattle.store_rows.specs.declared.statements.TheConstants.{MAX_KEY}
 use Rattle.store_rows.specs.declared.texts.TheConstants as text
-use Rattle.store_rows.proofs.BankTables.{Kind, table_of, tells_added, tells_write}
+use Rattle.store_rows.proofs.TableKinds.{Kind, table_of, tells_added, tells_write}
 use Rattle.store_rows.proofs.Puts.{Puts, given, puts as each}
 use Rattle.store_rows.proofs.Setting.{set_first, set_second, sets as numbers}
 use Rattle.store_rows.proofs.Telling.{tells_tables}

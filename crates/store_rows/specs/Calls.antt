@@ -14,7 +14,7 @@ use Rattle.store_rows.specs.Failures.{Changes, Looks, Puts}
 use Rattle.store_rows.specs.Forms.{Form}
 use Rattle.store_rows.specs.Outcomes.{PutsOneRow, Finds, SetsRow}
 use Rattle.store_rows.specs.Rules.{OfRows, StoredRows}
-use Rattle.store_rows.specs.SixTables.{meta}
+use Rattle.store_rows.specs.BankTables.{meta}
 use Rattle.store_rows.specs.Stored.{FindsStored}
 use Rattle.store_rows.specs.View.{HoldsRows, Shows}
 use Rattle.store_rows.specs.declared.fault.TableFault.{TableFault}

@@ -1,6 +1,7 @@
--- The six tables come to be, beside whatever the file has.
+-- The tables of a bank come to be, beside whatever the file has.
 use Rattle.std.specs.Prelude.{◌≡◌, ◌≢◌, ◌⊎◌, List, [], ◌∷◌, codes, fold, length, map, take, slice_get, false}
 use Rattle.std.specs.Prelude.{Some, Result, Ok, Err, ℕ}
+use Rattle.std.specs.List.{AllByRecursion}
 use Rattle.sqlite.specs.Schema.{Schema}
 use Rattle.sqlite.specs.Table.{Table}
 use Rattle.sqlite.specs.Tree.{Trees}
@@ -19,81 +20,89 @@ use Rattle.sql_meanings.specs.Tables.{tree_of}
 use Rattle.store_rows.specs.Outcomes.{IsForbidden}
 use Rattle.sql_meanings.specs.Contents.{HoldsEach}
 use Rattle.sql_meanings.specs.Entries.{Entry}
-use Rattle.store_rows.specs.SixTables.{bank_tables}
-use Rattle.store_rows.specs.SixTables as six
+use Rattle.store_rows.specs.BankTables as bank
 use Rattle.store_rows.specs.declared.texts.TheConstants as text
 use Rattle.store_rows.specs.View.{Shows}
+
+-- the texts that make the tables of a bank, each with its table, in the order of `bank_tables`
+abbrev pub all_texts : List (List ℕ × Table)
+all_texts =
+    (text.MAKE_META.now, bank.meta) ∷ (text.MAKE_BRANCH.now, bank.branch)
+    ∷ (text.MAKE_TELLER.now, bank.teller) ∷ (text.MAKE_ACCOUNT.now, bank.account)
+    ∷ (text.MAKE_HISTORY.now, bank.history) ∷ (text.MAKE_REQUEST.now, bank.request) ∷ []
+
+-- ---- tables that are made one after another, each by its text
+
+-- no rows in each of them
+abbrev pub no_rows : List (List ℕ × Table) → List (List Entry)
+no_rows texts = map (λ it. []) texts
+
+-- a sound database defines these tables, and they have no rows
+pub record AreEmpty (texts : List (List ℕ × Table)) (db : Database) : Type 0 where
+  pub sound : ∥ IsDatabase db ∥₁
+  pub each : HoldsEach db (map (λ it. it.1) texts) (no_rows texts)
+
+-- the schema with the first so many of them more, and nothing else
+abbrev pub with_first : List (List ℕ × Table) → ℕ → Schema → Schema
+with_first texts n schema = fold (λ s it. created s it.1) schema (take n texts)
+
+-- the rows of this table are in a tree that no table of the old schema has
+abbrev pub IsApart : Schema → Schema → Table → Type 0
+IsApart old new table = (t : Table) → Has old.tables t → t.tree ≢ tree_of new table.name
+
+-- These tables are there and empty, and every table that was there is there, with its rows. Where no table
+-- counts its rows, nothing else is new.
+pub record TablesAreMade (texts : List (List ℕ × Table)) (old new : Database) : Type 0 where
+  pub empty : AreEmpty texts new
+  pub keeps : KeepsTables old new
+  pub alone : counts_rows old.schema ≡ false → new.schema ≡ with_first texts (length texts) old.schema
+  pub apart : AllByRecursion (λ it. IsApart old.schema new.schema it.1) texts
+
+-- The first so many of these tables are made, and the next is refused under the schema as it is now. Where no
+-- table counts its rows, that schema has those tables more, and nothing else.
+pub record RefusesNext (texts : List (List ℕ × Table)) (old now : Schema) (e : Error) : Type 0 where
+  pub made : ℕ
+  pub next : List ℕ × Table
+  pub is_next : slice_get texts made ≡ Some next
+  pub alone : counts_rows old ≡ false → now ≡ with_first texts made old
+  pub refused : NotMade now next.0 next.1 e
+
+-- All were made. Or the store failed, and the transaction is rolled back; or one is refused, beside what was
+-- there and those before it.
+abbrev pub MakesAll : List (List ℕ × Table) → State → State → Result (Unit {0}) Error → Type 0
+MakesAll texts old new (Ok done) = TablesAreMade texts old.now new.now × GoesOn old new × KeepsCounts old new
+MakesAll texts old new (Err e) =
+    Fails old new ⊥ e ⊎ (RefusesNext texts old.now.schema new.now.schema e × KeepsTables old.now new.now
+    × GoesOn old new × KeepsCounts old new)
+
+-- ---- a new bank
 
 -- the tables of a new bank: nothing is decided, and nothing is open
 abbrev pub new_tables : Tables
 new_tables = record { decided = 0; branches = []; tellers = []; accounts = []; history = []; requests = [] }
 
--- no rows in each of the six
-abbrev pub no_rows : List (List Entry)
-no_rows = map (λ table. []) bank_tables
-
--- a sound database defines the six tables, and they have no rows
-pub record AreEmpty (db : Database) : Type 0 where
-  pub sound : ∥ IsDatabase db ∥₁
-  pub each : HoldsEach db bank_tables no_rows
-
--- the six texts, each with its table
-abbrev pub six_texts : List (List ℕ × Table)
-six_texts =
-    (text.MAKE_META.now, six.meta) ∷ (text.MAKE_BRANCH.now, six.branch) ∷ (text.MAKE_TELLER.now, six.teller)
-    ∷ (text.MAKE_ACCOUNT.now, six.account)
-    ∷ (text.MAKE_HISTORY.now, six.history) ∷ (text.MAKE_REQUEST.now, six.request) ∷ []
-
--- the schema with the first so many of them more, and nothing else
-abbrev pub with_first : ℕ → Schema → Schema
-with_first n schema = fold (λ s it. created s it.1) schema (take n six_texts)
-
--- The six tables are there and empty, and every table that was there is there, with its rows. Where no table
--- counts its rows, nothing else is new.
-pub record TablesAreMade (old new : Database) : Type 0 where
-  pub empty : AreEmpty new
-  pub keeps : KeepsTables old new
-  pub alone : counts_rows old.schema ≡ false → new.schema ≡ with_first (length six_texts) old.schema
-  pub apart : (t : Table) → Has old.schema.tables t → t.tree ≢ tree_of new.schema (codes "meta")
-
--- The first so many of the six are made, and the next is refused under the schema as it is now. Where no
--- table counts its rows, that schema has those tables more, and nothing else.
-pub record RefusesNext (old now : Schema) (e : Error) : Type 0 where
-  pub made : ℕ
-  pub next : List ℕ × Table
-  pub is_next : slice_get six_texts made ≡ Some next
-  pub alone : counts_rows old ≡ false → now ≡ with_first made old
-  pub refused : NotMade now next.0 next.1 e
-
--- All six were made. Or the store failed, and the transaction is rolled back; or one is refused, beside what
--- was there and those before it.
-abbrev pub MakesAll : State → State → Result (Unit {0}) Error → Type 0
-MakesAll old new (Ok done) = TablesAreMade old.now new.now × GoesOn old new × KeepsCounts old new
-MakesAll old new (Err e) =
-    Fails old new ⊥ e ⊎ (RefusesNext old.now.schema new.now.schema e × KeepsTables old.now new.now
-    × GoesOn old new × KeepsCounts old new)
-
 -- the first row is there, and every table but meta is as it was; or why the row can't be put in
 abbrev pub StartsBank : State → State → Result ℕ Error → Type 0
 StartsBank old new (Ok count) =
     Shows new.now new_tables × SparesTables old.now new.now (codes "meta") × (new.now.schema ≡ old.now.schema)
-StartsBank old new (Err e) = PutFails old new six.meta (IsForbidden old.now.schema six.meta new_tables) e
+StartsBank old new (Err e) = PutFails old new bank.meta (IsForbidden old.now.schema bank.meta new_tables) e
 
--- once the six are made, an index of meta has more columns than can be stored
+-- once the tables are made, an index of meta has more columns than can be stored
 abbrev pub MakesWide : Database → Type 0
-MakesWide old = (made : Database) × TablesAreMade old made × HasWideIndex made.schema six.meta
+MakesWide old = (made : Database) × TablesAreMade all_texts old made × HasWideIndex made.schema bank.meta
 
--- A statement is refused in this database: one of the six tables, where only those before it were made; or
--- the first row, since the limit on steps was met, or since a UNIQUE of the file's own allows no such row.
+-- A statement is refused in this database: one of the tables, where only those before it were made; or the
+-- first row, since the limit on steps was met, or since a UNIQUE of the file's own allows no such row.
 abbrev pub RefusedIn : State → Database → Error → Type 0
 RefusedIn old db e =
-    (RefusesNext old.now.schema db.schema e × KeepsTables old.now db)
+    (RefusesNext all_texts old.now.schema db.schema e × KeepsTables old.now db)
     ⊎ ((IsInterrupted old e ⊎ ((e ≡ SqliteFailure (ConstraintViolation Unique))
-    × IsForbidden db.schema six.meta new_tables)) × TablesAreMade old.now db)
+    × IsForbidden db.schema bank.meta new_tables)) × TablesAreMade all_texts old.now db)
 
--- where no table counts its rows, the six tables are new, and nothing else is
+-- where no table counts its rows, the tables of a bank are new, and nothing else is
 abbrev pub IsAlone : Database → Database → Type 0
-IsAlone old new = counts_rows old.schema ≡ false → new.schema ≡ with_first (length six_texts) old.schema
+IsAlone old new = counts_rows old.schema ≡ false
+    → new.schema ≡ with_first all_texts (length all_texts) old.schema
 
 -- The tables of a new bank are there, and every table that was there is there, with its rows, and nothing
 -- else is. Or the store failed, and the transaction is rolled back; or a statement is refused in the database

@@ -8,7 +8,7 @@ use Rattle.posting_rules.specs.Tables.{Tables, row_at, account_key, teller_key, 
 use Rattle.posting_rules.specs.Tables.{teller_row_of}
 use Rattle.sql_meanings.specs.Entries.{Entry}
 use Rattle.store_rows.specs.Rules.{StoredRows, row_under}
-use Rattle.store_rows.specs.SixTables as six
+use Rattle.store_rows.specs.BankTables as bank
 use Rattle.store_rows.specs.declared.holders.Holder.{Holder}
 use Rattle.store_rows.specs.declared.holders.Holder.TheVariants.{Account, Teller, Branch}
 use Rattle.store_rows.specs.declared.holders.Member.{Member}
@@ -17,9 +17,9 @@ use Rattle.store_rows.specs.declared.texts.TheConstants.{SET_ACCOUNT, SET_BRANCH
 
 -- the table of its row
 abbrev pub holder_table : Holder → Table
-holder_table (Account account) = six.account
-holder_table (Teller teller) = six.teller
-holder_table (Branch branch) = six.branch
+holder_table (Account account) = bank.account
+holder_table (Teller teller) = bank.teller
+holder_table (Branch branch) = bank.branch
 
 -- the text that writes its balance
 abbrev pub holder_update : Holder → List ℕ

@@ -1,4 +1,4 @@
--- The rows of the six tables as a file holds them, whatever numbers they are, and the seven rules that the
+-- The rows of a bank's tables as a file holds them, whatever numbers they are, and the seven rules that the
 -- rows of a bank keep.
 use Rattle.std.specs.Prelude.{◌≡◌, ◌≤◌, ◌<◌, ◌≤ℤ◌, ℕ, ℤ, pos, nat_abs, List, [], ◌∷◌, find, Option, Some}
 use Rattle.std.specs.Prelude.{None, option_and_then, IsSome, IsTrue, ⊤}
@@ -18,7 +18,7 @@ use Rattle.posting_rules.specs.declared.limits.TheConstants.{LAST_BRANCH, MAX_DE
 use Rattle.sql_meanings.specs.Contents.{HoldsEach}
 use Rattle.sql_meanings.specs.Entries.{Entry, has_key}
 use Rattle.store_rows.specs.Columns.{number_at}
-use Rattle.store_rows.specs.SixTables.{bank_tables}
+use Rattle.store_rows.specs.BankTables.{bank_tables}
 use Rattle.store_rows.specs.declared.metas.TheConstants.{META_ID}
 
 -- ---- what a file holds
@@ -32,14 +32,14 @@ pub record StoredRows : Type 0 where
   pub history : List Entry
   pub requests : List Entry
 
--- in the order of the tables
-abbrev pub six_lists : StoredRows → List (List Entry)
-six_lists rows = rows.meta ∷ rows.branches ∷ rows.tellers ∷ rows.accounts ∷ rows.history ∷ rows.requests ∷ []
+-- in the order of `bank_tables`
+abbrev pub stored_lists : StoredRows → List (List Entry)
+stored_lists rows = rows.meta ∷ rows.branches ∷ rows.tellers ∷ rows.accounts ∷ rows.history ∷ rows.requests ∷ []
 
 -- a sound database defines the tables of a bank and holds these rows by rising keys, whatever else it has
 pub record HoldsBank (db : Database) (rows : StoredRows) : Type 0 where
   pub sound : ∥ IsDatabase db ∥₁
-  pub each : HoldsEach db bank_tables (six_lists rows)
+  pub each : HoldsEach db bank_tables (stored_lists rows)
 
 -- the row under a number
 abbrev pub row_under : List Entry → ℕ → Option Entry
@@ -107,7 +107,7 @@ EachKeeps rule rows =
 -- `meta` has exactly one row, and this many requests are decided
 abbrev pub HasDecided : StoredRows → ℕ → Type 0
 HasDecided rows decided = (version : ℤ)
-    × (rows.meta ≡ record { key = pos META_ID; values = version ∷ pos decided ∷ [] } ∷ [])
+    × (rows.meta ≡ record { key = pos META_ID; values = version ∷ pos decided ∷ []; texts = [] } ∷ [])
 
 -- the place of an account is within its branch's count
 abbrev pub IsWithinCount : StoredRows → ℕ → Type 0

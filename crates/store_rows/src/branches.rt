@@ -7,7 +7,7 @@ ghost use Rattle.store_rows.specs.Calls.{AddsRow, LooksUp};
 ghost use Rattle.store_rows.specs.Columns.{branch_above};
 ghost use Rattle.store_rows.specs.Forms.{branch_form};
 ghost use Rattle.store_rows.specs.Rules.{row_under};
-ghost use Rattle.store_rows.specs.SixTables.{branch as table};
+ghost use Rattle.store_rows.specs.BankTables.{branch as table};
 
 use crate::columns::{cents_at, count_at, whole_at};
 use crate::fault::TableFault;

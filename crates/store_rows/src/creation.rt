@@ -1,4 +1,4 @@
-//! The six tables come to be, in one transaction, beside whatever the file has.
+//! The tables of a bank come to be, in one transaction, beside whatever the file has.
 ghost use Rattle.std.specs.Prelude.{◌≡◌, ◌<◌, IsTrue, IfErr, IfSome, OnOk, OnErr, false, slice_get, length};
 ghost use Rattle.sqlite.specs.Table.{Table};
 ghost use Rattle.sqlite.specs.State.{HasCleanDisk, Survives};
@@ -7,7 +7,7 @@ ghost use Rattle.sql_meanings.specs.Calls.{Says, Inside};
 ghost use Rattle.sql_meanings.specs.Making.{CreatesOnly, KeepsTables};
 ghost use Rattle.sql_meanings.specs.Outcomes.{WriteKept, WritesKept, MakesTold};
 ghost use Rattle.store_rows.specs.View.{Shows};
-ghost use Rattle.store_rows.specs.Creation.{AreEmpty, new_tables, six_texts, MakesAll, StartsBank};
+ghost use Rattle.store_rows.specs.Creation.{AreEmpty, all_texts, new_tables, MakesAll, StartsBank};
 ghost use Rattle.store_rows.specs.Creation.{CreatesBank, CreationFails, HasNewBank, IsAlone};
 
 use crate::metas::{META_ID, VERSION};
@@ -26,15 +26,15 @@ fn make_table<S: Alter>(tx: &mut Transaction<'_, S>, text: &str) -> Result<usize
 
 // The text that makes the table at a place.
 fn make_text(at: usize) -> &'static str
-    requires { at < length six_texts }
-    ensures { IfSome (slice_get six_texts at) (λ it. result.now ≡ it.0) }
+    requires { at < length all_texts }
+    ensures { IfSome (slice_get all_texts at) (λ it. result.now ≡ it.0) }
 {
     MAKE_TABLES[at]
 }
 
 fn make_tables<S: Alter>(tx: &mut Transaction<'_, S>) -> Result<(), Error>
     ensures { Says S.Store tx.old tx.new
-        (Inside (λ old new. MakesAll old new result))
+        (Inside (λ old new. MakesAll all_texts old new result))
         (Inside (λ old new. WritesKept old new result)) }
 {
     for at in 0..MAKE_TABLES.len() {
@@ -46,14 +46,14 @@ fn make_tables<S: Alter>(tx: &mut Transaction<'_, S>) -> Result<(), Error>
 // The first row of meta: the version, and nothing decided.
 fn add_meta<S: Alter>(tx: &mut Transaction<'_, S>) -> Result<usize, Error>
     ensures { Says S.Store tx.old tx.new
-        (Inside (λ old new. AreEmpty old.now → StartsBank old new result))
+        (Inside (λ old new. AreEmpty all_texts old.now → StartsBank old new result))
         (Inside (λ old new. WriteKept old new result)) }
 {
     let id = META_ID as i64;
     tx.execute(ADD_META, params![id, VERSION, 0i64])
 }
 
-/// Makes the six tables and the first row of meta, inside a transaction.
+/// Makes the tables of a bank and the first row of meta, inside a transaction.
 pub fn create_tables<S: Alter>(tx: &mut Transaction<'_, S>) -> Result<(), Error>
     ensures { Says S.Store tx.old tx.new
         (Inside (λ old new. CreatesBank old new result))
@@ -64,7 +64,7 @@ pub fn create_tables<S: Alter>(tx: &mut Transaction<'_, S>) -> Result<(), Error>
     Ok(())
 }
 
-/// Makes the six tables and the first row of meta, in a transaction of their own.
+/// Makes the tables of a bank and the first row of meta, in a transaction of their own.
 pub fn create<S: Alter>(conn: &mut Connection<S>) -> Result<(), Error>
     requires { conn.old.in_transaction ≡ false }
     ensures ok { HasCleanDisk (state S.Store conn.new)

@@ -3,7 +3,7 @@ ghost use Rattle.std.specs.Prelude.{is_some};
 ghost use Rattle.posting_rules.specs.Tables.{row_at, history_key};
 ghost use Rattle.posting_rules.specs.Changes.{with_history};
 ghost use Rattle.store_rows.specs.Calls.{AddsRow};
-ghost use Rattle.store_rows.specs.SixTables.{history as table};
+ghost use Rattle.store_rows.specs.BankTables.{history as table};
 
 use crate::fault::TableFault;
 use crate::statements::put_in;

@@ -1,7 +1,6 @@
-//! The six tables of a bank in `sqlite`, one statement a function, whatever else the file holds. A posting
-//! of TPC-B (clause 1.2) writes four of them: the account, the teller, the branch and the history. The fifth
-//! keeps the requests that were decided, with their replies, and the sixth has one row of the bank as a
-//! whole.
+//! The tables of a bank in `sqlite`, one statement a function, whatever else the file holds. A posting of
+//! TPC-B (clause 1.2) writes four of them: the account, the teller, the branch and the history. One more
+//! keeps the requests that were decided, with their replies, and one has a single row of the bank as a whole.
 //!
 //! A function looks up a row, adds one or writes a number of one, inside a transaction of its caller;
 //! [`commit`] makes last what was written, and a transaction that is dropped without it is undone. The
@@ -40,7 +39,7 @@
 //! its row. [`set_balance`] writes that of a [`Holder`], which may be a branch too.
 //!
 //! A [`TableFault`] says why a call failed: `Sqlite` that a call of `sqlite` did, with its error, and
-//! `Damaged` which rule a stored row breaks. Read next: `specs/SixTables`, the tables with their columns;
+//! `Damaged` which rule a stored row breaks. Read next: `specs/BankTables`, the tables with their columns;
 //! `specs/View`, which rows a database shows; `specs/Calls`, what each function finds or leaves. The crate
 //! `bank_transactions` is a caller.
 #![tactic(auto)]

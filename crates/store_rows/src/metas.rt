@@ -11,7 +11,7 @@ ghost use Rattle.store_rows.specs.Columns.{meta_in, meta_shown};
 ghost use Rattle.store_rows.specs.Failures.{Asks, Looks};
 ghost use Rattle.store_rows.specs.Outcomes.{Finds, Never};
 ghost use Rattle.store_rows.specs.declared.texts.TheConstants.{SET_META};
-ghost use Rattle.store_rows.specs.SixTables.{meta as table};
+ghost use Rattle.store_rows.specs.BankTables.{meta as table};
 ghost use Rattle.store_rows.specs.Statements.{ShowsFirst, TellsOther};
 ghost use Rattle.store_rows.specs.declared.metas.TheConstants.{META_ID as id};
 ghost use Rattle.store_rows.specs.declared.texts.TheConstants.{GET_META as text};

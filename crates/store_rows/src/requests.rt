@@ -9,7 +9,7 @@ ghost use Rattle.store_rows.specs.Forms.{request_form};
 ghost use Rattle.store_rows.specs.Failures.{IsUnreadable};
 ghost use Rattle.store_rows.specs.Outcomes.{ReadsKept};
 ghost use Rattle.store_rows.specs.Rules.{RequestKeeps};
-ghost use Rattle.store_rows.specs.SixTables.{request as table};
+ghost use Rattle.store_rows.specs.BankTables.{request as table};
 ghost use Rattle.store_rows.specs.Stored.{IsKept, ReadsStored, request_stored};
 
 use crate::columns::{cents_at, outcome_at, whole_at};

@@ -28,7 +28,7 @@ pub(crate) const MAKE_REQUEST: &str =
      balance INTEGER NOT NULL, UNIQUE (tid, number)) STRICT";
 
 /// The texts that make the tables, in the order in which they are made.
-pub(crate) const MAKE_TABLES: [&str; 6] = [
+pub(crate) const MAKE_TABLES: &[&str] = &[
     MAKE_META,
     MAKE_BRANCH,
     MAKE_TELLER,

@@ -3,7 +3,7 @@ use Rattle.std.proofs.Common.{rules, ◌≡◌, List, Err, Some, filter, refl, s
 use Rattle.sqlite.specs.State.{HasCleanDisk}
 use Rattle.sqlite.specs.Held.{state}
 use Rattle.sql_meanings.specs.Entries.{Entry}
-use Rattle.store_rows.specs.SixTables.{history as history_table}
+use Rattle.store_rows.specs.BankTables.{history as history_table}
 use Rattle.bank_walks.specs.Rows.{HasStoredRows}
 use Rattle.bank_walks.specs.Stored.{is_of}
 use Rattle.bank_store.specs.Seen.{connection_of, database_of}

@@ -5,7 +5,7 @@ use Rattle.sqlite.specs.Held.{state}
 use Rattle.posting_rules.specs.declared.fault.Fault.TheVariants.{Damaged, Down, Store}
 use Rattle.posting_rules.specs.declared.fault.Rule.TheVariants.{Value}
 use Rattle.posting_core.proofs.Telling.{more_more, more_none}
-use Rattle.store_rows.specs.SixTables.{history as history_table}
+use Rattle.store_rows.specs.BankTables.{history as history_table}
 use Rattle.bank_transactions.proofs.Blamed.{comes}
 use Rattle.bank_reports.proofs.Written.{later_failed}
 use Rattle.bank_audits.specs.declared.fault.ReportFault.{ReportFault}

@@ -4,7 +4,7 @@ use Rattle.sqlite.specs.State.{HasCleanDisk, Survives}
 use Rattle.sqlite.specs.Held.{state}
 use Rattle.posting_core.specs.Told.{HasMore}
 use Rattle.sql_meanings.specs.Entries.{Entry}
-use Rattle.store_rows.specs.SixTables.{history as history_table}
+use Rattle.store_rows.specs.BankTables.{history as history_table}
 use Rattle.bank_walks.specs.Rows.{HasStoredRows}
 use Rattle.bank_walks.specs.Stored.{is_of, posting_entry}
 use Rattle.bank_store.specs.Walks.{IsStill}

@@ -4,7 +4,7 @@ use Rattle.std.specs.Prelude.{IsSome}
 use Rattle.sqlite.specs.State.{HasCleanDisk}
 use Rattle.sqlite.specs.Held.{state}
 use Rattle.sql_meanings.specs.Entries.{Entry}
-use Rattle.store_rows.specs.SixTables.{history as history_table}
+use Rattle.store_rows.specs.BankTables.{history as history_table}
 use Rattle.store_rows.specs.View.{history_entry}
 use Rattle.bank_walks.specs.Rows.{HasStoredRows}
 use Rattle.bank_reports.proofs.Written.{on_err_any}

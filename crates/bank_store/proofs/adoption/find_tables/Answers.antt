@@ -1,7 +1,7 @@
 -- What is found of a bank.
 use Rattle.std.proofs.Common.{◌≡◌, Some, None, Err, Result, rules, refl, sym, ap, ◌∙◌, subst, inl}
 use Rattle.sqlite.specs.Held.{state}
-use Rattle.store_rows.specs.Probes.{six_probes}
+use Rattle.store_rows.specs.Probes.{all_probes}
 use Rattle.posting_rules.specs.declared.fault.Rule.TheVariants.{Meta}
 use Rattle.bank_store.specs.Connections.{IsAsBefore}
 use Rattle.bank_store.specs.FoundBank.{SeeksBank}
@@ -37,7 +37,7 @@ returns-in-Absent g c =
     record {
       told =
           λ clean.
-          subst (λ (p : Presence). IsPresent old.now six_probes p × IsAsBefore old new) c.in-Absent.is
+          subst (λ (p : Presence). IsPresent old.now all_probes p × IsAsBefore old new) c.in-Absent.is
           (c.in_ok-tables_there.ensures.told clean);
       cause = tt;
       mode = c.tables_there.ensures.mode;
@@ -52,7 +52,7 @@ returns-in-Partial g c =
       told =
           λ clean.
           let there =
-          subst (λ (p : Presence). IsPresent old.now six_probes p × IsAsBefore old new) c.in-Partial.is
+          subst (λ (p : Presence). IsPresent old.now all_probes p × IsAsBefore old new) c.in-Partial.is
           (c.in_ok-tables_there.ensures.told clean) in
           ((there.0, c.requires.ours (still_clean c.tables_there.ensures.survives clean)), there.1);
       cause = tt;
@@ -71,7 +71,7 @@ returns-in_err-settled_meta-in-Whole g c =
       told =
           λ clean.
           let there =
-          subst (λ (p : Presence). IsPresent old.now six_probes p × IsAsBefore old mid) c.in-Whole.is
+          subst (λ (p : Presence). IsPresent old.now all_probes p × IsAsBefore old mid) c.in-Whole.is
           (c.in_ok-tables_there.ensures.told (still_clean e.ensures.survives clean)) in
           subst (λ (r : Result (Unit {0}) OpenFault). SeeksBank old new r) (sym is)
           (missed old mid new there.0 there.1 e.field-0.0 e.ensures.fault (e.ensures.told clean)
@@ -95,7 +95,7 @@ returns-in-None g c =
       told =
           λ clean.
           let there =
-          subst (λ (p : Presence). IsPresent old.now six_probes p × IsAsBefore old mid) c.in-Whole.is
+          subst (λ (p : Presence). IsPresent old.now all_probes p × IsAsBefore old mid) c.in-Whole.is
           (c.in_ok-tables_there.ensures.told (still_clean read.survives clean)) in
           looked old mid new None there.0 there.1 (λ rows has. sym c.in-None.is ∙ read.told clean rows has)
           (read.same clean) (Err (Damaged Meta)) (inl refl);
@@ -115,7 +115,7 @@ returns-in-Some g c =
       told =
           λ clean.
           let there =
-          subst (λ (p : Presence). IsPresent old.now six_probes p × IsAsBefore old mid) c.in-Whole.is
+          subst (λ (p : Presence). IsPresent old.now all_probes p × IsAsBefore old mid) c.in-Whole.is
           (c.in_ok-tables_there.ensures.told (still_clean read.survives clean)) in
           looked old mid new meta there.0 there.1 (λ rows has. sym c.in-Some.is ∙ read.told clean rows has)
           (read.same clean) c.check_meta.result c.check_meta.ensures;

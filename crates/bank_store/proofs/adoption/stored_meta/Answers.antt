@@ -3,7 +3,7 @@ use Rattle.std.proofs.Common.{◌≡◌, true, Err, rules, arith, sym, subst}
 use Rattle.sqlite.specs.State.{HasCleanDisk}
 use Rattle.sqlite.specs.Held.{state}
 use Rattle.store_rows.specs.Columns.{meta_in}
-use Rattle.store_rows.specs.SixTables.{meta}
+use Rattle.store_rows.specs.BankTables.{meta}
 use Rattle.store_rows.specs.View.{HoldsRows}
 use Rattle.posting_rules.specs.declared.open_fault.OpenFault.{OpenFault}
 use Rattle.bank_transactions.specs.Causes.{IsBefore}

@@ -5,7 +5,7 @@ use Rattle.std.specs.Prelude.{IsSome}
 use Rattle.sqlite.specs.State.{HasCleanDisk, Survives}
 use Rattle.sqlite.specs.Held.{state}
 use Rattle.store_rows.specs.Creation.{HasNewBank}
-use Rattle.store_rows.specs.Probes.{six_probes}
+use Rattle.store_rows.specs.Probes.{all_probes}
 use Rattle.bank_store.specs.NewBank.{BankIsMade}
 use Rattle.bank_store.specs.TablePresence.{IsPresent}
 use Rattle.bank_store.specs.declared.presence.Presence.TheVariants.{Absent}
@@ -23,8 +23,8 @@ returns-in-Ok g c =
     let made : HasCleanDisk new → BankIsMade old new =
     subst (λ h. HasCleanDisk (state g.S.Store h) → BankIsMade old (state g.S.Store h)) same
     c.in-Ok.ensures.makes.made in
-    let blank : HasCleanDisk new → IsPresent old.now six_probes Absent =
-    subst (λ h. HasCleanDisk (state g.S.Store h) → IsPresent old.now six_probes Absent) same
+    let blank : HasCleanDisk new → IsPresent old.now all_probes Absent =
+    subst (λ h. HasCleanDisk (state g.S.Store h) → IsPresent old.now all_probes Absent) same
     c.in-Ok.ensures.blank in
     let up : Down → ⊥ = λ some. (let none = c.over.ensures.up in let h = rw none at some in cc) in
     record {

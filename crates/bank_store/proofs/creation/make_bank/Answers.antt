@@ -3,7 +3,7 @@ use Rattle.std.proofs.Common.{◌≡◌, Ok, Err, Result, rules, arith, subst, i
 use Rattle.std.specs.Prelude.{OnOk}
 use Rattle.sqlite.specs.State.{HasCleanDisk}
 use Rattle.sqlite.specs.Held.{state}
-use Rattle.store_rows.specs.Probes.{six_probes}
+use Rattle.store_rows.specs.Probes.{all_probes}
 use Rattle.bank_transactions.proofs.Blamed.{comes, same_moment}
 use Rattle.bank_store.specs.Connections.{IsAsBefore}
 use Rattle.bank_store.specs.NewBank.{IsRefusedOnTheWay, IsTaken}
@@ -25,7 +25,7 @@ returns-in-Absent-clause-blank g c clean =
     let mid = state g.S.Store c.tables_there.new.conn in
     let midway : HasCleanDisk mid = omega (arith, c.make_tables.ensures.survives.clean) in
     let there =
-    subst (λ (p : Presence). IsPresent old.now six_probes p × IsAsBefore old mid) c.in-Absent.is
+    subst (λ (p : Presence). IsPresent old.now all_probes p × IsAsBefore old mid) c.in-Absent.is
     (c.in_ok-tables_there.ensures.told midway) in
     on_ok _ there.0 c.make_tables.result
 

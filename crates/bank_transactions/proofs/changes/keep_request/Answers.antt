@@ -10,7 +10,7 @@ use Rattle.sql_meanings.specs.Calls.{Says, Inside}
 use Rattle.store_rows.specs.Calls.{OfTables}
 use Rattle.store_rows.specs.Failures.{Puts}
 use Rattle.store_rows.specs.Outcomes.{PutsOneRow}
-use Rattle.store_rows.specs.SixTables.{request}
+use Rattle.store_rows.specs.BankTables.{request}
 use Rattle.store_rows.specs.declared.fault.TableFault.{TableFault}
 use Rattle.bank_transactions.specs.Doing.{Does}
 use Rattle.bank_transactions.proofs.Chained.{does_then, does_err, does_for}

@@ -10,7 +10,7 @@ use Rattle.posting_rules.specs.Changes.{with_account_balance, with_teller_balanc
 use Rattle.posting_rules.specs.Entries.{posted_entry}
 use Rattle.posting_rules.specs.Tables.{Tables, row_at, history_key, history_row_of}
 use Rattle.store_rows.specs.Holders.{HasRow, with_balance}
-use Rattle.store_rows.specs.SixTables.{history}
+use Rattle.store_rows.specs.BankTables.{history}
 use Rattle.store_rows.specs.declared.holders.Holder.{Holder}
 use Rattle.store_rows.specs.declared.holders.Holder.TheVariants.{Account, Teller, Branch}
 use Rattle.store_rows.specs.declared.fault.TableFault.{TableFault}

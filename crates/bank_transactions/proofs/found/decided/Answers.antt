@@ -8,6 +8,7 @@ use Rattle.posting_rules.specs.declared.limits.TheConstants.{MAX_DECIDED}
 use Rattle.store_rows.specs.Columns.{meta_in}
 use Rattle.store_rows.specs.Outcomes.{Never}
 use Rattle.store_rows.specs.View.{meta_entry}
+use Rattle.store_rows.specs.declared.metas.TheConstants.{VERSION}
 use Rattle.store_rows.specs.declared.metas.StoredMeta.{StoredMeta}
 use Rattle.store_rows.proofs.MetaRow.{has_one}
 use Rattle.bank_transactions.proofs.Broken.{meta_broken, never_broken}
@@ -20,7 +21,7 @@ use Rattle.bank_transactions.proofs.found.decided.Goals.{then-meta-lt0-via-else-
 use Rattle.bank_transactions.proofs.found.decided.Goals as goal
 
 -- the row that was told is the one row of these tables
-row_is : (m : StoredMeta) (n : ℕ) → Some m ≡ meta_in (meta_entry n ∷ []) → m.decided ≡ pos n
+row_is : (m : StoredMeta) (n : ℕ) → Some m ≡ meta_in (meta_entry VERSION n ∷ []) → m.decided ≡ pos n
 row_is m n is = cc
 
 -- the count of a row with this count
@@ -28,7 +29,7 @@ decided_of : (m : StoredMeta) (n : ℕ) (version : ℤ) → Some m
     ≡ Some (record { version = version; decided = pos n }) → m.decided ≡ pos n
 decided_of m n version is = cc
 
-none_is : (o : Option StoredMeta) (n : ℕ) → o ≡ meta_in (meta_entry n ∷ []) → o ≡ None → ⊥
+none_is : (o : Option StoredMeta) (n : ℕ) → o ≡ meta_in (meta_entry VERSION n ∷ []) → o ≡ None → ⊥
 none_is o n is none = let both = sym none ∙ is in cc
 
 pub returns-in_err-meta-clause-says : goal.returns-in_err-meta-clause-says
@@ -39,9 +40,9 @@ returns-in_err-meta-clause-says g c = record {
       let after = state g.S.Store c.read_meta.new.tx.conn.now in
       rw same
       (err_found before after before after
-      (meta_in (meta_entry t.decided ∷ [])) Never t.decided c.in_err-meta.field-0.0
+      (meta_in (meta_entry VERSION t.decided ∷ [])) Never t.decided c.in_err-meta.field-0.0
       (λ m broken is breaks. breaks)
-      (c.in_err-meta.ensures.says.told clean (meta_entry t.decided ∷ []) (has_one before.now t shows)));
+      (c.in_err-meta.ensures.says.told clean (meta_entry VERSION t.decided ∷ []) (has_one before.now t shows)));
   same_reference = search rules;
   kept = λ clean.
       let same : c.from_residual.result ≡ Err c.in_err-meta.field-0.0 = search rules in
@@ -56,7 +57,7 @@ pub returns-in_default-clause-says : goal.returns-in_default-clause-says
 returns-in_default-clause-says g c = record {
   told = λ clean t shows sound.
       none_is _ t.decided
-      (c.in_ok-meta.ensures.says.told clean (meta_entry t.decided ∷ [])
+      (c.in_ok-meta.ensures.says.told clean (meta_entry VERSION t.decided ∷ [])
       (has_one _ t shows)).0 c.in_default.is;
   same_reference = search rules;
   kept = λ clean.
@@ -79,7 +80,8 @@ pub returns-then-meta-lt0-clause-says : goal.returns-then-meta-lt0-clause-says
 returns-then-meta-lt0-clause-says g c = record {
   told = λ clean t shows sound.
       let m = c.in-Some.meta in
-      let found = (c.in_ok-meta.ensures.says.told clean (meta_entry t.decided ∷ []) (has_one _ t shows)).0 in
+      let found =
+      (c.in_ok-meta.ensures.says.told clean (meta_entry VERSION t.decided ∷ []) (has_one _ t shows)).0 in
       let same : to_z w64 (of_z w64 m.decided) ≡ m.decided = search rules in
       let is : to_z w64 (of_z w64 m.decided) ≡ pos t.decided = same
       ∙ row_is m t.decided (sym c.in-Some.is ∙ found) in
@@ -110,7 +112,7 @@ pub returns-clause-says : goal.returns-clause-says
 returns-clause-says g c = record {
   told = λ clean t shows sound.
       let m = c.in-Some.meta in
-      let told = c.in_ok-meta.ensures.says.told clean (meta_entry t.decided ∷ []) (has_one _ t shows) in
+      let told = c.in_ok-meta.ensures.says.told clean (meta_entry VERSION t.decided ∷ []) (has_one _ t shows) in
       let same : to_z w64 (of_z w64 m.decided) ≡ m.decided = search rules in
       let is : to_z w64 (of_z w64 m.decided) ≡ pos t.decided = same
       ∙ row_is m t.decided (sym c.in-Some.is ∙ told.0) in

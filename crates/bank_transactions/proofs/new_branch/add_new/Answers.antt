@@ -1,6 +1,6 @@
 -- A row more, with nothing on it.
 use Rattle.std.proofs.Common.{◌≡◌, rules, pos}
-use Rattle.store_rows.specs.SixTables.{account, teller}
+use Rattle.store_rows.specs.BankTables.{account, teller}
 use Rattle.bank_transactions.specs.NewRows.{is_taken, with_new}
 use Rattle.bank_transactions.specs.declared.new_branch.NewRows.TheVariants.{Tellers, Accounts}
 use Rattle.bank_transactions.proofs.Statements.{does_add}

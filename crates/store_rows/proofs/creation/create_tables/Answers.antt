@@ -1,4 +1,4 @@
--- What the six tables and the first row leave.
+-- What the tables and the first row leave.
 use Rattle.std.proofs.Common.{rules}
 use Rattle.store_rows.proofs.creation.create_tables.Goals as goal
 

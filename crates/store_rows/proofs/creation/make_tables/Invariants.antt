@@ -1,6 +1,7 @@
 -- So many tables were made.
+use Rattle.store_rows.specs.Creation.{all_texts}
 use Rattle.store_rows.proofs.MadeSoFar.{Going}
 use Rattle.store_rows.proofs.creation.make_tables.Given as goal
 
 abbrev pub invariant-loop-at : goal.invariant-loop-at
-invariant-loop-at g l = Going g.S.Store l.initial.tx l.tx l.at
+invariant-loop-at g l = Going all_texts g.S.Store l.initial.tx l.tx l.at

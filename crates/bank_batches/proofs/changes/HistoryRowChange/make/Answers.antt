@@ -2,7 +2,7 @@
 use Rattle.posting_rules.specs.Changes.{with_history}
 use Rattle.posting_rules.specs.Tables.{history_key}
 use Rattle.posting_batch.specs.Overlay.{history_put}
-use Rattle.store_rows.specs.SixTables.{history}
+use Rattle.store_rows.specs.BankTables.{history}
 use Rattle.bank_batches.proofs.Rows.{posting_put, row_added}
 use Rattle.bank_batches.proofs.changes.HistoryRowChange.make.Goals as goal
 

@@ -2,7 +2,7 @@
 use Rattle.posting_rules.specs.Changes.{with_request}
 use Rattle.posting_rules.specs.Tables.{request_key}
 use Rattle.posting_batch.specs.Overlay.{requests_put}
-use Rattle.store_rows.specs.SixTables.{request}
+use Rattle.store_rows.specs.BankTables.{request}
 use Rattle.bank_batches.proofs.Rows.{request_put, row_added}
 use Rattle.bank_batches.proofs.changes.RequestRowChange.make.Goals as goal
 

@@ -1,6 +1,7 @@
 -- The tables of the bank, each with its typed rows: what a statement on one of them leaves is said once for
 -- all.
-use Rattle.std.proofs.Common.{◌≡◌, ℕ, ◌≤◌, pos, Bool, true, cond, nat_eq, is_some, List, [], ◌∷◌, map, find}
+use Rattle.std.proofs.Common.{◌++◌, ◌+◌, length, ◌≡◌, ℕ, ◌≤◌, pos, Bool, true, cond, nat_eq, is_some, List}
+use Rattle.std.proofs.Common.{[], ◌∷◌, map, find}
 use Rattle.std.proofs.Common.{slice_get, slice_set, Some, Option, option_map, Ok, Err, Result, refl, sym, ap}
 use Rattle.std.proofs.Common.{subst, ◌∙◌}
 use Rattle.sqlite.specs.Order.{Row}
@@ -17,7 +18,7 @@ use Rattle.sql_meanings.specs.Contents.{HoldsEach}
 use Rattle.sql_meanings.specs.Entries.{Entry, changed, has_key, stored}
 use Rattle.sql_meanings.specs.Outcomes.{Forbids, TellsRow}
 use Rattle.sql_meanings.specs.Queries.{by_key}
-use Rattle.sql_meanings.specs.Plain.{key_column, number_column}
+use Rattle.sql_meanings.specs.Plain.{key_column, number_column, text_column}
 use Rattle.sql_meanings.specs.Tables.{Holds, width_of}
 use Rattle.sql_meanings.proofs.Contents.{held, one_written}
 use Rattle.sql_meanings.proofs.Failures.{set_fails_as}
@@ -27,11 +28,11 @@ use Rattle.sql_meanings.proofs.ReadRows.{reads_key}
 use Rattle.sql_meanings.proofs.ReadTables.{ReadsAs}
 use Rattle.sql_meanings.proofs.SetFailures.{refuses_update}
 use Rattle.sql_meanings.proofs.SetRows.{ChangesAs, sets_row}
-use Rattle.sql_meanings.proofs.TableWrites.{IsOfNumbers, Leaves, spares_standing}
+use Rattle.sql_meanings.proofs.TableWrites.{IsPlain, Leaves, spares_standing}
 use Rattle.sql_meanings.proofs.Writing.{uncounted}
 use Rattle.store_rows.specs.Faults.{added}
 use Rattle.store_rows.specs.Outcomes.{PutsOneRow, IsForbidden, SetsRow}
-use Rattle.store_rows.specs.SixTables.{bank_tables}
+use Rattle.store_rows.specs.BankTables.{bank_tables}
 use Rattle.store_rows.specs.Statements.{MeetsOne}
 use Rattle.store_rows.specs.View.{Shows, contents}
 use Rattle.store_rows.proofs.Failing.{adds_err, forbidden, forbidden_put, key_fits}
@@ -53,7 +54,7 @@ pub record Kind (R : Type 0) : Type 0 where
   pub replaced : (t : Tables) (rs : List R)
       → slice_set (contents t) place (map entry rs) ≡ contents (having rs t)
   pub again : (t : Tables) (rs : List R) → rows (having rs t) ≡ rs
-  pub numbered : IsOfNumbers (uncounted table)
+  pub is_plain : IsPlain (uncounted table)
 
 -- a table of a key and numbers, where all that computes
 abbrev pub kind_of : {R : Type 0} (place : ℕ) (table : Table) (key : R → ℕ) (entry : R → Entry)
@@ -64,10 +65,11 @@ abbrev pub kind_of : {R : Type 0} (place : ℕ) (table : Table) (key : R → ℕ
     → ((t : Tables) (rs : List R) → slice_set (contents t) place (map entry rs) ≡ contents (having rs t))
     → ((t : Tables) (rs : List R) → rows (having rs t) ≡ rs) → (k : List ℕ) (names : List (List ℕ))
     → table.references ≡ []
-    → table.key ≡ Some 0 → table.computed ≡ [] → width_of table ≤ 1999
-    → table.columns ≡ key_column k ∷ map number_column names → Kind R
+    → table.key ≡ Some 0 → table.computed ≡ [] → width_of table ≡ (length names, 0)
+    → length names + 0 ≤ 1999
+    → table.columns ≡ key_column k ∷ (map number_column names ++ map text_column []) → Kind R
 kind_of place table key entry rows having keyed listed has replaced again k names free at_first uncomputed
-    narrow columns = record {
+    wide narrow columns = record {
       place = place;
       table = table;
       key = key;
@@ -79,14 +81,16 @@ kind_of place table key entry rows having keyed listed has replaced again k name
       has = has;
       replaced = replaced;
       again = again;
-      numbered = record {
+      is_plain = record {
         free = free;
         keyed = at_first;
         uncomputed = uncomputed;
-        narrow = narrow;
         key = k;
         names = names;
+        texts = [];
         columns = columns;
+        width = wide;
+        narrow = narrow;
       };
     }
 
@@ -113,7 +117,7 @@ module _ {R : Type 0} (kind : Kind R) where
   written old new t shows rs left = record {
     sound = ∣ left.sound ∣₁;
     each = subst (HoldsEach new.now bank_tables) (kind.replaced t rs)
-        (one_written old new table kind.numbered.free (map kind.entry (kind.rows t)) (map kind.entry rs)
+        (one_written old new table kind.is_plain.free (map kind.entry (kind.rows t)) (map kind.entry rs)
         (holds old.now t shows) left bank_tables (contents t) refl shows.each kind.place kind.listed);
   }
 
@@ -136,7 +140,7 @@ module _ {R : Type 0} (kind : Kind R) where
         → PutsOneRow old new table (is_some (under t (kind.key r)))
         (kind.having (row_put kind.key r (kind.rows t)) t) (added answer)
     tells_added (Ok count) h =
-        let done = puts_row old new kind.table kind.numbered shows.sound _ (holds old.now t shows) text params
+        let done = puts_row old new kind.table kind.is_plain shows.sound _ (holds old.now t shows) text params
         (kind.entry r) puts count h.0 in
         let free = sym taken_is ∙ done.1 in
         let rows = put_rows kind.key kind.entry kind.keyed r (kind.rows t) free in (
@@ -151,7 +155,7 @@ module _ {R : Type 0} (kind : Kind R) where
         (forbidden_put kind.key kind.entry kind.keyed old.now.schema (kind.having after t) table r
         (kind.rows t) (holds old.now t shows).rows.rise
         (shows_rows t after))
-        (refuses_insert old new kind.table kind.numbered shows.sound _ (holds old.now t shows) text params
+        (refuses_insert old new kind.table kind.is_plain shows.sound _ (holds old.now t shows) text params
         (kind.entry r) puts
         (subst (λ z. fits_i64 z ≡ true) (sym (kind.keyed r)) (key_fits (kind.key r) low)) e h)
 
@@ -171,7 +175,7 @@ module _ {R : Type 0} (kind : Kind R) where
     tells_set : (count : ℕ) → ExecutesInside 0 text (Int (pos k) ∷ more) old new (Ok count)
         → SetsRow old new table (is_some (under t k)) (kind.having after t) (Ok (nat_eq count 1))
     tells_set count h =
-        let done = sets_row old new table kind.numbered shows.sound _ (holds old.now t shows) text (pos k)
+        let done = sets_row old new table kind.is_plain shows.sound _ (holds old.now t shows) text (pos k)
         more change_entry changes count h.0 in (
           one_met count _ (done.1 ∙ ap (λ b. cond b 1 0)
               (taken_row_key kind.key kind.entry kind.keyed k (kind.rows t))),
@@ -187,7 +191,7 @@ module _ {R : Type 0} (kind : Kind R) where
         set_fails_as old new table _ e (IsForbidden old.now.schema table (kind.having after t))
         (λ none. forbidden old.now.schema (kind.having after t) table _ (shows_rows t after)
         (subst (Forbids old.now.schema table) rows_are none))
-        (refuses_update old new table kind.numbered shows.sound _ (holds old.now t shows) text (pos k) more
+        (refuses_update old new table kind.is_plain shows.sound _ (holds old.now t shows) text (pos k) more
         change_entry changes
         (key_fits k low) e h)
 
@@ -214,7 +218,7 @@ module _ {R : Type 0} (kind : Kind R) where
       subst (λ o. TellsRow old new o r)
       (shown_row kind.key kind.entry kind.keyed (λ e. eval_all project ((Int (pos k) ∷ []) ∷ stored e ∷ []))
       shown value same k (kind.rows t))
-      (reads_key old new table kind.numbered.free shows.sound _ (holds old.now t shows) text project (pos k)
+      (reads_key old new table kind.is_plain.free shows.sound _ (holds old.now t shows) text project (pos k)
       reads r h)
 
   -- the same of the whole row

@@ -1,4 +1,4 @@
--- The six tables of a bank, as `sqlite` understands them.
+-- The tables of a bank, as `sqlite` understands them.
 use Rattle.std.specs.Prelude.{List, [], ◌∷◌, codes, pos}
 use Rattle.sqlite.specs.Table.{Table}
 use Rattle.sqlite.specs.Collation.TheVariants.{Binary}
