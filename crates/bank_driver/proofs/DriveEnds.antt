@@ -1,11 +1,11 @@
 -- What a drive did, from where its branches were listed on.
 use Rattle.std.proofs.Common.{◌≡◌, ◌≤◌, ◌+◌, ℕ, zero, suc, List, [], ◌∷◌, ◌++◌, length, map, Option, Some}
 use Rattle.std.proofs.Common.{None, Result, Ok, Err, refl, sym, ap, subst, ◌∙◌, arith, append-nil, inl, inr}
-use Rattle.std.specs.Prelude.{IfOk, IfSome, OnOk}
+use Rattle.std.specs.Prelude.{IfErr, IfOk, IfSome, OnOk}
 use Rattle.std.proofs.Math.Nat.{eq-or-lt_of_le}
 use Rattle.std.proofs.lemmas.List.Sorted.{IsPermutation-refl}
 use Rattle.posting_rules.specs.declared.fault.Fault.{Fault}
-use Rattle.posting_rules.specs.declared.fault.Fault.TheVariants.{Memory}
+use Rattle.posting_rules.specs.declared.fault.Fault.TheVariants.{Memory, Store, Down, Damaged}
 use Rattle.posting_rules.specs.Commands.{Command, Open, IsCommand, AreCommands, opened}
 use Rattle.posting_rules.specs.Counter.{Seen, ShowsLog, Takes, Refuses}
 use Rattle.posting_rules.specs.Resends.{Skips}
@@ -16,12 +16,14 @@ use Rattle.posting_core.specs.Batches.{Batch, posts_of, records_of}
 use Rattle.posting_core.proofs.Batched.{all_posts, posted_is}
 use Rattle.posting_core.proofs.Stops.{refused_stop, stop_all}
 use Rattle.branch_loader.specs.Plans.{Row, Rows}
-use Rattle.branch_loader.proofs.Openings.{Takes-append}
+use Rattle.posting_rules.proofs.CounterCalls.{Takes-append, refused_behind}
+use Rattle.posting_core.specs.Stream.{IfUp, IsOfCall}
 use Rattle.load_driver.specs.Requests.{IsAscending}
 use Rattle.bank_driver.specs.declared.drive.Driven.{Driven}
 use Rattle.bank_driver.specs.declared.fault.DriveFault.{DriveFault}
 use Rattle.bank_driver.specs.declared.fault.DriveFault.TheVariants.{NoBranches, Bank}
-use Rattle.bank_driver.specs.Drives.{Drives, EndsDrive, IfListed, IsUnlisted, MayRefuse, DrivesAgain, Submits}
+use Rattle.bank_driver.specs.Drives.{Drives, EndsDrive, IfListed, IfRefused, IsUnlisted, MayRefuse, DrivesAgain}
+use Rattle.bank_driver.specs.Drives.{Submits, UnlessDown}
 use Rattle.bank_driver.specs.Records.{NoneOpen, first_drawn, open_branches, open_up_to, row_if_open}
 use Rattle.bank_driver.proofs.Again.{posted_again, skips_again}
 use Rattle.bank_driver.proofs.Drawn.{drawn_none}
@@ -196,6 +198,51 @@ module _ {C : Type 0} (seen : C → Seen) (old mid new : C) (k k' : Option (List
     listed = λ h log shows. if_listed result (s.taken ++ s.refused) (IsAscending (open_branches log) rows)
         (subst (λ (p : Rows). IsAscending p rows) (listed (honest h) log shows) ascending);
   }
+
+-- ---- whether it is up, and why it was refused
+
+-- the branches weren't listed
+pub up_unlisted : (fault : Fault) (P : Type 0) → (fault ≡ Memory → P) → IfUp fault P
+up_unlisted Memory P p = p refl
+up_unlisted Store P p = tt
+up_unlisted Down P p = tt
+up_unlisted (Damaged rule) P p = tt
+
+-- there is no driver
+pub up_empty : (rows : Rows) (fault : DriveFault) (P : Type 0) → MayRefuse rows fault → P
+    → UnlessDown (Err fault) P
+up_empty rows NoBranches P may p = p
+up_empty rows (Bank fault) P may p = up_unlisted fault P (λ is. p)
+
+pub why_empty : {C : Type 0} (seen : C → Seen) (reason : Fault → C → C → Type 0) (old new : C) (rows : Rows)
+    (fault : DriveFault) → MayRefuse rows fault → ((seen new).is_down → ⊥)
+    → IfRefused fault (IsOfCall seen reason old new)
+why_empty seen reason old new rows NoBranches may up = tt
+why_empty seen reason old new rows (Bank fault) may up = inr (may, up)
+
+-- records were submitted
+up_after : (fault : Fault) (D E : Type 0) → IfUp fault (D → ⊥) → IfUp fault (D → E)
+up_after Memory D E up = λ down. absurd (up down)
+up_after Store D E up = tt
+up_after Down D E up = tt
+up_after (Damaged rule) D E up = tt
+
+pub up_behind : (result : Result Driven DriveFault) (D E : Type 0) → UnlessDown result (D → ⊥)
+    → UnlessDown result (D → E)
+up_behind (Ok driven) D E up = λ down. absurd (up down)
+up_behind (Err NoBranches) D E up = λ down. absurd (up down)
+up_behind (Err (Bank fault)) D E up = up_after fault D E up
+
+pub why_behind : {C : Type 0} (seen : C → Seen) (reason : Fault → C → C → Type 0) (old mid new : C)
+    → Takes (seen old) (seen mid) [] → ((seen mid).honest → (seen old).honest)
+    → (result : Result Driven DriveFault)
+    → IfErr result (λ fault. IfRefused fault (IsOfCall seen reason mid new))
+    → IfErr result (λ fault. IfRefused fault (IsOfCall seen reason old new))
+why_behind seen reason old mid new takes honest (Ok driven) why = tt
+why_behind seen reason old mid new takes honest (Err NoBranches) why = tt
+why_behind seen reason old mid new takes honest (Err (Bank fault)) (inl call) =
+    inl (refused_behind seen reason old mid new [] takes honest fault call)
+why_behind seen reason old mid new takes honest (Err (Bank fault)) (inr own) = inr own
 
 -- ---- records that come again
 

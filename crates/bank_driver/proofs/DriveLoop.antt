@@ -6,11 +6,13 @@ use Rattle.std.specs.Prelude.{min}
 use Rattle.std.specs.List.{AllByRecursion}
 use Rattle.std.proofs.lemmas.List.{length-append, length-take-le}
 use Rattle.posting_rules.specs.declared.fault.Fault.{Fault}
+use Rattle.posting_rules.specs.declared.fault.Fault.TheVariants.{Memory, Store, Down, Damaged}
 use Rattle.posting_rules.specs.Commands.{Command}
 use Rattle.posting_rules.specs.Counter.{Seen, ShowsLog, Takes, Refuses}
 use Rattle.posting_rules.specs.Runs.{behind, posts}
 use Rattle.posting_core.specs.Batches.{Batch, moments_of, posts_of, records_of}
 use Rattle.posting_core.specs.Clock.{AreReadings, IsReading}
+use Rattle.posting_core.specs.Stream.{IfUp}
 use Rattle.posting_core.proofs.Batched.{posts_of_one_more, records_one_more}
 use Rattle.posting_core.proofs.Stops.{refused_stop, stop_all, stop_part}
 use Rattle.posting_core.proofs.StreamedBatches.{clock_batch, takes_batch}
@@ -201,7 +203,18 @@ end_done seen old now k k' first driver count left driven g none =
           (ap posts_of no_more) (g.takes.stands h log s);
     }
 
--- the size of a batch, where some records are left
+-- ---- whether it is up
+
+-- a refusal that leaves the counter up leaves it as it was
+pub up_refused : (old new : Seen) (cs : List Command) (fault : Fault) → Refuses fault old new cs
+    → (old.is_down → ⊥) → IfUp fault (new.is_down → ⊥)
+up_refused old new cs Memory refuses up = λ down. up (refuses.down down)
+up_refused old new cs Store refuses up = tt
+up_refused old new cs Down refuses up = tt
+up_refused old new cs (Damaged rule) refuses up = tt
+
+-- ---- the size of a batch, where some records are left
+
 -- a batch that is drawn to the head of a buffer of 64 records
 pub record Part (driver : Driving) (left size : ℕ) (buffer records : List (List ℕ)) : Type 0 where
   pub some : 1 ≤ size

@@ -11,7 +11,7 @@ use Rattle.posting_rules.specs.Commands.{Command, opened}
 use Rattle.posting_rules.specs.Counter.{Seen, ShowsLog, Takes}
 use Rattle.branch_loader.specs.Plans.{IsRow, Row, Rows, names, plan_of_list, row_of_pair, rows_by}
 use Rattle.branch_loader.specs.declared.fault.PlanFault.{PlanFault}
-use Rattle.branch_loader.proofs.Openings.{Takes-append}
+use Rattle.posting_rules.proofs.CounterCalls.{Takes-append}
 use Rattle.branch_loader.proofs.Stated.{rows_by-ok, rows_by-done}
 use Rattle.bank_driver.specs.Records.{open_branches, open_up_to, row_if_open}
 use Rattle.posting_rules.specs.declared.limits.TheConstants.{LAST_BRANCH, MOST_ACCOUNTS}

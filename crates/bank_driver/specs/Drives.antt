@@ -9,7 +9,7 @@ use Rattle.posting_rules.specs.Resends.{Skips}
 use Rattle.posting_rules.specs.Runs.{behind, ArePosts}
 use Rattle.posting_core.specs.Batches.{Batch, moments_of, posts_of, records_of}
 use Rattle.posting_core.specs.Clock.{AreReadings}
-use Rattle.posting_core.specs.Stream.{posted_records}
+use Rattle.posting_core.specs.Stream.{IfUp, posted_records}
 use Rattle.branch_loader.specs.Plans.{Rows}
 use Rattle.load_driver.specs.Requests.{IsAscending}
 use Rattle.bank_driver.specs.declared.drive.Driven.{Driven}
@@ -102,6 +102,18 @@ pub record Drives {C : Type 0} (seen : C → Seen) (old new : C) (k k' : Option 
   pub submits : Submits seen old new k k' rows seed count result
   pub listed : (seen new).honest → (log : List Command) → ShowsLog (seen old) log
       → IfListed result (submits.taken ++ submits.refused) (IsAscending (open_branches log) rows)
+
+-- ---- the fault that ended it
+
+-- wherever the fault leaves the counter up
+abbrev pub UnlessDown : Result Driven DriveFault → Type 0 → Type 0
+UnlessDown (Err (Bank fault)) P = IfUp fault P
+UnlessDown _ P = P
+
+-- what the fault of the counter says
+abbrev pub IfRefused : DriveFault → (Fault → Type 0) → Type 0
+IfRefused NoBranches P = ⊤
+IfRefused (Bank fault) P = P fault
 
 -- ---- records that come again
 

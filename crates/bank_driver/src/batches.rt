@@ -1,6 +1,6 @@
 //! A batch of records: they are drawn, submitted, and counted by their replies.
-ghost use Rattle.std.specs.Prelude.{◌≡◌, ◌≤◌, ◌+◌, ℕ, length, count_by, MatchResult, OnOk};
-ghost use Rattle.posting_rules.specs.Counter.{Refuses};
+ghost use Rattle.std.specs.Prelude.{◌≡◌, ◌≤◌, ◌+◌, ℕ, length, count_by, MatchResult, IfErr, OnOk};
+ghost use Rattle.posting_rules.specs.Counter.{HasRefused, Refuses};
 ghost use Rattle.posting_rules.specs.Runs.{posts};
 ghost use Rattle.posting_core.specs.Clock.{IsReading};
 ghost use Rattle.bank_driver.specs.Counted.{IsCounted, is_posted};
@@ -56,6 +56,7 @@ pub(crate) fn submit_batch<C: Counter, K: Clock>(
         (λ posted. IsCounted (C.seen counter.old) (C.seen counter.new) (posts moment batch.new) posted)
         (λ fault. Refuses fault (C.seen counter.old) (C.seen counter.new) (posts moment batch.new)) }
     ensures up { OnOk result ((C.seen counter.new).is_down → ⊥) }
+    ensures why { IfErr result (HasRefused C.seen C.reason counter.old counter.new) }
     ensures honest { (C.seen counter.new).honest → (C.seen counter.old).honest }
 {
     draw_batch(driver, batch);

@@ -3,8 +3,9 @@ ghost use Rattle.std.specs.Prelude.{◌≡◌, ◌≤◌, ◌↔◌, [], List, I
 ghost use Rattle.std.specs.Result.{IsErrOf};
 ghost use Rattle.posting_rules.specs.Commands.{Command};
 ghost use Rattle.posting_rules.specs.Counter.{ShowsLog};
+ghost use Rattle.posting_core.specs.Stream.{IsOfCall};
 ghost use Rattle.load_driver.specs.Requests.{IsAscending};
-ghost use Rattle.bank_driver.specs.Drives.{Drives, MayRefuse, DrivesAgain, Submits};
+ghost use Rattle.bank_driver.specs.Drives.{Drives, MayRefuse, DrivesAgain, IfRefused, Submits, UnlessDown};
 ghost use Rattle.bank_driver.specs.Records.{NoneOpen};
 
 use crate::batches::submit_batch;
@@ -56,7 +57,10 @@ fn drive<C: Counter, K: Clock>(
     ensures submits { Submits C.seen counter.old counter.new (K.readings clock.old) (K.readings clock.new)
         driver.old.rows driver.old.seed count result }
     ensures some { IfErr result (λ fault. fault ≡ DriveFault.NoBranches → ⊥) }
-    ensures up { IsErrOf result (DriveFault.Bank Fault.Down) → ⊥ }
+    ensures tried { IsErrOf result (DriveFault.Bank Fault.Down) → ⊥ }
+    ensures up { UnlessDown result ((C.seen counter.new).is_down → ⊥) }
+    ensures why { IfErr result (λ fault. IfRefused fault
+        (IsOfCall C.seen C.reason counter.old counter.new)) }
     ensures honest { (C.seen counter.new).honest → (C.seen counter.old).honest }
 {
     let mut records = [[0u8; REQUEST_BYTES]; RECORDS_PER_BATCH];
@@ -107,6 +111,9 @@ pub fn drive_records<C: Counter, K: Clock>(
     ensures some { OnOk result ((C.seen counter.new).honest
         → (log : List Command) → ShowsLog (C.seen counter.old) log → NoneOpen log → ⊥) }
     ensures resend { IfOk result (DrivesAgain (C.seen counter.old) (C.seen counter.new) seed count) }
+    ensures up { UnlessDown result ((C.seen counter.new).is_down → (C.seen counter.old).is_down) }
+    ensures why { IfErr result (λ fault. IfRefused fault
+        (IsOfCall C.seen C.reason counter.old counter.new)) }
     ensures down { IsErrOf result (DriveFault.Bank Fault.Down) ↔ (C.seen counter.old).is_down }
     ensures honest { (C.seen counter.new).honest → (C.seen counter.old).honest }
 {

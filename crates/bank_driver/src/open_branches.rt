@@ -4,6 +4,7 @@ ghost use Rattle.std.specs.Result.{IsErrOf};
 ghost use Rattle.posting_rules.specs.Commands.{Command};
 ghost use Rattle.posting_rules.specs.Counter.{ShowsLog, Takes};
 ghost use Rattle.bank_driver.specs.Drives.{IsUnlisted};
+ghost use Rattle.posting_core.specs.Stream.{IsOfCall};
 ghost use Rattle.bank_driver.specs.Records.{open_branches};
 
 use branch_loader::Plan;
@@ -17,7 +18,10 @@ pub(crate) fn list_branches<C: Counter>(alloc: Global, counter: &mut C) -> Resul
         → (log : List Command) → ShowsLog (C.seen counter.old) log → plan ≡ open_branches log) }
     ensures takes { OnOk result (Takes (C.seen counter.old) (C.seen counter.new) []) }
     ensures up { OnOk result ((C.seen counter.new).is_down → ⊥) }
+    ensures spared { IsErrOf result Fault.Memory → (C.seen counter.new).is_down
+        → (C.seen counter.old).is_down }
     ensures fault { IfErr result (IsUnlisted C.seen counter.old counter.new) }
+    ensures why { IfErr result (IsOfCall C.seen C.reason counter.old counter.new) }
     ensures down { IsErrOf result Fault.Down ↔ (C.seen counter.old).is_down }
     ensures honest { (C.seen counter.new).honest → (C.seen counter.old).honest }
 {

@@ -2,15 +2,17 @@
 use Rattle.std.proofs.Common.{◌≡◌, ℕ, inl, inr, Bool, true, false, List, [], ◌∷◌, length, take, Option, Some}
 use Rattle.std.proofs.Common.{None, Result, Ok, Err, refl, sym, ap, subst, eqb, ◌∙◌, arith}
 use Rattle.std.proofs.lemmas.Bool.{and_parts, ne_eqb, eqb-true}
-use Rattle.std.specs.Prelude.{ℤ, codes, bytes_eq, OnErr, MatchOption}
+use Rattle.std.specs.Prelude.{ℤ, codes, bytes_eq, IfErr, OnErr, MatchOption}
 use Rattle.std.specs.Io.KnownBytes.{Appends}
 use Rattle.std.proofs.lemmas.List.{take_all}
 use Rattle.message_records.specs.Spelling.{reply_spelling}
 use Rattle.posting_rules.specs.declared.fault.Fault.{Fault}
 use Rattle.posting_rules.specs.Commands.{Command, Post}
-use Rattle.posting_rules.specs.Counter.{Seen, ShowsLog, Takes, Refuses}
+use Rattle.posting_rules.specs.Counter.{Seen, IsCounterCall, ShowsLog, Takes, Refuses}
+use Rattle.posting_rules.proofs.CounterCalls.{call_refused_behind, refused_behind, takes_none}
 use Rattle.posting_rules.specs.Entries.{reply, balance_behind}
 use Rattle.posting_core.specs.Clock.{IsReading, AreReadings}
+use Rattle.posting_core.specs.Stream.{IsOfCall}
 use Rattle.counter_http.specs.declared.fault.ServeFault.{ServeFault}
 use Rattle.counter_http.specs.declared.fault.ServeFault.TheVariants as told
 use Rattle.counter_http.specs.Answers.{octets, account_answer, account_named, balance_answer, status_words}
@@ -24,7 +26,7 @@ use Rattle.counter_http.specs.Telling.{said}
 use Rattle.counter_http.specs.Paths.{account_in, route_of, path_of}
 use Rattle.counter_http.proofs.PartsWritten.{bare_of, front_of}
 use Rattle.counter_http.specs.Turns.{commands_if, commands_for, readings_if, readings_for, IsDealtWith}
-use Rattle.counter_http.specs.Turns.{IsRefusedAt, IsWrittenTo, ServingBreaksOff, IsTellingOf}
+use Rattle.counter_http.specs.Turns.{IfRefused, IsRefusedAt, IsWrittenTo, ServingBreaksOff, IsTellingOf}
 
 -- the bank refused a call, and that was told
 pub told_refused : {C : Type 0} (seen : C → Seen) (fault : Fault) (result : ServeFault)
@@ -47,6 +49,45 @@ told_refused seen fault (told.Bank f) w w' old new a cs n refused wrote is =
     }
 told_refused seen fault told.Read w w' old new a cs n refused wrote is = absurd is
 told_refused seen fault told.Memory w w' old new a cs n refused wrote is = absurd is
+
+-- the fault that is told is that of the bank, or that of the writer
+pub why_told : {C : Type 0} (seen : C → Seen) (reason : Fault → C → C → Type 0) (old new : C) (fault : Fault)
+    (result : ServeFault) (n : ℕ) (text : List ℕ) → IsTellingOf fault result n text
+    → IsOfCall seen reason old new fault
+    → IfRefused result (IsOfCall seen reason old new)
+why_told seen reason old new fault told.Write n text is why = tt
+why_told seen reason old new fault (told.Bank f) n text is why =
+    subst (λ (x : Fault). IsOfCall seen reason old new x) (sym is.0) why
+why_told seen reason old new fault told.Read n text is why = tt
+why_told seen reason old new fault told.Memory n text is why = tt
+
+pub why_said : {C : Type 0} (seen : C → Seen) (reason : Fault → C → C → Type 0) (old new : C)
+    (result : Result (Unit {0}) ServeFault) → OnErr result (result ≡ Err told.Write)
+    → IfErr result (λ fault. IfRefused fault (IsOfCall seen reason old new))
+why_said seen reason old new (Ok u) err = tt
+why_said seen reason old new (Err e) err =
+    let write : e ≡ told.Write = cc err in
+    subst (λ (f : ServeFault). IfRefused f (IsOfCall seen reason old new)) (sym write) tt
+
+-- a call of the bank was refused
+pub why_first : {C K X : Type 0} (seen : C → Seen) (contents : C → K) (reason : Fault → C → C → Type 0)
+    (old new : C) (cs : List Command) (fault : Fault)
+    → IsCounterCall {X = X} seen contents reason old new cs (Err fault) → IsOfCall seen reason old new fault
+why_first seen contents reason old new cs fault call =
+    inl (call_refused_behind seen reason old old new [] (takes_none (seen old)) (λ h. h) fault contents cs
+    call)
+
+-- what the bank says of a message holds behind those before it
+pub why_behind : {C : Type 0} (seen : C → Seen) (reason : Fault → C → C → Type 0) (old now new : C)
+    (cs : List Command) → Takes (seen old) (seen now) cs → ((seen now).honest → (seen old).honest)
+    → (fault : ServeFault) → IfRefused fault (IsOfCall seen reason now new)
+    → IfRefused fault (IsOfCall seen reason old new)
+why_behind seen reason old now new cs takes honest told.Write why = tt
+why_behind seen reason old now new cs takes honest (told.Bank fault) (inl call) =
+    inl (refused_behind seen reason old now new cs takes honest fault call)
+why_behind seen reason old now new cs takes honest (told.Bank fault) (inr own) = inr own
+why_behind seen reason old now new cs takes honest told.Read why = tt
+why_behind seen reason old now new cs takes honest told.Memory why = tt
 
 -- at the first call
 pub refused_first : {C : Type 0} (seen : C → Seen) (old new : C) (fault : Fault) (cs : List Command)

@@ -136,6 +136,11 @@ ServingBreaksOff seen (Bank fault) w w' old new asked commands =
 ServingBreaksOff seen Read w w' old new asked commands = ⊥
 ServingBreaksOff seen Memory w w' old new asked commands = ⊥
 
+-- what the fault of the bank says
+abbrev pub IfRefused : ServeFault → (Fault → Type 0) → Type 0
+IfRefused (Bank fault) P = P fault
+IfRefused _ P = ⊤
+
 -- the fault of the bank, where all of the text was written, and that of the writer elsewhere
 abbrev pub IsTellingOf : Fault → ServeFault → ℕ → List ℕ → Type 0
 IsTellingOf fault Write n text = ⊤

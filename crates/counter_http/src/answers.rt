@@ -1,15 +1,17 @@
 //! The answer to each message.
-ghost use Rattle.std.specs.Prelude.{◌≡◌, ℕ, take, OnErr, true, Some, [], Err};
+ghost use Rattle.std.specs.Prelude.{◌≡◌, ℕ, take, IfErr, OnErr, true, Some, [], Err};
 ghost use Rattle.std.specs.Result.{IsErrOf};
 ghost use Rattle.std.specs.Io.KnownBytes.{Appends};
 ghost use Rattle.posting_core.specs.Clock.{AreReadings};
+ghost use Rattle.posting_core.specs.Stream.{IsOfCall};
 ghost use Rattle.counter_http.specs.Answers.{refusal, answer_text, shows, unavailable, is_posting};
 ghost use Rattle.counter_http.specs.Answers.{is_reading, plain};
 ghost use Rattle.counter_http.specs.Ends.{SendsAs};
 ghost use Rattle.counter_http.specs.Next.{asked};
 ghost use Rattle.counter_http.specs.Paths.{route_of, path_of};
 ghost use Rattle.counter_http.specs.Telling.{said};
-ghost use Rattle.counter_http.specs.Turns.{commands_for, readings_for, IsDealtWith, IsTellingOf, IsWrittenTo};
+ghost use Rattle.counter_http.specs.Turns.{commands_for, readings_for, IfRefused, IsDealtWith, IsTellingOf};
+ghost use Rattle.counter_http.specs.Turns.{IsWrittenTo};
 
 use crate::accounts::account_in;
 use crate::fault::ServeFault;
@@ -106,6 +108,7 @@ fn answer_posting<W: Sink, K: Clock, C: Counter>(
         × IsDealtWith C.seen (W.contents writer.old) (W.contents writer.new) bank.old bank.new
         (asked message.now)
         (commands_for moment (asked message.now)) result }
+    ensures why { IfErr result (λ fault. IfRefused fault (IsOfCall C.seen C.reason bank.old bank.new)) }
     ensures honest { (C.seen bank.new).honest → (C.seen bank.old).honest }
     ensures ends { SendsAs result (W.told writer.old) (W.told writer.new) }
 {
@@ -135,6 +138,7 @@ fn answer_account<W: Sink, C: Counter>(
     requires reads { is_reading message.now.method.now ≡ true }
     ensures answers { IsDealtWith C.seen (W.contents writer.old) (W.contents writer.new) bank.old bank.new
         (asked message.now) [] result }
+    ensures why { IfErr result (λ fault. IfRefused fault (IsOfCall C.seen C.reason bank.old bank.new)) }
     ensures honest { (C.seen bank.new).honest → (C.seen bank.old).honest }
     ensures ends { SendsAs result (W.told writer.old) (W.told writer.new) }
 {
@@ -173,6 +177,7 @@ fn answer_branches<W: Sink, C: Counter>(
     requires reads { is_reading message.now.method.now ≡ true }
     ensures answers { IsDealtWith C.seen (W.contents writer.old) (W.contents writer.new) bank.old bank.new
         (asked message.now) [] result }
+    ensures why { IfErr result (λ fault. IfRefused fault (IsOfCall C.seen C.reason bank.old bank.new)) }
     ensures honest { (C.seen bank.new).honest → (C.seen bank.old).honest }
     ensures ends { SendsAs result (W.told writer.old) (W.told writer.new) }
 {
@@ -196,6 +201,7 @@ pub(crate) fn answer_message<W: Sink, K: Clock, C: Counter>(
         × IsDealtWith C.seen (W.contents writer.old) (W.contents writer.new) bank.old bank.new
         (asked message.now)
         (commands_for moment (asked message.now)) result }
+    ensures why { IfErr result (λ fault. IfRefused fault (IsOfCall C.seen C.reason bank.old bank.new)) }
     ensures honest { (C.seen bank.new).honest → (C.seen bank.old).honest }
     ensures ends { SendsAs result (W.told writer.old) (W.told writer.new) }
 {

@@ -1,8 +1,10 @@
 //! A connection, from its first byte to its last answer.
-ghost use Rattle.std.specs.Prelude.{◌≡◌, ◌≤◌, ◌-◌, length, take, drop};
+ghost use Rattle.std.specs.Prelude.{◌≡◌, ◌≤◌, ◌-◌, IfErr, length, take, drop};
+ghost use Rattle.posting_core.specs.Stream.{IsOfCall};
 ghost use Rattle.counter_http.specs.Ends.{ServeFaultIsOfItsEnd};
 ghost use Rattle.counter_http.specs.Outputs.{OutputsAnswers, SurvivesServing};
 ghost use Rattle.counter_http.specs.Serving.{ServesConnection};
+ghost use Rattle.counter_http.specs.Turns.{IfRefused};
 
 use crate::answers::{answer_message, refuse};
 use crate::fault::ServeFault;
@@ -40,6 +42,7 @@ fn serve<R: Source, W: Sink, K: Clock, C: Counter>(
     ensures served { ServesConnection C.seen (R.remaining reader.old) (R.remaining reader.new)
         (R.told reader.old) (R.told reader.new) (W.contents writer.old) (W.contents writer.new)
         (K.readings clock.old) (K.readings clock.new) bank.old bank.new result }
+    ensures why { IfErr result (λ fault. IfRefused fault (IsOfCall C.seen C.reason bank.old bank.new)) }
     ensures ends { ServeFaultIsOfItsEnd result (R.told reader.old) (R.told reader.new)
         (W.told writer.old) (W.told writer.new) }
 {
@@ -110,6 +113,7 @@ pub fn serve_connection<R: Source, W: Sink, K: Clock, C: Counter>(
         (C.seen bank.old) (C.seen bank.new) }
     ensures ends { ServeFaultIsOfItsEnd result (R.told reader.old) (R.told reader.new)
         (W.told writer.old) (W.told writer.new) }
+    ensures why { IfErr result (λ fault. IfRefused fault (IsOfCall C.seen C.reason bank.old bank.new)) }
     ensures honest { (C.seen bank.new).honest → (C.seen bank.old).honest }
 {
     let Ok(routes) = Routes::new(alloc) else {

@@ -1,5 +1,6 @@
 //! The lines of accounts and branches.
 ghost use Rattle.std.specs.Prelude.{◌≡◌, ℕ, List, [], IfOk, OnOk, IfErr, OnErr, string_bytes};
+ghost use Rattle.posting_core.specs.Stream.{IsOfCall};
 ghost use Rattle.posting_rules.specs.Commands.{Command};
 ghost use Rattle.posting_rules.specs.Counter.{ShowsLog, Takes};
 ghost use Rattle.counter_http.specs.Answers.{account_line, branch_line, branch_lines};
@@ -39,6 +40,7 @@ pub(crate) fn all_lines<C: Counter>(alloc: Global, bank: &mut C) -> Result<Strin
         → (log : List Command) → ShowsLog (C.seen bank.old) log → string_bytes body ≡ branch_lines log) }
     ensures done { OnOk result (Takes (C.seen bank.old) (C.seen bank.new) []) }
     ensures up { OnOk result ((C.seen bank.new).is_down → (C.seen bank.old).is_down) }
+    ensures why { IfErr result (IsOfCall C.seen C.reason bank.old bank.new) }
     ensures fault { IfErr result (λ fault. IsRefusedAt C.seen bank.old bank.new fault []) }
     ensures honest { (C.seen bank.new).honest → (C.seen bank.old).honest }
 {

@@ -25,7 +25,7 @@ pub struct FullBank {
 }
 
 impl Counter for FullBank {
-    ghost use Rattle.std.specs.Prelude.{refl};
+    ghost use Rattle.std.specs.Prelude.{⊤, refl};
     ghost use Rattle.posting_rules.specs.Tables.{Tables};
     ghost use Rattle.posting_core.specs.Plain.{plain_seen, plain_tables};
 
@@ -34,6 +34,8 @@ impl Counter for FullBank {
     ghost Contents = { Tables };
 
     ghost contents = { λ b. plain_tables b.bank };
+
+    ghost reason = { λ fault old new. ⊤ };
 
     ghost leaves_something = { λ b _. ∣ (plain_tables b.bank, refl) ∣₁ };
 

@@ -1,9 +1,10 @@
-use Rattle.std.proofs.Common.{◌≡◌, ◌+◌, ℕ, length, drop, ap, ◌∙◌, arith, refl}
+use Rattle.std.proofs.Common.{◌≡◌, ◌+◌, ℕ, length, drop, ap, ◌∙◌, arith, refl, inl}
 use Rattle.std.proofs.lemmas.List.{length-append, length-drop, length-map}
 use Rattle.std.proofs.lemmas.Result.{err_from_is_err_and}
 use Rattle.posting_rules.specs.Runs.{posts}
 use Rattle.load_driver.specs.Counts.{Driving}
-use Rattle.bank_driver.proofs.DriveLoop.{end_done, end_refused, going_first, going_on, part_of}
+use Rattle.posting_rules.proofs.CounterCalls.{refused_behind}
+use Rattle.bank_driver.proofs.DriveLoop.{end_done, end_refused, going_first, going_on, part_of, up_refused}
 use Rattle.bank_driver.proofs.drive.drive.Goals as goal
 
 pub loop-left-init : goal.loop-left-init
@@ -79,3 +80,22 @@ returns-clause-submits g c =
     c.args.driver.now c.loop-left.driver c.args.count c.loop-left.left c.loop-left.driven
     c.loop-left.invariant.going
     (let none = c.loop-left-test.false in omega arith)
+
+pub returns-in_err-posted-clause-why : goal.returns-in_err-posted-clause-why
+returns-in_err-posted-clause-why g c =
+    let going = c.loop-left.invariant.going in
+    let p = err_from_is_err_and c.from_residual.result c.from_residual.ensures.1 in
+    rw (p.1, p.2)
+    (inl (refused_behind g.C.Counter.seen g.C.Counter.reason c.args.counter.now c.loop-left.counter
+    c.submit_batch.new.counter _ going.takes going.honest c.in_err-posted.field-0.0
+    c.in_err-posted.ensures.why))
+
+pub returns-in_err-posted-clause-up : goal.returns-in_err-posted-clause-up
+returns-in_err-posted-clause-up g c =
+    let p = err_from_is_err_and c.from_residual.result c.from_residual.ensures.1 in
+    rw (p.1, p.2)
+    (up_refused (g.C.Counter.seen c.loop-left.counter) (g.C.Counter.seen c.submit_batch.new.counter) _
+    c.in_err-posted.field-0.0 c.in_err-posted.ensures.answers.2 c.loop-left.invariant.going.up)
+
+pub returns-clause-up : goal.returns-clause-up
+returns-clause-up g c = c.loop-left.invariant.going.up

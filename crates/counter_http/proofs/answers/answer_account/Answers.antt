@@ -1,11 +1,11 @@
-use Rattle.std.proofs.Common.{◌∙◌, ap, [], ℕ, List, Some}
+use Rattle.std.proofs.Common.{◌∙◌, ap, [], ℕ, List, Some, refl, inr}
 use Rattle.posting_rules.specs.declared.fault.Fault.TheVariants.{Memory}
 use Rattle.counter_http.specs.Answers.{account_named, plain}
 use Rattle.counter_http.specs.Next.{asked}
 use Rattle.counter_http.specs.Paths.{account_in}
 use Rattle.counter_http.specs.Telling.{said}
 use Rattle.counter_http.proofs.Answered.{told_answer, no_account, account_closed, account_told}
-use Rattle.counter_http.proofs.Answered.{told_refused, refused_first}
+use Rattle.counter_http.proofs.Answered.{told_refused, refused_first, why_first, why_said, why_told}
 use Rattle.counter_http.proofs.answers.answer_account.Goals as goal
 
 -- the path names no account
@@ -26,10 +26,10 @@ returns-in-Ok-None-clause-answers g c =
     let named = c.account_in.ensures ∙ ap (λ (p : List ℕ). account_named (account_in p)) c.path_of.ensures in
     told_answer g.C.Counter.seen _ _ c.args.bank.now c.balance.new.self a [] (said c.bare-in-Ok-None.result)
     c.say-in-Ok-None.result
-    c.in-Ok-None.ensures.done (λ d. absurd (c.in-Ok-None.ensures.up d))
+    c.in-Ok-None.ensures.call.done (λ d. absurd (c.in-Ok-None.ensures.call.up d))
     (λ h log s. account_closed log a c.account_in.result c.in-Some.account c.in-Ok-None.field-0 _
     c.requires.route c.requires.reads
-    named c.in-Some.is (c.in-Ok-None.ensures.value h log s) c.in-Ok-None.field-0-is c.bare-in-Ok-None.ensures)
+    named c.in-Some.is (c.in-Ok-None.ensures.answer h log s) c.in-Ok-None.field-0-is c.bare-in-Ok-None.ensures)
     c.say-in-Ok-None.ensures.written c.say-in-Ok-None.ensures.fault
 
 -- it has this balance
@@ -39,10 +39,10 @@ returns-in-Ok-clause-answers g c =
     let named = c.account_in.ensures ∙ ap (λ (p : List ℕ). account_named (account_in p)) c.path_of.ensures in
     told_answer g.C.Counter.seen _ _ c.args.bank.now c.balance.new.self a [] (plain c.as_bytes.result.now)
     c.say_text.result
-    c.in-Ok-Some.ensures.done (λ d. absurd (c.in-Ok-Some.ensures.up d))
+    c.in-Ok-Some.ensures.call.done (λ d. absurd (c.in-Ok-Some.ensures.call.up d))
     (λ h log s. account_told log a c.account_in.result c.in-Some.account c.in-Ok-Some.field-0
     (Some c.in-Ok-Some.balance) _
-    c.requires.route c.requires.reads named c.in-Some.is (c.in-Ok-Some.ensures.value h log s)
+    c.requires.route c.requires.reads named c.in-Some.is (c.in-Ok-Some.ensures.answer h log s)
     c.in-Ok-Some.field-0-is
     (ap plain (c.as_bytes.ensures.value ∙ c.in-Ok.ensures)))
     c.say_text.ensures.written c.say_text.ensures.fault
@@ -55,7 +55,7 @@ returns-in-Err-clause-answers g c =
     let new = c.balance.new.self in
     told_refused seen c.in-Err.fault c.fail.result _ _ old new (asked c.args.message.now) []
     c.fail.ensures.written.0
-    (refused_first seen old new c.in-Err.fault [] c.in-Err.ensures.fault c.balance.ensures.honest)
+    (refused_first seen old new c.in-Err.fault [] c.in-Err.ensures.call.fault c.balance.ensures.call.honest)
     c.fail.ensures.written.1 c.fail.ensures.written.2
 
 -- memory was refused behind it
@@ -66,10 +66,10 @@ returns-in-Err-line_of_account-clause-answers g c =
     (asked c.args.message.now) [] fails.ensures.written.0
     (record {
       stood = c.balance.new.self;
-      honest_first = c.balance.ensures.honest;
+      honest_first = c.balance.ensures.call.honest;
       honest = λ h. h;
-      up = λ d. absurd (c.in-Ok-Some.ensures.up d);
-      takes = c.in-Ok-Some.ensures.done;
+      up = λ d. absurd (c.in-Ok-Some.ensures.call.up d);
+      takes = c.in-Ok-Some.ensures.call.done;
       refuses = record { tables = λ t is. is; down = λ d. d; left = λ r l. (r, l, λ t f. f) };
     })
     fails.ensures.written.1 fails.ensures.written.2
@@ -79,16 +79,16 @@ pub returns-in_default-clause-honest : goal.returns-in_default-clause-honest
 returns-in_default-clause-honest g c = λ h. h
 
 pub returns-in-Ok-None-clause-honest : goal.returns-in-Ok-None-clause-honest
-returns-in-Ok-None-clause-honest g c = c.balance.ensures.honest
+returns-in-Ok-None-clause-honest g c = c.balance.ensures.call.honest
 
 pub returns-in-Ok-clause-honest : goal.returns-in-Ok-clause-honest
-returns-in-Ok-clause-honest g c = c.balance.ensures.honest
+returns-in-Ok-clause-honest g c = c.balance.ensures.call.honest
 
 pub returns-in-Err-clause-honest : goal.returns-in-Err-clause-honest
-returns-in-Err-clause-honest g c = c.balance.ensures.honest
+returns-in-Err-clause-honest g c = c.balance.ensures.call.honest
 
 pub returns-in-Err-line_of_account-clause-honest : goal.returns-in-Err-line_of_account-clause-honest
-returns-in-Err-line_of_account-clause-honest g c = c.balance.ensures.honest
+returns-in-Err-line_of_account-clause-honest g c = c.balance.ensures.call.honest
 
 pub returns-in_default-clause-ends : goal.returns-in_default-clause-ends
 returns-in_default-clause-ends g c = c.say.ensures.ends
@@ -104,3 +104,33 @@ returns-in-Err-clause-ends g c = c.fail.ensures.ends
 
 pub returns-in-Err-line_of_account-clause-ends : goal.returns-in-Err-line_of_account-clause-ends
 returns-in-Err-line_of_account-clause-ends g c = c.fail-in-Err-line_of_account.ensures.ends
+
+-- ---- why a call was refused
+
+pub returns-in_default-clause-why : goal.returns-in_default-clause-why
+returns-in_default-clause-why g c =
+    why_said g.C.Counter.seen g.C.Counter.reason c.args.bank.now c.args.bank.now c.say.result
+    c.say.ensures.fault
+
+pub returns-in-Ok-None-clause-why : goal.returns-in-Ok-None-clause-why
+returns-in-Ok-None-clause-why g c =
+    why_said g.C.Counter.seen g.C.Counter.reason c.args.bank.now c.balance.new.self c.say-in-Ok-None.result
+    c.say-in-Ok-None.ensures.fault
+
+pub returns-in-Ok-clause-why : goal.returns-in-Ok-clause-why
+returns-in-Ok-clause-why g c =
+    why_said g.C.Counter.seen g.C.Counter.reason c.args.bank.now c.balance.new.self c.say_text.result
+    c.say_text.ensures.fault
+
+pub returns-in-Err-clause-why : goal.returns-in-Err-clause-why
+returns-in-Err-clause-why g c =
+    why_told g.C.Counter.seen g.C.Counter.reason c.args.bank.now c.balance.new.self c.in-Err.fault
+    c.fail.result _ _ c.fail.ensures.written.2
+    (why_first g.C.Counter.seen g.C.Counter.contents g.C.Counter.reason c.args.bank.now c.balance.new.self []
+    _ c.in-Err.ensures.call)
+
+pub returns-in-Err-line_of_account-clause-why : goal.returns-in-Err-line_of_account-clause-why
+returns-in-Err-line_of_account-clause-why g c =
+    let fails = c.fail-in-Err-line_of_account in
+    why_told g.C.Counter.seen g.C.Counter.reason c.args.bank.now c.balance.new.self Memory fails.result _ _
+    fails.ensures.written.2 (inr (refl, c.in-Ok-Some.ensures.call.up))

@@ -1,7 +1,7 @@
 use Rattle.std.proofs.Common.{◌∙◌, ap, sym, []}
 use Rattle.counter_http.specs.Answers.{plain}
 use Rattle.counter_http.specs.Next.{asked}
-use Rattle.counter_http.proofs.Answered.{told_answer, told_refused, branches_answer}
+use Rattle.counter_http.proofs.Answered.{told_answer, told_refused, branches_answer, why_said, why_told}
 use Rattle.counter_http.proofs.answers.answer_branches.Goals as goal
 
 pub returns-in-Ok-clause-answers : goal.returns-in-Ok-clause-answers
@@ -19,3 +19,13 @@ returns-in-Err-clause-answers g c =
     told_refused g.C.Counter.seen c.in-Err.fault c.fail.result _ _ c.args.bank.now c.all_lines.new.bank
     (asked c.args.message.now) []
     c.fail.ensures.written.0 c.in-Err.ensures.fault c.fail.ensures.written.1 c.fail.ensures.written.2
+
+pub returns-in-Ok-clause-why : goal.returns-in-Ok-clause-why
+returns-in-Ok-clause-why g c =
+    why_said g.C.Counter.seen g.C.Counter.reason c.args.bank.now c.all_lines.new.bank c.say_text.result
+    c.say_text.ensures.fault
+
+pub returns-in-Err-clause-why : goal.returns-in-Err-clause-why
+returns-in-Err-clause-why g c =
+    why_told g.C.Counter.seen g.C.Counter.reason c.args.bank.now c.all_lines.new.bank c.in-Err.fault
+    c.fail.result _ _ c.fail.ensures.written.2 c.in-Err.ensures.why

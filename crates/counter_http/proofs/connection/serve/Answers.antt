@@ -13,6 +13,7 @@ use Rattle.counter_http.proofs.ConnectionLoop.{unfinished_none, range_all, range
 use Rattle.counter_http.proofs.ConnectionLoop.{message_long}
 use Rattle.counter_http.proofs.Connected.{end_finished, end_unread, end_closed, short_read, hopeless_walk}
 use Rattle.counter_http.proofs.Connected.{end_told, end_untold}
+use Rattle.counter_http.proofs.Answered.{why_behind}
 use Rattle.counter_http.proofs.BrokenOff.{end_broken}
 use Rattle.counter_http.proofs.Sent.{ended_at, sent_broken}
 use Rattle.counter_http.proofs.connection.serve.Goals as goal
@@ -351,3 +352,31 @@ overflow_add-used g c =
     (message_long c.in-Message.ensures).1
     (range_long c.fill.new.buffer c.messages.used c.match-fill.filled fits)
     c.messages.invariant.order c.messages.invariant.fits
+
+-- ---- why a call was refused
+
+pub returns-in_err-answer_message-in-Message-clause-why :
+    goal.returns-in_err-answer_message-in-Message-clause-why
+returns-in_err-answer_message-in-Message-clause-why g c =
+    let told = err_from_is_err_and c.from_residual-in_err-answer_message-in-Message.result
+    c.from_residual-in_err-answer_message-in-Message.ensures.1 in
+    let before = c.messages.invariant.going.answered in
+    rw (told.1, told.2)
+    (why_behind g.C.Counter.seen g.C.Counter.reason c.args.bank.now c.messages.bank c.answer_message.new.bank
+    _ before.takes before.honest c.in_err-answer_message-in-Message.field-0.0
+    c.in_err-answer_message-in-Message.ensures.why)
+
+pub returns-in_err-refuse-in-Ok-eq0-2-clause-why : goal.returns-in_err-refuse-in-Ok-eq0-2-clause-why
+returns-in_err-refuse-in-Ok-eq0-2-clause-why g c =
+    let told = err_from_is_err_and c.from_residual.result c.from_residual.ensures.1 in
+    let write : c.in_err-refuse-in-Ok-eq0-2.field-0.0 ≡ Write =
+    cc (c.in_err-refuse-in-Ok-eq0-2.ensures.fault) in
+    rw (told.1, told.2, write) tt
+
+pub returns-in_err-refuse-in-Refused-clause-why : goal.returns-in_err-refuse-in-Refused-clause-why
+returns-in_err-refuse-in-Refused-clause-why g c =
+    let told = err_from_is_err_and c.from_residual-in_err-refuse-in-Refused.result
+    c.from_residual-in_err-refuse-in-Refused.ensures.1 in
+    let write : c.in_err-refuse-in-Refused.field-0.0 ≡ Write =
+    cc (c.in_err-refuse-in-Refused.ensures.fault) in
+    rw (told.1, told.2, write) tt

@@ -52,3 +52,7 @@ returns-clause-survives g c =
 
 pub returns-clause-honest : goal.returns-clause-honest
 returns-clause-honest g c = λ h. c.serve.ensures.served.honest_first (c.serve.ensures.served.honest h)
+
+-- why a call was refused
+pub returns-clause-why : goal.returns-clause-why
+returns-clause-why g c = c.serve.ensures.why

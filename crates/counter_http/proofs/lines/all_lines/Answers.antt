@@ -1,8 +1,9 @@
-use Rattle.std.proofs.Common.{◌++◌, ℕ, List, Option, Some, ap, subst, sym, ◌∙◌}
+use Rattle.std.proofs.Common.{◌++◌, ℕ, List, [], Option, Some, refl, ap, subst, sym, ◌∙◌, inl, inr}
 use Rattle.std.specs.Prelude.{IfSome}
 use Rattle.std.proofs.lemmas.Result.{err_from_is_err_and}
 use Rattle.posting_rules.specs.declared.counter.BranchLine.{BranchLine}
 use Rattle.posting_rules.specs.Branches.{IsNextBranch, IsLineAbove}
+use Rattle.posting_rules.proofs.CounterCalls.{call_refused_behind}
 use Rattle.counter_http.specs.Answers.{lines_up_to}
 use Rattle.counter_http.proofs.Listed.{asking_more, asking_refused, asking_full, next_line, all_listed}
 use Rattle.counter_http.proofs.lines.all_lines.Goals as goal
@@ -12,7 +13,7 @@ pub returns-in_err-line-clause-fault : goal.returns-in_err-line-clause-fault
 returns-in_err-line-clause-fault g c =
     let p = err_from_is_err_and c.from_residual.result c.from_residual.ensures.1 in
     rw (p.1, p.2) (asking_refused g.C.Counter.seen c.args.bank.now c.loop-body.bank c.next_branch.new.self _
-    c.loop-body.invariant.asking c.in_err-line.ensures.fault c.in_err-line.ensures.honest)
+    c.loop-body.invariant.asking c.in_err-line.ensures.call.fault c.in_err-line.ensures.call.honest)
 
 -- memory was refused
 pub returns-in_err-line_of_branch-clause-fault : goal.returns-in_err-line_of_branch-clause-fault
@@ -22,7 +23,7 @@ returns-in_err-line_of_branch-clause-fault g c =
     rw (p.1, p.2) (asking_full g.C.Counter.seen c.args.bank.now c.next_branch.new.self
     (asking_more g.C.Counter.seen c.args.bank.now c.loop-body.bank c.next_branch.new.self
     c.loop-body.invariant.asking
-    c.in_ok-line.ensures.done c.in_ok-line.ensures.up c.in_ok-line.ensures.honest))
+    c.in_ok-line.ensures.call.done c.in_ok-line.ensures.call.up c.in_ok-line.ensures.call.honest))
 
 pub returns-in_err-push_str-clause-fault : goal.returns-in_err-push_str-clause-fault
 returns-in_err-push_str-clause-fault g c =
@@ -31,22 +32,22 @@ returns-in_err-push_str-clause-fault g c =
     rw (p.1, p.2) (asking_full g.C.Counter.seen c.args.bank.now c.next_branch.new.self
     (asking_more g.C.Counter.seen c.args.bank.now c.loop-body.bank c.next_branch.new.self
     c.loop-body.invariant.asking
-    c.in_ok-line.ensures.done c.in_ok-line.ensures.up c.in_ok-line.ensures.honest))
+    c.in_ok-line.ensures.call.done c.in_ok-line.ensures.call.up c.in_ok-line.ensures.call.honest))
 
 pub returns-clause-done : goal.returns-clause-done
 returns-clause-done g c =
     (asking_more g.C.Counter.seen c.args.bank.now c.loop-body.bank c.next_branch.new.self
     c.loop-body.invariant.asking
-    c.in_ok-line.ensures.done c.in_ok-line.ensures.up c.in_ok-line.ensures.honest).takes
+    c.in_ok-line.ensures.call.done c.in_ok-line.ensures.call.up c.in_ok-line.ensures.call.honest).takes
 
 pub returns-clause-lines : goal.returns-clause-lines
 returns-clause-lines g c h log s =
     let i = c.loop-body.invariant in
-    let before = c.in_ok-line.ensures.honest h in
+    let before = c.in_ok-line.ensures.call.honest h in
     i.lines before log s
     ∙ all_listed log c.loop-body.after
     (subst (λ (o : Option BranchLine). IsNextBranch log c.loop-body.after o) c.in_default.is
-    (c.in_ok-line.ensures.line h log (i.asking.takes.shows before log s))) i.within
+    (c.in_ok-line.ensures.answer h log (i.asking.takes.shows before log s))) i.within
 
 pub loop-body-preserved : goal.loop-body-preserved
 loop-body-preserved g c =
@@ -57,15 +58,38 @@ loop-body-preserved g c =
     rw c.get-after.ensures.value (record {
       within = above.branch;
       asking = asking_more g.C.Counter.seen c.args.bank.now c.loop-body.bank c.next_branch.new.self i.asking
-          c.in_ok-line.ensures.done c.in_ok-line.ensures.up c.in_ok-line.ensures.honest;
+          c.in_ok-line.ensures.call.done c.in_ok-line.ensures.call.up c.in_ok-line.ensures.call.honest;
       lines = λ h log s.
-          let before = c.in_ok-line.ensures.honest h in
+          let before = c.in_ok-line.ensures.call.honest h in
           let next : IsNextBranch log c.loop-body.after (Some c.in-Some.line) =
           subst (λ (o : Option BranchLine). IsNextBranch log c.loop-body.after o) c.in-Some.is
-          (c.in_ok-line.ensures.line h log (i.asking.takes.shows before log s)) in
+          (c.in_ok-line.ensures.answer h log (i.asking.takes.shows before log s)) in
           c.in_ok-push_str.ensures.bytes
           ∙ ap (λ (t : List ℕ). t ++ c.as_str.result.now) (i.lines before log s)
           ∙ ap (λ (t : List ℕ). lines_up_to log c.loop-body.after ++ t)
           (c.as_str.ensures.value ∙ c.in_ok-line_of_branch.ensures)
           ∙ sym (next_line log c.loop-body.after c.in-Some.line next);
     })
+
+-- ---- why a call was refused
+
+pub returns-in_err-line-clause-why : goal.returns-in_err-line-clause-why
+returns-in_err-line-clause-why g c =
+    let asking = c.loop-body.invariant.asking in
+    let p = err_from_is_err_and c.from_residual.result c.from_residual.ensures.1 in
+    rw (p.1, p.2)
+    (inl (call_refused_behind g.C.Counter.seen g.C.Counter.reason c.args.bank.now c.loop-body.bank
+    c.next_branch.new.self [] asking.takes asking.honest c.in_err-line.field-0.0 g.C.Counter.contents _
+    c.in_err-line.ensures.call))
+
+pub returns-in_err-line_of_branch-clause-why : goal.returns-in_err-line_of_branch-clause-why
+returns-in_err-line_of_branch-clause-why g c =
+    let p = err_from_is_err_and c.from_residual-in_err-line_of_branch.result
+    c.from_residual-in_err-line_of_branch.ensures.1 in
+    rw (p.1, p.2) (inr (refl, c.in_ok-line.ensures.call.up))
+
+pub returns-in_err-push_str-clause-why : goal.returns-in_err-push_str-clause-why
+returns-in_err-push_str-clause-why g c =
+    let p = err_from_is_err_and c.from_residual-in_err-push_str.result
+    c.from_residual-in_err-push_str.ensures.1 in
+    rw (p.1, p.2) (inr (refl, c.in_ok-line.ensures.call.up))

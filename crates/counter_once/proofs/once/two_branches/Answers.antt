@@ -9,6 +9,6 @@ returns-clause-shows c =
     let one : c.unwrap.result ≡ 1 = search rules in
     let two : c.unwrap-2.result ≡ 2 = search rules in
     numbered (plain_tables c.open_branch-2.new.self) c.unwrap.result c.unwrap-2.result one two
-    (plain_shows c.open_branch-2.new.self _ (c.in_ok-open_branch-2.ensures.done.shows tt _
-    (c.in_ok-open_branch.ensures.done.shows tt []
+    (plain_shows c.open_branch-2.new.self _ (c.in_ok-open_branch-2.ensures.call.done.shows tt _
+    (c.in_ok-open_branch.ensures.call.done.shows tt []
     (shows_plain c.new-bank.result [] tt c.new-bank.ensures))))
