@@ -16,3 +16,4 @@ pub mod Broken
 pub mod OncePosted
 pub mod LogFiles
 pub mod RoomForWalks
+pub mod FaultsTold

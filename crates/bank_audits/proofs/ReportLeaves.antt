@@ -16,6 +16,7 @@ use Rattle.bank_store.specs.Seen.{seen_in}
 use Rattle.bank_store.specs.Walks.{IsStill, IsUntouchedIfOpen}
 use Rattle.bank_audits.specs.declared.fault.ReportFault.{ReportFault}
 use Rattle.bank_audits.specs.declared.fault.ReportFault.TheVariants.{NoAccount, Write, Bank}
+use Rattle.bank_audits.specs.Leaving.{TakesNone}
 use Rattle.bank_audits.specs.Postings.{HasAnswered, HasWritten}
 
 pub of_ok : {E P : Type 0} (r : Result (Unit {0}) E) → (r ≡ Ok tt → P) → OnOk r P
@@ -44,6 +45,14 @@ same_fault r e f one other = cc
 pub damaged_not_down : (r : Result (Unit {0}) ReportFault) (rule : Rule) → r ≡ Err (Bank (Damaged rule))
     → r ≡ Err (Bank Down) → ⊥
 damaged_not_down r rule is down = cc
+
+pub damaged_not_memory : (r : Result (Unit {0}) ReportFault) (rule : Rule) → r ≡ Err (Bank (Damaged rule))
+    → r ≡ Err (Bank Memory) → ⊥
+damaged_not_memory r rule is memory = cc
+
+pub down_not_memory : (r : Result (Unit {0}) ReportFault) (e : Fault) → r ≡ Err (Bank e) → e ≡ Down
+    → r ≡ Err (Bank Memory) → ⊥
+down_not_memory r e is down memory = cc
 
 pub damaged_not_store : (r : Result (Unit {0}) ReportFault) (rule : Rule) → r ≡ Err (Bank (Damaged rule))
     → r ≡ Err (Bank Store) → ⊥
@@ -164,3 +173,34 @@ untouched_stands old new D E untouched quiet up clean is_open log at = record {
   up = λ down. at.up (up down);
   survives = quiet_leaves old new D quiet clean log at.survives;
 }
+
+-- ---- what a report leaves
+
+-- nothing was done
+pub idle_takes : (seen : Seen) (answered : Type 0) → TakesNone seen seen answered
+idle_takes seen answered = record {
+  done = λ yes. record { shows = λ clean log s. s; stands = λ clean log at. at };
+  survives = λ clean log at. at.survives;
+  honest = λ clean. clean;
+}
+
+-- a call of no command, and then reads
+pub reads_behind : (old mid new : State) (D E F answered : Type 0) → Takes (seen_in old D) (seen_in mid E) []
+    → (HasCleanDisk mid → HasCleanDisk old)
+    → (answered → HasCleanDisk new → IsStill mid new) → Survives mid new (λ _. ⊥) → (F → E)
+    → TakesNone (seen_in old D) (seen_in new F) answered
+reads_behind old mid new D E F answered takes before still quiet up = record {
+  done = λ yes. takes_then old mid new D E F takes (still yes) quiet up;
+  survives = λ clean log at.
+      quiet_leaves mid new E quiet clean log
+      (takes.stands (clean_before mid new quiet clean) log at).survives;
+  honest = λ clean. before (clean_before mid new quiet clean);
+}
+
+-- reads alone
+pub reads_take_none : (old new : State) (D E answered : Type 0)
+    → (answered → HasCleanDisk new → IsStill old new) → Survives old new (λ _. ⊥) → (E → D)
+    → TakesNone (seen_in old D) (seen_in new E) answered
+reads_take_none old new D E answered still quiet up =
+    reads_behind old old new D D E answered
+    (record { shows = λ clean log s. s; stands = λ clean log at. at }) (λ clean. clean) still quiet up

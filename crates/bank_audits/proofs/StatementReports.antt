@@ -1,6 +1,6 @@
 -- What is told of a statement of a bank that shows a log.
 use Rattle.std.proofs.Common.{◌≡◌, ◌<◌, ◌≤◌, ◌+◌, ◌++◌, ℕ, Bool, true, false, cond}
-use Rattle.std.proofs.Common.{List, [], ◌∷◌, length, map, Option, Some, None, Ok, Err, refl, sym, ap}
+use Rattle.std.proofs.Common.{List, [], ◌∷◌, length, map, Option, Some, None, Result, Ok, Err, refl, sym, ap}
 use Rattle.std.proofs.Common.{subst, ◌∙◌, inl, inr, arith}
 use Rattle.std.specs.Prelude.{ℤ, pos, ◌+ℤ◌, nat_abs}
 use Rattle.std.specs.List.{AllByRecursion}
@@ -155,3 +155,32 @@ module _ (a : ℕ) (balance : ℤ) (log : List Command) (is : balance ≡ accoun
   told_sound are rule w =
       let b = beginning w.given (postings_to a (decided log)) w.rest (w.are ∙ rows) in
       no_damage a log are w.given b.0 b.1 w.rest rule b.2 w.why
+
+-- what is told of an account where the bank shows a log
+pub record ToldOfLog (a : ℕ) (log : List Command) (old new : Option (List ℕ))
+    (answer : Result (Unit {0}) ReportFault) : Type 0 where
+  pub balance : ℤ
+  pub is : Some balance ≡ balance_behind log a
+  pub all : List Stored
+  pub rows : all ≡ map posting_entry (postings_to a (decided log))
+  pub told : WritesStatement a balance all old new answer
+  pub commands : AreCommands log
+
+module _ {a : ℕ} {log : List Command} {old new : Option (List ℕ)} {answer : Result (Unit {0}) ReportFault}
+    (it : ToldOfLog a log old new answer) where
+  as_told : (other : Result (Unit {0}) ReportFault) → answer ≡ other
+      → WritesStatement a it.balance it.all old new other
+  as_told other is = subst (λ r. WritesStatement a it.balance it.all old new r) is it.told
+
+  pub log_whole : answer ≡ Ok tt → Appends old new (statement_behind log a)
+  log_whole is =
+      told_whole a it.balance log (balance_is log a it.balance it.is) it.all it.rows old new (as_told _ is)
+
+  pub log_part : (fault : ReportFault) → answer ≡ Err fault → AppendsPart old new (statement_behind log a)
+  log_part fault is =
+      told_part a it.balance log (balance_is log a it.balance it.is) it.all it.rows old new fault (as_told _ is)
+
+  pub log_sound : (rule : Rule) → answer ≡ Err (Bank (Damaged rule)) → ⊥
+  log_sound rule is =
+      told_sound a it.balance log (balance_is log a it.balance it.is) it.all it.rows old new it.commands rule
+      (as_told _ is)

@@ -7,3 +7,6 @@ pub mod Adding
 pub mod Failures
 pub mod Differing
 pub mod Room
+pub mod Leaving
+pub mod Audits
+pub mod Statements

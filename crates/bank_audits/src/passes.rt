@@ -1,10 +1,9 @@
 //! A pass over all rows of a kind.
 ghost use Rattle.std.specs.Prelude.{◌≡◌, ◌≢◌, [], List, Err, IfErr, IfOk, map};
 ghost use Rattle.sqlite.specs.State.{HasCleanDisk};
-ghost use Rattle.sqlite.specs.Held.{state};
 ghost use Rattle.posting_rules.specs.declared.fault.Fault.TheVariants.{Down, Memory};
 ghost use Rattle.bank_reports.specs.Beside.{AuditRows};
-ghost use Rattle.bank_store.specs.Seen.{bank_seen, connection_of, database_of, fault_of};
+ghost use Rattle.bank_store.specs.Seen.{bank_seen, connection_of, database_of, fault_of, file_of};
 ghost use Rattle.bank_audits.specs.Adding.{AddsToSums, HasSums, IsPassed};
 ghost use Rattle.bank_audits.specs.Failures.{HasFailedToRead, SaysOf};
 ghost use Rattle.bank_audits.specs.Files.{HasBroken};
@@ -23,17 +22,16 @@ pub(crate) fn add_each<S: Alter, R: Summed>(
     requires { (rows : AuditRows) × HasSums sums.old (R.Summed.with_rows rows []) }
     ensures added { IfOk result
         (λ _. (given : List R) × AddsToSums R.Summed.with_rows sums.old sums.new given
-        × (HasCleanDisk (state S.Store (connection_of bank.new)) → (all : List R.WalkedRow.Item)
+        × (HasCleanDisk (file_of bank.new) → (all : List R.WalkedRow.Item)
         → R.WalkedRow.HasItems (database_of S.Store bank.old) all
         → map R.WalkedRow.item given ≡ all)) }
-    ensures told { HasCleanDisk (state S.Store (connection_of bank.new)) → (all : List R.WalkedRow.Item)
+    ensures told { HasCleanDisk (file_of bank.new) → (all : List R.WalkedRow.Item)
         → R.WalkedRow.HasItems (database_of S.Store bank.old) all
         → IfErr result (SaysOf (HasBroken R.WalkedRow.is_broken all)
         (HasFailedToRead S.Store (connection_of bank.old) (connection_of bank.new))) }
     ensures frugal { result ≢ Err Memory }
     ensures tried { result ≡ Err Down → (bank_seen S.Store bank.old).is_down }
-    ensures passed { IsPassed (state S.Store (connection_of bank.old))
-        (state S.Store (connection_of bank.new)) result }
+    ensures passed { IsPassed (file_of bank.old) (file_of bank.new) result }
     ensures up { fault_of bank.new ≡ fault_of bank.old }
 {
     let mut walk = each_row::<S, R>(bank)?;

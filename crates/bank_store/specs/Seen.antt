@@ -32,6 +32,10 @@ connection_of bank = bank.conn
 abbrev pub bank_seen : {S : Type 0} (g : Ghosts S) → Bank S g → Seen
 bank_seen g bank = seen_in (state g bank.conn) (IsSome bank.fault)
 
+-- its file, as its connection has it
+abbrev pub file_of : {S : Type 0} {g : Ghosts S} → Bank S g → State
+file_of {g = g} bank = state g bank.conn
+
 -- all that its file holds, as its connection shows it
 abbrev pub database_of : {S : Type 0} (g : Ghosts S) → Bank S g → Database
 database_of g bank = (state g bank.conn).now

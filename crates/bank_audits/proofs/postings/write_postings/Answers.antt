@@ -6,13 +6,13 @@ use Rattle.sql_meanings.specs.Entries.{Entry}
 use Rattle.store_rows.specs.BankTables.{history as history_table}
 use Rattle.bank_walks.specs.Rows.{HasStoredRows}
 use Rattle.bank_walks.specs.Stored.{is_of}
-use Rattle.bank_store.specs.Seen.{connection_of, database_of}
+use Rattle.bank_store.specs.Seen.{bank_seen, connection_of, database_of}
 use Rattle.bank_audits.specs.declared.fault.ReportFault.TheVariants.{Bank}
 use Rattle.bank_audits.specs.Failures.{HasFailedToRead}
 use Rattle.bank_audits.specs.Postings.{WritesPostings}
 use Rattle.bank_audits.proofs.Further.{at_first, down_err}
 use Rattle.bank_audits.proofs.Passed.{failed_at_end}
-use Rattle.bank_audits.proofs.ReportLeaves.{down_not_store, not_missing, not_write}
+use Rattle.bank_audits.proofs.ReportLeaves.{down_not_memory, down_not_store, not_missing, not_write}
 use Rattle.bank_audits.proofs.postings.write_postings.Goals as goal
 
 pub returns-in_err-walk : goal.returns-in_err-walk
@@ -25,15 +25,18 @@ returns-in_err-walk g c =
       told = λ clean rows has.
           let all = filter (is_of (Some c.args.account)) rows in
           rw (same, was.0) (down_err all text all text _ _ (at_first all all text refl));
-      found = not_missing _ fault same;
-      tried = λ is. was.1;
-      store = λ is. absurd (down_not_store _ fault same was.0 is);
       more = rw same tt;
       failed = λ write. absurd (not_write _ fault same write);
-      still = λ clean written. absurd (rw same at written);
-      undone = search rules;
-      up = λ down. was.1;
-      survives = search rules;
+      reads = record {
+        found = not_missing _ fault same;
+        frugal = λ is. down_not_memory _ fault same was.0 is;
+        tried = λ is. was.1;
+        store = λ is. absurd (down_not_store _ fault same was.0 is);
+        still = λ clean written. absurd (rw same at written);
+        undone = search rules;
+        up = λ down. was.1;
+        survives = search rules;
+      };
     }
 
 pub returns : goal.returns
@@ -49,16 +52,20 @@ returns g c =
           subst (λ (all : List Entry). WritesPostings all (g.W.Sink.contents c.args.writer.now)
           (g.W.Sink.contents c.write_rows.new.writer) c.write_rows.result)
           (begins.all rows has) (says.told late rows (there rows has));
-      found = says.found;
-      tried = λ is. absurd (says.tried is);
-      store = λ is clean rows has.
-          let late : HasCleanDisk (state g.S.Store last.conn) = search rules in
-          failed_at_end (subst (λ bank. HasFailedToRead g.S.Store (connection_of bank) last.conn) begins.same
-          (says.store is late rows (there rows has))) (search rules);
       more = says.more;
       failed = says.failed;
-      still = search rules;
-      undone = search rules;
-      up = search rules;
-      survives = search rules;
+      reads = record {
+        found = says.reads.found;
+        frugal = says.reads.frugal;
+        tried = λ is.
+            subst (λ bank. (bank_seen g.S.Store bank).is_down) begins.same (says.reads.tried is);
+        store = λ is clean rows has.
+            let late : HasCleanDisk (state g.S.Store last.conn) = search rules in
+            failed_at_end (subst (λ bank. HasFailedToRead g.S.Store (connection_of bank) last.conn) begins.same
+            (says.reads.store is late rows (there rows has))) (search rules);
+        still = search rules;
+        undone = search rules;
+        up = search rules;
+        survives = search rules;
+      };
     }

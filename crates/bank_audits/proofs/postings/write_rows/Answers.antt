@@ -1,8 +1,9 @@
 -- What ends the lines, and what one more line leaves.
-use Rattle.std.proofs.Common.{rules, ◌≡◌, Err, refl, sym, ap, ◌∙◌, arith}
+use Rattle.std.proofs.Common.{rules, ◌≡◌, Err, refl, sym, ap, subst, ◌∙◌, arith}
+use Rattle.std.specs.Prelude.{IsSome}
 use Rattle.sqlite.specs.State.{HasCleanDisk}
 use Rattle.sqlite.specs.Held.{state}
-use Rattle.posting_rules.specs.declared.fault.Fault.TheVariants.{Damaged, Down, Store}
+use Rattle.posting_rules.specs.declared.fault.Fault.TheVariants.{Damaged, Down, Memory, Store}
 use Rattle.posting_rules.specs.declared.fault.Rule.TheVariants.{Value}
 use Rattle.posting_core.proofs.Telling.{more_more, more_none}
 use Rattle.store_rows.specs.BankTables.{history as history_table}
@@ -11,8 +12,8 @@ use Rattle.bank_reports.proofs.Written.{later_failed}
 use Rattle.bank_audits.specs.declared.fault.ReportFault.{ReportFault}
 use Rattle.bank_audits.specs.declared.fault.ReportFault.TheVariants.{Bank, NoAccount, Write}
 use Rattle.bank_audits.proofs.Further.{at_first, error_is, line_err, line_is, one_line, walk_end, walk_err, worn_out}
-use Rattle.bank_audits.proofs.ReportLeaves.{clean_before, damaged_not_down, damaged_not_store, not_missing}
-use Rattle.bank_audits.proofs.ReportLeaves.{not_ok, not_write, same_fault}
+use Rattle.bank_audits.proofs.ReportLeaves.{clean_before, damaged_not_down, damaged_not_memory, damaged_not_store}
+use Rattle.bank_audits.proofs.ReportLeaves.{not_missing, not_ok, not_write, same_fault}
 use Rattle.bank_audits.proofs.StepsKeep.{quiet_then, still_has, still_then, still_undone, undone_then}
 use Rattle.bank_audits.proofs.postings.write_rows.Goals as goal
 
@@ -43,24 +44,27 @@ returns-in_err-row g c =
           let there = still_has old mid history_table rows (it.still before) has in
           rw same (walk_err _ _ _ _ _ _ (it.far before rows has) _ fault
           (c.in_err-row.ensures.told clean rows there));
-      found = not_missing _ fault same;
-      tried = λ is. it.fresh (c.next.ensures.down.1 (rw (c.in_err-row.was, same_fault _ fault Down same is) refl)).0;
-      store = λ is clean rows has.
-          let before = clean_before mid new quiet clean in
-          let there = still_has old mid history_table rows (it.still before) has in
-          record {
-            at = c.lines.walk.bank.now.conn;
-            before = comes it.survives;
-            failed = c.in_err-row.ensures.store clean rows there
-                (ap Err (same_fault _ fault Store same is));
-          };
       more = rw same tt;
       failed = λ write. absurd (not_write _ fault same write);
-      still = λ clean written. absurd (rw same at written);
-      undone = λ clean.
-          undone_then old mid new (it.still (clean_before mid new quiet clean)) (c.next.ensures.undone clean);
-      up = c.next.ensures.up ∙ it.up;
-      survives = quiet_then old mid new it.survives quiet;
+      reads = record {
+        found = not_missing _ fault same;
+        frugal = λ is. c.next.ensures.frugal (c.in_err-row.was ∙ ap Err (same_fault _ fault Memory same is));
+        tried = λ is. absurd (it.fresh (c.next.ensures.down.1 (rw (c.in_err-row.was, same_fault _ fault Down same is) refl)).0);
+        store = λ is clean rows has.
+            let before = clean_before mid new quiet clean in
+            let there = still_has old mid history_table rows (it.still before) has in
+            record {
+              at = c.lines.walk.bank.now.conn;
+              before = comes it.survives;
+              failed = c.in_err-row.ensures.store clean rows there
+                  (ap Err (same_fault _ fault Store same is));
+            };
+        still = λ clean written. absurd (rw same at written);
+        undone = λ clean.
+            undone_then old mid new (it.still (clean_before mid new quiet clean)) (c.next.ensures.undone clean);
+        up = subst (λ fault. IsSome fault) (c.next.ensures.up ∙ it.up);
+        survives = quiet_then old mid new it.survives quiet;
+      };
     }
 
 pub returns-in_default : goal.returns-in_default
@@ -79,15 +83,18 @@ returns-in_default g c =
           let there = still_has old mid history_table rows (it.still before) has in
           walk_end _ _ _ _ _ _ (it.far before rows has)
           (rw c.in_default.is at (c.in_ok-row.ensures.told clean rows there)).0;
-      found = not_ok _ _ _ refl;
-      tried = not_ok _ _ _ refl;
-      store = λ no. absurd (not_ok _ _ _ refl no);
       more = it.more;
       failed = λ no. absurd (not_ok _ _ _ refl no);
-      still = λ clean written. still clean;
-      undone = λ clean. still_undone old new (still clean);
-      up = c.next.ensures.up ∙ it.up;
-      survives = quiet_then old mid new it.survives quiet;
+      reads = record {
+        found = not_ok _ _ _ refl;
+        frugal = not_ok _ _ _ refl;
+        tried = λ no. absurd (not_ok _ _ _ refl no);
+        store = λ no. absurd (not_ok _ _ _ refl no);
+        still = λ clean written. still clean;
+        undone = λ clean. still_undone old new (still clean);
+        up = subst (λ fault. IsSome fault) (c.next.ensures.up ∙ it.up);
+        survives = quiet_then old mid new it.survives quiet;
+      };
     }
 
 pub returns-in_err-balance : goal.returns-in_err-balance
@@ -112,16 +119,19 @@ returns-in_err-balance g c =
           let there = still_has old mid history_table rows (it.still before) has in
           rw same (line_err _ _ _ _ _ _ _ _ c.in-Some.row
           (rw c.in-Some.is at (c.in_ok-row.ensures.told clean rows there)) (it.far before rows has) fault wrote);
-      found = line NoAccount;
-      tried = line (Bank Down);
-      store = λ is. absurd (line (Bank Store) is);
       more = rw same tt;
       failed = λ is.
           later_failed it.more (c.in_err-balance.ensures.failed (ap Err (error_is fault Write (sym same ∙ is))));
-      still = λ clean written. still clean;
-      undone = λ clean. still_undone old new (still clean);
-      up = c.next.ensures.up ∙ it.up;
-      survives = quiet_then old mid new it.survives quiet;
+      reads = record {
+        found = line NoAccount;
+        frugal = line (Bank Memory);
+        tried = λ is. absurd (line (Bank Down) is);
+        store = λ is. absurd (line (Bank Store) is);
+        still = λ clean written. still clean;
+        undone = λ clean. still_undone old new (still clean);
+        up = subst (λ fault. IsSome fault) (c.next.ensures.up ∙ it.up);
+        survives = quiet_then old mid new it.survives quiet;
+      };
     }
 
 pub lines-preserved : goal.lines-preserved
@@ -158,13 +168,16 @@ returns g c =
       same_reference = it.reference;
       told = λ clean rows has.
           worn_out _ _ _ _ _ _ (it.far clean rows has) (omega (arith, c.lines-test.false));
-      found = not_missing _ (Damaged Value) refl;
-      tried = damaged_not_down _ Value refl;
-      store = λ is. absurd (damaged_not_store _ Value refl is);
       more = tt;
       failed = λ write. absurd (not_write _ (Damaged Value) refl write);
-      still = λ clean written. it.still clean;
-      undone = λ clean. still_undone old new (it.still clean);
-      up = it.up;
-      survives = it.survives;
+      reads = record {
+        found = not_missing _ (Damaged Value) refl;
+        frugal = damaged_not_memory _ Value refl;
+        tried = λ is. absurd (damaged_not_down _ Value refl is);
+        store = λ is. absurd (damaged_not_store _ Value refl is);
+        still = λ clean written. it.still clean;
+        undone = λ clean. still_undone old new (it.still clean);
+        up = subst (λ fault. IsSome fault) it.up;
+        survives = it.survives;
+      };
     }

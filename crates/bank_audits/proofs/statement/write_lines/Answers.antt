@@ -1,6 +1,6 @@
 -- The heading, the names, the postings and the closing line.
 use Rattle.std.proofs.Common.{rules, ◌≡◌, Err, Some, filter, refl, sym, ◌∙◌}
-use Rattle.posting_rules.specs.declared.fault.Fault.TheVariants.{Down, Store}
+use Rattle.posting_rules.specs.declared.fault.Fault.TheVariants.{Down, Memory, Store}
 use Rattle.posting_core.specs.Told.{IsFlush}
 use Rattle.posting_core.proofs.Telling.{more_last, more_more}
 use Rattle.bank_walks.specs.Stored.{is_of}
@@ -18,15 +18,18 @@ returns-in_err-put g c =
       told = λ clean rows has.
           rw same (heading_err c.args.account c.args.balance (filter (is_of (Some c.args.account)) rows) _ _
           (same_part _ _ (c.as_str.ensures.value ∙ c.statement_heading.ensures) c.in_err-put.ensures.err));
-      found = not_both _ same;
-      tried = λ is. absurd (not_write _ Down is same);
-      store = λ is. absurd (not_write _ Store is same);
       flushed = rw same tt;
       failed = λ write. c.in_err-put.ensures.failed;
-      still = λ clean written. (refl, refl, refl, refl);
-      undone = λ clean. still_undone _ _ (refl, refl, refl, refl);
-      up = λ down. down;
-      survives = search rules;
+      reads = record {
+        found = not_both _ same;
+        frugal = λ is. not_write _ Memory is same;
+        tried = λ is. absurd (not_write _ Down is same);
+        store = λ is. absurd (not_write _ Store is same);
+        still = λ clean written. (refl, refl, refl, refl);
+        undone = λ clean. still_undone _ _ (refl, refl, refl, refl);
+        up = λ down. down;
+        survives = search rules;
+      };
     }
 
 pub returns-in_err-put-2 : goal.returns-in_err-put-2
@@ -37,15 +40,18 @@ returns-in_err-put-2 g c =
           rw same (names_err c.args.account c.args.balance (filter (is_of (Some c.args.account)) rows) _ _
           (same_all _ _ (c.as_str.ensures.value ∙ c.statement_heading.ensures) c.in_ok-put.ensures.ok) _
           (same_part _ _ (c.as_str-2.ensures.value ∙ c.statement_names.ensures) c.in_err-put-2.ensures.err));
-      found = not_both _ same;
-      tried = λ is. absurd (not_write _ Down is same);
-      store = λ is. absurd (not_write _ Store is same);
       flushed = rw same tt;
       failed = λ write. later_failed c.in_ok-put.ensures.more c.in_err-put-2.ensures.failed;
-      still = λ clean written. (refl, refl, refl, refl);
-      undone = λ clean. still_undone _ _ (refl, refl, refl, refl);
-      up = λ down. down;
-      survives = search rules;
+      reads = record {
+        found = not_both _ same;
+        frugal = λ is. not_write _ Memory is same;
+        tried = λ is. absurd (not_write _ Down is same);
+        store = λ is. absurd (not_write _ Store is same);
+        still = λ clean written. (refl, refl, refl, refl);
+        undone = λ clean. still_undone _ _ (refl, refl, refl, refl);
+        up = λ down. down;
+        survives = search rules;
+      };
     }
 
 pub returns-in_err-write_postings : goal.returns-in_err-write_postings
@@ -59,17 +65,20 @@ returns-in_err-write_postings g c =
           (same_all _ _ (c.as_str.ensures.value ∙ c.statement_heading.ensures) c.in_ok-put.ensures.ok) _
           (same_all _ _ (c.as_str-2.ensures.value ∙ c.statement_names.ensures) c.in_ok-put-2.ensures.ok) _
           fault (says.told clean rows has));
-      found = λ none. says.found (sym same ∙ none);
-      tried = λ is. says.tried (sym same ∙ is);
-      store = λ is. says.store (sym same ∙ is);
       flushed = rw same tt;
       failed = λ write.
           later_failed (more_more c.in_ok-put.ensures.more c.in_ok-put-2.ensures.more)
           (says.failed (sym same ∙ write));
-      still = λ clean written. says.still clean (rw same at written);
-      undone = says.undone;
-      up = says.up;
-      survives = says.survives;
+      reads = record {
+        found = λ none. says.reads.found (sym same ∙ none);
+        frugal = λ is. says.reads.frugal (sym same ∙ is);
+        tried = λ is. says.reads.tried (sym same ∙ is);
+        store = λ is. says.reads.store (sym same ∙ is);
+        still = λ clean written. says.reads.still clean (rw same at written);
+        undone = says.reads.undone;
+        up = says.reads.up;
+        survives = says.reads.survives;
+      };
     }
 
 pub returns-in_err-put_last : goal.returns-in_err-put_last
@@ -84,17 +93,20 @@ returns-in_err-put_last g c =
           (says.told clean rows has) _
           (same_part _ _ (c.as_str-3.ensures.value ∙ c.statement_closing.ensures)
           c.in_err-put_last.ensures.err));
-      found = not_both _ same;
-      tried = λ is. absurd (not_write _ Down is same);
-      store = λ is. absurd (not_write _ Store is same);
       flushed = rw same tt;
       failed = λ write.
           later_failed (more_more (more_more c.in_ok-put.ensures.more c.in_ok-put-2.ensures.more) says.more)
           c.in_err-put_last.ensures.failed;
-      still = λ clean written. says.still clean tt;
-      undone = says.undone;
-      up = says.up;
-      survives = says.survives;
+      reads = record {
+        found = not_both _ same;
+        frugal = λ is. not_write _ Memory is same;
+        tried = λ is. absurd (not_write _ Down is same);
+        store = λ is. absurd (not_write _ Store is same);
+        still = λ clean written. says.reads.still clean tt;
+        undone = says.reads.undone;
+        up = says.reads.up;
+        survives = says.reads.survives;
+      };
     }
 
 pub returns : goal.returns
@@ -108,15 +120,18 @@ returns g c =
           (says.told clean rows has) _
           (same_all _ _ (c.as_str-3.ensures.value ∙ c.statement_closing.ensures)
           c.in_ok-put_last.ensures.ok);
-      found = not_ok _ _ _ refl;
-      tried = λ is. absurd (not_ok _ _ _ refl is);
-      store = λ is. absurd (not_ok _ _ _ refl is);
       flushed =
           more_last IsFlush (more_more (more_more c.in_ok-put.ensures.more c.in_ok-put-2.ensures.more) says.more)
           c.in_ok-put_last.ensures.flushed;
       failed = λ is. absurd (not_ok _ _ _ refl is);
-      still = λ clean written. says.still clean tt;
-      undone = says.undone;
-      up = says.up;
-      survives = says.survives;
+      reads = record {
+        found = not_ok _ _ _ refl;
+        frugal = not_ok _ _ _ refl;
+        tried = λ is. absurd (not_ok _ _ _ refl is);
+        store = λ is. absurd (not_ok _ _ _ refl is);
+        still = λ clean written. says.reads.still clean tt;
+        undone = says.reads.undone;
+        up = says.reads.up;
+        survives = says.reads.survives;
+      };
     }

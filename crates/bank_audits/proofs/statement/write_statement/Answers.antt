@@ -1,201 +1,147 @@
 -- The statement of an account of a bank that shows a log.
-use Rattle.std.proofs.Common.{rules, ◌≡◌, List, [], map, Err, refl, sym, ap, subst, ◌∙◌, arith}
+use Rattle.std.proofs.Common.{rules, ◌≡◌, Bool, List, [], map, filter, Some, Err, false, true, refl, sym, ap, subst, ◌∙◌}
+use Rattle.std.proofs.Common.{inl, inr, arith}
 use Rattle.std.specs.Prelude.{IsSome}
 use Rattle.sqlite.specs.State.{HasCleanDisk}
 use Rattle.sqlite.specs.Held.{state}
+use Rattle.posting_rules.specs.declared.fault.Fault.TheVariants.{Down}
+use Rattle.posting_rules.specs.Commands.{Command}
+use Rattle.posting_rules.specs.Counter.{ShowsLog}
 use Rattle.sql_meanings.specs.Entries.{Entry}
 use Rattle.store_rows.specs.BankTables.{history as history_table}
 use Rattle.store_rows.specs.View.{history_entry}
 use Rattle.bank_walks.specs.Rows.{HasStoredRows}
-use Rattle.bank_reports.proofs.Written.{on_err_any}
+use Rattle.bank_walks.specs.Stored.{is_of}
 use Rattle.bank_store.specs.Down.{OfDamage, WasBroken}
 use Rattle.bank_store.specs.Seen.{bank_seen, database_of}
 use Rattle.bank_audits.specs.declared.fault.ReportFault.TheVariants.{Bank}
 use Rattle.bank_audits.specs.Behind.{statement_behind}
 use Rattle.bank_audits.specs.Postings.{StatesRows}
-use Rattle.bank_audits.proofs.Further.{error_is, nothing_written}
+use Rattle.bank_audits.proofs.FaultsTold.{down_is_sound, unstated}
+use Rattle.bank_audits.proofs.Further.{nothing_written}
 use Rattle.bank_audits.proofs.OnLogs.{account_rows, has_history}
 use Rattle.bank_audits.proofs.Passed.{failed_later}
-use Rattle.bank_audits.proofs.ReportLeaves.{clean_before, not_both, not_missing, not_ok, not_write}
-use Rattle.bank_audits.proofs.ReportLeaves.{of_err, of_ok, quiet_leaves, refused_before, untouched_stands}
-use Rattle.bank_audits.proofs.ReportLeaves.{refused_down, refused_leaves, refused_sound, same_fault}
-use Rattle.bank_audits.proofs.ReportLeaves.{takes_then, written_of}
-use Rattle.bank_audits.proofs.StatementReports.{balance_is, told_part, told_sound, told_whole}
+use Rattle.bank_audits.proofs.ReportLeaves.{clean_before, damaged_not_down, down_not_store, idle_takes}
+use Rattle.bank_audits.proofs.ReportLeaves.{not_both, not_missing, not_write, of_err, of_ok, reads_behind}
+use Rattle.bank_audits.proofs.ReportLeaves.{refused_before, refused_down, refused_leaves, refused_sound}
+use Rattle.bank_audits.proofs.ReportLeaves.{same_fault, untouched_stands, written_of}
+use Rattle.bank_audits.proofs.StatementReports.{ToldOfLog, log_part, log_sound, log_whole}
 use Rattle.bank_audits.proofs.statement.write_statement.Given.{Over}
 use Rattle.bank_audits.proofs.statement.write_statement.Goals as goal
 
--- ---- where the balance was refused: what it is told with, and what each clause is then, which takes a
--- search much longer to find
+tested_up : (tested is_down : Bool) → tested ≡ is_down → tested ≡ false → is_down ≡ true → ⊥
+tested_up tested is_down same up down = cc
+
+-- ---- a bank that was down
+
+pub returns-then-is_down : goal.returns-then-is_down
+returns-then-is_down g c =
+    let seen = bank_seen g.S.Store c.args.bank.now in
+    let was = sym c.is_down.ensures ∙ c.if-is_down.true in
+    record {
+      bank = unstated seen seen c.args.account (g.W.Sink.contents c.args.writer.now) _ Down refl
+          (down_is_sound seen seen) (idle_takes seen _);
+      file = λ clean up. absurd (up was);
+      refused = λ down. record {
+        fault = (Down, refl);
+        cause = λ is. absurd (down_not_store _ Down refl refl is);
+        broken = λ rule is. absurd (damaged_not_down _ rule is refl);
+        kept = λ rule is. absurd (damaged_not_down _ rule is refl);
+      };
+      writer = record {
+        silent = λ none. refl;
+        flushed = tt;
+        failed = λ write. absurd (not_write _ Down refl write);
+      };
+      frugal = search rules;
+      down = record { down = λ down. refl; tried = λ is. was; idle = λ is. (refl, refl) };
+      stands = λ clean up is_open log at. at;
+    }
+
+-- ---- where the balance was refused
 
 refusal : (g : Over) (c : goal.After-from_residual g)
     → c.from_residual.result ≡ Err (Bank c.in_err-balance.field-0.0)
 refusal g c = search rules
 
-went_down : (g : Over) (c : goal.After-from_residual g) → (bank_seen g.S.Store c.balance.new.self).is_down
-went_down g c =
-    refused_down c.in_err-balance.field-0.0 (bank_seen g.S.Store c.args.bank.now)
-    (bank_seen g.S.Store c.balance.new.self) []
-    (λ is. c.in_err-balance.ensures.frugal (ap Err is)) c.in_err-balance.ensures.fault
-
-pub returns-in_err-balance-clause-text : goal.returns-in_err-balance-clause-text
-returns-in_err-balance-clause-text g c = rw (refusal g c) tt
-
-pub returns-in_err-balance-clause-found : goal.returns-in_err-balance-clause-found
-returns-in_err-balance-clause-found g c = rw (refusal g c) tt
-
-pub returns-in_err-balance-clause-missing : goal.returns-in_err-balance-clause-missing
-returns-in_err-balance-clause-missing g c none = absurd (not_missing _ _ (refusal g c) none)
-
-pub returns-in_err-balance-clause-silent : goal.returns-in_err-balance-clause-silent
-returns-in_err-balance-clause-silent g c none = refl
-
-pub returns-in_err-balance-clause-flushed : goal.returns-in_err-balance-clause-flushed
-returns-in_err-balance-clause-flushed g c = rw (refusal g c) tt
-
-pub returns-in_err-balance-clause-failed : goal.returns-in_err-balance-clause-failed
-returns-in_err-balance-clause-failed g c write = absurd (not_write _ _ (refusal g c) write)
-
-pub returns-in_err-balance-clause-sound : goal.returns-in_err-balance-clause-sound
-returns-in_err-balance-clause-sound g c rule is =
-    refused_sound c.in_err-balance.field-0.0 (bank_seen g.S.Store c.args.bank.now)
-    (bank_seen g.S.Store c.balance.new.self) []
-    c.in_err-balance.ensures.fault rule (same_fault _ _ _ (refusal g c) is)
-
-pub returns-in_err-balance-clause-frugal : goal.returns-in_err-balance-clause-frugal
-returns-in_err-balance-clause-frugal g c is =
-    absurd (c.in_err-balance.ensures.frugal (ap Err (same_fault _ _ _ (refusal g c) is)))
-
-pub returns-in_err-balance-clause-down : goal.returns-in_err-balance-clause-down
-returns-in_err-balance-clause-down g c down =
-    (refusal g c ∙ ap (λ fault. Err (Bank fault)) (error_is _ _ (c.in_err-balance.ensures.down down)), refl)
-
-pub returns-in_err-balance-clause-tried : goal.returns-in_err-balance-clause-tried
-returns-in_err-balance-clause-tried g c is =
-    refused_before c.in_err-balance.field-0.0 (bank_seen g.S.Store c.args.bank.now)
-    (bank_seen g.S.Store c.balance.new.self) []
-    c.in_err-balance.ensures.fault (same_fault _ _ _ (refusal g c) is)
-
-pub returns-in_err-balance-clause-done : goal.returns-in_err-balance-clause-done
-returns-in_err-balance-clause-done g c answered = absurd (rw (refusal g c) at answered)
-
-pub returns-in_err-balance-clause-stands : goal.returns-in_err-balance-clause-stands
-returns-in_err-balance-clause-stands g c clean up = absurd (up (went_down g c))
-
-pub returns-in_err-balance-clause-honest : goal.returns-in_err-balance-clause-honest
-returns-in_err-balance-clause-honest g c = c.in_err-balance.ensures.honest
-
-pub returns-in_err-balance-clause-part : goal.returns-in_err-balance-clause-part
-returns-in_err-balance-clause-part g c =
-    on_err_any c.from_residual.result
-    (λ clean log s. nothing_written _ (statement_behind log c.args.account))
-
-pub returns-in_err-balance-clause-survives : goal.returns-in_err-balance-clause-survives
-returns-in_err-balance-clause-survives g c clean log at =
-    refused_leaves c.in_err-balance.field-0.0 (bank_seen g.S.Store c.args.bank.now)
-    (bank_seen g.S.Store c.balance.new.self)
-    c.in_err-balance.ensures.fault clean log at
-
-pub returns-in_err-balance-clause-tables : goal.returns-in_err-balance-clause-tables
-returns-in_err-balance-clause-tables g c clean up found t shown = absurd (up (went_down g c))
-
-pub returns-in_err-balance-clause-rows : goal.returns-in_err-balance-clause-rows
-returns-in_err-balance-clause-rows g c clean up found rows has = absurd (up (went_down g c))
-
-pub returns-in_err-balance-clause-store : goal.returns-in_err-balance-clause-store
-returns-in_err-balance-clause-store g c is up clean rows has = absurd (up (went_down g c))
-
-pub returns-in_err-balance-clause-absent : goal.returns-in_err-balance-clause-absent
-returns-in_err-balance-clause-absent g c none = absurd (not_missing _ _ (refusal g c) none)
-
-pub returns-in_err-balance-clause-still : goal.returns-in_err-balance-clause-still
-returns-in_err-balance-clause-still g c clean up = absurd (up (went_down g c))
-
-pub returns-in_err-balance-clause-cause : goal.returns-in_err-balance-clause-cause
-returns-in_err-balance-clause-cause g c is down =
-    c.in_err-balance.ensures.cause (rw (same_fault _ _ _ (refusal g c) is) tt)
-
-pub returns-in_err-balance-clause-broken : goal.returns-in_err-balance-clause-broken
-returns-in_err-balance-clause-broken g c rule is down =
-    subst (λ fault. OfDamage fault (WasBroken g.S.Store c.args.bank.now c.balance.new.self))
-    (same_fault _ _ _ (refusal g c) is) c.in_err-balance.ensures.broken
-
-pub returns-in_err-balance-clause-kept : goal.returns-in_err-balance-clause-kept
-returns-in_err-balance-clause-kept g c rule is down =
-    c.in_err-balance.ensures.kept (rw (same_fault _ _ _ (refusal g c) is) tt)
+pub returns-in_err-balance : goal.returns-in_err-balance
+returns-in_err-balance g c =
+    let old = bank_seen g.S.Store c.args.bank.now in
+    let new = bank_seen g.S.Store c.balance.new.self in
+    let fault = c.in_err-balance.field-0.0 in
+    let says = c.in_err-balance.ensures in
+    let same = refusal g c in
+    let went_down = refused_down fault old new [] (λ is. says.frugal (ap Err is)) says.fault in
+    let was_up = λ (down : old.is_down). tested_up _ _ c.is_down.ensures c.if-is_down.false down in
+    let tried = λ (is : c.from_residual.result ≡ Err (Bank Down)).
+    refused_before fault old new [] says.fault (same_fault _ fault Down same is) in
+    record {
+      bank = unstated old new c.args.account (g.W.Sink.contents c.args.writer.now) _ fault same
+          (λ rule is. refused_sound fault old new [] says.fault rule is)
+          record {
+            done = λ answered. absurd (rw same at answered);
+            survives = λ clean log at. refused_leaves fault old new says.fault clean log at;
+            honest = says.honest;
+          };
+      file = λ clean up. absurd (up went_down);
+      refused = λ down. record {
+        fault = (fault, same);
+        cause = λ is. says.cause (rw (same_fault _ _ _ same is) tt);
+        broken = λ rule is.
+            subst (λ f. OfDamage f (WasBroken g.S.Store c.args.bank.now c.balance.new.self))
+            (same_fault _ _ _ same is) says.broken;
+        kept = λ rule is. says.kept (rw (same_fault _ _ _ same is) tt);
+      };
+      writer = record {
+        silent = λ none. refl;
+        flushed = rw same tt;
+        failed = λ write. absurd (not_write _ fault same write);
+      };
+      frugal = λ is. says.frugal (ap Err (same_fault _ _ _ same is));
+      down = record {
+        down = λ down. absurd (was_up down);
+        tried = tried;
+        idle = λ is. absurd (was_up (tried is));
+      };
+      stands = λ clean up. absurd (up went_down);
+    }
 
 -- ---- where the account isn't open
 
-pub returns-in_default-clause-text : goal.returns-in_default-clause-text
-returns-in_default-clause-text g c = tt
-
-pub returns-in_default-clause-found : goal.returns-in_default-clause-found
-returns-in_default-clause-found g c = tt
-
-pub returns-in_default-clause-flushed : goal.returns-in_default-clause-flushed
-returns-in_default-clause-flushed g c = tt
-
-pub returns-in_default-clause-missing : goal.returns-in_default-clause-missing
-returns-in_default-clause-missing g c none clean log s =
-    sym (rw c.in_default.is at (c.in_ok-balance.ensures.value clean log s))
-
-pub returns-in_default-clause-silent : goal.returns-in_default-clause-silent
-returns-in_default-clause-silent g c none = refl
-
-pub returns-in_default-clause-part : goal.returns-in_default-clause-part
-returns-in_default-clause-part g c clean log s = nothing_written _ (statement_behind log c.args.account)
-
-pub returns-in_default-clause-tables : goal.returns-in_default-clause-tables
-returns-in_default-clause-tables g c clean up found = absurd (found refl)
-
-pub returns-in_default-clause-rows : goal.returns-in_default-clause-rows
-returns-in_default-clause-rows g c clean up found = absurd (found refl)
-
-pub returns-in_default-clause-absent : goal.returns-in_default-clause-absent
-returns-in_default-clause-absent g c none clean = rw c.in_default.is at (c.in_ok-balance.ensures.stored clean)
-
-pub returns-in_default-clause-still : goal.returns-in_default-clause-still
-returns-in_default-clause-still g c clean up is_open = c.in_ok-balance.ensures.still clean
-
-pub returns-in_default-clause-failed : goal.returns-in_default-clause-failed
-returns-in_default-clause-failed g c write = absurd (not_both _ write refl)
-
-pub returns-in_default-clause-sound : goal.returns-in_default-clause-sound
-returns-in_default-clause-sound g c rule is clean log s = not_missing _ _ is refl
-
-pub returns-in_default-clause-frugal : goal.returns-in_default-clause-frugal
-returns-in_default-clause-frugal g c is clean log s = not_missing _ _ is refl
-
-pub returns-in_default-clause-down : goal.returns-in_default-clause-down
-returns-in_default-clause-down g c down = absurd (not_ok _ _ _ refl (c.in_ok-balance.ensures.down down))
-
-pub returns-in_default-clause-tried : goal.returns-in_default-clause-tried
-returns-in_default-clause-tried g c is = absurd (not_missing _ _ is refl)
-
-pub returns-in_default-clause-cause : goal.returns-in_default-clause-cause
-returns-in_default-clause-cause g c is = absurd (not_missing _ _ is refl)
-
-pub returns-in_default-clause-store : goal.returns-in_default-clause-store
-returns-in_default-clause-store g c is = absurd (not_missing _ _ is refl)
-
-pub returns-in_default-clause-broken : goal.returns-in_default-clause-broken
-returns-in_default-clause-broken g c rule is = absurd (not_missing _ _ is refl)
-
-pub returns-in_default-clause-kept : goal.returns-in_default-clause-kept
-returns-in_default-clause-kept g c rule is = absurd (not_missing _ _ is refl)
-
-pub returns-in_default-clause-survives : goal.returns-in_default-clause-survives
-returns-in_default-clause-survives g c clean log at =
-    (c.in_ok-balance.ensures.done.stands clean log at).survives
-
-pub returns-in_default-clause-done : goal.returns-in_default-clause-done
-returns-in_default-clause-done g c answered = c.in_ok-balance.ensures.done
-
-pub returns-in_default-clause-stands : goal.returns-in_default-clause-stands
-returns-in_default-clause-stands g c clean up is_open log at =
-    c.in_ok-balance.ensures.done.stands clean log at
-
-pub returns-in_default-clause-honest : goal.returns-in_default-clause-honest
-returns-in_default-clause-honest g c = c.in_ok-balance.ensures.honest
+pub returns-in_default : goal.returns-in_default
+returns-in_default g c =
+    let says = c.in_ok-balance.ensures in
+    record {
+      bank = record {
+        text = tt;
+        found = tt;
+        missing = λ none clean log s. sym (rw c.in_default.is at (says.value clean log s));
+        silent = λ none. refl;
+        part = λ clean log s. nothing_written _ (statement_behind log c.args.account);
+        sound = λ rule is clean log s. not_missing _ _ is refl;
+        takes = record {
+          done = λ answered. says.done;
+          survives = λ clean log at. (says.done.stands clean log at).survives;
+          honest = says.honest;
+        };
+      };
+      file = λ clean up. record {
+        rows = λ found. absurd (found refl);
+        tables = λ found. absurd (found refl);
+        absent = λ none. rw c.in_default.is at (says.stored clean);
+        store = λ is. absurd (not_missing _ _ is refl);
+        still = λ is_open. says.still clean;
+      };
+      refused = λ down. absurd (says.up down);
+      writer = record { silent = λ none. refl; flushed = tt; failed = λ write. absurd (not_both _ write refl) };
+      frugal = λ is. not_missing _ _ is refl;
+      down = record {
+        down = λ down. absurd (tested_up _ _ c.is_down.ensures c.if-is_down.false down);
+        tried = λ is. absurd (not_missing _ _ is refl);
+        idle = λ is. absurd (not_missing _ _ is refl);
+      };
+      stands = λ clean up is_open log at. says.done.stands clean log at;
+    }
 
 -- ---- where the lines were begun
 
@@ -203,7 +149,7 @@ returns-in_default-clause-honest g c = c.in_ok-balance.ensures.honest
 clean_at : (g : Over) (c : goal.After-write_lines g)
     → HasCleanDisk (state g.S.Store c.write_lines.new.bank.conn)
     → HasCleanDisk (state g.S.Store c.balance.new.self.conn)
-clean_at g c clean = omega (arith, c.write_lines.ensures.survives.clean, clean)
+clean_at g c clean = omega (arith, c.write_lines.ensures.reads.survives.clean, clean)
 
 -- the rows are those that the file held
 rows_at : (g : Over) (c : goal.After-write_lines g)
@@ -223,133 +169,72 @@ stated g c clean rows has =
     let balance = rw c.in-Some.is at (c.in_ok-balance.ensures.stored (clean_at g c clean)) in
     (c.in-Some.balance, balance, c.write_lines.ensures.told clean rows (rows_at g c clean rows has))
 
-pub returns-clause-tables : goal.returns-clause-tables
-returns-clause-tables g c clean up found t shown =
-    stated g c clean (map history_entry t.history) (has_history _ t shown)
-
-pub returns-clause-rows : goal.returns-clause-rows
-returns-clause-rows g c clean up found rows has = stated g c clean rows has
-
-pub returns-clause-absent : goal.returns-clause-absent
-returns-clause-absent g c none = absurd (c.write_lines.ensures.found none)
-
-pub returns-clause-still : goal.returns-clause-still
-returns-clause-still g c clean up is_open =
-    (c.write_lines.ensures.undone clean is_open).now_is
-    ∙ c.in_ok-balance.ensures.still (clean_at g c clean)
-
-pub returns-clause-cause : goal.returns-clause-cause
-returns-clause-cause g c is down = absurd (c.in_ok-balance.ensures.up (c.write_lines.ensures.up down))
-
-pub returns-clause-broken : goal.returns-clause-broken
-returns-clause-broken g c rule is down = absurd (c.in_ok-balance.ensures.up (c.write_lines.ensures.up down))
-
-pub returns-clause-kept : goal.returns-clause-kept
-returns-clause-kept g c rule is down = absurd (c.in_ok-balance.ensures.up (c.write_lines.ensures.up down))
-
-pub returns-clause-store : goal.returns-clause-store
-returns-clause-store g c is up clean rows has =
-    failed_later g.S.Store c.args.bank.now.conn c.balance.new.self.conn c.write_lines.new.bank.conn
-    c.in_ok-balance.ensures.later (c.write_lines.ensures.store is clean rows (rows_at g c clean rows has))
-
-pub returns-clause-text : goal.returns-clause-text
-returns-clause-text g c = of_ok c.write_lines.result (λ is clean log s.
-    let mid : HasCleanDisk (state g.S.Store c.balance.new.self.conn) =
-    omega (arith, c.write_lines.ensures.survives.clean, clean) in
+-- what is told of it where the bank shows a log
+told_of : (g : Over) (c : goal.After-write_lines g)
+    → HasCleanDisk (state g.S.Store c.write_lines.new.bank.conn) → (log : List Command)
+    → ShowsLog (bank_seen g.S.Store c.args.bank.now) log
+    → ToldOfLog c.args.account log (g.W.Sink.contents c.args.writer.now)
+    (g.W.Sink.contents c.write_lines.new.writer) c.write_lines.result
+told_of g c clean log s =
+    let mid = clean_at g c clean in
     let shown = c.in_ok-balance.ensures.done.shows mid log s in
     let t = shown.tables in
-    let has = has_history _ t shown.are in
     let same = rw c.in-Some.is at (c.in_ok-balance.ensures.value mid log s) in
-    let told = rw is at (c.write_lines.ensures.told clean (map history_entry t.history) has) in
-    told_whole c.args.account c.in-Some.balance log (balance_is log c.args.account c.in-Some.balance same) _
-    (account_rows _ t log c.args.account shown.are shown.shows) _ _ told)
+    record {
+      balance = c.in-Some.balance;
+      is = same;
+      all = filter (is_of (Some c.args.account)) (map history_entry t.history);
+      rows = account_rows _ t log c.args.account shown.are shown.shows;
+      told = c.write_lines.ensures.told clean (map history_entry t.history) (has_history _ t shown.are);
+      commands = shown.commands;
+    }
 
-pub returns-clause-found : goal.returns-clause-found
-returns-clause-found g c = of_ok c.write_lines.result (λ is clean log s.
-    let mid : HasCleanDisk (state g.S.Store c.balance.new.self.conn) =
-    omega (arith, c.write_lines.ensures.survives.clean, clean) in
-    let same = rw c.in-Some.is at (c.in_ok-balance.ensures.value mid log s) in
-    subst (λ o. IsSome o) same refl)
-
-pub returns-clause-missing : goal.returns-clause-missing
-returns-clause-missing g c none = absurd (c.write_lines.ensures.found none)
-
-pub returns-clause-silent : goal.returns-clause-silent
-returns-clause-silent g c none = absurd (c.write_lines.ensures.found none)
-
-pub returns-clause-part : goal.returns-clause-part
-returns-clause-part g c = of_err c.write_lines.result (λ fault is clean log s.
-    let mid : HasCleanDisk (state g.S.Store c.balance.new.self.conn) =
-    omega (arith, c.write_lines.ensures.survives.clean, clean) in
-    let shown = c.in_ok-balance.ensures.done.shows mid log s in
-    let t = shown.tables in
-    let has = has_history _ t shown.are in
-    let same = rw c.in-Some.is at (c.in_ok-balance.ensures.value mid log s) in
-    let told = rw is at (c.write_lines.ensures.told clean (map history_entry t.history) has) in
-    told_part c.args.account c.in-Some.balance log (balance_is log c.args.account c.in-Some.balance same) _
-    (account_rows _ t log c.args.account shown.are shown.shows) _ _ fault told)
-
-pub returns-clause-sound : goal.returns-clause-sound
-returns-clause-sound g c rule is clean log s =
-    let mid : HasCleanDisk (state g.S.Store c.balance.new.self.conn) =
-    omega (arith, c.write_lines.ensures.survives.clean, clean) in
-    let shown = c.in_ok-balance.ensures.done.shows mid log s in
-    let t = shown.tables in
-    let has = has_history _ t shown.are in
-    let same = rw c.in-Some.is at (c.in_ok-balance.ensures.value mid log s) in
-    let told = rw is at (c.write_lines.ensures.told clean (map history_entry t.history) has) in
-    told_sound c.args.account c.in-Some.balance log (balance_is log c.args.account c.in-Some.balance same) _
-    (account_rows _ t log c.args.account shown.are shown.shows) _ _ shown.commands rule told
-
-pub returns-clause-frugal : goal.returns-clause-frugal
-returns-clause-frugal g c is clean log s =
-    let mid : HasCleanDisk (state g.S.Store c.balance.new.self.conn) =
-    omega (arith, c.write_lines.ensures.survives.clean, clean) in
-    let shown = c.in_ok-balance.ensures.done.shows mid log s in
-    let t = shown.tables in
-    let has = has_history _ t shown.are in
-    let told = rw is at (c.write_lines.ensures.told clean (map history_entry t.history) has) in
-    told.why
-
-pub returns-clause-done : goal.returns-clause-done
-returns-clause-done g c answered =
-    takes_then (state g.S.Store c.args.bank.now.conn) (state g.S.Store c.balance.new.self.conn)
-    (state g.S.Store c.write_lines.new.bank.conn) _ _ _
-    c.in_ok-balance.ensures.done
-    (λ clean. c.write_lines.ensures.still clean
-    (written_of c.write_lines.result c.write_lines.ensures.found answered))
-    c.write_lines.ensures.survives c.write_lines.ensures.up
-
-pub returns-clause-flushed : goal.returns-clause-flushed
-returns-clause-flushed g c = c.write_lines.ensures.flushed
-
-pub returns-clause-failed : goal.returns-clause-failed
-returns-clause-failed g c = c.write_lines.ensures.failed
-
-pub returns-clause-down : goal.returns-clause-down
-returns-clause-down g c down = absurd (not_ok _ _ _ refl (c.in_ok-balance.ensures.down down))
-
-pub returns-clause-tried : goal.returns-clause-tried
-returns-clause-tried g c is = absurd (c.in_ok-balance.ensures.up (c.write_lines.ensures.tried is))
-
-pub returns-clause-survives : goal.returns-clause-survives
-returns-clause-survives g c clean log at =
+pub returns : goal.returns
+returns g c =
     let mid = state g.S.Store c.balance.new.self.conn in
     let new = state g.S.Store c.write_lines.new.bank.conn in
-    let quiet = c.write_lines.ensures.survives in
-    quiet_leaves mid new (Unit {0}) quiet clean log
-    (c.in_ok-balance.ensures.done.stands (clean_before mid new quiet clean) log at).survives
-
-pub returns-clause-stands : goal.returns-clause-stands
-returns-clause-stands g c clean up is_open log at =
-    let mid = state g.S.Store c.balance.new.self.conn in
-    let new = state g.S.Store c.write_lines.new.bank.conn in
-    let quiet = c.write_lines.ensures.survives in
-    untouched_stands mid new _ _ (c.write_lines.ensures.undone clean) quiet c.write_lines.ensures.up clean
-    is_open log
-    (c.in_ok-balance.ensures.done.stands (clean_before mid new quiet clean) log at)
-
-pub returns-clause-honest : goal.returns-clause-honest
-returns-clause-honest g c clean = c.in_ok-balance.ensures.honest (clean_before
-    (state g.S.Store c.balance.new.self.conn) (state g.S.Store c.write_lines.new.bank.conn)
-    c.write_lines.ensures.survives clean)
+    let before = c.in_ok-balance.ensures in
+    let says = c.write_lines.ensures in
+    let down_before = λ (down : (bank_seen g.S.Store c.write_lines.new.bank).is_down).
+    before.up (says.reads.up down) in
+    record {
+      bank = record {
+        text = of_ok c.write_lines.result (λ is clean log s. log_whole (told_of g c clean log s) is);
+        found = of_ok c.write_lines.result (λ is clean log s.
+            subst (λ o. IsSome o) (told_of g c clean log s).is refl);
+        missing = λ none. absurd (says.reads.found none);
+        silent = λ none. absurd (says.reads.found none);
+        part = of_err c.write_lines.result (λ fault is clean log s. log_part (told_of g c clean log s) fault is);
+        sound = λ rule is clean log s. log_sound (told_of g c clean log s) rule is;
+        takes = reads_behind (state g.S.Store c.args.bank.now.conn) mid new _ _ _ _ before.done before.honest
+            (λ answered clean. says.reads.still clean (written_of c.write_lines.result says.reads.found answered))
+            says.reads.survives says.reads.up;
+      };
+      file = λ clean up. record {
+        rows = λ found rows has. stated g c clean rows has;
+        tables = λ found t shown. stated g c clean (map history_entry t.history) (has_history _ t shown);
+        absent = λ none. absurd (says.reads.found none);
+        store = λ is rows has.
+            failed_later g.S.Store c.args.bank.now.conn c.balance.new.self.conn c.write_lines.new.bank.conn
+            before.later (says.reads.store is clean rows (rows_at g c clean rows has));
+        still = λ is_open. (says.reads.undone clean is_open).now_is ∙ before.still (clean_at g c clean);
+      };
+      refused = λ down. absurd (down_before down);
+      writer = record {
+        silent = λ none. elim none [
+          | inl missing ↦ absurd (says.reads.found missing)
+          | inr down ↦ absurd (down_before down)
+        ];
+        flushed = says.flushed;
+        failed = says.failed;
+      };
+      frugal = says.reads.frugal;
+      down = record {
+        down = λ down. absurd (tested_up _ _ c.is_down.ensures c.if-is_down.false down);
+        tried = λ is. absurd (before.up (says.reads.tried is));
+        idle = λ is. absurd (before.up (says.reads.tried is));
+      };
+      stands = λ clean up is_open log at.
+          untouched_stands mid new _ _ (says.reads.undone clean) says.reads.survives says.reads.up clean is_open log
+          (before.done.stands (clean_before mid new says.reads.survives clean) log at);
+    }
