@@ -1,5 +1,6 @@
 -- A transaction on a connection, as a call of a counter.
-use Rattle.std.proofs.Common.{◌≡◌, List, length, Option, Some, Result, Ok, Err, refl, sym, subst, ◌∙◌, arith}
+use Rattle.std.proofs.Common.{◌≡◌, List, length, Option, Some, None, Result, Ok, Err, refl, sym, subst, ◌∙◌}
+use Rattle.std.proofs.Common.{arith}
 use Rattle.std.proofs.Common.{inl, inr}
 use Rattle.std.specs.Prelude.{IsSome}
 use Rattle.std.proofs.Math.Seq.{take-length}
@@ -11,6 +12,7 @@ use Rattle.sqlite_trees.specs.declared.store.Store.{Ghosts}
 use Rattle.sqlite.proofs.StateLemmas.{survives_then}
 use Rattle.posting_rules.specs.declared.fault.Fault.{Fault}
 use Rattle.posting_rules.specs.declared.fault.Fault.TheVariants as told
+use Rattle.posting_rules.specs.declared.fault.Rule.{Rule}
 use Rattle.posting_rules.specs.Commands.{Command, AreCommands}
 use Rattle.posting_rules.specs.Counter.{ShowsLog, ShowsBeginning, Takes, IsCutShort, IsDamaged, Refuses}
 use Rattle.posting_rules.specs.Counter.{TellsDamage}
@@ -26,7 +28,7 @@ use Rattle.store_rows.specs.Failures.{Committing}
 use Rattle.bank_transactions.specs.Causes.{Damage, HasFailedBetween}
 use Rattle.bank_transactions.specs.Doing.{MayLeaveAfter, TransactsBy}
 use Rattle.bank_transactions.proofs.Blamed.{comes, failed_within, same_moment}
-use Rattle.bank_store.specs.Down.{GoesDown, TellsFailure}
+use Rattle.bank_store.specs.Down.{GoesDown}
 use Rattle.bank_store.specs.NoneOrAll.{LeavesNoneOrAll}
 use Rattle.bank_store.specs.Seen.{error_in, seen_in}
 
@@ -199,6 +201,9 @@ keeps_file g old mid new (Damaged rule) kept fault does (inl went) quiet damage 
 keeps_file g old mid new (Damaged rule) kept fault does (inr went) quiet damage clean =
     absurd (subst TellsDamage went.0 damage)
 
+damage_is_no_failure : (rule : Rule) → told.Damaged rule ≡ told.Store → ⊥
+damage_is_no_failure rule is = cc
+
 same_error : (kept : Option TableFault) (x e : Error) → kept ≡ Some (Sqlite e) → error_in kept ≡ Some x
     → e ≡ x
 same_error kept x e is says = let it = rw is at says in cc
@@ -225,10 +230,17 @@ module _ {S X : Type 0} {So : Tables → Type 0} {after : Tables → Tables} {wa
         after = same_moment (state g new);
       })
 
--- and it is there
+-- and it is there, where the store is told to have failed
 pub kept_error : (old new : State) (kept : Option TableFault) (fault : Fault) (e : TableFault)
-    → GoesDown old new e kept fault → TellsFailure fault
-    → IsSome (error_in kept)
+    → GoesDown old new e kept fault → fault ≡ told.Store → IsSome (error_in kept)
 kept_error old new kept fault (Sqlite error) went tells = rw went.0 refl
-kept_error old new kept fault (Damaged rule) (inl went) tells = absurd (subst TellsFailure went.1 tells)
+kept_error old new kept fault (Damaged rule) (inl went) tells =
+    absurd (damage_is_no_failure rule (sym went.1 ∙ tells))
 kept_error old new kept fault (Damaged rule) (inr went) tells = rw went.1.1 refl
+
+-- damage keeps none
+pub no_error : (old new : State) (kept : Option TableFault) (fault : Fault) (e : TableFault)
+    → GoesDown old new e kept fault → TellsDamage fault → error_in kept ≡ None
+no_error old new kept fault (Sqlite error) went tells = absurd (subst TellsDamage went.1 tells)
+no_error old new kept fault (Damaged rule) (inl went) tells = rw went.0 refl
+no_error old new kept fault (Damaged rule) (inr went) tells = absurd (subst TellsDamage went.0 tells)

@@ -1,37 +1,79 @@
--- A call that a fault ended, and that brought the bank down: all that its refusal says.
-use Rattle.std.proofs.Common.{◌≡◌, List, Option, Err, arith, sym, ◌∙◌, inl, inr}
+-- A call of the bank, as the one record of it: what became of a transaction, or nothing was tried.
+use Rattle.std.proofs.Common.{◌≡◌, List, Option, None, Result, Ok, Err, arith, refl, sym, ap, subst, ◌∙◌, inl}
+use Rattle.std.proofs.Common.{inr}
 use Rattle.std.specs.Prelude.{IsSome, ◌≢◌}
 use Rattle.sqlite.specs.State.{State, HasCleanDisk, Survives}
 use Rattle.sqlite.specs.Held.{Held, state}
 use Rattle.sqlite_trees.specs.declared.store.Store.{Ghosts}
 use Rattle.posting_rules.specs.declared.fault.Fault.{Fault}
-use Rattle.posting_rules.specs.declared.fault.Fault.TheVariants.{Memory}
+use Rattle.posting_rules.specs.declared.fault.Fault.TheVariants.{Memory, Store, Down, Damaged as Broken}
+use Rattle.posting_rules.specs.declared.fault.Rule.{Rule}
 use Rattle.posting_rules.specs.Commands.{Command, AreCommands}
-use Rattle.posting_rules.specs.Counter.{Refuses, TellsDamage}
+use Rattle.posting_rules.specs.Counter.{Refuses, Takes, TellsDamage}
 use Rattle.posting_rules.specs.Tables.{Tables}
 use Rattle.posting_rules.proofs.Calls.{IsChange}
+use Rattle.posting_rules.proofs.CounterCalls.{call_answered, call_refused, call_spared, call_untried}
+use Rattle.posting_rules.proofs.CounterCalls.{unchanged_seen}
 use Rattle.store_rows.specs.declared.fault.TableFault.{TableFault}
 use Rattle.store_rows.specs.declared.fault.TableFault.TheVariants.{Sqlite, Damaged}
 use Rattle.bank_transactions.specs.Causes.{Damage, IsBrokenOrMet, IsFirstBroken}
 use Rattle.bank_transactions.specs.Doing.{Transacts, TransactsBy}
-use Rattle.bank_store.specs.Down.{GoesDown, KeepsCause, OfDamage, TellsFailure}
-use Rattle.bank_store.specs.Seen.{bank_seen, connection_of, database_of, fault_of}
+use Rattle.bank_store.specs.Down.{GoesDown, IsBankCall, KeepsCause, OfDamage, WasBrokenOrMet, bank_reason}
+use Rattle.bank_store.specs.Seen.{bank_seen, cause_of, connection_of, database_of, fault_of}
 use Rattle.bank_store.specs.declared.bank.Bank.{Bank}
 use Rattle.bank_store.proofs.Broke.{consulted, transacted}
-use Rattle.bank_store.proofs.Countered.{HoldsOfLogs, failed_between, keeps_file, kept_error, refuses}
+use Rattle.bank_store.proofs.Countered.{HoldsOfLogs, failed_between, keeps_file, kept_error, no_error, refuses}
 
--- it is refused as the trait says; damage leaves the file as it was; the cause is kept; damage says this;
--- memory is never told; and what is honest was
+-- It is refused as the trait says, for its reason; damage leaves the file as it was, and says this; neither
+-- memory nor an earlier fault is told; and what is honest was.
 pub record Refusal {S : Type 0} (g : Ghosts S) (old new : Bank S g) (cs : List Command) (Met : Damage S)
     (told : Fault) : Type 0 where
   pub fault : Refuses told (bank_seen g old) (bank_seen g new) cs
+  pub why : bank_reason g told old new
   pub kept : TellsDamage told → HasCleanDisk (state g (connection_of new))
       → database_of g new ≡ database_of g old
-  pub cause : TellsFailure told → KeepsCause g old new
   pub broken : OfDamage told (λ rule. HasCleanDisk (state g (connection_of new))
       → Met (connection_of old) (connection_of new) rule)
   pub frugal : told ≢ Memory
+  pub tried : told ≢ Down
   pub honest : HasCleanDisk (state g (connection_of new)) → HasCleanDisk (state g (connection_of old))
+
+-- so the call is one of the bank
+pub refused_call : {S X : Type 0} (g : Ghosts S) (old new : Bank S g) (cs : List Command) {Met : Damage S}
+    (told : Fault) → Refusal g old new cs Met told → ((bank_seen g old).is_down → ⊥)
+    → IsBankCall {X = X} g old new cs (Err told)
+refused_call g old new cs told it up =
+    call_refused (bank_seen g) (database_of g) (bank_reason g) old new cs up it.honest told it.frugal it.tried
+    it.fault it.why it.kept
+
+-- a call that was answered
+pub answered_call : {S X : Type 0} (g : Ghosts S) (old new : Bank S g) (cs : List Command) (x : X)
+    → ((bank_seen g old).is_down → ⊥) → ((bank_seen g new).is_down → ⊥)
+    → Takes (bank_seen g old) (bank_seen g new) cs
+    → (HasCleanDisk (state g (connection_of new)) → HasCleanDisk (state g (connection_of old)))
+    → IsBankCall g old new cs (Ok x)
+answered_call g old new cs x was_up up takes honest =
+    call_answered (bank_seen g) (database_of g) (bank_reason g) old new cs was_up honest x up takes
+
+-- a call of a bank that was down
+pub untried_call : {S X : Type 0} (g : Ghosts S) (bank : Bank S g) (cs : List Command)
+    (result : Result X Fault) (fault : Fault) → result ≡ Err fault → fault ≡ Down → (bank_seen g bank).is_down
+    → IsBankCall g bank bank cs result
+untried_call {S} {X} g bank cs result fault is tells was =
+    subst (λ (r : Result X Fault). IsBankCall g bank bank cs r)
+    (sym (is ∙ ap (λ (f : Fault). let r : Result X Fault = Err f in r) tells))
+    (call_untried (bank_seen g) (database_of g) (bank_reason g) bank cs was tt)
+
+-- a call that was refused memory before anything was tried
+pub spared_call : {S X : Type 0} (g : Ghosts S) (bank : Bank S g) (cs : List Command)
+    (result : Result X Fault) (fault : Fault) → result ≡ Err fault → fault ≡ Memory
+    → ((bank_seen g bank).is_down → ⊥)
+    → IsBankCall g bank bank cs result
+spared_call {S} {X} g bank cs result fault is tells up =
+    subst (λ (r : Result X Fault). IsBankCall g bank bank cs r)
+    (sym (is ∙ ap (λ (f : Fault). let r : Result X Fault = Err f in r) tells))
+    (call_spared (bank_seen g) (database_of g) (bank_reason g) bank bank cs up (λ honest. honest)
+    (unchanged_seen (bank_seen g bank)) tt refl)
 
 never_memory : (old new : State) (e : TableFault) (kept : Option TableFault) (fault : Fault)
     → GoesDown old new e kept fault → fault ≢ Memory
@@ -39,29 +81,60 @@ never_memory old new (Sqlite error) kept fault went memory = let both = sym went
 never_memory old new (Damaged rule) kept fault (inl went) memory = let both = sym went.1 ∙ memory in cc
 never_memory old new (Damaged rule) kept fault (inr went) memory = let both = sym went.0 ∙ memory in cc
 
+never_down : (old new : State) (e : TableFault) (kept : Option TableFault) (fault : Fault)
+    → GoesDown old new e kept fault → fault ≢ Down
+never_down old new (Sqlite error) kept fault went down = let both = sym went.1 ∙ down in cc
+never_down old new (Damaged rule) kept fault (inl went) down = let both = sym went.1 ∙ down in cc
+never_down old new (Damaged rule) kept fault (inr went) down = let both = sym went.0 ∙ down in cc
+
+-- what the bank's fault says of the call
+reason_of : {S : Type 0} (g : Ghosts S) (old new : Bank S g) (told : Fault)
+    → (told ≡ Store → KeepsCause g old new) → OfDamage told (WasBrokenOrMet g old new)
+    → (TellsDamage told → cause_of new ≡ None) → bank_reason g told old new
+reason_of g old new Memory cause broken none = tt
+reason_of g old new Store cause broken none = cause refl
+reason_of g old new Down cause broken none = tt
+reason_of g old new (Broken rule) cause broken none = (broken, none tt)
+
+-- damage that says one thing says another that follows
+of_wider : (told : Fault) (P Q : Rule → Type 0) → ((rule : Rule) → P rule → Q rule) → OfDamage told P
+    → OfDamage told Q
+of_wider Memory P Q wide is = tt
+of_wider Store P Q wide is = tt
+of_wider Down P Q wide is = tt
+of_wider (Broken rule) P Q wide is = wide rule is
+
 module _ {S X : Type 0} {So : Tables → Type 0} {after : Tables → Tables} {wanted : Tables → X} (g : Ghosts S)
     (old new : Bank S g) (mid : Held S)
     (holds : HoldsOfLogs So) (cs : List Command) (is : IsChange after cs) (are : AreCommands cs)
     (e : TableFault) (told : Fault)
     (down : GoesDown (state g mid) (state g (connection_of new)) e (fault_of new) told)
     (quiet : Survives (state g mid) (state g (connection_of new)) (λ _. ⊥)) where
-  refusal : (Met : Damage S) → TransactsBy {X = X} Met g (connection_of old) mid So after wanted (Err e)
+  refusal : (Met : Damage S)
+      → ((rule : Rule) → Met (connection_of old) (connection_of new) rule
+      → IsBrokenOrMet g (connection_of old) (connection_of new) rule)
+      → TransactsBy {X = X} Met g (connection_of old) mid So after wanted (Err e)
       → OfDamage told (λ rule. HasCleanDisk (state g (connection_of new))
       → Met (connection_of old) (connection_of new) rule)
       → Refusal g old new cs Met told
-  refusal Met does broken =
+  refusal Met wide does broken =
       let a = connection_of old in
       let c = connection_of new in
       record {
         fault =
             refuses g a mid c holds cs is are (IsSome (fault_of old)) e (fault_of new) told does down quiet;
+        why =
+            reason_of g old new told (λ tells. record {
+              kept = kept_error _ _ (fault_of new) told e down tells;
+              failed = failed_between g a mid c (fault_of new) told quiet e does down;
+            })
+            (of_wider told (λ rule. HasCleanDisk (state g c) → Met a c rule) (WasBrokenOrMet g old new)
+            (λ rule met clean. wide rule (met clean)) broken)
+            (no_error _ _ (fault_of new) told e down);
         kept = λ damage clean. keeps_file g a mid c e (fault_of new) told does down quiet damage clean;
-        cause = λ tells. record {
-          kept = kept_error _ _ (fault_of new) told e down tells;
-          failed = failed_between g a mid c (fault_of new) told quiet e does down;
-        };
         broken = broken;
         frugal = never_memory (state g mid) (state g c) e (fault_of new) told down;
+        tried = never_down (state g mid) (state g c) e (fault_of new) told down;
         honest = λ clean. omega (arith, quiet.clean, does.survives.clean);
       }
 
@@ -70,12 +143,12 @@ module _ {S X : Type 0} {So : Tables → Type 0} {after : Tables → Tables} {wa
       (Err e)
       → Refusal g old new cs (IsFirstBroken g) told
   consult_refused does =
-      refusal (IsFirstBroken g) does
+      refusal (IsFirstBroken g) (λ rule it. inl it) does
       (consulted g (connection_of old) mid (connection_of new) (fault_of new) told quiet e does down)
 
   -- of a call that writes
   pub transaction_refused : Transacts {X = X} g (connection_of old) mid So after wanted (Err e)
       → Refusal g old new cs (IsBrokenOrMet g) told
   transaction_refused does =
-      refusal (IsBrokenOrMet g) does
+      refusal (IsBrokenOrMet g) (λ rule it. it) does
       (transacted g (connection_of old) mid (connection_of new) (fault_of new) told quiet e does down)

@@ -4,6 +4,9 @@ use Rattle.posting_rules.specs.Commands.{Command}
 use Rattle.posting_rules.specs.Counter.{Seen, LeavesOnly, StandsAt}
 use Rattle.posting_rules.specs.Runs.{behind}
 use Rattle.posting_rules.specs.Tables.{Tables, AreTablesOf}
+use Rattle.sqlite_trees.specs.declared.store.Store.{Ghosts}
+use Rattle.bank_store.specs.Seen.{bank_seen, database_of}
+use Rattle.bank_store.specs.declared.bank.Bank.{Bank}
 
 -- wherever the counter stood at a log, everything that a stop may leave now shows the log, or the log with
 -- all the commands behind it
@@ -12,7 +15,9 @@ LeavesNoneOrAll old new commands =
     new.honest → (log : List Command) → StandsAt old log
     → LeavesOnly new (λ t. AreTablesOf t log ⊎ AreTablesOf t (behind log commands))
 
--- these tables are there, and everything that a stop may leave has them and no others
-pub record HasOnly (seen : Seen) (t : Tables) : Type 0 where
-  pub tables : seen.tables t
-  pub survives : LeavesOnly seen (λ left. left ≡ t)
+-- a call left these tables: they are there, everything that a stop may leave has them and no others, and all
+-- that the file holds is as it was
+pub record IsIdle {S : Type 0} (g : Ghosts S) (old new : Bank S g) (t : Tables) : Type 0 where
+  pub tables : (bank_seen g new).tables t
+  pub survives : LeavesOnly (bank_seen g new) (λ left. left ≡ t)
+  pub still : database_of g new ≡ database_of g old

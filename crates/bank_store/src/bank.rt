@@ -2,13 +2,12 @@
 ghost use Rattle.posting_rules.specs.declared.fault.Fault.TheVariants as fault;
 ghost use Rattle.std.specs.Prelude.{◌≡◌, ◌≢◌, ◌≤◌, [], ◌∷◌, List, length, Err, IfOk, OnOk, IfErr, IfSome};
 ghost use Rattle.std.specs.Prelude.{None, Option, false, option_map};
-ghost use Rattle.std.specs.Result.{IsErrOf};
 ghost use Rattle.sqlite.specs.State.{Survives};
 ghost use Rattle.sqlite.specs.Held.{state};
 ghost use Rattle.message_records.specs.Spelling.{reply_spelling};
 ghost use Rattle.posting_rules.specs.Branches.{IsNextBranch, IsLineAbove, line_of};
 ghost use Rattle.posting_rules.specs.Commands.{Command, Open, Post, opened_with};
-ghost use Rattle.posting_rules.specs.Counter.{ShowsLog, StandsAt, Takes, Refuses, opening_behind};
+ghost use Rattle.posting_rules.specs.Counter.{StandsAt, opening_behind};
 ghost use Rattle.posting_rules.specs.Entries.{reply, balance_behind};
 ghost use Rattle.posting_rules.specs.Runs.{posts, replies_to};
 ghost use Rattle.posting_rules.specs.Tables.{Tables};
@@ -43,8 +42,8 @@ use store_rows::{TableFault, probe_meta};
 ///   nothing of it. Release the connection, open the file again, [`adopt`](crate::adopt) the bank and send
 ///   again what got no reply: what was posted is not posted twice.
 /// - [`Fault::Damaged`]: the file has rows that no bank writes, and that break this rule. Nothing has
-///   changed, and the bank is down.
-/// - [`Fault::Down`]: a fault brought the bank down before, and nothing was tried.
+///   changed, and the bank is down, without a cause.
+/// - [`Fault::Down`]: a fault brought the bank down before. Nothing was tried: it is the bank that it was.
 ///
 /// This holds of a disk that returns what was written, as long as nobody else writes the file.
 #[derive(Drop)]
@@ -209,10 +208,9 @@ impl<S: Alter + Drop> Counter for Bank<S> {
     ghost use Rattle.bank_transactions.specs.Causes.{IsBefore};
     ghost use Rattle.bank_transactions.specs.Stored.{IsStoredBalance, IsStoredNext};
     ghost use Rattle.bank_batches.specs.Batches.{DecidesNone};
-    ghost use Rattle.bank_store.specs.Down.{AnswersBy, KeepsCause, KeepsFile, OfDamage, TellsFailure};
-    ghost use Rattle.bank_store.specs.Down.{WasBroken, WasBrokenOrMet};
-    ghost use Rattle.bank_store.specs.NoneOrAll.{LeavesNoneOrAll, HasOnly};
-    ghost use Rattle.bank_store.specs.Seen.{bank_seen, connection_of, database_of};
+    ghost use Rattle.bank_store.specs.Down.{AnswersBy, IsBankCall, OfDamage, WasBroken, bank_reason};
+    ghost use Rattle.bank_store.specs.NoneOrAll.{LeavesNoneOrAll, IsIdle};
+    ghost use Rattle.bank_store.specs.Seen.{bank_seen, database_of, file_of};
     ghost use Rattle.sqlite.specs.Effect.{Database};
     ghost use Rattle.posting_rules.specs.Sound.{AreOfALog};
 
@@ -222,23 +220,16 @@ impl<S: Alter + Drop> Counter for Bank<S> {
 
     ghost contents = { λ bank. database_of S.Store bank };
 
+    ghost reason = { λ fault old new. bank_reason S.Store fault old new };
+
     // What a crash of the store leaves.
     ghost leaves_something = { λ bank honest. S.Store.survives bank.conn.store honest };
 
     fn submit(&mut self, moment: Moment, bytes: &[u8; 100]) -> Result<[u8; 200], Fault>
-        ensures reply { AnswersBy S.Store self.old self.new (λ log. reply_spelling (reply log bytes.now))
-            result }
-        ensures done { OnOk result (Takes (bank_seen S.Store self.old) (bank_seen S.Store self.new)
-            (Post moment bytes.now ∷ [])) }
-        ensures up { OnOk result ((bank_seen S.Store self.new).is_down → ⊥) }
-        ensures fault { IfErr result (λ fault. Refuses fault (bank_seen S.Store self.old)
-            (bank_seen S.Store self.new) (Post moment bytes.now ∷ [])) }
-        ensures kept { IfErr result (KeepsFile S.Store self.old self.new) }
+        ensures answer { AnswersBy S.Store self.old self.new result
+            (λ log out. out ≡ reply_spelling (reply log bytes.now)) }
+        ensures call { IsBankCall S.Store self.old self.new (Post moment bytes.now ∷ []) result }
         ensures frugal { result ≢ Err fault.Memory }
-        ensures cause { IfErr result (λ fault. TellsFailure fault → KeepsCause S.Store self.old self.new) }
-        ensures broken { IfErr result (λ fault. OfDamage fault (WasBrokenOrMet S.Store self.old self.new)) }
-        ensures down { (bank_seen S.Store self.old).is_down → IsErrOf result Fault.Down }
-        ensures honest { (bank_seen S.Store self.new).honest → (bank_seen S.Store self.old).honest }
     {
         range_law(moment);
         self.up()?;
@@ -259,29 +250,15 @@ impl<S: Alter + Drop> Counter for Bank<S> {
         requires some { 1 ≤ length records.now }
         requires few { length records.now ≤ RECORDS_PER_BATCH }
         ensures count { IfOk result (λ replies. length replies.items ≡ length records.now) }
-        ensures replies { IfOk result (λ replies. (bank_seen S.Store self.new).honest → (log : List Command)
-            → ShowsLog (bank_seen S.Store self.old) log
-            → replies.items ≡ replies_to log (posts moment records.now)) }
-        ensures done { OnOk result (Takes (bank_seen S.Store self.old) (bank_seen S.Store self.new)
-            (posts moment records.now)) }
-        ensures up { OnOk result ((bank_seen S.Store self.new).is_down → ⊥) }
-        ensures fault { IfErr result (λ fault. Refuses fault (bank_seen S.Store self.old)
-            (bank_seen S.Store self.new) (posts moment records.now)) }
+        ensures answer { AnswersBy S.Store self.old self.new result
+            (λ log replies. replies.items ≡ replies_to log (posts moment records.now)) }
+        ensures call { IsBankCall S.Store self.old self.new (posts moment records.now) result }
         ensures none_or_all { LeavesNoneOrAll (bank_seen S.Store self.old) (bank_seen S.Store self.new)
             (posts moment records.now) }
+        // A batch in which no record is decided changes nothing, nor what a stop leaves.
         ensures idle { OnOk result ((bank_seen S.Store self.new).honest → (t : Tables)
-            → (bank_seen S.Store self.old).tables t → AreOfALog t
-            → DecidesNone t moment records.now → HasOnly (bank_seen S.Store self.new) t) }
-        // Then all that the file holds is as it was.
-        ensures still { OnOk result ((bank_seen S.Store self.new).honest → (t : Tables)
-            → (bank_seen S.Store self.old).tables t → AreOfALog t
-            → DecidesNone t moment records.now
-            → database_of S.Store self.new ≡ database_of S.Store self.old) }
-        ensures kept { IfErr result (KeepsFile S.Store self.old self.new) }
-        ensures cause { IfErr result (λ fault. TellsFailure fault → KeepsCause S.Store self.old self.new) }
-        ensures broken { IfErr result (λ fault. OfDamage fault (WasBrokenOrMet S.Store self.old self.new)) }
-        ensures down { (bank_seen S.Store self.old).is_down → IsErrOf result Fault.Down }
-        ensures honest { (bank_seen S.Store self.new).honest → (bank_seen S.Store self.old).honest }
+            → (bank_seen S.Store self.old).tables t → AreOfALog t → DecidesNone t moment records.now
+            → IsIdle S.Store self.old self.new t) }
     {
         range_law(moment);
         self.up()?;
@@ -296,19 +273,10 @@ impl<S: Alter + Drop> Counter for Bank<S> {
         requires branch { branch ≤ LAST_BRANCH }
         requires some { 1 ≤ count }
         requires few { count ≤ MOST_ACCOUNTS }
-        ensures answer { AnswersBy S.Store self.old self.new
-            (λ log. opening_behind log branch (opened_with count)) result }
-        ensures done { OnOk result (Takes (bank_seen S.Store self.old) (bank_seen S.Store self.new)
-            (Open branch count ∷ [])) }
-        ensures up { OnOk result ((bank_seen S.Store self.new).is_down → ⊥) }
-        ensures fault { IfErr result (λ fault. Refuses fault (bank_seen S.Store self.old)
-            (bank_seen S.Store self.new) (Open branch count ∷ [])) }
-        ensures kept { IfErr result (KeepsFile S.Store self.old self.new) }
+        ensures answer { AnswersBy S.Store self.old self.new result
+            (λ log opening. opening ≡ opening_behind log branch (opened_with count)) }
+        ensures call { IsBankCall S.Store self.old self.new (Open branch count ∷ []) result }
         ensures frugal { result ≢ Err fault.Memory }
-        ensures cause { IfErr result (λ fault. TellsFailure fault → KeepsCause S.Store self.old self.new) }
-        ensures broken { IfErr result (λ fault. OfDamage fault (WasBrokenOrMet S.Store self.old self.new)) }
-        ensures down { (bank_seen S.Store self.old).is_down → IsErrOf result Fault.Down }
-        ensures honest { (bank_seen S.Store self.new).honest → (bank_seen S.Store self.old).honest }
     {
         range_law(branch);
         self.up()?;
@@ -319,24 +287,18 @@ impl<S: Alter + Drop> Counter for Bank<S> {
     }
 
     fn balance(&mut self, account: Account) -> Result<Option<Cents>, Fault>
-        ensures value { AnswersBy S.Store self.old self.new (λ log. balance_behind log account) result }
-        ensures done { OnOk result (Takes (bank_seen S.Store self.old) (bank_seen S.Store self.new) []) }
+        ensures answer { AnswersBy S.Store self.old self.new result
+            (λ log balance. balance ≡ balance_behind log account) }
+        ensures call { IsBankCall S.Store self.old self.new [] result }
+        ensures frugal { result ≢ Err fault.Memory }
         // Whatever rows the file holds.
         ensures stored { IfOk result (λ balance. (bank_seen S.Store self.new).honest
             → IsStoredBalance (database_of S.Store self.old) account balance) }
         ensures still { OnOk result ((bank_seen S.Store self.new).honest
             → database_of S.Store self.new ≡ database_of S.Store self.old) }
-        ensures later { OnOk result (IsBefore (state S.Store (connection_of self.old))
-            (state S.Store (connection_of self.new))) }
-        ensures up { OnOk result ((bank_seen S.Store self.new).is_down → ⊥) }
-        ensures fault { IfErr result (λ fault. Refuses fault (bank_seen S.Store self.old)
-            (bank_seen S.Store self.new) []) }
-        ensures kept { IfErr result (KeepsFile S.Store self.old self.new) }
-        ensures frugal { result ≢ Err fault.Memory }
-        ensures cause { IfErr result (λ fault. TellsFailure fault → KeepsCause S.Store self.old self.new) }
+        ensures later { OnOk result (IsBefore (file_of S.Store self.old) (file_of S.Store self.new)) }
+        // It writes nothing, so that the rows which the file held break the rule.
         ensures broken { IfErr result (λ fault. OfDamage fault (WasBroken S.Store self.old self.new)) }
-        ensures down { (bank_seen S.Store self.old).is_down → IsErrOf result Fault.Down }
-        ensures honest { (bank_seen S.Store self.new).honest → (bank_seen S.Store self.old).honest }
     {
         self.up()?;
         match read_balance(&mut self.conn, account) {
@@ -346,24 +308,17 @@ impl<S: Alter + Drop> Counter for Bank<S> {
     }
 
     fn next_branch(&mut self, after: u32) -> Result<Option<BranchLine>, Fault>
-        ensures line { IfOk result (λ line. (bank_seen S.Store self.new).honest → (log : List Command)
-            → ShowsLog (bank_seen S.Store self.old) log → IsNextBranch log after line) }
+        ensures answer { AnswersBy S.Store self.old self.new result
+            (λ log line. IsNextBranch log after line) }
         ensures within { IfOk result (λ line. IfSome line (IsLineAbove after)) }
-        ensures done { OnOk result (Takes (bank_seen S.Store self.old) (bank_seen S.Store self.new) []) }
+        ensures call { IsBankCall S.Store self.old self.new [] result }
+        ensures frugal { result ≢ Err fault.Memory }
         // Whatever rows the file holds.
         ensures stored { IfOk result (λ line. (bank_seen S.Store self.new).honest → (row : Option BranchRow)
             × IsStoredNext (database_of S.Store self.old) after row × (line ≡ option_map line_of row)) }
         ensures still { OnOk result ((bank_seen S.Store self.new).honest
             → database_of S.Store self.new ≡ database_of S.Store self.old) }
-        ensures up { OnOk result ((bank_seen S.Store self.new).is_down → ⊥) }
-        ensures fault { IfErr result (λ fault.
-            Refuses fault (bank_seen S.Store self.old) (bank_seen S.Store self.new) []) }
-        ensures kept { IfErr result (KeepsFile S.Store self.old self.new) }
-        ensures frugal { result ≢ Err fault.Memory }
-        ensures cause { IfErr result (λ fault. TellsFailure fault → KeepsCause S.Store self.old self.new) }
         ensures broken { IfErr result (λ fault. OfDamage fault (WasBroken S.Store self.old self.new)) }
-        ensures down { (bank_seen S.Store self.old).is_down → IsErrOf result Fault.Down }
-        ensures honest { (bank_seen S.Store self.new).honest → (bank_seen S.Store self.old).honest }
     {
         self.up()?;
         match read_next_branch(&mut self.conn, after) {

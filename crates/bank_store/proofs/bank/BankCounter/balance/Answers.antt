@@ -1,11 +1,13 @@
 -- What a balance comes to.
 use Rattle.std.proofs.Common.{[], ◌∙◌}
+use Rattle.std.proofs.lemmas.Result.{err_from_is_err_and}
 use Rattle.std.specs.Prelude.{IsSome}
 use Rattle.posting_rules.proofs.Calls.{stays}
 use Rattle.posting_rules.proofs.Looked.{balance_shown}
 use Rattle.posting_rules.proofs.Stepping.{sound_tables}
 use Rattle.bank_store.proofs.Countered.{takes}
-use Rattle.bank_store.proofs.Refusing.{consult_refused, Refusal}
+use Rattle.bank_store.proofs.Causes.{still_clean}
+use Rattle.bank_store.proofs.Refusing.{answered_call, consult_refused, refused_call, untried_call, Refusal}
 use Rattle.bank_transactions.specs.Causes.{IsFirstBroken}
 use Rattle.bank_transactions.proofs.Blamed.{comes}
 use Rattle.bank_store.proofs.bank.BankCounter.balance.Given.{Over}
@@ -19,15 +21,17 @@ refused g c =
     tt c.in-Err.fault
     c.go_down.result c.go_down.ensures.down c.go_down.ensures.survives c.in-Err.ensures.says
 
-pub returns-in-Ok-clause-value : goal.returns-in-Ok-clause-value
-returns-in-Ok-clause-value g c clean log s =
+pub returns-in-Ok-clause-answer : goal.returns-in-Ok-clause-answer
+returns-in-Ok-clause-answer g c clean log s =
     (c.in-Ok.ensures.says.told clean s.tables s.are (sound_tables s.tables log s.commands s.shows)).0
     ∙ balance_shown s.tables log c.args.account s.shows
 
-pub returns-in-Ok-clause-done : goal.returns-in-Ok-clause-done
-returns-in-Ok-clause-done g c =
+pub returns-in-Ok-clause-call : goal.returns-in-Ok-clause-call
+returns-in-Ok-clause-call g c =
     let Down = IsSome c.args.self.now.fault in
-    takes sound_tables [] stays tt Down Down c.in_ok-up.ensures.up c.in-Ok.ensures.says
+    let says = c.in-Ok.ensures.says in
+    answered_call g.S.Store c.args.self.now _ [] _ c.in_ok-up.ensures.up c.in_ok-up.ensures.up
+    (takes sound_tables [] stays tt Down Down c.in_ok-up.ensures.up says) (still_clean says.survives)
 
 pub returns-in-Ok-clause-stored : goal.returns-in-Ok-clause-stored
 returns-in-Ok-clause-stored g c = c.in-Ok.ensures.stored
@@ -38,17 +42,16 @@ returns-in-Ok-clause-still g c = c.in-Ok.ensures.still
 pub returns-in-Ok-clause-later : goal.returns-in-Ok-clause-later
 returns-in-Ok-clause-later g c = comes c.in-Ok.ensures.says.survives
 
-pub returns-in-Ok-clause-fault : goal.returns-in-Ok-clause-fault
-returns-in-Ok-clause-fault g c = tt
-
-pub returns-in-Err-clause-fault : goal.returns-in-Err-clause-fault
-returns-in-Err-clause-fault g c = (refused g c).fault
-
-pub returns-in-Err-clause-kept : goal.returns-in-Err-clause-kept
-returns-in-Err-clause-kept g c = (refused g c).kept
-
-pub returns-in-Err-clause-cause : goal.returns-in-Err-clause-cause
-returns-in-Err-clause-cause g c = (refused g c).cause
+pub returns-in-Err-clause-call : goal.returns-in-Err-clause-call
+returns-in-Err-clause-call g c =
+    refused_call g.S.Store c.args.self.now c.go_down.new.self [] c.go_down.result (refused g c)
+    c.in_ok-up.ensures.up
 
 pub returns-in-Err-clause-broken : goal.returns-in-Err-clause-broken
 returns-in-Err-clause-broken g c = (refused g c).broken
+
+pub returns-in_err-up-clause-call : goal.returns-in_err-up-clause-call
+returns-in_err-up-clause-call g c =
+    let p = err_from_is_err_and c.from_residual.result c.from_residual.ensures.1 in
+    untried_call g.S.Store c.args.self.now [] c.from_residual.result p.0 p.1
+    (p.2 ∙ c.in_err-up.ensures.down.0) c.in_err-up.ensures.down.1

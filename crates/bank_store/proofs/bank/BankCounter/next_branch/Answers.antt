@@ -1,6 +1,7 @@
 -- What the next branch comes to.
-use Rattle.std.proofs.Common.{◌≡◌, [], Option, Some, None, rules, sym, subst}
+use Rattle.std.proofs.Common.{◌≡◌, [], Option, Some, None, rules, sym, subst, ◌∙◌}
 use Rattle.std.specs.Prelude.{IfSome, IsSome, option_map}
+use Rattle.std.proofs.lemmas.Result.{err_from_is_err_and}
 use Rattle.posting_rules.specs.Branches.{IsLineAbove, IsNextIn, line_of}
 use Rattle.posting_rules.proofs.Calls.{stays}
 use Rattle.posting_rules.proofs.NextBranch.{next_shown}
@@ -8,7 +9,7 @@ use Rattle.posting_rules.proofs.Stepping.{sound_tables}
 use Rattle.store_rows.specs.Columns.{branch_above}
 use Rattle.bank_store.proofs.Causes.{still_clean}
 use Rattle.bank_store.proofs.Countered.{takes}
-use Rattle.bank_store.proofs.Refusing.{consult_refused, Refusal}
+use Rattle.bank_store.proofs.Refusing.{answered_call, consult_refused, refused_call, untried_call, Refusal}
 use Rattle.bank_transactions.proofs.NextRow.{next_is}
 use Rattle.bank_transactions.specs.Causes.{IsFirstBroken}
 use Rattle.bank_store.proofs.bank.BankCounter.next_branch.Given.{Over}
@@ -35,7 +36,7 @@ returns-in-Ok g c =
     let is : c.map.result ≡ option_map line_of c.in-Ok.next = search rules in
     let Down = IsSome c.args.self.now.fault in
     record {
-      line =
+      answer =
           λ clean log s.
           let found : c.in-Ok.next ≡ branch_above s.tables after =
           (says.told clean s.tables s.are (sound_tables s.tables log s.commands s.shows)).0 in
@@ -43,34 +44,31 @@ returns-in-Ok g c =
           subst (IsNextIn s.tables.branches after) (sym found) (next_is _ s.tables after s.are) in
           rw is (next_shown s.tables log s.shows after c.in-Ok.next next);
       within = rw is (mapped (IsLineAbove after) line_of c.in-Ok.next c.in-Ok.ensures.within);
-      done = takes sound_tables [] stays tt Down Down c.in_ok-up.ensures.up says;
+      call =
+          answered_call g.S.Store c.args.self.now _ [] _ c.in_ok-up.ensures.up c.in_ok-up.ensures.up
+          (takes sound_tables [] stays tt Down Down c.in_ok-up.ensures.up says) (still_clean says.survives);
       stored = λ clean. (c.in-Ok.next, c.in-Ok.ensures.stored clean, is);
       still = c.in-Ok.ensures.still;
-      up = c.in_ok-up.ensures.up;
-      fault = tt;
-      kept = tt;
       frugal = λ same. (let it = same in cc);
-      cause = tt;
       broken = tt;
-      down = λ was. absurd (c.in_ok-up.ensures.up was);
-      honest = still_clean says.survives;
     }
 
 pub returns-in-Err : goal.returns-in-Err
 returns-in-Err g c =
     let no = refused g c in
     record {
-      line = tt;
+      answer = tt;
       within = tt;
+      call = refused_call g.S.Store c.args.self.now c.go_down.new.self [] c.go_down.result no
+          c.in_ok-up.ensures.up;
+      frugal = λ same. no.frugal (let it = same in cc);
       stored = tt;
       still = tt;
-      done = tt;
-      up = tt;
-      fault = no.fault;
-      kept = no.kept;
-      frugal = λ same. no.frugal (let it = same in cc);
-      cause = no.cause;
       broken = no.broken;
-      down = λ was. absurd (c.in_ok-up.ensures.up was);
-      honest = no.honest;
     }
+
+pub returns-in_err-up-clause-call : goal.returns-in_err-up-clause-call
+returns-in_err-up-clause-call g c =
+    let p = err_from_is_err_and c.from_residual.result c.from_residual.ensures.1 in
+    untried_call g.S.Store c.args.self.now [] c.from_residual.result p.0 p.1
+    (p.2 ∙ c.in_err-up.ensures.down.0) c.in_err-up.ensures.down.1

@@ -1,12 +1,13 @@
 -- What an opening comes to.
 use Rattle.std.proofs.Common.{◌≤◌, [], ◌∷◌, ◌∙◌}
+use Rattle.std.proofs.lemmas.Result.{err_from_is_err_and}
 use Rattle.std.specs.Prelude.{IsSome}
 use Rattle.posting_rules.specs.Commands.{Open, AreCommands, opened_with}
 use Rattle.posting_rules.proofs.Calls.{opens, answers}
 use Rattle.posting_rules.proofs.Stepping.{sound_tables}
 use Rattle.bank_store.proofs.Causes.{still_clean}
 use Rattle.bank_store.proofs.Countered.{takes}
-use Rattle.bank_store.proofs.Refusing.{transaction_refused, Refusal}
+use Rattle.bank_store.proofs.Refusing.{answered_call, refused_call, transaction_refused, untried_call, Refusal}
 use Rattle.bank_transactions.specs.Causes.{IsBrokenOrMet}
 use Rattle.bank_store.proofs.bank.BankCounter.open_branch.Given.{Over}
 use Rattle.bank_store.proofs.bank.BankCounter.open_branch.Goals as goal
@@ -41,17 +42,12 @@ returns-in-Ok g c =
           λ clean log s. (says.told clean s.tables s.are
           (sound_tables s.tables log s.commands s.shows)).0
           ∙ answers s.tables log b (opened_with count) s.shows;
-      done =
-          takes sound_tables (Open b count ∷ []) (opens b count above c.requires.few) are Down Down
-          c.in_ok-up.ensures.up says;
-      up = c.in_ok-up.ensures.up;
-      fault = tt;
-      kept = tt;
+      call =
+          answered_call g.S.Store c.args.self.now _ (Open b count ∷ []) _ c.in_ok-up.ensures.up
+          c.in_ok-up.ensures.up
+          (takes sound_tables (Open b count ∷ []) (opens b count above c.requires.few) are Down Down
+          c.in_ok-up.ensures.up says) (still_clean says.survives);
       frugal = λ same. (let it = same in cc);
-      cause = tt;
-      broken = tt;
-      down = λ was. absurd (c.in_ok-up.ensures.up was);
-      honest = still_clean says.survives;
     }
 
 pub returns-in-Err : goal.returns-in-Err
@@ -59,13 +55,13 @@ returns-in-Err g c =
     let no = refused g c in
     record {
       answer = tt;
-      done = tt;
-      up = tt;
-      fault = no.fault;
-      kept = no.kept;
+      call = refused_call g.S.Store c.args.self.now c.go_down.new.self _ c.go_down.result no
+          c.in_ok-up.ensures.up;
       frugal = λ same. no.frugal (let it = same in cc);
-      cause = no.cause;
-      broken = no.broken;
-      down = λ was. absurd (c.in_ok-up.ensures.up was);
-      honest = no.honest;
     }
+
+pub returns-in_err-up-clause-call : goal.returns-in_err-up-clause-call
+returns-in_err-up-clause-call g c =
+    let p = err_from_is_err_and c.from_residual.result c.from_residual.ensures.1 in
+    untried_call g.S.Store c.args.self.now _ c.from_residual.result p.0 p.1
+    (p.2 ∙ c.in_err-up.ensures.down.0) c.in_err-up.ensures.down.1

@@ -1,5 +1,6 @@
 -- What a record comes to.
 use Rattle.std.proofs.Common.{◌≡◌, [], ◌∷◌, Ok, rules, ◌∙◌}
+use Rattle.std.proofs.lemmas.Result.{err_from_is_err_and}
 use Rattle.std.specs.Prelude.{IsSome}
 use Rattle.message_records.specs.Reading.{request_of}
 use Rattle.posting_rules.specs.Commands.{Post, AreCommands}
@@ -7,7 +8,7 @@ use Rattle.posting_rules.proofs.Calls.{posts, replies}
 use Rattle.posting_rules.proofs.Stepping.{sound_tables}
 use Rattle.bank_store.proofs.Causes.{still_clean}
 use Rattle.bank_store.proofs.Countered.{takes}
-use Rattle.bank_store.proofs.Refusing.{transaction_refused, Refusal}
+use Rattle.bank_store.proofs.Refusing.{answered_call, refused_call, transaction_refused, untried_call, Refusal}
 use Rattle.bank_transactions.specs.Causes.{IsBrokenOrMet}
 use Rattle.bank_store.proofs.bank.BankCounter.submit.Given.{Over}
 use Rattle.bank_store.proofs.bank.BankCounter.submit.Goals as goal
@@ -38,35 +39,30 @@ returns-in-Ok-post g c =
     let Down = IsSome c.args.self.now.fault in
     let says = c.in-Ok-post.ensures in
     record {
-      reply =
+      answer =
           λ clean log s. (says.told clean s.tables s.are
           (sound_tables s.tables log s.commands s.shows)).0
           ∙ replies s.tables log bytes c.in-Ok.request read s.shows;
-      done =
-          takes sound_tables (Post m bytes ∷ []) (posts m bytes c.in-Ok.request read) are Down Down
-          c.in_ok-up.ensures.up says;
-      up = c.in_ok-up.ensures.up;
-      fault = tt;
-      kept = tt;
+      call =
+          answered_call g.S.Store c.args.self.now _ (Post m bytes ∷ []) _ c.in_ok-up.ensures.up
+          c.in_ok-up.ensures.up
+          (takes sound_tables (Post m bytes ∷ []) (posts m bytes c.in-Ok.request read) are Down Down
+          c.in_ok-up.ensures.up says) (still_clean says.survives);
       frugal = λ same. (let it = same in cc);
-      cause = tt;
-      broken = tt;
-      down = λ was. absurd (c.in_ok-up.ensures.up was);
-      honest = still_clean says.survives;
     }
 
 pub returns-in-Err : goal.returns-in-Err
 returns-in-Err g c =
     let no = refused g c in
     record {
-      reply = tt;
-      done = tt;
-      up = tt;
-      fault = no.fault;
-      kept = no.kept;
+      answer = tt;
+      call = refused_call g.S.Store c.args.self.now c.go_down.new.self _ c.go_down.result no
+          c.in_ok-up.ensures.up;
       frugal = λ same. no.frugal (let it = same in cc);
-      cause = no.cause;
-      broken = no.broken;
-      down = λ was. absurd (c.in_ok-up.ensures.up was);
-      honest = no.honest;
     }
+
+pub returns-in_err-up-clause-call : goal.returns-in_err-up-clause-call
+returns-in_err-up-clause-call g c =
+    let p = err_from_is_err_and c.from_residual.result c.from_residual.ensures.1 in
+    untried_call g.S.Store c.args.self.now _ c.from_residual.result p.0 p.1
+    (p.2 ∙ c.in_err-up.ensures.down.0) c.in_err-up.ensures.down.1

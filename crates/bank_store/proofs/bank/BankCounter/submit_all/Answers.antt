@@ -1,6 +1,7 @@
 -- What records come to.
 use Rattle.std.proofs.Common.{length, refl, ap, ◌∙◌}
 use Rattle.std.specs.Prelude.{IsSome}
+use Rattle.std.proofs.lemmas.Result.{err_from_is_err_and}
 use Rattle.std.proofs.lemmas.List.{length-map}
 use Rattle.message_records.specs.Reading.{request_of}
 use Rattle.posting_rules.specs.Commands.{AreCommands}
@@ -9,7 +10,8 @@ use Rattle.posting_rules.specs.Sound.{AreOfALog}
 use Rattle.posting_rules.proofs.Records.{all_replies, are_posts, posts_all}
 use Rattle.bank_store.proofs.Causes.{still_clean}
 use Rattle.bank_store.proofs.Countered.{HoldsOfLogs, none_or_all, none_or_all_down, takes}
-use Rattle.bank_store.proofs.Refusing.{transaction_refused, Refusal}
+use Rattle.bank_store.proofs.Refusing.{answered_call, refused_call, spared_call, transaction_refused}
+use Rattle.bank_store.proofs.Refusing.{untried_call, Refusal}
 use Rattle.bank_transactions.specs.Causes.{IsBrokenOrMet}
 use Rattle.bank_store.proofs.bank.BankCounter.submit_all.Given.{Over}
 use Rattle.bank_store.proofs.bank.BankCounter.submit_all.Goals as goal
@@ -42,23 +44,22 @@ returns-in-Ok g c =
     let Down = IsSome c.args.self.now.fault in
     record {
       count = c.in-Ok.ensures.count ∙ ap length made.reads ∙ length-map rs request_of;
-      replies =
+      answer =
           λ clean log s. (says.told clean s.tables s.are (of_logs s.tables log s.commands s.shows)).0
           ∙ all_replies s.tables log m rs s.shows;
-      done = takes of_logs (posts m rs) (posts_all m rs) are Down Down c.in_ok-up.ensures.up says;
-      up = c.in_ok-up.ensures.up;
-      fault = tt;
+      call =
+          answered_call g.S.Store c.args.self.now _ (posts m rs) _ c.in_ok-up.ensures.up c.in_ok-up.ensures.up
+          (takes of_logs (posts m rs) (posts_all m rs) are Down Down c.in_ok-up.ensures.up says)
+          (still_clean says.survives);
       none_or_all = none_or_all of_logs (posts m rs) (posts_all m rs) says _ Down Down says.survives;
       idle =
           λ clean t shows so none.
           let it = c.in-Ok.ensures.idle clean rs made t shows so none in
-          record { tables = it.shows; survives = λ trees may. (t, it.survives trees may, refl) };
-      still = λ clean t shows so none. (c.in-Ok.ensures.idle clean rs made t shows so none).same;
-      kept = tt;
-      cause = tt;
-      broken = tt;
-      down = λ was. absurd (c.in_ok-up.ensures.up was);
-      honest = still_clean says.survives;
+          record {
+            tables = it.shows;
+            survives = λ trees may. (t, it.survives trees may, refl);
+            still = it.same;
+          };
     }
 
 pub returns-in-Err : goal.returns-in-Err
@@ -68,20 +69,25 @@ returns-in-Err g c =
     let no = refused g c in
     record {
       count = tt;
-      replies = tt;
-      done = tt;
-      up = tt;
-      fault = no.fault;
+      answer = tt;
+      call = refused_call g.S.Store c.args.self.now c.go_down.new.self all c.go_down.result no
+          c.in_ok-up.ensures.up;
       none_or_all =
           none_or_all_down g.S.Store c.args.self.now.conn c.post_all.new.conn c.go_down.new.self.conn _
           of_logs all (posts_all c.args.moment rs) (IsSome c.args.self.now.fault)
           (IsSome c.go_down.new.self.fault) (c.in-Err.ensures.says rs c.in_ok-batch.ensures.made)
           c.go_down.ensures.survives;
       idle = tt;
-      still = tt;
-      kept = no.kept;
-      cause = no.cause;
-      broken = no.broken;
-      down = λ was. absurd (c.in_ok-up.ensures.up was);
-      honest = no.honest;
     }
+
+pub returns-in_err-up-clause-call : goal.returns-in_err-up-clause-call
+returns-in_err-up-clause-call g c =
+    let p = err_from_is_err_and c.from_residual.result c.from_residual.ensures.1 in
+    untried_call g.S.Store c.args.self.now _ c.from_residual.result p.0 p.1
+    (p.2 ∙ c.in_err-up.ensures.down.0) c.in_err-up.ensures.down.1
+
+pub returns-in_err-batch-clause-call : goal.returns-in_err-batch-clause-call
+returns-in_err-batch-clause-call g c =
+    let p = err_from_is_err_and c.from_residual-in_err-batch.result c.from_residual-in_err-batch.ensures.1 in
+    spared_call g.S.Store c.args.self.now _ c.from_residual-in_err-batch.result p.0 p.1 p.2
+    c.in_ok-up.ensures.up
