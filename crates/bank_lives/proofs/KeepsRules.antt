@@ -180,8 +180,8 @@ module _ (t : Tables) (sound : IsUndamaged t) where
       (sym (under_is (branch_of_account n)) ∙ none))
 
 same_count : (a b : ℕ) (version : ℤ)
-    → ◌≡◌ {A = List Entry} (record { key = pos 1; values = VERSION ∷ pos a ∷ [] } ∷ [])
-    (record { key = pos 1; values = version ∷ pos b ∷ [] } ∷ []) → a ≡ b
+    → ◌≡◌ {A = List Entry} (record { key = pos 1; values = VERSION ∷ pos a ∷ []; texts = [] } ∷ [])
+    (record { key = pos 1; values = version ∷ pos b ∷ []; texts = [] } ∷ []) → a ≡ b
 same_count a b version is = let same : ◌≡◌ {A = ℤ} (pos a) (pos b) = ap second is in cc
   where
     second : List Entry → ℤ
