@@ -39,7 +39,8 @@
 //! | [`ReportFault::Write`] | the writer failed, or took no byte; a beginning of the text was written |
 //!
 //! A damaged bank is no error of `audit` as long as its rows can be read: `is_consistent` of its answer says
-//! so. `specs/Files` says which rows are read, and `specs/Behind` what a statement is.
+//! so. `specs/Audits` and `specs/Statements` say what the two promise, of a bank and of any file,
+//! `specs/Files` which rows are read, and `specs/Behind` what a statement is.
 #![tactic(auto)]
 
 mod additions;

@@ -1,12 +1,16 @@
 -- The lines that the program prints, and how it ends where its words aren't a command.
-use Rattle.std.specs.Prelude.{◌≡◌, ◌⊎◌, ℕ, List, [], ◌∷◌, ◌++◌, codes}
+use Rattle.std.specs.Prelude.{◌≡◌, ◌⊎◌, ◌≤◌, ℕ, List, [], ◌∷◌, ◌++◌, codes, length, take}
+use Rattle.std.specs.Prelude.{Option, Result, OnErr, OnOk}
 use Rattle.std.specs.Fmt.{decimal}
+use Rattle.std.specs.Io.KnownBytes.{Appends}
 use Rattle.std.specs.Net.Text.{socket_text}
 use Rattle.std.specs.declared.net.socket_addr.SocketAddr.{SocketAddr}
 use Rattle.bank_driver.specs.declared.drive.Driven.{Driven}
 use Rattle.branch_loader.specs.declared.loader.Loaded.{Loaded}
 use Rattle.clap.specs.declared.error.kind.ErrorKind.{ErrorKind}
 use Rattle.clap.specs.declared.error.kind.ErrorKind.TheVariants as kind
+use Rattle.posting_core.specs.Told.{EndsWith, IsFlush, WriteTold}
+use Rattle.bank_endings.specs.declared.fault.CommandFault.{CommandFault}
 use Rattle.bank_endings.specs.declared.status.Status.{Status}
 use Rattle.bank_endings.specs.declared.status.Status.TheVariants.{Done, Usage, System}
 
@@ -33,6 +37,17 @@ driven_line count driven = line (codes "records " ++ decimal count
 -- where the counter listens
 abbrev pub listening_line : SocketAddr → List ℕ
 listening_line address = line (codes "listening " ++ socket_text address)
+
+-- A line is printed. w and w' are the known bytes of the output before and after, and t and t' what its calls
+-- are known to have returned.
+pub record PrintsLine (text : List ℕ) (w w' : Option (List ℕ)) (t t' : Option (List WriteTold))
+    (told : Result (Unit {0}) CommandFault) : Type 0 where
+  -- at Ok it is written
+  pub line : OnOk told (Appends w w' text)
+  -- and flushed after all else
+  pub flushed : OnOk told (EndsWith IsFlush t t')
+  -- at a fault a beginning of it is written
+  pub part : OnErr told ((n : ℕ) × (n ≤ length text) × Appends w w' (take n text))
 
 -- help or the version was asked for
 abbrev pub IsHelpOrVersion : ErrorKind → Type 0

@@ -1,91 +1,152 @@
 //! What the program prints: one line for a command that did its work, and one on standard error for a fault.
-ghost use Rattle.std.specs.Prelude.{◌≡◌, ◌⊎◌, IsOk, OnErr, OnOk, IsErrOf};
-ghost use Rattle.std.specs.Io.KnownBytes.{Appends, Keeps};
+ghost use Rattle.std.specs.Prelude.{◌≡◌, ◌⊎◌, [], IfSome, IsErr, IsErrOf, IsOk, OnErr, OnOk};
+ghost use Rattle.std.specs.Io.KnownBytes.{Keeps};
 ghost use Rattle.std.specs.IoError.{error_kind};
 ghost use Rattle.clap.specs.Words.{kind_of};
+ghost use Rattle.posting_core.specs.Told.{EndsWith, GrowsBy, HasWriteFailed, IsFlush};
 ghost use Rattle.bank_endings.specs.Faults.{status_of};
-ghost use Rattle.bank_endings.specs.Lines.{IsHelpOrVersion, IsShown, created_line, driven_line};
-ghost use Rattle.bank_endings.specs.Lines.{listening_line};
-ghost use Rattle.bank_endings.specs.Lines.{loaded_line};
+ghost use Rattle.bank_endings.specs.Lines.{IsHelpOrVersion, IsShown, PrintsLine, created_line, driven_line};
+ghost use Rattle.bank_endings.specs.Lines.{listening_line, loaded_line};
 ghost use Rattle.bank_endings.specs.Statuses.{status_of_no_words};
 
 use crate::fault::CommandFault;
 use crate::status::Status;
+use arrayvec::ArrayString;
 use bank_driver::Driven;
 use branch_loader::Loaded;
 use clap::error::ErrorKind;
+use itoa::Buffer;
+use posting_core::{Sink, write_out};
+use std::fmt::Write as WriteText;
 use std::io;
 use std::io::Write;
 use std::net::SocketAddr;
+
+// The most that a line takes.
+const LINE: usize = 160;
 
 /// Prints `created`, and flushes it, as each function here that prints a line does.
 ///
 /// # Errors
 ///
-/// Of each of them only [`CommandFault::Write`]: a write or the flush failed, and part of the line may be
-/// out.
-pub fn print_created<W: Write>(output: &mut W) -> Result<(), CommandFault>
-    ensures line { OnOk result (Appends (W.contents output.old) (W.contents output.new) created_line) }
+/// Of each of them only [`CommandFault::Write`]: a write or the flush failed, and a beginning of the line may
+/// be out.
+pub fn print_created<W: Sink>(output: &mut W) -> Result<(), CommandFault>
+    ensures prints { PrintsLine created_line (W.contents output.old) (W.contents output.new)
+        (W.told output.old) (W.told output.new) result }
     ensures fault { OnErr result (IsErrOf result CommandFault.Write) }
+    ensures failed { OnErr result (HasWriteFailed (W.told output.old) (W.told output.new)) }
 {
-    let written = writeln!(output, "created");
-    finish(written, output)
+    print_line("created\n", output)
 }
 
 /// Prints how many branches of a plan got each answer, as `opened 2 already 0 differs 0`.
-pub fn print_loaded<W: Write>(loaded: Loaded, output: &mut W) -> Result<(), CommandFault>
-    ensures line { OnOk result
-        (Appends (W.contents output.old) (W.contents output.new) (loaded_line loaded)) }
+pub fn print_loaded<W: Sink>(loaded: Loaded, output: &mut W) -> Result<(), CommandFault>
+    ensures prints { PrintsLine (loaded_line loaded) (W.contents output.old) (W.contents output.new)
+        (W.told output.old) (W.told output.new) result }
     ensures fault { OnErr result (IsErrOf result CommandFault.Write) }
+    ensures failed { OnErr result (HasWriteFailed (W.told output.old) (W.told output.new)) }
 {
-    let Loaded {
-        opened,
-        already,
-        differs,
-    } = loaded;
-    let written = writeln!(
-        output,
-        "opened {opened} already {already} differs {differs}"
-    );
-    finish(written, output)
+    print_line(loaded_text(loaded).as_str(), output)
 }
 
 /// Prints how many of `count` records were posted, and how many weren't, as
 /// `records 1000 posted 990 refused 10`.
-pub fn print_driven<W: Write>(
-    count: u64,
-    driven: Driven,
-    output: &mut W,
-) -> Result<(), CommandFault>
-    ensures line { OnOk result
-        (Appends (W.contents output.old) (W.contents output.new) (driven_line count driven)) }
+pub fn print_driven<W: Sink>(count: u64, driven: Driven, output: &mut W) -> Result<(), CommandFault>
+    ensures prints { PrintsLine (driven_line count driven) (W.contents output.old) (W.contents output.new)
+        (W.told output.old) (W.told output.new) result }
     ensures fault { OnErr result (IsErrOf result CommandFault.Write) }
+    ensures failed { OnErr result (HasWriteFailed (W.told output.old) (W.told output.new)) }
 {
-    let Driven { posted, refused } = driven;
-    let written = writeln!(output, "records {count} posted {posted} refused {refused}");
-    finish(written, output)
+    print_line(driven_text(count, driven).as_str(), output)
 }
 
 /// Prints the address with its port at which the counter listens, as `listening 127.0.0.1:8080`.
-pub fn print_listening<W: Write>(address: SocketAddr, output: &mut W) -> Result<(), CommandFault>
-    ensures line { OnOk result
-        (Appends (W.contents output.old) (W.contents output.new) (listening_line address)) }
+pub fn print_listening<W: Sink>(address: SocketAddr, output: &mut W) -> Result<(), CommandFault>
+    ensures prints { PrintsLine (listening_line address) (W.contents output.old) (W.contents output.new)
+        (W.told output.old) (W.told output.new) result }
     ensures fault { OnErr result (IsErrOf result CommandFault.Write) }
+    // No clause of std says that the text of an address has room, so that one may be given up at once.
+    ensures failed { OnErr result (HasWriteFailed (W.told output.old) (W.told output.new)
+        ⊎ GrowsBy (W.told output.old) (W.told output.new) []) }
 {
-    let written = writeln!(output, "listening {address}");
-    finish(written, output)
+    let Some(line) = listening_text(address) else {
+        return Err(CommandFault::Write);
+    };
+    print_line(line.as_str(), output)
+}
+
+// The line that `load` prints.
+fn loaded_text(loaded: Loaded) -> ArrayString<LINE>
+    ensures { result.bytes ≡ loaded_line loaded }
+{
+    let mut digits = Buffer::new();
+    let mut line = ArrayString::new();
+    line.push_str("opened ");
+    line.push_str(digits.format(loaded.opened));
+    line.push_str(" already ");
+    line.push_str(digits.format(loaded.already));
+    line.push_str(" differs ");
+    line.push_str(digits.format(loaded.differs));
+    line.push_str("\n");
+    line
+}
+
+// The line that `drive` prints.
+fn driven_text(count: u64, driven: Driven) -> ArrayString<LINE>
+    ensures { result.bytes ≡ driven_line count driven }
+{
+    let mut digits = Buffer::new();
+    let mut line = ArrayString::new();
+    line.push_str("records ");
+    line.push_str(digits.format(count));
+    line.push_str(" posted ");
+    line.push_str(digits.format(driven.posted));
+    line.push_str(" refused ");
+    line.push_str(digits.format(driven.refused));
+    line.push_str("\n");
+    line
+}
+
+// The line that `serve` prints.
+fn listening_text(address: SocketAddr) -> Option<ArrayString<LINE>>
+    ensures { IfSome result (λ line. line.bytes ≡ listening_line address) }
+{
+    let mut line = ArrayString::new();
+    match writeln!(line, "listening {address}") {
+        Ok(()) => Some(line),
+        Err(_) => None,
+    }
+}
+
+// Writes a line, and flushes it.
+fn print_line<W: Sink>(line: &str, output: &mut W) -> Result<(), CommandFault>
+    ensures prints { PrintsLine line.now (W.contents output.old) (W.contents output.new)
+        (W.told output.old) (W.told output.new) result }
+    ensures fault { OnErr result (IsErrOf result CommandFault.Write) }
+    ensures failed { OnErr result (HasWriteFailed (W.told output.old) (W.told output.new)) }
+{
+    match write_out(output, line.as_bytes()) {
+        Ok(()) => Ok(()),
+        Err(_) => Err(CommandFault::Write),
+    }
 }
 
 // Flushes what was written, unless the write failed.
-fn finish<W: Write>(written: io::Result<()>, output: &mut W) -> Result<(), CommandFault>
+fn finish<W: Sink>(written: io::Result<()>, output: &mut W) -> Result<(), CommandFault>
     ensures kept { Keeps (W.contents output.old) (W.contents output.new) }
     ensures done { OnOk result (IsOk written) }
+    ensures flushed { OnOk result (EndsWith IsFlush (W.told output.old) (W.told output.new)) }
     ensures fault { OnErr result (IsErrOf result CommandFault.Write) }
+    ensures failed { OnErr result (IsErr written ⊎ HasWriteFailed (W.told output.old) (W.told output.new)) }
 {
-    if written.is_err() || output.flush().is_err() {
+    if written.is_err() {
         return Err(CommandFault::Write);
     }
-    Ok(())
+    match output.send_on() {
+        Ok(()) => Ok(()),
+        Err(_) => Err(CommandFault::Write),
+    }
 }
 
 /// Writes `bank: ` and the fault as a line to standard error, and returns the status that the program ends

@@ -100,7 +100,8 @@ returns-in_err-add_all g c =
     let same = refusal g c in
     let up = subst (λ kept. IsSome kept) says.up in
     record {
-      bank = unaudited (bank_seen g.S.Store c.args.bank.now) (bank_seen g.S.Store c.add_all.new.bank) _ fault same
+      bank = unaudited (bank_seen g.S.Store c.args.bank.now) (bank_seen g.S.Store c.add_all.new.bank) _ fault
+          same
           (λ broken is clean log s.
           let has = has_file (database_of g.S.Store c.args.bank.now) s.tables s.are in
           let it = rw is at (says.told clean (rows_in (stored s.tables)) has) in
@@ -109,7 +110,8 @@ returns-in_err-add_all g c =
       file = λ clean. record {
         numbers = λ f has. rw same tt;
         consistent = λ t has. rw same tt;
-        damaged = λ broken is f has. rw (error_is fault (Damaged broken) (sym same ∙ is)) at (says.told clean f has);
+        damaged = λ broken is f has.
+            rw (error_is fault (Damaged broken) (sym same ∙ is)) at (says.told clean f has);
         store = λ is f has. rw (error_is fault Store (sym same ∙ is)) at (says.told clean f has);
       };
       memory = λ is. absurd (says.frugal (ap Err (error_is _ _ (sym same ∙ is))));

@@ -49,7 +49,9 @@ returns-in_err-row g c =
       reads = record {
         found = not_missing _ fault same;
         frugal = λ is. c.next.ensures.frugal (c.in_err-row.was ∙ ap Err (same_fault _ fault Memory same is));
-        tried = λ is. absurd (it.fresh (c.next.ensures.down.1 (rw (c.in_err-row.was, same_fault _ fault Down same is) refl)).0);
+        tried = λ is.
+            absurd (it.fresh (c.next.ensures.down.1
+            (rw (c.in_err-row.was, same_fault _ fault Down same is) refl)).0);
         store = λ is clean rows has.
             let before = clean_before mid new quiet clean in
             let there = still_has old mid history_table rows (it.still before) has in
@@ -61,7 +63,8 @@ returns-in_err-row g c =
             };
         still = λ clean written. absurd (rw same at written);
         undone = λ clean.
-            undone_then old mid new (it.still (clean_before mid new quiet clean)) (c.next.ensures.undone clean);
+            undone_then old mid new (it.still (clean_before mid new quiet clean))
+            (c.next.ensures.undone clean);
         up = subst (λ fault. IsSome fault) (c.next.ensures.up ∙ it.up);
         survives = quiet_then old mid new it.survives quiet;
       };

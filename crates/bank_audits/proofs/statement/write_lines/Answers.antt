@@ -121,7 +121,8 @@ returns g c =
           (same_all _ _ (c.as_str-3.ensures.value ∙ c.statement_closing.ensures)
           c.in_ok-put_last.ensures.ok);
       flushed =
-          more_last IsFlush (more_more (more_more c.in_ok-put.ensures.more c.in_ok-put-2.ensures.more) says.more)
+          more_last IsFlush
+          (more_more (more_more c.in_ok-put.ensures.more c.in_ok-put-2.ensures.more) says.more)
           c.in_ok-put_last.ensures.flushed;
       failed = λ is. absurd (not_ok _ _ _ refl is);
       reads = record {

@@ -1,6 +1,6 @@
 -- The statement of an account of a bank that shows a log.
-use Rattle.std.proofs.Common.{rules, ◌≡◌, Bool, List, [], map, filter, Some, Err, false, true, refl, sym, ap, subst, ◌∙◌}
-use Rattle.std.proofs.Common.{inl, inr, arith}
+use Rattle.std.proofs.Common.{rules, ◌≡◌, ◌∙◌, Bool, List, [], map, filter, Some, Err, false, true, refl}
+use Rattle.std.proofs.Common.{sym, ap, subst, inl, inr, arith}
 use Rattle.std.specs.Prelude.{IsSome}
 use Rattle.sqlite.specs.State.{HasCleanDisk}
 use Rattle.sqlite.specs.Held.{state}
@@ -204,10 +204,12 @@ returns g c =
             subst (λ o. IsSome o) (told_of g c clean log s).is refl);
         missing = λ none. absurd (says.reads.found none);
         silent = λ none. absurd (says.reads.found none);
-        part = of_err c.write_lines.result (λ fault is clean log s. log_part (told_of g c clean log s) fault is);
+        part = of_err c.write_lines.result
+            (λ fault is clean log s. log_part (told_of g c clean log s) fault is);
         sound = λ rule is clean log s. log_sound (told_of g c clean log s) rule is;
         takes = reads_behind (state g.S.Store c.args.bank.now.conn) mid new _ _ _ _ before.done before.honest
-            (λ answered clean. says.reads.still clean (written_of c.write_lines.result says.reads.found answered))
+            (λ answered clean.
+            says.reads.still clean (written_of c.write_lines.result says.reads.found answered))
             says.reads.survives says.reads.up;
       };
       file = λ clean up. record {
@@ -235,6 +237,6 @@ returns g c =
         idle = λ is. absurd (before.up (says.reads.tried is));
       };
       stands = λ clean up is_open log at.
-          untouched_stands mid new _ _ (says.reads.undone clean) says.reads.survives says.reads.up clean is_open log
-          (before.done.stands (clean_before mid new says.reads.survives clean) log at);
+          untouched_stands mid new _ _ (says.reads.undone clean) says.reads.survives says.reads.up clean
+          is_open log (before.done.stands (clean_before mid new says.reads.survives clean) log at);
     }

@@ -5,4 +5,4 @@ pub returns-clause-line : goal.returns-clause-line
 returns-clause-line g c =
     told_driven g.C.Counter.seen _ _ _ _ c.args.seed c.args.count _ _ c.print_driven.result
     c.in_ok-driven.driven
-    c.in_ok-driven.ensures.drives c.print_driven.ensures.line
+    c.in_ok-driven.ensures.drives c.print_driven.ensures.prints.line

@@ -39,6 +39,6 @@ returns g c =
     let did : Loads (g.C.Counter.seen c.args.bank.now) (g.C.Counter.seen c.load.new.counter)
     c.in_ok-loaded.loaded = record { rows = _; takes = says.done; all = says.all; counts = says.counts } in
     let it = printed g.C.Counter.seen (g.W.Write.contents c.args.output.now) c.args.bank.now
-    (g.W.Write.contents c.print_loaded.new.output) c.load.new.counter _ c.in_ok-print_loaded.ensures.line
+    (g.W.Write.contents c.print_loaded.new.output) c.load.new.counter _ c.in_ok-print_loaded.ensures.prints.line
     did in
     record { loads = it.loads; line = it.line; silent = it.silent }
