@@ -32,7 +32,7 @@ GoesDown old new (Damaged rule) kept fault =
 -- is taken.
 pub record KeepsCause {S : Type 0} (g : Ghosts S) (old new : Bank S g) : Type 0 where
   pub kept : IsSome (cause_of new)
-  pub failed : HasCleanDisk (file_of g new) → (e : Error) → cause_of new ≡ Some e
+  pub failed : HasCleanDisk (file_of new) → (e : Error) → cause_of new ≡ Some e
       → HasFailedBetween g (connection_of old) (connection_of new) e
 
 -- ---- the rule that is reported to be broken
@@ -44,12 +44,12 @@ OfDamage _ P = ⊤
 
 -- on an honest disk the rows that the file held before the call break the rule
 abbrev pub WasBroken : {S : Type 0} (g : Ghosts S) → Bank S g → Bank S g → Rule → Type 0
-WasBroken g old new rule = HasCleanDisk (file_of g new) → IsBroken rule (database_of g old)
+WasBroken g old new rule = HasCleanDisk (file_of new) → IsBroken rule (database_of g old)
 
 -- they do; or a statement of the call met it as it wrote: a key that is taken, or a row that is missing
 abbrev pub WasBrokenOrMet : {S : Type 0} (g : Ghosts S) → Bank S g → Bank S g → Rule → Type 0
 WasBrokenOrMet g old new rule =
-    HasCleanDisk (file_of g new) → IsBrokenOrMet g (connection_of old) (connection_of new) rule
+    HasCleanDisk (file_of new) → IsBrokenOrMet g (connection_of old) (connection_of new) rule
 
 -- ---- a call
 

@@ -29,20 +29,16 @@ abbrev pub connection_of : {S : Type 0} {g : Ghosts S} → Bank S g → Held S
 connection_of bank = bank.conn
 
 -- the state of its file: what its connection shows, what a stop may leave, and whether the disk is clean
-abbrev pub file_of : {S : Type 0} (g : Ghosts S) → Bank S g → State
-file_of g bank = state g bank.conn
-
--- what a bank is seen as: it is down once a fault is kept
-abbrev pub bank_seen : {S : Type 0} (g : Ghosts S) → Bank S g → Seen
-bank_seen g bank = seen_in (file_of g bank) (IsSome bank.fault)
-
--- its file, as its connection has it
 abbrev pub file_of : {S : Type 0} {g : Ghosts S} → Bank S g → State
 file_of {g = g} bank = state g bank.conn
 
+-- what a bank is seen as: it is down once a fault is kept
+abbrev pub bank_seen : {S : Type 0} (g : Ghosts S) → Bank S g → Seen
+bank_seen g bank = seen_in (file_of bank) (IsSome bank.fault)
+
 -- all that its file holds, as its connection shows it
 abbrev pub database_of : {S : Type 0} (g : Ghosts S) → Bank S g → Database
-database_of g bank = (file_of g bank).now
+database_of g bank = (file_of bank).now
 
 -- the error of `sqlite` in what brought a bank down, none where it was damage
 abbrev pub error_in : Option TableFault → Option Error

@@ -296,7 +296,7 @@ impl<S: Alter + Drop> Counter for Bank<S> {
             → IsStoredBalance (database_of S.Store self.old) account balance) }
         ensures still { OnOk result ((bank_seen S.Store self.new).honest
             → database_of S.Store self.new ≡ database_of S.Store self.old) }
-        ensures later { OnOk result (IsBefore (file_of S.Store self.old) (file_of S.Store self.new)) }
+        ensures later { OnOk result (IsBefore (file_of self.old) (file_of self.new)) }
         // It writes nothing, so that the rows which the file held break the rule.
         ensures broken { IfErr result (λ fault. OfDamage fault (WasBroken S.Store self.old self.new)) }
     {
