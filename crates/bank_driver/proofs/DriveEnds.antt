@@ -6,7 +6,7 @@ use Rattle.std.proofs.Math.Nat.{eq-or-lt_of_le}
 use Rattle.std.proofs.lemmas.List.Sorted.{IsPermutation-refl}
 use Rattle.posting_rules.specs.declared.fault.Fault.{Fault}
 use Rattle.posting_rules.specs.declared.fault.Fault.TheVariants.{Memory, Store, Down, Damaged}
-use Rattle.posting_rules.specs.Commands.{Command, Open, IsCommand, AreCommands, opened}
+use Rattle.posting_rules.specs.Commands.{Command, Open, IsCommand, AreCommands, opened, Terms}
 use Rattle.posting_rules.specs.Counter.{Seen, ShowsLog, Takes, Refuses}
 use Rattle.posting_rules.specs.Resends.{Skips}
 use Rattle.posting_rules.specs.Runs.{behind, ArePosts}
@@ -40,7 +40,7 @@ nil_right : (xs ys : Rows) → xs ++ ys ≡ [] → ys ≡ []
 nil_right [] ys e = e
 nil_right (x ∷ xs) ys e = absurd cc
 
-not_open : (branch : ℕ) (o : Option ℕ) → row_if_open branch o ≡ [] → o ≡ None
+not_open : (branch : ℕ) (o : Option Terms) → row_if_open branch o ≡ [] → o ≡ None
 not_open branch None e = refl
 not_open branch (Some accounts) e = absurd cc
 
@@ -60,7 +60,7 @@ none_up_to log (suc n) branch none low high =
 pub none_open : (log : List Command) → AreCommands log → open_branches log ≡ [] → NoneOpen log
 none_open log are none branch = by_opened (opened log branch) refl (open_within log are branch)
   where
-    by_opened : (o : Option ℕ) → opened log branch ≡ o → IfSome o (λ n. IsCommand (Open branch n))
+    by_opened : (o : Option Terms) → opened log branch ≡ o → IfSome o (λ n. IsCommand (Open branch n.accounts))
         → opened log branch ≡ None
     by_opened None e is = e
     by_opened (Some n) e is = none_up_to log LAST_BRANCH branch none is.0 is.1

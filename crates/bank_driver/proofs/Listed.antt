@@ -100,7 +100,7 @@ next_more log after line is =
     ap (open_up_to log) number
     ∙ ap (λ (rows : Rows). rows ++ row_if_open (suc (after + n)) (opened log (suc (after + n)))) none
     ∙ ap (λ (b : ℕ). open_up_to log after ++ row_if_open b (opened log b)) (sym number)
-    ∙ ap (λ o. open_up_to log after ++ row_if_open line.branch o) is.accounts
+    ∙ ap (λ o. open_up_to log after ++ row_if_open line.branch o) is.terms
 
 -- ---- the walk
 

@@ -3,7 +3,7 @@ use Rattle.std.specs.Prelude.{◌≡◌, ◌≤◌, ◌+◌, ℕ, zero, suc, Lis
 use Rattle.std.specs.Prelude.{if◌then◌else◌}
 use Rattle.message_records.specs.Outcomes.{has_balance}
 use Rattle.message_records.specs.Spelling.{request_spelling}
-use Rattle.posting_rules.specs.Commands.{Command, Open, Post, opened}
+use Rattle.posting_rules.specs.Commands.{Command, Open, Post, opened, Terms}
 use Rattle.posting_rules.specs.Entries.{reply}
 use Rattle.posting_core.specs.Batches.{Batch}
 use Rattle.branch_loader.specs.Plans.{Rows}
@@ -16,10 +16,10 @@ use Rattle.posting_rules.specs.declared.limits.TheConstants.{LAST_BRANCH, RECORD
 abbrev pub NoneOpen : List Command → Type 0
 NoneOpen log = (branch : ℕ) → opened log branch ≡ None
 
--- the row of a branch that is open with so many accounts, if it is
-abbrev pub row_if_open : ℕ → Option ℕ → Rows
+-- the row of a branch that is open on these terms, if it is
+abbrev pub row_if_open : ℕ → Option Terms → Rows
 row_if_open branch None = []
-row_if_open branch (Some accounts) = (branch, accounts) ∷ []
+row_if_open branch (Some terms) = (branch, terms.accounts) ∷ []
 
 -- the open branches up to this one, ascending
 unfoldable pub open_up_to : List Command → ℕ → Rows

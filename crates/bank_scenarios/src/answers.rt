@@ -1,15 +1,12 @@
 //! What a bank answers to a call, whatever keeps its tables.
 use crate::records::Record;
 use bank_driver::{MAX_DRIVEN, drive_records};
-use message_records::{Account, Branch, Moment};
-use posting_core::{Counter, Opening, StoredClock};
+use message_records::{Account, Branch, Moment, REPLY_BYTES, REQUEST_BYTES};
+use posting_core::{Counter, Opening, RECORDS_PER_BATCH, StoredClock};
 use std::alloc::{AllocError, Global};
 
 /// What separates the things that a step names, and what is answered to each.
 const BETWEEN: &str = ", ";
-
-/// How many records a batch may have.
-const MOST_RECORDS: usize = 64;
 
 /// A call of a bank, but for the things that it names.
 #[derive(Clone, Copy)]
@@ -175,8 +172,8 @@ fn submitted<C: Counter>(
     moment: Moment,
     records: &[Record],
 ) -> Result<String, AllocError> {
-    let bytes: Vec<[u8; 100]> = records.iter().map(|record| record.bytes).collect(alloc)?;
-    if bytes.is_empty() || bytes.len() > MOST_RECORDS {
+    let bytes: Vec<[u8; REQUEST_BYTES]> = records.iter().map(|record| record.bytes).collect(alloc)?;
+    if bytes.is_empty() || bytes.len() > RECORDS_PER_BATCH {
         return "no batch".to_string(alloc);
     }
     match bank.submit_all(moment, bytes.as_slice()) {
@@ -189,7 +186,7 @@ fn submitted<C: Counter>(
 fn told_each(
     alloc: Global,
     records: &[Record],
-    replies: &[[u8; 200]],
+    replies: &[[u8; REPLY_BYTES]],
 ) -> Result<String, AllocError> {
     let mut answers = String::new(alloc);
     for (record, reply) in records.iter().zip(replies) {

@@ -1,6 +1,8 @@
 //! Mixed records, drawn from a seed.
 use crate::records::bytes_of;
 use anyhow::{Context, Result};
+use message_records::{Branch, REQUEST_BYTES};
+use posting_core::{TELLERS_PER_BRANCH, first_account, first_teller};
 
 /// A generator of numbers, which shifts a word that isn't zero.
 #[derive(Drop)]
@@ -55,7 +57,7 @@ fn amount_by(draws: &mut Draws) -> i64 {
 }
 
 // A request of this number: mostly of an open teller, its branch and an open account.
-fn request_by(draws: &mut Draws, number: u64) -> Option<[u8; 100]> {
+fn request_by(draws: &mut Draws, number: u64) -> Option<[u8; REQUEST_BYTES]> {
     let (before, home_count) = branch_by(draws);
     let (mut other, mut count) = (before, home_count);
     if draws.is_one_of(7) {
@@ -64,18 +66,19 @@ fn request_by(draws: &mut Draws, number: u64) -> Option<[u8; 100]> {
     // Now and then the branch isn't the teller's, the teller isn't open, or the account isn't.
     let branch = u64::from(before) + if draws.is_one_of(20) { 2 } else { 1 };
     let opened = if draws.is_one_of(20) { 2 } else { before };
-    let teller = 10 * u64::from(opened) + 1 + u64::from(draws.below(10));
+    let home = Branch::new(u64::from(opened) + 1)?;
+    let teller = first_teller(home) + u64::from(draws.below(TELLERS_PER_BRANCH as u32));
     let place = if draws.is_one_of(20) {
-        u64::from(count) + 1
+        u64::from(count)
     } else {
-        1 + u64::from(draws.below(u32::from(count)))
+        u64::from(draws.below(u32::from(count)))
     };
-    let account = 100_000 * u64::from(other) + place;
+    let account = first_account(Branch::new(u64::from(other) + 1)?) + place;
     bytes_of(account, teller, branch, number, amount_by(draws))
 }
 
 // An earlier record: the same, with another amount, or with a byte that is wrong.
-fn again(draws: &mut Draws, sent: &[[u8; 100]]) -> Option<[u8; 100]> {
+fn again(draws: &mut Draws, sent: &[[u8; REQUEST_BYTES]]) -> Option<[u8; REQUEST_BYTES]> {
     let last = u32::try_from(sent.len()).unwrap_or(0);
     let mut bytes = *sent.get(draws.below(last) as usize)?;
     match draws.below(4) {
@@ -93,7 +96,11 @@ fn again(draws: &mut Draws, sent: &[[u8; 100]]) -> Option<[u8; 100]> {
 }
 
 /// Puts a group of so many records behind those that were sent.
-pub fn draw_group(draws: &mut Draws, count: u32, sent: &mut Vec<[u8; 100]>) -> Result<()> {
+pub fn draw_group(
+    draws: &mut Draws,
+    count: u32,
+    sent: &mut Vec<[u8; REQUEST_BYTES]>,
+) -> Result<()> {
     for _ in 0..count {
         let number = (sent.len() as u64).saturating_add(1);
         let fresh = request_by(draws, number).context("a request")?;

@@ -3,7 +3,7 @@ use crate::draws::{Draws, draw_group};
 use crate::stored::Stored;
 use anyhow::{Context, Result, bail, ensure};
 use bank_store::Bank;
-use message_records::{Account, Cents, Moment, Outcome, decode_reply};
+use message_records::{Account, Cents, Moment, Outcome, REPLY_BYTES, REQUEST_BYTES, decode_reply};
 use posting_core::{Counter, PlainBank};
 use sqlite::Alter;
 use std::alloc::{AllocError, Global};
@@ -72,9 +72,9 @@ fn replies_of<C: Counter>(
     alloc: Global,
     bank: &mut C,
     group: u16,
-    records: &[[u8; 100]],
+    records: &[[u8; REQUEST_BYTES]],
     way: Way,
-) -> Result<Vec<[u8; 200]>> {
+) -> Result<Vec<[u8; REPLY_BYTES]>> {
     let moment = Moment::new(u64::from(group)).context("a moment")?;
     if way == Way::InBatches {
         ensure!(!records.is_empty() && records.len() <= 64, "no batch");
@@ -125,7 +125,7 @@ fn told(alloc: Global, came: &[Outcome]) -> Result<String, AllocError> {
 }
 
 // Adds the outcomes of the replies.
-fn note(outcomes: &mut Vec<Outcome>, replies: &[[u8; 200]]) -> Result<()> {
+fn note(outcomes: &mut Vec<Outcome>, replies: &[[u8; REPLY_BYTES]]) -> Result<()> {
     for reply in replies {
         let Ok(reply) = decode_reply(reply) else {
             bail!("no reply");
@@ -141,7 +141,7 @@ struct Course {
     alloc: Global,
     run: Run,
     draws: Draws,
-    sent: Vec<[u8; 100]>,
+    sent: Vec<[u8; REQUEST_BYTES]>,
     outcomes: Vec<Outcome>,
 }
 

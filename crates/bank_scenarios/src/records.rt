@@ -1,19 +1,20 @@
 //! The records of a script.
 use message_records::{
-    Account, Branch, Cents, Number, Reply, Request, Teller, decode_reply, encode_request,
+    Account, Branch, Cents, Number, REPLY_BYTES, REQUEST_BYTES, Reply, Request, Teller,
+    decode_reply, encode_request,
 };
 use std::alloc::{AllocError, Global};
 
 /// A record, and how the reply to it is printed.
 #[derive(Clone, Copy)]
 pub struct Record {
-    pub bytes: [u8; 100],
+    pub bytes: [u8; REQUEST_BYTES],
     /// Whether it is written as a request's numbers, so that the reply is printed by its outcome and balance.
     is_request: bool,
 }
 
 // The text, and spaces behind it; none where it is too long.
-fn padded(text: &str) -> Option<[u8; 100]> {
+fn padded(text: &str) -> Option<[u8; REQUEST_BYTES]> {
     if text.len() > 100 {
         return None;
     }
@@ -31,7 +32,7 @@ pub fn bytes_of(
     branch: u64,
     number: u64,
     delta: i64,
-) -> Option<[u8; 100]> {
+) -> Option<[u8; REQUEST_BYTES]> {
     let account = Account::new(account)?;
     let teller = Teller::new(teller)?;
     let branch = Branch::new(branch)?;
@@ -42,7 +43,7 @@ pub fn bytes_of(
 }
 
 // The record of a request's five numbers.
-fn bytes_of_numbers(text: &str) -> Option<[u8; 100]> {
+fn bytes_of_numbers(text: &str) -> Option<[u8; REQUEST_BYTES]> {
     let mut words = text.split(' ');
     let mut numbers = [0; 4];
     for number in &mut numbers {
@@ -66,7 +67,7 @@ impl Record {
     }
 
     /// The text of the reply to it.
-    pub fn told(&self, alloc: Global, reply: &[u8; 200]) -> Result<String, AllocError> {
+    pub fn told(&self, alloc: Global, reply: &[u8; REPLY_BYTES]) -> Result<String, AllocError> {
         if !self.is_request {
             let text = String::from_utf8_lossy(alloc, reply)?;
             return text.trim_end_matches(' ').to_string(alloc);

@@ -5,7 +5,7 @@ use Rattle.std.proofs.Common.{arith}
 use Rattle.std.specs.Prelude.{codes, ℤ, pos, negsuc}
 use Rattle.std.proofs.lemmas.Bool.{cases_lt, le-ltb}
 use Rattle.posting_rules.specs.declared.counter.BranchLine.{BranchLine}
-use Rattle.posting_rules.specs.Commands.{Command, opened}
+use Rattle.posting_rules.specs.Commands.{Command, opened, Terms, opened_with}
 use Rattle.posting_rules.specs.Entries.{branch_balance, decided}
 use Rattle.posting_rules.specs.declared.fault.Fault.{Fault}
 use Rattle.posting_rules.specs.declared.fault.Fault.TheVariants.{Memory}
@@ -81,18 +81,19 @@ skipped log low high zero none le lt = ap (lines_up_to log) (let e : 0 ≡ low =
 skipped log low high (suc m) none le lt = elim (cases_lt low (suc m)) [
   | inl more ↦
       let closed : opened log (suc m) ≡ None = none (suc m) more lt in
-      ap (λ (o : Option ℕ). lines_up_to log m ++ line_if_open log (suc m) o) closed
+      ap (λ (o : Option Terms). lines_up_to log m ++ line_if_open log (suc m) o) closed
       ∙ append-nil (lines_up_to log m) ∙ skipped log low high m none (omega arith) (omega arith)
   | inr ge ↦ ap (lines_up_to log) (let e : suc m ≡ low = omega arith in e)
 ]
 
-at_branch : (log : List Command) (b accounts : ℕ) (balance : ℤ) → 0 < b → opened log b ≡ Some accounts
+at_branch : (log : List Command) (b accounts : ℕ) (balance : ℤ) → 0 < b
+    → opened log b ≡ Some (opened_with accounts)
     → balance ≡ branch_balance (decided log) b
     → lines_up_to log b ≡ lines_up_to log (b - 1) ++ branch_line b accounts balance
 at_branch log zero accounts balance some e z = absurd (omega arith)
 at_branch log (suc m) accounts balance some e z =
     let less : m ≡ suc m - 1 = omega arith in
-    ap (λ (o : Option ℕ). lines_up_to log m ++ line_if_open log (suc m) o) e
+    ap (λ (o : Option Terms). lines_up_to log m ++ line_if_open log (suc m) o) e
     ∙ ap (λ (v : ℤ). lines_up_to log m ++ branch_line (suc m) accounts v) (sym z)
     ∙ ap (λ (k : ℕ). lines_up_to log k ++ branch_line (suc m) accounts balance) less
 
@@ -101,7 +102,7 @@ pub next_line : (log : List Command) (after : ℕ) (line : BranchLine) → IsNex
     ++ branch_line line.branch line.accounts line.balance
 next_line log after line is =
     let low : after < line.branch = is.above in
-    at_branch log line.branch line.accounts line.balance (omega arith) is.accounts is.balance
+    at_branch log line.branch line.accounts line.balance (omega arith) is.terms is.balance
     ∙ ap (λ (t : List ℕ). t ++ branch_line line.branch line.accounts line.balance)
     (skipped log after line.branch (line.branch - 1) is.none_between (omega arith) (omega arith))
 

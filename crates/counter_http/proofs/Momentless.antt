@@ -6,7 +6,7 @@ use Rattle.message_records.specs.Records.{ReplyFields}
 use Rattle.message_records.specs.Reading.{request_of}
 use Rattle.message_records.specs.Spelling.{reply_spelling}
 use Rattle.posting_rules.specs.declared.limits.TheConstants.{LAST_BRANCH}
-use Rattle.posting_rules.specs.Commands.{Command, Post, opened, is_account_open}
+use Rattle.posting_rules.specs.Commands.{Command, Post, opened, is_account_open, Terms}
 use Rattle.posting_rules.specs.Entries.{DecidedRequest, account_balance, branch_balance, with_record, decided}
 use Rattle.posting_rules.specs.Entries.{reply_to, reply, balance_behind}
 use Rattle.posting_rules.specs.Runs.{behind}
@@ -23,11 +23,11 @@ use Rattle.counter_http.specs.Outputs.{answers_behind}
 
 -- the same is open, and the same is decided but for the moments
 pub record IsAlike (a b : List Command) : Type 0 where
-  pub opens : ◌≡◌ {A = ℕ → Option ℕ} (λ n. opened a n) (λ n. opened b n)
+  pub opens : ◌≡◌ {A = ℕ → Option Terms} (λ n. opened a n) (λ n. opened b n)
   pub entries : zeroed (decided a) ≡ zeroed (decided b)
 
 abbrev Opened : Type 0
-Opened = ℕ → Option ℕ
+Opened = ℕ → Option Terms
 
 -- ---- what is answered
 
@@ -49,11 +49,11 @@ balance_alike a b account h =
     h.opens
     ∙ ap (λ (z : ℤ). cond (is_account_open (λ n. opened b n) account) (Some z) None) sum
 
-line_alike : (a b : List Command) (branch : ℕ) (o : Option ℕ) → IsAlike a b
+line_alike : (a b : List Command) (branch : ℕ) (o : Option Terms) → IsAlike a b
     → line_if_open a branch o ≡ line_if_open b branch o
 line_alike a b branch None h = refl
-line_alike a b branch (Some accounts) h =
-    ap (branch_line branch accounts)
+line_alike a b branch (Some terms) h =
+    ap (branch_line branch terms.accounts)
     (sym (sum_zeroed (λ r. eqb r.branch branch) (decided a))
     ∙ ap (λ (es : List DecidedRequest). branch_balance es branch) h.entries
     ∙ sum_zeroed (λ r. eqb r.branch branch) (decided b))

@@ -10,7 +10,7 @@ use Rattle.message_records.specs.Ranges.{whole_within}
 use Rattle.message_records.specs.Reading.{number_of}
 use Rattle.message_records.specs.Spelling.{reply_spelling}
 use Rattle.posting_rules.specs.declared.limits.TheConstants.{LAST_BRANCH}
-use Rattle.posting_rules.specs.Commands.{Command, opened}
+use Rattle.posting_rules.specs.Commands.{Command, opened, Terms}
 use Rattle.posting_rules.specs.Entries.{reply, balance_behind, branch_balance, decided}
 use Rattle.message_records.specs.declared.limits.TheConstants.{REQUEST_BYTES}
 use Rattle.counter_http.specs.declared.limits.TheConstants.{ACCOUNT_DIGITS}
@@ -99,9 +99,9 @@ branch_line branch accounts balance =
     right_in 6 (decimal branch) ++ codes " " ++ right_in 7 (decimal accounts) ++ codes " "
     ++ right_in 14 (signed_decimal balance) ++ codes "\n"
 
-abbrev pub line_if_open : List Command → ℕ → Option ℕ → List ℕ
+abbrev pub line_if_open : List Command → ℕ → Option Terms → List ℕ
 line_if_open log branch None = []
-line_if_open log branch (Some accounts) = branch_line branch accounts (branch_balance (decided log) branch)
+line_if_open log branch (Some terms) = branch_line branch terms.accounts (branch_balance (decided log) branch)
 
 -- the lines of the open branches up to one, ascending
 abbrev pub lines_up_to : List Command → ℕ → List ℕ

@@ -11,22 +11,13 @@ use crate::fault::ServeFault;
 use crate::limits::BUFFER;
 use crate::next::{Next, next_message};
 use crate::routes::Routes;
-use posting_core::transfer::fill;
+use posting_core::transfer::{fill, move_to_front};
 use posting_core::{Clock, Counter, Sink, Source};
 use std::alloc::Global;
 use std::io::ErrorKind;
 
 /// How many answers were written.
 pub type Served = u128;
-
-// Moves what lies between to the front.
-fn move_to_front(buffer: &mut [u8], from: usize, to: usize)
-    requires order { from ≤ to }
-    requires within { to ≤ length buffer.old }
-    ensures { take (to - from) buffer.new ≡ take (to - from) (drop from buffer.old) }
-{
-    buffer.copy_within(from..to, 0);
-}
 
 // The loop of `serve_connection`.
 fn serve<R: Source, W: Sink, K: Clock, C: Counter>(

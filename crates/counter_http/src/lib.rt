@@ -6,6 +6,7 @@
 //!
 //! ```rust
 //! use counter_http::{ServeFault, serve_connection};
+//! use message_records::REQUEST_BYTES;
 //! use posting_core::{Clock, Counter};
 //! use std::alloc::Global;
 //!
@@ -13,7 +14,7 @@
 //!     alloc: Global,
 //!     bank: &mut C,
 //!     clock: &mut K,
-//!     record: &[u8; 100],
+//!     record: &[u8; REQUEST_BYTES],
 //! ) -> Result<Vec<u8>, ServeFault> {
 //!     let mut message = [b' '; 144];
 //!     message[..44].copy_from_slice(b"POST /post HTTP/1.1\r\nContent-Length: 100\r\n\r\n");

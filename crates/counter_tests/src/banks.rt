@@ -1,5 +1,5 @@
 //! Banks to be streamed to.
-use message_records::{Account, Branch, Cents, Moment};
+use message_records::{Account, Branch, Cents, Moment, REPLY_BYTES, REQUEST_BYTES};
 use posting_core::{BranchLine, Counter, Fault, Opening, PlainBank};
 
 /// Opens branch 1 with three accounts and branch 2 with two.
@@ -33,8 +33,8 @@ impl Counter for FailingBank {
     fn submit_all(
         &mut self,
         moment: Moment,
-        records: &[[u8; 100]],
-    ) -> Result<Vec<[u8; 200]>, Fault> {
+        records: &[[u8; REQUEST_BYTES]],
+    ) -> Result<Vec<[u8; REPLY_BYTES]>, Fault> {
         if self.down {
             return Err(Fault::Down);
         }
@@ -47,7 +47,11 @@ impl Counter for FailingBank {
         Ok(replies)
     }
 
-    fn submit(&mut self, _moment: Moment, _bytes: &[u8; 100]) -> Result<[u8; 200], Fault> {
+    fn submit(
+        &mut self,
+        _moment: Moment,
+        _bytes: &[u8; REQUEST_BYTES],
+    ) -> Result<[u8; REPLY_BYTES], Fault> {
         if self.down {
             return Err(Fault::Down);
         }

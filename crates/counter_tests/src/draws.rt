@@ -2,7 +2,7 @@
 use crate::first_programs::first_requests;
 use branch_loader::Plan;
 use load_driver::{Driver, DriverFault};
-use message_records::{Branch, Request, decode_request};
+use message_records::{Branch, REQUEST_BYTES, Request, decode_request};
 use std::alloc::{Alloc, Global};
 use std::process::Abort;
 
@@ -28,7 +28,7 @@ fn driver_of(
 }
 
 // Whether there is a record, and it is this one with 49 spaces.
-fn is_record(record: Option<[u8; 100]>, text: &[u8; 51]) -> bool {
+fn is_record(record: Option<[u8; REQUEST_BYTES]>, text: &[u8; 51]) -> bool {
     let Some(bytes) = record else {
         return false;
     };

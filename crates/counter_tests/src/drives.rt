@@ -1,6 +1,6 @@
 //! Drives over a bank in memory, beside the records of `tools/driver_vectors.py`.
 use bank_driver::{DriveFault, Driven, drive_records};
-use message_records::{Account, Branch, Cents, Moment, decode_request};
+use message_records::{Account, Branch, Cents, Moment, REQUEST_BYTES, decode_request};
 use posting_core::{Counter, Fault, PlainBank, StoredClock};
 use std::alloc::{Alloc, Global};
 use std::process::Abort;
@@ -44,7 +44,7 @@ fn driven<C: Counter>(
 }
 
 // The record of this text, and its account.
-fn record_of(text: &[u8; 51]) -> Option<([u8; 100], Account)> {
+fn record_of(text: &[u8; 51]) -> Option<([u8; REQUEST_BYTES], Account)> {
     let mut bytes = [b' '; 100];
     bytes[..51].copy_from_slice(text.as_slice());
     let request = decode_request(&bytes).ok()?;
@@ -54,7 +54,7 @@ fn record_of(text: &[u8; 51]) -> Option<([u8; 100], Account)> {
 // Whether this record was posted: submitted again, it gets POSTED, and its account's balance stays.
 fn was_posted<C: Counter>(
     bank: &mut C,
-    bytes: &[u8; 100],
+    bytes: &[u8; REQUEST_BYTES],
     account: Account,
 ) -> Result<bool, Fault> {
     let before = bank.balance(account)?;

@@ -51,7 +51,7 @@ fn a_drive_over_two_branches(rt: HostRuntime) {
 
 #[test]
 fn an_open_account_and_none(rt: HostRuntime) {
-    let (zero, delta) = (Cents::new(0).unwrap(), Cents::new(500).unwrap());
+    let (zero, delta) = (Cents::zero(), Cents::new(500).unwrap());
     let posted = Verdict::Posted {
         account: delta,
         teller: delta,

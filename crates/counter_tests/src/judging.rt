@@ -18,7 +18,7 @@ fn one_cent() -> Request {
 
 #[test]
 fn the_full_bank(rt: HostRuntime) {
-    let (zero, one) = (Cents::new(0).unwrap(), Cents::new(1).unwrap());
+    let (zero, one) = (Cents::zero(), Cents::new(1).unwrap());
     let record = one_cent();
     let mut found = Found {
         teller: Some((zero, zero)),

@@ -1,7 +1,8 @@
 //! The formats of records by worked examples and fault by fault, and the ends of the ranges.
 use message_records::{
-    Account, Bad, BadReply, Branch, Cents, Moment, Number, Outcome, Reply, Request, Teller,
-    decode_reply, decode_request, encode_reply, encode_request, one_spelling,
+    Account, Bad, BadReply, Branch, Cents, Moment, Number, Outcome, REPLY_BYTES, REQUEST_BYTES,
+    Reply, Request, Teller, decode_reply, decode_request, encode_reply, encode_request,
+    one_spelling,
 };
 use std::process::Abort;
 
@@ -144,10 +145,10 @@ fn faulty_replies(rt: HostRuntime) {
 
 #[test]
 fn faulty_fillers(rt: HostRuntime) {
-    let mut request: [u8; 100] = record_of(&rt, DEPOSIT);
+    let mut request: [u8; REQUEST_BYTES] = record_of(&rt, DEPOSIT);
     request[99] = b'X';
     assert_eq!(rt; decode_request(&request), Err(Bad::Filler));
-    let mut reply: [u8; 200] = record_of(&rt, POSTED);
+    let mut reply: [u8; REPLY_BYTES] = record_of(&rt, POSTED);
     reply[82] = b'a';
     assert_eq!(rt; decode_reply(&reply), Err(BadReply::Filler));
 }

@@ -1,7 +1,7 @@
 //! Streams over ends and a bank that fail, at every byte.
 use crate::banks::{FailingBank, open_both};
 use failing_ends::{CutReader, CutWriter};
-use message_records::{Account, Moment};
+use message_records::{Account, Moment, REPLY_BYTES, REQUEST_BYTES};
 use posting_core::{
     Clock, Count, Counter, Fault, PlainBank, StoredClock, StreamFault, post_stream,
 };
@@ -19,13 +19,13 @@ pub const FIRST_REPLY: &[u8; 72] =
 const REMOTE_REPLY: &[u8; 72] =
     b"DR0100000000100001000000010000010000000002-0000000700-000000000700POSTED";
 
-pub fn first_record() -> [u8; 100] {
+pub fn first_record() -> [u8; REQUEST_BYTES] {
     let mut record = [b' '; 100];
     record[..51].copy_from_slice(FIRST);
     record
 }
 
-fn first_reply() -> [u8; 200] {
+fn first_reply() -> [u8; REPLY_BYTES] {
     let mut reply = [b' '; 200];
     reply[..72].copy_from_slice(FIRST_REPLY);
     reply

@@ -1,5 +1,5 @@
 //! The bank that is served.
-use message_records::{Account, Branch, Cents, Moment};
+use message_records::{Account, Branch, Cents, Moment, REPLY_BYTES, REQUEST_BYTES};
 use posting_core::{BranchLine, Counter, Fault, Opening, PlainBank};
 
 /// Opens branch 1 with three accounts and branch 2 with two.
@@ -39,7 +39,11 @@ impl Counter for FullBank {
 
     ghost leaves_something = { λ b _. ∣ (plain_tables b.bank, refl) ∣₁ };
 
-    fn submit(&mut self, moment: Moment, bytes: &[u8; 100]) -> Result<[u8; 200], Fault> {
+    fn submit(
+        &mut self,
+        moment: Moment,
+        bytes: &[u8; REQUEST_BYTES],
+    ) -> Result<[u8; REPLY_BYTES], Fault> {
         if self.left == 0 {
             return Err(Fault::Memory);
         }
@@ -50,8 +54,8 @@ impl Counter for FullBank {
     fn submit_all(
         &mut self,
         moment: Moment,
-        records: &[[u8; 100]],
-    ) -> Result<Vec<[u8; 200]>, Fault> {
+        records: &[[u8; REQUEST_BYTES]],
+    ) -> Result<Vec<[u8; REPLY_BYTES]>, Fault> {
         self.bank.submit_all(moment, records)
     }
 

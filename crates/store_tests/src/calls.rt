@@ -5,7 +5,7 @@ use crate::reports::{Cent, post_cent};
 use crate::sql::number;
 use crate::tasks::Progress;
 use bank_store::Bank;
-use message_records::{Account, Branch, Cents, Moment};
+use message_records::{Account, Branch, Cents, Moment, REPLY_BYTES};
 use posting_core::{Counter, Fault, Opening};
 use sqlite::{Alter, Connection, Error};
 use std::process::Abort;
@@ -102,7 +102,7 @@ fn open<C: Counter>(
 }
 
 /// Tests that the reply is this text.
-pub fn is_reply(rt: &impl Abort, reply: &[u8; 200], text: &str) {
+pub fn is_reply(rt: &impl Abort, reply: &[u8; REPLY_BYTES], text: &str) {
     assert_eq!(rt; *reply, padded::<200>(text));
 }
 
@@ -114,7 +114,7 @@ fn post_one<C: Counter>(rt: &impl Abort, bank: &mut C) -> Result<(), Fault> {
 }
 
 // The replies to the three records.
-fn are_replies(rt: &impl Abort, replies: &[[u8; 200]]) {
+fn are_replies(rt: &impl Abort, replies: &[[u8; REPLY_BYTES]]) {
     assert_eq!(rt; replies.len(), REPLIES.len());
     for (reply, text) in replies.iter().zip(&REPLIES) {
         is_reply(rt, reply, text);

@@ -13,7 +13,7 @@ use bank_store::{Bank, Refused, adopt};
 use banks::first_bank;
 use batches::first_batch;
 use lives::next_life;
-use message_records::{Cents, Outcome, Reply};
+use message_records::{Cents, Outcome, REPLY_BYTES, Reply};
 use reports::first_reports;
 use rows::first_branch;
 use sqlite::{Alter, Connection};
@@ -40,7 +40,7 @@ unmatched                      0
 CONSISTENT
 ";
 
-fn are_posted(rt: &impl Abort, replies: &[[u8; 200]]) {
+fn are_posted(rt: &impl Abort, replies: &[[u8; REPLY_BYTES]]) {
     for reply in replies {
         is_reply(rt, reply, REPLY);
     }

@@ -3,7 +3,9 @@ use crate::tasks::Progress;
 use crate::walks::{Ordinals, Postings, gives_posting, next_posting};
 use bank_audits::audit;
 use bank_store::{Bank, each_history};
-use message_records::{Account, Branch, Cents, Moment, Number, Request, Teller, encode_request};
+use message_records::{
+    Account, Branch, Cents, Moment, Number, REQUEST_BYTES, Request, Teller, encode_request,
+};
 use posting_core::{Counter, Fault};
 use sqlite::Alter;
 use std::process::Abort;
@@ -35,7 +37,7 @@ pub fn one_cent(account: u64, number: u64) -> Option<Request> {
 }
 
 // The records of cents to account 1, under the numbers behind one.
-fn records_behind(last: u64) -> Option<[[u8; 100]; TOGETHER]> {
+fn records_behind(last: u64) -> Option<[[u8; REQUEST_BYTES]; TOGETHER]> {
     let mut number = last;
     let mut records = [[b' '; 100]; TOGETHER];
     for record in &mut records {

@@ -1,12 +1,12 @@
 //! The first program of `posting_batch`.
-use message_records::{Branch, Cents, Moment};
+use message_records::{Branch, Cents, Moment, REQUEST_BYTES};
 use posting_batch::{Batch, Judged};
 use posting_rules::BranchRow;
 use std::alloc::{AllocError, Global};
 
-pub fn first_batch(alloc: Global, record: [u8; 100]) -> Result<Judged, AllocError> {
+pub fn first_batch(alloc: Global, record: [u8; REQUEST_BYTES]) -> Result<Judged, AllocError> {
     let mut batch = Batch::new(alloc, &[record])?;
-    let (branch, zero) = (Branch::new(1).unwrap(), Cents::new(0).unwrap());
+    let (branch, zero) = (Branch::new(1).unwrap(), Cents::zero());
     let overlay = &mut batch.overlay;
     for slot in overlay.branches.iter_mut() {
         slot.stored = Some(BranchRow {

@@ -5,7 +5,7 @@ use posting_rules::{Found, Verdict, judge, reply_to};
 pub fn first_verdict(balance: Option<Cents>) -> (Verdict, Option<Cents>) {
     let (account, teller) = (Account::new(1).unwrap(), Teller::new(1).unwrap());
     let (branch, number) = (Branch::new(1).unwrap(), Number::new(1).unwrap());
-    let (zero, delta) = (Cents::new(0).unwrap(), Cents::new(500).unwrap());
+    let (zero, delta) = (Cents::zero(), Cents::new(500).unwrap());
     let request = Request::new(account, teller, branch, number, delta).unwrap();
     let found = Found {
         teller: Some((zero, zero)), // the balances of the teller and of its branch

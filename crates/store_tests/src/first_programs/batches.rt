@@ -2,7 +2,7 @@
 ghost use Rattle.std.specs.Prelude.{◌≡◌, false};
 
 use bank_batches::post_all;
-use message_records::Moment;
+use message_records::{Moment, REPLY_BYTES, REQUEST_BYTES};
 use posting_batch::Batch;
 use sqlite::{Alter, Connection};
 use std::alloc::Global;
@@ -11,8 +11,8 @@ use std::test::Fail;
 pub fn first_batch<S: Alter>(
     alloc: Global,
     conn: &mut Connection<S>,
-    record: &[u8; 100],
-) -> Result<Vec<[u8; 200]>, Fail>
+    record: &[u8; REQUEST_BYTES],
+) -> Result<Vec<[u8; REPLY_BYTES]>, Fail>
     requires { conn.old.in_transaction ≡ false }
 {
     let batch = Batch::new(alloc, &[*record, *record])?;

@@ -11,7 +11,7 @@ pub fn first_branch<S: Alter>(conn: &mut Connection<S>) -> Result<Option<BranchR
 {
     create(conn)?;
     let branch = Branch::new(1).unwrap();
-    let balance = Cents::new(0).unwrap();
+    let balance = Cents::zero();
     let mut tx = conn.transaction();
     add_branch(
         &mut tx,

@@ -2,11 +2,11 @@
 ghost use Rattle.std.specs.Prelude.{◌≡◌, false};
 
 use bank_transactions::{open_branch, post};
-use message_records::{Account, Branch, Cents, Moment, Number, Request, Teller};
+use message_records::{Account, Branch, Cents, Moment, Number, REPLY_BYTES, Request, Teller};
 use sqlite::{Alter, Connection};
 use store_rows::TableFault;
 
-pub fn first_request<S: Alter>(conn: &mut Connection<S>) -> Result<[u8; 200], TableFault>
+pub fn first_request<S: Alter>(conn: &mut Connection<S>) -> Result<[u8; REPLY_BYTES], TableFault>
     requires { conn.old.in_transaction ≡ false }
 {
     open_branch(conn, Branch::new(1).unwrap(), 3)?;
