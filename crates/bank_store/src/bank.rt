@@ -19,11 +19,12 @@ use bank_batches::post_all;
 use bank_transactions::{open_branch, post, read_balance, read_next_branch};
 use bank_walks::{AHEAD, WalkedRow};
 use message_records::{
-    Account, Branch, Cents, Moment, Outcome, Reply, decode_request, encode_reply,
+    Account, Branch, Cents, Moment, REPLY_BYTES, REQUEST_BYTES, decode_request, encode_reply,
 };
 use posting_batch::Batch;
 use posting_rules::{
     BranchLine, Counter, Fault, LAST_BRANCH, MOST_ACCOUNTS, Opening, RECORDS_PER_BATCH,
+    malformed_reply,
 };
 use sqlite::{Alter, Connection, Error};
 use std::alloc::Global;
@@ -225,7 +226,7 @@ impl<S: Alter + Drop> Counter for Bank<S> {
     // What a crash of the store leaves.
     ghost leaves_something = { λ bank honest. S.Store.survives bank.conn.store honest };
 
-    fn submit(&mut self, moment: Moment, bytes: &[u8; 100]) -> Result<[u8; 200], Fault>
+    fn submit(&mut self, moment: Moment, bytes: &[u8; REQUEST_BYTES]) -> Result<[u8; REPLY_BYTES], Fault>
         ensures answer { AnswersBy S.Store self.old self.new result
             (λ log out. out ≡ reply_spelling (reply log bytes.now)) }
         ensures call { IsBankCall S.Store self.old self.new (Post moment bytes.now ∷ []) result }
@@ -234,8 +235,7 @@ impl<S: Alter + Drop> Counter for Bank<S> {
         range_law(moment);
         self.up()?;
         let Ok(request) = decode_request(bytes) else {
-            let reply = Reply::new(Outcome::Malformed, None, None);
-            return Ok(encode_reply(&reply.unwrap()));
+            return Ok(encode_reply(&malformed_reply()));
         };
         match post(&mut self.conn, moment, &request) {
             Ok(reply) => Ok(reply),
@@ -246,7 +246,7 @@ impl<S: Alter + Drop> Counter for Bank<S> {
     // All room is made before the store is asked, so that `Memory` changes nothing. Each row that the records
     // touch is read once, and each that they change is written once. They are committed together or not at
     // all. A batch in which nothing is decided changes no table, and a stop in it leaves nothing else.
-    fn submit_all(&mut self, moment: Moment, records: &[[u8; 100]]) -> Result<Vec<[u8; 200]>, Fault>
+    fn submit_all(&mut self, moment: Moment, records: &[[u8; REQUEST_BYTES]]) -> Result<Vec<[u8; REPLY_BYTES]>, Fault>
         requires some { 1 ≤ length records.now }
         requires few { length records.now ≤ RECORDS_PER_BATCH }
         ensures count { IfOk result (λ replies. length replies.items ≡ length records.now) }
