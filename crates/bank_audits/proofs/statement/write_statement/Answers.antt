@@ -8,7 +8,7 @@ use Rattle.store_rows.specs.SixTables.{history as history_table}
 use Rattle.store_rows.specs.View.{history_entry}
 use Rattle.bank_walks.specs.Rows.{HasStoredRows}
 use Rattle.bank_reports.proofs.Written.{on_err_any}
-use Rattle.bank_store.specs.Down.{OfDamage, WasBroken}
+use Rattle.bank_store.specs.Down.{OfDamage, WasBroken, bank_reason}
 use Rattle.bank_store.specs.Seen.{bank_seen, database_of}
 use Rattle.bank_audits.specs.declared.fault.ReportFault.TheVariants.{Bank}
 use Rattle.bank_audits.specs.Behind.{statement_behind}
@@ -35,7 +35,7 @@ went_down : (g : Over) (c : goal.After-from_residual g) → (bank_seen g.S.Store
 went_down g c =
     refused_down c.in_err-balance.field-0.0 (bank_seen g.S.Store c.args.bank.now)
     (bank_seen g.S.Store c.balance.new.self) []
-    (λ is. c.in_err-balance.ensures.frugal (ap Err is)) c.in_err-balance.ensures.fault
+    (λ is. c.in_err-balance.ensures.frugal (ap Err is)) c.in_err-balance.ensures.call.fault
 
 pub returns-in_err-balance-clause-text : goal.returns-in_err-balance-clause-text
 returns-in_err-balance-clause-text g c = rw (refusal g c) tt
@@ -59,7 +59,7 @@ pub returns-in_err-balance-clause-sound : goal.returns-in_err-balance-clause-sou
 returns-in_err-balance-clause-sound g c rule is =
     refused_sound c.in_err-balance.field-0.0 (bank_seen g.S.Store c.args.bank.now)
     (bank_seen g.S.Store c.balance.new.self) []
-    c.in_err-balance.ensures.fault rule (same_fault _ _ _ (refusal g c) is)
+    c.in_err-balance.ensures.call.fault rule (same_fault _ _ _ (refusal g c) is)
 
 pub returns-in_err-balance-clause-frugal : goal.returns-in_err-balance-clause-frugal
 returns-in_err-balance-clause-frugal g c is =
@@ -67,13 +67,14 @@ returns-in_err-balance-clause-frugal g c is =
 
 pub returns-in_err-balance-clause-down : goal.returns-in_err-balance-clause-down
 returns-in_err-balance-clause-down g c down =
-    (refusal g c ∙ ap (λ fault. Err (Bank fault)) (error_is _ _ (c.in_err-balance.ensures.down down)), refl)
+    let is = error_is _ _ (c.in_err-balance.ensures.call.down down) in
+    (refusal g c ∙ ap (λ fault. Err (Bank fault)) is, refl)
 
 pub returns-in_err-balance-clause-tried : goal.returns-in_err-balance-clause-tried
 returns-in_err-balance-clause-tried g c is =
     refused_before c.in_err-balance.field-0.0 (bank_seen g.S.Store c.args.bank.now)
     (bank_seen g.S.Store c.balance.new.self) []
-    c.in_err-balance.ensures.fault (same_fault _ _ _ (refusal g c) is)
+    c.in_err-balance.ensures.call.fault (same_fault _ _ _ (refusal g c) is)
 
 pub returns-in_err-balance-clause-done : goal.returns-in_err-balance-clause-done
 returns-in_err-balance-clause-done g c answered = absurd (rw (refusal g c) at answered)
@@ -82,7 +83,7 @@ pub returns-in_err-balance-clause-stands : goal.returns-in_err-balance-clause-st
 returns-in_err-balance-clause-stands g c clean up = absurd (up (went_down g c))
 
 pub returns-in_err-balance-clause-honest : goal.returns-in_err-balance-clause-honest
-returns-in_err-balance-clause-honest g c = c.in_err-balance.ensures.honest
+returns-in_err-balance-clause-honest g c = c.in_err-balance.ensures.call.honest
 
 pub returns-in_err-balance-clause-part : goal.returns-in_err-balance-clause-part
 returns-in_err-balance-clause-part g c =
@@ -93,7 +94,7 @@ pub returns-in_err-balance-clause-survives : goal.returns-in_err-balance-clause-
 returns-in_err-balance-clause-survives g c clean log at =
     refused_leaves c.in_err-balance.field-0.0 (bank_seen g.S.Store c.args.bank.now)
     (bank_seen g.S.Store c.balance.new.self)
-    c.in_err-balance.ensures.fault clean log at
+    c.in_err-balance.ensures.call.fault clean log at
 
 pub returns-in_err-balance-clause-tables : goal.returns-in_err-balance-clause-tables
 returns-in_err-balance-clause-tables g c clean up found t shown = absurd (up (went_down g c))
@@ -112,7 +113,8 @@ returns-in_err-balance-clause-still g c clean up = absurd (up (went_down g c))
 
 pub returns-in_err-balance-clause-cause : goal.returns-in_err-balance-clause-cause
 returns-in_err-balance-clause-cause g c is down =
-    c.in_err-balance.ensures.cause (rw (same_fault _ _ _ (refusal g c) is) tt)
+    subst (λ fault. bank_reason g.S.Store fault c.args.bank.now c.balance.new.self)
+    (same_fault _ _ _ (refusal g c) is) c.in_err-balance.ensures.call.why
 
 pub returns-in_err-balance-clause-broken : goal.returns-in_err-balance-clause-broken
 returns-in_err-balance-clause-broken g c rule is down =
@@ -121,7 +123,7 @@ returns-in_err-balance-clause-broken g c rule is down =
 
 pub returns-in_err-balance-clause-kept : goal.returns-in_err-balance-clause-kept
 returns-in_err-balance-clause-kept g c rule is down =
-    c.in_err-balance.ensures.kept (rw (same_fault _ _ _ (refusal g c) is) tt)
+    c.in_err-balance.ensures.call.kept (rw (same_fault _ _ _ (refusal g c) is) tt)
 
 -- ---- where the account isn't open
 
@@ -136,7 +138,7 @@ returns-in_default-clause-flushed g c = tt
 
 pub returns-in_default-clause-missing : goal.returns-in_default-clause-missing
 returns-in_default-clause-missing g c none clean log s =
-    sym (rw c.in_default.is at (c.in_ok-balance.ensures.value clean log s))
+    sym (rw c.in_default.is at (c.in_ok-balance.ensures.answer clean log s))
 
 pub returns-in_default-clause-silent : goal.returns-in_default-clause-silent
 returns-in_default-clause-silent g c none = refl
@@ -166,7 +168,7 @@ pub returns-in_default-clause-frugal : goal.returns-in_default-clause-frugal
 returns-in_default-clause-frugal g c is clean log s = not_missing _ _ is refl
 
 pub returns-in_default-clause-down : goal.returns-in_default-clause-down
-returns-in_default-clause-down g c down = absurd (not_ok _ _ _ refl (c.in_ok-balance.ensures.down down))
+returns-in_default-clause-down g c down = absurd (not_ok _ _ _ refl (c.in_ok-balance.ensures.call.down down))
 
 pub returns-in_default-clause-tried : goal.returns-in_default-clause-tried
 returns-in_default-clause-tried g c is = absurd (not_missing _ _ is refl)
@@ -185,17 +187,17 @@ returns-in_default-clause-kept g c rule is = absurd (not_missing _ _ is refl)
 
 pub returns-in_default-clause-survives : goal.returns-in_default-clause-survives
 returns-in_default-clause-survives g c clean log at =
-    (c.in_ok-balance.ensures.done.stands clean log at).survives
+    (c.in_ok-balance.ensures.call.done.stands clean log at).survives
 
 pub returns-in_default-clause-done : goal.returns-in_default-clause-done
-returns-in_default-clause-done g c answered = c.in_ok-balance.ensures.done
+returns-in_default-clause-done g c answered = c.in_ok-balance.ensures.call.done
 
 pub returns-in_default-clause-stands : goal.returns-in_default-clause-stands
 returns-in_default-clause-stands g c clean up is_open log at =
-    c.in_ok-balance.ensures.done.stands clean log at
+    c.in_ok-balance.ensures.call.done.stands clean log at
 
 pub returns-in_default-clause-honest : goal.returns-in_default-clause-honest
-returns-in_default-clause-honest g c = c.in_ok-balance.ensures.honest
+returns-in_default-clause-honest g c = c.in_ok-balance.ensures.call.honest
 
 -- ---- where the lines were begun
 
@@ -239,13 +241,14 @@ returns-clause-still g c clean up is_open =
     ∙ c.in_ok-balance.ensures.still (clean_at g c clean)
 
 pub returns-clause-cause : goal.returns-clause-cause
-returns-clause-cause g c is down = absurd (c.in_ok-balance.ensures.up (c.write_lines.ensures.up down))
+returns-clause-cause g c is down = absurd (c.in_ok-balance.ensures.call.up (c.write_lines.ensures.up down))
 
 pub returns-clause-broken : goal.returns-clause-broken
-returns-clause-broken g c rule is down = absurd (c.in_ok-balance.ensures.up (c.write_lines.ensures.up down))
+returns-clause-broken g c rule is down =
+    absurd (c.in_ok-balance.ensures.call.up (c.write_lines.ensures.up down))
 
 pub returns-clause-kept : goal.returns-clause-kept
-returns-clause-kept g c rule is down = absurd (c.in_ok-balance.ensures.up (c.write_lines.ensures.up down))
+returns-clause-kept g c rule is down = absurd (c.in_ok-balance.ensures.call.up (c.write_lines.ensures.up down))
 
 pub returns-clause-store : goal.returns-clause-store
 returns-clause-store g c is up clean rows has =
@@ -256,10 +259,10 @@ pub returns-clause-text : goal.returns-clause-text
 returns-clause-text g c = of_ok c.write_lines.result (λ is clean log s.
     let mid : HasCleanDisk (state g.S.Store c.balance.new.self.conn) =
     omega (arith, c.write_lines.ensures.survives.clean, clean) in
-    let shown = c.in_ok-balance.ensures.done.shows mid log s in
+    let shown = c.in_ok-balance.ensures.call.done.shows mid log s in
     let t = shown.tables in
     let has = has_history _ t shown.are in
-    let same = rw c.in-Some.is at (c.in_ok-balance.ensures.value mid log s) in
+    let same = rw c.in-Some.is at (c.in_ok-balance.ensures.answer mid log s) in
     let told = rw is at (c.write_lines.ensures.told clean (map history_entry t.history) has) in
     told_whole c.args.account c.in-Some.balance log (balance_is log c.args.account c.in-Some.balance same) _
     (account_rows _ t log c.args.account shown.are shown.shows) _ _ told)
@@ -268,7 +271,7 @@ pub returns-clause-found : goal.returns-clause-found
 returns-clause-found g c = of_ok c.write_lines.result (λ is clean log s.
     let mid : HasCleanDisk (state g.S.Store c.balance.new.self.conn) =
     omega (arith, c.write_lines.ensures.survives.clean, clean) in
-    let same = rw c.in-Some.is at (c.in_ok-balance.ensures.value mid log s) in
+    let same = rw c.in-Some.is at (c.in_ok-balance.ensures.answer mid log s) in
     subst (λ o. IsSome o) same refl)
 
 pub returns-clause-missing : goal.returns-clause-missing
@@ -281,10 +284,10 @@ pub returns-clause-part : goal.returns-clause-part
 returns-clause-part g c = of_err c.write_lines.result (λ fault is clean log s.
     let mid : HasCleanDisk (state g.S.Store c.balance.new.self.conn) =
     omega (arith, c.write_lines.ensures.survives.clean, clean) in
-    let shown = c.in_ok-balance.ensures.done.shows mid log s in
+    let shown = c.in_ok-balance.ensures.call.done.shows mid log s in
     let t = shown.tables in
     let has = has_history _ t shown.are in
-    let same = rw c.in-Some.is at (c.in_ok-balance.ensures.value mid log s) in
+    let same = rw c.in-Some.is at (c.in_ok-balance.ensures.answer mid log s) in
     let told = rw is at (c.write_lines.ensures.told clean (map history_entry t.history) has) in
     told_part c.args.account c.in-Some.balance log (balance_is log c.args.account c.in-Some.balance same) _
     (account_rows _ t log c.args.account shown.are shown.shows) _ _ fault told)
@@ -293,10 +296,10 @@ pub returns-clause-sound : goal.returns-clause-sound
 returns-clause-sound g c rule is clean log s =
     let mid : HasCleanDisk (state g.S.Store c.balance.new.self.conn) =
     omega (arith, c.write_lines.ensures.survives.clean, clean) in
-    let shown = c.in_ok-balance.ensures.done.shows mid log s in
+    let shown = c.in_ok-balance.ensures.call.done.shows mid log s in
     let t = shown.tables in
     let has = has_history _ t shown.are in
-    let same = rw c.in-Some.is at (c.in_ok-balance.ensures.value mid log s) in
+    let same = rw c.in-Some.is at (c.in_ok-balance.ensures.answer mid log s) in
     let told = rw is at (c.write_lines.ensures.told clean (map history_entry t.history) has) in
     told_sound c.args.account c.in-Some.balance log (balance_is log c.args.account c.in-Some.balance same) _
     (account_rows _ t log c.args.account shown.are shown.shows) _ _ shown.commands rule told
@@ -305,7 +308,7 @@ pub returns-clause-frugal : goal.returns-clause-frugal
 returns-clause-frugal g c is clean log s =
     let mid : HasCleanDisk (state g.S.Store c.balance.new.self.conn) =
     omega (arith, c.write_lines.ensures.survives.clean, clean) in
-    let shown = c.in_ok-balance.ensures.done.shows mid log s in
+    let shown = c.in_ok-balance.ensures.call.done.shows mid log s in
     let t = shown.tables in
     let has = has_history _ t shown.are in
     let told = rw is at (c.write_lines.ensures.told clean (map history_entry t.history) has) in
@@ -315,7 +318,7 @@ pub returns-clause-done : goal.returns-clause-done
 returns-clause-done g c answered =
     takes_then (state g.S.Store c.args.bank.now.conn) (state g.S.Store c.balance.new.self.conn)
     (state g.S.Store c.write_lines.new.bank.conn) _ _ _
-    c.in_ok-balance.ensures.done
+    c.in_ok-balance.ensures.call.done
     (λ clean. c.write_lines.ensures.still clean
     (written_of c.write_lines.result c.write_lines.ensures.found answered))
     c.write_lines.ensures.survives c.write_lines.ensures.up
@@ -327,10 +330,10 @@ pub returns-clause-failed : goal.returns-clause-failed
 returns-clause-failed g c = c.write_lines.ensures.failed
 
 pub returns-clause-down : goal.returns-clause-down
-returns-clause-down g c down = absurd (not_ok _ _ _ refl (c.in_ok-balance.ensures.down down))
+returns-clause-down g c down = absurd (not_ok _ _ _ refl (c.in_ok-balance.ensures.call.down down))
 
 pub returns-clause-tried : goal.returns-clause-tried
-returns-clause-tried g c is = absurd (c.in_ok-balance.ensures.up (c.write_lines.ensures.tried is))
+returns-clause-tried g c is = absurd (c.in_ok-balance.ensures.call.up (c.write_lines.ensures.tried is))
 
 pub returns-clause-survives : goal.returns-clause-survives
 returns-clause-survives g c clean log at =
@@ -338,7 +341,7 @@ returns-clause-survives g c clean log at =
     let new = state g.S.Store c.write_lines.new.bank.conn in
     let quiet = c.write_lines.ensures.survives in
     quiet_leaves mid new (Unit {0}) quiet clean log
-    (c.in_ok-balance.ensures.done.stands (clean_before mid new quiet clean) log at).survives
+    (c.in_ok-balance.ensures.call.done.stands (clean_before mid new quiet clean) log at).survives
 
 pub returns-clause-stands : goal.returns-clause-stands
 returns-clause-stands g c clean up is_open log at =
@@ -347,9 +350,9 @@ returns-clause-stands g c clean up is_open log at =
     let quiet = c.write_lines.ensures.survives in
     untouched_stands mid new _ _ (c.write_lines.ensures.undone clean) quiet c.write_lines.ensures.up clean
     is_open log
-    (c.in_ok-balance.ensures.done.stands (clean_before mid new quiet clean) log at)
+    (c.in_ok-balance.ensures.call.done.stands (clean_before mid new quiet clean) log at)
 
 pub returns-clause-honest : goal.returns-clause-honest
-returns-clause-honest g c clean = c.in_ok-balance.ensures.honest (clean_before
+returns-clause-honest g c clean = c.in_ok-balance.ensures.call.honest (clean_before
     (state g.S.Store c.balance.new.self.conn) (state g.S.Store c.write_lines.new.bank.conn)
     c.write_lines.ensures.survives clean)
