@@ -12,7 +12,7 @@ use Rattle.store_rows.specs.BankTables.{history as history_table}
 use Rattle.store_rows.specs.View.{history_entry}
 use Rattle.bank_walks.specs.Rows.{HasStoredRows}
 use Rattle.bank_walks.specs.Stored.{is_of}
-use Rattle.bank_store.specs.Down.{OfDamage, WasBroken}
+use Rattle.bank_store.specs.Down.{OfDamage, WasBroken, bank_reason}
 use Rattle.bank_store.specs.Seen.{bank_seen, database_of}
 use Rattle.bank_audits.specs.declared.fault.ReportFault.TheVariants.{Bank}
 use Rattle.bank_audits.specs.Behind.{statement_behind}
@@ -71,26 +71,28 @@ returns-in_err-balance g c =
     let fault = c.in_err-balance.field-0.0 in
     let says = c.in_err-balance.ensures in
     let same = refusal g c in
-    let went_down = refused_down fault old new [] (λ is. says.frugal (ap Err is)) says.fault in
+    let went_down = refused_down fault old new [] (λ is. says.frugal (ap Err is)) says.call.fault in
     let was_up = λ (down : old.is_down). tested_up _ _ c.is_down.ensures c.if-is_down.false down in
     let tried = λ (is : c.from_residual.result ≡ Err (Bank Down)).
-    refused_before fault old new [] says.fault (same_fault _ fault Down same is) in
+    refused_before fault old new [] says.call.fault (same_fault _ fault Down same is) in
     record {
       bank = unstated old new c.args.account (g.W.Sink.contents c.args.writer.now) _ fault same
-          (λ rule is. refused_sound fault old new [] says.fault rule is)
+          (λ rule is. refused_sound fault old new [] says.call.fault rule is)
           record {
             done = λ answered. absurd (rw same at answered);
-            survives = λ clean log at. refused_leaves fault old new says.fault clean log at;
-            honest = says.honest;
+            survives = λ clean log at. refused_leaves fault old new says.call.fault clean log at;
+            honest = says.call.honest;
           };
       file = λ clean up. absurd (up went_down);
       refused = λ down. record {
         fault = (fault, same);
-        cause = λ is. says.cause (rw (same_fault _ _ _ same is) tt);
+        cause = λ is.
+            subst (λ f. bank_reason g.S.Store f c.args.bank.now c.balance.new.self)
+            (same_fault _ _ _ same is) says.call.why;
         broken = λ rule is.
             subst (λ f. OfDamage f (WasBroken g.S.Store c.args.bank.now c.balance.new.self))
             (same_fault _ _ _ same is) says.broken;
-        kept = λ rule is. says.kept (rw (same_fault _ _ _ same is) tt);
+        kept = λ rule is. says.call.kept (rw (same_fault _ _ _ same is) tt);
       };
       writer = record {
         silent = λ none. refl;
@@ -115,14 +117,14 @@ returns-in_default g c =
       bank = record {
         text = tt;
         found = tt;
-        missing = λ none clean log s. sym (rw c.in_default.is at (says.value clean log s));
+        missing = λ none clean log s. sym (rw c.in_default.is at (says.answer clean log s));
         silent = λ none. refl;
         part = λ clean log s. nothing_written _ (statement_behind log c.args.account);
         sound = λ rule is clean log s. not_missing _ _ is refl;
         takes = record {
-          done = λ answered. says.done;
-          survives = λ clean log at. (says.done.stands clean log at).survives;
-          honest = says.honest;
+          done = λ answered. says.call.done;
+          survives = λ clean log at. (says.call.done.stands clean log at).survives;
+          honest = says.call.honest;
         };
       };
       file = λ clean up. record {
@@ -132,7 +134,7 @@ returns-in_default g c =
         store = λ is. absurd (not_missing _ _ is refl);
         still = λ is_open. says.still clean;
       };
-      refused = λ down. absurd (says.up down);
+      refused = λ down. absurd (says.call.up down);
       writer = record { silent = λ none. refl; flushed = tt; failed = λ write. absurd (not_both _ write refl) };
       frugal = λ is. not_missing _ _ is refl;
       down = record {
@@ -140,7 +142,7 @@ returns-in_default g c =
         tried = λ is. absurd (not_missing _ _ is refl);
         idle = λ is. absurd (not_missing _ _ is refl);
       };
-      stands = λ clean up is_open log at. says.done.stands clean log at;
+      stands = λ clean up is_open log at. says.call.done.stands clean log at;
     }
 
 -- ---- where the lines were begun
@@ -177,9 +179,9 @@ told_of : (g : Over) (c : goal.After-write_lines g)
     (g.W.Sink.contents c.write_lines.new.writer) c.write_lines.result
 told_of g c clean log s =
     let mid = clean_at g c clean in
-    let shown = c.in_ok-balance.ensures.done.shows mid log s in
+    let shown = c.in_ok-balance.ensures.call.done.shows mid log s in
     let t = shown.tables in
-    let same = rw c.in-Some.is at (c.in_ok-balance.ensures.value mid log s) in
+    let same = rw c.in-Some.is at (c.in_ok-balance.ensures.answer mid log s) in
     record {
       balance = c.in-Some.balance;
       is = same;
@@ -196,7 +198,7 @@ returns g c =
     let before = c.in_ok-balance.ensures in
     let says = c.write_lines.ensures in
     let down_before = λ (down : (bank_seen g.S.Store c.write_lines.new.bank).is_down).
-    before.up (says.reads.up down) in
+    before.call.up (says.reads.up down) in
     record {
       bank = record {
         text = of_ok c.write_lines.result (λ is clean log s. log_whole (told_of g c clean log s) is);
@@ -207,7 +209,7 @@ returns g c =
         part = of_err c.write_lines.result
             (λ fault is clean log s. log_part (told_of g c clean log s) fault is);
         sound = λ rule is clean log s. log_sound (told_of g c clean log s) rule is;
-        takes = reads_behind (state g.S.Store c.args.bank.now.conn) mid new _ _ _ _ before.done before.honest
+        takes = reads_behind (state g.S.Store c.args.bank.now.conn) mid new _ _ _ _ before.call.done before.call.honest
             (λ answered clean.
             says.reads.still clean (written_of c.write_lines.result says.reads.found answered))
             says.reads.survives says.reads.up;
@@ -233,10 +235,10 @@ returns g c =
       frugal = says.reads.frugal;
       down = record {
         down = λ down. absurd (tested_up _ _ c.is_down.ensures c.if-is_down.false down);
-        tried = λ is. absurd (before.up (says.reads.tried is));
-        idle = λ is. absurd (before.up (says.reads.tried is));
+        tried = λ is. absurd (before.call.up (says.reads.tried is));
+        idle = λ is. absurd (before.call.up (says.reads.tried is));
       };
       stands = λ clean up is_open log at.
           untouched_stands mid new _ _ (says.reads.undone clean) says.reads.survives says.reads.up clean
-          is_open log (before.done.stands (clean_before mid new says.reads.survives clean) log at);
+          is_open log (before.call.done.stands (clean_before mid new says.reads.survives clean) log at);
     }
