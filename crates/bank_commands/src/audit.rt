@@ -8,7 +8,8 @@ ghost use Rattle.bank_store.specs.Seen.{bank_seen};
 ghost use Rattle.bank_endings.specs.Looking.{IsOfOpening};
 ghost use Rattle.bank_endings.specs.declared.status.Status.TheVariants.{Done, Inconsistent};
 ghost use Rattle.bank_work.specs.Auditing.{Prints};
-ghost use Rattle.bank_commands.specs.Auditing.{Audits, AuditsIn};
+ghost use Rattle.bank_audits.specs.Audits.{Audits};
+ghost use Rattle.bank_commands.specs.Auditing.{AuditsIn};
 ghost use Rattle.bank_commands.specs.Commands.{FindsBank};
 
 use crate::openings::Way;

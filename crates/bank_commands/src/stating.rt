@@ -5,7 +5,8 @@ ghost use Rattle.sqlite_wal.specs.Files.{image_at};
 ghost use Rattle.bank_store.specs.Seen.{bank_seen};
 ghost use Rattle.bank_audits.specs.declared.fault.ReportFault.{ReportFault};
 ghost use Rattle.bank_endings.specs.Looking.{IsOfOpening};
-ghost use Rattle.bank_commands.specs.Stating.{States, StatesIn, said_of_statement};
+ghost use Rattle.bank_audits.specs.Statements.{States};
+ghost use Rattle.bank_commands.specs.Stating.{StatesIn, said_of_statement};
 ghost use Rattle.bank_commands.specs.Commands.{FindsBank};
 
 use crate::openings::Way;

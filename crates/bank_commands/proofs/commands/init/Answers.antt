@@ -27,3 +27,6 @@ returns-clause-fault g c = only_write _ c.print_created.result c.print_created.e
 
 pub returns-clause-unmade : goal.returns-clause-unmade
 returns-clause-unmade g c = only_write _ c.print_created.result c.print_created.ensures.fault
+
+pub returns-clause-line : goal.returns-clause-line
+returns-clause-line g c = c.print_created.ensures.prints.line
