@@ -1,20 +1,18 @@
 -- How a run ends where its words are no command.
-use Rattle.std.proofs.Common.{◌≡◌, ◌≢◌, ◌⊎◌, ◌∙◌, subst, sym, refl, inl, inr, ℕ, List, Option}
+use Rattle.std.proofs.Common.{◌≡◌, ◌≢◌, ◌⊎◌, ◌∙◌, subst, sym, refl, inl, inr, ℕ, List, Option, Result, Ok, Err}
 use Rattle.std.proofs.Common.{Bool, false, true}
-use Rattle.std.specs.Prelude.{if◌then◌else◌, nat_lt}
+use Rattle.std.specs.Prelude.{IfOk, if◌then◌else◌}
 use Rattle.std.specs.Io.KnownBytes.{Keeps}
 use Rattle.clap.specs.Words.{IsAmong, Text, fault_of}
 use Rattle.clap.specs.declared.error.kind.ErrorKind.{ErrorKind}
 use Rattle.clap.specs.declared.error.kind.ErrorKind.TheVariants.{DisplayHelp, DisplayVersion, OutOfMemory}
+use Rattle.bank_endings.specs.declared.fault.CommandFault.{CommandFault}
 use Rattle.bank_endings.specs.declared.status.Status.{Status}
 use Rattle.bank_endings.specs.declared.status.Status.TheVariants.{Differs, Done, Inconsistent, Input, System}
 use Rattle.bank_endings.specs.declared.status.Status.TheVariants.{Usage}
 use Rattle.bank_endings.specs.Lines.{IsHelpOrVersion, IsShown}
 use Rattle.bank_words.specs.CommandLine.{bank_app}
-use Rattle.bank_words.specs.declared.reading.Command.{Command}
-use Rattle.bank_words.specs.declared.reading.Command.TheVariants.{Audit, Drive, Init, Load, Post, Serve}
-use Rattle.bank_words.specs.declared.reading.Command.TheVariants.{Statement}
-use Rattle.bank_program.specs.Running.{AreRefused, EndsCommand}
+use Rattle.bank_program.specs.Running.{AreRefused}
 
 -- the error of words that are refused is no call for help
 pub not_asked : (words : List Text) (k : ErrorKind) → AreRefused words
@@ -58,26 +56,27 @@ system_is_not_usage status is other = let bad : System ≡ Usage = sym is ∙ ot
 pub input_is_not_usage : (status : Status) → status ≡ Input → status ≢ Usage
 input_is_not_usage status is other = let bad : Input ≡ Usage = sym is ∙ other in cc
 
-done_is_not_usage : (status : Status) → status ≡ Done → status ≢ Usage
-done_is_not_usage status is other = let bad : Done ≡ Usage = sym is ∙ other in cc
+-- a command that did its work doesn't end it so either
+pub done_is_not_usage : (result : Result Status CommandFault) → result ≡ Ok Done → result ≢ Ok Usage
+done_is_not_usage result is other = cc
 
-loaded_is_not_usage : (differs : Bool) (status : Status) → status ≡ if differs then Differs else Done
-    → status ≢ Usage
-loaded_is_not_usage true status is other = let bad : Differs ≡ Usage = sym is ∙ other in cc
-loaded_is_not_usage false status is other = done_is_not_usage status is other
+pub fault_is_not_usage : (result : Result Status CommandFault) (fault : CommandFault) → result ≡ Err fault
+    → result ≢ Ok Usage
+fault_is_not_usage result fault is other = cc
 
-audited_is_not_usage : (status : Status) → (status ≡ Done) ⊎ (status ≡ Inconsistent) → status ≢ Usage
-audited_is_not_usage status (inl is) other = done_is_not_usage status is other
-audited_is_not_usage status (inr is) other = let bad : Inconsistent ≡ Usage = sym is ∙ other in cc
+pub loaded_is_not_usage : (differs : Bool) (status : Status) → status ≡ if differs then Differs else Done
+    → (let result : Result Status CommandFault = Ok status in result) ≢ Ok Usage
+loaded_is_not_usage true status is other = cc
+loaded_is_not_usage false status is other = cc
 
--- a command that did its work doesn't end the program as a mistake in the words
-pub ends_is_not_usage : (command : Command) (status : Status) (old new : Option (List ℕ))
-    → EndsCommand command status old new → status ≢ Usage
-ends_is_not_usage (Init f) status old new ends = done_is_not_usage status ends.0
-ends_is_not_usage (Load f p) status old new ends =
-    loaded_is_not_usage (nat_lt 0 ends.0.differs) status ends.1.0
-ends_is_not_usage (Post f) status old new ends = done_is_not_usage status ends
-ends_is_not_usage (Drive f s n) status old new ends = done_is_not_usage status ends.0
-ends_is_not_usage (Audit f) status old new ends = audited_is_not_usage status ends
-ends_is_not_usage (Statement f n) status old new ends = done_is_not_usage status ends
-ends_is_not_usage (Serve f a n) status old new ends = done_is_not_usage status ends.0
+pub audited_is_not_usage : (result : Result Status CommandFault)
+    → IfOk result (λ status. (status ≡ Done) ⊎ (status ≡ Inconsistent)) → result ≢ Ok Usage
+audited_is_not_usage (Ok status) (inl is) other = cc
+audited_is_not_usage (Ok status) (inr is) other = cc
+audited_is_not_usage (Err fault) is other = cc
+
+-- where only memory was in the way, help wasn't asked for
+pub memory_is_no_request : (kind : ErrorKind) → kind ≡ OutOfMemory → IsHelpOrVersion kind → ⊥
+memory_is_no_request kind memory (inl asked) = let bad : OutOfMemory ≡ DisplayHelp = sym memory ∙ asked in cc
+memory_is_no_request kind memory (inr asked) =
+    let bad : OutOfMemory ≡ DisplayVersion = sym memory ∙ asked in cc

@@ -1,7 +1,2 @@
-pub mod Asked
-pub mod Audited
-pub mod Driven
+pub mod Ended
 pub mod Endings
-pub mod Worked
-pub mod Served
-pub mod Stated

@@ -33,8 +33,8 @@
 //! }
 //! ```
 //!
-//! Read next: the contract of [`run`], a clause for what each command does and prints; `specs/Running`, how
-//! a run ends. The crate `bank_trials` plays a script of such runs.
+//! Read next: the contract of [`run`], and `specs/Running`, a case for what each command does and prints, and
+//! how a run ends. The crate `bank_trials` plays a script of such runs.
 #![tactic(auto)]
 
 mod running;

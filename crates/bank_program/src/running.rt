@@ -1,20 +1,12 @@
 //! A run of the program, from its words to its status.
-ghost use Rattle.std.specs.Prelude.{◌≡◌, ◌≢◌, ◌⊎◌, [], map, IfOk};
-ghost use Rattle.std.specs.Io.KnownBytes.{Appends, Keeps};
+ghost use Rattle.std.specs.Prelude.{◌≡◌, ◌≢◌, ◌⊎◌, [], map, Ok};
+ghost use Rattle.std.specs.Io.KnownBytes.{Keeps};
 ghost use Rattle.sqlite_wal.specs.Files.{image_at};
 ghost use Rattle.bank_store.specs.Seen.{bank_seen};
 ghost use Rattle.clap.specs.Words.{fault_of};
-ghost use Rattle.bank_endings.specs.Lines.{created_line};
 ghost use Rattle.bank_words.specs.CommandLine.{bank_app};
-ghost use Rattle.bank_words.specs.Words.{AreInRange, AsksForHelp, IsSpelled, number_of};
-ghost use Rattle.bank_words.specs.Words.{AskForStatement, AskToAudit, AskToDrive, AskToInit, AskToLoad};
-ghost use Rattle.bank_words.specs.Words.{AskToPost, AskToServe};
-ghost use Rattle.bank_work.specs.Working.{TellsDriven, TellsListening};
-ghost use Rattle.bank_commands.specs.Auditing.{AuditsIn};
-ghost use Rattle.bank_commands.specs.Commands.{DrivesIn, LoadsIn, MakesIn, PostsIn, ServesIn};
-ghost use Rattle.bank_commands.specs.Stating.{StatesIn};
-ghost use Rattle.bank_program.specs.Running.{ended_by, stated_by, status_after};
-ghost use Rattle.bank_program.specs.Running.{AreRefused, DoesCommand, EndsCommand, EndsAudit, EndsUnfound};
+ghost use Rattle.bank_words.specs.Words.{AreInRange, AsksForHelp, IsSpelled};
+ghost use Rattle.bank_program.specs.Running.{AreRefused, DoesCommand, Runs};
 
 use bank_commands::{audit_file, drive, init, load_plan, post, serve, statement};
 use bank_endings::{CommandFault, Status, explain, tell};
@@ -51,37 +43,12 @@ pub fn run<S: Start, T: AsStr, R: Read, W: Write, E: Write, K: Clock>(
     ensures help { AsksForHelp (map T.text words.entry.now)
         → (result ≡ Status.Done) ⊎ (result ≡ Status.System) }
     ensures taken { IsSpelled (map T.text words.entry.now) → result ≢ Status.Usage }
-    ensures created { AskToInit (map T.text words.entry.now) → result ≡ Status.Done
-        → Appends (W.contents output.old) (W.contents output.new) created_line }
-    ensures made { AskToInit (map T.text words.entry.now) → result ≡ Status.Done
-        → MakesIn (bank_seen ⟦<FileStore<FileFrom<S>> as Store>⟧) (image_at S.Start) }
-    ensures loaded { AskToLoad (map T.text words.entry.now)
-        → LoadsIn (bank_seen ⟦<FileStore<FileFrom<S>> as Store>⟧) (image_at S.Start)
-        (W.contents output.old) (W.contents output.new) (λ end. result ≡ status_after end) }
-    ensures posted { AskToPost (map T.text words.entry.now)
-        → PostsIn (bank_seen ⟦<FileStore<FileFrom<S>> as Store>⟧) (image_at S.Start)
-        (R.remaining input.old) (R.remaining input.new) (W.contents output.old) (W.contents output.new)
-        (K.readings clock.old) (K.readings clock.new) (EndsUnfound result)
-        (λ told. result ≡ status_after (ended_by told)) }
-    ensures driven { (asked : AskToDrive (map T.text words.entry.now)) → result ≡ Status.Done
-        → TellsDriven (number_of asked.3) (W.contents output.old) (W.contents output.new) }
-    ensures served { AskToServe (map T.text words.entry.now) → result ≡ Status.Done
-        → TellsListening (W.contents output.old) (W.contents output.new) }
-    ensures drives { (asked : AskToDrive (map T.text words.entry.now))
-        → DrivesIn (bank_seen ⟦<FileStore<FileFrom<S>> as Store>⟧) (image_at S.Start)
-        (K.readings clock.old) (K.readings clock.new) (W.contents output.old) (W.contents output.new)
-        (number_of asked.2) (number_of asked.3) (λ end. result ≡ status_after end) }
-    ensures serves { (asked : AskToServe (map T.text words.entry.now))
-        → ServesIn (bank_seen ⟦<FileStore<FileFrom<S>> as Store>⟧) (image_at S.Start)
-        (K.readings clock.old) (K.readings clock.new) (number_of asked.3) (λ end. result ≡ status_after end) }
-    ensures audited { AskToAudit (map T.text words.entry.now)
-        → AuditsIn (bank_seen ⟦<FileStore<FileFrom<S>> as Store>⟧) (image_at S.Start)
-        (W.contents output.old) (W.contents output.new) (EndsUnfound result)
-        (λ told. EndsAudit told (W.contents output.old) (W.contents output.new) result) }
-    ensures stated { (asked : AskForStatement (map T.text words.entry.now))
-        → StatesIn (bank_seen ⟦<FileStore<FileFrom<S>> as Store>⟧) (image_at S.Start) (number_of asked.2)
-        (W.contents output.old) (W.contents output.new) (EndsUnfound result)
-        (λ told. result ≡ status_after (stated_by (number_of asked.2) told)) }
+    // Words that spell a command, of those that the program has, have it done.
+    ensures runs { IsSpelled (map T.text words.entry.now)
+        → Runs (bank_seen ⟦<FileStore<FileFrom<S>> as Store>⟧) (image_at S.Start)
+        (map T.text words.entry.now) (R.remaining input.old) (R.remaining input.new)
+        (W.contents output.old) (W.contents output.new) (K.readings clock.old) (K.readings clock.new)
+        result }
 {
     let command = match read_words(rt.alloc(), words) {
         Ok(command) => command,
@@ -103,8 +70,7 @@ fn perform<S: Start, R: Read, W: Write, K: Clock>(
     clock: &mut K,
 ) -> Result<Status, CommandFault>
     requires { AreInRange command }
-    ensures ends { IfOk result
-        (λ status. EndsCommand command.entry status (W.contents output.old) (W.contents output.new)) }
+    ensures taken { result ≢ Ok Status.Usage }
     ensures does { DoesCommand (bank_seen ⟦<FileStore<FileFrom<S>> as Store>⟧) (image_at S.Start)
         (R.remaining input.old) (R.remaining input.new) (W.contents output.old) (W.contents output.new)
         (K.readings clock.old) (K.readings clock.new) command.entry result }
