@@ -7,7 +7,6 @@ ghost use Rattle.bank_work.specs.Working.{MayTellListening, ServesOver, TellsLis
 use bank_endings::{CommandFault, print_listening};
 use counter_tcp::serve_connections;
 use posting_core::{Clock, Counter};
-use std::alloc::Global;
 use std::io::Write;
 use std::net::{SocketAddr, TcpListener};
 
@@ -27,15 +26,7 @@ pub fn listen<C: Counter, W: Write, K: Clock>(
         (λ end. done_after result ≡ end) bank.old bank.new }
 {
     let (listener, bound) = bind(rt, address)?;
-    serve_at(
-        rt.alloc(),
-        &listener,
-        bound,
-        connections,
-        bank,
-        output,
-        clock,
-    )
+    serve_at(rt, &listener, bound, connections, bank, output, clock)
 }
 
 // A listener at the address, and where it is bound: where the address leaves the port open, with the one it
@@ -54,7 +45,7 @@ fn bind(rt: &HostRuntime, address: &str) -> Result<(TcpListener, SocketAddr), Co
 
 // Prints where a bound listener listens, and serves so many of its connections by a bank.
 fn serve_at<C: Counter, W: Write, K: Clock>(
-    alloc: Global,
+    rt: &HostRuntime,
     listener: &TcpListener,
     bound: SocketAddr,
     connections: u64,
@@ -70,6 +61,6 @@ fn serve_at<C: Counter, W: Write, K: Clock>(
         (λ end. done_after result ≡ end) bank.old bank.new }
 {
     print_listening(bound, output)?;
-    serve_connections(alloc, listener, connections, clock, bank)?;
+    serve_connections(rt, listener, connections, clock, bank)?;
     Ok(())
 }

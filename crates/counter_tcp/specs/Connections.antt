@@ -1,9 +1,10 @@
 -- Connections that are served one after another by a bank, which is old before them and new after them. What
 -- is seen of it is given by seen, and the clock's known readings are k before and k' after.
-use Rattle.std.specs.Prelude.{◌≡◌, ◌<◌, ◌≤◌, ℕ, List, [], ◌∷◌, ◌++◌, length, Option, Result, Ok, Err}
+use Rattle.std.specs.Prelude.{◌≡◌, ◌<◌, ◌≤◌, ℕ, List, [], ◌∷◌, ◌++◌, length, map, Option, None, Result, Ok}
+use Rattle.std.specs.Prelude.{Err}
 use Rattle.std.specs.List.{AllByRecursion}
 use Rattle.posting_rules.specs.Counter.{Seen}
-use Rattle.posting_core.specs.Told.{ReadTold, WriteTold}
+use Rattle.posting_core.specs.Told.{GrowsBy, ReadTold, WriteTold}
 use Rattle.counter_http.specs.Ends as ends
 use Rattle.counter_http.specs.Outputs.{OutputsAnswers, SurvivesServing}
 use Rattle.counter_http.specs.Serving as http
@@ -13,6 +14,29 @@ use Rattle.counter_tcp.specs.declared.fault.ListenFault.TheVariants.{Network, Ba
 use Rattle.counter_tcp.specs.Faults.{after_connection}
 
 -- ---- one connection
+
+-- what is known of the two ends of a connection: the bytes of its reader and of its writer, and what the calls
+-- of each answered
+pub record Known : Type 0 where
+  pub reader : Option (List ℕ)
+  pub reads : Option (List ReadTold)
+  pub writer : Option (List ℕ)
+  pub writes : Option (List WriteTold)
+
+-- no clause says what a stream of the system gives or takes
+abbrev pub unknown : Known
+unknown = record { reader = None; reads = None; writer = None; writes = None }
+
+-- of a pair of ends of any kind, whose ghosts these are
+abbrev pub known_ends : {R W : Type 0} → (R → Option (List ℕ)) → (R → Option (List ReadTold))
+    → (W → Option (List ℕ))
+    → (W → Option (List WriteTold)) → R × W → Known
+known_ends remaining reads contents writes ends = record {
+  reader = remaining ends.0;
+  reads = reads ends.0;
+  writer = contents ends.1;
+  writes = writes ends.1;
+}
 
 -- one connection: the bank, the clock, and what came in and went out
 pub record Connection (C : Type 0) : Type 0 where
@@ -33,6 +57,10 @@ pub record Connection (C : Type 0) : Type 0 where
   pub writes_after : Option (List WriteTold)
   pub result : Result ℕ ServeFault
 
+-- its ends, as they were when it began
+abbrev pub known_of : {C : Type 0} → Connection C → Known
+known_of c = record { reader = c.reader; reads = c.reads; writer = c.writer; writes = c.writes }
+
 -- it was served as a connection over HTTP is
 pub record IsServed {C : Type 0} (seen : C → Seen) (c : Connection C) : Type 0 where
   pub served : http.ServesConnection seen c.reader c.reader_after c.reads c.reads_after c.writer
@@ -46,10 +74,11 @@ pub record IsServed {C : Type 0} (seen : C → Seen) (c : Connection C) : Type 0
   pub ended : ends.ServeFaultIsOfItsEnd c.result c.reads c.reads_after c.writes c.writes_after
   pub honest : (seen c.after).honest → (seen c.before).honest
 
--- a connection was served, and ended so
-pub record ServesOne {C : Type 0} (seen : C → Seen) (k k' : Option (List ℕ)) (old new : C)
+-- a connection with these ends was served, and ended so
+pub record ServesOne {C : Type 0} (seen : C → Seen) (known : Known) (k k' : Option (List ℕ)) (old new : C)
     (result : Result ℕ ServeFault) : Type 0 where
   pub connection : Connection C
+  pub known_is : known_of connection ≡ known
   pub is_served : IsServed seen connection
   pub clock_is : connection.clock ≡ k
   pub clock_after_is : connection.clock_after ≡ k'
@@ -79,9 +108,22 @@ EndsServing {C = C} (Err (Bank fault)) n cs = (before : List (Connection C)) × 
     × (cs ≡ before ++ last ∷ []) × (length cs ≤ n) × AllGoOn before
     × (after_connection last.result ≡ Err (Bank fault))
 
--- connections were served so, n of them unless they ended before
+-- connections were served so, n of them unless they ended before: those that a door gave, in their order, each
+-- by its own ends. The door gave g before and g' after, and known says what is known of the ends that it gives
+pub record ServesDoor {C E : Type 0} (seen : C → Seen) (known : E → Known) (g g' : Option (List E))
+    (k k' : Option (List ℕ)) (old new : C) (n : ℕ) (result : Result (Unit {0}) ListenFault) : Type 0 where
+  pub connections : List (Connection C)
+  pub are_served : AreServed seen connections k k' old new
+  pub ends : EndsServing result n connections
+  pub given : List E
+  pub gave : GrowsBy g g' given
+  pub own : map known_of connections ≡ map known given
+
+-- so they were from a listener
 pub record ServesConnections {C : Type 0} (seen : C → Seen) (k k' : Option (List ℕ)) (old new : C) (n : ℕ)
     (result : Result (Unit {0}) ListenFault) : Type 0 where
   pub connections : List (Connection C)
   pub are_served : AreServed seen connections k k' old new
   pub ends : EndsServing result n connections
+  -- each by the ends of a stream
+  pub of_streams : AllByRecursion (λ c. known_of c ≡ unknown) connections

@@ -1,21 +1,19 @@
 //! Connections that are served one after another.
-ghost use Rattle.std.specs.Prelude.{◌≡◌};
-ghost use Rattle.counter_tcp.specs.Connections.{ServesConnections, ServesOne};
+ghost use Rattle.std.specs.Prelude.{◌≡◌, []};
+ghost use Rattle.posting_core.specs.Told.{GrowsBy};
+ghost use Rattle.counter_tcp.specs.Connections.{ServesConnections, ServesDoor, ServesOne, known_ends};
 ghost use Rattle.counter_tcp.specs.Faults.{after_connection};
 
-use crate::close::end;
+use crate::door::{Door, TcpDoor};
 use crate::fault::ListenFault;
 use counter_http::{ServeFault, Served, serve_connection};
 use posting_core::{Clock, Counter, Fault};
-use std::alloc::Global;
-use std::net::{TcpListener, TcpStream};
+use std::alloc::{Alloc, Global};
+use std::net::TcpListener;
+use std::time;
 
-/// Takes and serves `connections` connections of a bound listener, one after another, each to its end. With 0
-/// it returns at once. Between two connections nothing happens to the bank or the clock. A client that
-/// neither sends nor closes holds up those behind it.
-///
-/// A connection that ends for a failed read or write, or for want of memory, isn't a fault: the next one is
-/// served.
+/// Takes and serves `connections` connections of a bound listener, one after another, each to its end or until
+/// its client keeps the bank waiting beyond a limit, as [`serve_door`] says. With 0 it returns at once.
 ///
 /// # Errors
 ///
@@ -23,8 +21,8 @@ use std::net::{TcpListener, TcpStream};
 /// - [`ListenFault::Bank`]: the bank refused a call of the last connection for another cause than memory.
 ///   What holds of the bank then is said by the fault; every record of which a byte of the answer was taken
 ///   is kept.
-pub fn serve_connections<K: Clock, C: Counter>(
-    alloc: Global,
+pub fn serve_connections<R: Alloc<A = Global> + time::Clock, K: Clock, C: Counter>(
+    rt: &R,
     listener: &TcpListener,
     connections: u64,
     clock: &mut K,
@@ -34,29 +32,60 @@ pub fn serve_connections<K: Clock, C: Counter>(
         (K.readings clock.new) bank.old bank.new connections
         result }
 {
+    let mut door = TcpDoor::new(listener, rt);
+    serve_door(rt.alloc(), &mut door, connections, clock, bank)
+}
+
+/// Serves `connections` connections that a door gives, one after another, each by its own two ends, and closes
+/// it. Between two connections nothing happens to the bank or the clock.
+///
+/// A connection that ends for a failed read or write, or for want of memory, isn't a fault: the next one is
+/// served. So it is where the ends of a connection give their client up.
+///
+/// # Errors
+///
+/// - [`ListenFault::Network`]: the door gave no connection. Those before it were served.
+/// - [`ListenFault::Bank`]: as of [`serve_connections`].
+pub fn serve_door<D: Door, K: Clock, C: Counter>(
+    alloc: Global,
+    door: &mut D,
+    connections: u64,
+    clock: &mut K,
+    bank: &mut C,
+) -> Result<(), ListenFault>
+    ensures { ServesDoor C.seen
+        (known_ends D.Reader.remaining D.Reader.told D.Writer.contents D.Writer.told)
+        (D.gave door.old) (D.gave door.new) (K.readings clock.old) (K.readings clock.new) bank.old bank.new
+        connections result }
+{
     'connections: for number in 0..connections {
-        let Ok((stream, _)) = listener.accept() else {
+        let Ok((reader, writer)) = door.open() else {
             return Err(ListenFault::Network);
         };
-        let served = serve_stream(alloc, &stream, clock, bank);
+        let served = serve_ends(alloc, door, reader, writer, clock, bank);
         after(served)?;
     }
     Ok(())
 }
 
-// Serves one connection, and closes it so that its last answer arrives. The system is asked to send each
-// answer at once, and not to wait until the one before it has arrived.
-fn serve_stream<K: Clock, C: Counter>(
+// Serves the connection with these ends, and closes it.
+fn serve_ends<D: Door, K: Clock, C: Counter>(
     alloc: Global,
-    stream: &TcpStream,
+    door: &mut D,
+    reader: D::Reader,
+    writer: D::Writer,
     clock: &mut K,
     bank: &mut C,
 ) -> Result<Served, ServeFault>
-    ensures { ServesOne C.seen (K.readings clock.old) (K.readings clock.new) bank.old bank.new result }
+    ensures served { ServesOne C.seen
+        (known_ends D.Reader.remaining D.Reader.told D.Writer.contents D.Writer.told (reader, writer))
+        (K.readings clock.old) (K.readings clock.new) bank.old bank.new result }
+    ensures closed { GrowsBy (D.gave door.old) (D.gave door.new) [] }
 {
-    let _ = stream.set_nodelay(true);
-    let served = serve_connection(alloc, &mut &*stream, &mut &*stream, clock, bank);
-    end(stream);
+    let mut reader = reader;
+    let mut writer = writer;
+    let served = serve_connection(alloc, &mut reader, &mut writer, clock, bank);
+    door.close(reader, writer);
     served
 }
 

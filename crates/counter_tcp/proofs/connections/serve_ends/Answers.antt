@@ -1,8 +1,8 @@
 use Rattle.counter_tcp.proofs.Chained.{one_served}
-use Rattle.counter_tcp.proofs.connections.serve_stream.Goals as goal
+use Rattle.counter_tcp.proofs.connections.serve_ends.Goals as goal
 
-pub returns : goal.returns
-returns g c =
+pub returns-clause-served : goal.returns-clause-served
+returns-clause-served g c =
     let served = c.serve_connection-served in
     one_served g.C.Counter.seen _ _ _ _ (g.K.Clock.readings c.args.clock.now)
     (g.K.Clock.readings served.new.clock)
