@@ -18,7 +18,7 @@ pub struct FailingBank {
 }
 
 impl Counter for FailingBank {
-    ghost use Rattle.std.specs.Prelude.{◌≡◌, true, refl};
+    ghost use Rattle.std.specs.Prelude.{◌≡◌, ⊤, true, refl};
     ghost use Rattle.posting_rules.specs.Tables.{Tables};
     ghost use Rattle.posting_core.specs.Plain.{plain_seen, plain_tables};
 
@@ -27,6 +27,8 @@ impl Counter for FailingBank {
     ghost Contents = { Tables };
 
     ghost contents = { λ b. plain_tables b.bank };
+
+    ghost reason = { λ fault old new. ⊤ };
 
     ghost leaves_something = { λ b _. ∣ (plain_tables b.bank, refl) ∣₁ };
 

@@ -28,7 +28,8 @@ returns-in_err-print_loaded g c =
     let says = c.in_ok-loaded.ensures in
     let same : c.from_residual-in_err-print_loaded.result ≡ Err Write = search rules in
     let did : Loads (g.C.Counter.seen c.args.bank.now) (g.C.Counter.seen c.load.new.counter)
-    c.in_ok-loaded.loaded = record { rows = _; takes = says.done; all = says.all; counts = says.counts } in
+    c.in_ok-loaded.loaded =
+    record { rows = _; takes = says.done.takes; all = says.all; counts = says.counts } in
     let it = unprinted g.C.Counter.seen (g.W.Write.contents c.args.output.now) c.args.bank.now
     (g.W.Write.contents c.print_loaded.new.output) c.load.new.counter _ _ same did in
     record { loads = it.loads; line = it.line; silent = it.silent }
@@ -37,7 +38,8 @@ pub returns : goal.returns
 returns g c =
     let says = c.in_ok-loaded.ensures in
     let did : Loads (g.C.Counter.seen c.args.bank.now) (g.C.Counter.seen c.load.new.counter)
-    c.in_ok-loaded.loaded = record { rows = _; takes = says.done; all = says.all; counts = says.counts } in
+    c.in_ok-loaded.loaded =
+    record { rows = _; takes = says.done.takes; all = says.all; counts = says.counts } in
     let it = printed g.C.Counter.seen (g.W.Write.contents c.args.output.now) c.args.bank.now
     (g.W.Write.contents c.print_loaded.new.output) c.load.new.counter _ c.in_ok-print_loaded.ensures.prints.line
     did in
