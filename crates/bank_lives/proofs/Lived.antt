@@ -2,14 +2,14 @@
 use Rattle.std.proofs.Common.{◌≡◌, ◌≤◌, ◌⊎◌, ◌+◌, ◌++◌, ℕ, zero, suc, List, length, take, arith, inl, inr}
 use Rattle.std.proofs.Math.Seq.{take-append-add}
 use Rattle.std.proofs.lemmas.List.{length-append, take-append-le}
-use Rattle.posting_rules.specs.Commands.{Command, AreCommands}
+use Rattle.posting_rules.specs.Commands.{Command}
 use Rattle.posting_rules.specs.Counter.{Seen, StandsAt, LeavesOnly, ShowsBeginning}
 use Rattle.posting_rules.specs.Runs.{behind}
 use Rattle.posting_rules.specs.Tables.{Tables}
 use Rattle.posting_rules.proofs.Remaining.{leaves_still, leaves_weaker}
-use Rattle.posting_rules.proofs.Sequence.{behind-append, commands_both}
-use Rattle.bank_lives.specs.Lives.{IsCall, Life, begins, goes_on, reached}
-use Rattle.bank_lives.proofs.Calls.{all_shown}
+use Rattle.posting_rules.proofs.Sequence.{behind-append}
+use Rattle.bank_lives.specs.Lives.{IsCall, EndsLife, Life, begins, goes_on, reached}
+use Rattle.bank_lives.proofs.Calls.{all_left, nothing_ends}
 
 -- all that was given before, and a beginning of one call more
 one_call_more : (log given commands : List Command) (least n : ℕ) (t : Tables) → least ≤ length given
@@ -47,7 +47,7 @@ reached_within least (suc n) given commands some within = omega (arith, length-a
 
 -- how a counter is that stood at a log: it took all that it was given, or it is down and a stop leaves a
 -- beginning
-abbrev Lives : Seen → List Command → List Command → ℕ → Type 0
+abbrev pub Lives : Seen → List Command → List Command → ℕ → Type 0
 Lives now log given least = StandsAt now (behind log given)
     ⊎ (now.is_down × LeavesOnly now (ShowsBeginning log given least))
 
@@ -76,40 +76,45 @@ lives_on now next log given commands least n some call h (inr (down, left)) =
     )
 
 module _ {C : Type 0} (seen : C → Seen) (first : C) where
-  -- what is acknowledged was given, and it was commands of the bank
+  -- what is acknowledged was given
   pub life_given : (now : C) (given : List Command) (least : ℕ) → Life seen first now given least
-      → (least ≤ length given) × AreCommands given
-  life_given now given least begins = (omega arith, tt)
+      → least ≤ length given
+  life_given now given least begins = omega arith
   life_given now given least (goes_on was next before commands some n life call) =
-      let it = life_given was before some life in
-      (reached_within some n before commands it.0 call.within, commands_both before commands it.1 call.are)
+      reached_within some n before commands (life_given was before some life) call.within
 
-  life_lives : (now : C) (given : List Command) (least : ℕ) → Life seen first now given least
+  -- the disk was honest all along
+  pub life_honest : (now : C) (given : List Command) (least : ℕ) → Life seen first now given least
+      → (seen now).honest → (seen first).honest
+  life_honest now given least begins h = h
+  life_honest now given least (goes_on was next before commands some n life call) h =
+      life_honest was before some life (call.honest h)
+
+  pub life_lives : (now : C) (given : List Command) (least : ℕ) → Life seen first now given least
       → (seen now).honest
       → (log : List Command) → StandsAt (seen first) log → Lives (seen now) log given least
   life_lives now given least begins h log stood = inl stood
   life_lives now given least (goes_on was next before commands some n life call) h log stood =
-      lives_on (seen was) (seen next) log before commands some n (life_given was before some life).0 call h
+      lives_on (seen was) (seen next) log before commands some n (life_given was before some life) call h
       (life_lives was before some life (call.honest h) log stood)
 
-  -- at every moment of a life a stop leaves a beginning of what was given that holds all that was
-  -- acknowledged
+  -- where a life ends a stop leaves a beginning of what was given that holds all that was acknowledged
+  pub end_leaves : (now last : C) (given : List Command) (least : ℕ) → Life seen first now given least
+      → EndsLife (seen now) (seen last) → (seen last).honest
+      → (log : List Command) → StandsAt (seen first) log
+      → LeavesOnly (seen last) (ShowsBeginning log given least)
+  end_leaves now last given least life ends h log stood =
+      elim (life_lives now given least life (ends.honest h) log stood) [
+        | inl stands ↦ all_left (seen last) log given least (life_given now given least life)
+            stands.shows.commands (ends.survives h (behind log given) stands)
+        | inr cut ↦ leaves_still (seen now) (seen last) (ShowsBeginning log given least) (ends.down h cut.0)
+            cut.1
+      ]
+
+  -- so it does at every moment of a life
   pub life_leaves : (now : C) (given : List Command) (least : ℕ) → Life seen first now given least
       → (seen now).honest
       → (log : List Command) → StandsAt (seen first) log
       → LeavesOnly (seen now) (ShowsBeginning log given least)
   life_leaves now given least life h log stood =
-      let some = (life_given now given least life).0 in
-      elim (life_lives now given least life h log stood) [
-        | inl stands ↦ leaves_weaker (seen now) (ShowsBeginning log given (length given))
-            (ShowsBeginning log given least)
-            (λ t b. record {
-              count = b.count;
-              holds = let all = b.holds in omega arith;
-              within = b.within;
-              are = b.are;
-              shows = b.shows;
-            })
-            (all_shown (seen now) log given stands)
-        | inr cut ↦ cut.1
-      ]
+      end_leaves now now given least life (nothing_ends (seen now)) h log stood

@@ -1,24 +1,25 @@
 -- A connection that was opened on what a stop left.
-use Rattle.std.proofs.Common.{◌≡◌, ◌≤◌, ℕ, List, length, take, Result, Ok, Err, sym, subst}
-use Rattle.std.specs.Prelude.{IfOk}
-use Rattle.sqlite.specs.State.{State, Opens}
+use Rattle.std.proofs.Common.{◌≡◌, ◌≤◌, ℕ, List, length, take, Result, Ok, Err, sym, subst, inl, inr}
+use Rattle.std.specs.Prelude.{IfOk, IfErr}
+use Rattle.sqlite.specs.State.{HasCleanDisk, State, Survives, Opens}
 use Rattle.sqlite.specs.Tree.{Trees}
+use Rattle.sqlite.specs.Effect.{Database}
 use Rattle.posting_rules.specs.Commands.{Command}
 use Rattle.posting_rules.specs.Counter.{Seen, StandsAt, ShowsBeginning}
 use Rattle.posting_rules.specs.Runs.{behind}
 use Rattle.posting_rules.specs.Tables.{Tables}
 use Rattle.store_rows.specs.View.{Shows, ShowsTrees}
+use Rattle.sqlite.specs.Held.{state}
+use Rattle.sqlite_trees.specs.declared.store.Store.{Ghosts}
+use Rattle.bank_store.specs.Connections.{conn_seen, state_in}
 use Rattle.bank_store.specs.Seen.{seen_in}
+use Rattle.bank_store.specs.declared.bank.Bank.{Bank}
+use Rattle.bank_store.specs.declared.refused.Refused.{Refused}
 use Rattle.bank_store.proofs.Opened.{stands_opened}
 use Rattle.posting_rules.specs.Laws.{IsConsistent, NoneShares, TablesAreConsistent}
 use Rattle.bank_lives.specs.Lives.{IsFoundAgain}
-
--- the beginning that a connection stands at
-pub record Begins (seen : Seen) (log given : List Command) (least : ℕ) : Type 0 where
-  pub count : ℕ
-  pub holds : least ≤ count
-  pub within : count ≤ length given
-  pub stands : StandsAt seen (behind log (take count given))
+use Rattle.bank_lives.specs.ManyLives.{Given, IsKept, Keeps}
+use Rattle.bank_lives.proofs.ManyLived.{Begins}
 
 -- one that was opened on trees which show a beginning stands there
 pub begins_opened : (s : State) (log given : List Command) (least : ℕ) → Opens s
@@ -34,6 +35,13 @@ begins_opened s log given least opens settled finds (t, left, b) = record {
       (finds t left) b.shows;
 }
 
+-- the tables that it shows are consistent
+sums_at : (seen : Seen) (log : List Command) → TablesAreConsistent → (stands : StandsAt seen log)
+    → ((other : Tables) → seen.tables other → other ≡ stands.shows.tables)
+    → (t : Tables) → seen.tables t → IsConsistent t
+sums_at seen log consistent stands one other shown = subst (λ (it : Tables). IsConsistent it)
+    (sym (one other shown)) (consistent stands.shows.tables log stands.shows.shows)
+
 -- a bank that stands at a beginning
 pub found_at : (seen : Seen) (log given : List Command) (least count : ℕ) → least ≤ count
     → count ≤ length given → NoneShares
@@ -45,9 +53,39 @@ found_at seen log given least count holds within none_shares consistent stands o
   within = within;
   stands = stands;
   once = none_shares (behind log (take count given));
-  sums = λ other shown. subst (λ (it : Tables). IsConsistent it) (sym (one other shown))
-      (consistent stands.shows.tables (behind log (take count given)) stands.shows.shows);
+  sums = sums_at seen (behind log (take count given)) consistent stands one;
 }
+
+-- a bank that stands at what the lives before it lead to
+pub kept_at : (seen : Seen) (lives : List Given) (log : List Command) → Keeps log lives → NoneShares
+    → TablesAreConsistent → (stands : StandsAt seen log)
+    → ((other : Tables) → seen.tables other → other ≡ stands.shows.tables) → IsKept seen lives
+kept_at seen lives log keeps none_shares consistent stands one = record {
+  log = log;
+  keeps = keeps;
+  stands = stands;
+  once = none_shares log;
+  sums = sums_at seen log consistent stands one;
+}
+
+-- a connection that was refused leaves what was found as it was opened
+left_again : (s back : State) → Opens s → Survives s back (λ _. ⊥) → HasCleanDisk back
+    → ((db : Trees) → s.may_leave db → db ≡ s.committed.trees) → (Left : Trees → Type 0)
+    → Left s.now.trees → (trees : Trees) → back.may_leave trees → Left trees
+left_again s back opens quiet clean settled Left left trees may = elim (quiet.crash clean trees may) [
+  | inl before ↦ subst Left (sym (settled trees before))
+      (subst (λ (db : Database). Left db.trees) opens.clean left)
+  | inr none ↦ absurd none
+]
+
+pub refused_leaves : {T : Type 0} (g : Ghosts T) (s : State) (Left : Trees → Type 0)
+    → (Opens s → (db : Trees) → s.may_leave db → db ≡ s.committed.trees)
+    → (r : Result (Bank T g) (Refused T)) → Survives s (state_in g r) (λ _. ⊥)
+    → IfErr r (λ refused. HasCleanDisk (state g refused.conn) → Opens s → Left s.now.trees → (trees : Trees)
+    → (conn_seen g refused.conn).left trees → Left trees)
+refused_leaves g s Left settled (Ok bank) quiet = tt
+refused_leaves g s Left settled (Err refused) quiet = λ clean opens left trees may.
+    left_again s (state g refused.conn) opens quiet clean (settled opens) Left left trees may
 
 pub if_ok : {X E : Type 0} (P Q : X → Type 0) → ((x : X) → P x → Q x) → (r : Result X E) → IfOk r P → IfOk r Q
 if_ok P Q f (Ok x) h = f x h

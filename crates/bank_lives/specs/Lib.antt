@@ -1,3 +1,6 @@
--- The life of a counter, and what is found after a stop. Begin with `Lives`.
+-- The life of a counter, and what is found after any number of them. Begin with `Lives`.
 pub mod Lives
+pub mod ManyLives
+pub mod Moments
+pub mod Sending
 pub mod TableRows

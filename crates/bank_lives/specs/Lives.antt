@@ -1,19 +1,18 @@
--- The life of a counter from call to call, and what is found after it was stopped.
+-- The life of a counter from call to call, how it ends, and what is found after it was stopped.
 use Rattle.std.specs.Prelude.{◌≡◌, ◌≤◌, ◌⊎◌, ℕ, zero, suc, ◌+◌, List, [], ◌++◌, length, take, AllPairs}
 use Rattle.posting_rules.specs.declared.fault.Fault.{Fault}
 use Rattle.posting_rules.specs.declared.fault.Fault.TheVariants.{Memory, Store, Down, Damaged}
-use Rattle.posting_rules.specs.Commands.{Command, AreCommands}
+use Rattle.posting_rules.specs.Commands.{Command}
 use Rattle.posting_rules.specs.Counter.{Seen, StandsAt, LeavesOnly, LeavesNoMore, ShowsBeginning}
 use Rattle.posting_rules.specs.Entries.{decided}
 use Rattle.posting_rules.specs.Laws.{Differ, IsConsistent}
 use Rattle.posting_rules.specs.Runs.{behind}
-use Rattle.posting_rules.specs.Tables.{Tables}
+use Rattle.posting_rules.specs.Tables.{Tables, AreTablesOf}
 
 -- ---- one call
 
 -- what a call did that was given these commands, of which so many at the front were acknowledged
 pub record IsCall (old new : Seen) (commands : List Command) (acknowledged : ℕ) : Type 0 where
-  pub are : AreCommands commands
   pub within : acknowledged ≤ length commands
   pub honest : new.honest → old.honest
   -- a stop may leave a beginning of the commands that holds all that were acknowledged
@@ -32,6 +31,13 @@ given_to Store commands = commands
 given_to Down commands = []
 given_to (Damaged rule) commands = commands
 
+-- what a stream did, as one call: it took some commands, all of which count as acknowledged, and then it was
+-- given those that were refused, or none of them
+pub record IsStream (old new : Seen) (taken refused : List Command) : Type 0 where
+  pub tried : List Command
+  pub which : (tried ≡ refused) ⊎ (tried ≡ [])
+  pub call : IsCall old new (taken ++ tried) (length taken)
+
 -- ---- a life
 
 -- how many commands a beginning has that holds all that were acknowledged, with those of one call more
@@ -46,6 +52,14 @@ pub data Life {C : Type 0} (seen : C → Seen) (first : C) : C → List Command 
   goes_on : (now next : C) (given commands : List Command) (least acknowledged : ℕ)
       → Life seen first now given least → IsCall (seen now) (seen next) commands acknowledged
       → Life seen first next (given ++ commands) (reached least given acknowledged)
+
+-- What a life ends with: nothing at all, or a walk, a report or a reopening that failed. It was given nothing,
+-- and all that is known of it is what a stop leaves.
+pub record EndsLife (now last : Seen) : Type 0 where
+  pub honest : last.honest → now.honest
+  pub survives : last.honest → (log : List Command) → StandsAt now log
+      → LeavesOnly last (λ t. AreTablesOf t log)
+  pub down : last.honest → now.is_down → LeavesNoMore now last
 
 -- ---- after a stop
 

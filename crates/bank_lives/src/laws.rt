@@ -16,11 +16,11 @@ use posting_rules::Counter;
 /// Each call of a counter is a call of its life (`IsCall`), by what the trait `Counter` says of it. One that
 /// was answered acknowledges all of its commands, and one that was refused acknowledges none.
 pub fn calls_law<C: Counter>(_counter: &C)
-    ensures answered { (old new : _) (commands : List Command) → AreCommands commands
+    ensures answered { (old new : _) (commands : List Command)
         → Takes (C.seen old) (C.seen new) commands
         → ((C.seen old).is_down → ⊥) → ((C.seen new).honest → (C.seen old).honest)
         → IsCall (C.seen old) (C.seen new) commands (length commands) }
-    ensures refused { (fault : Told) (old new : _) (commands : List Command) → AreCommands commands
+    ensures refused { (fault : Told) (old new : _) (commands : List Command)
         → Refuses fault (C.seen old) (C.seen new) commands → ((C.seen old).is_down → fault ≡ Down)
         → ((C.seen new).honest → (C.seen old).honest)
         → IsCall (C.seen old) (C.seen new) (given_to fault commands) 0 }
@@ -28,10 +28,10 @@ pub fn calls_law<C: Counter>(_counter: &C)
 
 /// At every moment of a life, everything that a stop may leave shows the log that the life began with and a
 /// beginning of the commands that were given, which holds every one that was acknowledged (TPC-B,
-/// durability). What was acknowledged was given, and only commands of a bank are given.
+/// durability). What was acknowledged was given.
 pub fn life_law<C: Counter>(counter: &C)
     ensures given { (first : _) (given : List Command) (least : ℕ) → Life C.seen first counter.now given least
-        → (least ≤ length given) × AreCommands given }
+        → least ≤ length given }
     ensures survives { (first : _) (log given : List Command) (least : ℕ)
         → Life C.seen first counter.now given least
         → StandsAt (C.seen first) log → (C.seen counter.now).honest

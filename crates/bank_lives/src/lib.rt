@@ -1,11 +1,13 @@
 //! What is found of a bank after a stop, for any number of stops: every acknowledged command, each request
 //! posted once, and books that agree (TPC-B clause 2).
 //!
-//! A life is the calls of a counter between two stops. A program that was stopped has no old bank at hand
-//! when it runs again, and calls `bank_store::adopt`. [`reopen`] does at run time what `adopt` does; its
-//! contract names the bank that was stopped, and says what the new one has of it, so that a proof can follow
-//! a bank through its stops. The connection comes from `open` of `bank_files`, on the files of the bank that
-//! was stopped. The function `next_life` of `store_tests`, which a test runs, has both banks:
+//! A life is the calls, streams and reports of a counter between two stops, and begins with the connection
+//! that was opened on what the stop before it left. [`lives_law`] is the law of any number of lives. A program
+//! that was stopped has no old bank at hand when it runs again, and calls `bank_store::adopt`. [`reopen`] does
+//! at run time what `adopt` does; its contract names the bank that was stopped, and says what the new one has
+//! of it, so that a proof can follow a bank through its stops. The connection comes from `open` of
+//! `bank_files`, on the files of the bank that was stopped. The function `next_life` of `store_tests`, which a
+//! test runs, has both banks:
 //!
 //! ```rust
 //! ghost use Rattle.std.specs.Prelude.{◌≡◌, false};
@@ -30,12 +32,23 @@
 //! }
 //! ```
 //!
-//! Read next: `specs/Lives`, with a call of a life, a life, and what is found after it; then [`life_law`],
-//! which holds at every moment of a life, and [`reopen`], which joins one life to the next.
+//! Read next: `specs/Lives`, with a call of a life, a life, its end, and what is found after it;
+//! `specs/ManyLives`, with lives one after another; then [`lives_law`], and [`sender_law`] for a sender who goes
+//! on after a stop. The other laws say which steps there are: the calls of a counter ([`calls_law`]), walks and
+//! reports ([`walks_law`], [`reports_law`]), streams ([`streams_law`]), and what joins two lives
+//! ([`reopenings_law`]).
 #![tactic(auto)]
 
 mod laws;
+mod many_lives;
+mod readings;
 mod reopening;
+mod resends;
+mod streams;
 
 pub use laws::{calls_law, life_law, rules_law};
+pub use many_lives::{lives_law, reopenings_law, sender_law};
+pub use readings::{reports_law, walks_law};
 pub use reopening::reopen;
+pub use resends::resends_law;
+pub use streams::streams_law;

@@ -1,12 +1,16 @@
 //! Taking up a bank after a stop.
-ghost use Rattle.std.specs.Prelude.{◌≡◌, ℕ, List, IfOk, IfErr, false};
+ghost use Rattle.std.specs.Prelude.{◌≡◌, ◌∷◌, ℕ, List, IfOk, IfErr, false};
 ghost use Rattle.sqlite.specs.Held.{state};
 ghost use Rattle.sqlite.specs.State.{HasCleanDisk, Opens};
+ghost use Rattle.sqlite.specs.Tree.{Trees};
 ghost use Rattle.posting_rules.specs.Commands.{Command};
-ghost use Rattle.posting_rules.specs.Counter.{StandsAt};
+ghost use Rattle.posting_rules.specs.Counter.{LeavesOnly, ShowsBeginning, StandsAt};
+ghost use Rattle.bank_store.specs.Connections.{conn_seen};
 ghost use Rattle.bank_store.specs.Seen.{bank_seen};
 ghost use Rattle.bank_store.specs.StoreFaults.{KnowsCause};
 ghost use Rattle.bank_lives.specs.Lives.{IsFoundAgain, Life};
+ghost use Rattle.bank_lives.specs.ManyLives.{Given, IsKept, Lives};
+ghost use Rattle.bank_lives.specs.Moments.{Moment, Of_bank, seen_at};
 
 use crate::laws::life_law;
 use bank_store::{Bank, OpenFault, Refused, adopt};
@@ -20,14 +24,14 @@ use store_rows::trees_show_law;
 /// `stopped` is that bank at the moment of the stop, after whatever calls it was given. The bank that is
 /// found shows the log that the life began with and a beginning of the commands that were given, which holds
 /// every one that was acknowledged. Each request is posted once, and every branch has the sum of its tellers
-/// (TPC-B clause 2). The bank that is found is the first of the next life, so that the same holds after the
-/// next stop. All this is said of disks that return what was written, as long as nobody else writes the
-/// files.
+/// (TPC-B clause 2). So it is after any number of lives (`kept`): the bank that is found is the first of the
+/// next life. All this is said of disks that return what was written, as long as nobody else writes the files.
 ///
 /// # Errors
 ///
 /// On such disks only [`OpenFault::Store`](bank_store::OpenFault::Store): a call of `sqlite` failed. The
-/// connection comes back outside a transaction, and the bank can be taken up again over a new one.
+/// connection comes back outside a transaction, and a stop leaves of it what was left of the bank (`again`), so
+/// that the bank can be taken up again over a new one, after any number of such faults.
 pub fn reopen<S: Alter + Drop, T: Alter>(
     alloc: Global,
     stopped: &Bank<S>,
@@ -40,6 +44,12 @@ pub fn reopen<S: Alter + Drop, T: Alter>(
         → (first : _) (log given : List Command) (least : ℕ) → StandsAt (bank_seen S.Store first) log
         → Life (λ bank. bank_seen S.Store bank) first stopped.now given least
         → IsFoundAgain (bank_seen T.Store bank) log given least) }
+    ensures kept { IfOk result (λ bank. (bank_seen T.Store bank).honest → Opens (state T.Store conn)
+        → (bank_seen S.Store stopped.now).honest
+        → (bank_seen S.Store stopped.now).left (state T.Store conn).now.trees
+        → (first : Moment S.Store) (life : Given) (lives : List Given) → Lives (seen_at S.Store) first lives
+        → Life (seen_at S.Store) first (Of_bank stopped.now) life.commands life.least
+        → IsKept (bank_seen T.Store bank) (life ∷ lives)) }
     ensures missed { IfErr result (λ refused. HasCleanDisk (state T.Store refused.conn)
         → Opens (state T.Store conn)
         → (bank_seen S.Store stopped.now).honest
@@ -47,6 +57,18 @@ pub fn reopen<S: Alter + Drop, T: Alter>(
         → (first : _) (log given : List Command) (least : ℕ) → StandsAt (bank_seen S.Store first) log
         → Life (λ bank. bank_seen S.Store bank) first stopped.now given least
         → refused.fault ≡ OpenFault.Store) }
+    ensures remains { IfErr result (λ refused. HasCleanDisk (state T.Store refused.conn)
+        → Opens (state T.Store conn)
+        → (bank_seen S.Store stopped.now).honest
+        → (bank_seen S.Store stopped.now).left (state T.Store conn).now.trees
+        → (first : _) (log given : List Command) (least : ℕ) → StandsAt (bank_seen S.Store first) log
+        → Life (λ bank. bank_seen S.Store bank) first stopped.now given least
+        → LeavesOnly (conn_seen T.Store refused.conn) (ShowsBeginning log given least)) }
+    ensures again { IfErr result (λ refused. HasCleanDisk (state T.Store refused.conn)
+        → Opens (state T.Store conn)
+        → (bank_seen S.Store stopped.now).left (state T.Store conn).now.trees
+        → (trees : Trees) → (conn_seen T.Store refused.conn).left trees
+        → (bank_seen S.Store stopped.now).left trees) }
     ensures up { IfOk result (λ bank. (bank_seen T.Store bank).is_down → ⊥) }
     ensures cause { IfErr result (λ refused. KnowsCause T.Store conn refused.conn refused.fault) }
     ensures idle { IfErr result (λ refused. refused.conn.in_transaction ≡ false) }

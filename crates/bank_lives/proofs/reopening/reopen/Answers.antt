@@ -1,8 +1,13 @@
 -- The bank stands at what its connection found, and that is a beginning.
+use Rattle.std.proofs.Common.{◌∷◌, refl, take}
 use Rattle.sqlite.specs.Held.{state}
+use Rattle.posting_rules.specs.Runs.{behind}
 use Rattle.bank_store.specs.Seen.{bank_seen}
 use Rattle.bank_store.proofs.Unmade.{if_err}
-use Rattle.bank_lives.proofs.Reopened.{begins_opened, found_at, if_ok}
+use Rattle.bank_lives.specs.Moments.{Of_bank, seen_at}
+use Rattle.bank_lives.proofs.Lived.{life_honest, life_leaves}
+use Rattle.bank_lives.proofs.ManyLived.{kept}
+use Rattle.bank_lives.proofs.Reopened.{begins_opened, found_at, if_ok, kept_at, refused_leaves}
 use Rattle.bank_lives.proofs.reopening.reopen.Goals as goal
 
 pub returns-clause-found : goal.returns-clause-found
@@ -20,6 +25,25 @@ returns-clause-found g c =
     (λ other shown. c.trees_show_law.ensures.once (g.T.Store.view bank.conn.store).trees other at.shows.tables
     (bank.conn.schema, shown) (bank.conn.schema, at.shows.are))) c.adopt.result c.adopt.ensures.stands
 
+pub returns-clause-kept : goal.returns-clause-kept
+returns-clause-kept g c =
+    if_ok _ _ (λ bank stands honest opens stopped left first life lives some lived.
+    let last = Of_bank c.args.stopped.now in
+    let was = kept (seen_at g.S.Store) lives first some (life_honest (seen_at g.S.Store) first last
+    life.commands life.least lived stopped) in
+    let it = begins_opened (state g.T.Store c.args.conn) was.0 life.commands life.least opens
+    (λ db may. g.met.T.Store.settled c.args.conn.store db opens.is_open may)
+    (λ t shown. c.trees_show_law.ensures.finds opens.is_open t shown)
+    (life_leaves (seen_at g.S.Store) first last life.commands life.least lived stopped was.0 was.2
+    (g.T.Store.view c.args.conn.store).trees left) in
+    let at = stands honest _ it.stands in
+    kept_at (bank_seen g.T.Store bank) (life ∷ lives) (behind was.0 (take it.count life.commands))
+    (was.0, was.1, it.count, it.holds, it.within, refl)
+    c.each_request_once.ensures
+    c.tables_are_consistent.ensures at
+    (λ other shown. c.trees_show_law.ensures.once (g.T.Store.view bank.conn.store).trees other at.shows.tables
+    (bank.conn.schema, shown) (bank.conn.schema, at.shows.are))) c.adopt.result c.adopt.ensures.stands
+
 pub returns-clause-missed : goal.returns-clause-missed
 returns-clause-missed g c =
     if_err _ _ (λ refused known clean opens stopped left first log given least stood life.
@@ -29,3 +53,15 @@ returns-clause-missed g c =
     (c.life_law.ensures.survives first log given least life stood stopped
     (g.T.Store.view c.args.conn.store).trees left) in
     known clean _ it.stands.shows) c.adopt.result c.adopt.ensures.known
+
+pub returns-clause-again : goal.returns-clause-again
+returns-clause-again g c = refused_leaves g.T.Store (state g.T.Store c.args.conn)
+    (bank_seen g.S.Store c.args.stopped.now).left
+    (λ opens db may. g.met.T.Store.settled c.args.conn.store db opens.is_open may)
+    c.adopt.result c.adopt.ensures.survives
+
+pub returns-clause-remains : goal.returns-clause-remains
+returns-clause-remains g c =
+    if_err _ _ (λ refused again clean opens stopped left first log given least stood life trees may.
+    c.life_law.ensures.survives first log given least life stood stopped trees
+    (again clean opens left trees may)) c.adopt.result (returns-clause-again g c)

@@ -1,0 +1,95 @@
+-- What is found after any number of lives.
+use Rattle.std.proofs.Common.{◌≤◌, ℕ, List, [], ◌∷◌, length, take, refl, arith, inl, inr}
+use Rattle.std.proofs.Math.Seq.{take-length}
+use Rattle.posting_rules.specs.Commands.{Command}
+use Rattle.posting_rules.specs.Counter.{Seen, StandsAt, LeavesOnly, ShowsBeginning}
+use Rattle.posting_rules.specs.Runs.{behind}
+use Rattle.posting_rules.proofs.Remaining.{leaves_weaker}
+use Rattle.bank_lives.specs.Lives.{EndsLife, Life}
+use Rattle.bank_lives.specs.ManyLives.{Given, IsOpenedOn, Keeps, Lives, ShowsKept, created, released, stopped}
+use Rattle.bank_lives.proofs.Lived.{end_leaves, life_given, life_honest, life_lives}
+
+-- the beginning of what was given that is found
+pub record Begins (seen : Seen) (log given : List Command) (least : ℕ) : Type 0 where
+  pub count : ℕ
+  pub holds : least ≤ count
+  pub within : count ≤ length given
+  pub stands : StandsAt seen (behind log (take count given))
+
+-- where all of it stands
+begins_whole : (seen : Seen) (log given : List Command) (least : ℕ) → least ≤ length given
+    → StandsAt seen (behind log given) → Begins seen log given least
+begins_whole seen log given least few stands = record {
+  count = length given;
+  holds = few;
+  within = omega arith;
+  stands = rw (take-length given) stands;
+}
+
+-- where it was opened on what a stop leaves
+pub begins_left : (last first : Seen) (log given : List Command) (least : ℕ) → IsOpenedOn last first
+    → LeavesOnly last (ShowsBeginning log given least) → Begins first log given least
+begins_left last first log given least opened left =
+    let it = left opened.remains opened.left in
+    record {
+      count = it.2.count;
+      holds = it.2.holds;
+      within = it.2.within;
+      stands = opened.stands it.0 (behind log (take it.2.count given)) it.2.are it.1 it.2.shows;
+    }
+
+module _ {M : Type 0} (seen : M → Seen) where
+  -- where a life begins: the first of all at the empty log, any other by the one before it
+  abbrev pub Before : M → List Given → Type 0
+  Before first [] = StandsAt (seen first) []
+  Before first (life ∷ lives) = (before : M) × Lives seen before lives × (seen before).honest
+      × ((log : List Command) → StandsAt (seen before) log
+      → Begins (seen first) log life.commands life.least)
+
+  pub before_life : (first : M) (lives : List Given) → Lives seen first lives → (seen first).honest
+      → Before first lives
+  before_life first lives (created it stands) h = stands h
+  before_life first lives (released before it life others some lived up) h = (
+    before,
+    some,
+    life_honest seen before it life.commands life.least lived h,
+    λ log stood. begins_whole (seen it) log life.commands life.least
+        (life_given seen before it life.commands life.least lived)
+        (elim (life_lives seen before it life.commands life.least lived h log stood) [
+          | inl stands ↦ stands
+          | inr cut ↦ absurd (up cut.0)
+        ]),
+  )
+  before_life first lives (stopped before now last it life others some lived ends clean opened) h = (
+    before,
+    some,
+    life_honest seen before now life.commands life.least lived (ends.honest clean),
+    λ log stood. begins_left (seen last) (seen it) log life.commands life.least opened
+        (end_leaves seen before now last life.commands life.least lived ends clean log stood),
+  )
+
+  -- a log that is, life by life, a beginning of what was given
+  pub kept : (lives : List Given) (first : M) → Lives seen first lives → (seen first).honest
+      → (log : List Command) × Keeps log lives × StandsAt (seen first) log
+  kept [] first some h = ([], refl, before_life first [] some h)
+  kept (life ∷ lives) first some h =
+      let was = before_life first (life ∷ lives) some h in
+      let it = kept lives was.0 was.1 was.2 in
+      let b = was.3 it.0 it.2 in
+      (behind it.0 (take b.count life.commands), (it.0, it.1, b.count, b.holds, b.within, refl), b.stands)
+
+  -- at each moment of the last life a stop leaves one with a beginning of this life's
+  pub left_of : (lives : List Given) (life : Given) (first now last : M) → Lives seen first lives
+      → Life seen first now life.commands life.least → EndsLife (seen now) (seen last) → (seen last).honest
+      → LeavesOnly (seen last) (ShowsKept (life ∷ lives))
+  left_of lives life first now last some lived ends h =
+      let it = kept lives first some (life_honest seen first now life.commands life.least lived
+      (ends.honest h)) in
+      leaves_weaker (seen last) (ShowsBeginning it.0 life.commands life.least) (ShowsKept (life ∷ lives))
+      (λ t b. record {
+        log = behind it.0 (take b.count life.commands);
+        keeps = (it.0, it.1, b.count, b.holds, b.within, refl);
+        are = b.are;
+        shows = b.shows;
+      })
+      (end_leaves seen first now last life.commands life.least lived ends h it.0 it.2)

@@ -1,0 +1,8 @@
+-- What the sender finds.
+use Rattle.bank_lives.specs.Moments.{seen_at}
+use Rattle.bank_lives.proofs.Sent.{finds_sent}
+use Rattle.bank_lives.proofs.many_lives.sender_law.Goals as goal
+
+pub returns : goal.returns
+returns g c first sent before records answered some sends h =
+    finds_sent (seen_at g.S.Store) sent before records answered first c.each_request_once.ensures some sends h

@@ -1,0 +1,67 @@
+//! The laws of any number of lives.
+ghost use Rattle.std.specs.Prelude.{◌≡◌, ◌∷◌, ◌++◌, [], ℕ, List};
+ghost use Rattle.sqlite.specs.Held.{state};
+ghost use Rattle.sqlite.specs.State.{Opens, Survives};
+ghost use Rattle.posting_rules.specs.Commands.{Command};
+ghost use Rattle.posting_rules.specs.Counter.{LeavesOnly, StandsAt};
+ghost use Rattle.bank_store.specs.Connections.{conn_seen};
+ghost use Rattle.bank_store.specs.Seen.{bank_seen, connection_of};
+ghost use Rattle.bank_lives.specs.Lives.{EndsLife, IsCall, Life};
+ghost use Rattle.bank_lives.specs.ManyLives.{Given, IsKept, IsOpenedOn, Keeps, Lives, ShowsKept};
+ghost use Rattle.bank_lives.specs.Moments.{Moment, seen_at};
+ghost use Rattle.bank_lives.specs.Sending.{FindsSent, Sends};
+
+use bank_store::{Bank, opened_law};
+use posting_rules::{each_request_once, tables_are_consistent};
+use sqlite::{Alter, Connection};
+
+/// What joins one life to the next: a connection that was opened on what a stop left, of a bank or of a
+/// connection that was refused before, and what `adopt` and `release` of `bank_store` say of it. A bank that is
+/// taken up is a call that is given nothing; a refused one ends the life of its connection.
+pub fn reopenings_law<S: Alter>(conn: &Connection<S>)
+    ensures opened { (last : Moment S.Store) → Opens (state S.Store conn.now)
+        → (seen_at S.Store last).left (state S.Store conn.now).now.trees
+        → IsOpenedOn (seen_at S.Store last) (conn_seen S.Store conn.now) }
+    ensures adopted { (bank : _)
+        → Survives (state S.Store conn.now) (state S.Store (connection_of bank)) (λ _. ⊥)
+        → ((bank_seen S.Store bank).honest → (log : List Command) → StandsAt (conn_seen S.Store conn.now) log
+        → StandsAt (bank_seen S.Store bank) log)
+        → IsCall (conn_seen S.Store conn.now) (bank_seen S.Store bank) [] 0 }
+    ensures refused { (back : _) → Survives (state S.Store conn.now) (state S.Store back) (λ _. ⊥)
+        → EndsLife (conn_seen S.Store conn.now) (conn_seen S.Store back) }
+    ensures released { (bank : _) → conn.now ≡ connection_of bank → ((bank_seen S.Store bank).is_down → ⊥)
+        → IsCall (bank_seen S.Store bank) (conn_seen S.Store conn.now) [] 0 }
+{
+    opened_law(conn);
+}
+
+/// **After any number of lives the bank shows a log that is, life by life, a beginning of what was given, which
+/// holds all that was acknowledged. Each request is posted once, every branch has the sum of its tellers, and
+/// accounts, tellers and the deltas of history have one sum** (TPC-B clause 2). Each life is a run of calls,
+/// streams and reports, and ends with a release or with a stop at any store call; a reopening that was refused
+/// is a life that was given nothing.
+pub fn lives_law<S: Alter>(_bank: &Bank<S>)
+    ensures found { (first : Moment S.Store) (lives : List Given) → Lives (seen_at S.Store) first lives
+        → (seen_at S.Store first).honest → IsKept (seen_at S.Store first) lives }
+    // Wherever the last life is stopped, all that may be left shows such a log.
+    ensures left { (lives : List Given) (life : Given) (first now last : Moment S.Store)
+        → Lives (seen_at S.Store) first lives
+        → Life (seen_at S.Store) first now life.commands life.least
+        → EndsLife (seen_at S.Store now) (seen_at S.Store last) → (seen_at S.Store last).honest
+        → LeavesOnly (seen_at S.Store last) (ShowsKept (life ∷ lives)) }
+{
+    each_request_once();
+    tables_are_consistent();
+}
+
+/// A sender who goes on, after any number of stops, from his first record that wasn't answered, or from a place
+/// before it, gets the replies that he would have got. The tables are those of a beginning of his list that
+/// holds every answered record, each posting once, and at last of his whole list, moments aside.
+pub fn sender_law<S: Alter>(_bank: &Bank<S>)
+    ensures { (first : Moment S.Store) (sent before : List Given) (records : List (List ℕ)) (answered : ℕ)
+        → Lives (seen_at S.Store) first (sent ++ before) → Sends records sent answered
+        → (seen_at S.Store first).honest
+        → (log : List Command) × Keeps log before × FindsSent (seen_at S.Store first) log records answered }
+{
+    each_request_once();
+}

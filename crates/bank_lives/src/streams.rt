@@ -1,0 +1,54 @@
+//! Streams as calls of a life. A stream makes many calls; what its contract says of them all is here one call
+//! of its life (`IsStream`): it took some commands, and may then have been refused others.
+ghost use Rattle.std.specs.Prelude.{◌≡◌, ◌≤◌, ◌++◌, ℕ, List, Option, Result, IfErr, drop, length, take};
+ghost use Rattle.posting_rules.specs.Commands.{Command};
+ghost use Rattle.posting_rules.specs.Counter.{ShowsLog};
+ghost use Rattle.posting_rules.specs.Runs.{replies_to};
+ghost use Rattle.posting_rules.specs.declared.fault.Fault.{Fault as Told};
+ghost use Rattle.posting_core.specs.Batches.{posts_of};
+ghost use Rattle.posting_core.specs.Stream.{IfBank, IsRefusedBehind, Streamed, acknowledged};
+ghost use Rattle.posting_core.specs.Told.{ReadTold};
+ghost use Rattle.posting_core.specs.declared.stream.StreamFault.{StreamFault};
+ghost use Rattle.counter_http.specs.Outputs.{acknowledged_records};
+ghost use Rattle.counter_http.specs.Serving.{ServesConnection};
+ghost use Rattle.counter_http.specs.Turns.{Turn, commands_of};
+ghost use Rattle.counter_http.specs.declared.fault.ServeFault.{ServeFault};
+ghost use Rattle.branch_loader.specs.Loading.{IsRefusedAfter};
+ghost use Rattle.bank_driver.specs.Drives.{Drives};
+ghost use Rattle.bank_driver.specs.declared.drive.Driven.{Driven};
+ghost use Rattle.bank_driver.specs.declared.fault.DriveFault.{DriveFault};
+ghost use Rattle.bank_lives.specs.Lives.{IsStream};
+
+use posting_rules::Counter;
+
+/// A stream over a counter that was up is a call of its life, whatever its result, by the contracts of
+/// `post_stream`, `serve_connection`, `load` and `drive_records`. All that the counter took counts as
+/// acknowledged. So a command counts from the first byte of its reply that a writer accepted, or of the answer
+/// that carries it.
+pub fn streams_law<C: Counter>(_counter: &C)
+    ensures posted { (r r' w w' k k' : Option (List ℕ)) (old new : _) (result : Result ℕ StreamFault)
+        → (did : Streamed r r' w w' k k' (C.seen old) (C.seen new) result)
+        → IfErr result (λ fault. IfBank fault (IsRefusedBehind C.seen old new r r'))
+        → ((C.seen old).is_down → ⊥)
+        → IsStream (C.seen old) (C.seen new) (posts_of did.taken) (posts_of did.refused) }
+    ensures acknowledged { (r r' w w' k k' : Option (List ℕ)) (old new : _) (result : Result ℕ StreamFault)
+        → (did : Streamed r r' w w' k k' (C.seen old) (C.seen new) result)
+        → (C.seen new).honest → (log : List Command) → ShowsLog (C.seen old) log
+        → acknowledged (replies_to log (posts_of (did.taken ++ did.refused))) (length did.written)
+        ≤ length (posts_of did.taken) }
+    ensures served { (r r' : Option (List ℕ)) (q q' : Option (List ReadTold))
+        → (w w' k k' : Option (List ℕ)) (old new : _) (result : Result ℕ ServeFault)
+        → (did : ServesConnection C.seen r r' q q' w w' k k' old new result)
+        → ((C.seen old).is_down → ⊥)
+        → IsStream (C.seen old) (C.seen new) (commands_of did.taken) (commands_of did.refused) }
+    ensures answered { (log : List Command) (turns : List Turn) (bytes : ℕ)
+        → acknowledged_records log turns bytes ≤ length (commands_of turns) }
+    ensures loaded { (old new : _) (openings : List Command) (fault : Told) (answered : ℕ)
+        → IsRefusedAfter C.seen old new openings fault answered
+        → ((C.seen old).is_down → ⊥) → ((C.seen new).honest → (C.seen old).honest)
+        → IsStream (C.seen old) (C.seen new) (take answered openings) (take 1 (drop answered openings)) }
+    ensures driven { (k k' : Option (List ℕ)) (old new : _) (seed count : ℕ) (result : Result Driven DriveFault)
+        → (did : Drives C.seen old new k k' seed count result)
+        → ((C.seen old).is_down → ⊥)
+        → IsStream (C.seen old) (C.seen new) (posts_of did.submits.taken) (posts_of did.submits.refused) }
+{}
