@@ -6,7 +6,7 @@ use Rattle.std.proofs.Common.{inl, inr}
 use Rattle.message_records.specs.Reading.{request_of}
 use Rattle.message_records.specs.Records.{ReplyFields}
 use Rattle.message_records.specs.Spelling.{reply_spelling}
-use Rattle.posting_rules.specs.Commands.{Command, Open, Post, opened}
+use Rattle.posting_rules.specs.Commands.{Command, Open, Post, Terms, opened}
 use Rattle.posting_rules.specs.Entries.{DecidedRequest, decided, reply, reply_to, with_record}
 use Rattle.posting_rules.specs.Resends.{Place, Skips}
 use Rattle.posting_rules.specs.Runs.{behind, posts, replies_to, ArePosts}
@@ -17,9 +17,9 @@ use Rattle.posting_core.proofs.Timeless.{zeroed, record_zeroed, reply_zeroed}
 
 -- ---- what replies depend on
 
--- how many accounts each branch was opened with
+-- what each branch was opened with
 abbrev Openings : Type 0
-Openings = ℕ → Option ℕ
+Openings = ℕ → Option Terms
 
 -- posts open nothing
 opens_nothing : (log cs : List Command) → ArePosts cs

@@ -103,10 +103,12 @@ stays_is_stream seen old stood new taken refused same takes up honest =
 
 -- ---- a stream of records
 
-module _ {C : Type 0} (seen : C → Seen) (old new : C) (r r' w w' k k' : Option (List ℕ)) where
+module _ {C : Type 0} (seen : C → Seen) (reason : Fault → C → C → Type 0) (old new : C)
+    (r r' w w' k k' : Option (List ℕ)) where
   pub posted_is_stream : (result : Result ℕ StreamFault)
       (did : Streamed r r' w w' k k' (seen old) (seen new) result)
-      → IfErr result (λ fault. IfBank fault (IsRefusedBehind seen old new r r')) → ((seen old).is_down → ⊥)
+      → IfErr result (λ fault. IfBank fault (IsRefusedBehind seen reason old new r r'))
+      → ((seen old).is_down → ⊥)
       → IsStream (seen old) (seen new) (posts_of did.taken) (posts_of did.refused)
   posted_is_stream (Ok count) did refused up =
       stood_is_stream (seen old) (seen new) (posts_of did.taken) (posts_of did.refused) up did.honest did.stands

@@ -28,7 +28,7 @@ use posting_rules::Counter;
 pub fn streams_law<C: Counter>(_counter: &C)
     ensures posted { (r r' w w' k k' : Option (List ℕ)) (old new : _) (result : Result ℕ StreamFault)
         → (did : Streamed r r' w w' k k' (C.seen old) (C.seen new) result)
-        → IfErr result (λ fault. IfBank fault (IsRefusedBehind C.seen old new r r'))
+        → IfErr result (λ fault. IfBank fault (IsRefusedBehind C.seen C.reason old new r r'))
         → ((C.seen old).is_down → ⊥)
         → IsStream (C.seen old) (C.seen new) (posts_of did.taken) (posts_of did.refused) }
     ensures acknowledged { (r r' w w' k k' : Option (List ℕ)) (old new : _) (result : Result ℕ StreamFault)
