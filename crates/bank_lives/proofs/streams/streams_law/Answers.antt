@@ -6,7 +6,7 @@ use Rattle.bank_lives.proofs.streams.streams_law.Goals as goal
 
 pub returns-clause-posted : goal.returns-clause-posted
 returns-clause-posted g c r r' w w' k k' old new result did refused up =
-    posted_is_stream g.C.Counter.seen old new r r' w w' k k' result did refused up
+    posted_is_stream g.C.Counter.seen g.C.Counter.reason old new r r' w w' k k' result did refused up
 
 pub returns-clause-acknowledged : goal.returns-clause-acknowledged
 returns-clause-acknowledged g c r r' w w' k k' old new result did h log shows =
