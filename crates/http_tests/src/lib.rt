@@ -9,7 +9,11 @@ mod connection;
 #[cfg(test)]
 mod failing;
 #[cfg(test)]
+mod failing_twice;
+#[cfg(test)]
 mod first_message;
+#[cfg(test)]
+mod heads;
 #[cfg(test)]
 mod messages;
 #[cfg(test)]
