@@ -1,16 +1,25 @@
 //! Tests of the bank in tables that no scenario reaches: each statement of the six tables once, walks over
-//! rows that are beside one another, machines that stop, files that fail while a bank is read, the texts of
+//! rows that are beside one another, machines that stop at each call on a file, life after life, steady runs,
+//! files that fail while a bank is read, the texts of
 //! reports, whole and cut, and the first programs of the libraries.
 #![tactic(auto)]
 
 #[cfg(test)]
 mod calls;
 #[cfg(test)]
+mod cases;
+#[cfg(test)]
+mod drawn;
+#[cfg(test)]
+mod failures;
+#[cfg(test)]
 mod files;
 #[cfg(test)]
 mod first_programs;
 #[cfg(test)]
 mod first_report;
+#[cfg(test)]
+mod lives;
 #[cfg(test)]
 mod readings;
 #[cfg(test)]
@@ -22,8 +31,14 @@ mod rows;
 #[cfg(test)]
 mod sql;
 #[cfg(test)]
+mod steady;
+#[cfg(test)]
 mod stops;
+#[cfg(test)]
+mod sums;
 #[cfg(test)]
 mod tasks;
 #[cfg(test)]
 mod walks;
+#[cfg(test)]
+mod ways;

@@ -1,4 +1,5 @@
 //! Calls that read all that was posted, on any store: what they give until it fails.
+use crate::reports::{audit_fault, statement_fault};
 use crate::tasks::Progress;
 use crate::walks::{Ordinals, Postings, gives_posting, next_posting};
 use bank_audits::audit;
@@ -8,6 +9,7 @@ use message_records::{
 };
 use posting_core::{Counter, Fault};
 use sqlite::Alter;
+use std::alloc::{Alloc, Global};
 use std::process::Abort;
 
 const BATCHES: u64 = 20;
@@ -23,6 +25,10 @@ pub enum Reading {
     History,
     /// All rows, by an audit.
     Audit,
+    /// The text of an audit behind the first posting and a remote one.
+    AuditText,
+    /// The text of the statement of account 1 behind them.
+    Statement,
 }
 
 /// A cent to an account, by teller 1 of branch 1, under a number.
@@ -120,17 +126,32 @@ fn walked<S: Alter>(rt: &impl Abort, bank: &mut Bank<S>) -> (bool, Option<Fault>
     (count > 0, fault)
 }
 
-/// Reads until that ends or the store fails. A walk is begun where a row was given. Neither brings the bank
-/// down.
-pub fn read<S: Alter + Drop>(rt: &impl Abort, bank: &mut Bank<S>, reading: Reading) -> Progress {
+/// Whether an audit finds the bank consistent.
+pub fn is_consistent<S: Alter>(bank: &mut Bank<S>) -> bool {
+    match audit(bank) {
+        Ok(told) => told.is_consistent(),
+        Err(_) => false,
+    }
+}
+
+/// Reads until that ends or the store fails. A walk is begun where a row was given. None brings the bank down,
+/// but a statement, which asks for a balance first.
+pub fn read<S: Alter + Drop>(
+    rt: &(impl Abort + Alloc<A = Global>),
+    bank: &mut Bank<S>,
+    reading: Reading,
+) -> Progress {
     let (is_begun, fault) = match reading {
         Reading::History => walked(rt, bank),
         Reading::Audit => (true, audited(rt, bank)),
+        Reading::AuditText => (true, audit_fault(rt, bank)),
+        Reading::Statement => (true, statement_fault(rt, bank)),
     };
     assert!(rt; fault.is_none() || fault == Some(Fault::Store));
-    assert!(rt; !bank.is_down());
+    assert!(rt; !bank.is_down() || matches!(reading, Reading::Statement));
     Progress {
         is_begun,
         is_done: fault.is_none(),
+        parts: 0,
     }
 }

@@ -26,7 +26,22 @@ branch 2 tellers 100 balance 0
 INCONSISTENT
 ";
 
-const STATEMENT: &[u8] = b"STATEMENT ACCOUNT 000000000001
+/// The audit of a bank with the first posting and a remote one.
+pub const AUDIT: &[u8] = b"branches                       2
+tellers                       20
+accounts                       5
+requests                       2
+history                        2
+account sum                 -200
+teller sum                  -200
+branch sum                  -200
+history sum                 -200
+unmatched                      0
+CONSISTENT
+";
+
+/// The statement of account 1 there.
+pub const STATEMENT: &[u8] = b"STATEMENT ACCOUNT 000000000001
       ordinal       moment   teller branch          delta        balance
             1         1000        1      1           +500            500
 closing balance                                                      500

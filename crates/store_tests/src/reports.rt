@@ -1,7 +1,8 @@
 //! Reports to a writer that refuses after so many bytes.
 use crate::calls::{Asked, ask_to_the_end};
 use crate::readings::one_cent;
-use crate::tasks::{Task, play_in_memory};
+use crate::report_texts::{AUDIT, STATEMENT};
+use crate::tasks::{BRANCHES, Task, play_in_memory};
 use bank_audits::{ReportFault, audit, write_statement};
 use bank_reports::{Audit, WriteFault, write_audit};
 use bank_store::Bank;
@@ -50,7 +51,7 @@ pub fn post_cent<C: Counter>(rt: &impl Abort, bank: &mut C, cent: Cent) -> Resul
 }
 
 fn post<S: Alter + Drop>(
-    rt: &impl Abort,
+    rt: &(impl Abort + Alloc<A = Global>),
     bank: &mut Bank<S>,
     account: u64,
     number: u64,
@@ -75,6 +76,46 @@ fn statement_of<S: Alter + Drop>(
     let mut whole = Vec::new(rt.alloc());
     assert_eq!(rt; write_statement(bank, account(), &mut whole), Ok(()));
     whole
+}
+
+/// The fault of an audit, if it has one. Else its text is that of the first posting and a remote one.
+pub fn audit_fault<S: Alter + Drop>(
+    rt: &(impl Abort + Alloc<A = Global>),
+    bank: &mut Bank<S>,
+) -> Option<Fault> {
+    let told = match audit(bank) {
+        Ok(told) => told,
+        Err(fault) => return Some(fault),
+    };
+    let mut text = Vec::new(rt.alloc());
+    assert_eq!(rt; write_audit(&told, &mut text), Ok(()));
+    assert_eq!(rt; text.as_slice(), AUDIT);
+    None
+}
+
+// What was written is the statement, or its beginning at a fault.
+fn fault_of(rt: &impl Abort, text: &[u8], written: Result<(), ReportFault>) -> Option<Fault> {
+    match written {
+        Ok(()) => {
+            assert_eq!(rt; text, STATEMENT);
+            None
+        }
+        Err(ReportFault::Bank(fault)) => {
+            assert!(rt; STATEMENT.starts_with(text));
+            Some(fault)
+        }
+        Err(fault) => panic!(rt; "{fault}"),
+    }
+}
+
+/// The fault of the statement of account 1, if it has one. Else it is that of a posting of 500 cents.
+pub fn statement_fault<S: Alter + Drop>(
+    rt: &(impl Abort + Alloc<A = Global>),
+    bank: &mut Bank<S>,
+) -> Option<Fault> {
+    let mut text = Vec::new(rt.alloc());
+    let written = write_statement(bank, account(), &mut text);
+    fault_of(rt, &text, written)
 }
 
 // A writer that refuses behind these bytes of the statement took them.
@@ -143,5 +184,5 @@ pub fn reports_are_cut<S: Alter + Drop>(rt: &(impl Abort + Alloc<A = Global>), b
 
 #[test]
 fn reports_to_a_writer_that_refuses(rt: HostRuntime) -> Result<(), Fail> {
-    play_in_memory(&rt, &[Task::Make, Task::Report])
+    play_in_memory(&rt, &[Task::Make(BRANCHES), Task::Report])
 }

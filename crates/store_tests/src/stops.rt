@@ -1,13 +1,28 @@
-//! A machine that stops in the middle of a call: what the files hold then, and what a resend gets.
-use crate::calls::Call;
+//! A machine that stops at each call on one of the files: what is left then, and what a resend gets.
+use crate::calls::{RECORD, REPLY, padded};
+use crate::cases::{Case, Way, states_of};
+use crate::drawn::{ONE_ACCOUNT, records_of, replies_to};
 use crate::files::{ALL_PASS, Ended, Image, Passed, play_on};
 use crate::readings::Reading;
-use crate::tasks::{Progress, Task};
+use crate::tasks::{BRANCHES, Progress, Task};
 use std::alloc::{Alloc, Global};
 use std::process::Abort;
 
-// What the tasks leave in files that hold nothing.
-fn made(rt: &(impl Abort + Alloc<A = Global>), tasks: &[Task]) -> Image {
+// Three records on two tellers and two accounts, and their replies.
+const RECORDS: [&str; 3] = [
+    "DC01000000000001000000010000010000000001+0000000001",
+    "DC01000000000002000000010000010000000002+0000000001",
+    "DC01000000000001000000020000010000000001+0000000001",
+];
+
+const REPLIES: [&str; 3] = [
+    "DR0100000000000001000000010000010000000001+0000000001+000000000001POSTED",
+    "DR0100000000000002000000010000010000000002+0000000001+000000000001POSTED",
+    "DR0100000000000001000000020000010000000001+0000000001+000000000002POSTED",
+];
+
+/// What the tasks leave in files that hold nothing.
+pub fn made(rt: &(impl Abort + Alloc<A = Global>), tasks: &[Task]) -> Image {
     let ended = play_on(rt, &[], &[], ALL_PASS, tasks);
     assert!(rt; ended.progress.is_done);
     ended.written
@@ -43,140 +58,175 @@ fn holds_whatever_is_left(rt: &(impl Abort + Alloc<A = Global>), ended: &Ended, 
     }
 }
 
-// Makes the call, until the machine stops, and again on whatever that leaves.
+// Does the task, until the machine stops, and again on whatever that leaves.
 fn stop_behind(
     rt: &(impl Abort + Alloc<A = Global>),
     start: &Image,
-    call: Call,
+    task: Task,
     passed: Passed,
 ) -> Progress {
-    let ended = play_on(rt, &start.db, &start.log, passed, &[Task::Call(call)]);
-    let progress = ended.progress;
-    if progress.is_begun {
-        holds_whatever_is_left(rt, &ended, Task::Resend(call, progress.is_done));
-    }
-    progress
+    let ended = play_on(rt, &start.db, &start.log, passed, &[task]);
+    holds_whatever_is_left(rt, &ended, task.again(ended.progress));
+    ended.progress
 }
 
-// Stops the machine at each call on the one file or the other. Some stops are in the bank's call.
-fn stop_at_each(rt: &(impl Abort + Alloc<A = Global>), start: &Image, call: Call, stops_db: bool) {
+/// So many calls pass on the one file or the other.
+pub fn passed(stops_db: bool, calls: u64) -> Passed {
+    let mut passed = ALL_PASS;
+    if stops_db {
+        passed.db = calls;
+    } else {
+        passed.log = calls;
+    }
+    passed
+}
+
+// Stops the machine at each call on the one file or the other, and returns how many stops were in the task.
+fn stops_at_each(
+    rt: &(impl Abort + Alloc<A = Global>),
+    start: &Image,
+    task: Task,
+    stops_db: bool,
+) -> u64 {
     let mut stops = 0u64;
-    for calls in 0..1_000u64 {
-        let mut passed = ALL_PASS;
-        if stops_db {
-            passed.db = calls;
-        } else {
-            passed.log = calls;
-        }
-        let progress = stop_behind(rt, start, call, passed);
+    for calls in 0..10_000u64 {
+        let progress = stop_behind(rt, start, task, passed(stops_db, calls));
         if progress.is_done {
-            assert!(rt; stops > 0);
-            return;
+            return stops;
         }
         stops = stops.saturating_add(u64::from(progress.is_begun));
     }
     panic!(rt; "a run that ends");
 }
 
-// Stops at each call on the file while the bank works.
-fn stop_in(rt: &(impl Abort + Alloc<A = Global>), call: Call, stops_db: bool) {
-    let start = made(rt, &[Task::Make]);
-    stop_at_each(rt, &start, call, stops_db);
+// Stops at each call on either file. Some stops are in the task.
+fn stop_at_each(rt: &(impl Abort + Alloc<A = Global>), start: &Image, task: Task) {
+    let at_db = stops_at_each(rt, start, task, true);
+    let at_log = stops_at_each(rt, start, task, false);
+    assert!(rt; at_db.saturating_add(at_log) > 0);
 }
 
-// Reading changes neither file.
-fn is_unchanged(rt: &impl Abort, start: &Image, left: &Image) {
-    assert!(rt; left.db.as_slice() == start.db.as_slice());
-    assert!(rt; left.log.as_slice() == start.log.as_slice());
-}
-
-// Reads the files, each of which fails behind so many calls.
-fn read_until(
-    rt: &(impl Abort + Alloc<A = Global>),
-    start: &Image,
-    reading: Reading,
-    calls: u64,
-) -> Progress {
-    let passed = Passed {
-        db: calls,
-        log: calls,
+// Stops in a case on a bank in which these branches are open.
+fn stop_in(rt: &(impl Abort + Alloc<A = Global>), open: &[(u64, u32)], case: Case) {
+    let states = states_of(rt, open, &case);
+    let case = Case {
+        states: &states,
+        ..case
     };
-    let ended = play_on(rt, &start.db, &start.log, passed, &[Task::Read(reading)]);
-    is_unchanged(rt, start, &ended.written);
-    ended.progress
+    let start = made(rt, &[Task::Make(open)]);
+    stop_at_each(rt, &start, Task::Work(case));
 }
 
-// The least number of calls behind which the reading has begun.
-fn calls_to_begin(rt: &(impl Abort + Alloc<A = Global>), start: &Image, reading: Reading) -> u64 {
-    let mut low = 0u64;
-    let mut high = 4_096u64;
-    for _ in 0..12u8 {
-        let middle = low.midpoint(high);
-        if read_until(rt, start, reading, middle).is_begun {
-            high = middle;
-        } else {
-            low = middle;
-        }
-    }
-    high
-}
-
-// Lets the files fail behind more and more calls, from the first reading that begins up to one that ends: the
-// others stop late.
-fn fail_behind_more(rt: &(impl Abort + Alloc<A = Global>), start: &Image, reading: Reading) {
-    let first = calls_to_begin(rt, start, reading);
-    for more in 0..1_000u64 {
-        let progress = read_until(rt, start, reading, first.saturating_add(more));
-        assert!(rt; progress.is_begun);
-        if progress.is_done {
-            assert!(rt; more > 0);
-            return;
-        }
-    }
-    panic!(rt; "a reading that ends");
-}
-
-fn fail_while_reading(rt: &(impl Abort + Alloc<A = Global>), reading: Reading) {
-    let start = made(rt, &[Task::Make, Task::Post]);
-    fail_behind_more(rt, &start, reading);
+// Stops in records that get these replies.
+fn stop_in_records<'a>(
+    rt: &(impl Abort + Alloc<A = Global>),
+    way: Way,
+    records: &'a [[u8; 100]],
+    replies: &'a [[u8; 200]],
+) {
+    let case = Case {
+        way,
+        plan: &[],
+        records,
+        replies,
+        states: &[],
+    };
+    stop_in(rt, BRANCHES, case);
 }
 
 #[test]
-fn a_walk_stops_behind_its_first_row(rt: HostRuntime) {
-    fail_while_reading(&rt, Reading::History);
+fn a_new_bank_stops(rt: HostRuntime) {
+    let start = Image {
+        db: Vec::new(rt.alloc()),
+        log: Vec::new(rt.alloc()),
+    };
+    stop_at_each(&rt, &start, Task::Create);
 }
 
 #[test]
-fn an_audit_stops(rt: HostRuntime) {
-    fail_while_reading(&rt, Reading::Audit);
+fn a_plan_stops(rt: HostRuntime) {
+    let case = Case {
+        way: Way::Load,
+        plan: BRANCHES,
+        records: &[],
+        replies: &[],
+        states: &[],
+    };
+    stop_in(&rt, &[], case);
 }
 
 #[test]
-fn a_posting_stops_at_the_database_file(rt: HostRuntime) {
-    stop_in(&rt, Call::Post, true);
+fn a_posting_stops(rt: HostRuntime) {
+    stop_in_records(&rt, Way::OneByOne, &[padded(RECORD)], &[padded(REPLY)]);
 }
 
 #[test]
-fn a_posting_stops_at_the_log(rt: HostRuntime) {
-    stop_in(&rt, Call::Post, false);
+fn a_batch_stops(rt: HostRuntime) {
+    let records = RECORDS.map(padded::<100>);
+    let replies = REPLIES.map(padded::<200>);
+    stop_in_records(&rt, Way::Together, &records, &replies);
+}
+
+// Two messages with the first posting's record.
+#[test]
+fn a_connection_stops(rt: HostRuntime) {
+    let records = [padded(RECORD), padded(RECORD)];
+    stop_in_records(&rt, Way::Serve, &records, &[padded(REPLY), padded(REPLY)]);
+}
+
+// The 50 records of the seed 7 over one account, by a stream or a drive.
+fn stop_in_drive(rt: &(impl Abort + Alloc<A = Global>), way: Way) {
+    let records = records_of(rt, ONE_ACCOUNT, 7, 50);
+    let replies = replies_to(rt, ONE_ACCOUNT, &records);
+    let case = Case {
+        way,
+        plan: &[],
+        records: &records,
+        replies: &replies,
+        states: &[],
+    };
+    stop_in(rt, ONE_ACCOUNT, case);
+}
+
+// A read gives 1,300 bytes at most, so that the stream has four batches.
+#[test]
+fn a_stream_stops(rt: HostRuntime) {
+    stop_in_drive(&rt, Way::Stream(1300));
 }
 
 #[test]
-fn a_batch_stops_at_the_database_file(rt: HostRuntime) {
-    stop_in(&rt, Call::Batch, true);
+fn a_drive_stops(rt: HostRuntime) {
+    stop_in_drive(&rt, Way::Drive);
+}
+
+// A bank is made, and gets a case.
+fn makes_and_works<'a>(plan: &'a [(u64, u32)], case: Case<'a>) -> [Task<'a>; 2] {
+    [Task::Make(plan), Task::Work(case)]
+}
+
+// A report of a bank with two postings.
+fn stop_in_report(rt: &(impl Abort + Alloc<A = Global>), reading: Reading) {
+    let remote = "DC01000000100001000000010000010000000002-0000000700";
+    let reply = "DR0100000000100001000000010000010000000002-0000000700-000000000700POSTED";
+    let records = [padded(RECORD), padded(remote)];
+    let replies = [padded(REPLY), padded(reply)];
+    let case = Case {
+        way: Way::OneByOne,
+        plan: &[],
+        records: &records,
+        replies: &replies,
+        states: &[],
+    };
+    let start = made(rt, &makes_and_works(BRANCHES, case));
+    stop_at_each(rt, &start, Task::Read(reading));
 }
 
 #[test]
-fn a_batch_stops_at_the_log(rt: HostRuntime) {
-    stop_in(&rt, Call::Batch, false);
+fn the_text_of_an_audit_stops(rt: HostRuntime) {
+    stop_in_report(&rt, Reading::AuditText);
 }
 
 #[test]
-fn an_opening_stops_at_the_database_file(rt: HostRuntime) {
-    stop_in(&rt, Call::OpenBranch, true);
-}
-
-#[test]
-fn an_opening_stops_at_the_log(rt: HostRuntime) {
-    stop_in(&rt, Call::OpenBranch, false);
+fn the_text_of_a_statement_stops(rt: HostRuntime) {
+    stop_in_report(&rt, Reading::Statement);
 }

@@ -1,9 +1,12 @@
 //! Tasks on the bank of any store, one after another. What a task does with the bank borrows it.
-use crate::calls::{Asked, Call, ask_to_the_end, call_until, is_whole, is_whole_or_none};
-use crate::readings::{Reading, read};
+use crate::calls::{Asked, ask, ask_to_the_end};
+use crate::cases::{Case, Way};
+use crate::readings::{Reading, is_consistent, read};
 use crate::reports::reports_are_cut;
+use crate::sums::{Ledger, Sums, sums_of};
 use crate::walks::{Rows, put_rows, walk_over};
 use bank_store::{Bank, OpenFault, Refused, adopt, create};
+use posting_core::Fault;
 use sqlite::{Alter, Connection};
 use std::alloc::{Alloc, AllocError, Global};
 use std::process::Abort;
@@ -12,44 +15,76 @@ use std::test::Fail;
 /// A connection over a store in memory, where there is room for it.
 pub type Opened<S> = Result<Connection<S>, AllocError>;
 
+/// Branch 1 with three accounts and branch 2 with two.
+pub const BRANCHES: &[(u64, u32)] = &[(1, 3), (2, 2)];
+
 /// What is done with the bank.
 #[derive(Clone, Copy)]
-pub enum Task {
+pub enum Task<'a> {
     /// It is made, with no branch.
-    MakeEmpty,
-    /// It is made, with three accounts in branch 1 and two in branch 2.
-    Make,
+    Create,
+    /// What that left, which was answered or not, is taken up, or a bank is made where there is none.
+    Recreate(bool),
+    /// It is made, with these branches and counts of accounts.
+    Make(&'a [(u64, u32)]),
     /// It gets 1,000 postings.
     Post,
-    /// The call is made.
-    Call(Call),
-    /// What the call left, which was answered or not, is tested, and it is made again.
-    Resend(Call, bool),
+    /// It gets a case.
+    Work(Case<'a>),
+    /// What a case left, of which so many parts were answered, is tested, and it is made again.
+    Again(Case<'a>, usize),
     /// All that was posted is read.
     Read(Reading),
+    /// The same, where each statement may visit so many rows.
+    Limited(u64),
     /// Rows are put into its tables, and walked over.
     Walk(Rows),
     /// Its reports are cut.
     Report,
 }
 
-/// How far a task came.
+impl<'a> Task<'a> {
+    /// What is done on what a stop in it left.
+    pub fn again(self, progress: Progress) -> Task<'a> {
+        match self {
+            Task::Create => Task::Recreate(progress.is_done),
+            Task::Work(case) => Task::Again(case, progress.parts),
+            task => task,
+        }
+    }
+
+    fn makes(self) -> bool {
+        matches!(self, Task::Create | Task::Make(_))
+    }
+
+    fn may_stop(self) -> bool {
+        matches!(
+            self,
+            Task::Create | Task::Work(_) | Task::Read(_) | Task::Limited(_)
+        )
+    }
+}
+
+/// How far a task came, and how many of its parts were answered.
 #[derive(Clone, Copy)]
 pub struct Progress {
     pub is_begun: bool,
     pub is_done: bool,
+    pub parts: usize,
 }
 
 // It came to its end.
 const DONE: Progress = Progress {
     is_begun: true,
     is_done: true,
+    parts: 0,
 };
 
 /// The machine stopped before it began.
 pub const NOT_BEGUN: Progress = Progress {
     is_begun: false,
     is_done: false,
+    parts: 0,
 };
 
 // How far a task came, and the connection then.
@@ -58,13 +93,53 @@ struct Worked<S: Alter> {
     conn: Connection<S>,
 }
 
+// The tables are as they may be behind so many parts of the case.
+fn is_left<S: Alter>(rt: &impl Abort, conn: &mut Connection<S>, states: &[Sums], parts: usize) {
+    let found = sums_of(conn).expect(rt, "the tables");
+    let mut may_be = states.iter().skip(parts);
+    assert!(rt; may_be.any(|state| *state == found), "behind {parts} parts");
+}
+
 // What is done with the tables before the bank is taken up.
 fn prepare<S: Alter>(rt: &impl Abort, conn: &mut Connection<S>, task: Task) {
     match task {
-        Task::Resend(call, is_answered) => is_whole_or_none(rt, conn, call, is_answered),
+        Task::Again(case, parts) => is_left(rt, conn, case.states, parts),
         Task::Walk(rows) => assert_eq!(rt; put_rows(conn, rows), Ok(1)),
+        Task::Limited(rows) => conn.set_step_limit(Some(rows)),
         _ => {}
     }
+}
+
+// Gets a case, until it ends or the machine stops.
+fn work_until<S: Alter + Drop>(
+    rt: &(impl Abort + Alloc<A = Global>),
+    bank: &mut Bank<S>,
+    case: &Case,
+) -> Progress {
+    let came = ask(rt, bank, Asked::Case(case));
+    assert!(rt; came.fault.is_none() || came.fault == Some(Fault::Store));
+    assert_eq!(rt; bank.cause().is_some(), came.fault.is_some());
+    Progress {
+        is_begun: true,
+        is_done: came.fault.is_none(),
+        parts: came.parts,
+    }
+}
+
+// Gets branches, all of which are opened.
+fn open_all<S: Alter + Drop>(
+    rt: &(impl Abort + Alloc<A = Global>),
+    bank: &mut Bank<S>,
+    plan: &[(u64, u32)],
+) {
+    let case = Case {
+        way: Way::Load,
+        plan,
+        records: &[],
+        replies: &[],
+        states: &[],
+    };
+    ask_to_the_end(rt, bank, Asked::Case(&case));
 }
 
 // What is done with the bank.
@@ -74,12 +149,16 @@ fn act<S: Alter + Drop>(
     task: Task,
 ) -> Progress {
     match task {
-        Task::MakeEmpty => {}
-        Task::Make => ask_to_the_end(rt, bank, Asked::Branches),
+        Task::Create | Task::Recreate(_) => {}
+        Task::Make(plan) => open_all(rt, bank, plan),
         Task::Post => ask_to_the_end(rt, bank, Asked::Postings),
-        Task::Call(call) => return call_until(rt, bank, call),
-        Task::Resend(call, _) => ask_to_the_end(rt, bank, Asked::Call(call)),
+        Task::Work(case) => return work_until(rt, bank, &case),
+        Task::Again(case, _) => {
+            assert!(rt; is_consistent(bank));
+            ask_to_the_end(rt, bank, Asked::Case(&case));
+        }
         Task::Read(reading) => return read(rt, bank, reading),
+        Task::Limited(_) => return read(rt, bank, Reading::History),
         Task::Walk(rows) => assert_eq!(rt; walk_over(rt, bank, rows), Ok(())),
         Task::Report => reports_are_cut(rt, bank),
     }
@@ -88,15 +167,58 @@ fn act<S: Alter + Drop>(
 
 // What is found in the tables behind it.
 fn review<S: Alter>(rt: &impl Abort, conn: &mut Connection<S>, task: Task) {
-    if let Task::Resend(call, _) = task {
-        is_whole(rt, conn, call);
+    match task {
+        Task::Again(case, _) => assert_eq!(rt; sums_of(conn).as_ref().ok(), case.last()),
+        Task::Recreate(_) => assert_eq!(rt; sums_of(conn), Ok(Ledger::new().sums())),
+        _ => {}
     }
 }
 
-// A bank is refused where the machine stops. Only a call and a reading may stop.
-fn refused(rt: &impl Abort, fault: OpenFault, task: Task) {
+// A bank is refused where the machine stops.
+fn refused(rt: &impl Abort, fault: OpenFault, task: Task) -> Progress {
     assert_eq!(rt; fault, OpenFault::Store);
-    assert!(rt; matches!(task, Task::Call(_) | Task::Read(_)));
+    assert!(rt; task.may_stop());
+    Progress {
+        is_begun: task.makes(),
+        ..NOT_BEGUN
+    }
+}
+
+// Makes the bank where there is none, if it wasn't answered that there is one.
+fn remade<S: Alter + Drop>(
+    rt: &(impl Abort + Alloc<A = Global>),
+    found: Result<Bank<S>, Refused<S>>,
+    task: Task,
+) -> Result<Bank<S>, Refused<S>> {
+    match (task, found) {
+        (
+            Task::Recreate(false),
+            Err(
+                Refused {
+                    fault: OpenFault::Blank,
+                    conn,
+                },
+            ),
+        ) => {
+            assert!(rt; conn.is_autocommit());
+            create(rt.alloc(), conn)
+        }
+        (_, found) => found,
+    }
+}
+
+// Makes the bank or takes it up.
+fn taken<S: Alter + Drop>(
+    rt: &(impl Abort + Alloc<A = Global>),
+    conn: Connection<S>,
+    task: Task,
+) -> Result<Bank<S>, Refused<S>> {
+    assert!(rt; conn.is_autocommit());
+    if task.makes() {
+        create(rt.alloc(), conn)
+    } else {
+        remade(rt, adopt(rt.alloc(), conn), task)
+    }
 }
 
 // Makes the bank or takes it up, and does the task, until that ends or the machine stops.
@@ -105,23 +227,15 @@ fn work<S: Alter + Drop>(
     conn: Connection<S>,
     task: Task,
 ) -> Worked<S> {
-    assert!(rt; conn.is_autocommit());
-    let taken = match task {
-        Task::MakeEmpty | Task::Make => create(rt.alloc(), conn),
-        _ => adopt(rt.alloc(), conn),
-    };
-    match taken {
+    match taken(rt, conn, task) {
         Ok(mut bank) => Worked {
             came: act(rt, &mut bank, task),
             conn: bank.release(),
         },
-        Err(Refused { fault, conn }) => {
-            refused(rt, fault, task);
-            Worked {
-                came: NOT_BEGUN,
-                conn,
-            }
-        }
+        Err(Refused { fault, conn }) => Worked {
+            came: refused(rt, fault, task),
+            conn,
+        },
     }
 }
 

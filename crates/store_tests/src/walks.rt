@@ -175,7 +175,7 @@ fn rows_beside_one_another(rt: HostRuntime) -> Result<(), Fail> {
     play_in_memory(
         &rt,
         &[
-            Task::MakeEmpty,
+            Task::Create,
             Task::Walk(Rows::Many),
             Task::Walk(Rows::Broken),
             Task::Walk(Rows::Gone),
