@@ -5,7 +5,8 @@ import subprocess
 import sys
 
 HERE = os.path.dirname(os.path.dirname(os.path.abspath(__file__)))
-BANK = os.path.join(HERE, "crates/bank/out/bank")
+# BANK in the environment names another program.
+BANK = os.environ.get("BANK") or os.path.join(HERE, "crates/bank/out/bank")
 
 
 def need_program():

@@ -1,27 +1,38 @@
 #!/usr/bin/env python3
 """How fast a running `bank serve` is on loopback: posts on one kept connection, beside `bank post` fed one record at a
 time, with the time from a message's last byte to its answer's first; and, where `wrk` is on the path, requests on a
-connection each. It needs the built program, is bounded in count and time, and stands outside the gate.
+connection each, and on 1 and 20 connections that are kept, direct and behind nginx where that is on the path. It needs
+the built program, is bounded in count and time, and stands outside the gate.
     tools/serve_load.py [POSTS [SECONDS]]"""
+import base64
+import os
 import shutil
+import socket
 import subprocess
 import sys
 import tempfile
 import time
 
-from serve_client import BANK, Server, make_bank, need_program, post, read_answer, record
+from serve_client import BANK, HERE, Server, make_bank, need_program, post, read_answer, record
 
 PLAN = [(1, 1000), (2, 1000)]
 
 # Posts of one teller's rising numbers, for wrk.
 POSTS_FOR_WRK = """
 local number = tonumber(os.getenv("FIRST")) or 1
+local teller = tonumber(os.getenv("TELLER")) or 7
 request = function()
-    local body = string.format("DC01%012d%08d%06d%010d%s%010d%49s", number % 1000 + 1, 7, 1, number, "+", 5, "")
+    local body = string.format("DC01%012d%08d%06d%010d%s%010d%49s", number % 1000 + 1, teller, 1, number, "+", 5, "")
     number = number + 1
-    return wrk.format("POST", "/post", {["Connection"] = "close"}, body)
+    return wrk.format("POST", "/post", nil, body)
 end
 """
+
+# The tellers whose numbers are used by the runs of wrk, one after another.
+TELLERS = iter(range(3, 11))
+
+# What of wrk's answer is told.
+TOLD = ("50%", "99%", "Requests/sec", "Non-2xx", "Socket errors")
 
 
 def records(count, teller):
@@ -70,6 +81,24 @@ def one_at_a_time(file, count):
     told("`bank post`, one record at a time", taken, times)
 
 
+def wrk(name, connections, seconds, fields, words, base):
+    """One run of wrk, by a teller of its own where it posts."""
+    all_words = ["wrk", "-t1", f"-c{connections}", f"-d{seconds}s", "--latency"]
+    for field in fields:
+        all_words += ["-H", field]
+    environment = dict(os.environ, TELLER=str(next(TELLERS))) if words else None
+    path = "" if words else "/account/1"
+    told_by_wrk = subprocess.run(all_words + words + [base + path], capture_output=True, text=True,
+                                 timeout=seconds + 30, env=environment).stdout
+    lines = [" ".join(line.split()) for line in told_by_wrk.splitlines() if any(word in line for word in TOLD)]
+    print(f"wrk, {connections} {name}: " + ", ".join(lines), flush=True)
+
+
+def both(name, script, connections, seconds, fields, base):
+    wrk(f"{name}, posts", connections, seconds, fields, ["-s", script], base)
+    wrk(f"{name}, balances", connections, seconds, fields, [], base)
+
+
 def with_wrk(file, folder, seconds):
     if not shutil.which("wrk"):
         print("wrk isn't on the path")
@@ -78,16 +107,26 @@ def with_wrk(file, folder, seconds):
     with open(script, "w") as lua:
         lua.write(POSTS_FOR_WRK)
     server = Server(file, 1_000_000)
-    base = f"http://127.0.0.1:{server.port}"
-    common = ["wrk", "-t1", "-c1", f"-d{seconds}s", "--latency"]
+    nginx = None
     try:
-        for name, words in [("posts", ["-s", script, base]),
-                            ("balances", ["-H", "Connection: close", base + "/account/1"])]:
-            told_by_wrk = subprocess.run(common + words, capture_output=True, text=True, timeout=seconds + 30).stdout
-            lines = [line.strip() for line in told_by_wrk.splitlines()
-                     if any(word in line for word in ("50%", "99%", "Requests/sec", "Non-2xx", "Socket errors"))]
-            print(f"wrk, a connection a request, {name}: " + ", ".join(" ".join(line.split()) for line in lines))
+        direct = f"http://127.0.0.1:{server.port}"
+        both("with a connection a request", script, 1, seconds, ["Connection: close"], direct)
+        for connections in (1, 20):
+            both("kept", script, connections, seconds, [], direct)
+        if shutil.which("nginx"):
+            with socket.create_server(("127.0.0.1", 0)) as free:
+                port = free.getsockname()[1]
+            subprocess.run([HERE + "/tools/nginx_folder.sh", folder, str(port), str(server.port)], check=True)
+            nginx = subprocess.Popen(["nginx", "-p", folder, "-c", "nginx.conf", "-g", "daemon off; user root;"],
+                                     stderr=subprocess.DEVNULL)
+            time.sleep(0.5)
+            password = "Authorization: Basic " + base64.b64encode(b"teller:counter").decode()
+            for connections in (1, 20):
+                both("kept, behind nginx", script, connections, seconds, [password], f"https://127.0.0.1:{port}")
     finally:
+        if nginx:
+            nginx.terminate()
+            nginx.wait(timeout=20)
         server.kill()
 
 

@@ -28,13 +28,16 @@ fn cut_between<'a>(
     }
 }
 
-// The reader breaks between these bytes. Where it was interrupted, the read is made again.
+// The reader breaks between these bytes, or nothing comes in time. Where it was interrupted, the read is made
+// again.
 fn read_in_two<'a>(rt: &(impl Abort + Alloc<A = Global>), before: &'a [u8], behind: &'a [u8]) {
-    let broken = Connection {
-        ended: Err(ServeFault::Read),
-        ..cut_between(before, ErrorKind::BrokenPipe, behind, before.len() / 144)
-    };
-    play(rt, &[broken]);
+    for fault in [ErrorKind::BrokenPipe, ErrorKind::TimedOut] {
+        let broken = Connection {
+            ended: Err(ServeFault::Read),
+            ..cut_between(before, fault, behind, before.len() / 144)
+        };
+        play(rt, &[broken]);
+    }
     play(
         rt,
         &[cut_between(before, ErrorKind::Interrupted, behind, 2)],

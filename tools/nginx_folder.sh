@@ -1,0 +1,23 @@
+#!/usr/bin/env bash
+# Makes a folder in which nginx can be started as examples/nginx.conf says, with certificates of a day, the password of
+# `teller`, which is `counter`, and one teller's certificate. The scripts around nginx call it. What nginx stores stays
+# in the folder.
+#   tools/nginx_folder.sh FOLDER PORT PORT_OF_THE_COUNTER
+set -eu
+here=$(cd "$(dirname "$0")/.." && pwd)
+front=$2
+back=$3
+cd "$1"
+certificate() {
+    openssl req -x509 -newkey rsa:2048 -nodes -days 1 -subj "/CN=$1" -keyout "$2.key" -out "$2.crt" "${@:3}"
+}
+{
+    certificate localhost bank -addext 'subjectAltName=DNS:localhost,IP:127.0.0.1'
+    certificate 'the tellers of the bank' tellers
+    openssl req -newkey rsa:2048 -nodes -subj '/CN=teller' -keyout teller.key -out teller.csr
+    openssl x509 -req -in teller.csr -CA tellers.crt -CAkey tellers.key -CAcreateserial -days 1 -out teller.crt
+} 2>/dev/null
+echo "teller:$(openssl passwd -apr1 counter)" >passwords
+sed -e "s/listen 8443/listen 127.0.0.1:$front/" -e "s/127.0.0.1:8080/127.0.0.1:$back/" \
+    -e 's/^http {/&\n    client_body_temp_path body;\n    proxy_temp_path proxy;/' "$here/examples/nginx.conf" >nginx.conf
+nginx -t -q -p "$PWD" -c nginx.conf
