@@ -3,7 +3,7 @@ use crate::answers::{Call, make_call};
 use crate::mixed::play_run;
 use crate::steps::{Place, Step, parts_of};
 use crate::stored::Stored;
-use crate::tables::{Found, Query};
+use crate::tables::{Found, Query, Sums};
 use anyhow::{Context, Result};
 use posting_core::PlainBank;
 use sqlite::{Alter, Connection};
@@ -17,7 +17,7 @@ struct Scenario<S: Alter> {
     plain: PlainBank,
     stored: Stored<S>,
     // The sums over the tables at the last look.
-    looked: Option<[i64; 6]>,
+    looked: Option<Sums>,
 }
 
 /// Plays a scenario, whose first line says where its bank is: prints that line, and an answer for each step.
@@ -111,7 +111,7 @@ impl<S: Alter + Drop> Scenario<S> {
         }
     }
 
-    fn compared(&self, sums: [i64; 6]) -> &'static str {
+    fn compared(&self, sums: Sums) -> &'static str {
         if self.looked == Some(sums) {
             "same"
         } else {

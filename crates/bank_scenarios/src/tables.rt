@@ -15,13 +15,19 @@ pub enum Query {
     Same,
 }
 
+// How many tables a bank has.
+const TABLES: usize = 6;
+
+/// A sum over each table.
+pub type Sums = [i64; TABLES];
+
 /// What a query found.
 #[derive(Clone, Copy)]
 pub enum Found {
     Nothing,
     Number(i64),
-    Looked([i64; 6]),
-    Compared([i64; 6]),
+    Looked(Sums),
+    Compared(Sums),
 }
 
 fn number<S: Alter>(conn: &mut Connection<S>, sql: &str) -> Result<i64, Error> {
@@ -29,7 +35,7 @@ fn number<S: Alter>(conn: &mut Connection<S>, sql: &str) -> Result<i64, Error> {
 }
 
 // A sum over each table, in which the columns have different weights.
-const SUMS: [&str; 6] = [
+const SUMS: [&str; TABLES] = [
     "SELECT coalesce(sum(1 + 2 * id + 3 * version + 5 * decided), 0) FROM meta",
     "SELECT coalesce(sum(1 + 2 * bid + 3 * accounts + 5 * balance), 0) FROM branch",
     "SELECT coalesce(sum(1 + 2 * tid + 3 * balance), 0) FROM teller",
@@ -38,8 +44,8 @@ const SUMS: [&str; 6] = [
     "SELECT coalesce(sum(1 + 2 * ordinal + 3 * tid + 5 * number + 7 * aid + 11 * bid + 13 * delta + 17 * outcome + 19 * balance), 0) FROM request",
 ];
 
-fn sums<S: Alter>(conn: &mut Connection<S>) -> Result<[i64; 6], Error> {
-    let mut found = [0; 6];
+fn sums<S: Alter>(conn: &mut Connection<S>) -> Result<Sums, Error> {
+    let mut found = [0; TABLES];
     for place in 0..SUMS.len() {
         found[place] = number(conn, SUMS[place])?;
     }

@@ -9,13 +9,13 @@ pub enum OpenFault {
     /// The store failed: for memory, the disk, a size (also that of the schema) or a limit of steps. It says
     /// nothing of what the file has.
     Store,
-    /// Where a bank is made: one of the six tables is there, or a statement that makes one is refused.
+    /// Where a bank is made: one of its tables is there, or a statement that makes one is refused.
     NotBlank,
-    /// Where a bank is looked for, as all that follow: none of the six tables is there.
+    /// Where a bank is looked for, as all that follow: none of its tables is there.
     Blank,
-    /// Some of the six tables are there, and some aren't.
+    /// Some of its tables are there, and some aren't.
     Foreign,
-    /// The six tables are there, and `meta` has this version, which isn't ours.
+    /// Its tables are there, and `meta` has this version, which isn't ours.
     Version(i64),
     /// The row of `meta` is missing or its count of requests is out of range (`Rule::Meta`), or it has a
     /// value of another type (`Rule::Value`).

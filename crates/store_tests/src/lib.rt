@@ -1,7 +1,7 @@
-//! Tests of the bank in tables that no scenario reaches: each statement of the six tables once, walks over
+//! Tests of the bank in tables that no scenario reaches: each statement of the bank's tables once, walks over
 //! rows that are beside one another, machines that stop at each call on a file, life after life, steady runs,
-//! files that fail while a bank is read, the texts of
-//! reports, whole and cut, and the first programs of the libraries.
+//! files that fail while a bank is read, the texts of reports, whole and cut, and the first programs of the
+//! libraries.
 #![tactic(auto)]
 
 #[cfg(test)]

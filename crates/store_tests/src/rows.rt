@@ -20,7 +20,7 @@ fn make<S: Alter>(rt: &impl Abort, conn: &mut Connection<S>) -> Result<(), Error
     create(conn)
 }
 
-// How many of the six probes are accepted.
+// How many of the probes are accepted.
 fn accepted<S: Alter>(conn: &mut Connection<S>) -> Result<u32, Error> {
     let one = [
         probe_meta(conn)?,
