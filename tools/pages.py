@@ -3,7 +3,7 @@
 
     tools/pages.py
 
-The page of a library is the `//!` lines at the head of its src/lib.rt. A page has one ```rust block, and the paragraph before
+The page of a library is the `//!` lines at the head of its src/lib.rt, and of a file of src/ that has such a program. A page has one ```rust block, and the paragraph before
 it names "the test `NAME` of `CRATE`", "the function `NAME` of `CRATE`" or "the program `CRATE`". The block's lines stand
 one directly after the other in a file of that crate, from the first import to the end of the test, which is marked as one,
 of the function, which is called elsewhere in the crate, or of `main`. Blank lines, `#[test]` and indentation don't count.
@@ -82,9 +82,10 @@ def fault_of(page):
 
 def main():
     pages = {"README.md": README.read_text().splitlines()}
-    for lib in sorted(CRATES.glob("*/src/lib.rt")):
-        if lib.parent.parent.name not in NO_PROGRAM:
-            pages[lib.parent.parent.name] = page_of(lib)
+    for file in sorted(CRATES.glob("*/src/*.rt")):
+        crate, page = file.parent.parent.name, page_of(file)
+        if crate not in NO_PROGRAM and (file.name == "lib.rt" or "```rust" in page):
+            pages[f"{crate}/{file.stem}"] = page
     faults = {name: fault_of(page) for name, page in pages.items()}
     for name, fault in faults.items():
         print(f"{name}: {fault or 'as it is run'}")

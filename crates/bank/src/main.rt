@@ -2,9 +2,9 @@
 //! posted to it from standard input.
 #![tactic(auto)]
 
-use bank_clock::SystemClock;
-use bank_endings::{Status, tell_no_words};
-use bank_program::{run, words_of};
+use bank_commands::{run, words_of};
+use command_line::{Status, tell_no_words};
+use posting_core::SystemClock;
 use sqlite::{Start, Unknown};
 use std::process::ExitCode;
 

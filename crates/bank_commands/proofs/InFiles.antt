@@ -2,9 +2,9 @@
 use Rattle.std.proofs.Common.{◌≡◌, subst, sym}
 use Rattle.std.specs.Prelude.{⊤}
 use Rattle.posting_rules.specs.Counter.{Seen}
-use Rattle.bank_endings.specs.Looking.{IsOfLook, IsOfOpening}
-use Rattle.bank_endings.specs.declared.fault.CommandFault.{CommandFault}
-use Rattle.bank_endings.specs.declared.fault.CommandFault.TheVariants as faults
+use Rattle.command_line.specs.Looking.{IsOfLook, IsOfOpening}
+use Rattle.command_line.specs.declared.fault.CommandFault.{CommandFault}
+use Rattle.command_line.specs.declared.fault.CommandFault.TheVariants as faults
 use Rattle.bank_commands.specs.InFile.{WorksFrom}
 use Rattle.bank_commands.specs.declared.openings.Way.{Way}
 use Rattle.bank_commands.specs.declared.openings.Way.TheVariants.{Find, Make}

@@ -2,3 +2,5 @@ pub mod BankInFiles
 pub mod InFiles
 pub mod Refusals
 pub mod Worked
+pub mod Ended
+pub mod Endings

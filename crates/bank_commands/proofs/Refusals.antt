@@ -5,9 +5,9 @@ use Rattle.bank_store.specs.NewBank.{IsTaken}
 use Rattle.bank_store.specs.OpenFaults.{IsUnmade}
 use Rattle.posting_rules.specs.declared.open_fault.OpenFault.{OpenFault}
 use Rattle.posting_rules.specs.declared.open_fault.OpenFault.TheVariants.{NotBlank}
-use Rattle.bank_endings.specs.Faults.{fault_of_opening}
-use Rattle.bank_endings.specs.Looking.{IsOfLook}
-use Rattle.bank_endings.specs.declared.fault.CommandFault.{CommandFault}
+use Rattle.command_line.specs.Faults.{fault_of_opening}
+use Rattle.command_line.specs.Looking.{IsOfLook}
+use Rattle.command_line.specs.declared.fault.CommandFault.{CommandFault}
 use Rattle.bank_commands.specs.Unfound.{IsUnmadeOver}
 
 module _ {C : Type 0} (state : C → State) where

@@ -5,9 +5,9 @@ use Rattle.std.specs.Io.KnownBytes.{Keeps}
 use Rattle.std.proofs.KnownBytes.{Keeps-refl}
 use Rattle.sqlite_wal.specs.Recovery.{Image}
 use Rattle.posting_rules.specs.Counter.{Seen}
-use Rattle.bank_endings.specs.declared.fault.CommandFault.{CommandFault}
-use Rattle.bank_endings.specs.declared.fault.CommandFault.TheVariants.{Write}
-use Rattle.bank_endings.specs.Looking.{IsOfOpening}
+use Rattle.command_line.specs.declared.fault.CommandFault.{CommandFault}
+use Rattle.command_line.specs.declared.fault.CommandFault.TheVariants.{Write}
+use Rattle.command_line.specs.Looking.{IsOfOpening}
 use Rattle.bank_commands.specs.InFile.{WorksIn}
 use Rattle.bank_commands.specs.Commands.{Ends, MakesIn, RunsIn, RunsInNew}
 

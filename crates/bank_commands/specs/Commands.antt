@@ -7,13 +7,13 @@ use Rattle.sqlite_wal.specs.Recovery.{Image}
 use Rattle.posting_rules.specs.Counter.{Seen}
 use Rattle.posting_core.specs.Stream.{Streamed, OutputsReplies, SurvivesStream, Resends}
 use Rattle.posting_core.specs.declared.stream.StreamFault.{StreamFault}
-use Rattle.bank_endings.specs.Faults.{fault_of_stream}
-use Rattle.bank_endings.specs.Looking.{IsOfOpening}
-use Rattle.bank_endings.specs.declared.fault.CommandFault.{CommandFault}
-use Rattle.bank_endings.specs.declared.status.Status.{Status}
+use Rattle.command_line.specs.Faults.{fault_of_stream}
+use Rattle.command_line.specs.Looking.{IsOfOpening}
+use Rattle.command_line.specs.declared.fault.CommandFault.{CommandFault}
+use Rattle.command_line.specs.declared.status.Status.{Status}
 use Rattle.bank_commands.specs.InFile.{IsFoundIn, IsNewIn, WorksFrom, WorksIn}
 use Rattle.bank_commands.specs.Unfound.{IsUnfoundIn}
-use Rattle.bank_work.specs.Working.{DrivesOver, EndsInFault, LoadsOver, ServesOver}
+use Rattle.command_line.specs.Working.{DrivesOver, EndsInFault, LoadsOver, ServesOver}
 
 -- a new bank was made there
 abbrev pub MakesIn : {C : Type 0} → (C → Seen) → Image → Type 0

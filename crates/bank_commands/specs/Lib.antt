@@ -3,3 +3,4 @@ pub mod Unfound
 pub mod Commands
 pub mod Stating
 pub mod Auditing
+pub mod Running

@@ -6,9 +6,9 @@ use Rattle.posting_rules.specs.Counter.{Seen}
 use Rattle.bank_audits.specs.Statements.{States}
 use Rattle.bank_audits.specs.declared.fault.ReportFault.{ReportFault}
 use Rattle.bank_audits.specs.declared.fault.ReportFault.TheVariants as report
-use Rattle.bank_endings.specs.Faults.{fault_of_bank}
-use Rattle.bank_endings.specs.declared.fault.CommandFault.{CommandFault}
-use Rattle.bank_endings.specs.declared.fault.CommandFault.TheVariants as fault
+use Rattle.command_line.specs.Faults.{fault_of_bank}
+use Rattle.command_line.specs.declared.fault.CommandFault.{CommandFault}
+use Rattle.command_line.specs.declared.fault.CommandFault.TheVariants as fault
 use Rattle.bank_commands.specs.InFile.{WorksIn}
 
 -- what the command says of a statement of this account

@@ -5,10 +5,10 @@ use Rattle.sqlite_wal.specs.Recovery.{Image}
 use Rattle.bank_store.specs.FoundBank.{Misses}
 use Rattle.bank_store.specs.NewBank.{IsTaken}
 use Rattle.posting_rules.specs.declared.open_fault.OpenFault.{OpenFault}
-use Rattle.bank_endings.specs.Faults.{fault_of_opening}
-use Rattle.bank_endings.specs.Looking.{IsOfLook}
-use Rattle.bank_endings.specs.declared.fault.CommandFault.{CommandFault}
-use Rattle.bank_endings.specs.declared.fault.CommandFault.TheVariants.{AlreadyBank, Store}
+use Rattle.command_line.specs.Faults.{fault_of_opening}
+use Rattle.command_line.specs.Looking.{IsOfLook}
+use Rattle.command_line.specs.declared.fault.CommandFault.{CommandFault}
+use Rattle.command_line.specs.declared.fault.CommandFault.TheVariants.{AlreadyBank, Store}
 use Rattle.bank_files.specs.Opening.{IsOpenedOn}
 
 module _ {C : Type 0} (state : C → State) where

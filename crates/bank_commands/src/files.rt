@@ -8,12 +8,12 @@ ghost use Rattle.sqlite_wal.specs.Recovery.{Image};
 ghost use Rattle.posting_rules.specs.Commands.{Command};
 ghost use Rattle.posting_rules.specs.Counter.{StandsAt};
 ghost use Rattle.bank_store.specs.Connections.{conn_seen};
-ghost use Rattle.bank_endings.specs.Looking.{IsOfLook};
+ghost use Rattle.command_line.specs.Looking.{IsOfLook};
 ghost use Rattle.bank_files.specs.Opening.{IsOpenedOn};
 ghost use Rattle.bank_commands.specs.InFile.{HoldsLog, IsSettled, StaysUnclosed};
 
-use bank_endings::CommandFault;
 use bank_files::open;
+use command_line::CommandFault;
 use sqlite::{Connection, FileFrom, FileStore, Files, Start};
 use sqlite_disk::Disk;
 use std::fs::{self, Metadata};

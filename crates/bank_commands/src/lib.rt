@@ -8,7 +8,7 @@
 //!
 //! ```rust
 //! use bank_commands::{init, load_plan, post};
-//! use bank_endings::CommandFault;
+//! use command_line::CommandFault;
 //! use posting_core::{Clock, Count};
 //! use sqlite::Unknown;
 //! use std::io::{Read, Write};
@@ -28,7 +28,7 @@
 //! ```
 //!
 //! For a record of 500 cents to account 1 the output is `created`, `opened 2 already 0 differs 0` and a
-//! reply with the balance 500 and the outcome `POSTED`. A fault is a `CommandFault` of `bank_endings`.
+//! reply with the balance 500 and the outcome `POSTED`. A fault is a `CommandFault` of `command_line`.
 //!
 //! `rt` is what `main` is given. `Unknown` is all that a program knows of what its files hold, and supposes
 //! that a torn write leaves each byte old or new; `Wary` of `sqlite` in its place doesn't suppose it, and
@@ -37,7 +37,7 @@
 //! committed is kept and the next open finds it.
 //!
 //! Read next: `specs/Commands`, what each command does to the bank of its file; `specs/InFile`, which bank is
-//! found there, by what the files held; the crate `bank_work`, what it does with any bank; `bank_program`,
+//! found there, by what the files held; the crate `command_line`, what it does with any bank; `bank_commands`,
 //! which calls them by the words of the command line.
 #![tactic(auto)]
 
@@ -45,6 +45,7 @@ mod audit;
 mod commands;
 mod files;
 mod openings;
+mod running;
 mod server;
 mod stating;
 mod work;
@@ -53,5 +54,6 @@ pub use audit::audit_file;
 pub use commands::{drive, init, load_plan, post};
 pub use files::close;
 pub use openings::settled;
+pub use running::{run, words_of};
 pub use server::serve;
 pub use stating::statement;

@@ -5,13 +5,13 @@ ghost use Rattle.posting_rules.specs.Commands.{Command};
 ghost use Rattle.posting_rules.specs.Counter.{StandsAt};
 ghost use Rattle.bank_store.specs.Connections.{conn_seen};
 ghost use Rattle.bank_store.specs.Seen.{bank_seen, connection_of};
-ghost use Rattle.bank_endings.specs.Faults.{fault_of_opening};
-ghost use Rattle.bank_endings.specs.Looking.{IsOfOpening};
+ghost use Rattle.command_line.specs.Faults.{fault_of_opening};
+ghost use Rattle.command_line.specs.Looking.{IsOfOpening};
 ghost use Rattle.bank_commands.specs.InFile.{BankIsMadeOver, IsSettled, IsTakenUp};
 ghost use Rattle.bank_commands.specs.Unfound.{IsMissedOver, IsUnmadeOver};
 
-use bank_endings::CommandFault;
 use bank_store::{Bank, Refused, adopt, create, opened_law};
+use command_line::CommandFault;
 use sqlite::{Alter, Connection};
 use sqlite_trees::store::Store;
 use std::alloc::Global;

@@ -3,15 +3,14 @@ ghost use Rattle.std.specs.Prelude.{◌≡◌, ◌≢◌, IfErr, OnOk};
 ghost use Rattle.sqlite.specs.Held.{state};
 ghost use Rattle.sqlite_wal.specs.Files.{image_at};
 ghost use Rattle.bank_store.specs.Seen.{bank_seen};
-ghost use Rattle.bank_endings.specs.declared.fault.CommandFault.TheVariants as faults;
-ghost use Rattle.bank_work.specs.Working.{MayTellListening, ServesOver, TellsListening, done_after};
+ghost use Rattle.command_line.specs.declared.fault.CommandFault.TheVariants as faults;
+ghost use Rattle.command_line.specs.Working.{MayTellListening, ServesOver, TellsListening, done_after};
 ghost use Rattle.bank_commands.specs.Commands.{FindsBank, ServesIn};
 
 use crate::openings::Way;
 use crate::work::{Work, work_in};
-use bank_endings::CommandFault;
 use bank_store::Bank;
-use bank_work::listen;
+use command_line::{CommandFault, listen};
 use posting_core::Clock;
 use sqlite::{Alter, FileFrom, FileStore, Start};
 use sqlite_trees::store::Store;

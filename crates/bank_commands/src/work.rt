@@ -4,8 +4,8 @@ ghost use Rattle.sqlite.specs.Held.{state};
 ghost use Rattle.sqlite_wal.specs.Files.{image_at};
 ghost use Rattle.posting_rules.specs.Counter.{Seen};
 ghost use Rattle.bank_store.specs.Seen.{bank_seen};
-ghost use Rattle.bank_endings.specs.Looking.{IsOfLook, IsOfOpening};
-ghost use Rattle.bank_endings.specs.declared.fault.CommandFault.{CommandFault};
+ghost use Rattle.command_line.specs.Looking.{IsOfLook, IsOfOpening};
+ghost use Rattle.command_line.specs.declared.fault.CommandFault.{CommandFault};
 ghost use Rattle.bank_commands.specs.Commands.{Ends, FindsBank, RunsIn, RunsInNew, ends};
 ghost use Rattle.bank_commands.specs.Commands.{IsIdleIn};
 ghost use Rattle.bank_commands.specs.InFile.{BankIsMadeOver, IsTakenUp, WorksFrom};
@@ -13,8 +13,8 @@ ghost use Rattle.bank_commands.specs.Unfound.{IsMissedOver, IsUnmadeIn, IsUnmade
 
 use crate::files::{close, connect, look_for};
 use crate::openings::{Way, have, settled};
-use bank_endings::CommandFault;
 use bank_store::Bank;
+use command_line::CommandFault;
 use sqlite::{Alter, Connection, FileFrom, FileStore, Start};
 use sqlite_trees::store::Store;
 

@@ -24,10 +24,10 @@ use Rattle.counter_http.specs.Turns.{Turn, commands_in, commands_of, answers_to}
 use Rattle.counter_http.specs.declared.fault.ServeFault.{ServeFault}
 use Rattle.counter_http.specs.declared.fault.ServeFault.TheVariants as serving
 use Rattle.branch_loader.specs.Loading.{IsRefusedAfter}
-use Rattle.bank_driver.specs.Drives.{Drives, EndsDrive}
-use Rattle.bank_driver.specs.declared.drive.Driven.{Driven}
-use Rattle.bank_driver.specs.declared.fault.DriveFault.{DriveFault}
-use Rattle.bank_driver.specs.declared.fault.DriveFault.TheVariants as driving
+use Rattle.load_driver.specs.Drives.{Drives, EndsDrive}
+use Rattle.load_driver.specs.declared.drive.Driven.{Driven}
+use Rattle.load_driver.specs.declared.drive_fault.DriveFault.{DriveFault}
+use Rattle.load_driver.specs.declared.drive_fault.DriveFault.TheVariants as driving
 use Rattle.bank_lives.specs.Lives.{IsStream}
 use Rattle.bank_lives.proofs.Calls.{still, stood_is_call}
 

@@ -14,9 +14,9 @@ ghost use Rattle.counter_http.specs.Serving.{ServesConnection};
 ghost use Rattle.counter_http.specs.Turns.{Turn, commands_of};
 ghost use Rattle.counter_http.specs.declared.fault.ServeFault.{ServeFault};
 ghost use Rattle.branch_loader.specs.Loading.{IsRefusedAfter};
-ghost use Rattle.bank_driver.specs.Drives.{Drives};
-ghost use Rattle.bank_driver.specs.declared.drive.Driven.{Driven};
-ghost use Rattle.bank_driver.specs.declared.fault.DriveFault.{DriveFault};
+ghost use Rattle.load_driver.specs.Drives.{Drives};
+ghost use Rattle.load_driver.specs.declared.drive.Driven.{Driven};
+ghost use Rattle.load_driver.specs.declared.drive_fault.DriveFault.{DriveFault};
 ghost use Rattle.bank_lives.specs.Lives.{IsStream};
 
 use posting_rules::Counter;

@@ -1,6 +1,6 @@
 //! What a bank answers to a call, whatever keeps its tables.
 use crate::records::Record;
-use bank_driver::{MAX_DRIVEN, drive_records};
+use load_driver::{MAX_DRIVEN, drive_records};
 use message_records::{Account, Branch, Moment, REPLY_BYTES, REQUEST_BYTES};
 use posting_core::{Counter, Opening, RECORDS_PER_BATCH, StoredClock};
 use std::alloc::{AllocError, Global};

@@ -15,8 +15,7 @@ ghost use Rattle.posting_rules.specs.Tables.{Tables};
 use crate::laws::range_law;
 use crate::walks::read_outside;
 use arrayvec::ArrayVec;
-use bank_batches::post_all;
-use bank_transactions::{open_branch, post, read_balance, read_next_branch};
+use bank_transactions::{open_branch, post, post_all, read_balance, read_next_branch};
 use bank_walks::{AHEAD, WalkedRow};
 use message_records::{
     Account, Branch, Cents, Moment, REPLY_BYTES, REQUEST_BYTES, decode_request, encode_reply,
@@ -208,7 +207,7 @@ impl<S: Alter + Drop> Counter for Bank<S> {
     ghost use Rattle.posting_rules.specs.declared.rows.BranchRow.{BranchRow};
     ghost use Rattle.bank_transactions.specs.Causes.{IsBefore};
     ghost use Rattle.bank_transactions.specs.Stored.{IsStoredBalance, IsStoredNext};
-    ghost use Rattle.bank_batches.specs.Batches.{DecidesNone};
+    ghost use Rattle.bank_transactions.specs.Batches.{DecidesNone};
     ghost use Rattle.bank_store.specs.Down.{AnswersBy, IsBankCall, OfDamage, WasBroken, bank_reason};
     ghost use Rattle.bank_store.specs.NoneOrAll.{LeavesNoneOrAll, IsIdle};
     ghost use Rattle.bank_store.specs.Seen.{bank_seen, database_of, file_of};
@@ -226,7 +225,11 @@ impl<S: Alter + Drop> Counter for Bank<S> {
     // What a crash of the store leaves.
     ghost leaves_something = { λ bank honest. S.Store.survives bank.conn.store honest };
 
-    fn submit(&mut self, moment: Moment, bytes: &[u8; REQUEST_BYTES]) -> Result<[u8; REPLY_BYTES], Fault>
+    fn submit(
+        &mut self,
+        moment: Moment,
+        bytes: &[u8; REQUEST_BYTES],
+    ) -> Result<[u8; REPLY_BYTES], Fault>
         ensures answer { AnswersBy S.Store self.old self.new result
             (λ log out. out ≡ reply_spelling (reply log bytes.now)) }
         ensures call { IsBankCall S.Store self.old self.new (Post moment bytes.now ∷ []) result }
@@ -246,7 +249,11 @@ impl<S: Alter + Drop> Counter for Bank<S> {
     // All room is made before the store is asked, so that `Memory` changes nothing. Each row that the records
     // touch is read once, and each that they change is written once. They are committed together or not at
     // all. A batch in which nothing is decided changes no table, and a stop in it leaves nothing else.
-    fn submit_all(&mut self, moment: Moment, records: &[[u8; REQUEST_BYTES]]) -> Result<Vec<[u8; REPLY_BYTES]>, Fault>
+    fn submit_all(
+        &mut self,
+        moment: Moment,
+        records: &[[u8; REQUEST_BYTES]],
+    ) -> Result<Vec<[u8; REPLY_BYTES]>, Fault>
         requires some { 1 ≤ length records.now }
         requires few { length records.now ≤ RECORDS_PER_BATCH }
         ensures count { IfOk result (λ replies. length replies.items ≡ length records.now) }

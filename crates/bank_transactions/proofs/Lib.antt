@@ -10,3 +10,12 @@ pub mod ReadsInTurn
 pub mod SoundRows
 pub mod Statements
 pub mod Transacted
+pub mod Both
+pub mod LookUps
+pub mod Loops
+pub mod FilledSlots
+pub mod Rows
+pub mod Whole
+pub mod Together
+pub mod Answered
+pub mod Idle

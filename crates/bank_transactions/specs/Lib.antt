@@ -3,3 +3,7 @@ pub mod Causes
 pub mod Doing
 pub mod NewRows
 pub mod Stored
+pub mod Filling
+pub mod Writing
+pub mod InTurn
+pub mod Batches

@@ -40,14 +40,20 @@
 #![tactic(auto)]
 
 mod balances;
+mod batch_changes;
+mod batches;
 mod changes;
 mod found;
 mod new_branch;
 mod next_branch;
 mod posting;
+mod slots;
 mod transactions;
 
 pub use balances::{write_balance, write_decided};
+pub use batch_changes::write;
+pub use batches::{answer_batch, post_all};
 pub use found::{branch_at, decided, kept_request, open_balance, teller_balances};
 pub use next_branch::read_next_branch;
+pub use slots::fill;
 pub use transactions::{begin, finish, note_settled, open_branch, post, read_balance};

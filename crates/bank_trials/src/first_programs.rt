@@ -6,7 +6,7 @@ mod words;
 mod work;
 
 use anyhow::{Result, bail};
-use bank_endings::Status;
+use command_line::Status;
 use commands::first_commands;
 use endings::first_ending;
 pub use files::ask;

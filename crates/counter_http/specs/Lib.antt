@@ -10,3 +10,6 @@ pub mod Telling
 pub mod Turns
 pub mod Serving
 pub mod Outputs
+pub mod ListenFaults
+pub mod WaitingLimits
+pub mod Connections

@@ -37,21 +37,35 @@
 //! refused, or the bank refused a call, which is answered by a 503.
 //!
 //! Read next: [`serve_connection`]; `specs/Messages`, what a message is, and `specs/Paths`, where each leads;
-//! the crate `counter_tcp`, which serves the connections of a listener.
+//! [`serve_connections`], which serves the connections of a listener.
 #![tactic(auto)]
 
 mod accounts;
 mod answers;
+mod close;
 mod connection;
+mod connections;
+mod door;
 mod fault;
 mod fields;
 mod fixed;
 mod limits;
 mod lines;
+mod listen_fault;
 mod next;
+mod pace;
+mod queue;
+mod reader;
 mod routes;
 mod telling;
+pub mod waiting_limits;
+mod writer;
 
 pub use connection::{Served, serve_connection};
+pub use connections::{serve_connections, serve_door};
+pub use door::{Door, TcpDoor};
 pub use fault::ServeFault;
 pub use limits::{MAX_BODY, MAX_FIELDS, MAX_HEAD};
+pub use listen_fault::ListenFault;
+pub use reader::TimedReader;
+pub use writer::TimedWriter;

@@ -1,7 +1,6 @@
 //! The program's clock over a source that is known.
-use bank_clock::SystemClock;
 use message_records::Moment;
-use posting_core::Clock;
+use posting_core::{Clock, SystemClock};
 use std::io::{self, ErrorKind};
 use std::rt::Clock as TimeSource;
 use std::time::Duration;

@@ -1,5 +1,5 @@
 //! Drives over a bank in memory, beside the records of `tools/driver_vectors.py`.
-use bank_driver::{DriveFault, Driven, drive_records};
+use load_driver::{DriveFault, Driven, drive_records};
 use message_records::{Account, Branch, Cents, Moment, REQUEST_BYTES, decode_request};
 use posting_core::{Counter, Fault, PlainBank, StoredClock};
 use std::alloc::{Alloc, Global};

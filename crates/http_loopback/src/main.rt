@@ -1,10 +1,10 @@
 //! Both ends of two connections on a port of loopback, in one thread: a client connects and says nothing,
 //! another connects, sends what comes on standard input and ends its writing side, two connections are served,
 //! and what the clients then read goes out. The bank is in memory, with branch 1 of three accounts and branch 2
-//! of two, and its clock is at the moment 0. The page of `counter_tcp` shows all of it.
+//! of two, and its clock is at the moment 0. The page of `counter_http` shows all of it.
 #![tactic(auto)]
 
-use counter_tcp::serve_connections;
+use counter_http::serve_connections;
 use message_records::Branch;
 use posting_core::{Counter, PlainBank, StoredClock};
 use std::io;

@@ -1,7 +1,7 @@
 //! Connections that a door gives, one after another, some of which are given up.
 use crate::bank::{balances, open_branches};
 use crate::texts::{FIRST_AND_REMOTE, FIRST_ANSWER, FIRST_TWICE, REMOTE_ANSWER};
-use counter_tcp::{Door, ListenFault, serve_door};
+use counter_http::{Door, ListenFault, serve_door};
 use failing_ends::{CutReader, CutWriter};
 use posting_core::{PlainBank, StoredClock};
 use std::alloc::Global;

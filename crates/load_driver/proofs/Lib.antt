@@ -1,3 +1,9 @@
 pub mod Remote
 pub mod Totals
 pub mod Steps
+pub mod Again
+pub mod Counted
+pub mod Drawn
+pub mod DriveEnds
+pub mod DriveLoop
+pub mod Listed

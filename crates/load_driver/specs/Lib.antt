@@ -5,3 +5,7 @@ pub mod Requests
 pub mod OfPlan
 pub mod Counts
 pub mod Faults
+pub mod DriveFaults
+pub mod Records
+pub mod Counted
+pub mod Drives

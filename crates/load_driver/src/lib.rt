@@ -19,12 +19,18 @@
 //! }
 //! ```
 //!
-//! Read next: [`Driver::new`] and [`Driver::next`]; `specs/Requests`, which says record n; the crate
-//! `bank_driver`, which submits such records to a counter.
+//! Read next: [`Driver::new`] and [`Driver::next`]; `specs/Requests`, which says record n; [`drive_records`],
+//! which submits such records to a counter and counts their replies.
 #![tactic(auto)]
 
 mod accounts;
 mod draws;
+mod drive;
+mod drive_batches;
+mod drive_fault;
 mod driver;
+mod open_branches;
 
+pub use drive::{Driven, MAX_DRIVEN, drive_records};
+pub use drive_fault::DriveFault;
 pub use driver::{Driver, DriverFault, MOST_RECORDS};

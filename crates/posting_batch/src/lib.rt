@@ -33,7 +33,7 @@
 //!
 //! Only [`Batch::new`] takes memory, and where that was refused nothing is left. Judging can't fail.
 //!
-//! Read next: [`Batch`]; `specs/Batch`, what a batch covers and changes; the crate `bank_batches`, which
+//! Read next: [`Batch`]; `specs/Batch`, what a batch covers and changes; the crate `bank_transactions`, which
 //! fills a batch from the tables of a file and writes it.
 #![tactic(auto)]
 

@@ -6,3 +6,4 @@ pub mod Once
 pub mod Clock
 pub mod Batches
 pub mod Stream
+pub mod Readings

@@ -36,6 +36,7 @@ mod ends;
 mod once;
 mod plain_bank;
 mod stream;
+mod system_clock;
 pub mod transfer;
 mod walking;
 
@@ -53,4 +54,5 @@ pub use posting_rules::{
     tables_are_undamaged,
 };
 pub use stream::{Count, StreamFault, post_stream};
+pub use system_clock::{SystemClock, TimeTeller, moment_of};
 pub use transfer::{WriteFailed, write_each, write_out};

@@ -1,8 +1,8 @@
 //! The calls of a case on any counter, and what they answer.
 use crate::cases::{Case, Way};
-use bank_driver::{DriveFault, Driven, drive_records};
 use branch_loader::{Plan, load};
 use counter_http::{ServeFault, Served, serve_connection};
+use load_driver::{DriveFault, Driven, drive_records};
 use message_records::{Branch, Moment};
 use posting_core::{Count, Counter, Fault, StoredClock, StreamFault, post_stream};
 use std::alloc::{Alloc, Global};

@@ -1,6 +1,6 @@
 //! The first program of `bank_commands`.
 use bank_commands::{init, load_plan, post};
-use bank_endings::CommandFault;
+use command_line::CommandFault;
 use posting_core::{Clock, Count};
 use sqlite::Unknown;
 use std::io::{Read, Write};

@@ -1,5 +1,5 @@
-//! The first program of `bank_endings`.
-use bank_endings::{Status, print_created, tell};
+//! The first program of `command_line`.
+use command_line::{Status, print_created, tell};
 use std::io::Write;
 
 pub fn first_ending<W: Write, E: Write>(output: &mut W, faults: &mut E) -> Status {

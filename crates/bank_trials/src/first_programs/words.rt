@@ -1,5 +1,5 @@
-//! The first program of `bank_words`.
-use bank_words::{Command, read_words};
+//! The first program of `command_line`.
+use command_line::{Command, read_words};
 use std::alloc::Global;
 
 pub fn first_words<'a>(alloc: Global, words: &'a [&'a str]) -> Option<(&'a str, u64, u64)> {

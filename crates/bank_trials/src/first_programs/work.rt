@@ -1,6 +1,5 @@
-//! The first program of `bank_work`.
-use bank_endings::CommandFault;
-use bank_work::drive_into;
+//! The first program of `command_line`.
+use command_line::{CommandFault, drive_into};
 use message_records::Branch;
 use posting_core::{Counter, PlainBank, StoredClock};
 use std::alloc::Global;

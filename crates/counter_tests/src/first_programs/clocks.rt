@@ -1,6 +1,5 @@
-//! The first program of `bank_clock`.
-use bank_clock::{SystemClock, moment_of};
-use posting_core::Clock;
+//! The first program of `posting_core`.
+use posting_core::{Clock, SystemClock, moment_of};
 use std::test::Fail;
 use std::time::{Duration, SystemTime, UNIX_EPOCH};
 

@@ -1,5 +1,5 @@
-//! The first program of `bank_driver`.
-use bank_driver::{DriveFault, Driven, drive_records};
+//! The first program of `load_driver`.
+use load_driver::{DriveFault, Driven, drive_records};
 use posting_core::{Counter, StoredClock};
 use std::alloc::Global;
 

@@ -1,7 +1,7 @@
-//! The first program of `bank_batches`.
+//! The first program of `bank_transactions`.
 ghost use Rattle.std.specs.Prelude.{◌≡◌, false};
 
-use bank_batches::post_all;
+use bank_transactions::post_all;
 use message_records::{Moment, REPLY_BYTES, REQUEST_BYTES};
 use posting_batch::Batch;
 use sqlite::{Alter, Connection};

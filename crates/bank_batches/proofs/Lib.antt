@@ -1,9 +1,0 @@
-pub mod Both
-pub mod LookUps
-pub mod Loops
-pub mod FilledSlots
-pub mod Rows
-pub mod Whole
-pub mod Together
-pub mod Answered
-pub mod Idle

@@ -1,8 +1,0 @@
--- The changed balance of one slot.
-use Rattle.std.proofs.Common.{refl}
-use Rattle.bank_transactions.proofs.Chained.{does_for}
-use Rattle.bank_batches.proofs.Rows.{account_made}
-use Rattle.bank_batches.proofs.changes.AccountSlotChange.make.Goals as goal
-
-pub returns : goal.returns
-returns g c = does_for c.write_change.ensures (λ t may. (may.1.0, account_made c.args.self.now t, refl))

@@ -1,9 +1,0 @@
--- The changes so far are made.
-use Rattle.std.proofs.Common.{Ok, take}
-use Rattle.bank_transactions.specs.Doing.{Does}
-use Rattle.bank_batches.proofs.changes.make_all.Given as goal
-
-abbrev pub invariant-loop-change : goal.invariant-loop-change
-invariant-loop-change g l =
-    Does {X = Unit {0}} g.S.Store l.fn.tx l.tx (g.C.Change.May l.changes)
-    (g.C.Change.made (take l.change-index l.changes)) (λ _. tt {0}) (Ok (tt {0}))

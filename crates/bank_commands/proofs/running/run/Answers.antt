@@ -1,0 +1,75 @@
+use Rattle.std.proofs.Common.{◌∙◌, ap, inl, inr, map, refl, sym, Ok, Err}
+use Rattle.clap.specs.Words.{kind_of}
+use Rattle.bank_commands.proofs.Ended.{status_is_not_usage}
+use Rattle.bank_commands.proofs.Endings.{help_ends, memory_ends, memory_is_no_request, mistake_ends}
+use Rattle.bank_commands.proofs.Endings.{mistake_keeps, not_asked, system_is_not_usage}
+use Rattle.bank_commands.proofs.running.run.Goals as goal
+
+-- ---- words that clap doesn't take, or that there was no memory to read
+
+pub returns-in-Err : goal.returns-in-Err
+returns-in-Err g c =
+    let kind = kind_of c.in-Err.error in
+    let words = map g.T.AsStr.text c.args.words.now in
+    let says = c.in-Err.ensures in
+    let shown = c.explain.ensures in
+    record {
+      refused = λ refused.
+          mistake_ends kind c.explain.result (not_asked words kind refused says.fault) shown.status;
+      silent = λ refused. mistake_keeps kind _ _ (not_asked words kind refused says.fault) shown.silent;
+      unread = λ some. refl;
+      help = λ asks. help_ends kind c.explain.result (says.help asks) shown.status;
+      taken = λ spelled.
+          system_is_not_usage c.explain.result
+          (memory_ends kind c.explain.result (says.spelled spelled) shown.status);
+      runs = λ spelled.
+          let memory = says.spelled spelled in
+          inr (
+            memory_ends kind c.explain.result memory shown.status,
+            record {
+              read = refl;
+              wrote = mistake_keeps kind _ _ (memory_is_no_request kind memory) shown.silent;
+              clock = refl;
+            },
+          );
+    }
+
+-- ---- a command that did its work, and one that didn't: words that clap takes aren't refused, and ask for no
+-- help
+
+pub returns-in-Ok-perform : goal.returns-in-Ok-perform
+returns-in-Ok-perform g c =
+    let says = c.in-Ok.ensures in
+    let did = c.in-Ok-perform.ensures in
+    record {
+      refused = λ refused. absurd (refused.some says.fault);
+      silent = λ refused. absurd (refused.some says.fault);
+      unread = λ some. absurd (some says.fault);
+      help = λ asks. absurd (says.help asks);
+      taken = λ spelled other. did.taken (ap Ok other);
+      runs = λ spelled. inl record {
+        command = c.in-Ok.command;
+        spelled = says.spelled spelled;
+        result = Ok c.in-Ok-perform.status;
+        does = did.does;
+        ends = refl;
+      };
+    }
+
+pub returns-in-Err-perform : goal.returns-in-Err-perform
+returns-in-Err-perform g c =
+    let says = c.in-Ok.ensures in
+    record {
+      refused = λ refused. absurd (refused.some says.fault);
+      silent = λ refused. absurd (refused.some says.fault);
+      unread = λ some. absurd (some says.fault);
+      help = λ asks. absurd (says.help asks);
+      taken = λ spelled other. status_is_not_usage c.in-Err-perform.fault (sym c.tell.ensures ∙ other);
+      runs = λ spelled. inl record {
+        command = c.in-Ok.command;
+        spelled = says.spelled spelled;
+        result = Err c.in-Err-perform.fault;
+        does = c.in-Err-perform.ensures.does;
+        ends = c.tell.ensures;
+      };
+    }

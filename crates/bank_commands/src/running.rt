@@ -1,0 +1,144 @@
+//! A run of the program: from the words of the command line, over the command that they ask for, to the
+//! status that the program ends with. [`words_of`] takes the words of the system, and [`run`] does what they
+//! say, between any reader, writers and clock.
+//!
+//! The program `bank` is one run, between the standard streams and by the system's clock:
+//!
+//! ```rust
+//! use bank_commands::{run, words_of};
+//! use command_line::{Status, tell_no_words};
+//! use posting_core::SystemClock;
+//! use sqlite::{Start, Unknown};
+//! use std::process::ExitCode;
+//!
+//! // A run on these words between the standard streams, whatever the files hold.
+//! fn run_on<S: Start>(rt: &HostRuntime, start: S, words: &[String]) -> Status {
+//!     run(
+//!         rt,
+//!         start,
+//!         words,
+//!         &mut rt.stdin(),
+//!         &mut rt.stdout(),
+//!         &mut rt.stderr(),
+//!         &mut SystemClock::new(rt),
+//!     )
+//! }
+//!
+//! fn main(rt: HostRuntime) -> ExitCode {
+//!     let status = match words_of(&rt) {
+//!         Ok(words) => run_on(&rt, Unknown, words.as_slice()),
+//!         Err(error) => tell_no_words(&error, &mut rt.stderr()),
+//!     };
+//!     ExitCode::from(status)
+//! }
+//! ```
+//!
+//! Read next: the contract of [`run`], and `specs/Running`, a case for what each command does and prints, and
+//! how a run ends. The crate `bank_trials` plays a script of such runs.
+ghost use Rattle.std.specs.Prelude.{◌≡◌, ◌≢◌, ◌⊎◌, [], map, Ok};
+ghost use Rattle.std.specs.Io.KnownBytes.{Keeps};
+ghost use Rattle.sqlite_wal.specs.Files.{image_at};
+ghost use Rattle.bank_store.specs.Seen.{bank_seen};
+ghost use Rattle.clap.specs.Words.{fault_of};
+ghost use Rattle.command_line.specs.CommandLine.{bank_app};
+ghost use Rattle.command_line.specs.Words.{AreInRange, AsksForHelp, IsSpelled};
+ghost use Rattle.bank_commands.specs.Running.{AreRefused, DoesCommand, Runs};
+
+use crate::{audit_file, drive, init, load_plan, post, serve, statement};
+use command_line::{Command, CommandFault, Status, explain, read_words, tell};
+use posting_core::Clock;
+use sqlite::{FileFrom, FileStore, Start};
+use sqlite_trees::store::Store;
+use std::convert::AsStr;
+use std::io::{Read, Write};
+use std::rt::Env;
+use std::{env, io};
+
+/// The words of the command line, of which the first is the program's name.
+pub fn words_of<R: Env + AllocGlobal>(rt: &R) -> io::Result<Vec<String>> {
+    Ok(env::args(rt)?.collect(rt.alloc())?)
+}
+
+/// Does what the words say, and gives the status that the program ends with. A fault is reported on `faults`.
+pub fn run<S: Start, T: AsStr, R: Read, W: Write, E: Write, K: Clock>(
+    rt: &HostRuntime,
+    start: S,
+    words: &[T],
+    input: &mut R,
+    output: &mut W,
+    faults: &mut E,
+    clock: &mut K,
+) -> Status
+    ensures refused { AreRefused (map T.text words.entry.now)
+        → (result ≡ Status.Usage) ⊎ (result ≡ Status.System) }
+    ensures silent { AreRefused (map T.text words.entry.now)
+        → Keeps (W.contents output.old) (W.contents output.new) }
+    ensures unread { fault_of bank_app (map T.text words.entry.now) ≢ []
+        → R.remaining input.new ≡ R.remaining input.old }
+    ensures help { AsksForHelp (map T.text words.entry.now)
+        → (result ≡ Status.Done) ⊎ (result ≡ Status.System) }
+    ensures taken { IsSpelled (map T.text words.entry.now) → result ≢ Status.Usage }
+    // Words that spell a command, of those that the program has, have it done.
+    ensures runs { IsSpelled (map T.text words.entry.now)
+        → Runs (bank_seen ⟦<FileStore<FileFrom<S>> as Store>⟧) (image_at S.Start)
+        (map T.text words.entry.now) (R.remaining input.old) (R.remaining input.new)
+        (W.contents output.old) (W.contents output.new) (K.readings clock.old) (K.readings clock.new)
+        result }
+{
+    let command = match read_words(rt.alloc(), words) {
+        Ok(command) => command,
+        Err(error) => return explain(&error, output, faults),
+    };
+    match perform(rt, start, command, input, output, clock) {
+        Ok(status) => status,
+        Err(fault) => tell(fault, faults),
+    }
+}
+
+// Does the command, and tells how it went.
+fn perform<S: Start, R: Read, W: Write, K: Clock>(
+    rt: &HostRuntime,
+    start: S,
+    command: Command<'_>,
+    input: &mut R,
+    output: &mut W,
+    clock: &mut K,
+) -> Result<Status, CommandFault>
+    requires { AreInRange command }
+    ensures taken { result ≢ Ok Status.Usage }
+    ensures does { DoesCommand (bank_seen ⟦<FileStore<FileFrom<S>> as Store>⟧) (image_at S.Start)
+        (R.remaining input.old) (R.remaining input.new) (W.contents output.old) (W.contents output.new)
+        (K.readings clock.old) (K.readings clock.new) command.entry result }
+{
+    match command {
+        Command::Init { file } => {
+            init(rt, start, file, output)?;
+            Ok(Status::Done)
+        }
+        Command::Load { file, plan } => {
+            let loaded = load_plan(rt, start, file, plan, output)?;
+            Ok(Status::from(loaded))
+        }
+        Command::Post { file } => {
+            post(rt, start, file, input, output, clock)?;
+            Ok(Status::Done)
+        }
+        Command::Drive { file, seed, count } => {
+            drive(rt, start, file, seed, count, output, clock)?;
+            Ok(Status::Done)
+        }
+        Command::Audit { file } => audit_file(rt, start, file, output),
+        Command::Statement { file, account } => {
+            statement(rt, start, file, account, output)?;
+            Ok(Status::Done)
+        }
+        Command::Serve {
+            file,
+            address,
+            connections,
+        } => {
+            serve(rt, start, file, address, connections, output, clock)?;
+            Ok(Status::Done)
+        }
+    }
+}

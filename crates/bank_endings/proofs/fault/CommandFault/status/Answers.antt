@@ -1,5 +1,0 @@
-use Rattle.std.proofs.Common.{rules}
-use Rattle.bank_endings.proofs.fault.CommandFault.status.Goals as goal
-
-pub returns-in-Store : goal.returns-in-Store
-returns-in-Store c = search rules

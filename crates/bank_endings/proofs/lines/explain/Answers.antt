@@ -1,5 +1,0 @@
-use Rattle.std.proofs.Common.{rules}
-use Rattle.bank_endings.proofs.lines.explain.Goals as goal
-
-pub returns-in-OutOfMemory-clause-status : goal.returns-in-OutOfMemory-clause-status
-returns-in-OutOfMemory-clause-status g c = search rules

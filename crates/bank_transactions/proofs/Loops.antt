@@ -1,0 +1,94 @@
+-- Slots are filled, and rows are written, one after another.
+use Rattle.std.proofs.Common.{◌≡◌, ℕ, zero, suc, ◌+◌, ◌<◌, List, [], ◌∷◌, ◌++◌, map, length, take, drop, set}
+use Rattle.std.proofs.Common.{get_or, Ok, Result, refl, sym, ap, subst, ◌∙◌, arith}
+use Rattle.std.specs.List.{AllByRecursion}
+use Rattle.std.proofs.lemmas.List.{take_more, take-append-drop}
+use Rattle.std.proofs.Math.Seq.{drop-cons}
+use Rattle.std.proofs.lemmas.List.Edits.{map_over_more}
+use Rattle.sqlite.specs.declared.transaction.Transaction.{Transaction}
+use Rattle.sqlite_trees.specs.declared.store.Store.{Ghosts}
+use Rattle.posting_rules.specs.Tables.{Tables}
+use Rattle.store_rows.specs.declared.fault.TableFault.{TableFault}
+use Rattle.bank_transactions.specs.Doing.{Does}
+use Rattle.bank_transactions.proofs.Chained.{does_then, does_for}
+use Rattle.bank_transactions.specs.Filling.{ReadsWhere}
+use Rattle.bank_transactions.specs.InTurn.{InTurn}
+use Rattle.bank_transactions.proofs.LookUps.{reads_both}
+
+-- ---- places of a list
+
+pub all_at : {A : Type 0} (P : A → Type 0) (xs : List A) (i : ℕ) (d : A) → AllByRecursion P xs → i < length xs
+    → P (get_or xs i d)
+all_at P [] i d all lt = absurd (omega arith)
+all_at P (x ∷ xs) zero d all lt = all.0
+all_at P (x ∷ xs) (suc i) d all lt = all_at P xs i d all.1 (omega arith)
+
+-- the place that a walk is at is as it was
+item_is : {A : Type 0} (f : A → A) (xs : List A) (i : ℕ) (x : A) → get_or (map f (take i xs) ++ drop i xs) i x
+    ≡ get_or xs i x
+item_is f [] zero x = refl
+item_is f [] (suc i) x = refl
+item_is f (y ∷ xs) zero x = refl
+item_is f (y ∷ xs) (suc i) x = item_is f xs i x
+
+-- ---- slots are filled
+
+-- slots of which so many are filled
+abbrev pub filled_so_far : {A : Type 0} → (Tables → A → A) → List A → ℕ → Tables → List A
+filled_so_far fill xs i t = map (fill t) (take i xs) ++ drop i xs
+
+-- what is so of all slots is so of the one that is filled next
+pub next_is : {A : Type 0} (fill : Tables → A → A) (P : A → Type 0) (xs ys : List A) (i : ℕ) (x : A)
+    (t : Tables) → i < length xs → ys ≡ filled_so_far fill xs i t
+    → AllByRecursion P xs → P (get_or ys i x)
+next_is {A} fill P xs ys i x t lt so_far all =
+    subst (λ (s : A). P s) (sym (ap (λ (zs : List A). get_or zs i x) so_far ∙ item_is (fill t) xs i x))
+    (all_at P xs i x all lt)
+
+-- one more is filled
+pub fill_more : {S A : Type 0} {g : Ghosts S} {old mid new : Transaction S} {So So' : Tables → Type 0}
+    (fill : Tables → A → A) (xs ys : List A) (i : ℕ) (x y : A)
+    → i < length xs → x ≡ get_or ys i x → ReadsWhere g old mid So (filled_so_far fill xs i) (Ok ys)
+    → ReadsWhere g mid new So' (λ t. fill t (get_or ys i x)) (Ok y)
+    → ((t : Tables) → So t → ys ≡ filled_so_far fill xs i t → So' t)
+    → ReadsWhere g old new So (filled_so_far fill xs (i + 1)) (Ok (set ys i y))
+fill_more {S} {A} fill xs ys i x y lt is before one ready =
+    reads_both before one ready (λ t so first last.
+    ap (λ (s : A). set ys i s) (last ∙ ap (fill t) (sym is)) ∙ map_over_more (fill t) xs ys i x lt first is)
+
+all_taken : {A : Type 0} (f : A → A) (xs : List A) → map f (take (length xs) xs) ++ drop (length xs) xs
+    ≡ map f xs
+all_taken f [] = refl
+all_taken {A} f (x ∷ xs) = ap (λ (ys : List A). f x ∷ ys) (all_taken f xs)
+
+-- at the end all are
+pub all_filled : {A : Type 0} (fill : Tables → A → A) (xs : List A) (i : ℕ) (t : Tables) → i ≡ length xs
+    → filled_so_far fill xs i t ≡ map (fill t) xs
+all_filled {A} fill xs i t at_end = ap (λ (j : ℕ). filled_so_far fill xs j t) at_end ∙ all_taken (fill t) xs
+
+-- ---- changes are made
+
+-- a list about one of its places
+split_at : {A : Type 0} (xs : List A) (i : ℕ) (x : A) → i < length xs → xs
+    ≡ take i xs ++ get_or xs i x ∷ drop (suc i) xs
+split_at {A} xs i x lt = sym (take-append-drop i xs)
+    ∙ ap (λ (rest : List A). take i xs ++ rest) (drop-cons xs i x lt)
+
+-- one more of the changes that are made one after another
+pub make_more : {S A : Type 0} {g : Ghosts S} {old mid new : Transaction S} {r : Result (Unit {0}) TableFault}
+    (made : List A → Tables → Tables)
+    (May : List A → Tables → Type 0)
+    → InTurn made May → (xs : List A) (i : ℕ) (x : A) → i < length xs → x ≡ get_or xs i x
+    → Does {X = Unit {0}} g old mid (May xs) (made (take i xs)) (λ _. tt {0}) (Ok (tt {0}))
+    → Does {X = Unit {0}} g mid new (May (x ∷ [])) (made (x ∷ [])) (λ _. tt {0}) r
+    → Does {X = Unit {0}} g old new (May xs) (made (take (i + 1) xs)) (λ _. tt {0}) r
+make_more {S} {A} {g} {old} {mid} {new} {r} made May law xs i x lt is before one =
+    let it = get_or xs i x in
+    let next : Does {X = Unit {0}} g mid new (May (it ∷ [])) (made (it ∷ [])) (λ _. tt {0}) r =
+    subst (λ (s : A). Does {X = Unit {0}} g mid new (May (s ∷ [])) (made (s ∷ [])) (λ _. tt {0}) r) is one in
+    let so : (t : Tables) → May xs t → May (it ∷ []) (made (take i xs) t)
+    × (made (it ∷ []) (made (take i xs) t) ≡ made (take i xs ++ it ∷ []) t) =
+    λ t may. law.next (take i xs) it (drop (suc i) xs) t
+    (subst (λ (ys : List A). May ys t) (split_at xs i x lt) may) in
+    does_for (does_then before next (λ t may. (so t may).0))
+    (λ t may. (may, (so t may).1 ∙ ap (λ (ys : List A). made ys t) (sym (take_more xs i x lt)), refl))

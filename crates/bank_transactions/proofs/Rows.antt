@@ -1,0 +1,91 @@
+-- What one slot writes.
+use Rattle.std.proofs.Common.{◌≡◌, ℕ, List, [], ◌∷◌, Option, Result, Some, None, refl, sym, ap}
+use Rattle.std.specs.Prelude.{ℤ, is_some}
+use Rattle.sqlite.specs.Table.{Table}
+use Rattle.sqlite.specs.declared.transaction.Transaction.{Transaction}
+use Rattle.sqlite_trees.specs.declared.store.Store.{Ghosts}
+use Rattle.posting_rules.specs.declared.rows.HistoryRow.{HistoryRow}
+use Rattle.posting_rules.specs.declared.rows.RequestRow.{RequestRow}
+use Rattle.posting_rules.specs.Changes.{with_history, with_request}
+use Rattle.posting_batch.specs.Batch.{PutsFree}
+use Rattle.posting_batch.specs.Overlay.{history_put, requests_put}
+use Rattle.sql_meanings.specs.Calls.{Says, Inside}
+use Rattle.store_rows.specs.Calls.{OfTables}
+use Rattle.store_rows.specs.Failures.{Puts}
+use Rattle.store_rows.specs.Holders.{with_balance}
+use Rattle.store_rows.specs.Outcomes.{PutsOneRow}
+use Rattle.store_rows.specs.declared.fault.TableFault.{TableFault}
+use Rattle.store_rows.specs.declared.holders.Holder.TheVariants.{Account, Teller, Branch}
+use Rattle.bank_transactions.specs.Doing.{Does}
+use Rattle.bank_transactions.proofs.Chained.{does_for}
+use Rattle.bank_transactions.proofs.Statements.{does_add}
+use Rattle.posting_rules.specs.Changes.{row_changed, with_branch_balance, with_teller_balance}
+use Rattle.posting_rules.specs.Changes.{with_account_balance}
+use Rattle.posting_rules.specs.Steps as steps
+use Rattle.posting_rules.specs.Tables.{Tables, row_at, branch_key, teller_key, account_key}
+use Rattle.posting_batch.specs.declared.slots.AccountSlot.{AccountSlot}
+use Rattle.posting_batch.specs.declared.slots.TellerSlot.{TellerSlot}
+use Rattle.posting_batch.specs.declared.slots.BranchSlot.{BranchSlot}
+use Rattle.posting_batch.specs.Overlay.{changed_to, over, accounts_over, tellers_over, branches_over}
+use Rattle.posting_batch.specs.Slots.{account_slot_key, teller_slot_key, branch_slot_key}
+use Rattle.posting_batch.proofs.NewRows.{account_same, teller_same, branch_same}
+use Rattle.posting_batch.proofs.Written.{over_changed, over_unchanged}
+use Rattle.bank_transactions.specs.Writing.{by_change}
+
+-- ---- new rows
+
+-- a row is put in under a key that is free
+pub row_added : {S R : Type 0} {g : Ghosts S} {old new : Transaction S} {r : Result (Unit {0}) TableFault}
+    (table : Table)
+    (key : R → ℕ) (rows : Tables → List R) (put : R → Tables → Tables) (made : List R → Tables → Tables)
+    (row : R)
+    → ((t : Tables) → put row t ≡ made (row ∷ []) t)
+    → Says g old new (Inside (OfTables (λ before now t.
+    PutsOneRow before now table (is_some (row_at key (rows t) (key row))) (put row t) r)))
+    (Inside (λ before now. Puts before now r))
+    → Does g old new (λ t. PutsFree key (row ∷ []) (rows t)) (made (row ∷ [])) (λ _. tt) r
+row_added {S} {R} {g} {old} {new} {r} table key rows put made row is says =
+    does_for (does_add {So = λ t. PutsFree key (row ∷ []) (rows t)} g old new table
+    (λ t. is_some (row_at key (rows t) (key row))) (put row) r says (λ t free. ap is_some free.0))
+    (λ t free. (free, is t, refl))
+
+pub posting_put : (row : HistoryRow) (t : Tables) → with_history row t ≡ history_put (row ∷ []) t
+unfolding with_history
+posting_put row t = refl
+
+pub request_put : (row : RequestRow) (t : Tables) → with_request row t ≡ requests_put (row ∷ []) t
+unfolding with_request
+request_put row t = refl
+
+-- ---- slots
+
+-- one slot
+slot_made : {A R : Type 0} (slot_key : A → ℕ) (key : R → ℕ) (changed : A → Option ℤ) (set : ℤ → R → R)
+    (same : (s : A) (r : R) → key (changed_to set (changed s) r) ≡ key r) (with_rows : List R → Tables)
+    (s : A) (rows : List R)
+    (c : Option ℤ) → changed s ≡ c
+    → by_change c (λ z. with_rows (row_changed key (set z) (slot_key s) rows)) (with_rows rows)
+    ≡ with_rows (over slot_key key (λ x r. changed_to set (changed x) r) (s ∷ []) rows)
+slot_made slot_key key changed set same with_rows s rows None e =
+    ap with_rows (sym (over_unchanged slot_key key changed set same s e rows))
+slot_made slot_key key changed set same with_rows s rows (Some z) e =
+    ap with_rows (over_changed slot_key key changed set same s z e rows)
+
+pub account_made : (s : AccountSlot) (t : Tables)
+    → by_change s.changed (λ z. with_balance (Account s.account) z t) t ≡ accounts_over (s ∷ []) t
+unfolding with_account_balance
+account_made s t =
+    slot_made account_slot_key account_key (λ x. x.changed) steps.with_account_balance account_same
+    (λ rows. record t { accounts = rows }) s t.accounts s.changed refl
+
+pub teller_made : (s : TellerSlot) (t : Tables)
+    → by_change s.changed (λ z. with_balance (Teller s.teller) z t) t ≡ tellers_over (s ∷ []) t
+unfolding with_teller_balance
+teller_made s t = slot_made teller_slot_key teller_key (λ x. x.changed) steps.with_teller_balance teller_same
+    (λ rows. record t { tellers = rows }) s t.tellers s.changed refl
+
+pub branch_made : (s : BranchSlot) (t : Tables)
+    → by_change s.changed (λ z. with_balance (Branch s.branch) z t) t ≡ branches_over (s ∷ []) t
+unfolding with_branch_balance
+branch_made s t = slot_made branch_slot_key branch_key (λ x. x.changed) steps.with_branch_balance branch_same
+    (λ rows. record t { branches = rows }) s t.branches s.changed refl

@@ -1,0 +1,112 @@
+-- All rows of a batch are written.
+use Rattle.std.proofs.Common.{◌≡◌, ◌⊎◌, ℕ, leb, List, [], ◌∷◌, Option, Some, None, Ok, Result, refl, subst}
+use Rattle.std.proofs.Common.{inl, inr}
+use Rattle.std.specs.Prelude.{ℤ, IsSome, IfSome, ◌&&◌}
+use Rattle.std.specs.List.{AllByRecursion}
+use Rattle.message_records.specs.Ranges.{whole_within}
+use Rattle.message_records.specs.declared.limits.TheConstants.{MAX_BRANCH}
+use Rattle.sqlite.specs.declared.transaction.Transaction.{Transaction}
+use Rattle.sqlite_trees.specs.declared.store.Store.{Ghosts}
+use Rattle.posting_rules.specs.declared.rows.BranchRow.{BranchRow}
+use Rattle.posting_rules.specs.Damage.{IsUndamaged}
+use Rattle.posting_rules.specs.Tables.{Tables, row_at, branch_key}
+use Rattle.posting_rules.proofs.Keyed.{by_test}
+use Rattle.posting_batch.specs.declared.slots.BranchSlot.{BranchSlot}
+use Rattle.posting_batch.specs.Batch.{HasRisingSlots, ChangesRows, AddsFreeRows}
+use Rattle.posting_batch.specs.Overlay.{Overlay, accounts_over, tellers_over, branches_over, history_put}
+use Rattle.posting_batch.specs.Overlay.{requests_put}
+use Rattle.posting_batch.specs.Slots.{account_slot_key, teller_slot_key, branch_slot_key}
+use Rattle.posting_batch.proofs.Orders.{rising_keys}
+use Rattle.store_rows.specs.declared.fault.TableFault.{TableFault}
+use Rattle.bank_transactions.specs.Doing.{Does}
+use Rattle.bank_transactions.proofs.Chained.{does_then}
+use Rattle.bank_transactions.proofs.SoundRows.{no_branch_beyond}
+use Rattle.bank_transactions.specs.Writing.{AreBranchNumbers, MayChangeAccounts, MayChangeTellers}
+use Rattle.bank_transactions.specs.Writing.{MayAddPostings, MayAddRequests, MayChangeBranches}
+
+-- ---- the numbers of branches that have a row
+
+pub within_or_none : (n : ℕ) → (whole_within 1 MAX_BRANCH n ≡ Some n) ⊎ (whole_within 1 MAX_BRANCH n ≡ None)
+within_or_none n =
+    elim (by_test (leb 1 n && leb n MAX_BRANCH)) [ inl t ↦ inl (rw t refl) | inr f ↦ inr (rw f refl) ]
+
+not_there : (o : Option BranchRow) → IsSome o → None ≡ o → ⊥
+not_there None there is = absurd cc
+not_there (Some x) there is = absurd cc
+
+number_is : (t : Tables) (n : ℕ) → IsUndamaged t → IsSome (row_at branch_key t.branches n)
+    → whole_within 1 MAX_BRANCH n ≡ Some n
+number_is t n sound there = elim (within_or_none n) [
+  | inl is ↦ is
+  | inr none ↦ absurd (not_there (row_at branch_key t.branches n) there (no_branch_beyond t n sound none))
+]
+
+pub numbers : (t : Tables) (slots : List BranchSlot) → IsUndamaged t
+    → AllByRecursion (λ s. IfSome s.changed (λ z. IsSome (row_at branch_key t.branches s.branch))) slots
+    → AreBranchNumbers slots
+numbers t [] sound all = tt
+numbers t (s ∷ slots) sound all = (one s.changed all.0, numbers t slots sound all.1)
+  where
+    one : (c : Option ℤ) → IfSome c (λ z. IsSome (row_at branch_key t.branches s.branch))
+        → IfSome c (λ z. whole_within 1 MAX_BRANCH s.branch ≡ Some s.branch)
+    one None h = tt
+    one (Some z) h = number_is t s.branch sound h
+
+-- ---- the tables one after another
+
+abbrev pub So : Overlay → Tables → Type 0
+So o t = IsUndamaged t × HasRisingSlots o × ChangesRows o t × AddsFreeRows o t
+
+-- Changes of one table: how they are made of tables and when they may be, and that these may be made behind
+-- what stands so far.
+pub record Behind {A : Type 0} (o : Overlay) (before : Tables → Tables) (made : List A → Tables → Tables)
+    (May : List A → Tables → Type 0) (changes : List A) : Type 0 where
+  pub may : (t : Tables) → So o t → May changes (before t)
+
+-- the tables with the changes of the accounts; and of the tellers; and of the branches; and with the postings
+abbrev pub to_accounts : Overlay → Tables → Tables
+to_accounts o t = accounts_over o.accounts t
+
+abbrev pub to_tellers : Overlay → Tables → Tables
+to_tellers o t = tellers_over o.tellers (to_accounts o t)
+
+abbrev pub to_branches : Overlay → Tables → Tables
+to_branches o t = branches_over o.branches (to_tellers o t)
+
+abbrev pub to_postings : Overlay → Tables → Tables
+to_postings o t = history_put o.history (to_branches o t)
+
+pub accounts : (o : Overlay) → Behind o (λ t. t) accounts_over MayChangeAccounts o.accounts
+accounts o = record {
+  may = λ t so. (rising_keys account_slot_key o.accounts so.1.accounts, so.2.accounts);
+}
+
+pub tellers : (o : Overlay) → Behind o (to_accounts o) tellers_over MayChangeTellers o.tellers
+tellers o = record { may = λ t so. (rising_keys teller_slot_key o.tellers so.1.tellers, so.2.tellers) }
+
+pub branches : (o : Overlay) → Behind o (to_tellers o) branches_over MayChangeBranches o.branches
+branches o = record {
+  may = λ t so. (
+    (rising_keys branch_slot_key o.branches so.1.branches, so.2.branches),
+    numbers t o.branches so.0 so.2.branches,
+  );
+}
+
+pub postings : (o : Overlay) → Behind o (to_branches o) history_put MayAddPostings o.history
+postings o = record { may = λ t so. so.3.history }
+
+pub requests : (o : Overlay) → Behind o (to_postings o) requests_put MayAddRequests o.requests
+requests o = record { may = λ t so. so.3.requests }
+
+-- the changes of one table more are made
+pub step : {S A : Type 0} {g : Ghosts S} {a b c : Transaction S} {r : Result (Unit {0}) TableFault}
+    {o : Overlay} {before : Tables → Tables} {made : List A → Tables → Tables}
+    {May : List A → Tables → Type 0} {changes : List A} {xs : List A}
+    → Behind o before made May changes → xs ≡ changes
+    → Does {X = Unit {0}} g a b (So o) before (λ _. tt {0}) (Ok (tt {0}))
+    → Does {X = Unit {0}} g b c (May xs) (made xs) (λ _. tt {0}) r
+    → Does {X = Unit {0}} g a c (So o) (λ t. made changes (before t)) (λ _. tt {0}) r
+step {S} {A} {g} {a} {b} {c} {r} {o} {before} {made} {May} behind same first second =
+    does_then first
+    (subst (λ (ys : List A). Does {X = Unit {0}} g b c (May ys) (made ys) (λ _. tt {0}) r) same second)
+    behind.may

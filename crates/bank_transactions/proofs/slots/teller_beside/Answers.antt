@@ -1,0 +1,34 @@
+-- Where there are no two balances there is none.
+use Rattle.std.proofs.Common.{◌≡◌, ℕ, Option, Some, None, rules, refl, sym, ◌∙◌}
+use Rattle.std.specs.Prelude.{IsSome, is_some, option_map}
+use Rattle.posting_rules.specs.Numbering.{branch_of_teller}
+use Rattle.posting_rules.specs.Damage.{IsUndamaged}
+use Rattle.posting_rules.specs.LookUps.{balance_of_branch, balance_of_teller, both_of, teller_balances_in}
+use Rattle.posting_rules.specs.Tables.{Tables, row_at, branch_key, teller_key}
+use Rattle.posting_rules.specs.declared.rows.BranchRow.{BranchRow}
+use Rattle.posting_rules.specs.declared.rows.TellerRow.{TellerRow}
+use Rattle.bank_transactions.proofs.SoundRows.{teller_some}
+use Rattle.bank_transactions.proofs.slots.teller_beside.Goals as goal
+
+not_one : (a : Option TellerRow) (b : Option BranchRow) → (IsSome a → is_some a ≡ is_some b)
+    → None ≡ both_of (option_map balance_of_teller a) (option_map balance_of_branch b) → None
+    ≡ option_map balance_of_teller a
+not_one None b same none = refl
+not_one (Some x) (Some y) same none = absurd cc
+not_one (Some x) None same none = absurd (let no = same refl in cc)
+
+no_balance : (t : Tables) (n : ℕ) → IsUndamaged t → None ≡ teller_balances_in t n
+    → None ≡ option_map balance_of_teller (row_at teller_key t.tellers n)
+no_balance t n sound none =
+    not_one (row_at teller_key t.tellers n) (row_at branch_key t.branches (branch_of_teller n))
+    (λ there. sound.tellers n (teller_some t n sound there)) none
+
+pub returns-in-None : goal.returns-in-None
+returns-in-None g c = record {
+  told = λ clean t shows sound.
+      let told = c.in_ok-balance.ensures.told clean t shows sound in
+      (no_balance t c.args.teller sound (sym c.in-None.is ∙ told.0), told.1);
+  same_reference = search rules;
+  kept = search rules;
+  survives = search rules;
+}

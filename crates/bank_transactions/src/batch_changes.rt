@@ -1,0 +1,146 @@
+//! What a batch has changed is written, each row once.
+ghost use Rattle.std.specs.Prelude.{[], ◌∷◌, List, IfSome};
+ghost use Rattle.posting_rules.specs.Damage.{IsUndamaged};
+ghost use Rattle.posting_rules.specs.Tables.{Tables};
+ghost use Rattle.posting_batch.specs.Batch.{HasRisingSlots, ChangesRows, AddsFreeRows};
+ghost use Rattle.posting_batch.specs.Overlay.{tables_over, accounts_over, tellers_over, branches_over};
+ghost use Rattle.posting_batch.specs.Overlay.{history_put, requests_put};
+ghost use Rattle.posting_batch.specs.View.{view};
+ghost use Rattle.store_rows.specs.Holders.{HasRow, with_balance};
+ghost use Rattle.bank_transactions.specs.Doing.{Does};
+ghost use Rattle.bank_transactions.specs.InTurn.{InTurn, accounts_in_turn, tellers_in_turn, branches_in_turn};
+ghost use Rattle.bank_transactions.specs.InTurn.{postings_in_turn, requests_in_turn};
+ghost use Rattle.bank_transactions.specs.Writing.{MayChangeAccounts, MayChangeTellers, MayChangeBranches};
+ghost use Rattle.bank_transactions.specs.Writing.{MayAddPostings, MayAddRequests, by_change};
+
+use crate::{write_balance, write_decided};
+use message_records::{Branch, Cents};
+use posting_batch::{AccountSlot, BranchSlot, Overlay, TellerSlot};
+use posting_rules::{HistoryRow, RequestRow};
+use sqlite::{Alter, Transaction};
+use store_rows::{Holder, TableFault, add_history, add_request};
+
+/// A change of one table: a slot with what it has changed, or a row that is new.
+trait Change {
+    /// The tables with these changes made.
+    ghost made: { List Self → Tables → Tables };
+
+    /// These changes may be made to the tables.
+    ghost May: { List Self → Tables → Type 0 };
+
+    /// Makes it.
+    fn make<S: Alter>(&self, tx: &mut Transaction<'_, S>) -> Result<(), TableFault>
+        ensures { Does S.Store tx.old tx.new (May (self.now ∷ [])) (made (self.now ∷ [])) (λ _. tt) result };
+
+    /// They may be made one after another, and come to the same.
+    ghost in_turn: { InTurn made May };
+}
+
+// Writes the balance that a holder's row is to have, where a posting changes it.
+fn write_change<S: Alter>(
+    tx: &mut Transaction<'_, S>,
+    holder: Holder,
+    changed: Option<Cents>,
+) -> Result<(), TableFault>
+    ensures { Does S.Store tx.old tx.new (λ tables. IfSome changed (λ _. HasRow holder tables))
+        (λ tables. by_change changed (λ balance. with_balance holder balance tables) tables)
+        (λ _. tt) result }
+{
+    match changed {
+        Some(balance) => write_balance(tx, holder, balance),
+        None => Ok(()),
+    }
+}
+
+impl Change for AccountSlot {
+    ghost made = { accounts_over };
+
+    ghost May = { MayChangeAccounts };
+
+    fn make<S: Alter>(&self, tx: &mut Transaction<'_, S>) -> Result<(), TableFault> {
+        write_change(tx, Holder::Account(self.account), self.changed)
+    }
+
+    ghost in_turn = { accounts_in_turn };
+}
+
+impl Change for TellerSlot {
+    ghost made = { tellers_over };
+
+    ghost May = { MayChangeTellers };
+
+    fn make<S: Alter>(&self, tx: &mut Transaction<'_, S>) -> Result<(), TableFault> {
+        write_change(tx, Holder::Teller(self.teller), self.changed)
+    }
+
+    ghost in_turn = { tellers_in_turn };
+}
+
+impl Change for BranchSlot {
+    ghost made = { branches_over };
+
+    ghost May = { MayChangeBranches };
+
+    fn make<S: Alter>(&self, tx: &mut Transaction<'_, S>) -> Result<(), TableFault> {
+        // A number that is none of branches has no row to change: `May` refuses such a slot by its
+        // `AreBranchNumbers`, where it is changed.
+        match Branch::new(self.branch) {
+            Some(branch) => write_change(tx, Holder::Branch(branch), self.changed),
+            None => Ok(()),
+        }
+    }
+
+    ghost in_turn = { branches_in_turn };
+}
+
+impl Change for HistoryRow {
+    ghost made = { history_put };
+
+    ghost May = { MayAddPostings };
+
+    fn make<S: Alter>(&self, tx: &mut Transaction<'_, S>) -> Result<(), TableFault> {
+        add_history(tx, *self)
+    }
+
+    ghost in_turn = { postings_in_turn };
+}
+
+impl Change for RequestRow {
+    ghost made = { requests_put };
+
+    ghost May = { MayAddRequests };
+
+    fn make<S: Alter>(&self, tx: &mut Transaction<'_, S>) -> Result<(), TableFault> {
+        add_request(tx, *self)
+    }
+
+    ghost in_turn = { requests_in_turn };
+}
+
+// Makes changes, one after another.
+fn make_all<S: Alter, C: Change>(
+    tx: &mut Transaction<'_, S>,
+    changes: &[C],
+) -> Result<(), TableFault>
+    ensures { Does S.Store tx.old tx.new (C.May changes.now) (C.made changes.now) (λ _. tt) result }
+{
+    for change in changes {
+        change.make(tx)?;
+    }
+    Ok(())
+}
+
+/// Writes what a batch has changed, each row once, and how many requests are decided.
+pub fn write<S: Alter>(tx: &mut Transaction<'_, S>, overlay: &Overlay) -> Result<(), TableFault>
+    ensures { Does S.Store tx.old tx.new
+        (λ tables. IsUndamaged tables × HasRisingSlots (view overlay.now)
+        × ChangesRows (view overlay.now) tables × AddsFreeRows (view overlay.now) tables)
+        (λ tables. tables_over (view overlay.now) tables) (λ _. tt) result }
+{
+    make_all(tx, &overlay.accounts)?;
+    make_all(tx, &overlay.tellers)?;
+    make_all(tx, &overlay.branches)?;
+    make_all(tx, &overlay.history)?;
+    make_all(tx, &overlay.requests)?;
+    write_decided(tx, overlay.decided)
+}

@@ -1,0 +1,102 @@
+//! A batch of records in one transaction: each row that its records touch is read once, each row that they
+//! change is written once. There is a reply of 200 bytes for each record, in order, and what the records
+//! change is found together or not at all.
+//!
+//! A batch is made of its records by `Batch::new` of `posting_batch`, and answered by [`post_all`]. The
+//! function `first_batch` of `store_tests`, which a test runs, submits a record and its repeat in one batch.
+//! Both get the same reply, and the amount is posted once:
+//!
+//! ```rust
+//! ghost use Rattle.std.specs.Prelude.{◌≡◌, false};
+//!
+//! use bank_transactions::post_all;
+//! use message_records::{Moment, REPLY_BYTES, REQUEST_BYTES};
+//! use posting_batch::Batch;
+//! use sqlite::{Alter, Connection};
+//! use std::alloc::Global;
+//! use std::test::Fail;
+//!
+//! pub fn first_batch<S: Alter>(
+//!     alloc: Global,
+//!     conn: &mut Connection<S>,
+//!     record: &[u8; REQUEST_BYTES],
+//! ) -> Result<Vec<[u8; REPLY_BYTES]>, Fail>
+//!     requires { conn.old.in_transaction ≡ false }
+//! {
+//!     let batch = Batch::new(alloc, &[*record, *record])?;
+//!     let moment = Moment::new(1_795_442_400).unwrap();
+//!     Ok(post_all(conn, moment, batch)?)
+//! }
+//! ```
+//!
+//! [`answer_batch`] is the same inside a transaction, and [`fill`] and [`write`] are what it does before the
+//! judging and after it. Read next: `specs/Writing`, what a batch writes; `specs/Batches`, what one leaves
+//! in which nothing is decided; `Transacts` of `bank_transactions/specs/Doing`, by which [`post_all`] is
+//! said.
+ghost use Rattle.std.specs.Prelude.{◌≡◌, ℕ, List, length, false, IfOk, OnOk};
+ghost use Rattle.sqlite.specs.State.{HasCleanDisk};
+ghost use Rattle.sqlite.specs.Held.{state};
+ghost use Rattle.posting_rules.specs.Changes.{tables_past_all, replies_past_all};
+ghost use Rattle.posting_rules.specs.Sound.{AreOfALog};
+ghost use Rattle.posting_rules.specs.Tables.{Tables};
+ghost use Rattle.posting_batch.specs.View.{reads_of, IsMadeOf};
+ghost use Rattle.store_rows.specs.View.{Shows};
+ghost use Rattle.bank_transactions.specs.Doing.{Acts, Transacts};
+ghost use Rattle.bank_transactions.specs.Batches.{items_of, DecidesNone, WritesNothing, KeepsOnly};
+
+use crate::batch_changes::write;
+use crate::slots::fill;
+use crate::{begin, finish};
+use message_records::{Moment, REPLY_BYTES};
+use posting_batch::{Batch, Judged};
+use sqlite::{Alter, Connection, Transaction};
+use store_rows::TableFault;
+
+/// Answers the records that a batch is made of, in order. A batch in which nothing is decided writes nothing.
+pub fn answer_batch<S: Alter>(
+    tx: &mut Transaction<'_, S>,
+    moment: Moment,
+    mut batch: Batch,
+) -> Result<Vec<[u8; REPLY_BYTES]>, TableFault>
+    ensures says { (records : List (List ℕ)) → IsMadeOf batch records
+        → Acts S.Store tx.old tx.new AreOfALog (λ tables. tables_past_all tables moment records)
+        (λ tables. replies_past_all tables moment records) (items_of result) }
+    ensures count { IfOk result (λ replies. length replies.items ≡ length (reads_of batch)) }
+    ensures idle { OnOk result
+        (HasCleanDisk (state S.Store tx.new.conn.now) → (records : List (List ℕ)) → IsMadeOf batch records
+        → (tables : Tables) → Shows (state S.Store tx.old.conn.now).now tables → AreOfALog tables
+        → DecidesNone tables moment records
+        → WritesNothing (state S.Store tx.old.conn.now)
+        (state S.Store tx.new.conn.now) tables moment records) }
+{
+    fill(tx, &mut batch)?;
+    let before = batch.overlay.decided;
+    let Judged { overlay, replies } = batch.judge(moment);
+    if overlay.decided != before {
+        write(tx, &overlay)?;
+    }
+    Ok(replies)
+}
+
+/// Answers the records that a batch is made of, in order. They stand together or not at all. Where none of
+/// them is decided, the tables are as they were, and a stop leaves nothing else.
+pub fn post_all<S: Alter>(
+    conn: &mut Connection<S>,
+    moment: Moment,
+    batch: Batch,
+) -> Result<Vec<[u8; REPLY_BYTES]>, TableFault>
+    requires { conn.old.in_transaction ≡ false }
+    ensures says { (records : List (List ℕ)) → IsMadeOf batch records
+        → Transacts S.Store conn.old conn.new AreOfALog (λ tables. tables_past_all tables moment records)
+        (λ tables. replies_past_all tables moment records) (items_of result) }
+    ensures count { IfOk result (λ replies. length replies.items ≡ length (reads_of batch)) }
+    ensures idle { OnOk result
+        (HasCleanDisk (state S.Store conn.new) → (records : List (List ℕ)) → IsMadeOf batch records
+        → (tables : Tables) → Shows (state S.Store conn.old).now tables → AreOfALog tables
+        → DecidesNone tables moment records
+        → KeepsOnly (state S.Store conn.old) (state S.Store conn.new) tables) }
+{
+    let mut tx = begin(conn);
+    let replies = answer_batch(&mut tx, moment, batch);
+    finish(tx, replies)
+}

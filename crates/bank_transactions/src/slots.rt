@@ -1,0 +1,171 @@
+//! The slots of a batch are filled from the tables, each key read once.
+ghost use Rattle.std.specs.Prelude.{◌≡◌, ⊤, List, map};
+ghost use Rattle.std.specs.List.{AllByRecursion};
+ghost use Rattle.std.specs.Option.{option_map};
+ghost use Rattle.posting_rules.specs.Numbering.{branch_of_teller, branch_of_account};
+ghost use Rattle.posting_rules.specs.Damage.{IsUndamaged};
+ghost use Rattle.posting_rules.specs.LookUps.{account_balance_in, balance_of_teller};
+ghost use Rattle.posting_rules.specs.Tables.{Tables, row_at, teller_key};
+ghost use Rattle.posting_batch.specs.declared.slots.BranchSlot.{BranchSlot};
+ghost use Rattle.posting_batch.specs.Batch.{HasHomes, filled};
+ghost use Rattle.posting_batch.specs.View.{view, reads_of};
+ghost use Rattle.bank_transactions.specs.Doing.{Reads};
+ghost use Rattle.bank_transactions.specs.Filling.{handing, HasBranch, ReadsWhere, TellsBranch};
+
+use crate::{branch_at, decided, kept_request, open_balance, teller_balances};
+use message_records::{Account, Cents, Teller};
+use posting_batch::{AccountSlot, Batch, BranchSlot, RequestSlot, TellerSlot, stored_branch};
+use posting_rules::{BranchRow, branch_of_account, branch_of_teller, place_of_account};
+use sqlite::{Alter, Transaction};
+use store_rows::{Member, TableFault, balance_of};
+
+// What a look-up finds.
+type Read<T> = Result<T, TableFault>;
+
+/// A slot, and what is in the tables under its key.
+trait Slot: Copy {
+    /// The slot with what is in the tables under its key.
+    ghost filled_from: { Tables → Self → Self };
+
+    /// What slots of branches say of the branch that its key gives, where it gives one.
+    ghost Knows: { List BranchSlot → Tables → Self → Type 0 };
+
+    /// Fills it, by the slots of branches.
+    fn fill<S: Alter>(self, tx: &mut Transaction<'_, S>, branches: &[BranchSlot]) -> Read<Self>
+        ensures { ReadsWhere S.Store tx.old tx.new
+            (λ tables. IsUndamaged tables × Knows branches.now tables self)
+            (λ tables. filled_from tables self) result };
+}
+
+impl Slot for BranchSlot {
+    ghost use Rattle.posting_batch.specs.Batch.{branch_filled};
+
+    ghost filled_from = { branch_filled };
+
+    ghost Knows = { λ _ _ _. ⊤ };
+
+    fn fill<S: Alter>(self, tx: &mut Transaction<'_, S>, _branches: &[BranchSlot]) -> Read<Self> {
+        let stored = branch_at(tx, self.branch)?;
+        Ok(BranchSlot { stored, ..self })
+    }
+}
+
+// The balance of a teller, none where it isn't open, looked up together with the row of its branch.
+fn teller_beside<S: Alter>(tx: &mut Transaction<'_, S>, teller: Teller) -> Read<Option<Cents>>
+    ensures { Reads S.Store tx.old tx.new
+        (λ tables. option_map balance_of_teller (row_at teller_key tables.tellers teller)) result }
+{
+    match teller_balances(tx, teller)? {
+        Some((balance, _)) => Ok(Some(balance)),
+        None => Ok(None),
+    }
+}
+
+// The balance of a teller, none where it isn't open, by the row of its branch. Where the two don't belong
+// together, both are looked up again, so that one read reports it.
+fn teller_within<S: Alter>(
+    tx: &mut Transaction<'_, S>,
+    teller: Teller,
+    branch: Option<BranchRow>,
+) -> Read<Option<Cents>>
+    ensures { ReadsWhere S.Store tx.old tx.new (HasBranch branch (branch_of_teller teller))
+        (λ tables. option_map balance_of_teller (row_at teller_key tables.tellers teller)) result }
+{
+    let balance = balance_of(tx, Member::Teller(teller))?;
+    if balance.is_some() != branch.is_some() {
+        return teller_beside(tx, teller);
+    }
+    Ok(balance)
+}
+
+// The same of an account, whose place is within the count of its branch where it is open.
+fn account_within<S: Alter>(
+    tx: &mut Transaction<'_, S>,
+    account: Account,
+    branch: Option<BranchRow>,
+) -> Read<Option<Cents>>
+    ensures { ReadsWhere S.Store tx.old tx.new (HasBranch branch (branch_of_account account))
+        (λ tables. account_balance_in tables account) result }
+{
+    let balance = balance_of(tx, Member::Account(account))?;
+    let is_open = match branch {
+        Some(branch) => place_of_account(account) <= u64::from(branch.accounts),
+        None => false,
+    };
+    if balance.is_some() != is_open {
+        return open_balance(tx, account);
+    }
+    Ok(balance)
+}
+
+impl Slot for TellerSlot {
+    ghost use Rattle.posting_batch.specs.Batch.{teller_filled};
+
+    ghost filled_from = { teller_filled };
+
+    ghost Knows = { λ slots tables slot. TellsBranch slots tables (branch_of_teller slot.teller) };
+
+    fn fill<S: Alter>(self, tx: &mut Transaction<'_, S>, branches: &[BranchSlot]) -> Read<Self> {
+        let branch = stored_branch(branches, branch_of_teller(self.teller));
+        let stored = teller_within(tx, self.teller, branch)?;
+        Ok(TellerSlot { stored, ..self })
+    }
+}
+
+impl Slot for AccountSlot {
+    ghost use Rattle.posting_batch.specs.Batch.{account_filled};
+
+    ghost filled_from = { account_filled };
+
+    ghost Knows = { λ slots tables slot. TellsBranch slots tables (branch_of_account slot.account) };
+
+    fn fill<S: Alter>(self, tx: &mut Transaction<'_, S>, branches: &[BranchSlot]) -> Read<Self> {
+        let branch = stored_branch(branches, branch_of_account(self.account));
+        let stored = account_within(tx, self.account, branch)?;
+        Ok(AccountSlot { stored, ..self })
+    }
+}
+
+impl Slot for RequestSlot {
+    ghost use Rattle.posting_batch.specs.Batch.{request_filled};
+
+    ghost filled_from = { request_filled };
+
+    ghost Knows = { λ _ _ _. ⊤ };
+
+    fn fill<S: Alter>(self, tx: &mut Transaction<'_, S>, _branches: &[BranchSlot]) -> Read<Self> {
+        let kept = kept_request(tx, self.teller, self.number)?;
+        Ok(RequestSlot { kept, ..self })
+    }
+}
+
+// Fills slots, by those of branches.
+fn fill_all<S: Alter, T: Slot>(
+    tx: &mut Transaction<'_, S>,
+    slots: &mut [T],
+    branches: &[BranchSlot],
+) -> Read<()>
+    ensures { ReadsWhere S.Store tx.old tx.new
+        (λ tables. IsUndamaged tables × AllByRecursion (T.Knows branches.now tables) slots.old)
+        (λ tables. map (T.filled_from tables) slots.old) (handing slots.new result) }
+{
+    for slot in slots.iter_mut() {
+        *slot = (*slot).fill(tx, branches)?;
+    }
+    Ok(())
+}
+
+/// Fills a batch: each slot with what is in the tables under its key, and how many requests are decided.
+pub fn fill<S: Alter>(tx: &mut Transaction<'_, S>, batch: &mut Batch) -> Result<(), TableFault>
+    ensures reads { reads_of batch.new ≡ reads_of batch.old }
+    ensures says { ReadsWhere S.Store tx.old tx.new
+        (λ tables. IsUndamaged tables × HasHomes (view batch.old.overlay))
+        (λ tables. filled tables (view batch.old.overlay)) (handing (view batch.new.overlay) result) }
+{
+    batch.overlay.decided = decided(tx)?;
+    fill_all(tx, &mut batch.overlay.branches, &[])?;
+    fill_all(tx, &mut batch.overlay.tellers, &batch.overlay.branches)?;
+    fill_all(tx, &mut batch.overlay.accounts, &batch.overlay.branches)?;
+    fill_all(tx, &mut batch.overlay.kept, &[])?;
+    Ok(())
+}

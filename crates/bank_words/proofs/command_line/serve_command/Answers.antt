@@ -1,9 +1,0 @@
--- Each argument is added in its turn.
-use Rattle.bank_words.specs.CommandLine.{address_rule, connections_rule}
-use Rattle.bank_words.proofs.command_line.serve_command.Goals as goal
-
-pub returns : goal.returns
-returns c =
-    let address = c.with_argument.ensures _ address_rule c.command_on_file-serve.ensures
-    c.required_argument-address.ensures.rule in
-    c.with_argument-2.ensures _ connections_rule address c.number_option-connections.ensures.rule

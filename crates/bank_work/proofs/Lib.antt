@@ -1,2 +1,0 @@
-pub mod LoadEnds
-pub mod Printed

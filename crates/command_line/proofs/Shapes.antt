@@ -1,0 +1,99 @@
+-- The program's commands as clap builds them.
+use Rattle.std.proofs.Common.{◌≡◌, ◌&&◌, ◌∷◌, List, [], Some, false, true, refl, arith, inl, inr}
+use Rattle.clap.specs.Walk.{Text, nothing_held}
+use Rattle.clap.specs.Simple.{Shape, built_leaf, inherited, marked_built, new_app, on_top, rows_at}
+use Rattle.clap.specs.Simple.{subcommand_of, with_leaf_noted, with_rule}
+use Rattle.clap.specs.Takes.{level_passes, takes}
+use Rattle.command_line.specs.CommandLine.{bank_app, drive_app, file_rule, load_app, serve_app, statement_app}
+use Rattle.command_line.proofs.Levels.{IsPlainLeaf}
+
+-- a command of the program with what building adds to it
+abbrev pub leaf_of : Shape → Shape
+leaf_of s = built_leaf (inherited (on_top with_leaf_noted (on_top marked_built bank_app)).top s)
+
+-- `init`, `post` or `audit`, as built
+abbrev pub one_file : Text → Shape
+one_file name = leaf_of (with_rule (new_app name) file_rule).top
+
+-- `load`, as built
+abbrev pub two_files : Shape
+two_files = leaf_of load_app.top
+
+-- `drive`, as built
+abbrev pub file_and_numbers : Shape
+file_and_numbers = leaf_of drive_app.top
+
+-- `statement`, as built
+abbrev pub file_and_account : Shape
+file_and_account = leaf_of statement_app.top
+
+-- `serve`, as built
+abbrev pub file_and_address : Shape
+file_and_address = leaf_of serve_app.top
+
+-- Clap reads words that begin with the command's name as that command, with the rows of its arguments; and it
+-- takes them where they pass there.
+pub record IsReadAs (s : Shape) (name : Text) (words : List Text) : Type 0 where
+  pub rows : (program : Text) → subcommand_of bank_app (program ∷ name ∷ words) ≡ Some (rows_at s words)
+  pub taken : (program : Text)
+      → takes bank_app (program ∷ name ∷ words) ≡ (level_passes s [] nothing_held words false && true)
+
+-- ---- their arguments are plain
+
+pub one_is_plain : (name : Text) → IsPlainLeaf (one_file name)
+one_is_plain name = record {
+  plain = ((inl (refl, omega arith), refl, refl), ((inr refl, refl, refl), tt));
+  no_help = refl;
+  no_subcommand = refl;
+  negates = refl;
+}
+
+pub load_is_plain : IsPlainLeaf two_files
+load_is_plain = record {
+  plain = (
+    (inl (refl, omega arith), refl, refl),
+    ((inl (refl, omega arith), refl, refl), ((inr refl, refl, refl), tt)),
+  );
+  no_help = refl;
+  no_subcommand = refl;
+  negates = refl;
+}
+
+pub statement_is_plain : IsPlainLeaf file_and_account
+statement_is_plain = record {
+  plain = (
+    (inl (refl, omega arith), refl, refl),
+    ((inl (refl, omega arith), refl, refl), ((inr refl, refl, refl), tt)),
+  );
+  no_help = refl;
+  no_subcommand = refl;
+  negates = refl;
+}
+
+pub drive_is_plain : IsPlainLeaf file_and_numbers
+drive_is_plain = record {
+  plain = (
+    (inl (refl, omega arith), refl, refl),
+    (
+      (inl (refl, omega arith), refl, refl),
+      ((inl (refl, omega arith), refl, refl), ((inr refl, refl, refl), tt)),
+    ),
+  );
+  no_help = refl;
+  no_subcommand = refl;
+  negates = refl;
+}
+
+pub serve_is_plain : IsPlainLeaf file_and_address
+serve_is_plain = record {
+  plain = (
+    (inl (refl, omega arith), refl, refl),
+    (
+      (inl (refl, omega arith), refl, refl),
+      ((inl (refl, omega arith), refl, refl), ((inr refl, refl, refl), tt)),
+    ),
+  );
+  no_help = refl;
+  no_subcommand = refl;
+  negates = refl;
+}

@@ -1,0 +1,219 @@
+-- What clap reads in words that spell a command: that command.
+use Rattle.std.proofs.Common.{◌≡◌, ◌∙◌, ◌&&◌, true, false, refl}
+use Rattle.std.proofs.Common.{sym, ap, ap₂, inl, inr, List, [], ◌∷◌}
+use Rattle.std.proofs.Common.{Some, codes, Result, Ok, Err, IsErrAnd, drop}
+use Rattle.std.specs.Prelude.{IsSomeAnd, MatchResult}
+use Rattle.clap.specs.Walk.{Row, Text, first_of, nothing_held, one_of, rows_after}
+use Rattle.clap.specs.Simple.{Shape, rows_at, subcommand_of}
+use Rattle.clap.specs.Takes.{level_passes, takes}
+use Rattle.clap.specs.Words.{kind_of}
+use Rattle.clap.specs.declared.error.Error.{Error}
+use Rattle.clap.specs.declared.error.kind.ErrorKind.TheVariants.{OutOfMemory}
+use Rattle.command_line.specs.declared.reading.Command.{Command}
+use Rattle.command_line.specs.declared.reading.Command.TheVariants.{Audit, Drive, Init, Load, Post, Serve}
+use Rattle.command_line.specs.declared.reading.Command.TheVariants.{Statement}
+use Rattle.message_records.specs.declared.limits.TheConstants.{MAX_ACCOUNT}
+use Rattle.command_line.specs.CommandLine.{bank_app}
+use Rattle.command_line.specs.Words.{IsCommandOf, IsReadFrom, IsSpelled, IsSpelledBy, IsText}
+use Rattle.command_line.specs.Words.{IsWantOfMemory, begins_with_dash, number_of}
+use Rattle.command_line.proofs.Getters.{apart}
+use Rattle.command_line.proofs.Shapes.{IsReadAs, file_and_account, file_and_address, file_and_numbers, one_file}
+use Rattle.command_line.proofs.Shapes.{two_files}
+use Rattle.command_line.proofs.SpelledFiles.{audit_read, init_read, load_goes, load_read, one_goes, post_read}
+use Rattle.command_line.proofs.SpelledFiles.{two_held}
+use Rattle.command_line.proofs.SpelledNumbers.{drive_goes, drive_passes, drive_read, drive_words}
+use Rattle.command_line.proofs.SpelledNumbers.{serve_goes, serve_passes, serve_read, serve_words}
+use Rattle.command_line.proofs.SpelledNumbers.{statement_goes, statement_passes, statement_read}
+use Rattle.command_line.proofs.SpelledNumbers.{with_address, with_seed}
+use Rattle.command_line.proofs.Valued.{before, file_held, given, no_dash, rows_to, taken_to}
+
+-- ---- the command that is told
+
+same_text : (s t : Text) → Some s ≡ Some t → s ≡ t
+same_text s t same = cc
+
+-- the command has a value in these rows
+text_told : (id : Text) (rows : List Row) (text told : Text) → first_of id rows ≡ Some text
+    → IsText id rows told
+    → text ≡ told
+text_told id rows text told first is = same_text text told (sym first ∙ is)
+
+init_told : (rows : List Row) (file : Text) (words : List Text) (command : Command)
+    → IsText (codes "file") rows file → drop 1 words ≡ codes "init" ∷ file ∷ []
+    → IsCommandOf (codes "init", rows) command
+    → IsSpelledBy words command
+init_told rows file words (Init f) first are told =
+    rw (← text_told (codes "file") rows file f.now first told.1) are
+init_told rows file words other first are told = absurd (apart told.0 refl)
+
+post_told : (rows : List Row) (file : Text) (words : List Text) (command : Command)
+    → IsText (codes "file") rows file → drop 1 words ≡ codes "post" ∷ file ∷ []
+    → IsCommandOf (codes "post", rows) command
+    → IsSpelledBy words command
+post_told rows file words (Post f) first are told =
+    rw (← text_told (codes "file") rows file f.now first told.1) are
+post_told rows file words other first are told = absurd (apart told.0 refl)
+
+audit_told : (rows : List Row) (file : Text) (words : List Text) (command : Command)
+    → IsText (codes "file") rows file → drop 1 words ≡ codes "audit" ∷ file ∷ []
+    → IsCommandOf (codes "audit", rows) command
+    → IsSpelledBy words command
+audit_told rows file words (Audit f) first are told =
+    rw (← text_told (codes "file") rows file f.now first told.1) are
+audit_told rows file words other first are told = absurd (apart told.0 refl)
+
+load_told : (rows : List Row) (file plan : Text) (words : List Text) (command : Command)
+    → IsText (codes "file") rows file → IsText (codes "plan") rows plan
+    → drop 1 words ≡ codes "load" ∷ file ∷ plan ∷ []
+    → IsCommandOf (codes "load", rows) command
+    → IsSpelledBy words command
+load_told rows file plan words (Load f p) first second are told =
+    are ∙ ap₂ (λ (s t : Text). codes "load" ∷ s ∷ t ∷ [])
+    (text_told (codes "file") rows file f.now first told.1)
+    (text_told (codes "plan") rows plan p.now second told.2)
+load_told rows file plan words other first second are told = absurd (apart told.0 refl)
+
+drive_told : (rows : List Row) (file seed count : Text) (words : List Text) (command : Command)
+    → IsText (codes "file") rows file
+    → one_of (codes "seed") rows ≡ Some seed → one_of (codes "count") rows ≡ Some count
+    → drop 1 words ≡ codes "drive" ∷ drive_words file seed count
+    → IsCommandOf (codes "drive", rows) command
+    → IsSpelledBy words command
+drive_told rows file seed count words (Drive f s n) first second third are told =
+    let same = text_told (codes "file") rows file f.now first told.1 in
+    let seed_is : s ≡ number_of seed = rw second at told.2 in
+    let count_is : n ≡ number_of count = rw third at told.3 in
+    (seed, count, are ∙ ap (λ (t : Text). codes "drive" ∷ drive_words t seed count) same, seed_is, count_is)
+drive_told rows file seed count words other first second third are told = absurd (apart told.0 refl)
+
+statement_told : (rows : List Row) (file account : Text) (words : List Text) (command : Command)
+    → IsText (codes "file") rows file → one_of (codes "account") rows ≡ Some account
+    → drop 1 words ≡ codes "statement" ∷ file ∷ account ∷ []
+    → IsCommandOf (codes "statement", rows) command
+    → IsSpelledBy words command
+statement_told rows file account words (Statement f n) first second are told =
+    let same = text_told (codes "file") rows file f.now first told.1 in
+    let account_is : n ≡ number_of account = rw second at told.2 in
+    (account, are ∙ ap (λ (t : Text). codes "statement" ∷ t ∷ account ∷ []) same, account_is)
+statement_told rows file account words other first second are told = absurd (apart told.0 refl)
+
+serve_told : (rows : List Row) (file address connections : Text) (words : List Text) (command : Command)
+    → IsText (codes "file") rows file → IsText (codes "address") rows address
+    → one_of (codes "connections") rows ≡ Some connections
+    → drop 1 words ≡ codes "serve" ∷ serve_words file address connections
+    → IsCommandOf (codes "serve", rows) command
+    → IsSpelledBy words command
+serve_told rows file address connections words (Serve f a n) first second third are told =
+    let same = text_told (codes "file") rows file f.now first told.1 in
+    let at = text_told (codes "address") rows address a.now second told.2 in
+    let number : n ≡ number_of connections = rw third at told.3 in (
+      connections,
+      are ∙ ap₂ (λ (s t : Text). codes "serve" ∷ serve_words s t connections) same at,
+      number,
+    )
+serve_told rows file address connections words other first second third are told = absurd (apart told.0 refl)
+
+-- ---- one file
+
+one_first : (name file : Text) → begins_with_dash file ≡ false
+    → IsText (codes "file") (rows_after (one_file name).rules [] (file ∷ [])) file
+one_first name file dash =
+    ap (first_of (codes "file"))
+    (rows_to (one_file name) (file ∷ []) (before (file_held file) 2) (one_goes name file dash))
+
+one_passes : (name file : Text) → begins_with_dash file ≡ false
+    → level_passes (one_file name) [] nothing_held (file ∷ []) false ≡ true
+one_passes name file dash =
+    taken_to (one_file name) (file ∷ []) (before (file_held file) 2) (one_goes name file dash) refl
+
+-- ---- all together
+
+module _ (s : Shape) (name : Text) (own : List Text) (is : IsReadAs s name own) (words : List Text)
+    (program : Text) (are : words ≡ program ∷ name ∷ own) where
+  -- words that pass at the command are taken
+  taken_as : level_passes s [] nothing_held own false ≡ true → takes bank_app words ≡ true
+  taken_as passes = ap (takes bank_app) are ∙ (is.taken program ∙ ap (λ b. b && true) passes)
+
+  -- and read as the command's
+  read_as : (command : Command) → IsReadFrom words command
+      → IsSomeAnd (Some (rows_at s own)) (λ p. IsCommandOf p command)
+  read_as command read = rw (ap (subcommand_of bank_app) are ∙ is.rows program) at read
+
+-- clap takes such words
+spelled_taken : (words : List Text) → IsSpelled words → takes bank_app words ≡ true
+spelled_taken words (inl s) =
+    taken_as (one_file (codes "init")) (codes "init") _ (init_read s.1) words s.0 s.3
+    (one_passes (codes "init") s.1 s.2)
+spelled_taken words (inr (inl s)) =
+    taken_as two_files (codes "load") _ (load_read s.1 s.2) words s.0 s.5
+    (taken_to two_files (s.1 ∷ s.2 ∷ []) (two_held (codes "plan") s.1 s.2) (load_goes s.1 s.2 s.3 s.4) refl)
+spelled_taken words (inr (inr (inl s))) =
+    taken_as (one_file (codes "post")) (codes "post") _ (post_read s.1) words s.0 s.3
+    (one_passes (codes "post") s.1 s.2)
+spelled_taken words (inr (inr (inr (inl s)))) =
+    taken_as file_and_numbers (codes "drive") _ (drive_read s.1 s.2 s.3) words s.0 s.7
+    (drive_passes s.1 s.2 s.3 s.4 s.5 s.6)
+spelled_taken words (inr (inr (inr (inr (inl s))))) =
+    taken_as (one_file (codes "audit")) (codes "audit") _ (audit_read s.1) words s.0 s.3
+    (one_passes (codes "audit") s.1 s.2)
+spelled_taken words (inr (inr (inr (inr (inr (inl s)))))) =
+    taken_as file_and_account (codes "statement") _ (statement_read s.1 s.2) words s.0 s.5
+    (statement_passes s.1 s.2 s.3 s.4)
+spelled_taken words (inr (inr (inr (inr (inr (inr s)))))) =
+    taken_as file_and_address (codes "serve") _ (serve_read s.1 s.2 s.3) words s.0 s.7
+    (serve_passes s.1 s.2 s.3 s.4 s.5 s.6)
+
+-- words that spell a command tell that command
+pub spelled_at_ok : (words : List Text) (command : Command) → IsReadFrom words command → IsSpelled words
+    → IsSpelledBy words command
+spelled_at_ok words command read (inl s) =
+    init_told (rows_after (one_file (codes "init")).rules [] (s.1 ∷ [])) s.1 words command
+    (one_first (codes "init") s.1 s.2) (ap (drop 1) s.3)
+    (read_as (one_file (codes "init")) (codes "init") _ (init_read s.1) words s.0 s.3 command read)
+spelled_at_ok words command read (inr (inl s)) =
+    let rows = rows_after two_files.rules [] (s.1 ∷ s.2 ∷ []) in
+    let end = rows_to two_files (s.1 ∷ s.2 ∷ []) (two_held (codes "plan") s.1 s.2)
+    (load_goes s.1 s.2 s.3 s.4) in
+    load_told rows s.1 s.2 words command
+    (ap (first_of (codes "file")) end) (ap (first_of (codes "plan")) end) (ap (drop 1) s.5)
+    (read_as two_files (codes "load") _ (load_read s.1 s.2) words s.0 s.5 command read)
+spelled_at_ok words command read (inr (inr (inl s))) =
+    post_told (rows_after (one_file (codes "post")).rules [] (s.1 ∷ [])) s.1 words command
+    (one_first (codes "post") s.1 s.2) (ap (drop 1) s.3)
+    (read_as (one_file (codes "post")) (codes "post") _ (post_read s.1) words s.0 s.3 command read)
+spelled_at_ok words command read (inr (inr (inr (inl s)))) =
+    let rows = rows_after file_and_numbers.rules [] (drive_words s.1 s.2 s.3) in
+    let end = rows_to file_and_numbers (drive_words s.1 s.2 s.3)
+    (given 2 (with_seed s.1 s.2) (codes "count") s.3)
+    (drive_goes s.1 s.2 s.3 s.4 s.5 s.6) in
+    drive_told rows s.1 s.2 s.3 words command
+    (ap (first_of (codes "file")) end) (ap (one_of (codes "seed")) end) (ap (one_of (codes "count")) end)
+    (ap (drop 1) s.7)
+    (read_as file_and_numbers (codes "drive") _ (drive_read s.1 s.2 s.3) words s.0 s.7 command read)
+spelled_at_ok words command read (inr (inr (inr (inr (inl s))))) =
+    audit_told (rows_after (one_file (codes "audit")).rules [] (s.1 ∷ [])) s.1 words command
+    (one_first (codes "audit") s.1 s.2) (ap (drop 1) s.3)
+    (read_as (one_file (codes "audit")) (codes "audit") _ (audit_read s.1) words s.0 s.3 command read)
+spelled_at_ok words command read (inr (inr (inr (inr (inr (inl s)))))) =
+    let rows = rows_after file_and_account.rules [] (s.1 ∷ s.2 ∷ []) in
+    let end = rows_to file_and_account (s.1 ∷ s.2 ∷ []) (two_held (codes "account") s.1 s.2)
+    (statement_goes s.1 s.2 s.3 (no_dash 1 MAX_ACCOUNT s.2 s.4)) in
+    statement_told rows s.1 s.2 words command
+    (ap (first_of (codes "file")) end) (ap (one_of (codes "account")) end) (ap (drop 1) s.5)
+    (read_as file_and_account (codes "statement") _ (statement_read s.1 s.2) words s.0 s.5 command read)
+spelled_at_ok words command read (inr (inr (inr (inr (inr (inr s)))))) =
+    let rows = rows_after file_and_address.rules [] (serve_words s.1 s.2 s.3) in
+    let end = rows_to file_and_address (serve_words s.1 s.2 s.3)
+    (given 3 (with_address s.1 s.2) (codes "connections") s.3) (serve_goes s.1 s.2 s.3 s.4 s.5 s.6) in
+    serve_told rows s.1 s.2 s.3 words command
+    (ap (first_of (codes "file")) end) (ap (first_of (codes "address")) end)
+    (ap (one_of (codes "connections")) end) (ap (drop 1) s.7)
+    (read_as file_and_address (codes "serve") _ (serve_read s.1 s.2 s.3) words s.0 s.7 command read)
+
+-- and only want of memory is in the way
+pub spelled_at_err : (r : Result Command Error) (error : Error) (words : List Text)
+    → IsErrAnd r (λ e. e ≡ error)
+    → (takes bank_app words ≡ true → kind_of error ≡ OutOfMemory) → IsSpelled words
+    → MatchResult r (IsSpelledBy words) IsWantOfMemory
+spelled_at_err (Ok c) error words is fails spelled = absurd is
+spelled_at_err (Err e) error words is fails spelled = rw is (fails (spelled_taken words spelled))

@@ -1,0 +1,47 @@
+-- What clap reads in the words of a command with files alone: `init`, `post`, `audit` and `load`.
+use Rattle.std.proofs.Common.{◌≡◌, false, refl, [], ◌∷◌, Some, codes}
+use Rattle.clap.specs.Walk.{Text, Walk, nothing_held}
+use Rattle.clap.proofs.OnLiterals.{clap_on_literals}
+use Rattle.command_line.specs.Words.{begins_with_dash}
+use Rattle.command_line.proofs.Shapes.{IsReadAs, one_file, two_files}
+use Rattle.command_line.proofs.Valued.{Goes, before, file_held, row_with, stops, value_goes}
+
+-- ---- one file
+
+pub one_goes : (name file : Text) → begins_with_dash file ≡ false
+    → Goes (one_file name) (before nothing_held 1) (file ∷ []) (before (file_held file) 2)
+one_goes name file dash =
+    let s = one_file name in
+    let end = before (file_held file) 2 in
+    value_goes s nothing_held 1 end end file [] dash refl refl (stops s end)
+
+pub init_read : (file : Text) → IsReadAs (one_file (codes "init")) (codes "init") (file ∷ [])
+unfolding clap_on_literals
+init_read file = record { rows = λ program. refl; taken = λ program. refl }
+
+pub post_read : (file : Text) → IsReadAs (one_file (codes "post")) (codes "post") (file ∷ [])
+unfolding clap_on_literals
+post_read file = record { rows = λ program. refl; taken = λ program. refl }
+
+pub audit_read : (file : Text) → IsReadAs (one_file (codes "audit")) (codes "audit") (file ∷ [])
+unfolding clap_on_literals
+audit_read file = record { rows = λ program. refl; taken = λ program. refl }
+
+-- ---- two files
+
+-- FILE was read, and a second value is being read
+abbrev pub two_held : Text → Text → Text → Walk
+two_held id file second =
+    before (record { rows = row_with (codes "file") file ∷ []; pending = Some (id, second ∷ []); skip = 0 }) 3
+
+pub load_goes : (file plan : Text) → begins_with_dash file ≡ false → begins_with_dash plan ≡ false
+    → Goes two_files (before nothing_held 1) (file ∷ plan ∷ []) (two_held (codes "plan") file plan)
+load_goes file plan dash plan_dash =
+    let s = two_files in
+    let end = two_held (codes "plan") file plan in
+    value_goes s nothing_held 1 (before (file_held file) 2) end file (plan ∷ []) dash refl refl
+    (value_goes s (file_held file) 2 end end plan [] plan_dash refl refl (stops s end))
+
+pub load_read : (file plan : Text) → IsReadAs two_files (codes "load") (file ∷ plan ∷ [])
+unfolding clap_on_literals
+load_read file plan = record { rows = λ program. refl; taken = λ program. refl }

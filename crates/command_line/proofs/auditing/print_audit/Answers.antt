@@ -1,0 +1,28 @@
+-- The audit that was told, or the fault.
+use Rattle.std.proofs.Common.{◌≡◌, ◌⊎◌, Bool, Err, false, true, ap, inl, inr, refl}
+use Rattle.std.specs.Prelude.{if◌then◌else◌}
+use Rattle.std.proofs.KnownBytes.{Keeps-refl}
+use Rattle.bank_reports.specs.Audit.{is_sound}
+use Rattle.command_line.specs.declared.status.Status.{Status}
+use Rattle.command_line.specs.declared.status.Status.TheVariants.{Done, Inconsistent}
+use Rattle.command_line.proofs.auditing.print_audit.Goals as goal
+
+either : (sound : Bool) (status : Status) → status ≡ if sound then Done else Inconsistent
+    → (status ≡ Done) ⊎ (status ≡ Inconsistent)
+either true status is = inl is
+either false status is = inr is
+
+pub returns-in-Err : goal.returns-in-Err
+returns-in-Err g c = record {
+  prints = rw c.in-Err.is (ap Err c.from.ensures, Keeps-refl (g.W.Write.contents c.args.output.now));
+  ends = tt;
+}
+
+pub returns-in-Ok-write_audit : goal.returns-in-Ok-write_audit
+returns-in-Ok-write_audit g c = record {
+  prints = rw c.in-Ok.is (c.status_of.ensures, c.in-Ok-write_audit.ensures.ok);
+  ends = either (is_sound c.in-Ok.found) c.status_of.result c.status_of.ensures;
+}
+
+pub returns : goal.returns
+returns g c = record { prints = rw c.in-Ok.is (refl, c.in-Err-write_audit.ensures.err); ends = tt }

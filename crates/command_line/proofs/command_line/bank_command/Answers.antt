@@ -1,0 +1,14 @@
+-- Each command is added in its turn.
+use Rattle.command_line.specs.CommandLine.{audit_app, bank_alone, drive_app, init_app, load_app, post_app}
+use Rattle.command_line.specs.CommandLine.{serve_app, statement_app}
+use Rattle.command_line.proofs.command_line.bank_command.Goals as goal
+
+pub returns : goal.returns
+returns c =
+    let init = c.with_command-bank.ensures bank_alone init_app c.bank_alone.ensures c.init_command.ensures in
+    let load = c.with_command-bank-2.ensures _ load_app init c.load_command.ensures in
+    let post = c.with_command-bank-3.ensures _ post_app load c.post_command.ensures in
+    let drive = c.with_command-bank-4.ensures _ drive_app post c.drive_command.ensures in
+    let audit = c.with_command-bank-5.ensures _ audit_app drive c.audit_command.ensures in
+    let statement = c.with_command-bank-6.ensures _ statement_app audit c.statement_command.ensures in
+    c.with_command.ensures _ serve_app statement c.serve_command.ensures

@@ -1,0 +1,10 @@
+-- Where it can't be told where the counter listens, nothing is served.
+use Rattle.std.proofs.Common.{rules, ◌≡◌, ap, inl, inr, refl, Err}
+use Rattle.command_line.specs.declared.fault.CommandFault.TheVariants.{Write}
+use Rattle.command_line.specs.Working.{done_after}
+use Rattle.command_line.proofs.serving.serve_at.Goals as goal
+
+pub returns-in_err-print_listening-clause-serves : goal.returns-in_err-print_listening-clause-serves
+returns-in_err-print_listening-clause-serves g c =
+    let same : c.from_residual.result ≡ Err Write = search rules in
+    inl (((Write, inr refl, ap done_after same), refl), refl)

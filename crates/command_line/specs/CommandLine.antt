@@ -1,0 +1,106 @@
+-- The program's command line as clap's specification sees it: which commands there are, and what each takes.
+use Rattle.std.specs.Prelude.{◌≡◌, ℕ, List, [], ◌∷◌, Some, true, false, codes, fold}
+use Rattle.clap.specs.Words.{App, Rule, Text, app_of, new_app, new_rule, with_rule, with_subcommand}
+use Rattle.clap.specs.declared.builder.command.Command.{Command}
+use Rattle.clap.specs.declared.builder.command.Command.TheViews.{out-Command as fields_of}
+use Rattle.clap.specs.declared.builder.value_parser.ValueParser.TheVariants.{Unsigned}
+use Rattle.load_driver.specs.declared.drive.TheConstants.{MAX_DRIVEN}
+use Rattle.command_line.specs.declared.limits.TheConstants.{MAX_CONNECTIONS}
+use Rattle.message_records.specs.declared.limits.TheConstants.{MAX_ACCOUNT}
+
+-- a required positional argument, which takes one value and has a name in help
+abbrev pub required_rule : Text → Rule
+required_rule id = record (new_rule id) { value_names = 1; required = true }
+
+-- FILE, the bank's file
+abbrev pub file_rule : Rule
+file_rule = required_rule (codes "file")
+
+-- CSV, the plan of branches
+abbrev pub plan_rule : Rule
+plan_rule = required_rule (codes "plan")
+
+-- ADDR, where the counter listens
+abbrev pub address_rule : Rule
+address_rule = required_rule (codes "address")
+
+-- ACCOUNT, the number of one
+abbrev pub account_rule : Rule
+account_rule = record (required_rule (codes "account")) { parser = Some (Unsigned 1 MAX_ACCOUNT) }
+
+-- a required option `--NAME N`, for a whole number in a range
+abbrev pub number_rule : Text → ℕ → ℕ → Rule
+number_rule name least most =
+    record (required_rule name) { long = Some name; parser = Some (Unsigned least most) }
+
+-- the greatest seed
+abbrev pub MAX_SEED : ℕ
+MAX_SEED = 18_446_744_073_709_551_615
+
+-- `--seed S`, where the driver's draws begin
+abbrev pub seed_rule : Rule
+seed_rule = number_rule (codes "seed") 0 MAX_SEED
+
+-- `--count N`, how many records are drawn
+abbrev pub count_rule : Rule
+count_rule = number_rule (codes "count") 1 MAX_DRIVEN
+
+-- `--connections N`, how many connections are served
+abbrev pub connections_rule : Rule
+connections_rule = number_rule (codes "connections") 1 MAX_CONNECTIONS
+
+-- the command is this app, and has no argument that holds below it too
+pub record IsApp (wanted : App) (command : Command) : Type 0 where
+  pub app : app_of command ≡ wanted
+  pub local : (fields_of command).has_globals ≡ false
+
+-- `init FILE`
+abbrev pub init_app : App
+init_app = with_rule (new_app (codes "init")) file_rule
+
+-- `load FILE CSV`
+abbrev pub load_app : App
+load_app = with_rule (with_rule (new_app (codes "load")) file_rule) plan_rule
+
+-- `post FILE`
+abbrev pub post_app : App
+post_app = with_rule (new_app (codes "post")) file_rule
+
+-- `drive FILE --seed S --count N`
+abbrev pub drive_app : App
+drive_app = with_rule (with_rule (with_rule (new_app (codes "drive")) file_rule) seed_rule) count_rule
+
+-- `audit FILE`
+abbrev pub audit_app : App
+audit_app = with_rule (new_app (codes "audit")) file_rule
+
+-- `statement FILE ACCOUNT`
+abbrev pub statement_app : App
+statement_app = with_rule (with_rule (new_app (codes "statement")) file_rule) account_rule
+
+-- `serve FILE ADDR --connections N`
+abbrev pub serve_app : App
+serve_app =
+    with_rule (with_rule (with_rule (new_app (codes "serve")) file_rule) address_rule) connections_rule
+
+-- `bank` before it has its commands: it wants one, and shows its help where no word follows its name
+abbrev pub bank_alone : App
+bank_alone = let bank = new_app (codes "bank") in record bank {
+  top = record bank.top {
+    has_version = true;
+    subcommand_required = true;
+    arg_required_else_help = true;
+  };
+}
+
+-- the commands of `bank`, in the order of its help
+abbrev pub bank_commands : List App
+bank_commands = init_app ∷ load_app ∷ post_app ∷ drive_app ∷ audit_app ∷ statement_app ∷ serve_app ∷ []
+
+-- the command line `bank` with these commands
+abbrev pub with_commands : App → List App → App
+with_commands bank commands = fold (λ bank command. with_subcommand bank command.top) bank commands
+
+-- `bank` with its commands; clap adds the command `help`
+abbrev pub bank_app : App
+bank_app = with_commands bank_alone bank_commands

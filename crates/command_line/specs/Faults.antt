@@ -1,0 +1,100 @@
+-- The faults of commands: what each is made of, its text, and the status after it.
+use Rattle.std.specs.Prelude.{ℕ, List, ◌++◌, codes, ⊤}
+use Rattle.std.specs.Fmt.{decimal, signed_decimal}
+use Rattle.posting_rules.specs.FaultTexts.{number_of_rule}
+use Rattle.posting_rules.specs.declared.fault.Fault.{Fault}
+use Rattle.posting_rules.specs.declared.fault.Fault.TheVariants as bank
+use Rattle.posting_core.specs.declared.stream.StreamFault.{StreamFault}
+use Rattle.posting_core.specs.declared.stream.StreamFault.TheVariants as stream
+use Rattle.branch_loader.specs.Faults.{plan_text}
+use Rattle.branch_loader.specs.declared.fault.PlanFault.{PlanFault}
+use Rattle.branch_loader.specs.declared.fault.PlanFault.TheVariants as plan
+use Rattle.load_driver.specs.declared.drive_fault.DriveFault.{DriveFault}
+use Rattle.load_driver.specs.declared.drive_fault.DriveFault.TheVariants as drive
+use Rattle.counter_http.specs.declared.listen_fault.ListenFault.{ListenFault}
+use Rattle.counter_http.specs.declared.listen_fault.ListenFault.TheVariants as listen
+use Rattle.posting_rules.specs.declared.open_fault.OpenFault.{OpenFault}
+use Rattle.posting_rules.specs.declared.open_fault.OpenFault.TheVariants as opening
+use Rattle.command_line.specs.declared.fault.CommandFault.{CommandFault}
+use Rattle.command_line.specs.declared.fault.CommandFault.TheVariants as fault
+use Rattle.command_line.specs.declared.status.Status.{Status}
+use Rattle.command_line.specs.declared.status.Status.TheVariants.{System, Input}
+
+-- the system's faults end the program with one status, and what came in with another
+abbrev pub status_of : CommandFault → Status
+status_of fault.Store = System
+status_of fault.Memory = System
+status_of (fault.Damaged rule) = System
+status_of fault.Read = System
+status_of fault.Write = System
+status_of (fault.Truncated count) = Input
+status_of (fault.Plan plan) = Input
+status_of fault.AlreadyBank = Input
+status_of fault.NoBank = Input
+status_of fault.Foreign = Input
+status_of (fault.Version version) = Input
+status_of fault.NoBranches = Input
+status_of (fault.NoAccount account) = Input
+status_of fault.Network = System
+
+-- the text of a fault; that of a plan's fault is its own
+abbrev pub fault_text : CommandFault → List ℕ
+fault_text fault.Store = codes "store fault"
+fault_text fault.Memory = codes "no memory"
+fault_text (fault.Damaged rule) = codes "damaged rule " ++ decimal (number_of_rule rule)
+fault_text fault.Read = codes "read failed"
+fault_text fault.Write = codes "write failed"
+fault_text (fault.Truncated count) = codes "truncated " ++ decimal count ++ codes " bytes"
+fault_text (fault.Plan plan) = plan_text plan
+fault_text fault.AlreadyBank = codes "already a bank"
+fault_text fault.NoBank = codes "no bank"
+fault_text fault.Foreign = codes "foreign tables"
+fault_text (fault.Version version) = codes "version " ++ signed_decimal version
+fault_text fault.NoBranches = codes "no branches"
+fault_text (fault.NoAccount account) = codes "no account " ++ decimal account
+fault_text fault.Network = codes "network failed"
+
+-- why a bank wasn't made or found
+abbrev pub fault_of_opening : OpenFault → CommandFault
+fault_of_opening opening.Store = fault.Store
+fault_of_opening opening.NotBlank = fault.AlreadyBank
+fault_of_opening opening.Blank = fault.NoBank
+fault_of_opening opening.Foreign = fault.Foreign
+fault_of_opening (opening.Version version) = fault.Version version
+fault_of_opening (opening.Damaged rule) = fault.Damaged rule
+
+-- why a bank refused a call; one that is down is a failed store to the command
+abbrev pub fault_of_bank : Fault → CommandFault
+fault_of_bank bank.Memory = fault.Memory
+fault_of_bank bank.Store = fault.Store
+fault_of_bank bank.Down = fault.Store
+fault_of_bank (bank.Damaged rule) = fault.Damaged rule
+
+-- why a plan was refused; want of memory is no fault of the plan
+abbrev pub fault_of_plan : PlanFault → CommandFault
+fault_of_plan plan.Memory = fault.Memory
+fault_of_plan other = fault.Plan other
+
+-- why a stream of records ended before its input did, or within a record
+abbrev pub fault_of_stream : StreamFault → CommandFault
+fault_of_stream (stream.Truncated count) = fault.Truncated count
+fault_of_stream stream.Read = fault.Read
+fault_of_stream stream.Write = fault.Write
+fault_of_stream (stream.Bank cause) = fault_of_bank cause
+
+-- why a drive ended before its last record
+abbrev pub fault_of_drive : DriveFault → CommandFault
+fault_of_drive drive.NoBranches = fault.NoBranches
+fault_of_drive (drive.Bank cause) = fault_of_bank cause
+
+-- why no more connections were taken
+abbrev pub fault_of_serving : ListenFault → CommandFault
+fault_of_serving listen.Network = fault.Network
+fault_of_serving (listen.Bank cause) = fault_of_bank cause
+
+-- there is no such file, or it has no bank of this version
+abbrev pub IsOfFile : CommandFault → Type 0
+IsOfFile fault.NoBank = ⊤
+IsOfFile fault.Foreign = ⊤
+IsOfFile (fault.Version version) = ⊤
+IsOfFile _ = ⊥

@@ -1,0 +1,61 @@
+-- The lines that the program prints, and how it ends where its words aren't a command.
+use Rattle.std.specs.Prelude.{◌≡◌, ◌⊎◌, ◌≤◌, ℕ, List, [], ◌∷◌, ◌++◌, codes, length, take}
+use Rattle.std.specs.Prelude.{Option, Result, OnErr, OnOk}
+use Rattle.std.specs.Fmt.{decimal}
+use Rattle.std.specs.Io.KnownBytes.{Appends}
+use Rattle.std.specs.Net.Text.{socket_text}
+use Rattle.std.specs.declared.net.socket_addr.SocketAddr.{SocketAddr}
+use Rattle.load_driver.specs.declared.drive.Driven.{Driven}
+use Rattle.branch_loader.specs.declared.loader.Loaded.{Loaded}
+use Rattle.clap.specs.declared.error.kind.ErrorKind.{ErrorKind}
+use Rattle.clap.specs.declared.error.kind.ErrorKind.TheVariants as kind
+use Rattle.posting_core.specs.Told.{EndsWith, IsFlush, WriteTold}
+use Rattle.command_line.specs.declared.fault.CommandFault.{CommandFault}
+use Rattle.command_line.specs.declared.status.Status.{Status}
+use Rattle.command_line.specs.declared.status.Status.TheVariants.{Done, Usage, System}
+
+-- a text, and the end of its line
+abbrev pub line : List ℕ → List ℕ
+line text = text ++ 10 ∷ []
+
+-- a bank was made
+abbrev pub created_line : List ℕ
+created_line = line (codes "created")
+
+-- so many branches of a plan got each answer
+abbrev pub loaded_line : Loaded → List ℕ
+loaded_line loaded = line (codes "opened " ++ decimal loaded.opened
+    ++ codes " already " ++ decimal loaded.already
+    ++ codes " differs " ++ decimal loaded.differs)
+
+-- so many records were drawn, and so many got each answer
+abbrev pub driven_line : ℕ → Driven → List ℕ
+driven_line count driven = line (codes "records " ++ decimal count
+    ++ codes " posted " ++ decimal driven.posted
+    ++ codes " refused " ++ decimal driven.refused)
+
+-- where the counter listens
+abbrev pub listening_line : SocketAddr → List ℕ
+listening_line address = line (codes "listening " ++ socket_text address)
+
+-- A line is printed. w and w' are the known bytes of the output before and after, and t and t' what its calls
+-- are known to have returned.
+pub record PrintsLine (text : List ℕ) (w w' : Option (List ℕ)) (t t' : Option (List WriteTold))
+    (told : Result (Unit {0}) CommandFault) : Type 0 where
+  -- at Ok it is written
+  pub line : OnOk told (Appends w w' text)
+  -- and flushed after all else
+  pub flushed : OnOk told (EndsWith IsFlush t t')
+  -- at a fault a beginning of it is written
+  pub part : OnErr told ((n : ℕ) × (n ≤ length text) × Appends w w' (take n text))
+
+-- help or the version was asked for
+abbrev pub IsHelpOrVersion : ErrorKind → Type 0
+IsHelpOrVersion asked = (asked ≡ kind.DisplayHelp) ⊎ (asked ≡ kind.DisplayVersion)
+
+-- how the program ends on an error of this kind
+abbrev pub IsShown : ErrorKind → Status → Type 0
+IsShown kind.OutOfMemory status = status ≡ System
+IsShown kind.DisplayHelp status = (status ≡ Done) ⊎ (status ≡ System)
+IsShown kind.DisplayVersion status = (status ≡ Done) ⊎ (status ≡ System)
+IsShown other status = status ≡ Usage

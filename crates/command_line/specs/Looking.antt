@@ -1,0 +1,39 @@
+-- What is said where the look for a bank's file fails, where no bank is opened, and where a plan isn't read.
+use Rattle.std.specs.Prelude.{⊤}
+use Rattle.std.specs.declared.io.ErrorKind.{ErrorKind}
+use Rattle.std.specs.declared.io.ErrorKind.TheVariants as kind
+use Rattle.command_line.specs.declared.fault.CommandFault.{CommandFault}
+use Rattle.command_line.specs.declared.fault.CommandFault.TheVariants.{AlreadyBank, Damaged, Foreign, Memory}
+use Rattle.command_line.specs.declared.fault.CommandFault.TheVariants.{NoBank}
+use Rattle.command_line.specs.declared.fault.CommandFault.TheVariants.{Plan, Store, Version}
+
+-- a file that isn't there, or that is below something that is no folder, is no bank
+abbrev pub fault_of_look : ErrorKind → CommandFault
+fault_of_look kind.NotFound = NoBank
+fault_of_look kind.NotADirectory = NoBank
+fault_of_look kind.OutOfMemory = Memory
+fault_of_look _ = Store
+
+-- the fault is one of those
+abbrev pub IsOfLook : CommandFault → Type 0
+IsOfLook NoBank = ⊤
+IsOfLook Memory = ⊤
+IsOfLook Store = ⊤
+IsOfLook _ = ⊥
+
+-- the fault is one with which a bank isn't made in its file, or isn't found there
+abbrev pub IsOfOpening : CommandFault → Type 0
+IsOfOpening NoBank = ⊤
+IsOfOpening AlreadyBank = ⊤
+IsOfOpening Foreign = ⊤
+IsOfOpening (Version version) = ⊤
+IsOfOpening (Damaged rule) = ⊤
+IsOfOpening Memory = ⊤
+IsOfOpening Store = ⊤
+IsOfOpening _ = ⊥
+
+-- the fault is one of a plan, or want of memory
+abbrev pub IsPlanFault : CommandFault → Type 0
+IsPlanFault Memory = ⊤
+IsPlanFault (Plan fault) = ⊤
+IsPlanFault _ = ⊥

@@ -1,0 +1,177 @@
+-- Which command the words of the command line tell, and which words tell one.
+use Rattle.std.specs.Prelude.{◌≡◌, ◌⊎◌, ◌==◌, ◌≤◌, ⊤, ℕ, Bool, List, [], ◌∷◌, Some, true, false, codes, drop}
+use Rattle.std.specs.Prelude.{IsSomeAnd, is_some}
+use Rattle.std.specs.Str.Parse.{digits_value, without_leading_plus}
+use Rattle.clap.specs.Words.{IsUnsignedIn, Row, Text, first_of, kind_of, one_of, subcommand_of}
+use Rattle.clap.specs.declared.error.Error.{Error}
+use Rattle.clap.specs.declared.error.kind.ErrorKind.TheVariants as kind
+use Rattle.load_driver.specs.declared.drive.TheConstants.{MAX_DRIVEN}
+use Rattle.message_records.specs.declared.limits.TheConstants.{MAX_ACCOUNT}
+use Rattle.command_line.specs.CommandLine.{MAX_SEED, bank_app}
+use Rattle.command_line.specs.declared.limits.TheConstants.{MAX_CONNECTIONS}
+use Rattle.command_line.specs.declared.reading.Command.{Command}
+use Rattle.command_line.specs.declared.reading.Command.TheVariants.{Audit, Drive, Init, Load, Post, Serve}
+use Rattle.command_line.specs.declared.reading.Command.TheVariants.{Statement}
+
+-- the number that a text of digits spells; a plus may come before them
+abbrev pub number_of : Text → ℕ
+number_of text = digits_value 10 (without_leading_plus text)
+
+-- ---- what clap matched
+
+-- the argument has a value
+abbrev pub HasText : Text → List Row → Type 0
+HasText id rows = is_some (first_of id rows) ≡ true
+
+-- the argument has a value, which spells a number in the range
+abbrev pub HasNumber : Text → ℕ → ℕ → List Row → Type 0
+HasNumber id least most rows = IsSomeAnd (one_of id rows) (IsUnsignedIn least most)
+
+-- the argument has a value, which spells a number in some range
+abbrev pub HasSomeNumber : Text → List Row → Type 0
+HasSomeNumber id rows = (least : ℕ) × (most : ℕ) × HasNumber id least most rows
+
+-- the argument's value is this text
+abbrev pub IsText : Text → List Row → Text → Type 0
+IsText id rows text = first_of id rows ≡ Some text
+
+-- the argument's value spells this number
+abbrev pub IsNumber : Text → List Row → ℕ → Type 0
+IsNumber id rows n = IsSomeAnd (one_of id rows) (λ text. n ≡ number_of text)
+
+-- and the number is in the range
+abbrev pub IsNumberIn : Text → ℕ → ℕ → List Row → ℕ → Type 0
+IsNumberIn id least most rows n = IsNumber id rows n × (least ≤ n) × (n ≤ most)
+
+-- the command has this name, and its files and numbers are the values of its arguments
+abbrev pub IsCommandOf : Text × List Row → Command → Type 0
+IsCommandOf p (Init file) = (p.0 ≡ codes "init") × IsText (codes "file") p.1 file.now
+IsCommandOf p (Load file plan) = (p.0 ≡ codes "load") × IsText (codes "file") p.1 file.now
+    × IsText (codes "plan") p.1 plan.now
+IsCommandOf p (Post file) = (p.0 ≡ codes "post") × IsText (codes "file") p.1 file.now
+IsCommandOf p (Drive file seed count) = (p.0 ≡ codes "drive") × IsText (codes "file") p.1 file.now
+    × IsNumber (codes "seed") p.1 seed
+    × IsNumber (codes "count") p.1 count
+IsCommandOf p (Audit file) = (p.0 ≡ codes "audit") × IsText (codes "file") p.1 file.now
+IsCommandOf p (Statement file account) = (p.0 ≡ codes "statement") × IsText (codes "file") p.1 file.now
+    × IsNumber (codes "account") p.1 account
+IsCommandOf p (Serve file address connections) = (p.0 ≡ codes "serve") × IsText (codes "file") p.1 file.now
+    × IsText (codes "address") p.1 address.now
+    × IsNumber (codes "connections") p.1 connections
+
+-- the command's numbers are in their ranges
+abbrev pub AreInRange : Command → Type 0
+AreInRange (Drive file seed count) = (seed ≤ MAX_SEED) × (1 ≤ count) × (count ≤ MAX_DRIVEN)
+AreInRange (Statement file account) = (1 ≤ account) × (account ≤ MAX_ACCOUNT)
+AreInRange (Serve file address connections) = (1 ≤ connections) × (connections ≤ MAX_CONNECTIONS)
+AreInRange _ = ⊤
+
+-- clap matches the words to a subcommand of `bank` and to its values, and the command is that one
+abbrev pub IsReadFrom : List Text → Command → Type 0
+IsReadFrom words command = IsSomeAnd (subcommand_of bank_app words) (λ p. IsCommandOf p command)
+
+-- the name is that of a command, and each of its arguments has a value
+abbrev pub IsComplete : Text × List Row → Type 0
+IsComplete p = HasText (codes "file") p.1
+    × ((p.0 ≡ codes "init") ⊎ (p.0 ≡ codes "post") ⊎ (p.0 ≡ codes "audit")
+    ⊎ ((p.0 ≡ codes "load") × HasText (codes "plan") p.1)
+    ⊎ ((p.0 ≡ codes "drive") × HasNumber (codes "seed") 0 MAX_SEED p.1
+    × HasNumber (codes "count") 1 MAX_DRIVEN p.1)
+    ⊎ ((p.0 ≡ codes "statement") × HasNumber (codes "account") 1 MAX_ACCOUNT p.1)
+    ⊎ ((p.0 ≡ codes "serve") × HasText (codes "address") p.1
+    × HasNumber (codes "connections") 1 MAX_CONNECTIONS p.1))
+
+-- ---- words that spell a command
+
+-- a flag begins with a dash
+abbrev pub begins_with_dash : Text → Bool
+begins_with_dash [] = false
+begins_with_dash (byte ∷ rest) = byte == 45
+
+-- the words are `NAME FILE`, behind the program's name, with a file that doesn't begin with a dash
+abbrev pub AskWithFile : Text → List Text → Type 0
+AskWithFile name words = (program : Text) × (file : Text) × (begins_with_dash file ≡ false)
+    × (words ≡ program ∷ name ∷ file ∷ [])
+
+abbrev pub AskToInit : List Text → Type 0
+AskToInit words = AskWithFile (codes "init") words
+
+-- the words are `load FILE CSV`, with files that don't begin with a dash
+abbrev pub AskToLoad : List Text → Type 0
+AskToLoad words = (program : Text) × (file : Text) × (plan : Text) × (begins_with_dash file ≡ false)
+    × (begins_with_dash plan ≡ false) × (words ≡ program ∷ codes "load" ∷ file ∷ plan ∷ [])
+
+abbrev pub AskToPost : List Text → Type 0
+AskToPost words = AskWithFile (codes "post") words
+
+-- the words are `drive FILE --seed S --count N`, with a file that doesn't begin with a dash, and two numbers
+-- in
+-- their ranges
+abbrev pub AskToDrive : List Text → Type 0
+AskToDrive words = (program : Text) × (file : Text) × (seed : Text) × (count : Text)
+    × (begins_with_dash file ≡ false) × IsUnsignedIn 0 MAX_SEED seed × IsUnsignedIn 1 MAX_DRIVEN count
+    × (words ≡ program ∷ codes "drive" ∷ file ∷ codes "--seed" ∷ seed ∷ codes "--count" ∷ count ∷ [])
+
+abbrev pub AskToAudit : List Text → Type 0
+AskToAudit words = AskWithFile (codes "audit") words
+
+-- the words are `statement FILE ACCOUNT`, with a file that doesn't begin with a dash, and the number of an
+-- account
+abbrev pub AskForStatement : List Text → Type 0
+AskForStatement words = (program : Text) × (file : Text) × (account : Text) × (begins_with_dash file ≡ false)
+    × IsUnsignedIn 1 MAX_ACCOUNT account
+    × (words ≡ program ∷ codes "statement" ∷ file ∷ account ∷ [])
+
+-- the words are `serve FILE ADDR --connections N`, with a file and an address that don't begin with a dash,
+-- and a
+-- number in its range
+abbrev pub AskToServe : List Text → Type 0
+AskToServe words = (program : Text) × (file : Text) × (address : Text) × (connections : Text)
+    × (begins_with_dash file ≡ false) × (begins_with_dash address ≡ false)
+    × IsUnsignedIn 1 MAX_CONNECTIONS connections
+    × (words ≡ program ∷ codes "serve" ∷ file ∷ address ∷ codes "--connections" ∷ connections ∷ [])
+
+-- the words spell a command: its name, its files, of which none begins with a dash, and its numbers
+abbrev pub IsSpelled : List Text → Type 0
+IsSpelled words = AskToInit words ⊎ AskToLoad words ⊎ AskToPost words ⊎ AskToDrive words ⊎ AskToAudit words
+    ⊎ AskForStatement words ⊎ AskToServe words
+
+-- the words after the program's name are the command's own
+abbrev pub IsSpelledBy : List Text → Command → Type 0
+IsSpelledBy words (Init file) = drop 1 words ≡ codes "init" ∷ file.now ∷ []
+IsSpelledBy words (Load file plan) = drop 1 words ≡ codes "load" ∷ file.now ∷ plan.now ∷ []
+IsSpelledBy words (Post file) = drop 1 words ≡ codes "post" ∷ file.now ∷ []
+IsSpelledBy words (Drive file seed count) = (s : Text) × (n : Text)
+    × (drop 1 words ≡ codes "drive" ∷ file.now ∷ codes "--seed" ∷ s ∷ codes "--count" ∷ n ∷ [])
+    × (seed ≡ number_of s) × (count ≡ number_of n)
+IsSpelledBy words (Audit file) = drop 1 words ≡ codes "audit" ∷ file.now ∷ []
+IsSpelledBy words (Statement file account) = (n : Text)
+    × (drop 1 words ≡ codes "statement" ∷ file.now ∷ n ∷ []) × (account ≡ number_of n)
+IsSpelledBy words (Serve file address connections) = (n : Text)
+    × (drop 1 words ≡ codes "serve" ∷ file.now ∷ address.now ∷ codes "--connections" ∷ n ∷ [])
+    × (connections ≡ number_of n)
+
+-- memory ran out
+abbrev pub IsWantOfMemory : Error → Type 0
+IsWantOfMemory error = kind_of error ≡ kind.OutOfMemory
+
+-- ---- words that ask for help
+
+-- the words are `bank COMMAND --help`
+abbrev pub AsksForHelpOn : Text → List Text → Type 0
+AsksForHelpOn name words = (program : Text) × (words ≡ program ∷ name ∷ codes "--help" ∷ [])
+
+-- the words ask for help: `bank --help ..`, or `bank COMMAND --help`
+abbrev pub AsksForHelp : List Text → Type 0
+AsksForHelp words = ((program : Text) × (rest : List Text) × (words ≡ program ∷ codes "--help" ∷ rest))
+    ⊎ AsksForHelpOn (codes "init") words
+    ⊎ AsksForHelpOn (codes "load") words
+    ⊎ AsksForHelpOn (codes "post") words
+    ⊎ AsksForHelpOn (codes "drive") words
+    ⊎ AsksForHelpOn (codes "audit") words
+    ⊎ AsksForHelpOn (codes "statement") words
+    ⊎ AsksForHelpOn (codes "serve") words
+
+-- the error is the help, or memory ran out
+abbrev pub IsHelp : Error → Type 0
+IsHelp error = (kind_of error ≡ kind.DisplayHelp) ⊎ (kind_of error ≡ kind.OutOfMemory)

@@ -1,0 +1,130 @@
+-- What the work of a command does to its bank, and the line that it prints of it.
+use Rattle.std.specs.Prelude.{◌≡◌, ◌⊎◌, ◌+◌, ℕ, List, Option, Result, Ok, Err, length}
+use Rattle.std.specs.Io.KnownBytes.{Appends, Keeps}
+use Rattle.std.specs.declared.net.socket_addr.SocketAddr.{SocketAddr}
+use Rattle.posting_rules.specs.declared.fault.Fault.{Fault}
+use Rattle.posting_rules.specs.Commands.{Command}
+use Rattle.posting_rules.specs.Counter.{Seen, ShowsLog, Takes}
+use Rattle.branch_loader.specs.Loading.{IsRefusedAfter, answers, counted, total}
+use Rattle.branch_loader.specs.Plans.{Rows, openings}
+use Rattle.branch_loader.specs.declared.loader.Loaded.{Loaded}
+use Rattle.load_driver.specs.Drives.{Drives}
+use Rattle.load_driver.specs.declared.drive.Driven.{Driven}
+use Rattle.load_driver.specs.declared.drive_fault.DriveFault.{DriveFault}
+use Rattle.counter_http.specs.Connections.{ServesConnections}
+use Rattle.counter_http.specs.declared.listen_fault.ListenFault.{ListenFault}
+use Rattle.command_line.specs.Faults.{fault_of_bank, fault_of_drive, fault_of_serving}
+use Rattle.command_line.specs.Lines.{driven_line, listening_line, loaded_line}
+use Rattle.command_line.specs.Looking.{IsPlanFault}
+use Rattle.command_line.specs.Statuses.{status_of_loaded}
+use Rattle.command_line.specs.declared.fault.CommandFault.{CommandFault}
+use Rattle.command_line.specs.declared.fault.CommandFault.TheVariants.{Network, Write}
+use Rattle.command_line.specs.declared.status.Status.{Status}
+use Rattle.command_line.specs.declared.status.Status.TheVariants.{Done}
+
+-- the bank took the openings of a plan, and they were answered so many times in each way
+pub record Loads (old new : Seen) (loaded : Loaded) : Type 0 where
+  pub rows : Rows
+  pub takes : Takes old new (openings rows)
+  pub all : total loaded ≡ length rows
+  pub counts : new.honest → (log : List Command) → ShowsLog old log → loaded ≡ counted (answers log rows)
+
+-- the openings of a plan were taken; or some were, and the bank refused the next one
+abbrev pub LoadsAs : {C : Type 0} → (C → Seen) → Result Loaded Fault → (old new : C) → Type 0
+LoadsAs seen (Ok loaded) old new = Loads (seen old) (seen new) loaded
+LoadsAs seen (Err fault) old new = (rows : Rows) × (answered : ℕ)
+    × IsRefusedAfter seen old new (openings rows) fault answered
+
+-- ---- what is printed of the work
+
+-- so many records were driven, each was posted or not, and the line that says it was printed
+abbrev pub TellsDriven : ℕ → Option (List ℕ) → Option (List ℕ) → Type 0
+TellsDriven count old new =
+    (driven : Driven) × (driven.posted + driven.refused ≡ count) × Appends old new (driven_line count driven)
+
+-- the line that says where the counter listens was printed
+abbrev pub TellsListening : Option (List ℕ) → Option (List ℕ) → Type 0
+TellsListening old new = (address : SocketAddr) × Appends old new (listening_line address)
+
+-- nothing was printed but that, if anything was
+abbrev pub MayTellListening : Option (List ℕ) → Option (List ℕ) → Type 0
+MayTellListening old new = Keeps old new ⊎ TellsListening old new
+
+-- ---- how a command ends that worked with a bank, and what it printed: w and w' are the known bytes of the
+-- output, and Ends says of a result whether the command ends with it
+
+-- with a fault of this kind
+abbrev pub EndsInFault : (IsSo : CommandFault → Type 0) → (Ends : Result Status CommandFault → Type 0)
+    → Type 0
+EndsInFault IsSo Ends = (fault : CommandFault) × IsSo fault × Ends (Err fault)
+
+-- with a line of what it did, or with a fault where that couldn't be written
+abbrev pub EndsWithLine : (Ends : Result Status CommandFault → Type 0) → (w w' : Option (List ℕ)) → Status
+    → List ℕ
+    → Type 0
+EndsWithLine Ends w w' status line = (Ends (Ok status) × Appends w w' line) ⊎ Ends (Err Write)
+
+-- with a fault, and nothing was printed
+abbrev pub EndsSilently : (Ends : Result Status CommandFault → Type 0) → (w w' : Option (List ℕ))
+    → CommandFault
+    → Type 0
+EndsSilently Ends w w' fault = Ends (Err fault) × Keeps w w'
+
+abbrev pub TellsLoad : (Ends : Result Status CommandFault → Type 0) → (w w' : Option (List ℕ))
+    → Result Loaded Fault → Type 0
+TellsLoad Ends w w' (Ok loaded) = EndsWithLine Ends w w' (status_of_loaded loaded) (loaded_line loaded)
+TellsLoad Ends w w' (Err fault) = EndsSilently Ends w w' (fault_of_bank fault)
+
+abbrev pub TellsDrive : (Ends : Result Status CommandFault → Type 0) → (w w' : Option (List ℕ)) → (count : ℕ)
+    → Result Driven DriveFault → Type 0
+TellsDrive Ends w w' count (Ok driven) = EndsWithLine Ends w w' Done (driven_line count driven)
+TellsDrive Ends w w' count (Err fault) = EndsSilently Ends w w' (fault_of_drive fault)
+
+abbrev pub TellsServing : (Ends : Result Status CommandFault → Type 0) → Result (Unit {0}) ListenFault
+    → Type 0
+TellsServing Ends (Ok done) = Ends (Ok Done)
+TellsServing Ends (Err fault) = Ends (Err (fault_of_serving fault))
+
+-- ---- how the program ends after such a command
+
+-- how the program ends where the command has nothing to say of its work
+abbrev pub done_after : Result (Unit {0}) CommandFault → Result Status CommandFault
+done_after (Ok done) = Ok Done
+done_after (Err fault) = Err fault
+
+-- how the program ends after a plan was loaded
+abbrev pub ended_by_load : Result Loaded CommandFault → Result Status CommandFault
+ended_by_load (Ok loaded) = Ok (status_of_loaded loaded)
+ended_by_load (Err fault) = Err fault
+
+-- ---- the work of such a command
+
+-- nothing was done with the bank, and Idle holds; or what was done with it was printed
+abbrev pub Works : {C X : Type 0} → (Idle : Type 0) → (Tells : X → Type 0) → (Did : X → C → C → Type 0)
+    → (old new : C) → Type 0
+Works {C} {X} Idle Tells Did old new = (Idle × (new ≡ old)) ⊎ ((told : X) × Tells told × Did told old new)
+
+-- a plan was loaded into a bank, or it couldn't be read
+abbrev pub LoadsOver : {C : Type 0} → (C → Seen) → (w w' : Option (List ℕ))
+    → (Ends : Result Status CommandFault → Type 0) → (old new : C) → Type 0
+LoadsOver seen w w' Ends = Works (EndsInFault IsPlanFault Ends × Keeps w w') (TellsLoad Ends w w')
+    (LoadsAs seen)
+
+-- so many records of a seed were submitted to a bank, or as many as it took
+abbrev pub DrivesOver : {C : Type 0} → (C → Seen) → (k k' w w' : Option (List ℕ)) → (seed count : ℕ)
+    → (Ends : Result Status CommandFault → Type 0) → (old new : C) → Type 0
+DrivesOver seen k k' w w' seed count Ends old new =
+    (told : Result Driven DriveFault) × TellsDrive Ends w w' count told
+    × Drives seen old new k k' seed count told
+
+-- the address can't be had, or the line that says it can't be written
+abbrev pub IsOfListening : CommandFault → Type 0
+IsOfListening fault = (fault ≡ Network) ⊎ (fault ≡ Write)
+
+-- so many connections were served by a bank, or as many as it and the network let; or the counter doesn't
+-- listen
+abbrev pub ServesOver : {C : Type 0} → (C → Seen) → (k k' : Option (List ℕ)) → (count : ℕ)
+    → (Ends : Result Status CommandFault → Type 0) → (old new : C) → Type 0
+ServesOver seen k k' count Ends =
+    Works (EndsInFault IsOfListening Ends × (k' ≡ k)) (TellsServing Ends)
+    (λ told old new. ServesConnections seen k k' old new count told)

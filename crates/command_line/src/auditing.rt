@@ -1,0 +1,37 @@
+//! How an audit ends.
+ghost use Rattle.std.specs.Prelude.{◌≡◌, ◌⊎◌, IfOk};
+ghost use Rattle.command_line.specs.Auditing.{Prints, status_of_audit};
+
+use crate::{CommandFault, Status};
+use bank_reports::{Audit, write_audit};
+use posting_core::Fault;
+use std::io::Write;
+
+/// Prints an audit, and returns how the program ends.
+pub fn print_audit<W: Write>(
+    told: Result<Audit, Fault>,
+    output: &mut W,
+) -> Result<Status, CommandFault>
+    ensures prints { Prints told (W.contents output.old) (W.contents output.new) result }
+    ensures ends { IfOk result (λ status. (status ≡ Status.Done) ⊎ (status ≡ Status.Inconsistent)) }
+{
+    let found = match told {
+        Ok(found) => found,
+        Err(fault) => return Err(CommandFault::from(fault)),
+    };
+    match write_audit(&found, output) {
+        Ok(()) => Ok(status_of(&found)),
+        Err(_) => Err(CommandFault::Write),
+    }
+}
+
+// The program ends in its own way where the books don't agree.
+fn status_of(found: &Audit) -> Status
+    ensures { result ≡ status_of_audit found.now }
+{
+    if found.is_consistent() {
+        Status::Done
+    } else {
+        Status::Inconsistent
+    }
+}

@@ -1,0 +1,214 @@
+//! The program's command line as `clap` gets it: seven commands, their arguments, and the texts of help.
+ghost use Rattle.std.specs.Prelude.{◌≡◌, IfOk, false};
+ghost use Rattle.clap.specs.Words.{App, Rule, app_of, new_app, rule_of, with_rule, with_subcommand};
+ghost use Rattle.command_line.specs.CommandLine.{IsApp, audit_app, bank_alone, bank_app, drive_app, file_rule};
+ghost use Rattle.command_line.specs.CommandLine.{init_app, load_app, number_rule, post_app, required_rule};
+ghost use Rattle.command_line.specs.CommandLine.{serve_app, statement_app};
+
+use crate::limits::MAX_CONNECTIONS;
+use crate::texts;
+use clap::builder::ValueParser;
+use clap::{Arg, Command};
+use load_driver::MAX_DRIVEN;
+use message_records::MAX_ACCOUNT;
+use std::alloc::{AllocError, Global};
+
+/// The whole command line.
+pub fn bank_command<'a>(alloc: Global) -> Result<Command<'a>, AllocError>
+    ensures { IfOk result (λ bank. app_of bank ≡ bank_app) }
+{
+    let bank = with_command(Ok(bank_alone(alloc)), init_command(alloc));
+    let bank = with_command(bank, load_command(alloc));
+    let bank = with_command(bank, post_command(alloc));
+    let bank = with_command(bank, drive_command(alloc));
+    let bank = with_command(bank, audit_command(alloc));
+    let bank = with_command(bank, statement_command(alloc));
+    with_command(bank, serve_command(alloc))
+}
+
+// The command line with one more command, where both could be made. No caller has to let go of one where
+// the other fails, which keeps their proofs short.
+fn with_command<'a>(
+    bank: Result<Command<'a>, AllocError>,
+    command: Result<Command<'a>, AllocError>,
+) -> Result<Command<'a>, AllocError>
+    ensures { (before app : App) → IfOk bank.entry (λ bank. app_of bank ≡ before)
+        → IfOk command.entry (IsApp app) → IfOk result (λ built. app_of built ≡ with_subcommand before app.top) }
+{
+    bank?.subcommand(command?)
+}
+
+// The command line with no command yet.
+fn bank_alone<'a>(alloc: Global) -> Command<'a>
+    ensures { app_of result ≡ bank_alone }
+{
+    Command::new(alloc, "bank")
+        .version(texts::VERSION)
+        .about(texts::BANK)
+        .long_about(texts::BANK_AT_LENGTH)
+        .after_help(texts::BANK_EXAMPLE)
+        .after_long_help(texts::BANK_DETAILS)
+        .subcommand_required(true)
+        .arg_required_else_help(true)
+}
+
+// A command of this name with its three texts, which takes FILE first.
+fn command_on_file<'a>(
+    alloc: Global,
+    name: &'a str,
+    about: &'a str,
+    at_length: &'a str,
+    details: &'a str,
+) -> Result<Command<'a>, AllocError>
+    ensures { IfOk result (IsApp (with_rule (new_app name.now) file_rule)) }
+{
+    Command::new(alloc, name)
+        .about(about)
+        .long_about(at_length)
+        .after_long_help(details)
+        .arg(required_argument(alloc, "file", "FILE", texts::FILE))
+}
+
+// The command with one more argument, where it could be made.
+fn with_argument<'a>(
+    command: Result<Command<'a>, AllocError>,
+    argument: Arg<'a>,
+) -> Result<Command<'a>, AllocError>
+    requires { argument.global ≡ false }
+    ensures { (app : App) (rule : Rule) → IfOk command.entry (IsApp app) → rule_of argument.entry ≡ rule
+        → IfOk result (IsApp (with_rule app rule)) }
+{
+    command?.arg(argument)
+}
+
+fn init_command<'a>(alloc: Global) -> Result<Command<'a>, AllocError>
+    ensures { IfOk result (IsApp init_app) }
+{
+    let init = command_on_file(
+        alloc,
+        "init",
+        texts::INIT,
+        texts::INIT_AT_LENGTH,
+        texts::INIT_EXAMPLE,
+    )?;
+    Ok(init.after_help(texts::INIT_EXAMPLE))
+}
+
+fn load_command<'a>(alloc: Global) -> Result<Command<'a>, AllocError>
+    ensures { IfOk result (IsApp load_app) }
+{
+    let load = command_on_file(
+        alloc,
+        "load",
+        texts::LOAD,
+        texts::LOAD_AT_LENGTH,
+        texts::LOAD_DETAILS,
+    );
+    let plan = required_argument(alloc, "plan", "CSV", texts::PLAN);
+    with_argument(load, plan)
+}
+
+fn post_command<'a>(alloc: Global) -> Result<Command<'a>, AllocError>
+    ensures { IfOk result (IsApp post_app) }
+{
+    command_on_file(
+        alloc,
+        "post",
+        texts::POST,
+        texts::POST_AT_LENGTH,
+        texts::POST_DETAILS,
+    )
+}
+
+fn drive_command<'a>(alloc: Global) -> Result<Command<'a>, AllocError>
+    ensures { IfOk result (IsApp drive_app) }
+{
+    let drive = command_on_file(
+        alloc,
+        "drive",
+        texts::DRIVE,
+        texts::DRIVE_AT_LENGTH,
+        texts::DRIVE_DETAILS,
+    );
+    let seed = number_option(alloc, "seed", "S", 0, u64::MAX, texts::SEED);
+    let count = number_option(alloc, "count", "N", 1, MAX_DRIVEN, texts::COUNT);
+    with_argument(with_argument(drive, seed), count)
+}
+
+fn audit_command<'a>(alloc: Global) -> Result<Command<'a>, AllocError>
+    ensures { IfOk result (IsApp audit_app) }
+{
+    command_on_file(
+        alloc,
+        "audit",
+        texts::AUDIT,
+        texts::AUDIT_AT_LENGTH,
+        texts::AUDIT_DETAILS,
+    )
+}
+
+fn statement_command<'a>(alloc: Global) -> Result<Command<'a>, AllocError>
+    ensures { IfOk result (IsApp statement_app) }
+{
+    let statement = command_on_file(
+        alloc,
+        "statement",
+        texts::STATEMENT,
+        texts::STATEMENT_AT_LENGTH,
+        texts::STATEMENT_EXAMPLE,
+    )?;
+    let account = required_argument(alloc, "account", "ACCOUNT", texts::ACCOUNT).value_parser(
+        ValueParser::unsigned(1, MAX_ACCOUNT),
+    );
+    statement.after_help(texts::STATEMENT_EXAMPLE).arg(account)
+}
+
+fn serve_command<'a>(alloc: Global) -> Result<Command<'a>, AllocError>
+    ensures { IfOk result (IsApp serve_app) }
+{
+    let serve = command_on_file(
+        alloc,
+        "serve",
+        texts::SERVE,
+        texts::SERVE_AT_LENGTH,
+        texts::SERVE_DETAILS,
+    );
+    let address = required_argument(alloc, "address", "ADDR", texts::ADDRESS);
+    let connections = number_option(
+        alloc,
+        "connections",
+        "N",
+        1,
+        MAX_CONNECTIONS,
+        texts::CONNECTIONS,
+    );
+    with_argument(with_argument(serve, address), connections)
+}
+
+// A required positional argument, which takes one value.
+fn required_argument<'a>(alloc: Global, id: &'a str, value_name: &'a str, help: &'a str) -> Arg<'a>
+    ensures rule { rule_of result ≡ required_rule id.now }
+    ensures local { result.global ≡ false }
+{
+    Arg::new(alloc, id)
+        .required(true)
+        .value_name(value_name)
+        .help(help)
+}
+
+// A required option `--NAME N`, for a whole number in a range.
+fn number_option<'a>(
+    alloc: Global,
+    name: &'a str,
+    value_name: &'a str,
+    least: u64,
+    most: u64,
+    help: &'a str,
+) -> Arg<'a>
+    ensures rule { rule_of result ≡ number_rule name.now least most }
+    ensures local { result.global ≡ false }
+{
+    required_argument(alloc, name, value_name, help)
+        .long(name)
+        .value_parser(ValueParser::unsigned(least, most))
+}

@@ -1,0 +1,198 @@
+//! Why a command ends before its work is done, and what each fault of a library becomes.
+ghost use Rattle.std.specs.Prelude.{◌≡◌};
+ghost use Rattle.std.specs.IoError.{error_kind};
+ghost use Rattle.command_line.specs.Looking.{IsOfLook, fault_of_look};
+ghost use Rattle.command_line.specs.Faults.{fault_of_bank, fault_of_drive, fault_of_opening, fault_of_plan};
+ghost use Rattle.command_line.specs.Faults.{fault_of_serving, fault_of_stream, status_of};
+
+use crate::status::Status;
+use branch_loader::PlanFault;
+use counter_http::ListenFault;
+use load_driver::DriveFault;
+use message_records::Account;
+use posting_core::{Fault, OpenFault, Rule, StreamFault};
+use std::fmt;
+use std::io::{self, ErrorKind};
+
+/// Why a command ended before its work was done. `{}` writes the text that follows `bank: ` on standard
+/// error, and [`CommandFault::status`] gives the exit status: 3 where the machine or the file failed, 4 where
+/// what came in or the file isn't what the command takes. What was acknowledged before a fault is kept.
+#[derive(Clone, Copy, Debug, PartialEq, Eq)]
+pub enum CommandFault {
+    /// Status 3. The store failed, the file is in use by another process, or it can't be opened.
+    Store,
+    /// Status 3. Memory was refused.
+    Memory,
+    /// Status 3. The file has rows that no bank has. The call that met them changed nothing.
+    Damaged(Rule),
+    /// Status 3. Standard input failed.
+    Read,
+    /// Status 3. Standard output failed. Records that were read were submitted.
+    Write,
+    /// Status 4. Standard input ended so many bytes, 1..=99, into a record. The records before it were
+    /// answered.
+    Truncated(u8),
+    /// Status 4. The plan is no table of branches and accounts, or can't be read. No branch was opened.
+    Plan(PlanFault),
+    /// Status 4. `init` was given a file that has a bank.
+    AlreadyBank,
+    /// Status 4. There is no such file, or it has no bank.
+    NoBank,
+    /// Status 4. The file has some tables with the names of a bank's, and not all.
+    Foreign,
+    /// Status 4. The file has a bank of this version, which isn't the program's.
+    Version(i64),
+    /// Status 4. The bank has no open branch to draw records over.
+    NoBranches,
+    /// Status 4. The account isn't open.
+    NoAccount(Account),
+    /// Status 3. The address can't be bound, or the listener gave no connection.
+    Network,
+}
+
+impl CommandFault {
+    /// Why a file isn't found: there is none, or what is before it in its path is no folder, so that there
+    /// is no bank; or memory or the system failed.
+    pub fn of_look(error: &io::Error) -> CommandFault
+        ensures is { result ≡ fault_of_look (error_kind error.now) }
+        ensures kind { IsOfLook result }
+    {
+        match error.kind() {
+            ErrorKind::NotFound | ErrorKind::NotADirectory => CommandFault::NoBank,
+            ErrorKind::OutOfMemory => CommandFault::Memory,
+            _ => CommandFault::Store,
+        }
+    }
+
+    /// How the program ends after this fault: [`Status::System`] or [`Status::Input`].
+    pub fn status(self) -> Status
+        ensures { result ≡ status_of self }
+    {
+        match self {
+            CommandFault::Store
+            | CommandFault::Memory
+            | CommandFault::Damaged(_)
+            | CommandFault::Read
+            | CommandFault::Write
+            | CommandFault::Network => Status::System,
+            CommandFault::Truncated(_)
+            | CommandFault::Plan(_)
+            | CommandFault::AlreadyBank
+            | CommandFault::NoBank
+            | CommandFault::Foreign
+            | CommandFault::Version(_)
+            | CommandFault::NoBranches
+            | CommandFault::NoAccount(_) => Status::Input,
+        }
+    }
+}
+
+impl fmt::Display for CommandFault {
+    ghost use Rattle.std.specs.Prelude.{Some};
+    ghost use Rattle.command_line.specs.Faults.{fault_text};
+
+    ghost output = { λ fault. Some (fault_text fault) };
+
+    fn fmt<W: fmt::Write>(&self, f: &mut fmt::Formatter<W>) -> fmt::Result {
+        match self {
+            CommandFault::Store => write!(f, "store fault"),
+            CommandFault::Memory => write!(f, "no memory"),
+            CommandFault::Damaged(rule) => {
+                let number = rule.number();
+                write!(f, "damaged rule {number}")
+            }
+            CommandFault::Read => write!(f, "read failed"),
+            CommandFault::Write => write!(f, "write failed"),
+            CommandFault::Truncated(count) => write!(f, "truncated {count} bytes"),
+            CommandFault::Plan(fault) => write!(f, "{fault}"),
+            CommandFault::AlreadyBank => write!(f, "already a bank"),
+            CommandFault::NoBank => write!(f, "no bank"),
+            CommandFault::Foreign => write!(f, "foreign tables"),
+            CommandFault::Version(version) => write!(f, "version {version}"),
+            CommandFault::NoBranches => write!(f, "no branches"),
+            CommandFault::NoAccount(account) => write!(f, "no account {account}"),
+            CommandFault::Network => write!(f, "network failed"),
+        }
+    }
+}
+
+impl std::error::Error for CommandFault {}
+
+/// Why a bank wasn't made or found.
+impl From<OpenFault> for CommandFault {
+    ghost from_gives = { λ opening fault. fault ≡ fault_of_opening opening };
+
+    fn from(fault: OpenFault) -> CommandFault {
+        match fault {
+            OpenFault::Store => CommandFault::Store,
+            OpenFault::NotBlank => CommandFault::AlreadyBank,
+            OpenFault::Blank => CommandFault::NoBank,
+            OpenFault::Foreign => CommandFault::Foreign,
+            OpenFault::Version(version) => CommandFault::Version(version),
+            OpenFault::Damaged(rule) => CommandFault::Damaged(rule),
+        }
+    }
+}
+
+/// Why a bank refused a call. `Down` becomes `Store`: a bank that was down tries nothing.
+impl From<Fault> for CommandFault {
+    ghost from_gives = { λ bank fault. fault ≡ fault_of_bank bank };
+
+    fn from(fault: Fault) -> CommandFault {
+        match fault {
+            Fault::Memory => CommandFault::Memory,
+            Fault::Store | Fault::Down => CommandFault::Store,
+            Fault::Damaged(rule) => CommandFault::Damaged(rule),
+        }
+    }
+}
+
+/// Why a plan was refused. Want of memory is no fault of the plan.
+impl From<PlanFault> for CommandFault {
+    ghost from_gives = { λ plan fault. fault ≡ fault_of_plan plan };
+
+    fn from(fault: PlanFault) -> CommandFault {
+        match fault {
+            PlanFault::Memory => CommandFault::Memory,
+            fault => CommandFault::Plan(fault),
+        }
+    }
+}
+
+/// Why `post` ended before its input did, or within a record.
+impl From<StreamFault> for CommandFault {
+    ghost from_gives = { λ stream fault. fault ≡ fault_of_stream stream };
+
+    fn from(fault: StreamFault) -> CommandFault {
+        match fault {
+            StreamFault::Truncated(count) => CommandFault::Truncated(count),
+            StreamFault::Read => CommandFault::Read,
+            StreamFault::Write => CommandFault::Write,
+            StreamFault::Bank(fault) => CommandFault::from(fault),
+        }
+    }
+}
+
+/// Why `drive` ended before its last record.
+impl From<DriveFault> for CommandFault {
+    ghost from_gives = { λ drive fault. fault ≡ fault_of_drive drive };
+
+    fn from(fault: DriveFault) -> CommandFault {
+        match fault {
+            DriveFault::NoBranches => CommandFault::NoBranches,
+            DriveFault::Bank(fault) => CommandFault::from(fault),
+        }
+    }
+}
+
+/// Why `serve` took no more connections.
+impl From<ListenFault> for CommandFault {
+    ghost from_gives = { λ serving fault. fault ≡ fault_of_serving serving };
+
+    fn from(fault: ListenFault) -> CommandFault {
+        match fault {
+            ListenFault::Network => CommandFault::Network,
+            ListenFault::Bank(fault) => CommandFault::from(fault),
+        }
+    }
+}

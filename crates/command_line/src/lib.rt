@@ -1,0 +1,48 @@
+//! The command line of the program: which words it takes, and which command on which files, with which
+//! numbers, they ask for; how a command ends (`status`); and what the commands do with any counter
+//! (`driving`, `loading`, `serving`). It opens no file. The words are matched by `clap`, which also lays out
+//! the help and the faults. The function `first_words` of `bank_trials`, to which
+//! its script gives the words `bank drive bank.db --seed 7 --count 1000`, finds the file, 7 and 1000 in them:
+//!
+//! ```rust
+//! use command_line::{Command, read_words};
+//! use std::alloc::Global;
+//!
+//! pub fn first_words<'a>(alloc: Global, words: &'a [&'a str]) -> Option<(&'a str, u64, u64)> {
+//!     match read_words(alloc, words) {
+//!         Ok(Command::Drive { file, seed, count }) => Some((file, seed, count)),
+//!         _ => None,
+//!     }
+//! }
+//! ```
+//!
+//! Any other words are the error that `clap` gives, with its text for the user; a request for help is such an
+//! error too, of the kind `DisplayHelp`. Where the words are a command, only want of memory is one.
+//!
+//! Read next: [`Command`], the seven commands; [`read_words`]; `specs/Words`, how each command is spelled;
+//! the crate `bank_commands`, which runs what is asked.
+#![tactic(auto)]
+
+mod auditing;
+mod command_line;
+mod driving;
+mod fault;
+mod limits;
+mod lines;
+mod loading;
+mod reading;
+mod serving;
+mod status;
+mod texts;
+
+pub use auditing::print_audit;
+pub use driving::drive_into;
+pub use fault::CommandFault;
+pub use limits::MAX_CONNECTIONS;
+pub use lines::{
+    explain, print_created, print_driven, print_listening, print_loaded, tell, tell_no_words,
+};
+pub use loading::load_into;
+pub use reading::{Command, read_words};
+pub use serving::listen;
+pub use status::Status;

@@ -1,0 +1,205 @@
+//! What the program prints: one line for a command that did its work, and one on standard error for a fault.
+ghost use Rattle.std.specs.Prelude.{◌≡◌, ◌⊎◌, [], IfSome, IsErr, IsErrOf, IsOk, OnErr, OnOk};
+ghost use Rattle.std.specs.Io.KnownBytes.{Keeps};
+ghost use Rattle.std.specs.IoError.{error_kind};
+ghost use Rattle.clap.specs.Words.{kind_of};
+ghost use Rattle.posting_core.specs.Told.{EndsWith, GrowsBy, HasWriteFailed, IsFlush};
+ghost use Rattle.command_line.specs.Faults.{status_of};
+ghost use Rattle.command_line.specs.Lines.{IsHelpOrVersion, IsShown, PrintsLine, created_line, driven_line};
+ghost use Rattle.command_line.specs.Lines.{listening_line, loaded_line};
+ghost use Rattle.command_line.specs.Statuses.{status_of_no_words};
+
+use crate::fault::CommandFault;
+use crate::status::Status;
+use arrayvec::ArrayString;
+use branch_loader::Loaded;
+use clap::error::ErrorKind;
+use itoa::Buffer;
+use load_driver::Driven;
+use posting_core::{Sink, write_out};
+use std::fmt::Write as WriteText;
+use std::io;
+use std::io::Write;
+use std::net::SocketAddr;
+
+// The most that a line takes.
+const LINE: usize = 160;
+
+/// Prints `created`, and flushes it, as each function here that prints a line does.
+///
+/// # Errors
+///
+/// Of each of them only [`CommandFault::Write`]: a write or the flush failed, and a beginning of the line may
+/// be out.
+pub fn print_created<W: Sink>(output: &mut W) -> Result<(), CommandFault>
+    ensures prints { PrintsLine created_line (W.contents output.old) (W.contents output.new)
+        (W.told output.old) (W.told output.new) result }
+    ensures fault { OnErr result (IsErrOf result CommandFault.Write) }
+    ensures failed { OnErr result (HasWriteFailed (W.told output.old) (W.told output.new)) }
+{
+    print_line("created\n", output)
+}
+
+/// Prints how many branches of a plan got each answer, as `opened 2 already 0 differs 0`.
+pub fn print_loaded<W: Sink>(loaded: Loaded, output: &mut W) -> Result<(), CommandFault>
+    ensures prints { PrintsLine (loaded_line loaded) (W.contents output.old) (W.contents output.new)
+        (W.told output.old) (W.told output.new) result }
+    ensures fault { OnErr result (IsErrOf result CommandFault.Write) }
+    ensures failed { OnErr result (HasWriteFailed (W.told output.old) (W.told output.new)) }
+{
+    print_line(loaded_text(loaded).as_str(), output)
+}
+
+/// Prints how many of `count` records were posted, and how many weren't, as
+/// `records 1000 posted 990 refused 10`.
+pub fn print_driven<W: Sink>(count: u64, driven: Driven, output: &mut W) -> Result<(), CommandFault>
+    ensures prints { PrintsLine (driven_line count driven) (W.contents output.old) (W.contents output.new)
+        (W.told output.old) (W.told output.new) result }
+    ensures fault { OnErr result (IsErrOf result CommandFault.Write) }
+    ensures failed { OnErr result (HasWriteFailed (W.told output.old) (W.told output.new)) }
+{
+    print_line(driven_text(count, driven).as_str(), output)
+}
+
+/// Prints the address with its port at which the counter listens, as `listening 127.0.0.1:8080`.
+pub fn print_listening<W: Sink>(address: SocketAddr, output: &mut W) -> Result<(), CommandFault>
+    ensures prints { PrintsLine (listening_line address) (W.contents output.old) (W.contents output.new)
+        (W.told output.old) (W.told output.new) result }
+    ensures fault { OnErr result (IsErrOf result CommandFault.Write) }
+    // No clause of std says that the text of an address has room, so that one may be given up at once.
+    ensures failed { OnErr result (HasWriteFailed (W.told output.old) (W.told output.new)
+        ⊎ GrowsBy (W.told output.old) (W.told output.new) []) }
+{
+    let Some(line) = listening_text(address) else {
+        return Err(CommandFault::Write);
+    };
+    print_line(line.as_str(), output)
+}
+
+// The line that `load` prints.
+fn loaded_text(loaded: Loaded) -> ArrayString<LINE>
+    ensures { result.bytes ≡ loaded_line loaded }
+{
+    let mut digits = Buffer::new();
+    let mut line = ArrayString::new();
+    line.push_str("opened ");
+    line.push_str(digits.format(loaded.opened));
+    line.push_str(" already ");
+    line.push_str(digits.format(loaded.already));
+    line.push_str(" differs ");
+    line.push_str(digits.format(loaded.differs));
+    line.push_str("\n");
+    line
+}
+
+// The line that `drive` prints.
+fn driven_text(count: u64, driven: Driven) -> ArrayString<LINE>
+    ensures { result.bytes ≡ driven_line count driven }
+{
+    let mut digits = Buffer::new();
+    let mut line = ArrayString::new();
+    line.push_str("records ");
+    line.push_str(digits.format(count));
+    line.push_str(" posted ");
+    line.push_str(digits.format(driven.posted));
+    line.push_str(" refused ");
+    line.push_str(digits.format(driven.refused));
+    line.push_str("\n");
+    line
+}
+
+// The line that `serve` prints.
+fn listening_text(address: SocketAddr) -> Option<ArrayString<LINE>>
+    ensures { IfSome result (λ line. line.bytes ≡ listening_line address) }
+{
+    let mut line = ArrayString::new();
+    match writeln!(line, "listening {address}") {
+        Ok(()) => Some(line),
+        Err(_) => None,
+    }
+}
+
+// Writes a line, and flushes it.
+fn print_line<W: Sink>(line: &str, output: &mut W) -> Result<(), CommandFault>
+    ensures prints { PrintsLine line.now (W.contents output.old) (W.contents output.new)
+        (W.told output.old) (W.told output.new) result }
+    ensures fault { OnErr result (IsErrOf result CommandFault.Write) }
+    ensures failed { OnErr result (HasWriteFailed (W.told output.old) (W.told output.new)) }
+{
+    match write_out(output, line.as_bytes()) {
+        Ok(()) => Ok(()),
+        Err(_) => Err(CommandFault::Write),
+    }
+}
+
+// Flushes what was written, unless the write failed.
+fn finish<W: Sink>(written: io::Result<()>, output: &mut W) -> Result<(), CommandFault>
+    ensures kept { Keeps (W.contents output.old) (W.contents output.new) }
+    ensures done { OnOk result (IsOk written) }
+    ensures flushed { OnOk result (EndsWith IsFlush (W.told output.old) (W.told output.new)) }
+    ensures fault { OnErr result (IsErrOf result CommandFault.Write) }
+    ensures failed { OnErr result (IsErr written ⊎ HasWriteFailed (W.told output.old) (W.told output.new)) }
+{
+    if written.is_err() {
+        return Err(CommandFault::Write);
+    }
+    match output.send_on() {
+        Ok(()) => Ok(()),
+        Err(_) => Err(CommandFault::Write),
+    }
+}
+
+/// Writes `bank: ` and the fault as a line to standard error, and returns the status that the program ends
+/// with. A line that can't be written is given up.
+pub fn tell<E: Write>(fault: CommandFault, faults: &mut E) -> Status
+    ensures { result ≡ status_of fault }
+{
+    let _ = writeln!(faults, "bank: {fault}");
+    fault.status()
+}
+
+/// Shows why the words aren't a command, by the text of `clap`, and returns the status that the program ends
+/// with.
+///
+/// Help and the version, if they were asked for, go to standard output, with the status 0 or, if they can't
+/// be written, 3. Refused memory is [`CommandFault::Memory`], with the status 3. Everything else goes to
+/// standard error, with the status 2.
+pub fn explain<W: Write, E: Write>(error: &clap::Error, output: &mut W, faults: &mut E) -> Status
+    ensures status { IsShown (kind_of error.now) result }
+    ensures silent { Keeps (W.contents output.old) (W.contents output.new)
+        ⊎ IsHelpOrVersion (kind_of error.now) }
+{
+    match error.kind() {
+        ErrorKind::OutOfMemory => tell(CommandFault::Memory, faults),
+        ErrorKind::DisplayHelp | ErrorKind::DisplayVersion => show(error, output, faults),
+        _ => {
+            let _ = write!(faults, "{error}");
+            Status::Usage
+        }
+    }
+}
+
+// Prints help or the version.
+fn show<W: Write, E: Write>(error: &clap::Error, output: &mut W, faults: &mut E) -> Status
+    ensures { (result ≡ Status.Done) ⊎ (result ≡ Status.System) }
+{
+    let written = write!(output, "{error}");
+    match finish(written, output) {
+        Ok(()) => Status::Done,
+        Err(fault) => tell(fault, faults),
+    }
+}
+
+/// Reports on standard error that the words couldn't be read, and returns the status that the program ends
+/// with: 3 if memory was refused, and 2 if a word isn't UTF-8.
+pub fn tell_no_words<E: Write>(error: &io::Error, faults: &mut E) -> Status
+    ensures { result ≡ status_of_no_words (error_kind error.now) }
+{
+    match error.kind() {
+        io::ErrorKind::OutOfMemory => tell(CommandFault::Memory, faults),
+        _ => {
+            let _ = writeln!(faults, "error: a word isn't UTF-8");
+            Status::Usage
+        }
+    }
+}

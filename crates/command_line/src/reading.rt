@@ -1,0 +1,141 @@
+//! Which of the program's commands the words of the command line ask for, and on which files.
+ghost use Rattle.std.specs.Prelude.{◌≡◌, ℕ, IfErr, IfOk, IsErrAnd, IsSomeAnd, MatchResult, map, true};
+ghost use Rattle.clap.specs.Words.{FailsBy, fault_of, found_of, kind_of, rows_of, subcommand_of};
+ghost use Rattle.clap.specs.Words.{subcommand_rows_of, takes};
+ghost use Rattle.command_line.specs.CommandLine.{bank_app};
+ghost use Rattle.command_line.specs.Words.{AreInRange, AsksForHelp, HasNumber, HasSomeNumber, HasText};
+ghost use Rattle.command_line.specs.Words.{IsCommandOf, IsComplete, IsHelp, IsNumberIn, IsReadFrom, IsSpelled};
+ghost use Rattle.command_line.specs.Words.{IsSpelledBy, IsText, IsWantOfMemory};
+
+use crate::command_line::bank_command;
+use clap::ArgMatches;
+use clap::error::ErrorKind;
+use message_records::Account;
+use std::alloc::Global;
+use std::convert::AsStr;
+
+/// What the program is asked to do.
+#[derive(Clone, Copy, Debug, PartialEq, Eq)]
+pub enum Command<'a> {
+    /// Make a new bank in the file.
+    Init {
+        file: &'a str,
+    },
+    /// Open the branches of a plan in the file's bank.
+    Load {
+        file: &'a str,
+        plan: &'a str,
+    },
+    /// Post the records of standard input to the file's bank.
+    Post {
+        file: &'a str,
+    },
+    /// Post so many records that the driver draws, from this seed on, over the branches of the file's bank.
+    Drive {
+        file: &'a str,
+        seed: u64,
+        count: u64,
+    },
+    /// Audit the file's bank.
+    Audit {
+        file: &'a str,
+    },
+    /// Write the statement of an account of the file's bank.
+    Statement {
+        file: &'a str,
+        account: Account,
+    },
+    /// Serve the file's bank over HTTP at this address, to so many connections, one after another.
+    Serve {
+        file: &'a str,
+        address: &'a str,
+        connections: u64,
+    },
+}
+
+/// Reads the words of the command line, of which the first is the program's own name. The command is
+/// the one that clap matches in the words, and any other words are the error that clap gives, with
+/// the text for the user. A request for help is such an error, of the kind `DisplayHelp`.
+pub fn read_words<'a, S: AsStr>(alloc: Global, words: &'a [S]) -> Result<Command<'a>, clap::Error>
+    ensures command { IfOk result (IsReadFrom (map S.text words.entry.now)) }
+    ensures ranges { IfOk result AreInRange }
+    ensures taken { IfErr result (λ error. takes bank_app (map S.text words.entry.now) ≡ true
+        → kind_of error ≡ ErrorKind.OutOfMemory) }
+    ensures fault { FailsBy (fault_of bank_app (map S.text words.entry.now)) result }
+    ensures spelled { IsSpelled (map S.text words.entry.now)
+        → MatchResult result (IsSpelledBy (map S.text words.entry.now)) IsWantOfMemory }
+    ensures help { AsksForHelp (map S.text words.entry.now) → IsErrAnd result IsHelp }
+{
+    let matches = matches_of(alloc, words)?;
+    let Some((name, values)) = matches.subcommand() else {
+        unreachable!()
+    };
+    Ok(command_of(name, values))
+}
+
+// What clap matches in the words: a command of the program, with all its values.
+fn matches_of<'a, S: AsStr>(alloc: Global, words: &'a [S]) -> Result<ArgMatches<'a>, clap::Error>
+    ensures matches { IfOk result (λ matches. subcommand_rows_of matches
+        ≡ subcommand_of bank_app (map S.text words.entry.now)) }
+    ensures complete { IfOk result (λ matches. IsSomeAnd (subcommand_rows_of matches) IsComplete) }
+    ensures taken { IfErr result (λ error. takes bank_app (map S.text words.entry.now) ≡ true
+        → kind_of error ≡ ErrorKind.OutOfMemory) }
+    ensures fault { FailsBy (fault_of bank_app (map S.text words.entry.now)) result }
+{
+    bank_command(alloc)?.try_get_matches_from(words)
+}
+
+// The command that a subcommand's name and values tell.
+fn command_of<'a>(name: &str, values: &ArgMatches<'a>) -> Command<'a>
+    requires { IsComplete (name.now, rows_of (found_of values.now)) }
+    ensures command { IsCommandOf (name.now, rows_of (found_of values.now)) result }
+    ensures ranges { AreInRange result }
+{
+    let file = text_in(values, "file");
+    match name {
+        "init" => Command::Init { file },
+        "load" => {
+            let plan = text_in(values, "plan");
+            Command::Load { file, plan }
+        }
+        "post" => Command::Post { file },
+        "drive" => {
+            let seed = number_in(values, "seed");
+            let count = number_in(values, "count");
+            Command::Drive { file, seed, count }
+        }
+        "audit" => Command::Audit { file },
+        "statement" => {
+            let number = number_in(values, "account");
+            let account = Account::new(number).unwrap();
+            Command::Statement { file, account }
+        }
+        "serve" => {
+            let address = text_in(values, "address");
+            let connections = number_in(values, "connections");
+            Command::Serve {
+                file,
+                address,
+                connections,
+            }
+        }
+        _ => unreachable!(),
+    }
+}
+
+// The value of an argument that has one.
+fn text_in<'a>(values: &ArgMatches<'a>, id: &str) -> &'a str
+    requires { HasText id.now (rows_of (found_of values.now)) }
+    ensures { IsText id.now (rows_of (found_of values.now)) result.now }
+{
+    values.get_str(id).unwrap()
+}
+
+// The number of an argument that has one, within each range that its value keeps.
+fn number_in(values: &ArgMatches<'_>, id: &str) -> u64
+    requires { HasSomeNumber id.now (rows_of (found_of values.now)) }
+    ensures { (least most : ℕ) → HasNumber id.now least most (rows_of (found_of values.now))
+        → IsNumberIn id.now least most (rows_of (found_of values.now)) result }
+{
+    values.get_one::<u64>(id).unwrap()
+}

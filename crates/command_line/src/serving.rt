@@ -1,0 +1,66 @@
+//! What `serve` does with a bank.
+ghost use Rattle.std.specs.Prelude.{◌≡◌, ◌≢◌, IfErr, OnOk};
+ghost use Rattle.std.specs.Io.KnownBytes.{Appends};
+ghost use Rattle.command_line.specs.Lines.{listening_line};
+ghost use Rattle.command_line.specs.Working.{MayTellListening, ServesOver, TellsListening, done_after};
+
+use crate::{CommandFault, print_listening};
+use counter_http::serve_connections;
+use posting_core::{Clock, Counter};
+use std::io::Write;
+use std::net::{SocketAddr, TcpListener};
+
+/// Binds the address, prints where it listens, and serves so many connections by a bank.
+pub fn listen<C: Counter, W: Write, K: Clock>(
+    rt: &HostRuntime,
+    address: &str,
+    connections: u64,
+    bank: &mut C,
+    output: &mut W,
+    clock: &mut K,
+) -> Result<(), CommandFault>
+    ensures line { OnOk result (TellsListening (W.contents output.old) (W.contents output.new)) }
+    ensures silent { IfErr result (λ fault. fault ≢ CommandFault.Write
+        → MayTellListening (W.contents output.old) (W.contents output.new)) }
+    ensures serves { ServesOver C.seen (K.readings clock.old) (K.readings clock.new) connections
+        (λ end. done_after result ≡ end) bank.old bank.new }
+{
+    let (listener, bound) = bind(rt, address)?;
+    serve_at(rt, &listener, bound, connections, bank, output, clock)
+}
+
+// A listener at the address, and where it is bound: where the address leaves the port open, with the one it
+// got.
+fn bind(rt: &HostRuntime, address: &str) -> Result<(TcpListener, SocketAddr), CommandFault>
+    ensures { IfErr result (λ fault. fault ≡ CommandFault.Network) }
+{
+    let Ok(listener) = TcpListener::bind(rt, address) else {
+        return Err(CommandFault::Network);
+    };
+    match listener.local_addr() {
+        Ok(bound) => Ok((listener, bound)),
+        Err(_) => Err(CommandFault::Network),
+    }
+}
+
+// Prints where a bound listener listens, and serves so many of its connections by a bank.
+fn serve_at<C: Counter, W: Write, K: Clock>(
+    rt: &HostRuntime,
+    listener: &TcpListener,
+    bound: SocketAddr,
+    connections: u64,
+    bank: &mut C,
+    output: &mut W,
+    clock: &mut K,
+) -> Result<(), CommandFault>
+    ensures line { OnOk result
+        (Appends (W.contents output.old) (W.contents output.new) (listening_line bound)) }
+    ensures told { IfErr result (λ fault. fault ≢ CommandFault.Write
+        → Appends (W.contents output.old) (W.contents output.new) (listening_line bound)) }
+    ensures serves { ServesOver C.seen (K.readings clock.old) (K.readings clock.new) connections
+        (λ end. done_after result ≡ end) bank.old bank.new }
+{
+    print_listening(bound, output)?;
+    serve_connections(rt, listener, connections, clock, bank)?;
+    Ok(())
+}

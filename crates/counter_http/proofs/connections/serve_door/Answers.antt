@@ -1,0 +1,34 @@
+use Rattle.std.proofs.Common.{◌≡◌, sym, rules, subst, ◌∙◌, Ok, Err, Result}
+use Rattle.counter_http.specs.Connections.{ServesDoor, known_ends}
+use Rattle.counter_http.specs.declared.listen_fault.ListenFault.{ListenFault}
+use Rattle.counter_http.proofs.Chained.{ends, goes_on, none_yet}
+use Rattle.counter_http.proofs.connections.serve_door.Goals as goal
+
+pub connections-init : goal.connections-init
+connections-init g c = none_yet g.C.Counter.seen _ (g.D.Door.gave c.args.door.now)
+    (g.K.Clock.readings c.args.clock.now) c.args.bank.now
+
+pub connections-preserved : goal.connections-preserved
+connections-preserved g c =
+    let served = c.serve_ends-served in
+    let on : c.after.result ≡ Ok tt = search rules in
+    goes_on g.C.Counter.seen _ _ _ _ _ _ _ _ _ _ _ served.result c.connections.number
+    (c.in-Ok.reader, c.in-Ok.writer)
+    c.connections.invariant c.in-Ok.ensures.given served.ensures.closed served.ensures.served
+    (sym c.after.ensures ∙ on)
+
+pub returns-in_err-after : goal.returns-in_err-after
+returns-in_err-after g c =
+    let served = c.serve_ends-served in
+    let fault = c.in_err-after.field-0.0 in
+    let is : c.after.result ≡ Err fault = search rules in
+    let same : c.from_residual.result ≡ Err fault = search rules in
+    subst (λ (r : Result (Unit {0}) ListenFault). ServesDoor g.C.Counter.seen
+    (known_ends g.D.Reader.Source.remaining g.D.Reader.Source.told g.D.Writer.Sink.contents g.D.Writer.Sink.told)
+    (g.D.Door.gave c.args.door.now) (g.D.Door.gave served.new.door)
+    (g.K.Clock.readings c.args.clock.now)
+    (g.K.Clock.readings served.new.clock) c.args.bank.now served.new.bank c.args.connections r) (sym same)
+    (ends g.C.Counter.seen _ _ _ _ _ _ _ _ _ _ _ served.result c.connections.number c.args.connections
+    (c.in-Ok.reader, c.in-Ok.writer) fault
+    c.connections.invariant c.in-Ok.ensures.given served.ensures.closed served.ensures.served
+    c.connections-test.true (sym c.after.ensures ∙ is))

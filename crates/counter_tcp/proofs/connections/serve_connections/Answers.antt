@@ -1,5 +1,0 @@
-use Rattle.counter_tcp.proofs.Chained.{of_listener}
-use Rattle.counter_tcp.proofs.connections.serve_connections.Goals as goal
-
-pub returns : goal.returns
-returns g c = of_listener g.C.Counter.seen _ _ _ _ _ _ _ _ c.serve_door.ensures
