@@ -37,8 +37,8 @@
 //! committed is kept and the next open finds it.
 //!
 //! Read next: `specs/Commands`, what each command does to the bank of its file; `specs/InFile`, which bank is
-//! found there, by what the files held; the crate `command_line`, what it does with any bank; `bank_commands`,
-//! which calls them by the words of the command line.
+//! found there, by what the files held; the crate `command_line`, what it does with any bank; [`run`], which calls
+//! them by the words of the command line.
 #![tactic(auto)]
 
 mod audit;

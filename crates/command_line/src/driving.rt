@@ -21,7 +21,7 @@
 //! ```
 //!
 //! [`load_into`] opens the branches of a plan, [`listen`] serves connections, and [`print_audit`] says
-//! whether the books agree (TPC-B clause 2). A fault is a `CommandFault` of `command_line`. Read next:
+//! whether the books agree (TPC-B clause 2). A fault is a `CommandFault`. Read next:
 //! `specs/Working`, what the work does to its bank and what it prints. The crate `bank_commands` is a
 //! caller.
 ghost use Rattle.std.specs.Prelude.{◌≡◌, ◌≢◌, ◌≤◌, IfErr, OnOk};

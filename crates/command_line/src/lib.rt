@@ -1,8 +1,8 @@
 //! The command line of the program: which words it takes, and which command on which files, with which
 //! numbers, they ask for; how a command ends (`status`); and what the commands do with any counter
 //! (`driving`, `loading`, `serving`). It opens no file. The words are matched by `clap`, which also lays out
-//! the help and the faults. The function `first_words` of `bank_trials`, to which
-//! its script gives the words `bank drive bank.db --seed 7 --count 1000`, finds the file, 7 and 1000 in them:
+//! the help and the faults. The function `first_words` of `bank_trials`, to which its script gives the words
+//! `bank drive bank.db --seed 7 --count 1000`, finds the file, 7 and 1000 in them:
 //!
 //! ```rust
 //! use command_line::{Command, read_words};

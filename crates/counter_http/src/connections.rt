@@ -28,8 +28,8 @@
 //! ```
 //!
 //! Read next: [`serve_connections`], with which faults it goes on after; [`serve_door`], the same of whatever
-//! gives connections; [`waiting_limits`], how long a client is waited for; `counter_http`, with the messages and the
-//! answers; `specs/Connections`, what all connections together leave.
+//! gives connections; [`waiting_limits`], how long a client is waited for; [`serve_connection`], with the
+//! messages and the answers; `specs/Connections`, what all connections together leave.
 ghost use Rattle.std.specs.Prelude.{◌≡◌, []};
 ghost use Rattle.posting_core.specs.Told.{GrowsBy};
 ghost use Rattle.counter_http.specs.Connections.{ServesConnections, ServesDoor, ServesOne, known_ends};
