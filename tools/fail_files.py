@@ -1,0 +1,252 @@
+#!/usr/bin/env python3
+"""Runs the built program where files may not grow beyond a limit, where the disk is full, and where a file is taken away or
+can't be read. What is told is a store fault or that there is no bank, and a beginning of the replies was written. When the
+cause is mended, the same records get the replies of a run that nothing disturbed, so that each acknowledged one is found
+again; the audit is CONSISTENT, and the tables are those of that run. It needs the built program, and root for a disk of its
+own and for another user; without, it says what it left out. It stands outside the gate.
+    tools/fail_files.py"""
+import os
+import random
+import resource
+import shutil
+import subprocess
+import sys
+import tempfile
+import time
+
+from refuse_memory import Folder, Wrong, ensure
+from serve_client import BANK, make_bank, need_program, record
+
+PLAN = [(1, 3), (2, 200)]
+ACCOUNTS = [1, 2, 3, 100001, 100050, 100200]
+STORE, NO_BANK = b"bank: store fault\n", b"bank: no bank\n"
+NOBODY = 65534
+KILLED = -25
+
+
+def records(count):
+    draw = random.Random(7)
+    return [record(draw.choice(ACCOUNTS), i % 20 + 1, 1 if i % 20 < 10 else 2, i // 20 + 1, draw.randint(-9999, 9999))
+            for i in range(count)]
+
+
+class Bench(Folder):
+    """A folder of banks, the records that they get, and what came of them where nothing disturbed."""
+
+    def __init__(self, path, count):
+        self.path, self.told, self.runs, self.cause = path, {}, 0, ""
+        self.given = b"".join(records(count))
+        make_bank(path + "/whole.db", PLAN)
+        self.whole = self.plain(["post", path + "/whole.db"], self.given)[1]
+        self.rows = self.tables(path + "/whole.db")
+
+    def plain(self, words, given=b"", limit=None, user=None, is_told=False):
+        """A run, under a limit of bytes to a file or as another user. A write beyond the limit is refused if that is told,
+        and else ends the process."""
+        def prepare():
+            if limit is not None:
+                resource.setrlimit(resource.RLIMIT_FSIZE, (limit, limit))
+            if user is not None:
+                os.setgroups([])
+                os.setgid(user)
+                os.setuid(user)
+        ended = subprocess.run([BANK] + words, input=given, stdout=subprocess.PIPE, stderr=subprocess.PIPE, timeout=120,
+                               preexec_fn=prepare, restore_signals=not is_told)
+        self.runs += 1
+        return ended.returncode, ended.stdout, ended.stderr
+
+    def note(self, status, fault):
+        said = "the process is ended" if status == KILLED else fault.decode().strip() or "all is answered"
+        said += "" if status == KILLED else f", status {status}"
+        told = self.told.setdefault(self.cause, {})
+        told[said] = told.get(said, 0) + 1
+
+    def new_bank(self, name):
+        file = f"{self.path}/{name}.db"
+        for end in ("", "-wal"):
+            if os.path.exists(file + end):
+                os.remove(file + end)
+        make_bank(file, PLAN)
+        return file
+
+    def is_told(self, ended, allowed):
+        """The run ended as it may where there is a cause, with a beginning of the replies."""
+        status, output, fault = ended
+        ensure((status, fault) in allowed, f"status {status}, {fault!r}")
+        ensure(self.whole.startswith(output) and len(output) % 200 == 0, "other replies")
+        ensure(status != 0 or output == self.whole, "fewer replies, and no fault")
+        self.note(status, fault)
+        return len(output) // 200
+
+    def is_mended(self, file):
+        """The same records get their replies, and the bank is as if nothing had disturbed."""
+        ensure(self.plain(["post", file], self.given) == (0, self.whole, b""), "other replies when it is mended")
+        status, output, fault = self.plain(["audit", file])
+        ensure((status, fault) == (0, b"") and output.endswith(b"\nCONSISTENT\n"), f"an audit {output!r}")
+        ensure(self.tables(file) == self.rows, "other tables")
+
+
+DONE = (0, b"")
+FAILS = {DONE, (3, STORE), (KILLED, b"")}
+
+
+def limited(bench):
+    """A file may not grow beyond a limit, from nothing up to all that the records need."""
+    for is_told in (True, False):
+        bench.cause = "a limit of bytes to a file, of which a write is refused" if is_told else \
+            "a limit of bytes to a file, of which a write ends the process"
+        for limit in list(range(0, 40_000, 1_024)) + list(range(40_500, 700_000, 20_000)):
+            file = bench.new_bank("limited")
+            bench.is_told(bench.plain(["post", file], bench.given, limit=limit, is_told=is_told), FAILS)
+            bench.is_mended(file)
+
+
+def limited_at_the_making(bench):
+    """The same while a bank is made, and while its branches are opened: each is made or opened when the limit is gone."""
+    bench.cause = "the same while a bank is made and its branches are opened"
+    for limit in range(0, 60_000, 512):
+        for is_told in (True, False):
+            file = bench.path + "/making.db"
+            for end in ("", "-wal"):
+                if os.path.exists(file + end):
+                    os.remove(file + end)
+            for words in (["init", file], ["load", file, bench.path + "/whole.db.csv"]):
+                status, output, fault = bench.plain(words, limit=limit, is_told=is_told)
+                ensure((status, fault) in FAILS, f"{words[0]}: status {status}, {fault!r}")
+                bench.note(status, fault)
+                if status != 0:
+                    again = bench.plain(words)
+                    ensure(again[0] == 0 or (words[0], again[2]) == ("init", b"bank: already a bank\n"), f"again {again}")
+            bench.is_mended(file)
+
+
+def full(bench):
+    """A disk of its own that is full but for so many bytes, which a file leaves."""
+    disk = bench.path + "/disk"
+    os.mkdir(disk)
+    mounted = subprocess.run(["mount", "-t", "tmpfs", "-o", "size=4m", "tmpfs", disk], stderr=subprocess.PIPE)
+    if mounted.returncode:
+        print("fail_files: no disk of its own: " + mounted.stderr.decode().strip())
+        return
+    bench.cause = "a full disk"
+    try:
+        for room in list(range(0, 80, 4)) + list(range(80, 800, 24)):
+            file = disk + "/full.db"
+            for end in ("", "-wal", ".csv"):
+                if os.path.exists(file + end):
+                    os.remove(file + end)
+            make_bank(file, PLAN)
+            fill(disk, room * 1024)
+            bench.is_told(bench.plain(["post", file], bench.given), {DONE, (3, STORE)})
+            os.remove(disk + "/ballast")
+            bench.is_mended(file)
+    finally:
+        subprocess.run(["umount", disk], check=True)
+
+
+def fill(disk, room):
+    space = os.statvfs(disk)
+    free = space.f_bavail * space.f_frsize
+    with open(disk + "/ballast", "wb") as ballast:
+        ballast.write(b"x" * max(0, free - room))
+
+
+def taken_away(bench):
+    """The file isn't there: there is no bank, and none is made. Put back it is as it was."""
+    bench.cause = "a file that is taken away before a run"
+    for is_killed in (False, True):
+        file = bench.new_bank("away")
+        if is_killed:
+            killed(bench, file)
+        else:
+            bench.plain(["post", file], bench.given[:50_000])
+        os.rename(file, file + ".kept")
+        for words in (["post", file], ["audit", file], ["statement", file, "1"], ["load", file, file + ".csv"],
+                      ["drive", file, "--seed", "7", "--count", "5"]):
+            ended = bench.plain(words, bench.given)
+            ensure(ended == (4, b"", NO_BANK) and not os.path.exists(file), f"{words[0]}: {ended}")
+            bench.note(4, NO_BANK)
+        os.rename(file + ".kept", file)
+        bench.is_mended(file)
+
+
+def killed(bench, file):
+    """A run is killed while it answers, so that its log isn't copied back."""
+    process = subprocess.Popen([BANK, "post", file], stdin=subprocess.PIPE, stdout=subprocess.PIPE)
+    process.stdin.write(bench.given[:64_000])
+    process.stdin.flush()
+    ensure(len(process.stdout.read(200)) == 200, "no reply")
+    process.kill()
+    process.wait()
+    process.stdin.close()
+    process.stdout.close()
+
+
+def taken_away_beneath(bench):
+    """Both files lose their names while a run answers, and get them back behind it: all that it answered is found."""
+    bench.cause = "files that lose their names beneath a run"
+    for part in range(20):
+        file = bench.new_bank("beneath")
+        process = subprocess.Popen([BANK, "post", file], stdin=subprocess.PIPE, stdout=subprocess.PIPE,
+                                   stderr=subprocess.PIPE)
+        process.stdin.write(bench.given[:6_400 * part])
+        process.stdin.flush()
+        time.sleep(0.02)
+        kept = [end for end in ("", "-wal") if os.path.exists(file + end)]
+        for end in kept:
+            os.link(file + end, file + ".kept" + end)
+            os.remove(file + end)
+        output, fault = process.communicate(bench.given[6_400 * part:])
+        bench.runs += 1
+        bench.is_told((process.returncode, output, fault), {DONE, (3, STORE)})
+        for end in ("", "-wal"):
+            if os.path.exists(file + end):
+                os.remove(file + end)
+        for end in kept:
+            os.rename(file + ".kept" + end, file + end)
+        bench.is_mended(file)
+
+
+def unreadable(bench):
+    """Another user runs the program, who may read and write both files, and then not one of them, or not the folder."""
+    if os.getuid() != 0:
+        print("fail_files: not root: no other user")
+        return
+    bench.cause = "a file or a folder that can't be read or written"
+    folder = bench.path + "/theirs"
+    for end, mode in (("", 0), ("-wal", 0), ("", 0o400), ("-wal", 0o400), ("", 0o200), ("folder", 0)):
+        shutil.rmtree(folder, ignore_errors=True)
+        os.mkdir(folder)
+        file = folder + "/theirs.db"
+        make_bank(file, PLAN)
+        killed(bench, file)
+        for name in (folder, file, file + "-wal"):
+            os.chown(name, NOBODY, NOBODY)
+        changed = folder if end == "folder" else file + end
+        before = os.stat(changed).st_mode & 0o777
+        os.chmod(changed, mode)
+        for words in (["post", file], ["audit", file], ["statement", file, "1"]):
+            status, output, fault = bench.plain(words, bench.given, user=NOBODY)
+            ensure((status, output, fault) == (3, b"", STORE), f"{end or 'the file'} {mode:o}, {words[0]}: {status} {fault!r}")
+            bench.note(status, fault)
+        os.chmod(changed, before)
+        bench.is_mended(file)
+
+
+def main():
+    need_program()
+    with tempfile.TemporaryDirectory() as path:
+        os.chmod(path, 0o755)
+        bench = Bench(path, 2_000)
+        for cause in (limited, limited_at_the_making, full, taken_away, taken_away_beneath, unreadable):
+            try:
+                cause(bench)
+            except Wrong as wrong:
+                sys.exit(f"fail_files: {bench.cause}: {wrong}")
+        for cause, told in bench.told.items():
+            print(f"{cause}: " + "; ".join(f"{said} ({count})" for said, count in sorted(told.items())))
+        print(f"fail_files: {bench.runs} runs; mended, each bank has all that was acknowledged, and its audit is CONSISTENT")
+
+
+if __name__ == "__main__":
+    main()
