@@ -24,7 +24,8 @@ static const char *const tables[] = {
     "CREATE TABLE request (ordinal INTEGER PRIMARY KEY, tid INTEGER NOT NULL, number INTEGER NOT NULL,"
     " aid INTEGER NOT NULL, bid INTEGER NOT NULL, delta INTEGER NOT NULL, outcome INTEGER NOT NULL,"
     " balance INTEGER NOT NULL, UNIQUE (tid, number)) STRICT",
-    "INSERT INTO meta VALUES (1, 1, 0)",
+    "CREATE TABLE branch_floor (bid INTEGER PRIMARY KEY, lowest INTEGER NOT NULL) STRICT",
+    "INSERT INTO meta VALUES (1, 2, 0)",
 };
 
 static sqlite3 *db;

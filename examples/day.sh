@@ -37,7 +37,8 @@ cmp <(cut -c 1-14,27- statement) <(cut -c 1-14,27- "$day/statement.txt")
 "$bank" audit day.db | tee audit
 cmp audit "$day/audit.txt"
 
-echo "== A copy for the safe, of both files while no command runs, and a third branch for the next day."
+echo "== A copy for the safe, of both files while no command runs, and a third branch for the next day, whose account"
+echo "   may not go below zero."
 for file in day.db day.db-wal; do
     if [ -e "$file" ]; then cp "$file" "safe-$file"; fi
 done

@@ -92,7 +92,7 @@ def damage(file, draw):
         elif kind == 6:
             conn.execute("DELETE FROM request WHERE ordinal = ?", (request,))
         elif kind == 7:
-            conn.execute("UPDATE request SET outcome = ? WHERE ordinal = ?", (draw.choice([0, 11, 12, 14]), request))
+            conn.execute("UPDATE request SET outcome = ? WHERE ordinal = ?", (draw.choice([0, 11, 12, 14, 17]), request))
         elif kind == 8:
             conn.execute("INSERT OR IGNORE INTO teller VALUES (?, ?)", (draw.randint(1, 99990), amount))
         elif kind == 9:
@@ -110,8 +110,9 @@ def make(file, plan, draw, seed):
     """A bank of a few branches, with as many postings as the seed says."""
     branches = draw.sample(range(1, 10000), draw.randint(0, 6))
     with open(plan, "w", encoding="ascii") as out:
-        out.write("branch,accounts\n")
-        out.writelines(f"{branch},{draw.randint(1, 200)}\n" for branch in branches)
+        out.write("branch,accounts,floor\n")
+        for branch in branches:
+            out.write(f"{branch},{draw.randint(1, 200)},{draw.choice(['', 0, -draw.randint(1, 10**6)])}\n")
     subprocess.run([BANK, "init", file], check=True, stdout=subprocess.DEVNULL)
     subprocess.run([BANK, "load", file, plan], check=True, stdout=subprocess.DEVNULL)
     if branches:

@@ -11,12 +11,14 @@ file=$work/bank.db
 "$bank" init "$file"
 sqlite3 "$file" "CREATE TABLE note (id INTEGER PRIMARY KEY, title TEXT); INSERT INTO note (title) VALUES ('a user wrote this')"
 "$bank" load "$file" "$here/examples/plan.csv"
+"$bank" load "$file" "$here/examples/floors.csv"
 "$bank" post "$file" <"$here/examples/records" >"$work/replies"
 "$bank" post "$file" <"$here/examples/records" | cmp - "$work/replies"
 sqlite3 -header "$file" \
     "SELECT name FROM sqlite_schema WHERE type = 'table' ORDER BY name" \
     "SELECT * FROM meta" \
     "SELECT * FROM branch" \
+    "SELECT * FROM branch_floor" \
     "SELECT count(*) AS tellers, sum(balance) AS sum FROM teller" \
     "SELECT count(*) AS accounts, sum(balance) AS sum FROM account" \
     "SELECT * FROM history" \

@@ -11,7 +11,7 @@ use Rattle.posting_rules.specs.declared.fault.Fault.TheVariants as told
 use Rattle.bank_store.specs.Walking.{Steps}
 use Rattle.bank_store.specs.Walks.{IsStill, IsUntouchedIfOpen}
 use Rattle.bank_reports.specs.Beside.{AuditRows}
-use Rattle.bank_reports.specs.declared.limits.TheConstants.{MOST_ROWS}
+use Rattle.bank_reports.specs.declared.limits.TheConstants.{MAX_ROWS}
 use Rattle.bank_audits.specs.Adding.{AddsToSums, HasSums, IsPassed}
 use Rattle.bank_audits.specs.Failures.{SaysOf}
 use Rattle.bank_audits.specs.Files.{HasBroken}
@@ -94,7 +94,7 @@ pub record IsAlong (Comes : ℤ → Type 0) (count : ℕ) : Type 0 where
   pub next : ℤ
   pub comes : Comes next
   pub behind : IsBehind count next
-  pub few : count ≤ MOST_ROWS
+  pub few : count ≤ MAX_ROWS
 
 module _ (Comes Later : ℤ → Type 0) (count : ℕ) (key : ℤ) (it : IsAlong Comes count)
     (from : it.next ≤ℤ key) (n : ℕ) (is : key ≡ pos n) (least : 1 ≤ n) where
@@ -108,7 +108,7 @@ module _ (Comes Later : ℤ → Type 0) (count : ℕ) (key : ℤ) (it : IsAlong 
   pub room_for : (most : ℕ) → n ≤ most → count < most
   room_for most within = let low = below in omega (arith, low, within)
 
-  pub along_more : Later (key +ℤ pos 1) → n ≤ MOST_ROWS → IsAlong Later (count + 1)
+  pub along_more : Later (key +ℤ pos 1) → n ≤ MAX_ROWS → IsAlong Later (count + 1)
   along_more comes within =
       let low = below in
       record {

@@ -42,6 +42,7 @@ unaudited old new told fault is sound takes = record {
   tables = λ clean t shown. rw is tt;
   condition = λ clean t shown. rw is tt;
   once = rw is tt;
+  above = rw is tt;
   balanced = λ clean log s. rw is tt;
   sound = λ rule damaged. sound rule (error_is fault (Damaged rule) (sym is ∙ damaged));
   takes = takes;

@@ -12,7 +12,7 @@ use Rattle.posting_rules.specs.declared.fault.Fault.{Fault}
 use Rattle.posting_rules.specs.declared.fault.Fault.TheVariants.{Memory, Store, Down, Damaged}
 use Rattle.posting_rules.specs.declared.fault.Rule.{Rule}
 use Rattle.posting_rules.specs.declared.fault.Rule.TheVariants.{Meta, Teller, Account, Balance, Request}
-use Rattle.posting_rules.specs.declared.fault.Rule.TheVariants.{Value, Key}
+use Rattle.posting_rules.specs.declared.fault.Rule.TheVariants.{Value, Key, Floor}
 use Rattle.sql_meanings.specs.Entries.{Entry}
 use Rattle.bank_walks.specs.declared.postings.StoredPosting.{StoredPosting}
 use Rattle.bank_walks.specs.Stored.{posting_entry, IsNoPosting}
@@ -114,6 +114,7 @@ module _ (all : List Entry) (old : Option (List ℕ)) where
     line_damaged Request wrote = absurd wrote
     line_damaged Value wrote = absurd wrote
     line_damaged Key wrote = absurd wrote
+    line_damaged Floor wrote = absurd wrote
 
     -- a line that ended it
     pub line_err : (fault : ReportFault) → WritesLine r balance mid new (Err fault)

@@ -11,7 +11,7 @@ use Rattle.message_records.specs.declared.limits.TheConstants.{MAX_BALANCE, MAX_
 use Rattle.posting_rules.specs.declared.limits.TheConstants.{MAX_DECIDED}
 use Rattle.posting_rules.specs.declared.fault.Rule.{Rule}
 use Rattle.posting_rules.specs.declared.fault.Rule.TheVariants.{Meta, Teller, Account, Balance, Request}
-use Rattle.posting_rules.specs.declared.fault.Rule.TheVariants.{Value, Key}
+use Rattle.posting_rules.specs.declared.fault.Rule.TheVariants.{Value, Key, Floor}
 use Rattle.posting_rules.specs.declared.fault.Fault.TheVariants.{Damaged}
 use Rattle.posting_rules.specs.Commands.{Command, AreCommands, is_account_open, opened}
 use Rattle.posting_rules.specs.Entries.{DecidedRequest, decided, account_balance, balance_behind}
@@ -115,6 +115,7 @@ module _ (a : ℕ) (log : List Command) (are : AreCommands log) (given more : Li
   no_damage rest Request read why = why
   no_damage rest Value read why = no_value more refl rest read why
   no_damage rest Key read why = why
+  no_damage rest Floor read why = why
 
 -- ---- what is told of the whole
 

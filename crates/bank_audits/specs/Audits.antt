@@ -1,9 +1,13 @@
 -- What an audit says of a bank, and of any file.
-use Rattle.std.specs.Prelude.{◌≡◌, ◌↔◌, List, Result, Ok, Err, IfOk, IsTrue, OnOk, ⊤}
+use Rattle.std.specs.Prelude.{◌≡◌, ◌↔◌, ◌≤ℤ◌, List, Result, Ok, Err, IfOk, IfSome, IsTrue, OnOk, ⊤}
+use Rattle.std.specs.List.{Contains}
 use Rattle.sqlite_trees.specs.declared.store.Store.{Ghosts}
-use Rattle.posting_rules.specs.Commands.{Command}
+use Rattle.posting_rules.specs.Commands.{Command, AreCommands}
 use Rattle.posting_rules.specs.Counter.{Seen, ShowsLog}
 use Rattle.posting_rules.specs.Laws.{IsConsistent}
+use Rattle.posting_rules.specs.LookUps.{floor_in}
+use Rattle.posting_rules.specs.Numbering.{branch_of_account}
+use Rattle.posting_rules.specs.declared.rows.AccountRow.{AccountRow}
 use Rattle.posting_rules.specs.Tables.{AreTablesOf, Tables}
 use Rattle.posting_rules.specs.declared.fault.Fault.{Fault}
 use Rattle.posting_rules.specs.declared.fault.Fault.TheVariants.{Damaged, Store}
@@ -25,6 +29,11 @@ abbrev pub HasAudited : Result Audit Fault → Type 0
 HasAudited (Ok a) = ⊤
 HasAudited (Err fault) = ⊥
 
+-- no account is below the floor of its branch
+abbrev pub AccountsAreAbove : Tables → Type 0
+AccountsAreAbove t = (r : AccountRow) → Contains t.accounts r
+    → IfSome (floor_in t (branch_of_account r.account)) (λ floor. floor ≤ℤ r.balance)
+
 -- a bank was audited
 pub record Audits (old new : Seen) (told : Result Audit Fault) : Type 0 where
   -- of its tables, be they of a log or not, the audit is theirs
@@ -35,6 +44,9 @@ pub record Audits (old new : Seen) (told : Result Audit Fault) : Type 0 where
   -- where they are of a log, no two posted requests share teller and number
   pub once : OnOk told (new.honest → (log : List Command) → (t : Tables) → old.tables t
       → AreTablesOf t log → EachPostedOnce t)
+  -- and each account is at its floor or above it
+  pub above : OnOk told (new.honest → (log : List Command) → AreCommands log → (t : Tables) → old.tables t
+      → AreTablesOf t log → AccountsAreAbove t)
   -- a bank that shows a log is consistent
   pub balanced : new.honest → (log : List Command) → ShowsLog old log → IfOk told (λ a. IsTrue (is_sound a))
   -- and is never told to be damaged

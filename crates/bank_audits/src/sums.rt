@@ -5,7 +5,7 @@ ghost use Rattle.bank_reports.specs.Beside.{AuditRows, audit_of_rows, no_rows};
 ghost use Rattle.bank_audits.specs.Adding.{HasSums};
 ghost use Rattle.bank_audits.specs.Room.{TakesFewBytes};
 
-use bank_reports::{Audit, BranchSums, MOST_ROWS, OrdinalSums, Sum, TellerSums, audit_of_sums};
+use bank_reports::{Audit, BranchSums, MAX_ROWS, OrdinalSums, Sum, TellerSums, audit_of_sums};
 use bank_walks::{
     Joined, StoredAccount, StoredBranch, StoredPosting, StoredRequest, StoredTeller, WalkedRow,
 };
@@ -60,7 +60,7 @@ pub(crate) trait Summed: WalkedRow {
         ensures key { Self.key (Self.item self.now) ≡ pos result }
         ensures least { 1 ≤ result }
         ensures most { result ≤ most }
-        ensures within { result ≤ MOST_ROWS };
+        ensures within { result ≤ MAX_ROWS };
 
     /// Adds it to the sums.
     fn add_to(self, sums: &mut Sums)
@@ -136,11 +136,11 @@ impl Summed for StoredAccount {
 impl Summed for Joined<StoredRequest, StoredPosting> {
     ghost use Rattle.std.proofs.Common.{lit<};
     ghost use Rattle.bank_audits.specs.Adding.{with_requests};
-    ghost use Rattle.bank_reports.specs.declared.limits.TheConstants.{MOST_ROWS};
+    ghost use Rattle.bank_reports.specs.declared.limits.TheConstants.{MAX_ROWS};
 
     ghost with_rows = { with_requests };
 
-    ghost most = { MOST_ROWS };
+    ghost most = { MAX_ROWS };
 
     ghost few_bytes = { (lit< tt, lit< tt) };
 
@@ -157,11 +157,11 @@ impl Summed for Joined<StoredRequest, StoredPosting> {
 impl Summed for Joined<StoredPosting, StoredRequest> {
     ghost use Rattle.std.proofs.Common.{lit<};
     ghost use Rattle.bank_audits.specs.Adding.{with_history};
-    ghost use Rattle.bank_reports.specs.declared.limits.TheConstants.{MOST_ROWS};
+    ghost use Rattle.bank_reports.specs.declared.limits.TheConstants.{MAX_ROWS};
 
     ghost with_rows = { with_history };
 
-    ghost most = { MOST_ROWS };
+    ghost most = { MAX_ROWS };
 
     ghost few_bytes = { (lit< tt, lit< tt) };
 

@@ -88,7 +88,7 @@ pub record PostsTo {C : Type 0} (seen : C → Seen) (r r' w w' k k' : Option (Li
   pub stream : Streamed r r' w w' k k' (seen old) (seen new) told
   pub output : OutputsReplies r r' w w' (seen old) (seen new) told
   pub survives : SurvivesStream r r' w w' (seen old) (seen new)
-  pub resend : Resends r r' (seen old) (seen new) told
+  pub resend : Resends r r' w w' (seen old) (seen new) told
 
 -- no bank was found, and nothing was read or written; or the input was posted to the bank of the files
 abbrev pub PostsIn : {C : Type 0} → (C → Seen) → Image → (r r' w w' k k' : Option (List ℕ)) → (None : Type 0)

@@ -1,32 +1,35 @@
--- The tables of a log keep each of the seven rules.
+-- The tables of a log keep each of the eight rules.
 use Rattle.std.proofs.Common.{◌≡◌, ◌≤◌, ◌<◌, ℕ, zero, suc, ℤ, pos, Bool, true, false, List, [], ◌∷◌, map}
 use Rattle.std.proofs.Common.{Option, Some, None, option_map, refl, sym, ap, subst, ◌∙◌, arith}
 use Rattle.std.specs.Prelude.{◌&&◌, cond, ◌≤ℤ◌, nat_le, nat_eq, is_some, option_and_then}
 use Rattle.std.specs.List.{AllByRecursion, Contains}
 use Rattle.message_records.specs.Ranges.{whole_within}
 use Rattle.message_records.specs.declared.limits.TheConstants.{MAX_BRANCH}
-use Rattle.posting_rules.specs.Commands.{Command, AreCommands, is_within}
+use Rattle.posting_rules.specs.Commands.{Command, AreCommands, Terms, is_within}
 use Rattle.posting_rules.specs.Numbering.{branch_of_teller, branch_of_account, place_of_account}
 use Rattle.posting_rules.specs.Damage.{IsUndamaged}
 use Rattle.posting_rules.specs.Entries.{decided}
-use Rattle.posting_rules.specs.LookUps.{terms_of_branch}
+use Rattle.posting_rules.specs.LookUps.{balance_of_account, floor_in, lowest_of, terms_of_branch}
 use Rattle.posting_rules.specs.Tables.{Tables, AreTablesOf, row_at, account_key, branch_key, history_key}
-use Rattle.posting_rules.specs.Tables.{request_key, teller_key}
+use Rattle.posting_rules.specs.Tables.{floor_key, request_key, teller_key}
 use Rattle.posting_rules.specs.declared.fault.Rule.{Rule}
 use Rattle.posting_rules.specs.declared.fault.Rule.TheVariants.{Meta, Teller, Account, Balance, Request}
-use Rattle.posting_rules.specs.declared.fault.Rule.TheVariants.{Value, Key}
+use Rattle.posting_rules.specs.declared.fault.Rule.TheVariants.{Value, Key, Floor}
+use Rattle.posting_rules.specs.declared.rows.AccountRow.{AccountRow}
 use Rattle.posting_rules.specs.declared.rows.BranchRow.{BranchRow}
+use Rattle.posting_rules.specs.declared.rows.FloorRow.{FloorRow}
 use Rattle.posting_rules.proofs.Stepped.{history_row_past, request_row_past}
 use Rattle.posting_rules.proofs.Undamaged.{undamaged}
 use Rattle.sql_meanings.specs.Entries.{Entry, has_key}
 use Rattle.store_rows.specs.Columns.{number_at}
-use Rattle.store_rows.specs.Rules.{AccountKeeps, BranchKeeps, HasDecided, IsWithinCount, KeepsRule}
-use Rattle.store_rows.specs.Rules.{PostingKeeps, RequestKeeps, TellerKeeps, branch_under, row_under}
-use Rattle.store_rows.specs.View.{account_entry, branch_entry, history_entry, request_entry, teller_entry}
+use Rattle.store_rows.specs.Rules.{AccountKeeps, BranchKeeps, EachKeeps, FloorKeeps, HasDecided, IsNext, IsWithinCount}
+use Rattle.store_rows.specs.Rules.{KeepsRule}
+use Rattle.store_rows.specs.Rules.{PostingKeeps, RequestKeeps, TellerKeeps, branch_under, floor_under, row_under}
+use Rattle.store_rows.specs.View.{account_entry, branch_entry, floor_entry, history_entry, request_entry, teller_entry}
 use Rattle.store_rows.specs.declared.metas.TheConstants.{VERSION}
 use Rattle.store_rows.proofs.RowLists.{found_by, has_row_key, taken_row_key}
 use Rattle.bank_transactions.proofs.FittingAccounts.{le_number, le_test, same_entry}
-use Rattle.bank_transactions.proofs.SoundRows.{no_branch_beyond}
+use Rattle.bank_transactions.proofs.SoundRows.{no_branch_beyond, no_floor_beyond, not_below}
 use Rattle.bank_lives.specs.TableRows.{stored_rows}
 
 -- ---- each row
@@ -41,13 +44,14 @@ each_entry entry P (r ∷ rows) all = (
 )
 
 module _ (t : Tables) (sound : IsUndamaged t) where
-  keeps_balance : KeepsRule Balance (stored_rows t)
-  keeps_balance = (
+  each_balance : EachKeeps Balance (stored_rows t)
+  each_balance = (
     each_entry branch_entry (BranchKeeps Balance) t.branches (λ r has. (sound.each_branch r has).balance),
     each_entry teller_entry (TellerKeeps Balance) t.tellers (λ r has. (sound.each_teller r has).balance),
     each_entry account_entry (AccountKeeps Balance) t.accounts (λ r has. (sound.each_account r has).balance),
     each_entry history_entry (PostingKeeps Balance) t.history (λ r has. tt),
     each_entry request_entry (RequestKeeps Balance) t.requests (λ r has. tt),
+    each_entry floor_entry (FloorKeeps Balance) t.floors (λ r has. tt),
   )
 
   keeps_request : KeepsRule Request (stored_rows t)
@@ -66,6 +70,7 @@ module _ (t : Tables) (sound : IsUndamaged t) where
           outcome = (r.kept.outcome, refl, is.kept);
           balance = is.balance;
         }),
+    each_entry floor_entry (FloorKeeps Request) t.floors (λ r has. tt),
   )
 
   keeps_value : KeepsRule Value (stored_rows t)
@@ -74,27 +79,41 @@ module _ (t : Tables) (sound : IsUndamaged t) where
         let is = sound.each_branch r has in
         ((r.branch, refl, is.some, is.most), (r.accounts, refl, is.few, is.many))),
     each_entry teller_entry (TellerKeeps Value) t.tellers (λ r has.
-        let is = sound.each_teller r has in let most = is.most in (r.teller, refl, is.some, omega arith)),
+        let is = sound.each_teller r has in let most = is.most in (r.teller, refl, is.some, most)),
     each_entry account_entry (AccountKeeps Value) t.accounts (λ r has.
-        let is = sound.each_account r has in let most = is.most in (r.account, refl, is.some, omega arith)),
+        let is = sound.each_account r has in let most = is.most in (r.account, refl, is.some, most)),
     each_entry history_entry (PostingKeeps Value) t.history (λ r has.
         let is = sound.each_posting r has in
         ((r.ordinal, refl, is.ordinal_above, is.ordinal), (r.moment, refl, omega arith, is.moment))),
     each_entry request_entry (RequestKeeps Value) t.requests (λ r has.
         let is = sound.each_request r has in (r.ordinal, refl, is.ordinal_above, is.ordinal)),
+    each_entry floor_entry (FloorKeeps Value) t.floors (λ r has.
+        let is = sound.each_floor r has in (r.branch, refl, is.some, is.most)),
+  )
+
+  keeps_floor : KeepsRule Floor (stored_rows t)
+  keeps_floor = (
+    each_entry branch_entry (BranchKeeps Floor) t.branches (λ r has. tt),
+    each_entry teller_entry (TellerKeeps Floor) t.tellers (λ r has. tt),
+    each_entry account_entry (AccountKeeps Floor) t.accounts (λ r has. tt),
+    each_entry history_entry (PostingKeeps Floor) t.history (λ r has. tt),
+    each_entry request_entry (RequestKeeps Floor) t.requests (λ r has. tt),
+    each_entry floor_entry (FloorKeeps Floor) t.floors (λ r has. (sound.each_floor r has).lowest),
   )
 
   -- ---- rows that belong together
 
-  under_number : (n : ℕ) (o : Option ℕ) → whole_within 1 MAX_BRANCH n ≡ o
-      → option_and_then (row_under (map branch_entry t.branches)) o
-      ≡ option_map branch_entry (row_at branch_key t.branches n)
-  under_number n None is = sym (ap (option_map branch_entry) (sym (no_branch_beyond t n sound is)))
-  under_number n (Some m) is =
+  -- the row under the number of a branch, where no row has a number beyond those
+  under_number : {R : Type 0} (key : R → ℕ) (entry : R → Entry) → ((r : R) → (entry r).key ≡ pos (key r))
+      → (rows : List R) → ((n : ℕ) → whole_within 1 MAX_BRANCH n ≡ None → None ≡ row_at key rows n)
+      → (n : ℕ) (o : Option ℕ) → whole_within 1 MAX_BRANCH n ≡ o
+      → option_and_then (row_under (map entry rows)) o ≡ option_map entry (row_at key rows n)
+  under_number key entry keyed rows beyond n None is = sym (ap (option_map entry) (sym (beyond n is)))
+  under_number key entry keyed rows beyond n (Some m) is =
       let same : m ≡ n = within_is n m is in
-      ap (row_under (map branch_entry t.branches)) same
-      ∙ found_by branch_key branch_entry (λ _. refl) (has_key (pos n)) (λ r. nat_eq r.branch n)
-      (has_row_key branch_key branch_entry (λ _. refl) n) t.branches
+      ap (row_under (map entry rows)) same
+      ∙ found_by key entry keyed (has_key (pos n)) (λ r. nat_eq (key r) n)
+      (has_row_key key entry keyed n) rows
     where
       within_is : (n m : ℕ) → whole_within 1 MAX_BRANCH n ≡ Some m → m ≡ n
       within_is n m is = go (nat_le 1 n) (nat_le n MAX_BRANCH) is
@@ -107,7 +126,46 @@ module _ (t : Tables) (sound : IsUndamaged t) where
   -- the branch under a number
   under_is : (n : ℕ) → branch_under (stored_rows t) n
       ≡ option_map branch_entry (row_at branch_key t.branches n)
-  under_is n = under_number n (whole_within 1 MAX_BRANCH n) refl
+  under_is n =
+      under_number branch_key branch_entry (λ _. refl) t.branches (λ k. no_branch_beyond t k sound) n
+      (whole_within 1 MAX_BRANCH n) refl
+
+  -- its floor
+  floor_is : (n : ℕ) → floor_under (stored_rows t) n ≡ option_map floor_entry (row_at floor_key t.floors n)
+  floor_is n =
+      under_number floor_key floor_entry (λ _. refl) t.floors (λ k. no_floor_beyond t k sound) n
+      (whole_within 1 MAX_BRANCH n) refl
+
+  account_is : (n : ℕ) → row_under (map account_entry t.accounts) n
+      ≡ option_map account_entry (row_at account_key t.accounts n)
+  account_is n =
+      found_by account_key account_entry (λ _. refl) (has_key (pos n)) (λ r. nat_eq r.account n)
+      (has_row_key account_key account_entry (λ _. refl) n) t.accounts
+
+  -- ---- accounts above their floors
+
+  stays_above : (n : ℕ) (a : Option AccountRow) (f : Option FloorRow)
+      → row_at account_key t.accounts n ≡ a → row_at floor_key t.floors (branch_of_account n) ≡ f
+      → (account floor : Entry) → option_map account_entry a ≡ Some account
+      → option_map floor_entry f ≡ Some floor → number_at 0 floor ≤ℤ number_at 0 account
+  stays_above n None f has its account floor is below = absurd cc
+  stays_above n (Some r) None has its account floor is below = absurd cc
+  stays_above n (Some r) (Some low) has its account floor is below =
+      let one : account_entry r ≡ account = cc in
+      let two : floor_entry low ≡ floor = cc in
+      let above : low.lowest ≤ℤ r.balance =
+      not_below t n r.balance low.lowest sound (ap (option_map balance_of_account) (sym has))
+      (ap (option_map lowest_of) (sym its)) in
+      subst (λ (e : Entry). number_at 0 floor ≤ℤ number_at 0 e) one
+      (subst (λ (e : Entry). number_at 0 e ≤ℤ r.balance) two above)
+
+  keeps_balance : KeepsRule Balance (stored_rows t)
+  keeps_balance = (
+    each_balance,
+    λ n least most account floor is below. stays_above n (row_at account_key t.accounts n)
+        (row_at floor_key t.floors (branch_of_account n)) refl refl account floor
+        (sym (account_is n) ∙ is) (sym (floor_is (branch_of_account n)) ∙ below),
+  )
 
   some_entry : {R : Type 0} (entry : R → Entry) (o : Option R) → is_some (option_map entry o) ≡ is_some o
   some_entry entry None = refl
@@ -126,21 +184,25 @@ module _ (t : Tables) (sound : IsUndamaged t) where
   keeps_teller n least most =
       (λ there. sym (teller_there n least) ∙ there, λ there. teller_there n least ∙ there)
 
+  -- what the branch of an account was opened with
+  abbrev its_terms : ℕ → BranchRow → Terms
+  its_terms n = terms_of_branch (floor_in t (branch_of_account n))
+
   account_there : (n : ℕ) → 1 ≤ n → is_some (row_under (map account_entry t.accounts) n)
       ≡ is_within (place_of_account n)
-      (option_map terms_of_branch (row_at branch_key t.branches (branch_of_account n)))
+      (option_map (its_terms n) (row_at branch_key t.branches (branch_of_account n)))
   account_there n least = taken_row_key account_key account_entry (λ _. refl) n t.accounts
       ∙ sound.accounts n least
 
   counted : (n : ℕ) (o : Option BranchRow) → branch_under (stored_rows t) (branch_of_account n)
       ≡ option_map branch_entry o
-      → is_within (place_of_account n) (option_map terms_of_branch o) ≡ true → IsWithinCount (stored_rows t) n
+      → is_within (place_of_account n) (option_map (its_terms n) o) ≡ true → IsWithinCount (stored_rows t) n
   counted n None is within = absurd cc
   counted n (Some r) is within = (branch_entry r, is, le_number (place_of_account n) r.accounts within)
 
   uncounted : (n : ℕ) (o : Option BranchRow) → branch_under (stored_rows t) (branch_of_account n)
       ≡ option_map branch_entry o
-      → IsWithinCount (stored_rows t) n → is_within (place_of_account n) (option_map terms_of_branch o) ≡ true
+      → IsWithinCount (stored_rows t) n → is_within (place_of_account n) (option_map (its_terms n) o) ≡ true
   uncounted n None is it = let found = it.1 in absurd cc
   uncounted n (Some r) is it =
       le_test (place_of_account n) r.accounts
@@ -167,7 +229,7 @@ module _ (t : Tables) (sound : IsUndamaged t) where
       (teller_there n least ∙ ap is_some none)
 
   not_within : (n : ℕ) (o : Option BranchRow) → option_map branch_entry o ≡ None
-      → is_within (place_of_account n) (option_map terms_of_branch o) ≡ false
+      → is_within (place_of_account n) (option_map (its_terms n) o) ≡ false
   not_within n None none = refl
   not_within n (Some r) none = absurd cc
 
@@ -178,6 +240,17 @@ module _ (t : Tables) (sound : IsUndamaged t) where
       (account_there n least
       ∙ not_within n (row_at branch_key t.branches (branch_of_account n))
       (sym (under_is (branch_of_account n)) ∙ none))
+
+  unmapped : (o : Option BranchRow) → option_map branch_entry o ≡ None → o ≡ None
+  unmapped None none = refl
+  unmapped (Some r) none = absurd cc
+
+  no_floor : (n : ℕ) → branch_under (stored_rows t) n ≡ None → row_under (map floor_entry t.floors) n ≡ None
+  no_floor n none =
+      found_by floor_key floor_entry (λ _. refl) (has_key (pos n)) (λ r. nat_eq r.branch n)
+      (has_row_key floor_key floor_entry (λ _. refl) n) t.floors
+      ∙ ap (option_map floor_entry)
+      (sound.floors n (unmapped (row_at branch_key t.branches n) (sym (under_is n) ∙ none)))
 
 same_count : (a b : ℕ) (version : ℤ)
     → ◌≡◌ {A = List Entry} (record { key = pos 1; values = VERSION ∷ pos a ∷ []; texts = [] } ∷ [])
@@ -196,19 +269,21 @@ module _ (t : Tables) (log : List Command) (shows : AreTablesOf t log) where
       found_by key entry keyed (has_key (pos n)) (λ r. nat_eq (key r) n) (has_row_key key entry keyed n) rows
       ∙ ap (option_map entry) none
 
-  no_request : (d n : ℕ) → HasDecided (stored_rows t) d → d < n → row_under (map request_entry t.requests) n
+  no_request : (d n : ℕ) → HasDecided (stored_rows t) d → IsNext d n → row_under (map request_entry t.requests) n
       ≡ None
-  no_request d zero has lt = absurd (omega arith)
-  no_request d (suc n) has lt =
+  no_request d zero has next = absurd (let lt = next.0 in omega arith)
+  no_request d (suc n) has next =
+      let lt = next.0 in
       let count : t.decided ≡ d = same_count t.decided d has.0 has.1 in
       let length_is = shows.rows.decided in
       no_row request_key request_entry (λ _. refl) t.requests (suc n)
       (shows.rows.requests (suc n) ∙ request_row_past (decided log) n (omega (arith, length_is, count)))
 
-  no_posting : (d n : ℕ) → HasDecided (stored_rows t) d → d < n → row_under (map history_entry t.history) n
+  no_posting : (d n : ℕ) → HasDecided (stored_rows t) d → IsNext d n → row_under (map history_entry t.history) n
       ≡ None
-  no_posting d zero has lt = absurd (omega arith)
-  no_posting d (suc n) has lt =
+  no_posting d zero has next = absurd (let lt = next.0 in omega arith)
+  no_posting d (suc n) has next =
+      let lt = next.0 in
       let count : t.decided ≡ d = same_count t.decided d has.0 has.1 in
       let length_is = shows.rows.decided in
       no_row history_key history_entry (λ _. refl) t.history (suc n)
@@ -228,4 +303,6 @@ keeps_all t log are shows Key = record {
   postings = no_posting t log shows;
   tellers = no_teller t (undamaged t log are shows);
   accounts = no_account t (undamaged t log are shows);
+  floors = no_floor t (undamaged t log are shows);
 }
+keeps_all t log are shows Floor = keeps_floor t (undamaged t log are shows)

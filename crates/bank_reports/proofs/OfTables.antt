@@ -9,7 +9,7 @@ use Rattle.std.proofs.lemmas.Int.{ints}
 use Rattle.message_records.specs.Outcomes.{code_of, has_balance}
 use Rattle.message_records.specs.declared.records.Outcome.{Outcome}
 use Rattle.message_records.specs.declared.records.Outcome.TheVariants.{Posted, NoTeller, WrongBranch}
-use Rattle.message_records.specs.declared.records.Outcome.TheVariants.{NoAccount, OverLimit, ReusedNumber}
+use Rattle.message_records.specs.declared.records.Outcome.TheVariants.{BelowFloor, NoAccount, OverLimit, ReusedNumber}
 use Rattle.message_records.specs.declared.records.Outcome.TheVariants.{Full, Malformed}
 use Rattle.posting_rules.specs.declared.rows.HistoryRow.{HistoryRow}
 use Rattle.posting_rules.specs.declared.rows.RequestRow.{RequestRow}
@@ -70,6 +70,7 @@ posted_is Posted = refl
 posted_is NoTeller = refl
 posted_is WrongBranch = refl
 posted_is NoAccount = refl
+posted_is BelowFloor = refl
 posted_is OverLimit = refl
 posted_is ReusedNumber = refl
 posted_is Full = refl

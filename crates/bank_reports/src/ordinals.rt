@@ -1,11 +1,11 @@
 //! The ordinals that aren't matched.
 ghost use Rattle.std.specs.Prelude.{◌≡◌, ◌<◌, ◌≤◌, ◌+◌, ◌++◌, ◌∷◌, [], List};
 ghost use Rattle.std.specs.Prelude.{Option, length};
-ghost use Rattle.bank_reports.specs.declared.limits.TheConstants.{MOST_ROWS};
+ghost use Rattle.bank_reports.specs.declared.limits.TheConstants.{MAX_ROWS};
 ghost use Rattle.bank_walks.specs.declared.postings.StoredPosting.{StoredPosting};
 ghost use Rattle.bank_walks.specs.declared.requests.StoredRequest.{StoredRequest};
 
-use crate::limits::MOST_ROWS;
+use crate::limits::MAX_ROWS;
 use crate::matching::is_matched;
 use crate::sum::Sum;
 use bank_walks::{StoredPosting, StoredRequest};
@@ -17,7 +17,7 @@ pub struct OrdinalSums {
     requests: u64,
     history: Sum,
     unmatched: u64,
-    ghost few: { requests ≤ MOST_ROWS },
+    ghost few: { requests ≤ MAX_ROWS },
     ghost fewer: { unmatched ≤ requests + history.count },
 }
 
@@ -39,7 +39,7 @@ impl OrdinalSums {
     pub fn add_request(&mut self, request: StoredRequest, posting: Option<StoredPosting>)
         requires room { (requests : List (StoredRequest × Option StoredPosting))
             × (history : List (StoredPosting × Option StoredRequest))
-            × HasBeside self.old requests history × (length requests < MOST_ROWS) }
+            × HasBeside self.old requests history × (length requests < MAX_ROWS) }
         ensures added { (requests : List (StoredRequest × Option StoredPosting))
             (history : List (StoredPosting × Option StoredRequest))
             → HasBeside self.old requests history
@@ -57,7 +57,7 @@ impl OrdinalSums {
     pub fn add_posting(&mut self, posting: StoredPosting, request: Option<StoredRequest>)
         requires room { (requests : List (StoredRequest × Option StoredPosting))
             × (history : List (StoredPosting × Option StoredRequest))
-            × HasBeside self.old requests history × (length history < MOST_ROWS) }
+            × HasBeside self.old requests history × (length history < MAX_ROWS) }
         ensures added { (requests : List (StoredRequest × Option StoredPosting))
             (history : List (StoredPosting × Option StoredRequest))
             → HasBeside self.old requests history

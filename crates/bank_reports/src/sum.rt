@@ -1,17 +1,17 @@
 //! A sum of 64 bit amounts.
 ghost use Rattle.std.specs.Prelude.{◌≡◌, ◌≤◌, ◌<◌, ◌+◌, ◌+ℤ◌, pos};
-ghost use Rattle.bank_reports.specs.declared.limits.TheConstants.{MOST_ROWS};
+ghost use Rattle.bank_reports.specs.declared.limits.TheConstants.{MAX_ROWS};
 ghost use Rattle.bank_reports.specs.Sums.{IsSmall};
 
-use crate::limits::MOST_ROWS;
+use crate::limits::MAX_ROWS;
 
-/// How many amounts were added, and their sum. It has 128 bits, which `MOST_ROWS` amounts of 64 bits don't
+/// How many amounts were added, and their sum. It has 128 bits, which `MAX_ROWS` amounts of 64 bits don't
 /// leave.
 #[derive(Clone, Copy, Debug, PartialEq, Eq)]
 pub struct Sum {
     pub count: u64,
     pub sum: i128,
-    ghost few: { count ≤ MOST_ROWS },
+    ghost few: { count ≤ MAX_ROWS },
     ghost small: { IsSmall sum count },
 }
 
@@ -24,7 +24,7 @@ impl Sum {
     }
 
     pub fn plus(self, amount: i64) -> Sum
-        requires { self.count < MOST_ROWS }
+        requires { self.count < MAX_ROWS }
         ensures count { result.count ≡ self.count + 1 }
         ensures sum { result.sum ≡ self.sum +ℤ amount }
     {

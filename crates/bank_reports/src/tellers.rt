@@ -6,7 +6,7 @@ ghost use Rattle.bank_reports.specs.declared.limits.TheConstants.{BRANCHES};
 ghost use Rattle.bank_walks.specs.declared.tellers.StoredTeller.{StoredTeller};
 ghost use Rattle.bank_reports.specs.Sums.{AreSmall};
 
-use crate::limits::{BRANCHES, MOST_ROWS};
+use crate::limits::{BRANCHES, MAX_ROWS};
 use crate::sum::Sum;
 use bank_walks::StoredTeller;
 use message_records::Whole;
@@ -44,7 +44,7 @@ impl TellerSums {
     /// Adds a teller.
     pub fn add(&mut self, teller: StoredTeller)
         requires room { (tellers : List StoredTeller) × HasTellers self.old tellers
-            × (length tellers < MOST_ROWS) }
+            × (length tellers < MAX_ROWS) }
         ensures added { (tellers : List StoredTeller) → HasTellers self.old tellers
             → HasTellers self.new (tellers ++ teller ∷ []) }
     {

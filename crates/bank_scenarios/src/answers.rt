@@ -1,7 +1,9 @@
 //! What a bank answers to a call, whatever keeps its tables.
+ghost use Rattle.std.specs.Prelude.{◌≤ℤ◌, pos, IfSome, IsTrue};
+
 use crate::records::Record;
 use load_driver::{MAX_DRIVEN, drive_records};
-use message_records::{Account, Branch, Moment, REPLY_BYTES, REQUEST_BYTES};
+use message_records::{Account, Branch, Cents, Moment, REPLY_BYTES, REQUEST_BYTES};
 use posting_core::{Counter, Opening, RECORDS_PER_BATCH, StoredClock};
 use std::alloc::{AllocError, Global};
 
@@ -11,7 +13,7 @@ const BETWEEN: &str = ", ";
 /// A call of a bank, but for the things that it names.
 #[derive(Clone, Copy)]
 pub enum Call {
-    /// Opens branches: each a number and a count of accounts.
+    /// Opens branches: each a number, a count of accounts, and a floor if it has one.
     Open,
     /// Submits records one by one.
     Post(Moment),
@@ -86,23 +88,38 @@ fn one_by_one<C: Counter>(
     }
 }
 
-// A branch and its count of accounts: `1 with 3`.
-fn branch_of(item: &str) -> Option<(Branch, u32)> {
-    let (branch, count) = item.split_once(" with ")?;
+// A branch, its count of accounts, and its floor if it has one: `1 with 3`, or `1 with 3 down to -1000`.
+fn branch_of(item: &str) -> Option<(Branch, u32, Option<Cents>)> {
+    let (branch, terms) = item.split_once(" with ")?;
+    let (count, floor) = match terms.split_once(" down to ") {
+        Some((count, floor)) => (count, Some(Cents::new(floor.parse::<i64>().ok()?)?)),
+        None => (terms, None),
+    };
     Some((
         Branch::new(branch.parse::<u64>().ok()?)?,
         count.parse::<u32>().ok()?,
+        floor,
     ))
 }
 
+// Whether a floor is at most zero, where there is one.
+pub(crate) fn is_floor(floor: Option<Cents>) -> bool
+    ensures { IsTrue result → IfSome floor (λ z. z ≤ℤ pos 0) }
+{
+    match floor {
+        Some(floor) => floor.get() <= 0,
+        None => true,
+    }
+}
+
 fn opened<C: Counter>(alloc: Global, bank: &mut C, item: &str) -> Result<String, AllocError> {
-    let Some((branch, count)) = branch_of(item) else {
+    let Some((branch, count, floor)) = branch_of(item) else {
         return "no branch".to_string(alloc);
     };
-    if branch.get() > 9999 || count < 1 || count > 100_000 {
+    if branch.get() > 9999 || count < 1 || count > 100_000 || !is_floor(floor) {
         return "out of range".to_string(alloc);
     }
-    match bank.open_branch(branch, count) {
+    match bank.open_branch(branch, count, floor) {
         Ok(opening) => word_of(opening).to_string(alloc),
         Err(fault) => fault.to_string(alloc),
     }

@@ -111,6 +111,7 @@ fn told(alloc: Global, came: &[Outcome]) -> Result<String, AllocError> {
         Outcome::NoTeller,
         Outcome::WrongBranch,
         Outcome::NoAccount,
+        Outcome::BelowFloor,
         Outcome::OverLimit,
         Outcome::ReusedNumber,
         Outcome::Full,

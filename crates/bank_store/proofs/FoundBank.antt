@@ -12,13 +12,13 @@ use Rattle.posting_rules.specs.Damage.{IsUndamaged}
 use Rattle.posting_rules.specs.Tables.{Tables}
 use Rattle.posting_rules.specs.Tables.{AreTablesOf as Show}
 use Rattle.posting_rules.specs.declared.fault.Rule.TheVariants.{Meta, Teller, Account, Balance, Request}
-use Rattle.posting_rules.specs.declared.fault.Rule.TheVariants.{Value, Key}
+use Rattle.posting_rules.specs.declared.fault.Rule.TheVariants.{Value, Key, Floor}
 use Rattle.posting_rules.proofs.Undamaged.{undamaged}
 use Rattle.sql_meanings.proofs.Contents.{each_defined}
 use Rattle.sql_meanings.specs.Entries.{Entry, HasWidth}
 use Rattle.store_rows.specs.Columns.{meta_in}
-use Rattle.store_rows.specs.Probes.{all_probes}
-use Rattle.store_rows.specs.Probes as probe
+use Rattle.store_rows.specs.Probes.{all_probes, probe_of}
+use Rattle.store_rows.specs.declared.probes.BankTable.TheVariants as table
 use Rattle.store_rows.specs.BankTables as bank
 use Rattle.store_rows.specs.BankTables.{bank_tables}
 use Rattle.store_rows.specs.Statements.{HasOtherValue}
@@ -144,6 +144,7 @@ module _ (old mid new : State) (stored : Option StoredMeta) (tables : IsPresent 
   looked (Err (Damaged Request)) checks = absurd checks
   looked (Err (Damaged Value)) checks = absurd checks
   looked (Err (Damaged Key)) checks = absurd checks
+  looked (Err (Damaged Floor)) checks = absurd checks
 
 -- ---- the version comes first
 
@@ -165,7 +166,7 @@ module _ (old mid : State) (same : IsAsBefore old mid) where
   misses_at Blank misses = present_at Absent misses
   misses_at Foreign misses = (present_at Partial misses.0, λ n. meta_at (λ stored. IsOfVersion n stored → ⊥) (misses.1 n))
   misses_at (Version n) misses = (
-    subst (λ (db : Database). IsReadable db probe.meta) same.now_is misses.0,
+    subst (λ (db : Database). IsReadable db (probe_of table.Meta)) same.now_is misses.0,
     meta_at (IsOfVersion n) misses.1,
   )
   misses_at (Damaged Meta) misses = (present_at Whole misses.0, meta_at IsNoCount misses.1)
@@ -179,6 +180,7 @@ module _ (old mid : State) (same : IsAsBefore old mid) where
     subst HasOtherValue same.now_is misses.2,
   )
   misses_at (Damaged Key) misses = absurd misses
+  misses_at (Damaged Floor) misses = absurd misses
 
   reads_at : (new : State) (fault : OpenFault) → IsReadOnly {X = Unit {0}} mid new (Err fault)
       → IsReadOnly {X = Unit {0}} old new (Err fault)
@@ -200,7 +202,7 @@ module _ (old mid : State) (same : IsAsBefore old mid) where
   seeks_at new (Err fault) missed = (misses_at fault missed.0, reads_at new fault missed.1)
 
 -- where the probe of `meta` isn't understood, it holds no rows
-pub no_rows_there : (old : State) → Lacks old.now probe.meta → HasNoOtherVersion old
+pub no_rows_there : (old : State) → Lacks old.now (probe_of table.Meta) → HasNoOtherVersion old
 no_rows_there old lacks n rows has other = lacks.1 has.sound has.holds.defined
 
 -- what its row says of another version
@@ -211,7 +213,7 @@ no_other_read old stored read none n rows has other =
     none n (subst (IsOfVersion n) (sym (read rows has)) other)
 
 -- the row of `meta` has another version
-pub other_read : (old mid new : State) (m : StoredMeta) (version : ℤ) → IsReadable old.now probe.meta
+pub other_read : (old mid new : State) (m : StoredMeta) (version : ℤ) → IsReadable old.now (probe_of table.Meta)
     → IsAsBefore old mid → ((rows : List Entry) → HoldsRows mid.now bank.meta rows → Some m ≡ meta_in rows)
     → IsAsBefore mid new → version ≡ m.version → version ≢ VERSION
     → Misses old (Version version) × IsReadOnly {X = Unit {0}} old new (Err (Version version))
@@ -242,7 +244,7 @@ lacks_none db t shows it has lacks =
 
 -- where none of a bank's tables is, no tables are shown
 pub no_bank : (db : Database) (t : Tables) → IsPresent db all_probes Absent → Shows db t → ⊥
-no_bank db t absent shows = lacks_none db t shows probe.meta (inl refl) absent.0
+no_bank db t absent shows = lacks_none db t shows (probe_of table.Meta) (inl refl) absent.0
 
 -- what meta holds of a log
 holds : (t : Tables) → IsUndamaged t → IsOurs (meta_in (meta_entry VERSION t.decided ∷ []))
@@ -282,3 +284,4 @@ known old (Damaged Request) t log misses shows are log_shown = absurd misses
 known old (Damaged Value) t log misses shows are log_shown =
     absurd (misses.1 (meta_entry VERSION t.decided ∷ []) (has_one old.now t shows))
 known old (Damaged Key) t log misses shows are log_shown = absurd misses
+known old (Damaged Floor) t log misses shows are log_shown = absurd misses

@@ -8,5 +8,6 @@ pub mod MetaRow
 pub mod Refusing
 pub mod NewBank
 pub mod Opened
+pub mod Settled
 pub mod Unmade
 pub mod WalkSteps

@@ -13,11 +13,12 @@ use Rattle.sqlite_rules.specs.Lists.{Has}
 use Rattle.sqlite_trees.proofs.ListLemmas.{all-append}
 use Rattle.sql_meanings.specs.Outcomes.{TellsProbe, TellsUnderstood}
 use Rattle.store_rows.specs.Calls.{Probes}
-use Rattle.bank_store.specs.declared.presence.BankTable.{BankTable}
+use Rattle.store_rows.specs.Probes.{probe_of}
+use Rattle.store_rows.specs.declared.probes.BankTable.{BankTable}
 use Rattle.bank_store.specs.declared.presence.Presence.{Presence}
 use Rattle.bank_store.specs.declared.presence.Presence.TheVariants.{Absent, Partial, Whole}
 use Rattle.bank_store.specs.Connections.{IsAsBefore}
-use Rattle.bank_store.specs.TablePresence.{IsReadable, Lacks, OneOf, IsPresent, presence_of, joined, probe_of}
+use Rattle.bank_store.specs.TablePresence.{IsReadable, Lacks, OneOf, IsPresent, presence_of, joined}
 
 -- a table, and the statement that reads all its columns
 abbrev Probe : Type 0

@@ -12,8 +12,8 @@ use Rattle.sqlite_schema.specs.Names.{table_named, view_named}
 use Rattle.posting_rules.proofs.Keyed.{by_test}
 use Rattle.sql_meanings.specs.Making.{KeepsTables}
 use Rattle.store_rows.specs.Creation.{CreatesBank, IsEmpty, TablesAreMade, RefusesNext, all_texts}
-use Rattle.store_rows.specs.Probes.{all_probes}
-use Rattle.store_rows.specs.Probes as probe
+use Rattle.store_rows.specs.Probes.{all_probes, probe_of}
+use Rattle.store_rows.specs.declared.probes.BankTable.TheVariants as table
 use Rattle.store_rows.proofs.EmptyFile.{refused_on_nothing}
 use Rattle.bank_store.specs.NewBank.{IsRefusedOnTheWay, IsTaken}
 use Rattle.bank_store.specs.OpenFaults.{of_the_store, unmade_by}
@@ -76,7 +76,7 @@ pub some_there : (db : Database) (p : Presence) → (p ≡ Absent → ⊥) → I
     → OneOf all_probes (IsReadable db)
 some_there db Absent not_so here = absurd (not_so refl)
 some_there db Partial not_so here = here.0
-some_there db Whole not_so here = (probe.meta, inl refl, here.0)
+some_there db Whole not_so here = (probe_of table.Meta, inl refl, here.0)
 
 none_named : (db : Database) (it : List ℕ × Table) → IsEmpty db → IsReadable db it → ⊥
 none_named db it empty (text, inl there) = there (ap (λ s. table_named s it.1.name) empty)

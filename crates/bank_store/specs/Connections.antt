@@ -1,6 +1,6 @@
 -- A connection that no bank holds: what it is seen as, and whether it is as it was.
-use Rattle.std.specs.Prelude.{IsTrue, Result, Ok, Err}
-use Rattle.sqlite.specs.State.{State, Shows as StateShows}
+use Rattle.std.specs.Prelude.{◌≡◌, ◌≢◌, IsTrue, false, Result, Ok, Err}
+use Rattle.sqlite.specs.State.{State, HasCleanDisk, Shows as StateShows}
 use Rattle.sqlite.specs.Held.{Held, state}
 use Rattle.sqlite_trees.specs.declared.store.Store.{Ghosts}
 use Rattle.posting_rules.specs.Counter.{Seen}
@@ -31,3 +31,11 @@ IsUndoneIfOpen old new = IsTrue new.is_open → IsAsBefore old new
 abbrev pub IsReadOnly : {X : Type 0} → State → State → Result X OpenFault → Type 0
 IsReadOnly old new (Err Store) = IsUndoneIfOpen old new
 IsReadOnly old new _ = IsAsBefore old new
+
+-- What holds of a connection that is given back, in which no bank is made or found: it is outside a
+-- transaction, and shows what it showed. Only a fault of the store can have shut the store.
+pub record IsGivenBack {S : Type 0} (g : Ghosts S) (old : Held S) (refused : Refused S) : Type 0 where
+  pub idle : refused.conn.in_transaction ≡ false
+  pub same : HasCleanDisk (state g refused.conn) → refused.fault ≢ Store
+      → IsAsBefore (state g old) (state g refused.conn)
+  pub undone : HasCleanDisk (state g refused.conn) → IsUndoneIfOpen (state g old) (state g refused.conn)

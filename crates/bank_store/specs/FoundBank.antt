@@ -1,18 +1,24 @@
 -- A bank is found over a connection, or why none is.
 use Rattle.std.specs.Prelude.{◌≡◌, ◌≤◌, ℕ, List, [], ◌∷◌, ℤ, Option, Result, Ok, Err, ⊤}
-use Rattle.sqlite.specs.State.{State}
+use Rattle.sqlite.specs.State.{State, HasCleanDisk}
+use Rattle.sqlite.specs.Held.{Held, state}
+use Rattle.sqlite_trees.specs.declared.store.Store.{Ghosts}
+use Rattle.posting_rules.specs.Commands.{Command}
+use Rattle.posting_rules.specs.Counter.{ShowsLog, StandsAt}
 use Rattle.posting_rules.specs.declared.fault.Rule.TheVariants.{Meta, Value}
 use Rattle.posting_rules.specs.declared.limits.TheConstants.{MAX_DECIDED}
 use Rattle.sql_meanings.specs.Entries.{Entry}
 use Rattle.store_rows.specs.Columns.{meta_in}
-use Rattle.store_rows.specs.Probes.{all_probes}
-use Rattle.store_rows.specs.Probes as probe
+use Rattle.store_rows.specs.Probes.{all_probes, probe_of}
+use Rattle.store_rows.specs.declared.probes.BankTable.TheVariants as table
 use Rattle.store_rows.specs.BankTables as bank
 use Rattle.store_rows.specs.Statements.{HasOtherValue}
 use Rattle.store_rows.specs.View.{HoldsRows, meta_entry}
 use Rattle.store_rows.specs.declared.metas.TheConstants.{VERSION}
 use Rattle.store_rows.specs.declared.metas.StoredMeta.{StoredMeta}
-use Rattle.bank_store.specs.Connections.{IsAsBefore, IsReadOnly}
+use Rattle.bank_store.specs.Connections.{conn_seen, IsAsBefore, IsReadOnly}
+use Rattle.bank_store.specs.Seen.{bank_seen, file_of}
+use Rattle.bank_store.specs.declared.bank.Bank.{Bank}
 use Rattle.bank_store.specs.MetaRow.{IsOurs, IsOfVersion, IsNoCount}
 use Rattle.bank_store.specs.TablePresence.{IsPresent, IsReadable}
 use Rattle.bank_store.specs.declared.presence.Presence.TheVariants.{Absent, Partial, Whole}
@@ -43,10 +49,20 @@ Misses old Store = ⊤
 Misses old NotBlank = ⊥
 Misses old Blank = IsPresent old.now all_probes Absent
 Misses old Foreign = IsPresent old.now all_probes Partial × HasNoOtherVersion old
-Misses old (Version n) = IsReadable old.now probe.meta × MetaIs old (IsOfVersion n)
+Misses old (Version n) = IsReadable old.now (probe_of table.Meta) × MetaIs old (IsOfVersion n)
 Misses old (Damaged Meta) = IsPresent old.now all_probes Whole × MetaIs old IsNoCount
 Misses old (Damaged Value) = IsPresent old.now all_probes Whole × MetaIs old (λ _. ⊥) × HasOtherValue old.now
 Misses old (Damaged _) = ⊥
+
+-- What holds of a bank that is taken up over a connection: it is up, and shows what the connection showed, and
+-- stands where that stood.
+pub record IsTakenUp {S : Type 0} (g : Ghosts S) (conn : Held S) (bank : Bank S g) : Type 0 where
+  pub found : HasCleanDisk (file_of bank) → BankIsFound (state g conn) (file_of bank)
+  pub shows : (bank_seen g bank).honest → (log : List Command) → ShowsLog (conn_seen g conn) log
+      → ShowsLog (bank_seen g bank) log
+  pub stands : (bank_seen g bank).honest → (log : List Command) → StandsAt (conn_seen g conn) log
+      → StandsAt (bank_seen g bank) log
+  pub up : (bank_seen g bank).is_down → ⊥
 
 -- a bank is found, or why it isn't
 abbrev pub SeeksBank : State → State → Result (Unit {0}) OpenFault → Type 0

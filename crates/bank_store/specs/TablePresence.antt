@@ -8,21 +8,9 @@ use Rattle.sqlite_rules.specs.Lists.{Has}
 use Rattle.sql_meanings.specs.Outcomes.{IsThere, IsUnderstood}
 use Rattle.sql_meanings.specs.Tables.{Defines}
 use Rattle.store_rows.specs.Probes.{IsNotUnderstood}
-use Rattle.store_rows.specs.Probes as probe
 use Rattle.bank_store.specs.Connections.{IsAsBefore, IsUndoneIfOpen}
-use Rattle.bank_store.specs.declared.presence.BankTable.{BankTable}
-use Rattle.bank_store.specs.declared.presence.BankTable.TheVariants as one
 use Rattle.bank_store.specs.declared.presence.Presence.{Presence}
 use Rattle.bank_store.specs.declared.presence.Presence.TheVariants.{Absent, Partial, Whole}
-
--- the probe of a table
-abbrev pub probe_of : BankTable → List ℕ × Table
-probe_of one.Meta = probe.meta
-probe_of one.Branch = probe.branch
-probe_of one.Teller = probe.teller
-probe_of one.Account = probe.account
-probe_of one.History = probe.history
-probe_of one.Request = probe.request
 
 -- the table can be read: its probe is understood, and a table or a view has its name
 abbrev pub IsReadable : Database → List ℕ × Table → Type 0

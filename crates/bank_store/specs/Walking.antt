@@ -1,12 +1,12 @@
 -- What a walk has yet to give, and what a step of it gives.
 use Rattle.std.specs.Prelude.{◌≡◌, ◌++◌, ◌≤ℤ◌, ◌+ℤ◌, pos, ℕ, ℤ, Bool, List, [], ◌∷◌, map, drop, filter}
-use Rattle.std.specs.Prelude.{Option, Some, None, Result, Ok, Err, IfOk, IfErr, ⊤}
+use Rattle.std.specs.Prelude.{Option, Some, None, Result, Ok, Err, IfOk, IfErr, OnOk, ⊤}
 use Rattle.std.specs.Borrow.{GName}
 use Rattle.std.specs.Result.{IsErrOf}
 use Rattle.sqlite_trees.specs.declared.store.Store.{Ghosts}
 use Rattle.sqlite.specs.Effect.{Database}
 use Rattle.sqlite.specs.Held.{state}
-use Rattle.sqlite.specs.State.{State}
+use Rattle.sqlite.specs.State.{State, HasCleanDisk, Survives}
 use Rattle.sqlite.specs.declared.error.Error.{Error}
 use Rattle.posting_rules.specs.declared.fault.Fault.{Fault}
 use Rattle.posting_rules.specs.declared.fault.Fault.TheVariants as told
@@ -15,7 +15,8 @@ use Rattle.sql_meanings.specs.Entries.{Entry}
 use Rattle.sql_meanings.specs.Outcomes.{IsStoreError}
 use Rattle.bank_walks.specs.Rising.{RisesFrom}
 use Rattle.bank_walks.specs.Rows.{LEAST, entry_key, items_behind}
-use Rattle.bank_store.specs.Seen.{bank_seen, connection_of, database_of}
+use Rattle.bank_store.specs.Seen.{bank_seen, connection_of, database_of, fault_of}
+use Rattle.bank_store.specs.Walks.{IsStill, IsUntouchedIfOpen}
 use Rattle.bank_store.specs.declared.bank.Bank.{Bank}
 use Rattle.bank_store.specs.declared.walks.Walk.{Walk}
 use Rattle.bank_store.specs.declared.walks.Stage.{Stage}
@@ -107,6 +108,28 @@ Steps {R} {X} item Breaks old new (Err (told.Damaged broken)) =
 Steps item Breaks old new (Err told.Store) = ⊤
 Steps item Breaks old new (Err told.Down) = new ≡ old
 Steps item Breaks old new (Err told.Memory) = ⊥
+
+-- What a step leaves of the bank that the walk borrows: the walk still borrows it, it is no more down than it
+-- was, its connection sees what it saw, where the step failed as long as the store is open, and a stop leaves
+-- nothing new.
+pub record LeavesLent {S R A : Type 0} (g : Ghosts S) (old new : Walk S R g) (result : Result A Fault) : Type 0
+  where
+    pub same_reference : loan_of new ≡ loan_of old
+    pub same : HasCleanDisk (lent_state g new) → OnOk result (IsStill (lent_state g old) (lent_state g new))
+    pub undone : HasCleanDisk (lent_state g new) → IsUntouchedIfOpen (lent_state g old) (lent_state g new)
+    pub up : fault_of (lent new) ≡ fault_of (lent old)
+    pub survives : Survives (lent_state g old) (lent_state g new) (λ _. ⊥)
+
+-- How far a step leaves the walk: behind the last row it has ended and stays so, behind a fault it is over, and
+-- each step from then on says so and changes nothing.
+pub record GoesOn {S R : Type 0} {g : Ghosts S} (old new : Walk S R g) (result : Result (Option R) Fault)
+    : Type 0 where
+  pub ended : result ≡ Ok None → IsEnded new
+  pub again : IsEnded old → (result ≡ Ok None) × (new ≡ old)
+  pub failed : IfErr result (λ _. HasToldFault new)
+  pub going : OnOk result (HasToldFault new → ⊥)
+  pub down : (HasToldFault old → IsErrOf result told.Down)
+      × (IsErrOf result told.Down → HasToldFault old × (new ≡ old))
 
 -- the store failed, or refused memory or steps
 abbrev pub StoreFailed : State → State → Type 0

@@ -1,5 +1,5 @@
 //! Taking up the bank that a file has.
-ghost use Rattle.std.specs.Prelude.{◌≡◌, ◌≢◌, List, IfOk, IfErr, false};
+ghost use Rattle.std.specs.Prelude.{◌≡◌, List, IfOk, IfErr, false};
 ghost use Rattle.sqlite.specs.State.{HasCleanDisk, Survives};
 ghost use Rattle.sqlite.specs.Held.{state};
 ghost use Rattle.posting_rules.specs.Commands.{Command};
@@ -9,21 +9,21 @@ ghost use Rattle.store_rows.specs.Columns.{meta_in};
 ghost use Rattle.sql_meanings.specs.Entries.{Entry};
 ghost use Rattle.store_rows.specs.BankTables.{meta as table};
 ghost use Rattle.store_rows.specs.View.{HoldsRows};
-ghost use Rattle.bank_store.specs.Connections.{conn_seen, state_in, IsAsBefore, IsReadOnly, IsUndoneIfOpen};
-ghost use Rattle.bank_store.specs.FoundBank.{BankIsFound, HasNoOtherVersion, LooksAtVersion, Misses, SeeksBank};
+ghost use Rattle.bank_store.specs.Connections.{conn_seen, state_in, IsGivenBack, IsReadOnly, IsUndoneIfOpen};
+ghost use Rattle.bank_store.specs.FoundBank.{HasNoOtherVersion, IsTakenUp, LooksAtVersion, Misses, SeeksBank};
 ghost use Rattle.bank_store.specs.MetaRow.{ChecksMeta, TellsMeta, IsOfOtherType};
 ghost use Rattle.bank_store.specs.OpenFaults.{RowIsUnread};
-ghost use Rattle.bank_store.specs.Seen.{alloc_of, bank_seen, connection_of};
+ghost use Rattle.bank_store.specs.Seen.{alloc_of};
 ghost use Rattle.bank_store.specs.StoreFaults.{KnowsCause};
 
 use crate::bank::Bank;
-use crate::presence::{BankTable, Presence, count_tables, tables_there};
+use crate::presence::{Presence, count_tables, tables_there};
 use crate::refused::{Refused, unread};
 use bank_transactions::{begin, note_settled};
 use posting_rules::{MAX_DECIDED, OpenFault, Rule};
 use sqlite::{Alter, Connection};
 use std::alloc::Global;
-use store_rows::{StoredMeta, VERSION, probe_meta, read_meta};
+use store_rows::{BankTable, StoredMeta, VERSION, probe_table, read_meta};
 
 // The row of the bank, if there is one, whatever its numbers. Nothing is written, so the transaction is
 // dropped.
@@ -64,7 +64,7 @@ fn settled_meta<S: Alter>(conn: &mut Connection<S>) -> Result<Option<StoredMeta>
 {
     note_settled(conn);
     let meta = stored_meta(conn);
-    match probe_meta(conn) {
+    match probe_table(conn, BankTable::Meta) {
         Ok(_) => meta,
         Err(_) => Err(OpenFault::Store),
     }
@@ -156,29 +156,18 @@ fn find_bank<S: Alter>(conn: &mut Connection<S>) -> Result<(), OpenFault>
 ///   is the only fault if the file has a bank of this version.
 pub fn adopt<S: Alter>(alloc: Global, mut conn: Connection<S>) -> Result<Bank<S>, Refused<S>>
     requires { conn.in_transaction ≡ false }
-    ensures found { IfOk result (λ bank. HasCleanDisk (state S.Store (connection_of bank))
-        → BankIsFound (state S.Store conn) (state S.Store (connection_of bank))) }
-    ensures shows { IfOk result (λ bank. (bank_seen S.Store bank).honest → (log : List Command)
-        → ShowsLog (conn_seen S.Store conn) log → ShowsLog (bank_seen S.Store bank) log) }
-    ensures stands { IfOk result (λ bank. (bank_seen S.Store bank).honest → (log : List Command)
-        → StandsAt (conn_seen S.Store conn) log → StandsAt (bank_seen S.Store bank) log) }
-    ensures up { IfOk result (λ bank. (bank_seen S.Store bank).is_down → ⊥) }
+    ensures found { IfOk result (IsTakenUp S.Store conn) }
     ensures alloc { IfOk result (λ bank. alloc_of bank ≡ alloc) }
     ensures missed { IfErr result (λ refused. HasCleanDisk (state S.Store refused.conn)
         → Misses (state S.Store conn) refused.fault) }
     ensures cause { IfErr result (λ refused. KnowsCause S.Store conn refused.conn refused.fault) }
-    ensures same { IfErr result (λ refused. HasCleanDisk (state S.Store refused.conn)
-        → refused.fault ≢ OpenFault.Store
-        → IsAsBefore (state S.Store conn) (state S.Store refused.conn)) }
-    ensures undone { IfErr result (λ refused. HasCleanDisk (state S.Store refused.conn)
-        → IsUndoneIfOpen (state S.Store conn) (state S.Store refused.conn)) }
+    ensures back { IfErr result (IsGivenBack S.Store conn) }
     ensures known { IfErr result (λ refused. HasCleanDisk (state S.Store refused.conn) → (log : List Command)
         → ShowsLog (conn_seen S.Store conn) log → refused.fault ≡ OpenFault.Store) }
     ensures remains { IfErr result (λ refused. HasCleanDisk (state S.Store refused.conn)
         → (log : List Command)
         → StandsAt (conn_seen S.Store conn) log
         → LeavesOnly (conn_seen S.Store refused.conn) (λ tables. Show tables log)) }
-    ensures idle { IfErr result (λ refused. refused.conn.in_transaction ≡ false) }
     ensures survives { Survives (state S.Store conn) (state_in S.Store result) (λ _. ⊥) }
 {
     match find_bank(&mut conn) {

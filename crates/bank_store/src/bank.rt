@@ -1,18 +1,18 @@
 //! The bank over a connection: its calls, and how a fault brings it down.
 ghost use Rattle.posting_rules.specs.declared.fault.Fault.TheVariants as fault;
-ghost use Rattle.std.specs.Prelude.{◌≡◌, ◌≢◌, ◌≤◌, [], ◌∷◌, List, length, Err, IfOk, OnOk, IfErr, IfSome};
-ghost use Rattle.std.specs.Prelude.{None, Option, false, option_map};
+ghost use Rattle.std.specs.Prelude.{◌≡◌, ◌≢◌, ◌≤◌, ◌≤ℤ◌, [], ◌∷◌, List, length, Err, IfOk, OnOk, IfErr, IfSome};
+ghost use Rattle.std.specs.Prelude.{None, false, pos};
 ghost use Rattle.sqlite.specs.State.{Survives};
 ghost use Rattle.sqlite.specs.Held.{state};
 ghost use Rattle.message_records.specs.Spelling.{reply_spelling};
-ghost use Rattle.posting_rules.specs.Branches.{IsNextBranch, IsLineAbove, line_of};
+ghost use Rattle.posting_rules.specs.Branches.{IsNextBranch, IsLineAbove};
 ghost use Rattle.posting_rules.specs.Commands.{Command, Open, Post, opened_with};
 ghost use Rattle.posting_rules.specs.Counter.{StandsAt, opening_behind};
 ghost use Rattle.posting_rules.specs.Entries.{reply, balance_behind};
 ghost use Rattle.posting_rules.specs.Runs.{posts, replies_to};
 ghost use Rattle.posting_rules.specs.Tables.{Tables};
 
-use crate::laws::range_law;
+use crate::laws::{floor_law, range_law};
 use crate::walks::read_outside;
 use arrayvec::ArrayVec;
 use bank_transactions::{open_branch, post, post_all, read_balance, read_next_branch};
@@ -22,13 +22,13 @@ use message_records::{
 };
 use posting_batch::Batch;
 use posting_rules::{
-    BranchLine, Counter, Fault, LAST_BRANCH, MOST_ACCOUNTS, Opening, RECORDS_PER_BATCH,
+    BranchLine, Counter, Fault, LAST_BRANCH, MAX_ACCOUNTS, Opening, RECORDS_PER_BATCH,
     malformed_reply,
 };
 use sqlite::{Alter, Connection, Error};
 use std::alloc::Global;
 use std::fmt;
-use store_rows::{TableFault, probe_meta};
+use store_rows::{BankTable, TableFault, probe_table};
 
 /// A bank over a connection, with the calls of [`Counter`]. Each call is one transaction, which is committed
 /// before the call answers `Ok` (TPC-B clause 2). Between calls no transaction is open. Amounts are whole
@@ -125,7 +125,7 @@ impl<S: Alter> Bank<S> {
             self.fault = Some(fault);
             return Fault::Store;
         };
-        match probe_meta(&mut self.conn) {
+        match probe_table(&mut self.conn, BankTable::Meta) {
             Ok(_) => {
                 self.fault = Some(fault);
                 Fault::Damaged(rule)
@@ -204,9 +204,11 @@ impl<S: Alter> fmt::Debug for Bank<S> {
 
 /// Each call is one transaction. See [`Bank`] for what holds after each fault.
 impl<S: Alter + Drop> Counter for Bank<S> {
-    ghost use Rattle.posting_rules.specs.declared.rows.BranchRow.{BranchRow};
+    ghost use Rattle.std.specs.Prelude.{Ok};
+    ghost use Rattle.message_records.specs.Reading.{request_of};
+    ghost use Rattle.message_records.specs.Records.{RequestFields};
     ghost use Rattle.bank_transactions.specs.Causes.{IsBefore};
-    ghost use Rattle.bank_transactions.specs.Stored.{IsStoredBalance, IsStoredNext};
+    ghost use Rattle.bank_transactions.specs.Stored.{IsStoredBalance, IsStoredNext, RepliesToStored};
     ghost use Rattle.bank_transactions.specs.Batches.{DecidesNone};
     ghost use Rattle.bank_store.specs.Down.{AnswersBy, IsBankCall, OfDamage, WasBroken, bank_reason};
     ghost use Rattle.bank_store.specs.NoneOrAll.{LeavesNoneOrAll, IsIdle};
@@ -234,6 +236,9 @@ impl<S: Alter + Drop> Counter for Bank<S> {
             (λ log out. out ≡ reply_spelling (reply log bytes.now)) }
         ensures call { IsBankCall S.Store self.old self.new (Post moment bytes.now ∷ []) result }
         ensures frugal { result ≢ Err fault.Memory }
+        // Whatever rows the file holds.
+        ensures stored { IfOk result (λ out. (bank_seen S.Store self.new).honest → (r : RequestFields)
+            → request_of bytes.now ≡ Ok r → RepliesToStored (database_of S.Store self.old) r out) }
     {
         range_law(moment);
         self.up()?;
@@ -276,18 +281,25 @@ impl<S: Alter + Drop> Counter for Bank<S> {
         }
     }
 
-    fn open_branch(&mut self, branch: Branch, count: u32) -> Result<Opening, Fault>
+    fn open_branch(
+        &mut self,
+        branch: Branch,
+        count: u32,
+        floor: Option<Cents>,
+    ) -> Result<Opening, Fault>
         requires branch { branch ≤ LAST_BRANCH }
         requires some { 1 ≤ count }
-        requires few { count ≤ MOST_ACCOUNTS }
+        requires few { count ≤ MAX_ACCOUNTS }
+        requires floor { IfSome floor (λ z. z ≤ℤ pos 0) }
         ensures answer { AnswersBy S.Store self.old self.new result
-            (λ log opening. opening ≡ opening_behind log branch (opened_with count)) }
-        ensures call { IsBankCall S.Store self.old self.new (Open branch count ∷ []) result }
+            (λ log opening. opening ≡ opening_behind log branch (opened_with count floor)) }
+        ensures call { IsBankCall S.Store self.old self.new (Open branch (opened_with count floor) ∷ []) result }
         ensures frugal { result ≢ Err fault.Memory }
     {
         range_law(branch);
+        floor_law(&floor);
         self.up()?;
-        match open_branch(&mut self.conn, branch, count) {
+        match open_branch(&mut self.conn, branch, count, floor) {
             Ok(opening) => Ok(opening),
             Err(fault) => Err(self.go_down(fault)),
         }
@@ -321,15 +333,15 @@ impl<S: Alter + Drop> Counter for Bank<S> {
         ensures call { IsBankCall S.Store self.old self.new [] result }
         ensures frugal { result ≢ Err fault.Memory }
         // Whatever rows the file holds.
-        ensures stored { IfOk result (λ line. (bank_seen S.Store self.new).honest → (row : Option BranchRow)
-            × IsStoredNext (database_of S.Store self.old) after row × (line ≡ option_map line_of row)) }
+        ensures stored { IfOk result (λ line. (bank_seen S.Store self.new).honest
+            → IsStoredNext (database_of S.Store self.old) after line) }
         ensures still { OnOk result ((bank_seen S.Store self.new).honest
             → database_of S.Store self.new ≡ database_of S.Store self.old) }
         ensures broken { IfErr result (λ fault. OfDamage fault (WasBroken S.Store self.old self.new)) }
     {
         self.up()?;
         match read_next_branch(&mut self.conn, after) {
-            Ok(next) => Ok(next.map(BranchLine::from)),
+            Ok(next) => Ok(next),
             Err(fault) => Err(self.go_down(fault)),
         }
     }

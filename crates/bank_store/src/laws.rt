@@ -1,15 +1,15 @@
 //! Facts that hold without anything being done: what a value's type keeps inside, and what a connection that
 //! was just opened stands at. A caller that calls such a function has its clauses at hand.
-ghost use Rattle.std.specs.Prelude.{◌≤◌, List};
+ghost use Rattle.std.specs.Prelude.{◌≤◌, ◌≤ℤ◌, pos, IfSome, List};
 ghost use Rattle.sqlite.specs.Held.{state};
 ghost use Rattle.sqlite.specs.State.{Opens};
-ghost use Rattle.posting_rules.specs.Commands.{Command, AreCommands};
+ghost use Rattle.posting_rules.specs.Commands.{Command, AreCommands, IsFloor};
 ghost use Rattle.posting_rules.specs.Counter.{StandsAt};
 ghost use Rattle.posting_rules.specs.Tables.{Tables, AreTablesOf};
 ghost use Rattle.store_rows.specs.View.{ShowsTrees};
 ghost use Rattle.bank_store.specs.Connections.{conn_seen};
 
-use message_records::Whole;
+use message_records::{Cents, Whole};
 use sqlite::{Alter, Connection};
 use store_rows::trees_show_law;
 
@@ -19,6 +19,16 @@ pub(crate) fn range_law<const LEAST: u64, const MOST: u64>(number: Whole<LEAST, 
     ensures most { number.entry ≤ MOST }
 {
     let _number = number.get();
+}
+
+/// The same of a floor, which is within the limit of a balance.
+pub(crate) fn floor_law(floor: &Option<Cents>)
+    requires { IfSome floor.now (λ z. z ≤ℤ pos 0) }
+    ensures { IfSome floor.now IsFloor }
+{
+    if let Some(lowest) = floor {
+        let _lowest = lowest.get();
+    }
 }
 
 /// What a connection shows as it is opened, a stop leaves too: it stands at whatever log its trees show.

@@ -27,7 +27,7 @@
 //!         Ok(bank) => bank,
 //!         Err(Refused { fault, conn: _conn }) => return Err(fault.into()),
 //!     };
-//!     bank.open_branch(Branch::new(1).unwrap(), 3)?;
+//!     bank.open_branch(Branch::new(1).unwrap(), 3, None)?;
 //!     let request = Request::new(
 //!         Account::new(1).unwrap(),
 //!         Teller::new(1).unwrap(),
@@ -73,7 +73,7 @@ pub use message_records::{
     decode_reply, decode_request, encode_request,
 };
 pub use posting_rules::{
-    BranchLine, Counter, Fault, LAST_BRANCH, MAX_DECIDED, MOST_ACCOUNTS, OpenFault, Opening,
+    BranchLine, Counter, Fault, LAST_BRANCH, MAX_ACCOUNTS, MAX_DECIDED, OpenFault, Opening,
     Ordinal, RECORDS_PER_BATCH, Rule,
 };
 pub use refused::Refused;

@@ -2,17 +2,14 @@
 ghost use Rattle.std.specs.Prelude.{◌≡◌, ◌∷◌, IfErr, false, map};
 ghost use Rattle.sqlite.specs.State.{HasCleanDisk, Survives};
 ghost use Rattle.sqlite.specs.Held.{state};
-ghost use Rattle.store_rows.specs.Calls.{Probes};
-ghost use Rattle.store_rows.specs.Probes.{all_probes};
+ghost use Rattle.store_rows.specs.Probes.{all_probes, probe_of};
 ghost use Rattle.bank_store.specs.StoreFaults.{KnowsCause};
-ghost use Rattle.bank_store.specs.TablePresence.{joined, presence_of, probe_of, TellsPresence};
+ghost use Rattle.bank_store.specs.TablePresence.{joined, presence_of, TellsPresence};
 
 use bank_transactions::note_settled;
 use posting_rules::OpenFault;
-use sqlite::{Alter, Connection, Error};
-use store_rows::{
-    probe_accounts, probe_branches, probe_history, probe_meta, probe_requests, probe_tellers,
-};
+use sqlite::{Alter, Connection};
+use store_rows::{BEHIND_META, BankTable, probe_table};
 
 /// How many of some tables are there.
 #[derive(Clone, Copy)]
@@ -44,31 +41,6 @@ impl Presence {
     }
 }
 
-/// One of a bank's tables.
-#[derive(Clone, Copy)]
-pub(crate) enum BankTable {
-    Meta,
-    Branch,
-    Teller,
-    Account,
-    History,
-    Request,
-}
-
-// Whether the probe of the table is understood.
-fn probe<S: Alter>(conn: &mut Connection<S>, table: BankTable) -> Result<bool, Error>
-    ensures { Probes S.Store conn.old conn.new (probe_of table) result }
-{
-    match table {
-        BankTable::Meta => probe_meta(conn),
-        BankTable::Branch => probe_branches(conn),
-        BankTable::Teller => probe_tellers(conn),
-        BankTable::Account => probe_accounts(conn),
-        BankTable::History => probe_history(conn),
-        BankTable::Request => probe_requests(conn),
-    }
-}
-
 /// How many there are of a table and of others.
 pub(crate) fn count_tables<S: Alter>(
     conn: &mut Connection<S>,
@@ -84,12 +56,12 @@ pub(crate) fn count_tables<S: Alter>(
     ensures survives { Survives (state S.Store conn.old) (state S.Store conn.new) (λ _. ⊥) }
 {
     note_settled(conn);
-    let Ok(is_there) = probe(conn, first) else {
+    let Ok(is_there) = probe_table(conn, first) else {
         return Err(OpenFault::Store);
     };
     let mut there = Presence::of(is_there);
     for table in others {
-        let Ok(is_there) = probe(conn, *table) else {
+        let Ok(is_there) = probe_table(conn, *table) else {
             return Err(OpenFault::Store);
         };
         there = there.and(Presence::of(is_there));
@@ -107,12 +79,5 @@ pub(crate) fn tables_there<S: Alter>(conn: &mut Connection<S>) -> Result<Presenc
     ensures mode { conn.new.in_transaction ≡ false }
     ensures survives { Survives (state S.Store conn.old) (state S.Store conn.new) (λ _. ⊥) }
 {
-    let others = [
-        BankTable::Branch,
-        BankTable::Teller,
-        BankTable::Account,
-        BankTable::History,
-        BankTable::Request,
-    ];
-    count_tables(conn, BankTable::Meta, &others)
+    count_tables(conn, BankTable::Meta, BEHIND_META)
 }

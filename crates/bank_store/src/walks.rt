@@ -123,9 +123,9 @@ pub(crate) fn read_outside<S: Alter, R: WalkedRow>(
 }
 
 impl<'bank, S: Alter, R: WalkedRow> Walk<'bank, S, R> {
-    ghost use Rattle.bank_store.specs.Seen.{database_of, fault_of};
-    ghost use Rattle.bank_store.specs.Walking.{ComesFrom, GivesFrom, HasToldFault, IsEnded, IsToldFault};
-    ghost use Rattle.bank_store.specs.Walking.{Steps};
+    ghost use Rattle.bank_store.specs.Seen.{database_of};
+    ghost use Rattle.bank_store.specs.Walking.{ComesFrom, GivesFrom, GoesOn, HasToldFault, IsToldFault};
+    ghost use Rattle.bank_store.specs.Walking.{LeavesLent, Steps};
     ghost use Rattle.bank_store.specs.Walking.{StoreFailed, items_to_come, lent, lent_state, loan_of};
     ghost use Rattle.bank_store.specs.declared.walks.Stage.TheVariants.{Going};
 
@@ -160,7 +160,7 @@ impl<'bank, S: Alter, R: WalkedRow> Walk<'bank, S, R> {
     // Reads ahead, if all that was read was given.
     fn refill(&mut self) -> Result<(), Fault>
         requires { self.old.stage ≡ Going }
-        ensures same_reference { loan_of self.new ≡ loan_of self.old }
+        ensures bank { LeavesLent S.Store self.old self.new result }
         ensures told { HasCleanDisk (lent_state S.Store self.new) → (all : List R.WalkedRow.Item)
             → R.WalkedRow.HasItems (lent_state S.Store self.old).now all
             → MatchResult result
@@ -172,12 +172,6 @@ impl<'bank, S: Alter, R: WalkedRow> Walk<'bank, S, R> {
         ensures rises { (k : ℤ) → ComesFrom (λ r. R.WalkedRow.key (R.WalkedRow.item r)) k self.old
             → OnOk result (ComesFrom (λ r. R.WalkedRow.key (R.WalkedRow.item r)) k self.new) }
         ensures rest { OnOk result (length self.new.rows.items ≤ self.new.given → self.new.rest ≡ None) }
-        ensures same { HasCleanDisk (lent_state S.Store self.new)
-            → OnOk result (IsStill (lent_state S.Store self.old) (lent_state S.Store self.new)) }
-        ensures undone { HasCleanDisk (lent_state S.Store self.new)
-            → IsUntouchedIfOpen (lent_state S.Store self.old) (lent_state S.Store self.new) }
-        ensures up { self.new.bank.now.fault ≡ self.old.bank.now.fault }
-        ensures survives { Survives (lent_state S.Store self.old) (lent_state S.Store self.new) (λ _. ⊥) }
         ensures going { OnOk result (self.new.stage ≡ Going) }
         ensures failed { IfErr result (λ f. HasToldFault self.new × (f ≢ fault.Down) × (f ≢ fault.Memory)) }
     {
@@ -211,7 +205,7 @@ impl<'bank, S: Alter, R: WalkedRow> Walk<'bank, S, R> {
     /// - [`Fault::Damaged`] with `Rule::Value`: the next row has a number out of its range.
     /// - [`Fault::Down`]: this walk has ended with a fault.
     pub fn next(&mut self) -> Result<Option<R>, Fault>
-        ensures same_reference { loan_of self.new ≡ loan_of self.old }
+        ensures bank { LeavesLent S.Store self.old self.new result }
         ensures told { HasCleanDisk (lent_state S.Store self.new) → (all : List R.WalkedRow.Item)
             → R.WalkedRow.HasItems (lent_state S.Store self.old).now all
             → Steps R.WalkedRow.item R.WalkedRow.is_broken
@@ -224,19 +218,8 @@ impl<'bank, S: Alter, R: WalkedRow> Walk<'bank, S, R> {
         // Each key is above those before it.
         ensures rises { (k : ℤ) → ComesFrom (λ r. R.WalkedRow.key (R.WalkedRow.item r)) k self.old
             → IfOk result (λ row. GivesFrom (λ r. R.WalkedRow.key (R.WalkedRow.item r)) k self.new row) }
-        ensures same { HasCleanDisk (lent_state S.Store self.new)
-            → OnOk result (IsStill (lent_state S.Store self.old) (lent_state S.Store self.new)) }
-        ensures undone { HasCleanDisk (lent_state S.Store self.new)
-            → IsUntouchedIfOpen (lent_state S.Store self.old) (lent_state S.Store self.new) }
-        ensures up { fault_of (lent self.new) ≡ fault_of (lent self.old) }
-        ensures survives { Survives (lent_state S.Store self.old) (lent_state S.Store self.new) (λ _. ⊥) }
-        ensures ended { result ≡ Ok None → IsEnded self.new }
-        ensures again { IsEnded self.old → (result ≡ Ok None) × (self.new ≡ self.old) }
-        ensures failed { IfErr result (λ _. HasToldFault self.new) }
-        ensures going { OnOk result (HasToldFault self.new → ⊥) }
+        ensures stage { GoesOn self.old self.new result }
         ensures frugal { result ≢ Err fault.Memory }
-        ensures down { (HasToldFault self.old → IsErrOf result fault.Down)
-            × (IsErrOf result fault.Down → HasToldFault self.old × (self.new ≡ self.old)) }
     {
         match self.stage {
             Stage::Failed => return Err(Fault::Down),

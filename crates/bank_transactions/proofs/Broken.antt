@@ -1,34 +1,37 @@
 -- What is told to be damaged, and that the rows that the file holds break that rule.
-use Rattle.std.proofs.Common.{◌≡◌, ◌≤◌, ◌<◌, ℕ, ℤ, pos, Bool, true, find, List, Option, Some, Ok, Err, refl}
+use Rattle.std.proofs.Common.{◌≡◌, ◌≤◌, ◌<◌, ◌≤ℤ◌, ℕ, ℤ, pos, Bool, true, find, List, Option, Some, Ok, Err, refl}
 use Rattle.std.proofs.Common.{sym, ap, subst, ◌∙◌, arith}
 use Rattle.std.specs.Prelude.{nat_abs}
 use Rattle.std.proofs.lemmas.Int.{ints}
 use Rattle.sqlite.specs.Effect.{Database}
 use Rattle.sqlite.specs.State.{State}
-use Rattle.message_records.specs.declared.limits.TheConstants.{MAX_DELTA}
+use Rattle.message_records.specs.declared.limits.TheConstants.{MAX_ACCOUNT, MAX_DELTA}
+use Rattle.posting_rules.specs.Numbering.{branch_of_account}
 use Rattle.posting_rules.specs.declared.fault.Rule.{Rule}
 use Rattle.posting_rules.specs.declared.fault.Rule.TheVariants.{Meta, Teller, Account, Balance, Request}
-use Rattle.posting_rules.specs.declared.fault.Rule.TheVariants.{Value, Key}
-use Rattle.posting_rules.specs.declared.limits.TheConstants.{LAST_BRANCH, MAX_DECIDED, MOST_ACCOUNTS}
+use Rattle.posting_rules.specs.declared.fault.Rule.TheVariants.{Value, Key, Floor}
+use Rattle.posting_rules.specs.declared.limits.TheConstants.{LAST_BRANCH, MAX_DECIDED, MAX_ACCOUNTS}
 use Rattle.posting_rules.specs.declared.rows.BranchRow.{BranchRow}
+use Rattle.posting_rules.specs.declared.rows.FloorRow.{FloorRow}
 use Rattle.posting_rules.specs.declared.rows.RequestRow.{RequestRow}
 use Rattle.sql_meanings.specs.Entries.{Entry, has_key, has_two, is_above}
 use Rattle.std.specs.Ordering.{int_cmp, is_gt}
 use Rattle.sql_meanings.proofs.Changes.{found_all, found_key, found_passes}
 use Rattle.store_rows.specs.Calls.{OfMeta}
-use Rattle.store_rows.specs.Columns.{meta_in}
+use Rattle.store_rows.specs.Columns.{meta_in, number_at}
 use Rattle.store_rows.specs.Holders.{entry_under}
 use Rattle.store_rows.specs.Outcomes.{Finds, Never}
 use Rattle.store_rows.specs.Rules.{HoldsBank, IsBroken, KeepsRule, OfRows, StoredRows, HasDecided}
-use Rattle.store_rows.specs.Rules.{BranchKeeps, TellerKeeps, AccountKeeps, RequestKeeps, row_under}
+use Rattle.store_rows.specs.Rules.{BranchKeeps, TellerKeeps, AccountKeeps, FloorKeeps, RequestKeeps, row_under}
 use Rattle.store_rows.specs.BankTables as bank
-use Rattle.store_rows.specs.Stored.{BalanceKeeps, FindsStored, IsBalance, IsBranch, IsSameRequest}
+use Rattle.store_rows.specs.Stored.{BalanceKeeps, FindsStored, IsBalance, IsBranch, IsFloorRow, IsSameRequest}
 use Rattle.store_rows.specs.View.{HoldsRows}
 use Rattle.store_rows.specs.declared.fault.TableFault.{TableFault}
 use Rattle.store_rows.specs.declared.fault.TableFault.TheVariants.{Sqlite, Damaged}
 use Rattle.store_rows.specs.declared.holders.Member.{Member}
 use Rattle.store_rows.specs.declared.holders.Member.TheVariants as member
 use Rattle.store_rows.specs.declared.metas.StoredMeta.{StoredMeta}
+use Rattle.bank_transactions.specs.Stored.{IsStoredFloor}
 use Rattle.store_rows.proofs.StoredRows.{holds_list}
 
 -- damage is of the rows of this database
@@ -43,17 +46,18 @@ pub branch_keeps : (rule : Rule) (rows : StoredRows) → KeepsRule rule rows →
 branch_keeps Meta rows keeps p r found = tt
 branch_keeps Teller rows keeps p r found = tt
 branch_keeps Account rows keeps p r found = tt
-branch_keeps Balance rows keeps p r found = found_all (BranchKeeps Balance) p rows.branches r keeps.0 found
+branch_keeps Balance rows keeps p r found = found_all (BranchKeeps Balance) p rows.branches r keeps.0.0 found
 branch_keeps Request rows keeps p r found = tt
 branch_keeps Value rows keeps p r found = found_all (BranchKeeps Value) p rows.branches r keeps.0 found
 branch_keeps Key rows keeps p r found = tt
+branch_keeps Floor rows keeps p r found = tt
 
 balance_keeps : (m : Member) (rows : StoredRows) → KeepsRule Balance rows → (r : Entry)
     → entry_under m rows ≡ Some r → BalanceKeeps Balance r
 balance_keeps (member.Account n) rows keeps r found =
-    found_all (AccountKeeps Balance) (has_key (pos n)) rows.accounts r keeps.2 found
+    found_all (AccountKeeps Balance) (has_key (pos n)) rows.accounts r keeps.0.2 found
 balance_keeps (member.Teller n) rows keeps r found =
-    found_all (TellerKeeps Balance) (has_key (pos n)) rows.tellers r keeps.1 found
+    found_all (TellerKeeps Balance) (has_key (pos n)) rows.tellers r keeps.0.1 found
 
 member_keeps : (m : Member) (rule : Rule) (rows : StoredRows) → KeepsRule rule rows → (r : Entry)
     → entry_under m rows ≡ Some r → BalanceKeeps rule r
@@ -64,6 +68,7 @@ member_keeps m Balance rows keeps r found = balance_keeps m rows keeps r found
 member_keeps m Request rows keeps r found = tt
 member_keeps m Value rows keeps r found = tt
 member_keeps m Key rows keeps r found = tt
+member_keeps m Floor rows keeps r found = tt
 
 request_keeps : (rule : Rule) (rows : StoredRows) → KeepsRule rule rows → (p : Entry → Bool) (r : Entry)
     → find p rows.requests ≡ Some r → RequestKeeps rule r
@@ -74,6 +79,18 @@ request_keeps Balance rows keeps p r found = tt
 request_keeps Request rows keeps p r found = found_all (RequestKeeps Request) p rows.requests r keeps.4 found
 request_keeps Value rows keeps p r found = found_all (RequestKeeps Value) p rows.requests r keeps.4 found
 request_keeps Key rows keeps p r found = tt
+request_keeps Floor rows keeps p r found = tt
+
+floor_keeps : (rule : Rule) (rows : StoredRows) → KeepsRule rule rows → (p : Entry → Bool) (r : Entry)
+    → find p rows.floors ≡ Some r → FloorKeeps rule r
+floor_keeps Meta rows keeps p r found = tt
+floor_keeps Teller rows keeps p r found = tt
+floor_keeps Account rows keeps p r found = tt
+floor_keeps Balance rows keeps p r found = tt
+floor_keeps Request rows keeps p r found = tt
+floor_keeps Value rows keeps p r found = found_all (FloorKeeps Value) p rows.floors r keeps.5 found
+floor_keeps Key rows keeps p r found = tt
+floor_keeps Floor rows keeps p r found = found_all (FloorKeeps Floor) p rows.floors r keeps.5 found
 
 -- ---- a row that doesn't
 
@@ -105,6 +122,32 @@ pub member_broken : (db : Database) (m : Member) (fault : TableFault)
     → IsOf db fault
 member_broken db m = find_broken db (entry_under m) IsBalance BalanceKeeps (member_keeps m)
 
+pub floor_broken : (db : Database) (n : ℕ) (fault : TableFault)
+    → OfRows (λ rows. FindsStored (row_under rows.floors n) IsFloorRow FloorKeeps (Err fault)) db
+    → IsOf db fault
+floor_broken db n =
+    find_broken db (λ rows. row_under rows.floors n) IsFloorRow FloorKeeps
+    (λ rule rows keeps. floor_keeps rule rows keeps (has_key (pos n)))
+
+-- a floor above zero
+pub above_zero_broken : (db : Database) (n : ℕ) (f : FloorRow)
+    → OfRows (λ rows. FindsStored (row_under rows.floors n) IsFloorRow FloorKeeps (Ok (Some f))) db
+    → (f.lowest ≤ℤ pos 0 → ⊥) → IsBroken Floor db
+above_zero_broken db n f finds above = λ rows has keeps.
+    let it = finds rows has in
+    let floor = floor_keeps Floor rows keeps (has_key (pos n)) it.0 it.1 in
+    above (subst (λ z. z ≤ℤ pos 0) it.2.1 floor.0)
+
+-- an account below the floor of its branch
+pub below_broken : (db : Database) (n : ℕ) (balance lowest : ℤ) → 1 ≤ n → n ≤ MAX_ACCOUNT
+    → OfRows (λ rows. FindsStored (row_under rows.accounts n) IsBalance BalanceKeeps (Ok (Some balance))) db
+    → IsStoredFloor db (branch_of_account n) (Some lowest) → (lowest ≤ℤ balance → ⊥) → IsBroken Balance db
+below_broken db n balance lowest some most finds floor below = λ rows has keeps.
+    let account = finds rows has in
+    let its = floor rows has in
+    let above = keeps.1 n some most account.0 its.0 account.1 its.1 in
+    below (subst (λ z. lowest ≤ℤ z) account.2 (subst (λ z. z ≤ℤ number_at 0 account.0) its.2 above))
+
 pub request_broken : (db : Database) (a b : ℕ) (fault : TableFault)
     → OfRows (λ rows. FindsStored (find (has_two (pos a) (pos b)) rows.requests) IsSameRequest RequestKeeps
     (Err fault)) db → IsOf db fault
@@ -129,7 +172,7 @@ same_number a b h = cc
 
 -- a branch that was read has a number and a count within their ranges
 pub openable : (b : BranchRow) (r : Entry) → IsBranch b r → BranchKeeps Value r
-    → (b.branch ≤ LAST_BRANCH) × (1 ≤ b.accounts) × (b.accounts ≤ MOST_ACCOUNTS)
+    → (b.branch ≤ LAST_BRANCH) × (1 ≤ b.accounts) × (b.accounts ≤ MAX_ACCOUNTS)
 openable b r is keeps =
     let number : b.branch ≡ keeps.0.0 = same_number _ _ (sym is.0 ∙ keeps.0.1) in
     let count : b.accounts ≡ keeps.1.0 = same_number _ _ (sym is.1 ∙ keeps.1.1) in
@@ -140,14 +183,14 @@ openable b r is keeps =
 
 pub range_broken : (db : Database) (p : Entry → Bool) (b : BranchRow)
     → OfRows (λ rows. FindsStored (find p rows.branches) IsBranch BranchKeeps (Ok (Some b))) db
-    → ((b.branch ≤ LAST_BRANCH) × (1 ≤ b.accounts) × (b.accounts ≤ MOST_ACCOUNTS) → ⊥) → IsBroken Value db
+    → ((b.branch ≤ LAST_BRANCH) × (1 ≤ b.accounts) × (b.accounts ≤ MAX_ACCOUNTS) → ⊥) → IsBroken Value db
 range_broken db p b finds beyond = λ rows has keeps.
     let it = finds rows has in beyond (openable b it.0 it.2 (branch_keeps Value rows keeps p it.0 it.1))
 
 -- the same of the branch under a number
 pub openable_under : (es : List Entry) (n : ℕ) (b : BranchRow) (r : Entry) → row_under es n ≡ Some r
     → IsBranch b r → BranchKeeps Value r
-    → (n ≤ LAST_BRANCH) × (1 ≤ b.accounts) × (b.accounts ≤ MOST_ACCOUNTS)
+    → (n ≤ LAST_BRANCH) × (1 ≤ b.accounts) × (b.accounts ≤ MAX_ACCOUNTS)
 openable_under es n b r found is keeps =
     let same : b.branch ≡ n = same_number _ _ (sym is.0 ∙ found_key (pos n) es r found) in
     let it = openable b r is keeps in
@@ -155,7 +198,7 @@ openable_under es n b r found is keeps =
 
 pub count_broken : (db : Database) (n : ℕ) (b : BranchRow)
     → OfRows (λ rows. FindsStored (row_under rows.branches n) IsBranch BranchKeeps (Ok (Some b))) db
-    → ((n ≤ LAST_BRANCH) × (1 ≤ b.accounts) × (b.accounts ≤ MOST_ACCOUNTS) → ⊥) → IsBroken Value db
+    → ((n ≤ LAST_BRANCH) × (1 ≤ b.accounts) × (b.accounts ≤ MAX_ACCOUNTS) → ⊥) → IsBroken Value db
 count_broken db n b finds beyond = λ rows has keeps.
     let it = finds rows has in
     beyond (openable_under rows.branches n b it.0 it.1 it.2

@@ -31,7 +31,7 @@ module _ (rows : StoredRows) (n : ℕ) where
   Has branch = FindsStored (branch_under rows (branch_of_account n)) IsBranch BranchKeeps (Ok branch)
 
   pub fits : (balance : Option ℤ) (branch : Option BranchRow) → Finds balance → Has branch
-      → is_some balance ≡ is_within (place_of_account n) (option_map terms_of_branch branch)
+      → is_some balance ≡ is_within (place_of_account n) (option_map (terms_of_branch None) branch)
       → AccountFits rows n
   fits None None finds has is = (λ there. absurd cc, λ within. absurd (let found = within.1 in cc))
   fits None (Some b) finds has is = (

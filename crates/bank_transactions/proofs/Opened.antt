@@ -2,16 +2,16 @@
 use Rattle.std.proofs.Common.{◌≡◌, ◌+◌, ◌<◌, ◌≤◌, ℕ, zero, suc, None, false, sym, ap, subst, ◌∙◌}
 use Rattle.std.specs.Prelude.{is_some, pos}
 use Rattle.posting_rules.specs.Changes.{with_branch, with_teller, with_tellers, with_account, with_accounts}
-use Rattle.posting_rules.specs.Changes.{new_teller, new_account, tables_opened}
+use Rattle.posting_rules.specs.Changes.{new_teller, new_account}
 use Rattle.posting_rules.specs.Sound.{AreSound}
 use Rattle.posting_rules.specs.Commands.{opened_with}
 use Rattle.posting_rules.specs.Numbering.{first_teller, first_account}
 use Rattle.posting_rules.specs.Tables.{Tables, row_at, branch_key, branch_row_of}
 use Rattle.posting_rules.proofs.Stepping.{no_more_tellers, no_more_accounts, one_more_teller}
 use Rattle.posting_rules.proofs.Stepping.{one_more_account, opening_teller_is_free, opening_account_is_free}
-use Rattle.bank_transactions.specs.NewRows.{is_taken, with_new_rows}
+use Rattle.bank_transactions.specs.NewRows.{is_taken, tables_staffed, with_new_rows}
 use Rattle.bank_transactions.specs.declared.new_branch.NewRows.TheVariants.{Tellers, Accounts}
-use Rattle.posting_rules.specs.declared.limits.TheConstants.{MOST_ACCOUNTS}
+use Rattle.posting_rules.specs.declared.limits.TheConstants.{MAX_ACCOUNTS}
 
 tellers_are : (first count : ℕ) (t : Tables) → with_new_rows Tellers first count t
     ≡ with_tellers first count t
@@ -30,14 +30,14 @@ accounts_are first (suc count) t =
 module _ (t : Tables) (b count teller account : ℕ) (from : teller ≡ first_teller b)
     (start : account ≡ first_account b) where
   abbrev branched : Tables
-  branched = with_branch (branch_row_of b (pos 0) (opened_with count)) t
+  branched = with_branch (branch_row_of b (pos 0) (opened_with count None)) t
 
   staffed : with_new_rows Tellers teller 10 branched ≡ with_tellers (first_teller b) 10 branched
   staffed = ap (λ (first : ℕ). with_new_rows Tellers first 10 branched) from
       ∙ tellers_are (first_teller b) 10 branched
 
   pub opened_is : (n : ℕ) → n ≡ count
-      → with_new_rows Accounts account n (with_new_rows Tellers teller 10 branched) ≡ tables_opened t b count
+      → with_new_rows Accounts account n (with_new_rows Tellers teller 10 branched) ≡ tables_staffed t b count
   opened_is n wide =
       ap (λ (first : ℕ). with_new_rows Accounts first n (with_new_rows Tellers teller 10 branched)) start
       ∙ ap (λ (m : ℕ). with_new_rows Accounts (first_account b) m
@@ -52,9 +52,9 @@ module _ (t : Tables) (b count teller account : ℕ) (from : teller ≡ first_te
         subst (λ (first : ℕ). is_taken Tellers (first + n) (with_new_rows Tellers first n branched) ≡ false)
         (sym from)
         (ap (is_taken Tellers (first_teller b + n)) (tellers_are (first_teller b) n branched)
-        ∙ ap is_some (opening_teller_is_free t b count n sound above none lt))
+        ∙ ap is_some (opening_teller_is_free t b (opened_with count None) n sound above none lt))
 
-    pub next_account : (n : ℕ) → count ≤ MOST_ACCOUNTS → n < count
+    pub next_account : (n : ℕ) → count ≤ MAX_ACCOUNTS → n < count
         → is_taken Accounts (account + n)
         (with_new_rows Accounts account n (with_new_rows Tellers teller 10 branched)) ≡ false
     next_account n few lt =
@@ -64,4 +64,4 @@ module _ (t : Tables) (b count teller account : ℕ) (from : teller ≡ first_te
         (with_new_rows Accounts (first_account b) n u)) staffed
         ∙ ap (is_taken Accounts (first_account b + n))
         (accounts_are (first_account b) n (with_tellers (first_teller b) 10 branched))
-        ∙ ap is_some (opening_account_is_free t b count 10 n sound above few none lt))
+        ∙ ap is_some (opening_account_is_free t b (opened_with count None) 10 n sound above few none lt))

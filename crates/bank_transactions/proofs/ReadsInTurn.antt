@@ -165,6 +165,17 @@ reads_as put reads same = record {
   survives = reads.survives;
 }
 
+-- an answer that follows from what was found
+pub reads_told : {S X Y : Type 0} {g : Ghosts S} {old new : Transaction S} {w : Tables → X} {w' : Tables → Y}
+    {x : X} {y : Y} → Reads g old new w (Ok x) → ((t : Tables) → x ≡ w t → y ≡ w' t)
+    → Reads g old new w' (Ok y)
+reads_told reads tells = record {
+  same_reference = reads.same_reference;
+  told = λ clean t shows sound. let it = reads.told clean t shows sound in (tells t it.0, it.1);
+  kept = reads.kept;
+  survives = reads.survives;
+}
+
 still_fails : (old mid new : State) (e : TableFault) → IsLookedUp {X = Unit {0}} mid new tt (Err e)
     → IsLookedUp {X = Unit {0}} old new tt (Err e)
 still_fails old mid new (Sqlite e) it = tt

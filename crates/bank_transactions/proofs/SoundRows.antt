@@ -1,5 +1,5 @@
 -- The rows of undamaged tables are sound: nothing that is read of them is told to be damaged.
-use Rattle.std.proofs.Common.{◌≡◌, ◌⊎◌, ℕ, suc, ◌≤◌, Bool, true, false, leb, List, [], ◌∷◌, Option, Some}
+use Rattle.std.proofs.Common.{◌≡◌, ◌⊎◌, ℕ, suc, ◌≤◌, ◌≤ℤ◌, ◌∙◌, ap, Bool, true, false, leb, List, [], ◌∷◌, Option, Some}
 use Rattle.std.proofs.Common.{None, Err, refl, sym, subst, arith, inl, inr}
 use Rattle.std.specs.Prelude.{ℤ, nat_abs, nat_eq, IsSome, is_some, ◌&&◌}
 use Rattle.std.specs.List.{find, Contains}
@@ -12,15 +12,17 @@ use Rattle.posting_rules.specs.declared.rows.BranchRow.{BranchRow}
 use Rattle.posting_rules.specs.declared.rows.RequestRow.{RequestRow}
 use Rattle.posting_rules.specs.declared.rows.TellerRow.{TellerRow}
 use Rattle.posting_rules.specs.declared.rows.AccountRow.{AccountRow}
+use Rattle.posting_rules.specs.declared.rows.FloorRow.{FloorRow}
 use Rattle.posting_rules.specs.declared.fault.Rule.{Rule}
 use Rattle.posting_rules.specs.Damage.{IsUndamaged, IsSoundBranch, IsSoundTeller, IsSoundAccount}
-use Rattle.posting_rules.specs.Damage.{IsSoundRequest}
-use Rattle.posting_rules.specs.LookUps.{balance_of_account, balance_of_teller}
-use Rattle.posting_rules.specs.Tables.{Tables, row_at, branch_key, teller_key, account_key}
+use Rattle.posting_rules.specs.Damage.{IsSoundFloor, IsSoundRequest}
+use Rattle.posting_rules.specs.LookUps.{account_balance_in, balance_of_account, balance_of_teller, floor_in}
+use Rattle.posting_rules.specs.Numbering.{branch_of_account}
+use Rattle.posting_rules.specs.Tables.{Tables, row_at, branch_key, teller_key, account_key, floor_key}
 use Rattle.posting_rules.proofs.Keyed.{by_test, found_passes}
 use Rattle.store_rows.specs.Columns.{request_in}
 use Rattle.store_rows.specs.Holders.{balance_in}
-use Rattle.store_rows.specs.Outcomes.{Finds, BreaksBalance, BreaksBranch, BreaksRequest, CanBeKept}
+use Rattle.store_rows.specs.Outcomes.{Finds, BreaksBalance, BreaksBranch, BreaksFloor, BreaksRequest, CanBeKept}
 use Rattle.store_rows.specs.declared.fault.TableFault.{TableFault}
 use Rattle.store_rows.specs.declared.fault.TableFault.TheVariants.{Sqlite, Damaged}
 use Rattle.store_rows.specs.declared.holders.Member.{Member}
@@ -111,6 +113,58 @@ sound_unbroken r broken is breaks =
 pub branch_unbroken : (t : Tables) (n : ℕ) (r : BranchRow) (broken : Rule) → IsUndamaged t
     → row_at branch_key t.branches n ≡ Some r → BreaksBranch r broken → ⊥
 branch_unbroken t n r broken sound e = sound_unbroken r broken (branch_is t n r sound e).1
+
+-- ---- floors
+
+pub floor_is : (t : Tables) (n : ℕ) (r : FloorRow) → IsUndamaged t → row_at floor_key t.floors n ≡ Some r
+    → (r.branch ≡ n) × IsSoundFloor r
+floor_is t n r sound e = (
+  key_of_found floor_key t.floors n r e,
+  sound.each_floor r (found_within (λ x. nat_eq x.branch n) t.floors r e),
+)
+
+-- no floor is of a branch with a number outside those of branches
+pub no_floor_beyond : (t : Tables) (n : ℕ) → IsUndamaged t → whole_within 1 MAX_BRANCH n ≡ None → None
+    ≡ row_at floor_key t.floors n
+no_floor_beyond t n sound e =
+    elim (by_option (row_at floor_key t.floors n)) [
+      | inl none ↦ sym none
+      | inr some ↦ absurd (let is = floor_is t n some.0 sound some.1 in
+          let same = is.0 in
+          let low = is.1.some in
+          let high = is.1.most in
+          not_outside 1 MAX_BRANCH n (rw (← same) low)
+          (let le : some.0.branch ≤ MAX_BRANCH = omega arith in rw (← same) le) e)
+    ]
+
+-- a floor in its ranges breaks no rule
+pub floor_unbroken : (t : Tables) (n : ℕ) (r : FloorRow) (broken : Rule) → IsUndamaged t
+    → row_at floor_key t.floors n ≡ Some r → BreaksFloor r broken → ⊥
+floor_unbroken t n r broken sound e breaks =
+    let is = (floor_is t n r sound e).1 in
+    let low = is.some in
+    let high = is.most in
+    elim breaks [
+      | inl number ↦ not_outside 1 MAX_BRANCH r.branch low (omega arith) number.1
+      | inr amount ↦ not_beyond MAX_BALANCE r.lowest is.lowest.1 amount.1
+    ]
+
+-- no account is below its floor
+pub not_below : (t : Tables) (n : ℕ) (balance lowest : ℤ) → IsUndamaged t
+    → Some balance ≡ account_balance_in t n → Some lowest ≡ floor_in t (branch_of_account n)
+    → lowest ≤ℤ balance
+not_below t n balance lowest sound has floor =
+    elim (by_option (row_at account_key t.accounts n)) [
+      | inl none ↦ absurd (let h = rw none at has in cc)
+      | inr some ↦
+          let r = some.0 in
+          let same = key_of_found account_key t.accounts n r some.1 in
+          let is : balance ≡ r.balance = (let h = rw some.1 at has in cc) in
+          let above = sound.above r (found_within (λ x. nat_eq x.account n) t.accounts r some.1) in
+          let there : floor_in t (branch_of_account r.account) ≡ Some lowest =
+          ap (λ k. floor_in t (branch_of_account k)) same ∙ sym floor in
+          rw is (rw there at above)
+    ]
 
 -- ---- balances
 

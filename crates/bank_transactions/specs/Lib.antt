@@ -2,8 +2,10 @@
 pub mod Causes
 pub mod Doing
 pub mod NewRows
+pub mod NextBranch
 pub mod Stored
 pub mod Filling
+pub mod Floors
 pub mod Writing
 pub mod InTurn
 pub mod Batches

@@ -1,7 +1,10 @@
 -- The rows that come with a branch, one by one.
-use Rattle.std.specs.Prelude.{ℕ, zero, suc, ◌+◌, Bool, is_some}
-use Rattle.posting_rules.specs.Changes.{with_teller, with_account, new_teller, new_account}
-use Rattle.posting_rules.specs.Tables.{Tables, row_at, teller_key, account_key}
+use Rattle.std.specs.Prelude.{ℕ, zero, suc, ◌+◌, pos, Bool, None, is_some}
+use Rattle.posting_rules.specs.Changes.{with_account, with_accounts, with_branch, with_teller, with_tellers, new_teller, new_account}
+use Rattle.posting_rules.specs.Commands.{opened_with}
+use Rattle.posting_rules.specs.Numbering.{first_account, first_teller}
+use Rattle.posting_rules.specs.Tables.{Tables, branch_row_of, row_at, teller_key, account_key}
+use Rattle.posting_rules.specs.declared.limits.TheConstants.{TELLERS_PER_BRANCH}
 use Rattle.bank_transactions.specs.declared.new_branch.NewRows.{NewRows}
 use Rattle.bank_transactions.specs.declared.new_branch.NewRows.TheVariants.{Tellers, Accounts}
 use Rattle.message_records.specs.declared.limits.TheConstants.{MAX_ACCOUNT, MAX_TELLER}
@@ -20,6 +23,11 @@ is_taken Accounts n t = is_some (row_at account_key t.accounts n)
 abbrev pub with_new : NewRows → ℕ → Tables → Tables
 with_new Tellers n t = with_teller (new_teller n) t
 with_new Accounts n t = with_account (new_account n) t
+
+-- a branch more, with its tellers and its accounts
+abbrev pub tables_staffed : Tables → ℕ → ℕ → Tables
+tables_staffed t b count = with_accounts (first_account b) count
+    (with_tellers (first_teller b) TELLERS_PER_BRANCH (with_branch (branch_row_of b (pos 0) (opened_with count None)) t))
 
 -- so many more, from this number on
 abbrev pub with_new_rows : NewRows → ℕ → ℕ → Tables → Tables

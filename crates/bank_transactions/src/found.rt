@@ -9,11 +9,12 @@ ghost use Rattle.sqlite.specs.State.{HasCleanDisk};
 ghost use Rattle.store_rows.specs.Rules.{branch_under, BranchKeeps, OfRows};
 ghost use Rattle.store_rows.specs.Stored.{FindsStored, IsBranch};
 ghost use Rattle.bank_transactions.specs.Doing.{Reads};
-ghost use Rattle.bank_transactions.specs.Stored.{IsStoredBalance};
+ghost use Rattle.bank_transactions.specs.Stored.{IsStoredBalance, IsStoredFound, IsStoredTeller};
 
+use crate::floors::balance_and_floor;
 use message_records::{Account, Branch, Cents, Number, Request, Teller};
 use posting_rules::{
-    BranchRow, Found, Kept, LAST_BRANCH, MAX_DECIDED, MOST_ACCOUNTS, Rule, branch_of_account,
+    BranchRow, Found, Kept, LAST_BRANCH, MAX_ACCOUNTS, MAX_DECIDED, Rule, branch_of_account,
     branch_of_teller, place_of_account,
 };
 use sqlite::{Alter, Transaction};
@@ -35,7 +36,7 @@ pub fn branch_at<S: Alter>(
     let Some(row) = find_branch(tx, branch)? else {
         return Ok(None);
     };
-    if number > LAST_BRANCH || row.accounts < 1 || row.accounts > MOST_ACCOUNTS {
+    if number > LAST_BRANCH || row.accounts < 1 || row.accounts > MAX_ACCOUNTS {
         return Err(TableFault::Damaged(Rule::Value));
     }
     Ok(Some(row))
@@ -46,7 +47,9 @@ pub fn teller_balances<S: Alter>(
     tx: &mut Transaction<'_, S>,
     teller: Teller,
 ) -> Result<Option<(Cents, Cents)>, TableFault>
-    ensures { Reads S.Store tx.old tx.new (λ tables. teller_balances_in tables teller) result }
+    ensures says { Reads S.Store tx.old tx.new (λ tables. teller_balances_in tables teller) result }
+    ensures stored { IfOk result (λ balances. HasCleanDisk (state S.Store tx.new.conn.now)
+        → IsStoredTeller (state S.Store tx.old.conn.now).now teller balances) }
 {
     let balance = balance_of(tx, Member::Teller(teller))?;
     let branch = branch_at(tx, branch_of_teller(teller))?;
@@ -124,11 +127,18 @@ pub(crate) fn look_up<S: Alter>(
 ) -> Result<Found, TableFault>
     ensures within { IfOk result (λ found. found.decided ≤ MAX_DECIDED) }
     ensures says { Reads S.Store tx.old tx.new (λ tables. found_in tables request.now) result }
+    ensures stored { IfOk result (λ found. HasCleanDisk (state S.Store tx.new.conn.now)
+        → IsStoredFound (state S.Store tx.old.conn.now).now request.now found) }
 {
+    let decided = decided(tx)?;
+    let teller = teller_balances(tx, request.teller())?;
+    let kept = kept_request(tx, request.teller(), request.number())?;
+    let (account, floor) = balance_and_floor(tx, request.account())?;
     Ok(Found {
-        decided: decided(tx)?,
-        teller: teller_balances(tx, request.teller())?,
-        kept: kept_request(tx, request.teller(), request.number())?,
-        account: open_balance(tx, request.account())?,
+        decided,
+        teller,
+        kept,
+        account,
+        floor,
     })
 }

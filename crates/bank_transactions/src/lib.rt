@@ -20,7 +20,7 @@
 //! pub fn first_request<S: Alter>(conn: &mut Connection<S>) -> Result<[u8; REPLY_BYTES], TableFault>
 //!     requires { conn.old.in_transaction ≡ false }
 //! {
-//!     open_branch(conn, Branch::new(1).unwrap(), 3)?;
+//!     open_branch(conn, Branch::new(1).unwrap(), 3, None)?;
 //!     let request = Request::new(
 //!         Account::new(1).unwrap(),
 //!         Teller::new(1).unwrap(),
@@ -43,6 +43,7 @@ mod balances;
 mod batch_changes;
 mod batches;
 mod changes;
+mod floors;
 mod found;
 mod new_branch;
 mod next_branch;

@@ -1,21 +1,23 @@
 //! A branch comes with its ten tellers and its accounts.
-ghost use Rattle.std.specs.Prelude.{◌≡◌, ◌≤◌, ◌<◌, ◌+◌, ℕ, None, false};
-ghost use Rattle.posting_rules.specs.Changes.{tables_opened, tables_with_branch};
+ghost use Rattle.std.specs.Prelude.{◌≡◌, ◌≤◌, ◌<◌, ◌+◌, ℕ, Some, None, false};
+ghost use Rattle.posting_rules.specs.Changes.{tables_opened, tables_with_branch, with_floor};
 ghost use Rattle.posting_rules.specs.Commands.{opened_with};
 ghost use Rattle.posting_rules.specs.Counter.{opening_for};
 ghost use Rattle.posting_rules.specs.LookUps.{terms_in};
 ghost use Rattle.posting_rules.specs.Sound.{AreSound};
-ghost use Rattle.posting_rules.specs.Tables.{row_at, branch_key};
-ghost use Rattle.bank_transactions.specs.Doing.{Acts, Does};
-ghost use Rattle.bank_transactions.specs.NewRows.{with_new, with_new_rows, is_taken, last_of};
+ghost use Rattle.posting_rules.specs.Tables.{row_at, branch_key, floor_key};
+ghost use Rattle.bank_transactions.specs.Doing.{Acts, Does, Reads};
+ghost use Rattle.bank_transactions.specs.NewRows.{tables_staffed, with_new, with_new_rows, is_taken, last_of};
 
+use crate::floors::floor_at;
 use crate::found::branch_at;
 use message_records::{Account, Branch, Cents, Teller};
 use posting_rules::{
-    BranchRow, LAST_BRANCH, MOST_ACCOUNTS, Opening, TELLERS_PER_BRANCH, first_account, first_teller,
+    BranchRow, FloorRow, LAST_BRANCH, MAX_ACCOUNTS, Opening, TELLERS_PER_BRANCH, first_account,
+    first_teller,
 };
 use sqlite::{Alter, Transaction};
-use store_rows::{Member, TableFault, add_branch, add_member};
+use store_rows::{Member, TableFault, add_branch, add_floor, add_member};
 
 /// The rows that come with a branch.
 #[derive(Clone, Copy)]
@@ -68,17 +70,32 @@ fn add_rows<S: Alter>(
     Ok(())
 }
 
-// Adds a branch with all that belongs to it.
-fn add_whole_branch<S: Alter>(
+// Adds the floor of a branch, where it is to have one.
+fn add_its_floor<S: Alter>(
+    tx: &mut Transaction<'_, S>,
+    branch: Branch,
+    floor: Option<Cents>,
+) -> Result<(), TableFault>
+    ensures { Does S.Store tx.old tx.new (λ tables. row_at floor_key tables.floors branch ≡ None)
+        (with_floor branch floor) (λ _. tt) result }
+{
+    let Some(lowest) = floor else {
+        return Ok(());
+    };
+    add_floor(tx, FloorRow { branch, lowest })
+}
+
+// Adds a branch with its tellers and its accounts.
+fn add_branch_with_rows<S: Alter>(
     tx: &mut Transaction<'_, S>,
     branch: Branch,
     count: u32,
 ) -> Result<(), TableFault>
     requires branch { branch ≤ LAST_BRANCH }
-    requires few { count ≤ MOST_ACCOUNTS }
+    requires few { count ≤ MAX_ACCOUNTS }
     ensures { Does S.Store tx.old tx.new
         (λ tables. AreSound tables × (row_at branch_key tables.branches branch ≡ None))
-        (λ tables. tables_opened tables branch count) (λ _. tt) result }
+        (λ tables. tables_staffed tables branch count) (λ _. tt) result }
 {
     let row = BranchRow {
         branch,
@@ -92,24 +109,69 @@ fn add_whole_branch<S: Alter>(
     add_rows(tx, NewRows::Accounts, account, u64::from(count))
 }
 
+// Adds a branch with all that belongs to it.
+fn add_whole_branch<S: Alter>(
+    tx: &mut Transaction<'_, S>,
+    branch: Branch,
+    count: u32,
+    floor: Option<Cents>,
+) -> Result<(), TableFault>
+    requires branch { branch ≤ LAST_BRANCH }
+    requires few { count ≤ MAX_ACCOUNTS }
+    ensures { Does S.Store tx.old tx.new
+        (λ tables. AreSound tables × (row_at branch_key tables.branches branch ≡ None))
+        (λ tables. tables_opened tables branch (opened_with count floor)) (λ _. tt) result }
+{
+    add_branch_with_rows(tx, branch, count)?;
+    add_its_floor(tx, branch, floor)
+}
+
+// What opening a branch again comes to, by what it was opened with.
+fn opened_again(row: BranchRow, first: Option<Cents>, count: u32, floor: &Option<Cents>) -> Opening
+    ensures { result ≡ opening_for (Some (opened_with row.accounts first)) (opened_with count floor.now) }
+{
+    if row.accounts == count && first == *floor {
+        Opening::Already
+    } else {
+        Opening::Differs
+    }
+}
+
+// What opening the branch comes to, by what it was opened with, if it was.
+fn opening_of<S: Alter>(
+    tx: &mut Transaction<'_, S>,
+    branch: Branch,
+    count: u32,
+    floor: &Option<Cents>,
+) -> Result<Opening, TableFault>
+    ensures { Reads S.Store tx.old tx.new
+        (λ tables. opening_for (terms_in tables branch) (opened_with count floor.now)) result }
+{
+    let Some(row) = branch_at(tx, branch.get())? else {
+        return Ok(Opening::Opened);
+    };
+    let first = floor_at(tx, branch.get())?;
+    Ok(opened_again(row, first, count, floor))
+}
+
 /// Looks the branch up, and adds it where it isn't open.
 pub(crate) fn open_inside<S: Alter>(
     tx: &mut Transaction<'_, S>,
     branch: Branch,
     count: u32,
+    floor: Option<Cents>,
 ) -> Result<Opening, TableFault>
     requires branch { branch ≤ LAST_BRANCH }
-    requires few { count ≤ MOST_ACCOUNTS }
-    ensures { Acts S.Store tx.old tx.new AreSound (λ tables. tables_with_branch tables branch count)
-        (λ tables. opening_for (terms_in tables branch) (opened_with count)) result }
+    requires few { count ≤ MAX_ACCOUNTS }
+    ensures { Acts S.Store tx.old tx.new AreSound
+        (λ tables. tables_with_branch tables branch (opened_with count floor))
+        (λ tables. opening_for (terms_in tables branch) (opened_with count floor)) result }
 {
-    if let Some(row) = branch_at(tx, branch.get())? {
-        return Ok(if row.accounts == count {
-            Opening::Already
-        } else {
-            Opening::Differs
-        });
+    match opening_of(tx, branch, count, &floor)? {
+        Opening::Opened => {
+            add_whole_branch(tx, branch, count, floor)?;
+            Ok(Opening::Opened)
+        }
+        opening => Ok(opening),
     }
-    add_whole_branch(tx, branch, count)?;
-    Ok(Opening::Opened)
 }

@@ -1,7 +1,11 @@
 //! A request is judged by what is looked up, and what changes is written.
 ghost use Rattle.posting_rules.specs.Changes.{tables_with, reply_bytes};
 ghost use Rattle.posting_rules.specs.Sound.{AreSound};
+ghost use Rattle.std.specs.Prelude.{IfOk};
+ghost use Rattle.sqlite.specs.Held.{state};
+ghost use Rattle.sqlite.specs.State.{HasCleanDisk};
 ghost use Rattle.bank_transactions.specs.Doing.{Acts};
+ghost use Rattle.bank_transactions.specs.Stored.{RepliesToStored};
 
 use crate::changes::apply;
 use crate::found::look_up;
@@ -16,8 +20,10 @@ pub(crate) fn post_inside<S: Alter>(
     moment: Moment,
     request: &Request,
 ) -> Result<[u8; REPLY_BYTES], TableFault>
-    ensures { Acts S.Store tx.old tx.new AreSound (λ tables. tables_with tables moment request.now)
+    ensures acts { Acts S.Store tx.old tx.new AreSound (λ tables. tables_with tables moment request.now)
         (λ tables. reply_bytes tables request.now) result }
+    ensures stored { IfOk result (λ reply. HasCleanDisk (state S.Store tx.new.conn.now)
+        → RepliesToStored (state S.Store tx.old.conn.now).now request.now reply) }
 {
     let found = look_up(tx, request)?;
     let verdict = judge(&found, request);

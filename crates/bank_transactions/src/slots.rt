@@ -12,9 +12,12 @@ ghost use Rattle.posting_batch.specs.View.{view, reads_of};
 ghost use Rattle.bank_transactions.specs.Doing.{Reads};
 ghost use Rattle.bank_transactions.specs.Filling.{handing, HasBranch, ReadsWhere, TellsBranch};
 
-use crate::{branch_at, decided, kept_request, open_balance, teller_balances};
+use crate::floors::{balance_and_floor, floor_at, is_below};
+use crate::{branch_at, decided, kept_request, teller_balances};
 use message_records::{Account, Cents, Teller};
-use posting_batch::{AccountSlot, Batch, BranchSlot, RequestSlot, TellerSlot, stored_branch};
+use posting_batch::{
+    AccountSlot, Batch, BranchSlot, RequestSlot, TellerSlot, stored_branch, stored_floor,
+};
 use posting_rules::{BranchRow, branch_of_account, branch_of_teller, place_of_account};
 use sqlite::{Alter, Transaction};
 use store_rows::{Member, TableFault, balance_of};
@@ -46,7 +49,12 @@ impl Slot for BranchSlot {
 
     fn fill<S: Alter>(self, tx: &mut Transaction<'_, S>, _branches: &[BranchSlot]) -> Read<Self> {
         let stored = branch_at(tx, self.branch)?;
-        Ok(BranchSlot { stored, ..self })
+        let floor = floor_at(tx, self.branch)?;
+        Ok(BranchSlot {
+            stored,
+            floor,
+            ..self
+        })
     }
 }
 
@@ -78,11 +86,21 @@ fn teller_within<S: Alter>(
     Ok(balance)
 }
 
-// The same of an account, whose place is within the count of its branch where it is open.
+// The balance of an account, none where it isn't open, looked up together with the rows of its branch.
+fn account_beside<S: Alter>(tx: &mut Transaction<'_, S>, account: Account) -> Read<Option<Cents>>
+    ensures { Reads S.Store tx.old tx.new (λ tables. account_balance_in tables account) result }
+{
+    let (balance, _) = balance_and_floor(tx, account)?;
+    Ok(balance)
+}
+
+// The same of an account, whose place is within the count of its branch where it is open, and which isn't below
+// the floor of its branch.
 fn account_within<S: Alter>(
     tx: &mut Transaction<'_, S>,
     account: Account,
     branch: Option<BranchRow>,
+    floor: Option<Cents>,
 ) -> Read<Option<Cents>>
     ensures { ReadsWhere S.Store tx.old tx.new (HasBranch branch (branch_of_account account))
         (λ tables. account_balance_in tables account) result }
@@ -92,8 +110,8 @@ fn account_within<S: Alter>(
         Some(branch) => place_of_account(account) <= u64::from(branch.accounts),
         None => false,
     };
-    if balance.is_some() != is_open {
-        return open_balance(tx, account);
+    if balance.is_some() != is_open || is_below(&balance, &floor) {
+        return account_beside(tx, account);
     }
     Ok(balance)
 }
@@ -120,8 +138,10 @@ impl Slot for AccountSlot {
     ghost Knows = { λ slots tables slot. TellsBranch slots tables (branch_of_account slot.account) };
 
     fn fill<S: Alter>(self, tx: &mut Transaction<'_, S>, branches: &[BranchSlot]) -> Read<Self> {
-        let branch = stored_branch(branches, branch_of_account(self.account));
-        let stored = account_within(tx, self.account, branch)?;
+        let number = branch_of_account(self.account);
+        let branch = stored_branch(branches, number);
+        let floor = stored_floor(branches, number);
+        let stored = account_within(tx, self.account, branch, floor)?;
         Ok(AccountSlot { stored, ..self })
     }
 }

@@ -8,13 +8,13 @@ ghost use Rattle.posting_rules.specs.Counter.{opening_for};
 ghost use Rattle.posting_rules.specs.LookUps.{account_balance_in, terms_in};
 ghost use Rattle.posting_rules.specs.Sound.{AreSound};
 ghost use Rattle.bank_transactions.specs.Doing.{Consults, Ends, Transacts};
-ghost use Rattle.bank_transactions.specs.Stored.{IsStoredBalance};
+ghost use Rattle.bank_transactions.specs.Stored.{IsStoredBalance, RepliesToStored};
 
 use crate::found::open_balance;
 use crate::new_branch::open_inside;
 use crate::posting::post_inside;
 use message_records::{Account, Branch, Cents, Moment, REPLY_BYTES, Request};
-use posting_rules::{LAST_BRANCH, MOST_ACCOUNTS, Opening};
+use posting_rules::{LAST_BRANCH, MAX_ACCOUNTS, Opening};
 use sqlite::{Alter, Connection, Transaction};
 use store_rows::{TableFault, commit};
 
@@ -77,16 +77,19 @@ pub fn post<S: Alter>(
     request: &Request,
 ) -> Result<[u8; REPLY_BYTES], TableFault>
     requires { conn.old.in_transaction ≡ false }
-    ensures { Transacts S.Store conn.old conn.new AreSound (λ tables. tables_with tables moment request.now)
-        (λ tables. reply_bytes tables request.now) result }
+    ensures transacts { Transacts S.Store conn.old conn.new AreSound
+        (λ tables. tables_with tables moment request.now) (λ tables. reply_bytes tables request.now) result }
+    // Whatever rows the file holds.
+    ensures stored { IfOk result (λ reply. HasCleanDisk (state S.Store conn.new)
+        → RepliesToStored (state S.Store conn.old).now request.now reply) }
 {
     let mut tx = begin(conn);
     let reply = post_inside(&mut tx, moment, request);
     finish(tx, reply)
 }
 
-/// Opens a branch with its ten tellers and so many accounts, unless it is open: then it is said whether it
-/// has this count. One transaction.
+/// Opens a branch with its ten tellers, so many accounts and a floor for them, unless it is open: then it is
+/// said whether it has this count and this floor. One transaction.
 ///
 /// # Errors
 ///
@@ -95,15 +98,17 @@ pub fn open_branch<S: Alter>(
     conn: &mut Connection<S>,
     branch: Branch,
     count: u32,
+    floor: Option<Cents>,
 ) -> Result<Opening, TableFault>
     requires mode { conn.old.in_transaction ≡ false }
     requires branch { branch ≤ LAST_BRANCH }
-    requires few { count ≤ MOST_ACCOUNTS }
-    ensures { Transacts S.Store conn.old conn.new AreSound (λ tables. tables_with_branch tables branch count)
-        (λ tables. opening_for (terms_in tables branch) (opened_with count)) result }
+    requires few { count ≤ MAX_ACCOUNTS }
+    ensures { Transacts S.Store conn.old conn.new AreSound
+        (λ tables. tables_with_branch tables branch (opened_with count floor))
+        (λ tables. opening_for (terms_in tables branch) (opened_with count floor)) result }
 {
     let mut tx = begin(conn);
-    let opening = open_inside(&mut tx, branch, count);
+    let opening = open_inside(&mut tx, branch, count, floor);
     finish(tx, opening)
 }
 

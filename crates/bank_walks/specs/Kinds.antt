@@ -3,7 +3,7 @@ use Rattle.std.specs.Prelude.{◌≡◌, ◌≤◌, ◌+◌, ℕ, Bool, true, Op
 use Rattle.sqlite.specs.Table.{Table}
 use Rattle.sql_meanings.specs.Entries.{Entry}
 use Rattle.sql_meanings.specs.Tables.{texts_of, width_of}
-use Rattle.bank_walks.specs.declared.numbers.TheConstants.{MOST_COLUMNS}
+use Rattle.bank_walks.specs.declared.numbers.TheConstants.{MAX_COLUMNS}
 
 pub record Kind (R : Type 0) : Type 1 where
   -- the table that the rows are in
@@ -18,12 +18,12 @@ pub record Kind (R : Type 0) : Type 1 where
   pub is_given : Option ℕ → Entry → Bool
   pub are_all : columns ≡ (width_of table).0 + 1
   pub untexted : texts_of table ≡ 0
-  pub are_few : columns ≤ MOST_COLUMNS
+  pub are_few : columns ≤ MAX_COLUMNS
   pub all_given : (e : Entry) → is_given None e ≡ true
 
 -- any row is given
 abbrev pub given_all : {R : Type 0} (table : Table) (columns : ℕ) → (R → Entry) → (Entry → Type 0)
-    → columns ≡ (width_of table).0 + 1 → texts_of table ≡ 0 → columns ≤ MOST_COLUMNS → Kind R
+    → columns ≡ (width_of table).0 + 1 → texts_of table ≡ 0 → columns ≤ MAX_COLUMNS → Kind R
 given_all table columns entry Breaks are_all untexted are_few = record {
   table = table;
   columns = columns;

@@ -9,7 +9,7 @@ use Rattle.store_rows.specs.BankTables.{account, branch, history, request, telle
 use Rattle.bank_walks.specs.Kinds.{Kind, given_all}
 use Rattle.bank_walks.specs.Pairs.{BreaksPair, Pair, pair_of}
 use Rattle.bank_walks.specs.Reading.{IsOutside}
-use Rattle.bank_walks.specs.declared.limits.TheConstants.{LAST_ACCOUNT, LAST_TELLER, MOST_COUNTED}
+use Rattle.bank_walks.specs.declared.limits.TheConstants.{LAST_ACCOUNT, LAST_TELLER, MAX_COUNTED}
 use Rattle.bank_walks.specs.declared.branches.StoredBranch.{StoredBranch}
 use Rattle.bank_walks.specs.declared.tellers.StoredTeller.{StoredTeller}
 use Rattle.bank_walks.specs.declared.accounts.StoredAccount.{StoredAccount}
@@ -27,7 +27,7 @@ branch_entry r = record { key = pos r.branch; values = pos r.accounts ∷ r.bala
 
 -- no branch has this number, or it can't have so many accounts
 abbrev pub IsNoBranch : Entry → Type 0
-IsNoBranch e = IsOutside 1 LAST_BRANCH e.key ⊎ IsOutside 1 MOST_COUNTED (number_behind 0 e)
+IsNoBranch e = IsOutside 1 LAST_BRANCH e.key ⊎ IsOutside 1 MAX_COUNTED (number_behind 0 e)
 
 -- a row of `teller`
 abbrev pub teller_entry : StoredTeller → Entry

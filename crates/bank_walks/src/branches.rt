@@ -1,5 +1,5 @@
 //! The rows of `branch`.
-use crate::limits::MOST_COUNTED;
+use crate::limits::MAX_COUNTED;
 use crate::numbers::whole;
 use crate::statements::rows_shown;
 use crate::stored_row::{Found, StoredRow};
@@ -8,12 +8,12 @@ use message_records::{Account, Whole};
 use posting_rules::LAST_BRANCH;
 use sqlite::{Alter, Connection, params};
 
-/// A row of `branch`: 1..=`LAST_BRANCH`, how many accounts it has, 1..=`MOST_COUNTED`, and its balance,
+/// A row of `branch`: 1..=`LAST_BRANCH`, how many accounts it has, 1..=`MAX_COUNTED`, and its balance,
 /// whatever it is.
 #[derive(Clone, Copy, Debug, PartialEq, Eq)]
 pub struct StoredBranch {
     pub branch: Whole<1, LAST_BRANCH>,
-    pub accounts: Whole<1, MOST_COUNTED>,
+    pub accounts: Whole<1, MAX_COUNTED>,
     pub balance: i64,
 }
 

@@ -50,7 +50,7 @@ pub use accounts::StoredAccount;
 pub use ahead::AHEAD;
 pub use branches::StoredBranch;
 pub use joined::Joined;
-pub use limits::{LAST_ACCOUNT, LAST_TELLER, MOST_COUNTED};
+pub use limits::{LAST_ACCOUNT, LAST_TELLER, MAX_COUNTED};
 pub use postings::StoredPosting;
 pub use requests::StoredRequest;
 pub use stored_row::StoredRow;

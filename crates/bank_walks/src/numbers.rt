@@ -10,7 +10,7 @@ use sqlite::{Error, Row};
 use store_rows::TableFault;
 
 /// The greatest count of numbers that a row has.
-pub const MOST_COLUMNS: usize = 8;
+pub const MAX_COLUMNS: usize = 8;
 
 // The number in a column. A value of another type is damage.
 pub(crate) fn number_at(row: &Row, at: usize) -> Result<i64, TableFault>
@@ -24,8 +24,8 @@ pub(crate) fn number_at(row: &Row, at: usize) -> Result<i64, TableFault>
 }
 
 // The first numbers of a row, so many.
-pub(crate) fn numbers(row: &Row, count: usize) -> Result<ArrayVec<i64, MOST_COLUMNS>, TableFault>
-    requires { count ≤ MOST_COLUMNS }
+pub(crate) fn numbers(row: &Row, count: usize) -> Result<ArrayVec<i64, MAX_COLUMNS>, TableFault>
+    requires { count ≤ MAX_COLUMNS }
     ensures { MatchResult result (λ numbers. AreNumbers count row.now numbers.items)
         (NumbersFail count row.now) }
 {

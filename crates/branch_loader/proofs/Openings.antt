@@ -6,7 +6,7 @@ use Rattle.std.proofs.Math.Seq.{take-append-add, take-append_seam, take-length}
 use Rattle.std.proofs.lemmas.List.{drop-map, drop_more, length-append, length-map, length-take-le, map-append}
 use Rattle.std.proofs.lemmas.List.{take-append-drop, take-map}
 use Rattle.std.proofs.lemmas.List.Sums.{sum_by-append}
-use Rattle.posting_rules.specs.Commands.{Command, Open, AreCommands, opened_with}
+use Rattle.posting_rules.specs.Commands.{Command, Open, AreCommands}
 use Rattle.posting_rules.specs.Counter.{Seen, ShowsLog, ShowsBeginning, Takes, Refuses, opening_behind}
 use Rattle.posting_rules.specs.Runs.{behind}
 use Rattle.posting_rules.specs.Tables.{Tables, AreTablesOf}
@@ -18,7 +18,7 @@ use Rattle.posting_rules.specs.declared.counter.Opening.{Opening}
 use Rattle.posting_rules.specs.declared.counter.Opening.TheVariants.{Opened, Already, Differs}
 use Rattle.posting_rules.specs.declared.fault.Fault.{Fault}
 use Rattle.posting_rules.specs.declared.fault.Fault.TheVariants.{Memory, Store, Down, Damaged}
-use Rattle.branch_loader.specs.Plans.{openings, Rows, Row}
+use Rattle.branch_loader.specs.Plans.{openings, terms_of, Rows, Row}
 use Rattle.branch_loader.specs.Loading.{IsRefusedAfter, LeavesBeginning, LoadsAll, answers, counted, total}
 use Rattle.branch_loader.specs.Loading.{with_answer}
 use Rattle.branch_loader.specs.Loading.{is_opened, is_already, is_differs}
@@ -28,12 +28,12 @@ use Rattle.branch_loader.specs.declared.loader.Loaded.{Loaded}
 
 answers-push : (log : List Command) (rows : Rows) (p : Row)
     → answers log (rows ++ p ∷ []) ≡ answers log rows ++ opening_behind
-    (behind log (openings rows)) p.0 (opened_with p.1) ∷ []
+    (behind log (openings rows)) p.0 (terms_of p) ∷ []
 unfolding answers
 answers-push log [] p = refl
 answers-push log (q ∷ rows) p =
-    ap (λ (given : List Opening). opening_behind log q.0 (opened_with q.1) ∷ given)
-    (answers-push (Open q.0 q.1 ∷ log) rows p)
+    ap (λ (given : List Opening). opening_behind log q.0 (terms_of q) ∷ given)
+    (answers-push (Open q.0 (terms_of q) ∷ log) rows p)
 
 count_by-push : (test : Opening → Bool) (given : List Opening) (o : Opening)
     → count_by test (given ++ o ∷ []) ≡ count_by test given + cond (test o) 1 0
@@ -170,27 +170,27 @@ was_down seen old now (p ∷ rows) first begun is_up down = begun (omega arith) 
 pub behind-more : {C : Type 0} (seen : C → Seen) (old now new : C) (rows : Rows) (p : Row) (loaded : Loaded)
     (opening : Opening)
     → IsBehind seen old now rows loaded
-    → Takes (seen now) (seen new) (Open p.0 p.1 ∷ [])
+    → Takes (seen now) (seen new) (Open p.0 (terms_of p) ∷ [])
     → ((seen new).honest → (log : List Command) → ShowsLog (seen now) log
-    → opening ≡ opening_behind log p.0 (opened_with p.1))
+    → opening ≡ opening_behind log p.0 (terms_of p))
     → ((seen now).is_down → ⊥) → ((seen new).is_down → ⊥) → ((seen new).honest → (seen now).honest)
     → IsBehind seen old new (rows ++ p ∷ []) (with_answer loaded opening)
 behind-more seen old now new rows p loaded opening b takes answer was_up is_up honest = record {
-  taken = rw (map-append (λ (q : Row). Open q.0 q.1) rows (p ∷ []))
-      (Takes-append (seen old) (seen now) (seen new) (openings rows) (Open p.0 p.1 ∷ []) b.taken takes
+  taken = rw (map-append (λ (q : Row). Open q.0 (terms_of q)) rows (p ∷ []))
+      (Takes-append (seen old) (seen now) (seen new) (openings rows) (Open p.0 (terms_of p) ∷ []) b.taken takes
       honest);
   first = λ e. absurd (omega (arith, length-append rows (p ∷ [])));
   begun = λ h down. was_down seen old now rows b.first b.begun was_up down;
   up = λ down. absurd (is_up down);
   honest = λ h. b.honest (honest h);
   counts = λ h log shown.
-      let given : opening ≡ opening_behind (behind log (openings rows)) p.0 (opened_with p.1) =
+      let given : opening ≡ opening_behind (behind log (openings rows)) p.0 (terms_of p) =
       answer h (behind log (openings rows)) (b.taken.shows (honest h) log shown) in
       let before : loaded ≡ counted (answers log rows) = b.counts (honest h) log shown in
       ap (λ (l : Loaded). with_answer l opening) before ∙ ap
       (λ (o : Opening). with_answer (counted (answers log rows)) o) given
       ∙ sym (counted-push (answers log rows)
-      (opening_behind (behind log (openings rows)) p.0 (opened_with p.1)))
+      (opening_behind (behind log (openings rows)) p.0 (terms_of p)))
       ∙ ap counted (sym (answers-push log rows p));
   sum = with_answer-total loaded opening ∙ ap (λ (n : ℕ). n + 1) b.sum ∙ sym (length-append rows (p ∷ []));
 }
@@ -203,21 +203,21 @@ none_before (x ∷ xs) h = absurd (h (omega arith))
 pub behind-refused : {C : Type 0} (seen : C → Seen) (old now new : C) (rows : Rows) (i : ℕ) (p : Row)
     (loaded : Loaded) (fault : Fault)
     → IsBehind seen old now (take i rows) loaded → i < length rows → p ≡ get_or rows i p
-    → Refuses fault (seen now) (seen new) (Open p.0 p.1 ∷ []) → ((seen new).honest → (seen now).honest)
+    → Refuses fault (seen now) (seen new) (Open p.0 (terms_of p) ∷ []) → ((seen new).honest → (seen now).honest)
     → ((seen now).is_down → fault ≡ Down) → IsRefusedAfter seen old new (openings rows) fault i
 behind-refused seen old now new rows i p loaded fault b within read refused honest down =
     let front : length (take i rows) ≡ i = length-take-le i rows (omega arith) in
     let rest : drop i rows ≡ p ∷ drop (i + 1) rows = drop_more rows i p within ∙ rw (← read) refl in
     let taken : take i (openings rows) ≡ openings (take i rows) = take-map
-    (λ (q : Row). Open q.0 q.1) i rows in
-    let dropped : drop i (openings rows) ≡ Open p.0 p.1 ∷ openings (drop (i + 1) rows) =
-    drop-map (λ (q : Row). Open q.0 q.1) i rows ∙ rw rest refl in
-    let whole : openings rows ≡ openings (take i rows) ++ Open p.0 p.1 ∷ openings (drop (i + 1) rows) =
+    (λ (q : Row). Open q.0 (terms_of q)) i rows in
+    let dropped : drop i (openings rows) ≡ Open p.0 (terms_of p) ∷ openings (drop (i + 1) rows) =
+    drop-map (λ (q : Row). Open q.0 (terms_of q)) i rows ∙ rw rest refl in
+    let whole : openings rows ≡ openings (take i rows) ++ Open p.0 (terms_of p) ∷ openings (drop (i + 1) rows) =
     sym (take-append-drop i (openings rows)) ∙ rw (taken, dropped) refl in
     let count : length (openings (take i rows)) ≡ i = rw length-map front in
-    let behind_all = openings (take i rows) ++ Open p.0 p.1 ∷ openings (drop (i + 1) rows) in
+    let behind_all = openings (take i rows) ++ Open p.0 (terms_of p) ∷ openings (drop (i + 1) rows) in
     let left =
-    left-refused fault (seen old) (seen now) (seen new) (openings (take i rows)) (Open p.0 p.1)
+    left-refused fault (seen old) (seen now) (seen new) (openings (take i rows)) (Open p.0 (terms_of p))
     (openings (drop (i + 1) rows)) b.taken
     refused honest in
     record {
@@ -229,19 +229,19 @@ behind-refused seen old now new rows i p loaded fault b within read refused hone
       honest = honest;
       up = λ d. (b.up d, sym front ∙ none_before (take i rows) (λ some. b.begun some (b.up d)));
       tried = down;
-      down = λ d. still_down fault (seen now) (seen new) (Open p.0 p.1 ∷ []) refused (down d);
+      down = λ d. still_down fault (seen now) (seen new) (Open p.0 (terms_of p) ∷ []) refused (down d);
       left = subst (λ (cs : List Command). LeavesBeginning (seen old) (seen new) cs i) (sym whole)
           (subst (λ (n : ℕ). LeavesBeginning (seen old) (seen new) behind_all n) count left);
     }
 
 -- at the end of the rows it took them all
-pub loaded_all : {C : Type 0} (seen : C → Seen) (old now : C) (rows plan : List (ℕ × ℕ)) (i : ℕ)
+pub loaded_all : {C : Type 0} (seen : C → Seen) (old now : C) (rows plan : Rows) (i : ℕ)
     (loaded : Loaded) → IsBehind seen old now (take i rows) loaded → length rows ≤ i → rows ≡ plan
     → LoadsAll (seen old) (seen now) plan
 loaded_all seen old now rows plan i loaded b all is =
     let whole : take i rows ≡ plan = take_all i rows all ∙ is in
     let taken : Takes (seen old) (seen now) (openings plan) = subst
-    (λ (rs : List (ℕ × ℕ)). Takes (seen old) (seen now) (openings rs)) whole b.taken in
+    (λ (rs : Rows). Takes (seen old) (seen now) (openings rs)) whole b.taken in
     let count : length (openings plan) ≡ length plan = rw length-map refl in
     record {
       takes = taken;

@@ -1,17 +1,19 @@
 -- What a source of records told last.
 use Rattle.std.proofs.Common.{◌≡◌, List, [], ◌∷◌, ◌++◌, Option, Some, None, Bool, true, false, ℕ, Result, Ok}
 use Rattle.std.proofs.Common.{Err, refl, ap, subst, ◌∙◌, inl, inr}
-use Rattle.std.specs.Prelude.{◌⊎◌, ⊤, if◌then◌else◌}
+use Rattle.std.specs.Prelude.{◌⊎◌, ⊤, ℤ, if◌then◌else◌}
+use Rattle.std.specs.Io.KnownBytes.{IsAtEnd}
 use Rattle.csv.specs.declared.error.Error.{Error}
 use Rattle.csv.specs.declared.error.ErrorKind.{ErrorKind}
-use Rattle.posting_core.specs.Told.{GrowsBy, EndsWith, HasMore}
+use Rattle.posting_core.specs.Told.{GrowsBy, EndsWith, HasMore, IsEndOfInput, ReadTold}
 use Rattle.posting_core.proofs.Telling.{more_last}
 use Rattle.branch_loader.specs.declared.fault.PlanFault.{PlanFault}
-use Rattle.branch_loader.specs.declared.fault.PlanFault.TheVariants.{Header, Columns, Branch, Accounts, Twice}
-use Rattle.branch_loader.specs.declared.fault.PlanFault.TheVariants.{Csv, Memory}
-use Rattle.branch_loader.specs.Records.{Fields, RecordTold, Found, Failed, WasRecord, IsSourceFailure}
-use Rattle.branch_loader.specs.Records.{ToldWantOfMemory, record_told}
-use Rattle.branch_loader.specs.Plans.{IsToldSo, Rows, Row, names, row_of, row_of_two, row_of_fields, two_of}
+use Rattle.branch_loader.specs.declared.fault.PlanFault.TheVariants.{Header, Columns, Branch, Accounts, Floor}
+use Rattle.branch_loader.specs.declared.fault.PlanFault.TheVariants.{Twice, Csv, Memory}
+use Rattle.branch_loader.specs.Records.{Fields, RecordTold, Found, Failed, WasRecord, WasFailure}
+use Rattle.branch_loader.specs.Records.{record_told}
+use Rattle.branch_loader.specs.Plans.{IsReadSo, IsToldSo, Rows, Row, names, row_of, row_of_parts, row_of_fields}
+use Rattle.branch_loader.specs.Plans.{parts_of}
 
 -- what one call told is the last that was told
 last_told : (P : RecordTold → Type 0) (a b : Option (List RecordTold)) (r : Result Bool Error)
@@ -39,18 +41,9 @@ failed_last P {a = a} {b = b} r e k x is kind_is k_is p tells =
 
 -- ---- what explains a fault
 
-pub fault_told : (o a b : Option (List RecordTold)) (fault : PlanFault)
-    → ((fault ≡ Csv) × EndsWith IsSourceFailure a b) ⊎ ((fault ≡ Memory) × EndsWith ToldWantOfMemory a b)
-    → HasMore o a → IsToldSo (Err fault) o b
-fault_told o a b Csv (inl source) before = more_last IsSourceFailure before source.1
-fault_told o a b Csv (inr memory) before = absurd (cc memory.0)
-fault_told o a b Memory (inl source) before = absurd (cc source.0)
-fault_told o a b Memory (inr memory) before = inl (more_last ToldWantOfMemory before memory.1)
-fault_told o a b Header h before = tt
-fault_told o a b (Columns n) h before = tt
-fault_told o a b (Branch n) h before = tt
-fault_told o a b (Accounts n) h before = tt
-fault_told o a b (Twice n) h before = tt
+pub fault_told : (o a b : Option (List RecordTold)) (fault : PlanFault) → fault ≡ Memory
+    → EndsWith WasFailure a b → HasMore o a → IsToldSo (Err fault) o b
+fault_told o a b fault is failed before = rw is (inl (more_last WasFailure before failed))
 
 -- a row's fault is none of the source and none of memory
 IsOfRow : Result Row PlanFault → Type 0
@@ -62,16 +55,18 @@ one_of : (b : Bool) (x y : Result Row PlanFault) → IsOfRow x → IsOfRow y →
 one_of true x y p q = p
 one_of false x y p q = q
 
-row_fault : (before : Rows) (branch accounts : Option ℕ) → IsOfRow (row_of before branch accounts)
+row_fault : (before : Rows) (branch accounts : Option ℕ) (floor : Option (Option ℤ))
+    → IsOfRow (row_of before branch accounts floor)
 unfolding IsOfRow
-row_fault before None accounts = tt
-row_fault before (Some branch) None = tt
-row_fault before (Some branch) (Some accounts) = one_of (names branch before) _ _ tt tt
+row_fault before None accounts floor = tt
+row_fault before (Some branch) None floor = tt
+row_fault before (Some branch) (Some accounts) None = tt
+row_fault before (Some branch) (Some accounts) (Some floor) = one_of (names branch before) _ _ tt tt
 
-two_fault : (before : Rows) (two : Option (List ℕ × List ℕ)) → IsOfRow (row_of_two before two)
+parts_fault : (before : Rows) (parts : Option (List ℕ × List ℕ × List ℕ)) → IsOfRow (row_of_parts before parts)
 unfolding IsOfRow
-two_fault before None = tt
-two_fault before (Some p) = row_fault before _ _
+parts_fault before None = tt
+parts_fault before (Some p) = row_fault before _ _ _
 
 not_of_row : (fault : PlanFault) (a b : Option (List RecordTold)) → IsOfRow (Err fault)
     → IsToldSo (Err fault) a b
@@ -82,37 +77,33 @@ not_of_row Header a b h = tt
 not_of_row (Columns n) a b h = tt
 not_of_row (Branch n) a b h = tt
 not_of_row (Accounts n) a b h = tt
+not_of_row (Floor n) a b h = tt
 not_of_row (Twice n) a b h = tt
 
-pub row_told : (before : Rows) (fields : Fields) (fault : PlanFault) (a b : Option (List RecordTold))
-    → row_of_fields before fields ≡ Err fault
+pub row_told : (has_floors : Bool) (before : Rows) (fields : Fields) (fault : PlanFault)
+    (a b : Option (List RecordTold))
+    → row_of_fields has_floors before fields ≡ Err fault
     → IsToldSo (Err fault) a b
-row_told before fields fault a b is =
+row_told has_floors before fields fault a b is =
     not_of_row fault a b (subst (λ (r : Result Row PlanFault). IsOfRow r) is
-    (two_fault before (two_of fields)))
+    (parts_fault before (parts_of has_floors fields)))
 
--- ---- all that was told
+-- ---- a text that was read
 
-listed : (P : RecordTold → Type 0) (a b : Option (List RecordTold)) → EndsWith P a b
-    → (told : List RecordTold) × EndsWith P (Some []) (Some told)
-listed P a b e = (
-  e.earlier ++ e.last ∷ [],
-  record { earlier = e.earlier; last = e.last; made = refl; is = e.is },
-)
+-- no answer from a text in memory is of its source
+pub not_csv : (result : Result Rows PlanFault) (a b : Option (List RecordTold)) → IsToldSo result a b
+    → result ≡ Err Csv → ⊥
+not_csv result a b h is = rw is at h
 
-either_listed : (P Q : RecordTold → Type 0) (a b : Option (List RecordTold)) → EndsWith P a b ⊎ EndsWith Q a b
-    → (told : List RecordTold) × (EndsWith P (Some []) (Some told) ⊎ EndsWith Q (Some []) (Some told))
-either_listed P Q a b (inl e) = let l = listed P a b e in (l.0, inl l.1)
-either_listed P Q a b (inr e) = let l = listed Q a b e in (l.0, inr l.1)
-
--- there is a list of what was told
-pub told_listed : (result : Result Rows PlanFault) (a b : Option (List RecordTold)) → IsToldSo result a b
-    → (told : List RecordTold) × IsToldSo result (Some []) (Some told)
-told_listed (Ok plan) a b h = ([], tt)
-told_listed (Err Csv) a b h = listed IsSourceFailure a b h
-told_listed (Err Memory) a b h = either_listed ToldWantOfMemory WasRecord a b h
-told_listed (Err Header) a b h = ([], tt)
-told_listed (Err (Columns n)) a b h = ([], tt)
-told_listed (Err (Branch n)) a b h = ([], tt)
-told_listed (Err (Accounts n)) a b h = ([], tt)
-told_listed (Err (Twice n)) a b h = ([], tt)
+-- the answer of a text that was read to its end
+pub read_so : (result : Result Rows PlanFault) (r' : Option (List ℕ)) (q q' : Option (List ReadTold))
+    → (result ≡ Err Csv → ⊥) → IsAtEnd r' → EndsWith IsEndOfInput q q' → IsReadSo result r' q q'
+read_so (Ok plan) r' q q' never at ended = (at, ended)
+read_so (Err Csv) r' q q' never at ended = absurd (never refl)
+read_so (Err Memory) r' q q' never at ended = tt
+read_so (Err Header) r' q q' never at ended = (at, ended)
+read_so (Err (Columns n)) r' q q' never at ended = (at, ended)
+read_so (Err (Branch n)) r' q q' never at ended = (at, ended)
+read_so (Err (Accounts n)) r' q q' never at ended = (at, ended)
+read_so (Err (Floor n)) r' q q' never at ended = (at, ended)
+read_so (Err (Twice n)) r' q q' never at ended = (at, ended)

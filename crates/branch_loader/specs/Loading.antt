@@ -1,7 +1,7 @@
 -- What loading a plan into a counter does.
 use Rattle.std.specs.Prelude.{◌≡◌, ℕ, ◌+◌, ◌<◌, List, [], ◌∷◌, Bool, true, false, count_by, length, take}
 use Rattle.std.specs.Prelude.{drop}
-use Rattle.posting_rules.specs.Commands.{Command, Open, opened_with}
+use Rattle.posting_rules.specs.Commands.{Command, Open}
 use Rattle.posting_rules.specs.Counter.{Seen, StandsAt, LeavesOnly, ShowsBeginning, Takes, Refuses}
 use Rattle.posting_rules.specs.Counter.{opening_behind}
 use Rattle.posting_rules.specs.declared.counter.Opening.{Opening}
@@ -9,24 +9,25 @@ use Rattle.posting_rules.specs.declared.counter.Opening.TheVariants.{Opened, Alr
 use Rattle.posting_rules.specs.declared.fault.Fault.{Fault}
 use Rattle.posting_rules.specs.declared.fault.Fault.TheVariants.{Down}
 use Rattle.branch_loader.specs.declared.loader.Loaded.{Loaded}
-use Rattle.branch_loader.specs.Plans.{Rows, openings}
+use Rattle.branch_loader.specs.Plans.{Rows, openings, terms_of}
 
 -- the answers to a plan's openings, each behind the log and the openings before it
 unfoldable pub answers : List Command → Rows → List Opening
 answers log [] = []
-answers log (p ∷ rows) = opening_behind log p.0 (opened_with p.1) ∷ answers (Open p.0 p.1 ∷ log) rows
+answers log (p ∷ rows) =
+    opening_behind log p.0 (terms_of p) ∷ answers (Open p.0 (terms_of p) ∷ log) rows
 
 -- the branch was opened now
 abbrev pub is_opened : Opening → Bool
 is_opened Opened = true
 is_opened _ = false
 
--- it was open with this count
+-- it was open with this count and this floor
 abbrev pub is_already : Opening → Bool
 is_already Already = true
 is_already _ = false
 
--- it was open with another count
+-- it was open with another count or another floor
 abbrev pub is_differs : Opening → Bool
 is_differs Differs = true
 is_differs _ = false

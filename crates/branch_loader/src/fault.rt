@@ -7,12 +7,14 @@ use std::fmt;
 pub enum PlanFault {
     /// The first record isn't the header, or there is none.
     Header,
-    /// The row hasn't two fields.
+    /// The row hasn't as many fields as the header.
     Columns(u64),
     /// The row's branch isn't 1 to 9 digits with a value of 1..=`LAST_BRANCH`.
     Branch(u64),
-    /// The row's count of accounts isn't 1 to 9 digits with a value of 1..=`MOST_ACCOUNTS`.
+    /// The row's count of accounts isn't 1 to 9 digits with a value of 1..=`MAX_ACCOUNTS`.
     Accounts(u64),
+    /// The row's floor isn't empty, a zero of 1 to 12 digits, or `-` and 1 to 12 digits.
+    Floor(u64),
     /// An earlier row names the row's branch.
     Twice(u64),
     /// The source failed.
@@ -34,6 +36,7 @@ impl fmt::Display for PlanFault {
             PlanFault::Columns(row) => write!(f, "plan row {row} columns"),
             PlanFault::Branch(row) => write!(f, "plan row {row} branch"),
             PlanFault::Accounts(row) => write!(f, "plan row {row} accounts"),
+            PlanFault::Floor(row) => write!(f, "plan row {row} floor"),
             PlanFault::Twice(row) => write!(f, "plan row {row} twice"),
             PlanFault::Csv => write!(f, "plan unreadable"),
             PlanFault::Memory => write!(f, "no memory"),

@@ -13,9 +13,9 @@ use posting_core::{Counter, Fault, LAST_BRANCH, Opening};
 pub struct Loaded {
     /// The branch is open from now on.
     pub opened: u32,
-    /// It was open with this count of accounts.
+    /// It was open with this count of accounts and this floor.
     pub already: u32,
-    /// It was open with another count, which stays.
+    /// It was open with another count or another floor, which stay.
     pub differs: u32,
 }
 
@@ -67,8 +67,8 @@ pub fn load<C: Counter>(plan: &Plan, counter: &mut C) -> Result<Loaded, Fault>
         differs: 0,
     };
     for row in plan.rows() {
-        let (branch, count) = *row;
-        let opening = counter.open_branch(branch, count)?;
+        let (branch, count, floor) = *row;
+        let opening = counter.open_branch(branch, count, floor)?;
         loaded = with_answer(loaded, opening);
     }
     Ok(loaded)

@@ -1,22 +1,23 @@
 //! Reading a plan from CSV.
-ghost use Rattle.std.specs.Prelude.{◌≡◌, ◌<◌, ◌≤◌, ◌+◌, ◌⊎◌, ℕ, List, [], true, length, option_map, IfOk};
-ghost use Rattle.std.specs.Prelude.{IfErr, IfSome, OnOk};
+ghost use Rattle.std.specs.Prelude.{◌≡◌, ◌<◌, ◌≤◌, ◌+◌, ℕ, List, true, length, option_map, IfOk, IfErr, IfSome};
+ghost use Rattle.std.specs.Prelude.{OnErr, OnOk};
+ghost use Rattle.message_records.specs.declared.limits.TheConstants.{MAX_BALANCE};
+ghost use Rattle.std.specs.Result.{IsErrOf};
 ghost use Rattle.posting_core.specs.Told.{EndsWith};
 ghost use Rattle.csv.specs.Records.{fields_of};
-ghost use Rattle.branch_loader.specs.Plans.{IsToldSo, TellsPlan, plan_of, plan_of_records};
-ghost use Rattle.branch_loader.specs.Plans.{is_header, number_within, row_of_fields, two_of};
-ghost use Rattle.branch_loader.specs.Records.{WasRecord, IsSourceFailure, ToldWantOfMemory, RecordTold};
-ghost use Rattle.branch_loader.specs.Records.{Records};
-ghost use Rattle.branch_loader.specs.Records.{TakesRecord};
+ghost use Rattle.branch_loader.specs.Plans.{IsToldSo, ReadsPlan, TellsPlan, plan_of, plan_of_records};
+ghost use Rattle.branch_loader.specs.Plans.{amount_of, are_names, floor_of, header_of, number_within, parts_of};
+ghost use Rattle.branch_loader.specs.Plans.{row_of_fields, three_of, two_of};
+ghost use Rattle.branch_loader.specs.Records.{Records, TakesRecord, WasFailure, WasRecord};
 
 use crate::fault::PlanFault;
 use crate::plan::{Plan, row_of};
 use crate::records::RecordSource;
+use crate::text::read_text;
 use csv::{ByteRecord, ErrorKind, ReaderBuilder};
-use message_records::{Branch, read_digits};
-use posting_core::{LAST_BRANCH, MOST_ACCOUNTS};
+use message_records::{Branch, Cents, read_digits};
+use posting_core::{LAST_BRANCH, MAX_ACCOUNTS, Source};
 use std::alloc::Global;
-use std::io::Read;
 
 // The number from 1 to `most` that a field of 1 to 9 digits writes.
 fn number_within(field: &[u8], most: u32) -> Option<u32>
@@ -50,34 +51,104 @@ fn two_of(fields: &ByteRecord) -> Option<(&[u8], &[u8])>
     Some((fields.get(0)?, fields.get(1)?))
 }
 
-// Whether a record is the header.
-fn is_header(fields: &ByteRecord) -> bool
-    ensures { result ≡ is_header (fields_of fields.now) }
+// The three fields of a record of three.
+fn three_of(fields: &ByteRecord) -> Option<(&[u8], &[u8], &[u8])>
+    ensures { option_map (λ p. (p.0.now, p.1.now, p.2.now)) result ≡ three_of (fields_of fields.now) }
 {
+    if fields.len() != 3 {
+        return None;
+    }
+    Some((fields.get(0)?, fields.get(1)?, fields.get(2)?))
+}
+
+// Branch, accounts and floor of a record, in a plan with floors or without: there the last is empty.
+fn parts_of(has_floors: bool, fields: &ByteRecord) -> Option<(&[u8], &[u8], &[u8])>
+    ensures { option_map (λ p. (p.0.now, p.1.now, p.2.now)) result ≡ parts_of has_floors (fields_of fields.now) }
+{
+    if has_floors {
+        return three_of(fields);
+    }
     match two_of(fields) {
-        Some((branch, accounts)) => {
-            branch == b"branch".as_slice() && accounts == b"accounts".as_slice()
+        Some((branch, accounts)) => Some((branch, accounts, b"".as_slice())),
+        None => None,
+    }
+}
+
+// Whether the fields name the columns, of which the last is empty where a plan has no floors.
+fn are_names(last: &[u8], has_floors: bool, fields: &ByteRecord) -> bool
+    ensures { result ≡ are_names last.now (parts_of has_floors (fields_of fields.now)) }
+{
+    match parts_of(has_floors, fields) {
+        Some((branch, accounts, floor)) => {
+            branch == b"branch".as_slice() && accounts == b"accounts".as_slice() && floor == last
         }
         None => false,
     }
 }
 
-// The row that a record states behind the rows before it.
-fn row_of_fields(before: &[(Branch, u32)], fields: &ByteRecord) -> Result<(Branch, u32), PlanFault>
-    requires { length before.now ≤ LAST_BRANCH + 1 }
-    ensures { result ≡ row_of_fields before.now (fields_of fields.now) }
+// Whether a plan has floors, by its header: none where the record is no header.
+fn header_of(fields: &ByteRecord) -> Option<bool>
+    ensures { result ≡ header_of (fields_of fields.now) }
 {
-    match two_of(fields) {
-        Some((branch, accounts)) => row_of(
+    if are_names(b"", false, fields) {
+        Some(false)
+    } else if are_names(b"floor", true, fields) {
+        Some(true)
+    } else {
+        None
+    }
+}
+
+// The number that 1 to 12 digits write.
+fn amount_of(digits: &[u8]) -> Option<u64>
+    ensures value { result ≡ amount_of digits.now }
+    ensures most { IfSome result (λ n. n ≤ MAX_BALANCE) }
+{
+    if digits.is_empty() || digits.len() > 12 {
+        return None;
+    }
+    read_digits(digits)
+}
+
+// The floor that a field writes: none where it is empty, and else zero, or an amount with a minus.
+fn floor_of(field: &[u8]) -> Option<Option<Cents>>
+    ensures { result ≡ floor_of field.now }
+{
+    let Some((sign, digits)) = field.split_first() else {
+        return Some(None);
+    };
+    if *sign == b'-' {
+        let amount = amount_of(digits)? as i64;
+        return Some(Some(Cents::new(-amount)?));
+    }
+    match amount_of(field)? {
+        0 => Some(Some(Cents::zero())),
+        _ => None,
+    }
+}
+
+// The row that a record states behind the rows before it.
+fn row_of_fields(
+    has_floors: bool,
+    before: &[(Branch, u32, Option<Cents>)],
+    fields: &ByteRecord,
+) -> Result<(Branch, u32, Option<Cents>), PlanFault>
+    requires { length before.now ≤ LAST_BRANCH + 1 }
+    ensures { result ≡ row_of_fields has_floors before.now (fields_of fields.now) }
+{
+    match parts_of(has_floors, fields) {
+        Some((branch, accounts, floor)) => row_of(
             before,
             branch_of(branch),
-            number_within(accounts, MOST_ACCOUNTS),
+            number_within(accounts, MAX_ACCOUNTS),
+            floor_of(floor),
         ),
         None => Err(PlanFault::Columns(before.len() as u64 + 1)),
     }
 }
 
-// Takes the next record, if there is one.
+// Takes the next record, if there is one. A failure of csv is told as want of memory: its source is a text in
+// memory, which doesn't fail.
 fn next_record<S: RecordSource>(source: &mut S, fields: &mut ByteRecord) -> Result<bool, PlanFault>
     requires { S.is_plain source.old }
     ensures plain { OnOk result (S.is_plain source.new) }
@@ -85,15 +156,13 @@ fn next_record<S: RecordSource>(source: &mut S, fields: &mut ByteRecord) -> Resu
         → TakesRecord found (fields_of fields.new) rows (S.has_left source.new)) }
     ensures found { IfOk result (λ found. found ≡ true
         → EndsWith WasRecord (S.told source.old) (S.told source.new)) }
-    ensures fault { IfErr result (λ fault.
-        ((fault ≡ PlanFault.Csv) × EndsWith IsSourceFailure (S.told source.old) (S.told source.new))
-        ⊎ ((fault ≡ PlanFault.Memory) × EndsWith ToldWantOfMemory (S.told source.old) (S.told source.new))) }
+    ensures fault { IfErr result (λ fault. fault ≡ PlanFault.Memory) }
+    ensures failed { OnErr result (EndsWith WasFailure (S.told source.old) (S.told source.new)) }
 {
     match source.next(fields) {
         Ok(found) => Ok(found),
         Err(error) => match error.into_kind() {
-            ErrorKind::Io(_) => Err(PlanFault::Csv),
-            ErrorKind::OutOfMemory => Err(PlanFault::Memory),
+            ErrorKind::Io(_) | ErrorKind::OutOfMemory => Err(PlanFault::Memory),
             _ => unreachable!(),
         },
     }
@@ -112,32 +181,40 @@ fn read_rows<S: RecordSource>(
     if !next_record(records, fields)? {
         return Err(PlanFault::Header);
     }
-    if !is_header(fields) {
+    let Some(has_floors) = header_of(fields) else {
         return Err(PlanFault::Header);
-    }
+    };
     let mut rows = Vec::new(alloc);
     'rows: while next_record(records, fields)? {
-        let row = row_of_fields(rows.as_slice(), fields)?;
+        let row = row_of_fields(has_floors, rows.as_slice(), fields)?;
         rows.push(row).map_err(|_| PlanFault::Memory)?;
     }
     Ok(Plan::new(rows))
 }
 
-/// Reads a plan to the end of the source, or to its first fault: the header `branch,accounts`, after a byte
-/// order mark or without one, and a record of a branch and its count of accounts for each branch. It takes
-/// memory for the rows and for one record. `Csv` comes only where the last that csv reported was a failure of
-/// its source, `Memory` only where that was want of memory, or where it was a record and the room for its row
-/// was refused.
-pub fn read_plan<R: Read + Drop>(alloc: Global, reader: R) -> Result<Plan, PlanFault>
-    ensures plan { IfSome (R.remaining reader) (λ text. TellsPlan (plan_of text) result) }
-    ensures told { (told : List RecordTold) × IsToldSo result (Some []) (Some told) }
+// The plan that a text states. It takes memory for the rows and for one record.
+fn plan_of_text(alloc: Global, text: &[u8]) -> Result<Plan, PlanFault>
+    ensures plan { TellsPlan (plan_of text.now) result }
+    ensures read { IsErrOf result PlanFault.Csv → ⊥ }
 {
     let mut records = ReaderBuilder::new()
         .has_headers(false)
         .flexible(true)
-        .from_reader(alloc, reader);
+        .from_reader(alloc, text);
     let mut fields = ByteRecord::new(alloc);
     let plan = read_rows(alloc, &mut records, &mut fields);
     drop(records);
     plan
+}
+
+/// Reads a source to its end, and answers the plan that its text states, or the text's first fault: the header
+/// `branch,accounts` or `branch,accounts,floor`, after a byte order mark or without one, and a record of a
+/// branch, its count of accounts and, in the second case, their floor or nothing for each branch. It takes memory for the text, the rows and one record. `Csv` comes only where a
+/// read of this call failed, or where 2^64 - 1 of them were made; an interrupted read is made again.
+pub fn read_plan<R: Source>(alloc: Global, reader: &mut R) -> Result<Plan, PlanFault>
+    ensures { ReadsPlan (R.remaining reader.old) (R.remaining reader.new)
+        (R.told reader.old) (R.told reader.new) result }
+{
+    let text = read_text(alloc, reader)?;
+    plan_of_text(alloc, &text)
 }

@@ -5,58 +5,115 @@ use Rattle.std.specs.Io.KnownBytes.{Appends, Keeps}
 use Rattle.std.proofs.KnownBytes.{Keeps-refl}
 use Rattle.posting_rules.specs.declared.fault.Fault.{Fault}
 use Rattle.posting_rules.specs.Counter.{Seen}
+use Rattle.posting_core.specs.Told.{ReadTold}
+use Rattle.branch_loader.specs.Plans.{ReadsPlan, Rows}
+use Rattle.branch_loader.specs.declared.fault.PlanFault.{PlanFault}
+use Rattle.branch_loader.specs.declared.fault.PlanFault.TheVariants.{Header, Columns, Branch, Accounts, Floor}
+use Rattle.branch_loader.specs.declared.fault.PlanFault.TheVariants.{Twice}
+use Rattle.branch_loader.specs.declared.fault.PlanFault.TheVariants.{Csv, Memory}
 use Rattle.branch_loader.specs.declared.loader.Loaded.{Loaded}
-use Rattle.command_line.specs.Faults.{fault_of_bank}
+use Rattle.command_line.specs.Faults.{fault_of_bank, fault_of_plan}
 use Rattle.command_line.specs.Lines.{loaded_line}
-use Rattle.command_line.specs.Looking.{IsPlanFault}
+use Rattle.command_line.specs.Looking.{IsOfPlanFile, IsPlanFault}
 use Rattle.command_line.specs.declared.fault.CommandFault.{CommandFault}
+use Rattle.command_line.specs.declared.fault.CommandFault.TheVariants as fault
 use Rattle.command_line.specs.declared.fault.CommandFault.TheVariants.{Write}
-use Rattle.command_line.specs.Working.{Loads, LoadsAs, LoadsOver, ended_by_load}
+use Rattle.command_line.specs.declared.status.Status.{Status}
+use Rattle.command_line.specs.Working.{Loads, LoadsAnswer, LoadsAs, LoadsFrom, LoadsOver, ended_by_load}
 
--- what load_into ensures
-pub record Ended {C : Type 0} (seen : C → Seen) (w w' : Option (List ℕ)) (r : Result Loaded CommandFault)
-    (old new : C) : Type 0 where
-  pub loads : LoadsOver seen w w' (λ end. ended_by_load r ≡ end) old new
-  pub line : IfOk r (λ loaded. Appends w w' (loaded_line loaded))
-  pub silent : IfErr r (λ fault. fault ≢ Write → Keeps w w')
+-- ---- a plan that is read from a source
 
-module _ {C : Type 0} (seen : C → Seen) (w : Option (List ℕ)) (old : C) where
-  -- the plan couldn't be read
-  pub unread : (r : Result Loaded CommandFault) (fault : CommandFault) → r ≡ Err fault → IsPlanFault fault
-      → Ended seen w w r old old
-  unread r fault same plan = rw same record {
-    loads = inl (((fault, plan, refl), Keeps-refl w), refl);
+-- what load_from ensures
+pub record Ended {C : Type 0} (seen : C → Seen) (r r' : Option (List ℕ)) (q q' : Option (List ReadTold))
+    (w w' : Option (List ℕ)) (result : Result Loaded CommandFault) (old new : C) : Type 0 where
+  pub loads : LoadsFrom seen r r' q q' w w' (λ end. ended_by_load result ≡ end) old new
+  pub line : IfOk result (λ loaded. Appends w w' (loaded_line loaded))
+  pub silent : IfErr result (λ fault. fault ≢ Write → Keeps w w')
+
+module _ {C : Type 0} (seen : C → Seen) {r r' : Option (List ℕ)} {q q' : Option (List ReadTold)}
+    (w : Option (List ℕ)) (old : C) where
+  -- it is none
+  pub unread : (result : Result Loaded CommandFault) (fault : PlanFault) → result ≡ Err (fault_of_plan fault)
+      → ReadsPlan r r' q q' (Err fault) → Ended seen r r' q q' w w result old old
+  unread result fault same reads = rw same record {
+    loads = record { answer = Err fault; reads = reads; does = ((refl, Keeps-refl w), refl) };
     line = tt;
     silent = λ other. Keeps-refl w;
   }
 
   -- the bank refused an opening
-  pub refused : (new : C) (r : Result Loaded CommandFault) (fault : Fault) → r ≡ Err (fault_of_bank fault)
-      → LoadsAs seen (Err fault) old new
-      → Ended seen w w r old new
-  refused new r fault same did = rw same record {
-    loads = inr (Err fault, (refl, Keeps-refl w), did);
+  pub refused : (new : C) (result : Result Loaded CommandFault) (rows : Rows) (fault : Fault)
+      → result ≡ Err (fault_of_bank fault) → ReadsPlan r r' q q' (Ok rows)
+      → LoadsAs seen rows (Err fault) old new → Ended seen r r' q q' w w result old new
+  refused new result rows fault same reads did = rw same record {
+    loads = record { answer = Ok rows; reads = reads; does = (Err fault, (refl, Keeps-refl w), did) };
     line = tt;
     silent = λ other. Keeps-refl w;
   }
 
   -- the openings were answered, but the line couldn't be printed
-  pub unprinted : (w' : Option (List ℕ)) (new : C) (r : Result Loaded CommandFault) (loaded : Loaded)
-      → r ≡ Err Write
-      → Loads (seen old) (seen new) loaded
-      → Ended seen w w' r old new
-  unprinted w' new r loaded same did = rw same record {
-    loads = inr (Ok loaded, inr refl, did);
+  pub unprinted : (w' : Option (List ℕ)) (new : C) (result : Result Loaded CommandFault) (rows : Rows)
+      (loaded : Loaded) → result ≡ Err Write → ReadsPlan r r' q q' (Ok rows)
+      → Loads rows (seen old) (seen new) loaded → Ended seen r r' q q' w w' result old new
+  unprinted w' new result rows loaded same reads did = rw same record {
+    loads = record { answer = Ok rows; reads = reads; does = (Ok loaded, inr refl, did) };
     line = tt;
     silent = λ other. absurd (other refl);
   }
 
   -- they were, and it was printed
-  pub printed : (w' : Option (List ℕ)) (new : C) (loaded : Loaded) → Appends w w' (loaded_line loaded)
-      → Loads (seen old) (seen new) loaded
-      → Ended seen w w' (Ok loaded) old new
-  printed w' new loaded line did = record {
-    loads = inr (Ok loaded, inl (refl, line), did);
+  pub printed : (w' : Option (List ℕ)) (new : C) (rows : Rows) (loaded : Loaded)
+      → Appends w w' (loaded_line loaded) → ReadsPlan r r' q q' (Ok rows)
+      → Loads rows (seen old) (seen new) loaded → Ended seen r r' q q' w w' (Ok loaded) old new
+  printed w' new rows loaded line reads did = record {
+    loads = record { answer = Ok rows; reads = reads; does = (Ok loaded, inl (refl, line), did) };
     line = line;
     silent = tt;
   }
+
+-- ---- a plan in a file
+
+-- each fault of a plan is told as one
+of_plan : (fault : PlanFault) → IsPlanFault (fault_of_plan fault)
+of_plan Header = tt
+of_plan (Columns n) = tt
+of_plan (Branch n) = tt
+of_plan (Accounts n) = tt
+of_plan (Floor n) = tt
+of_plan (Twice n) = tt
+of_plan Csv = tt
+of_plan Memory = tt
+
+of_file : (told : CommandFault) → IsOfPlanFile told → IsPlanFault told
+of_file fault.Memory is = tt
+of_file (fault.Plan plan) is = tt
+of_file fault.Store is = absurd is
+of_file (fault.Damaged rule) is = absurd is
+of_file fault.Read is = absurd is
+of_file fault.Write is = absurd is
+of_file (fault.Truncated n) is = absurd is
+of_file fault.AlreadyBank is = absurd is
+of_file fault.NoBank is = absurd is
+of_file fault.Foreign is = absurd is
+of_file (fault.Version n) is = absurd is
+of_file fault.NoBranches is = absurd is
+of_file (fault.NoAccount n) is = absurd is
+of_file fault.Network is = absurd is
+
+-- the file wasn't opened
+pub unopened : {C : Type 0} (seen : C → Seen) (w : Option (List ℕ)) (bank : C)
+    (result : Result Loaded CommandFault) (told : CommandFault) → result ≡ Err told → IsOfPlanFile told
+    → LoadsOver seen w w (λ end. ended_by_load result ≡ end) bank bank
+unopened seen w bank result told same is =
+    rw same (inl (((told, of_file told is, refl), Keeps-refl w), refl))
+
+-- what was done with a source's plan was done with a plan
+pub over : {C : Type 0} (seen : C → Seen) {r r' : Option (List ℕ)} {q q' : Option (List ReadTold)}
+    {w w' : Option (List ℕ)} (Ends : Result Status CommandFault → Type 0) {old new : C}
+    → LoadsFrom seen r r' q q' w w' Ends old new → LoadsOver seen w w' Ends old new
+over {C} seen {w = w} {w' = w'} Ends {old = old} {new = new} it = by it.answer it.does
+  where
+    by : (answer : Result Rows PlanFault) → LoadsAnswer seen w w' Ends answer old new
+        → LoadsOver seen w w' Ends old new
+    by (Ok rows) d = inr (d.0, d.1, (rows, d.2))
+    by (Err fault) d = inl (((fault_of_plan fault, of_plan fault, d.0.0), d.0.1), d.1)

@@ -2,6 +2,7 @@
 use Rattle.std.specs.Prelude.{⊤}
 use Rattle.std.specs.declared.io.ErrorKind.{ErrorKind}
 use Rattle.std.specs.declared.io.ErrorKind.TheVariants as kind
+use Rattle.branch_loader.specs.declared.fault.PlanFault.TheVariants.{Csv}
 use Rattle.command_line.specs.declared.fault.CommandFault.{CommandFault}
 use Rattle.command_line.specs.declared.fault.CommandFault.TheVariants.{AlreadyBank, Damaged, Foreign, Memory}
 use Rattle.command_line.specs.declared.fault.CommandFault.TheVariants.{NoBank}
@@ -20,6 +21,17 @@ IsOfLook NoBank = ⊤
 IsOfLook Memory = ⊤
 IsOfLook Store = ⊤
 IsOfLook _ = ⊥
+
+-- a plan whose file isn't opened is an unreadable one
+abbrev pub fault_of_plan_file : ErrorKind → CommandFault
+fault_of_plan_file kind.OutOfMemory = Memory
+fault_of_plan_file _ = Plan Csv
+
+-- the fault is one of those
+abbrev pub IsOfPlanFile : CommandFault → Type 0
+IsOfPlanFile Memory = ⊤
+IsOfPlanFile (Plan Csv) = ⊤
+IsOfPlanFile _ = ⊥
 
 -- the fault is one with which a bank isn't made in its file, or isn't found there
 abbrev pub IsOfOpening : CommandFault → Type 0

@@ -6,14 +6,16 @@ use Rattle.posting_rules.specs.declared.fault.Fault.{Fault}
 use Rattle.posting_rules.specs.Commands.{Command}
 use Rattle.posting_rules.specs.Counter.{Seen, ShowsLog, Takes}
 use Rattle.branch_loader.specs.Loading.{IsRefusedAfter, answers, counted, total}
-use Rattle.branch_loader.specs.Plans.{Rows, openings}
+use Rattle.branch_loader.specs.Plans.{ReadsPlan, Rows, openings}
+use Rattle.branch_loader.specs.declared.fault.PlanFault.{PlanFault}
 use Rattle.branch_loader.specs.declared.loader.Loaded.{Loaded}
 use Rattle.load_driver.specs.Drives.{Drives}
 use Rattle.load_driver.specs.declared.drive.Driven.{Driven}
 use Rattle.load_driver.specs.declared.drive_fault.DriveFault.{DriveFault}
 use Rattle.counter_http.specs.Connections.{ServesConnections}
 use Rattle.counter_http.specs.declared.listen_fault.ListenFault.{ListenFault}
-use Rattle.command_line.specs.Faults.{fault_of_bank, fault_of_drive, fault_of_serving}
+use Rattle.posting_core.specs.Told.{ReadTold}
+use Rattle.command_line.specs.Faults.{fault_of_bank, fault_of_drive, fault_of_plan, fault_of_serving}
 use Rattle.command_line.specs.Lines.{driven_line, listening_line, loaded_line}
 use Rattle.command_line.specs.Looking.{IsPlanFault}
 use Rattle.command_line.specs.Statuses.{status_of_loaded}
@@ -22,17 +24,16 @@ use Rattle.command_line.specs.declared.fault.CommandFault.TheVariants.{Network, 
 use Rattle.command_line.specs.declared.status.Status.{Status}
 use Rattle.command_line.specs.declared.status.Status.TheVariants.{Done}
 
--- the bank took the openings of a plan, and they were answered so many times in each way
-pub record Loads (old new : Seen) (loaded : Loaded) : Type 0 where
-  pub rows : Rows
+-- the bank took the openings of a plan's rows, and they were answered so many times in each way
+pub record Loads (rows : Rows) (old new : Seen) (loaded : Loaded) : Type 0 where
   pub takes : Takes old new (openings rows)
   pub all : total loaded ≡ length rows
   pub counts : new.honest → (log : List Command) → ShowsLog old log → loaded ≡ counted (answers log rows)
 
--- the openings of a plan were taken; or some were, and the bank refused the next one
-abbrev pub LoadsAs : {C : Type 0} → (C → Seen) → Result Loaded Fault → (old new : C) → Type 0
-LoadsAs seen (Ok loaded) old new = Loads (seen old) (seen new) loaded
-LoadsAs seen (Err fault) old new = (rows : Rows) × (answered : ℕ)
+-- they were taken; or some were, and the bank refused the next one
+abbrev pub LoadsAs : {C : Type 0} → (C → Seen) → Rows → Result Loaded Fault → (old new : C) → Type 0
+LoadsAs seen rows (Ok loaded) old new = Loads rows (seen old) (seen new) loaded
+LoadsAs seen rows (Err fault) old new = (answered : ℕ)
     × IsRefusedAfter seen old new (openings rows) fault answered
 
 -- ---- what is printed of the work
@@ -108,7 +109,22 @@ Works {C} {X} Idle Tells Did old new = (Idle × (new ≡ old)) ⊎ ((told : X) �
 abbrev pub LoadsOver : {C : Type 0} → (C → Seen) → (w w' : Option (List ℕ))
     → (Ends : Result Status CommandFault → Type 0) → (old new : C) → Type 0
 LoadsOver seen w w' Ends = Works (EndsInFault IsPlanFault Ends × Keeps w w') (TellsLoad Ends w w')
-    (LoadsAs seen)
+    (λ told old new. (rows : Rows) × LoadsAs seen rows told old new)
+
+-- the plan that was answered was loaded into a bank; or it is none, and the bank was left as it was
+abbrev pub LoadsAnswer : {C : Type 0} → (C → Seen) → (w w' : Option (List ℕ))
+    → (Ends : Result Status CommandFault → Type 0) → Result Rows PlanFault → (old new : C) → Type 0
+LoadsAnswer seen w w' Ends (Ok rows) old new =
+    (told : Result Loaded Fault) × TellsLoad Ends w w' told × LoadsAs seen rows told old new
+LoadsAnswer seen w w' Ends (Err fault) old new = EndsSilently Ends w w' (fault_of_plan fault) × (new ≡ old)
+
+-- that of a source: its known bytes before and after are r and r', and what its reads are known to have
+-- returned q and q'
+pub record LoadsFrom {C : Type 0} (seen : C → Seen) (r r' : Option (List ℕ)) (q q' : Option (List ReadTold))
+    (w w' : Option (List ℕ)) (Ends : Result Status CommandFault → Type 0) (old new : C) : Type 0 where
+  pub answer : Result Rows PlanFault
+  pub reads : ReadsPlan r r' q q' answer
+  pub does : LoadsAnswer seen w w' Ends answer old new
 
 -- so many records of a seed were submitted to a bank, or as many as it took
 abbrev pub DrivesOver : {C : Type 0} → (C → Seen) → (k k' w w' : Option (List ℕ)) → (seed count : ℕ)

@@ -1,7 +1,7 @@
 //! Why a command ends before its work is done, and what each fault of a library becomes.
 ghost use Rattle.std.specs.Prelude.{◌≡◌};
 ghost use Rattle.std.specs.IoError.{error_kind};
-ghost use Rattle.command_line.specs.Looking.{IsOfLook, fault_of_look};
+ghost use Rattle.command_line.specs.Looking.{IsOfLook, IsOfPlanFile, fault_of_look, fault_of_plan_file};
 ghost use Rattle.command_line.specs.Faults.{fault_of_bank, fault_of_drive, fault_of_opening, fault_of_plan};
 ghost use Rattle.command_line.specs.Faults.{fault_of_serving, fault_of_stream, status_of};
 
@@ -46,7 +46,7 @@ pub enum CommandFault {
     NoBranches,
     /// Status 4. The account isn't open.
     NoAccount(Account),
-    /// Status 3. The address can't be bound, or the listener gave no connection.
+    /// Status 3. The address can't be bound or has no text, or the listener gave no connection.
     Network,
 }
 
@@ -61,6 +61,17 @@ impl CommandFault {
             ErrorKind::NotFound | ErrorKind::NotADirectory => CommandFault::NoBank,
             ErrorKind::OutOfMemory => CommandFault::Memory,
             _ => CommandFault::Store,
+        }
+    }
+
+    /// Why the file of a plan isn't opened: the plan can't be read, or memory was refused.
+    pub fn of_plan_file(error: &io::Error) -> CommandFault
+        ensures is { result ≡ fault_of_plan_file (error_kind error.now) }
+        ensures kind { IsOfPlanFile result }
+    {
+        match error.kind() {
+            ErrorKind::OutOfMemory => CommandFault::Memory,
+            _ => CommandFault::Plan(PlanFault::Csv),
         }
     }
 

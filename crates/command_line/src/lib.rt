@@ -40,9 +40,10 @@ pub use driving::drive_into;
 pub use fault::CommandFault;
 pub use limits::MAX_CONNECTIONS;
 pub use lines::{
-    explain, print_created, print_driven, print_listening, print_loaded, tell, tell_no_words,
+    ListeningLine, explain, print_created, print_driven, print_listening, print_loaded, tell,
+    tell_no_words,
 };
-pub use loading::load_into;
+pub use loading::{load_from, load_into};
 pub use reading::{Command, read_words};
 pub use serving::listen;
 pub use status::Status;

@@ -1,9 +1,9 @@
 //! What the program prints: one line for a command that did its work, and one on standard error for a fault.
-ghost use Rattle.std.specs.Prelude.{◌≡◌, ◌⊎◌, [], IfSome, IsErr, IsErrOf, IsOk, OnErr, OnOk};
+ghost use Rattle.std.specs.Prelude.{◌≡◌, ◌⊎◌, IfSome, IsErr, IsErrOf, IsOk, OnErr, OnOk};
 ghost use Rattle.std.specs.Io.KnownBytes.{Keeps};
 ghost use Rattle.std.specs.IoError.{error_kind};
 ghost use Rattle.clap.specs.Words.{kind_of};
-ghost use Rattle.posting_core.specs.Told.{EndsWith, GrowsBy, HasWriteFailed, IsFlush};
+ghost use Rattle.posting_core.specs.Told.{EndsWith, HasWriteFailed, IsFlush};
 ghost use Rattle.command_line.specs.Faults.{status_of};
 ghost use Rattle.command_line.specs.Lines.{IsHelpOrVersion, IsShown, PrintsLine, created_line, driven_line};
 ghost use Rattle.command_line.specs.Lines.{listening_line, loaded_line};
@@ -20,6 +20,7 @@ use posting_core::{Sink, write_out};
 use std::fmt::Write as WriteText;
 use std::io;
 use std::io::Write;
+use std::marker::Model;
 use std::net::SocketAddr;
 
 // The most that a line takes.
@@ -62,18 +63,44 @@ pub fn print_driven<W: Sink>(count: u64, driven: Driven, output: &mut W) -> Resu
 }
 
 /// Prints the address with its port at which the counter listens, as `listening 127.0.0.1:8080`.
-pub fn print_listening<W: Sink>(address: SocketAddr, output: &mut W) -> Result<(), CommandFault>
-    ensures prints { PrintsLine (listening_line address) (W.contents output.old) (W.contents output.new)
+pub fn print_listening<W: Sink>(line: &ListeningLine, output: &mut W) -> Result<(), CommandFault>
+    ensures prints { PrintsLine (listening_line line.now) (W.contents output.old) (W.contents output.new)
         (W.told output.old) (W.told output.new) result }
     ensures fault { OnErr result (IsErrOf result CommandFault.Write) }
-    // No clause of std says that the text of an address has room, so that one may be given up at once.
-    ensures failed { OnErr result (HasWriteFailed (W.told output.old) (W.told output.new)
-        ⊎ GrowsBy (W.told output.old) (W.told output.new) []) }
+    ensures failed { OnErr result (HasWriteFailed (W.told output.old) (W.told output.new)) }
 {
-    let Some(line) = listening_text(address) else {
-        return Err(CommandFault::Write);
-    };
-    print_line(line.as_str(), output)
+    print_line(line.text.as_str(), output)
+}
+
+/// The line that says at which address the counter listens.
+#[derive(Drop)]
+pub struct ListeningLine {
+    address: SocketAddr,
+    text: ArrayString<LINE>,
+}
+
+impl Model for ListeningLine {
+    ghost use Rattle.std.specs.Prelude.{◌≡◌};
+    ghost use Rattle.std.specs.declared.net.socket_addr.SocketAddr.{SocketAddr as Address};
+    ghost use Rattle.command_line.specs.Lines.{listening_line};
+
+    // The address.
+    ghost Value = { Address };
+
+    ghost view = { λ line. line.address };
+
+    ghost invariant = { λ line. line.text.bytes ≡ listening_line line.address };
+}
+
+impl ListeningLine {
+    /// The line of an address; none where the text of the address can't be made.
+    #[must_use]
+    pub fn new(address: SocketAddr) -> Option<ListeningLine>
+        ensures { IfSome result (λ line. line ≡ address) }
+    {
+        let text = listening_text(address)?;
+        Some(ListeningLine { address, text })
+    }
 }
 
 // The line that `load` prints.

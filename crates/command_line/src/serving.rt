@@ -4,11 +4,11 @@ ghost use Rattle.std.specs.Io.KnownBytes.{Appends};
 ghost use Rattle.command_line.specs.Lines.{listening_line};
 ghost use Rattle.command_line.specs.Working.{MayTellListening, ServesOver, TellsListening, done_after};
 
-use crate::{CommandFault, print_listening};
+use crate::{CommandFault, ListeningLine, print_listening};
 use counter_http::serve_connections;
 use posting_core::{Clock, Counter};
 use std::io::Write;
-use std::net::{SocketAddr, TcpListener};
+use std::net::TcpListener;
 
 /// Binds the address, prints where it listens, and serves so many connections by a bank.
 pub fn listen<C: Counter, W: Write, K: Clock>(
@@ -25,21 +25,24 @@ pub fn listen<C: Counter, W: Write, K: Clock>(
     ensures serves { ServesOver C.seen (K.readings clock.old) (K.readings clock.new) connections
         (λ end. done_after result ≡ end) bank.old bank.new }
 {
-    let (listener, bound) = bind(rt, address)?;
-    serve_at(rt, &listener, bound, connections, bank, output, clock)
+    let (listener, line) = bind(rt, address)?;
+    serve_at(rt, &listener, &line, connections, bank, output, clock)
 }
 
-// A listener at the address, and where it is bound: where the address leaves the port open, with the one it
-// got.
-fn bind(rt: &HostRuntime, address: &str) -> Result<(TcpListener, SocketAddr), CommandFault>
+// A listener at the address, and the line that says where it is bound: where the address leaves the port open,
+// with the one it got.
+fn bind(rt: &HostRuntime, address: &str) -> Result<(TcpListener, ListeningLine), CommandFault>
     ensures { IfErr result (λ fault. fault ≡ CommandFault.Network) }
 {
     let Ok(listener) = TcpListener::bind(rt, address) else {
         return Err(CommandFault::Network);
     };
-    match listener.local_addr() {
-        Ok(bound) => Ok((listener, bound)),
-        Err(_) => Err(CommandFault::Network),
+    let Ok(bound) = listener.local_addr() else {
+        return Err(CommandFault::Network);
+    };
+    match ListeningLine::new(bound) {
+        Some(line) => Ok((listener, line)),
+        None => Err(CommandFault::Network),
     }
 }
 
@@ -47,20 +50,20 @@ fn bind(rt: &HostRuntime, address: &str) -> Result<(TcpListener, SocketAddr), Co
 fn serve_at<C: Counter, W: Write, K: Clock>(
     rt: &HostRuntime,
     listener: &TcpListener,
-    bound: SocketAddr,
+    line: &ListeningLine,
     connections: u64,
     bank: &mut C,
     output: &mut W,
     clock: &mut K,
 ) -> Result<(), CommandFault>
     ensures line { OnOk result
-        (Appends (W.contents output.old) (W.contents output.new) (listening_line bound)) }
+        (Appends (W.contents output.old) (W.contents output.new) (listening_line line.now)) }
     ensures told { IfErr result (λ fault. fault ≢ CommandFault.Write
-        → Appends (W.contents output.old) (W.contents output.new) (listening_line bound)) }
+        → Appends (W.contents output.old) (W.contents output.new) (listening_line line.now)) }
     ensures serves { ServesOver C.seen (K.readings clock.old) (K.readings clock.new) connections
         (λ end. done_after result ≡ end) bank.old bank.new }
 {
-    print_listening(bound, output)?;
+    print_listening(line, output)?;
     serve_connections(rt, listener, connections, clock, bank)?;
     Ok(())
 }

@@ -86,12 +86,12 @@ skipped log low high (suc m) none le lt = elim (cases_lt low (suc m)) [
   | inr ge ↦ ap (lines_up_to log) (let e : suc m ≡ low = omega arith in e)
 ]
 
-at_branch : (log : List Command) (b accounts : ℕ) (balance : ℤ) → 0 < b
-    → opened log b ≡ Some (opened_with accounts)
+at_branch : (log : List Command) (b accounts : ℕ) (floor : Option ℤ) (balance : ℤ) → 0 < b
+    → opened log b ≡ Some (opened_with accounts floor)
     → balance ≡ branch_balance (decided log) b
     → lines_up_to log b ≡ lines_up_to log (b - 1) ++ branch_line b accounts balance
-at_branch log zero accounts balance some e z = absurd (omega arith)
-at_branch log (suc m) accounts balance some e z =
+at_branch log zero accounts floor balance some e z = absurd (omega arith)
+at_branch log (suc m) accounts floor balance some e z =
     let less : m ≡ suc m - 1 = omega arith in
     ap (λ (o : Option Terms). lines_up_to log m ++ line_if_open log (suc m) o) e
     ∙ ap (λ (v : ℤ). lines_up_to log m ++ branch_line (suc m) accounts v) (sym z)
@@ -102,7 +102,7 @@ pub next_line : (log : List Command) (after : ℕ) (line : BranchLine) → IsNex
     ++ branch_line line.branch line.accounts line.balance
 next_line log after line is =
     let low : after < line.branch = is.above in
-    at_branch log line.branch line.accounts line.balance (omega arith) is.terms is.balance
+    at_branch log line.branch line.accounts line.floor line.balance (omega arith) is.terms is.balance
     ∙ ap (λ (t : List ℕ). t ++ branch_line line.branch line.accounts line.balance)
     (skipped log after line.branch (line.branch - 1) is.none_between (omega arith) (omega arith))
 

@@ -7,7 +7,7 @@ use std::os::fd::AsRawFd;
 use std::time::{Clock, Duration, Instant};
 
 // How often what a client still sends is read, and how many bytes at a time: 1 MiB at most.
-const MOST_READS: u32 = 64;
+const MAX_READS: u32 = 64;
 
 const PIECE: usize = 16_384;
 
@@ -22,7 +22,7 @@ pub(crate) fn end<T: Clock>(stream: &TcpStream, queue: Queue, time: &T, is_given
     let Ok(begun) = Instant::now(time) else {
         return;
     };
-    for _ in 0..MOST_READS {
+    for _ in 0..MAX_READS {
         let has_come = if is_given_up {
             is_readable(stream.as_raw_fd())
         } else {

@@ -12,8 +12,8 @@
 //!
 //! fn main(rt: HostRuntime) -> Result<(), anyhow::Error> {
 //!     let mut bank = PlainBank::new(rt.alloc());
-//!     bank.open_branch(Branch::new(1).unwrap(), 3)?;
-//!     bank.open_branch(Branch::new(2).unwrap(), 2)?;
+//!     bank.open_branch(Branch::new(1).unwrap(), 3, None)?;
+//!     bank.open_branch(Branch::new(2).unwrap(), 2, None)?;
 //!     let mut clock = StoredClock::new(Vec::new(rt.alloc()));
 //!     let listener = TcpListener::bind(&rt, "127.0.0.1:0")?; // any port that is free
 //!     let idle = TcpStream::connect(&rt, listener.local_addr()?)?;

@@ -1,5 +1,5 @@
 -- What is answered by a bank that shows two branches.
-use Rattle.std.proofs.Common.{◌≡◌, ℕ, List, [], ◌∷◌, Option, Result, Ok, Err, refl, subst, arith}
+use Rattle.std.proofs.Common.{◌≡◌, ℕ, List, [], ◌∷◌, Option, None, Result, Ok, Err, refl, subst, arith}
 use Rattle.std.specs.Prelude.{OnOk, IfErr}
 use Rattle.posting_core.specs.declared.once.OnceFault.{OnceFault}
 use Rattle.posting_core.specs.declared.once.OnceFault.TheVariants.{Short, Read, Write, Bank}
@@ -7,7 +7,7 @@ use Rattle.posting_rules.specs.declared.fault.Fault.{Fault}
 use Rattle.posting_rules.specs.declared.fault.Fault.TheVariants.{Memory, Store, Down, Damaged}
 use Rattle.posting_core.specs.declared.plain_bank.PlainBank.{PlainBank}
 use Rattle.posting_core.specs.Plain.{plain_seen}
-use Rattle.posting_rules.specs.Commands.{Command, Open, AreCommands}
+use Rattle.posting_rules.specs.Commands.{Command, Open, AreCommands, opened_with}
 use Rattle.posting_rules.specs.Tables.{Tables, AreTablesOf}
 use Rattle.posting_rules.specs.Counter.{Seen, ShowsLog, Refuses}
 use Rattle.posting_core.specs.Once as once
@@ -61,12 +61,15 @@ faulted {T} (Err fault) r r' w w' a b moment shows left_so = left fault r r' w w
 
 pub two_are_commands : AreCommands two_branches
 two_are_commands = (
-  (omega arith, omega arith, omega arith, omega arith),
-  ((omega arith, omega arith, omega arith, omega arith), tt),
+  (omega arith, omega arith, omega arith, omega arith, tt),
+  ((omega arith, omega arith, omega arith, omega arith, tt), tt),
 )
 
 -- the two branches by their numbers
-pub numbered : (t : Tables) (one two : ℕ) → one ≡ 1 → two ≡ 2 → AreTablesOf t (Open two 2 ∷ Open one 3 ∷ [])
+pub numbered : (t : Tables) (one two : ℕ) → one ≡ 1 → two ≡ 2
+    → AreTablesOf t (Open two (opened_with 2 None) ∷ Open one (opened_with 3 None) ∷ [])
     → AreTablesOf t two_branches
-numbered t one two e f s = let log : Open two 2 ∷ Open one 3 ∷ [] ≡ two_branches = rw (e, f) refl in subst
-    (λ (l : List Command). AreTablesOf t l) log s
+numbered t one two e f s =
+    let log : Open two (opened_with 2 None) ∷ Open one (opened_with 3 None) ∷ [] ≡ two_branches = rw
+    (e, f) refl in
+    subst (λ (l : List Command). AreTablesOf t l) log s

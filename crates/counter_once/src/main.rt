@@ -11,24 +11,14 @@
 //! refused memory, a read or a write that failed ends with 3.
 //!
 //! Read next: `once::answer_first`, and `answer_once` of `posting_core`, which answers a record at any
-//! counter.
+//! counter; `status::exit_code`, the status that it ends with.
 #![tactic(auto)]
 
 mod once;
+mod status;
 
-use posting_core::OnceFault;
 use std::process::ExitCode;
 
-/// The exit status where the input ended within the record.
-const INPUT_FAULT: u8 = 4;
-
-/// The exit status where memory was refused, or a read or a write failed.
-const SYSTEM_FAULT: u8 = 3;
-
 fn main(rt: HostRuntime) -> ExitCode {
-    match once::answer_first(rt.alloc(), &mut rt.stdin(), &mut rt.stdout()) {
-        Ok(()) => ExitCode::SUCCESS,
-        Err(OnceFault::Short) => ExitCode::from(INPUT_FAULT),
-        Err(_) => ExitCode::from(SYSTEM_FAULT),
-    }
+    status::exit_code(once::answer_first(rt.alloc(), &mut rt.stdin(), &mut rt.stdout()))
 }

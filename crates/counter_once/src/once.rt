@@ -14,14 +14,14 @@ use std::alloc::Global;
 /// The moment of the record, in seconds since 1970-01-01T00:00:00Z.
 const MOMENT: u64 = 1000;
 
-// A bank in memory with three accounts in branch 1 and two in branch 2. The only fault is `Memory`.
+// A bank in memory with three accounts in branch 1 and two in branch 2, without floors. The only fault is `Memory`.
 fn two_branches(alloc: Global) -> Result<PlainBank, Fault>
     ensures shows { IfOk result (λ bank. AreTablesOf (plain_tables bank) two_branches) }
     ensures memory { IfErr result (λ fault. fault ≡ Memory) }
 {
     let mut bank = PlainBank::new(alloc);
-    bank.open_branch(Branch::new(1).unwrap(), 3)?;
-    bank.open_branch(Branch::new(2).unwrap(), 2)?;
+    bank.open_branch(Branch::new(1).unwrap(), 3, None)?;
+    bank.open_branch(Branch::new(2).unwrap(), 2, None)?;
     Ok(bank)
 }
 

@@ -4,8 +4,8 @@ use posting_core::{BranchLine, Counter, Fault, Opening, PlainBank};
 
 /// Opens branch 1 with three accounts and branch 2 with two.
 pub fn open_both<C: Counter>(bank: &mut C) -> Result<Opening, Fault> {
-    bank.open_branch(Branch::new(1).unwrap(), 3)?;
-    bank.open_branch(Branch::new(2).unwrap(), 2)
+    bank.open_branch(Branch::new(1).unwrap(), 3, None)?;
+    bank.open_branch(Branch::new(2).unwrap(), 2, None)
 }
 
 /// A bank whose store fails for good after so many batches. It takes batches alone: any other call is refused,
@@ -60,7 +60,12 @@ impl Counter for FailingBank {
         Err(Fault::Memory)
     }
 
-    fn open_branch(&mut self, _branch: Branch, _count: u32) -> Result<Opening, Fault> {
+    fn open_branch(
+        &mut self,
+        _branch: Branch,
+        _count: u32,
+        _floor: Option<Cents>,
+    ) -> Result<Opening, Fault> {
         if self.down {
             return Err(Fault::Down);
         }

@@ -18,7 +18,7 @@ struct Drive<'a> {
 fn open<C: Counter>(rt: &impl Abort, bank: &mut C, branch: u64, accounts: u32) {
     let branch = Branch::new(branch).expect(rt, "a branch");
     assert!(rt; branch.get() <= 9999 && accounts >= 1 && accounts <= 100_000);
-    assert!(rt; bank.open_branch(branch, accounts).is_ok());
+    assert!(rt; bank.open_branch(branch, accounts, None).is_ok());
 }
 
 // How the records are answered, all at the moment 0.

@@ -5,6 +5,7 @@ use posting_core::{
     equal_tables_answer_alike, judge, resends_get_their_replies, tables_are_consistent,
     tables_are_undamaged,
 };
+use posting_rules::{accounts_stay_above, earlier_versions_carry_over};
 
 // One cent to account 1, by teller 1 of branch 1, under the number 1.
 fn one_cent() -> Request {
@@ -25,6 +26,7 @@ fn the_full_bank(rt: HostRuntime) {
         kept: None,
         decided: 1_000_000_000_000,
         account: Some(zero),
+        floor: None,
     };
     let full = Verdict::Unkept(Outcome::Full);
     assert_eq!(rt; judge(&found, &record), full);
@@ -46,4 +48,6 @@ fn laws() {
     tables_are_undamaged();
     equal_tables_answer_alike();
     resends_get_their_replies();
+    accounts_stay_above();
+    earlier_versions_carry_over();
 }

@@ -1,6 +1,6 @@
 //! Plans: sources and lists, and the plan or the fault that each gives.
 use branch_loader::{Plan, PlanFault, load, read_plan};
-use message_records::{Account, Branch};
+use message_records::{Account, Branch, Cents};
 use posting_core::{Counter, PlainBank};
 use std::alloc::{Alloc, AllocError, Global};
 use std::io;
@@ -8,8 +8,8 @@ use std::io::Read;
 use std::process::Abort;
 
 // How many rows the source's plan has, or the fault.
-fn rows_in<R: Read + Drop>(alloc: Global, source: R) -> Result<usize, PlanFault> {
-    Ok(read_plan(alloc, source)?.rows().len())
+fn rows_in<R: Read + Drop>(alloc: Global, mut source: R) -> Result<usize, PlanFault> {
+    Ok(read_plan(alloc, &mut source)?.rows().len())
 }
 
 // Writes the source behind a byte order mark, if there is to be one, and with these line ends.
@@ -43,7 +43,7 @@ fn gives(
     }
 }
 
-const SOURCES: [(&[u8], Result<usize, PlanFault>); 24] = [
+const SOURCES: [(&[u8], Result<usize, PlanFault>); 36] = [
     (b"", Err(PlanFault::Header)),
     (b"branch,account\n", Err(PlanFault::Header)),
     (b"branch,accounts,\n1,3\n", Err(PlanFault::Header)),
@@ -77,6 +77,30 @@ const SOURCES: [(&[u8], Result<usize, PlanFault>); 24] = [
     ),
     (b"\"branch\",\"accounts\"\n\"1\",3\n2,\"2\"", Ok(2)),
     (b"branch,accounts\n\n1,000000003\n", Ok(1)),
+    (b"branch,accounts,floor\n1,3,-1000\n2,2,\n", Ok(2)),
+    (b"branch,accounts,floor\n", Ok(0)),
+    (b"branch,accounts,lowest\n1,3,0\n", Err(PlanFault::Header)),
+    (b"branch,accounts,floor\n1,3\n", Err(PlanFault::Columns(1))),
+    (b"branch,accounts\n1,3,0\n", Err(PlanFault::Columns(1))),
+    (b"branch,accounts,floor\n1,3,1\n", Err(PlanFault::Floor(1))),
+    (b"branch,accounts,floor\n1,3,+0\n", Err(PlanFault::Floor(1))),
+    (b"branch,accounts,floor\n1,3,-\n", Err(PlanFault::Floor(1))),
+    (
+        b"branch,accounts,floor\n1,3,-9999999999999\n",
+        Err(PlanFault::Floor(1)),
+    ),
+    (
+        b"branch,accounts,floor\n1,3,0\n2,2,-0\n3,1,-999999999999\n4,1,000000000000\n",
+        Ok(4),
+    ),
+    (
+        b"branch,accounts,floor\n1,3,\n1,3,1\n",
+        Err(PlanFault::Floor(2)),
+    ),
+    (
+        b"branch,accounts,floor\n1,3,0\n1,3,0\n",
+        Err(PlanFault::Twice(2)),
+    ),
 ];
 
 #[test]
@@ -89,11 +113,11 @@ fn sources(rt: HostRuntime) {
 
 #[test]
 fn rows_in_their_order(rt: HostRuntime) {
-    let source = b"branch,accounts\n22,000100000\n0003,2\n".as_slice();
-    let plan = read_plan(rt.alloc(), source).expect(&rt, "a plan");
+    let mut source = b"branch,accounts\n22,000100000\n0003,2\n".as_slice();
+    let plan = read_plan(rt.alloc(), &mut source).expect(&rt, "a plan");
     let rows = [
-        (Branch::new(22).unwrap(), 100_000),
-        (Branch::new(3).unwrap(), 2),
+        (Branch::new(22).unwrap(), 100_000, None),
+        (Branch::new(3).unwrap(), 2, None),
     ];
     assert_eq!(rt; plan.rows(), rows.as_slice());
 }
@@ -126,18 +150,21 @@ fn a_failing_source(rt: HostRuntime) {
     }
 }
 
-// A plan of no branch, one of two, the same again, and one in which a branch has more accounts; and how many
+// A plan of no branch, one of two, the same again, one in which a branch has more accounts, and one in which it has
+// a floor; and how many
 // openings of each are `opened`, `already` and `differs`.
-const LOADS: [(&[u8], (u32, u32, u32)); 4] = [
+const LOADS: [(&[u8], (u32, u32, u32)); 5] = [
     (b"branch,accounts\n", (0, 0, 0)),
     (b"branch,accounts\n1,3\n2,2\n", (2, 0, 0)),
     (b"branch,accounts\n1,3\n2,2\n", (0, 2, 0)),
     (b"branch,accounts\n1,3\n2,5\n", (0, 1, 1)),
+    (b"branch,accounts,floor\n1,3,\n2,2,0\n", (0, 1, 1)),
 ];
 
 fn loads_again<C: Counter>(rt: &(impl Abort + Alloc<A = Global>), bank: &mut C) {
     for (source, want) in &LOADS {
-        let plan = read_plan(rt.alloc(), *source).expect(rt, "a plan");
+        let mut source = *source;
+        let plan = read_plan(rt.alloc(), &mut source).expect(rt, "a plan");
         let loaded = load(&plan, bank).expect(rt, "a bank");
         assert_eq!(rt; (loaded.opened, loaded.already, loaded.differs), *want);
     }
@@ -164,7 +191,7 @@ fn a_plan_loaded_twice(rt: HostRuntime) {
 // How many rows the plan of these two rows has, or the fault.
 fn rows_of(
     rt: &(impl Abort + Alloc<A = Global>),
-    rows: &[(Branch, u32); 2],
+    rows: &[(Branch, u32, Option<Cents>); 2],
 ) -> Result<usize, PlanFault> {
     let mut list = Vec::new(rt.alloc());
     list.extend_from_slice(rows).expect(rt, "memory");
@@ -186,16 +213,35 @@ fn lists(rt: HostRuntime) {
     let first = Branch::new(1).unwrap();
     for (branch, accounts, want) in &SECOND_ROWS {
         let second = Branch::new(*branch).expect(&rt, "a branch");
-        let rows = [(first, 1), (second, *accounts)];
+        let rows = [(first, 1, None), (second, *accounts, None)];
         assert_eq!(rt; rows_of(&rt, &rows), *want);
     }
 }
 
-const TEXTS: [(PlanFault, &str); 7] = [
+// The floor of a second row, and how many rows its plan has.
+const FLOORS: [(i64, Result<usize, PlanFault>); 3] = [
+    (0, Ok(2)),
+    (-999_999_999_999, Ok(2)),
+    (1, Err(PlanFault::Floor(2))),
+];
+
+#[test]
+fn lists_with_floors(rt: HostRuntime) {
+    let first = Branch::new(1).unwrap();
+    let second = Branch::new(2).unwrap();
+    for (floor, want) in &FLOORS {
+        let floor = Cents::new(*floor).expect(&rt, "a floor");
+        let rows = [(first, 1, None), (second, 1, Some(floor))];
+        assert_eq!(rt; rows_of(&rt, &rows), *want);
+    }
+}
+
+const TEXTS: [(PlanFault, &str); 8] = [
     (PlanFault::Header, "plan header"),
     (PlanFault::Columns(1), "plan row 1 columns"),
     (PlanFault::Branch(2), "plan row 2 branch"),
     (PlanFault::Accounts(3), "plan row 3 accounts"),
+    (PlanFault::Floor(9), "plan row 9 floor"),
     (PlanFault::Twice(10), "plan row 10 twice"),
     (PlanFault::Csv, "plan unreadable"),
     (PlanFault::Memory, "no memory"),

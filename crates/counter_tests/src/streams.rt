@@ -13,6 +13,9 @@ const FIRST: &[u8; 51] = b"DC01000000000001000000010000010000000001+0000000500";
 
 const REMOTE: &[u8; 51] = b"DC01000000100001000000010000010000000002-0000000700";
 
+// All but the last digit of a third request.
+const CUT: &[u8; 50] = b"DC01000000000002000000020000010000000001+000000030";
+
 pub const FIRST_REPLY: &[u8; 72] =
     b"DR0100000000000001000000010000010000000001+0000000500+000000000500POSTED";
 
@@ -31,12 +34,12 @@ fn first_reply() -> [u8; REPLY_BYTES] {
     reply
 }
 
-// Two records and the beginning of a third.
+// Two records and the first 50 bytes of a third.
 fn truncated_input() -> [u8; 250] {
     let mut input = [b' '; 250];
     input[..51].copy_from_slice(FIRST);
     input[100..151].copy_from_slice(REMOTE);
-    input[200..204].copy_from_slice(b"DC01");
+    input[200..].copy_from_slice(CUT);
     input
 }
 

@@ -4,8 +4,8 @@ use posting_core::{BranchLine, Counter, Fault, Opening, PlainBank};
 
 /// Opens branch 1 with three accounts and branch 2 with two.
 pub fn open_branches<C: Counter>(bank: &mut C) -> Option<Opening> {
-    bank.open_branch(Branch::new(1)?, 3).ok()?;
-    bank.open_branch(Branch::new(2)?, 2).ok()
+    bank.open_branch(Branch::new(1)?, 3, None).ok()?;
+    bank.open_branch(Branch::new(2)?, 2, None).ok()
 }
 
 /// The balances of account 1 and of account 100001 in cents.
@@ -59,8 +59,13 @@ impl Counter for FullBank {
         self.bank.submit_all(moment, records)
     }
 
-    fn open_branch(&mut self, branch: Branch, count: u32) -> Result<Opening, Fault> {
-        self.bank.open_branch(branch, count)
+    fn open_branch(
+        &mut self,
+        branch: Branch,
+        count: u32,
+        floor: Option<Cents>,
+    ) -> Result<Opening, Fault> {
+        self.bank.open_branch(branch, count, floor)
     }
 
     fn balance(&mut self, account: Account) -> Result<Option<Cents>, Fault> {

@@ -5,8 +5,8 @@ use Rattle.std.specs.Prelude.{count_by}
 use Rattle.std.proofs.lemmas.List.Sums.{sum_by-cons}
 use Rattle.message_records.specs.declared.records.Outcome.{Outcome}
 use Rattle.message_records.specs.declared.records.Outcome.TheVariants.{Posted, NoTeller, WrongBranch}
-use Rattle.message_records.specs.declared.records.Outcome.TheVariants.{NoAccount, OverLimit, ReusedNumber}
-use Rattle.message_records.specs.declared.records.Outcome.TheVariants.{Full, Malformed}
+use Rattle.message_records.specs.declared.records.Outcome.TheVariants.{NoAccount, BelowFloor, OverLimit}
+use Rattle.message_records.specs.declared.records.Outcome.TheVariants.{ReusedNumber, Full, Malformed}
 use Rattle.message_records.specs.Outcomes.{code_of, has_balance}
 use Rattle.message_records.specs.Records.{ReplyFields}
 use Rattle.message_records.specs.Spelling.{digits, reply_spelling}
@@ -23,6 +23,7 @@ by_outcome Posted rest = refl
 by_outcome NoTeller rest = refl
 by_outcome WrongBranch rest = refl
 by_outcome NoAccount rest = refl
+by_outcome BelowFloor rest = refl
 by_outcome OverLimit rest = refl
 by_outcome ReusedNumber rest = refl
 by_outcome Full rest = refl

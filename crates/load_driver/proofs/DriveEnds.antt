@@ -60,7 +60,7 @@ none_up_to log (suc n) branch none low high =
 pub none_open : (log : List Command) → AreCommands log → open_branches log ≡ [] → NoneOpen log
 none_open log are none branch = by_opened (opened log branch) refl (open_within log are branch)
   where
-    by_opened : (o : Option Terms) → opened log branch ≡ o → IfSome o (λ n. IsCommand (Open branch n.accounts))
+    by_opened : (o : Option Terms) → opened log branch ≡ o → IfSome o (λ n. IsCommand (Open branch n))
         → opened log branch ≡ None
     by_opened None e is = e
     by_opened (Some n) e is = none_up_to log LAST_BRANCH branch none is.0 is.1

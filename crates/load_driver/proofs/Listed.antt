@@ -1,20 +1,22 @@
 -- The open branches are listed one after another.
 use Rattle.std.proofs.Common.{◌≡◌, ◌≤◌, ◌<◌, ◌+◌, ◌-◌, ℕ, zero, suc, true, false, List, [], ◌∷◌, ◌++◌, Some}
-use Rattle.std.proofs.Common.{None, Result, Ok, Err, leb, refl, sym, ap, ◌∙◌, arith, append-nil}
+use Rattle.std.proofs.Common.{None, Result, Ok, Err, leb, refl, sym, ap, ◌∙◌, arith, append-nil, inl, inr}
 use Rattle.std.specs.List.{AllByRecursion}
-use Rattle.std.specs.Prelude.{nat_eq, ◌&&◌}
+use Rattle.std.specs.Prelude.{nat_eq, ◌&&◌, ◌≤ℤ◌, ℤ, pos, Option, IfSome, int_le}
 use Rattle.std.proofs.lemmas.Bool.Decides.{nat_tests}
+use Rattle.std.proofs.lemmas.Int.{ints}
+use Rattle.std.proofs.lemmas.Bool.{cases_Bool}
 use Rattle.message_records.specs.Ranges.{whole_within}
 use Rattle.posting_rules.specs.declared.counter.BranchLine.{BranchLine}
 use Rattle.posting_rules.specs.Branches.{IsLineAbove, IsNextBranch, IsNextOpen}
 use Rattle.posting_rules.specs.Commands.{Command, opened}
 use Rattle.posting_rules.specs.Counter.{Seen, ShowsLog, Takes}
-use Rattle.branch_loader.specs.Plans.{IsRow, Row, Rows, names, plan_of_list, row_of_pair, rows_by}
+use Rattle.branch_loader.specs.Plans.{IsRow, Row, Rows, floor_within, names, plan_of_list, row_of_listed, rows_by}
 use Rattle.branch_loader.specs.declared.fault.PlanFault.{PlanFault}
 use Rattle.posting_rules.proofs.CounterCalls.{Takes-append}
 use Rattle.branch_loader.proofs.Stated.{rows_by-ok, rows_by-done}
 use Rattle.load_driver.specs.Records.{open_branches, open_up_to, row_if_open}
-use Rattle.posting_rules.specs.declared.limits.TheConstants.{LAST_BRANCH, MOST_ACCOUNTS}
+use Rattle.posting_rules.specs.declared.limits.TheConstants.{LAST_BRANCH, MAX_ACCOUNTS}
 
 -- ---- rows that are a plan
 
@@ -22,26 +24,31 @@ use Rattle.posting_rules.specs.declared.limits.TheConstants.{LAST_BRANCH, MOST_A
 pub within : (most n : ℕ) → 1 ≤ n → n ≤ most → whole_within 1 most n ≡ Some n
 within most n low high = let test : (leb 1 n && leb n most) ≡ true = grind (arith, nat_tests) in rw test refl
 
+-- a floor of at most zero is one that a branch can have
+lies : (floor : Option ℤ) → IfSome floor (λ z. z ≤ℤ pos 0) → floor_within floor ≡ Some floor
+lies None low = refl
+lies (Some z) low = elim (cases_Bool (int_le z (pos 0))) [ inl t ↦ rw t refl | inr f ↦ absurd (omega (arith, ints)) ]
+
 -- a row in its ranges, of a branch that no row before names
-row_is : (before : Rows) (p : Row) → IsRow p → names p.0 before ≡ false → row_of_pair before p ≡ Ok p
-row_is before p row new = rw (within LAST_BRANCH p.0 row.0 row.1, within MOST_ACCOUNTS p.1 row.2 row.3, new)
-    refl
+row_is : (before : Rows) (p : Row) → IsRow p → names p.0 before ≡ false → row_of_listed before p ≡ Ok p
+row_is before p row new =
+    rw (within LAST_BRANCH p.0 row.0 row.1, within MAX_ACCOUNTS p.1 row.2 row.3, lies p.2 row.4, new) refl
 
 -- rows behind those that were read
-rows_by-append : (before list after rows : Rows) → rows_by row_of_pair before list ≡ Ok rows
-    → rows_by row_of_pair before (list ++ after) ≡ rows_by row_of_pair rows after
+rows_by-append : (before list after rows : Rows) → rows_by row_of_listed before list ≡ Ok rows
+    → rows_by row_of_listed before (list ++ after) ≡ rows_by row_of_listed rows after
 unfolding rows_by
 rows_by-append before [] after rows e = let same : before ≡ rows = cc in rw same refl
 rows_by-append before (x ∷ list) after rows e =
-    by_row (row_of_pair before x) (λ p. rows_by-append (before ++ p ∷ []) list after rows) e
+    by_row (row_of_listed before x) (λ p. rows_by-append (before ++ p ∷ []) list after rows) e
   where
     going : Result Row PlanFault → Rows → Result Rows PlanFault
-    going r rest = elim r [ Ok p ↦ rows_by row_of_pair (before ++ p ∷ []) rest | Err fault ↦ Err fault ]
+    going r rest = elim r [ Ok p ↦ rows_by row_of_listed (before ++ p ∷ []) rest | Err fault ↦ Err fault ]
 
     by_row : (r : Result Row PlanFault)
-        → ((p : Row) → rows_by row_of_pair (before ++ p ∷ []) list ≡ Ok rows
-        → rows_by row_of_pair (before ++ p ∷ []) (list ++ after) ≡ rows_by row_of_pair rows after)
-        → going r list ≡ Ok rows → going r (list ++ after) ≡ rows_by row_of_pair rows after
+        → ((p : Row) → rows_by row_of_listed (before ++ p ∷ []) list ≡ Ok rows
+        → rows_by row_of_listed (before ++ p ∷ []) (list ++ after) ≡ rows_by row_of_listed rows after)
+        → going r list ≡ Ok rows → going r (list ++ after) ≡ rows_by row_of_listed rows after
     by_row (Ok p) more is = more p is
     by_row (Err fault) more is = absurd cc
 
@@ -49,8 +56,8 @@ rows_by-append before (x ∷ list) after rows e =
 plan_more : (rows : Rows) (p : Row) → IsRow p → names p.0 rows ≡ false → plan_of_list rows ≡ Ok rows
     → plan_of_list (rows ++ p ∷ []) ≡ Ok (rows ++ p ∷ [])
 plan_more rows p row new is =
-    rows_by-append [] rows (p ∷ []) rows is ∙ rows_by-ok row_of_pair rows p [] p (row_is rows p row new)
-    ∙ rows_by-done row_of_pair (rows ++ p ∷ [])
+    rows_by-append [] rows (p ∷ []) rows is ∙ rows_by-ok row_of_listed rows p [] p (row_is rows p row new)
+    ∙ rows_by-done row_of_listed (rows ++ p ∷ [])
 
 -- the rows name branches up to a number
 abbrev pub AreUpTo : ℕ → Rows → Type 0
@@ -63,12 +70,11 @@ not_named (p ∷ rows) most branch above low =
     let other : nat_eq branch p.0 ≡ false = grind (arith, nat_tests) in
     rw other (not_named rows most branch above low.1)
 
-up_to_more : (rows : Rows) (most branch accounts : ℕ) → most < branch → AreUpTo most rows
-    → AreUpTo branch (rows ++ (branch, accounts) ∷ [])
-up_to_more [] most branch accounts above low = (omega arith, tt)
-up_to_more (p ∷ rows) most branch accounts above low =
+up_to_more : (rows : Rows) (most : ℕ) (p : Row) → most < p.0 → AreUpTo most rows → AreUpTo p.0 (rows ++ p ∷ [])
+up_to_more [] most p above low = (omega arith, tt)
+up_to_more (q ∷ rows) most p above low =
     let le = low.0 in
-    (omega arith, up_to_more rows most branch accounts above low.1)
+    (omega arith, up_to_more rows most p above low.1)
 
 -- ---- the branches of a log
 
@@ -90,7 +96,7 @@ none_more log low (suc n) none =
 
 -- the next open branch is added
 next_more : (log : List Command) (after : ℕ) (line : BranchLine) → IsNextOpen log after line
-    → open_up_to log line.branch ≡ open_up_to log after ++ (line.branch, line.accounts) ∷ []
+    → open_up_to log line.branch ≡ open_up_to log after ++ (line.branch, line.accounts, line.floor) ∷ []
 unfolding open_up_to
 next_more log after line is =
     let above = is.above in
@@ -134,14 +140,14 @@ pub listing_more : {C : Type 0} (seen : C → Seen) (old now new : C) (rows : Ro
     → Listing seen old now rows after → IsLineAbove after line → Takes (seen now) (seen new) []
     → ((seen new).honest → (log : List Command) → ShowsLog (seen now) log → IsNextOpen log after line)
     → ((seen now).is_down → ⊥) → ((seen new).is_down → ⊥) → ((seen new).honest → (seen now).honest)
-    → Listing seen old new (rows ++ (line.branch, line.accounts) ∷ []) line.branch
+    → Listing seen old new (rows ++ (line.branch, line.accounts, line.floor) ∷ []) line.branch
 listing_more seen old now new rows after line l in_range takes next was_up is_up honest =
-    let p : Row = (line.branch, line.accounts) in
+    let p : Row = (line.branch, line.accounts, line.floor) in
     let above = in_range.above in
-    let row : IsRow p = (omega arith, in_range.branch, in_range.some, in_range.few) in
+    let row : IsRow p = (omega arith, in_range.branch, in_range.some, in_range.few, in_range.floor) in
     record {
       plan = plan_more rows p row (not_named rows after line.branch above l.up_to) l.plan;
-      up_to = up_to_more rows after line.branch line.accounts above l.up_to;
+      up_to = up_to_more rows after p above l.up_to;
       few = in_range.branch;
       listed = λ h log s.
           ap (λ (rs : Rows). rs ++ p ∷ []) (l.listed (honest h) log s)

@@ -1,7 +1,7 @@
 -- How many accounts there are, of which row an account is, and that a teller has one place.
 use Rattle.std.proofs.Common.{◌≡◌, ◌≢◌, ◌<◌, ◌≤◌, ◌+◌, ◌-◌, ◌*◌, ◌/◌, ◌∷◌, ◌∙◌, ◌⊎◌, inl, inr, ℕ, zero, suc}
 use Rattle.std.proofs.Common.{[], Bool, true, false, not, length, get_or, map, All, arith, refl, sym, ap}
-use Rattle.std.proofs.Common.{subst, nat_eq, nat_lt, cond}
+use Rattle.std.proofs.Common.{None, subst, nat_eq, nat_lt, cond}
 use Rattle.std.specs.Prelude.{Contains}
 use Rattle.std.specs.List.{AllByRecursion, IsDistinct, flat_map}
 use Rattle.std.proofs.lemmas.Bool.{cases_Bool, false≢true}
@@ -190,7 +190,7 @@ differ a b e f = grind (arith, nat_tests, e, f)
 
 -- rows of one branch stand at one place
 one_row : (rows : Rows) (i j : ℕ) → IsPlan rows → i < length rows → j < length rows
-    → (get_or rows i (0, 0)).0 ≡ (get_or rows j (0, 0)).0
+    → (get_or rows i (0, 0, None)).0 ≡ (get_or rows j (0, 0, None)).0
     → i ≤ j
 one_row rows i j plan small within same = by (cases_Bool (nat_lt j i))
   where
@@ -200,15 +200,15 @@ one_row rows i j plan small within same = by (cases_Bool (nat_lt j i))
         let lt : j < i = grind (arith, nat_tests, e) in
         let last : i < length (map (λ (p : Row). p.0) rows) = rw length-map small in
         let apart = apart_from_distinct nat_eq (map (λ (p : Row). p.0) rows) j i 0 plan.distinct lt last in
-        let first : get_or (map (λ (p : Row). p.0) rows) j 0 ≡ (get_or rows j (0, 0)).0 =
-        get_or-map (λ (p : Row). p.0) rows j (0, 0) 0 within in
-        let second : get_or (map (λ (p : Row). p.0) rows) i 0 ≡ (get_or rows i (0, 0)).0 =
-        get_or-map (λ (p : Row). p.0) rows i (0, 0) 0 small in
+        let first : get_or (map (λ (p : Row). p.0) rows) j 0 ≡ (get_or rows j (0, 0, None)).0 =
+        get_or-map (λ (p : Row). p.0) rows j (0, 0, None) 0 within in
+        let second : get_or (map (λ (p : Row). p.0) rows) i 0 ≡ (get_or rows i (0, 0, None)).0 =
+        get_or-map (λ (p : Row). p.0) rows i (0, 0, None) 0 small in
         absurd (differ _ _ apart (first ∙ sym same ∙ sym second))
 
 some-branch : (rows : Rows) (t : ℕ) → IsPlan rows → t < TELLERS_PER_BRANCH * length rows
     → 1 ≤ (home_of rows t).0
-some-branch rows t plan small = let row = plan.in_range (t / TELLERS_PER_BRANCH) (0, 0) (omega arith) in row.0
+some-branch rows t plan small = let row = plan.in_range (t / TELLERS_PER_BRANCH) (0, 0, None) (omega arith) in row.0
 
 -- two places have two tellers
 pub one_teller : (rows : Rows) (t u : ℕ) → IsPlan rows → t < TELLERS_PER_BRANCH * length rows

@@ -3,7 +3,7 @@ use Rattle.std.specs.Prelude.{◌≡◌, ◌<◌, ◌≤◌, ◌*◌, ℕ, List,
 use Rattle.posting_rules.specs.declared.limits.TheConstants.{TELLERS_PER_BRANCH}
 use Rattle.rand_pcg.specs.Lcg.{Lcg}
 use Rattle.branch_loader.specs.Plans.{IsPlan, Rows}
-use Rattle.load_driver.specs.declared.driver.TheConstants.{MOST_RECORDS}
+use Rattle.load_driver.specs.declared.driver.TheConstants.{MAX_RECORDS}
 use Rattle.load_driver.specs.Draw.{words_after}
 use Rattle.load_driver.specs.Requests.{earlier, teller_of}
 
@@ -23,6 +23,6 @@ pub record Counts (rows : Rows) (seed n : ℕ) (counts : List ℕ) : Type 0 wher
 pub record IsReady (rows : Rows) (seed given : ℕ) (words : Lcg) (counts : List ℕ) : Type 0 where
   pub plan : IsPlan rows
   pub some : 0 < length rows
-  pub within : given ≤ MOST_RECORDS
+  pub within : given ≤ MAX_RECORDS
   pub words_at : words ≡ words_after seed (4 * given)
   pub counts_at : Counts rows seed given counts

@@ -19,14 +19,14 @@ NoneOpen log = (branch : ℕ) → opened log branch ≡ None
 -- the row of a branch that is open on these terms, if it is
 abbrev pub row_if_open : ℕ → Option Terms → Rows
 row_if_open branch None = []
-row_if_open branch (Some terms) = (branch, terms.accounts) ∷ []
+row_if_open branch (Some terms) = (branch, terms.accounts, terms.floor) ∷ []
 
 -- the open branches up to this one, ascending
 unfoldable pub open_up_to : List Command → ℕ → Rows
 open_up_to log zero = []
 open_up_to log (suc n) = open_up_to log n ++ row_if_open (suc n) (opened log (suc n))
 
--- the open branches of a log, ascending, each with its count of accounts
+-- the open branches of a log, ascending, each with what it was opened with
 abbrev pub open_branches : List Command → Rows
 open_branches log = open_up_to log LAST_BRANCH
 

@@ -1,12 +1,12 @@
 -- The requests that a plan and a seed draw: record n takes the words 4n to 4n + 3.
-use Rattle.std.specs.Prelude.{◌≡◌, Contains, ◌+◌, ◌-◌, ◌*◌, ◌/◌, ◌%◌, ◌||◌, Bool, not, ℕ, zero, suc, List}
+use Rattle.std.specs.Prelude.{◌≡◌, Contains, ◌+◌, ◌-◌, ◌*◌, ◌/◌, ◌%◌, ◌||◌, Bool, not, ℕ, zero, suc, List, None}
 use Rattle.std.specs.Prelude.{get_or, length, map, nat_eq, nat_lt, if◌then◌else◌, ℤ, pos, ◌-ℤ◌, filter}
 use Rattle.std.specs.Prelude.{sum_by, IsPermutation}
 use Rattle.std.specs.List.{flat_map, range_with_len}
 use Rattle.std.specs.List.Sorted.{IsStrictlyIncreasing}
 use Rattle.posting_rules.specs.declared.limits.TheConstants.{TELLERS_PER_BRANCH}
 use Rattle.message_records.specs.Records.{RequestFields}
-use Rattle.load_driver.specs.declared.driver.TheConstants.{MOST_AMOUNT}
+use Rattle.load_driver.specs.declared.driver.TheConstants.{MAX_AMOUNT}
 use Rattle.posting_rules.specs.Numbering.{first_account, first_teller}
 use Rattle.load_driver.specs.Draw.{draw, word}
 use Rattle.branch_loader.specs.Plans.{Rows, Row}
@@ -30,7 +30,7 @@ place_at rows seed n = draw (word seed (4 * n)) (TELLERS_PER_BRANCH * length row
 
 -- the row of the teller at a place
 abbrev pub home_of : Rows → ℕ → Row
-home_of rows place = get_or rows (place / TELLERS_PER_BRANCH) (0, 0)
+home_of rows place = get_or rows (place / TELLERS_PER_BRANCH) (0, 0, None)
 
 -- the teller at a place
 abbrev pub teller_of : Rows → ℕ → ℕ
@@ -74,7 +74,7 @@ account_by rows home choice pick =
 
 -- the amount that a word draws, in cents (TPC-B 5.3)
 abbrev pub amount_by : ℕ → ℤ
-amount_by word = pos (draw word (2 * MOST_AMOUNT + 1)) -ℤ pos MOST_AMOUNT
+amount_by word = pos (draw word (2 * MAX_AMOUNT + 1)) -ℤ pos MAX_AMOUNT
 
 -- how many of the first n records have this teller
 unfoldable pub earlier : Rows → ℕ → ℕ → ℕ → ℕ

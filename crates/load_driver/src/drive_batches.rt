@@ -6,7 +6,7 @@ ghost use Rattle.posting_core.specs.Clock.{IsReading};
 ghost use Rattle.load_driver.specs.Counted.{IsCounted, is_posted};
 ghost use Rattle.load_driver.specs.Records.{drawn};
 
-use crate::{Driver, MOST_RECORDS};
+use crate::{Driver, MAX_RECORDS};
 use message_records::{REPLY_BYTES, REQUEST_BYTES};
 use posting_core::{Clock, Counter, Fault, RECORDS_PER_BATCH};
 
@@ -15,7 +15,7 @@ const POSTED: [u8; 2] = *b"00";
 
 // Draws the next records, one for each place.
 fn draw_batch(driver: &mut Driver, batch: &mut [[u8; REQUEST_BYTES]])
-    requires { driver.old.given + length batch.old ≤ MOST_RECORDS }
+    requires { driver.old.given + length batch.old ≤ MAX_RECORDS }
     ensures drawn { batch.new ≡ drawn driver.old.rows driver.old.seed driver.old.given (length batch.old) }
     ensures goes_on { driver.new ≡ record driver.old { given = driver.old.given + length batch.old } }
 {
@@ -48,7 +48,7 @@ pub(crate) fn submit_batch<C: Counter, K: Clock>(
 ) -> Result<u64, Fault>
     requires some { 1 ≤ length batch.old }
     requires few { length batch.old ≤ RECORDS_PER_BATCH }
-    requires left { driver.old.given + length batch.old ≤ MOST_RECORDS }
+    requires left { driver.old.given + length batch.old ≤ MAX_RECORDS }
     ensures drawn { batch.new ≡ drawn driver.old.rows driver.old.seed driver.old.given (length batch.old) }
     ensures goes_on { driver.new ≡ record driver.old { given = driver.old.given + length batch.old } }
     ensures answers { (moment : ℕ) × IsReading (K.readings clock.old) (K.readings clock.new) moment

@@ -49,13 +49,16 @@ impl fmt::Display for DriverFault {
 impl std::error::Error for DriverFault {}
 
 /// How many records a driver gives: as many as one teller has numbers, so that no teller needs more.
-pub const MOST_RECORDS: u64 = MAX_NUMBER;
+pub const MAX_RECORDS: u64 = MAX_NUMBER;
 
 // How far from zero an amount may be drawn, in cents (TPC-B 5.3).
-const MOST_AMOUNT: u64 = 999_999;
+const MAX_AMOUNT: u64 = 999_999;
 
 // The rows of a plan by rising branches, so that their order in the plan doesn't matter.
-fn ascending(alloc: Global, rows: &[(Branch, u32)]) -> Result<Vec<(Branch, u32)>, AllocError>
+fn ascending(
+    alloc: Global,
+    rows: &[(Branch, u32, Option<Cents>)],
+) -> Result<Vec<(Branch, u32, Option<Cents>)>, AllocError>
     requires { IsPlan rows.now }
     ensures plan { IfOk result (λ v. IsPlan v.items) }
     ensures ascending { IfOk result (λ v. IsAscending rows.now v.items) }
@@ -65,26 +68,31 @@ fn ascending(alloc: Global, rows: &[(Branch, u32)]) -> Result<Vec<(Branch, u32)>
     Ok(rows)
 }
 
-// The amount that a word draws, from -`MOST_AMOUNT` to `MOST_AMOUNT` cents.
+// The amount that a word draws, from -`MAX_AMOUNT` to `MAX_AMOUNT` cents.
 fn amount_by(word: u64) -> Cents
     ensures value { result ≡ amount_by word }
-    ensures small { nat_abs result ≤ MOST_AMOUNT }
+    ensures small { nat_abs result ≤ MAX_AMOUNT }
 {
-    Cents::new(draw(word, 2 * MOST_AMOUNT + 1) as i64 - MOST_AMOUNT as i64).unwrap()
+    Cents::new(draw(word, 2 * MAX_AMOUNT + 1) as i64 - MAX_AMOUNT as i64).unwrap()
 }
 
 // The request of the teller at a place, from 0 on, among all tellers, by the record's words and by its
 // number.
-fn request_by(rows: &[(Branch, u32)], place: u64, words: Words, number: u64) -> Request
+fn request_by(
+    rows: &[(Branch, u32, Option<Cents>)],
+    place: u64,
+    words: Words,
+    number: u64,
+) -> Request
     requires plan { IsPlan rows.now }
     requires place { place < TELLERS_PER_BRANCH * length rows.now }
     requires first { 1 ≤ number }
-    requires last { number ≤ MOST_RECORDS }
+    requires last { number ≤ MAX_RECORDS }
     ensures value { result ≡ request_by rows.now place words.choice words.account words.amount number }
     ensures of_plan { IsOfPlan rows.now (is_home rows.now (draw words.choice 100)) result }
 {
     let home = rows[(place / TELLERS_PER_BRANCH) as usize];
-    let (branch, _) = home;
+    let (branch, _, _) = home;
     let account = Account::new(account_by(rows, home, words.choice, words.account)).unwrap();
     let teller = Teller::new(first_teller(branch) + place % TELLERS_PER_BRANCH).unwrap();
     let number = Number::new(number).unwrap();
@@ -95,7 +103,7 @@ fn request_by(rows: &[(Branch, u32)], place: u64, words: Words, number: u64) -> 
 #[derive(Debug, Drop)]
 pub struct Driver {
     // the plan's rows, ascending
-    rows: Vec<(Branch, u32)>,
+    rows: Vec<(Branch, u32, Option<Cents>)>,
     // how many requests each teller has made, in the order of the tellers
     counts: Vec<u64>,
     words: Lcg128Xsl64,
@@ -141,7 +149,7 @@ impl Driver {
 
     // Draws the next request.
     fn draw_next(&mut self) -> Request
-        requires { self.old.given < MOST_RECORDS }
+        requires { self.old.given < MAX_RECORDS }
         ensures value { result ≡ request_at self.old.rows self.old.seed self.old.given }
         ensures of_plan { IsOfPlan self.old.rows (is_home self.old.rows (x_at self.old.seed self.old.given))
             result }
@@ -155,25 +163,25 @@ impl Driver {
         request_by(self.rows.as_slice(), place, words, number)
     }
 
-    /// The bytes of the next request; none after the first `MOST_RECORDS`. It takes no memory.
+    /// The bytes of the next request; none after the first `MAX_RECORDS`. It takes no memory.
     #[must_use]
     pub fn next(&mut self) -> Option<[u8; REQUEST_BYTES]>
-        ensures bytes { self.old.given < MOST_RECORDS →
+        ensures bytes { self.old.given < MAX_RECORDS →
             result ≡ Some (request_spelling (request_at self.old.rows self.old.seed self.old.given)) }
-        ensures of_plan { self.old.given < MOST_RECORDS →
+        ensures of_plan { self.old.given < MAX_RECORDS →
             IsOfPlan self.old.rows (is_home self.old.rows (x_at self.old.seed self.old.given))
             (request_at self.old.rows self.old.seed self.old.given) }
-        ensures goes_on { self.old.given < MOST_RECORDS
+        ensures goes_on { self.old.given < MAX_RECORDS
             → self.new ≡ record self.old { given = self.old.given + 1 } }
 
         // The bytes are read as the request again.
         ensures read_again { IfSome result
             (λ bytes. request_of bytes ≡ Ok (request_at self.old.rows self.old.seed self.old.given)) }
 
-        ensures ended { MOST_RECORDS ≤ self.old.given → result ≡ None }
-        ensures stays { MOST_RECORDS ≤ self.old.given → self.new ≡ self.old }
+        ensures ended { MAX_RECORDS ≤ self.old.given → result ≡ None }
+        ensures stays { MAX_RECORDS ≤ self.old.given → self.new ≡ self.old }
     {
-        if self.given == MOST_RECORDS {
+        if self.given == MAX_RECORDS {
             return None;
         }
         let request = self.draw_next();

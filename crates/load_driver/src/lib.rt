@@ -33,4 +33,4 @@ mod open_branches;
 
 pub use drive::{Driven, MAX_DRIVEN, drive_records};
 pub use drive_fault::DriveFault;
-pub use driver::{Driver, DriverFault, MOST_RECORDS};
+pub use driver::{Driver, DriverFault, MAX_RECORDS};

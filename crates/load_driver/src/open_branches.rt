@@ -11,7 +11,7 @@ use branch_loader::Plan;
 use posting_core::{Counter, Fault};
 use std::alloc::Global;
 
-/// The plan of the open branches by rising numbers, each with its count of accounts. It changes nothing. A
+/// The plan of the open branches by rising numbers, each with its count of accounts and its floor. It changes nothing. A
 /// fault is that of `next_branch`, or `Memory` for the list.
 pub(crate) fn list_branches<C: Counter>(alloc: Global, counter: &mut C) -> Result<Plan, Fault>
     ensures listed { IfOk result (λ plan. (C.seen counter.new).honest
@@ -28,7 +28,7 @@ pub(crate) fn list_branches<C: Counter>(alloc: Global, counter: &mut C) -> Resul
     let mut rows = Vec::new(alloc);
     let mut after = 0;
     while let Some(line) = counter.next_branch(after)? {
-        rows.push((line.branch, line.accounts))?;
+        rows.push((line.branch, line.accounts, line.floor))?;
         after = line.branch.get() as u32;
     }
     Ok(Plan::from_list(rows).unwrap())

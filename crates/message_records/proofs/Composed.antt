@@ -5,8 +5,8 @@ use Rattle.std.specs.Prelude.{ℤ, pos, codes, unwrap_or}
 use Rattle.message_records.specs.declared.records.Outcome.{Outcome}
 use Rattle.message_records.specs.declared.limits.TheConstants.{REPLY_BYTES, REQUEST_BYTES}
 use Rattle.message_records.specs.declared.records.Outcome.TheVariants.{Posted, NoTeller, WrongBranch}
-use Rattle.message_records.specs.declared.records.Outcome.TheVariants.{NoAccount, OverLimit, ReusedNumber}
-use Rattle.message_records.specs.declared.records.Outcome.TheVariants.{Full, Malformed}
+use Rattle.message_records.specs.declared.records.Outcome.TheVariants.{NoAccount, BelowFloor, OverLimit}
+use Rattle.message_records.specs.declared.records.Outcome.TheVariants.{ReusedNumber, Full, Malformed}
 use Rattle.message_records.specs.Outcomes.{code_of, name_of}
 use Rattle.message_records.specs.Records.{RequestFields, ReplyFields}
 use Rattle.message_records.specs.Spelling.{digits, signed, fields_spelling, no_fields, filled}
@@ -59,6 +59,7 @@ name_short Posted = lit≤ tt
 name_short NoTeller = lit≤ tt
 name_short WrongBranch = lit≤ tt
 name_short NoAccount = lit≤ tt
+name_short BelowFloor = lit≤ tt
 name_short OverLimit = lit≤ tt
 name_short ReusedNumber = lit≤ tt
 name_short Full = lit≤ tt

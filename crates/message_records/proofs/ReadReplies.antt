@@ -11,8 +11,8 @@ use Rattle.message_records.specs.declared.fault.BadReply.{BadReply}
 use Rattle.message_records.specs.declared.fault.BadReply.TheVariants as bad_reply
 use Rattle.message_records.specs.declared.records.Outcome.{Outcome}
 use Rattle.message_records.specs.declared.records.Outcome.TheVariants.{Posted, NoTeller, WrongBranch}
-use Rattle.message_records.specs.declared.records.Outcome.TheVariants.{NoAccount, OverLimit, ReusedNumber}
-use Rattle.message_records.specs.declared.records.Outcome.TheVariants.{Full, Malformed}
+use Rattle.message_records.specs.declared.records.Outcome.TheVariants.{NoAccount, BelowFloor, OverLimit}
+use Rattle.message_records.specs.declared.records.Outcome.TheVariants.{ReusedNumber, Full, Malformed}
 use Rattle.message_records.specs.Outcomes.{code_of, name_of, has_request, has_balance}
 use Rattle.message_records.specs.Records.{RequestFields, IsRequest, ReplyFields, IsReply}
 use Rattle.message_records.specs.Spelling.{digits, signed, fields_spelling, no_fields, filled, reply_spelling}
@@ -47,7 +47,8 @@ outcome_with-takes n o e =
     coded n 14 OverLimit o _ e4 refl (λ e5.
     coded n 15 ReusedNumber o _ e5 refl (λ e6.
     coded n 16 Full o _ e6 refl (λ e7.
-    coded n 90 Malformed o None e7 refl (λ e8. absurd cc))))))))
+    coded n 17 BelowFloor o _ e7 refl (λ e8.
+    coded n 90 Malformed o None e8 refl (λ e9. absurd cc)))))))))
 
 outcome_takes : (o : Outcome) (cs : List ℕ) → length cs ≡ 2
     → option_and_then outcome_with (number_of cs) ≡ Some o
@@ -109,6 +110,7 @@ shown_takes Posted q bytes len e = request_shown Posted q bytes refl len e
 shown_takes NoTeller q bytes len e = request_shown NoTeller q bytes refl len e
 shown_takes WrongBranch q bytes len e = request_shown WrongBranch q bytes refl len e
 shown_takes NoAccount q bytes len e = request_shown NoAccount q bytes refl len e
+shown_takes BelowFloor q bytes len e = request_shown BelowFloor q bytes refl len e
 shown_takes OverLimit q bytes len e = request_shown OverLimit q bytes refl len e
 shown_takes ReusedNumber q bytes len e = request_shown ReusedNumber q bytes refl len e
 shown_takes Full q bytes len e = request_shown Full q bytes refl len e
@@ -141,6 +143,7 @@ balance_takes Posted q bytes len e =
 balance_takes NoTeller q bytes len e = no_balance NoTeller q bytes refl e
 balance_takes WrongBranch q bytes len e = no_balance WrongBranch q bytes refl e
 balance_takes NoAccount q bytes len e = no_balance NoAccount q bytes refl e
+balance_takes BelowFloor q bytes len e = no_balance BelowFloor q bytes refl e
 balance_takes OverLimit q bytes len e = no_balance OverLimit q bytes refl e
 balance_takes ReusedNumber q bytes len e = no_balance ReusedNumber q bytes refl e
 balance_takes Full q bytes len e = no_balance Full q bytes refl e

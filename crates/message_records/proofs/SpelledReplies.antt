@@ -6,8 +6,8 @@ use Rattle.message_records.specs.declared.limits.TheConstants.{MAX_BALANCE}
 use Rattle.message_records.specs.declared.fault.BadReply.TheVariants as bad_reply
 use Rattle.message_records.specs.declared.records.Outcome.{Outcome}
 use Rattle.message_records.specs.declared.records.Outcome.TheVariants.{Posted, NoTeller, WrongBranch}
-use Rattle.message_records.specs.declared.records.Outcome.TheVariants.{NoAccount, OverLimit, ReusedNumber}
-use Rattle.message_records.specs.declared.records.Outcome.TheVariants.{Full, Malformed}
+use Rattle.message_records.specs.declared.records.Outcome.TheVariants.{NoAccount, BelowFloor, OverLimit}
+use Rattle.message_records.specs.declared.records.Outcome.TheVariants.{ReusedNumber, Full, Malformed}
 use Rattle.message_records.specs.Outcomes.{code_of, name_of, has_request, has_balance}
 use Rattle.message_records.specs.Records.{RequestFields, IsRequest, ReplyFields, IsReply}
 use Rattle.message_records.specs.Spelling.{digits, signed, fields_spelling, no_fields, filled, reply_spelling}
@@ -26,6 +26,7 @@ code_below Posted = lit< tt
 code_below NoTeller = lit< tt
 code_below WrongBranch = lit< tt
 code_below NoAccount = lit< tt
+code_below BelowFloor = lit< tt
 code_below OverLimit = lit< tt
 code_below ReusedNumber = lit< tt
 code_below Full = lit< tt
@@ -36,6 +37,7 @@ outcome_with-code Posted = refl
 outcome_with-code NoTeller = refl
 outcome_with-code WrongBranch = refl
 outcome_with-code NoAccount = refl
+outcome_with-code BelowFloor = refl
 outcome_with-code OverLimit = refl
 outcome_with-code ReusedNumber = refl
 outcome_with-code Full = refl
@@ -47,6 +49,7 @@ length-name Posted = refl
 length-name NoTeller = refl
 length-name WrongBranch = refl
 length-name NoAccount = refl
+length-name BelowFloor = refl
 length-name OverLimit = refl
 length-name ReusedNumber = refl
 length-name Full = refl

@@ -99,6 +99,7 @@ fn read_outcome(digits: &[u8]) -> Option<Outcome>
         14 => Some(Outcome::OverLimit),
         15 => Some(Outcome::ReusedNumber),
         16 => Some(Outcome::Full),
+        17 => Some(Outcome::BelowFloor),
         90 => Some(Outcome::Malformed),
         _ => None,
     }

@@ -122,6 +122,8 @@ pub enum Outcome {
     WrongBranch,
     /// The account isn't open.
     NoAccount,
+    /// The account would go below the lowest balance of its branch.
+    BelowFloor,
     /// A balance would leave its limit.
     OverLimit,
     /// The teller gave the number to another request.
@@ -146,6 +148,7 @@ impl Outcome {
             Outcome::NoTeller => 11,
             Outcome::WrongBranch => 12,
             Outcome::NoAccount => 13,
+            Outcome::BelowFloor => 17,
             Outcome::OverLimit => 14,
             Outcome::ReusedNumber => 15,
             Outcome::Full => 16,
@@ -163,6 +166,7 @@ impl Outcome {
             Outcome::NoTeller => "NO TELLER",
             Outcome::WrongBranch => "WRONG BRANCH",
             Outcome::NoAccount => "NO ACCOUNT",
+            Outcome::BelowFloor => "BELOW FLOOR",
             Outcome::OverLimit => "OVER LIMIT",
             Outcome::ReusedNumber => "REUSED NUMBER",
             Outcome::Full => "FULL",

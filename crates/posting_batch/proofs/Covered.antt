@@ -8,7 +8,7 @@ use Rattle.std.proofs.lemmas.Bool.{eqb-true}
 use Rattle.message_records.specs.declared.fault.Bad.{Bad}
 use Rattle.message_records.specs.Records.{RequestFields}
 use Rattle.posting_rules.specs.Numbering.{branch_of_teller, branch_of_account}
-use Rattle.posting_rules.specs.LookUps.{kept_in, account_balance_in, balance_of_teller}
+use Rattle.posting_rules.specs.LookUps.{kept_in, account_balance_in, balance_of_teller, floor_in}
 use Rattle.posting_rules.specs.Tables.{Tables, row_at, branch_key, teller_key, account_key}
 use Rattle.posting_rules.proofs.Keyed.{by_test}
 use Rattle.posting_batch.specs.declared.slots.BranchSlot.{BranchSlot}
@@ -172,7 +172,7 @@ weaker P Q so (Some s) h = so s h
 
 unchanged_over : (o : Overlay) (t : Tables) → HasNoChange o → o.decided ≡ t.decided → tables_over o t ≡ t
 unchanged_over o t un counted =
-    tables_made _ _ _ _ _ _ _ _ _ _ _ _ counted
+    tables_made _ _ _ _ _ _ _ _ _ _ _ _ _ counted
     (same_rows branch_slot_key branch_key put_branch o.branches
     (λ n r. weaker (λ s. s.changed ≡ None) (λ s. put_branch s r ≡ r) (λ s h. rw h refl)
     (row_at branch_slot_key o.branches n)
@@ -209,6 +209,8 @@ stands t reads =
       fits = record {
         branches = λ n. filled_at branch_slot_key (branch_filled t)
             (λ k s. s.stored ≡ row_at branch_key t.branches k) (λ s. refl) o.branches n;
+        floors = λ n. filled_at branch_slot_key (branch_filled t) (λ k s. s.floor ≡ floor_in t k)
+            (λ s. refl) o.branches n;
         tellers = λ n. filled_at teller_slot_key (teller_filled t)
             (λ k s. s.stored ≡ option_map balance_of_teller (row_at teller_key t.tellers k))
             (λ s. refl) o.tellers n;

@@ -1,11 +1,11 @@
 -- The worked examples of a batch, computed from the definitions.
-use Rattle.std.specs.Prelude.{◌≡◌, ℕ, ℤ, List, [], ◌∷◌, map, pos, Option, Some, None, Result, Ok, refl}
+use Rattle.std.specs.Prelude.{◌≡◌, ℕ, ℤ, List, [], ◌∷◌, map, pos, negsuc, Option, Some, None, Result, Ok, refl}
 use Rattle.message_records.specs.declared.fault.Bad.{Bad}
 use Rattle.message_records.specs.declared.records.Outcome.{Outcome}
-use Rattle.message_records.specs.declared.records.Outcome.TheVariants.{Posted, ReusedNumber, NoAccount}
+use Rattle.message_records.specs.declared.records.Outcome.TheVariants.{Posted, ReusedNumber, NoAccount, BelowFloor}
 use Rattle.message_records.specs.Records.{RequestFields, ReplyFields}
 use Rattle.posting_rules.specs.Cases.{case_of}
-use Rattle.posting_rules.specs.Tables.{Tables, branch_row_of, teller_row_of, account_row_of}
+use Rattle.posting_rules.specs.Tables.{Tables, branch_row_of, teller_row_of, account_row_of, floor_row_of}
 use Rattle.posting_batch.specs.Batch.{covering_all, no_slots, filled}
 use Rattle.posting_batch.specs.Judging.{overlay_with_all, replies_over}
 use Rattle.posting_batch.specs.Overlay.{Overlay}
@@ -15,15 +15,17 @@ use Rattle.posting_rules.specs.Commands.{opened_with}
 request : ℕ → ℕ → ℕ → ℕ → ℤ → Result RequestFields Bad
 request a t b n z = Ok (record { account = a; teller = t; branch = b; number = n; delta = z })
 
--- branch 1 with three accounts, and branch 2 with two; of their tellers the first
+-- branch 1 with three accounts and a floor of -1000 cents, and branch 2 with two; of their tellers the first
 bank : Tables
 bank = record {
   decided = 0;
-  branches = branch_row_of 1 (pos 0) (opened_with 3) ∷ branch_row_of 2 (pos 0) (opened_with 2) ∷ [];
+  branches = branch_row_of 1 (pos 0) (opened_with 3 (Some (negsuc 999)))
+      ∷ branch_row_of 2 (pos 0) (opened_with 2 None) ∷ [];
   tellers = teller_row_of 1 (pos 0) ∷ teller_row_of 11 (pos 0) ∷ [];
   accounts = map (λ n. account_row_of n (pos 0)) (1 ∷ 2 ∷ 3 ∷ 100_001 ∷ 100_002 ∷ []);
   history = [];
   requests = [];
+  floors = floor_row_of 1 (negsuc 999) ∷ [];
 }
 
 batch_of : List (Result RequestFields Bad) → Overlay
@@ -79,3 +81,14 @@ history_of_twice = refl
 account_of_twice : map (λ slot. slot.changed) (left twice).accounts ≡ Some (pos 5) ∷ []
 unfolding request bank batch_of left twice case_of
 account_of_twice = refl
+
+-- ---- the account's branch has a floor, whichever teller posts
+
+floored : List (Result RequestFields Bad)
+floored = request 1 1 1 1 (negsuc 999) ∷ request 1 11 2 1 (negsuc 0) ∷ request 100_001 1 1 2 (negsuc 4999) ∷
+    []
+
+replies_of_floored : told floored ≡ (Posted, Some (negsuc 999)) ∷ (BelowFloor, None) ∷
+    (Posted, Some (negsuc 4999)) ∷ []
+unfolding request bank batch_of told floored case_of
+replies_of_floored = refl

@@ -13,14 +13,15 @@ use Rattle.posting_rules.specs.declared.rows.TellerRow.{TellerRow}
 use Rattle.posting_rules.specs.declared.rows.AccountRow.{AccountRow}
 use Rattle.posting_rules.specs.declared.rows.HistoryRow.{HistoryRow}
 use Rattle.posting_rules.specs.declared.rows.RequestRow.{RequestRow}
+use Rattle.posting_rules.specs.declared.rows.FloorRow.{FloorRow}
 use Rattle.posting_rules.specs.Changes.{row_put, with_decided, with_branch_balance, with_teller_balance}
 use Rattle.posting_rules.specs.Changes.{with_account_balance, with_history, with_request, tables_kept}
 use Rattle.posting_rules.specs.Changes.{tables_posted, tables_after}
-use Rattle.posting_rules.specs.Numbering.{branch_of_teller}
+use Rattle.posting_rules.specs.Numbering.{branch_of_teller, branch_of_account}
 use Rattle.posting_rules.specs.Entries.{DecidedRequest, refused_entry, posted_entry}
 use Rattle.posting_rules.specs.Kept.{KeptFields}
 use Rattle.posting_rules.specs.LookUps.{both_of, kept_in, account_balance_in, balance_of_account}
-use Rattle.posting_rules.specs.LookUps.{balance_of_teller, balance_of_branch, found_in}
+use Rattle.posting_rules.specs.LookUps.{balance_of_teller, balance_of_branch, floor_in, found_in}
 use Rattle.posting_rules.specs.Steps as steps
 use Rattle.posting_rules.specs.Tables.{Tables, row_at, branch_key, teller_key, account_key, history_key}
 use Rattle.posting_rules.specs.Tables.{request_key, request_row_of, history_row_of}
@@ -34,13 +35,15 @@ use Rattle.posting_batch.specs.Overlay.{Overlay, changed_to, each_put, tables_ov
 use Rattle.posting_batch.specs.Slots.{in_slot, slot_balance, kept_in_slots, kept_of_slot, is_for}
 use Rattle.posting_batch.specs.Slots.{account_slot_key, account_slot_balance, with_account_changed}
 use Rattle.posting_batch.specs.Slots.{teller_slot_key, teller_slot_balance, with_teller_changed}
-use Rattle.posting_batch.specs.Slots.{branch_slot_key, branch_slot_balance, with_branch_changed}
+use Rattle.posting_batch.specs.Slots.{branch_slot_key, branch_slot_balance, with_branch_changed, floor_of_slot}
+use Rattle.posting_batch.specs.Slots.{slot_floor}
 use Rattle.posting_batch.proofs.OverlaidRows.{over-changed, put_same, put_again, balance_is}
 
 -- each slot tells what is in the tables under its key
 pub record Fits (o : Overlay) (t : Tables) : Type 0 where
   pub branches : (n : ℕ)
       → IfSome (row_at branch_slot_key o.branches n) (λ s. s.stored ≡ row_at branch_key t.branches n)
+  pub floors : (n : ℕ) → IfSome (row_at branch_slot_key o.branches n) (λ s. s.floor ≡ floor_in t n)
   pub tellers : (n : ℕ)
       → IfSome (row_at teller_slot_key o.tellers n)
       (λ s. s.stored ≡ option_map balance_of_teller (row_at teller_key t.tellers n))
@@ -81,6 +84,15 @@ branch_now o t n fits there =
     by_slots None is = tt
     by_slots (Some s) is = ap (option_map balance_of_branch) is
 
+floor_now : (o : Overlay) (t : Tables) (n : ℕ) → Fits o t → IsSome (row_at branch_slot_key o.branches n)
+    → slot_floor o.branches n ≡ floor_in t n
+floor_now o t n fits there = by_slots (row_at branch_slot_key o.branches n) there (fits.floors n)
+  where
+    by_slots : (at : Option BranchSlot) → IsSome at → IfSome at (λ s. s.floor ≡ floor_in t n)
+        → in_slot floor_of_slot at ≡ floor_in t n
+    by_slots None there is = absurd cc
+    by_slots (Some s) there is = is
+
 kept_now : (o : Overlay) (t : Tables) (n m : ℕ) → Fits o t → IsSome (find (is_for n m) o.kept)
     → kept_in_slots o.kept n m ≡ kept_in (tables_over o t).requests n m
 kept_now o t n m fits there = by_slots (find (is_for n m) o.kept) there (fits.kept n m)
@@ -95,18 +107,20 @@ kept_now o t n m fits there = by_slots (find (is_for n m) o.kept) there (fits.ke
 pub found_is : (o : Overlay) (t : Tables) (r : RequestFields) → Fits o t → Covers o r
     → found_over o r ≡ found_in (tables_over o t) r
 found_is o t r fits covers =
-    made _ _ _ _ _ _ (
+    made _ _ _ _ _ _ _ _ (
     ap (λ x. both_of x (slot_balance branch_slot_key branch_slot_balance o.branches
     (branch_of_teller r.teller))) (teller_now o t r.teller fits covers.teller)
     ∙ ap (both_of (option_map balance_of_teller (row_at teller_key (tables_over o t).tellers r.teller)))
     (branch_now o t (branch_of_teller r.teller) fits covers.branch)
     )
     (kept_now o t r.teller r.number fits covers.kept) (account_now o t r.account fits covers.account)
+    (floor_now o t (branch_of_account r.account) fits covers.its_branch)
   where
-    made : (a a' : Option (ℤ × ℤ)) (k k' : Option KeptFields) (b b' : Option ℤ) → a ≡ a' → k ≡ k' → b ≡ b'
-        → (let f : Found = record { teller = a; kept = k; decided = o.decided; account = b } in f) ≡
-        record { teller = a'; kept = k'; decided = o.decided; account = b' }
-    made a a' k k' b b' ea ek eb = rw (ea, ek, eb) refl
+    made : (a a' : Option (ℤ × ℤ)) (k k' : Option KeptFields) (b b' l l' : Option ℤ) → a ≡ a' → k ≡ k'
+        → b ≡ b' → l ≡ l'
+        → (let f : Found = record { teller = a; kept = k; decided = o.decided; account = b; floor = l } in f) ≡
+        record { teller = a'; kept = k'; decided = o.decided; account = b'; floor = l' }
+    made a a' k k' b b' l l' ea ek eb el = rw (ea, ek, eb, el) refl
 
 -- ---- a verdict
 
@@ -118,7 +132,7 @@ each_put-append key (x ∷ rs) r rows = each_put-append key rs r (row_put key x 
 
 -- tables whose parts are equal
 pub tables_made : (n n' : ℕ) (b b' : List BranchRow) (e e' : List TellerRow) (a a' : List AccountRow)
-    (h h' : List HistoryRow) (q q' : List RequestRow)
+    (h h' : List HistoryRow) (q q' : List RequestRow) (l : List FloorRow)
     → n ≡ n' → b ≡ b' → e ≡ e' → a ≡ a' → h ≡ h' → q ≡ q'
     → (let t : Tables = record {
       decided = n;
@@ -127,15 +141,24 @@ pub tables_made : (n n' : ℕ) (b b' : List BranchRow) (e e' : List TellerRow) (
       accounts = a;
       history = h;
       requests = q;
+      floors = l;
     } in t)
-    ≡ record { decided = n'; branches = b'; tellers = e'; accounts = a'; history = h'; requests = q' }
-tables_made n n' b b' e e' a a' h h' q q' en eb ee ea eh eq = rw (en, eb, ee, ea, eh, eq) refl
+    ≡ record {
+      decided = n';
+      branches = b';
+      tellers = e';
+      accounts = a';
+      history = h';
+      requests = q';
+      floors = l;
+    }
+tables_made n n' b b' e e' a a' h h' q q' l en eb ee ea eh eq = rw (en, eb, ee, ea, eh, eq) refl
 
 refused_over : (o : Overlay) (t : Tables) (e : DecidedRequest)
     → tables_over (overlay_kept o e) t ≡ tables_kept (tables_over o t) (o.decided + 1) e
 unfolding with_decided with_request
 refused_over o t e =
-    tables_made _ _ _ _ _ _ _ _ _ _ _ _ refl refl refl refl refl
+    tables_made _ _ _ _ _ _ _ _ _ _ _ _ _ refl refl refl refl refl
     (each_put-append request_key o.requests (request_row_of (o.decided + 1) e) t.requests)
 
 -- the slots of a posting are there
@@ -149,7 +172,7 @@ posted_over : (o : Overlay) (t : Tables) (e : DecidedRequest) (teller branch : �
     (o.decided + 1) e teller branch
 unfolding with_decided with_request with_history with_branch_balance with_teller_balance with_account_balance
 posted_over o t e teller branch there =
-    tables_made _ _ _ _ _ _ _ _ _ _ _ _ refl
+    tables_made _ _ _ _ _ _ _ _ _ _ _ _ _ refl
     (over-changed branch_slot_key branch_key (λ s r. changed_to steps.with_branch_balance s.changed r)
     (put_same branch_slot_key (λ s. None) (λ (s : BranchSlot). s.changed) branch_key balance_of_branch
     steps.with_branch_balance (λ z r. refl) (λ z r. refl) (λ z y r. refl))

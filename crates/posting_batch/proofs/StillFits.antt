@@ -14,7 +14,7 @@ use Rattle.posting_rules.specs.Cases.{case_of, plus_within}
 use Rattle.posting_rules.specs.Changes.{row_changed, tables_after, tables_read}
 use Rattle.posting_rules.specs.Numbering.{branch_of_teller}
 use Rattle.posting_rules.specs.Entries.{DecidedRequest, refused_entry, posted_entry}
-use Rattle.posting_rules.specs.LookUps.{kept_in, account_balance_in, balance_of_teller, found_in}
+use Rattle.posting_rules.specs.LookUps.{kept_in, account_balance_in, balance_of_teller, floor_in, found_in}
 use Rattle.posting_rules.specs.Tables.{Tables, row_at, branch_key, teller_key, request_key, request_row_of}
 use Rattle.posting_rules.proofs.RowChanges.{row_at-changed}
 use Rattle.posting_rules.proofs.Verdicts.{by_posting, by_account, by_new, by_known, by_teller}
@@ -43,7 +43,7 @@ new_case_of f r =
     by_teller P f.teller f r tt (λ z tellers.
     by_known P f.kept f r z.0 z.1 tt (λ reply. tt) (λ new.
     by_new P f r z.0 z.1 tt (λ room. new) (λ room its.
-    by_account P f.account z.0 z.1 r.delta new (λ a accounts.
+    by_account P f.account f.floor z.0 z.1 r.delta new new (λ a accounts above.
     by_posting P (plus_within a r.delta) (plus_within z.0 r.delta) (plus_within z.1 r.delta) new
     (λ x y w ex ey ew. new)))))
 
@@ -81,6 +81,7 @@ after_fits o t m r (Again x) fits new = fits
 after_fits o t m r (Refused x) fits new =
     record {
       branches = fits.branches;
+      floors = fits.floors;
       tellers = fits.tellers;
       accounts = fits.accounts;
       kept = more_kept o t (refused_entry m r x) fits new;
@@ -88,6 +89,8 @@ after_fits o t m r (Refused x) fits new =
 after_fits o t m r (Posted a te b) fits new = record {
   branches = λ n. fits_changed branch_slot_key (branch_of_teller r.teller) (with_branch_changed b) (λ s. refl)
       (λ s. s.stored ≡ row_at branch_key t.branches n) (λ s h. h) o.branches n (fits.branches n);
+  floors = λ n. fits_changed branch_slot_key (branch_of_teller r.teller) (with_branch_changed b) (λ s. refl)
+      (λ s. s.floor ≡ floor_in t n) (λ s h. h) o.branches n (fits.floors n);
   tellers = λ n. fits_changed teller_slot_key r.teller (with_teller_changed te) (λ s. refl)
       (λ s. s.stored ≡ option_map balance_of_teller (row_at teller_key t.tellers n)) (λ s h. h) o.tellers n
       (fits.tellers n);

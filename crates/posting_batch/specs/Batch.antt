@@ -6,7 +6,7 @@ use Rattle.message_records.specs.declared.fault.Bad.{Bad}
 use Rattle.message_records.specs.Records.{RequestFields}
 use Rattle.posting_rules.specs.Changes.{row_put}
 use Rattle.posting_rules.specs.Numbering.{branch_of_teller, branch_of_account}
-use Rattle.posting_rules.specs.LookUps.{kept_in, account_balance_in, balance_of_teller}
+use Rattle.posting_rules.specs.LookUps.{kept_in, account_balance_in, balance_of_teller, floor_in}
 use Rattle.posting_rules.specs.Tables.{Tables, row_at, branch_key, teller_key, account_key, history_key}
 use Rattle.posting_rules.specs.Tables.{request_key}
 use Rattle.posting_batch.specs.declared.slots.AccountSlot.{AccountSlot}
@@ -103,7 +103,7 @@ pub record HasNoChange (o : Overlay) : Type 0 where
 -- ---- it is filled
 
 abbrev pub branch_filled : Tables → BranchSlot → BranchSlot
-branch_filled t s = record s { stored = row_at branch_key t.branches s.branch }
+branch_filled t s = record s { stored = row_at branch_key t.branches s.branch; floor = floor_in t s.branch }
 
 abbrev pub teller_filled : Tables → TellerSlot → TellerSlot
 teller_filled t s = record s { stored = option_map balance_of_teller (row_at teller_key t.tellers s.teller) }

@@ -7,7 +7,7 @@ use Rattle.posting_rules.specs.declared.judgments.Verdict.{Verdict}
 use Rattle.posting_rules.specs.declared.judgments.Verdict.TheVariants.{Unkept, Again, Refused, Posted}
 use Rattle.posting_rules.specs.Cases.{case_of, reply_in}
 use Rattle.posting_rules.specs.Changes.{row_changed}
-use Rattle.posting_rules.specs.Numbering.{branch_of_teller}
+use Rattle.posting_rules.specs.Numbering.{branch_of_teller, branch_of_account}
 use Rattle.posting_rules.specs.Entries.{DecidedRequest, refused_entry, posted_entry, kept_fields}
 use Rattle.posting_rules.specs.Entries.{malformed_reply}
 use Rattle.posting_rules.specs.LookUps.{both_of}
@@ -16,7 +16,7 @@ use Rattle.posting_batch.specs.Overlay.{Overlay}
 use Rattle.posting_batch.specs.Slots.{slot_balance, kept_in_slots, slots_kept, account_slot_key}
 use Rattle.posting_batch.specs.Slots.{account_slot_balance, with_account_changed, teller_slot_key}
 use Rattle.posting_batch.specs.Slots.{teller_slot_balance, with_teller_changed, branch_slot_key}
-use Rattle.posting_batch.specs.Slots.{branch_slot_balance, with_branch_changed}
+use Rattle.posting_batch.specs.Slots.{branch_slot_balance, with_branch_changed, slot_floor}
 
 -- all that is looked up for a request
 abbrev pub found_over : Overlay → RequestFields → Found
@@ -26,6 +26,7 @@ found_over o r = record {
   kept = kept_in_slots o.kept r.teller r.number;
   decided = o.decided;
   account = slot_balance account_slot_key account_slot_balance o.accounts r.account;
+  floor = slot_floor o.branches (branch_of_account r.account);
 }
 
 -- a decided request is kept under the next ordinal, and counted

@@ -41,11 +41,20 @@ branch_slot_key s = s.branch
 abbrev pub row_of_slot : BranchSlot → Option BranchRow
 row_of_slot s = s.stored
 
+-- the floor of its accounts
+abbrev pub floor_of_slot : BranchSlot → Option ℤ
+floor_of_slot s = s.floor
+
 abbrev pub branch_slot_balance : BranchSlot → Option ℤ
 branch_slot_balance s = balance_now (option_map balance_of_branch s.stored) s.changed
 
 abbrev pub with_branch_changed : ℤ → BranchSlot → BranchSlot
-with_branch_changed z s = record { branch = s.branch; stored = s.stored; changed = Some z }
+with_branch_changed z s = record {
+  branch = s.branch;
+  stored = s.stored;
+  floor = s.floor;
+  changed = Some z;
+}
 
 -- what is said of the slot that is there
 abbrev pub in_slot : {S A : Type 0} → (S → Option A) → Option S → Option A
@@ -54,6 +63,10 @@ in_slot f o = option_flatten (option_map f o)
 -- the balance under a key
 abbrev pub slot_balance : {S : Type 0} → (S → ℕ) → (S → Option ℤ) → List S → ℕ → Option ℤ
 slot_balance key balance slots k = in_slot balance (row_at key slots k)
+
+-- the floor of a branch's accounts
+abbrev pub slot_floor : List BranchSlot → ℕ → Option ℤ
+slot_floor slots b = in_slot floor_of_slot (row_at branch_slot_key slots b)
 
 -- ---- kept requests
 
@@ -84,7 +97,7 @@ abbrev pub empty_teller : ℕ → TellerSlot
 empty_teller n = record { teller = n; stored = None; changed = None }
 
 abbrev pub empty_branch : ℕ → BranchSlot
-empty_branch n = record { branch = n; stored = None; changed = None }
+empty_branch n = record { branch = n; stored = None; floor = None; changed = None }
 
 abbrev pub empty_request : ℕ → ℕ → RequestSlot
 empty_request n m = record { teller = n; number = m; kept = None }

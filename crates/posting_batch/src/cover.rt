@@ -20,6 +20,7 @@ fn place_branch(slots: &mut Vec<BranchSlot>, branch: u64)
     let empty = BranchSlot {
         branch,
         stored: None,
+        floor: None,
         changed: None,
     };
     place(slots, empty);

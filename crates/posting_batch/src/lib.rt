@@ -1,5 +1,5 @@
 //! A batch of records, judged in memory (TPC-B 1.2). [`Batch::new`] places a slot under every key that the
-//! records can touch. The caller fills each slot with the row that the tables have there, and
+//! records can touch. The caller fills each slot with what the tables have there, and
 //! [`Batch::judge`] answers the records in order, each on what the ones before it left. The changed and the
 //! new rows are then in its [`Overlay`], to be written. The function `first_batch` of `counter_tests`, which a
 //! test runs, fills the slots of one record by hand, with a branch of three accounts whose balances are zero:
@@ -47,5 +47,5 @@ mod slots;
 
 pub use batch::{Batch, Judged};
 pub use overlay::Overlay;
-pub use search::stored_branch;
+pub use search::{stored_branch, stored_floor};
 pub use slots::{AccountSlot, BranchSlot, RequestSlot, TellerSlot};

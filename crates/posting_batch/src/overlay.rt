@@ -9,12 +9,12 @@ ghost use Rattle.posting_rules.specs.Kept.{is_kept_with};
 ghost use Rattle.posting_batch.specs.Room.{IsRoomFor};
 
 use crate::changes::{change_at, keep_at};
-use crate::search::{balance_at, kept_at};
+use crate::search::{balance_at, kept_at, stored_floor};
 use crate::slots::{AccountSlot, BranchSlot, RequestSlot, TellerSlot};
 use message_records::{Bad, Cents, Moment, Outcome, REPLY_BYTES, Request, encode_reply};
 use posting_rules::{
-    Found, HistoryRow, MAX_DECIDED, Ordinal, RequestRow, Verdict, branch_of_teller, judge,
-    malformed_reply, reply_to,
+    Found, HistoryRow, MAX_DECIDED, Ordinal, RequestRow, Verdict, branch_of_account,
+    branch_of_teller, judge, malformed_reply, reply_to,
 };
 use std::alloc::{AllocError, Global};
 
@@ -90,6 +90,7 @@ impl Overlay {
             kept: kept_at(&self.kept, request.teller(), request.number()),
             decided: self.decided,
             account: balance_at(&self.accounts, request.account().get()),
+            floor: stored_floor(&self.branches, branch_of_account(request.account())),
         }
     }
 

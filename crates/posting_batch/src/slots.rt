@@ -34,6 +34,8 @@ pub struct BranchSlot {
     pub branch: u64,
     /// Its row in the tables; none where it has none.
     pub stored: Option<BranchRow>,
+    /// The floor of its accounts in the tables; none where they have none.
+    pub floor: Option<Cents>,
     /// The balance that its row is to have, where a posting changes it.
     pub changed: Option<Cents>,
 }

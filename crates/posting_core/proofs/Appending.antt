@@ -2,31 +2,34 @@
 -- log with its command.
 use Rattle.std.proofs.Common.{◌≡◌, ℕ, ◌+◌, ◌≤◌, List, ◌∷◌, Option, Some, None, Result, Ok, Err, refl, sym, ap}
 use Rattle.std.proofs.Common.{subst, ◌∙◌, arith}
-use Rattle.std.specs.Prelude.{pos}
+use Rattle.std.specs.Prelude.{ℤ, pos}
 use Rattle.std.specs.Option.{option_map}
 use Rattle.message_records.specs.declared.fault.Bad.{Bad}
 use Rattle.message_records.specs.Records.{RequestFields}
 use Rattle.message_records.specs.Reading.{request_of}
 use Rattle.posting_rules.specs.declared.judgments.Verdict.{Verdict}
 use Rattle.posting_rules.specs.declared.judgments.Verdict.TheVariants.{Unkept, Again, Refused, Posted}
-use Rattle.posting_rules.specs.Commands.{Command, Open, Post, opened, opened_with}
+use Rattle.posting_rules.specs.Commands.{Command, Open, Post, Terms, opened}
 use Rattle.posting_rules.specs.Cases.{case_of}
 use Rattle.posting_rules.specs.Entries.{refused_entry, posted_entry, reply_to, decided, reply}
 use Rattle.posting_rules.specs.Tables.{Tables, AreTablesOf, row_at, branch_key, teller_key, account_key}
 use Rattle.posting_rules.specs.Tables.{history_key, request_key, branch_row_of, history_row_of}
-use Rattle.posting_rules.specs.Tables.{request_row_of}
-use Rattle.posting_rules.specs.LookUps.{found_in, terms_of_branch}
+use Rattle.posting_rules.specs.Tables.{request_row_of, HasKeys, floor_key, floor_row_of}
+use Rattle.posting_rules.specs.LookUps.{found_in, floor_in, terms_of_branch}
+use Rattle.posting_rules.specs.declared.rows.FloorRow.{FloorRow}
 use Rattle.posting_rules.specs.Changes.{new_teller, new_account}
-use Rattle.posting_rules.specs.Steps.{IsStep, with_branch_balance, with_teller_balance, with_account_balance}
+use Rattle.posting_rules.specs.Steps.{IsStep, AddsFloor, with_branch_balance, with_teller_balance}
+use Rattle.posting_rules.specs.Steps.{with_account_balance}
 use Rattle.posting_rules.specs.Numbering.{branch_of_teller, first_teller, first_account}
-use Rattle.posting_core.specs.Appended.{tables_after, tables_with, tables_opened, reply_in_tables}
+use Rattle.posting_core.specs.Appended.{tables_after, tables_with, tables_opened, floor_behind}
+use Rattle.posting_core.specs.Appended.{reply_in_tables}
 use Rattle.posting_rules.proofs.RowChanges.{row_changes}
 use Rattle.posting_rules.proofs.Ready.{AreReady, ready_shown, no_teller, no_account}
 use Rattle.posting_rules.proofs.Looked.{terms_shown}
 use Rattle.posting_rules.proofs.Stepped.{post_shown, malformed_shown, reply_shown}
 use Rattle.posting_rules.proofs.Opened.{opening_shown}
 use Rattle.posting_core.proofs.Behind.{row_behind, rows_behind}
-use Rattle.posting_rules.specs.declared.limits.TheConstants.{MOST_ACCOUNTS}
+use Rattle.posting_rules.specs.declared.limits.TheConstants.{MAX_ACCOUNTS}
 
 -- ---- a record
 
@@ -43,6 +46,7 @@ step_is t m r (Refused o) ready = record {
   history = refl;
   requests = row_behind request_key t.requests
       (request_row_of (t.decided + 1) (refused_entry m r o)) ready.requests ready.next_request;
+  floors = refl;
 }
 step_is t m r (Posted a te b) ready =
     let e = posted_entry m r a in
@@ -57,6 +61,7 @@ step_is t m r (Posted a te b) ready =
           (history_row_of (t.decided + 1) e) ready.history ready.next_posting;
       requests = row_behind request_key t.requests
           (request_row_of (t.decided + 1) e) ready.requests ready.next_request;
+      floors = refl;
     }
 
 -- the tables after a record show the log with it
@@ -85,24 +90,31 @@ reply_is t log bytes s = by_read (request_of bytes) refl
 
 -- ---- an opening
 
+-- the floor that is put behind the others
+floor_adds : (b : ℕ) (floor : Option ℤ) (rows : List FloorRow) → HasKeys floor_key rows
+    → row_at floor_key rows b ≡ None → AddsFloor b floor rows (floor_behind b floor rows)
+floor_adds b None rows keys free = refl
+floor_adds b (Some lowest) rows keys free = row_behind floor_key rows (floor_row_of b lowest) keys free
+
 -- the tables with a branch that wasn't open show the log with its opening
-pub opened_shown : (t : Tables) (log : List Command) (b count : ℕ)
-    → row_at branch_key t.branches b ≡ None → 1 ≤ b
-    → count ≤ MOST_ACCOUNTS → AreTablesOf t log → AreTablesOf (tables_opened t b count) (Open b count ∷ log)
-opened_shown t log b count closed hb hc s =
+pub opened_shown : (t : Tables) (log : List Command) (b : ℕ) (terms : Terms)
+    → row_at branch_key t.branches b ≡ None → 1 ≤ b → terms.accounts ≤ MAX_ACCOUNTS → AreTablesOf t log
+    → AreTablesOf (tables_opened t b terms) (Open b terms ∷ log)
+opened_shown t log b terms closed hb hc s =
     let ready = ready_shown t log s in
-    opening_shown t (tables_opened t b count) log b count
+    opening_shown t (tables_opened t b terms) log b terms
     (sym (terms_shown t (λ x. opened log x) (decided log) b s.rows)
-    ∙ ap (option_map terms_of_branch) closed) hb hc s
+    ∙ ap (option_map (terms_of_branch (floor_in t b))) closed) hb hc s
     (record {
       decided = refl;
       branches = row_behind branch_key t.branches
-          (branch_row_of b (pos 0) (opened_with count)) ready.branches closed;
+          (branch_row_of b (pos 0) terms) ready.branches closed;
       tellers = rows_behind teller_key new_teller (first_teller b) 10 t.tellers (λ _. refl) ready.tellers
           (λ n lt. no_teller t b n ready hb closed lt);
-      accounts = rows_behind account_key new_account (first_account b) count t.accounts
+      accounts = rows_behind account_key new_account (first_account b) terms.accounts t.accounts
           (λ _. refl) ready.accounts
           (λ n lt. no_account t b n ready hb closed (omega arith));
       history = refl;
       requests = refl;
+      floors = floor_adds b terms.floor t.floors ready.floors (ready.its_floors b closed);
     })

@@ -2,7 +2,7 @@
 use Rattle.std.proofs.Common.{◌≡◌, ℕ, ◌≤◌, List, [], ◌∷◌, length, Option, Some, None, Result, Ok, Err, refl, sym, ap}
 use Rattle.std.proofs.Common.{subst, ◌∙◌}
 use Rattle.std.specs.Option.{option_map}
-use Rattle.posting_rules.specs.declared.limits.TheConstants.{MOST_ACCOUNTS}
+use Rattle.posting_rules.specs.declared.limits.TheConstants.{MAX_ACCOUNTS}
 use Rattle.message_records.specs.Reading.{request_of}
 use Rattle.message_records.specs.Spelling.{reply_spelling}
 use Rattle.posting_rules.specs.declared.rows.BranchRow.{BranchRow}
@@ -10,9 +10,10 @@ use Rattle.posting_rules.specs.declared.rows.TellerRow.{TellerRow}
 use Rattle.posting_rules.specs.declared.rows.AccountRow.{AccountRow}
 use Rattle.posting_rules.specs.declared.rows.HistoryRow.{HistoryRow}
 use Rattle.posting_rules.specs.declared.rows.RequestRow.{RequestRow}
+use Rattle.posting_rules.specs.declared.rows.FloorRow.{FloorRow}
 use Rattle.posting_rules.specs.declared.fault.Fault.{Fault}
 use Rattle.posting_rules.specs.declared.fault.Fault.TheVariants.{Memory}
-use Rattle.posting_rules.specs.Commands.{Command, Open, Post, AreCommands}
+use Rattle.posting_rules.specs.Commands.{Command, Open, Post, AreCommands, Terms}
 use Rattle.posting_rules.specs.Entries.{reply}
 use Rattle.posting_rules.specs.Tables.{Tables, AreTablesOf, row_at, branch_key}
 use Rattle.posting_rules.specs.Runs.{behind}
@@ -26,7 +27,8 @@ use Rattle.posting_core.proofs.Appending.{record_shown, reply_is, opened_shown}
 use Rattle.posting_rules.proofs.Sequence.{commands_behind}
 
 pub empty_from : (bs : List BranchRow) (ts : List TellerRow) (xs : List AccountRow) (hs : List HistoryRow)
-    (rs : List RequestRow) → bs ≡ [] → ts ≡ [] → xs ≡ [] → hs ≡ [] → rs ≡ []
+    (rs : List RequestRow) (fs : List FloorRow) → bs ≡ [] → ts ≡ [] → xs ≡ [] → hs ≡ [] → rs ≡ []
+    → fs ≡ []
     → AreTablesOf (record {
       decided = length rs;
       branches = bs;
@@ -34,8 +36,9 @@ pub empty_from : (bs : List BranchRow) (ts : List TellerRow) (xs : List AccountR
       accounts = xs;
       history = hs;
       requests = rs;
+      floors = fs;
     }) []
-empty_from bs ts xs hs rs eb et ea eh er = rw (eb, et, ea, eh, er) empty_shown
+empty_from bs ts xs hs rs fs eb et ea eh er ef = rw (eb, et, ea, eh, er, ef) empty_shown
 
 -- ---- the rows after room was made for more
 
@@ -50,16 +53,18 @@ requests_as_before t hs rs em eh er =
     (λ (x : List RequestRow). with_requests t t.history x) er
     ∙ ap (λ (x : ℕ). let u : Tables = record t { decided = x } in u) (sym em)
 
--- the tables with these rows of branches, tellers and accounts
-abbrev pub with_branches : Tables → List BranchRow → List TellerRow → List AccountRow → Tables
-with_branches t bs ts xs = record t { branches = bs; tellers = ts; accounts = xs }
+-- the tables with these rows of branches, tellers, accounts and floors
+abbrev pub with_branches : Tables → List BranchRow → List TellerRow → List AccountRow → List FloorRow → Tables
+with_branches t bs ts xs fs = record t { branches = bs; tellers = ts; accounts = xs; floors = fs }
 
 pub branches_as_before : (t : Tables) (bs : List BranchRow) (ts : List TellerRow) (xs : List AccountRow)
-    → bs ≡ t.branches → ts ≡ t.tellers → xs ≡ t.accounts → with_branches t bs ts xs ≡ t
-branches_as_before t bs ts xs eb et ea =
-    ap (λ (y : List BranchRow). with_branches t y ts xs) eb ∙ ap
-    (λ (y : List TellerRow). with_branches t t.branches y xs) et
-    ∙ ap (λ (y : List AccountRow). with_branches t t.branches t.tellers y) ea
+    (fs : List FloorRow)
+    → bs ≡ t.branches → ts ≡ t.tellers → xs ≡ t.accounts → fs ≡ t.floors → with_branches t bs ts xs fs ≡ t
+branches_as_before t bs ts xs fs eb et ea ef =
+    ap (λ (y : List BranchRow). with_branches t y ts xs fs) eb
+    ∙ ap (λ (y : List TellerRow). with_branches t t.branches y xs fs) et
+    ∙ ap (λ (y : List AccountRow). with_branches t t.branches t.tellers y fs) ea
+    ∙ ap (λ (y : List FloorRow). with_branches t t.branches t.tellers t.accounts y) ef
 
 pub record_from : (t t' new : Tables) (log : List Command) (m : ℕ) (bytes : List ℕ)
     → new ≡ tables_with t' m (request_of bytes) → t' ≡ t → AreTablesOf t log
@@ -80,13 +85,14 @@ pub unmapped : {A B : Type 0} (f : A → B) (o : Option A) → option_map f o �
 unmapped f None e = refl
 unmapped f (Some x) e = absurd cc
 
-pub opened_from : (t t' new : Tables) (log : List Command) (b count : ℕ) → new ≡ tables_opened t' b count
-    → t' ≡ t → row_at branch_key t.branches b ≡ None → 1 ≤ b → count ≤ MOST_ACCOUNTS → AreTablesOf t log
-    → AreTablesOf new (Open b count ∷ log)
-opened_from t t' new log b count e same none hb hc s =
-    subst (λ (u : Tables). AreTablesOf u (Open b count ∷ log))
-    (sym (e ∙ ap (λ (u : Tables). tables_opened u b count) same))
-    (opened_shown t log b count none hb hc s)
+pub opened_from : (t t' new : Tables) (log : List Command) (b : ℕ) (terms : Terms)
+    → new ≡ tables_opened t' b terms → t' ≡ t → row_at branch_key t.branches b ≡ None → 1 ≤ b
+    → terms.accounts ≤ MAX_ACCOUNTS → AreTablesOf t log
+    → AreTablesOf new (Open b terms ∷ log)
+opened_from t t' new log b terms e same none hb hc s =
+    subst (λ (u : Tables). AreTablesOf u (Open b terms ∷ log))
+    (sym (e ∙ ap (λ (u : Tables). tables_opened u b terms) same))
+    (opened_shown t log b terms none hb hc s)
 
 -- ---- what the bank shows, whose rows are all that a stop leaves
 

@@ -6,6 +6,8 @@ pub mod InMemory
 pub mod Transferred
 pub mod Timeless
 pub mod Batched
+pub mod Again
+pub mod Followed
 pub mod Stops
 pub mod Streaming
 pub mod StreamedBatches

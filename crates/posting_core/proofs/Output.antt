@@ -12,11 +12,14 @@ use Rattle.posting_core.specs.declared.stream.StreamFault.TheVariants.{Truncated
 use Rattle.posting_rules.specs.Commands.{Command}
 use Rattle.posting_rules.specs.Counter.{Seen, ShowsLog}
 use Rattle.posting_rules.specs.Runs.{behind, posts, replies_to, ArePosts}
-use Rattle.posting_rules.specs.Resends.{Skips}
+use Rattle.message_records.specs.Spelling.{reply_spelling}
+use Rattle.posting_rules.specs.Entries.{reply}
+use Rattle.posting_rules.specs.Resends.{Place, Skips}
 use Rattle.posting_core.specs.Batches.{Batch, IsRecord, joined, records_of, posts_in, posts_of}
 use Rattle.posting_core.specs.Stream.{replies_text, acknowledged, IfTaken, Streamed, OutputsReplies}
 use Rattle.posting_core.specs.Stream.{SurvivesStream}
-use Rattle.posting_core.specs.Stream.{Resends}
+use Rattle.posting_core.specs.Stream.{IsReplied, Resends, reply_at}
+use Rattle.posting_core.proofs.Again.{reply_begins, reply_stands}
 use Rattle.posting_rules.proofs.Sequence.{replies_to-append, one_reply_each}
 use Rattle.posting_rules.proofs.Resends.{shows_log_left_out}
 use Rattle.posting_core.proofs.Stops.{at_least}
@@ -200,15 +203,63 @@ tables_again {c' = c'} (Err Write) s log p added h hp skips shows =
     tables_left c' log p added s.taken s.refused s.ends hp skips (s.shows h (behind log p) shows)
 tables_again (Err (Bank fault)) s log p added h hp skips shows = tt
 
+-- what was written at the place of a record that is in p, where none was refused
+stands_whole : (log p : List Command) (one : List ℕ) (bs refused : List Batch) (written : List ℕ)
+    (first : Place one p) (again : Place one (posts_of (bs ++ refused))) → refused ≡ [] → ArePosts p
+    → written ≡ joined (replies_to (behind log p) (posts_of bs))
+    → reply_at (length again.before) written ≡ reply_spelling (reply (behind log first.before) one)
+stands_whole log p one bs refused written first again none hp is =
+    let k = length again.before in
+    ap (reply_at k) (is ∙ ap (λ (x : List Batch). joined (replies_to (behind log p) (posts_of x)))
+    (all_taken bs refused none))
+    ∙ reply_stands log p (posts_of (bs ++ refused)) one first again hp (all_posts (bs ++ refused))
+
+-- and where a beginning of the text was written
+stands_begun : (log p : List Command) (one : List ℕ) (bs : List Batch) (n : ℕ) (written : List ℕ)
+    (first : Place one p) (again : Place one (posts_of bs)) → ArePosts p
+    → written ≡ take n (joined (replies_to (behind log p) (posts_of bs)))
+    → reply_at (length again.before) written ≡ take (length (reply_at (length again.before) written))
+    (reply_spelling (reply (behind log first.before) one))
+stands_begun log p one bs n written first again hp is =
+    reply_begins (length again.before) n written (joined (replies_to (behind log p) (posts_of bs))) _ is
+    (reply_stands log p (posts_of bs) one first again hp (all_posts bs))
+
+replied : {r r' w w' k k' : Option (List ℕ)} {c c' : Seen} (result : Result ℕ StreamFault)
+    (s : Streamed r r' w w' k k' c c' result) (log p : List Command) (one : List ℕ) (first : Place one p)
+    (again : Place one (posts_of (s.taken ++ s.refused)))
+    → c'.honest → ArePosts p → ShowsLog c (behind log p)
+    → IsReplied result (reply_at (length again.before) s.written)
+    (reply_spelling (reply (behind log first.before) one))
+replied (Ok count) s log p one first again h hp shows =
+    stands_whole log p one s.taken s.refused s.written first again s.ends.all_taken hp
+    (s.replies h (behind log p) shows)
+replied (Err (Truncated n)) s log p one first again h hp shows =
+    stands_whole log p one s.taken s.refused s.written first again s.ends.all_taken hp
+    (s.replies h (behind log p) shows)
+replied (Err Read) s log p one first again h hp shows =
+    stands_whole log p one s.taken s.refused s.written first again s.ends hp
+    (s.replies h (behind log p) shows)
+replied (Err Write) s log p one first again h hp shows =
+    stands_begun log p one (s.taken ++ s.refused) (length s.written) s.written first again hp
+    (s.replies h (behind log p) shows
+    ∙ ap (λ (x : List Batch). take (length s.written) (joined (replies_to (behind log p) (posts_of x))))
+    (all_taken s.taken s.refused s.ends))
+replied (Err (Bank fault)) s log p one first again h hp shows =
+    stands_begun log p one (s.taken ++ s.refused) _ s.written first again hp
+    (s.replies h (behind log p) shows ∙ text_begins (behind log p) s.taken s.refused)
+
 pub resends_of : {r r' w w' k k' : Option (List ℕ)} {c c' : Seen} (result : Result ℕ StreamFault)
-    → Streamed r r' w w' k k' c c' result → Resends r r' c c' result
+    → Streamed r r' w w' k k' c c' result → Resends r r' w w' c c' result
 resends_of result s =
     let bs = s.taken ++ s.refused in
     record {
       bytes = joined (records_of bs) ++ s.rest;
       read = s.read;
+      written = s.written;
+      wrote = s.wrote;
       commands = posts_of bs;
       posts = all_posts bs;
       records = posted_is bs ∙ sym (whole_records_are (records_of bs) s.rest s.whole s.few);
+      replies = λ h log p hp shows one first again. replied result s log p one first again h hp shows;
       tables = λ h log p added hp skips shows. tables_again result s log p added h hp skips shows;
     }

@@ -43,8 +43,8 @@ still_down (Damaged rule) old new cs u e = u.down
 
 pub refused_broken : {C : Type 0} (seen : C → Seen) (reason : Fault → C → C → Type 0) (old stood new : C)
     {r r' w w' k k' : Option (List ℕ)}
-    {count : ℕ} (v v' : Option (List ℕ)) (fault : StreamFault)
-    (m : ℕ) (all rest : List ℕ) (rs : List (List ℕ)) → Going r r' w w' k k' (seen old) (seen stood) all count
+    {done : List Batch} {count : ℕ} (v v' : Option (List ℕ)) (fault : StreamFault)
+    (m : ℕ) (all rest : List ℕ) (rs : List (List ℕ)) → Going r r' w w' k k' (seen old) (seen stood) done all count
     → (all ≡ joined rs ++ rest) × AllByRecursion IsRecord rs → length rest < 100 → 1 ≤ length rs
     → length rs ≤ RECORDS_PER_BATCH
     → (count ≡ 0 → stood ≡ old) → ((seen stood).is_down → (seen old).is_down × (count ≡ 0))
@@ -52,17 +52,17 @@ pub refused_broken : {C : Type 0} (seen : C → Seen) (reason : Fault → C → 
     → BreaksOff fault v v' (seen stood) (seen new) (posts m rs) → ((seen stood).is_down → fault ≡ Bank Down)
     → IfBank fault (λ told. reason told stood new)
     → IfBank fault (IsRefusedBehind seen reason old new r r')
-refused_broken seen reason old stood new {r = r} {r' = r'} {count = count} v v'
+refused_broken seen reason old stood new {r = r} {r' = r'} {done = done} {count = count} v v'
     (Bank fault) m all rest rs g cut few some most first up honest a down why =
     let b : Batch = record { moment = m; records = rs } in
-    let bs = g.batches ++ b ∷ [] in
-    let made : posts_of bs ≡ posts_of g.batches ++ posts m rs = posts_of_one_more g.batches b in
-    let each : length (posts_of g.batches) ≡ count = one_post_each g.batches ∙ sym g.count_is in
-    let whole = whole_batch g.batches b g.whole cut.1 in
+    let bs = done ++ b ∷ [] in
+    let made : posts_of bs ≡ posts_of done ++ posts m rs = posts_of_one_more done b in
+    let each : length (posts_of done) ≡ count = one_post_each done ∙ sym g.count_is in
+    let whole = whole_batch done b g.whole cut.1 in
     record {
       bytes = joined (records_of bs) ++ rest;
-      read = read_batch r r' g.batches b all rest g.read cut.0;
-      taken = posts_of g.batches;
+      read = read_batch r r' done b all rest g.read cut.0;
+      taken = posts_of done;
       batch = posts m rs;
       posts = subst (λ (cs : List Command). ArePosts cs) made (all_posts bs);
       records = subst (λ (cs : List Command). posted_records cs ≡ whole_records (joined (records_of bs)
@@ -73,7 +73,7 @@ refused_broken seen reason old stood new {r = r} {r' = r'} {count = count} v v'
       stood = stood;
       first = λ none. first (sym each ∙ ap length none);
       takes = g.takes;
-      up = λ d. let (before, none) = up d in (before, none_long (posts_of g.batches) (each ∙ none));
+      up = λ d. let (before, none) = up d in (before, none_long (posts_of done) (each ∙ none));
       refuses = a.refuses;
       why = why;
       tried = λ d. let e = down d in cc e;

@@ -8,18 +8,21 @@ use Rattle.posting_rules.specs.declared.fault.Fault.{Fault}
 use Rattle.posting_rules.specs.declared.fault.Fault.TheVariants.{Memory, Store, Down, Damaged}
 use Rattle.posting_core.specs.declared.stream.StreamFault.{StreamFault}
 use Rattle.posting_core.specs.declared.stream.StreamFault.TheVariants.{Truncated, Read, Write, Bank}
+use Rattle.posting_rules.specs.declared.limits.TheConstants.{RECORDS_PER_BATCH}
 use Rattle.posting_rules.specs.Commands.{Command}
 use Rattle.posting_rules.specs.Tables.{AreTablesOf}
 use Rattle.posting_rules.specs.Counter.{Seen, ShowsLog, StandsAt, Refuses, IsUnchanged}
 use Rattle.posting_rules.specs.Runs.{behind, posts, replies_to}
 use Rattle.posting_core.specs.Clock.{IsReading, AreReadings}
-use Rattle.posting_core.specs.Batches.{Batch, IsRecord, joined, moments_of, records_of, posts_of, BreaksOff}
-use Rattle.posting_core.specs.Stream.{EndsStream, RepliesAreWritten, IfUp, UnlessDown, Streamed}
+use Rattle.posting_core.specs.Batches.{Batch, IsBatch, IsRecord, joined, moments_of, records_of, posts_of, BreaksOff}
+use Rattle.posting_core.specs.Stream.{EndsStream, FollowReads, RepliesAreWritten, IfUp, StreamsAsRead}
+use Rattle.posting_core.specs.Stream.{UnlessDown}
+use Rattle.posting_core.specs.Told.{ReadTold}
 use Rattle.posting_rules.proofs.Remaining.{leaves_still}
 use Rattle.posting_core.proofs.Stops.{refused_stop, stop_all, stop_part, written_part}
 use Rattle.posting_core.proofs.Batched.{posts_of_one_more, replies_of_one_more}
 use Rattle.posting_core.proofs.Streaming.{Going}
-use Rattle.posting_core.proofs.StreamedBatches.{takes_batch, read_batch, whole_batch, clock_batch}
+use Rattle.posting_core.proofs.StreamedBatches.{all_more, takes_batch, read_batch, whole_batch, clock_batch}
 
 -- ---- ends where all that was read was taken
 
@@ -28,55 +31,65 @@ pub record FitsAll (result : Result ℕ StreamFault) : Type 1 where
   pub written : (t s : List ℕ) → t ≡ s → RepliesAreWritten result t s
   pub up : (P : Type 0) → P → UnlessDown result P
 
-end_of : {r r' w w' k k' : Option (List ℕ)} {c c' : Seen} {rest : List ℕ} {count : ℕ}
-    (result : Result ℕ StreamFault) (g : Going r r' w w' k k' c c' rest count)
-    → FitsAll result → length rest < 100 → EndsStream result r' g.batches [] rest
-    → Streamed r r' w w' k k' c c' result
-end_of {r = r} {r' = r'} {k = k} {k' = k'} {c' = c'} {rest = rest} result g fits few ends =
-    let none : g.batches ++ [] ≡ g.batches = append-nil g.batches in
+end_of : {r r' w w' k k' : Option (List ℕ)} {q q' : Option (List ReadTold)} {c c' : Seen}
+    {done : List Batch} {rest : List ℕ} {count : ℕ}
+    (result : Result ℕ StreamFault) (g : Going r r' w w' k k' c c' done rest count)
+    → FitsAll result → length rest < 100 → EndsStream result r' done [] rest
+    → FollowReads q q' done → StreamsAsRead r r' q q' w w' k k' c c' result
+end_of {r = r} {r' = r'} {k = k} {k' = k'} {q = q} {q' = q'} {c' = c'} {done = done} {rest = rest} result g fits few ends follow =
+    let none : done ++ [] ≡ done = append-nil done in
     record {
-      taken = g.batches;
-      refused = [];
-      rest = rest;
-      read = subst (λ (bs : List Batch). Consumes r r' (joined (records_of bs) ++ rest)) (sym none) g.read;
-      whole = subst (λ (bs : List Batch). AllByRecursion IsRecord (records_of bs)) (sym none) g.whole;
-      few = few;
-      clock = subst (λ (bs : List Batch). AreReadings k k' (moments_of bs)) (sym none) g.clock;
-      written = g.written;
-      wrote = g.wrote;
-      ends = ends;
-      honest = g.honest;
-      replies = λ h log s. fits.written g.written (joined (replies_to log (posts_of g.batches)))
-          (g.replies h log s);
-      shows = λ h log s. fits.up (ShowsLog c' (behind log (posts_of g.batches))) (g.takes.shows h log s);
-      stands = λ h log s. fits.up (StandsAt c' (behind log (posts_of g.batches))) (g.takes.stands h log s);
-      survives = λ h log s. stop_all c' log (posts_of (g.batches ++ [])) (posts_of g.batches)
-          (ap posts_of none)
-          (g.takes.stands h log s);
+      did = record {
+        taken = done;
+        refused = [];
+        rest = rest;
+        read = subst (λ (bs : List Batch). Consumes r r' (joined (records_of bs) ++ rest)) (sym none) g.read;
+        whole = subst (λ (bs : List Batch). AllByRecursion IsRecord (records_of bs)) (sym none) g.whole;
+        sizes = subst (λ (bs : List Batch). AllByRecursion IsBatch bs) (sym none) g.sizes;
+        few = few;
+        clock = subst (λ (bs : List Batch). AreReadings k k' (moments_of bs)) (sym none) g.clock;
+        written = g.written;
+        wrote = g.wrote;
+        ends = ends;
+        honest = g.honest;
+        replies = λ h log s. fits.written g.written (joined (replies_to log (posts_of done)))
+            (g.replies h log s);
+        shows = λ h log s. fits.up (ShowsLog c' (behind log (posts_of done))) (g.takes.shows h log s);
+        stands = λ h log s. fits.up (StandsAt c' (behind log (posts_of done))) (g.takes.stands h log s);
+        survives = λ h log s. stop_all c' log (posts_of (done ++ [])) (posts_of done)
+            (ap posts_of none)
+            (g.takes.stands h log s);
+      };
+      follow = subst (λ (bs : List Batch). FollowReads q q' bs) (sym none) follow;
     }
 
 -- the input ended with a record
-pub end_whole : {r r' w w' k k' : Option (List ℕ)} {c c' : Seen} {count : ℕ} (rest : List ℕ)
-    → Going r r' w w' k k' c c' rest count → IsAtEnd r' → rest ≡ []
-    → Streamed r r' w w' k k' c c' (Ok count)
-end_whole {count = count} rest g ended none =
+pub end_whole : {r r' w w' k k' : Option (List ℕ)} {q q' : Option (List ReadTold)} {c c' : Seen}
+    {done : List Batch} {count : ℕ} (rest : List ℕ)
+    → Going r r' w w' k k' c c' done rest count → IsAtEnd r' → rest ≡ []
+    → FollowReads q q' done → StreamsAsRead r r' q q' w w' k k' c c' (Ok count)
+end_whole {count = count} rest g ended none follow =
     let len = ap length none in
     end_of (Ok count) g (record { written = λ t s e. e; up = λ P p. p }) (omega arith)
-    (record { ended = ended; no_rest = none; all_taken = refl; count_is = g.count_is })
+    (record { ended = ended; no_rest = none; all_taken = refl; count_is = g.count_is }) follow
 
 -- it ended within one
-pub end_in_record : {r r' w w' k k' : Option (List ℕ)} {c c' : Seen} {count : ℕ} (rest : List ℕ) (n : ℕ)
-    → Going r r' w w' k k' c c' rest count → IsAtEnd r'
-    → length rest ≡ n → 1 ≤ n → n < 100 → Streamed r r' w w' k k' c c' (Err (Truncated n))
-end_in_record rest n g ended is some few =
+pub end_in_record : {r r' w w' k k' : Option (List ℕ)} {q q' : Option (List ReadTold)} {c c' : Seen}
+    {done : List Batch} {count : ℕ} (rest : List ℕ) (n : ℕ)
+    → Going r r' w w' k k' c c' done rest count → IsAtEnd r'
+    → length rest ≡ n → 1 ≤ n → n < 100 → FollowReads q q' done
+    → StreamsAsRead r r' q q' w w' k k' c c' (Err (Truncated n))
+end_in_record rest n g ended is some few follow =
     end_of (Err (Truncated n)) g (record { written = λ t s e. e; up = λ P p. p }) (omega (arith, is))
-    (record { ended = ended; some = some; rest_is = is; all_taken = refl })
+    (record { ended = ended; some = some; rest_is = is; all_taken = refl }) follow
 
 -- the reader failed
-pub end_unread : {r r' w w' k k' : Option (List ℕ)} {c c' : Seen} {count : ℕ} (rest : List ℕ)
-    → Going r r' w w' k k' c c' rest count → length rest < 100
-    → Streamed r r' w w' k k' c c' (Err Read)
-end_unread rest g few = end_of (Err Read) g (record { written = λ t s e. e; up = λ P p. p }) few refl
+pub end_unread : {r r' w w' k k' : Option (List ℕ)} {q q' : Option (List ReadTold)} {c c' : Seen}
+    {done : List Batch} {count : ℕ} (rest : List ℕ)
+    → Going r r' w w' k k' c c' done rest count → length rest < 100
+    → FollowReads q q' done → StreamsAsRead r r' q q' w w' k k' c c' (Err Read)
+end_unread rest g few follow =
+    end_of (Err Read) g (record { written = λ t s e. e; up = λ P p. p }) few refl follow
 
 -- ---- ends at a batch
 
@@ -108,68 +121,80 @@ refused_stands Down c c' log cs u s = tt
 refused_stands (Damaged rule) c c' log cs u s = tt
 
 -- a batch broke off
-pub end_broken : (fault : StreamFault) {r r' w w' w'' k k' k'' : Option (List ℕ)} {c c' c'' : Seen}
-    {count : ℕ} (m : ℕ) (all rest : List ℕ) (rs : List (List ℕ))
-    → Going r r' w w' k k' c c' all count → (all ≡ joined rs ++ rest) × AllByRecursion IsRecord rs
-    → length rest < 100
+pub end_broken : (fault : StreamFault) {r r' w w' w'' k k' k'' : Option (List ℕ)}
+    {q q' : Option (List ReadTold)} {c c' c'' : Seen}
+    {done : List Batch} {count : ℕ} (m : ℕ) (all rest : List ℕ) (rs : List (List ℕ))
+    → Going r r' w w' k k' c c' done all count → (all ≡ joined rs ++ rest) × AllByRecursion IsRecord rs
+    → (1 ≤ length rs) × (length rs ≤ RECORDS_PER_BATCH) → length rest < 100
     → IsReading k' k'' m → (c''.honest → c'.honest) → BreaksOff fault w' w'' c' c'' (posts m rs)
-    → Streamed r r' w w'' k k'' c c'' (Err fault)
-end_broken Write {r = r} {r' = r'} {w = w} {w' = w'} {w'' = w''} {k = k} {k' = k'} {k'' = k''} {c = c}
-    {c' = c'} {c'' = c''} m all rest rs g cut few reading honest a =
+    → FollowReads q q' (done ++ record { moment = m; records = rs } ∷ [])
+    → StreamsAsRead r r' q q' w w'' k k'' c c'' (Err fault)
+end_broken Write {r = r} {r' = r'} {w = w} {w' = w'} {w'' = w''} {k = k} {k' = k'} {k'' = k''}
+    {q = q} {q' = q'} {c = c}
+    {c' = c'} {c'' = c''} {done = done} m all rest rs g cut size few reading honest a follow =
     let b : Batch = record { moment = m; records = rs } in
-    let bs = g.batches ++ b ∷ [] in
-    let none : (g.batches ++ b ∷ []) ++ [] ≡ g.batches ++ b ∷ [] = append-nil (g.batches ++ b ∷ []) in
-    let takes = takes_batch c c' c'' g.batches b honest g.takes a.takes in
+    let bs = done ++ b ∷ [] in
+    let none : (done ++ b ∷ []) ++ [] ≡ done ++ b ∷ [] = append-nil (done ++ b ∷ []) in
+    let takes = takes_batch c c' c'' done b honest g.takes a.takes in
     record {
-      taken = bs;
-      refused = [];
-      rest = rest;
-      read = subst (λ (x : List Batch). Consumes r r' (joined (records_of x) ++ rest)) (sym none)
-          (read_batch r r' g.batches b all rest g.read cut.0);
-      whole = subst (λ (x : List Batch). AllByRecursion IsRecord (records_of x)) (sym none)
-          (whole_batch g.batches b g.whole cut.1);
-      few = few;
-      clock = subst (λ (x : List Batch). AreReadings k k'' (moments_of x)) (sym none)
-          (clock_batch k k' k'' g.batches b g.clock reading);
-      written = g.written ++ a.written;
-      wrote = Appends-trans w w' w'' g.written a.written g.wrote a.wrote;
-      ends = refl;
-      honest = λ h. g.honest (honest h);
-      replies = λ h log s.
-          written_part g.written a.written _ _ (g.replies (honest h) log s)
-          (a.replies h (behind log (posts_of g.batches)) (g.takes.shows (honest h) log s))
-          ∙ ap (λ (x : List ℕ). take (length (g.written ++ a.written)) x)
-          (sym (replies_of_one_more log g.batches b));
-      shows = λ h log s. takes.shows h log s;
-      stands = λ h log s. takes.stands h log s;
-      survives = λ h log s. stop_all c'' log (posts_of (bs ++ [])) (posts_of bs) (ap posts_of none)
-          (takes.stands h log s);
+      did = record {
+        taken = bs;
+        refused = [];
+        rest = rest;
+        read = subst (λ (x : List Batch). Consumes r r' (joined (records_of x) ++ rest)) (sym none)
+            (read_batch r r' done b all rest g.read cut.0);
+        whole = subst (λ (x : List Batch). AllByRecursion IsRecord (records_of x)) (sym none)
+            (whole_batch done b g.whole cut.1);
+        sizes = subst (λ (x : List Batch). AllByRecursion IsBatch x) (sym none)
+            (all_more IsBatch done (b ∷ []) g.sizes (size, tt));
+        few = few;
+        clock = subst (λ (x : List Batch). AreReadings k k'' (moments_of x)) (sym none)
+            (clock_batch k k' k'' done b g.clock reading);
+        written = g.written ++ a.written;
+        wrote = Appends-trans w w' w'' g.written a.written g.wrote a.wrote;
+        ends = refl;
+        honest = λ h. g.honest (honest h);
+        replies = λ h log s.
+            written_part g.written a.written _ _ (g.replies (honest h) log s)
+            (a.replies h (behind log (posts_of done)) (g.takes.shows (honest h) log s))
+            ∙ ap (λ (x : List ℕ). take (length (g.written ++ a.written)) x)
+            (sym (replies_of_one_more log done b));
+        shows = λ h log s. takes.shows h log s;
+        stands = λ h log s. takes.stands h log s;
+        survives = λ h log s. stop_all c'' log (posts_of (bs ++ [])) (posts_of bs) (ap posts_of none)
+            (takes.stands h log s);
+      };
+      follow = subst (λ (x : List Batch). FollowReads q q' x) (sym none) follow;
     }
 end_broken (Bank fault) {r = r} {r' = r'} {w = w} {w' = w'} {w'' = w''} {k = k} {k' = k'} {k'' = k''} {c = c}
-    {c' = c'} {c'' = c''} m all rest rs g cut few reading honest a =
+    {c' = c'} {c'' = c''} {done = done} m all rest rs g cut size few reading honest a follow =
     let b : Batch = record { moment = m; records = rs } in
     record {
-      taken = g.batches;
-      refused = b ∷ [];
-      rest = rest;
-      read = read_batch r r' g.batches b all rest g.read cut.0;
-      whole = whole_batch g.batches b g.whole cut.1;
-      few = few;
-      clock = clock_batch k k' k'' g.batches b g.clock reading;
-      written = g.written;
-      wrote = Appends-kept w w' w'' g.written g.wrote a.wrote;
-      ends = refl;
-      honest = λ h. g.honest (honest h);
-      replies = λ h log s. g.replies (honest h) log s;
-      shows = λ h log s. refused_shows fault c' c'' (behind log (posts_of g.batches)) (posts m rs) a.refuses
-          (g.takes.shows (honest h) log s);
-      stands = λ h log s. refused_stands fault c' c'' (behind log (posts_of g.batches)) (posts m rs) a.refuses
-          (g.takes.stands (honest h) log s);
-      survives = λ h log s. stop_part c'' log (posts_of g.batches) (posts m rs)
-          (posts_of (g.batches ++ b ∷ []))
-          (posts_of_one_more g.batches b)
-          (refused_stop fault c' c'' (behind log (posts_of g.batches)) (posts m rs) a.refuses h
-          (g.takes.stands (honest h) log s));
+      did = record {
+        taken = done;
+        refused = b ∷ [];
+        rest = rest;
+        read = read_batch r r' done b all rest g.read cut.0;
+        whole = whole_batch done b g.whole cut.1;
+        sizes = all_more IsBatch done (b ∷ []) g.sizes (size, tt);
+        few = few;
+        clock = clock_batch k k' k'' done b g.clock reading;
+        written = g.written;
+        wrote = Appends-kept w w' w'' g.written g.wrote a.wrote;
+        ends = refl;
+        honest = λ h. g.honest (honest h);
+        replies = λ h log s. g.replies (honest h) log s;
+        shows = λ h log s. refused_shows fault c' c'' (behind log (posts_of done)) (posts m rs) a.refuses
+            (g.takes.shows (honest h) log s);
+        stands = λ h log s. refused_stands fault c' c'' (behind log (posts_of done)) (posts m rs) a.refuses
+            (g.takes.stands (honest h) log s);
+        survives = λ h log s. stop_part c'' log (posts_of done) (posts m rs)
+            (posts_of (done ++ b ∷ []))
+            (posts_of_one_more done b)
+            (refused_stop fault c' c'' (behind log (posts_of done)) (posts m rs) a.refuses h
+            (g.takes.stands (honest h) log s));
+      };
+      follow = follow;
     }
-end_broken Read m all rest rs g cut few reading honest a = absurd a
-end_broken (Truncated n) m all rest rs g cut few reading honest a = absurd a
+end_broken Read m all rest rs g cut size few reading honest a follow = absurd a
+end_broken (Truncated n) m all rest rs g cut size few reading honest a follow = absurd a

@@ -1,21 +1,22 @@
 -- A stream goes on by a batch.
-use Rattle.std.proofs.Common.{◌≡◌, ℕ, ◌+◌, List, [], ◌∷◌, ◌++◌, length, Option, sym, ap, subst, ◌∙◌}
+use Rattle.std.proofs.Common.{◌≡◌, ◌≤◌, ℕ, ◌+◌, List, [], ◌∷◌, ◌++◌, length, Option, sym, ap, subst, ◌∙◌}
 use Rattle.std.specs.List.{AllByRecursion}
 use Rattle.std.specs.Io.KnownBytes.{Consumes}
 use Rattle.std.proofs.KnownBytes.{Appends-trans}
 use Rattle.std.proofs.lemmas.List.{length-append, map-append}
+use Rattle.posting_rules.specs.declared.limits.TheConstants.{RECORDS_PER_BATCH}
 use Rattle.posting_rules.specs.Commands.{Command}
 use Rattle.posting_rules.specs.Counter.{Seen, ShowsLog, StandsAt, Takes}
 use Rattle.posting_rules.specs.Runs.{behind, posts, replies_to}
 use Rattle.posting_core.specs.Clock.{after_one, IsNextReading, IsReading, AreReadings}
-use Rattle.posting_core.specs.Batches.{Batch, IsRecord, joined, moment_of, moments_of, records_of, posts_in}
+use Rattle.posting_core.specs.Batches.{Batch, IsBatch, IsRecord, joined, moment_of, moments_of, records_of, posts_in}
 use Rattle.posting_core.specs.Batches.{posts_of, BatchIsAnswered}
 use Rattle.posting_rules.proofs.Sequence.{behind-append}
 use Rattle.posting_core.proofs.Batched.{joined_one_more, records_one_more, posts_of_one_more}
 use Rattle.posting_core.proofs.Batched.{replies_of_one_more}
 use Rattle.posting_core.proofs.Streaming.{Going}
 
-all_more : {A : Type 0} (P : A → Type 0) (xs ys : List A) → AllByRecursion P xs → AllByRecursion P ys
+pub all_more : {A : Type 0} (P : A → Type 0) (xs ys : List A) → AllByRecursion P xs → AllByRecursion P ys
     → AllByRecursion P (xs ++ ys)
 all_more P [] ys a b = b
 all_more P (x ∷ xs) ys a b = (a.0, all_more P xs ys a.1 b)
@@ -68,21 +69,22 @@ clock_batch k k' k'' bs b x y =
     (readings_more k k' k'' (moments_of bs) b.moment x y)
 
 -- a batch was answered
-pub going_batch : {r r' w w' w'' k k' k'' : Option (List ℕ)} {c c' c'' : Seen} {count : ℕ} (m : ℕ)
+pub going_batch : {r r' w w' w'' k k' k'' : Option (List ℕ)} {c c' c'' : Seen}
+    {done : List Batch} {count : ℕ} (m : ℕ)
     (all rest : List ℕ) (count' : ℕ) (rs : List (List ℕ))
-    → Going r r' w w' k k' c c' all count → (all ≡ joined rs ++ rest) × AllByRecursion IsRecord rs
+    → Going r r' w w' k k' c c' done all count → (all ≡ joined rs ++ rest) × AllByRecursion IsRecord rs
+    → (1 ≤ length rs) × (length rs ≤ RECORDS_PER_BATCH)
     → count' ≡ count + length rs
     → IsReading k' k'' m → (c''.honest → c'.honest) → BatchIsAnswered w' w'' c' c'' (posts m rs)
-    → Going r r' w w'' k k'' c c'' rest count'
+    → Going r r' w w'' k k'' c c'' (done ++ record { moment = m; records = rs } ∷ []) rest count'
 going_batch {r = r} {r' = r'} {w = w} {w' = w'} {w'' = w''} {k = k} {k' = k'} {k'' = k''} {c = c} {c' = c'}
-    {c'' = c''} m all rest count' rs g cut n reading honest a =
+    {c'' = c''} {done = bs} m all rest count' rs g cut size n reading honest a =
     let b : Batch = record { moment = m; records = rs } in
-    let bs = g.batches in
     record {
-      batches = bs ++ b ∷ [];
       written = g.written ++ a.written;
       read = read_batch r r' bs b all rest g.read cut.0;
       whole = whole_batch bs b g.whole cut.1;
+      sizes = all_more IsBatch bs (b ∷ []) g.sizes (size, tt);
       clock = clock_batch k k' k'' bs b g.clock reading;
       wrote = Appends-trans w w' w'' g.written a.written g.wrote a.wrote;
       count_is = n ∙ ap (λ (j : ℕ). j + length rs) g.count_is ∙ sym

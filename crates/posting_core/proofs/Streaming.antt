@@ -11,32 +11,33 @@ use Rattle.posting_rules.specs.Commands.{Command}
 use Rattle.posting_rules.specs.Counter.{Seen, ShowsLog, Takes}
 use Rattle.posting_rules.specs.Runs.{replies_to}
 use Rattle.posting_core.specs.Clock.{AreReadings}
-use Rattle.posting_core.specs.Batches.{Batch, IsRecord, joined, moments_of, records_of, posts_of}
+use Rattle.posting_core.specs.Batches.{Batch, IsBatch, IsRecord, joined, moments_of, records_of, posts_of}
 
 -- ---- where the loop stands
 
--- what the loop did so far, with what was read behind the last record and how many were answered
-pub record Going (r r' w w' k k' : Option (List ℕ)) (c c' : Seen) (rest : List ℕ) (count : ℕ) : Type 0 where
-  pub batches : List Batch
+-- what the loop did so far: its batches, with what was read behind the last record and how many were answered
+pub record Going (r r' w w' k k' : Option (List ℕ)) (c c' : Seen) (done : List Batch) (rest : List ℕ)
+    (count : ℕ) : Type 0 where
   pub written : List ℕ
-  pub read : Consumes r r' (joined (records_of batches) ++ rest)
-  pub whole : AllByRecursion IsRecord (records_of batches)
-  pub clock : AreReadings k k' (moments_of batches)
+  pub read : Consumes r r' (joined (records_of done) ++ rest)
+  pub whole : AllByRecursion IsRecord (records_of done)
+  pub sizes : AllByRecursion IsBatch done
+  pub clock : AreReadings k k' (moments_of done)
   pub wrote : Appends w w' written
-  pub count_is : count ≡ length (records_of batches)
+  pub count_is : count ≡ length (records_of done)
   pub honest : c'.honest → c.honest
-  pub takes : Takes c c' (posts_of batches)
+  pub takes : Takes c c' (posts_of done)
   pub replies : c'.honest → (log : List Command) → ShowsLog c log
-      → written ≡ joined (replies_to log (posts_of batches))
+      → written ≡ joined (replies_to log (posts_of done))
 
 -- at first nothing was done
 pub going_first : {r w k : Option (List ℕ)} {c : Seen} (rest : List ℕ) → rest ≡ []
-    → Going r r w w k k c c rest 0
+    → Going r r w w k k c c [] rest 0
 going_first {r = r} {w = w} rest e = record {
-  batches = [];
   written = [];
   read = subst (λ (t : List ℕ). Consumes r r t) (sym e) (Consumes-nil r);
   whole = tt;
+  sizes = tt;
   clock = refl;
   wrote = Appends-nil w;
   count_is = refl;
@@ -48,18 +49,18 @@ going_first {r = r} {w = w} rest e = record {
 -- ---- a read
 
 -- more bytes were read
-going_read : {r r' r'' w w' k k' : Option (List ℕ)} {c c' : Seen} {count : ℕ} (rest more all : List ℕ)
-    → Going r r' w w' k k' c c' rest count
-    → Consumes r' r'' more → all ≡ rest ++ more → Going r r'' w w' k k' c c' all count
-going_read {r = r} {r' = r'} {r'' = r''} rest more all g got e =
-    let before = joined (records_of g.batches) in
+going_read : {r r' r'' w w' k k' : Option (List ℕ)} {c c' : Seen} {done : List Batch} {count : ℕ} (rest more all : List ℕ)
+    → Going r r' w w' k k' c c' done rest count
+    → Consumes r' r'' more → all ≡ rest ++ more → Going r r'' w w' k k' c c' done all count
+going_read {r = r} {r' = r'} {r'' = r''} {done = done} rest more all g got e =
+    let before = joined (records_of done) in
     record {
-      batches = g.batches;
       written = g.written;
       read = subst (λ (t : List ℕ). Consumes r r'' t)
           (append_assoc before rest more ∙ ap (λ (t : List ℕ). before ++ t) (sym e))
           (Consumes-trans r r' r'' (before ++ rest) more g.read got);
       whole = g.whole;
+      sizes = g.sizes;
       clock = g.clock;
       wrote = g.wrote;
       count_is = g.count_is;
@@ -69,11 +70,11 @@ going_read {r = r} {r' = r'} {r'' = r''} rest more all g got e =
     }
 
 -- they stand behind the rest in the buffer
-pub going_filled : {r r' r'' w w' k k' : Option (List ℕ)} {c c' : Seen} {count : ℕ} (old new : List ℕ)
+pub going_filled : {r r' r'' w w' k k' : Option (List ℕ)} {c c' : Seen} {done : List Batch} {count : ℕ} (old new : List ℕ)
     (filled filled' n : ℕ)
-    → Going r r' w w' k k' c c' (take filled old) count
+    → Going r r' w w' k k' c c' done (take filled old) count
     → ((bytes : List ℕ) × (take (filled + n) new ≡ take filled old ++ bytes) × Consumes r' r'' bytes)
-    → filled' ≡ filled + n → Going r r'' w w' k k' c c' (take filled' new) count
+    → filled' ≡ filled + n → Going r r'' w w' k k' c c' done (take filled' new) count
 going_filled old new filled filled' n g got e =
     going_read (take filled old) got.0 (take filled' new) g got.2 (ap (λ (j : ℕ). take j new) e ∙ got.1)
 
@@ -89,14 +90,14 @@ nothing_read r' r'' old new filled kept =
     )
 
 -- a read that came back: it read some, or it failed and read nothing
-pub going_on : {r r' r'' w w' k k' : Option (List ℕ)} {c c' : Seen} {count : ℕ} (old new : List ℕ)
+pub going_on : {r r' r'' w w' k k' : Option (List ℕ)} {c c' : Seen} {done : List Batch} {count : ℕ} (old new : List ℕ)
     (filled filled' : ℕ)
-    → Going r r' w w' k k' c c' (take filled old) count → filled < 100 → length new ≡ BUFFER
+    → Going r r' w w' k k' c c' done (take filled old) count → filled < 100 → length new ≡ BUFFER
     → ((n : ℕ) × ((bytes : List ℕ) × (take (filled + n) new ≡ take filled old ++ bytes)
     × Consumes r' r'' bytes)
     × (filled + n ≤ length new) × (filled' ≡ filled + n))
     ⊎ ((Keeps r' r'' × (take filled new ≡ take filled old)) × (filled' ≡ filled))
-    → Going r r'' w w' k k' c c' (take filled' new) count × (filled' ≤ length new)
+    → Going r r'' w w' k k' c c' done (take filled' new) count × (filled' ≤ length new)
 going_on old new filled filled' g few long (inl (n, got, fits, is)) =
     (going_filled old new filled filled' n g got is, omega (arith, fits, is))
 going_on old new filled filled' g few long (inr (kept, is)) = (

@@ -14,7 +14,7 @@ use Rattle.posting_core.specs.Told.{GrowsBy, EndsWith, HasMore, HasReadFailed, H
 use Rattle.posting_core.specs.Told.{IsReadFailure, IsWornOut, IsWriteFailure, ReadTold, WriteTold, read_told}
 use Rattle.posting_core.specs.Told.{write_told, flush_told, IsFlush}
 
-adds-more : {A : Type 0} (a b c : Option (List A)) (xs ys : List A) → GrowsBy a b xs → GrowsBy b c ys
+pub adds-more : {A : Type 0} (a b c : Option (List A)) (xs ys : List A) → GrowsBy a b xs → GrowsBy b c ys
     → GrowsBy a c (xs ++ ys)
 adds-more None b c xs ys x y = tt
 adds-more (Some before) None c xs ys x y = absurd x

@@ -12,7 +12,8 @@ use Rattle.posting_rules.specs.declared.judgments.Verdict.{Verdict}
 use Rattle.posting_rules.specs.declared.judgments.Verdict.TheVariants.{Unkept, Again, Refused, Posted}
 use Rattle.posting_rules.specs.Kept.{KeptFields}
 use Rattle.posting_rules.specs.Commands.{Command, Post, opened, is_teller_open, is_account_open, Terms}
-use Rattle.posting_rules.specs.Numbering.{branch_of_teller}
+use Rattle.posting_rules.specs.Commands.{floor_of}
+use Rattle.posting_rules.specs.Numbering.{branch_of_teller, branch_of_account}
 use Rattle.posting_rules.specs.Cases.{case_of}
 use Rattle.posting_rules.specs.Entries.{DecidedRequest, is_posted, facts, kept, kept_fields, posted_sum}
 use Rattle.posting_rules.specs.Entries.{with_verdict}
@@ -63,6 +64,7 @@ facts_zeroed opened es r =
       kept = k;
       decided = n;
       account = cond (is_account_open opened r.account) (Some a) None;
+      floor = floor_of opened (branch_of_account r.account);
     }
 
     made : (t t' b b' : ℤ) (k k' : Option KeptFields) (n n' : ℕ) (a a' : ℤ) → t ≡ t' → b ≡ b' → k ≡ k'

@@ -1,14 +1,15 @@
 -- Rows in the order in which they came: what a record and an opening do to them.
-use Rattle.std.specs.Prelude.{ℕ, zero, suc, ◌+◌, ℤ, pos, List, [], ◌∷◌, ◌++◌, Result, Ok, Err}
+use Rattle.std.specs.Prelude.{ℕ, zero, suc, ◌+◌, ℤ, pos, List, [], ◌∷◌, ◌++◌, Result, Ok, Err, Option, Some, None}
 use Rattle.message_records.specs.declared.fault.Bad.{Bad}
 use Rattle.message_records.specs.Records.{RequestFields, ReplyFields}
 use Rattle.posting_rules.specs.declared.judgments.Verdict.{Verdict}
 use Rattle.posting_rules.specs.declared.judgments.Verdict.TheVariants.{Unkept, Again, Refused, Posted}
-use Rattle.posting_rules.specs.Commands.{opened_with}
+use Rattle.posting_rules.specs.Commands.{Terms}
 use Rattle.posting_rules.specs.Cases.{case_of, reply_in}
 use Rattle.posting_rules.specs.Entries.{DecidedRequest, refused_entry, posted_entry, malformed_reply}
 use Rattle.posting_rules.specs.Tables.{Tables, branch_key, teller_key, account_key, branch_row_of}
-use Rattle.posting_rules.specs.Tables.{request_row_of, history_row_of}
+use Rattle.posting_rules.specs.Tables.{request_row_of, history_row_of, floor_row_of}
+use Rattle.posting_rules.specs.declared.rows.FloorRow.{FloorRow}
 use Rattle.posting_rules.specs.LookUps.{found_in}
 use Rattle.posting_rules.specs.Steps.{with_branch_balance, with_teller_balance, with_account_balance}
 use Rattle.posting_rules.specs.Numbering.{branch_of_teller, first_teller, first_account}
@@ -36,6 +37,7 @@ tables_posted t e teller branch = let ordinal = t.decided + 1 in record {
   accounts = row_changed account_key (with_account_balance e.balance) e.request.account t.accounts;
   history = t.history ++ history_row_of ordinal e ∷ [];
   requests = t.requests ++ request_row_of ordinal e ∷ [];
+  floors = t.floors;
 }
 
 abbrev pub tables_after : Tables → ℕ → RequestFields → Verdict → Tables
@@ -56,12 +58,18 @@ tables_with t moment (Ok r) = tables_after t moment r (case_of (found_in t r) r)
 
 -- ---- what an opening does to the rows
 
-abbrev pub tables_opened : Tables → ℕ → ℕ → Tables
-tables_opened t b count = record {
+-- the floor of a branch is behind the others, where it has one
+abbrev pub floor_behind : ℕ → Option ℤ → List FloorRow → List FloorRow
+floor_behind b None rows = rows
+floor_behind b (Some lowest) rows = rows ++ floor_row_of b lowest ∷ []
+
+abbrev pub tables_opened : Tables → ℕ → Terms → Tables
+tables_opened t b terms = record {
   decided = t.decided;
-  branches = t.branches ++ branch_row_of b (pos 0) (opened_with count) ∷ [];
+  branches = t.branches ++ branch_row_of b (pos 0) terms ∷ [];
   tellers = t.tellers ++ rows_from new_teller (first_teller b) 10;
-  accounts = t.accounts ++ rows_from new_account (first_account b) count;
+  accounts = t.accounts ++ rows_from new_account (first_account b) terms.accounts;
   history = t.history;
   requests = t.requests;
+  floors = floor_behind b terms.floor t.floors;
 }

@@ -1,9 +1,10 @@
 -- Batches of records: each is submitted under one reading of the clock, and its replies are written in order.
-use Rattle.std.specs.Prelude.{◌≡◌, ℕ, List, length, map, take, Option}
+use Rattle.std.specs.Prelude.{◌≡◌, ◌≤◌, ℕ, List, length, map, take, Option}
 use Rattle.std.specs.List.{flat_map}
 use Rattle.std.specs.Io.KnownBytes.{Keeps, Appends}
 use Rattle.message_records.specs.declared.limits.TheConstants.{REQUEST_BYTES}
 use Rattle.posting_rules.specs.declared.fault.Fault.{Fault}
+use Rattle.posting_rules.specs.declared.limits.TheConstants.{RECORDS_PER_BATCH}
 use Rattle.posting_core.specs.declared.stream.StreamFault.{StreamFault}
 use Rattle.posting_core.specs.declared.stream.StreamFault.TheVariants.{Truncated, Read, Write, Bank}
 use Rattle.posting_rules.specs.Commands.{Command}
@@ -21,6 +22,10 @@ IsRecord bytes = length bytes ≡ REQUEST_BYTES
 pub record Batch : Type 0 where
   pub moment : ℕ
   pub records : List (List ℕ)
+
+-- 1 to 64 records go together
+abbrev pub IsBatch : Batch → Type 0
+IsBatch b = (1 ≤ length b.records) × (length b.records ≤ RECORDS_PER_BATCH)
 
 abbrev pub moment_of : Batch → ℕ
 moment_of b = b.moment

@@ -7,3 +7,4 @@ pub mod Clock
 pub mod Batches
 pub mod Stream
 pub mod Readings
+pub mod Again

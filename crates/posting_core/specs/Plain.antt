@@ -15,6 +15,7 @@ plain_tables bank = record {
   accounts = bank.accounts.items;
   history = bank.history.items;
   requests = bank.requests.items;
+  floors = bank.floors.items;
 }
 
 -- it is never down, and what a stop leaves are its rows

@@ -1,10 +1,11 @@
 -- A stream of records: what is read, what is written, what the bank shows, and what a stop may leave.
-use Rattle.std.specs.Prelude.{◌≡◌, ◌⊎◌, ℕ, zero, suc, ◌-◌, ◌≤◌, ◌<◌, ◌/◌, List, [], ◌∷◌, ◌++◌, length, take, ⊤}
+use Rattle.std.specs.Prelude.{◌≡◌, ◌⊎◌, ℕ, zero, suc, ◌+◌, ◌-◌, ◌*◌, ◌≤◌, ◌<◌, ◌/◌, List, [], ◌∷◌, ◌++◌, length, take, drop, ⊤}
 use Rattle.std.specs.Prelude.{Option, Result, Ok, Err}
 use Rattle.std.specs.List.{AllByRecursion}
 use Rattle.std.specs.Simd.{first_chunks}
 use Rattle.std.specs.Io.KnownBytes.{Appends, Consumes, IsAtEnd}
-use Rattle.message_records.specs.declared.limits.TheConstants.{REQUEST_BYTES}
+use Rattle.message_records.specs.Spelling.{reply_spelling}
+use Rattle.message_records.specs.declared.limits.TheConstants.{REPLY_BYTES, REQUEST_BYTES}
 use Rattle.posting_rules.specs.declared.fault.Fault.{Fault}
 use Rattle.posting_rules.specs.declared.fault.Fault.TheVariants.{Memory, Down}
 use Rattle.posting_rules.specs.declared.limits.TheConstants.{RECORDS_PER_BATCH}
@@ -15,10 +16,11 @@ use Rattle.posting_rules.specs.Counter.{Seen, ShowsLog, LeavesOnly, StandsAt, Sh
 use Rattle.posting_rules.specs.Counter.{HasRefused}
 use Rattle.posting_rules.specs.Runs.{behind, posts, replies_to, ArePosts}
 use Rattle.posting_core.specs.Clock.{AreReadings}
-use Rattle.posting_core.specs.Told.{ReadTold, WriteTold, EndsWith, HasReadFailed, HasWriteFailed}
-use Rattle.posting_core.specs.Told.{IsEndOfInput, IsThrough}
-use Rattle.posting_core.specs.Batches.{Batch, IsRecord, joined, moments_of, records_of, posts_of}
-use Rattle.posting_rules.specs.Resends.{Skips}
+use Rattle.posting_core.specs.Told.{ReadTold, Gave, Failed, WriteTold, GrowsBy, EndsWith, HasReadFailed}
+use Rattle.posting_core.specs.Told.{HasWriteFailed, IsEndOfInput, IsThrough}
+use Rattle.posting_core.specs.Batches.{Batch, IsBatch, IsRecord, joined, moments_of, records_of, posts_of}
+use Rattle.posting_rules.specs.Entries.{reply}
+use Rattle.posting_rules.specs.Resends.{Place, Skips}
 
 -- The reader's known bytes before and after are r and r', the writer's w and w', the clock's known readings k
 -- and k', and the bank is seen as c and c'.
@@ -73,6 +75,7 @@ pub record Streamed (r r' w w' k k' : Option (List ℕ)) (c c' : Seen)
   -- this was read and written, and the clock was read once for each batch
   pub read : Consumes r r' (joined (records_of (taken ++ refused)) ++ rest)
   pub whole : AllByRecursion IsRecord (records_of (taken ++ refused))
+  pub sizes : AllByRecursion IsBatch (taken ++ refused)
   pub few : length rest < REQUEST_BYTES
   pub clock : AreReadings k k' (moments_of (taken ++ refused))
   pub written : List ℕ
@@ -89,6 +92,37 @@ pub record Streamed (r r' w w' k k' : Option (List ℕ)) (c c' : Seen)
   -- a stop leaves all that it took
   pub survives : c'.honest → (log : List Command) → StandsAt c log
       → LeavesOnly c' (ShowsBeginning log (posts_of (taken ++ refused)) (length (posts_of taken)))
+
+-- ---- which records go together: q and q' are what the source's reads are known to have returned
+
+-- how many bytes reads gave
+abbrev pub given : List ReadTold → ℕ
+given [] = 0
+given (Gave n ∷ reads) = n + given reads
+given (Failed kind ∷ reads) = given reads
+
+-- how many whole records the first n reads gave
+abbrev pub read_by : ℕ → List ReadTold → ℕ
+read_by n reads = given (take n reads) / REQUEST_BYTES
+
+-- how many records the first m batches have
+abbrev pub submitted_by : ℕ → List Batch → ℕ
+submitted_by m batches = length (records_of (take m batches))
+
+-- all whole records that a read completed are submitted together, before the next read
+pub record FollowReads (q q' : Option (List ReadTold)) (batches : List Batch) : Type 0 where
+  pub reads : List ReadTold
+  pub made : GrowsBy q q' reads
+  -- wherever a batch ends, it and those before it have the whole records of the reads so far
+  pub together : (m : ℕ) → (n : ℕ) × (submitted_by m batches ≡ read_by n reads)
+  -- wherever a read ends, some batches have the whole records of the reads so far
+  pub at_once : (n : ℕ) → (m : ℕ) × (submitted_by m batches ≡ read_by n reads)
+
+-- what a call did, and its batches follow its reads
+pub record StreamsAsRead (r r' : Option (List ℕ)) (q q' : Option (List ReadTold))
+    (w w' k k' : Option (List ℕ)) (c c' : Seen) (result : Result ℕ StreamFault) : Type 0 where
+  pub did : Streamed r r' w w' k k' c c' result
+  pub follow : FollowReads q q' (did.taken ++ did.refused)
 
 -- ---- what is written is a function of what is read, however it was cut
 
@@ -130,7 +164,7 @@ StreamFaultIsOfItsEnd (Err (Bank fault)) r r' w w' = IsThrough w w'
 -- the records that are posted
 abbrev pub posted_records : List Command → List (List ℕ)
 posted_records [] = []
-posted_records (Open branch count ∷ cs) = posted_records cs
+posted_records (Open branch terms ∷ cs) = posted_records cs
 posted_records (Post moment bytes ∷ cs) = bytes ∷ posted_records cs
 
 -- how many replies, written one after another, had a byte accepted when so many bytes were
@@ -159,14 +193,31 @@ abbrev pub IfTaken : {A : Type 0} → Result A StreamFault → Type 0 → Type 0
 IfTaken (Err (Bank fault)) P = ⊤
 IfTaken _ P = P
 
--- where a bank showed posts p and took all that was read, it shows p and then what was read less the records
--- that are in p
-pub record Resends (r r' : Option (List ℕ)) (c c' : Seen) (result : Result ℕ StreamFault) : Type 0 where
+-- what was written at the place of a reply
+abbrev pub reply_at : ℕ → List ℕ → List ℕ
+reply_at place written = take REPLY_BYTES (drop (REPLY_BYTES * place) written)
+
+-- it is that reply, or a beginning of it where the writer failed or the bank refused a batch
+abbrev pub IsReplied : Result ℕ StreamFault → (part whole : List ℕ) → Type 0
+IsReplied (Err Write) part whole = part ≡ take (length part) whole
+IsReplied (Err (Bank fault)) part whole = part ≡ take (length part) whole
+IsReplied _ part whole = part ≡ whole
+
+-- records were read where a bank showed posts p behind a log
+pub record Resends (r r' w w' : Option (List ℕ)) (c c' : Seen) (result : Result ℕ StreamFault) : Type 0 where
   pub bytes : List ℕ
   pub read : Consumes r r' bytes
+  pub written : List ℕ
+  pub wrote : Appends w w' written
   pub commands : List Command
   pub posts : ArePosts commands
   pub records : posted_records commands ≡ whole_records bytes
+  -- one that is in p gets the reply that it got there
+  pub replies : c'.honest → (log p : List Command) → ArePosts p → ShowsLog c (behind log p)
+      → (one : List ℕ) → (first : Place one p) → (again : Place one commands)
+      → IsReplied result (reply_at (length again.before) written)
+      (reply_spelling (reply (behind log first.before) one))
+  -- where the bank took all that was read, it shows p and then what was read less those that are in p
   pub tables : c'.honest → (log p added : List Command) → ArePosts p → Skips p commands added
       → ShowsLog c (behind log p)
       → IfTaken result (ShowsLog c' (behind (behind log p) added))

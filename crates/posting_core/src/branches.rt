@@ -1,15 +1,16 @@
-//! The rows of branches in a vector.
-ghost use Rattle.std.specs.Prelude.{◌≡◌, ◌++◌, ◌∷◌, [], List};
+//! The rows of branches and of their floors in vectors.
+ghost use Rattle.std.specs.Prelude.{◌≡◌, ◌<◌, ◌≤ℤ◌, ◌++◌, ◌∷◌, [], List, pos, All, IfSome, vec_len, vec_capacity};
 ghost use Rattle.std.specs.Option.{option_map};
 ghost use Rattle.posting_rules.specs.declared.rows.BranchRow.{BranchRow};
-ghost use Rattle.posting_rules.specs.Branches.{IsNextIn};
-ghost use Rattle.posting_rules.specs.Tables.{branch_key, row_at};
-ghost use Rattle.posting_rules.specs.LookUps.{balance_of_branch, count_of_branch};
+ghost use Rattle.posting_rules.specs.Branches.{IsAtMostZero, IsNextIn};
+ghost use Rattle.posting_rules.specs.Tables.{branch_key, floor_key, row_at};
+ghost use Rattle.posting_rules.specs.LookUps.{balance_of_branch, count_of_branch, lowest_of};
 ghost use Rattle.posting_rules.specs.Steps.{with_branch_balance};
+ghost use Rattle.posting_core.specs.Appended.{floor_behind};
 
-use crate::walking::BalanceRow;
-use message_records::Cents;
-use posting_rules::BranchRow;
+use crate::walking::{BalanceRow, put};
+use message_records::{Branch, Cents};
+use posting_rules::{BranchRow, FloorRow};
 
 impl BalanceRow for BranchRow {
     ghost key = { branch_key };
@@ -38,6 +39,26 @@ pub(crate) fn count_at(rows: &[BranchRow], number: u64) -> Option<u32>
     rows.iter()
         .find(|row| row.number() == number)
         .map(|row| row.accounts)
+}
+
+/// The floor of a branch's accounts.
+pub(crate) fn floor_at(rows: &[FloorRow], number: u64) -> Option<Cents>
+    ensures value { result ≡ option_map lowest_of (row_at floor_key rows.now number) }
+    ensures within { All IsAtMostZero rows.now → IfSome result (λ z. z ≤ℤ pos 0) }
+{
+    rows.iter()
+        .find(|row| row.branch.get() == number)
+        .map(|row| row.lowest)
+}
+
+/// Puts the floor of a branch behind the others, for which there is room.
+pub(crate) fn put_floor(rows: &mut Vec<FloorRow>, branch: Branch, floor: Option<Cents>)
+    requires room { vec_len rows.old < vec_capacity rows.old }
+    ensures items { rows.new.items ≡ floor_behind branch floor rows.old.items }
+{
+    if let Some(lowest) = floor {
+        put(rows, FloorRow { branch, lowest });
+    }
 }
 
 // The next row above a number, where one more row is looked at.

@@ -13,7 +13,7 @@
 //!     mut records: &[u8],
 //!     replies: &mut Vec<u8>,
 //! ) -> Result<Count, StreamFault> {
-//!     match bank.open_branch(Branch::new(1).unwrap(), 3) {
+//!     match bank.open_branch(Branch::new(1).unwrap(), 3, None) {
 //!         Ok(_) => post_stream(&mut records, replies, clock, bank),
 //!         Err(fault) => Err(StreamFault::Bank(fault)),
 //!     }
@@ -35,6 +35,7 @@ mod clock;
 mod ends;
 mod once;
 mod plain_bank;
+mod resends;
 mod stream;
 mod system_clock;
 pub mod transfer;
@@ -45,14 +46,15 @@ pub use ends::{Sink, Source};
 pub use once::{OnceFault, answer_once};
 pub use plain_bank::PlainBank;
 pub use posting_rules::{
-    ACCOUNTS_PER_BRANCH, AccountRow, BranchLine, BranchRow, Counter, Fault, Found, HistoryRow,
-    Kept, LAST_BRANCH, MAX_DECIDED, MOST_ACCOUNTS, OpenFault, Opening, Ordinal, RECORDS_PER_BATCH,
-    RequestRow, Rule, TELLERS_PER_BRANCH, TellerRow, Verdict, balances_stay_within,
-    branch_of_account, branch_of_teller, cases_are_as_stated, each_request_once,
-    equal_tables_answer_alike, first_account, first_teller, judge, malformed_reply,
-    place_of_account, reply_to, resends_get_their_replies, tables_are_consistent,
-    tables_are_undamaged,
+    ACCOUNTS_PER_BRANCH, AccountRow, BranchLine, BranchRow, Counter, Fault, FloorRow, Found,
+    HistoryRow, Kept, LAST_BRANCH, MAX_ACCOUNTS, MAX_DECIDED, OpenFault, Opening, Ordinal,
+    RECORDS_PER_BATCH, RequestRow, Rule, TELLERS_PER_BRANCH, TellerRow, Verdict,
+    accounts_stay_above, balances_stay_within, branch_of_account, branch_of_teller,
+    cases_are_as_stated, each_request_once, equal_tables_answer_alike, first_account, first_teller,
+    judge, malformed_reply, place_of_account, reply_to, resends_get_their_replies,
+    tables_are_consistent, tables_are_undamaged,
 };
+pub use resends::calls_resend_law;
 pub use stream::{Count, StreamFault, post_stream};
 pub use system_clock::{SystemClock, TimeTeller, moment_of};
 pub use transfer::{WriteFailed, write_each, write_out};

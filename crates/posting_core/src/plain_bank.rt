@@ -1,25 +1,27 @@
 //! A bank in memory.
-ghost use Rattle.std.specs.Prelude.{◌≡◌, ◌≤◌, ◌<◌, ◌+◌, ◌-◌, ◌*◌, [], ◌∷◌, ◌++◌, List, pos, length, vec_len};
-ghost use Rattle.std.specs.Prelude.{vec_capacity, All, IsTrue};
+ghost use Rattle.std.specs.Prelude.{◌≡◌, ◌≤◌, ◌≤ℤ◌, ◌<◌, ◌+◌, ◌-◌, ◌*◌, [], ◌∷◌, ◌++◌, List, pos, length, vec_len};
+ghost use Rattle.std.specs.Prelude.{vec_capacity, All, IfSome, IsTrue};
 ghost use Rattle.message_records.specs.Spelling.{reply_spelling};
 ghost use Rattle.message_records.specs.Reading.{request_of};
 ghost use Rattle.posting_rules.specs.declared.limits.TheConstants.{MAX_DECIDED};
-ghost use Rattle.posting_rules.specs.Branches.{IsInRange};
+ghost use Rattle.posting_rules.specs.Branches.{IsAtMostZero, IsInRange};
+ghost use Rattle.posting_rules.specs.Commands.{IsFloor};
 ghost use Rattle.posting_rules.specs.Kept.{is_kept_with};
 ghost use Rattle.posting_rules.specs.Entries.{DecidedRequest};
 ghost use Rattle.posting_rules.specs.Tables.{request_row_of};
 ghost use Rattle.posting_core.specs.Appended.{rows_from};
 
-use crate::branches::{count_at, next_at};
+use crate::branches::{count_at, floor_at, next_at, put_floor};
 use crate::walking::{NewRow, balance_at, kept_at, put, set_balance_at};
 use message_records::{
     Account, Branch, Cents, MAX_ACCOUNT, MAX_MOMENT, MAX_TELLER, Moment, Outcome, REPLY_BYTES,
     REQUEST_BYTES, Request, Teller, decode_request, encode_reply,
 };
 use posting_rules::{
-    AccountRow, BranchLine, BranchRow, Counter, Fault, Found, HistoryRow, LAST_BRANCH,
-    MOST_ACCOUNTS, Opening, Ordinal, RequestRow, TELLERS_PER_BRANCH, TellerRow, Verdict,
-    branch_of_teller, first_account, first_teller, judge, malformed_reply, reply_to,
+    AccountRow, BranchLine, BranchRow, Counter, Fault, FloorRow, Found, HistoryRow, LAST_BRANCH,
+    MAX_ACCOUNTS, Opening, Ordinal, RequestRow, TELLERS_PER_BRANCH, TellerRow, Verdict,
+    branch_of_account, branch_of_teller, first_account, first_teller, judge, malformed_reply,
+    reply_to,
 };
 use std::alloc::Global;
 
@@ -94,6 +96,16 @@ fn read_range(moment: Moment)
     let _seconds = moment.get();
 }
 
+// The range of a floor, of which the same holds.
+fn read_floor(floor: Option<Cents>)
+    requires { IfSome floor (λ z. z ≤ℤ pos 0) }
+    ensures { IfSome floor IsFloor }
+{
+    if let Some(lowest) = floor {
+        let _cents = lowest.get();
+    }
+}
+
 /// A bank in memory, which finds its rows by walking. It is never down, and refuses a call only for want of
 /// memory, before it changed anything.
 #[derive(Debug, Drop)]
@@ -104,15 +116,18 @@ pub struct PlainBank {
     accounts: Vec<AccountRow>,
     history: Vec<HistoryRow>,
     requests: Vec<RequestRow>,
+    floors: Vec<FloorRow>,
     ghost few: { length requests.items ≤ MAX_DECIDED },
     ghost in_range: { All IsInRange branches.items },
+    ghost at_most_zero: { All IsAtMostZero floors.items },
 }
 
 impl PlainBank {
     ghost use Rattle.posting_rules.specs.Cases.{IsProper};
     ghost use Rattle.posting_rules.specs.Tables.{AreTablesOf};
     ghost use Rattle.posting_rules.specs.LookUps.{found_in};
-    ghost use Rattle.posting_rules.specs.Commands.{Command, Post, IsCommand, AreCommands};
+    ghost use Rattle.posting_rules.specs.Branches.{line_in};
+    ghost use Rattle.posting_rules.specs.Commands.{Command, Post, IsCommand, AreCommands, opened_with};
     ghost use Rattle.posting_rules.specs.Runs.{behind, posts, replies_to};
     ghost use Rattle.posting_core.specs.Appended.{tables_after, tables_with, tables_opened, reply_in_tables};
     ghost use Rattle.posting_core.specs.Plain.{plain_tables};
@@ -129,6 +144,7 @@ impl PlainBank {
             accounts: Vec::new(alloc),
             history: Vec::new(alloc),
             requests: Vec::new(alloc),
+            floors: Vec::new(alloc),
         }
     }
 
@@ -144,6 +160,7 @@ impl PlainBank {
             kept: kept_at(&self.requests, request.teller(), request.number()),
             decided: self.requests.len() as u64,
             account: balance_at(&self.accounts, request.account().get()),
+            floor: floor_at(&self.floors, branch_of_account(request.account())),
         }
     }
 
@@ -233,14 +250,17 @@ impl PlainBank {
     }
 
     // Adds a branch, for whose rows there is room.
-    fn add_branch(&mut self, branch: Branch, count: u32)
+    fn add_branch(&mut self, branch: Branch, count: u32, floor: Option<Cents>)
         requires branch { branch ≤ LAST_BRANCH }
         requires some { 1 ≤ count }
-        requires few { count ≤ MOST_ACCOUNTS }
+        requires few { count ≤ MAX_ACCOUNTS }
+        requires floor { IfSome floor (λ z. z ≤ℤ pos 0) }
         requires branches { vec_len self.old.branches < vec_capacity self.old.branches }
         requires tellers { vec_len self.old.tellers + TELLERS_PER_BRANCH ≤ vec_capacity self.old.tellers }
         requires accounts { vec_len self.old.accounts + count ≤ vec_capacity self.old.accounts }
-        ensures tables { plain_tables self.new ≡ tables_opened (plain_tables self.old) branch count }
+        requires floors { vec_len self.old.floors < vec_capacity self.old.floors }
+        ensures tables { plain_tables self.new
+            ≡ tables_opened (plain_tables self.old) branch (opened_with count floor) }
         ensures above { 1 ≤ branch }
     {
         let row = BranchRow {
@@ -251,6 +271,20 @@ impl PlainBank {
         put(&mut self.branches, row);
         put_new(&mut self.tellers, first_teller(branch), TELLERS_PER_BRANCH);
         put_new(&mut self.accounts, first_account(branch), u64::from(count));
+        put_floor(&mut self.floors, branch, floor);
+    }
+
+    // What a row and its floor say of a branch.
+    fn line(&self, row: BranchRow) -> BranchLine
+        ensures value { result ≡ line_in (plain_tables self.now) row }
+        ensures floor { IfSome result.floor (λ z. z ≤ℤ pos 0) }
+    {
+        BranchLine {
+            branch: row.branch,
+            accounts: row.accounts,
+            balance: row.balance,
+            floor: floor_at(&self.floors, row.branch.get()),
+        }
     }
 }
 
@@ -295,9 +329,16 @@ impl Counter for PlainBank {
         Ok(replies)
     }
 
-    fn open_branch(&mut self, branch: Branch, count: u32) -> Result<Opening, Fault> {
+    fn open_branch(
+        &mut self,
+        branch: Branch,
+        count: u32,
+        floor: Option<Cents>,
+    ) -> Result<Opening, Fault> {
+        read_floor(floor);
         if let Some(accounts) = count_at(&self.branches, branch.get()) {
-            return Ok(if accounts == count {
+            let lowest = floor_at(&self.floors, branch.get());
+            return Ok(if accounts == count && lowest == floor {
                 Opening::Already
             } else {
                 Opening::Differs
@@ -306,7 +347,8 @@ impl Counter for PlainBank {
         self.branches.reserve(1)?;
         self.tellers.reserve(TELLERS_PER_BRANCH as usize)?;
         self.accounts.reserve(count as usize)?;
-        self.add_branch(branch, count);
+        self.floors.reserve(1)?;
+        self.add_branch(branch, count, floor);
         Ok(Opening::Opened)
     }
 
@@ -330,6 +372,9 @@ impl Counter for PlainBank {
         ensures call { IsCounterCall plain_seen plain_tables plain_reason self.old self.new [] result }
         ensures stays { plain_tables self.new ≡ plain_tables self.old }
     {
-        Ok(next_at(&self.branches, after).map(BranchLine::from))
+        let Some(row) = next_at(&self.branches, after) else {
+            return Ok(None);
+        };
+        Ok(Some(self.line(row)))
     }
 }

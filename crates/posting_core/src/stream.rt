@@ -5,7 +5,7 @@ ghost use Rattle.posting_core.specs.Clock.{IsReading};
 ghost use Rattle.posting_rules.specs.Runs.{posts};
 ghost use Rattle.posting_core.specs.Batches.{BatchIsAnswered, BreaksOff};
 ghost use Rattle.posting_core.specs.Stream.{Streamed, OutputsReplies, SurvivesStream, Resends};
-ghost use Rattle.posting_core.specs.Stream.{StreamFaultIsOfItsEnd};
+ghost use Rattle.posting_core.specs.Stream.{StreamFaultIsOfItsEnd, StreamsAsRead};
 ghost use Rattle.posting_core.specs.Stream.{IfBank, IfTaken, IsRefusedBehind, UnlessDown};
 ghost use Rattle.posting_core.specs.Told.{EndsWith, HasWriteFailed, IsFlush};
 
@@ -115,6 +115,9 @@ pub fn post_stream<R: Source, W: Sink, K: Clock, C: Counter>(
     ensures stream { Streamed (R.remaining reader.old) (R.remaining reader.new) (W.contents writer.old)
         (W.contents writer.new)
         (K.readings clock.old) (K.readings clock.new) (C.seen bank.old) (C.seen bank.new) result }
+    ensures batches { StreamsAsRead (R.remaining reader.old) (R.remaining reader.new)
+        (R.told reader.old) (R.told reader.new) (W.contents writer.old) (W.contents writer.new)
+        (K.readings clock.old) (K.readings clock.new) (C.seen bank.old) (C.seen bank.new) result }
     ensures output { OutputsReplies (R.remaining reader.old) (R.remaining reader.new) (W.contents writer.old)
         (W.contents writer.new)
         (C.seen bank.old) (C.seen bank.new) result }
@@ -122,8 +125,8 @@ pub fn post_stream<R: Source, W: Sink, K: Clock, C: Counter>(
         (W.contents writer.old)
         (W.contents writer.new)
         (C.seen bank.old) (C.seen bank.new) }
-    ensures resend { Resends (R.remaining reader.old) (R.remaining reader.new) (C.seen bank.old)
-        (C.seen bank.new) result }
+    ensures resend { Resends (R.remaining reader.old) (R.remaining reader.new) (W.contents writer.old)
+        (W.contents writer.new) (C.seen bank.old) (C.seen bank.new) result }
     ensures refused { IfErr result (λ fault. IfBank fault
         (IsRefusedBehind C.seen C.reason bank.old bank.new (R.remaining reader.old)
         (R.remaining reader.new))) }

@@ -19,7 +19,7 @@ answer_alike t one two (Post m bytes ∷ cs) s u valid =
     ∙ ap (λ (rest : List (List ℕ)). reply_spelling (reply two bytes) ∷ rest)
     (answer_alike (tables_past t m bytes) (Post m bytes ∷ one) (Post m bytes ∷ two) cs
     (past_shown t one m bytes s) (past_shown t two m bytes u) valid.1)
-answer_alike t one two (Open b count ∷ cs) s u valid =
-    let is = opens b count valid.0.0 valid.0.3 in
-    answer_alike (tables_with_branch t b count) (Open b count ∷ one) (Open b count ∷ two) cs (is t one s)
+answer_alike t one two (Open b terms ∷ cs) s u valid =
+    let is = opens b terms valid.0.0 valid.0.3 in
+    answer_alike (tables_with_branch t b terms) (Open b terms ∷ one) (Open b terms ∷ two) cs (is t one s)
     (is t two u) valid.1

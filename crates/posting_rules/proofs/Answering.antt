@@ -27,9 +27,9 @@ both_shown t one two [] s u valid = record { tables = t; first = s; second = u }
 both_shown t one two (Post m bytes ∷ cs) s u valid =
     both_shown (tables_past t m bytes) (Post m bytes ∷ one) (Post m bytes ∷ two) cs
     (past_shown t one m bytes s) (past_shown t two m bytes u) valid.1
-both_shown t one two (Open b count ∷ cs) s u valid =
-    let is = opens b count valid.0.0 valid.0.3 in
-    both_shown (tables_with_branch t b count) (Open b count ∷ one) (Open b count ∷ two) cs (is t one s)
+both_shown t one two (Open b terms ∷ cs) s u valid =
+    let is = opens b terms valid.0.0 valid.0.3 in
+    both_shown (tables_with_branch t b terms) (Open b terms ∷ one) (Open b terms ∷ two) cs (is t one s)
     (is t two u) valid.1
 
 -- ---- logs with equal tables
@@ -56,7 +56,7 @@ next_alike one two x after None h = λ b above. sym (opened_alike one two x b) �
 next_alike one two x after (Some line) h = record {
   above = h.above;
   terms = sym (opened_alike one two x line.branch) ∙ h.terms;
-  balance = h.balance ∙ open_alike one two x line.branch (opened_with line.accounts) h.terms;
+  balance = h.balance ∙ open_alike one two x line.branch (opened_with line.accounts line.floor) h.terms;
   none_between = λ b low high. sym (opened_alike one two x b) ∙ h.none_between b low high;
 }
 

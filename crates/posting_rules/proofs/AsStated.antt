@@ -19,9 +19,11 @@ use Rattle.posting_rules.specs.Cases.{balance_shown, is_same, kept_reply, reply_
 use Rattle.posting_rules.specs.Entries.{DecidedRequest, kept, account_balance, teller_balance, branch_balance}
 use Rattle.posting_rules.specs.Entries.{with_verdict, with_record, decided, reply_to, reply, refused_entry}
 use Rattle.posting_rules.specs.Entries.{posted_entry}
-use Rattle.posting_rules.specs.Stated.{IsDecided, IsPosted, AddsEntry, DecidesAsStated, RepliesAsStated}
+use Rattle.posting_rules.specs.Stated.{IsDecided, IsPosted, StaysAbove, AddsEntry, DecidesAsStated}
+use Rattle.posting_rules.specs.Stated.{RepliesAsStated}
 use Rattle.posting_rules.proofs.Keyed.{by_test}
-use Rattle.posting_rules.proofs.VerdictsStated.{verdict, by_limit, decided_verdict, full, has_sums, known}
+use Rattle.posting_rules.proofs.VerdictsStated.{verdict, by_limit, by_floor, below_floor, decided_verdict}
+use Rattle.posting_rules.proofs.VerdictsStated.{full, has_sums, known}
 use Rattle.posting_rules.proofs.VerdictsStated.{new, no_account, no_teller, other_content, over_limit}
 use Rattle.posting_rules.proofs.VerdictsStated.{posted_verdict, same_content, wrong_branch}
 
@@ -49,9 +51,11 @@ replied before bytes = record {
       (decided_verdict before r bytes d ∙ wrong_branch before r d.room ne);
   no_account = λ r d its closed. reply_is before bytes r (Refused outcome.NoAccount) d.names.read
       (decided_verdict before r bytes d ∙ no_account before r d.room its closed);
-  over_limit = λ r d its open_a h. reply_is before bytes r (Refused outcome.OverLimit) d.names.read
-      (decided_verdict before r bytes d ∙ has_sums before r d.room its open_a
-      ∙ over_limit before r its open_a h);
+  below_floor = λ r d its open_a low. reply_is before bytes r (Refused outcome.BelowFloor) d.names.read
+      (decided_verdict before r bytes d ∙ below_floor before r d.room its open_a low);
+  over_limit = λ r d its open_a above h. reply_is before bytes r (Refused outcome.OverLimit) d.names.read
+      (decided_verdict before r bytes d ∙ has_sums before r d.room its open_a above
+      ∙ over_limit before r its open_a above h);
   posted = λ r d p. reply_is before bytes r _ d.names.read (posted_verdict before r bytes d p);
 }
 
@@ -70,6 +74,7 @@ no_balance outcome.Posted z e = absurd cc
 no_balance outcome.NoTeller z e = refl
 no_balance outcome.WrongBranch z e = refl
 no_balance outcome.NoAccount z e = refl
+no_balance outcome.BelowFloor z e = refl
 no_balance outcome.OverLimit z e = refl
 no_balance outcome.ReusedNumber z e = refl
 no_balance outcome.Full z e = refl
@@ -104,15 +109,15 @@ posted before moment bytes r d p = (
   },
 )
 
--- where the branch is the teller's and the account is open, the three sums decide
+-- where the branch is the teller's, and the account is open and not below its floor, the three sums decide
 by_sums : (before : List Command) (moment : ℕ) (bytes : List ℕ) (r : RequestFields) → IsDecided before bytes r
     → r.branch ≡ branch_of_teller r.teller
-    → is_account_open (λ b. opened before b) r.account ≡ true
+    → is_account_open (λ b. opened before b) r.account ≡ true → StaysAbove before r
     → (e : DecidedRequest) × AddsEntry before moment bytes r e
-by_sums before moment bytes r d its open_a =
+by_sums before moment bytes r d its open_a above =
     let none = λ (h : IsPosted before r → ⊥). refused before moment bytes r outcome.OverLimit d.names.read
-    (decided_verdict before r bytes d ∙ has_sums before r d.room its open_a
-    ∙ over_limit before r its open_a h) refl h in
+    (decided_verdict before r bytes d ∙ has_sums before r d.room its open_a above
+    ∙ over_limit before r its open_a above h) refl h in
     elim (by_limit (account_balance (decided before) r.account +ℤ r.delta)) [
       | inr f ↦ none (λ p. f p.account_limit)
       | inl x ↦ elim (by_limit (teller_balance (decided before) r.teller +ℤ r.delta)) [
@@ -123,6 +128,7 @@ by_sums before moment bytes r d its open_a =
               (record {
                 branch = its;
                 account = open_a;
+                floor = above;
                 account_limit = x;
                 teller_limit = y;
                 branch_limit = z;
@@ -145,7 +151,12 @@ adds_entry before moment bytes r d =
             | inr f ↦ refused before moment bytes r outcome.NoAccount d.names.read
                 (decided_verdict before r bytes d ∙ no_account before r d.room its f) refl
                 (λ p. absurd (let g = sym f ∙ p.account in cc))
-            | inl o ↦ by_sums before moment bytes r d its o
+            | inl o ↦ elim (by_floor before r) [
+              | inr low ↦ refused before moment bytes r outcome.BelowFloor d.names.read
+                  (decided_verdict before r bytes d ∙ below_floor before r d.room its o low) refl
+                  (λ p. low p.floor)
+              | inl above ↦ by_sums before moment bytes r d its o above
+            ]
           ]
     ]
 

@@ -68,7 +68,7 @@ within_record opened es m (Err fault) all = all
 
 all_within : (log : List Command) → AllWithin (decided log)
 all_within [] = record { accounts = λ a. lit≤ tt; tellers = λ t. lit≤ tt; branches = λ b. lit≤ tt }
-all_within (Open b count ∷ log) = all_within log
+all_within (Open b terms ∷ log) = all_within log
 all_within (Post m bytes ∷ log) = within_record (λ b. opened log b) (decided log) m (request_of bytes)
     (all_within log)
 

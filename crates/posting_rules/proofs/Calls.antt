@@ -11,7 +11,7 @@ use Rattle.posting_rules.specs.Runs.{behind}
 use Rattle.posting_rules.specs.Cases.{case_of}
 use Rattle.posting_rules.specs.Counter.{opening_for, opening_behind}
 use Rattle.posting_rules.specs.Entries.{decided, reply}
-use Rattle.posting_rules.specs.LookUps.{found_in, terms_in, terms_of_branch}
+use Rattle.posting_rules.specs.LookUps.{found_in, floor_in, terms_in, terms_of_branch}
 use Rattle.posting_rules.specs.Steps.{IsStep}
 use Rattle.posting_rules.specs.Tables.{Tables, row_at, branch_key}
 use Rattle.posting_rules.specs.Tables.{AreTablesOf as Show}
@@ -21,7 +21,7 @@ use Rattle.posting_rules.proofs.Stepped.{post_shown, reply_shown}
 use Rattle.posting_rules.specs.Changes.{tables_with, reply_bytes, opened_where, tables_with_branch}
 use Rattle.posting_rules.proofs.Ready.{ready_shown}
 use Rattle.posting_rules.proofs.Stepping.{step_is, opens_is}
-use Rattle.posting_rules.specs.declared.limits.TheConstants.{MOST_ACCOUNTS}
+use Rattle.posting_rules.specs.declared.limits.TheConstants.{MAX_ACCOUNTS}
 
 -- the change is that of the commands
 abbrev pub IsChange : (Tables → Tables) → List Command → Type 0
@@ -44,20 +44,20 @@ replies t log bytes r read shows = ap reply_spelling (reply_shown t log bytes r 
 
 -- ---- an opening
 
-pub opens : (b count : ℕ) → 1 ≤ b → count ≤ MOST_ACCOUNTS
-    → IsChange (λ t. tables_with_branch t b count) (Open b count ∷ [])
-opens b count above few t log shows = by_row (row_at branch_key t.branches b) refl
+pub opens : (b : ℕ) (terms : Terms) → 1 ≤ b → terms.accounts ≤ MAX_ACCOUNTS
+    → IsChange (λ t. tables_with_branch t b terms) (Open b terms ∷ [])
+opens b terms above few t log shows = by_row (row_at branch_key t.branches b) refl
   where
     counted : terms_in t b ≡ opened log b
     counted = terms_shown t (λ x. opened log x) (decided log) b shows.rows
 
     by_row : (o : Option BranchRow) → row_at branch_key t.branches b ≡ o
-        → Show (opened_where o t b count) (Open b count ∷ log)
-    by_row None e = opening_shown t _ log b count
-        (sym counted ∙ ap (option_map terms_of_branch) e) above few shows
-        (opens_is t b count (ready_shown t log shows) above few e)
-    by_row (Some row) e = already_open_shown t log b count (terms_of_branch row)
-        (sym counted ∙ ap (option_map terms_of_branch) e) shows
+        → Show (opened_where o t b terms) (Open b terms ∷ log)
+    by_row None e = opening_shown t _ log b terms
+        (sym counted ∙ ap (option_map (terms_of_branch (floor_in t b))) e) above few shows
+        (opens_is t b terms (ready_shown t log shows) above few e)
+    by_row (Some row) e = already_open_shown t log b terms (terms_of_branch (floor_in t b) row)
+        (sym counted ∙ ap (option_map (terms_of_branch (floor_in t b))) e) shows
 
 pub answers : (t : Tables) (log : List Command) (b : ℕ) (terms : Terms) → Show t log
     → opening_for (terms_in t b) terms ≡ opening_behind log b terms

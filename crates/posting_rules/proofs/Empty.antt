@@ -19,6 +19,7 @@ pub empty_shown : AreTablesOf (record {
   accounts = [];
   history = [];
   requests = [];
+  floors = [];
 }) []
 empty_shown = record {
   rows = record {
@@ -28,10 +29,12 @@ empty_shown = record {
     accounts = λ n. rw (and_false (leb 1 n)) refl;
     history = λ o. refl;
     requests = λ o. refl;
+    floors = λ b. refl;
     branch_keys = none_distinct;
     teller_keys = none_distinct;
     account_keys = none_distinct;
     history_keys = none_distinct;
     request_keys = none_distinct;
+    floor_keys = none_distinct;
   };
 }

@@ -1,15 +1,20 @@
 -- The worked examples, computed from the definitions to the byte.
-use Rattle.std.specs.Prelude.{◌≡◌, ℕ, Bool, true, false, List, [], ◌∷◌, ◌++◌, map, pos, negsuc, refl, codes}
-use Rattle.std.specs.Prelude.{replicate}
+use Rattle.std.specs.Prelude.{◌≡◌, ℕ, zero, suc, Bool, true, false, List, [], ◌∷◌, ◌++◌, map, pos, negsuc, refl}
+use Rattle.std.specs.Prelude.{codes, replicate, Some, None, ℤ}
+use Rattle.message_records.specs.Records.{RequestFields}
+use Rattle.message_records.specs.declared.records.Outcome.TheVariants.{BelowFloor, OverLimit}
 use Rattle.message_records.specs.Spelling.{digits, fields_spelling, reply_spelling}
 use Rattle.message_records.specs.Reading.{fields_of, request_of}
-use Rattle.posting_rules.specs.Commands.{Command, Open, Post}
+use Rattle.posting_rules.specs.Commands.{Command, Open, Post, opened, opened_with}
 use Rattle.posting_rules.specs.Cases.{case_of}
-use Rattle.posting_rules.specs.Entries.{is_posted, decided, reply, teller_balance, branch_balance}
+use Rattle.posting_rules.specs.Editions.{edition, opened_in, decided_in, plain}
+use Rattle.posting_rules.specs.declared.judgments.Verdict.TheVariants.{Refused}
+use Rattle.posting_rules.specs.Entries.{DecidedRequest, facts, is_posted, posted_entry, decided, reply}
+use Rattle.posting_rules.specs.Entries.{teller_balance, branch_balance}
 
 -- branch 1 with three accounts, and branch 2 with two
 bank : List Command
-bank = Open 2 2 ∷ Open 1 3 ∷ []
+bank = Open 2 (opened_with 2 None) ∷ Open 1 (opened_with 3 None) ∷ []
 
 -- a request, and 49 spaces
 request : List ℕ → List ℕ
@@ -70,7 +75,7 @@ unfolding bank request reply_bytes first one remote two late digits fields_spell
     request_of case_of
 unknown_teller = refl
 
-then_opened : reply_spelling (reply (Open 3 1 ∷ Post 3000 late ∷ two) late) ≡ reply_bytes
+then_opened : reply_spelling (reply (Open 3 (opened_with 1 None) ∷ Post 3000 late ∷ two) late) ≡ reply_bytes
     (codes "DR0100000000000001000000210000030000000001+0000000005+000000000505POSTED") 128
 unfolding bank request reply_bytes first one remote two late digits fields_spelling reply_spelling fields_of
     request_of case_of
@@ -119,10 +124,123 @@ posted_of_a_repeat : posted (Post 1000 first ∷ one) ≡ true ∷ []
 unfolding bank request first one posted digits fields_spelling fields_of request_of case_of
 posted_of_a_repeat = refl
 
-posted_of_an_opening : posted (Post 3000 late ∷ Open 3 1 ∷ Post 3000 late ∷ one) ≡ true ∷ true ∷ []
+posted_of_an_opening : posted (Post 3000 late ∷ Open 3 (opened_with 1 None) ∷ Post 3000 late ∷ one) ≡ true ∷ true ∷ []
 unfolding bank request first one late posted digits fields_spelling fields_of request_of case_of
 posted_of_an_opening = refl
 
 posted_of_a_letter : posted (Post 1000 lettered ∷ []) ≡ []
 unfolding lettered posted digits fields_spelling fields_of request_of case_of
 posted_of_a_letter = refl
+
+-- ---- floors: branch 1 with three accounts down to -1000 cents each, and branch 2 with two and no floor
+
+floored : List Command
+floored = Open 2 (opened_with 2 None) ∷ Open 1 (opened_with 3 (Some (negsuc 999))) ∷ []
+
+to_the_floor : List ℕ
+to_the_floor = request (codes "DC01000000000001000000010000010000000001-0000001000")
+
+at_the_floor : reply_spelling (reply floored to_the_floor) ≡ reply_bytes
+    (codes "DR0100000000000001000000010000010000000001-0000001000-000000001000POSTED") 128
+unfolding floored request reply_bytes to_the_floor digits fields_spelling reply_spelling fields_of request_of
+    case_of
+at_the_floor = refl
+
+at_floor : List Command
+at_floor = Post 1000 to_the_floor ∷ floored
+
+one_cent_more : List ℕ
+one_cent_more = request (codes "DC01000000000001000000010000010000000002-0000000001")
+
+below_floor : reply_spelling (reply at_floor one_cent_more) ≡ reply_bytes
+    (codes "DR0117000000000001000000010000010000000002-0000000001+000000000000BELOW FLOOR") 123
+unfolding floored at_floor request reply_bytes to_the_floor one_cent_more digits fields_spelling reply_spelling
+    fields_of request_of case_of
+below_floor = refl
+
+below_floor_again : reply (Post 1000 one_cent_more ∷ at_floor) one_cent_more ≡ reply at_floor one_cent_more
+unfolding floored at_floor request to_the_floor one_cent_more digits fields_spelling fields_of request_of
+    case_of
+below_floor_again = refl
+
+-- the floor is that of the account's branch, and not of the teller's
+from_branch_two : List ℕ
+from_branch_two = request (codes "DC01000000000001000000110000020000000001-0000000001")
+
+floor_of_its_own_branch : reply_spelling (reply at_floor from_branch_two) ≡ reply_bytes
+    (codes "DR0117000000000001000000110000020000000001-0000000001+000000000000BELOW FLOOR") 123
+unfolding floored at_floor request reply_bytes to_the_floor from_branch_two digits fields_spelling
+    reply_spelling fields_of request_of case_of
+floor_of_its_own_branch = refl
+
+to_branch_two : List ℕ
+to_branch_two = request (codes "DC01000000100001000000010000010000000003-0000005000")
+
+no_floor_of_the_tellers_branch : reply_spelling (reply at_floor to_branch_two) ≡ reply_bytes
+    (codes "DR0100000000100001000000010000010000000003-0000005000-000000005000POSTED") 128
+unfolding floored at_floor request reply_bytes to_the_floor to_branch_two digits fields_spelling
+    reply_spelling fields_of request_of case_of
+no_floor_of_the_tellers_branch = refl
+
+floored_day : List Command
+floored_day = Post 1000 to_branch_two ∷ Post 1000 from_branch_two ∷ Post 1000 one_cent_more ∷ at_floor
+
+-- two of the four are posted, and branch 1 is at -6000
+balances_at_the_floor : (posted floored_day ≡ true ∷ false ∷ false ∷ true ∷ [])
+    × (branch_balance (decided floored_day) 1 ≡ negsuc 5999)
+unfolding floored floored_day at_floor posted request to_the_floor one_cent_more from_branch_two to_branch_two
+    digits fields_spelling fields_of request_of case_of
+balances_at_the_floor = (refl, refl)
+
+-- a request of teller 1 of branch 1 on account 100001, and one of teller 2 on account 1
+on_branch_two : ℕ → ℤ → RequestFields
+on_branch_two number delta = record {
+  account = 100001;
+  teller = 1;
+  branch = 1;
+  number = number;
+  delta = delta;
+}
+
+on_branch_one : ℤ → RequestFields
+on_branch_one delta = record { account = 1; teller = 2; branch = 1; number = 1; delta = delta }
+
+-- so many postings of -9,999,999,999 cents to account 100001, whose branch has no floor
+drained_by : ℕ → List DecidedRequest
+drained_by zero = []
+drained_by (suc n) = posted_entry 1000 (on_branch_two (suc n) (negsuc 9999999998)) (pos 0) ∷ drained_by n
+
+-- and one of -99, so that branch 1 is at its limit
+drained : List DecidedRequest
+drained = posted_entry 1000 (on_branch_two 101 (negsuc 98)) (pos 0) ∷ drained_by 100
+
+branch_at_its_limit : branch_balance drained 1 ≡ negsuc 999999999998
+unfolding drained drained_by on_branch_two
+branch_at_its_limit = refl
+
+-- a request that is below the floor and over the limit is refused for the floor
+floor_before_limit : case_of (facts (λ b. opened floored b) drained (on_branch_one (negsuc 1000)))
+    (on_branch_one (negsuc 1000)) ≡ Refused BelowFloor
+unfolding floored drained drained_by on_branch_two on_branch_one case_of
+floor_before_limit = refl
+
+limit_above_the_floor : case_of (facts (λ b. opened floored b) drained (on_branch_one (negsuc 0)))
+    (on_branch_one (negsuc 0)) ≡ Refused OverLimit
+unfolding floored drained drained_by on_branch_two on_branch_one case_of
+limit_above_the_floor = refl
+
+-- ---- version 1, before floors: the branch is open without one, all four are posted, and branch 1 is at -6001
+
+before_floors : (opened_in (edition 1) floored 1 ≡ Some (opened_with 3 None))
+    × (map is_posted (decided_in (edition 1) floored_day) ≡ true ∷ true ∷ true ∷ true ∷ [])
+    × (branch_balance (decided_in (edition 1) floored_day) 1 ≡ negsuc 6000)
+unfolding floored floored_day at_floor request to_the_floor one_cent_more from_branch_two to_branch_two digits
+    fields_spelling fields_of request_of case_of
+before_floors = (refl, refl, refl)
+
+-- so its log is carried over without the floor, while one of the present version is carried over as it is
+carried_over : (plain 1 floored ≡ bank) × (posted (plain 1 floored_day) ≡ true ∷ true ∷ true ∷ true ∷ [])
+    × (plain 2 floored_day ≡ floored_day)
+unfolding floored floored_day at_floor bank posted request to_the_floor one_cent_more from_branch_two to_branch_two
+    digits fields_spelling fields_of request_of case_of
+carried_over = (refl, refl, refl)

@@ -10,9 +10,11 @@ pub mod NumbersInARow
 pub mod Opened
 pub mod Totals
 pub mod BalanceLimits
+pub mod AboveFloors
 pub mod PostedSums
 pub mod Consistent
 pub mod Alike
+pub mod Editions
 pub mod Answering
 pub mod VerdictsStated
 pub mod AsStated

@@ -1,20 +1,21 @@
 -- What is looked up in the tables of a log is what stands there by the definitions.
 use Rattle.std.proofs.Common.{◌≡◌, ℕ, Bool, true, false, cond, leb, List, Option, Some, None, refl, ap, ◌∙◌}
-use Rattle.std.specs.Prelude.{ℤ, is_some, ◌&&◌}
+use Rattle.std.specs.Prelude.{ℤ, is_some, ◌&&◌, option_and_then}
 use Rattle.std.specs.Option.{option_map}
 use Rattle.message_records.specs.Records.{RequestFields}
 use Rattle.posting_rules.specs.declared.judgments.Found.{Found}
-use Rattle.posting_rules.specs.Commands.{Command, opened, is_teller_open, is_account_open, Terms}
-use Rattle.posting_rules.specs.Numbering.{branch_of_teller}
+use Rattle.posting_rules.specs.Commands.{Command, opened, is_teller_open, is_account_open, Terms, floor_of}
+use Rattle.posting_rules.specs.Numbering.{branch_of_teller, branch_of_account}
 use Rattle.posting_rules.specs.Kept.{KeptFields}
 use Rattle.posting_rules.specs.Entries.{DecidedRequest, facts, teller_balance, branch_balance}
 use Rattle.posting_rules.specs.Entries.{account_balance}
 use Rattle.posting_rules.specs.Entries.{decided, balance_behind}
 use Rattle.posting_rules.specs.Tables.{Tables, HasRows, AreTablesOf, row_at, branch_key, branch_row_of}
 use Rattle.posting_rules.specs.Tables.{teller_row}
-use Rattle.posting_rules.specs.Tables.{teller_row_of, account_row_of}
+use Rattle.posting_rules.specs.Tables.{teller_row_of, account_row_of, floor_row_of}
 use Rattle.posting_rules.specs.LookUps.{found_in, both_of, teller_balances_in, account_balance_in, terms_in}
-use Rattle.posting_rules.specs.LookUps.{terms_of_branch, balance_of_branch, balance_of_teller}
+use Rattle.posting_rules.specs.LookUps.{floor_in, lowest_of, terms_of_branch, balance_of_branch}
+use Rattle.posting_rules.specs.LookUps.{balance_of_teller}
 use Rattle.posting_rules.specs.LookUps.{balance_of_account}
 use Rattle.posting_rules.proofs.Requests.{AreNew, kept_shown}
 
@@ -52,31 +53,43 @@ account_balance_shown t opened es n s =
     ap (option_map balance_of_account) (s.accounts n) ∙ balance_if_open (is_account_open opened n) n
     (account_balance es n)
 
+floor_of_row : (o : Option ℤ) (b : ℕ) → option_map lowest_of (option_map (floor_row_of b) o) ≡ o
+floor_of_row (Some z) b = refl
+floor_of_row None b = refl
+
+-- the floor of a branch
+pub floor_shown : (t : Tables) (opened : ℕ → Option Terms) (es : List DecidedRequest) (b : ℕ)
+    → HasRows t opened es → floor_in t b ≡ floor_of opened b
+floor_shown t opened es b s = ap (option_map lowest_of) (s.floors b) ∙ floor_of_row (floor_of opened b) b
+
 terms_of_row : (o : Option Terms) (b : ℕ) (z : ℤ)
-    → option_map terms_of_branch (option_map (branch_row_of b z) o) ≡ o
+    → option_map (terms_of_branch (option_and_then (λ n. n.floor) o)) (option_map (branch_row_of b z) o) ≡ o
 terms_of_row (Some n) b z = refl
 terms_of_row None b z = refl
 
 pub terms_shown : (t : Tables) (opened : ℕ → Option Terms) (es : List DecidedRequest) (b : ℕ)
     → HasRows t opened es
     → terms_in t b ≡ opened b
-terms_shown t opened es b s = ap (option_map terms_of_branch) (s.branches b) ∙ terms_of_row (opened b) b
-    (branch_balance es b)
+terms_shown t opened es b s =
+    ap (λ o. option_map (terms_of_branch o) (row_at branch_key t.branches b)) (floor_shown t opened es b s)
+    ∙ ap (option_map (terms_of_branch (floor_of opened b))) (s.branches b)
+    ∙ terms_of_row (opened b) b (branch_balance es b)
 
 -- all that is looked up for a request
 pub found_shown : (t : Tables) (opened : ℕ → Option Terms) (es : List DecidedRequest) (r : RequestFields)
     → AreNew es
     → HasRows t opened es → found_in t r ≡ facts opened es r
 found_shown t opened es r new s =
-    made _ _ _ _ _ _ _ _ (teller_balances_shown t opened es r.teller s)
+    made _ _ _ _ _ _ _ _ _ _ (teller_balances_shown t opened es r.teller s)
     (kept_shown t.requests es s.request_keys s.requests new r.teller r.number)
     s.decided (account_balance_shown t opened es r.account s)
+    (floor_shown t opened es (branch_of_account r.account) s)
   where
-    made : (a a' : Option (ℤ × ℤ)) (k k' : Option KeptFields) (n n' : ℕ) (b b' : Option ℤ) → a ≡ a' → k ≡ k'
-        → n ≡ n' → b ≡ b'
-        → (let f : Found = record { teller = a; kept = k; decided = n; account = b } in f) ≡
-        record { teller = a'; kept = k'; decided = n'; account = b' }
-    made a a' k k' n n' b b' ea ek en eb = rw (ea, ek, en, eb) refl
+    made : (a a' : Option (ℤ × ℤ)) (k k' : Option KeptFields) (n n' : ℕ) (b b' l l' : Option ℤ) → a ≡ a'
+        → k ≡ k' → n ≡ n' → b ≡ b' → l ≡ l'
+        → (let f : Found = record { teller = a; kept = k; decided = n; account = b; floor = l } in f) ≡
+        record { teller = a'; kept = k'; decided = n'; account = b'; floor = l' }
+    made a a' k k' n n' b b' l l' ea ek en eb el = rw (ea, ek, en, eb, el) refl
 
 -- the balance that an account shows is its balance behind the log
 pub balance_shown : (t : Tables) (log : List Command) (a : ℕ) → AreTablesOf t log

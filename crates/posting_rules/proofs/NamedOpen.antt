@@ -11,7 +11,7 @@ use Rattle.message_records.specs.Reading.{request_of}
 use Rattle.posting_rules.specs.declared.judgments.Verdict.{Verdict}
 use Rattle.posting_rules.specs.declared.judgments.Verdict.TheVariants.{Unkept, Again, Refused, Posted}
 use Rattle.posting_rules.specs.Commands.{Command, Open, Post, opened, is_within, is_teller_open}
-use Rattle.posting_rules.specs.Commands.{is_account_open, Terms, opened_with}
+use Rattle.posting_rules.specs.Commands.{is_account_open, Terms}
 use Rattle.posting_rules.specs.Numbering.{branch_of_teller, branch_of_account, place_of_account}
 use Rattle.posting_rules.specs.Cases.{case_of}
 use Rattle.posting_rules.specs.Entries.{DecidedRequest, is_posted, facts, with_verdict, with_record, decided}
@@ -92,8 +92,7 @@ all_record opened es m (Err fault) all = all
 
 pub all_name_open : (log : List Command) → AllNameOpen (λ b. opened log b) (decided log)
 all_name_open [] = tt
-all_name_open (Open b count ∷ log) =
-    all_stay (λ x. opened log x) b (opened_with count) (decided log) (all_name_open log)
+all_name_open (Open b terms ∷ log) = all_stay (λ x. opened log x) b terms (decided log) (all_name_open log)
 all_name_open (Post m bytes ∷ log) = all_record (λ b. opened log b) (decided log) m (request_of bytes)
     (all_name_open log)
 

@@ -5,10 +5,10 @@ use Rattle.std.specs.List.{Contains, find}
 use Rattle.std.proofs.lemmas.Bool.{eqb-true}
 use Rattle.std.proofs.lemmas.List.Elements.{All-contains}
 use Rattle.posting_rules.specs.declared.rows.BranchRow.{BranchRow}
-use Rattle.posting_rules.specs.Branches.{IsNextIn, IsNextBranch, line_of}
+use Rattle.posting_rules.specs.Branches.{IsNextIn, IsNextBranch, line_in}
 use Rattle.posting_rules.specs.Commands.{Command, opened}
 use Rattle.posting_rules.specs.Entries.{branch_balance, decided}
-use Rattle.posting_rules.specs.LookUps.{terms_of_branch, balance_of_branch}
+use Rattle.posting_rules.specs.LookUps.{floor_in, terms_of_branch, balance_of_branch}
 use Rattle.posting_rules.specs.Tables.{Tables, AreTablesOf, row_at, branch_key, branch_row_of}
 use Rattle.posting_rules.proofs.Keyed.{by_test, found_passes}
 use Rattle.posting_rules.proofs.Looked.{terms_shown}
@@ -31,7 +31,8 @@ found_within test (r ∷ rows) row e =
 
 module _ (t : Tables) (log : List Command) (shows : AreTablesOf t log) where
   counted : (branch : ℕ)
-      → opened log branch ≡ option_map terms_of_branch (row_at branch_key t.branches branch)
+      → opened log branch
+      ≡ option_map (terms_of_branch (floor_in t branch)) (row_at branch_key t.branches branch)
   counted branch = sym (terms_shown t (λ b. opened log b) (decided log) branch shows.rows)
 
   -- a number that no row has is no open branch
@@ -40,7 +41,7 @@ module _ (t : Tables) (log : List Command) (shows : AreTablesOf t log) where
   closed branch none = by_row (row_at branch_key t.branches branch) refl
     where
       by_row : (o : Option BranchRow) → row_at branch_key t.branches branch ≡ o → opened log branch ≡ None
-      by_row None e = counted branch ∙ ap (option_map terms_of_branch) e
+      by_row None e = counted branch ∙ ap (option_map (terms_of_branch (floor_in t branch))) e
       by_row (Some row) e =
           let number = eqb-true row.branch branch
           (found_passes (λ r. nat_eq r.branch branch) t.branches row e) in
@@ -51,17 +52,17 @@ module _ (t : Tables) (log : List Command) (shows : AreTablesOf t log) where
       → row.balance ≡ branch_balance (decided log) row.branch
   balance_is row under =
       let sum = branch_balance (decided log) row.branch in
-      let open_ : opened log row.branch ≡ Some (terms_of_branch row) = counted row.branch
-      ∙ ap (option_map terms_of_branch) under in
+      let terms = terms_of_branch (floor_in t row.branch) in
+      let open_ : opened log row.branch ≡ Some (terms row) = counted row.branch ∙ ap (option_map terms) under in
       let is : Some row ≡ option_map (branch_row_of row.branch sum) (opened log row.branch) =
       sym under ∙ shows.rows.branches row.branch in
-      let both : Some row ≡ Some (branch_row_of row.branch sum (terms_of_branch row)) = rw open_ at is in
+      let both : Some row ≡ Some (branch_row_of row.branch sum (terms row)) = rw open_ at is in
       let balances : Some row.balance ≡ Some sum = ap (option_map balance_of_branch) both in
       cc
 
   -- what the next row says of its branch is what the log says of the next open one
   pub next_shown : (after : ℕ) (next : Option BranchRow) → IsNextIn t.branches after next
-      → IsNextBranch log after (option_map line_of next)
+      → IsNextBranch log after (option_map (line_in t) next)
   next_shown after None none = λ branch above. closed branch (λ row has e.
       let le = All-contains (λ r. r.branch ≤ after) t.branches row none has in
       omega arith)
@@ -69,7 +70,7 @@ module _ (t : Tables) (log : List Command) (shows : AreTablesOf t log) where
       let under = row_at-contained branch_key t.branches row shows.rows.branch_keys found.stands in
       record {
         above = found.above;
-        terms = counted row.branch ∙ ap (option_map terms_of_branch) under;
+        terms = counted row.branch ∙ ap (option_map (terms_of_branch (floor_in t row.branch))) under;
         balance = balance_is row under;
         none_between = λ branch low high. closed branch (λ r has e.
             let least =

@@ -3,7 +3,7 @@ use Rattle.std.proofs.Common.{◌≡◌, ℕ, ◌+◌, ◌-◌, ◌*◌, ◌/◌
 use Rattle.std.proofs.Common.{refl, sym, arith}
 use Rattle.std.specs.Prelude.{◌&&◌}
 use Rattle.std.proofs.lemmas.Bool.{eqb-true, eq-eqb, leb-true, ltb-true, le-leb, lt-ltb}
-use Rattle.posting_rules.specs.declared.limits.TheConstants.{MOST_ACCOUNTS, ACCOUNTS_PER_BRANCH}
+use Rattle.posting_rules.specs.declared.limits.TheConstants.{MAX_ACCOUNTS, ACCOUNTS_PER_BRANCH}
 use Rattle.posting_rules.specs.Steps.{is_from}
 use Rattle.posting_rules.specs.Numbering.{branch_of_teller, branch_of_account, place_of_account, first_teller}
 use Rattle.posting_rules.specs.Numbering.{first_account}
@@ -34,7 +34,7 @@ tellers_in_a_row b n hb =
     let h : b ≡ branch_of_teller n = omega arith in
     and_true (leb 1 n) (eqb b (branch_of_teller n)) (le-leb _ _ hn) (eq-eqb _ _ h))
 
-pub accounts_in_a_row : (b n count : ℕ) → 1 ≤ b → count ≤ MOST_ACCOUNTS
+pub accounts_in_a_row : (b n count : ℕ) → 1 ≤ b → count ≤ MAX_ACCOUNTS
     → (leb 1 n && (eqb b (branch_of_account n) && leb (place_of_account n) count)) ≡ is_from
     (first_account b) count n
 accounts_in_a_row b n count hb hc =

@@ -1,7 +1,7 @@
 -- Tables on which the next record and the next opening can build, as those of every log are.
 use Rattle.std.proofs.Common.{◌≡◌, ℕ, suc, ◌+◌, ◌<◌, ◌≤◌, Bool, true, false, cond, leb, List, length, Option}
 use Rattle.std.proofs.Common.{Some, None, refl, sym, ap, ◌∙◌, arith}
-use Rattle.std.specs.Prelude.{is_some, ◌&&◌}
+use Rattle.std.specs.Prelude.{ℤ, is_some, ◌&&◌, option_and_then}
 use Rattle.std.specs.Option.{option_map}
 use Rattle.std.proofs.lemmas.Bool.{le-leb}
 use Rattle.posting_rules.specs.declared.rows.BranchRow.{BranchRow}
@@ -10,8 +10,8 @@ use Rattle.posting_rules.specs.Entries.{DecidedRequest, account_balance, teller_
 use Rattle.posting_rules.specs.Entries.{decided}
 use Rattle.posting_rules.specs.Tables.{Tables, HasRows, AreTablesOf, HasKeys, row_at, branch_key, teller_key}
 use Rattle.posting_rules.specs.Tables.{account_key, history_key, request_key, branch_row_of, teller_row_of}
-use Rattle.posting_rules.specs.Tables.{account_row_of}
-use Rattle.posting_rules.specs.LookUps.{terms_in, terms_of_branch}
+use Rattle.posting_rules.specs.Tables.{account_row_of, floor_key, floor_row_of}
+use Rattle.posting_rules.specs.LookUps.{terms_in, floor_in, terms_of_branch}
 use Rattle.posting_rules.specs.Sound.{AreSound}
 use Rattle.posting_rules.specs.Numbering.{branch_of_teller, branch_of_account, place_of_account, first_teller}
 use Rattle.posting_rules.specs.Numbering.{first_account}
@@ -19,7 +19,7 @@ use Rattle.posting_rules.proofs.Looked.{terms_shown}
 use Rattle.posting_rules.proofs.Stepped.{request_row_past, history_row_past}
 use Rattle.posting_rules.specs.declared.limits.TheConstants.{ACCOUNTS_PER_BRANCH}
 
--- the next ordinal is free, and the tellers and the accounts are those of the branches
+-- the next ordinal is free, the tellers and the accounts are those of the branches, and only these have floors
 pub record AreReady (t : Tables) : Type 0 where
   pub next_request : row_at request_key t.requests (t.decided + 1) ≡ None
   pub next_posting : row_at history_key t.history (t.decided + 1) ≡ None
@@ -28,11 +28,13 @@ pub record AreReady (t : Tables) : Type 0 where
   pub its_accounts : (n : ℕ) → 1 ≤ n
       → is_some (row_at account_key t.accounts n) ≡ is_within (place_of_account n)
       (terms_in t (branch_of_account n))
+  pub its_floors : (b : ℕ) → row_at branch_key t.branches b ≡ None → row_at floor_key t.floors b ≡ None
   pub branches : HasKeys branch_key t.branches
   pub tellers : HasKeys teller_key t.tellers
   pub accounts : HasKeys account_key t.accounts
   pub history : HasKeys history_key t.history
   pub requests : HasKeys request_key t.requests
+  pub floors : HasKeys floor_key t.floors
 
 -- sound tables are
 pub ready_sound : (t : Tables) → AreSound t → AreReady t
@@ -41,11 +43,13 @@ ready_sound t sound = let u = sound.undamaged in record {
   next_posting = u.next_posting;
   its_tellers = u.tellers;
   its_accounts = u.accounts;
+  its_floors = u.floors;
   branches = sound.branches;
   tellers = sound.tellers;
   accounts = sound.accounts;
   history = sound.history;
   requests = sound.requests;
+  floors = sound.floors;
 }
 
 -- ---- the tables of a log
@@ -75,6 +79,12 @@ next_posting t opened es s =
     ap (λ (o : ℕ). row_at history_key t.history o) next ∙ s.history (suc (length es)) ∙ history_row_past es
     (length es) (omega arith)
 
+-- a branch that has no row has no floor
+unopened : (o : Option Terms) (b : ℕ) (z : ℤ) → option_map (branch_row_of b z) o ≡ None
+    → option_map (floor_row_of b) (option_and_then (λ n. n.floor) o) ≡ None
+unopened None b z h = refl
+unopened (Some n) b z h = absurd cc
+
 -- the tables of a log are, of commands or not
 pub ready_shown : (t : Tables) (log : List Command) → AreTablesOf t log → AreReady t
 ready_shown t log shows =
@@ -98,11 +108,14 @@ ready_shown t log shows =
           ∙ there (leb 1 n) (is_within (place_of_account n) (open_ (branch_of_account n)))
           (account_row_of n (account_balance es n)) (le-leb _ _ h)
           ∙ ap (is_within (place_of_account n)) (sym (terms_shown t open_ es (branch_of_account n) s));
+      its_floors = λ b h.
+          s.floors b ∙ unopened (open_ b) b (branch_balance es b) (sym (s.branches b) ∙ h);
       branches = s.branch_keys;
       tellers = s.teller_keys;
       accounts = s.account_keys;
       history = s.history_keys;
       requests = s.request_keys;
+      floors = s.floor_keys;
     }
 
 -- ---- the numbers of a branch that has no row
@@ -111,10 +124,10 @@ is_none : {A : Type 0} (o : Option A) → is_some o ≡ false → o ≡ None
 is_none None h = refl
 is_none (Some x) h = absurd cc
 
-none_within : (place : ℕ) (o : Option BranchRow) → o ≡ None
-    → is_within place (option_map terms_of_branch o) ≡ false
-none_within place None e = refl
-none_within place (Some r) e = absurd cc
+none_within : (place : ℕ) (floor : Option ℤ) (o : Option BranchRow) → o ≡ None
+    → is_within place (option_map (terms_of_branch floor) o) ≡ false
+none_within place floor None e = refl
+none_within place floor (Some r) e = absurd cc
 
 branch_of_its_teller : (b n : ℕ) → 1 ≤ b → n < 10 → branch_of_teller (first_teller b + n) ≡ b
 branch_of_its_teller b n low lt = omega arith
@@ -142,5 +155,5 @@ no_account t b n ready low none lt =
     ready.its_accounts (first_account b + n) (omega arith)
     ∙ ap (λ (x : ℕ). is_within (place_of_account (first_account b + n)) (terms_in t x))
     (branch_of_its_account b n low lt)
-    ∙ none_within (place_of_account (first_account b + n)) (row_at branch_key t.branches b) none
+    ∙ none_within (place_of_account (first_account b + n)) (floor_in t b) (row_at branch_key t.branches b) none
     )

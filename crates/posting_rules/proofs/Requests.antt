@@ -45,7 +45,7 @@ new_record opened es m (Err fault) all = all
 
 pub are_new : (log : List Command) → AreNew (decided log)
 are_new [] = tt
-are_new (Open b count ∷ log) = are_new log
+are_new (Open b terms ∷ log) = are_new log
 are_new (Post m bytes ∷ log) = new_record (λ b. opened log b) (decided log) m (request_of bytes) (are_new log)
 
 -- ---- tests of teller and number

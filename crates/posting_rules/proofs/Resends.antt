@@ -21,7 +21,7 @@ opened_behind : (log cs : List Command) → ArePosts cs
     → ◌≡◌ {A = ℕ → Option Terms} (λ b. opened (behind log cs) b)
     (λ b. opened log b)
 opened_behind log [] h = refl
-opened_behind log (Open b n ∷ cs) h = absurd h
+opened_behind log (Open b terms ∷ cs) h = absurd h
 opened_behind log (Post m r ∷ cs) h = opened_behind (Post m r ∷ log) cs h
 
 -- what is decided behind a log depends on what is open and decided there
@@ -29,7 +29,7 @@ decided_same : (one two cs : List Command) → ArePosts cs → ◌≡◌ {A = �
     (λ b. opened two b) → decided one ≡ decided two
     → decided (behind one cs) ≡ decided (behind two cs)
 decided_same one two [] h eo ed = ed
-decided_same one two (Open b n ∷ cs) h eo ed = absurd h
+decided_same one two (Open b terms ∷ cs) h eo ed = absurd h
 decided_same one two (Post m r ∷ cs) h eo ed =
     decided_same (Post m r ∷ one) (Post m r ∷ two) cs h eo
     (ap (λ (o : ℕ → Option Terms). with_record m (request_of r) o (decided one)) eo
@@ -37,18 +37,18 @@ decided_same one two (Post m r ∷ cs) h eo ed =
 
 pub posts_both : (xs ys : List Command) → ArePosts xs → ArePosts ys → ArePosts (xs ++ ys)
 posts_both [] ys a b = b
-posts_both (Open x n ∷ xs) ys a b = absurd a
+posts_both (Open branch terms ∷ xs) ys a b = absurd a
 posts_both (Post m r ∷ xs) ys a b = posts_both xs ys a b
 
 posts_end : (xs ys : List Command) → ArePosts (xs ++ ys) → ArePosts ys
 posts_end [] ys h = h
-posts_end (Open x n ∷ xs) ys h = absurd h
+posts_end (Open b terms ∷ xs) ys h = absurd h
 posts_end (Post m r ∷ xs) ys h = posts_end xs ys h
 
 -- what is kept of posts are posts
 posts_skip : (p r f : List Command) → ArePosts r → Skips p r f → ArePosts f
 posts_skip p [] f h s = subst ArePosts (sym s) tt
-posts_skip p (Open b n ∷ r) f h s = absurd h
+posts_skip p (Open b terms ∷ r) f h s = absurd h
 posts_skip p (Post m bytes ∷ r) f h (inl s) = posts_skip p r f h s.1
 posts_skip p (Post m bytes ∷ r) f h (inr s) = subst ArePosts (sym s.1) (posts_skip p r s.0 h s.2)
 
@@ -74,7 +74,7 @@ adds_nothing log p q m bytes at hp hq =
 
 posts_start : (xs ys : List Command) → ArePosts (xs ++ ys) → ArePosts xs
 posts_start [] ys h = tt
-posts_start (Open x n ∷ xs) ys h = absurd h
+posts_start (Open b terms ∷ xs) ys h = absurd h
 posts_start (Post m r ∷ xs) ys h = posts_start xs ys h
 
 -- it gets its reply again, at its place
@@ -102,7 +102,7 @@ left_out : (log p q r f : List Command) → ArePosts p → ArePosts q → ArePos
     → decided (behind (behind (behind log p) q) r) ≡ decided (behind (behind (behind log p) q) f)
 left_out log p q [] f hp hq hr s = ap (λ (x : List Command). decided (behind (behind (behind log p) q) x))
     (sym s)
-left_out log p q (Open b n ∷ r) f hp hq hr s = absurd hr
+left_out log p q (Open b terms ∷ r) f hp hq hr s = absurd hr
 left_out log p q (Post m bytes ∷ r) f hp hq hr (inl s) =
     let now = behind (behind log p) q in
     decided_same (Post m bytes ∷ now) now r hr refl ((adds_nothing log p q m bytes s.0 hp hq).1)
@@ -136,7 +136,7 @@ shows_left_out t log p r f hp hr s shows =
 
 skip_are : (p r f : List Command) → Skips p r f → AreCommands r → AreCommands f
 skip_are p [] f s are = subst AreCommands (sym s) tt
-skip_are p (Open b n ∷ r) f s are = absurd s
+skip_are p (Open b terms ∷ r) f s are = absurd s
 skip_are p (Post m bytes ∷ r) f (inl s) are = skip_are p r f s.1 are.1
 skip_are p (Post m bytes ∷ r) f (inr s) are = subst AreCommands (sym s.1) (are.0, skip_are p r s.0 s.2 are.1)
 

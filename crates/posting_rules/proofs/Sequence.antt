@@ -31,7 +31,7 @@ commands_both (c ∷ cs) ds all more = (all.0, commands_both cs ds all.1 more)
 pub replies_to-append : (log cs ds : List Command)
     → replies_to log (cs ++ ds) ≡ replies_to log cs ++ replies_to (behind log cs) ds
 replies_to-append log [] ds = refl
-replies_to-append log (Open b n ∷ cs) ds = replies_to-append (Open b n ∷ log) cs ds
+replies_to-append log (Open b terms ∷ cs) ds = replies_to-append (Open b terms ∷ log) cs ds
 replies_to-append log (Post m r ∷ cs) ds = ap (λ (t : List (List ℕ)). reply_spelling (reply log r) ∷ t)
     (replies_to-append (Post m r ∷ log) cs ds)
 
@@ -77,5 +77,5 @@ replies_one_more log m rs i before so_far after out lt inv is e =
 -- posts get a reply each
 pub one_reply_each : (log cs : List Command) → ArePosts cs → length (replies_to log cs) ≡ length cs
 one_reply_each log [] h = refl
-one_reply_each log (Open b n ∷ cs) h = absurd h
+one_reply_each log (Open b terms ∷ cs) h = absurd h
 one_reply_each log (Post m r ∷ cs) h = ap suc (one_reply_each (Post m r ∷ log) cs h)

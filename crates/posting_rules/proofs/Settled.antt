@@ -73,21 +73,22 @@ unchanged opened es r m h =
     (sym ((settled_says opened es r (reply_to (Ok r) opened es) h).1 m)) h
 
 room_is : (f : Found) (r : RequestFields) (t b : ℤ) → leb MAX_DECIDED f.decided ≡ false
-    → new_case f r t b ≡ cond (eqb r.branch (branch_of_teller r.teller)) (account_case f.account t b r.delta)
+    → new_case f r t b ≡ cond (eqb r.branch (branch_of_teller r.teller))
+    (account_case f.account f.floor t b r.delta)
     (Refused outcome.WrongBranch)
 room_is f r t b e = rw e refl
 
 -- a new request for which there is room
 new_settles : (opened : ℕ → Option Terms) (es : List DecidedRequest) (r : RequestFields) (m : ℕ) (same : Bool)
-    (account : Option ℤ) (t b : ℤ)
+    (account floor : Option ℤ) (t b : ℤ)
     → is_teller_open opened r.teller ≡ true
-    → Settles opened es r m (cond same (account_case account t b r.delta) (Refused outcome.WrongBranch))
-new_settles opened es r m false account t b up = decided_now opened es r m outcome.WrongBranch
+    → Settles opened es r m (cond same (account_case account floor t b r.delta) (Refused outcome.WrongBranch))
+new_settles opened es r m false account floor t b up = decided_now opened es r m outcome.WrongBranch
     (pos 0) _ up refl
-new_settles opened es r m true account t b up =
+new_settles opened es r m true account floor t b up =
     let P = Settles opened es r m in
-    by_account P account t b r.delta (decided_now opened es r m outcome.NoAccount (pos 0) _ up refl)
-    (λ a accounts.
+    by_account P account floor t b r.delta (decided_now opened es r m outcome.NoAccount (pos 0) _ up refl)
+    (decided_now opened es r m outcome.BelowFloor (pos 0) _ up refl) (λ a accounts above.
     by_posting P (plus_within a r.delta) (plus_within t r.delta) (plus_within b r.delta)
     (decided_now opened es r m outcome.OverLimit (pos 0) _ up refl)
     (λ x y w ex ey ew. decided_now opened es r m outcome.Posted x _ up refl))
@@ -114,7 +115,7 @@ open_settles opened es r m up None e =
             is_reply = ap (λ (v : Verdict). reply_in v r) is;
           })))
       | inr room ↦ subst (Settles opened es r m) (sym (new_is opened es r up e ∙ room_is f r _ _ room))
-          (new_settles opened es r m (eqb r.branch (branch_of_teller r.teller)) f.account _ _ up)
+          (new_settles opened es r m (eqb r.branch (branch_of_teller r.teller)) f.account f.floor _ _ up)
     ]
 
 settles : (opened : ℕ → Option Terms) (es : List DecidedRequest) (r : RequestFields) (m : ℕ)
@@ -158,7 +159,7 @@ stays_behind : (log after : List Command) (bytes : List ℕ) (out : ReplyFields)
     → IsReadSettled (λ b. opened log b) (decided log) (request_of bytes) out
     → IsReadSettled (λ b. opened (behind log after) b) (decided (behind log after)) (request_of bytes) out
 stays_behind log [] bytes out posts h = h
-stays_behind log (Open b n ∷ after) bytes out posts h = absurd posts
+stays_behind log (Open b terms ∷ after) bytes out posts h = absurd posts
 stays_behind log (Post m other ∷ after) bytes out posts h =
     stays_behind (Post m other ∷ log) after bytes out posts
     (read_stays (λ b. opened log b) (decided log) (request_of bytes) (request_of other) out m h)

@@ -13,7 +13,6 @@ use Rattle.message_records.proofs.Requests.{request_takes}
 use Rattle.posting_rules.specs.declared.judgments.Verdict.{Verdict}
 use Rattle.posting_rules.specs.declared.judgments.Verdict.TheVariants.{Unkept, Again, Refused, Posted}
 use Rattle.posting_rules.specs.Commands.{Command, Open, Post, IsCommand, AreCommands, opened, Terms}
-use Rattle.posting_rules.specs.Commands.{opened_with}
 use Rattle.posting_rules.specs.Kept.{is_kept_with}
 use Rattle.posting_rules.specs.Cases.{case_of, plus_within}
 use Rattle.posting_rules.specs.Entries.{DecidedRequest, facts, with_verdict, with_record, decided}
@@ -26,19 +25,18 @@ or_within : (P : Terms → Type 0) (o p : Option Terms) → IfSome o P → IfSom
 or_within P (Some n) p h k = h
 or_within P None p h k = k
 
--- an open branch and its count are those of an opening
+-- an open branch and what it was opened with are those of an opening
 pub open_within : (log : List Command) → AreCommands log → (b : ℕ)
-    → IfSome (opened log b) (λ n. IsCommand (Open b n.accounts))
+    → IfSome (opened log b) (λ n. IsCommand (Open b n))
 open_within [] are b = tt
 open_within (Post m bytes ∷ log) are b = open_within log are.1 b
-open_within (Open c count ∷ log) are b =
-    or_within (λ n. IsCommand (Open b n.accounts)) (opened log b)
-    (cond (eqb c b) (Some (opened_with count)) None)
+open_within (Open c terms ∷ log) are b =
+    or_within (λ n. IsCommand (Open b n)) (opened log b) (cond (eqb c b) (Some terms) None)
     (open_within log are.1 b) (here (eqb c b) refl)
   where
     here : (hit : Bool) → eqb c b ≡ hit
-        → IfSome (cond hit (Some (opened_with count)) None) (λ n. IsCommand (Open b n.accounts))
-    here true e = subst (λ (x : ℕ). IsCommand (Open x count)) (eqb-true c b e) are.0
+        → IfSome (cond hit (Some terms) None) (λ n. IsCommand (Open b n))
+    here true e = subst (λ (x : ℕ). IsCommand (Open x terms)) (eqb-true c b e) are.0
     here false e = tt
 
 -- ---- what is decided
@@ -74,7 +72,7 @@ keepable opened es r =
     by_teller P f.teller f r tt (λ z tellers.
     by_known P f.kept f r z.0 z.1 tt (λ a. tt) (λ new.
     by_new P f r z.0 z.1 tt (λ room. refl) (λ room its.
-    by_account P f.account z.0 z.1 r.delta refl (λ a accounts.
+    by_account P f.account f.floor z.0 z.1 r.delta refl refl (λ a accounts above.
     by_posting P (plus_within a r.delta) (plus_within z.0 r.delta) (plus_within z.1 r.delta) refl
     (λ x y w ex ey ew. tt)))))
 
@@ -101,6 +99,6 @@ sound_record opened es m bytes (Err fault) e is all = all
 -- every request that a log of commands decides is sound
 pub are_sound : (log : List Command) → AreCommands log → AreSound (decided log)
 are_sound [] are = tt
-are_sound (Open b count ∷ log) are = are_sound log are.1
+are_sound (Open b terms ∷ log) are = are_sound log are.1
 are_sound (Post m bytes ∷ log) are = sound_record (λ b. opened log b) (decided log) m bytes
     (request_of bytes) refl are.0 (are_sound log are.1)

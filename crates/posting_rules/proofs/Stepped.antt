@@ -17,6 +17,7 @@ use Rattle.posting_rules.specs.declared.rows.TellerRow.{TellerRow}
 use Rattle.posting_rules.specs.declared.rows.AccountRow.{AccountRow}
 use Rattle.posting_rules.specs.declared.rows.HistoryRow.{HistoryRow}
 use Rattle.posting_rules.specs.declared.rows.RequestRow.{RequestRow}
+use Rattle.posting_rules.specs.declared.rows.FloorRow.{FloorRow}
 use Rattle.posting_rules.specs.Commands.{Command, Post, opened, is_teller_open, is_account_open, Terms}
 use Rattle.posting_rules.specs.Numbering.{branch_of_teller}
 use Rattle.posting_rules.specs.Cases.{case_of, reply_in}
@@ -27,7 +28,7 @@ use Rattle.posting_rules.specs.Entries.{with_record, reply_to, decided, reply}
 use Rattle.posting_rules.specs.Tables.{Tables, HasRows, HasKeys, AreTablesOf, row_at, branch_key, teller_key}
 use Rattle.posting_rules.specs.Tables.{account_key, history_key, request_key, branch_row_of, teller_row_of}
 use Rattle.posting_rules.specs.Tables.{account_row_of, history_row, history_row_of, request_row}
-use Rattle.posting_rules.specs.Tables.{request_row_of}
+use Rattle.posting_rules.specs.Tables.{request_row_of, floor_key}
 use Rattle.posting_rules.specs.LookUps.{found_in}
 use Rattle.posting_rules.specs.Steps.{GainsRow, KeepsRefusal, KeepsPosting, IsStep, with_branch_balance}
 use Rattle.posting_rules.specs.Steps.{with_teller_balance, with_account_balance}
@@ -144,6 +145,7 @@ refusal_shown old new opened es m r o s h step =
       history = λ k. ap (λ (rows : List HistoryRow). row_at history_key rows k) step.history ∙ s.history k
           ∙ unposted_history es e h.unposted k;
       requests = requests_added old.requests new.requests es e step.requests s.requests;
+      floors = λ b. ap (λ (rows : List FloorRow). row_at floor_key rows b) step.floors ∙ s.floors b;
       branch_keys = subst (λ (rows : List BranchRow). HasKeys branch_key rows)
           (sym step.branches) s.branch_keys;
       teller_keys = subst (λ (rows : List TellerRow). HasKeys teller_key rows)
@@ -153,6 +155,7 @@ refusal_shown old new opened es m r o s h step =
       history_keys = subst (λ (rows : List HistoryRow). HasKeys history_key rows)
           (sym step.history) s.history_keys;
       request_keys = step.requests.keys;
+      floor_keys = subst (λ (rows : List FloorRow). HasKeys floor_key rows) (sym step.floors) s.floor_keys;
     }
 
 posting_shown : (old new : Tables) (opened : ℕ → Option Terms) (es : List DecidedRequest) (m : ℕ)
@@ -182,11 +185,13 @@ posting_shown old new opened es m r a t b s h step =
           (λ q. h.account_is.sum ∙ ap (λ (x : ℕ). account_balance es x +ℤ r.delta) (eqb-true _ _ q));
       history = history_added old.history new.history es e refl step.history s.history;
       requests = requests_added old.requests new.requests es e step.requests s.requests;
+      floors = λ n. ap (λ (rows : List FloorRow). row_at floor_key rows n) step.floors ∙ s.floors n;
       branch_keys = step.branches.keys;
       teller_keys = step.tellers.keys;
       account_keys = step.accounts.keys;
       history_keys = step.history.keys;
       request_keys = step.requests.keys;
+      floor_keys = subst (λ (rows : List FloorRow). HasKeys floor_key rows) (sym step.floors) s.floor_keys;
     }
 
 verdict_shown : (old new : Tables) (opened : ℕ → Option Terms) (es : List DecidedRequest) (m : ℕ)

@@ -7,28 +7,31 @@ use Rattle.message_records.specs.Records.{RequestFields}
 use Rattle.posting_rules.specs.declared.judgments.Verdict.{Verdict}
 use Rattle.posting_rules.specs.declared.judgments.Verdict.TheVariants.{Unkept, Again, Refused, Posted}
 use Rattle.posting_rules.specs.declared.rows.RequestRow.{RequestRow}
-use Rattle.posting_rules.specs.Commands.{Command, AreCommands, opened_with}
+use Rattle.posting_rules.specs.declared.rows.FloorRow.{FloorRow}
+use Rattle.posting_rules.specs.Commands.{Command, AreCommands, Terms}
 use Rattle.posting_rules.specs.Cases.{case_of, plus_within}
 use Rattle.posting_rules.specs.Entries.{DecidedRequest, refused_entry, posted_entry}
-use Rattle.posting_rules.specs.Tables.{Tables, AreTablesOf, row_at, branch_key, teller_key, account_key}
+use Rattle.posting_rules.specs.Tables.{Tables, AreTablesOf, HasKeys, row_at, branch_key, teller_key}
+use Rattle.posting_rules.specs.Tables.{account_key}
 use Rattle.posting_rules.specs.Tables.{history_key, request_key, branch_row_of, request_row_of}
-use Rattle.posting_rules.specs.Tables.{history_row_of}
+use Rattle.posting_rules.specs.Tables.{history_row_of, floor_key, floor_row_of}
 use Rattle.posting_rules.specs.LookUps.{both_of, balance_of_branch, balance_of_teller, balance_of_account}
 use Rattle.posting_rules.specs.LookUps.{found_in}
-use Rattle.posting_rules.specs.Steps.{GainsRow, AddsRows, KeepsRefusal, KeepsPosting, IsStep, OpensBranch}
+use Rattle.posting_rules.specs.Steps.{GainsRow, AddsRows, AddsFloor, KeepsRefusal, KeepsPosting, IsStep}
+use Rattle.posting_rules.specs.Steps.{OpensBranch}
 use Rattle.posting_rules.specs.Numbering.{branch_of_teller, first_teller, first_account}
 use Rattle.posting_rules.specs.Steps as steps
 use Rattle.posting_rules.proofs.Undamaged.{undamaged}
 use Rattle.posting_rules.proofs.Verdicts.{by_posting, by_account, by_new, by_known, by_teller}
 use Rattle.posting_rules.specs.Changes.{rows_put, new_teller, new_account, with_decided, with_branch_balance}
 use Rattle.posting_rules.specs.Changes.{with_teller_balance, with_account_balance, with_branch, with_teller}
-use Rattle.posting_rules.specs.Changes.{with_account, with_history, with_request}
+use Rattle.posting_rules.specs.Changes.{with_account, with_history, with_request, with_floor, floor_put}
 use Rattle.posting_rules.specs.Sound.{AreSound}
 use Rattle.posting_rules.specs.Changes.{tables_kept, tables_moved, tables_posted, tables_after, with_tellers}
 use Rattle.posting_rules.specs.Changes.{with_accounts, tables_opened, HasRowsOf}
 use Rattle.posting_rules.proofs.Ready.{AreReady, ready_sound, no_teller, no_account}
 use Rattle.posting_rules.proofs.RowChanges.{row_changes, row_adds, rows_add, next_is_free}
-use Rattle.posting_rules.specs.declared.limits.TheConstants.{MOST_ACCOUNTS}
+use Rattle.posting_rules.specs.declared.limits.TheConstants.{MAX_ACCOUNTS}
 
 -- the tables that a log of commands leads to are sound
 pub sound_tables : (t : Tables) (log : List Command) → AreCommands log → AreTablesOf t log → AreSound t
@@ -39,6 +42,7 @@ sound_tables t log are shows = record {
   accounts = shows.rows.account_keys;
   history = shows.rows.history_keys;
   requests = shows.rows.request_keys;
+  floors = shows.rows.floor_keys;
 }
 
 -- ---- what is decided
@@ -55,6 +59,7 @@ refused_is t e ready = record {
   history = refl;
   requests = row_adds request_key t.requests
       (request_row_of (t.decided + 1) e) ready.requests ready.next_request;
+  floors = refl;
 }
 
 -- the tables of a posting
@@ -74,6 +79,7 @@ posted_is t e teller branch ready = record {
       (history_row_of (t.decided + 1) e) ready.history ready.next_posting;
   requests = row_adds request_key t.requests
       (request_row_of (t.decided + 1) e) ready.requests ready.next_request;
+  floors = refl;
 }
 
 -- the tables of any verdict
@@ -124,7 +130,7 @@ posted_rows t r a te b =
     by_teller P f.teller f r (λ e. absurd cc) (λ z tellers.
     by_known P f.kept f r z.0 z.1 (λ e. absurd cc) (λ reply e. absurd cc) (λ new.
     by_new P f r z.0 z.1 (λ e. absurd cc) (λ room e. absurd cc) (λ room its.
-    by_account P f.account z.0 z.1 r.delta (λ e. absurd cc) (λ x accounts.
+    by_account P f.account f.floor z.0 z.1 r.delta (λ e. absurd cc) (λ e. absurd cc) (λ x accounts above.
     by_posting P (plus_within x r.delta) (plus_within z.0 r.delta) (plus_within z.1 r.delta) (λ e. absurd cc)
     (λ u v w eu ev ew e.
     let two = both_there (option_map balance_of_teller its_teller)
@@ -139,20 +145,27 @@ posted_rows t r a te b =
 
 -- ---- an opening
 
+-- the floor that is put in
+floor_adds : (b : ℕ) (floor : Option ℤ) (rows : List FloorRow) → HasKeys floor_key rows
+    → row_at floor_key rows b ≡ None → AddsFloor b floor rows (floor_put b floor rows)
+floor_adds b None rows keys free = refl
+floor_adds b (Some lowest) rows keys free = row_adds floor_key rows (floor_row_of b lowest) keys free
+
 -- the tables of an opening
-pub opens_is : (t : Tables) (b count : ℕ) → AreReady t → 1 ≤ b → count ≤ MOST_ACCOUNTS
+pub opens_is : (t : Tables) (b : ℕ) (terms : Terms) → AreReady t → 1 ≤ b → terms.accounts ≤ MAX_ACCOUNTS
     → row_at branch_key t.branches b ≡ None
-    → OpensBranch t (tables_opened t b count) b count
-unfolding with_branch with_tellers with_accounts
-opens_is t b count ready low most none = record {
+    → OpensBranch t (tables_opened t b terms) b terms
+unfolding with_branch with_tellers with_accounts with_floor
+opens_is t b terms ready low most none = record {
   decided = refl;
-  branches = row_adds branch_key t.branches (branch_row_of b (pos 0) (opened_with count)) ready.branches none;
+  branches = row_adds branch_key t.branches (branch_row_of b (pos 0) terms) ready.branches none;
   tellers = rows_add teller_key new_teller (first_teller b) 10 t.tellers (λ _. refl) ready.tellers
       (λ n lt. no_teller t b n ready low none lt);
-  accounts = rows_add account_key new_account (first_account b) count t.accounts (λ _. refl) ready.accounts
-      (λ n lt. no_account t b n ready low none (omega arith));
+  accounts = rows_add account_key new_account (first_account b) terms.accounts t.accounts (λ _. refl)
+      ready.accounts (λ n lt. no_account t b n ready low none (omega arith));
   history = refl;
   requests = refl;
+  floors = floor_adds b terms.floor t.floors ready.floors (ready.its_floors b none);
 }
 
 -- no tellers and no accounts more
@@ -176,13 +189,13 @@ unfolding with_account with_accounts
 one_more_account first n t = refl
 
 -- while an opening puts its tellers in, the next of them is free
-pub opening_teller_is_free : (t : Tables) (b count n : ℕ) → AreSound t → 1 ≤ b
+pub opening_teller_is_free : (t : Tables) (b : ℕ) (terms : Terms) (n : ℕ) → AreSound t → 1 ≤ b
     → row_at branch_key t.branches b ≡ None → n < 10
     → row_at teller_key (with_tellers (first_teller b) n
-    (with_branch (branch_row_of b (pos 0) (opened_with count)) t)).tellers (first_teller b + n)
+    (with_branch (branch_row_of b (pos 0) terms) t)).tellers (first_teller b + n)
     ≡ None
 unfolding with_branch with_tellers
-opening_teller_is_free t b count n sound low none lt =
+opening_teller_is_free t b terms n sound low none lt =
     let ready = ready_sound t sound in
     next_is_free teller_key new_teller (first_teller b) n t.tellers
     (rows_put teller_key new_teller (first_teller b) n t.tellers)
@@ -191,17 +204,29 @@ opening_teller_is_free t b count n sound low none lt =
     (no_teller t b n ready low none lt)
 
 -- and while it puts its accounts in, the next of these
-pub opening_account_is_free : (t : Tables) (b count tellers n : ℕ) → AreSound t → 1 ≤ b
-    → count ≤ MOST_ACCOUNTS
-    → row_at branch_key t.branches b ≡ None → n < count
-    → let staffed = with_tellers (first_teller b) tellers
-    (with_branch (branch_row_of b (pos 0) (opened_with count)) t) in
+pub opening_account_is_free : (t : Tables) (b : ℕ) (terms : Terms) (tellers n : ℕ) → AreSound t → 1 ≤ b
+    → terms.accounts ≤ MAX_ACCOUNTS
+    → row_at branch_key t.branches b ≡ None → n < terms.accounts
+    → let staffed = with_tellers (first_teller b) tellers (with_branch (branch_row_of b (pos 0) terms) t) in
     row_at account_key (with_accounts (first_account b) n staffed).accounts (first_account b + n) ≡ None
 unfolding with_branch with_tellers with_accounts
-opening_account_is_free t b count tellers n sound low most none lt =
+opening_account_is_free t b terms tellers n sound low most none lt =
     let ready = ready_sound t sound in
     next_is_free account_key new_account (first_account b) n t.accounts
     (rows_put account_key new_account (first_account b) n t.accounts)
     (rows_add account_key new_account (first_account b) n t.accounts (λ _. refl) ready.accounts
     (λ k below. no_account t b k ready low none (omega arith)))
     (no_account t b n ready low none (omega arith))
+
+-- and behind all these, so is its floor
+pub opening_floor_is_free : (t : Tables) (b : ℕ) (terms : Terms) (tellers accounts : ℕ) → AreSound t
+    → row_at branch_key t.branches b ≡ None
+    → row_at floor_key (with_accounts (first_account b) accounts (with_tellers (first_teller b) tellers
+    (with_branch (branch_row_of b (pos 0) terms) t))).floors b ≡ None
+unfolding with_branch with_tellers with_accounts
+opening_floor_is_free t b terms tellers accounts sound none = sound.undamaged.floors b none
+
+-- a branch without a floor adds none
+pub no_floor_more : (b : ℕ) (t : Tables) → t ≡ with_floor b None t
+unfolding with_floor
+no_floor_more b t = refl

@@ -1,7 +1,7 @@
 -- The tables of a log of commands are undamaged.
 use Rattle.std.proofs.Common.{◌≡◌, ℕ, ◌+◌, ◌*◌, ◌<◌, ◌≤◌, true, cond, eqb, leb, List, [], ◌∷◌, length, Option}
-use Rattle.std.proofs.Common.{Some, None, sym, subst, ◌∙◌, arith, inl, inr}
-use Rattle.std.specs.Prelude.{ℤ, nat_abs, is_some, ◌&&◌, IfSome}
+use Rattle.std.proofs.Common.{Some, None, sym, ap, subst, ◌∙◌, arith, inl, inr}
+use Rattle.std.specs.Prelude.{ℤ, ◌≤ℤ◌, nat_abs, is_some, ◌&&◌, IfSome, option_and_then}
 use Rattle.std.specs.List.{Contains}
 use Rattle.std.specs.Option.{option_map}
 use Rattle.std.proofs.lemmas.Bool.{eqb-true, leb-true}
@@ -15,8 +15,9 @@ use Rattle.posting_rules.specs.declared.rows.TellerRow.{TellerRow}
 use Rattle.posting_rules.specs.declared.rows.AccountRow.{AccountRow}
 use Rattle.posting_rules.specs.declared.rows.HistoryRow.{HistoryRow}
 use Rattle.posting_rules.specs.declared.rows.RequestRow.{RequestRow}
+use Rattle.posting_rules.specs.declared.rows.FloorRow.{FloorRow}
 use Rattle.posting_rules.specs.Commands.{Command, Open, IsCommand, AreCommands, opened, is_within}
-use Rattle.posting_rules.specs.Commands.{is_teller_open, is_account_open, Terms}
+use Rattle.posting_rules.specs.Commands.{is_teller_open, is_account_open, Terms, IsFloor}
 use Rattle.posting_rules.specs.Numbering.{branch_of_teller, branch_of_account, place_of_account}
 use Rattle.posting_rules.specs.Entries.{DecidedRequest, is_posted, account_balance, teller_balance}
 use Rattle.posting_rules.specs.Entries.{branch_balance}
@@ -25,12 +26,16 @@ use Rattle.posting_rules.specs.Tables.{Tables, AreTablesOf, HasKeys, row_at, bra
 use Rattle.posting_rules.specs.Tables.{account_key}
 use Rattle.posting_rules.specs.Tables.{history_key, request_key, branch_row_of, teller_row_of, account_row_of}
 use Rattle.posting_rules.specs.Tables.{history_row, history_row_of, request_row, request_row_of}
+use Rattle.posting_rules.specs.Tables.{floor_key, floor_row_of}
+use Rattle.posting_rules.specs.LookUps.{floor_in}
 use Rattle.posting_rules.specs.Damage.{IsSoundBranch, IsSoundTeller, IsSoundAccount, IsSoundRequest}
-use Rattle.posting_rules.specs.Damage.{IsSoundPosting, FieldsAreInRange, IsUndamaged}
+use Rattle.posting_rules.specs.Damage.{IsSoundPosting, IsSoundFloor, FieldsAreInRange, IsUndamaged}
 use Rattle.posting_rules.proofs.Keyed.{by_test}
 use Rattle.posting_rules.proofs.Verdicts.{when}
 use Rattle.posting_rules.proofs.NamedOpen.{both, some_within}
 use Rattle.posting_rules.proofs.Ready.{ready_shown}
+use Rattle.posting_rules.proofs.Looked.{floor_shown}
+use Rattle.posting_rules.proofs.AboveFloors.{stays_above}
 use Rattle.posting_rules.proofs.Totals.{each_under_its_key}
 use Rattle.posting_rules.proofs.BalanceLimits.{stays_within}
 use Rattle.posting_rules.proofs.SoundEntries.{IsSoundEntry, AreSound, few_enough, open_within, are_sound}
@@ -47,7 +52,7 @@ row_at-contained {R} key rows r keys has =
 
 -- the row of an open branch
 branch_sound : (o : Option Terms) (b : ℕ) (z : ℤ) (r : BranchRow)
-    → IfSome o (λ n. IsCommand (Open b n.accounts)) → nat_abs z ≤ MAX_BALANCE
+    → IfSome o (λ n. IsCommand (Open b n)) → nat_abs z ≤ MAX_BALANCE
     → option_map (branch_row_of b z) o ≡ Some r → IsSoundBranch r
 branch_sound None b z r h limit e = absurd cc
 branch_sound (Some n) b z r h limit e =
@@ -55,7 +60,7 @@ branch_sound (Some n) b z r h limit e =
     subst IsSoundBranch is (record { some = h.0; most = h.1; few = h.2; many = h.3; balance = limit })
 
 -- a branch that is open has one of the numbers of branches
-number_within : (o : Option Terms) (b : ℕ) → IfSome o (λ n. IsCommand (Open b n.accounts)) → is_some o ≡ true
+number_within : (o : Option Terms) (b : ℕ) → IfSome o (λ n. IsCommand (Open b n)) → is_some o ≡ true
     → b ≤ LAST_BRANCH
 number_within (Some n) b h e = h.1
 number_within None b h e = absurd cc
@@ -69,7 +74,7 @@ last_account n h = omega arith
 
 -- the row of an open teller
 teller_sound : (opened : ℕ → Option Terms) (n : ℕ) (z : ℤ) (r : TellerRow)
-    → ((b : ℕ) → IfSome (opened b) (λ k. IsCommand (Open b k.accounts))) → nat_abs z ≤ MAX_BALANCE
+    → ((b : ℕ) → IfSome (opened b) (λ k. IsCommand (Open b k))) → nat_abs z ≤ MAX_BALANCE
     → cond (is_teller_open opened n) (Some (teller_row_of n z)) None ≡ Some r → IsSoundTeller r
 teller_sound opened n z r open_ limit e =
     let is = when (is_teller_open opened n) (teller_row_of n z) r e in
@@ -84,7 +89,7 @@ teller_sound opened n z r open_ limit e =
 
 -- the row of an open account
 account_sound : (opened : ℕ → Option Terms) (n : ℕ) (z : ℤ) (r : AccountRow)
-    → ((b : ℕ) → IfSome (opened b) (λ k. IsCommand (Open b k.accounts))) → nat_abs z ≤ MAX_BALANCE
+    → ((b : ℕ) → IfSome (opened b) (λ k. IsCommand (Open b k))) → nat_abs z ≤ MAX_BALANCE
     → cond (is_account_open opened n) (Some (account_row_of n z)) None ≡ Some r → IsSoundAccount r
 account_sound opened n z r open_ limit e =
     let is = when (is_account_open opened n) (account_row_of n z) r e in
@@ -97,6 +102,33 @@ account_sound opened n z r open_ limit e =
       most = last_account n home;
       balance = limit;
     })
+
+-- the account of an open account's row isn't below the floor of its branch
+account_above : (t : Tables) (log : List Command) (r : AccountRow) → AreCommands log → AreTablesOf t log
+    → row_at account_key t.accounts r.account ≡ Some r
+    → IfSome (floor_in t (branch_of_account r.account)) (λ floor. floor ≤ℤ r.balance)
+account_above t log r are shows e =
+    let n = r.account in
+    let open_ = λ (b : ℕ). opened log b in
+    let z = account_balance (decided log) n in
+    let is = when (is_account_open open_ n) (account_row_of n z) r (sym (shows.rows.accounts n) ∙ e) in
+    let floor = floor_shown t open_ (decided log) (branch_of_account n) shows.rows in
+    let balance : z ≡ r.balance = ap (λ (x : AccountRow). x.balance) is.1 in
+    subst (λ (x : ℤ). IfSome (floor_in t (branch_of_account n)) (λ floor. floor ≤ℤ x)) balance
+    (subst (λ (o : Option ℤ). IfSome o (λ floor. floor ≤ℤ z)) (sym floor) (stays_above log are n))
+
+-- the row of a floor
+floor_sound : (o : Option Terms) (b : ℕ) (r : FloorRow) → IfSome o (λ n. IsCommand (Open b n))
+    → option_map (floor_row_of b) (option_and_then (λ n. n.floor) o) ≡ Some r → IsSoundFloor r
+floor_sound None b r h e = absurd cc
+floor_sound (Some n) b r h e = by_floor n.floor h.4 e
+  where
+    by_floor : (floor : Option ℤ) → IfSome floor IsFloor → option_map (floor_row_of b) floor ≡ Some r
+        → IsSoundFloor r
+    by_floor None its same = absurd cc
+    by_floor (Some z) its same =
+        let is : floor_row_of b z ≡ r = cc in
+        subst IsSoundFloor is (record { some = h.0; most = h.1; lowest = its })
 
 -- ---- requests and history
 
@@ -175,6 +207,9 @@ undamaged t log are shows =
       decided = subst (λ n. n ≤ MAX_DECIDED) (sym s.decided) (few_enough es all);
       tellers = ready.its_tellers;
       accounts = ready.its_accounts;
+      floors = ready.its_floors;
+      above = λ r has.
+          account_above t log r are shows (row_at-contained account_key t.accounts r s.account_keys has);
       each_branch = λ r has.
           branch_sound (open_ r.branch) r.branch (branch_balance es r.branch) r (open_within log are r.branch)
           (within.branches r.branch)
@@ -187,6 +222,9 @@ undamaged t log are shows =
           account_sound open_ r.account (account_balance es r.account) r (open_within log are)
           (within.accounts r.account)
           (sym (s.accounts r.account) ∙ row_at-contained account_key t.accounts r s.account_keys has);
+      each_floor = λ r has.
+          floor_sound (open_ r.branch) r.branch r (open_within log are r.branch)
+          (sym (s.floors r.branch) ∙ row_at-contained floor_key t.floors r s.floor_keys has);
       each_request = λ r has.
           request_sound es r.ordinal r all
           (sym (s.requests r.ordinal) ∙ row_at-contained request_key t.requests r s.request_keys has);

@@ -1,8 +1,9 @@
 -- What a verdict says of what was known.
 use Rattle.std.proofs.Common.{◌≡◌, ℕ, ◌<◌, ◌≤◌, Bool, true, false, cond, eqb, leb, List, length, Option, Some}
-use Rattle.std.proofs.Common.{None, refl, sym, ap, inl, inr}
-use Rattle.std.specs.Prelude.{ℤ, ◌+ℤ◌, nat_abs}
+use Rattle.std.proofs.Common.{None, refl, sym, ap, subst, arith, inl, inr}
+use Rattle.std.specs.Prelude.{ℤ, ◌+ℤ◌, ◌≤ℤ◌, nat_abs, IfSome}
 use Rattle.std.proofs.lemmas.Bool.{eqb-true, leb-true, leb-false}
+use Rattle.std.proofs.lemmas.Int.{ints}
 use Rattle.posting_rules.specs.declared.limits.TheConstants.{MAX_DECIDED}
 use Rattle.message_records.specs.declared.limits.TheConstants.{MAX_BALANCE}
 use Rattle.message_records.specs.declared.records.Outcome.{Outcome}
@@ -13,10 +14,10 @@ use Rattle.posting_rules.specs.declared.judgments.Found.{Found}
 use Rattle.posting_rules.specs.declared.judgments.Verdict.{Verdict}
 use Rattle.posting_rules.specs.declared.judgments.Verdict.TheVariants.{Unkept, Again, Refused, Posted}
 use Rattle.posting_rules.specs.Kept.{KeptFields}
-use Rattle.posting_rules.specs.Commands.{is_teller_open, is_account_open, Terms}
-use Rattle.posting_rules.specs.Numbering.{branch_of_teller}
+use Rattle.posting_rules.specs.Commands.{is_teller_open, is_account_open, Terms, floor_of}
+use Rattle.posting_rules.specs.Numbering.{branch_of_teller, branch_of_account}
 use Rattle.posting_rules.specs.Cases.{case_of, teller_case, known_case, new_case, account_case, posting_of}
-use Rattle.posting_rules.specs.Cases.{plus_within, is_same}
+use Rattle.posting_rules.specs.Cases.{plus_within, is_below, is_same}
 use Rattle.posting_rules.specs.Entries.{DecidedRequest, facts, kept, teller_balance, branch_balance}
 use Rattle.posting_rules.specs.Entries.{account_balance}
 use Rattle.posting_rules.proofs.Keyed.{by_test}
@@ -35,6 +36,7 @@ pub record IsPosting (opened : ℕ → Option Terms) (es : List DecidedRequest) 
   pub its_branch : r.branch ≡ branch_of_teller r.teller
   pub account_open : is_account_open opened r.account ≡ true
   pub account_is : IsSum (account_balance es r.account) r.delta account
+  pub above : IfSome (floor_of opened (branch_of_account r.account)) (λ floor. floor ≤ℤ account)
   pub teller_is : IsSum (teller_balance es r.teller) r.delta teller
   pub branch_is : IsSum (branch_balance es (branch_of_teller r.teller)) r.delta branch
 
@@ -58,6 +60,11 @@ plus_is x d y e =
       | inr f ↦ absurd (let h = rw f at e in cc)
     ]
 
+-- a balance that isn't below a floor is at least that
+pub is_above : (floor : Option ℤ) (z : ℤ) → is_below floor z ≡ false → IfSome floor (λ lowest. lowest ≤ℤ z)
+is_above None z e = tt
+is_above (Some lowest) z e = omega (arith, ints)
+
 -- a value that is there where a test passes
 pub when : {A : Type 0} (b : Bool) (x y : A) → cond b (Some x) None ≡ Some y → (b ≡ true) × (x ≡ y)
 when true x y e = (refl, cc)
@@ -72,16 +79,19 @@ module _ (P : Verdict → Type 0) where
   by_posting (Some x) None b other given = other
   by_posting (Some x) (Some y) None other given = other
 
-  pub by_account : (o : Option ℤ) (t b d : ℤ) → P (Refused outcome.NoAccount)
-      → ((a : ℤ) → o ≡ Some a → P (posting_of (plus_within a d) (plus_within t d) (plus_within b d)))
-      → P (account_case o t b d)
-  by_account None t b d other given = other
-  by_account (Some a) t b d other given = given a refl
+  pub by_account : (o floor : Option ℤ) (t b d : ℤ) → P (Refused outcome.NoAccount)
+      → P (Refused outcome.BelowFloor)
+      → ((a : ℤ) → o ≡ Some a → is_below floor (a +ℤ d) ≡ false
+      → P (posting_of (plus_within a d) (plus_within t d) (plus_within b d)))
+      → P (account_case o floor t b d)
+  by_account None floor t b d none below given = none
+  by_account (Some a) floor t b d none below given =
+      elim (by_test (is_below floor (a +ℤ d))) [ inl h ↦ rw h below | inr h ↦ rw h (given a refl h) ]
 
   pub by_new : (f : Found) (r : RequestFields) (t b : ℤ) → P (Unkept outcome.Full)
       → (f.decided < MAX_DECIDED → P (Refused outcome.WrongBranch))
       → (f.decided < MAX_DECIDED → r.branch ≡ branch_of_teller r.teller
-      → P (account_case f.account t b r.delta)) → P (new_case f r t b)
+      → P (account_case f.account f.floor t b r.delta)) → P (new_case f r t b)
   by_new f r t b full wrong right =
       elim (by_test (leb MAX_DECIDED f.decided)) [
         | inl h ↦ rw h full
@@ -114,7 +124,8 @@ verdict_is opened es r =
     by_teller P f.teller f r tt (λ z tellers.
     by_known P f.kept f r z.0 z.1 tt (λ a. tt) (λ new.
     by_new P f r z.0 z.1 tt (λ room. record { new = new; room = room; unposted = refl }) (λ room its.
-    by_account P f.account z.0 z.1 r.delta (record { new = new; room = room; unposted = refl }) (λ a accounts.
+    by_account P f.account f.floor z.0 z.1 r.delta (record { new = new; room = room; unposted = refl })
+    (record { new = new; room = room; unposted = refl }) (λ a accounts above.
     by_posting P (plus_within a r.delta) (plus_within z.0 r.delta) (plus_within z.1 r.delta)
     (record { new = new; room = room; unposted = refl }) (λ x y w ex ey ew.
     let open_t = when (is_teller_open opened r.teller)
@@ -127,6 +138,8 @@ verdict_is opened es r =
       its_branch = its;
       account_open = open_a.0;
       account_is = rw open_a.1 (plus_is a r.delta x ex);
+      above = subst (λ (z : ℤ). IfSome f.floor (λ floor. floor ≤ℤ z)) (sym (plus_is a r.delta x ex).sum)
+          (is_above f.floor (a +ℤ r.delta) above);
       teller_is = let e : teller_balance es r.teller ≡ z.0 = ap (λ (v : ℤ × ℤ). v.0) open_t.1 in rw e
           (plus_is z.0 r.delta y ey);
       branch_is = let e : branch_balance es (branch_of_teller r.teller) ≡ z.1 = ap

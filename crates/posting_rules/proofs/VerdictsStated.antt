@@ -1,10 +1,11 @@
 -- What the table of cases says of a request behind a log, by what stands before it.
 use Rattle.std.proofs.Common.{◌≡◌, ◌≢◌, ℕ, ◌<◌, ◌≤◌, Bool, true, false, cond, eqb, leb, List, length, Some}
 use Rattle.std.proofs.Common.{None, refl, sym, subst, ◌∙◌, arith, inl, inr}
-use Rattle.std.specs.Prelude.{ℤ, ◌+ℤ◌, nat_abs, ◌⊎◌, ◌&&◌}
+use Rattle.std.specs.Prelude.{ℤ, ◌+ℤ◌, ◌≤ℤ◌, nat_abs, ◌⊎◌, ◌&&◌, Option, IfSome, int_lt}
 use Rattle.std.specs.Ordering.{int_eq}
 use Rattle.std.proofs.lemmas.Bool.{eqb-true, eq-eqb, leb-true, le-leb}
 use Rattle.std.proofs.lemmas.Bool.Decides.{nat_tests, Decides-int_eq}
+use Rattle.std.proofs.lemmas.Int.{ints}
 use Rattle.posting_rules.specs.declared.limits.TheConstants.{MAX_DECIDED}
 use Rattle.message_records.specs.declared.limits.TheConstants.{MAX_BALANCE}
 use Rattle.message_records.specs.declared.records.Outcome.TheVariants as outcome
@@ -12,13 +13,15 @@ use Rattle.message_records.specs.Ranges.{cents_within}
 use Rattle.message_records.specs.Records.{RequestFields}
 use Rattle.posting_rules.specs.declared.judgments.Verdict.{Verdict}
 use Rattle.posting_rules.specs.declared.judgments.Verdict.TheVariants.{Unkept, Again, Refused, Posted}
-use Rattle.posting_rules.specs.Commands.{Command, opened, is_teller_open, is_account_open}
-use Rattle.posting_rules.specs.Numbering.{branch_of_teller}
+use Rattle.posting_rules.specs.Commands.{Command, opened, is_teller_open, is_account_open, floor_of}
+use Rattle.posting_rules.specs.Numbering.{branch_of_teller, branch_of_account}
 use Rattle.posting_rules.specs.Kept.{KeptFields}
-use Rattle.posting_rules.specs.Cases.{case_of, new_case, posting_of, plus_within, is_same, kept_reply}
+use Rattle.posting_rules.specs.Cases.{case_of, new_case, posting_of, plus_within, is_below, is_same}
+use Rattle.posting_rules.specs.Cases.{kept_reply}
 use Rattle.posting_rules.specs.Entries.{facts, kept, account_balance, teller_balance, branch_balance, decided}
-use Rattle.posting_rules.specs.Stated.{IsDecided, IsWithin, IsPosted, HasContent}
+use Rattle.posting_rules.specs.Stated.{IsDecided, IsWithin, StaysAbove, IsPosted, HasContent}
 use Rattle.posting_rules.proofs.Keyed.{by_test}
+use Rattle.posting_rules.proofs.Verdicts.{is_above}
 
 -- ---- tests, and what they mean
 
@@ -36,6 +39,15 @@ by_limit z = elim (by_test (leb (nat_abs z) MAX_BALANCE)) [
   | inr f ↦ inr
       (λ h. let t = le-leb (nat_abs z) MAX_BALANCE h in absurd (let g = sym f ∙ t in cc))
 ]
+
+-- a balance is below a floor, or it isn't
+goes_below : (floor : Option ℤ) (z : ℤ) → (IfSome floor (λ l. l ≤ℤ z) → ⊥) → is_below floor z ≡ true
+goes_below floor z h =
+    elim (by_test (is_below floor z)) [ inl t ↦ t | inr f ↦ absurd (h (is_above floor z f)) ]
+
+stays_up : (floor : Option ℤ) (z : ℤ) → IfSome floor (λ l. l ≤ℤ z) → is_below floor z ≡ false
+stays_up None z h = refl
+stays_up (Some l) z h = elim (by_test (int_lt z l)) [ inl t ↦ absurd (omega (arith, ints)) | inr f ↦ f ]
 
 not_same : (m n : ℕ) → (m ≡ n → ⊥) → eqb m n ≡ false
 not_same m n h = grind (arith, nat_tests)
@@ -112,9 +124,29 @@ module _ (before : List Command) (r : RequestFields) where
       (plus_within (teller_balance (decided before) r.teller) r.delta)
       (plus_within (branch_balance (decided before) (branch_of_teller r.teller)) r.delta)
 
+  abbrev its_floor : Option ℤ
+  its_floor = floor_of (λ b. opened before b) (branch_of_account r.account)
+
+  abbrev its_balance : ℤ
+  its_balance = account_balance (decided before) r.account +ℤ r.delta
+
+  -- the account stays at or above its floor, or it doesn't
+  pub by_floor : StaysAbove before r ⊎ (StaysAbove before r → ⊥)
+  by_floor = elim (by_test (is_below its_floor its_balance)) [
+    | inl t ↦ inr (λ h. absurd (let f = stays_up its_floor its_balance h in cc))
+    | inr f ↦ inl (is_above its_floor its_balance f)
+  ]
+
+  pub below_floor : length (decided before) < MAX_DECIDED → r.branch ≡ branch_of_teller r.teller
+      → is_account_open (λ b. opened before b) r.account ≡ true → (StaysAbove before r → ⊥)
+      → new_verdict ≡ Refused outcome.BelowFloor
+  below_floor h its open_a low =
+      rw (has_room h, eq-eqb _ _ its, open_a, goes_below its_floor its_balance low) refl
+
   pub has_sums : length (decided before) < MAX_DECIDED → r.branch ≡ branch_of_teller r.teller
-      → is_account_open (λ b. opened before b) r.account ≡ true → new_verdict ≡ sums
-  has_sums h its open_a = rw (has_room h, eq-eqb _ _ its, open_a) refl
+      → is_account_open (λ b. opened before b) r.account ≡ true → StaysAbove before r → new_verdict ≡ sums
+  has_sums h its open_a above =
+      rw (has_room h, eq-eqb _ _ its, open_a, stays_up its_floor its_balance above) refl
 
   posting : IsPosted before r → sums
       ≡ Posted (account_balance (decided before) r.account +ℤ r.delta)
@@ -131,9 +163,9 @@ module _ (before : List Command) (r : RequestFields) where
 
   -- one of the three leaves its limit
   pub over_limit : r.branch ≡ branch_of_teller r.teller
-      → is_account_open (λ b. opened before b) r.account ≡ true
+      → is_account_open (λ b. opened before b) r.account ≡ true → StaysAbove before r
       → (IsPosted before r → ⊥) → sums ≡ Refused outcome.OverLimit
-  over_limit its open_a h =
+  over_limit its open_a above h =
       let a = account_balance (decided before) r.account +ℤ r.delta in
       let t = teller_balance (decided before) r.teller +ℤ r.delta in
       let b = branch_balance (decided before) (branch_of_teller r.teller) +ℤ r.delta in
@@ -146,6 +178,7 @@ module _ (before : List Command) (r : RequestFields) where
             | inl z ↦ absurd (h (record {
               branch = its;
               account = open_a;
+              floor = above;
               account_limit = x;
               teller_limit = y;
               branch_limit = subst (λ (n : ℕ). IsWithin (branch_balance (decided before) n +ℤ r.delta))
@@ -163,4 +196,4 @@ module _ (before : List Command) (r : RequestFields) where
       ≡ Posted (account_balance (decided before) r.account +ℤ r.delta)
       (teller_balance (decided before) r.teller +ℤ r.delta)
       (branch_balance (decided before) (branch_of_teller r.teller) +ℤ r.delta)
-  posted_verdict bytes d p = decided_verdict bytes d ∙ has_sums d.room p.branch p.account ∙ posting p
+  posted_verdict bytes d p = decided_verdict bytes d ∙ has_sums d.room p.branch p.account p.floor ∙ posting p

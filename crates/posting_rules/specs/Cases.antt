@@ -1,6 +1,6 @@
 -- What becomes of a request, by what is known where it comes in: the first case that applies.
 use Rattle.std.specs.Prelude.{ℤ, ◌+ℤ◌, Option, Some, None, Bool, true, false, ◌==◌, ◌&&◌, nat_le, ◌<◌, IsTrue}
-use Rattle.std.specs.Prelude.{if◌then◌else◌}
+use Rattle.std.specs.Prelude.{if◌then◌else◌, int_lt}
 use Rattle.std.specs.Ordering.{int_eq}
 use Rattle.posting_rules.specs.declared.limits.TheConstants.{MAX_DECIDED}
 use Rattle.message_records.specs.declared.limits.TheConstants.{MAX_BALANCE}
@@ -34,15 +34,21 @@ abbrev pub posting_of : Option ℤ → Option ℤ → Option ℤ → Verdict
 posting_of (Some account) (Some teller) (Some branch) = Posted account teller branch
 posting_of _ _ _ = Refused outcome.OverLimit
 
-abbrev pub account_case : Option ℤ → ℤ → ℤ → ℤ → Verdict
-account_case None teller branch delta = Refused outcome.NoAccount
-account_case (Some account) teller branch delta = posting_of (plus_within account delta)
-    (plus_within teller delta) (plus_within branch delta)
+-- a balance is below the floor, where there is one
+abbrev pub is_below : Option ℤ → ℤ → Bool
+is_below None balance = false
+is_below (Some floor) balance = int_lt balance floor
+
+abbrev pub account_case : Option ℤ → Option ℤ → ℤ → ℤ → ℤ → Verdict
+account_case None floor teller branch delta = Refused outcome.NoAccount
+account_case (Some account) floor teller branch delta =
+    if is_below floor (account +ℤ delta) then Refused outcome.BelowFloor
+    else posting_of (plus_within account delta) (plus_within teller delta) (plus_within branch delta)
 
 abbrev pub new_case : Found → RequestFields → ℤ → ℤ → Verdict
 new_case f r teller branch =
     if nat_le MAX_DECIDED f.decided then Unkept outcome.Full
-    else if r.branch == branch_of_teller r.teller then account_case f.account teller branch r.delta
+    else if r.branch == branch_of_teller r.teller then account_case f.account f.floor teller branch r.delta
     else Refused outcome.WrongBranch
 
 abbrev pub known_case : Option KeptFields → Found → RequestFields → ℤ → ℤ → Verdict
@@ -78,6 +84,7 @@ is_unkept _ = false
 abbrev pub is_refusal : Outcome → Bool
 is_refusal outcome.WrongBranch = true
 is_refusal outcome.NoAccount = true
+is_refusal outcome.BelowFloor = true
 is_refusal outcome.OverLimit = true
 is_refusal _ = false
 

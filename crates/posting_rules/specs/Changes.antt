@@ -4,19 +4,20 @@ use Rattle.std.specs.Prelude.{Option, Some, None, Result, Ok, Err, IsSome}
 use Rattle.posting_rules.specs.declared.limits.TheConstants.{TELLERS_PER_BRANCH}
 use Rattle.posting_rules.specs.Tables.{Tables, branch_key, teller_key, account_key, history_key, request_key}
 use Rattle.posting_rules.specs.Tables.{row_at, branch_row_of, teller_row_of, account_row_of, request_row_of}
-use Rattle.posting_rules.specs.Tables.{history_row_of}
+use Rattle.posting_rules.specs.Tables.{history_row_of, floor_key, floor_row_of}
 use Rattle.posting_rules.specs.declared.rows.BranchRow.{BranchRow}
 use Rattle.posting_rules.specs.declared.rows.TellerRow.{TellerRow}
 use Rattle.posting_rules.specs.declared.rows.AccountRow.{AccountRow}
 use Rattle.posting_rules.specs.declared.rows.HistoryRow.{HistoryRow}
 use Rattle.posting_rules.specs.declared.rows.RequestRow.{RequestRow}
+use Rattle.posting_rules.specs.declared.rows.FloorRow.{FloorRow}
 use Rattle.message_records.specs.Spelling.{reply_spelling}
 use Rattle.message_records.specs.declared.fault.Bad.{Bad}
 use Rattle.message_records.specs.Records.{RequestFields}
 use Rattle.message_records.specs.Reading.{request_of}
 use Rattle.posting_rules.specs.declared.judgments.Verdict.{Verdict}
 use Rattle.posting_rules.specs.declared.judgments.Verdict.TheVariants.{Unkept, Again, Refused, Posted}
-use Rattle.posting_rules.specs.Commands.{opened_with}
+use Rattle.posting_rules.specs.Commands.{Terms}
 use Rattle.posting_rules.specs.Entries.{DecidedRequest, refused_entry, posted_entry, malformed_reply}
 use Rattle.posting_rules.specs.Cases.{case_of, reply_in}
 use Rattle.posting_rules.specs.LookUps.{found_in}
@@ -85,6 +86,14 @@ with_history r t = record t { history = row_put history_key r t.history }
 -- a decided request more
 unfoldable pub with_request : RequestRow → Tables → Tables
 with_request r t = record t { requests = row_put request_key r t.requests }
+
+-- a branch's floor more, where it has one
+abbrev pub floor_put : ℕ → Option ℤ → List FloorRow → List FloorRow
+floor_put branch None rows = rows
+floor_put branch (Some lowest) rows = row_put floor_key (floor_row_of branch lowest) rows
+
+unfoldable pub with_floor : ℕ → Option ℤ → Tables → Tables
+with_floor branch floor t = record t { floors = floor_put branch floor t.floors }
 
 -- ---- a verdict
 
@@ -168,16 +177,17 @@ with_tellers first count t = record t { tellers = rows_put teller_key new_teller
 unfoldable pub with_accounts : ℕ → ℕ → Tables → Tables
 with_accounts first count t = record t { accounts = rows_put account_key new_account first count t.accounts }
 
--- a branch more, with its tellers and its accounts
-abbrev pub tables_opened : Tables → ℕ → ℕ → Tables
-tables_opened t b count = with_accounts (first_account b) count
+-- a branch more, with its tellers, its accounts and its floor
+abbrev pub tables_opened : Tables → ℕ → Terms → Tables
+tables_opened t b terms = with_floor b terms.floor
+    (with_accounts (first_account b) terms.accounts
     (with_tellers (first_teller b) TELLERS_PER_BRANCH
-    (with_branch (branch_row_of b (pos 0) (opened_with count)) t))
+    (with_branch (branch_row_of b (pos 0) terms) t)))
 
 -- what an opening leaves, by the row that is there
-abbrev pub opened_where : Option BranchRow → Tables → ℕ → ℕ → Tables
-opened_where None t b count = tables_opened t b count
-opened_where (Some row) t b count = t
+abbrev pub opened_where : Option BranchRow → Tables → ℕ → Terms → Tables
+opened_where None t b terms = tables_opened t b terms
+opened_where (Some row) t b terms = t
 
-abbrev pub tables_with_branch : Tables → ℕ → ℕ → Tables
-tables_with_branch t b count = opened_where (row_at branch_key t.branches b) t b count
+abbrev pub tables_with_branch : Tables → ℕ → Terms → Tables
+tables_with_branch t b terms = opened_where (row_at branch_key t.branches b) t b terms

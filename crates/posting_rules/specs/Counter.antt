@@ -1,6 +1,8 @@
 -- What a counter shows, what a stop may leave of it, and what a call does to both.
-use Rattle.std.specs.Prelude.{⊤, ◌≡◌, ℕ, ◌≤◌, List, length, take, Option, Some, None, ◌==◌, if◌then◌else◌}
-use Rattle.std.specs.Prelude.{Result, IfOk, OnOk, IfErr}
+use Rattle.std.specs.Prelude.{⊤, ◌≡◌, ℕ, ◌≤◌, List, length, take, Option, Some, None, Bool, ◌==◌, ◌&&◌}
+use Rattle.std.specs.Prelude.{if◌then◌else◌, Result, IfOk, OnOk, IfErr}
+use Rattle.std.specs.Option.{option_eq}
+use Rattle.std.specs.Ordering.{int_eq}
 use Rattle.std.specs.Result.{IsErrOf}
 use Rattle.posting_rules.specs.declared.fault.Fault.{Fault}
 use Rattle.posting_rules.specs.declared.fault.Fault.TheVariants.{Memory, Store, Down, Damaged}
@@ -149,9 +151,13 @@ pub record HasRefused {C : Type 0} (seen : C → Seen) (reason : Fault → C →
 
 -- ---- the answer to an opening
 
+-- the same count of accounts, and the same floor or none
+abbrev pub are_same : Terms → Terms → Bool
+are_same one two = (one.accounts == two.accounts) && option_eq int_eq one.floor two.floor
+
 abbrev pub opening_for : Option Terms → Terms → Opening
 opening_for None terms = Opened
-opening_for (Some first) terms = if first.accounts == terms.accounts then Already else Differs
+opening_for (Some first) terms = if are_same first terms then Already else Differs
 
 abbrev pub opening_behind : List Command → ℕ → Terms → Opening
 opening_behind log branch terms = opening_for (opened log branch) terms

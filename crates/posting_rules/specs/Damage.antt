@@ -1,7 +1,7 @@
 -- What holds of all tables that a log leads to. Tables of which it doesn't hold are damaged.
-use Rattle.std.specs.Prelude.{ℤ, ◌≡◌, ◌≤◌, ℕ, ◌+◌, ◌*◌, nat_abs, List, None, is_some, IsTrue}
+use Rattle.std.specs.Prelude.{ℤ, ◌≡◌, ◌≤◌, ◌≤ℤ◌, ℕ, ◌+◌, ◌*◌, nat_abs, List, None, is_some, IsTrue, IfSome}
 use Rattle.std.specs.List.{Contains}
-use Rattle.posting_rules.specs.declared.limits.TheConstants.{MAX_DECIDED, LAST_BRANCH, MOST_ACCOUNTS}
+use Rattle.posting_rules.specs.declared.limits.TheConstants.{MAX_DECIDED, LAST_BRANCH, MAX_ACCOUNTS}
 use Rattle.posting_rules.specs.declared.limits.TheConstants.{ACCOUNTS_PER_BRANCH, TELLERS_PER_BRANCH}
 use Rattle.message_records.specs.declared.limits.TheConstants.{MAX_ACCOUNT, MAX_TELLER, MAX_BRANCH}
 use Rattle.message_records.specs.declared.limits.TheConstants.{MAX_NUMBER, MAX_MOMENT, MAX_BALANCE, MAX_DELTA}
@@ -10,12 +10,13 @@ use Rattle.posting_rules.specs.declared.rows.TellerRow.{TellerRow}
 use Rattle.posting_rules.specs.declared.rows.AccountRow.{AccountRow}
 use Rattle.posting_rules.specs.declared.rows.HistoryRow.{HistoryRow}
 use Rattle.posting_rules.specs.declared.rows.RequestRow.{RequestRow}
-use Rattle.posting_rules.specs.Commands.{Command, AreCommands, is_within}
+use Rattle.posting_rules.specs.declared.rows.FloorRow.{FloorRow}
+use Rattle.posting_rules.specs.Commands.{Command, AreCommands, IsFloor, is_within}
 use Rattle.posting_rules.specs.Numbering.{branch_of_teller, branch_of_account, place_of_account}
 use Rattle.posting_rules.specs.Kept.{is_kept_with}
 use Rattle.posting_rules.specs.Tables.{Tables, AreTablesOf, row_at, branch_key, teller_key, account_key}
-use Rattle.posting_rules.specs.Tables.{history_key, request_key}
-use Rattle.posting_rules.specs.LookUps.{terms_in}
+use Rattle.posting_rules.specs.Tables.{history_key, request_key, floor_key}
+use Rattle.posting_rules.specs.LookUps.{floor_in, terms_in}
 
 -- ---- one row
 
@@ -26,7 +27,7 @@ pub record IsSoundBranch (r : BranchRow) : Type 0 where
   pub most : r.branch ≤ LAST_BRANCH
   -- it has one account at least, and no more than can be opened
   pub few : 1 ≤ r.accounts
-  pub many : r.accounts ≤ MOST_ACCOUNTS
+  pub many : r.accounts ≤ MAX_ACCOUNTS
   -- its balance is within the limit (TPC-B 1.2)
   pub balance : nat_abs r.balance ≤ MAX_BALANCE
 
@@ -80,6 +81,14 @@ pub record IsSoundPosting (r : HistoryRow) : Type 0 where
   -- its moment is within its range
   pub moment : r.moment ≤ MAX_MOMENT
 
+-- the floor of a branch that can be opened
+pub record IsSoundFloor (r : FloorRow) : Type 0 where
+  -- its branch has a number that can be opened
+  pub some : 1 ≤ r.branch
+  pub most : r.branch ≤ LAST_BRANCH
+  -- it is at most zero, and within the limit (TPC-B 1.2)
+  pub lowest : IsFloor r.lowest
+
 -- ---- the tables
 
 -- every row is sound, and so is what the rows of several tables say together
@@ -93,12 +102,19 @@ pub record IsUndamaged (t : Tables) : Type 0 where
   pub accounts : (n : ℕ) → 1 ≤ n
       → is_some (row_at account_key t.accounts n) ≡ is_within (place_of_account n)
       (terms_in t (branch_of_account n))
+  -- a branch without a row has no floor
+  pub floors : (b : ℕ) → row_at branch_key t.branches b ≡ None → row_at floor_key t.floors b ≡ None
+  -- no account is below the floor of its branch
+  pub above : (r : AccountRow) → Contains t.accounts r
+      → IfSome (floor_in t (branch_of_account r.account)) (λ floor. floor ≤ℤ r.balance)
   -- every row of branches has a number, a count and a balance within their ranges
   pub each_branch : (r : BranchRow) → Contains t.branches r → IsSoundBranch r
   -- every row of tellers has a number and a balance within their ranges
   pub each_teller : (r : TellerRow) → Contains t.tellers r → IsSoundTeller r
   -- every row of accounts has a number and a balance within their ranges
   pub each_account : (r : AccountRow) → Contains t.accounts r → IsSoundAccount r
+  -- every row of floors has a branch and a floor within their ranges
+  pub each_floor : (r : FloorRow) → Contains t.floors r → IsSoundFloor r
   -- every row of requests has fields within their ranges, and keeps what can be kept
   pub each_request : (r : RequestRow) → Contains t.requests r → IsSoundRequest r
   -- every row of history has fields within their ranges

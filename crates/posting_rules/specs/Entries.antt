@@ -13,7 +13,8 @@ use Rattle.posting_rules.specs.declared.judgments.Found.{Found}
 use Rattle.posting_rules.specs.declared.judgments.Verdict.{Verdict}
 use Rattle.posting_rules.specs.declared.judgments.Verdict.TheVariants.{Unkept, Again, Refused, Posted}
 use Rattle.posting_rules.specs.Commands.{Command, Open, Post, opened, is_teller_open, Terms, is_account_open}
-use Rattle.posting_rules.specs.Numbering.{branch_of_teller}
+use Rattle.posting_rules.specs.Commands.{floor_of}
+use Rattle.posting_rules.specs.Numbering.{branch_of_teller, branch_of_account}
 use Rattle.posting_rules.specs.Kept.{KeptFields}
 use Rattle.posting_rules.specs.Cases.{case_of, reply_in}
 
@@ -64,6 +65,7 @@ facts opened es r = record {
   kept = kept es r.teller r.number;
   decided = length es;
   account = if is_account_open opened r.account then Some (account_balance es r.account) else None;
+  floor = floor_of opened (branch_of_account r.account);
 }
 
 abbrev pub refused_entry : ℕ → RequestFields → Outcome → DecidedRequest
@@ -92,7 +94,7 @@ with_record moment (Ok r) opened es = with_verdict moment r (case_of (facts open
 -- the decided requests of a log, the newest first
 abbrev pub decided : List Command → List DecidedRequest
 decided [] = []
-decided (Open branch count ∷ log) = decided log
+decided (Open branch terms ∷ log) = decided log
 decided (Post moment bytes ∷ log) = with_record moment (request_of bytes) (λ b. opened log b) (decided log)
 
 abbrev pub malformed_reply : ReplyFields

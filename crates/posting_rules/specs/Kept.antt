@@ -3,7 +3,7 @@ use Rattle.std.specs.Prelude.{ℕ, ℤ, pos, Option, Some, None, Bool, true, fal
 use Rattle.std.specs.Ordering.{int_eq}
 use Rattle.message_records.specs.declared.records.Outcome.{Outcome}
 use Rattle.message_records.specs.declared.records.Outcome.TheVariants.{Posted, WrongBranch, NoAccount}
-use Rattle.message_records.specs.declared.records.Outcome.TheVariants.{OverLimit}
+use Rattle.message_records.specs.declared.records.Outcome.TheVariants.{BelowFloor, OverLimit}
 use Rattle.message_records.specs.Outcomes.{has_balance}
 
 pub record KeptFields : Type 0 where
@@ -19,6 +19,7 @@ abbrev pub is_kept : Outcome → Bool
 is_kept Posted = true
 is_kept WrongBranch = true
 is_kept NoAccount = true
+is_kept BelowFloor = true
 is_kept OverLimit = true
 is_kept _ = false
 

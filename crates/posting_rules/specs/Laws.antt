@@ -1,14 +1,14 @@
 -- What holds of every log: the consistency condition (TPC-B clause 2) and what else a banker relies on.
-use Rattle.std.specs.Prelude.{◌≡◌, ◌≤◌, ℕ, ℤ, pos, ◌+ℤ◌, nat_abs, List, [], ◌∷◌, map, filter, Option, Some}
-use Rattle.std.specs.Prelude.{None, true, ◌==◌, ◌&&◌, nat_le, AllPairs}
+use Rattle.std.specs.Prelude.{◌≡◌, ◌≤◌, ◌≤ℤ◌, ℕ, ℤ, pos, ◌+ℤ◌, nat_abs, List, [], ◌∷◌, map, filter, Option}
+use Rattle.std.specs.Prelude.{Some, None, true, ◌==◌, ◌&&◌, nat_le, AllPairs, IfSome}
 use Rattle.std.specs.List.{AllByRecursion}
 use Rattle.message_records.specs.declared.limits.TheConstants.{MAX_BALANCE}
 use Rattle.message_records.specs.Outcomes.{has_balance}
 use Rattle.posting_rules.specs.declared.rows.TellerRow.{TellerRow}
 use Rattle.posting_rules.specs.declared.rows.HistoryRow.{HistoryRow}
 use Rattle.posting_rules.specs.declared.rows.RequestRow.{RequestRow}
-use Rattle.posting_rules.specs.Commands.{Command, AreCommands}
-use Rattle.posting_rules.specs.Numbering.{branch_of_teller}
+use Rattle.posting_rules.specs.Commands.{Command, AreCommands, opened, floor_of}
+use Rattle.posting_rules.specs.Numbering.{branch_of_teller, branch_of_account}
 use Rattle.posting_rules.specs.Entries.{DecidedRequest, decided, account_balance, teller_balance}
 use Rattle.posting_rules.specs.Entries.{branch_balance}
 use Rattle.posting_rules.specs.Tables.{Tables, AreTablesOf, row_at, history_key, request_key}
@@ -35,6 +35,12 @@ pub record StaysWithin (log : List Command) : Type 0 where
 
 abbrev pub BalancesStayWithin : Type 0
 BalancesStayWithin = (log : List Command) → StaysWithin log
+
+-- no account is below the floor of its own branch, whichever branch its postings came from
+abbrev pub AccountsStayAbove : Type 0
+AccountsStayAbove = (log : List Command) → AreCommands log → (account : ℕ)
+    → IfSome (floor_of (λ b. opened log b) (branch_of_account account))
+    (λ floor. floor ≤ℤ account_balance (decided log) account)
 
 -- ---- the consistency condition, on tables alone
 

@@ -5,6 +5,7 @@ pub mod Kept
 pub mod Cases
 pub mod Entries
 pub mod Tables
+pub mod Editions
 pub mod LookUps
 pub mod Steps
 pub mod Runs

@@ -8,20 +8,28 @@ use Rattle.posting_rules.specs.declared.rows.BranchRow.{BranchRow}
 use Rattle.posting_rules.specs.declared.rows.TellerRow.{TellerRow}
 use Rattle.posting_rules.specs.declared.rows.AccountRow.{AccountRow}
 use Rattle.posting_rules.specs.declared.rows.RequestRow.{RequestRow}
+use Rattle.posting_rules.specs.declared.rows.FloorRow.{FloorRow}
 use Rattle.posting_rules.specs.Commands.{Terms, opened_with}
-use Rattle.posting_rules.specs.Numbering.{branch_of_teller}
+use Rattle.posting_rules.specs.Numbering.{branch_of_teller, branch_of_account}
 use Rattle.posting_rules.specs.Kept.{KeptFields}
-use Rattle.posting_rules.specs.Tables.{Tables, row_at, branch_key, teller_key, account_key}
+use Rattle.posting_rules.specs.Tables.{Tables, row_at, branch_key, teller_key, account_key, floor_key}
 
 abbrev pub count_of_branch : BranchRow → ℕ
 count_of_branch r = r.accounts
 
-abbrev pub terms_of_branch : BranchRow → Terms
-terms_of_branch r = opened_with (count_of_branch r)
+abbrev pub lowest_of : FloorRow → ℤ
+lowest_of r = r.lowest
+
+-- the floor of a branch's accounts
+abbrev pub floor_in : Tables → ℕ → Option ℤ
+floor_in t b = option_map lowest_of (row_at floor_key t.floors b)
+
+abbrev pub terms_of_branch : Option ℤ → BranchRow → Terms
+terms_of_branch floor r = opened_with (count_of_branch r) floor
 
 -- what a branch is open with
 abbrev pub terms_in : Tables → ℕ → Option Terms
-terms_in t b = option_map terms_of_branch (row_at branch_key t.branches b)
+terms_in t b = option_map (terms_of_branch (floor_in t b)) (row_at branch_key t.branches b)
 
 abbrev pub balance_of_branch : BranchRow → ℤ
 balance_of_branch r = r.balance
@@ -60,4 +68,5 @@ found_in t r = record {
   kept = kept_in t.requests r.teller r.number;
   decided = t.decided;
   account = account_balance_in t r.account;
+  floor = floor_in t (branch_of_account r.account);
 }

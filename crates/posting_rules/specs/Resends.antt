@@ -16,7 +16,7 @@ pub record Place (bytes : List ℕ) (commands : List Command) : Type 0 where
 -- the kept commands are those of r, less some whose records are in p
 abbrev pub Skips : List Command → List Command → List Command → Type 0
 Skips p [] kept = kept ≡ []
-Skips p (Open branch count ∷ r) kept = ⊥
+Skips p (Open branch terms ∷ r) kept = ⊥
 Skips p (Post moment bytes ∷ r) kept = (Place bytes p × Skips p r kept) ⊎
     ((others : List Command) × (kept ≡ Post moment bytes ∷ others) × Skips p r others)
 

@@ -16,12 +16,12 @@ posts moment records = map (Post moment) records
 -- the replies to what is posted, in order
 abbrev pub replies_to : List Command → List Command → List (List ℕ)
 replies_to log [] = []
-replies_to log (Open branch count ∷ cs) = replies_to (Open branch count ∷ log) cs
+replies_to log (Open branch terms ∷ cs) = replies_to (Open branch terms ∷ log) cs
 replies_to log (Post moment bytes ∷ cs) = reply_spelling (reply log bytes) ∷ replies_to
     (Post moment bytes ∷ log) cs
 
 -- no branch is opened among them
 abbrev pub ArePosts : List Command → Type 0
 ArePosts [] = Unit {0}
-ArePosts (Open branch count ∷ cs) = ⊥
+ArePosts (Open branch terms ∷ cs) = ⊥
 ArePosts (Post moment bytes ∷ cs) = ArePosts cs

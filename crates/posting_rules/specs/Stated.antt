@@ -1,6 +1,6 @@
 -- What becomes of a record, said case by case in the words of the profile, by what came before it.
 use Rattle.std.specs.Prelude.{◌≡◌, ◌≢◌, ◌≤◌, ◌<◌, ◌↔◌, ℕ, ℤ, pos, ◌+ℤ◌, nat_abs, List, ◌∷◌, length, Some}
-use Rattle.std.specs.Prelude.{None, Ok, Err, true, false}
+use Rattle.std.specs.Prelude.{None, Ok, Err, true, false, ◌≤ℤ◌, IfSome}
 use Rattle.posting_rules.specs.declared.limits.TheConstants.{MAX_DECIDED}
 use Rattle.message_records.specs.declared.limits.TheConstants.{MAX_BALANCE}
 use Rattle.message_records.specs.declared.records.Outcome.{Outcome}
@@ -8,8 +8,8 @@ use Rattle.message_records.specs.declared.records.Outcome.TheVariants as outcome
 use Rattle.message_records.specs.declared.fault.Bad.{Bad}
 use Rattle.message_records.specs.Records.{RequestFields, ReplyFields}
 use Rattle.message_records.specs.Reading.{request_of}
-use Rattle.posting_rules.specs.Commands.{Command, Post, opened, is_teller_open, is_account_open}
-use Rattle.posting_rules.specs.Numbering.{branch_of_teller}
+use Rattle.posting_rules.specs.Commands.{Command, Post, opened, is_teller_open, is_account_open, floor_of}
+use Rattle.posting_rules.specs.Numbering.{branch_of_teller, branch_of_account}
 use Rattle.posting_rules.specs.Kept.{KeptFields}
 use Rattle.posting_rules.specs.Cases.{balance_shown}
 use Rattle.posting_rules.specs.Entries.{DecidedRequest, is_posted, kept, account_balance, teller_balance}
@@ -30,11 +30,17 @@ pub record IsDecided (before : List Command) (bytes : List ℕ) (r : RequestFiel
 abbrev pub IsWithin : ℤ → Type 0
 IsWithin z = nat_abs z ≤ MAX_BALANCE
 
--- a decided request is posted where the branch is its teller's, its account is open, and the account, the
--- teller and the branch stay within the limit (TPC-B 1.2)
+-- the account stays at or above the floor of its own branch, where that has one
+abbrev pub StaysAbove : List Command → RequestFields → Type 0
+StaysAbove before r = IfSome (floor_of (λ b. opened before b) (branch_of_account r.account))
+    (λ floor. floor ≤ℤ (account_balance (decided before) r.account +ℤ r.delta))
+
+-- a decided request is posted where the branch is its teller's, its account is open and stays at or above its
+-- floor, and the account, the teller and the branch stay within the limit (TPC-B 1.2)
 pub record IsPosted (before : List Command) (r : RequestFields) : Type 0 where
   pub branch : r.branch ≡ branch_of_teller r.teller
   pub account : is_account_open (λ b. opened before b) r.account ≡ true
+  pub floor : StaysAbove before r
   pub account_limit : IsWithin (account_balance (decided before) r.account +ℤ r.delta)
   pub teller_limit : IsWithin (teller_balance (decided before) r.teller +ℤ r.delta)
   pub branch_limit : IsWithin (branch_balance (decided before) r.branch +ℤ r.delta)
@@ -96,8 +102,11 @@ pub record RepliesAsStated (before : List Command) (bytes : List ℕ) : Type 0 w
   pub no_account : (r : RequestFields) → IsDecided before bytes r → r.branch ≡ branch_of_teller r.teller
       → is_account_open (λ b. opened before b) r.account ≡ false
       → reply before bytes ≡ refusal outcome.NoAccount r
-  pub over_limit : (r : RequestFields) → IsDecided before bytes r → r.branch ≡ branch_of_teller r.teller
+  pub below_floor : (r : RequestFields) → IsDecided before bytes r → r.branch ≡ branch_of_teller r.teller
       → is_account_open (λ b. opened before b) r.account ≡ true
+      → (StaysAbove before r → ⊥) → reply before bytes ≡ refusal outcome.BelowFloor r
+  pub over_limit : (r : RequestFields) → IsDecided before bytes r → r.branch ≡ branch_of_teller r.teller
+      → is_account_open (λ b. opened before b) r.account ≡ true → StaysAbove before r
       → (IsPosted before r → ⊥) → reply before bytes ≡ refusal outcome.OverLimit r
   pub posted : (r : RequestFields) → IsDecided before bytes r → IsPosted before r
       → reply before bytes ≡ record {

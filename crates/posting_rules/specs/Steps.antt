@@ -1,6 +1,6 @@
 -- How a verdict, and an opening, change tables. Each speaks of look-ups by key, so that the rows may stand in
 -- any order.
-use Rattle.std.specs.Prelude.{◌≡◌, ℕ, ◌+◌, ℤ, pos, List, Some, Bool, ◌==◌, ◌&&◌, nat_le, nat_lt}
+use Rattle.std.specs.Prelude.{◌≡◌, ℕ, ◌+◌, ℤ, pos, List, Option, Some, None, Bool, ◌==◌, ◌&&◌, nat_le, nat_lt}
 use Rattle.std.specs.Prelude.{if◌then◌else◌}
 use Rattle.std.specs.Option.{option_map}
 use Rattle.posting_rules.specs.declared.limits.TheConstants.{TELLERS_PER_BRANCH}
@@ -10,12 +10,13 @@ use Rattle.posting_rules.specs.declared.judgments.Verdict.TheVariants.{Unkept, A
 use Rattle.posting_rules.specs.declared.rows.BranchRow.{BranchRow}
 use Rattle.posting_rules.specs.declared.rows.TellerRow.{TellerRow}
 use Rattle.posting_rules.specs.declared.rows.AccountRow.{AccountRow}
-use Rattle.posting_rules.specs.Commands.{opened_with}
+use Rattle.posting_rules.specs.declared.rows.FloorRow.{FloorRow}
+use Rattle.posting_rules.specs.Commands.{Terms}
 use Rattle.posting_rules.specs.Numbering.{branch_of_teller, first_teller, first_account}
 use Rattle.posting_rules.specs.Entries.{DecidedRequest, refused_entry, posted_entry}
 use Rattle.posting_rules.specs.Tables.{Tables, row_at, HasKeys, branch_key, teller_key, account_key}
 use Rattle.posting_rules.specs.Tables.{history_key, request_key, branch_row_of, teller_row_of, account_row_of}
-use Rattle.posting_rules.specs.Tables.{request_row_of, history_row_of}
+use Rattle.posting_rules.specs.Tables.{request_row_of, history_row_of, floor_key, floor_row_of}
 
 -- ---- rows of one table
 
@@ -58,6 +59,7 @@ pub record KeepsRefusal (old new : Tables) (ordinal : ℕ) (e : DecidedRequest) 
   pub accounts : new.accounts ≡ old.accounts
   pub history : new.history ≡ old.history
   pub requests : GainsRow request_key (request_row_of ordinal e) old.requests new.requests
+  pub floors : new.floors ≡ old.floors
 
 -- a posting is kept under this ordinal, with the new balances of its account, its teller and its branch
 -- (TPC-B 1.2)
@@ -71,6 +73,7 @@ pub record KeepsPosting (old new : Tables) (ordinal : ℕ) (e : DecidedRequest)
       (with_account_balance e.balance) old.accounts new.accounts
   pub history : GainsRow history_key (history_row_of ordinal e) old.history new.history
   pub requests : GainsRow request_key (request_row_of ordinal e) old.requests new.requests
+  pub floors : new.floors ≡ old.floors
 
 -- what a verdict on a request does to the tables, where this is the next ordinal
 abbrev pub IsStep : Tables → Tables → ℕ → ℕ → RequestFields → Verdict → Type 0
@@ -83,13 +86,19 @@ IsStep old new ordinal moment r (Posted account teller branch) = KeepsPosting ol
 
 -- ---- an opening
 
--- a branch is there, with its tellers and its accounts, all at zero
-pub record OpensBranch (old new : Tables) (b count : ℕ) : Type 0 where
+-- the floor of a branch is added where it has one, and no other
+abbrev pub AddsFloor : ℕ → Option ℤ → List FloorRow → List FloorRow → Type 0
+AddsFloor b None old new = new ≡ old
+AddsFloor b (Some lowest) old new = GainsRow floor_key (floor_row_of b lowest) old new
+
+-- a branch is there, with its tellers and its accounts, all at zero, and with its floor
+pub record OpensBranch (old new : Tables) (b : ℕ) (terms : Terms) : Type 0 where
   pub decided : new.decided ≡ old.decided
-  pub branches : GainsRow branch_key (branch_row_of b (pos 0) (opened_with count)) old.branches new.branches
+  pub branches : GainsRow branch_key (branch_row_of b (pos 0) terms) old.branches new.branches
   pub tellers : AddsRows teller_key (λ n. teller_row_of n (pos 0))
       (first_teller b) TELLERS_PER_BRANCH old.tellers new.tellers
   pub accounts : AddsRows account_key (λ n. account_row_of n (pos 0))
-      (first_account b) count old.accounts new.accounts
+      (first_account b) terms.accounts old.accounts new.accounts
   pub history : new.history ≡ old.history
   pub requests : new.requests ≡ old.requests
+  pub floors : AddsFloor b terms.floor old.floors new.floors

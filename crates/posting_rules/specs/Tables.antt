@@ -8,7 +8,8 @@ use Rattle.posting_rules.specs.declared.rows.TellerRow.{TellerRow}
 use Rattle.posting_rules.specs.declared.rows.AccountRow.{AccountRow}
 use Rattle.posting_rules.specs.declared.rows.HistoryRow.{HistoryRow}
 use Rattle.posting_rules.specs.declared.rows.RequestRow.{RequestRow}
-use Rattle.posting_rules.specs.Commands.{Command, Terms, opened, is_teller_open, is_account_open}
+use Rattle.posting_rules.specs.declared.rows.FloorRow.{FloorRow}
+use Rattle.posting_rules.specs.Commands.{Command, Terms, opened, is_teller_open, is_account_open, floor_of}
 use Rattle.posting_rules.specs.Entries.{DecidedRequest, is_posted, account_balance, teller_balance}
 use Rattle.posting_rules.specs.Entries.{branch_balance}
 use Rattle.posting_rules.specs.Entries.{kept_fields, decided}
@@ -21,6 +22,7 @@ pub record Tables : Type 0 where
   pub accounts : List AccountRow
   pub history : List HistoryRow
   pub requests : List RequestRow
+  pub floors : List FloorRow
 
 -- the row under a key
 abbrev pub row_at : {R : Type 0} → (R → ℕ) → List R → ℕ → Option R
@@ -44,6 +46,9 @@ history_key r = r.ordinal
 
 abbrev pub request_key : RequestRow → ℕ
 request_key r = r.ordinal
+
+abbrev pub floor_key : FloorRow → ℕ
+floor_key r = r.branch
 
 -- ---- the rows that a log leads to, by what is open and what is decided
 
@@ -96,6 +101,13 @@ history_row [] o = None
 history_row (e ∷ es) o = if (is_posted e && (length es + 1 == o)) then Some
     (history_row_of o e) else history_row es o
 
+-- a branch has a row of floors where it was opened with a floor
+abbrev pub floor_row_of : ℕ → ℤ → FloorRow
+floor_row_of b lowest = record { branch = b; lowest = lowest }
+
+abbrev pub floor_row : (ℕ → Option Terms) → ℕ → Option FloorRow
+floor_row opened b = option_map (floor_row_of b) (floor_of opened b)
+
 -- the tables have these rows and no others, in whatever order
 pub record HasRows (tables : Tables) (opened : ℕ → Option Terms) (es : List DecidedRequest) : Type 0 where
   pub decided : tables.decided ≡ length es
@@ -104,11 +116,13 @@ pub record HasRows (tables : Tables) (opened : ℕ → Option Terms) (es : List 
   pub accounts : (a : ℕ) → row_at account_key tables.accounts a ≡ account_row opened es a
   pub history : (o : ℕ) → row_at history_key tables.history o ≡ history_row es o
   pub requests : (o : ℕ) → row_at request_key tables.requests o ≡ request_row es o
+  pub floors : (b : ℕ) → row_at floor_key tables.floors b ≡ floor_row opened b
   pub branch_keys : HasKeys branch_key tables.branches
   pub teller_keys : HasKeys teller_key tables.tellers
   pub account_keys : HasKeys account_key tables.accounts
   pub history_keys : HasKeys history_key tables.history
   pub request_keys : HasKeys request_key tables.requests
+  pub floor_keys : HasKeys floor_key tables.floors
 
 -- the tables are those of the log
 pub record AreTablesOf (tables : Tables) (log : List Command) : Type 0 where

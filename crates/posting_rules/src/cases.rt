@@ -1,6 +1,7 @@
 //! Judges a request by what was looked up for it.
 ghost use Rattle.std.specs.Prelude.{◌≡◌, ◌≤◌};
-ghost use Rattle.posting_rules.specs.Cases.{case_of, plus_within, IsProper, reply_in};
+ghost use Rattle.std.specs.Prelude.{◌+ℤ◌};
+ghost use Rattle.posting_rules.specs.Cases.{case_of, is_below, plus_within, IsProper, reply_in};
 ghost use Rattle.posting_rules.specs.Entries.{malformed_reply};
 
 use crate::judgments::{Found, Verdict};
@@ -13,6 +14,16 @@ fn plus(balance: Cents, delta: Cents) -> Option<Cents>
     ensures { result ≡ plus_within balance delta }
 {
     Cents::new(balance.get() + delta.get())
+}
+
+// The balance with the amount added is below the floor, where there is one.
+fn falls_below(balance: Cents, delta: Cents, floor: Option<Cents>) -> bool
+    ensures { result ≡ is_below floor (balance +ℤ delta) }
+{
+    match floor {
+        Some(floor) => balance.get() + delta.get() < floor.get(),
+        None => false,
+    }
 }
 
 /// What becomes of a request (TPC-B 1.2): the first case that applies, in the order of the tests here. It
@@ -43,6 +54,9 @@ pub fn judge(found: &Found, request: &Request) -> Verdict
         return Verdict::Refused(Outcome::NoAccount);
     };
     let delta = request.delta();
+    if falls_below(account, delta, found.floor) {
+        return Verdict::Refused(Outcome::BelowFloor);
+    }
     match (
         plus(account, delta),
         plus(teller, delta),

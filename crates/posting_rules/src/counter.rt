@@ -1,5 +1,5 @@
 //! A counter that takes requests, whatever keeps its tables.
-ghost use Rattle.std.specs.Prelude.{◌≡◌, ◌≤◌, [], ◌∷◌, length, IfOk, IfSome, OnOk};
+ghost use Rattle.std.specs.Prelude.{◌≡◌, ◌≤◌, ◌≤ℤ◌, pos, [], ◌∷◌, length, IfOk, IfSome, OnOk};
 ghost use Rattle.message_records.specs.Spelling.{reply_spelling};
 ghost use Rattle.posting_rules.specs.Branches.{IsNextBranch, IsLineAbove};
 ghost use Rattle.posting_rules.specs.Commands.{Open, Post, opened_with};
@@ -10,8 +10,7 @@ ghost use Rattle.posting_rules.specs.Runs.{posts, replies_to};
 ghost use Rattle.posting_rules.specs.declared.fault.Fault.{Fault as Told};
 
 use crate::fault::Fault;
-use crate::limits::{LAST_BRANCH, MOST_ACCOUNTS, RECORDS_PER_BATCH};
-use crate::rows::BranchRow;
+use crate::limits::{LAST_BRANCH, MAX_ACCOUNTS, RECORDS_PER_BATCH};
 use message_records::{Account, Branch, Cents, Moment, REPLY_BYTES, REQUEST_BYTES};
 
 /// The answer to an opening.
@@ -19,9 +18,9 @@ use message_records::{Account, Branch, Cents, Moment, REPLY_BYTES, REQUEST_BYTES
 pub enum Opening {
     /// The branch is open from now on.
     Opened,
-    /// It was open with this count of accounts.
+    /// It was open with this count of accounts and this floor.
     Already,
-    /// It was open with another count, which stays.
+    /// It was open with another count or another floor, which stay.
     Differs,
 }
 
@@ -30,24 +29,12 @@ pub enum Opening {
 pub struct BranchLine {
     /// Its number: 1..=`LAST_BRANCH`.
     pub branch: Branch,
-    /// How many accounts it has: 1..=`MOST_ACCOUNTS`.
+    /// How many accounts it has: 1..=`MAX_ACCOUNTS`.
     pub accounts: u32,
     /// Its balance in cents.
     pub balance: Cents,
-}
-
-impl From<BranchRow> for BranchLine {
-    ghost use Rattle.posting_rules.specs.Branches.{line_of};
-
-    ghost from_gives = { λ row line. line ≡ line_of row };
-
-    fn from(row: BranchRow) -> Self {
-        BranchLine {
-            branch: row.branch,
-            accounts: row.accounts,
-            balance: row.balance,
-        }
-    }
+    /// The lowest balance that its accounts may have, in cents: zero at most. None where they have no floor.
+    pub floor: Option<Cents>,
 }
 
 /// A counter of the bank. What it answers is said by the log of commands that its tables show: it holds of
@@ -97,15 +84,23 @@ pub trait Counter {
             (λ log replies. replies.items ≡ replies_to log (posts moment records.now)) }
         ensures call { IsCounterCall seen contents reason self.old self.new (posts moment records.now) result };
 
-    /// Opens a branch of 1 to `LAST_BRANCH`, its tellers, and 1 to `MOST_ACCOUNTS` accounts, all with a
-    /// balance of zero. A branch that is open stays as it is.
-    fn open_branch(&mut self, branch: Branch, count: u32) -> Result<Opening, Fault>
+    /// Opens a branch of 1 to `LAST_BRANCH`, its tellers, and 1 to `MAX_ACCOUNTS` accounts, all with a
+    /// balance of zero. With a floor, which is zero at most, no posting takes one of its accounts below that.
+    /// A branch that is open stays as it is.
+    fn open_branch(
+        &mut self,
+        branch: Branch,
+        count: u32,
+        floor: Option<Cents>,
+    ) -> Result<Opening, Fault>
         requires branch { branch ≤ LAST_BRANCH }
         requires some { 1 ≤ count }
-        requires few { count ≤ MOST_ACCOUNTS }
+        requires few { count ≤ MAX_ACCOUNTS }
+        requires floor { IfSome floor (λ z. z ≤ℤ pos 0) }
         ensures answer { Answers (seen self.old) (seen self.new) result
-            (λ log opening. opening ≡ opening_behind log branch (opened_with count)) }
-        ensures call { IsCounterCall seen contents reason self.old self.new (Open branch count ∷ []) result };
+            (λ log opening. opening ≡ opening_behind log branch (opened_with count floor)) }
+        ensures call { IsCounterCall seen contents reason self.old self.new
+            (Open branch (opened_with count floor) ∷ []) result };
 
     /// The balance of an account in cents; none where it isn't open. It changes nothing.
     fn balance(&mut self, account: Account) -> Result<Option<Cents>, Fault>
@@ -116,8 +111,8 @@ pub trait Counter {
             → (seen self.new).tables t) };
 
     /// The open branch with the least number above this one; none where no such branch is open. It changes
-    /// nothing. Whatever the tables hold, a branch that it answers is above this one, and its number and
-    /// its count are in their ranges.
+    /// nothing. Whatever the tables hold, a branch that it answers is above this one, and its number, its count
+    /// and its floor are in their ranges.
     fn next_branch(&mut self, after: u32) -> Result<Option<BranchLine>, Fault>
         ensures answer { Answers (seen self.old) (seen self.new) result
             (λ log line. IsNextBranch log after line) }

@@ -15,7 +15,7 @@ pub enum Rule {
     Teller,
     /// A branch has just the accounts within its count.
     Account,
-    /// A balance is within the limits.
+    /// A balance is within the limits, and that of an account isn't below the floor of its branch.
     Balance,
     /// A kept request is one that can be kept.
     Request,
@@ -23,10 +23,12 @@ pub enum Rule {
     Value,
     /// A key that a new row needs is free.
     Key,
+    /// The floor of a branch is within -999,999,999,999..=0 cents.
+    Floor,
 }
 
 impl Rule {
-    /// The number of the rule: 1..=7.
+    /// The number of the rule: 1..=8.
     #[must_use]
     pub fn number(self) -> u8
         ensures { result ≡ number_of_rule self }
@@ -39,6 +41,7 @@ impl Rule {
             Rule::Request => 5,
             Rule::Value => 6,
             Rule::Key => 7,
+            Rule::Floor => 8,
         }
     }
 }

@@ -47,8 +47,8 @@ impl Kept {
     ghost use Rattle.posting_rules.specs.Cases.{is_same, kept_reply};
 
     /// The kept request of these fields; none for an outcome that isn't kept, and none for a balance other
-    /// than zero where the request wasn't posted. `Posted`, `WrongBranch`, `NoAccount` and `OverLimit` are
-    /// kept.
+    /// than zero where the request wasn't posted. `Posted`, `WrongBranch`, `NoAccount`, `BelowFloor` and
+    /// `OverLimit` are kept.
     #[must_use]
     pub fn new(
         account: Account,
@@ -61,7 +61,8 @@ impl Kept {
     {
         let belongs = match outcome {
             Outcome::Posted => true,
-            Outcome::WrongBranch | Outcome::NoAccount | Outcome::OverLimit => balance.get() == 0,
+            Outcome::WrongBranch | Outcome::NoAccount | Outcome::BelowFloor | Outcome::OverLimit =>
+                balance.get() == 0,
             Outcome::NoTeller | Outcome::ReusedNumber | Outcome::Full | Outcome::Malformed => false,
         };
         if belongs {
@@ -147,6 +148,8 @@ pub struct Found {
     pub decided: u64,
     /// The balance of the account in cents, where it is open.
     pub account: Option<Cents>,
+    /// The floor of the branch that the account's number gives, in cents, where it has one.
+    pub floor: Option<Cents>,
 }
 
 /// What becomes of a request, and what is to be done to the tables.
@@ -157,7 +160,7 @@ pub enum Verdict {
     Unkept(Outcome),
     /// It was decided before, and gets the reply that it got.
     Again(Reply),
-    /// It is refused, and kept: `WrongBranch`, `NoAccount` or `OverLimit`.
+    /// It is refused, and kept: `WrongBranch`, `NoAccount`, `BelowFloor` or `OverLimit`.
     Refused(Outcome),
     /// It is posted; these are the new balances, in cents.
     Posted {

@@ -2,10 +2,11 @@
 //! law.
 ghost use Rattle.posting_rules.specs.Stated.{DecidedAsStated, RepliedAsStated};
 ghost use Rattle.posting_rules.specs.Laws.{NoneShares, BalancesStayWithin, TablesAreConsistent};
-ghost use Rattle.posting_rules.specs.Laws.{EqualTablesAnswerAlike};
+ghost use Rattle.posting_rules.specs.Laws.{AccountsStayAbove, EqualTablesAnswerAlike};
 ghost use Rattle.posting_rules.specs.Alike.{OpeningsAnswerAlike, BalancesAnswerAlike, BranchesAnswerAlike};
 ghost use Rattle.posting_rules.specs.Damage.{TablesAreUndamaged};
 ghost use Rattle.posting_rules.specs.Resends.{RepliesAgain, RepliesInPlace, AddsOnce, KeepsCommands};
+ghost use Rattle.posting_rules.specs.Editions.{CarriesOver, PlainAreCommands, HasNoFloors, IsPresent};
 
 /// Which records are decided, which of them are posted, and what is replied, said case by case.
 pub fn cases_are_as_stated()
@@ -21,6 +22,11 @@ pub fn each_request_once()
 /// Every balance of an account, a teller and a branch stays within its limit.
 pub fn balances_stay_within()
     ensures { BalancesStayWithin }
+{}
+
+/// No account is ever below the floor of its own branch, whichever branch its postings came from.
+pub fn accounts_stay_above()
+    ensures { AccountsStayAbove }
 {}
 
 /// The consistency condition (TPC-B clause 2): accounts, tellers, branches and the deltas of history have one
@@ -50,4 +56,13 @@ pub fn resends_get_their_replies()
     ensures in_place { RepliesInPlace }
     ensures tables { AddsOnce }
     ensures commands { KeepsCommands }
+{}
+
+/// The tables of a log in a file of an earlier version are the present tables of what that version knew of the
+/// log: before version 2 there were no floors. So a file is carried over with all its rows as they are.
+pub fn earlier_versions_carry_over()
+    ensures tables { CarriesOver }
+    ensures commands { PlainAreCommands }
+    ensures no_floors { HasNoFloors }
+    ensures present { IsPresent }
 {}

@@ -18,6 +18,7 @@
 //!         kept: None,
 //!         decided: 0,
 //!         account: balance,
+//!         floor: None,
 //!     };
 //!     let verdict = judge(&found, &request);
 //!     (verdict, reply_to(&found, &request, &verdict).balance())
@@ -47,15 +48,16 @@ pub use counter::{BranchLine, Counter, Opening};
 pub use fault::{Fault, Rule};
 pub use judgments::{Found, Kept, Verdict};
 pub use laws::{
-    balances_stay_within, cases_are_as_stated, each_request_once, equal_tables_answer_alike,
-    resends_get_their_replies, tables_are_consistent, tables_are_undamaged,
+    accounts_stay_above, balances_stay_within, cases_are_as_stated, each_request_once,
+    earlier_versions_carry_over, equal_tables_answer_alike, resends_get_their_replies,
+    tables_are_consistent, tables_are_undamaged,
 };
 pub use limits::{
-    ACCOUNTS_PER_BRANCH, LAST_BRANCH, MAX_DECIDED, MOST_ACCOUNTS, RECORDS_PER_BATCH,
+    ACCOUNTS_PER_BRANCH, LAST_BRANCH, MAX_ACCOUNTS, MAX_DECIDED, RECORDS_PER_BATCH,
     TELLERS_PER_BRANCH,
 };
 pub use numbering::{
     branch_of_account, branch_of_teller, first_account, first_teller, place_of_account,
 };
 pub use open_fault::OpenFault;
-pub use rows::{AccountRow, BranchRow, HistoryRow, Ordinal, RequestRow, TellerRow};
+pub use rows::{AccountRow, BranchRow, FloorRow, HistoryRow, Ordinal, RequestRow, TellerRow};

@@ -13,7 +13,7 @@ pub const TELLERS_PER_BRANCH: u64 = 10;
 pub const ACCOUNTS_PER_BRANCH: u64 = 100_000;
 
 /// How many accounts a branch can be opened with.
-pub const MOST_ACCOUNTS: u32 = ACCOUNTS_PER_BRANCH as u32;
+pub const MAX_ACCOUNTS: u32 = ACCOUNTS_PER_BRANCH as u32;
 
 /// How many records can be submitted together.
 pub const RECORDS_PER_BATCH: usize = 64;

@@ -16,7 +16,7 @@ pub type Ordinal = Whole<1, MAX_DECIDED>;
 pub struct BranchRow {
     /// Its number.
     pub branch: Branch,
-    /// How many accounts it has: 1..=`MOST_ACCOUNTS`.
+    /// How many accounts it has: 1..=`MAX_ACCOUNTS`.
     pub accounts: u32,
     /// Its balance in cents.
     pub balance: Cents,
@@ -104,4 +104,13 @@ impl RequestRow {
             kept: Kept::new(account, branch, delta, outcome, balance).unwrap(),
         }
     }
+}
+
+/// The floor of a branch's accounts, under the branch's number. A branch without a row has no floor.
+#[derive(Clone, Copy, Debug, PartialEq, Eq)]
+pub struct FloorRow {
+    /// The number of the branch.
+    pub branch: Branch,
+    /// The lowest balance that its accounts may have, in cents: zero at most.
+    pub lowest: Cents,
 }

@@ -17,7 +17,7 @@ use Rattle.sql_meanings.proofs.Trees.{Holds-prop}
 
 -- ---- what the tests say
 
-no_references : (t : Table) → is_free t ≡ true → t.references ≡ []
+pub no_references : (t : Table) → is_free t ≡ true → t.references ≡ []
 no_references t h = go t.references h
   where
     go : {X : Type 0} → (xs : List X) → (length xs == 0) ≡ true → xs ≡ []

@@ -13,6 +13,7 @@ pub mod Defining
 pub mod EntryLists
 pub mod Expressions
 pub mod Failures
+pub mod FreeNames
 pub mod Growing
 pub mod Keyed
 pub mod KeyedAnswers
@@ -46,6 +47,7 @@ pub mod SetRows
 pub mod ShownColumns
 pub mod TableStands
 pub mod Statements
+pub mod StayHeld
 pub mod Steps
 pub mod Stopping
 pub mod TableWrites

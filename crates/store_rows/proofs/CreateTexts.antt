@@ -12,7 +12,7 @@ use Rattle.sql_meanings.proofs.Makeable.{creates_by, makeable}
 use Rattle.store_rows.specs.Creation.{all_texts}
 use Rattle.store_rows.specs.BankTables as bank
 use Rattle.store_rows.specs.declared.texts.TheConstants.{MAKE_META, MAKE_BRANCH, MAKE_TELLER, MAKE_ACCOUNT}
-use Rattle.store_rows.specs.declared.texts.TheConstants.{MAKE_HISTORY, MAKE_REQUEST}
+use Rattle.store_rows.specs.declared.texts.TheConstants.{MAKE_HISTORY, MAKE_REQUEST, MAKE_FLOOR}
 
 -- the table that counts for AUTOINCREMENT
 pub sequence : (t : Table) × IsMakeable sequence_text t
@@ -34,6 +34,12 @@ of_numbers = (
       refl refl refl refl refl refl refl (lit≤ tt) refl,
 )
 
+-- the lowest balance of a branch's accounts
+of_floors : CreatesOnly MAKE_FLOOR.now bank.floor
+unfolding everything listing_tests
+of_floors = creates_by _ _ (makeable MAKE_FLOOR.now bank.floor refl refl refl refl refl refl refl refl) refl _ _ _
+    refl refl refl refl refl refl refl (lit≤ tt) refl
+
 -- what was asked
 of_records : CreatesOnly MAKE_HISTORY.now bank.history × CreatesOnly MAKE_REQUEST.now bank.request
 unfolding everything listing_tests
@@ -48,4 +54,4 @@ of_records = (
 pub each_creates : AllByRecursion (λ it. CreatesOnly it.0 it.1 × (it.1.is_counted ≡ false)) all_texts
 each_creates =
     let n = of_numbers in let r = of_records in
-    ((n.0, refl), ((n.1, refl), ((n.2, refl), ((n.3, refl), ((r.0, refl), ((r.1, refl), tt))))))
+    ((n.0, refl), ((n.1, refl), ((n.2, refl), ((n.3, refl), ((r.0, refl), ((r.1, refl), ((of_floors, refl), tt)))))))

@@ -25,12 +25,12 @@ module _ {X : Type 0} (old new : State) (shown : X → Row) (Breaks : X → Rule
   found_ok None x told read = absurd (let e = told.0 in cc)
   found_ok (Some y) x told read = (ap Some (read y (the_row told.0)), told.1)
 
-  -- a value that could not be read breaks a rule, or memory was refused
+  -- a value that could not be read breaks a rule
   found_err : (wanted : Option X) (fault : TableFault) → (option_map shown wanted ≡ Some row)
       × IsUnchanged old new
       → ReadsRow shown Breaks row (Err fault) → Finds old new wanted Breaks (Err fault)
   found_err None fault told read = absurd (let e = told.0 in cc)
-  found_err (Some y) (Sqlite e) told read = inr (inl (read y (the_row told.0)), told.1)
+  found_err (Some y) (Sqlite e) told read = absurd read
   found_err (Some y) (Damaged broken) told read = ((y, refl, read y (the_row told.0)), told.1)
 
   -- no row is reported if none was looked for
@@ -49,8 +49,9 @@ pub finds : {X : Type 0} (old new : State) (shown : X → Row) (Breaks : X → R
 finds old new shown Breaks wanted (Ok row) (Ok (Some x)) read told = found_ok old new shown Breaks row wanted
     x told read
 finds old new shown Breaks wanted (Ok row) (Ok None) read told = absurd read
-finds old new shown Breaks wanted (Ok row) (Err fault) read told = found_err old new shown Breaks row wanted
-    fault told read.0
+finds old new shown Breaks wanted (Ok row) (Err (Sqlite e)) read told = absurd read
+finds old new shown Breaks wanted (Ok row) (Err (Damaged rule)) read told = found_err old new shown Breaks row
+    wanted (Damaged rule) told read
 finds old new shown Breaks wanted (Err e) (Ok (Some x)) read told = absurd read
 finds old new shown Breaks wanted (Err e) (Ok None) read told =
     found_none old new shown Breaks [] wanted
@@ -67,5 +68,5 @@ finds {X = X} old new shown Breaks wanted (Err e) (Err fault) read told =
 pub reads_balance : (row : Row) (r : Result ℤ TableFault) → ReadsCents Balance (column row 0) r
     → ReadsRow balance_shown BreaksBalance row r
 reads_balance row (Ok z) read = λ y is. read y (ap (λ x. column x 0) is)
-reads_balance row (Err (Sqlite e)) read = λ y is. read y (ap (λ x. column x 0) is)
+reads_balance row (Err (Sqlite e)) read = absurd read
 reads_balance row (Err (Damaged broken)) read = λ y is. read y (ap (λ x. column x 0) is)

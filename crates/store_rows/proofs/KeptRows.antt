@@ -13,6 +13,7 @@ use Rattle.message_records.specs.declared.records.Outcome.TheVariants.{
   OverLimit,
   ReusedNumber,
   Full,
+  BelowFloor,
   Malformed,
 }
 use Rattle.posting_rules.specs.Kept.{KeptFields, is_kept_with, kept_from}
@@ -28,7 +29,7 @@ use Rattle.message_records.specs.declared.limits.TheConstants.{MAX_ACCOUNT, MAX_
 abbrev pub decode : ℕ → Outcome
 decode n = cond (n == 0) Posted (cond (n == 11) NoTeller
     (cond (n == 12) WrongBranch (cond (n == 13) NoAccount
-    (cond (n == 14) OverLimit (cond (n == 15) ReusedNumber (cond (n == 16) Full Malformed))))))
+    (cond (n == 14) OverLimit (cond (n == 15) ReusedNumber (cond (n == 16) Full (cond (n == 17) BelowFloor Malformed)))))))
 
 -- the outcome of a code
 pub decoded : (o : Outcome) → decode (code_of o) ≡ o
@@ -39,6 +40,7 @@ decoded NoAccount = refl
 decoded OverLimit = refl
 decoded ReusedNumber = refl
 decoded Full = refl
+decoded BelowFloor = refl
 decoded Malformed = refl
 
 -- two outcomes with one code are one
@@ -87,7 +89,7 @@ module _ (row : Row) (account branch : ℕ) (delta : ℤ) (outcome : Outcome) (b
 
 pub no_delta : (row : Row) (e : TableFault) → ReadsCents Request (column row 5) (Err e)
     → ReadsKept row (Err e)
-no_delta row (Sqlite e) read = λ r is. read r.kept.delta (ap (λ x. column x 5) is)
+no_delta row (Sqlite e) read = absurd read
 no_delta row (Damaged broken) read = λ r is.
     let it = read r.kept.delta (ap (λ x. column x 5) is) in (
       it.0,
@@ -97,7 +99,7 @@ no_delta row (Damaged broken) read = λ r is.
 
 pub no_balance : (row : Row) (e : TableFault) → ReadsCents Request (column row 7) (Err e)
     → ReadsKept row (Err e)
-no_balance row (Sqlite e) read = λ r is. read r.kept.balance (ap (λ x. column x 7) is)
+no_balance row (Sqlite e) read = absurd read
 no_balance row (Damaged broken) read = λ r is.
     let it = read r.kept.balance (ap (λ x. column x 7) is) in (
       it.0,

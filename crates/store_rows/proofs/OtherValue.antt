@@ -48,5 +48,5 @@ pub other_told : (db : Database) (answer : Result Row Error) (result : Result (O
     → IfErr result (TellsOther db)
 other_told db answer (Ok found) shows read = tt
 other_told db answer (Err (Sqlite e)) shows read = tt
-other_told db (Ok row) (Err (Damaged rule)) shows read = (row, shows, read.0)
+other_told db (Ok row) (Err (Damaged rule)) shows read = (row, shows, read)
 other_told db (Err e) (Err (Damaged rule)) shows read = absurd (let same = read.0 in cc)

@@ -1,5 +1,5 @@
 -- What each probe reports of its table.
-use Rattle.std.proofs.Common.{[], ◌∷◌, lit≤, refl}
+use Rattle.std.proofs.Common.{◌≡◌, [], ◌∷◌, lit≤, refl}
 use Rattle.sqlite.specs.Listing.{listing_schema}
 use Rattle.sqlite.specs.Term.{col}
 use Rattle.sqlite_tied.specs.Compute.{everything}
@@ -8,15 +8,18 @@ use Rattle.sqlite_resolve.specs.Select.{ungrouped}
 use Rattle.sql_meanings.proofs.Probing.{ProbesAs}
 use Rattle.sql_meanings.proofs.Texts.{IsSelect, probes_by, select_of}
 use Rattle.store_rows.specs.BankTables as bank
+use Rattle.store_rows.specs.Probes.{probe_of}
+use Rattle.store_rows.specs.declared.probes.BankTable.{BankTable}
+use Rattle.store_rows.specs.declared.probes.BankTable.TheVariants.{Meta, Branch, Teller, Account, History, Request, Floor}
 use Rattle.store_rows.specs.declared.texts.TheConstants.{PROBE_META, PROBE_BRANCH, PROBE_TELLER}
-use Rattle.store_rows.specs.declared.texts.TheConstants.{PROBE_ACCOUNT, PROBE_HISTORY, PROBE_REQUEST}
+use Rattle.store_rows.specs.declared.texts.TheConstants.{PROBE_ACCOUNT, PROBE_HISTORY, PROBE_REQUEST, PROBE_FLOOR}
 
 is_meta : IsSelect bank.meta PROBE_META.now 0 (0 ∷ 1 ∷ 2 ∷ [])
 unfolding everything
 is_meta = select_of bank.meta PROBE_META.now 0 _ _ _ _ _ _ _ _ _ refl refl refl (lit≤ tt) refl refl refl refl
     (λ tree. refl) (lit≤ tt)
 
-pub probes_meta : ProbesAs bank.meta PROBE_META.now
+probes_meta : ProbesAs bank.meta PROBE_META.now
 unfolding is_meta everything listing_schema program.program ungrouped
 probes_meta = probes_by bank.meta PROBE_META.now _ is_meta (col 1 0 ∷ col 1 2 ∷ col 1 3 ∷ []) refl refl refl
     (λ schema p tree has. rw (has.low, has.found)) refl
@@ -27,7 +30,7 @@ is_branch = select_of bank.branch PROBE_BRANCH.now 0 _ _ _ _ _ _ _ _ _ refl refl
     refl
     (λ tree. refl) (lit≤ tt)
 
-pub probes_branch : ProbesAs bank.branch PROBE_BRANCH.now
+probes_branch : ProbesAs bank.branch PROBE_BRANCH.now
 unfolding is_branch everything listing_schema program.program ungrouped
 probes_branch = probes_by bank.branch PROBE_BRANCH.now _ is_branch (col 1 0 ∷ col 1 2 ∷ col 1 3 ∷ []) refl refl
     refl
@@ -39,7 +42,7 @@ is_teller = select_of bank.teller PROBE_TELLER.now 0 _ _ _ _ _ _ _ _ _ refl refl
     refl
     (λ tree. refl) (lit≤ tt)
 
-pub probes_teller : ProbesAs bank.teller PROBE_TELLER.now
+probes_teller : ProbesAs bank.teller PROBE_TELLER.now
 unfolding is_teller everything listing_schema program.program ungrouped
 probes_teller = probes_by bank.teller PROBE_TELLER.now _ is_teller (col 1 0 ∷ col 1 2 ∷ []) refl refl refl
     (λ schema p tree has. rw (has.low, has.found)) refl
@@ -50,7 +53,7 @@ is_account = select_of bank.account PROBE_ACCOUNT.now 0 _ _ _ _ _ _ _ _ _ refl r
     refl refl
     (λ tree. refl) (lit≤ tt)
 
-pub probes_account : ProbesAs bank.account PROBE_ACCOUNT.now
+probes_account : ProbesAs bank.account PROBE_ACCOUNT.now
 unfolding is_account everything listing_schema program.program ungrouped
 probes_account = probes_by bank.account PROBE_ACCOUNT.now _ is_account (col 1 0 ∷ col 1 2 ∷ []) refl refl refl
     (λ schema p tree has. rw (has.low, has.found)) refl
@@ -61,7 +64,7 @@ is_history = select_of bank.history PROBE_HISTORY.now 0 _ _ _ _ _ _ _ _ _ refl r
     refl refl
     (λ tree. refl) (lit≤ tt)
 
-pub probes_history : ProbesAs bank.history PROBE_HISTORY.now
+probes_history : ProbesAs bank.history PROBE_HISTORY.now
 unfolding is_history everything listing_schema program.program ungrouped
 probes_history = probes_by bank.history PROBE_HISTORY.now _ is_history
     (col 1 0 ∷ col 1 2 ∷ col 1 3 ∷ col 1 4 ∷ col 1 5 ∷ col 1 6 ∷ []) refl refl refl
@@ -73,8 +76,39 @@ is_request = select_of bank.request PROBE_REQUEST.now 0 _ _ _ _ _ _ _ _ _ refl r
     refl refl
     (λ tree. refl) (lit≤ tt)
 
-pub probes_request : ProbesAs bank.request PROBE_REQUEST.now
+probes_request : ProbesAs bank.request PROBE_REQUEST.now
 unfolding is_request everything listing_schema program.program ungrouped
 probes_request = probes_by bank.request PROBE_REQUEST.now _ is_request
     (col 1 0 ∷ col 1 2 ∷ col 1 3 ∷ col 1 4 ∷ col 1 5 ∷ col 1 6 ∷ col 1 7 ∷ col 1 8 ∷ []) refl refl refl
     (λ schema p tree has. rw (has.low, has.found)) refl
+
+is_floor : IsSelect bank.floor PROBE_FLOOR.now 0 (0 ∷ 1 ∷ [])
+unfolding everything
+is_floor = select_of bank.floor PROBE_FLOOR.now 0 _ _ _ _ _ _ _ _ _ refl refl refl (lit≤ tt) refl refl refl
+    refl
+    (λ tree. refl) (lit≤ tt)
+
+probes_floor : ProbesAs bank.floor PROBE_FLOOR.now
+unfolding is_floor everything listing_schema program.program ungrouped
+probes_floor = probes_by bank.floor PROBE_FLOOR.now _ is_floor (col 1 0 ∷ col 1 2 ∷ []) refl refl refl
+    (λ schema p tree has. rw (has.low, has.found)) refl
+
+-- what the probe of each table reports
+pub probes : (table : BankTable) → ProbesAs (probe_of table).1 (probe_of table).0
+probes Meta = probes_meta
+probes Branch = probes_branch
+probes Teller = probes_teller
+probes Account = probes_account
+probes History = probes_history
+probes Request = probes_request
+probes Floor = probes_floor
+
+-- none of the tables refers to another
+pub stands_alone : (table : BankTable) → (probe_of table).1.references ≡ []
+stands_alone Meta = refl
+stands_alone Branch = refl
+stands_alone Teller = refl
+stands_alone Account = refl
+stands_alone History = refl
+stands_alone Request = refl
+stands_alone Floor = refl

@@ -5,6 +5,7 @@ use Rattle.posting_rules.specs.declared.rows.TellerRow.{TellerRow}
 use Rattle.posting_rules.specs.declared.rows.AccountRow.{AccountRow}
 use Rattle.posting_rules.specs.declared.rows.HistoryRow.{HistoryRow}
 use Rattle.posting_rules.specs.declared.rows.RequestRow.{RequestRow}
+use Rattle.posting_rules.specs.declared.rows.FloorRow.{FloorRow}
 use Rattle.sqlite.specs.Order.{Row}
 use Rattle.sqlite.specs.Table.{Table}
 use Rattle.sqlite.specs.declared.types.Value.TheVariants.{Null, Int}
@@ -14,7 +15,7 @@ use Rattle.sql_meanings.proofs.PutRows.{PutsAs}
 use Rattle.sql_meanings.proofs.Texts.{puts_by}
 use Rattle.store_rows.specs.BankTables as bank
 use Rattle.store_rows.specs.View.{meta_entry, branch_entry, teller_entry, account_entry, history_entry}
-use Rattle.store_rows.specs.View.{request_entry}
+use Rattle.store_rows.specs.View.{request_entry, floor_entry}
 use Rattle.store_rows.specs.declared.metas.TheConstants.{VERSION}
 use Rattle.store_rows.specs.declared.texts.TheConstants as text
 use Rattle.store_rows.proofs.Checked.{meta_checked}
@@ -38,13 +39,14 @@ pub record PutsEntries : Type 0 where
   pub account : (r : AccountRow) → Puts bank.account text.ADD_ACCOUNT.now (account_entry r)
   pub posting : (r : HistoryRow) → Puts bank.history text.ADD_HISTORY.now (history_entry r)
   pub request : (r : RequestRow) → Puts bank.request text.ADD_REQUEST.now (request_entry r)
+  pub floor : (r : FloorRow) → Puts bank.floor text.ADD_FLOOR.now (floor_entry r)
 
 pub puts : PutsEntries
 unfolding everything
 puts = record {
   meta = puts_by bank.meta text.ADD_META.now (given first_row) first_row 2 _ _ _ refl refl refl refl
       (λ _ _. refl) (lit≤ tt) refl (λ _. refl) (refl, refl) tt (λ _. refl)
-      (meta_checked (pos 1) (Null ∷ Int (pos 1) ∷ Int (pos 0) ∷ []) refl);
+      (meta_checked (pos 1) (Null ∷ Int VERSION ∷ Int (pos 0) ∷ []) refl);
   branch = λ r. puts_by bank.branch text.ADD_BRANCH.now (given (branch_entry r)) (branch_entry r) 2 _ _ _ refl
       refl refl refl (λ _ _. refl) (lit≤ tt) refl (λ _. refl) (refl, refl) tt (λ _. refl) refl;
   teller = λ r. puts_by bank.teller text.ADD_TELLER.now (given (teller_entry r)) (teller_entry r) 1 _ _ _ refl
@@ -55,4 +57,6 @@ puts = record {
       refl refl refl refl (λ _ _. refl) (lit≤ tt) refl (λ _. refl) (refl, refl) tt (λ _. refl) refl;
   request = λ r. puts_by bank.request text.ADD_REQUEST.now (given (request_entry r)) (request_entry r) 7 _ _ _
       refl refl refl refl (λ _ _. refl) (lit≤ tt) refl (λ _. refl) (refl, refl) tt (λ _. refl) refl;
+  floor = λ r. puts_by bank.floor text.ADD_FLOOR.now (given (floor_entry r)) (floor_entry r) 1 _ _ _ refl
+      refl refl refl (λ _ _. refl) (lit≤ tt) refl (λ _. refl) (refl, refl) tt (λ _. refl) refl;
 }

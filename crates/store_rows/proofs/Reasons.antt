@@ -1,12 +1,12 @@
 -- What a call that failed leaves, and why it did.
 use Rattle.std.proofs.Common.{◌≢◌, ℕ, List, Option, Some, None, Result, Ok, Err, inl, inr, sym, subst}
 use Rattle.sqlite.specs.Order.{Row}
-use Rattle.sqlite.specs.State.{State, IsUnchanged, QueriesRowInside}
+use Rattle.sqlite.specs.State.{State, QueriesRowInside}
 use Rattle.sqlite.specs.declared.error.Error.{Error}
 use Rattle.sqlite.specs.declared.error.Error.TheVariants.{QueryReturnedNoRows}
 use Rattle.sql_meanings.specs.Outcomes.{ReadKept, WriteFails}
 use Rattle.sql_meanings.proofs.OnlyShowing.{kept_none}
-use Rattle.store_rows.specs.Failures.{Asking, Reading, Asks, HasReason, IsUnreadable, Looks, ReadsAnswer}
+use Rattle.store_rows.specs.Failures.{Asking, Asks, HasReason, Looks, ReadsAnswer}
 use Rattle.store_rows.specs.declared.fault.TableFault.{TableFault}
 use Rattle.store_rows.specs.declared.fault.TableFault.TheVariants.{Sqlite, Damaged}
 
@@ -24,19 +24,14 @@ module _ (old new : State) where
   looks_asked e (inl fails, why) more = (inr fails.3, why more)
   looks_asked e (inr same, why) more = (inl same, why more)
 
-  -- and so is a value that can't be read
-  looks_unread : (fault : TableFault) → IsUnchanged old new → IsUnreadable fault → WriteFails old new
-      × HasReason old new fault
-  looks_unread (Sqlite e) same it = (inl same, Reading it.0 it.1 it.2)
-  looks_unread (Damaged rule) same it = (inl same, tt)
-
   -- a query whose answer is reported so is a read
   pub looks : {X : Type 0} (Reads : Row → Result X TableFault → Type 0) (answer : Result Row Error)
       (result : Result (Option X) TableFault)
       → ReadsAnswer Reads answer result → Asks old new answer → Looks old new result
   looks Reads (Ok row) (Ok (Some x)) read asks = asks
   looks Reads (Ok row) (Ok None) read asks = absurd read
-  looks Reads (Ok row) (Err fault) read asks = looks_unread fault asks read.1
+  looks Reads (Ok row) (Err (Sqlite e)) read asks = absurd read
+  looks Reads (Ok row) (Err (Damaged rule)) read asks = (inl asks, tt)
   looks Reads (Err e) (Ok (Some x)) read asks = absurd read
   looks Reads (Err e) (Ok None) read asks = kept_none old new
       (subst (λ e. ReadKept {X = Row} old new (Err e)) read asks.0)

@@ -13,13 +13,15 @@ use Rattle.posting_rules.specs.declared.rows.TellerRow.{TellerRow}
 use Rattle.posting_rules.specs.declared.rows.AccountRow.{AccountRow}
 use Rattle.posting_rules.specs.declared.rows.HistoryRow.{HistoryRow}
 use Rattle.posting_rules.specs.declared.rows.RequestRow.{RequestRow}
+use Rattle.posting_rules.specs.declared.rows.FloorRow.{FloorRow}
 use Rattle.sql_meanings.specs.Entries.{Entry, numbers, texts_held, stored}
 use Rattle.sql_meanings.specs.Tables.{Holds}
 use Rattle.sql_meanings.specs.Contents.{HoldsEach}
 use Rattle.sql_meanings.proofs.Trees.{same_schema}
 use Rattle.store_rows.specs.BankTables.{bank_tables}
+use Rattle.store_rows.specs.Creation.{new_tables}
 use Rattle.store_rows.specs.View.{Shows, ShowsTrees, contents, branch_entry, teller_entry, account_entry}
-use Rattle.store_rows.specs.View.{history_entry, request_entry}
+use Rattle.store_rows.specs.View.{history_entry, request_entry, floor_entry}
 use Rattle.store_rows.proofs.KeptRows.{decode, decoded}
 
 -- what can be read back is shown by one row alone, and so are lists of it
@@ -111,6 +113,9 @@ teller_in e = record { teller = nat_abs e.key; balance = amount e 0 }
 abbrev account_in : Entry → AccountRow
 account_in e = record { account = nat_abs e.key; balance = amount e 0 }
 
+abbrev floor_in : Entry → FloorRow
+floor_in e = record { branch = nat_abs e.key; lowest = amount e 0 }
+
 abbrev history_in : Entry → HistoryRow
 history_in e = record {
   ordinal = nat_abs e.key;
@@ -152,15 +157,16 @@ request_back r = ap (λ o. let it : RequestRow = record r {
 
 -- the tables of the entries that a file holds
 tables_in : List (List Entry) → Tables
-tables_in (a ∷ b ∷ c ∷ d ∷ e ∷ f ∷ more) = record {
+tables_in (a ∷ b ∷ c ∷ d ∷ e ∷ f ∷ g ∷ more) = record {
   decided = decided_in a;
   branches = map branch_in b;
   tellers = map teller_in c;
   accounts = map account_in d;
   history = map history_in e;
   requests = map request_in f;
+  floors = map floor_in g;
 }
-tables_in _ = record { decided = 0; branches = []; tellers = []; accounts = []; history = []; requests = [] }
+tables_in _ = new_tables
 
 tables_back : (t : Tables) → tables_in (contents t) ≡ t
 unfolding tables_in decided_in
@@ -170,6 +176,7 @@ tables_back t = rw (
   all_back account_entry account_in (λ _. refl) t.accounts,
   all_back history_entry history_in (λ _. refl) t.history,
   all_back request_entry request_in request_back t.requests,
+  all_back floor_entry floor_in (λ _. refl) t.floors,
 ) refl
 
 entries_once : (db : Database) (table : Table) (xs ys : List Entry) → Holds db table xs → Holds db table ys

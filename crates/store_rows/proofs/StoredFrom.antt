@@ -19,7 +19,7 @@ use Rattle.store_rows.proofs.KeptRows.{same_outcome}
 -- a code that is none breaks the rule
 pub no_outcome : (row : Row) (fault : TableFault) → ReadsOutcome (column row 6) (Err fault)
     → ReadsStored {X = KeptFields} request_stored IsKept RequestKeeps row (Err fault)
-no_outcome row (Sqlite e) read = tt
+no_outcome row (Sqlite e) read = absurd read
 no_outcome row (Damaged rule) read = λ r is kept.
     let out = read (number_at 5 r) (ap (λ x. column x 6) is) in
     let request = subst (λ x. RequestKeeps x r) out.0 kept in

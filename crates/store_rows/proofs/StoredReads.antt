@@ -51,7 +51,7 @@ module _ {X : Type 0} (shown : Entry → Row) (Is : X → Entry → Type 0) (Kee
       → ((r : Entry) → Keeps broken r → IsFrom least most (number r))
       → (fault : TableFault) → ReadsWhole low high broken (column row at) (Err fault)
       → ReadsStored {X = X} shown Is Keeps row (Err fault)
-  unread_whole low high least most under over keeps (Sqlite e) read = tt
+  unread_whole low high least most under over keeps (Sqlite e) read = absurd read
   unread_whole low high least most under over keeps (Damaged rule) read = λ r is kept.
       let out = read (number r) (is_number r is) in
       let from = keeps r (subst (λ (x : Rule). Keeps x r) out.0 kept) in
@@ -62,7 +62,7 @@ module _ {X : Type 0} (shown : Entry → Row) (Is : X → Entry → Type 0) (Kee
       → ((r : Entry) → Keeps broken r → nat_abs (number r) ≤ limit)
       → (fault : TableFault) → ReadsCents broken (column row at) (Err fault)
       → ReadsStored {X = X} shown Is Keeps row (Err fault)
-  unread_cents limit over keeps (Sqlite e) read = tt
+  unread_cents limit over keeps (Sqlite e) read = absurd read
   unread_cents limit over keeps (Damaged rule) read = λ r is kept.
       let out = read (number r) (is_number r is) in
       cents_inside limit MAX_BALANCE (number r) over (keeps r (subst (λ (x : Rule). Keeps x r) out.0 kept))
@@ -93,7 +93,7 @@ module _ {X : Type 0} (old new : State) (shown : Entry → Row) (Is : X → Entr
   -- one that couldn't be read breaks a rule
   stored_err : (row : Row) (fault : TableFault) → TellsRow old new (option_map shown stored) (Ok row)
       → ReadsStored {X = X} shown Is Keeps row (Err fault) → FindsStored {X = X} stored Is Keeps (Err fault)
-  stored_err row (Sqlite e) told read = tt
+  stored_err row (Sqlite e) told read = absurd read
   stored_err row (Damaged rule) told read = go stored told.0
     where
       go : (o : Option Entry) → option_map shown o ≡ Some row
@@ -118,7 +118,8 @@ module _ {X : Type 0} (old new : State) (shown : Entry → Row) (Is : X → Entr
       → TellsRow old new (option_map shown stored) answer → FindsStored stored Is Keeps result
   stores (Ok row) (Ok (Some x)) read told = stored_ok row x told read
   stores (Ok row) (Ok None) read told = absurd read
-  stores (Ok row) (Err fault) read told = stored_err row fault told read.0
+  stores (Ok row) (Err (Sqlite e)) read told = absurd read
+  stores (Ok row) (Err (Damaged rule)) read told = stored_err row (Damaged rule) told read
   stores (Err e) (Ok (Some x)) read told = absurd read
   stores (Err e) (Ok None) read told = stored_none
       (subst (λ e. TellsRow old new (option_map shown stored) (Err e)) read told)

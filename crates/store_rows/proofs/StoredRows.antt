@@ -19,7 +19,7 @@ use Rattle.sql_meanings.proofs.ReadTables.{ReadsAs}
 use Rattle.store_rows.specs.Rules.{HoldsBank, StoredRows, row_under, stored_lists}
 use Rattle.store_rows.specs.BankTables as bank
 use Rattle.store_rows.specs.BankTables.{bank_tables}
-use Rattle.store_rows.specs.Stored.{balance_stored, branch_stored, request_stored}
+use Rattle.store_rows.specs.Stored.{balance_stored, branch_stored, floor_stored, request_stored}
 use Rattle.store_rows.specs.declared.texts.TheConstants.{GET_REQUEST, NEXT_BRANCH}
 use Rattle.store_rows.proofs.GetRequest as request
 use Rattle.store_rows.proofs.NextBranch as next
@@ -65,6 +65,19 @@ pub one_number : (k key : ℤ) (values : List ℤ) (texts : List (List ℕ)) →
 one_number k key [] texts wide = absurd (omega arith)
 one_number k key (a ∷ []) texts wide = refl
 one_number k key (a ∷ b ∷ more) texts wide = absurd (omega arith)
+
+-- ---- floors
+
+abbrev pub floor_project : List Term
+floor_project = col 1 0 ∷ col 1 2 ∷ []
+
+pub key_and_number : (k key : ℤ) (values : List ℤ) (texts : List (List ℕ)) → length values ≡ 1
+    → eval_all floor_project ((Int k ∷ [])
+    ∷ stored (record { key = key; values = values; texts = texts }) ∷ [])
+    ≡ floor_stored (record { key = key; values = values; texts = texts })
+key_and_number k key [] texts wide = absurd (omega arith)
+key_and_number k key (a ∷ []) texts wide = refl
+key_and_number k key (a ∷ b ∷ more) texts wide = absurd (omega arith)
 
 -- ---- branches
 

@@ -1,13 +1,14 @@
 -- The tables of the bank that have typed rows, each with these.
 use Rattle.std.proofs.Common.{[], ◌∷◌, codes, lit≤, refl}
-use Rattle.posting_rules.specs.Tables.{branch_key, teller_key, account_key, history_key, request_key}
+use Rattle.posting_rules.specs.Tables.{branch_key, teller_key, account_key, history_key, request_key, floor_key}
 use Rattle.posting_rules.specs.declared.rows.BranchRow.{BranchRow}
 use Rattle.posting_rules.specs.declared.rows.TellerRow.{TellerRow}
 use Rattle.posting_rules.specs.declared.rows.AccountRow.{AccountRow}
 use Rattle.posting_rules.specs.declared.rows.HistoryRow.{HistoryRow}
 use Rattle.posting_rules.specs.declared.rows.RequestRow.{RequestRow}
+use Rattle.posting_rules.specs.declared.rows.FloorRow.{FloorRow}
 use Rattle.store_rows.specs.BankTables as bank
-use Rattle.store_rows.specs.View.{branch_entry, teller_entry, account_entry, history_entry, request_entry}
+use Rattle.store_rows.specs.View.{branch_entry, teller_entry, account_entry, history_entry, request_entry, floor_entry}
 use Rattle.store_rows.proofs.TableKinds.{Kind, kind_of}
 
 -- the branches
@@ -46,4 +47,11 @@ requests = kind_of 5 bank.request request_key request_entry (λ t. t.requests)
     (λ _ _. refl) (λ _ _. refl) (codes "ordinal")
     (codes "tid" ∷ codes "number" ∷ codes "aid" ∷ codes "bid" ∷ codes "delta" ∷ codes "outcome"
     ∷ codes "balance" ∷ [])
+    refl refl refl refl (lit≤ tt) refl
+
+-- the floors
+abbrev pub floors : Kind FloorRow
+floors = kind_of 6 bank.floor floor_key floor_entry (λ t. t.floors)
+    (λ rows t. record t { floors = rows }) (λ _. refl) refl (λ _. refl)
+    (λ _ _. refl) (λ _ _. refl) (codes "bid") (codes "lowest" ∷ [])
     refl refl refl refl (lit≤ tt) refl

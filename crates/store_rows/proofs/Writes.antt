@@ -1,11 +1,11 @@
 -- What each UPDATE of a balance and each INSERT of a row leaves of the tables.
-use Rattle.std.proofs.Common.{◌≡◌, ◌≤◌, ℕ, ℤ, pos, is_some, List, [], ◌∷◌, Bool, Result, refl}
+use Rattle.std.proofs.Common.{◌≡◌, ◌≤◌, ℕ, ℤ, pos, is_some, List, [], ◌∷◌, Some, Bool, Result, refl}
 use Rattle.sqlite.specs.declared.error.Error.{Error}
 use Rattle.sqlite.specs.declared.transaction.Transaction.{Transaction}
 use Rattle.sqlite.specs.declared.types.Value.TheVariants.{Int}
 use Rattle.sqlite_trees.specs.declared.store.Store.{Ghosts}
 use Rattle.posting_rules.specs.Changes.{row_changed, row_put, with_account, with_account_balance, with_branch}
-use Rattle.posting_rules.specs.Changes.{with_branch_balance}
+use Rattle.posting_rules.specs.Changes.{with_branch_balance, with_floor}
 use Rattle.posting_rules.specs.Changes.{with_history, with_request, with_teller, with_teller_balance}
 use Rattle.posting_rules.specs.Tables.{Tables, row_at}
 use Rattle.sql_meanings.specs.Entries.{Entry}
@@ -19,7 +19,7 @@ use Rattle.store_rows.proofs.TableKinds.{Kind, table_of, tells_added, tells_writ
 use Rattle.store_rows.proofs.Puts.{Puts, given, puts as each}
 use Rattle.store_rows.proofs.Setting.{set_first, set_second, sets as numbers}
 use Rattle.store_rows.proofs.Telling.{tells_tables}
-use Rattle.store_rows.proofs.TheTables.{accounts, branches, history, requests, tellers}
+use Rattle.store_rows.proofs.TheTables.{accounts, branches, floors, history, requests, tellers}
 
 -- a call that runs the text writes a balance so
 abbrev Sets : {R : Type 0} → Kind R → List ℕ → (ℕ → ℤ → Tables → Tables) → Type 1
@@ -78,13 +78,15 @@ pub record PutsRows : Type 1 where
   pub account : PutsEach accounts text.ADD_ACCOUNT.now with_account
   pub posting : PutsEach history text.ADD_HISTORY.now with_history
   pub request : PutsEach requests text.ADD_REQUEST.now with_request
+  pub floor : PutsEach floors text.ADD_FLOOR.now (λ r. with_floor r.branch (Some r.lowest))
 
 pub rows_put : PutsRows
-unfolding with_branch with_teller with_account with_history with_request
+unfolding with_branch with_teller with_account with_history with_request with_floor
 rows_put = record {
   branch = puts branches text.ADD_BRANCH.now each.branch;
   teller = puts tellers text.ADD_TELLER.now each.teller;
   account = puts accounts text.ADD_ACCOUNT.now each.account;
   posting = puts history text.ADD_HISTORY.now each.posting;
   request = puts requests text.ADD_REQUEST.now each.request;
+  floor = puts floors text.ADD_FLOOR.now each.floor;
 }

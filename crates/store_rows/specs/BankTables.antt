@@ -41,6 +41,10 @@ request = record (plain_table (codes "request") (codes "ordinal")
       orders = plain ∷ [];
     }
 
+-- the floors, by the number of their branch: the lowest balance that its accounts may have
+abbrev pub floor : Table
+floor = plain_table (codes "branch_floor") (codes "bid") (codes "lowest" ∷ [])
+
 -- all of them; another table of the bank is one more here
 abbrev pub bank_tables : List Table
-bank_tables = meta ∷ branch ∷ teller ∷ account ∷ history ∷ request ∷ []
+bank_tables = meta ∷ branch ∷ teller ∷ account ∷ history ∷ request ∷ floor ∷ []

@@ -7,6 +7,7 @@ use Rattle.message_records.specs.Outcomes.{code_of}
 use Rattle.posting_rules.specs.Tables.{Tables}
 use Rattle.posting_rules.specs.declared.rows.BranchRow.{BranchRow}
 use Rattle.posting_rules.specs.declared.rows.RequestRow.{RequestRow}
+use Rattle.posting_rules.specs.declared.rows.FloorRow.{FloorRow}
 use Rattle.store_rows.specs.declared.metas.StoredMeta.{StoredMeta}
 use Rattle.store_rows.specs.declared.metas.TheConstants.{META_ID}
 use Rattle.sql_meanings.specs.Entries.{Entry, has_key}
@@ -29,6 +30,10 @@ request_shown r =
     Int (pos r.ordinal) ∷ Int (pos r.teller) ∷ Int (pos r.number) ∷ Int (pos r.kept.account) ∷ Int
     (pos r.kept.branch) ∷ Int r.kept.delta ∷
     Int (pos (code_of r.kept.outcome)) ∷ Int r.kept.balance ∷ []
+
+-- bid, lowest
+abbrev pub floor_shown : FloorRow → Row
+floor_shown r = Int (pos r.branch) ∷ Int r.lowest ∷ []
 
 -- ---- what is looked for
 

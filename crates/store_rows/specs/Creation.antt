@@ -29,7 +29,8 @@ abbrev pub all_texts : List (List ℕ × Table)
 all_texts =
     (text.MAKE_META.now, bank.meta) ∷ (text.MAKE_BRANCH.now, bank.branch)
     ∷ (text.MAKE_TELLER.now, bank.teller) ∷ (text.MAKE_ACCOUNT.now, bank.account)
-    ∷ (text.MAKE_HISTORY.now, bank.history) ∷ (text.MAKE_REQUEST.now, bank.request) ∷ []
+    ∷ (text.MAKE_HISTORY.now, bank.history) ∷ (text.MAKE_REQUEST.now, bank.request)
+    ∷ (text.MAKE_FLOOR.now, bank.floor) ∷ []
 
 -- ---- tables that are made one after another, each by its text
 
@@ -79,7 +80,15 @@ MakesAll texts old new (Err e) =
 
 -- the tables of a new bank: nothing is decided, and nothing is open
 abbrev pub new_tables : Tables
-new_tables = record { decided = 0; branches = []; tellers = []; accounts = []; history = []; requests = [] }
+new_tables = record {
+  decided = 0;
+  branches = [];
+  tellers = [];
+  accounts = [];
+  history = [];
+  requests = [];
+  floors = [];
+}
 
 -- the first row is there, and every table but meta is as it was; or why the row can't be put in
 abbrev pub StartsBank : State → State → Result ℕ Error → Type 0

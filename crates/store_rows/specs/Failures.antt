@@ -2,13 +2,11 @@
 use Rattle.std.specs.Prelude.{◌≡◌, ◌≢◌, ◌⊎◌, ℕ, List, nat_eq, true, false, Bool, Option, Some, None, Result}
 use Rattle.std.specs.Prelude.{Ok, Err, ⊤}
 use Rattle.sqlite.specs.Order.{Row}
-use Rattle.sqlite.specs.Reading.{IsReadError}
 use Rattle.sqlite.specs.State.{State, ExecutesInside, QueriesRowInside}
 use Rattle.sqlite.specs.State.{Shows as StateShows, Fails, IsUnchanged}
 use Rattle.sqlite.specs.Steps.{FailsToCommit}
 use Rattle.sqlite.specs.declared.error.Error.{Error}
 use Rattle.sqlite.specs.declared.error.Error.TheVariants.{QueryReturnedNoRows}
-use Rattle.sqlite.specs.declared.types.Value.{Value}
 use Rattle.posting_rules.specs.declared.fault.Rule.{Rule}
 use Rattle.posting_rules.specs.declared.fault.Rule.TheVariants.{Account, Key, Meta, Teller}
 use Rattle.sql_meanings.specs.Outcomes.{WriteFails, is_taken_key}
@@ -27,8 +25,6 @@ pub data HasFailed (old new : State) (e : Error) : Type 0 where
   -- a row couldn't be put in: that its key is taken is no failure
   Putting : (text : List ℕ) (params : Row) → ExecutesInside 0 text params old new (Err e)
       → is_taken_key e ≡ false → HasFailed old new e
-  -- a value of a row couldn't be read
-  Reading : (at : ℕ) (value : Value) → IsReadError at value e → HasFailed old new e
   -- a commit failed, or the store did
   Committing : FailsToCommit old new e → HasFailed old new e
 
@@ -67,19 +63,15 @@ abbrev pub HasPutReason : State → State → TableFault → Type 0
 HasPutReason old new (Sqlite e) = HasFailed old new e
 HasPutReason old new (Damaged rule) = HasMet old new rule
 
--- an error of `sqlite` is one with which a value couldn't be read
-abbrev pub IsUnreadable : TableFault → Type 0
-IsUnreadable (Sqlite e) = (at : ℕ) × (value : Value) × IsReadError at value e
-IsUnreadable (Damaged rule) = ⊤
-
--- What is reported of what a query answered: the row as the value that it holds, if it found one, or the
--- error of either.
+-- What is reported of what a query answered: the row as the value that it holds, if it found one, or the rule
+-- that the row breaks, or the query's error.
 abbrev pub ReadsAnswer : {X : Type 0} → (Row → Result X TableFault → Type 0) → Result Row Error
     → Result (Option X) TableFault
     → Type 0
 ReadsAnswer Reads (Ok row) (Ok (Some x)) = Reads row (Ok x)
 ReadsAnswer Reads (Ok row) (Ok None) = ⊥
-ReadsAnswer Reads (Ok row) (Err fault) = Reads row (Err fault) × IsUnreadable fault
+ReadsAnswer Reads (Ok row) (Err (Sqlite e)) = ⊥
+ReadsAnswer Reads (Ok row) (Err (Damaged rule)) = Reads row (Err (Damaged rule))
 ReadsAnswer Reads (Err e) (Ok (Some x)) = ⊥
 ReadsAnswer Reads (Err e) (Ok None) = e ≡ QueryReturnedNoRows
 ReadsAnswer Reads (Err e) (Err fault) = (fault ≡ Sqlite e) × (e ≢ QueryReturnedNoRows)

@@ -4,12 +4,13 @@ use Rattle.sqlite.specs.Order.{Row}
 use Rattle.posting_rules.specs.declared.fault.Rule.{Rule}
 use Rattle.posting_rules.specs.declared.rows.BranchRow.{BranchRow}
 use Rattle.posting_rules.specs.declared.rows.RequestRow.{RequestRow}
+use Rattle.posting_rules.specs.declared.rows.FloorRow.{FloorRow}
 use Rattle.sql_meanings.specs.Entries.{Entry}
-use Rattle.store_rows.specs.Columns.{balance_shown, branch_shown, meta_numbers, meta_shown, request_shown}
-use Rattle.store_rows.specs.Outcomes.{BreaksBalance, BreaksBranch, BreaksRequest, Never}
-use Rattle.store_rows.specs.Rules.{BranchKeeps, RequestKeeps}
-use Rattle.store_rows.specs.Stored.{BalanceKeeps, IsBalance, IsBranch, IsSameRequest, balance_stored}
-use Rattle.store_rows.specs.Stored.{branch_stored, request_stored}
+use Rattle.store_rows.specs.Columns.{balance_shown, branch_shown, floor_shown, meta_numbers, meta_shown, request_shown}
+use Rattle.store_rows.specs.Outcomes.{BreaksBalance, BreaksBranch, BreaksFloor, BreaksRequest, Never}
+use Rattle.store_rows.specs.Rules.{BranchKeeps, FloorKeeps, RequestKeeps}
+use Rattle.store_rows.specs.Stored.{BalanceKeeps, IsBalance, IsBranch, IsFloorRow, IsSameRequest, balance_stored}
+use Rattle.store_rows.specs.Stored.{branch_stored, floor_stored, request_stored}
 use Rattle.store_rows.specs.declared.metas.StoredMeta.{StoredMeta}
 
 -- how a row holds such a value
@@ -38,6 +39,15 @@ branch_form = record {
   held = branch_stored;
   Is = IsBranch;
   Keeps = BranchKeeps;
+}
+
+abbrev pub floor_form : Form FloorRow
+floor_form = record {
+  shown = floor_shown;
+  Breaks = BreaksFloor;
+  held = floor_stored;
+  Is = IsFloorRow;
+  Keeps = FloorKeeps;
 }
 
 abbrev pub request_form : Form RequestRow

@@ -6,8 +6,6 @@ use Rattle.sqlite.specs.Order.{Row}
 use Rattle.sqlite.specs.declared.types.Value.{Value}
 use Rattle.sqlite.specs.declared.types.Value.TheVariants.{Int}
 use Rattle.sqlite.specs.declared.error.Error.{Error}
-use Rattle.sqlite.specs.declared.error.Error.TheVariants.{SqliteFailure}
-use Rattle.sqlite.specs.declared.error.ErrorCode.TheVariants.{OutOfMemory}
 use Rattle.message_records.specs.Ranges.{cents_within, whole_within}
 use Rattle.message_records.specs.Outcomes.{code_of}
 use Rattle.message_records.specs.declared.records.Outcome.{Outcome}
@@ -15,6 +13,7 @@ use Rattle.posting_rules.specs.Kept.{KeptFields, is_kept_with}
 use Rattle.posting_rules.specs.Tables.{Tables}
 use Rattle.posting_rules.specs.declared.rows.BranchRow.{BranchRow}
 use Rattle.posting_rules.specs.declared.rows.RequestRow.{RequestRow}
+use Rattle.posting_rules.specs.declared.rows.FloorRow.{FloorRow}
 use Rattle.posting_rules.specs.declared.fault.Rule.{Rule}
 use Rattle.posting_rules.specs.declared.fault.Rule.TheVariants as rule
 use Rattle.sqlite.specs.Schema.{Schema}
@@ -66,6 +65,12 @@ BreaksRequest r broken =
     × ((whole_within 1 MAX_TELLER r.teller ≡ None)
     ⊎ ((whole_within 1 MAX_NUMBER r.number ≡ None) ⊎ (¬ CanBeKept r.kept))))
 
+-- the number is outside the numbers of branches, or the floor is outside the limits
+abbrev pub BreaksFloor : FloorRow → Rule → Type 0
+BreaksFloor r broken =
+    ((broken ≡ rule.Value) × (whole_within 1 MAX_BRANCH r.branch ≡ None))
+    ⊎ ((broken ≡ rule.Floor) × (cents_within MAX_BALANCE r.lowest ≡ None))
+
 -- no rule is broken so
 abbrev pub Never : {X : Type 0} → X → Rule → Type 0
 Never x broken = ⊥
@@ -94,42 +99,42 @@ PutsOneRow old new table taken after (Err (Damaged broken)) = (broken ≡ rule.K
 
 -- ---- a stored number, as its type
 
--- the integer that the value is, or it is of another type, or memory was refused
+-- the integer that the value is, or it is of another type; no value that was shown is told as a failed store
 abbrev pub ReadsInteger : Value → Result ℤ TableFault → Type 0
 ReadsInteger v (Ok n) = (z : ℤ) → v ≡ Int z → n ≡ z
-ReadsInteger v (Err (Sqlite e)) = (z : ℤ) → v ≡ Int z → e ≡ SqliteFailure OutOfMemory
+ReadsInteger v (Err (Sqlite e)) = ⊥
 ReadsInteger v (Err (Damaged broken)) = (z : ℤ) → v ≡ Int z → ⊥
 
--- the number that the value is, or it is outside, or memory was refused
+-- the number that the value is, or it is outside the range
 abbrev pub ReadsWhole : ℕ → ℕ → Rule → Value → Result ℕ TableFault → Type 0
 ReadsWhole least most broken v (Ok n) = (z : ℤ) → v ≡ Int z → z ≡ pos n
-ReadsWhole least most broken v (Err (Sqlite e)) = (z : ℤ) → v ≡ Int z → e ≡ SqliteFailure OutOfMemory
+ReadsWhole least most broken v (Err (Sqlite e)) = ⊥
 ReadsWhole least most broken v (Err (Damaged rule)) = (z : ℤ) → v ≡ Int z → (rule ≡ broken)
     × ((n : ℕ) → z ≡ pos n → whole_within least most n ≡ None)
 
--- the amount that the value is, or it is outside the limits, or memory was refused
+-- the amount that the value is, or it is outside the limits
 abbrev pub ReadsCents : Rule → Value → Result ℤ TableFault → Type 0
 ReadsCents broken v (Ok n) = (z : ℤ) → v ≡ Int z → n ≡ z
-ReadsCents broken v (Err (Sqlite e)) = (z : ℤ) → v ≡ Int z → e ≡ SqliteFailure OutOfMemory
+ReadsCents broken v (Err (Sqlite e)) = ⊥
 ReadsCents broken v (Err (Damaged rule)) = (z : ℤ) → v ≡ Int z → (rule ≡ broken)
     × (cents_within MAX_BALANCE z ≡ None)
 
--- the outcome whose code the value is, or it is no code, or memory was refused
+-- the outcome whose code the value is, or it is no code
 abbrev pub ReadsOutcome : Value → Result Outcome TableFault → Type 0
 ReadsOutcome v (Ok o) = (z : ℤ) → v ≡ Int z → z ≡ pos (code_of o)
-ReadsOutcome v (Err (Sqlite e)) = (z : ℤ) → v ≡ Int z → e ≡ SqliteFailure OutOfMemory
+ReadsOutcome v (Err (Sqlite e)) = ⊥
 ReadsOutcome v (Err (Damaged broken)) = (z : ℤ) → v ≡ Int z → (broken ≡ rule.Request)
     × ((o : Outcome) → z ≢ pos (code_of o))
 
--- what a row shows, or it breaks a rule in this way, or memory was refused
+-- what a row shows, or it breaks a rule in this way
 abbrev pub ReadsRow : {X : Type 0} → (X → Row) → (X → Rule → Type 0) → Row → Result X TableFault → Type 0
 ReadsRow {X} shown Breaks row (Ok x) = (y : X) → row ≡ shown y → x ≡ y
-ReadsRow {X} shown Breaks row (Err (Sqlite e)) = (y : X) → row ≡ shown y → e ≡ SqliteFailure OutOfMemory
+ReadsRow shown Breaks row (Err (Sqlite e)) = ⊥
 ReadsRow {X} shown Breaks row (Err (Damaged broken)) = (y : X) → row ≡ shown y → Breaks y broken
 
--- what a row keeps of a request, or it is no request that can be kept, or memory was refused
+-- what a row keeps of a request, or it is no request that can be kept
 abbrev pub ReadsKept : Row → Result KeptFields TableFault → Type 0
 ReadsKept row (Ok k) = (r : RequestRow) → row ≡ request_shown r → k ≡ r.kept
-ReadsKept row (Err (Sqlite e)) = (r : RequestRow) → row ≡ request_shown r → e ≡ SqliteFailure OutOfMemory
+ReadsKept row (Err (Sqlite e)) = ⊥
 ReadsKept row (Err (Damaged broken)) = (r : RequestRow) → row ≡ request_shown r → (broken ≡ rule.Request)
     × ¬ CanBeKept r.kept

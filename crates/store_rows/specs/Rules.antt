@@ -1,6 +1,6 @@
--- The rows of a bank's tables as a file holds them, whatever numbers they are, and the seven rules that the
+-- The rows of a bank's tables as a file holds them, whatever numbers they are, and the eight rules that the
 -- rows of a bank keep.
-use Rattle.std.specs.Prelude.{◌≡◌, ◌≤◌, ◌<◌, ◌≤ℤ◌, ℕ, ℤ, pos, nat_abs, List, [], ◌∷◌, find, Option, Some}
+use Rattle.std.specs.Prelude.{◌≡◌, ◌≤◌, ◌<◌, ◌≤ℤ◌, ◌+◌, ◌*◌, ℕ, ℤ, pos, nat_abs, List, [], ◌∷◌, find, Option, Some}
 use Rattle.std.specs.Prelude.{None, option_and_then, IsSome, IsTrue, ⊤}
 use Rattle.std.specs.List.{AllByRecursion}
 use Rattle.sqlite.specs.Effect.{Database, IsDatabase}
@@ -10,11 +10,13 @@ use Rattle.message_records.specs.declared.records.Outcome.{Outcome}
 use Rattle.message_records.specs.declared.limits.TheConstants.{MAX_ACCOUNT, MAX_BALANCE, MAX_BRANCH}
 use Rattle.message_records.specs.declared.limits.TheConstants.{MAX_DELTA, MAX_MOMENT, MAX_NUMBER, MAX_TELLER}
 use Rattle.posting_rules.specs.Numbering.{branch_of_teller, branch_of_account, place_of_account}
+use Rattle.posting_rules.specs.Commands.{IsFloor}
 use Rattle.posting_rules.specs.Kept.{is_kept_with}
 use Rattle.posting_rules.specs.declared.fault.Rule.{Rule}
 use Rattle.posting_rules.specs.declared.fault.Rule.TheVariants.{Meta, Teller, Account, Balance, Request}
-use Rattle.posting_rules.specs.declared.fault.Rule.TheVariants.{Value, Key}
-use Rattle.posting_rules.specs.declared.limits.TheConstants.{LAST_BRANCH, MAX_DECIDED, MOST_ACCOUNTS}
+use Rattle.posting_rules.specs.declared.fault.Rule.TheVariants.{Value, Key, Floor}
+use Rattle.posting_rules.specs.declared.limits.TheConstants.{LAST_BRANCH, MAX_DECIDED, MAX_ACCOUNTS}
+use Rattle.posting_rules.specs.declared.limits.TheConstants.{ACCOUNTS_PER_BRANCH, RECORDS_PER_BATCH, TELLERS_PER_BRANCH}
 use Rattle.sql_meanings.specs.Contents.{HoldsEach}
 use Rattle.sql_meanings.specs.Entries.{Entry, has_key}
 use Rattle.store_rows.specs.Columns.{number_at}
@@ -31,10 +33,12 @@ pub record StoredRows : Type 0 where
   pub accounts : List Entry
   pub history : List Entry
   pub requests : List Entry
+  pub floors : List Entry
 
 -- in the order of `bank_tables`
 abbrev pub stored_lists : StoredRows → List (List Entry)
-stored_lists rows = rows.meta ∷ rows.branches ∷ rows.tellers ∷ rows.accounts ∷ rows.history ∷ rows.requests ∷ []
+stored_lists rows =
+    rows.meta ∷ rows.branches ∷ rows.tellers ∷ rows.accounts ∷ rows.history ∷ rows.requests ∷ rows.floors ∷ []
 
 -- a sound database defines the tables of a bank and holds these rows by rising keys, whatever else it has
 pub record HoldsBank (db : Database) (rows : StoredRows) : Type 0 where
@@ -49,6 +53,10 @@ row_under rows n = find (has_key (pos n)) rows
 abbrev pub branch_under : StoredRows → ℕ → Option Entry
 branch_under rows n = option_and_then (row_under rows.branches) (whole_within 1 MAX_BRANCH n)
 
+-- the row of a branch's floor: the same
+abbrev pub floor_under : StoredRows → ℕ → Option Entry
+floor_under rows n = option_and_then (row_under rows.floors) (whole_within 1 MAX_BRANCH n)
+
 -- ---- a row that keeps a rule
 
 -- the number is from least to most
@@ -58,19 +66,19 @@ IsFrom least most z = (n : ℕ) × (z ≡ pos n) × (least ≤ n) × (n ≤ most
 -- a branch: its balance is within the limits; its number and its count of accounts are in their ranges
 abbrev pub BranchKeeps : Rule → Entry → Type 0
 BranchKeeps Balance r = nat_abs (number_at 1 r) ≤ MAX_BALANCE
-BranchKeeps Value r = IsFrom 1 LAST_BRANCH r.key × IsFrom 1 MOST_ACCOUNTS (number_at 0 r)
+BranchKeeps Value r = IsFrom 1 LAST_BRANCH r.key × IsFrom 1 MAX_ACCOUNTS (number_at 0 r)
 BranchKeeps _ r = ⊤
 
--- a teller: its balance is within the limits, and its number in its range
+-- a teller: its balance is within the limits, and its number is one of a branch that can be opened
 abbrev pub TellerKeeps : Rule → Entry → Type 0
 TellerKeeps Balance r = nat_abs (number_at 0 r) ≤ MAX_BALANCE
-TellerKeeps Value r = IsFrom 1 MAX_TELLER r.key
+TellerKeeps Value r = IsFrom 1 (TELLERS_PER_BRANCH * LAST_BRANCH) r.key
 TellerKeeps _ r = ⊤
 
 -- an account: the same
 abbrev pub AccountKeeps : Rule → Entry → Type 0
 AccountKeeps Balance r = nat_abs (number_at 0 r) ≤ MAX_BALANCE
-AccountKeeps Value r = IsFrom 1 MAX_ACCOUNT r.key
+AccountKeeps Value r = IsFrom 1 (ACCOUNTS_PER_BRANCH * LAST_BRANCH) r.key
 AccountKeeps _ r = ⊤
 
 -- a posting: its ordinal and its moment are in their ranges
@@ -95,6 +103,12 @@ RequestKeeps Request r = IsOfARequest r
 RequestKeeps Value r = IsFrom 1 MAX_DECIDED r.key
 RequestKeeps _ r = ⊤
 
+-- a floor: it is at most zero and within the limit of a balance, and its branch's number is in its range
+abbrev pub FloorKeeps : Rule → Entry → Type 0
+FloorKeeps Floor r = IsFloor (number_at 0 r)
+FloorKeeps Value r = IsFrom 1 LAST_BRANCH r.key
+FloorKeeps _ r = ⊤
+
 -- ---- rows that keep a rule
 
 -- each row does
@@ -102,7 +116,15 @@ abbrev pub EachKeeps : Rule → StoredRows → Type 0
 EachKeeps rule rows =
     AllByRecursion (BranchKeeps rule) rows.branches × AllByRecursion (TellerKeeps rule) rows.tellers
     × AllByRecursion (AccountKeeps rule) rows.accounts × AllByRecursion (PostingKeeps rule) rows.history
-    × AllByRecursion (RequestKeeps rule) rows.requests
+    × AllByRecursion (RequestKeeps rule) rows.requests × AllByRecursion (FloorKeeps rule) rows.floors
+
+-- the account isn't below the floor of its branch, where it has one
+abbrev pub IsAbove : StoredRows → ℕ → Type 0
+IsAbove rows n = (account floor : Entry) → row_under rows.accounts n ≡ Some account
+    → floor_under rows (branch_of_account n) ≡ Some floor → number_at 0 floor ≤ℤ number_at 0 account
+
+abbrev pub AreAbove : StoredRows → Type 0
+AreAbove rows = (n : ℕ) → 1 ≤ n → n ≤ MAX_ACCOUNT → IsAbove rows n
 
 -- `meta` has exactly one row, and this many requests are decided
 abbrev pub HasDecided : StoredRows → ℕ → Type 0
@@ -114,11 +136,13 @@ abbrev pub IsWithinCount : StoredRows → ℕ → Type 0
 IsWithinCount rows n = (branch : Entry) × (branch_under rows (branch_of_account n) ≡ Some branch)
     × (pos (place_of_account n) ≤ℤ number_at 0 branch)
 
--- a teller has a row just where its branch has one
-abbrev pub TellersFit : StoredRows → Type 0
-TellersFit rows = (n : ℕ) → 1 ≤ n → n ≤ MAX_TELLER
-    → (IsSome (row_under rows.tellers n) → IsSome (branch_under rows (branch_of_teller n)))
+-- the teller has a row just where its branch has one
+abbrev pub TellerFits : StoredRows → ℕ → Type 0
+TellerFits rows n = (IsSome (row_under rows.tellers n) → IsSome (branch_under rows (branch_of_teller n)))
     × (IsSome (branch_under rows (branch_of_teller n)) → IsSome (row_under rows.tellers n))
+
+abbrev pub TellersFit : StoredRows → Type 0
+TellersFit rows = (n : ℕ) → 1 ≤ n → n ≤ MAX_TELLER → TellerFits rows n
 
 -- the account has a row just where its place is within its branch's count
 abbrev pub AccountFits : StoredRows → ℕ → Type 0
@@ -128,24 +152,31 @@ AccountFits rows n = (IsSome (row_under rows.accounts n) → IsWithinCount rows 
 abbrev pub AccountsFit : StoredRows → Type 0
 AccountsFit rows = (n : ℕ) → 1 ≤ n → n ≤ MAX_ACCOUNT → AccountFits rows n
 
--- no ordinal above those that are decided is taken, and no teller and no account of a branch that isn't there
+-- one of the next ordinals that a call may take
+abbrev pub IsNext : ℕ → ℕ → Type 0
+IsNext decided n = (decided < n) × (n ≤ decided + RECORDS_PER_BATCH)
+
+-- no key of a row that a call would add is taken: none of the next ordinals, as many as a batch has records,
+-- and no teller, no account and no floor of a branch that isn't there
 pub record AreFree (rows : StoredRows) : Type 0 where
-  pub requests : (decided n : ℕ) → HasDecided rows decided → decided < n → row_under rows.requests n ≡ None
-  pub postings : (decided n : ℕ) → HasDecided rows decided → decided < n → row_under rows.history n ≡ None
+  pub requests : (decided n : ℕ) → HasDecided rows decided → IsNext decided n → row_under rows.requests n ≡ None
+  pub postings : (decided n : ℕ) → HasDecided rows decided → IsNext decided n → row_under rows.history n ≡ None
   pub tellers : (n : ℕ) → 1 ≤ n → branch_under rows (branch_of_teller n) ≡ None
       → row_under rows.tellers n ≡ None
   pub accounts : (n : ℕ) → 1 ≤ n → branch_under rows (branch_of_account n) ≡ None
       → row_under rows.accounts n ≡ None
+  pub floors : (n : ℕ) → branch_under rows n ≡ None → row_under rows.floors n ≡ None
 
--- the seven rules, numbered 1 to 7 in this order
+-- the eight rules, numbered 1 to 8 in this order
 abbrev pub KeepsRule : Rule → StoredRows → Type 0
 KeepsRule Meta rows = (decided : ℕ) × HasDecided rows decided × (decided ≤ MAX_DECIDED)
 KeepsRule Teller rows = TellersFit rows
 KeepsRule Account rows = AccountsFit rows
-KeepsRule Balance rows = EachKeeps Balance rows
+KeepsRule Balance rows = EachKeeps Balance rows × AreAbove rows
 KeepsRule Request rows = EachKeeps Request rows
 KeepsRule Value rows = EachKeeps Value rows
 KeepsRule Key rows = AreFree rows
+KeepsRule Floor rows = EachKeeps Floor rows
 
 -- ---- a file that breaks a rule
 

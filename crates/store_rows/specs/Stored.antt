@@ -9,6 +9,7 @@ use Rattle.posting_rules.specs.declared.fault.Rule.{Rule}
 use Rattle.posting_rules.specs.declared.fault.Rule.TheVariants.{Balance}
 use Rattle.posting_rules.specs.declared.rows.BranchRow.{BranchRow}
 use Rattle.posting_rules.specs.declared.rows.RequestRow.{RequestRow}
+use Rattle.posting_rules.specs.declared.rows.FloorRow.{FloorRow}
 use Rattle.sql_meanings.specs.Entries.{Entry}
 use Rattle.store_rows.specs.Columns.{number_at}
 use Rattle.store_rows.specs.declared.fault.TableFault.{TableFault}
@@ -31,6 +32,10 @@ request_stored r =
     ∷ Int (number_at 4 r)
     ∷ Int (number_at 5 r) ∷ Int (number_at 6 r) ∷ []
 
+-- bid, lowest
+abbrev pub floor_stored : Entry → Row
+floor_stored r = Int r.key ∷ Int (number_at 0 r) ∷ []
+
 -- ---- what was made of a row
 
 -- this is its balance
@@ -40,6 +45,10 @@ IsBalance z r = number_at 0 r ≡ z
 -- it is of this branch, with this count of accounts and this balance
 abbrev pub IsBranch : BranchRow → Entry → Type 0
 IsBranch b r = (r.key ≡ pos b.branch) × (number_at 0 r ≡ pos b.accounts) × (number_at 1 r ≡ b.balance)
+
+-- it is of this branch, with this floor
+abbrev pub IsFloorRow : FloorRow → Entry → Type 0
+IsFloorRow f r = (r.key ≡ pos f.branch) × (number_at 0 r ≡ f.lowest)
 
 -- it keeps this
 pub record IsKept (kept : KeptFields) (r : Entry) : Type 0 where
@@ -61,11 +70,11 @@ BalanceKeeps _ r = ⊤
 
 -- ---- what is reported
 
--- what is shown of a row is read so; or the row doesn't keep the rule; or memory was refused
+-- what is shown of a row is read so; or the row doesn't keep the rule
 abbrev pub ReadsStored : {X : Type 0} → (Entry → Row) → (X → Entry → Type 0) → (Rule → Entry → Type 0) → Row
     → Result X TableFault → Type 0
 ReadsStored shown Is Keeps row (Ok x) = (r : Entry) → row ≡ shown r → Is x r
-ReadsStored shown Is Keeps row (Err (Sqlite e)) = ⊤
+ReadsStored shown Is Keeps row (Err (Sqlite e)) = ⊥
 ReadsStored shown Is Keeps row (Err (Damaged rule)) = (r : Entry) → row ≡ shown r → ¬ Keeps rule r
 
 -- the stored row is reported, and that there is none; or it doesn't keep the rule; or the store failed

@@ -11,6 +11,7 @@ use Rattle.posting_rules.specs.declared.rows.TellerRow.{TellerRow}
 use Rattle.posting_rules.specs.declared.rows.AccountRow.{AccountRow}
 use Rattle.posting_rules.specs.declared.rows.HistoryRow.{HistoryRow}
 use Rattle.posting_rules.specs.declared.rows.RequestRow.{RequestRow}
+use Rattle.posting_rules.specs.declared.rows.FloorRow.{FloorRow}
 use Rattle.sql_meanings.specs.Entries.{Entry}
 use Rattle.sql_meanings.specs.Contents.{HoldsEach}
 use Rattle.sql_meanings.specs.Tables.{Holds}
@@ -53,6 +54,10 @@ request_entry r = record {
   texts = [];
 }
 
+-- a row of `branch_floor`
+abbrev pub floor_entry : FloorRow → Entry
+floor_entry r = record { key = pos r.branch; values = r.lowest ∷ []; texts = [] }
+
 -- ---- the view
 
 -- a sound database defines this table, and holds these rows of it by rising keys, whatever numbers they are
@@ -64,7 +69,7 @@ pub record HoldsRows (db : Database) (table : Table) (rows : List Entry) : Type 
 abbrev pub rows_of : Tables → List (List Entry)
 rows_of t =
     map branch_entry t.branches ∷ map teller_entry t.tellers ∷ map account_entry t.accounts
-    ∷ map history_entry t.history ∷ map request_entry t.requests ∷ []
+    ∷ map history_entry t.history ∷ map request_entry t.requests ∷ map floor_entry t.floors ∷ []
 
 -- the tables of a version: those of the version before it, and one more behind them
 abbrev pub tables_of : ℕ → List Table

@@ -1,23 +1,20 @@
 //! Stored numbers as the types that they are read as.
-ghost use Rattle.std.specs.Prelude.{IfErr};
 ghost use Rattle.sqlite.specs.Order.{column};
-ghost use Rattle.store_rows.specs.Failures.{IsUnreadable};
 ghost use Rattle.store_rows.specs.Outcomes.{ReadsCents, ReadsInteger, ReadsOutcome, ReadsWhole};
 
 use crate::fault::TableFault;
 use message_records::{Cents, Outcome, Whole};
 use posting_rules::Rule;
-use sqlite::{Error, Row};
+use sqlite::Row;
+use sqlite::types::ValueRef;
 
-// The integer in a column. A value of another type is damage.
+// The integer in a column. A value of another type is damage, and no failure of the store.
 pub(crate) fn integer_at(row: &Row, at: usize) -> Result<i64, TableFault>
     ensures reads { ReadsInteger (column row.now at) result }
-    ensures failed { IfErr result IsUnreadable }
 {
-    match row.get(at) {
-        Ok(value) => Ok(value),
-        Err(Error::InvalidColumnType(..)) => Err(TableFault::Damaged(Rule::Value)),
-        Err(e) => Err(TableFault::Sqlite(e)),
+    match row.get_ref(at) {
+        Ok(ValueRef::Int(value)) => Ok(value),
+        _ => Err(TableFault::Damaged(Rule::Value)),
     }
 }
 
@@ -28,7 +25,6 @@ pub(crate) fn whole_at<const LEAST: u64, const MOST: u64>(
     rule: Rule,
 ) -> Result<Whole<LEAST, MOST>, TableFault>
     ensures reads { ReadsWhole LEAST MOST rule (column row.now at) result }
-    ensures failed { IfErr result IsUnreadable }
 {
     let value = integer_at(row, at)?;
     if value < 0 {
@@ -40,7 +36,6 @@ pub(crate) fn whole_at<const LEAST: u64, const MOST: u64>(
 // The count in a column, or the rule that it breaks outside the range.
 pub(crate) fn count_at(row: &Row, at: usize, rule: Rule) -> Result<u32, TableFault>
     ensures reads { ReadsWhole 0 4_294_967_295 rule (column row.now at) result }
-    ensures failed { IfErr result IsUnreadable }
 {
     let value = integer_at(row, at)?;
     if value < 0 || value > 4_294_967_295 {
@@ -52,7 +47,6 @@ pub(crate) fn count_at(row: &Row, at: usize, rule: Rule) -> Result<u32, TableFau
 // The amount in a column, or the rule that it breaks outside the limits.
 pub(crate) fn cents_at(row: &Row, at: usize, rule: Rule) -> Result<Cents, TableFault>
     ensures reads { ReadsCents rule (column row.now at) result }
-    ensures failed { IfErr result IsUnreadable }
 {
     let value = integer_at(row, at)?;
     Cents::new(value).ok_or(TableFault::Damaged(rule))
@@ -61,7 +55,6 @@ pub(crate) fn cents_at(row: &Row, at: usize, rule: Rule) -> Result<Cents, TableF
 // The outcome whose code is in a column.
 pub(crate) fn outcome_at(row: &Row, at: usize) -> Result<Outcome, TableFault>
     ensures reads { ReadsOutcome (column row.now at) result }
-    ensures failed { IfErr result IsUnreadable }
 {
     let value = integer_at(row, at)?;
     match value {
@@ -72,6 +65,7 @@ pub(crate) fn outcome_at(row: &Row, at: usize) -> Result<Outcome, TableFault>
         14 => Ok(Outcome::OverLimit),
         15 => Ok(Outcome::ReusedNumber),
         16 => Ok(Outcome::Full),
+        17 => Ok(Outcome::BelowFloor),
         90 => Ok(Outcome::Malformed),
         _ => Err(TableFault::Damaged(Rule::Request)),
     }

@@ -1,6 +1,5 @@
 //! A row that was asked for, as the value that it holds.
-ghost use Rattle.std.specs.Prelude.{IfErr};
-ghost use Rattle.store_rows.specs.Failures.{IsUnreadable, ReadsAnswer};
+ghost use Rattle.store_rows.specs.Failures.{ReadsAnswer};
 ghost use Rattle.store_rows.specs.Forms.{Form};
 ghost use Rattle.store_rows.specs.Outcomes.{ReadsRow};
 ghost use Rattle.store_rows.specs.Stored.{ReadsStored};
@@ -19,8 +18,7 @@ pub(crate) trait FromRow: Copy {
     /// Reads the columns.
     fn from_row(row: &Row) -> Result<Self, TableFault>
         ensures reads { ReadsRow form.shown form.Breaks row.now result }
-        ensures stored { ReadsStored form.held form.Is form.Keeps row.now result }
-        ensures failed { IfErr result IsUnreadable };
+        ensures stored { ReadsStored form.held form.Is form.Keeps row.now result };
 }
 
 /// The balance of a row that shows it alone.

@@ -49,6 +49,7 @@ mod columns;
 mod commits;
 mod creation;
 mod fault;
+mod floors;
 mod found;
 mod history;
 mod holders;
@@ -63,11 +64,10 @@ pub use branches::{add_branch, find_branch, next_branch};
 pub use commits::commit;
 pub use creation::{create, create_tables};
 pub use fault::TableFault;
+pub use floors::{add_floor, find_floor};
 pub use history::add_history;
 pub use holders::{Holder, Member, add_member, balance_of, set_balance};
 pub use laws::trees_show_law;
 pub use metas::{StoredMeta, VERSION, read_meta, set_decided};
-pub use probes::{
-    probe_accounts, probe_branches, probe_history, probe_meta, probe_requests, probe_tellers,
-};
+pub use probes::{BEHIND_META, BankTable, probe_table};
 pub use requests::{add_request, find_request};

@@ -5,12 +5,35 @@ ghost use Rattle.sqlite.specs.Listing.{understood};
 ghost use Rattle.sqlite.specs.Held.{state};
 ghost use Rattle.sql_meanings.specs.Outcomes.{is_refusal as refuses_text, OnlyShows, TellsUnderstood};
 ghost use Rattle.store_rows.specs.Calls.{Probes};
-ghost use Rattle.store_rows.specs.Probes.{meta, branch, teller, account, history, request};
+ghost use Rattle.store_rows.specs.Probes.{probe_of};
 
 use crate::texts::{
-    PROBE_ACCOUNT, PROBE_BRANCH, PROBE_HISTORY, PROBE_META, PROBE_REQUEST, PROBE_TELLER,
+    PROBE_ACCOUNT, PROBE_BRANCH, PROBE_FLOOR, PROBE_HISTORY, PROBE_META, PROBE_REQUEST,
+    PROBE_TELLER,
 };
 use sqlite::{Alter, Connection, Error};
+
+/// One of the tables of a bank.
+#[derive(Clone, Copy)]
+pub enum BankTable {
+    Meta,
+    Branch,
+    Teller,
+    Account,
+    History,
+    Request,
+    Floor,
+}
+
+/// The tables of a bank behind `meta`, in their order.
+pub const BEHIND_META: &[BankTable] = &[
+    BankTable::Branch,
+    BankTable::Teller,
+    BankTable::Account,
+    BankTable::History,
+    BankTable::Request,
+    BankTable::Floor,
+];
 
 // Whether the error says that a text isn't understood.
 fn is_refusal(e: &Error) -> bool
@@ -34,44 +57,24 @@ fn is_understood<S: Alter>(conn: &mut Connection<S>, text: &str) -> Result<bool,
     }
 }
 
-/// Whether the probe of `meta` is understood; every other error is reported.
-pub fn probe_meta<S: Alter>(conn: &mut Connection<S>) -> Result<bool, Error>
-    ensures { Probes S.Store conn.old conn.new meta result }
+// The text that reads all columns of the table.
+fn probe_text(table: BankTable) -> &'static str
+    ensures { result.now ≡ (probe_of table).0 }
 {
-    is_understood(conn, PROBE_META)
+    match table {
+        BankTable::Meta => PROBE_META,
+        BankTable::Branch => PROBE_BRANCH,
+        BankTable::Teller => PROBE_TELLER,
+        BankTable::Account => PROBE_ACCOUNT,
+        BankTable::History => PROBE_HISTORY,
+        BankTable::Request => PROBE_REQUEST,
+        BankTable::Floor => PROBE_FLOOR,
+    }
 }
 
-/// Whether the probe of `branch` is understood; every other error is reported.
-pub fn probe_branches<S: Alter>(conn: &mut Connection<S>) -> Result<bool, Error>
-    ensures { Probes S.Store conn.old conn.new branch result }
+/// Whether the probe of the table is understood; every other error is reported.
+pub fn probe_table<S: Alter>(conn: &mut Connection<S>, table: BankTable) -> Result<bool, Error>
+    ensures { Probes S.Store conn.old conn.new (probe_of table) result }
 {
-    is_understood(conn, PROBE_BRANCH)
-}
-
-/// Whether the probe of `teller` is understood; every other error is reported.
-pub fn probe_tellers<S: Alter>(conn: &mut Connection<S>) -> Result<bool, Error>
-    ensures { Probes S.Store conn.old conn.new teller result }
-{
-    is_understood(conn, PROBE_TELLER)
-}
-
-/// Whether the probe of `account` is understood; every other error is reported.
-pub fn probe_accounts<S: Alter>(conn: &mut Connection<S>) -> Result<bool, Error>
-    ensures { Probes S.Store conn.old conn.new account result }
-{
-    is_understood(conn, PROBE_ACCOUNT)
-}
-
-/// Whether the probe of `history` is understood; every other error is reported.
-pub fn probe_history<S: Alter>(conn: &mut Connection<S>) -> Result<bool, Error>
-    ensures { Probes S.Store conn.old conn.new history result }
-{
-    is_understood(conn, PROBE_HISTORY)
-}
-
-/// Whether the probe of `request` is understood; every other error is reported.
-pub fn probe_requests<S: Alter>(conn: &mut Connection<S>) -> Result<bool, Error>
-    ensures { Probes S.Store conn.old conn.new request result }
-{
-    is_understood(conn, PROBE_REQUEST)
+    is_understood(conn, probe_text(table))
 }

@@ -1,12 +1,11 @@
 //! The table of decided requests.
-ghost use Rattle.std.specs.Prelude.{pos, find, is_some, IfErr};
+ghost use Rattle.std.specs.Prelude.{pos, find, is_some};
 ghost use Rattle.sql_meanings.specs.Entries.{has_two};
 ghost use Rattle.posting_rules.specs.Tables.{row_at, request_key};
 ghost use Rattle.posting_rules.specs.Changes.{with_request};
 ghost use Rattle.store_rows.specs.Calls.{AddsRow, LooksUp};
 ghost use Rattle.store_rows.specs.Columns.{request_in};
 ghost use Rattle.store_rows.specs.Forms.{request_form};
-ghost use Rattle.store_rows.specs.Failures.{IsUnreadable};
 ghost use Rattle.store_rows.specs.Outcomes.{ReadsKept};
 ghost use Rattle.store_rows.specs.Rules.{RequestKeeps};
 ghost use Rattle.store_rows.specs.BankTables.{request as table};
@@ -25,7 +24,6 @@ use sqlite::{Alter, Row, Transaction, params};
 fn kept_from(row: &Row) -> Result<Kept, TableFault>
     ensures reads { ReadsKept row.now result }
     ensures stored { ReadsStored request_stored IsKept RequestKeeps row.now result }
-    ensures failed { IfErr result IsUnreadable }
 {
     let account = whole_at(row, 3, Rule::Request)?;
     let branch = whole_at(row, 4, Rule::Request)?;

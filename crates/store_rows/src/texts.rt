@@ -27,6 +27,10 @@ pub(crate) const MAKE_REQUEST: &str =
      aid INTEGER NOT NULL, bid INTEGER NOT NULL, delta INTEGER NOT NULL, outcome INTEGER NOT NULL, \
      balance INTEGER NOT NULL, UNIQUE (tid, number)) STRICT";
 
+/// Makes the table `branch_floor`.
+pub(crate) const MAKE_FLOOR: &str =
+    "CREATE TABLE branch_floor (bid INTEGER PRIMARY KEY, lowest INTEGER NOT NULL) STRICT";
+
 /// The texts that make the tables, in the order in which they are made.
 pub(crate) const MAKE_TABLES: &[&str] = &[
     MAKE_META,
@@ -35,6 +39,7 @@ pub(crate) const MAKE_TABLES: &[&str] = &[
     MAKE_ACCOUNT,
     MAKE_HISTORY,
     MAKE_REQUEST,
+    MAKE_FLOOR,
 ];
 
 /// The row of meta.
@@ -92,6 +97,12 @@ pub(crate) const GET_REQUEST: &str =
     "SELECT ordinal, tid, number, aid, bid, delta, outcome, balance FROM request \
      WHERE tid = ?1 AND number = ?2";
 
+/// The floor of a branch.
+pub(crate) const GET_FLOOR: &str = "SELECT bid, lowest FROM branch_floor WHERE bid = ?1";
+
+/// A floor more.
+pub(crate) const ADD_FLOOR: &str = "INSERT INTO branch_floor (bid, lowest) VALUES (?1, ?2)";
+
 /// Names every column of `meta`.
 pub(crate) const PROBE_META: &str = "SELECT id, version, decided FROM meta";
 
@@ -110,3 +121,6 @@ pub(crate) const PROBE_HISTORY: &str = "SELECT ordinal, aid, tid, bid, delta, mo
 /// Names every column of `request`.
 pub(crate) const PROBE_REQUEST: &str =
     "SELECT ordinal, tid, number, aid, bid, delta, outcome, balance FROM request";
+
+/// Names every column of `branch_floor`.
+pub(crate) const PROBE_FLOOR: &str = "SELECT bid, lowest FROM branch_floor";

@@ -1,5 +1,6 @@
 //! What a bank is asked for, as plain data: the calls, what they have to answer, and the tables that they lead to.
 use crate::sums::{Ledger, Sums};
+use message_records::{REPLY_BYTES, REQUEST_BYTES};
 use std::alloc::{Alloc, Global};
 use std::process::Abort;
 
@@ -33,8 +34,8 @@ pub struct Case<'a> {
     pub way: Way,
     /// Branches, and how many accounts each has.
     pub plan: &'a [(u64, u32)],
-    pub records: &'a [[u8; 100]],
-    pub replies: &'a [[u8; 200]],
+    pub records: &'a [[u8; REQUEST_BYTES]],
+    pub replies: &'a [[u8; REPLY_BYTES]],
     /// The sums over the tables before it, and behind each part of which a stop may leave it.
     pub states: &'a [Sums],
 }

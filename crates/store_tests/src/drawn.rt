@@ -2,7 +2,7 @@
 use crate::ways::plan_of;
 use branch_loader::load;
 use load_driver::Driver;
-use message_records::Moment;
+use message_records::{Moment, REPLY_BYTES, REQUEST_BYTES};
 use posting_core::{Counter, PlainBank};
 use std::alloc::{Alloc, Global};
 use std::process::Abort;
@@ -16,7 +16,7 @@ pub fn records_of(
     plan: &[(u64, u32)],
     seed: u64,
     count: u32,
-) -> Vec<[u8; 100]> {
+) -> Vec<[u8; REQUEST_BYTES]> {
     let mut driver = Driver::new(rt.alloc(), &plan_of(rt, plan), seed).expect(rt, "a driver");
     let mut records = Vec::new(rt.alloc());
     for _ in 0..count {
@@ -29,8 +29,8 @@ pub fn records_of(
 fn submit_each<C: Counter>(
     rt: &(impl Abort + Alloc<A = Global>),
     bank: &mut C,
-    records: &[[u8; 100]],
-) -> Vec<[u8; 200]> {
+    records: &[[u8; REQUEST_BYTES]],
+) -> Vec<[u8; REPLY_BYTES]> {
     let moment = Moment::new(1000).unwrap();
     let mut replies = Vec::new(rt.alloc());
     for record in records {
@@ -44,8 +44,8 @@ fn answered<C: Counter>(
     rt: &(impl Abort + Alloc<A = Global>),
     bank: &mut C,
     plan: &[(u64, u32)],
-    records: &[[u8; 100]],
-) -> Vec<[u8; 200]> {
+    records: &[[u8; REQUEST_BYTES]],
+) -> Vec<[u8; REPLY_BYTES]> {
     assert!(rt; load(&plan_of(rt, plan), bank).is_ok());
     submit_each(rt, bank, records)
 }
@@ -54,7 +54,7 @@ fn answered<C: Counter>(
 pub fn replies_to(
     rt: &(impl Abort + Alloc<A = Global>),
     plan: &[(u64, u32)],
-    records: &[[u8; 100]],
-) -> Vec<[u8; 200]> {
+    records: &[[u8; REQUEST_BYTES]],
+) -> Vec<[u8; REPLY_BYTES]> {
     answered(rt, &mut PlainBank::new(rt.alloc()), plan, records)
 }

@@ -7,7 +7,7 @@ use crate::tasks::{BRANCHES, Task};
 use std::alloc::{Alloc, Global};
 use std::process::Abort;
 
-const MOST_LIVES: u32 = 60;
+const MAX_LIVES: u32 = 60;
 
 // What is in the files behind lives that answered all, and how many were stopped before.
 #[derive(Drop)]
@@ -34,7 +34,7 @@ fn lives(
 ) -> Option<Lived> {
     let mut left = copied(rt, start);
     let mut answered = 0usize;
-    for stopped in 0..MOST_LIVES {
+    for stopped in 0..MAX_LIVES {
         let task = Task::Work(case.behind(answered));
         let Ended {
             progress,

@@ -5,6 +5,7 @@ use crate::drawn::{ONE_ACCOUNT, records_of, replies_to};
 use crate::files::{ALL_PASS, Ended, Image, Passed, play_on};
 use crate::readings::Reading;
 use crate::tasks::{BRANCHES, Progress, Task};
+use message_records::{REPLY_BYTES, REQUEST_BYTES};
 use std::alloc::{Alloc, Global};
 use std::process::Abort;
 
@@ -121,8 +122,8 @@ fn stop_in(rt: &(impl Abort + Alloc<A = Global>), open: &[(u64, u32)], case: Cas
 fn stop_in_records<'a>(
     rt: &(impl Abort + Alloc<A = Global>),
     way: Way,
-    records: &'a [[u8; 100]],
-    replies: &'a [[u8; 200]],
+    records: &'a [[u8; REQUEST_BYTES]],
+    replies: &'a [[u8; REPLY_BYTES]],
 ) {
     let case = Case {
         way,

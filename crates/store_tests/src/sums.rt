@@ -1,24 +1,28 @@
-//! Sums over the six tables: as they are found, and as openings and postings lead to them. Moments are aside.
+//! Sums over the tables: as they are found, and as openings and postings lead to them. Moments are aside.
 use crate::sql::number;
-use message_records::{Cents, Reply, Request, decode_reply};
+use message_records::{Cents, REPLY_BYTES, Reply, Request, decode_reply};
 use sqlite::{Alter, Connection, Error};
 use std::process::Abort;
 
-/// A sum over each table, in which each row and each column has a weight of its own.
-pub type Sums = [i64; 6];
+// How many tables a bank has.
+const TABLES: usize = 7;
 
-const TEXTS: [&str; 6] = [
+/// A sum over each table, in which each row and each column has a weight of its own.
+pub type Sums = [i64; TABLES];
+
+const TEXTS: [&str; TABLES] = [
     "SELECT coalesce(sum(id + 2 * version + 3 * decided), 0) FROM meta",
     "SELECT coalesce(sum((1 + 2 * bid) * (1 + 3 * accounts + 5 * balance)), 0) FROM branch",
     "SELECT coalesce(sum((1 + 2 * tid) * (1 + 3 * balance)), 0) FROM teller",
     "SELECT coalesce(sum((1 + 2 * aid) * (1 + 3 * balance)), 0) FROM account",
     "SELECT coalesce(sum((1 + 2 * ordinal) * (1 + 3 * aid + 5 * tid + 7 * bid + 11 * delta)), 0) FROM history",
     "SELECT coalesce(sum((1 + 2 * ordinal) * (1 + 3 * tid + 5 * number + 7 * aid + 11 * bid + 13 * delta + 17 * outcome + 19 * balance)), 0) FROM request",
+    "SELECT coalesce(sum((1 + 2 * bid) * (1 + 3 * lowest)), 0) FROM branch_floor",
 ];
 
 /// The sums that are found.
 pub fn sums_of<S: Alter>(conn: &mut Connection<S>) -> Result<Sums, Error> {
-    let mut found = [0; 6];
+    let mut found = [0; TABLES];
     for place in 0..TEXTS.len() {
         found[place] = number(conn, TEXTS[place])?;
     }
@@ -47,10 +51,10 @@ pub struct Ledger {
 }
 
 impl Ledger {
-    /// A bank without branches: the one row of `meta`, of version 1.
+    /// A bank without branches: the one row of `meta`, of version 2.
     pub fn new() -> Self {
         Ledger {
-            sums: [3, 0, 0, 0, 0, 0],
+            sums: [5, 0, 0, 0, 0, 0, 0],
             decided: 0,
         }
     }
@@ -125,7 +129,7 @@ impl Ledger {
     }
 
     /// Posts the request that has this reply, which is that it was posted.
-    pub fn post_replied(&mut self, rt: &impl Abort, reply: &[u8; 200]) {
+    pub fn post_replied(&mut self, rt: &impl Abort, reply: &[u8; REPLY_BYTES]) {
         let reply = decode_reply(reply).expect(rt, "a reply");
         let (request, balance) = parts_of(&reply).expect(rt, "a posting");
         self.post(&request, balance);

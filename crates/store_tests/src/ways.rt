@@ -58,7 +58,7 @@ pub fn plan_of(rt: &(impl Abort + Alloc<A = Global>), list: &[(u64, u32)]) -> Pl
     let mut rows = Vec::new(rt.alloc());
     for (branch, accounts) in list {
         let branch = Branch::new(*branch).expect(rt, "a branch");
-        rows.push((branch, *accounts)).expect(rt, "memory");
+        rows.push((branch, *accounts, None)).expect(rt, "memory");
     }
     Plan::from_list(rows).expect(rt, "a plan")
 }

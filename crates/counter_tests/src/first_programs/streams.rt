@@ -8,7 +8,7 @@ pub fn first_stream<C: Counter, K: Clock>(
     mut records: &[u8],
     replies: &mut Vec<u8>,
 ) -> Result<Count, StreamFault> {
-    match bank.open_branch(Branch::new(1).unwrap(), 3) {
+    match bank.open_branch(Branch::new(1).unwrap(), 3, None) {
         Ok(_) => post_stream(&mut records, replies, clock, bank),
         Err(fault) => Err(StreamFault::Bank(fault)),
     }

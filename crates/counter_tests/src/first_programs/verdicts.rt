@@ -12,6 +12,7 @@ pub fn first_verdict(balance: Option<Cents>) -> (Verdict, Option<Cents>) {
         kept: None,
         decided: 0,
         account: balance,
+        floor: None,
     };
     let verdict = judge(&found, &request);
     (verdict, reply_to(&found, &request, &verdict).balance())

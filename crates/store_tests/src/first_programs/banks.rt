@@ -19,7 +19,7 @@ pub fn first_bank<S: Alter + Drop>(
         Ok(bank) => bank,
         Err(Refused { fault, conn: _conn }) => return Err(fault.into()),
     };
-    bank.open_branch(Branch::new(1).unwrap(), 3)?;
+    bank.open_branch(Branch::new(1).unwrap(), 3, None)?;
     let request = Request::new(
         Account::new(1).unwrap(),
         Teller::new(1).unwrap(),

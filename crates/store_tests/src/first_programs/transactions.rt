@@ -9,7 +9,7 @@ use store_rows::TableFault;
 pub fn first_request<S: Alter>(conn: &mut Connection<S>) -> Result<[u8; REPLY_BYTES], TableFault>
     requires { conn.old.in_transaction ≡ false }
 {
-    open_branch(conn, Branch::new(1).unwrap(), 3)?;
+    open_branch(conn, Branch::new(1).unwrap(), 3, None)?;
     let request = Request::new(
         Account::new(1).unwrap(),
         Teller::new(1).unwrap(),

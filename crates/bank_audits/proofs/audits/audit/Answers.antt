@@ -7,6 +7,7 @@ use Rattle.posting_rules.specs.Laws.{IsConsistent}
 use Rattle.posting_rules.specs.declared.fault.Fault.{Fault}
 use Rattle.posting_rules.specs.declared.fault.Fault.TheVariants.{Damaged, Down, Memory, Store}
 use Rattle.posting_rules.specs.declared.fault.Rule.{Rule as Broken}
+use Rattle.posting_rules.proofs.Undamaged.{undamaged}
 use Rattle.bank_reports.specs.Audit.{audit_of, is_sound}
 use Rattle.bank_reports.specs.Beside.{rows_of}
 use Rattle.bank_reports.specs.Consistency.{IsSoundFile}
@@ -152,6 +153,7 @@ returns g c =
             subst (λ told. IsTrue (is_sound told) ↔ IsConsistent t)
             (sym (audited g c clean (stored t) (has_file db t shown))) (tells_in_file db t shown);
         once = λ clean log t there shows. posted_once t log shows;
+        above = λ clean log are t there shows. (undamaged t log are shows).above;
         balanced = λ clean log s.
             ap is_sound (audited g c clean (stored s.tables) (has_file db s.tables s.are))
             ∙ balanced s.tables log s.shows;

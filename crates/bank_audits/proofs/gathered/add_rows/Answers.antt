@@ -30,7 +30,7 @@ refusal : (g : Over) (c : goal.After-from_residual g) → c.from_residual.result
 refusal g c = search rules
 
 pub returns-in_err-row-clause-same_reference : goal.returns-in_err-row-clause-same_reference
-returns-in_err-row-clause-same_reference g c = c.next.ensures.same_reference ∙ c.rows.invariant.reference
+returns-in_err-row-clause-same_reference g c = c.next.ensures.bank.same_reference ∙ c.rows.invariant.reference
 
 pub returns-in_err-row-clause-added : goal.returns-in_err-row-clause-added
 returns-in_err-row-clause-added g c = rw (refusal g c) tt
@@ -42,17 +42,17 @@ returns-in_err-row-clause-frugal g c is =
 pub returns-in_err-row-clause-tried : goal.returns-in_err-row-clause-tried
 returns-in_err-row-clause-tried g c is =
     c.rows.invariant.fresh
-    (c.next.ensures.down.1 (rw (c.in_err-row.was, error_is _ _ (sym (refusal g c) ∙ is)) refl)).0
+    (c.next.ensures.stage.down.1 (rw (c.in_err-row.was, error_is _ _ (sym (refusal g c) ∙ is)) refl)).0
 
 pub returns-in_err-row-clause-up : goal.returns-in_err-row-clause-up
-returns-in_err-row-clause-up g c = c.next.ensures.up ∙ c.rows.invariant.up
+returns-in_err-row-clause-up g c = c.next.ensures.bank.up ∙ c.rows.invariant.up
 
 pub returns-in_err-row-clause-told : goal.returns-in_err-row-clause-told
 returns-in_err-row-clause-told g c clean all has =
     let old = state g.S.Store c.args.walk.now.bank.now.conn in
     let mid = state g.S.Store c.rows.walk.bank.now.conn in
     let late : HasCleanDisk (state g.S.Store c.next.new.self.bank.now.conn) = clean in
-    let before : HasCleanDisk mid = omega (arith, c.next.ensures.survives.clean, late) in
+    let before : HasCleanDisk mid = omega (arith, c.next.ensures.bank.survives.clean, late) in
     let same = refusal g c in
     let there = subst (λ db. g.R.WalkedRow.HasItems db all) (sym (c.rows.invariant.still before).0) has in
     rw same (failed_row g.R.WalkedRow.item g.R.WalkedRow.HasItems g.R.Summed.with_rows old.now
@@ -74,13 +74,13 @@ pub returns-in_err-row-clause-passed : goal.returns-in_err-row-clause-passed
 returns-in_err-row-clause-passed g c =
     rw (refusal g c) (passed_err (state g.S.Store c.args.walk.now.bank.now.conn)
     (state g.S.Store c.rows.walk.bank.now.conn) (state g.S.Store c.next.new.self.bank.now.conn)
-    c.rows.invariant.survives c.rows.invariant.still c.next.ensures.survives c.in_err-row.field-0.0
-    c.next.ensures.undone)
+    c.rows.invariant.survives c.rows.invariant.still c.next.ensures.bank.survives c.in_err-row.field-0.0
+    c.next.ensures.bank.undone)
 
 -- ---- the end of the walk
 
 pub returns-in_default-clause-same_reference : goal.returns-in_default-clause-same_reference
-returns-in_default-clause-same_reference g c = c.next.ensures.same_reference ∙ c.rows.invariant.reference
+returns-in_default-clause-same_reference g c = c.next.ensures.bank.same_reference ∙ c.rows.invariant.reference
 
 pub returns-in_default-clause-told : goal.returns-in_default-clause-told
 returns-in_default-clause-told g c clean all has = tt
@@ -92,7 +92,7 @@ pub returns-in_default-clause-tried : goal.returns-in_default-clause-tried
 returns-in_default-clause-tried g c = not_ok _ _ _ refl
 
 pub returns-in_default-clause-up : goal.returns-in_default-clause-up
-returns-in_default-clause-up g c = c.next.ensures.up ∙ c.rows.invariant.up
+returns-in_default-clause-up g c = c.next.ensures.bank.up ∙ c.rows.invariant.up
 
 pub returns-in_default-clause-added : goal.returns-in_default-clause-added
 returns-in_default-clause-added g c =
@@ -103,7 +103,7 @@ returns-in_default-clause-added g c =
       it.given,
       it.added,
       λ clean all has.
-          let before : HasCleanDisk mid = omega (arith, c.next.ensures.survives.clean, clean) in
+          let before : HasCleanDisk mid = omega (arith, c.next.ensures.bank.survives.clean, clean) in
           let there = subst (λ db. g.R.WalkedRow.HasItems db all) (sym (c.rows.invariant.still before).0)
           has in
           let told = rw c.in_default.is at (c.in_ok-row.ensures.told clean all there) in
@@ -119,7 +119,7 @@ pub returns-in_default-clause-passed : goal.returns-in_default-clause-passed
 returns-in_default-clause-passed g c =
     passed_ok (state g.S.Store c.args.walk.now.bank.now.conn) (state g.S.Store c.rows.walk.bank.now.conn)
     (state g.S.Store c.next.new.self.bank.now.conn)
-    c.rows.invariant.survives c.rows.invariant.still c.next.ensures.survives c.in_ok-row.ensures.same
+    c.rows.invariant.survives c.rows.invariant.still c.next.ensures.bank.survives c.in_ok-row.ensures.bank.same
 
 -- ---- there are no more rows than can be
 
@@ -154,14 +154,14 @@ rows-preserved g c =
     let new = state g.S.Store c.next.new.self.bank.now.conn in
     let it = c.rows.invariant in
     let before = λ (clean : HasCleanDisk new). let b : HasCleanDisk mid =
-    omega (arith, c.next.ensures.survives.clean, clean) in b in
+    omega (arith, c.next.ensures.bank.survives.clean, clean) in b in
     let rises = rw c.in-Some.is at (c.in_ok-row.ensures.rises it.along.next it.along.comes) in
     record {
-      reference = c.next.ensures.same_reference ∙ it.reference;
-      survives = quiet_then old mid new it.survives c.next.ensures.survives;
-      up = c.next.ensures.up ∙ it.up;
-      fresh = c.in_ok-row.ensures.going;
-      still = λ clean. still_then old mid new (it.still (before clean)) (c.in_ok-row.ensures.same clean);
+      reference = c.next.ensures.bank.same_reference ∙ it.reference;
+      survives = quiet_then old mid new it.survives c.next.ensures.bank.survives;
+      up = c.next.ensures.bank.up ∙ it.up;
+      fresh = c.in_ok-row.ensures.stage.going;
+      still = λ clean. still_then old mid new (it.still (before clean)) (c.in_ok-row.ensures.bank.same clean);
       gathered = one_more_row g.R.WalkedRow.item g.R.WalkedRow.HasItems g.R.Summed.with_rows old.now
           (HasCleanDisk mid) (HasCleanDisk new) c.args.sums.now c.rows.sums
           (λ all. items_to_come g.R.WalkedRow.key g.R.WalkedRow.item g.R.WalkedRow.is_given all

@@ -34,11 +34,11 @@ returns-in_err-row g c =
     let mid = state g.S.Store c.lines.walk.bank.now.conn in
     let new = state g.S.Store c.next.new.self.bank.now.conn in
     let it = c.lines.invariant in
-    let quiet = c.next.ensures.survives in
+    let quiet = c.next.ensures.bank.survives in
     let fault = c.in_err-row.field-0.0 in
     let same : c.from_residual.result ≡ Err (Bank fault) = search rules in
     record {
-      same_reference = c.next.ensures.same_reference ∙ it.reference;
+      same_reference = c.next.ensures.bank.same_reference ∙ it.reference;
       told = λ clean rows has.
           let before = clean_before mid new quiet clean in
           let there = still_has old mid history_table rows (it.still before) has in
@@ -50,7 +50,7 @@ returns-in_err-row g c =
         found = not_missing _ fault same;
         frugal = λ is. c.next.ensures.frugal (c.in_err-row.was ∙ ap Err (same_fault _ fault Memory same is));
         tried = λ is.
-            absurd (it.fresh (c.next.ensures.down.1
+            absurd (it.fresh (c.next.ensures.stage.down.1
             (rw (c.in_err-row.was, same_fault _ fault Down same is) refl)).0);
         store = λ is clean rows has.
             let before = clean_before mid new quiet clean in
@@ -64,8 +64,8 @@ returns-in_err-row g c =
         still = λ clean written. absurd (rw same at written);
         undone = λ clean.
             undone_then old mid new (it.still (clean_before mid new quiet clean))
-            (c.next.ensures.undone clean);
-        up = subst (λ fault. IsSome fault) (c.next.ensures.up ∙ it.up);
+            (c.next.ensures.bank.undone clean);
+        up = subst (λ fault. IsSome fault) (c.next.ensures.bank.up ∙ it.up);
         survives = quiet_then old mid new it.survives quiet;
       };
     }
@@ -76,11 +76,11 @@ returns-in_default g c =
     let mid = state g.S.Store c.lines.walk.bank.now.conn in
     let new = state g.S.Store c.next.new.self.bank.now.conn in
     let it = c.lines.invariant in
-    let quiet = c.next.ensures.survives in
+    let quiet = c.next.ensures.bank.survives in
     let still = λ (clean : HasCleanDisk new).
-    still_then old mid new (it.still (clean_before mid new quiet clean)) (c.in_ok-row.ensures.same clean) in
+    still_then old mid new (it.still (clean_before mid new quiet clean)) (c.in_ok-row.ensures.bank.same clean) in
     record {
-      same_reference = c.next.ensures.same_reference ∙ it.reference;
+      same_reference = c.next.ensures.bank.same_reference ∙ it.reference;
       told = λ clean rows has.
           let before = clean_before mid new quiet clean in
           let there = still_has old mid history_table rows (it.still before) has in
@@ -95,7 +95,7 @@ returns-in_default g c =
         store = λ no. absurd (not_ok _ _ _ refl no);
         still = λ clean written. still clean;
         undone = λ clean. still_undone old new (still clean);
-        up = subst (λ fault. IsSome fault) (c.next.ensures.up ∙ it.up);
+        up = subst (λ fault. IsSome fault) (c.next.ensures.bank.up ∙ it.up);
         survives = quiet_then old mid new it.survives quiet;
       };
     }
@@ -106,7 +106,7 @@ returns-in_err-balance g c =
     let mid = state g.S.Store c.lines.walk.bank.now.conn in
     let new = state g.S.Store c.next.new.self.bank.now.conn in
     let it = c.lines.invariant in
-    let quiet = c.next.ensures.survives in
+    let quiet = c.next.ensures.bank.survives in
     let fault = c.in_err-balance.field-0.0 in
     let same : c.from_residual-in_err-balance.result ≡ Err fault = search rules in
     let wrote = c.in_err-balance.ensures.written in
@@ -114,9 +114,9 @@ returns-in_err-balance g c =
     line_is c.in-Some.row c.lines.balance (g.W.Sink.contents c.lines.writer)
     (g.W.Sink.contents c.write_line.new.writer) _ fault e same is wrote in
     let still = λ (clean : HasCleanDisk new).
-    still_then old mid new (it.still (clean_before mid new quiet clean)) (c.in_ok-row.ensures.same clean) in
+    still_then old mid new (it.still (clean_before mid new quiet clean)) (c.in_ok-row.ensures.bank.same clean) in
     record {
-      same_reference = c.next.ensures.same_reference ∙ it.reference;
+      same_reference = c.next.ensures.bank.same_reference ∙ it.reference;
       told = λ clean rows has.
           let before = clean_before mid new quiet clean in
           let there = still_has old mid history_table rows (it.still before) has in
@@ -132,7 +132,7 @@ returns-in_err-balance g c =
         store = λ is. absurd (line (Bank Store) is);
         still = λ clean written. still clean;
         undone = λ clean. still_undone old new (still clean);
-        up = subst (λ fault. IsSome fault) (c.next.ensures.up ∙ it.up);
+        up = subst (λ fault. IsSome fault) (c.next.ensures.bank.up ∙ it.up);
         survives = quiet_then old mid new it.survives quiet;
       };
     }
@@ -143,15 +143,15 @@ lines-preserved g c =
     let mid = state g.S.Store c.lines.walk.bank.now.conn in
     let new = state g.S.Store c.next.new.self.bank.now.conn in
     let it = c.lines.invariant in
-    let quiet = c.next.ensures.survives in
+    let quiet = c.next.ensures.bank.survives in
     record {
-      reference = c.next.ensures.same_reference ∙ it.reference;
+      reference = c.next.ensures.bank.same_reference ∙ it.reference;
       survives = quiet_then old mid new it.survives quiet;
-      up = c.next.ensures.up ∙ it.up;
-      fresh = c.in_ok-row.ensures.going;
+      up = c.next.ensures.bank.up ∙ it.up;
+      fresh = c.in_ok-row.ensures.stage.going;
       still = λ clean.
           still_then old mid new (it.still (clean_before mid new quiet clean))
-          (c.in_ok-row.ensures.same clean);
+          (c.in_ok-row.ensures.bank.same clean);
       more = more_more it.more c.in_ok-balance.ensures.more;
       far = λ clean rows has.
           let before = clean_before mid new quiet clean in

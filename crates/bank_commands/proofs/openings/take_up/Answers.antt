@@ -6,7 +6,7 @@ pub returns-in-Ok-clause-taken : goal.returns-in-Ok-clause-taken
 returns-in-Ok-clause-taken g c = record {
   clean = λ honest. omega (arith, c.in-Ok.ensures.survives.clean);
   stands = λ honest opens tables log are left shown.
-      c.in-Ok.ensures.stands honest log (c.opened_law.ensures opens tables log are left shown);
+      c.in-Ok.ensures.found.stands honest log (c.opened_law.ensures opens tables log are left shown);
 }
 
 pub returns-in-Err-clause-missed : goal.returns-in-Err-clause-missed

@@ -12,22 +12,22 @@ use Rattle.bank_lives.proofs.reopening.reopen.Goals as goal
 
 pub returns-clause-found : goal.returns-clause-found
 returns-clause-found g c =
-    if_ok _ _ (λ bank stands honest opens stopped left first log given least stood life.
+    if_ok _ _ (λ bank taken honest opens stopped left first log given least stood life.
     let it = begins_opened (state g.T.Store c.args.conn) log given least opens
     (λ db may. g.met.T.Store.settled c.args.conn.store db opens.is_open may)
     (λ t shown. c.trees_show_law.ensures.finds opens.is_open t shown)
     (c.life_law.ensures.survives first log given least life stood stopped
     (g.T.Store.view c.args.conn.store).trees left) in
-    let at = stands honest _ it.stands in
+    let at = taken.stands honest _ it.stands in
     found_at (bank_seen g.T.Store bank) log given least it.count it.holds it.within
     c.each_request_once.ensures
     c.tables_are_consistent.ensures at
     (λ other shown. c.trees_show_law.ensures.once (g.T.Store.view bank.conn.store).trees other at.shows.tables
-    (bank.conn.schema, shown) (bank.conn.schema, at.shows.are))) c.adopt.result c.adopt.ensures.stands
+    (bank.conn.schema, shown) (bank.conn.schema, at.shows.are))) c.adopt.result c.adopt.ensures.found
 
 pub returns-clause-kept : goal.returns-clause-kept
 returns-clause-kept g c =
-    if_ok _ _ (λ bank stands honest opens stopped left first life lives some lived.
+    if_ok _ _ (λ bank taken honest opens stopped left first life lives some lived.
     let last = Of_bank c.args.stopped.now in
     let was = kept (seen_at g.S.Store) lives first some (life_honest (seen_at g.S.Store) first last
     life.commands life.least lived stopped) in
@@ -36,13 +36,13 @@ returns-clause-kept g c =
     (λ t shown. c.trees_show_law.ensures.finds opens.is_open t shown)
     (life_leaves (seen_at g.S.Store) first last life.commands life.least lived stopped was.0 was.2
     (g.T.Store.view c.args.conn.store).trees left) in
-    let at = stands honest _ it.stands in
+    let at = taken.stands honest _ it.stands in
     kept_at (bank_seen g.T.Store bank) (life ∷ lives) (behind was.0 (take it.count life.commands))
     (was.0, was.1, it.count, it.holds, it.within, refl)
     c.each_request_once.ensures
     c.tables_are_consistent.ensures at
     (λ other shown. c.trees_show_law.ensures.once (g.T.Store.view bank.conn.store).trees other at.shows.tables
-    (bank.conn.schema, shown) (bank.conn.schema, at.shows.are))) c.adopt.result c.adopt.ensures.stands
+    (bank.conn.schema, shown) (bank.conn.schema, at.shows.are))) c.adopt.result c.adopt.ensures.found
 
 pub returns-clause-missed : goal.returns-clause-missed
 returns-clause-missed g c =
@@ -65,3 +65,9 @@ returns-clause-remains g c =
     if_err _ _ (λ refused again clean opens stopped left first log given least stood life trees may.
     c.life_law.ensures.survives first log given least life stood stopped trees
     (again clean opens left trees may)) c.adopt.result (returns-clause-again g c)
+
+pub returns-clause-up : goal.returns-clause-up
+returns-clause-up g c = if_ok _ _ (λ bank taken. taken.up) c.adopt.result c.adopt.ensures.found
+
+pub returns-clause-idle : goal.returns-clause-idle
+returns-clause-idle g c = if_err _ _ (λ refused back. back.idle) c.adopt.result c.adopt.ensures.back

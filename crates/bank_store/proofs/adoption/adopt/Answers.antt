@@ -1,19 +1,17 @@
 -- What the found bank shows is what was shown. A bank that shows a log is missed only where the store failed.
-use Rattle.std.proofs.Common.{List, Err, refl, sym, subst, inl, inr}
-use Rattle.std.specs.Prelude.{IsSome, ◌≢◌}
+use Rattle.std.proofs.Common.{List, sym, subst, inl, inr}
+use Rattle.std.specs.Prelude.{IsSome}
 use Rattle.sqlite.specs.State.{State, HasCleanDisk, Survives}
 use Rattle.sqlite.specs.Held.{state}
 use Rattle.posting_rules.specs.Commands.{Command}
 use Rattle.posting_rules.specs.Counter.{LeavesOnly, ShowsLog}
 use Rattle.posting_rules.specs.Tables.{Tables}
 use Rattle.store_rows.specs.View.{Shows}
-use Rattle.bank_store.specs.Connections.{IsAsBefore, IsReadOnly, IsUndoneIfOpen}
+use Rattle.bank_store.specs.Connections.{IsAsBefore}
 use Rattle.bank_store.specs.FoundBank.{BankIsFound}
 use Rattle.bank_store.specs.Seen.{seen_in}
-use Rattle.posting_rules.specs.declared.open_fault.OpenFault.{OpenFault}
-use Rattle.posting_rules.specs.declared.open_fault.OpenFault.TheVariants.{Store, NotBlank, Blank, Foreign, Version}
-use Rattle.posting_rules.specs.declared.open_fault.OpenFault.TheVariants.{Damaged}
 use Rattle.bank_store.proofs.FoundBank.{known}
+use Rattle.bank_store.proofs.Settled.{as_it_was, undone_if_open}
 use Rattle.bank_store.proofs.adoption.adopt.Goals as goal
 
 module _ (old new : State) where
@@ -33,23 +31,6 @@ module _ (old new : State) where
     | inr none ↦ absurd none
   ]
 
-  as_it_was : (fault : OpenFault) → IsReadOnly {X = Unit {0}} old new (Err fault) → fault ≢ Store
-      → IsAsBefore old new
-  as_it_was Store reads other = absurd (other refl)
-  as_it_was NotBlank reads other = reads
-  as_it_was Blank reads other = reads
-  as_it_was Foreign reads other = reads
-  as_it_was (Version n) reads other = reads
-  as_it_was (Damaged rule) reads other = reads
-
-  undone : (fault : OpenFault) → IsReadOnly {X = Unit {0}} old new (Err fault) → IsUndoneIfOpen old new
-  undone Store reads = reads
-  undone NotBlank reads = λ _. reads
-  undone Blank reads = λ _. reads
-  undone Foreign reads = λ _. reads
-  undone (Version n) reads = λ _. reads
-  undone (Damaged rule) reads = λ _. reads
-
 pub returns-in-Ok : goal.returns-in-Ok
 returns-in-Ok g c =
     let old = state g.S.Store c.args.conn in
@@ -63,22 +44,22 @@ returns-in-Ok g c =
     subst (λ h. Survives old (state g.S.Store h) (λ _. ⊥)) same c.in-Ok.ensures.survives in
     let up : Down → ⊥ = λ some. (let none = c.over.ensures.up in let h = rw none at some in cc) in
     record {
-      found = found;
-      shows = λ clean log. still_shown old new ⊥ Down log (found clean).same;
-      stands = λ clean log at. record {
-        shows = still_shown old new ⊥ Down log (found clean).same at.shows;
+      found = record {
+        found = found;
+        shows = λ clean log. still_shown old new ⊥ Down log (found clean).same;
+        stands = λ clean log at. record {
+          shows = still_shown old new ⊥ Down log (found clean).same at.shows;
+          up = up;
+          survives = still_left old new ⊥ Down _ quiet clean at.survives;
+        };
         up = up;
-        survives = still_left old new ⊥ Down _ quiet clean at.survives;
       };
-      up = up;
       alloc = c.over.ensures.alloc;
       missed = tt;
       cause = tt;
-      same = tt;
-      undone = tt;
+      back = tt;
       known = tt;
       remains = tt;
-      idle = tt;
       survives = quiet;
     }
 
@@ -90,16 +71,15 @@ returns-in-Err g c =
     let told = c.in-Err.ensures.told in
     record {
       found = tt;
-      shows = tt;
-      stands = tt;
-      up = tt;
       alloc = tt;
       missed = λ clean. (told clean).0;
       cause = c.in-Err.ensures.cause;
-      same = λ clean other. as_it_was old new fault (told clean).1 other;
-      undone = λ clean. undone old new fault (told clean).1;
+      back = record {
+        idle = c.in-Err.ensures.mode;
+        same = λ clean other. as_it_was old new fault (told clean).1 other;
+        undone = λ clean. undone_if_open old new fault (told clean).1;
+      };
       known = λ clean log s. known old fault s.tables log (told clean).0 s.are s.commands s.shows;
       remains = λ clean log at. still_left old new ⊥ ⊥ _ c.in-Err.ensures.survives clean at.survives;
-      idle = c.in-Err.ensures.mode;
       survives = c.in-Err.ensures.survives;
     }

@@ -5,8 +5,9 @@ use mir.Val.{to_z, of_z}
 use mir.Syntax.{w64}
 use Rattle.bank_store.specs.Connections.{IsAsBefore}
 use Rattle.bank_store.specs.StoreFaults.{KnowsCause}
-use Rattle.bank_store.specs.TablePresence.{IsPresent, probe_of}
-use Rattle.bank_store.specs.declared.presence.BankTable.TheVariants.{Meta}
+use Rattle.bank_store.specs.TablePresence.{IsPresent}
+use Rattle.store_rows.specs.Probes.{probe_of}
+use Rattle.store_rows.specs.declared.probes.BankTable.TheVariants.{Meta}
 use Rattle.bank_store.specs.declared.presence.Presence.{Presence}
 use Rattle.posting_rules.specs.declared.open_fault.OpenFault.{OpenFault}
 use Rattle.posting_rules.specs.declared.open_fault.OpenFault.TheVariants.{Store}

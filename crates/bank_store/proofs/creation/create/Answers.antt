@@ -28,19 +28,20 @@ returns-in-Ok g c =
     c.in-Ok.ensures.blank in
     let up : Down → ⊥ = λ some. (let none = c.over.ensures.up in let h = rw none at some in cc) in
     record {
-      stands = λ clean. stands_empty old new Down up (made clean);
-      keeps = λ clean. (made clean).keeps;
-      alone = λ clean. (made clean).alone;
-      blank = blank;
-      new = λ clean t. no_bank old.now t (blank clean);
-      up = up;
+      made = record {
+        stands = λ clean. stands_empty old new Down up (made clean);
+        keeps = λ clean. (made clean).keeps;
+        alone = λ clean. (made clean).alone;
+        blank = blank;
+        new = λ clean t. no_bank old.now t (blank clean);
+        up = up;
+      };
       alloc = c.over.ensures.alloc;
-      undone = tt;
       fault = tt;
       refused = tt;
       cause = tt;
       empty = tt;
-      idle = tt;
+      back = tt;
       survives =
           subst (λ h. Survives old (state g.S.Store h) (HasNewBank old.now)) same
           c.in-Ok.ensures.makes.survives;
@@ -50,14 +51,8 @@ pub returns-in-Err : goal.returns-in-Err
 returns-in-Err g c =
     let makes = c.in-Err.ensures.makes in
     record {
-      stands = tt;
-      keeps = tt;
-      alone = tt;
-      blank = tt;
-      new = tt;
-      up = tt;
+      made = tt;
       alloc = tt;
-      undone = makes.undone;
       fault = makes.fault;
       refused = makes.refused;
       cause = makes.cause;
@@ -65,6 +60,13 @@ returns-in-Err g c =
         | inl store ↦ store
         | inr taken ↦ absurd (not_taken (state g.S.Store c.args.conn) empty (makes.refused clean taken))
       ];
-      idle = makes.mode;
+      back = record {
+        idle = makes.mode;
+        same = λ clean other. elim makes.fault [
+          | inl store ↦ absurd (other store)
+          | inr taken ↦ c.in-Err.ensures.same clean taken
+        ];
+        undone = makes.undone;
+      };
       survives = makes.survives;
     }

@@ -6,12 +6,13 @@ use Rattle.sqlite.specs.Held.{state}
 use Rattle.store_rows.specs.Probes.{all_probes}
 use Rattle.bank_transactions.proofs.Blamed.{comes, same_moment}
 use Rattle.bank_store.specs.Connections.{IsAsBefore}
-use Rattle.bank_store.specs.NewBank.{IsRefusedOnTheWay, IsTaken}
+use Rattle.bank_store.specs.NewBank.{IsRefusedOnTheWay, IsTaken, LeavesAll}
 use Rattle.bank_store.specs.StoreFaults.{KnowsWhyUnmade}
 use Rattle.bank_store.specs.TablePresence.{IsPresent}
 use Rattle.posting_rules.specs.declared.open_fault.OpenFault.TheVariants.{NotBlank}
 use Rattle.bank_store.specs.declared.presence.Presence.{Presence}
 use Rattle.bank_store.proofs.Causes.{unmade_as_known, unmade_within}
+use Rattle.bank_store.proofs.Probed.{as_before}
 use Rattle.bank_store.proofs.Unmade.{if_err, refused_before, some_there}
 use Rattle.bank_store.proofs.creation.make_bank.Goals as goal
 
@@ -23,11 +24,11 @@ pub returns-in-Absent-clause-blank : goal.returns-in-Absent-clause-blank
 returns-in-Absent-clause-blank g c clean =
     let old = state g.S.Store c.args.conn.now in
     let mid = state g.S.Store c.tables_there.new.conn in
-    let midway : HasCleanDisk mid = omega (arith, c.make_tables.ensures.survives.clean) in
+    let midway : HasCleanDisk mid = omega (arith, c.make_settled.ensures.makes.survives.clean) in
     let there =
     subst (λ (p : Presence). IsPresent old.now all_probes p × IsAsBefore old mid) c.in-Absent.is
     (c.in_ok-tables_there.ensures.told midway) in
-    on_ok _ there.0 c.make_tables.result
+    on_ok _ there.0 c.make_settled.result
 
 pub returns-in-Absent-clause-makes : goal.returns-in-Absent-clause-makes
 returns-in-Absent-clause-makes g c = record {
@@ -38,20 +39,20 @@ returns-in-Absent-clause-makes g c = record {
       λ clean.
       let old = state g.S.Store c.args.conn.now in
       let mid = state g.S.Store c.tables_there.new.conn in
-      let midway : HasCleanDisk mid = omega (arith, c.make_tables.ensures.survives.clean) in
+      let midway : HasCleanDisk mid = omega (arith, c.make_settled.ensures.makes.survives.clean) in
       let there = c.in_ok-tables_there.ensures.told midway in
       if_err (λ fault. fault ≡ NotBlank → IsRefusedOnTheWay mid) (λ fault. fault ≡ NotBlank → IsTaken old)
       (λ fault refused taken. inr (refused_before old mid there.1.now_is
       c.tables_there.ensures.survives.limit (refused taken)))
-      c.make_tables.result (c.make_tables.ensures.refused clean);
+      c.make_settled.result (c.make_settled.ensures.makes.refused clean);
   cause =
       let old = c.args.conn.now in
       let mid = c.tables_there.new.conn in
-      let new = c.make_tables.new.conn in
+      let new = c.make_settled.new.conn in
       if_err (KnowsWhyUnmade g.S.Store mid new) (KnowsWhyUnmade g.S.Store old new)
       (unmade_within g.S.Store old mid new new (comes c.tables_there.ensures.survives) (λ clean. clean)
       (same_moment (state g.S.Store new)))
-      c.make_tables.result c.make_tables.ensures.cause;
+      c.make_settled.result c.make_settled.ensures.makes.cause;
   survives = search rules;
   mode = search rules;
 }
@@ -85,3 +86,19 @@ returns-in_err-tables_there-clause-makes g c =
       survives = search rules;
       mode = search rules;
     }
+
+pub returns-in-Absent-clause-same : goal.returns-in-Absent-clause-same
+returns-in-Absent-clause-same g c clean =
+    let old = state g.S.Store c.args.conn.now in
+    let mid = state g.S.Store c.tables_there.new.conn in
+    let new = state g.S.Store c.make_settled.new.conn in
+    let midway : HasCleanDisk mid = omega (arith, c.make_settled.ensures.makes.survives.clean) in
+    let there =
+    subst (λ (p : Presence). IsPresent old.now all_probes p × IsAsBefore old mid) c.in-Absent.is
+    (c.in_ok-tables_there.ensures.told midway) in
+    if_err (LeavesAll mid new) (LeavesAll old new)
+    (λ fault same taken. as_before old mid new there.1 (same taken)) c.make_settled.result
+    (c.make_settled.ensures.same clean)
+
+pub returns-in_default-clause-same : goal.returns-in_default-clause-same
+returns-in_default-clause-same g c clean = λ taken. (c.in_ok-tables_there.ensures.told clean).1

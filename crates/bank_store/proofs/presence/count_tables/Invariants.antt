@@ -3,7 +3,8 @@ use Rattle.std.proofs.Common.{◌≡◌, ◌∷◌, map, take, false}
 use Rattle.sqlite.specs.State.{HasCleanDisk, Survives}
 use Rattle.sqlite.specs.Held.{state}
 use Rattle.bank_store.specs.Connections.{IsAsBefore}
-use Rattle.bank_store.specs.TablePresence.{probe_of, IsPresent}
+use Rattle.store_rows.specs.Probes.{probe_of}
+use Rattle.bank_store.specs.TablePresence.{IsPresent}
 use Rattle.bank_store.proofs.presence.count_tables.Given as goal
 
 abbrev pub invariant-loop-table : goal.invariant-loop-table

@@ -1,5 +1,14 @@
 -- What the balance of a teller tells.
-use Rattle.std.proofs.Common.{◌≡◌, ◌≤◌, Err, rules, sym}
+use Rattle.std.proofs.Common.{◌≡◌, ◌≤◌, ℕ, ℤ, Option, Some, None, Ok, Err, rules, sym, ap, subst, ◌∙◌, arith}
+use Rattle.std.specs.Prelude.{is_some}
+use Rattle.sqlite.specs.Effect.{Database}
+use Rattle.sqlite.specs.Held.{state}
+use Rattle.sqlite.specs.State.{HasCleanDisk}
+use Rattle.posting_rules.specs.Numbering.{branch_of_teller}
+use Rattle.posting_rules.specs.declared.rows.BranchRow.{BranchRow}
+use Rattle.store_rows.specs.Rules.{BranchKeeps, HoldsBank, OfRows, branch_under, row_under}
+use Rattle.store_rows.specs.Stored.{BalanceKeeps, FindsStored, IsBalance, IsBranch}
+use Rattle.bank_transactions.specs.Stored.{IsStoredTeller}
 use Rattle.message_records.specs.declared.limits.TheConstants.{MAX_TELLER}
 use Rattle.store_rows.specs.declared.holders.Member.TheVariants as member
 use Rattle.bank_transactions.proofs.FailedBalances.{balance_failed}
@@ -7,26 +16,62 @@ use Rattle.bank_transactions.proofs.ReadsInTurn.{behind_found, one_alone, teller
 use Rattle.bank_transactions.proofs.found.teller_balances.Goals.{in_default-via-in-Some+in_default, in_default-via-in-None+in_default}
 use Rattle.bank_transactions.proofs.found.teller_balances.Goals as goal
 
-pub returns-in_err-balance : goal.returns-in_err-balance
-returns-in_err-balance g c =
+-- what was found of a teller, and then of the branch of its number, in a database that stayed as it was
+module _ (old mid : Database) (n number : ℕ) (is : number ≡ branch_of_teller n) (same : mid ≡ old) where
+  abbrev HasTeller : Option ℤ → Type 0
+  HasTeller x = OfRows (λ rows. FindsStored (row_under rows.tellers n) IsBalance BalanceKeeps (Ok x)) old
+
+  abbrev HasBranch : Option BranchRow → Type 0
+  HasBranch x = OfRows (λ rows. FindsStored (branch_under rows number) IsBranch BranchKeeps (Ok x)) mid
+
+  branch_there : (x : Option BranchRow) → HasBranch x
+      → OfRows (λ rows. FindsStored (branch_under rows (branch_of_teller n)) IsBranch BranchKeeps (Ok x)) old
+  branch_there x branch rows has =
+      subst (λ (k : ℕ). FindsStored (branch_under rows k) IsBranch BranchKeeps (Ok x)) is
+      (branch rows (subst (λ (db : Database). HoldsBank db rows) (sym same) has))
+
+  both_stored : (z : ℤ) (b : BranchRow) → HasTeller (Some z) → HasBranch (Some b)
+      → IsStoredTeller old n (Some (z, b.balance))
+  both_stored z b teller branch = record {
+    found = λ rows has.
+        let one = teller rows has in
+        let two = branch_there (Some b) branch rows has in
+        (one.0, one.1, one.2, (two.0, two.1, two.2.2));
+    fits = λ rows has. (
+      λ there. ap is_some (branch_there (Some b) branch rows has).1,
+      λ there. ap is_some (teller rows has).1,
+    );
+  }
+
+  none_stored : HasTeller None → HasBranch None → IsStoredTeller old n None
+  none_stored teller branch = record {
+    found = teller;
+    fits = λ rows has. (
+      λ there. absurd (let none = ap is_some (teller rows has) in let both = sym none ∙ there in cc),
+      λ there. absurd (let none = ap is_some (branch_there None branch rows has) in let both = sym none ∙ there in cc),
+    );
+  }
+
+pub returns-in_err-balance-clause-says : goal.returns-in_err-balance-clause-says
+returns-in_err-balance-clause-says g c =
     let same : c.from_residual.result ≡ Err c.in_err-balance.field-0.0 = search rules in
     rw same (balance_failed
     (λ t sound. sound) (member.Teller c.args.teller) c.in_err-balance.field-0.0 c.in_err-balance.ensures)
 
-pub returns-in-Some-Some : goal.returns-in-Some-Some
-returns-in-Some-Some g c =
+pub returns-in-Some-Some-clause-says : goal.returns-in-Some-Some-clause-says
+returns-in-Some-Some-clause-says g c =
     rw (c.in-Some-Some.is-0, c.in-Some-Some.is-1) at
     (teller_told c.args.teller c.branch_of_teller.result c.branch_of_teller.ensures c.in_ok-balance.ensures
     c.in_ok-branch.ensures.says)
 
-pub returns-in-None-None : goal.returns-in-None-None
-returns-in-None-None g c =
+pub returns-in-None-None-clause-says : goal.returns-in-None-None-clause-says
+returns-in-None-None-clause-says g c =
     rw c.in-None-None.is-0 at
     (teller_told c.args.teller c.branch_of_teller.result c.branch_of_teller.ensures c.in_ok-balance.ensures
     c.in_ok-branch.ensures.says)
 
-pub returns-in_default : goal.returns-in_default
-returns-in_default g c =
+pub returns-in_default-clause-says : goal.returns-in_default-clause-says
+returns-in_default-clause-says g c =
     let above : 1 ≤ c.args.teller = search rules in
     let most : c.args.teller ≤ MAX_TELLER = search rules in
     teller_alone c.args.teller c.branch_of_teller.result c.branch_of_teller.ensures c.in_ok-balance.ensures
@@ -36,7 +81,29 @@ returns-in_default g c =
       | in_default-via-in-None+in_default w ↦ one_alone _ _ _ w.in_default.is-1 w.in_default.is-0 (sym alike)
     ])
 
-pub returns-in_err-branch : goal.returns-in_err-branch
-returns-in_err-branch g c =
+pub returns-in_err-branch-clause-says : goal.returns-in_err-branch-clause-says
+returns-in_err-branch-clause-says g c =
     let same : c.from_residual-in_err-branch.result ≡ Err c.in_err-branch.field-0.0 = search rules in
     rw same (behind_found c.in_err-branch.field-0.0 c.in_ok-balance.ensures c.in_err-branch.ensures.says)
+
+-- ---- of the stored rows
+
+pub returns-in-Some-Some-clause-stored : goal.returns-in-Some-Some-clause-stored
+returns-in-Some-Some-clause-stored g c clean =
+    let mid : HasCleanDisk (state g.S.Store c.balance_of.new.tx.conn.now) =
+    omega (arith, c.in_ok-branch.ensures.says.survives.clean, clean) in
+    let looked = c.in_ok-balance.ensures.kept mid in
+    let teller = rw c.in-Some-Some.is-0 at looked.1 in
+    let branch = rw c.in-Some-Some.is-1 at (c.in_ok-branch.ensures.stored clean) in
+    both_stored _ _ c.args.teller c.branch_of_teller.result c.branch_of_teller.ensures looked.0.0.now_is _ _ teller
+    branch
+
+pub returns-in-None-None-clause-stored : goal.returns-in-None-None-clause-stored
+returns-in-None-None-clause-stored g c clean =
+    let mid : HasCleanDisk (state g.S.Store c.balance_of.new.tx.conn.now) =
+    omega (arith, c.in_ok-branch.ensures.says.survives.clean, clean) in
+    let looked = c.in_ok-balance.ensures.kept mid in
+    let teller = rw c.in-None-None.is-0 at looked.1 in
+    let branch = rw c.in-None-None.is-1 at (c.in_ok-branch.ensures.stored clean) in
+    none_stored _ _ c.args.teller c.branch_of_teller.result c.branch_of_teller.ensures looked.0.0.now_is teller
+    branch

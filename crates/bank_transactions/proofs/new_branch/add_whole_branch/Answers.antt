@@ -1,94 +1,20 @@
--- A branch, then its tellers, then its accounts.
-use Rattle.std.proofs.Common.{◌≡◌, ◌+◌, ◌<◌, ◌≤◌, ℕ, ℤ, None, Ok, Err, Result, false, rules, refl, ap}
-use Rattle.std.proofs.Common.{subst}
-use Rattle.std.specs.Prelude.{is_some, pos}
-use Rattle.sqlite.specs.declared.transaction.Transaction.{Transaction}
-use Rattle.sqlite_trees.specs.declared.store.Store.{Ghosts}
-use Rattle.posting_rules.specs.declared.rows.BranchRow.{BranchRow}
-use Rattle.posting_rules.specs.Changes.{with_branch}
-use Rattle.posting_rules.specs.Sound.{AreSound}
+-- A branch with its rows, then its floor.
+use Rattle.std.proofs.Common.{◌≡◌, Err, None, rules, refl}
 use Rattle.posting_rules.specs.Commands.{opened_with}
-use Rattle.posting_rules.specs.Numbering.{first_teller, first_account}
-use Rattle.posting_rules.specs.Tables.{Tables, row_at, branch_key, branch_row_of}
-use Rattle.sql_meanings.specs.Calls.{Says, Inside}
-use Rattle.store_rows.specs.Calls.{OfTables}
-use Rattle.store_rows.specs.Failures.{Puts}
-use Rattle.store_rows.specs.Outcomes.{PutsOneRow}
-use Rattle.store_rows.specs.BankTables.{branch}
-use Rattle.store_rows.specs.declared.fault.TableFault.{TableFault}
-use Rattle.bank_transactions.specs.Doing.{Does}
-use Rattle.bank_transactions.specs.NewRows.{is_taken, with_new_rows}
-use Rattle.bank_transactions.specs.declared.new_branch.NewRows.TheVariants.{Tellers}
-use Rattle.bank_transactions.proofs.Chained.{does_then, does_err, does_for}
-use Rattle.bank_transactions.proofs.Opened.{opened_is, next_teller, next_account}
-use Rattle.bank_transactions.proofs.Statements.{does_add}
+use Rattle.posting_rules.proofs.Stepping.{opening_floor_is_free}
+use Rattle.posting_rules.specs.declared.limits.TheConstants.{TELLERS_PER_BRANCH}
+use Rattle.bank_transactions.proofs.Chained.{does_err, does_for, does_then}
 use Rattle.bank_transactions.proofs.new_branch.add_whole_branch.Goals as goal
 
--- a branch that isn't open
-module _ (b count : ℕ) where
-  abbrev IsNew : Tables → Type 0
-  IsNew t = AreSound t × (row_at branch_key t.branches b ≡ None)
-
-  -- its row is put in
-  abbrev branched : Tables → Tables
-  branched t = with_branch (branch_row_of b (pos 0) (opened_with count)) t
-
-  abbrev row : ℤ → BranchRow
-  row balance = record { branch = b; accounts = count; balance = balance }
-
-  module _ {S : Type 0} {g : Ghosts S} {x y : Transaction S} where
-    put : {r : Result (Unit {0}) TableFault} (balance : ℤ) → balance ≡ pos 0
-        → Says g x y (Inside (OfTables (λ before now t.
-        PutsOneRow before now branch (is_some (row_at branch_key t.branches b))
-        (with_branch (row balance) t) r)))
-        (Inside (λ before now. Puts before now r))
-        → Does g x y IsNew branched (λ _. tt) r
-    put {r} balance zero says = does_for
-        (does_add {So = IsNew} g x y branch (λ t. is_some (row_at branch_key t.branches b))
-        (λ t. with_branch (row balance) t) r says (λ t new. ap is_some new.1))
-        (λ t new. (new, ap (λ (z : ℤ). with_branch (row z) t) zero, refl))
-
-    -- and its tellers behind it
-    staff : {z : Transaction S} {r : Result (Unit {0}) TableFault} (teller : ℕ) → teller ≡ first_teller b
-        → 1 ≤ b
-        → Does {X = Unit {0}} g x y IsNew branched (λ _. tt {0}) (Ok (tt {0}))
-        → Does g y z
-        (λ t. (n : ℕ) → n < 10 → is_taken Tellers (teller + n) (with_new_rows Tellers teller n t) ≡ false)
-        (with_new_rows Tellers teller 10) (λ _. tt) r
-        → Does g x z IsNew (λ t. with_new_rows Tellers teller 10 (branched t)) (λ _. tt) r
-    staff teller from above first second = does_then first second
-        (λ t new n lt. next_teller t b count teller (first_account b) from refl new.0 above new.1 n lt)
-
-pub returns-in_err-add_branch : goal.returns-in_err-add_branch
-returns-in_err-add_branch g c =
-    let same : c.from_residual.result ≡ Err c.in_err-add_branch.field-0.0 = search rules in
-    rw same (does_err (put c.args.branch c.args.count c.zero.result c.zero.ensures
-    c.in_err-add_branch.ensures) (λ t new. new))
-
-pub returns-in_err-add_rows : goal.returns-in_err-add_rows
-returns-in_err-add_rows g c =
-    let b = c.args.branch in
-    let teller = c.first_teller-teller in
-    let same : c.from_residual-in_err-add_rows.result ≡ Err c.in_err-add_rows.field-0.0 = search rules in
-    let first = put b c.args.count c.zero.result c.zero.ensures c.in_ok-add_branch.ensures in
-    rw same (does_err (staff b c.args.count teller.result teller.ensures.value teller.ensures.least
-    first c.in_err-add_rows.ensures) (λ t new. new))
+pub returns-in_err-add_branch_with_rows : goal.returns-in_err-add_branch_with_rows
+returns-in_err-add_branch_with_rows g c =
+    let same : c.from_residual.result ≡ Err c.in_err-add_branch_with_rows.field-0.0 = search rules in
+    rw same (does_err c.in_err-add_branch_with_rows.ensures (λ t new. new))
 
 pub returns : goal.returns
 returns g c =
     let b = c.args.branch in
     let count = c.args.count in
-    let teller = c.first_teller-teller in
-    let above = teller.ensures.least in
-    let start = c.first_account-account.ensures.value in
-    let first = put b count c.zero.result c.zero.ensures c.in_ok-add_branch.ensures in
-    does_for (does_then
-    (staff b count teller.result teller.ensures.value above first c.in_ok-add_rows.ensures)
-    c.add_rows-2.ensures
-    (λ t new k lt. next_account t b count _ _ teller.ensures.value start new.0 above
-    new.1 k c.requires.few (subst (λ m. k < m) c.from.ensures lt)))
-    (λ t new. (
-      new,
-      opened_is t b count _ _ teller.ensures.value start c.from.result c.from.ensures,
-      refl,
-    ))
+    does_for (does_then c.in_ok-add_branch_with_rows.ensures c.add_its_floor.ensures
+    (λ t new. opening_floor_is_free t b (opened_with count None) TELLERS_PER_BRANCH count new.0 new.1))
+    (λ t new. (new, refl, refl))

@@ -1,5 +1,7 @@
 -- What is judged of what was looked up, and what is written and answered after it.
-use Rattle.std.proofs.Common.{◌≡◌, Err, rules, refl, ap, ◌∙◌}
+use Rattle.std.proofs.Common.{◌≡◌, Err, rules, arith, refl, ap, ◌∙◌}
+use Rattle.sqlite.specs.Held.{state}
+use Rattle.sqlite.specs.State.{HasCleanDisk}
 use Rattle.message_records.specs.Spelling.{reply_spelling}
 use Rattle.posting_rules.specs.Cases.{case_of, reply_in}
 use Rattle.posting_rules.specs.Changes.{tables_after}
@@ -10,24 +12,24 @@ use Rattle.bank_transactions.proofs.Chained.{acts_read, acts_wrote, does_both, d
 use Rattle.bank_transactions.proofs.Statements.{does_read}
 use Rattle.bank_transactions.proofs.posting.post_inside.Goals as goal
 
-pub returns-in_err-found : goal.returns-in_err-found
-returns-in_err-found g c =
+pub returns-in_err-found-clause-acts : goal.returns-in_err-found-clause-acts
+returns-in_err-found-clause-acts g c =
     let same : c.from_residual.result ≡ Err c.in_err-found.field-0.0 = search rules in
     rw same (acts_read (does_err
     (does_read g.S.Store c.args.tx.now c.look_up.new.tx
     (λ t. found_in t c.args.request.now) _ c.in_err-found.ensures.says)
     (λ t sound. sound.undamaged)))
 
-pub returns-in_err-apply : goal.returns-in_err-apply
-returns-in_err-apply g c =
+pub returns-in_err-apply-clause-acts : goal.returns-in_err-apply-clause-acts
+returns-in_err-apply-clause-acts g c =
     let same : c.from_residual-in_err-apply.result ≡ Err c.in_err-apply.field-0.0 = search rules in
     rw same (acts_wrote (does_but
     (does_for (does_read g.S.Store c.args.tx.now c.look_up.new.tx _ _ c.in_ok-found.ensures.says)
     (λ t sound. (sound.undamaged, refl, refl)))
     c.in_err-apply.ensures (λ t sound found. (sound, found, c.judge-verdict.ensures.value))))
 
-pub returns : goal.returns
-returns g c =
+pub returns-clause-acts : goal.returns-clause-acts
+returns-clause-acts g c =
     let r = c.args.request.now in
     let judged = c.judge-verdict.ensures.value in
     acts_wrote (does_both
@@ -42,3 +44,16 @@ returns g c =
       c.encode_reply.ensures.spelling ∙ ap reply_spelling c.reply_to.ensures
           ∙ ap (λ (v : Verdict). reply_spelling (reply_in v r)) is,
     )))
+
+pub returns-clause-stored : goal.returns-clause-stored
+returns-clause-stored g c clean =
+    let r = c.args.request.now in
+    let before : HasCleanDisk (state g.S.Store c.look_up.new.tx.conn.now) =
+    omega (arith, c.in_ok-apply.ensures.says.survives.clean, clean) in
+    record {
+      found = c.in_ok-found.found;
+      stored = c.in_ok-found.ensures.stored before;
+      is =
+          c.encode_reply.ensures.spelling ∙ ap reply_spelling c.reply_to.ensures
+          ∙ ap (λ (v : Verdict). reply_spelling (reply_in v r)) c.judge-verdict.ensures.value;
+    }

@@ -16,4 +16,4 @@ returns-in_err-balance g c =
 -- both rows are looked up again
 pub returns-then-is_some-is_open : goal.returns-then-is_some-is_open
 returns-then-is_some-is_open g c =
-    looks_again c.in_ok-balance.ensures c.open_balance.ensures.says (λ t so. so.0)
+    looks_again c.in_ok-balance.ensures c.account_beside.ensures (λ t so. so.0)

@@ -26,7 +26,7 @@ no_balance t n sound none =
 pub returns-in-None : goal.returns-in-None
 returns-in-None g c = record {
   told = λ clean t shows sound.
-      let told = c.in_ok-balance.ensures.told clean t shows sound in
+      let told = c.in_ok-balance.ensures.says.told clean t shows sound in
       (no_balance t c.args.teller sound (sym c.in-None.is ∙ told.0), told.1);
   same_reference = search rules;
   kept = search rules;

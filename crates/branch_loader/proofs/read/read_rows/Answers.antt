@@ -18,21 +18,21 @@ returns-then-not-branch-clause-plan g c all left =
     let none = rw c.if-not-branch.true at (c.in_ok-next_record.ensures.takes all left) in
     rw none plan-empty
 
-pub returns-then-not-is_header-clause-plan : goal.returns-then-not-is_header-clause-plan
-returns-then-not-is_header-clause-plan g c all left =
+pub returns-in_default-clause-plan : goal.returns-in_default-clause-plan
+returns-in_default-clause-plan g c all left =
     let (rest, first, after) = rw c.if-not-branch.false at (c.in_ok-next_record.ensures.takes all left) in
-    rw first (plan-no_header (fields_of c.next_record.new.fields) rest (sym c.is_header.ensures
-    ∙ c.if-not-is_header.true))
+    rw first (plan-no_header (fields_of c.next_record.new.fields) rest
+    (sym c.header_of.ensures ∙ c.in_default.is))
 
 pub rows-init : goal.rows-init
 rows-init g c = record {
   plain = c.in_ok-next_record.ensures.plain;
   more = last_some WasRecord (c.in_ok-next_record.ensures.found c.if-not-branch.false);
   plan = rw c.new-rows.ensures.items no-rows;
-  states = λ all left. took-header c.in_ok-next_record.field-0
+  states = λ all left. took-header c.in-Some.has_floors c.in_ok-next_record.field-0
       (fields_of c.next_record.new.fields) all c.new-rows.result.items
       (c.in_ok-next_record.ensures.takes all left) c.if-not-branch.false
-      (sym c.is_header.ensures ∙ c.if-not-is_header.false)
+      (sym (rw c.in-Some.is at c.header_of.ensures))
       c.new-rows.ensures.items;
 }
 
@@ -51,7 +51,7 @@ rows-smaller g c =
 pub returns-in_err-row-clause-plan : goal.returns-in_err-row-clause-plan
 returns-in_err-row-clause-plan g c all left =
     let inv = c.rows.invariant.states all left in
-    let fault = took-fault (g.S.RecordSource.has_left c.next_record-in-rows.new.source)
+    let fault = took-fault (g.S.RecordSource.has_left c.next_record-in-rows.new.source) c.in-Some.has_floors
     c.in_ok-next_record-2.field-0
     (fields_of c.next_record-in-rows.new.fields) inv.0 c.rows.rows.items c.in_err-row.field-0.0
     (plan_of_records all)
@@ -63,7 +63,7 @@ returns-in_err-row-clause-plan g c all left =
 pub returns-in_err-row-clause-told : goal.returns-in_err-row-clause-told
 returns-in_err-row-clause-told g c =
     let p = err_from_is_err_and c.from_residual-in_err-row.result c.from_residual-in_err-row.ensures.1 in
-    rw (p.1, p.2) (row_told c.rows.rows.items (fields_of c.next_record-in-rows.new.fields)
+    rw (p.1, p.2) (row_told c.in-Some.has_floors c.rows.rows.items (fields_of c.next_record-in-rows.new.fields)
     c.in_err-row.field-0.0 _ _
     (sym (rw c.as_slice.ensures.value at c.in_err-row.ensures)))
 
@@ -72,7 +72,7 @@ returns-in_err-next_record-2-clause-told g c =
     let p = err_from_is_err_and c.from_residual-in_err-next_record-2.result
     c.from_residual-in_err-next_record-2.ensures.1 in
     rw (p.1, p.2) (fault_told _ _ _ c.in_err-next_record-2.field-0.0 c.in_err-next_record-2.ensures.fault
-    c.rows.invariant.more)
+    c.in_err-next_record-2.ensures.failed c.rows.invariant.more)
 
 pub returns-in_err-map_err-clause-told : goal.returns-in_err-map_err-clause-told
 returns-in_err-map_err-clause-told g c =
@@ -92,11 +92,11 @@ rows-preserved g c =
       more = more_more c.rows.invariant.more
           (last_some WasRecord (c.in_ok-next_record-2.ensures.found c.if-branch.true));
       plan = rw items
-          (fields-more c.rows.rows.items (fields_of c.next_record-in-rows.new.fields) c.in_ok-row.row
+          (fields-more c.in-Some.has_floors c.rows.rows.items (fields_of c.next_record-in-rows.new.fields) c.in_ok-row.row
           c.rows.invariant.plan row);
       states = λ all left.
           let inv = c.rows.invariant.states all left in
-          took-row c.in_ok-next_record-2.field-0
+          took-row c.in-Some.has_floors c.in_ok-next_record-2.field-0
           (fields_of c.next_record-in-rows.new.fields) inv.0 c.rows.rows.items c.push.new.self.items
           c.in_ok-row.row (plan_of_records all)
           (c.in_ok-next_record-2.ensures.takes inv.0 inv.1) c.if-branch.true inv.2 row items;
@@ -106,4 +106,4 @@ pub returns-clause-plan : goal.returns-clause-plan
 returns-clause-plan g c all left =
     let (rest, there, states) = c.rows.invariant.states all left in
     let none = rw c.if-branch.false at (c.in_ok-next_record-2.ensures.takes rest there) in
-    rw c.new.ensures (states ∙ rw none (rows_by-done row_of_fields c.rows.rows.items))
+    rw c.new.ensures (states ∙ rw none (rows_by-done (row_of_fields c.in-Some.has_floors) c.rows.rows.items))

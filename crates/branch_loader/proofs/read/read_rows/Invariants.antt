@@ -12,7 +12,7 @@ invariant-rows g l = record {
   plan : IsPlan l.rows.items;
   states : (all : Records) → g.S.RecordSource.has_left l.fn.records all → (rest : Records)
       × g.S.RecordSource.has_left l.records rest ×
-      (plan_of_records all ≡ rows_by row_of_fields l.rows.items rest);
+      (plan_of_records all ≡ rows_by (row_of_fields l.has_floors) l.rows.items rest);
 }
 
 abbrev pub decreases-rows : goal.decreases-rows

@@ -3,7 +3,7 @@ use Rattle.std.proofs.lemmas.List.{take_more_set}
 use Rattle.message_records.specs.Spelling.{request_spelling}
 use Rattle.load_driver.specs.Counts.{Driving}
 use Rattle.load_driver.specs.Requests.{request_at}
-use Rattle.load_driver.specs.declared.driver.TheConstants.{MOST_RECORDS}
+use Rattle.load_driver.specs.declared.driver.TheConstants.{MAX_RECORDS}
 use Rattle.load_driver.specs.Records.{drawn}
 use Rattle.load_driver.proofs.Drawn.{drawn_more, drawn_none}
 use Rattle.load_driver.proofs.drive_batches.draw_batch.Goals as goal
@@ -22,7 +22,7 @@ loop-place-preserved c =
     let i = c.loop-place.place-index in
     let so_far = c.loop-place.invariant.goes_on in
     let given : c.loop-place.driver.given ≡ first.given + i = ap (λ (d : Driving). d.given) so_far in
-    let left : c.loop-place.driver.given < MOST_RECORDS = omega (arith, c.requires) in
+    let left : c.loop-place.driver.given < MAX_RECORDS = omega (arith, c.requires) in
     let d = c.loop-place.driver in
     let next : request_spelling (request_at d.rows d.seed d.given) ≡ c.unwrap.result =
     (let e = sym (c.next.ensures.bytes left) ∙ c.unwrap.ensures in cc) in

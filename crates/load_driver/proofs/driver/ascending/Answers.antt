@@ -1,4 +1,4 @@
-use Rattle.std.proofs.Common.{◌≡◌, ◌<◌, map, nat_eq, arith, rules, length}
+use Rattle.std.proofs.Common.{◌≡◌, ◌<◌, map, nat_eq, arith, rules, length, None}
 use Rattle.std.specs.Prelude.{IsPermutation}
 use Rattle.std.proofs.lemmas.Bool.Decides.{nat_tests}
 use Rattle.std.proofs.lemmas.List.Sorted.{All-permutation, IsNonDecreasingBy-from_sort_by_key}
@@ -25,9 +25,9 @@ rising ys h i j d le lt =
     let within : j < length ys = rw length-map at lt in
     let before : i < length ys = omega arith in
     rw (
-      get_or-map (λ (q : Row). q.0) ys i (d, 0) d before,
-      get_or-map (λ (q : Row). q.0) ys j (d, 0) d within,
-    ) (h i j (d, 0) le within)
+      get_or-map (λ (q : Row). q.0) ys i (d, 0, None) d before,
+      get_or-map (λ (q : Row). q.0) ys j (d, 0, None) d within,
+    ) (h i j (d, 0, None) le within)
 
 sorted : (xs ys : Rows) → IsPermutation xs ys → IsPlan xs → IsNonDecreasingBy (λ p. p.0) ys
     → IsAscending xs ys

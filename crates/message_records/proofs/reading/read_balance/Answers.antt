@@ -2,8 +2,8 @@ use Rattle.std.proofs.Common.{◌≡◌, ◌≢◌, ◌∷◌, List, ℕ, Ok, No
 use Rattle.std.specs.Str.{bytes_eq}
 use Rattle.message_records.specs.declared.records.Outcome.{Outcome}
 use Rattle.message_records.specs.declared.records.Outcome.TheVariants.{Posted, NoTeller, WrongBranch}
-use Rattle.message_records.specs.declared.records.Outcome.TheVariants.{NoAccount, OverLimit, ReusedNumber}
-use Rattle.message_records.specs.declared.records.Outcome.TheVariants.{Full, Malformed}
+use Rattle.message_records.specs.declared.records.Outcome.TheVariants.{NoAccount, BelowFloor, OverLimit}
+use Rattle.message_records.specs.declared.records.Outcome.TheVariants.{ReusedNumber, Full, Malformed}
 use Rattle.message_records.specs.Reading.{balance_of}
 use Rattle.message_records.proofs.reading.read_balance.Goals as goal
 
@@ -14,6 +14,7 @@ no_balance Posted bytes other zeros = absurd (other refl)
 no_balance NoTeller bytes other zeros = rw (← zeros) refl
 no_balance WrongBranch bytes other zeros = rw (← zeros) refl
 no_balance NoAccount bytes other zeros = rw (← zeros) refl
+no_balance BelowFloor bytes other zeros = rw (← zeros) refl
 no_balance OverLimit bytes other zeros = rw (← zeros) refl
 no_balance ReusedNumber bytes other zeros = rw (← zeros) refl
 no_balance Full bytes other zeros = rw (← zeros) refl

@@ -1,9 +1,15 @@
-use Rattle.std.proofs.Common.{◌≡◌, ◌≤◌, ◌∙◌, inl, inr, refl, ap, Err, arith, length, take}
+use Rattle.std.proofs.Common.{◌≡◌, ◌≤◌, ◌+◌, ◌∙◌, [], ◌∷◌, inl, inr, refl, ap, Err, arith, length, take}
 use Rattle.std.proofs.lemmas.List.{length-take-le}
 use Rattle.std.proofs.lemmas.Result.{err_from_is_err_and}
 use Rattle.posting_core.specs.declared.stream.TheConstants.{BUFFER}
 use Rattle.posting_core.proofs.Batched.{cut_into, cut_and_moved}
 use Rattle.posting_core.proofs.Output.{output_of, survives_of, resends_of}
+use Rattle.posting_core.proofs.Followed.{following_batch, following_first, following_read, gave_none}
+use Rattle.posting_core.proofs.Followed.{gave_some}
+use Rattle.posting_core.specs.Batches.{Batch}
+use Rattle.posting_core.specs.Stream.{given}
+use Rattle.posting_core.specs.Told.{read_told}
+use Rattle.posting_rules.specs.declared.limits.TheConstants.{RECORDS_PER_BATCH}
 use Rattle.posting_core.proofs.Streaming.{going_first, going_filled, going_on, nothing_read}
 use Rattle.posting_core.proofs.StreamedBatches.{going_batch}
 use Rattle.posting_core.proofs.StreamEnds.{end_whole, end_in_record, end_unread, end_broken}
@@ -20,7 +26,9 @@ reads-init g c = record {
   few = omega arith;
   room = refl;
   bound = omega arith;
+  done = [];
   going = going_first _ refl;
+  following = following_first _ 0 refl;
   first = λ none. refl;
   up = λ down. (down, refl);
   made = made_none _;
@@ -31,12 +39,14 @@ reads-init g c = record {
 pub returns : goal.returns
 returns g c =
     let s = end_unread _ c.reads.invariant.going
-    (few_left c.reads.filled c.reads.buffer c.reads.invariant.few c.reads.invariant.room) in
+    (few_left c.reads.filled c.reads.buffer c.reads.invariant.few c.reads.invariant.room)
+    c.reads.invariant.following.follow in
     record {
-      stream = s;
-      output = output_of _ s;
-      survives = survives_of _ s;
-      resend = resends_of _ s;
+      stream = s.did;
+      batches = s;
+      output = output_of _ s.did;
+      survives = survives_of _ s.did;
+      resend = resends_of _ s.did;
       refused = tt;
       up = λ down. (c.reads.invariant.up down).0;
       ends = (inr (made_many c.reads.invariant.made (omega arith)), c.reads.invariant.through);
@@ -51,12 +61,15 @@ returns-in-Err-2 g c =
     end_unread _ (going_filled c.reads.buffer c.fill.new.buffer c.reads.filled c.reads.filled 0
     c.reads.invariant.going
     (nothing_read _ _ c.reads.buffer c.fill.new.buffer c.reads.filled c.in-Err.ensures.err) (omega arith))
-    (few_left c.reads.filled c.fill.new.buffer c.reads.invariant.few long) in
+    (few_left c.reads.filled c.fill.new.buffer c.reads.invariant.few long)
+    (following_read _ _ c.reads.filled c.reads.filled c.reads.invariant.following c.fill.ensures.tells
+    (omega (arith, gave_none c.fill.result c.in-Err.e c.in-Err.is)) c.reads.invariant.few).follow in
     record {
-      stream = s;
-      output = output_of _ s;
-      survives = survives_of _ s;
-      resend = resends_of _ s;
+      stream = s.did;
+      batches = s;
+      output = output_of _ s.did;
+      survives = survives_of _ s.did;
+      resend = resends_of _ s.did;
       refused = tt;
       up = λ down. (c.reads.invariant.up down).0;
       ends = (
@@ -77,12 +90,15 @@ returns-in-Ok-eq0 g c =
     end_whole (take c.reads.filled c.fill.new.buffer)
     (going_filled c.reads.buffer c.fill.new.buffer c.reads.filled c.reads.filled n c.reads.invariant.going
     (at_ok _ c.fill.result n c.in-Ok-eq0.is c.fill.ensures.ok) (omega arith))
-    (at_ok _ c.fill.result n c.in-Ok-eq0.is c.fill.ensures.end none) (rw empty refl) in
+    (at_ok _ c.fill.result n c.in-Ok-eq0.is c.fill.ensures.end none) (rw empty refl)
+    (following_read _ _ c.reads.filled c.reads.filled c.reads.invariant.following c.fill.ensures.tells
+    (omega (arith, gave_some c.fill.result n c.in-Ok-eq0.is)) c.reads.invariant.few).follow in
     record {
-      stream = s;
-      output = output_of _ s;
-      survives = survives_of _ s;
-      resend = resends_of _ s;
+      stream = s.did;
+      batches = s;
+      output = output_of _ s.did;
+      survives = survives_of _ s.did;
+      resend = resends_of _ s.did;
       refused = tt;
       up = λ down. (c.reads.invariant.up down).0;
       ends = (ended, c.reads.invariant.through);
@@ -100,12 +116,15 @@ returns-in-Ok-eq0-2 g c =
     (going_filled c.reads.buffer c.fill.new.buffer c.reads.filled c.reads.filled n c.reads.invariant.going
     (at_ok _ c.fill.result n c.in-Ok-eq0.is c.fill.ensures.ok) (omega arith))
     (at_ok _ c.fill.result n c.in-Ok-eq0.is c.fill.ensures.end none)
-    (length-take-le c.reads.filled c.fill.new.buffer within) (omega arith) c.reads.invariant.few in
+    (length-take-le c.reads.filled c.fill.new.buffer within) (omega arith) c.reads.invariant.few
+    (following_read _ _ c.reads.filled c.reads.filled c.reads.invariant.following c.fill.ensures.tells
+    (omega (arith, gave_some c.fill.result n c.in-Ok-eq0.is)) c.reads.invariant.few).follow in
     record {
-      stream = s;
-      output = output_of _ s;
-      survives = survives_of _ s;
-      resend = resends_of _ s;
+      stream = s.did;
+      batches = s;
+      output = output_of _ s.did;
+      survives = survives_of _ s.did;
+      resend = resends_of _ s.did;
       refused = tt;
       up = λ down. (c.reads.invariant.up down).0;
       ends = (ended, c.reads.invariant.through);
@@ -130,15 +149,29 @@ returns-in_err-reply_to_batch g c =
     length-take-le c.match-fill.filled c.fill.new.buffer on.1 in
     let cut = cut_into (take c.match-fill.filled c.fill.new.buffer) c.as_chunks.result.0.now
     c.as_chunks.result.1.now c.as_chunks.ensures.front c.as_chunks.ensures.back in
+    let gave : c.reads.filled + given (read_told c.fill.result ∷ []) ≡ c.match-fill.filled =
+    elim c.match-fill.branch [
+      | in-Ok w ↦ omega (arith, gave_some c.fill.result w.in-Ok.n w.in-Ok.is, w.filled-is)
+      | in-Err w ↦ omega (arith, gave_none c.fill.result w.in-Err.e w.in-Err.is, w.filled-is)
+    ] in
+    let rs = c.as_chunks.result.0.now in
+    let left = length c.as_chunks.result.1.now in
+    let some : 1 ≤ length rs = omega (arith, c.as_chunks.ensures.front_len, len) in
+    let few : length rs ≤ RECORDS_PER_BATCH = omega (arith, c.as_chunks.ensures.front_len, len, on.1, long) in
+    let b : Batch = record { moment = a.0; records = rs } in
     let s =
     end_broken fault a.0 (take c.match-fill.filled c.fill.new.buffer) c.as_chunks.result.1.now
-    c.as_chunks.result.0.now on.0 cut
-    (omega (arith, c.as_chunks.ensures.back_len)) a.1 c.in_err-reply_to_batch.ensures.honest a.2 in
+    rs on.0 cut (some, few)
+    (omega (arith, c.as_chunks.ensures.back_len)) a.1 c.in_err-reply_to_batch.ensures.honest a.2
+    (following_batch _ b _ c.reads.filled left c.reads.invariant.following c.fill.ensures.tells
+    (gave ∙ omega (arith, c.as_chunks.ensures.front_len, c.as_chunks.ensures.back_len, len))
+    (omega (arith, c.as_chunks.ensures.back_len))).follow in
     rw (told.1, told.2) (record {
-      stream = s;
-      output = output_of _ s;
-      survives = survives_of _ s;
-      resend = resends_of _ s;
+      stream = s.did;
+      batches = s;
+      output = output_of _ s.did;
+      survives = survives_of _ s.did;
+      resend = resends_of _ s.did;
       refused = refused_broken g.C.Counter.seen g.C.Counter.reason c.args.bank.now c.reads.bank
           c.reply_to_batch.new.bank _ _ fault a.0 _ _ c.as_chunks.result.0.now on.0 cut
           (omega (arith, c.as_chunks.ensures.back_len)) (omega (arith, c.as_chunks.ensures.front_len, len))
@@ -164,6 +197,11 @@ reads-preserved g c =
       | in-Ok w ↦ inl (w.in-Ok.n, w.in-Ok.ensures.ok, omega (arith, w.in-Ok.ensures.fits), w.filled-is)
       | in-Err w ↦ inr (w.in-Err.ensures.err, w.filled-is)
     ]) in
+    let gave : c.reads.filled + given (read_told c.fill.result ∷ []) ≡ c.match-fill.filled =
+    elim c.match-fill.branch [
+      | in-Ok w ↦ omega (arith, gave_some c.fill.result w.in-Ok.n w.in-Ok.is, w.filled-is)
+      | in-Err w ↦ omega (arith, gave_none c.fill.result w.in-Err.e w.in-Err.is, w.filled-is)
+    ] in
     elim c.if-filled-ge-REQUEST_BYTES.branch [
       | then-filled-ge-REQUEST_BYTES+in_ok-reply_to_batch w ↦
           let a = w.in_ok-reply_to_batch.ensures.answers in
@@ -182,8 +220,17 @@ reads-preserved g c =
             up = λ down. absurd (w.in_ok-reply_to_batch.ensures.up down);
             made = made_one _ _ c.reads.invariant.made c.fill.ensures.tells refl;
             through = through_batch c.reads.invariant.through w.in_ok-reply_to_batch.ensures.flushed;
+            done = _;
             going = going_batch a.0 (take c.match-fill.filled c.fill.new.buffer)
-                (take left after) _ rs on.0 cut refl a.1 w.in_ok-reply_to_batch.ensures.honest a.2;
+                (take left after) _ rs on.0 cut (
+                  omega (arith, w.as_chunks.ensures.front_len, len),
+                  omega (arith, w.as_chunks.ensures.front_len, len, on.1, long),
+                )
+                refl a.1 w.in_ok-reply_to_batch.ensures.honest a.2;
+            following = following_batch _ (record { moment = a.0; records = rs }) _ c.reads.filled left
+                c.reads.invariant.following c.fill.ensures.tells
+                (gave ∙ omega (arith, w.as_chunks.ensures.front_len, w.as_chunks.ensures.back_len, len))
+                (omega (arith, w.as_chunks.ensures.back_len));
           })
       | else-filled-ge-REQUEST_BYTES w ↦
           let low = w.if-filled-ge-REQUEST_BYTES.false in
@@ -191,7 +238,10 @@ reads-preserved g c =
             few = omega arith;
             room = long;
             bound = omega (arith, c.reads.invariant.bound);
+            done = _;
             going = on.0;
+            following = following_read _ _ c.reads.filled c.match-fill.filled c.reads.invariant.following
+                c.fill.ensures.tells gave (omega arith);
             first = c.reads.invariant.first;
             up = c.reads.invariant.up;
             made = made_one _ _ c.reads.invariant.made c.fill.ensures.tells refl;

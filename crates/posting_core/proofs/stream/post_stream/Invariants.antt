@@ -1,7 +1,9 @@
-use Rattle.std.proofs.Common.{◌≡◌, ◌<◌, ◌≤◌, ◌*◌, length, take}
+use Rattle.std.proofs.Common.{◌≡◌, ◌<◌, ◌≤◌, ◌*◌, List, length, take}
 use Rattle.posting_rules.specs.declared.limits.TheConstants.{RECORDS_PER_BATCH}
 use Rattle.posting_core.specs.declared.stream.TheConstants.{BUFFER}
+use Rattle.posting_core.specs.Batches.{Batch}
 use Rattle.posting_core.specs.Told.{IsThrough}
+use Rattle.posting_core.proofs.Followed.{Following}
 use Rattle.posting_core.proofs.Telling.{HasMade}
 use Rattle.posting_core.proofs.Streaming.{Going}
 use Rattle.posting_core.proofs.stream.post_stream.Given as goal
@@ -13,10 +15,12 @@ invariant-reads g l = record {
   few : l.filled < 100;
   room : length l.buffer ≡ BUFFER;
   bound : l.count ≤ RECORDS_PER_BATCH * l.counter;
+  done : List Batch;
   going : Going (g.R.Source.remaining l.fn.reader) (g.R.Source.remaining l.reader)
       (g.W.Sink.contents l.fn.writer) (g.W.Sink.contents l.writer)
       (g.K.Clock.readings l.fn.clock) (g.K.Clock.readings l.clock) (g.C.Counter.seen l.fn.bank)
-      (g.C.Counter.seen l.bank) (take l.filled l.buffer) l.count;
+      (g.C.Counter.seen l.bank) done (take l.filled l.buffer) l.count;
+  following : Following (g.R.Source.told l.fn.reader) (g.R.Source.told l.reader) done l.filled;
   first : l.count ≡ 0 → l.bank ≡ l.fn.bank;
   up : (g.C.Counter.seen l.bank).is_down → (g.C.Counter.seen l.fn.bank).is_down × (l.count ≡ 0);
   made : HasMade (g.R.Source.told l.fn.reader) (g.R.Source.told l.reader) l.counter;

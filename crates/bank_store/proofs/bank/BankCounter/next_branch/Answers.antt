@@ -1,8 +1,7 @@
 -- What the next branch comes to.
-use Rattle.std.proofs.Common.{◌≡◌, [], Option, Some, None, rules, sym, subst, ◌∙◌}
-use Rattle.std.specs.Prelude.{IfSome, IsSome, option_map}
+use Rattle.std.proofs.Common.{◌≡◌, [], ◌∙◌}
+use Rattle.std.specs.Prelude.{IsSome}
 use Rattle.std.proofs.lemmas.Result.{err_from_is_err_and}
-use Rattle.posting_rules.specs.Branches.{IsLineAbove, IsNextIn, line_of}
 use Rattle.posting_rules.proofs.Calls.{stays}
 use Rattle.posting_rules.proofs.NextBranch.{next_shown}
 use Rattle.posting_rules.proofs.Stepping.{sound_tables}
@@ -10,6 +9,7 @@ use Rattle.store_rows.specs.Columns.{branch_above}
 use Rattle.bank_store.proofs.Causes.{still_clean}
 use Rattle.bank_store.proofs.Countered.{takes}
 use Rattle.bank_store.proofs.Refusing.{answered_call, consult_refused, refused_call, untried_call, Refusal}
+use Rattle.bank_transactions.specs.NextBranch.{line_above}
 use Rattle.bank_transactions.proofs.NextRow.{next_is}
 use Rattle.bank_transactions.specs.Causes.{IsFirstBroken}
 use Rattle.bank_store.proofs.bank.BankCounter.next_branch.Given.{Over}
@@ -23,31 +23,23 @@ refused g c =
     stays tt c.in-Err.fault
     c.go_down.result c.go_down.ensures.down c.go_down.ensures.survives c.in-Err.ensures.says
 
--- what holds of what a value becomes holds of the value that it became
-mapped : {X Y : Type 0} (P : Y → Type 0) (f : X → Y) (o : Option X) → IfSome o (λ x. P (f x))
-    → IfSome (option_map f o) P
-mapped P f None holds = tt
-mapped P f (Some x) holds = holds
-
 pub returns-in-Ok : goal.returns-in-Ok
 returns-in-Ok g c =
     let after = c.args.after in
     let says = c.in-Ok.ensures.says in
-    let is : c.map.result ≡ option_map line_of c.in-Ok.next = search rules in
     let Down = IsSome c.args.self.now.fault in
     record {
       answer =
           λ clean log s.
-          let found : c.in-Ok.next ≡ branch_above s.tables after =
+          let found : c.in-Ok.next ≡ line_above s.tables after =
           (says.told clean s.tables s.are (sound_tables s.tables log s.commands s.shows)).0 in
-          let next : IsNextIn s.tables.branches after c.in-Ok.next =
-          subst (IsNextIn s.tables.branches after) (sym found) (next_is _ s.tables after s.are) in
-          rw is (next_shown s.tables log s.shows after c.in-Ok.next next);
-      within = rw is (mapped (IsLineAbove after) line_of c.in-Ok.next c.in-Ok.ensures.within);
+          rw found (next_shown s.tables log s.shows after (branch_above s.tables after)
+          (next_is _ s.tables after s.are));
+      within = c.in-Ok.ensures.within;
       call =
           answered_call g.S.Store c.args.self.now _ [] _ c.in_ok-up.ensures.up c.in_ok-up.ensures.up
           (takes sound_tables [] stays tt Down Down c.in_ok-up.ensures.up says) (still_clean says.survives);
-      stored = λ clean. (c.in-Ok.next, c.in-Ok.ensures.stored clean, is);
+      stored = c.in-Ok.ensures.stored;
       still = c.in-Ok.ensures.still;
       frugal = λ same. (let it = same in cc);
       broken = tt;

@@ -14,38 +14,38 @@ use Rattle.bank_store.proofs.bank.BankCounter.open_branch.Goals as goal
 
 -- what its refusal says
 refused : (g : Over) (c : goal.After-go_down g)
-    → Refusal g.S.Store c.args.self.now c.go_down.new.self (Open c.args.branch c.args.count ∷ [])
+    → Refusal g.S.Store c.args.self.now c.go_down.new.self (Open c.args.branch (opened_with c.args.count c.args.floor) ∷ [])
     (IsBrokenOrMet g.S.Store) c.go_down.result
 refused g c =
     let b = c.args.branch in
-    let count = c.args.count in
+    let terms = opened_with c.args.count c.args.floor in
     let above : 1 ≤ b = c.range_law.ensures.least in
-    let are : AreCommands (Open b count ∷ []) =
-    ((above, c.requires.branch, c.requires.some, c.requires.few), tt) in
+    let are : AreCommands (Open b terms ∷ []) =
+    ((above, c.requires.branch, c.requires.some, c.requires.few, c.floor_law.ensures), tt) in
     transaction_refused g.S.Store c.args.self.now c.go_down.new.self c.open_branch.new.conn sound_tables
-    (Open b count ∷ [])
-    (opens b count above c.requires.few) are c.in-Err.fault c.go_down.result c.go_down.ensures.down
+    (Open b terms ∷ [])
+    (opens b terms above c.requires.few) are c.in-Err.fault c.go_down.result c.go_down.ensures.down
     c.go_down.ensures.survives
     c.in-Err.ensures
 
 pub returns-in-Ok : goal.returns-in-Ok
 returns-in-Ok g c =
     let b = c.args.branch in
-    let count = c.args.count in
+    let terms = opened_with c.args.count c.args.floor in
     let above : 1 ≤ b = c.range_law.ensures.least in
-    let are : AreCommands (Open b count ∷ []) =
-    ((above, c.requires.branch, c.requires.some, c.requires.few), tt) in
+    let are : AreCommands (Open b terms ∷ []) =
+    ((above, c.requires.branch, c.requires.some, c.requires.few, c.floor_law.ensures), tt) in
     let Down = IsSome c.args.self.now.fault in
     let says = c.in-Ok.ensures in
     record {
       answer =
           λ clean log s. (says.told clean s.tables s.are
           (sound_tables s.tables log s.commands s.shows)).0
-          ∙ answers s.tables log b (opened_with count) s.shows;
+          ∙ answers s.tables log b terms s.shows;
       call =
-          answered_call g.S.Store c.args.self.now _ (Open b count ∷ []) _ c.in_ok-up.ensures.up
+          answered_call g.S.Store c.args.self.now _ (Open b terms ∷ []) _ c.in_ok-up.ensures.up
           c.in_ok-up.ensures.up
-          (takes sound_tables (Open b count ∷ []) (opens b count above c.requires.few) are Down Down
+          (takes sound_tables (Open b terms ∷ []) (opens b terms above c.requires.few) are Down Down
           c.in_ok-up.ensures.up says) (still_clean says.survives);
       frugal = λ same. (let it = same in cc);
     }

@@ -1,8 +1,12 @@
 -- What a record comes to.
-use Rattle.std.proofs.Common.{◌≡◌, [], ◌∷◌, Ok, rules, ◌∙◌}
+use Rattle.std.proofs.Common.{◌≡◌, [], ◌∷◌, Ok, Result, rules, sym, subst, ◌∙◌}
 use Rattle.std.proofs.lemmas.Result.{err_from_is_err_and}
 use Rattle.std.specs.Prelude.{IsSome}
 use Rattle.message_records.specs.Reading.{request_of}
+use Rattle.message_records.specs.Records.{RequestFields}
+use Rattle.message_records.specs.declared.fault.Bad.{Bad}
+use Rattle.bank_transactions.specs.Stored.{RepliesToStored}
+use Rattle.bank_store.specs.Seen.{database_of}
 use Rattle.posting_rules.specs.Commands.{Post, AreCommands}
 use Rattle.posting_rules.proofs.Calls.{posts, replies}
 use Rattle.posting_rules.proofs.Stepping.{sound_tables}
@@ -12,6 +16,9 @@ use Rattle.bank_store.proofs.Refusing.{answered_call, refused_call, transaction_
 use Rattle.bank_transactions.specs.Causes.{IsBrokenOrMet}
 use Rattle.bank_store.proofs.bank.BankCounter.submit.Given.{Over}
 use Rattle.bank_store.proofs.bank.BankCounter.submit.Goals as goal
+
+same_request : {a b : RequestFields} → ◌≡◌ {A = Result RequestFields Bad} (Ok a) (Ok b) → a ≡ b
+same_request is = cc
 
 -- what its refusal says
 refused : (g : Over) (c : goal.After-go_down g)
@@ -27,7 +34,7 @@ refused g c =
     (Post m bytes ∷ [])
     (posts m bytes c.in-Ok.request read) are c.in-Err.fault c.go_down.result c.go_down.ensures.down
     c.go_down.ensures.survives
-    c.in-Err.ensures
+    c.in-Err.ensures.transacts
 
 pub returns-in-Ok-post : goal.returns-in-Ok-post
 returns-in-Ok-post g c =
@@ -37,7 +44,7 @@ returns-in-Ok-post g c =
     let are : AreCommands (Post m bytes ∷ []) =
     ((c.range_law.ensures.most, search rules), tt) in
     let Down = IsSome c.args.self.now.fault in
-    let says = c.in-Ok-post.ensures in
+    let says = c.in-Ok-post.ensures.transacts in
     record {
       answer =
           λ clean log s. (says.told clean s.tables s.are
@@ -49,6 +56,9 @@ returns-in-Ok-post g c =
           (takes sound_tables (Post m bytes ∷ []) (posts m bytes c.in-Ok.request read) are Down Down
           c.in_ok-up.ensures.up says) (still_clean says.survives);
       frugal = λ same. (let it = same in cc);
+      stored = λ clean r is.
+          subst (λ (q : RequestFields). RepliesToStored (database_of g.S.Store c.args.self.now) q c.in-Ok-post.reply)
+          (same_request (sym read ∙ is)) (c.in-Ok-post.ensures.stored clean);
     }
 
 pub returns-in-Err : goal.returns-in-Err
@@ -59,6 +69,7 @@ returns-in-Err g c =
       call = refused_call g.S.Store c.args.self.now c.go_down.new.self _ c.go_down.result no
           c.in_ok-up.ensures.up;
       frugal = λ same. no.frugal (let it = same in cc);
+      stored = tt;
     }
 
 pub returns-in_err-up-clause-call : goal.returns-in_err-up-clause-call

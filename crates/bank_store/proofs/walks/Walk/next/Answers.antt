@@ -8,44 +8,52 @@ use Rattle.bank_store.proofs.walks.Walk.next.Goals as goal
 
 pub returns-in-Failed : goal.returns-in-Failed
 returns-in-Failed g c = record {
-  same_reference = refl;
+  bank = record {
+    same_reference = refl;
+    same = λ clean. tt;
+    undone = search rules;
+    up = refl;
+    survives = search rules;
+  };
   told = λ clean rows has. refl;
   store = λ clean rows has no. absurd (let it = no in cc);
   rises = λ k before. tt;
-  same = λ clean. tt;
-  undone = search rules;
-  up = refl;
-  survives = search rules;
-  ended = λ no. absurd (err_not_ok _ _ None refl no);
-  again = λ ended. absurd (failed_not_ended c.args.self.now.stage c.in-Failed.is ended);
-  failed = c.in-Failed.is;
-  going = tt;
+  stage = record {
+    ended = λ no. absurd (err_not_ok _ _ None refl no);
+    again = λ ended. absurd (failed_not_ended c.args.self.now.stage c.in-Failed.is ended);
+    failed = c.in-Failed.is;
+    going = tt;
+    down = ((λ was. refl), (λ is. (c.in-Failed.is, refl)));
+  };
   frugal = λ no. absurd (let it = no in cc);
-  down = ((λ was. refl), (λ is. (c.in-Failed.is, refl)));
 }
 
 pub returns-in-Ended : goal.returns-in-Ended
 returns-in-Ended g c = record {
-  same_reference = refl;
+  bank = record {
+    same_reference = refl;
+    same = λ clean. (refl, refl, refl, refl);
+    undone = search rules;
+    up = refl;
+    survives = search rules;
+  };
   told =
       λ clean rows has.
       let none = none_behind_end c.args.self.now.stage c.in-Ended.is _ in
       (none, none);
   store = λ clean rows has no. absurd (ok_no_err _ _ no);
   rises = λ k before. tt;
-  same = λ clean. (refl, refl, refl, refl);
-  undone = search rules;
-  up = refl;
-  survives = search rules;
-  ended = λ is. c.in-Ended.is;
-  again = λ ended. (refl, refl);
-  failed = tt;
-  going = λ failed. absurd (failed_not_ended c.args.self.now.stage failed c.in-Ended.is);
+  stage = record {
+    ended = λ is. c.in-Ended.is;
+    again = λ ended. (refl, refl);
+    failed = tt;
+    going = λ failed. absurd (failed_not_ended c.args.self.now.stage failed c.in-Ended.is);
+    down = (
+      (λ was. absurd (failed_not_ended c.args.self.now.stage was c.in-Ended.is)),
+      (λ no. absurd (ok_no_err _ _ no)),
+    );
+  };
   frugal = λ no. absurd (ok_no_err _ _ no);
-  down = (
-    (λ was. absurd (failed_not_ended c.args.self.now.stage was c.in-Ended.is)),
-    (λ no. absurd (ok_no_err _ _ no)),
-  );
 }
 
 pub returns-in_err-refill : goal.returns-in_err-refill
@@ -54,7 +62,13 @@ returns-in_err-refill g c =
     let same : c.from_residual.result ≡ Err fault = search rules in
     let says = c.in_err-refill.ensures in
     record {
-      same_reference = c.refill.ensures.same_reference;
+      bank = record {
+        same_reference = c.refill.ensures.bank.same_reference;
+        same = λ clean. rw same tt;
+        undone = c.refill.ensures.bank.undone;
+        up = c.refill.ensures.bank.up;
+        survives = c.refill.ensures.bank.survives;
+      };
       told =
           λ clean rows has.
           rw same
@@ -64,19 +78,17 @@ returns-in_err-refill g c =
           store_told _ g.R.WalkedRow.is_broken _ fault (says.told clean rows has)
           (same_fault _ fault _ same is);
       rises = λ k before. rw same tt;
-      same = λ clean. rw same tt;
-      undone = c.refill.ensures.undone;
-      up = c.refill.ensures.up;
-      survives = c.refill.ensures.survives;
-      ended = λ no. absurd (err_not_ok _ fault None same no);
-      again = λ ended. absurd (not_ended c.args.self.now.stage c.in-Going.is ended);
-      failed = rw same says.failed.0;
-      going = rw same tt;
+      stage = record {
+        ended = λ no. absurd (err_not_ok _ fault None same no);
+        again = λ ended. absurd (not_ended c.args.self.now.stage c.in-Going.is ended);
+        failed = rw same says.failed.0;
+        going = rw same tt;
+        down = (
+          (λ was. absurd (not_failed c.args.self.now.stage c.in-Going.is was)),
+          (λ no. absurd (says.failed.1 (same_fault _ fault _ same no))),
+        );
+      };
       frugal = λ no. says.failed.2 (same_fault _ fault _ same no);
-      down = (
-        (λ was. absurd (not_failed c.args.self.now.stage c.in-Going.is was)),
-        (λ no. absurd (says.failed.1 (same_fault _ fault _ same no))),
-      );
     }
 
 pub returns-in-Some : goal.returns-in-Some
@@ -86,7 +98,13 @@ returns-in-Some g c =
     let given = filter (g.R.WalkedRow.is_given w.of) in
     let row = sym c.ahead-next.ensures.value ∙ c.in-Some.is in
     record {
-      same_reference = c.refill.ensures.same_reference;
+      bank = record {
+        same_reference = c.refill.ensures.bank.same_reference;
+        same = says.bank.same;
+        undone = c.refill.ensures.bank.undone;
+        up = c.refill.ensures.bank.up;
+        survives = c.refill.ensures.bank.survives;
+      };
       told =
           λ clean rows has.
           sym (says.told clean rows has)
@@ -97,19 +115,17 @@ returns-in-Some g c =
           λ k before.
           rises_next (λ r. g.R.WalkedRow.key (g.R.WalkedRow.item r)) k w.rows.items w.given w.rest
           c.in-Some.row row (says.rises k before);
-      same = says.same;
-      undone = c.refill.ensures.undone;
-      up = c.refill.ensures.up;
-      survives = c.refill.ensures.survives;
-      ended = λ no. absurd (some_not_none c.in-Some.row _ refl no);
-      again = λ ended. absurd (not_ended c.args.self.now.stage c.in-Going.is ended);
-      failed = tt;
-      going = λ failed. absurd (not_failed w.stage says.going failed);
+      stage = record {
+        ended = λ no. absurd (some_not_none c.in-Some.row _ refl no);
+        again = λ ended. absurd (not_ended c.args.self.now.stage c.in-Going.is ended);
+        failed = tt;
+        going = λ failed. absurd (not_failed w.stage says.going failed);
+        down = (
+          (λ was. absurd (not_failed c.args.self.now.stage c.in-Going.is was)),
+          (λ no. absurd (ok_no_err _ _ no)),
+        );
+      };
       frugal = λ no. absurd (ok_no_err _ _ no);
-      down = (
-        (λ was. absurd (not_failed c.args.self.now.stage c.in-Going.is was)),
-        (λ no. absurd (ok_no_err _ _ no)),
-      );
     }
 
 pub returns-in-None : goal.returns-in-None
@@ -118,7 +134,13 @@ returns-in-None g c =
     let says = c.in_ok-refill.ensures in
     let given = filter (g.R.WalkedRow.is_given w.of) in
     record {
-      same_reference = c.refill.ensures.same_reference;
+      bank = record {
+        same_reference = c.refill.ensures.bank.same_reference;
+        same = says.bank.same;
+        undone = c.refill.ensures.bank.undone;
+        up = c.refill.ensures.bank.up;
+        survives = c.refill.ensures.bank.survives;
+      };
       told =
           λ clean rows has. (
             sym (says.told clean rows has)
@@ -128,17 +150,15 @@ returns-in-None g c =
           );
       store = λ clean rows has no. absurd (ok_no_err _ _ no);
       rises = λ k before. tt;
-      same = says.same;
-      undone = c.refill.ensures.undone;
-      up = c.refill.ensures.up;
-      survives = c.refill.ensures.survives;
-      ended = λ is. refl;
-      again = λ ended. absurd (not_ended c.args.self.now.stage c.in-Going.is ended);
-      failed = tt;
-      going = λ failed. absurd (let it = failed in cc);
+      stage = record {
+        ended = λ is. refl;
+        again = λ ended. absurd (not_ended c.args.self.now.stage c.in-Going.is ended);
+        failed = tt;
+        going = λ failed. absurd (let it = failed in cc);
+        down = (
+          (λ was. absurd (not_failed c.args.self.now.stage c.in-Going.is was)),
+          (λ no. absurd (ok_no_err _ _ no)),
+        );
+      };
       frugal = λ no. absurd (ok_no_err _ _ no);
-      down = (
-        (λ was. absurd (not_failed c.args.self.now.stage c.in-Going.is was)),
-        (λ no. absurd (ok_no_err _ _ no)),
-      );
     }

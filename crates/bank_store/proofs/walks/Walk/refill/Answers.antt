@@ -9,28 +9,32 @@ use Rattle.bank_store.proofs.walks.Walk.refill.Goals as goal
 
 pub returns-then-self-len : goal.returns-then-self-len
 returns-then-self-len g c = record {
-  same_reference = refl;
+  bank = record {
+    same_reference = refl;
+    same = λ clean. (refl, refl, refl, refl);
+    undone = search rules;
+    up = refl;
+    survives = search rules;
+  };
   told = λ clean rows has. refl;
   rises = λ k before. before;
   rest = λ low. absurd (let it = low in omega (arith, c.len.ensures.value, c.if-self-len.true));
-  same = λ clean. (refl, refl, refl, refl);
-  undone = search rules;
-  up = refl;
-  survives = search rules;
   going = c.requires;
   failed = tt;
 }
 
 pub returns-in_default : goal.returns-in_default
 returns-in_default g c = record {
-  same_reference = refl;
+  bank = record {
+    same_reference = refl;
+    same = λ clean. (refl, refl, refl, refl);
+    undone = search rules;
+    up = refl;
+    survives = search rules;
+  };
   told = λ clean rows has. refl;
   rises = λ k before. before;
   rest = search rules;
-  same = λ clean. (refl, refl, refl, refl);
-  undone = search rules;
-  up = refl;
-  survives = search rules;
   going = c.requires;
   failed = tt;
 }
@@ -42,7 +46,13 @@ returns-in-Ok g c =
     let same : to_z w64 (of_z w64 from) ≡ from = search (rules, to_z-of_z) in
     let low : length w.rows.items ≤ w.given = omega (arith, c.len.ensures.value, c.if-self-len.false) in
     record {
-      same_reference = refl;
+      bank = record {
+        same_reference = refl;
+        same = c.in-Ok.ensures.same;
+        undone = c.read_rows-answer.ensures.undone;
+        up = c.read_rows-answer.ensures.up;
+        survives = c.read_rows-answer.ensures.survives;
+      };
       told =
           λ clean rows has.
           refilled g.R.WalkedRow.key g.R.WalkedRow.item w.stage c.requires w.rows.items w.given w.rest from
@@ -54,10 +64,6 @@ returns-in-Ok g c =
           c.in-Some.is before
           _ _ (rw same at c.in-Ok.ensures.rises);
       rest = λ low. c.in-Ok.ensures.ended (nothing_read c.read_rows-answer.new.rows.items low);
-      same = c.in-Ok.ensures.same;
-      undone = c.read_rows-answer.ensures.undone;
-      up = c.read_rows-answer.ensures.up;
-      survives = c.read_rows-answer.ensures.survives;
       going = c.requires;
       failed = tt;
     }
@@ -69,7 +75,13 @@ returns-in-Err g c =
     let same : to_z w64 (of_z w64 from) ≡ from = search (rules, to_z-of_z) in
     let low : length w.rows.items ≤ w.given = omega (arith, c.len.ensures.value, c.if-self-len.false) in
     record {
-      same_reference = refl;
+      bank = record {
+        same_reference = refl;
+        same = λ clean. tt;
+        undone = c.read_rows-answer.ensures.undone;
+        up = c.read_rows-answer.ensures.up;
+        survives = c.read_rows-answer.ensures.survives;
+      };
       told =
           λ clean rows has.
           let given = filter (g.R.WalkedRow.is_given w.of) rows in
@@ -81,10 +93,6 @@ returns-in-Err g c =
           (rw same at (c.in-Err.ensures.told clean rows has)));
       rises = λ k before. tt;
       rest = tt;
-      same = λ clean. tt;
-      undone = c.read_rows-answer.ensures.undone;
-      up = c.read_rows-answer.ensures.up;
-      survives = c.read_rows-answer.ensures.survives;
       going = tt;
       failed = search rules;
     }

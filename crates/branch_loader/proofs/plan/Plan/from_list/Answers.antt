@@ -7,23 +7,23 @@ use Rattle.branch_loader.proofs.plan.Plan.from_list.Goals as goal
 pub loop-i-init : goal.loop-i-init
 loop-i-init c = record { plan = no-rows; states = refl }
 
-pub row_of_pair-requires : goal.row_of_pair-requires
-row_of_pair-requires c = rw c.deref.ensures.value
+pub row_of_listed-requires : goal.row_of_listed-requires
+row_of_listed-requires c = rw c.deref.ensures.value
     (let short = plan-short _ c.loop-i.invariant.plan in omega arith)
 
 pub loop-i-preserved : goal.loop-i-preserved
 loop-i-preserved c =
-    let more = listed-more c.args.rows.items c.loop-i.i c.index.result.now c.in_ok-row_of_pair.field-0
+    let more = listed-more c.args.rows.items c.loop-i.i c.index.result.now c.in_ok-row_of_listed.field-0
     (omega arith) c.index.ensures
-    (sym (rw c.deref.ensures.value at c.in_ok-row_of_pair.ensures)) c.loop-i.invariant.states
+    (sym (rw c.deref.ensures.value at c.in_ok-row_of_listed.ensures)) c.loop-i.invariant.states
     c.loop-i.invariant.plan in
     record { plan = more.0; states = more.1 }
 
-pub returns-in_err-row_of_pair : goal.returns-in_err-row_of_pair
-returns-in_err-row_of_pair c =
-    let fault = listed-fault c.args.rows.items c.loop-i.i c.index.result.now c.in_err-row_of_pair.field-0.0
+pub returns-in_err-row_of_listed : goal.returns-in_err-row_of_listed
+returns-in_err-row_of_listed c =
+    let fault = listed-fault c.args.rows.items c.loop-i.i c.index.result.now c.in_err-row_of_listed.field-0.0
     (omega arith) c.index.ensures
-    (sym (rw c.deref.ensures.value at c.in_err-row_of_pair.ensures)) c.loop-i.invariant.states in
+    (sym (rw c.deref.ensures.value at c.in_err-row_of_listed.ensures)) c.loop-i.invariant.states in
     let p = err_from_is_err_and c.from_residual.result c.from_residual.ensures.1 in
     rw (p.1, p.2) (sym fault)
 

@@ -1,6 +1,6 @@
 use Rattle.std.proofs.Common.{◌<◌, ◌*◌, ◌∙◌, ℕ, arith, ap, refl}
 use Rattle.posting_rules.specs.declared.limits.TheConstants.{TELLERS_PER_BRANCH}
-use Rattle.load_driver.specs.declared.driver.TheConstants.{MOST_RECORDS}
+use Rattle.load_driver.specs.declared.driver.TheConstants.{MAX_RECORDS}
 use Rattle.load_driver.specs.Requests.{request_at}
 use Rattle.load_driver.proofs.Steps.{stepped}
 use Rattle.load_driver.proofs.driver.Driver.draw_next.Goals as goal
@@ -25,7 +25,7 @@ request_by-requires-clause-last c =
     (TELLERS_PER_BRANCH * c.len.result) c.self.invariant.plan c.self.invariant.counts_at w.teller
     (ap (λ (n : ℕ). TELLERS_PER_BRANCH * n) (c.len.ensures ∙ c.self.inside.rows.ok.0))
     c.draw-place.ensures.value c.draw-place.ensures.below c.index.ensures in
-    let given : c.self.inside.given < MOST_RECORDS = rw (← c.self.view_is) at c.requires in
+    let given : c.self.inside.given < MAX_RECORDS = rw (← c.self.view_is) at c.requires in
     let few = s.few in
     omega arith
 
@@ -37,7 +37,7 @@ invariant_of-self c =
     (TELLERS_PER_BRANCH * c.len.result) c.self.invariant.plan c.self.invariant.counts_at w.teller
     (ap (λ (n : ℕ). TELLERS_PER_BRANCH * n) (c.len.ensures ∙ c.self.inside.rows.ok.0))
     c.draw-place.ensures.value c.draw-place.ensures.below c.index.ensures in
-    let given : c.self.inside.given < MOST_RECORDS = rw (← c.self.view_is) at c.requires in
+    let given : c.self.inside.given < MAX_RECORDS = rw (← c.self.view_is) at c.requires in
     record {
       plan = c.self.invariant.plan;
       some = c.self.invariant.some;

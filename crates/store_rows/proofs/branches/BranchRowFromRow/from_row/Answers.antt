@@ -2,7 +2,7 @@
 use Rattle.std.proofs.Common.{◌≡◌, Err, refl, rules, arith}
 use Rattle.message_records.specs.declared.limits.TheConstants.{MAX_BALANCE, MAX_BRANCH}
 use Rattle.posting_rules.specs.declared.fault.Rule.TheVariants.{Balance, Value}
-use Rattle.posting_rules.specs.declared.limits.TheConstants.{LAST_BRANCH, MOST_ACCOUNTS}
+use Rattle.posting_rules.specs.declared.limits.TheConstants.{LAST_BRANCH, MAX_ACCOUNTS}
 use Rattle.sql_meanings.specs.Entries.{Entry}
 use Rattle.store_rows.specs.Columns.{number_at}
 use Rattle.store_rows.specs.Rules.{BranchKeeps}
@@ -23,7 +23,7 @@ returns-in_err-count_at-clause-stored c =
     let e = c.in_err-count_at in
     let same : c.from_residual-in_err-count_at.result ≡ Err e.field-0.0 = search rules in
     rw same (unread_whole branch_stored IsBranch BranchKeeps c.args.row.now Value 1 (number_at 0) (λ _. refl)
-    0 4_294_967_295 1 MOST_ACCOUNTS
+    0 4_294_967_295 1 MAX_ACCOUNTS
     (omega arith) (omega arith) (λ r kept. kept.1) e.field-0.0 e.ensures.reads)
 
 pub returns-in_err-cents_at-clause-stored : goal.returns-in_err-cents_at-clause-stored

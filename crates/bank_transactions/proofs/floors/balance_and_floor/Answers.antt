@@ -1,0 +1,96 @@
+-- What a balance and a floor tell.
+use Rattle.std.proofs.Common.{◌≡◌, ◌≤◌, ◌≤ℤ◌, ℕ, ℤ, true, Option, Some, None, Ok, Err, rules, refl, sym, ap, subst, ◌∙◌, arith}
+use Rattle.std.specs.Prelude.{int_lt}
+use Rattle.std.proofs.lemmas.Int.{ints}
+use Rattle.message_records.specs.declared.limits.TheConstants.{MAX_ACCOUNT}
+use Rattle.sqlite.specs.Effect.{Database}
+use Rattle.sqlite.specs.Held.{state}
+use Rattle.sqlite.specs.State.{HasCleanDisk}
+use Rattle.posting_rules.specs.Numbering.{branch_of_account}
+use Rattle.store_rows.specs.Rules.{row_under}
+use Rattle.store_rows.specs.Stored.{BalanceKeeps, FindsStored, IsBalance}
+use Rattle.bank_transactions.specs.Floors.{falls_below}
+use Rattle.bank_transactions.specs.Stored.{IsStoredFloor}
+use Rattle.bank_transactions.proofs.Broken.{below_broken}
+use Rattle.bank_transactions.proofs.SoundRows.{not_below}
+use Rattle.bank_transactions.proofs.ReadsInTurn.{reads_both, reads_but, reads_told}
+use Rattle.posting_rules.specs.LookUps.{account_balance_in, floor_in}
+use Rattle.bank_transactions.proofs.floors.balance_and_floor.Goals as goal
+
+-- there are both, and the balance is below the floor
+both_there : (b f : Option ℤ) → falls_below b f ≡ true
+    → (balance : ℤ) × (lowest : ℤ) × (b ≡ Some balance) × (f ≡ Some lowest) × (int_lt balance lowest ≡ true)
+both_there None f below = absurd cc
+both_there (Some z) None below = absurd cc
+both_there (Some z) (Some lowest) below = (z, lowest, refl, refl, below)
+
+not_above : (balance lowest : ℤ) → int_lt balance lowest ≡ true → lowest ≤ℤ balance → ⊥
+not_above balance lowest below above = grind (arith, ints)
+
+pub returns-in_err-balance-clause-says : goal.returns-in_err-balance-clause-says
+returns-in_err-balance-clause-says g c =
+    let same : c.from_residual.result ≡ Err c.in_err-balance.field-0.0 = search rules in
+    rw same c.in_err-balance.ensures.says
+
+pub returns-in_err-floor-clause-says : goal.returns-in_err-floor-clause-says
+returns-in_err-floor-clause-says g c =
+    let same : c.from_residual-in_err-floor.result ≡ Err c.in_err-floor.field-0.0 = search rules in
+    rw same (reads_but c.in_err-floor.field-0.0 c.in_ok-balance.ensures.says c.in_err-floor.ensures.says)
+
+pub returns-clause-says : goal.returns-clause-says
+returns-clause-says g c =
+    let key = c.branch_of_account.ensures in
+    reads_told (reads_both c.in_ok-balance.ensures.says c.in_ok-floor.ensures.says)
+    (λ t told. told ∙ ap (λ k. (account_balance_in t c.args.account, floor_in t k)) key)
+
+pub returns-then-is_below-clause-says : goal.returns-then-is_below-clause-says
+returns-then-is_below-clause-says g c =
+    let n = c.args.account in
+    let one = c.in_ok-balance.ensures in
+    let two = c.in_ok-floor.ensures in
+    let key = c.branch_of_account.ensures in
+    let both = reads_both one.says two.says in
+    let it = both_there c.in_ok-balance.balance c.in_ok-floor.floor
+    (sym c.is_below.ensures ∙ c.if-is_below.true) in
+    let below = not_above it.0 it.1 it.4 in
+    let some : 1 ≤ n = search rules in
+    let most : n ≤ MAX_ACCOUNT = search rules in
+    record {
+      same_reference = both.same_reference;
+      told =
+          λ clean t shows sound.
+          let told = (both.told clean t shows sound).0 in
+          below (not_below t n it.0 it.1 sound (sym it.2 ∙ ap (λ p. p.0) told)
+          (sym it.3 ∙ ap (λ p. p.1) told ∙ ap (floor_in t) key));
+      kept =
+          λ clean.
+          let before : HasCleanDisk (state g.S.Store c.open_balance.new.tx.conn.now) =
+          omega (arith, two.says.survives.clean, clean) in
+          let on = (both.kept clean).0.goes_on in
+          let stored = one.stored before in
+          let still = (one.says.kept before).0.now in
+          let db = (state g.S.Store c.args.tx.now.conn.now).now in (
+            record { was_open = on.opened; committed = λ h. on.committed },
+            below_broken db n it.0 it.1 some most
+                (λ rows has. subst (λ (b : Option ℤ). FindsStored (row_under rows.accounts n) IsBalance BalanceKeeps (Ok b))
+                it.2 (stored.found rows has))
+                (subst (IsStoredFloor db (branch_of_account n)) it.3
+                (subst (λ (k : ℕ). IsStoredFloor db k c.in_ok-floor.floor) key
+                (subst (λ (d : Database). IsStoredFloor d c.branch_of_account.result c.in_ok-floor.floor) still
+                (two.stored clean))))
+                below,
+          );
+      survives = both.survives;
+    }
+
+pub returns-clause-stored : goal.returns-clause-stored
+returns-clause-stored g c clean =
+    let before : HasCleanDisk (state g.S.Store c.open_balance.new.tx.conn.now) =
+    omega (arith, c.in_ok-floor.ensures.says.survives.clean, clean) in
+    let still = (c.in_ok-balance.ensures.says.kept before).0.now in (
+      c.in_ok-balance.ensures.stored before,
+      subst (λ (k : ℕ). IsStoredFloor (state g.S.Store c.args.tx.now.conn.now).now k c.in_ok-floor.floor)
+          c.branch_of_account.ensures
+          (subst (λ (d : Database). IsStoredFloor d c.branch_of_account.result c.in_ok-floor.floor) still
+          (c.in_ok-floor.ensures.stored clean)),
+    )

@@ -1,0 +1,21 @@
+-- The row of the floor, where there is one.
+use Rattle.std.proofs.Common.{◌≡◌, None, ap, rules, refl}
+use Rattle.std.specs.Prelude.{is_some, Some}
+use Rattle.posting_rules.specs.Changes.{with_floor}
+use Rattle.posting_rules.specs.Tables.{row_at, floor_key}
+use Rattle.posting_rules.proofs.Stepping.{no_floor_more}
+use Rattle.store_rows.specs.BankTables.{floor}
+use Rattle.bank_transactions.proofs.Chained.{does_for, does_none}
+use Rattle.bank_transactions.proofs.Statements.{does_add}
+use Rattle.bank_transactions.proofs.new_branch.add_its_floor.Goals as goal
+
+pub returns-in_default : goal.returns-in_default
+returns-in_default g c =
+    rw c.in_default.is (does_for (does_none (search rules)) (λ t free. (free, no_floor_more c.args.branch t, refl)))
+
+pub returns : goal.returns
+returns g c =
+    let b = c.args.branch in
+    rw c.in-Some.is (does_add {So = λ t. row_at floor_key t.floors b ≡ None} g.S.Store _ _ floor
+    (λ t. is_some (row_at floor_key t.floors b)) (with_floor b (Some c.in-Some.lowest)) c.add_floor.result
+    c.add_floor.ensures (λ t free. ap is_some free))

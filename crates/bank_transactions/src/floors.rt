@@ -1,0 +1,66 @@
+//! The floors of branches, each looked up beside what it binds.
+ghost use Rattle.std.specs.Prelude.{◌≡◌, ◌≤ℤ◌, pos, IfOk, IfSome};
+ghost use Rattle.posting_rules.specs.LookUps.{account_balance_in, floor_in};
+ghost use Rattle.posting_rules.specs.Numbering.{branch_of_account};
+ghost use Rattle.sqlite.specs.Held.{state};
+ghost use Rattle.sqlite.specs.State.{HasCleanDisk};
+ghost use Rattle.bank_transactions.specs.Doing.{Reads};
+ghost use Rattle.bank_transactions.specs.Floors.{falls_below};
+ghost use Rattle.bank_transactions.specs.Stored.{IsStoredBalance, IsStoredFloor};
+
+use crate::found::open_balance;
+use message_records::{Account, Branch, Cents};
+use posting_rules::{Rule, branch_of_account};
+use sqlite::{Alter, Transaction};
+use store_rows::{TableFault, find_floor};
+
+/// The floor of a branch's accounts, none where they have none.
+pub(crate) fn floor_at<S: Alter>(
+    tx: &mut Transaction<'_, S>,
+    number: u64,
+) -> Result<Option<Cents>, TableFault>
+    ensures within { IfOk result (λ floor. IfSome floor (λ z. z ≤ℤ pos 0)) }
+    ensures says { Reads S.Store tx.old tx.new (λ tables. floor_in tables number) result }
+    ensures stored { IfOk result (λ floor. HasCleanDisk (state S.Store tx.new.conn.now)
+        → IsStoredFloor (state S.Store tx.old.conn.now).now number floor) }
+{
+    let Some(branch) = Branch::new(number) else {
+        return Ok(None);
+    };
+    let Some(row) = find_floor(tx, branch)? else {
+        return Ok(None);
+    };
+    if row.lowest.get() > 0 {
+        return Err(TableFault::Damaged(Rule::Floor));
+    }
+    Ok(Some(row.lowest))
+}
+
+/// Whether there is a balance and a floor, and the balance is below the floor.
+pub(crate) fn is_below(balance: &Option<Cents>, floor: &Option<Cents>) -> bool
+    ensures { result ≡ falls_below balance.now floor.now }
+{
+    match (balance, floor) {
+        (Some(balance), Some(floor)) => balance.get() < floor.get(),
+        _ => false,
+    }
+}
+
+/// The balance of an account, none where it isn't open, and the floor of its branch, none where it has none.
+pub(crate) fn balance_and_floor<S: Alter>(
+    tx: &mut Transaction<'_, S>,
+    account: Account,
+) -> Result<(Option<Cents>, Option<Cents>), TableFault>
+    ensures says { Reads S.Store tx.old tx.new
+        (λ tables. (account_balance_in tables account, floor_in tables (branch_of_account account))) result }
+    ensures stored { IfOk result (λ both. HasCleanDisk (state S.Store tx.new.conn.now)
+        → IsStoredBalance (state S.Store tx.old.conn.now).now account both.0
+        × IsStoredFloor (state S.Store tx.old.conn.now).now (branch_of_account account) both.1) }
+{
+    let balance = open_balance(tx, account)?;
+    let floor = floor_at(tx, branch_of_account(account))?;
+    if is_below(&balance, &floor) {
+        return Err(TableFault::Damaged(Rule::Balance));
+    }
+    Ok((balance, floor))
+}

@@ -1,0 +1,65 @@
+-- Earlier versions of a bank's file, and the log that each shows once it is carried over. A version differs from
+-- the present one in what it knows of a command, so its tables are defined as the present ones are.
+use Rattle.std.specs.Prelude.{◌≡◌, ◌↔◌, ℕ, List, [], ◌∷◌, map, Option, None, ◌==◌, if◌then◌else◌}
+use Rattle.std.specs.Option.{option_map}
+use Rattle.message_records.specs.Reading.{request_of}
+use Rattle.posting_rules.specs.Commands.{Command, Open, Post, Terms, AreCommands, opened, opened_with}
+use Rattle.posting_rules.specs.Entries.{DecidedRequest, with_record, decided}
+use Rattle.posting_rules.specs.Tables.{Tables, HasRows, AreTablesOf}
+
+-- what a version knows of a command
+pub record Edition : Type 0 where
+  -- of what a branch is opened with
+  pub terms : Terms → Terms
+
+-- a branch has a count of accounts alone
+abbrev pub without_floors : Edition
+without_floors = record { terms = λ terms. opened_with terms.accounts None }
+
+abbrev pub present : Edition
+present = record { terms = λ terms. terms }
+
+-- version 1 was before floors
+abbrev pub edition : ℕ → Edition
+edition version = if version == 1 then without_floors else present
+
+abbrev pub opened_in : Edition → List Command → ℕ → Option Terms
+opened_in e log b = option_map e.terms (opened log b)
+
+abbrev pub decided_in : Edition → List Command → List DecidedRequest
+decided_in e [] = []
+decided_in e (Open branch terms ∷ log) = decided_in e log
+decided_in e (Post moment bytes ∷ log) =
+    with_record moment (request_of bytes) (λ b. opened_in e log b) (decided_in e log)
+
+-- the tables are those of the log in a file of the version
+pub record AreTablesIn (version : ℕ) (tables : Tables) (log : List Command) : Type 0 where
+  pub rows : HasRows tables (λ b. opened_in (edition version) log b) (decided_in (edition version) log)
+
+-- ---- the log of a file that is carried over
+
+-- a command with what the version knows of it
+abbrev pub known : Edition → Command → Command
+known e (Open branch terms) = Open branch (e.terms terms)
+known e (Post moment bytes) = Post moment bytes
+
+abbrev pub plain : ℕ → List Command → List Command
+plain version log = map (known (edition version)) log
+
+-- the tables of a log in a file of the version are the present ones of the log with what the version knows
+abbrev pub CarriesOver : Type 0
+CarriesOver = (version : ℕ) (t : Tables) (log : List Command)
+    → AreTablesIn version t log ↔ AreTablesOf t (plain version log)
+
+-- and what that shows is a log of the bank's commands
+abbrev pub PlainAreCommands : Type 0
+PlainAreCommands = (version : ℕ) (log : List Command) → AreCommands log → AreCommands (plain version log)
+
+-- before floors there was none
+abbrev pub HasNoFloors : Type 0
+HasNoFloors = (t : Tables) (log : List Command) → AreTablesIn 1 t log → t.floors ≡ []
+
+-- the present edition is the rule of this bank
+abbrev pub IsPresent : Type 0
+IsPresent = (log : List Command) → (decided_in present log ≡ decided log)
+    × ((b : ℕ) → opened_in present log b ≡ opened log b)

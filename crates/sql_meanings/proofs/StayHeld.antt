@@ -1,0 +1,44 @@
+-- Tables that are held stay held while others are made.
+use Rattle.std.proofs.Common.{◌≡◌, ◌++◌, ◌&&◌, List, [], ◌∷◌, true, sym, ap, subst, ◌∙◌}
+use Rattle.sqlite.specs.Table.{Table}
+use Rattle.sqlite.specs.Effect.{Database, IsDatabase}
+use Rattle.sql_meanings.specs.Contents.{HoldsEach, has_other_names, is_free, stand_apart}
+use Rattle.sql_meanings.specs.Entries.{Entry, IsTree}
+use Rattle.sql_meanings.specs.Making.{KeepsWhatStood}
+use Rattle.sql_meanings.specs.Tables.{Holds, placed_at, tree_of, width_of}
+use Rattle.sql_meanings.proofs.Contents.{no_references}
+use Rattle.sql_meanings.proofs.Defining.{defined_stands, stands_defined}
+use Rattle.sql_meanings.proofs.Tests.{and_both}
+
+module _ (old new : Database) (sound : IsDatabase new) (keeps : KeepsWhatStood old new) where
+  -- a table with no foreign key
+  pub still_held : (t : Table) (es : List Entry) → t.references ≡ [] → Holds old t es → Holds new t es
+  still_held t es free holds =
+      let stood = defined_stands old.schema t free holds.defined in
+      let found = stands_defined new.schema new.trees (placed_at t (tree_of old.schema t.name)) sound
+      (keeps.stands _ stood) in
+      record {
+        defined = record { found = found.1.found; apart = found.1.apart };
+        rows = subst (λ rows. IsTree (width_of t) rows es)
+            (sym (ap (λ n. new.trees n) found.0 ∙ keeps.rows _ stood.listed)) holds.rows;
+      }
+
+  -- each of several
+  pub still_hold : (tables : List Table) (contents : List (List Entry)) → stand_apart tables ≡ true
+      → HoldsEach old tables contents → HoldsEach new tables contents
+  still_hold [] [] apart each = tt
+  still_hold [] (es ∷ contents) apart each = absurd each
+  still_hold (t ∷ tables) [] apart each = absurd each
+  still_hold (t ∷ tables) (es ∷ contents) apart each =
+      let s = and_both (is_free t && has_other_names t tables) (stand_apart tables) apart in
+      let f = and_both (is_free t) (has_other_names t tables) s.0 in
+      (still_held t es (no_references t f.0) each.0, still_hold tables contents s.1 each.1)
+
+-- some tables, and more behind them
+pub held_behind : (db : Database) (tables more : List Table) (contents rows : List (List Entry))
+    → HoldsEach db tables contents → HoldsEach db more rows → HoldsEach db (tables ++ more) (contents ++ rows)
+held_behind db [] more [] rows each then = then
+held_behind db [] more (es ∷ contents) rows each then = absurd each
+held_behind db (t ∷ tables) more [] rows each then = absurd each
+held_behind db (t ∷ tables) more (es ∷ contents) rows each then =
+    (each.0, held_behind db tables more contents rows each.1 then)

@@ -1,0 +1,27 @@
+-- A column that couldn't be read breaks a rule.
+use Rattle.std.proofs.Common.{◌≡◌, Err, refl, rules, arith}
+use Rattle.message_records.specs.declared.limits.TheConstants.{MAX_BALANCE, MAX_BRANCH}
+use Rattle.posting_rules.specs.declared.fault.Rule.TheVariants.{Floor, Value}
+use Rattle.posting_rules.specs.declared.limits.TheConstants.{LAST_BRANCH}
+use Rattle.sql_meanings.specs.Entries.{Entry}
+use Rattle.store_rows.specs.Columns.{number_at}
+use Rattle.store_rows.specs.Rules.{FloorKeeps}
+use Rattle.store_rows.specs.Stored.{IsFloorRow, floor_stored}
+use Rattle.store_rows.proofs.StoredReads.{unread_cents, unread_whole}
+use Rattle.store_rows.proofs.floors.FloorRowFromRow.from_row.Goals as goal
+
+pub returns-in_err-whole_at-clause-stored : goal.returns-in_err-whole_at-clause-stored
+returns-in_err-whole_at-clause-stored c =
+    let e = c.in_err-whole_at in
+    let same : c.from_residual.result ≡ Err e.field-0.0 = search rules in
+    rw same (unread_whole floor_stored IsFloorRow FloorKeeps c.args.row.now Value 0 (λ (r : Entry). r.key)
+    (λ _. refl) 1 MAX_BRANCH 1 LAST_BRANCH
+    (omega arith) (omega arith) (λ r kept. kept) e.field-0.0 e.ensures.reads)
+
+pub returns-in_err-cents_at-clause-stored : goal.returns-in_err-cents_at-clause-stored
+returns-in_err-cents_at-clause-stored c =
+    let e = c.in_err-cents_at in
+    let same : c.from_residual-in_err-cents_at.result ≡ Err e.field-0.0 = search rules in
+    rw same (unread_cents floor_stored IsFloorRow FloorKeeps c.args.row.now Floor 1 (number_at 0)
+    (λ _. refl) MAX_BALANCE (omega arith)
+    (λ r kept. kept.1) e.field-0.0 e.ensures.reads)

@@ -1,0 +1,27 @@
+-- What acceptance and refusal say.
+use Rattle.std.proofs.Common.{rules}
+use Rattle.sqlite.specs.State.{HasCleanDisk}
+use Rattle.sqlite.specs.Held.{state}
+use Rattle.sql_meanings.proofs.Probing.{tells_probe}
+use Rattle.sql_meanings.specs.Outcomes.{TellsUnderstood}
+use Rattle.store_rows.specs.Probes.{probe_of}
+use Rattle.store_rows.proofs.Probing.{probes, stands_alone}
+use Rattle.store_rows.proofs.probes.probe_table.Goals as goal
+
+pub returns : goal.returns
+returns g c =
+    let old = state g.S.Store c.args.conn.now in
+    let new = state g.S.Store c.is_understood.new.conn in
+    let table = c.args.table in
+    let probe = probe_of table in
+    let text : HasCleanDisk new → TellsUnderstood old new probe.0 c.is_understood.result =
+    λ clean. rw c.probe_text.ensures at
+    (c.is_understood.ensures.told clean (rw c.probe_text.ensures ((probes table).shows _))) in
+    record {
+      told =
+          λ clean. tells_probe probe.1 probe.0 (probes table) (stands_alone table) old new
+          c.is_understood.result (text clean);
+      text = text;
+      mode = search rules;
+      survives = search rules;
+    }

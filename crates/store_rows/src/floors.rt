@@ -1,0 +1,49 @@
+//! The table of floors: the lowest balance that the accounts of a branch may have.
+ghost use Rattle.std.specs.Prelude.{Some, is_some};
+ghost use Rattle.posting_rules.specs.Tables.{row_at, floor_key};
+ghost use Rattle.posting_rules.specs.Changes.{with_floor};
+ghost use Rattle.store_rows.specs.Calls.{AddsRow, LooksUp};
+ghost use Rattle.store_rows.specs.Forms.{floor_form};
+ghost use Rattle.store_rows.specs.Rules.{row_under};
+ghost use Rattle.store_rows.specs.BankTables.{floor as table};
+
+use crate::columns::{cents_at, whole_at};
+use crate::fault::TableFault;
+use crate::found::{FromRow, found};
+use crate::statements::{put_balance, row_under};
+use crate::texts::{ADD_FLOOR, GET_FLOOR};
+use message_records::Branch;
+use posting_rules::{FloorRow, Rule};
+use sqlite::{Alter, Row, Transaction};
+
+impl FromRow for FloorRow {
+    ghost use Rattle.store_rows.specs.Forms.{floor_form as form};
+
+    ghost form = { form };
+
+    fn from_row(row: &Row) -> Result<Self, TableFault> {
+        Ok(FloorRow {
+            branch: whole_at(row, 0, Rule::Value)?,
+            lowest: cents_at(row, 1, Rule::Floor)?,
+        })
+    }
+}
+
+/// The floor of a branch, if it has a row.
+pub fn find_floor<S: Alter>(
+    tx: &mut Transaction<'_, S>,
+    branch: Branch,
+) -> Result<Option<FloorRow>, TableFault>
+    ensures { LooksUp S.Store tx.old tx.new floor_form (λ tables. row_at floor_key tables.floors branch)
+        (λ rows. row_under rows.floors branch) result }
+{
+    found(row_under(tx, GET_FLOOR, branch.get()))
+}
+
+/// Adds a floor. `Damaged(Rule::Key)` is a branch that has one.
+pub fn add_floor<S: Alter>(tx: &mut Transaction<'_, S>, row: FloorRow) -> Result<(), TableFault>
+    ensures { AddsRow S.Store tx.old tx.new table
+        (λ tables. is_some (row_at floor_key tables.floors row.branch)) (with_floor row.branch (Some row.lowest)) result }
+{
+    put_balance(tx, ADD_FLOOR, row.branch.get(), row.lowest)
+}
