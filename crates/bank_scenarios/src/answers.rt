@@ -103,8 +103,8 @@ fn branch_of(item: &str) -> Option<(Branch, u32, Option<Cents>)> {
 }
 
 // Whether a floor is at most zero, where there is one.
-pub(crate) fn is_floor(floor: Option<Cents>) -> bool
-    ensures { IsTrue result → IfSome floor (λ z. z ≤ℤ pos 0) }
+pub(crate) fn is_floor(floor: &Option<Cents>) -> bool
+    ensures { IsTrue result → IfSome floor.now (λ z. z ≤ℤ pos 0) }
 {
     match floor {
         Some(floor) => floor.get() <= 0,
@@ -116,7 +116,7 @@ fn opened<C: Counter>(alloc: Global, bank: &mut C, item: &str) -> Result<String,
     let Some((branch, count, floor)) = branch_of(item) else {
         return "no branch".to_string(alloc);
     };
-    if branch.get() > 9999 || count < 1 || count > 100_000 || !is_floor(floor) {
+    if branch.get() > 9999 || count < 1 || count > 100_000 || !is_floor(&floor) {
         return "out of range".to_string(alloc);
     }
     match bank.open_branch(branch, count, floor) {
