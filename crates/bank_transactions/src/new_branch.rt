@@ -1,5 +1,7 @@
 //! A branch comes with its ten tellers and its accounts.
-ghost use Rattle.std.specs.Prelude.{◌≡◌, ◌≤◌, ◌<◌, ◌+◌, ℕ, Some, None, false};
+ghost use Rattle.std.specs.Prelude.{◌≡◌, ◌≤◌, ◌<◌, ◌+◌, ℕ, IfOk, Some, None, false};
+ghost use Rattle.sqlite.specs.Held.{state};
+ghost use Rattle.sqlite.specs.State.{HasCleanDisk};
 ghost use Rattle.posting_rules.specs.Changes.{tables_opened, tables_with_branch, with_floor};
 ghost use Rattle.posting_rules.specs.Commands.{opened_with};
 ghost use Rattle.posting_rules.specs.Counter.{opening_for};
@@ -8,6 +10,7 @@ ghost use Rattle.posting_rules.specs.Sound.{AreSound};
 ghost use Rattle.posting_rules.specs.Tables.{row_at, branch_key, floor_key};
 ghost use Rattle.bank_transactions.specs.Doing.{Acts, Does, Reads};
 ghost use Rattle.bank_transactions.specs.NewRows.{tables_staffed, with_new, with_new_rows, is_taken, last_of};
+ghost use Rattle.bank_transactions.specs.Stored.{OpensByStored};
 
 use crate::floors::floor_at;
 use crate::found::branch_at;
@@ -144,8 +147,10 @@ fn opening_of<S: Alter>(
     count: u32,
     floor: &Option<Cents>,
 ) -> Result<Opening, TableFault>
-    ensures { Reads S.Store tx.old tx.new
+    ensures says { Reads S.Store tx.old tx.new
         (λ tables. opening_for (terms_in tables branch) (opened_with count floor.now)) result }
+    ensures stored { IfOk result (λ opening. HasCleanDisk (state S.Store tx.new.conn.now)
+        → OpensByStored (state S.Store tx.old.conn.now).now branch (opened_with count floor.now) opening) }
 {
     let Some(row) = branch_at(tx, branch.get())? else {
         return Ok(Opening::Opened);
@@ -163,9 +168,11 @@ pub(crate) fn open_inside<S: Alter>(
 ) -> Result<Opening, TableFault>
     requires branch { branch ≤ LAST_BRANCH }
     requires few { count ≤ MAX_ACCOUNTS }
-    ensures { Acts S.Store tx.old tx.new AreSound
+    ensures acts { Acts S.Store tx.old tx.new AreSound
         (λ tables. tables_with_branch tables branch (opened_with count floor))
         (λ tables. opening_for (terms_in tables branch) (opened_with count floor)) result }
+    ensures stored { IfOk result (λ opening. HasCleanDisk (state S.Store tx.new.conn.now)
+        → OpensByStored (state S.Store tx.old.conn.now).now branch (opened_with count floor) opening) }
 {
     match opening_of(tx, branch, count, &floor)? {
         Opening::Opened => {

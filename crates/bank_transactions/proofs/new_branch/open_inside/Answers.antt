@@ -30,21 +30,21 @@ opened_now : (t : Tables) (b : ℕ) (terms : Terms) → row_at branch_key t.bran
     → tables_opened t b terms ≡ tables_with_branch t b terms
 opened_now t b terms is = rw is refl
 
-pub returns-in_err-opening : goal.returns-in_err-opening
-returns-in_err-opening g c =
+pub returns-in_err-opening-clause-acts : goal.returns-in_err-opening-clause-acts
+returns-in_err-opening-clause-acts g c =
     let same : c.from_residual.result ≡ Err c.in_err-opening.field-0.0 = search rules in
     rw same (acts_read (does_err
     (does_read g.S.Store c.args.tx.now c.opening_of.new.tx
     (λ t. opening_for (terms_in t c.args.branch) (opened_with c.args.count c.args.floor)) _
-    c.in_err-opening.ensures)
+    c.in_err-opening.ensures.says)
     (λ t sound. sound.undamaged)))
 
-pub returns-in_default : goal.returns-in_default
-returns-in_default g c =
+pub returns-in_default-clause-acts : goal.returns-in_default-clause-acts
+returns-in_default-clause-acts g c =
     let b = c.args.branch in
     let terms = opened_with c.args.count c.args.floor in
     acts_read (does_tell
-    (does_read g.S.Store c.args.tx.now c.opening_of.new.tx _ _ c.in_ok-opening.ensures)
+    (does_read g.S.Store c.args.tx.now c.opening_of.new.tx _ _ c.in_ok-opening.ensures.says)
     (λ t sound. (
       sound.undamaged,
       λ found. (
@@ -54,14 +54,14 @@ returns-in_default g c =
       ),
     )))
 
-pub returns-in_err-add_whole_branch-in-Opened : goal.returns-in_err-add_whole_branch-in-Opened
-returns-in_err-add_whole_branch-in-Opened g c =
+pub returns-in_err-add_whole_branch-in-Opened-clause-acts : goal.returns-in_err-add_whole_branch-in-Opened-clause-acts
+returns-in_err-add_whole_branch-in-Opened-clause-acts g c =
     let b = c.args.branch in
     let terms = opened_with c.args.count c.args.floor in
     let same : c.from_residual-in_err-add_whole_branch-in-Opened.result
     ≡ Err c.in_err-add_whole_branch-in-Opened.field-0.0 = search rules in
     rw same (acts_wrote (does_but
-    (does_for (does_read g.S.Store c.args.tx.now c.opening_of.new.tx _ _ c.in_ok-opening.ensures)
+    (does_for (does_read g.S.Store c.args.tx.now c.opening_of.new.tx _ _ c.in_ok-opening.ensures.says)
     (λ t sound. (sound.undamaged, refl, refl)))
     c.in_err-add_whole_branch-in-Opened.ensures
     (λ t sound found. (
@@ -69,12 +69,12 @@ returns-in_err-add_whole_branch-in-Opened g c =
       not_there t b terms (row_at branch_key t.branches b) (sym c.in-Opened.is ∙ found),
     ))))
 
-pub returns-in_ok-add_whole_branch-in-Opened : goal.returns-in_ok-add_whole_branch-in-Opened
-returns-in_ok-add_whole_branch-in-Opened g c =
+pub returns-in_ok-add_whole_branch-in-Opened-clause-acts : goal.returns-in_ok-add_whole_branch-in-Opened-clause-acts
+returns-in_ok-add_whole_branch-in-Opened-clause-acts g c =
     let b = c.args.branch in
     let terms = opened_with c.args.count c.args.floor in
     acts_wrote (does_both
-    (does_for (does_read g.S.Store c.args.tx.now c.opening_of.new.tx _ _ c.in_ok-opening.ensures)
+    (does_for (does_read g.S.Store c.args.tx.now c.opening_of.new.tx _ _ c.in_ok-opening.ensures.says)
     (λ t sound. (sound.undamaged, refl, refl)))
     c.in_ok-add_whole_branch-in-Opened.ensures
     (λ t sound found.
