@@ -301,7 +301,8 @@ impl<S: Alter + Drop> Counter for Bank<S> {
         ensures frugal { result ≢ Err fault.Memory }
         // Whatever rows the file holds.
         ensures stored { IfOk result (λ opening. (bank_seen S.Store self.new).honest
-            → OpensByStored (database_of S.Store self.old) branch (opened_with count floor) opening) }
+            → OpensByStored (database_of S.Store self.old) (database_of S.Store self.new) branch
+            (opened_with count floor) opening) }
     {
         range_law(branch);
         floor_law(&floor);

@@ -2,6 +2,7 @@
 pub mod Blamed
 pub mod Broken
 pub mod Chained
+pub mod Left
 pub mod FailedBalances
 pub mod FittingAccounts
 pub mod HeldRows

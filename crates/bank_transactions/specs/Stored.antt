@@ -1,6 +1,6 @@
 -- What a look-up, a posting, a batch and an opening answer of whatever rows a file holds, be they a bank's or
 -- not.
-use Rattle.std.specs.Prelude.{◌≡◌, ℕ, ℤ, pos, find, List, Option, Some, None, Result, Ok, Err, ⊤}
+use Rattle.std.specs.Prelude.{◌≡◌, ◌≢◌, ℕ, ℤ, pos, find, List, Option, Some, None, Result, Ok, Err, ⊤}
 use Rattle.std.specs.List.{AllByRecursion}
 use Rattle.sqlite.specs.Effect.{Database}
 use Rattle.message_records.specs.Reading.{request_of}
@@ -8,7 +8,7 @@ use Rattle.message_records.specs.Records.{RequestFields}
 use Rattle.message_records.specs.Spelling.{reply_spelling}
 use Rattle.message_records.specs.declared.fault.Bad.{Bad}
 use Rattle.posting_rules.specs.Cases.{case_of, reply_in}
-use Rattle.posting_rules.specs.Changes.{replies_past_all}
+use Rattle.posting_rules.specs.Changes.{replies_past_all, tables_opened}
 use Rattle.posting_rules.specs.Commands.{Terms}
 use Rattle.posting_rules.specs.Counter.{opening_for}
 use Rattle.posting_rules.specs.Kept.{KeptFields}
@@ -18,12 +18,14 @@ use Rattle.posting_rules.specs.Tables.{Tables}
 use Rattle.posting_rules.specs.declared.judgments.Found.{Found}
 use Rattle.posting_rules.specs.declared.counter.BranchLine.{BranchLine}
 use Rattle.posting_rules.specs.declared.counter.Opening.{Opening}
+use Rattle.posting_rules.specs.declared.counter.Opening.TheVariants.{Opened}
 use Rattle.posting_rules.specs.declared.rows.BranchRow.{BranchRow}
 use Rattle.sql_meanings.specs.Entries.{Entry, has_two, is_above}
 use Rattle.store_rows.specs.Columns.{meta_in, number_at}
 use Rattle.store_rows.specs.Rules.{AccountFits, BranchKeeps, OfRows, RequestKeeps, StoredRows, TellerFits, branch_under}
 use Rattle.store_rows.specs.Rules.{floor_under, row_under}
 use Rattle.store_rows.specs.Stored.{BalanceKeeps, FindsStored, IsBalance, IsBranch, IsKept}
+use Rattle.store_rows.specs.View.{Shows}
 
 -- the balance that the account's row has, none where it has no row; and it has one just where its branch's
 -- count says so
@@ -102,12 +104,19 @@ HoldsTerms rows branch (Some terms) =
     (r : Entry) × (branch_under rows branch ≡ Some r) × (number_at 0 r ≡ pos terms.accounts)
     × HoldsFloor rows branch terms.floor
 
--- the answer is `Opened` where the branch has no row, `Already` where the rows have these terms, and `Differs`
--- where they have others
-pub record OpensByStored (db : Database) (branch : ℕ) (terms : Terms) (opening : Opening) : Type 0 where
+-- The answer is `Opened` where the branch has no row, `Already` where the rows have these terms, and `Differs`
+-- where they have others.
+pub record AnswersStored (db : Database) (branch : ℕ) (terms : Terms) (opening : Opening) : Type 0 where
   pub first : Option Terms
   pub stored : OfRows (λ rows. HoldsTerms rows branch first) db
   pub is : opening ≡ opening_for first terms
+
+-- So is the answer to an opening. Unless it is `Opened`, all is as it was; and if it is, whatever tables there
+-- were have the branch then, with its tellers, its accounts and its floor.
+pub record OpensByStored (old new : Database) (branch : ℕ) (terms : Terms) (opening : Opening) : Type 0 where
+  pub answers : AnswersStored old branch terms opening
+  pub stays : opening ≢ Opened → new ≡ old
+  pub opens : opening ≡ Opened → (t : Tables) → Shows old t → Shows new (tables_opened t branch terms)
 
 -- ---- a batch
 

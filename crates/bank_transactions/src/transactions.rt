@@ -108,7 +108,8 @@ pub fn open_branch<S: Alter>(
         (λ tables. opening_for (terms_in tables branch) (opened_with count floor)) result }
     // Whatever rows the file holds.
     ensures stored { IfOk result (λ opening. HasCleanDisk (state S.Store conn.new)
-        → OpensByStored (state S.Store conn.old).now branch (opened_with count floor) opening) }
+        → OpensByStored (state S.Store conn.old).now (state S.Store conn.new).now branch
+        (opened_with count floor) opening) }
 {
     let mut tx = begin(conn);
     let opening = open_inside(&mut tx, branch, count, floor);
